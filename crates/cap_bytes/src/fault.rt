@@ -1,0 +1,29 @@
+/// How the first item that breaks a file's grammar breaks it.
+#[derive(Clone, Copy)]
+pub enum FormKind {
+    /// The bytes end, inside the item or before it.
+    Cut,
+    /// The tag is not the one of this component.
+    WrongTag,
+    /// The magic number is not `DECAFFED`.
+    BadMagic,
+    /// The format's version is not 2.2.
+    BadVersion,
+    /// Bytes remain behind the last item.
+    Trailing,
+    /// The item has a value that the format does not allow.
+    BadValue,
+    /// The class or interface is remote, which this profile leaves out.
+    Remote,
+}
+
+/// Why a file is not the component that it should be: the first item, in the file's order, that
+/// breaks the grammar.
+#[derive(Clone, Copy)]
+pub struct FormFault {
+    /// The tag of the file's part.
+    pub part: u8,
+    /// The item's offset in the file, and for `Cut` the file's length.
+    pub at: u32,
+    pub kind: FormKind,
+}

@@ -1,0 +1,11 @@
+//! Borrowed bytes of CAP components (Java Card 2.2 VM Specification, chapter 6): big-endian numbers
+//! at places, and the faults of a file. It stands on `byteorder`, and takes no memory.
+#![tactic(auto)]
+
+mod fault;
+mod part;
+mod view;
+
+pub use fault::{FormFault, FormKind};
+pub use part::Part;
+pub use view::View;

@@ -1,0 +1,64 @@
+ghost use Rattle.std.specs.Prelude.{◌≡◌, ◌+◌, ◌≤◌, ◌↔◌, length, take, drop, IsSome, IfSome};
+ghost use Rattle.cap_bytes.specs.Number.{number_at};
+
+use byteorder::{BigEndian, ByteOrder};
+
+/// A borrowed list of bytes, read at offsets from its first byte.
+#[derive(Clone, Copy)]
+pub struct View<'a> {
+    pub bytes: &'a [u8],
+}
+
+impl<'a> View<'a> {
+    pub fn of(bytes: &'a [u8]) -> View<'a>
+        ensures { result.bytes.now ≡ bytes.now }
+    {
+        View { bytes }
+    }
+
+    /// The byte at an offset, where the bytes reach.
+    pub fn u1(self, at: u32) -> Option<u8>
+        ensures { result ≡ number_at 1 at self.entry.bytes.now }
+    {
+        self.bytes.get(at as usize).copied()
+    }
+
+    /// The big-endian number of two bytes at an offset, where the bytes reach.
+    pub fn u2(self, at: u32) -> Option<u16>
+        ensures { result ≡ number_at 2 at self.entry.bytes.now }
+    {
+        let end = at as usize + 2;
+        if end <= self.bytes.len() {
+            Some(BigEndian::read_u16(&self.bytes[at as usize..end]))
+        } else {
+            None
+        }
+    }
+
+    /// The big-endian number of four bytes at an offset, where the bytes reach.
+    pub fn u4(self, at: u32) -> Option<u32>
+        ensures { result ≡ number_at 4 at self.entry.bytes.now }
+    {
+        let end = at as usize + 4;
+        if end <= self.bytes.len() {
+            Some(BigEndian::read_u32(&self.bytes[at as usize..end]))
+        } else {
+            None
+        }
+    }
+
+    /// The `len` bytes from an offset on, where the bytes reach.
+    pub fn part(self, at: u32, len: u32) -> Option<View<'a>>
+        ensures reach { IsSome result ↔ (at + len ≤ length self.entry.bytes.now) }
+        ensures bytes { IfSome result (λ v. v.bytes.now ≡ take len (drop at self.entry.bytes.now)) }
+    {
+        let end = at as usize + len as usize;
+        if end <= self.bytes.len() {
+            Some(View {
+                bytes: &self.bytes[at as usize..end],
+            })
+        } else {
+            None
+        }
+    }
+}
