@@ -34,14 +34,20 @@ array_init_info = do
   values ← piece count
   give (record { kind = kind; values = values })
 
+-- array_init_count, at most one for each reference, and the arrays
+abbrev pub array_inits : ℕ → Grammar (List Array)
+array_inits reference_count = number 2 (that (λ n. nat_le n reference_count)) >>= λ array_init_count. repeat array_init_count array_init_info
+
+-- non_default_value_count, and the values
+abbrev pub non_default_values : Grammar (List ℕ)
+non_default_values = u2 >>= piece
+
 abbrev pub statics_info : Grammar Statics
 statics_info = do
   image_size ← u2
   reference_count ← u2
-  array_init_count ← number 2 (that (λ n. nat_le n reference_count))
-  arrays ← repeat array_init_count array_init_info
+  arrays ← array_inits reference_count
   default_value_count ← u2
-  non_default_value_count ← u2
-  values ← piece non_default_value_count
+  values ← non_default_values
   end ← finish
   give (record { image_size = image_size; reference_count = reference_count; arrays = arrays; default_value_count = default_value_count; values = values })

@@ -16,5 +16,10 @@ arrays_left x = given [] (repeat x.left array_init_info) x.items
 
 -- the items of the component
 abbrev pub statics_seen : StaticPart → Statics
-statics_seen x = record { image_size = x.image_size; reference_count = x.reference_count; arrays = arrays_left x.arrays;
-                          default_value_count = x.default_value_count; values = x.values.now }
+statics_seen x = record {
+  image_size = x.image_size;
+  reference_count = x.reference_count;
+  arrays = arrays_left x.arrays;
+  default_value_count = x.default_value_count;
+  values = x.values.now;
+}

@@ -1,18 +1,17 @@
 ghost use Rattle.std.specs.Prelude.{◌≡◌, ◌≤◌, length, IfOk, IfErr, IfSome, IfNone, option_map, slice_get};
 ghost use Rattle.std.specs.Iterator.{YieldsFirst, item_count};
 ghost use Rattle.cap_bytes.specs.Spelling.{info_of, Stands, Breaks, IsExact};
-ghost use Rattle.cap_bytes.specs.Taking.{Takes, Passes, same};
+ghost use Rattle.cap_bytes.specs.Taking.{Takes, Passes, Reads, same};
 ghost use Rattle.cap_bytes.specs.Grammar.{repeat};
 ghost use Rattle.cap_method.specs.MethodFormat.{Header, handler_info, methods_info, header_info};
 ghost use Rattle.cap_method.specs.MethodPart.{handlers, handlers_left, header_seen, HeaderAt};
-
-use cap_bytes::{FormFault, Items, View};
 
 use crate::handler::HandlerInfo;
 use crate::handlers::Handlers;
 use crate::header::MethodHeader;
 use crate::method_flags::MethodFlags;
 use crate::method_part::MethodPart;
+use cap_bytes::{FormFault, Items, View};
 
 /// The tag of the component.
 const METHOD: u8 = 7;
@@ -43,13 +42,10 @@ fn pass_handlers(items: &mut Items<'_>, count: u8) -> Result<(), FormFault>
     Ok(())
 }
 
-/// The Method component that the info is, or the first item that breaks its format.
-#[tactic(auto, using(cap_bytes::proofs::Laws::whole, cap_bytes::proofs::Loops::yielding), unfolding(cap_bytes::specs::Reading::reading))]
-pub fn methods(info: View<'_>) -> Result<MethodPart<'_>, FormFault>
+#[tactic(auto, using(cap_bytes::proofs::Loops::yielding), unfolding(cap_bytes::specs::Reading::reading))]
+fn read(info: View<'_>) -> Result<MethodPart<'_>, FormFault>
     requires { length info.bytes.now ≤ 65535 }
-    ensures found { IfOk result (λ x. Stands methods_info info.entry.bytes.now (handlers x)) }
-    ensures fault { IfErr result (λ e. Breaks (info_of 7) methods_info info.entry.bytes.now 0 e) }
-    ensures exact { IsExact (info_of 7) methods_info info.entry.bytes.now }
+    ensures value { Reads handlers (info_of 7) methods_info info.entry.bytes.now result }
     ensures info { IfOk result (λ x. x.info ≡ info.entry) }
 {
     let mut items = Items::of(info, METHOD);
@@ -58,6 +54,18 @@ pub fn methods(info: View<'_>) -> Result<MethodPart<'_>, FormFault>
     pass_handlers(&mut items, left)?;
     let _methods = items.rest();
     Ok(MethodPart { info, handlers })
+}
+
+/// The Method component that the info is, or the first item that breaks its format.
+#[tactic(auto, using(cap_bytes::proofs::Laws::whole))]
+pub fn methods(info: View<'_>) -> Result<MethodPart<'_>, FormFault>
+    requires { length info.bytes.now ≤ 65535 }
+    ensures found { IfOk result (λ x. Stands methods_info info.entry.bytes.now (handlers x)) }
+    ensures fault { IfErr result (λ e. Breaks (info_of 7) methods_info info.entry.bytes.now 0 e) }
+    ensures exact { IsExact (info_of 7) methods_info info.entry.bytes.now }
+    ensures info { IfOk result (λ x. x.info ≡ info.entry) }
+{
+    read(info)
 }
 
 impl<'a> Iterator for Handlers<'a> {

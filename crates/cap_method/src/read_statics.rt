@@ -1,16 +1,15 @@
 ghost use Rattle.std.specs.Prelude.{◌≡◌, ◌≤◌, length, IfOk, IfErr, option_map, slice_get};
 ghost use Rattle.std.specs.Iterator.{YieldsFirstBy, item_count};
 ghost use Rattle.cap_bytes.specs.Spelling.{info_of, Stands, Breaks, IsExact};
-ghost use Rattle.cap_bytes.specs.Taking.{Takes, Passes};
+ghost use Rattle.cap_bytes.specs.Taking.{Takes, Passes, Reads, bytes};
 ghost use Rattle.cap_bytes.specs.Grammar.{repeat};
-ghost use Rattle.cap_method.specs.StaticFormat.{is_primitive, is_whole, array_init_info, statics_info};
+ghost use Rattle.cap_method.specs.StaticFormat.{is_primitive, is_whole, array_init_info, array_inits, non_default_values, statics_info};
 ghost use Rattle.cap_method.specs.StaticPart.{array_seen, arrays_left, statics_seen};
-
-use cap_bytes::{FormFault, FormKind, Items, View};
 
 use crate::array_init::ArrayInit;
 use crate::arrays::ArrayInits;
 use crate::static_part::StaticPart;
+use cap_bytes::{FormFault, FormKind, Items, View};
 
 /// The tag of the component.
 const STATIC_FIELD: u8 = 8;
@@ -53,28 +52,42 @@ fn pass_arrays(items: &mut Items<'_>, count: u16) -> Result<(), FormFault>
     Ok(())
 }
 
-/// The StaticField component that the info is, or the first item that breaks its format.
-#[tactic(auto, using(cap_bytes::proofs::Laws::whole, cap_bytes::proofs::Loops::yielding), unfolding(cap_bytes::specs::Reading::reading))]
-pub fn statics(info: View<'_>) -> Result<StaticPart<'_>, FormFault>
+/// The initial arrays behind their count, which no more than the references can be.
+#[tactic(auto, using(cap_bytes::proofs::Loops::yielding))]
+fn array_inits<'a>(items: &mut Items<'a>, reference_count: u16) -> Result<ArrayInits<'a>, FormFault>
+    ensures { Takes arrays_left (array_inits reference_count) items.old result items.new }
+{
+    let place = *items;
+    let left = items.u2()?;
+    if left > reference_count {
+        return Err(place.fault(FormKind::BadValue));
+    }
+    let first = *items;
+    pass_arrays(items, left)?;
+    Ok(ArrayInits { items: first, left })
+}
+
+/// The values behind their count.
+fn non_default_values<'a>(items: &mut Items<'a>) -> Result<&'a [u8], FormFault>
+    ensures values { Takes bytes non_default_values items.old result items.new }
+    ensures few { IfOk result (λ v. length v.now ≤ 65535) }
+{
+    let count = items.u2()?;
+    items.piece(u32::from(count))
+}
+
+#[tactic(auto, unfolding(cap_bytes::specs::Reading::reading))]
+fn read(info: View<'_>) -> Result<StaticPart<'_>, FormFault>
     requires { length info.bytes.now ≤ 65535 }
-    ensures found { IfOk result (λ x. Stands statics_info info.entry.bytes.now (statics_seen x)) }
-    ensures fault { IfErr result (λ e. Breaks (info_of 8) statics_info info.entry.bytes.now 0 e) }
-    ensures exact { IsExact (info_of 8) statics_info info.entry.bytes.now }
+    ensures value { Reads statics_seen (info_of 8) statics_info info.entry.bytes.now result }
     ensures info { IfOk result (λ x. x.info ≡ info.entry) }
 {
     let mut items = Items::of(info, STATIC_FIELD);
     let image_size = items.u2()?;
     let reference_count = items.u2()?;
-    let place = items;
-    let left = items.u2()?;
-    if left > reference_count {
-        return Err(place.fault(FormKind::BadValue));
-    }
-    let arrays = ArrayInits { items, left };
-    pass_arrays(&mut items, left)?;
+    let arrays = array_inits(&mut items, reference_count)?;
     let default_value_count = items.u2()?;
-    let non_default_value_count = items.u2()?;
-    let values = items.piece(u32::from(non_default_value_count))?;
+    let values = non_default_values(&mut items)?;
     items.end()?;
     Ok(StaticPart {
         info,
@@ -84,6 +97,18 @@ pub fn statics(info: View<'_>) -> Result<StaticPart<'_>, FormFault>
         default_value_count,
         values,
     })
+}
+
+/// The StaticField component that the info is, or the first item that breaks its format.
+#[tactic(auto, using(cap_bytes::proofs::Laws::whole))]
+pub fn statics(info: View<'_>) -> Result<StaticPart<'_>, FormFault>
+    requires { length info.bytes.now ≤ 65535 }
+    ensures found { IfOk result (λ x. Stands statics_info info.entry.bytes.now (statics_seen x)) }
+    ensures fault { IfErr result (λ e. Breaks (info_of 8) statics_info info.entry.bytes.now 0 e) }
+    ensures exact { IsExact (info_of 8) statics_info info.entry.bytes.now }
+    ensures info { IfOk result (λ x. x.info ≡ info.entry) }
+{
+    read(info)
 }
 
 impl<'a> Iterator for ArrayInits<'a> {

@@ -1,20 +1,14 @@
-use Rattle.std.proofs.Common.{rules, ◌≡◌, ◌≤◌, length, IfOk, IfErr, IfSome, IfNone, option_map, slice_get, ℕ, ◌+◌, ◌-◌, ◌*◌, ◌<◌, ◌/◌, ◌%◌, Bool, true, false, nat_eq, nat_lt, List, [], ◌∷◌, ◌++◌, slice_index_or, slice_set, bit_and, bit_or, Fits, w8, w32, w64, Bor, MutBor}
-use Rattle.std.specs.Iterator.{YieldsFirst, item_count}
-use Rattle.cap_bytes.specs.Spelling.{info_of, Stands, Breaks, IsExact}
-use Rattle.cap_bytes.specs.Taking.{Takes, Passes, same}
-use Rattle.cap_bytes.specs.Grammar.{repeat}
-use Rattle.cap_method.specs.MethodFormat.{Header, handler_info, methods_info, header_info}
-use Rattle.cap_method.specs.MethodPart.{handlers, handlers_left, header_seen, HeaderAt}
+use Rattle.std.proofs.Common.{◌<◌, ◌≡◌, length, subst, arith, ℕ}
+use Rattle.cap_method.proofs.Headers.{header_found, header_none, header_within}
 use Rattle.cap_method.proofs.method_part.MethodPart.header.Goals as goal
 
--- src/read_methods.rt:153:13
 pub returns-then-at-self-clause-none : goal.returns-then-at-self-clause-none
-returns-then-at-self-clause-none c = ?
+returns-then-at-self-clause-none c = λ h there.
+    let past : length c.args.self.now.info.bytes.now < c.args.offset = omega arith in
+    header_within _ _ h there past
 
--- src/read_methods.rt:147:5
 pub returns-clause-found : goal.returns-clause-found
-returns-clause-found c = ?
+returns-clause-found c = rw (c.ok.ensures.value, ← c.from-at.ensures) (header_found _ _ _ c.header.ensures)
 
--- src/read_methods.rt:147:5
 pub returns-clause-none : goal.returns-clause-none
-returns-clause-none c = ?
+returns-clause-none c = rw (c.ok.ensures.value, ← c.from-at.ensures) (header_none _ _ _ c.header.ensures)
