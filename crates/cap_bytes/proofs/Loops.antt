@@ -14,11 +14,11 @@ abbrev pub end_of : {X : Type 0} → Reading X → Result ℕ FormFault
 end_of (Ok x) = Ok x.1
 end_of (Err fault) = Err fault
 
-err_of : {X : Type 0} (r : Reading X) (fault : FormFault) → end_of r ≡ Err fault → r ≡ Err fault
+pub err_of : {X : Type 0} (r : Reading X) (fault : FormFault) → end_of r ≡ Err fault → r ≡ Err fault
 err_of (Ok x) fault h = absurd cc
 err_of (Err e) fault h = cc
 
-ok_of : {X : Type 0} (r : Reading X) (at : ℕ) → end_of r ≡ Ok at → (x : X) × (r ≡ Ok (x, at))
+pub ok_of : {X : Type 0} (r : Reading X) (at : ℕ) → end_of r ≡ Ok at → (x : X) × (r ≡ Ok (x, at))
 ok_of (Ok x) at h = let e : x.1 ≡ at = cc in (x.0, rw (← e) refl)
 ok_of (Err e) at h = absurd cc
 
@@ -31,7 +31,7 @@ pub record HasPassed {X : Type 0} (g : Grammar X) (count : ℕ) (start : Items) 
 pub passed_none : {X : Type 0} (g : Grammar X) (count : ℕ) (start : Items) → HasPassed g count start 0 start
 passed_none g count start = record { goes_on = let e : count - 0 ≡ count = omega arith in rw e refl; info = refl; part = refl }
 
-forget : {X : Type 0} (x : X) (r : Reading (List X)) → end_of (and_then r (λ xs p. Ok (x ∷ xs, p))) ≡ end_of r
+pub forget : {X : Type 0} (x : X) (r : Reading (List X)) → end_of (and_then r (λ xs p. Ok (x ∷ xs, p))) ≡ end_of r
 forget x (Ok y) = refl
 forget x (Err e) = refl
 

@@ -1,5 +1,5 @@
 -- What it is to take items from the front of what is left of some bytes.
-use Rattle.std.specs.Prelude.{◌≡◌, ℕ, List, Result, Ok, Err, Bool, IsTrue}
+use Rattle.std.specs.Prelude.{◌≡◌, ℕ, ◌+◌, ◌*◌, List, Result, Ok, Err, Bool, IsTrue}
 use Rattle.std.specs.Borrow.{Bor}
 use Rattle.cap_bytes.specs.declared.fault.FormFault.{FormFault}
 use Rattle.cap_bytes.specs.declared.items.Items.{Items}
@@ -57,6 +57,12 @@ Gives g items = IsTrue (gives g items)
 -- their value, or another where they are not
 unfoldable pub given : {X : Type 0} → X → Grammar X → Items → X
 given otherwise g items = value_or otherwise (next g items)
+
+-- so many items of one width further on
+pub record IsAhead (now : Items) (n width : ℕ) (there : Items) : Type 0 where
+  pub at : there.at ≡ now.at + n * width
+  pub info : there.info ≡ now.info
+  pub part : there.part ≡ now.part
 
 -- ---- whole bytes
 
