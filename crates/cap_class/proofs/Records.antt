@@ -7,7 +7,7 @@ use Rattle.std.specs.Prelude.{IfOk}
 use Rattle.cap_bytes.specs.declared.fault.FormFault.{FormFault}
 use Rattle.cap_bytes.specs.declared.table.Table.{Table}
 use Rattle.cap_bytes.specs.Table.{numbers}
-use Rattle.cap_bytes.specs.Grammar.{Grammar, u2, repeat, until_end, number}
+use Rattle.cap_bytes.specs.Grammar.{Grammar, u2, repeat, table, until_end, number}
 use Rattle.cap_bytes.specs.Taking.{Taken, Takes, Gives, given, gives}
 use Rattle.cap_bytes.specs.Spelling.{Spells, info_of}
 use Rattle.cap_bytes.proofs.Laws.{read-spells, spelled-read}
@@ -52,7 +52,8 @@ counted n now xs after t e = subst (λ (k : ℕ). Taken (repeat k any_record) no
 table_length : (n : ℕ) (now : Items) (xs : List ℕ) (after : Items) → Taken (repeat n u2) now xs after → length xs ≡ n
 table_length n now xs after t = length-repeat (info_of now.part) u2 n now.info.bytes.now now.at xs after.at t.value
 
-pub few_entries : (n : ℕ) (now : Items) (r : Result Table FormFault) (after : Items) → n < 256 → Takes numbers (repeat n u2) now r after → IfOk r (λ t. length (numbers t) ≤ 255)
+pub few_entries : (n : ℕ) (now : Items) (r : Result Table FormFault) (after : Items) → n < 256 → Takes numbers (table n) now r after → IfOk r (λ t. length (numbers t) ≤ 255)
+unfolding table
 few_entries n now (Ok t) after lt h = let e = table_length n now (numbers t) after h in omega arith
 few_entries n now (Err fault) after lt h = tt
 
