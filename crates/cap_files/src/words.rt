@@ -1,5 +1,6 @@
-ghost use Rattle.std.specs.Prelude.{◌≡◌, ℕ, ◌<◌, List, [], ◌∷◌, ◌++◌, length, slice_index_or, drop, OnOk, OnErr};
+ghost use Rattle.std.specs.Prelude.{◌≡◌, ◌<◌, ◌^◌, [], ◌∷◌, ◌++◌, length, slice_index_or, OnOk, OnErr};
 ghost use Rattle.std.specs.Iterator.{YieldsFirstRef, item_count};
+ghost use Rattle.cap_files.specs.WordsLeft.{words_left};
 
 use std::alloc::{AllocError, Global};
 use std::marker::Model;
@@ -46,11 +47,11 @@ impl Words {
         ensures pushed { OnOk result (self.new ≡ self.old ++ word.now ∷ []) }
         ensures kept { OnErr result (self.new ≡ self.old) }
     {
-        let start = self.buffer.len();
+        self.spans.reserve(1)?;
+        let start = self.buffer.as_str().len();
         self.buffer.push_str(word)?;
-        // Bytes that no span names are no part of the list.
-        let end = self.buffer.len();
-        self.spans.push(Span { start, end })?;
+        let end = self.buffer.as_str().len();
+        self.spans.push_reserved(Span { start, end });
         Ok(())
     }
 
@@ -71,9 +72,11 @@ impl Words {
 
     /// The words in order.
     pub fn iter(&self) -> WordsIter<'_>
-        ensures words { result.words.now ≡ self.now }
-        ensures first { result.next ≡ 0 }
+        ensures words { words_left result ≡ self.now }
+        ensures few { length self.now < 2 ^ 64 }
     {
+        // Their number is one that `len` can answer.
+        let _count = self.len();
         WordsIter {
             words: self,
             next: 0,
@@ -91,9 +94,9 @@ pub struct WordsIter<'a> {
 impl<'a> Iterator for WordsIter<'a> {
     type Item = &'a str;
 
-    ghost next_gives = { YieldsFirstRef (λ s. drop s.next s.words.now) };
+    ghost next_gives = { YieldsFirstRef words_left };
 
-    ghost remaining = { item_count (λ s. drop s.next s.words.now) };
+    ghost remaining = { item_count words_left };
 
     fn next(&mut self) -> Option<&'a str> {
         if self.next < self.words.len() {
