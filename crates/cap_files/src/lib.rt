@@ -4,8 +4,14 @@
 //! `cap_bytes`.
 #![tactic(auto)]
 
+mod calls;
 mod folder;
+mod piece;
+mod pile;
+mod records;
+mod shelf;
 mod sink;
+mod tape;
 mod words;
 
 pub use folder::{Folder, LoadEnd, StoreFailed};
