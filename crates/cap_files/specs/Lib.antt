@@ -15,3 +15,5 @@ pub mod RecordsLeft
 pub mod CallCounts
 pub mod Calls
 pub mod Tape
+pub mod Load
+pub mod Sure
