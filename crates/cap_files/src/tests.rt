@@ -23,19 +23,31 @@ fn a_part_is_written_and_read_in_a_folder(rt: HostRuntime) -> Result<(), Fail> {
     let mut folder = DirFolder::new(&rt, rt.alloc(), 8)?;
     let long = vec![in rt.alloc(); 3u8; 65_539]?;
     let mut to = vec![in rt.alloc(); 1, 2, 3]?;
-    assert_eq!(rt; word(folder.load(rt.alloc(), ".", CUSTOM, &mut to)), "absent");
+    assert_eq!(rt;
+        word(folder.load(rt.alloc(), ".", CUSTOM, &mut to)),
+        "absent"
+    );
     assert!(rt; to.is_empty());
     for bytes in [&[7, 0, 1, 9], &long[..65_538], &[5]] {
         assert!(rt; folder.store(".", CUSTOM, bytes).is_ok());
-        assert_eq!(rt; word(folder.load(rt.alloc(), "./.", CUSTOM, &mut to)), "there");
+        assert_eq!(rt;
+            word(folder.load(rt.alloc(), "./.", CUSTOM, &mut to)),
+            "there"
+        );
         assert!(rt; to.as_slice() == bytes);
     }
     assert!(rt; folder.store(".", CUSTOM, &long).is_ok());
-    assert_eq!(rt; word(folder.load(rt.alloc(), ".", CUSTOM, &mut to)), "too long");
+    assert_eq!(rt;
+        word(folder.load(rt.alloc(), ".", CUSTOM, &mut to)),
+        "too long"
+    );
     assert_eq!(rt; to.len(), 65_539);
     // Longer than the room, and no name of a folder.
     for dir in ["././././.", "a\0b"] {
-        assert_eq!(rt; word(folder.load(rt.alloc(), dir, CUSTOM, &mut to)), "failed");
+        assert_eq!(rt;
+            word(folder.load(rt.alloc(), dir, CUSTOM, &mut to)),
+            "failed"
+        );
         assert!(rt; to.is_empty());
         assert!(rt; folder.store(dir, CUSTOM, &[1]).is_err());
     }
@@ -63,7 +75,13 @@ fn words_and_names_are_texts(rt: HostRuntime) -> Result<(), Fail> {
         all.push_str("|")?;
     }
     assert_eq!(rt; all.as_str(), "probe||Gr\u{fc}n|");
-    for (part, name) in [(0, "Roles"), (7, "Method"), (12, "Debug"), (13, "Custom13"), (255, "Custom255")] {
+    for (part, name) in [
+        (0, "Roles"),
+        (7, "Method"),
+        (12, "Debug"),
+        (13, "Custom13"),
+        (255, "Custom255"),
+    ] {
         let shown = file_name(Part(part));
         assert_eq!(rt; format!(in rt.alloc(); "{shown}")?.as_str(), name);
     }
@@ -94,7 +112,10 @@ fn a_folder_in_memory_has_the_room_that_it_took(rt: HostRuntime) -> Result<(), F
     ] {
         assert_eq!(rt; word(sure.load(rt.alloc(), dir, Part(part), &mut to)), end);
         assert!(rt; to.as_slice() == bytes);
-        assert_eq!(rt; word(failing.load(rt.alloc(), dir, Part(part), &mut to)), end);
+        assert_eq!(rt;
+            word(failing.load(rt.alloc(), dir, Part(part), &mut to)),
+            end
+        );
         assert!(rt; to.as_slice() == bytes);
     }
     assert!(rt; sure.store("d", Part(3), b"").is_ok());
@@ -126,8 +147,15 @@ fn each_call_fails_in_turn(rt: HostRuntime) -> Result<(), Fail> {
             _ => b"ababa".as_slice(),
         };
         assert!(rt; sink.received() == received);
-        let last = if failing == 3 { b"n".as_slice() } else { b"new".as_slice() };
-        assert_eq!(rt; word(folder.load(rt.alloc(), "d", CUSTOM, &mut to)), "there");
+        let last = if failing == 3 {
+            b"n".as_slice()
+        } else {
+            b"new".as_slice()
+        };
+        assert_eq!(rt;
+            word(folder.load(rt.alloc(), "d", CUSTOM, &mut to)),
+            "there"
+        );
         assert!(rt; to.as_slice() == last);
     }
     Ok(())
