@@ -3,13 +3,21 @@ use crate::{
     file_name,
 };
 use cap_bytes::Part;
+use std::alloc::Global;
 use std::fs;
 use std::test::Fail;
 
 const CUSTOM: Part = Part(200);
 
-fn word(end: Result<bool, LoadEnd>) -> &'static str {
-    match end {
+// What a load answers.
+fn load<F: Folder>(
+    folder: &mut F,
+    alloc: Global,
+    dir: &str,
+    part: Part,
+    to: &mut Vec<u8>,
+) -> &'static str {
+    match folder.load(alloc, dir, part, to) {
         Ok(true) => "there",
         Ok(false) => "absent",
         Err(LoadEnd::Failed) => "failed",
@@ -24,28 +32,28 @@ fn a_part_is_written_and_read_in_a_folder(rt: HostRuntime) -> Result<(), Fail> {
     let long = vec![in rt.alloc(); 3u8; 65_539]?;
     let mut to = vec![in rt.alloc(); 1, 2, 3]?;
     assert_eq!(rt;
-        word(folder.load(rt.alloc(), ".", CUSTOM, &mut to)),
+        load(&mut folder, rt.alloc(), ".", CUSTOM, &mut to),
         "absent"
     );
     assert!(rt; to.is_empty());
     for bytes in [&[7, 0, 1, 9], &long[..65_538], &[5]] {
         assert!(rt; folder.store(".", CUSTOM, bytes).is_ok());
         assert_eq!(rt;
-            word(folder.load(rt.alloc(), "./.", CUSTOM, &mut to)),
+            load(&mut folder, rt.alloc(), "./.", CUSTOM, &mut to),
             "there"
         );
         assert!(rt; to.as_slice() == bytes);
     }
     assert!(rt; folder.store(".", CUSTOM, &long).is_ok());
     assert_eq!(rt;
-        word(folder.load(rt.alloc(), ".", CUSTOM, &mut to)),
+        load(&mut folder, rt.alloc(), ".", CUSTOM, &mut to),
         "too long"
     );
     assert_eq!(rt; to.len(), 65_539);
     // Longer than the room, and no name of a folder.
     for dir in ["././././.", "a\0b"] {
         assert_eq!(rt;
-            word(folder.load(rt.alloc(), dir, CUSTOM, &mut to)),
+            load(&mut folder, rt.alloc(), dir, CUSTOM, &mut to),
             "failed"
         );
         assert!(rt; to.is_empty());
@@ -110,10 +118,10 @@ fn a_folder_in_memory_has_the_room_that_it_took(rt: HostRuntime) -> Result<(), F
         ("d", 3, "absent", b"".as_slice()),
         ("", 1, "absent", b"".as_slice()),
     ] {
-        assert_eq!(rt; word(sure.load(rt.alloc(), dir, Part(part), &mut to)), end);
+        assert_eq!(rt; load(&mut sure, rt.alloc(), dir, Part(part), &mut to), end);
         assert!(rt; to.as_slice() == bytes);
         assert_eq!(rt;
-            word(failing.load(rt.alloc(), dir, Part(part), &mut to)),
+            load(&mut failing, rt.alloc(), dir, Part(part), &mut to),
             end
         );
         assert!(rt; to.as_slice() == bytes);
@@ -135,7 +143,7 @@ fn each_call_fails_in_turn(rt: HostRuntime) -> Result<(), Fail> {
         assert!(rt; sink.fail_put(failing, 1));
         for call in 1..=3 {
             let fails = call == failing;
-            let end = word(folder.load(rt.alloc(), "d", CUSTOM, &mut to));
+            let end = load(&mut folder, rt.alloc(), "d", CUSTOM, &mut to);
             assert_eq!(rt; end, if fails { "failed" } else { "there" });
             assert_eq!(rt; to.is_empty(), fails);
             assert_eq!(rt; folder.store("d", CUSTOM, b"new").is_err(), fails);
@@ -153,7 +161,7 @@ fn each_call_fails_in_turn(rt: HostRuntime) -> Result<(), Fail> {
             b"new".as_slice()
         };
         assert_eq!(rt;
-            word(folder.load(rt.alloc(), "d", CUSTOM, &mut to)),
+            load(&mut folder, rt.alloc(), "d", CUSTOM, &mut to),
             "there"
         );
         assert!(rt; to.as_slice() == last);
