@@ -37,7 +37,7 @@ chain_above : (t : ClassTable) (n c p : ℕ) → parent_of t c ≡ Some p → ch
 unfolding chain_over
 chain_above t n c p e = rw e refl
 
-chain_alone : (t : ClassTable) (n c : ℕ) → parent_of t c ≡ None → chain_over t n c ≡ c ∷ []
+pub chain_alone : (t : ClassTable) (n c : ℕ) → parent_of t c ≡ None → chain_over t n c ≡ c ∷ []
 unfolding chain_over
 chain_alone t zero c e = refl
 chain_alone t (suc n) c e = rw e refl

@@ -61,8 +61,9 @@ pub record EndsWithObject (t : ClassTable) (c : ℕ) : Type 0 where
   pub classes : All (IsClass t) (chain t c)
   pub ends : last (chain t c) ≡ Some (object t)
 
--- a class table in which every class is a subclass of object, which has no superclass
+-- a class table in which object is a class without superclass, and every class a subclass of it
 pub record AreClasses (t : ClassTable) : Type 0 where
+  pub objects : IsClass t (object t)
   pub object_ends : parent_of t (object t) ≡ None
   pub chains : (c : ℕ) → IsClass t c → EndsWithObject t c
 
@@ -76,11 +77,11 @@ pub record IsEndOfChain (t : ClassTable) (c : ℕ) : Type 0 where
   pub last_is : c ≡ object t
   pub chain_is : chain t c ≡ c ∷ []
 
--- the greatest number of classes on a chain of the first n numbers
+-- the greatest number of classes on the chains of object and of the first n numbers
 abbrev pub height_below : ClassTable → ℕ → ℕ
-height_below t zero = 0
+height_below t zero = length (chain t (object t))
 height_below t (suc n) = max (height_below t n) (length (chain t n))
 
 -- the greatest number of classes on a chain of superclasses, object counted
-abbrev pub height : ClassTable → ℕ
+unfoldable pub height : ClassTable → ℕ
 height t = height_below t (length t.records)

@@ -1,9 +1,9 @@
 -- The order of types and its join (Leroy 2002, section 2.1; JCVM 2.2, section 2.2).
-use Rattle.std.specs.Prelude.{◌≡◌, ℕ, Bool, true, false, if◌then◌else◌, ◌&&◌, ◌==◌, Option, Some, None, find, unwrap_or, ⊤}
+use Rattle.std.specs.Prelude.{◌≡◌, ℕ, ◌+◌, ◌<◌, ◌⊎◌, length, Bool, true, false, if◌then◌else◌, ◌&&◌, ◌==◌, Option, Some, None, find, unwrap_or, ⊤}
 use Rattle.std.specs.List.{list_any}
 use Rattle.jc_base.specs.declared.ty.Ty.{Ty}
 use Rattle.jc_base.specs.declared.ty.Ty.TheVariants.{Bottom, Short, IntHigh, IntLow, Null, Class, ArrBool, ArrByte, ArrShort, ArrInt, ArrRef, Fresh, Top}
-use Rattle.jc_base.specs.Class.{ClassTable, IsClass, parent_of, chain, object}
+use Rattle.jc_base.specs.Class.{ClassTable, IsClass, parent_of, chain, height, object}
 
 -- the types of arrays
 pub data IsArray : Ty → Type 0 where
@@ -37,6 +37,34 @@ IsKnown t (Class c) = IsClass t c
 IsKnown t (ArrRef c) = IsClass t c
 IsKnown t (Fresh place c) = IsClass t c
 IsKnown t _ = ⊤
+
+-- how many times the type of a cell can rise at most: a class once for each class on its chain, to Top in the end
+unfoldable pub rises_left : ClassTable → Ty → ℕ
+rises_left t Bottom = height t + 3
+rises_left t Null = height t + 2
+rises_left t (ArrRef c) = length (chain t c) + 1
+rises_left t (Class c) = length (chain t c)
+rises_left t ArrBool = 2
+rises_left t ArrByte = 2
+rises_left t ArrShort = 2
+rises_left t ArrInt = 2
+rises_left t Short = 1
+rises_left t IntHigh = 1
+rises_left t IntLow = 1
+rises_left t (Fresh place c) = 1
+rises_left t Top = 0
+
+-- a type stays as it is, or has fewer rises left
+abbrev pub StaysOrRises : ClassTable → Ty → Ty → Type 0
+StaysOrRises t a b = (a ≡ b) ⊎ (rises_left t b < rises_left t a)
+
+-- no two different types are below each other
+abbrev pub AreApart : ClassTable → Ty → Ty → Type 0
+AreApart t a b = Below t a b → Below t b a → a ≡ b
+
+-- the join j of a and b is below the join of any types above them
+abbrev pub IsMonotone : ClassTable → Ty → Ty → Ty → Type 0
+IsMonotone t a b j = (c d k : Ty) → Below t a c → Below t b d → IsJoin t c d k → Below t j k
 
 -- ---- the order and the join as they are computed, by chains of superclasses
 

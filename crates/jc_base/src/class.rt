@@ -1,4 +1,4 @@
-ghost use Rattle.std.specs.Prelude.{◌≡◌, ◌<◌, ◌⊎◌, length, IsTrue, IfSome, IfNone, slice_get, slice_index};
+ghost use Rattle.std.specs.Prelude.{◌≡◌, ◌<◌, ◌^◌, ◌⊎◌, length, IsTrue, IfSome, IfNone, slice_get, slice_index};
 ghost use Rattle.jc_base.specs.Class.{AreClasses, IsClass, IsNextOnChain, IsEndOfChain, parent_of, is_interface};
 
 use crate::list::ClassRecs;
@@ -49,8 +49,9 @@ impl Classes {
         requires { n < length self.now.records }
         ensures is { slice_get self.now.records n ≡ Some result.now }
         ensures chains { AreClasses self.now }
+        ensures few { length self.now.records < 2 ^ 63 }
     {
-        self.records.at(n as usize)
+        &self.records.as_slice()[n as usize]
     }
 
     pub fn is_interface(&self, n: u16) -> bool
@@ -67,6 +68,8 @@ impl Classes {
         ensures is { result ≡ parent_of self.now c }
         ensures climbs { IfSome result (IsNextOnChain self.now c) }
         ensures ends { IfNone result (IsEndOfChain self.now c) }
+        ensures chains { AreClasses self.now }
+        ensures few { length self.now.records < 2 ^ 63 }
     {
         self.at(c).parent
     }

@@ -14,7 +14,10 @@ mod world;
 
 pub use class::Classes;
 pub use infos::Infos;
-pub use list::{Arrays, ClassRecs, Dispatch, Handlers, Ifaces, Initial, Items, Members, Methods, Pools, Statics, Tokens, Tys};
+pub use list::{
+    Arrays, ClassRecs, Dispatch, Handlers, Ifaces, Initial, Items, Members, Methods, Pools,
+    Statics, Tokens, Tys,
+};
 pub use order::{below, join};
 pub use record::{ArrayRec, ClassRec, Handler, Iface, Member, MethodRec, Sig, StaticRec};
 pub use ty::{Kind, Ty};

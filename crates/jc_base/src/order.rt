@@ -1,32 +1,43 @@
 ghost use Rattle.std.specs.Prelude.{◌≡◌, ◌+◌, ◌==◌, ◌&&◌, ◌↔◌, ◌≤◌, length, IsTrue};
-ghost use Rattle.jc_base.specs.Class.{IsClass, chain, object};
-ghost use Rattle.jc_base.specs.Order.{Below, IsJoin, IsKnown, is_below, is_on_chain, is_reference, is_above_arrays, common, join_of, join_of_others};
+ghost use Rattle.jc_base.specs.Class.{IsClass, chain, height, object};
+ghost use Rattle.jc_base.specs.Order.{Below, IsJoin, IsKnown, StaysOrRises, AreApart, IsMonotone, rises_left, is_below, is_on_chain, is_reference, is_above_arrays, common, join_of, join_of_others};
 
 use crate::class::Classes;
 use crate::ty::Ty;
 
-/// Whether a type is below another: whether a cell that has the one has the other. Both conditions
-/// say that a type names classes of the table, and no interface.
+/// Whether a type is below another: whether what has the one type has the other. Both conditions say
+/// that a type names classes of the table, and no interface.
 pub fn below(classes: &Classes, a: Ty, b: Ty) -> bool
     requires a_known { IsKnown classes.now a }
     requires b_known { IsKnown classes.now b }
     ensures is { IsTrue result ↔ Below classes.now a b }
     ensures computed { result ≡ is_below classes.now a b }
+    // No two different types are below each other.
+    ensures apart { AreApart classes.now a b }
+    // A type rises at most as often as its class chains are long, and three times more.
+    ensures rises { IsTrue result → StaysOrRises classes.now a b }
+    ensures seldom { rises_left classes.now a ≤ height classes.now + 3 }
 {
+    // The facts that hold of each table of classes.
+    let _ = classes.records();
     is_below(classes, a, b)
 }
 
-/// The least type above two types.
+/// The least type above two types, under the conditions of `below`.
 pub fn join(classes: &Classes, a: Ty, b: Ty) -> Ty
     requires a_known { IsKnown classes.now a }
     requires b_known { IsKnown classes.now b }
     ensures is { IsJoin classes.now a b result }
     ensures known { IsKnown classes.now result }
     ensures computed { result ≡ join_of classes.now a b }
+    // It rises with both.
+    ensures monotone { IsMonotone classes.now a b result }
 {
+    let _ = classes.records();
     join_of(classes, a, b)
 }
 
+#[tactic(auto, unfolding(crate::specs::Order::is_below))]
 fn is_below(classes: &Classes, a: Ty, b: Ty) -> bool
     requires a_known { IsKnown classes.now a }
     requires b_known { IsKnown classes.now b }
@@ -76,12 +87,8 @@ fn is_reference(a: Ty) -> bool
     ensures { result ≡ is_reference a }
 {
     match a {
-        Ty::Class(_)
-        | Ty::ArrBool
-        | Ty::ArrByte
-        | Ty::ArrShort
-        | Ty::ArrInt
-        | Ty::ArrRef(_) => true,
+        Ty::Class(_) | Ty::ArrBool | Ty::ArrByte | Ty::ArrShort | Ty::ArrInt | Ty::ArrRef(_) =>
+            true,
         _ => false,
     }
 }
@@ -92,7 +99,7 @@ fn is_on_chain(classes: &Classes, d: u16, c: u16) -> bool
     ensures { result ≡ is_on_chain classes.now d c }
 {
     let mut at = c;
-    loop {
+    'climb: loop {
         if at == d {
             return true;
         }
@@ -110,7 +117,7 @@ fn depth(classes: &Classes, c: u16) -> usize
 {
     let mut at = c;
     let mut n = 1;
-    while let Some(p) = classes.parent(at) {
+    'climb: while let Some(p) = classes.parent(at) {
         at = p;
         n += 1;
     }
@@ -128,7 +135,7 @@ fn common(classes: &Classes, c: u16, d: u16) -> u16
     let mut b = d;
     let mut a_depth = depth(classes, a);
     let mut b_depth = depth(classes, b);
-    while a != b {
+    'climb: while a != b {
         if a_depth < b_depth {
             match classes.parent(b) {
                 Some(p) => b = p,
@@ -146,6 +153,7 @@ fn common(classes: &Classes, c: u16, d: u16) -> u16
     a
 }
 
+#[tactic(auto, unfolding(crate::specs::Order::join_of))]
 fn join_of(classes: &Classes, a: Ty, b: Ty) -> Ty
     requires a_known { IsKnown classes.now a }
     requires b_known { IsKnown classes.now b }

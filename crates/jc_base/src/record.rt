@@ -5,18 +5,37 @@ use crate::ty::{Kind, Ty};
 #[derive(Clone, Copy)]
 pub enum Member {
     /// The number of a class or an interface.
-    ClassOf { class: u16 },
+    ClassOf {
+        class: u16,
+    },
     /// An instance field. `cell` is the first of its cells among all cells of an object of the class,
     /// and `ty` the type of that cell.
-    Field { class: u16, cell: u16, kind: Kind, ty: Ty },
+    Field {
+        class: u16,
+        cell: u16,
+        kind: Kind,
+        ty: Ty,
+    },
     /// A static field. `slot` is its first cell among the static cells of all packages.
-    Static { slot: u16, kind: Kind, ty: Ty },
+    Static {
+        slot: u16,
+        kind: Kind,
+        ty: Ty,
+    },
     /// A token of a class's dispatch lists, package-visible from 128 on.
-    Virtual { class: u16, token: u8 },
+    Virtual {
+        class: u16,
+        token: u8,
+    },
     /// The method that a class's superclass has for a token.
-    Super { class: u16, method: u16 },
+    Super {
+        class: u16,
+        method: u16,
+    },
     /// A method that is called without dispatch.
-    StaticCall { method: u16 },
+    StaticCall {
+        method: u16,
+    },
 }
 
 /// An exception handler (JCVM 2.2, section 6.9.1). Places are offsets in the method's code.
