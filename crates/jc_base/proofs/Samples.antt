@@ -14,7 +14,7 @@ use Rattle.jc_base.specs.Cell.{IsDeclared, AreElementsOf, IsByteWord}
 use Rattle.jc_base.specs.Dispatch.{IsConcrete, HasBody, visible_in, nearest_of, package_of, public_of, visible_of, cell_count, cells_of, own_cells, entry_at, signature_at}
 use Rattle.jc_base.specs.Linked.{IsMethod, IsHandler, IsCodeLength, IsLinkedClass, IsInherited, IsDispatch, IsImplemented, IsStatic, IsMember, IsField, IsSlotOf, AreLinkedClasses, AreSlots, list_at}
 use Rattle.jc_base.specs.World.{Linked, IsWorld, IsWithinLimits, AreRoles, IsThrown}
-use Rattle.jc_base.specs.Sample.{sample, classes, methods, statics, arrays, first_pool, second_pool, first_info, second_info, instance_method, interface_method, static_method}
+use Rattle.jc_base.specs.Sample.{sample, HasSampleSizes, classes, methods, statics, arrays, first_pool, second_pool, first_info, second_info, instance_method, interface_method, static_method}
 
 -- ---- the classes
 
@@ -125,41 +125,69 @@ linked : (c : ℕ) → IfSome (slice_get classes.records c) (IsLinkedClass 2 cla
 unfolding parent_of package_of public_of visible_of cell_count
 linked zero =
     record {
-      home = lit< tt; earlier = tt; cells = refl; size = lit≤ tt; own = All-nil _;
+      home = lit< tt;
+      earlier = tt;
+      cells = refl;
+      size = lit≤ tt;
+      own = All-nil _;
       public = one_entry 0 0 (inherited 0 _ same refl refl) [] (lit≤ tt) (λ token h. absurd (omega arith));
-      visible = nothing_inherited 0; implements = All-nil _
+      visible = nothing_inherited 0;
+      implements = All-nil _;
     }
 linked (suc zero) =
     record {
-      home = lit< tt; earlier = lit≤ tt; cells = refl; size = lit≤ tt; own = All-nil _;
+      home = lit< tt;
+      earlier = lit≤ tt;
+      cells = refl;
+      size = lit≤ tt;
+      own = All-nil _;
       public = one_entry 1 0 (inherited 1 _ throwable_below refl refl) (0 ∷ []) (lit≤ tt) (λ token h. refl);
-      visible = nothing_inherited 1; implements = All-nil _
+      visible = nothing_inherited 1;
+      implements = All-nil _;
     }
 linked (suc (suc zero)) =
     record {
-      home = lit< tt; earlier = tt; cells = refl; size = lit≤ tt; own = All-nil _;
-      public = nothing_inherited 2; visible = nothing_inherited 2; implements = All-nil _
+      home = lit< tt;
+      earlier = tt;
+      cells = refl;
+      size = lit≤ tt;
+      own = All-nil _;
+      public = nothing_inherited 2;
+      visible = nothing_inherited 2;
+      implements = All-nil _;
     }
 linked (suc (suc (suc zero))) =
     record {
-      home = lit< tt; earlier = lit≤ tt; cells = refl; size = lit≤ tt; own = All-from_recursion (IsDeclared classes) (Short ∷ []) (tt, tt);
+      home = lit< tt;
+      earlier = lit≤ tt;
+      cells = refl;
+      size = lit≤ tt;
+      own = All-from_recursion (IsDeclared classes) (Short ∷ []) (tt, tt);
       public = two_entries 3 0 2 (inherited 3 _ base_below refl refl) (inherited 3 _ same refl refl) (0 ∷ []) (lit≤ tt) same_first;
       visible = one_entry 3 3 (inherited 3 _ same refl refl) [] (lit≤ tt) (λ token h. absurd (omega arith));
-      implements = All-nil _
+      implements = All-nil _;
     }
 linked (suc (suc (suc (suc zero)))) =
     record {
-      home = lit< tt; earlier = lit≤ tt; cells = refl; size = lit≤ tt; own = All-from_recursion (IsDeclared classes) (IntHigh ∷ IntLow ∷ []) (tt, (tt, tt));
+      home = lit< tt;
+      earlier = lit≤ tt;
+      cells = refl;
+      size = lit≤ tt;
+      own = All-from_recursion (IsDeclared classes) (IntHigh ∷ IntLow ∷ []) (tt, (tt, tt));
       public = two_entries 4 0 4 (inherited 4 _ (joined derived_below base_below) refl refl) (inherited 4 _ same refl refl) (0 ∷ 2 ∷ []) (lit≤ tt) same_both;
       visible = one_entry 4 5 (inherited 4 _ same refl refl) [] (lit≤ tt) (λ token h. absurd (omega arith));
-      implements = All-from_recursion (IsImplemented classes methods (0 ∷ 4 ∷ [])) (record { class = 2; tokens = 1 ∷ [] } ∷ []) (implemented, tt)
+      implements = All-from_recursion (IsImplemented classes methods (0 ∷ 4 ∷ [])) (record { class = 2; tokens = 1 ∷ [] } ∷ []) (implemented, tt);
     }
 linked (suc (suc (suc (suc (suc zero))))) =
     record {
-      home = lit< tt; earlier = lit≤ tt; cells = refl; size = lit≤ tt; own = All-nil _;
+      home = lit< tt;
+      earlier = lit≤ tt;
+      cells = refl;
+      size = lit≤ tt;
+      own = All-nil _;
       public = two_entries 5 0 4 (inherited 5 _ (joined last_below (joined derived_below base_below)) refl refl) (inherited 5 _ last_below refl refl) (0 ∷ 4 ∷ []) (lit≤ tt) (λ token h. refl);
       visible = one_entry 5 6 (inherited 5 _ same refl refl) (5 ∷ []) (lit≤ tt) same_visible;
-      implements = All-nil _
+      implements = All-nil _;
     }
 linked (suc (suc (suc (suc (suc (suc c)))))) = tt
 
@@ -169,11 +197,15 @@ plain_method : (home class token class_no method_no at : ℕ) → home < 2 → c
     → IsMethod (first_info ∷ second_info ∷ []) (first_pool ∷ second_pool ∷ []) classes (instance_method home class token class_no method_no at)
 plain_method home class token class_no method_no at home_is class_is plain reach =
     record {
-      home = home_is; class = class_is; words = refl; registers = lit≤ tt;
-      arguments = All-from_recursion (IsDeclared classes) (Short ∷ []) (tt, tt); result = tt;
+      home = home_is;
+      class = class_is;
+      words = refl;
+      registers = lit≤ tt;
+      arguments = All-from_recursion (IsDeclared classes) (Short ∷ []) (tt, tt);
+      result = tt;
       code = rw plain (record { least = lit< tt; most = lit≤ tt });
       inside = reaches home home_is;
-      handlers = All-nil _
+      handlers = All-nil _;
     }
   where
     reaches : (n : ℕ) → n < 2 → at + 2 ≤ length (list_at (first_info ∷ second_info ∷ []) n)
@@ -184,32 +216,56 @@ plain_method home class token class_no method_no at home_is class_is plain reach
 abstract_method : IsMethod (first_info ∷ second_info ∷ []) (first_pool ∷ second_pool ∷ []) classes interface_method
 abstract_method =
     record {
-      home = lit< tt; class = lit< tt; words = refl; registers = lit≤ tt;
-      arguments = All-from_recursion (IsDeclared classes) (Short ∷ []) (tt, tt); result = tt;
-      code = refl; inside = lit≤ tt; handlers = All-nil _
+      home = lit< tt;
+      class = lit< tt;
+      words = refl;
+      registers = lit≤ tt;
+      arguments = All-from_recursion (IsDeclared classes) (Short ∷ []) (tt, tt);
+      result = tt;
+      code = refl;
+      inside = lit≤ tt;
+      handlers = All-nil _;
     }
 
 last_method : IsMethod (first_info ∷ second_info ∷ []) (first_pool ∷ second_pool ∷ []) classes static_method
 unfolding is_interface
 last_method =
     record {
-      home = lit< tt; class = lit< tt; words = refl; registers = lit≤ tt;
-      arguments = All-from_recursion (IsDeclared classes) (Short ∷ []) (tt, tt); result = tt;
-      code = record { least = lit< tt; most = lit≤ tt }; inside = lit≤ tt;
+      home = lit< tt;
+      class = lit< tt;
+      words = refl;
+      registers = lit≤ tt;
+      arguments = All-from_recursion (IsDeclared classes) (Short ∷ []) (tt, tt);
+      result = tt;
+      code = record { least = lit< tt; most = lit≤ tt };
+      inside = lit≤ tt;
       handlers = All-from_recursion (IsHandler classes second_pool 4) static_method.handlers
-        (record { range = lit≤ tt; inside = lit≤ tt; entry = lit< tt; catches = refl; class = is_throwable; thrown = same }, tt)
+          (record { range = lit≤ tt; inside = lit≤ tt; entry = lit< tt; catches = refl; class = is_throwable; thrown = same }, tt);
     }
 
 are_methods : All (IsMethod (first_info ∷ second_info ∷ []) (first_pool ∷ second_pool ∷ []) classes) methods
-are_methods = All-from_recursion (IsMethod (first_info ∷ second_info ∷ []) (first_pool ∷ second_pool ∷ []) classes) methods
-    (plain_method 0 0 0 0 0 0 (lit< tt) (lit< tt) is_object.class (lit≤ tt),
-    (abstract_method,
-    (plain_method 0 3 1 3 0 2 (lit< tt) (lit< tt) is_base.class (lit≤ tt),
-    (plain_method 0 3 128 3 1 4 (lit< tt) (lit< tt) is_base.class (lit≤ tt),
-    (plain_method 1 4 1 0 0 0 (lit< tt) (lit< tt) is_derived.class (lit≤ tt),
-    (plain_method 1 4 128 0 1 2 (lit< tt) (lit< tt) is_derived.class (lit≤ tt),
-    (plain_method 1 5 128 1 0 4 (lit< tt) (lit< tt) is_last.class (lit≤ tt),
-    (last_method, tt))))))))
+are_methods = All-from_recursion (IsMethod (first_info ∷ second_info ∷ []) (first_pool ∷ second_pool ∷ []) classes) methods (
+  plain_method 0 0 0 0 0 0 (lit< tt) (lit< tt) is_object.class (lit≤ tt),
+  (
+    abstract_method,
+    (
+      plain_method 0 3 1 3 0 2 (lit< tt) (lit< tt) is_base.class (lit≤ tt),
+      (
+        plain_method 0 3 128 3 1 4 (lit< tt) (lit< tt) is_base.class (lit≤ tt),
+        (
+          plain_method 1 4 1 0 0 0 (lit< tt) (lit< tt) is_derived.class (lit≤ tt),
+          (
+            plain_method 1 4 128 0 1 2 (lit< tt) (lit< tt) is_derived.class (lit≤ tt),
+            (
+              plain_method 1 5 128 1 0 4 (lit< tt) (lit< tt) is_last.class (lit≤ tt),
+              (last_method, tt),
+            ),
+          ),
+        ),
+      ),
+    ),
+  ),
+)
 
 -- ---- the members, the static fields and the roles
 
@@ -233,15 +289,19 @@ unfolding entry_at visible_of
 a_visible = (is_derived, refl)
 
 are_members : All (All (IsMember classes methods statics)) (first_pool ∷ second_pool ∷ [])
-are_members = All-from_recursion (All (IsMember classes methods statics)) (first_pool ∷ second_pool ∷ [])
-    (All-from_recursion (IsMember classes methods statics) first_pool (lit< tt, tt),
-    (All-from_recursion (IsMember classes methods statics) second_pool (lit< tt, (a_field, (a_slot, (a_public, (a_visible, (a_super, (lit< tt, tt))))))),
-    tt))
+are_members = All-from_recursion (All (IsMember classes methods statics)) (first_pool ∷ second_pool ∷ []) (
+  All-from_recursion (IsMember classes methods statics) first_pool (lit< tt, tt),
+  (
+    All-from_recursion (IsMember classes methods statics) second_pool (lit< tt, (a_field, (a_slot, (a_public, (a_visible, (a_super, (lit< tt, tt))))))),
+    tt,
+  ),
+)
 
 are_statics : All (IsStatic 2 classes arrays) statics
-are_statics = All-from_recursion (IsStatic 2 classes arrays) statics
-    (record { home = lit< tt; ty = tt; kind = refl; words = inr (lit≤ tt) },
-    (record { home = lit< tt; ty = tt; kind = tt; words = same }, tt))
+are_statics = All-from_recursion (IsStatic 2 classes arrays) statics (
+  record { home = lit< tt; ty = tt; kind = refl; words = inr (lit≤ tt) },
+  (record { home = lit< tt; ty = tt; kind = tt; words = same }, tt),
+)
 
 no_visible : (home : ℕ) (a b : Bool) → (0 == home) ≡ a → visible_in classes home 1 ≡ []
 unfolding visible_in nearest_of package_of visible_of chain chain_over parent_of
@@ -255,9 +315,9 @@ thrown =
       concrete = record {
         class = is_throwable;
         public = All-from_recursion (HasBody methods) (0 ∷ []) (refl, tt);
-        visible = λ home. subst (λ (ms : List ℕ). All (HasBody methods) ms) (sym (no_visible home (0 == home) true refl)) (All-nil _)
+        visible = λ home. subst (λ (ms : List ℕ). All (HasBody methods) ms) (sym (no_visible home (0 == home) true refl)) (All-nil _);
       };
-      thrown = same
+      thrown = same;
     }
 
 all_thrown : (k : ℕ) → 2 ≤ k → k < 8 → IsThrown classes methods (slice_index classes.roles k)
@@ -280,7 +340,11 @@ is_world =
         packages = lit≤ tt;
         bytes = All-from_recursion (λ info. length info ≤ 65535) (first_info ∷ second_info ∷ []) (lit≤ tt, (lit≤ tt, tt));
         entries = All-from_recursion (λ pool. length pool ≤ 65535) (first_pool ∷ second_pool ∷ []) (lit≤ tt, (lit≤ tt, tt));
-        classes = lit≤ tt; methods = lit≤ tt; static_cells = lit≤ tt; arrays = lit≤ tt; array_cells = lit≤ tt
+        classes = lit≤ tt;
+        methods = lit≤ tt;
+        static_cells = lit≤ tt;
+        arrays = lit≤ tt;
+        array_cells = lit≤ tt;
       };
       one_pool_each = refl;
       members = are_members;
@@ -289,5 +353,9 @@ is_world =
       statics = are_statics;
       slots = (refl, (refl, tt));
       arrays = All-from_recursion (λ a. AreElementsOf a.kind a.initial) arrays (All-from_recursion IsByteWord (1 ∷ 65535 ∷ []) (inl (lit< tt), (inr (lit≤ tt), tt)), tt);
-      roles = record { count = refl; objects = is_object; throwables = is_throwable; others = all_thrown }
+      roles = record { count = refl; objects = is_object; throwables = is_throwable; others = all_thrown };
     }
+
+pub has_sizes : HasSampleSizes sample
+has_sizes =
+    record { infos = refl; first_pool_is = refl; second_pool_is = refl; records_are = refl; methods_are = refl; statics_are = refl; arrays_are = refl }
