@@ -1,19 +1,17 @@
 -- The sample world meets the invariant of worlds.
-use Rattle.std.proofs.Common.{◌≡◌, ℕ, zero, suc, ◌+◌, ◌<◌, ◌≤◌, ◌⊎◌, inl, inr, Bool, true, false, cond, List, [], ◌∷◌, length, Option, Some, None, refl, sym, ap, subst, ◌∙◌, arith, rules, lit<, lit≤}
-use Rattle.std.specs.Prelude.{All, Contains, IfSome, IsSomeAnd, MatchBool, slice_get, slice_index, slice_index_or, option_and_then, get_or, ◌==◌, ⊤}
-use Rattle.std.proofs.lemmas.List.Elements.{All-from_recursion, All-nil, Contains-get_or}
-use Rattle.jc_base.specs.declared.ty.Ty.TheVariants.{Short, IntHigh, IntLow, ArrByte, Class}
+use Rattle.std.proofs.Common.{◌≡◌, ℕ, zero, suc, ◌+◌, ◌<◌, ◌≤◌, inl, inr, Bool, true, false, List, [], ◌∷◌, length, Some, refl, sym, subst, arith, lit<, lit≤}
+use Rattle.std.specs.Prelude.{All, IfSome, IsSomeAnd, slice_get, slice_index, slice_index_or, option_and_then, get_or, ◌==◌}
+use Rattle.std.proofs.lemmas.List.Elements.{All-from_recursion, All-nil}
+use Rattle.jc_base.specs.declared.ty.Ty.TheVariants.{Short, IntHigh, IntLow, Class}
 use Rattle.jc_base.specs.declared.ty.Kind.TheVariants as kinds
-use Rattle.jc_base.specs.declared.record.Member.{Member}
-use Rattle.jc_base.specs.declared.record.Member.TheVariants.{ClassOf, Field, Static, Virtual, Super, StaticCall}
+use Rattle.jc_base.specs.declared.record.Member.TheVariants.{Static, Virtual, Super}
 use Rattle.jc_base.specs.declared.record.MethodRec.{MethodRec}
-use Rattle.jc_base.specs.declared.record.Iface.{Iface}
-use Rattle.jc_base.specs.Class.{ClassTable, IsClass, AreClasses, EndsWithObject, is_interface, parent_of, chain, chain_over, object, throwable}
-use Rattle.jc_base.specs.Order.{Below, same, joined, subclass, is_below}
+use Rattle.jc_base.specs.Class.{IsClass, AreClasses, EndsWithObject, is_interface, parent_of, chain, chain_over}
+use Rattle.jc_base.specs.Order.{Below, same, joined, subclass}
 use Rattle.jc_base.specs.Cell.{IsDeclared, AreElementsOf, IsByteWord}
-use Rattle.jc_base.specs.Dispatch.{IsConcrete, HasBody, visible_in, nearest_of, package_of, public_of, visible_of, cell_count, cells_of, own_cells, entry_at, signature_at}
-use Rattle.jc_base.specs.Linked.{IsMethod, IsHandler, IsCodeLength, IsLinkedClass, IsInherited, IsDispatch, IsImplemented, IsStatic, IsMember, IsField, IsSlotOf, AreLinkedClasses, AreSlots, list_at}
-use Rattle.jc_base.specs.World.{Linked, IsWorld, IsWithinLimits, AreRoles, IsThrown}
+use Rattle.jc_base.specs.Dispatch.{HasBody, visible_in, nearest_of, package_of, public_of, visible_of, cell_count, cells_of, own_cells, entry_at, signature_at}
+use Rattle.jc_base.specs.Linked.{IsMethod, IsHandler, IsLinkedClass, IsInherited, IsDispatch, IsImplemented, IsStatic, IsMember, IsField, list_at}
+use Rattle.jc_base.specs.World.{IsWorld, IsThrown}
 use Rattle.jc_base.specs.Sample.{sample, HasSampleSizes, classes, methods, statics, arrays, first_pool, second_pool, first_info, second_info, instance_method, interface_method, static_method}
 
 -- ---- the classes
