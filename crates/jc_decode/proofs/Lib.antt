@@ -4,3 +4,4 @@ pub mod Decoded
 pub mod Listing
 pub mod Tables
 pub mod Targets
+pub mod Ranges

@@ -1,8 +1,8 @@
-ghost use Rattle.std.specs.Prelude.{◌≤ℤ◌, map, unsigned_abs, FitsSigned, ◌≡◌, ◌+◌, ◌*◌, ◌^◌, ◌<◌, ◌≤◌, IsTrue, length, slice_get};
+ghost use Rattle.std.specs.Prelude.{Ok, ◌≤ℤ◌, map, unsigned_abs, FitsSigned, ◌≡◌, ◌+◌, ◌*◌, ◌^◌, ◌<◌, ◌≤◌, IsTrue, length, slice_get};
 ghost use Rattle.jc_decode.specs.Layout.{width};
 ghost use Rattle.std.specs.List.{range_with_len};
 ghost use Rattle.std.specs.Int.{w16};
-ghost use Rattle.jc_decode.specs.Decoding.{pair_width, range_count};
+ghost use Rattle.jc_decode.specs.Decoding.{AreBytes, decoded, pair_width, range_count};
 ghost use Rattle.jc_decode.specs.Cases.{offset_at, cases, range_case, pair_case, HasTable, is_switch};
 ghost use Rattle.jc_decode.specs.Listing.{falls, is_branch, jumps, target, targets};
 
@@ -113,10 +113,10 @@ fn offset(code: View, at: u32) -> i16
 #[tactic(auto, using(crate::proofs::Targets::target_facts))]
 pub fn target(code: View, placed: Placed, n: u32) -> Option<i32>
     requires short { length code.bytes.now ≤ 65535 }
-    requires table { HasTable code.bytes.now placed.place placed.insn }
-    requires offset { FitsSigned w16 placed.insn.x }
+    requires decoded { decoded code.bytes.now placed.place ≡ Ok placed.insn }
     ensures { result ≡ slice_get (targets code.entry.bytes.now placed) n }
 {
+    are_bytes(code.bytes);
     let insn = placed.insn;
     if !insn.jumps() {
         return None;
@@ -136,4 +136,11 @@ fn hop(place: u16, offset: i32) -> i32
     ensures { result ≡ target place offset }
 {
     i32::from(place) + offset
+}
+
+/// The items of a list of bytes are bytes: a fact for proofs, and no work.
+fn are_bytes(bytes: &[u8])
+    ensures { AreBytes bytes.now }
+{
+    let _ = bytes;
 }
