@@ -5,3 +5,6 @@ pub mod Listing
 pub mod Tables
 pub mod Targets
 pub mod Ranges
+pub mod Appending
+pub mod Windows
+pub mod ReadBack

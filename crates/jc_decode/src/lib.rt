@@ -5,12 +5,14 @@
 
 mod cases;
 mod decoding;
+mod encoding;
 mod insn;
 mod instructions;
 mod layout;
 
 pub use cases::{case, target};
 pub use decoding::decode;
+pub use encoding::encode;
 pub use insn::{Case, CodeEnd, Insn, Placed};
 pub use instructions::{Instructions, code_end};
 pub use layout::{Cases, Layout, Operand};
