@@ -8,3 +8,4 @@ pub mod Ranges
 pub mod Appending
 pub mod Windows
 pub mod ReadBack
+pub mod Written

@@ -87,7 +87,7 @@ bits-absent : (o : Operand) (v : ℤ) → o ≡ Absent → bits o v ≡ 0
 bits-absent o v h = rw h refl
 
 -- an operand is read back from its bytes
-operand-back : (o : Operand) (v : ℤ) (ys pre post : List ℕ) (at : ℕ) → ys ≡ pre ++ (operand_bytes o v ++ post) → at ≡ length pre → Allows o v
+pub operand-back : (o : Operand) (v : ℤ) (ys pre post : List ℕ) (at : ℕ) → ys ≡ pre ++ (operand_bytes o v ++ post) → at ≡ length pre → Allows o v
     → operand_at o ys at ≡ Ok v
 operand-back o v ys pre post at here place allowed =
     let number = number-back (width o) (bits o v) ys pre post at here place (bits-fit o v allowed.0) in
@@ -96,13 +96,13 @@ operand-back o v ys pre post at here place allowed =
     rw (read, yes, value-bits o v allowed.0) refl
 
 -- a pair ends where the next begins
-pair_before : (w n count : ℕ) → n < count → w * n + w ≤ w * count
+pub pair_before : (w n count : ℕ) → n < count → w * n + w ≤ w * count
 pair_before w n count h =
     let next : w * suc n ≤ w * count = mul-le-mul_left w h in
     omega (arith, next, mul-suc w n)
 
 -- the length of a table, by its form
-abbrev FitsTable : Cases → ℤ → ℤ → ℕ → Type 0
+abbrev pub FitsTable : Cases → ℤ → ℤ → ℕ → Type 0
 FitsTable NoCases y z m = m ≡ 0
 FitsTable Range y z m = m ≡ 2 * range_count y z
 FitsTable (Pairs key) y z m = m ≡ pair_width key * unsigned_abs y
@@ -156,7 +156,7 @@ end-alike Range bound xs ys t u m y z a size h = range_end-alike bound xs ys t u
 end-alike (Pairs key) bound xs ys t u m y z a size h = pairs_end-alike key xs ys t u m (unsigned_abs y) a size h
 
 -- a table that has an end is as long as its form says
-fits-table : (k : Cases) (bound : Operand) (xs : List ℕ) (t m : ℕ) (y z : ℤ) → end_of_cases k bound xs t y z ≡ Ok (t + m) → FitsTable k y z m
+pub fits-table : (k : Cases) (bound : Operand) (xs : List ℕ) (t m : ℕ) (y z : ℤ) → end_of_cases k bound xs t y z ≡ Ok (t + m) → FitsTable k y z m
 fits-table NoCases bound xs t m y z h = let same : t ≡ t + m = cc in omega (arith, same)
 fits-table Range bound xs t m y z h = let e = range_end-ok bound xs t y z (t + m) h in omega (arith, e.0)
 fits-table (Pairs key) bound xs t m y z h = let e = pairs_end-ok key xs t (unsigned_abs y) (t + m) h in omega (arith, e.0)

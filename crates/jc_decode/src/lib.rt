@@ -9,6 +9,7 @@ mod encoding;
 mod insn;
 mod instructions;
 mod layout;
+mod setting;
 
 pub use cases::{case, target};
 pub use decoding::decode;
@@ -16,3 +17,4 @@ pub use encoding::encode;
 pub use insn::{Case, CodeEnd, Insn, Placed};
 pub use instructions::{Instructions, code_end};
 pub use layout::{Cases, Layout, Operand};
+pub use setting::set_case;
