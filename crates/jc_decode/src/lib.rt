@@ -10,6 +10,7 @@ mod insn;
 mod instructions;
 mod layout;
 mod setting;
+mod symbols;
 
 pub use cases::{case, target};
 pub use decoding::decode;
@@ -18,3 +19,4 @@ pub use insn::{Case, CodeEnd, Insn, Placed};
 pub use instructions::{Instructions, code_end};
 pub use layout::{Cases, Layout, Operand};
 pub use setting::set_case;
+pub use symbols::{Handler, Item, Labels, Laid, Range, Sequence, Symbols};
