@@ -5,3 +5,6 @@ pub mod Places
 pub mod WellFormed
 pub mod Rule
 pub mod Passing
+pub mod Walks
+pub mod Running
+pub mod Verdict

@@ -54,7 +54,7 @@ module _ (code : List ℕ) where
   reached-inside _ reached_first = omega arith
   reached-inside _ (reached_next i r f) = (fetched-inside code i.place i f).inside
 
-  none-at-end : (r : Result Placed CodeEnd) → fetched code (length code) ≡ r → (end : CodeEnd) × (fetched code (length code) ≡ Err end)
+  pub none-at-end : (r : Result Placed CodeEnd) → fetched code (length code) ≡ r → (end : CodeEnd) × (fetched code (length code) ≡ Err end)
   none-at-end (Ok i) e = let inside = fetched-inside code (length code) i e in absurd (omega arith)
   none-at-end (Err end) e = (end, e)
 

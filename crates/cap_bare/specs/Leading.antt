@@ -23,4 +23,4 @@ stepped (Ended n) f = returned n
 pub record CanAct (i : Instruction) (f : Frame) : Type 0 where
   pub local : IfSome (register_of i) (λ x. x < length f.registers)
   pub cells : cells_taken i ≤ length f.stack
-  pub room : length f.stack - cells_taken i + cells_given i ≤ 15
+  pub room : 0 < cells_given i → length f.stack - cells_taken i + cells_given i ≤ 15

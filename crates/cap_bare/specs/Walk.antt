@@ -94,3 +94,11 @@ passed code bare i depth =
 abbrev pub first_wrong : List ℕ → Bare → ℕ → List Placed → Result (Unit {0}) BareFault
 first_wrong code bare depth [] = Ok tt
 first_wrong code bare depth (i ∷ is) = then_on i.place (passed code bare i depth) (λ after. first_wrong code bare after is)
+
+abbrev pub in_turn : Result (Unit {0}) BareFault → Result (Unit {0}) BareFault → Result (Unit {0}) BareFault
+in_turn (Ok x) second = second
+in_turn (Err fault) second = Err fault
+
+-- what the two walks find: the first flaw, or else what is wrong first
+abbrev pub verdict : List ℕ → Bare → Result (Unit {0}) BareFault
+verdict code bare = in_turn (first_flaw code 0 (instructions code)) (first_wrong code bare 0 (instructions code))

@@ -4,7 +4,7 @@ ghost use Rattle.cap_bare.specs.Effects.{target_of};
 ghost use Rattle.cap_bare.specs.Code.{IsFirstFlaw, IsFlawKind, IsWellFormed};
 ghost use Rattle.cap_bare.specs.Typing.{CardTyping, IsCompact};
 ghost use Rattle.cap_bare.specs.Met.{IsRefused};
-ghost use Rattle.cap_bare.specs.Walk.{instructions, has_place, is_place, is_at, is_target, led, first_flaw, applied, passed, first_wrong};
+ghost use Rattle.cap_bare.specs.Walk.{instructions, has_place, is_place, is_at, is_target, led, first_flaw, applied, passed, first_wrong, verdict};
 ghost use Rattle.cap_bare.specs.Machine.{IsFaultFree};
 
 use crate::bare::Bare;
@@ -29,6 +29,15 @@ pub fn bare_verify(code: View<'_>, bare: Bare) -> Result<(), BareFault>
 
     // What is accepted never meets a fault when it runs.
     ensures fault_free { OnOk result (IsFaultFree code.entry.bytes.now bare) }
+{
+    walked(code, bare)
+}
+
+/// What the two walks find.
+fn walked(code: View<'_>, bare: Bare) -> Result<(), BareFault>
+    requires short { length code.bytes.now ≤ 32767 }
+    requires stack { bare.max_stack ≤ 15 }
+    ensures { result ≡ verdict code.entry.bytes.now bare }
 {
     find_flaw(code)?;
     find_wrong(code, bare)
