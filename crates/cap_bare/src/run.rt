@@ -28,6 +28,7 @@ pub enum Progress {
 
 /// Runs a method that `bare_verify` accepts, for at most `budget` steps: an instruction is one step.
 pub fn bare_run(code: View<'_>, bare: Bare, args: &[i16], budget: u64) -> BareEnd
+    requires filled { 1 ≤ length code.bytes.now }
     requires short { length code.bytes.now ≤ 32767 }
     requires compact { IsCompact bare }
     requires accepted { CardTyping code.bytes.now bare }
