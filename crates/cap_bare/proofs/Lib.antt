@@ -9,3 +9,4 @@ pub mod Walks
 pub mod Running
 pub mod Verdict
 pub mod Stepping
+pub mod Near

@@ -2,7 +2,7 @@
 -- what it makes of its operands.
 use Rattle.std.specs.Prelude.{ℕ, ℤ, pos, negsuc, ◌+ℤ◌, ◌<◌, ◌^◌, ◌==◌, unsigned_abs, List, [], ◌∷◌, Option, find, FitsSigned}
 use Rattle.std.specs.Option.{option_map}
-use Rattle.std.specs.Int.{w16}
+use Rattle.std.specs.Int.{w8, w16}
 use Rattle.jc_decode.specs.declared.Insn.{Insn}
 use Rattle.cap_bare.specs.declared.arithmetic.Condition.TheVariants.{Equal, NotEqual, Less, GreaterOrEqual, Greater, LessOrEqual}
 use Rattle.cap_bare.specs.declared.arithmetic.Unary.TheVariants.{Negate, ToByte}
@@ -85,10 +85,12 @@ abbrev pub IsByte : ℤ → Type 0
 IsByte (pos n) = n < 2 ^ 8
 IsByte (negsuc n) = ⊥
 
--- the operands that a format reads lie in their ranges: a byte for a register, a short for the others
+-- the operands that a format reads lie in their ranges: a byte for a register, a signed byte for the distance of a
+-- target, a short for the others
 abbrev pub FitsFormat : Format → Insn → Type 0
 FitsFormat (Implied instruction) insn = Unit {0}
 FitsFormat Loads insn = IsByte insn.x
 FitsFormat Stores insn = IsByte insn.x
 FitsFormat Increments insn = IsByte insn.x × FitsSigned w16 insn.y
-FitsFormat _ insn = FitsSigned w16 insn.x
+FitsFormat Constant insn = FitsSigned w16 insn.x
+FitsFormat _ insn = FitsSigned w8 insn.x

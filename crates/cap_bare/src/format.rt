@@ -1,5 +1,5 @@
 ghost use Rattle.std.specs.Prelude.{◌≡◌, pos, ◌+ℤ◌, FitsSigned};
-ghost use Rattle.std.specs.Int.{w16};
+ghost use Rattle.std.specs.Int.{w8};
 ghost use Rattle.cap_bare.specs.Format.{format_of, resolved, FitsFormat};
 
 use crate::arithmetic::{Binary, Condition, Unary};
@@ -61,7 +61,7 @@ impl Format {
 
 /// The place at a distance from a place.
 fn target(place: u16, distance: i32) -> i32
-    requires { FitsSigned w16 distance }
+    requires { FitsSigned w8 distance }
     ensures { result ≡ pos place +ℤ distance }
 {
     i32::from(place) + distance
