@@ -10,3 +10,4 @@ pub mod Running
 pub mod Verdict
 pub mod Stepping
 pub mod Near
+pub mod Seeking

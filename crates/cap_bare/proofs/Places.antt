@@ -96,10 +96,10 @@ module _ (code : List ℕ) where
   place-from (pos p) h = let found = any-from (λ i. i.place == p) h in (found.0, eqb-true _ _ found.2, found.1)
   place-from (negsuc n) h = absurd (cc)
 
-  at-true : (o : Option ℤ) (p : ℕ) → o ≡ Some (pos p) → is_at o p ≡ true
+  pub at-true : (o : Option ℤ) (p : ℕ) → o ≡ Some (pos p) → is_at o p ≡ true
   at-true o p e = rw e (eq-eqb p p refl)
 
-  at-from : (o : Option ℤ) (p : ℕ) → is_at o p ≡ true → o ≡ Some (pos p)
+  pub at-from : (o : Option ℤ) (p : ℕ) → is_at o p ≡ true → o ≡ Some (pos p)
   at-from None p h = absurd (cc)
   at-from (Some (pos t)) p h = ap (λ (n : ℕ). Some (pos n)) (eqb-true t p h)
   at-from (Some (negsuc t)) p h = absurd (cc)
@@ -170,3 +170,12 @@ module _ (code : List ℕ) where
     by_case : IsFrom p q ⊎ IsFrom q p → p ≡ q
     by_case (inl k) = sym (stuck p q e k g)
     by_case (inr k) = stuck q p f k h
+
+  -- behind the place where the code ends no instruction stands
+  pub stops : (at place : ℕ) (i : Placed) (end : CodeEnd) → IsReached code at → IsReached code place → fetched code at ≡ Err end → fetched code place ≡ Ok i
+      → at ≤ place → ⊥
+  stops at place i end r s f g le = by_case (ordered at place r s)
+    where
+    by_case : IsFrom at place ⊎ IsFrom place at → ⊥
+    by_case (inl k) = let e = stuck at place end k f in cc
+    by_case (inr k) = let ge = from-le place at k in let e : place ≡ at = omega arith in cc
