@@ -135,7 +135,7 @@ all-plain = refl
 pub plain-at : (op : ℕ) (i : Instruction) → op < 256 → format_of op ≡ Some (Implied i) → not (is_branch i) ≡ true
 plain-at op i h e =
     let plain : is_plain_at op ≡ true =
-      sym (get_or-map-range_with_len is_plain_at 0 256 op op true h (omega arith))
-      ∙ ap (λ (t : List Bool). get_or t op true) all-plain
-      ∙ get_or-map-range_with_len (λ (op : ℕ). true) 0 256 op op true h (omega arith) in
+    sym (get_or-map-range_with_len is_plain_at 0 256 op op true h (omega arith))
+    ∙ ap (λ (t : List Bool). get_or t op true) all-plain
+    ∙ get_or-map-range_with_len (λ (op : ℕ). true) 0 256 op op true h (omega arith) in
     subst (λ (o : Option Format). is_plain o ≡ true) e plain

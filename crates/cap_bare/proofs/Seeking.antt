@@ -1,12 +1,12 @@
 -- A search along the code from an instruction on finds what stands in the code.
 use Rattle.std.proofs.Common.{◌≡◌, ◌≢◌, ◌∙◌, sym, ap, subst, ℕ, ◌+◌, ◌<◌, ◌≤◌, ◌⊎◌, inl, inr, Bool, true, false, Some, Result, Ok, Err, List, length, refl, arith, ◌==◌, eq-eqb, true≢false}
 use Rattle.std.proofs.lemmas.Bool.{eqb-true}
-use Rattle.std.specs.Prelude.{pos, is_ok}
+use Rattle.std.specs.Prelude.{ℤ, pos, is_ok, IsTrue, ◌↔◌}
 use Rattle.jc_decode.specs.declared.insn.CodeEnd.{CodeEnd}
 use Rattle.cap_bare.specs.declared.code.Placed.{Placed}
 use Rattle.cap_bare.specs.Effects.{target_of}
-use Rattle.cap_bare.specs.Code.{fetched, IsReached, Stands, IsPlace, IsTarget}
-use Rattle.cap_bare.specs.Walk.{instructions, has_place, is_at, is_target}
+use Rattle.cap_bare.specs.Code.{fetched, IsReached, Stands, IsPlace, IsTarget, IsTargetPlace}
+use Rattle.cap_bare.specs.Walk.{instructions, has_place, is_at, is_place, is_target}
 use Rattle.cap_bare.specs.Window.{IsTrailing}
 use Rattle.cap_bare.proofs.Instructions.{IsInside, fetched-inside}
 use Rattle.cap_bare.proofs.Places.{stands-at, reached-after, place-true, place-from, target-true, target-from, at-true, at-from, apart, stops}
@@ -55,19 +55,20 @@ module _ (code : List ℕ) where
       → (t : IsTarget code place) → at ≤ t.from.place → i.next ≤ t.from.place
   target-ahead at place i r f no_branch t le = by_order (at == t.from.place) refl
     where
-    inside : IsInside code at i
-    inside = fetched-inside code at i f
-    by_order : (b : Bool) → (at == t.from.place) ≡ b → i.next ≤ t.from.place
-    by_order true e =
-        let here = eqb-true at t.from.place e in
-        let found : fetched code at ≡ Ok t.from = subst (λ (n : ℕ). fetched code n ≡ Ok t.from) (sym here) t.stands.found in
-        let one : t.from ≡ i = cc in
-        let leads : is_at (target_of i.instruction) place ≡ true =
+      inside : IsInside code at i
+      inside = fetched-inside code at i f
+
+      by_order : (b : Bool) → (at == t.from.place) ≡ b → i.next ≤ t.from.place
+      by_order true e =
+          let here = eqb-true at t.from.place e in
+          let found : fetched code at ≡ Ok t.from = subst (λ (n : ℕ). fetched code n ≡ Ok t.from) (sym here) t.stands.found in
+          let one : t.from ≡ i = cc in
+          let leads : is_at (target_of i.instruction) place ≡ true =
           subst (λ (n : Placed). is_at (target_of n.instruction) place ≡ true) one (at-true code (target_of t.from.instruction) place t.leads) in
-        absurd (cc)
-    by_order false e =
-        let ne : at ≢ t.from.place = λ k. true≢false (sym (eq-eqb at t.from.place k) ∙ e) in
-        apart code i t.from.place (stands-at code at i r f) t.stands.reached (omega (arith, inside.place))
+          absurd (cc)
+      by_order false e =
+          let ne : at ≢ t.from.place = λ k. true≢false (sym (eq-eqb at t.from.place k) ∙ e) in
+          apart code i t.from.place (stands-at code at i r f) t.stands.reached (omega (arith, inside.place))
 
   pub target-none : (at place : ℕ) (end : CodeEnd) → IsReached code at → fetched code at ≡ Err end → (t : IsTarget code place) → at ≤ t.from.place → ⊥
   target-none at place end r f t le = stops code at t.from.place t.from end r t.stands.reached f t.stands.found le
@@ -79,3 +80,10 @@ module _ (code : List ℕ) where
   pub trails-later : (behind at later : ℕ) → IsTrailing code behind at → at ≤ later → IsTrailing code behind later
   trails-later behind at later h le =
       record { reached = h.reached; far = elim h.far as (λ _. (behind ≡ 0) ⊎ (behind + 128 ≤ later)) [ inl e ↦ inl e | inr far ↦ inr (omega arith) ] }
+
+  -- what the answers mean
+  pub place-means : (place : ℤ) (r : Bool) → r ≡ is_place code place → IsTrue r ↔ IsTargetPlace code place
+  place-means place r e = ((λ h. place-from code place (sym e ∙ h)), (λ p. e ∙ place-true code place p))
+
+  pub target-means : (place : ℕ) (r : Bool) → r ≡ is_target code place → IsTrue r ↔ IsTarget code place
+  target-means place r e = ((λ h. target-from code place (sym e ∙ h)), (λ t. e ∙ target-true code place t))

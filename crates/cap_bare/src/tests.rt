@@ -1,10 +1,10 @@
+ghost use Rattle.std.specs.Prelude.{◌≤◌, length};
+
 use crate::{Bare, BareEnd, BareFault, BareKind, bare_method, bare_run, bare_verify};
 use cap_bytes::{FormKind, View};
 use cap_package::PackFault;
 use jc_decode::CodeEnd;
 use std::process::Abort;
-
-ghost use Rattle.std.specs.Prelude.{◌≤◌, length};
 
 /// The end of a run of an info's method, or None where it does not come to a run.
 fn end_of(info: &[u8], args: &[i16], budget: u64) -> Option<BareEnd>
@@ -75,11 +75,22 @@ fn arithmetic_wraps_and_shifts_by_five_bits(rt: HostRuntime) {
         (0x57, 12, 10, 6),
     ] {
         let info = [0, 2, 0x20, 0x1C, 0x1D, opcode, 0x78];
-        assert!(rt; is_returned(&info, &[first, second], 4, value), "{opcode} of {first} and {second}");
+        assert!(rt;
+            is_returned(&info, &[first, second], 4, value),
+            "{opcode} of {first} and {second}"
+        );
     }
-    for (opcode, operand, value) in [(0x4B, -32768, -32768), (0x4B, 5, -5), (0x5B, 128, -128), (0x5B, 383, 127)] {
+    for (opcode, operand, value) in [
+        (0x4B, -32768, -32768),
+        (0x4B, 5, -5),
+        (0x5B, 128, -128),
+        (0x5B, 383, 127),
+    ] {
         let info = [0, 1, 0x10, 0x1C, opcode, 0x78];
-        assert!(rt; is_returned(&info, &[operand], 3, value), "{opcode} of {operand}");
+        assert!(rt;
+            is_returned(&info, &[operand], 3, value),
+            "{opcode} of {operand}"
+        );
     }
 }
 
@@ -106,7 +117,8 @@ fn branches_are_taken_where_their_condition_holds(rt: HostRuntime) {
 
 /// The sum of the numbers from 1 to the argument, by a loop over a local variable.
 const SUM: [u8; 19] = [
-    0, 2, 0x11, 0x03, 0x30, 0x1C, 0x65, 0x0B, 0x1D, 0x1C, 0x41, 0x30, 0x59, 0x00, 0xFF, 0x70, 0xF6, 0x1D, 0x78,
+    0, 2, 0x11, 0x03, 0x30, 0x1C, 0x65, 0x0B, 0x1D, 0x1C, 0x41, 0x30, 0x59, 0x00, 0xFF, 0x70, 0xF6,
+    0x1D, 0x78,
 ];
 
 #[test]
@@ -129,33 +141,129 @@ fn registers_and_loops(rt: HostRuntime) {
 #[test]
 fn flaws_are_named_at_the_least_place(rt: HostRuntime) {
     let inside = refusal_of(&[0, 2, 0x00, 0x11, 0x00, 0x05, 0x70, 0xFE, 0x78]);
-    assert!(rt; matches!(inside, Some(BareFault { place: 3, kind: BareKind::BadTarget(1) })));
+    assert!(rt;
+        matches!(
+            inside,
+            Some(BareFault {
+                place: 3,
+                kind: BareKind::BadTarget(1)
+            })
+        )
+    );
     let before = refusal_of(&[0, 1, 0x00, 0x70, 0xFF, 0x11]);
-    assert!(rt; matches!(before, Some(BareFault { place: 0, kind: BareKind::BadTarget(-1) })));
+    assert!(rt;
+        matches!(
+            before,
+            Some(BareFault {
+                place: 0,
+                kind: BareKind::BadTarget(-1)
+            })
+        )
+    );
     let cut = refusal_of(&[0, 1, 0x00, 0x04, 0x11, 0x00]);
-    assert!(rt; matches!(cut, Some(BareFault { place: 1, kind: BareKind::Code(CodeEnd::Cut) })));
+    assert!(rt;
+        matches!(
+            cut,
+            Some(BareFault {
+                place: 1,
+                kind: BareKind::Code(CodeEnd::Cut)
+            })
+        )
+    );
     let reference = refusal_of(&[0, 1, 0x00, 0x04, 0x01, 0x70, 0x09]);
-    assert!(rt; matches!(reference, Some(BareFault { place: 1, kind: BareKind::Code(CodeEnd::OutOfScope(1)) })));
+    assert!(rt;
+        matches!(
+            reference,
+            Some(BareFault {
+                place: 1,
+                kind: BareKind::Code(CodeEnd::OutOfScope(1))
+            })
+        )
+    );
     let unknown = refusal_of(&[0, 1, 0x00, 0xC8]);
-    assert!(rt; matches!(unknown, Some(BareFault { place: 0, kind: BareKind::Code(CodeEnd::OutOfScope(0xC8)) })));
+    assert!(rt;
+        matches!(
+            unknown,
+            Some(BareFault {
+                place: 0,
+                kind: BareKind::Code(CodeEnd::OutOfScope(0xC8))
+            })
+        )
+    );
 }
 
 #[test]
 fn states_are_refused_where_they_are_met(rt: HostRuntime) {
     let falls = refusal_of(&[0, 2, 0x00, 0x04, 0x04, 0x41]);
-    assert!(rt; matches!(falls, Some(BareFault { place: 2, kind: BareKind::FallsOff })));
+    assert!(rt;
+        matches!(
+            falls,
+            Some(BareFault {
+                place: 2,
+                kind: BareKind::FallsOff
+            })
+        )
+    );
     let backward = refusal_of(&[0, 2, 0x00, 0x04, 0x04, 0x41, 0x3B, 0x70, 0xFD]);
-    assert!(rt; matches!(backward, Some(BareFault { place: 1, kind: BareKind::StackAtTarget })));
+    assert!(rt;
+        matches!(
+            backward,
+            Some(BareFault {
+                place: 1,
+                kind: BareKind::StackAtTarget
+            })
+        )
+    );
     let forward = refusal_of(&[0, 2, 0x00, 0x03, 0x60, 0x03, 0x04, 0x04, 0x78]);
-    assert!(rt; matches!(forward, Some(BareFault { place: 4, kind: BareKind::StackAtTarget })));
+    assert!(rt;
+        matches!(
+            forward,
+            Some(BareFault {
+                place: 4,
+                kind: BareKind::StackAtTarget
+            })
+        )
+    );
     let under = refusal_of(&[0, 1, 0x01, 0x3B, 0x78]);
-    assert!(rt; matches!(under, Some(BareFault { place: 0, kind: BareKind::Underflow })));
+    assert!(rt;
+        matches!(
+            under,
+            Some(BareFault {
+                place: 0,
+                kind: BareKind::Underflow
+            })
+        )
+    );
     let over = refusal_of(&[0, 1, 0x00, 0x04, 0x04, 0x78]);
-    assert!(rt; matches!(over, Some(BareFault { place: 1, kind: BareKind::Overflow })));
+    assert!(rt;
+        matches!(
+            over,
+            Some(BareFault {
+                place: 1,
+                kind: BareKind::Overflow
+            })
+        )
+    );
     let local = refusal_of(&[0, 1, 0x10, 0x1D, 0x78]);
-    assert!(rt; matches!(local, Some(BareFault { place: 0, kind: BareKind::NoLocal(1) })));
+    assert!(rt;
+        matches!(
+            local,
+            Some(BareFault {
+                place: 0,
+                kind: BareKind::NoLocal(1)
+            })
+        )
+    );
     let branch = refusal_of(&[0, 1, 0x00, 0x04, 0x70, 0x02, 0x78]);
-    assert!(rt; matches!(branch, Some(BareFault { place: 1, kind: BareKind::StackAtBranch })));
+    assert!(rt;
+        matches!(
+            branch,
+            Some(BareFault {
+                place: 1,
+                kind: BareKind::StackAtBranch
+            })
+        )
+    );
 }
 
 /// The kind and place of the fault of an info that breaks its format.
@@ -170,11 +278,26 @@ fn form_of(info: &[u8]) -> Option<(FormKind, u32)>
 
 #[test]
 fn files_are_refused_at_the_first_item(rt: HostRuntime) {
-    assert!(rt; matches!(form_of(&[1, 2, 0x10, 0x1C, 0x04, 0x41, 0x78]), Some((FormKind::BadValue, 3))));
-    assert!(rt; matches!(form_of(&[0, 0x12, 0x10, 0x1C, 0x04, 0x41, 0x78]), Some((FormKind::BadValue, 4))));
+    assert!(rt;
+        matches!(
+            form_of(&[1, 2, 0x10, 0x1C, 0x04, 0x41, 0x78]),
+            Some((FormKind::BadValue, 3))
+        )
+    );
+    assert!(rt;
+        matches!(
+            form_of(&[0, 0x12, 0x10, 0x1C, 0x04, 0x41, 0x78]),
+            Some((FormKind::BadValue, 4))
+        )
+    );
     assert!(rt; matches!(form_of(&[1]), Some((FormKind::BadValue, 3))));
     assert!(rt; matches!(form_of(&[]), Some((FormKind::Cut, 3))));
     assert!(rt; matches!(form_of(&[0]), Some((FormKind::Cut, 4))));
     assert!(rt; matches!(form_of(&[0, 2]), Some((FormKind::Cut, 5))));
-    assert!(rt; matches!(bare_method(View::of(&[0, 2, 0x10])), Err(PackFault::MethodLength(1, 0))));
+    assert!(rt;
+        matches!(
+            bare_method(View::of(&[0, 2, 0x10])),
+            Err(PackFault::MethodLength(1, 0))
+        )
+    );
 }

@@ -1,8 +1,8 @@
-ghost use Rattle.std.specs.Prelude.{◌≡◌, ◌≤◌, ◌<◌, ◌+◌, ◌↔◌, length, IfOk, IfErr, IsOk, OnOk};
+ghost use Rattle.std.specs.Prelude.{◌≡◌, ◌≤◌, ◌<◌, ◌+◌, ◌↔◌, length, IfOk, IfErr, IsOk, IsTrue, OnOk};
 ghost use Rattle.jc_decode.specs.Decoding.{AreBytes};
 ghost use Rattle.cap_bare.specs.declared.fault.BareFault.{BareFault};
 ghost use Rattle.cap_bare.specs.Effects.{target_of};
-ghost use Rattle.cap_bare.specs.Code.{IsFirstFlaw, IsFlawKind, IsReached, IsWellFormed, Stands};
+ghost use Rattle.cap_bare.specs.Code.{IsFirstFlaw, IsFlawKind, IsReached, IsTarget, IsTargetPlace, IsWellFormed, Stands};
 ghost use Rattle.cap_bare.specs.Typing.{CardTyping, IsCompact};
 ghost use Rattle.cap_bare.specs.Met.{IsRefused};
 ghost use Rattle.cap_bare.specs.Walk.{instructions, has_place, is_place, is_at, is_target, led, first_flaw, applied, passed, first_wrong, verdict};
@@ -57,11 +57,17 @@ fn find_flaw(code: View<'_>) -> Result<(), BareFault>
     'walk: while usize::from(at) < code.bytes.len() {
         let placed = match fetch(code, at) {
             Ok(placed) => placed,
-            Err(end) => return Err(BareFault { place: at, kind: BareKind::Code(end) }),
+            Err(end) => return Err(BareFault {
+                place: at,
+                kind: BareKind::Code(end),
+            }),
         };
         behind = trailed(code, behind, at);
         if let Err(kind) = lead(code, behind, placed) {
-            return Err(BareFault { place: placed.place, kind });
+            return Err(BareFault {
+                place: placed.place,
+                kind,
+            });
         }
         at = placed.next;
     }
@@ -104,7 +110,8 @@ fn is_place(code: View<'_>, from: u16, place: i32) -> bool
     requires short { length code.bytes.now ≤ 32767 }
     requires reached { IsReached code.bytes.now from }
     requires from_on { IsFromOn from place }
-    ensures { result ≡ is_place code.entry.bytes.now place }
+    ensures value { result ≡ is_place code.entry.bytes.now place }
+    ensures meaning { IsTrue result ↔ IsTargetPlace code.entry.bytes.now place }
 {
     match u32::try_from(place) {
         Ok(place) => begins(code, from, place),
@@ -134,7 +141,8 @@ fn begins(code: View<'_>, from: u16, place: u32) -> bool
 fn is_target(code: View<'_>, behind: u16, place: u16) -> bool
     requires short { length code.bytes.now ≤ 32767 }
     requires trailing { IsTrailing code.bytes.now behind place }
-    ensures { result ≡ is_target code.entry.bytes.now place }
+    ensures value { result ≡ is_target code.entry.bytes.now place }
+    ensures meaning { IsTrue result ↔ IsTarget code.entry.bytes.now place }
 {
     are_bytes(code.bytes);
     let mut at = behind;
@@ -190,7 +198,13 @@ fn applied(bare: Bare, instruction: Instruction, depth: usize) -> Result<usize, 
 }
 
 /// The number of cells before the next place, over a stack of so many shorts.
-fn passed(code: View<'_>, bare: Bare, behind: u16, placed: Placed, depth: usize) -> Result<usize, BareKind>
+fn passed(
+    code: View<'_>,
+    bare: Bare,
+    behind: u16,
+    placed: Placed,
+    depth: usize,
+) -> Result<usize, BareKind>
     requires short { length code.bytes.now ≤ 32767 }
     requires trailing { IsTrailing code.bytes.now behind placed.place }
     requires low { depth ≤ 30 }
@@ -231,7 +245,10 @@ fn find_wrong(code: View<'_>, bare: Bare) -> Result<(), BareFault>
         behind = trailed(code, behind, at);
         depth = match passed(code, bare, behind, placed, depth) {
             Ok(after) => after,
-            Err(kind) => return Err(BareFault { place: placed.place, kind }),
+            Err(kind) => return Err(BareFault {
+                place: placed.place,
+                kind,
+            }),
         };
         at = placed.next;
     }

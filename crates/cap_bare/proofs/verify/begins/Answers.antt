@@ -14,20 +14,20 @@ walk-preserved c =
     record {
       reached = reached-after c.args.code.bytes.now c.walk.at c.in-Ok.placed c.walk.invariant.reached found;
       ahead = place-ahead c.args.code.bytes.now c.walk.at c.args.place c.in-Ok.placed c.walk.invariant.reached found
-        (omega (arith, c.walk-test.true, c.from.ensures));
+          (omega (arith, c.walk-test.true, c.from.ensures));
     }
 
 pub returns-in-Err : goal.returns-in-Err
 returns-in-Err c =
     place-not c.args.code.bytes.now c.args.place
     (place-none c.args.code.bytes.now c.walk.at c.args.place c.in-Err.field-0 c.walk.invariant.reached (sym c.in-Err.ensures.value)
-      (omega (arith, c.walk-test.true, c.from.ensures)))
+    (omega (arith, c.walk-test.true, c.from.ensures)))
 
 pub returns-then-from-place : goal.returns-then-from-place
 returns-then-from-place c =
     c.is_ok.ensures.value
     ∙ place-here c.args.code.bytes.now c.walk.at c.args.place c.fetch-then-from-place.result c.walk.invariant.reached
-      (sym c.fetch-then-from-place.ensures.value) (sym c.from-2.ensures ∙ c.if-from-place.true)
+    (sym c.fetch-then-from-place.ensures.value) (sym c.from-2.ensures ∙ c.if-from-place.true)
 
 pub returns-else-from-place : goal.returns-else-from-place
 returns-else-from-place c =

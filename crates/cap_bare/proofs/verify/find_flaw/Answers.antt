@@ -11,7 +11,7 @@ pub returns-in-Err-lead : goal.returns-in-Err-lead
 returns-in-Err-lead c =
     let found = instructions-found c.args.code.bytes.now c.walk.at c.in-Ok.placed (sym c.in-Ok.ensures.value) in
     let flaw : first_flaw c.args.code.bytes.now c.walk.at (instructions_from c.args.code.bytes.now c.walk.at)
-      ≡ Err (fault c.in-Ok.placed.place c.in-Err-lead.kind) = rw (found, ← c.in-Err-lead.ensures) in
+    ≡ Err (fault c.in-Ok.placed.place c.in-Err-lead.kind) = rw (found, ← c.in-Err-lead.ensures) in
     sym flaw ∙ c.walk.invariant.same
 
 pub walk-init : goal.walk-init
@@ -24,10 +24,10 @@ walk-preserved c =
     let next = c.in-Ok.ensures.next in
     record {
       same =
-        let on : first_flaw c.args.code.bytes.now c.walk.at (instructions_from c.args.code.bytes.now c.walk.at)
+          let on : first_flaw c.args.code.bytes.now c.walk.at (instructions_from c.args.code.bytes.now c.walk.at)
           ≡ first_flaw c.args.code.bytes.now c.in-Ok.placed.next (instructions_from c.args.code.bytes.now c.in-Ok.placed.next) =
           rw (more, sym c.lead.ensures ∙ c.in_default.is) refl in
-        sym on ∙ c.walk.invariant.same;
+          sym on ∙ c.walk.invariant.same;
       reached = reached-after c.args.code.bytes.now c.walk.at c.in-Ok.placed c.walk.invariant.reached found;
       trailing = trails-later c.args.code.bytes.now c.trailed-behind.result c.walk.at c.in-Ok.placed.next c.trailed-behind.ensures (omega (arith, next.1));
       inside = next.2;

@@ -7,7 +7,7 @@ use Rattle.cap_bare.proofs.verify.find_wrong.Given as goal
 abbrev pub invariant-walk : goal.invariant-walk
 invariant-walk l = record {
   same : first_wrong l.code.bytes.now l.bare l.depth (instructions_from l.code.bytes.now l.at)
-    ≡ first_wrong l.code.bytes.now l.bare 0 (instructions l.code.bytes.now);
+      ≡ first_wrong l.code.bytes.now l.bare 0 (instructions l.code.bytes.now);
   reached : IsReached l.code.bytes.now l.at;
   trailing : IsTrailing l.code.bytes.now l.behind l.at;
   low : l.depth ≤ 15;
