@@ -1,0 +1,10 @@
+//! The words that capcheck takes and the texts that it prints: the grammar of its commands, and the
+//! lines for each answer. Faults and endings are those of the crates below. It stands on `cap_files`
+//! for the words, and on `itoa` for numbers.
+#![tactic(auto)]
+
+mod fault;
+mod word;
+
+pub use fault::Shown;
+pub use word::{Arg, argument, folder_word, number};
