@@ -1,6 +1,6 @@
 -- std's `parse` reads each word that the grammar allows, and a comparison of texts that fails
 -- tells two lists apart.
-use Rattle.std.proofs.Common.{◌≡◌, ℕ, ℤ, ◌<◌, ◌^◌, List, false, eqb, sym, ◌∙◌, arith, rules, w32, to_z, of_z, true≢false}
+use Rattle.std.proofs.Common.{◌≡◌, ℕ, ℤ, List, false, eqb, sym, ◌∙◌, arith, rules, w32, to_z, of_z, true≢false}
 use Rattle.std.specs.Prelude.{Result, Ok, Err, IsTrue, codes, decimal}
 use Rattle.std.specs.Fmt.{signed_decimal}
 use Rattle.std.specs.Str.Parse.{ParsesUnsigned, ParsesSigned}

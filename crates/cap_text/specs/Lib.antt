@@ -1,2 +1,4 @@
 pub mod Word
+pub mod Probe
+pub mod Request
 pub mod Fault

@@ -1,6 +1,6 @@
 -- The words of a command line. A number is written in decimal with no leading zero, no plus sign
 -- and no negative zero, so each number has one word.
-use Rattle.std.specs.Prelude.{◌≡◌, ◌≢◌, ℕ, ◌<◌, ◌^◌, List, [], codes, decimal, FitsSigned}
+use Rattle.std.specs.Prelude.{◌≡◌, ◌≢◌, ℕ, ◌<◌, ◌^◌, List, [], ◌∷◌, codes, decimal, FitsSigned}
 use Rattle.std.specs.Fmt.{signed_decimal}
 use Rattle.std.specs.Int.{w32}
 use Rattle.cap_text.specs.declared.word.Arg.{Arg}
@@ -20,3 +20,10 @@ pub record IsNumberWord (word : List ℕ) (n : ℕ) : Type 0 where
 abbrev pub IsArgWord : List ℕ → Arg → Type 0
 IsArgWord word Null = word ≡ codes "null"
 IsArgWord word (Number z) = (word ≡ signed_decimal z) × FitsSigned w32 z
+
+-- the words write these arguments, one each
+abbrev pub AreArgWords : List (List ℕ) → List Arg → Type 0
+AreArgWords [] [] = Unit {0}
+AreArgWords [] (arg ∷ args) = ⊥
+AreArgWords (word ∷ words) [] = ⊥
+AreArgWords (word ∷ words) (arg ∷ args) = IsArgWord word arg × AreArgWords words args

@@ -3,8 +3,12 @@
 //! for the words, and on `itoa` for numbers.
 #![tactic(auto)]
 
+mod command;
 mod fault;
+mod probe;
 mod word;
 
+pub use command::{Command, read_command};
 pub use fault::Shown;
+pub use probe::Probe;
 pub use word::{Arg, argument, folder_word, number};

@@ -1,5 +1,4 @@
 -- a word that writes an argument is read as that argument, and prints as it stands
-use Rattle.std.proofs.Common.{ℕ, ◌≡◌, List, rules}
 use Rattle.cap_text.proofs.Numerals.{no_argument, nothing_read}
 use Rattle.cap_text.proofs.word.argument.Goals as goal
 

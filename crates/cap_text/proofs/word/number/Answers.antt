@@ -1,6 +1,4 @@
 -- a word that writes a number is read as that number, and prints as it stands
-use Rattle.std.proofs.Common.{ℕ, ◌≡◌, List, rules}
-use Rattle.std.specs.Prelude.{Ok, decimal}
 use Rattle.cap_text.proofs.Numerals.{number_is_read, no_number}
 use Rattle.cap_text.proofs.word.number.Goals as goal
 
