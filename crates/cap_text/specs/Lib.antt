@@ -2,3 +2,5 @@ pub mod Word
 pub mod Probe
 pub mod Request
 pub mod Fault
+pub mod Start
+pub mod Line

@@ -5,10 +5,14 @@
 
 mod command;
 mod fault;
+mod line;
 mod probe;
+mod start;
 mod word;
 
 pub use command::{Command, read_command};
 pub use fault::Shown;
+pub use line::{malformed, not_started};
 pub use probe::Probe;
+pub use start::StartFault;
 pub use word::{Arg, argument, folder_word, number};

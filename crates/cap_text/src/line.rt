@@ -1,0 +1,22 @@
+ghost use Rattle.std.specs.Prelude.{◌≡◌, IfOk, string_bytes};
+ghost use Rattle.cap_text.specs.Line.{malformed_line, not_started_line};
+
+use cap_package::PackFault;
+use std::alloc::{AllocError, Global};
+
+use crate::fault::Shown;
+use crate::start::StartFault;
+
+/// The line for a package, by its number, whose parts are malformed.
+pub fn malformed(alloc: Global, number: u16, fault: PackFault) -> Result<String, AllocError>
+    ensures { IfOk result (λ t. string_bytes t ≡ malformed_line number fault) }
+{
+    format!(in alloc; "malformed package {number} {}\n", Shown(fault))
+}
+
+/// The line for an entry that does not start.
+pub fn not_started(alloc: Global, fault: StartFault) -> Result<String, AllocError>
+    ensures { IfOk result (λ t. string_bytes t ≡ not_started_line fault) }
+{
+    format!(in alloc; "not started {}\n", Shown(fault))
+}
