@@ -1,0 +1,9 @@
+//! The commands of capcheck, from the words to the line that is printed: what each loads, decides
+//! and answers, and the one call that runs them. It stands on every crate below it; folders and the
+//! place of the text are handed in.
+#![tactic(auto)]
+
+mod report;
+mod verdict;
+
+pub use verdict::Verdict;
