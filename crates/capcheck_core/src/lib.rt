@@ -4,6 +4,7 @@
 #![tactic(auto)]
 
 mod report;
+mod shorts;
 mod verdict;
 
 pub use verdict::Verdict;
