@@ -2,5 +2,6 @@ pub mod Word
 pub mod Probe
 pub mod Request
 pub mod Fault
+pub mod Bare
 pub mod Start
 pub mod Line

@@ -3,7 +3,9 @@ use Rattle.std.specs.Prelude.{ℕ, List, [], ◌∷◌, codes, decimal}
 use Rattle.std.specs.List.{concat}
 use Rattle.cap_package.specs.declared.fault.PackFault.{PackFault}
 use Rattle.cap_text.specs.declared.start.StartFault.{StartFault}
+use Rattle.cap_bare.specs.declared.fault.BareFault.{BareFault}
 use Rattle.cap_text.specs.Fault.{pack_fault_text}
+use Rattle.cap_text.specs.Bare.{bare_kind_text}
 use Rattle.cap_text.specs.Start.{start_fault_text}
 
 -- the parts of a package, by its number from 0, make no package
@@ -26,3 +28,7 @@ store_fault_line = codes "store fault\n"
 
 abbrev pub memory_line : List ℕ
 memory_line = codes "memory\n"
+
+-- the verifier refuses the bare method at a place
+abbrev pub refused_bare_line : BareFault → List ℕ
+refused_bare_line fault = concat (codes "refused place " ∷ decimal fault.place ∷ codes " " ∷ bare_kind_text fault.kind ∷ codes "\n" ∷ [])

@@ -3,6 +3,7 @@
 //! for the words, and on `itoa` for numbers.
 #![tactic(auto)]
 
+mod bare;
 mod command;
 mod fault;
 mod line;
@@ -12,7 +13,7 @@ mod word;
 
 pub use command::{Command, read_command};
 pub use fault::Shown;
-pub use line::{malformed, not_started};
+pub use line::{malformed, not_started, refused_bare};
 pub use probe::Probe;
 pub use start::StartFault;
 pub use word::{Arg, argument, folder_word, number};

@@ -1,6 +1,7 @@
 ghost use Rattle.std.specs.Prelude.{◌≡◌, IfOk, string_bytes};
-ghost use Rattle.cap_text.specs.Line.{malformed_line, not_started_line};
+ghost use Rattle.cap_text.specs.Line.{malformed_line, not_started_line, refused_bare_line};
 
+use cap_bare::BareFault;
 use cap_package::PackFault;
 use std::alloc::{AllocError, Global};
 
@@ -19,4 +20,11 @@ pub fn not_started(alloc: Global, fault: StartFault) -> Result<String, AllocErro
     ensures { IfOk result (λ t. string_bytes t ≡ not_started_line fault) }
 {
     format!(in alloc; "not started {}\n", Shown(fault))
+}
+
+/// The line for a bare method that the verifier refuses.
+pub fn refused_bare(alloc: Global, fault: BareFault) -> Result<String, AllocError>
+    ensures { IfOk result (λ t. string_bytes t ≡ refused_bare_line fault) }
+{
+    format!(in alloc; "refused place {} {}\n", fault.place, Shown(fault.kind))
 }
