@@ -4,6 +4,9 @@ use Rattle.std.specs.List.{concat}
 use Rattle.cap_package.specs.declared.fault.PackFault.{PackFault}
 use Rattle.cap_text.specs.declared.start.StartFault.{StartFault}
 use Rattle.cap_bare.specs.declared.fault.BareFault.{BareFault}
+use Rattle.cap_bare.specs.declared.run.BareEnd.{BareEnd}
+use Rattle.cap_bare.specs.declared.run.BareEnd.TheVariants.{Returned, Spent}
+use Rattle.std.specs.Fmt.{signed_decimal}
 use Rattle.cap_text.specs.Fault.{pack_fault_text}
 use Rattle.cap_text.specs.Bare.{bare_kind_text}
 use Rattle.cap_text.specs.Start.{start_fault_text}
@@ -32,3 +35,8 @@ memory_line = codes "memory\n"
 -- the verifier refuses the bare method at a place
 abbrev pub refused_bare_line : BareFault → List ℕ
 refused_bare_line fault = concat (codes "refused place " ∷ decimal fault.place ∷ codes " " ∷ bare_kind_text fault.kind ∷ codes "\n" ∷ [])
+
+-- how a run of a bare method ends
+abbrev pub bare_ending_line : BareEnd → List ℕ
+bare_ending_line (Returned value) = concat (codes "returned short " ∷ signed_decimal value ∷ codes "\n" ∷ [])
+bare_ending_line Spent = codes "spent\n"

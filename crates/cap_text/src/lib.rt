@@ -13,7 +13,7 @@ mod word;
 
 pub use command::{Command, read_command};
 pub use fault::Shown;
-pub use line::{malformed, not_started, refused_bare};
+pub use line::{bare_ending, malformed, not_started, refused_bare};
 pub use probe::Probe;
 pub use start::StartFault;
 pub use word::{Arg, argument, folder_word, number};

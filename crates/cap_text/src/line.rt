@@ -1,7 +1,7 @@
 ghost use Rattle.std.specs.Prelude.{◌≡◌, IfOk, string_bytes};
-ghost use Rattle.cap_text.specs.Line.{malformed_line, not_started_line, refused_bare_line};
+ghost use Rattle.cap_text.specs.Line.{malformed_line, not_started_line, refused_bare_line, bare_ending_line};
 
-use cap_bare::BareFault;
+use cap_bare::{BareEnd, BareFault};
 use cap_package::PackFault;
 use std::alloc::{AllocError, Global};
 
@@ -27,4 +27,14 @@ pub fn refused_bare(alloc: Global, fault: BareFault) -> Result<String, AllocErro
     ensures { IfOk result (λ t. string_bytes t ≡ refused_bare_line fault) }
 {
     format!(in alloc; "refused place {} {}\n", fault.place, Shown(fault.kind))
+}
+
+/// The line for how a run of a bare method ends.
+pub fn bare_ending(alloc: Global, end: BareEnd) -> Result<String, AllocError>
+    ensures { IfOk result (λ t. string_bytes t ≡ bare_ending_line end) }
+{
+    match end {
+        BareEnd::Returned(value) => format!(in alloc; "returned short {value}\n"),
+        BareEnd::Spent => format!(in alloc; "spent\n"),
+    }
 }

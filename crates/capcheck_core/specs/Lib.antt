@@ -1,3 +1,6 @@
 pub mod Verdict
 pub mod Report
 pub mod Shorts
+pub mod Outside
+pub mod MethodFile
+pub mod Probe

@@ -3,6 +3,8 @@
 //! place of the text are handed in.
 #![tactic(auto)]
 
+mod method_file;
+mod probe;
 mod report;
 mod shorts;
 mod verdict;

@@ -1,5 +1,7 @@
-ghost use Rattle.std.specs.Prelude.{◌≡◌};
+ghost use Rattle.std.specs.Prelude.{◌≡◌, MatchResult};
 ghost use Rattle.capcheck_core.specs.Verdict.{status_of, text_of};
+
+use std::alloc::AllocError;
 
 /// What a command decided: the status that it answers if its text can be put, with that text.
 #[derive(Drop)]
@@ -23,6 +25,36 @@ pub enum Verdict {
 }
 
 impl Verdict {
+    /// The work is done, and the text made; or there was no memory for the text.
+    pub fn done(text: Result<String, AllocError>) -> Verdict
+        ensures { MatchResult text (λ t. result ≡ Verdict.Done t) (λ _. result ≡ Verdict.Memory) }
+    {
+        match text {
+            Ok(text) => Verdict::Done(text),
+            Err(_) => Verdict::Memory,
+        }
+    }
+
+    /// A verifier refused, and the text is made; or there was no memory for the text.
+    pub fn refused(text: Result<String, AllocError>) -> Verdict
+        ensures { MatchResult text (λ t. result ≡ Verdict.Refused t) (λ _. result ≡ Verdict.Memory) }
+    {
+        match text {
+            Ok(text) => Verdict::Refused(text),
+            Err(_) => Verdict::Memory,
+        }
+    }
+
+    /// What was given is no good, and the text is made; or there was no memory for the text.
+    pub fn malformed(text: Result<String, AllocError>) -> Verdict
+        ensures { MatchResult text (λ t. result ≡ Verdict.Malformed t) (λ _. result ≡ Verdict.Memory) }
+    {
+        match text {
+            Ok(text) => Verdict::Malformed(text),
+            Err(_) => Verdict::Memory,
+        }
+    }
+
     /// The number from 0 to 7 that the program ends with.
     pub fn status(&self) -> u8
         ensures { result ≡ status_of self.now }
