@@ -4,3 +4,5 @@ pub mod Shorts
 pub mod Outside
 pub mod MethodFile
 pub mod Probe
+pub mod Answers
+pub mod Completeness

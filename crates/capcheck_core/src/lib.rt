@@ -3,10 +3,12 @@
 //! place of the text are handed in.
 #![tactic(auto)]
 
+mod call;
 mod method_file;
 mod probe;
 mod report;
 mod shorts;
 mod verdict;
 
+pub use call::capcheck;
 pub use verdict::Verdict;
