@@ -4,7 +4,7 @@ use Rattle.std.specs.Prelude.{Some, None, IfSome, IsSomeAnd, Option, string_byte
 use Rattle.std.specs.FinMap as map
 use Rattle.cap_files.specs.Folder.{Parts, Holds}
 use Rattle.cap_bare.specs.declared.bare.Bare.{Bare}
-use Rattle.cap_bare.specs.Stub.{HasTyping}
+use Rattle.cap_bare.specs.Typing.{CardTyping}
 use Rattle.cap_text.specs.declared.word.Arg.{Arg}
 use Rattle.cap_text.specs.declared.word.Arg.TheVariants.{Number, Null}
 use Rattle.cap_text.specs.declared.start.StartFault.{StartFault}
@@ -21,7 +21,7 @@ use Rattle.capcheck_core.specs.MethodFile.{IsMethodFile}
 use Rattle.capcheck_core.specs.Probe.{Probes, OfMethodPart, OfMethod, IsRefusal, IsUnstarted, IsNoMethod, IsMissing, IsLong, method_key}
 use Rattle.capcheck_core.specs.Report.{Seen, IsReported, IsWhole, IsBroken}
 use Rattle.capcheck_core.specs.Shorts.{IsShort, AreShorts, RefusesStart, IsFirstMisfit}
-use Rattle.capcheck_core.proofs.MethodFiles.{same_method, no_breach, typed_stands}
+use Rattle.capcheck_core.proofs.MethodFiles.{same_method, no_breach}
 
 -- the file that was read is the one that is held
 same_file : (p : ProbeRequest) (before : Folders) (can : CanProbe p before) (file : List ℕ) → IsThere before (method_key p) file → can.file ≡ file
@@ -61,8 +61,7 @@ unrefused : (p : ProbeRequest) (before : Folders) → CanProbe p before → (tex
 unrefused p before can text part =
     let of = part.holds in
     let method = subst (λ file. IsMethodFile file can.bare can.code) (same_file p before can part.file part.there) can.method in
-    let typed : HasTyping of.bare of.code = same_method part.file can.bare of.bare can.code of.code method of.method HasTyping can.typed in
-    typed_stands of.bare of.code of.holds.fault typed of.holds.refused
+    of.holds.untyped (same_method part.file can.bare of.bare can.code of.code method of.method (λ bare code. CardTyping code bare) can.typed)
 
 unbroken : (p : ProbeRequest) (before : Folders) → CanProbe p before → (text : List ℕ)
   → OfMethodPart p before (λ file. IsNoMethod file text ⊎ OfMethod file (λ bare code. IsUnstarted bare code p text)) → ⊥

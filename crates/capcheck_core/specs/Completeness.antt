@@ -3,7 +3,7 @@ use Rattle.std.specs.Prelude.{◌≡◌, ℕ, ℤ, ◌≤◌, List, length, Some
 use Rattle.cap_files.specs.Counts.{Rose}
 use Rattle.cap_files.specs.Folder.{Parts, Holds}
 use Rattle.cap_bare.specs.declared.bare.Bare.{Bare}
-use Rattle.cap_bare.specs.Stub.{HasTyping}
+use Rattle.cap_bare.specs.Typing.{CardTyping}
 use Rattle.cap_text.specs.Probe.{ProbeRequest}
 use Rattle.cap_text.specs.Request.{Request, probe, IsRequest}
 use Rattle.capcheck_core.specs.MethodFile.{IsMethodFile}
@@ -28,7 +28,7 @@ pub record CanProbe (p : ProbeRequest) (before : Folders) : Type 0 where
   pub bare : Bare
   pub code : List ℕ
   pub method : IsMethodFile file bare code
-  pub typed : HasTyping bare code
+  pub typed : CardTyping code bare
   pub values : List ℤ
   pub fit : AreShorts p.args bare.nargs values
 

@@ -4,7 +4,7 @@ use Rattle.cap_bytes.specs.declared.fault.FormFault.{FormFault}
 use Rattle.cap_package.specs.declared.fault.PackFault.{PackFault}
 use Rattle.cap_package.specs.declared.fault.PackFault.TheVariants.{Form}
 use Rattle.cap_bare.specs.declared.bare.Bare.{Bare}
-use Rattle.cap_bare.specs.Stub.{IsFrame, BreaksFrame, IsBareMethod, RefusesMethod}
+use Rattle.cap_bare.specs.Method.{IsFrame, BreaksFrame, IsBareMethod, RefusesMethod}
 
 -- the tag of the Method component
 abbrev pub method_tag : ℕ

@@ -5,8 +5,10 @@ use Rattle.cap_package.specs.declared.fault.PackFault.{PackFault}
 use Rattle.cap_package.specs.declared.fault.PackFault.TheVariants.{MissingPart, PartTooLong}
 use Rattle.cap_bare.specs.declared.bare.Bare.{Bare}
 use Rattle.cap_bare.specs.declared.fault.BareFault.{BareFault}
-use Rattle.cap_bare.specs.Stub.{HasTyping, IsRefused}
-use Rattle.cap_bare.specs.Ends.{ending}
+use Rattle.cap_bare.specs.declared.run.BareEnd.{BareEnd}
+use Rattle.cap_bare.specs.Typing.{CardTyping}
+use Rattle.cap_bare.specs.Met.{IsRefused}
+use Rattle.cap_bare.specs.Machine.{Answers, after, entered}
 use Rattle.cap_text.specs.declared.start.StartFault.{StartFault}
 use Rattle.cap_text.specs.Probe.{ProbeRequest}
 use Rattle.cap_text.specs.Line.{malformed_line, not_started_line, refused_bare_line, bare_ending_line}
@@ -18,20 +20,23 @@ use Rattle.capcheck_core.specs.Shorts.{AreShorts, RefusesStart}
 
 -- the method has a typing, and the text is how its run with the arguments ends within the budget
 pub record IsRun (bare : Bare) (code : List ℕ) (p : ProbeRequest) (text : List ℕ) : Type 0 where
-  pub typed : HasTyping bare code
+  pub typed : CardTyping code bare
   pub values : List ℤ
   pub fit : AreShorts p.args bare.nargs values
-  pub prints : text ≡ bare_ending_line (ending bare code values p.budget)
+  pub end : BareEnd
+  pub ends : Answers end (after p.budget code bare (entered bare values))
+  pub prints : text ≡ bare_ending_line end
 
 -- the verifier finds no typing, and the text names why
 pub record IsRefusal (bare : Bare) (code : List ℕ) (text : List ℕ) : Type 0 where
+  pub untyped : CardTyping code bare → ⊥
   pub fault : BareFault
-  pub refused : IsRefused bare code fault
+  pub refused : IsRefused code bare fault
   pub prints : text ≡ refused_bare_line fault
 
 -- the method has a typing and does not start with the arguments, and the text names why
 pub record IsUnstarted (bare : Bare) (code : List ℕ) (p : ProbeRequest) (text : List ℕ) : Type 0 where
-  pub typed : HasTyping bare code
+  pub typed : CardTyping code bare
   pub fault : StartFault
   pub refused : RefusesStart p.args bare.nargs fault
   pub prints : text ≡ not_started_line fault

@@ -1,5 +1,5 @@
 ghost use Rattle.std.specs.Prelude.{◌≤◌, length};
-ghost use Rattle.cap_bare.specs.Stub.{FitsMethod, HasTyping};
+ghost use Rattle.cap_bare.specs.Typing.{CardTyping, IsCompact};
 ghost use Rattle.cap_text.specs.Probe.{probe_request};
 ghost use Rattle.capcheck_core.specs.Outside.{folders, StoresNothing};
 ghost use Rattle.capcheck_core.specs.Probe.{ProbesMethod, ProbesFile, Probes};
@@ -43,7 +43,9 @@ fn probe_file(alloc: Global, file: &[u8], probe: &Probe<'_>) -> Verdict
 }
 
 fn verify(alloc: Global, method: BareMethod<'_>, probe: &Probe<'_>) -> Verdict
-    requires { FitsMethod method.bare method.code.bytes.now }
+    requires filled { 1 ≤ length method.code.bytes.now }
+    requires short { length method.code.bytes.now ≤ 32767 }
+    requires compact { IsCompact method.bare }
     ensures { ProbesMethod method.entry.bare method.entry.code.bytes.now (probe_request probe.now) result }
 {
     match bare_verify(method.code, method.bare) {
@@ -53,8 +55,9 @@ fn verify(alloc: Global, method: BareMethod<'_>, probe: &Probe<'_>) -> Verdict
 }
 
 fn start(alloc: Global, method: BareMethod<'_>, probe: &Probe<'_>) -> Verdict
-    requires fits { FitsMethod method.bare method.code.bytes.now }
-    requires typed { HasTyping method.bare method.code.bytes.now }
+    requires short { length method.code.bytes.now ≤ 32767 }
+    requires compact { IsCompact method.bare }
+    requires typed { CardTyping method.code.bytes.now method.bare }
     ensures { ProbesMethod method.entry.bare method.entry.code.bytes.now (probe_request probe.now) result }
 {
     match shorts(&probe.args, method.bare.nargs) {
