@@ -3,3 +3,17 @@ pub mod Folder
 pub mod Sink
 pub mod Words
 pub mod WordsLeft
+pub mod Room
+pub mod Shelf
+pub mod Records
+pub mod Distinct
+pub mod Laid
+pub mod LaidOnce
+pub mod Pile
+pub mod Record
+pub mod RecordsLeft
+pub mod CallCounts
+pub mod Calls
+pub mod Tape
+pub mod Load
+pub mod Sure

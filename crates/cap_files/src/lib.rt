@@ -4,10 +4,21 @@
 //! `cap_bytes`.
 #![tactic(auto)]
 
+mod calls;
 mod folder;
+mod load;
+mod piece;
+mod pile;
+mod records;
+mod shelf;
 mod sink;
+mod sure_folder;
+mod sure_sink;
+mod tape;
 mod words;
 
 pub use folder::{Folder, LoadEnd, StoreFailed};
 pub use sink::{Sink, SinkFailed};
+pub use sure_folder::SureFolder;
+pub use sure_sink::SureSink;
 pub use words::{Words, WordsIter};
