@@ -5,3 +5,4 @@ pub mod Fault
 pub mod Bare
 pub mod Start
 pub mod Line
+pub mod Worked

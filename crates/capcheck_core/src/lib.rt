@@ -12,3 +12,6 @@ mod verdict;
 
 pub use call::capcheck;
 pub use verdict::Verdict;
+
+#[cfg(test)]
+mod tests;
