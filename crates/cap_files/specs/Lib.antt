@@ -17,3 +17,4 @@ pub mod Calls
 pub mod Tape
 pub mod Load
 pub mod Sure
+pub mod Mem

@@ -1,4 +1,4 @@
-ghost use Rattle.std.specs.Prelude.{◌≡◌, ◌++◌, ◌∷◌, [], length, nat_lt, IfOk, if◌then◌else◌};
+ghost use Rattle.std.specs.Prelude.{◌≡◌, ◌≤◌, ◌++◌, ◌∷◌, [], length, nat_lt, IfOk, if◌then◌else◌};
 ghost use Rattle.cap_files.specs.Calls.{no_calls, next_keep, counted, faulted, listed, keep_at};
 
 use std::alloc::{AllocError, Global};
@@ -69,7 +69,8 @@ impl Calls {
 
     /// Counts a failure.
     pub(crate) fn fault(&mut self)
-        ensures { self.new ≡ faulted self.old }
+        ensures after { self.new ≡ faulted self.old }
+        ensures rises { self.old.faults ≤ self.new.faults }
     {
         self.faults = self.faults.saturating_add(1);
     }

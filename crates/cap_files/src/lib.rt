@@ -7,6 +7,8 @@
 mod calls;
 mod folder;
 mod load;
+mod mem_folder;
+mod mem_sink;
 mod piece;
 mod pile;
 mod records;
@@ -18,6 +20,8 @@ mod tape;
 mod words;
 
 pub use folder::{Folder, LoadEnd, StoreFailed};
+pub use mem_folder::MemFolder;
+pub use mem_sink::MemSink;
 pub use sink::{Sink, SinkFailed};
 pub use sure_folder::SureFolder;
 pub use sure_sink::SureSink;
