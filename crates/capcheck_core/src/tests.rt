@@ -15,7 +15,7 @@ struct Case {
     status: u8,
 }
 
-const fn case(file: &'static [u8], words: &'static str, text: &'static str, status: u8) -> Case {
+const fn given(file: &'static [u8], words: &'static str, text: &'static str, status: u8) -> Case {
     Case {
         file,
         words,
@@ -39,35 +39,35 @@ fn words_of(alloc: Global, line: &str) -> Result<Words, AllocError> {
 fn answers_with_text_and_status(rt: HostRuntime) -> Result<(), AllocError> {
     let alloc = rt.alloc();
     let cases = [
-        case(NEXT, "probe P 10 41", "returned short 42\n", 0),
-        case(NEXT, "probe P 10 32767", "returned short -32768\n", 0),
-        case(NEXT, "probe P 3 41", "spent\n", 0),
-        case(NEXT, "probe P 4 41", "returned short 42\n", 0),
-        case(NEXT, "probe P 0 41", "spent\n", 0),
-        case(NEXT, "probe P 4", "not started ArgCount 0 1\n", 7),
-        case(NEXT, "probe P 04 41", "usage\n", 2),
-        case(NEXT, "probe P 4 32768", "not started ArgKind 0\n", 7),
-        case(NEXT, "probe P 4 null", "not started ArgKind 0\n", 7),
-        case(NEXT, "probe P 4 -0", "usage\n", 2),
-        case(NEXT, "probe P 4 +1", "usage\n", 2),
-        case(NEXT, "probe P 4294967296 41", "usage\n", 2),
-        case(NEXT, "probe -- 4 41", "usage\n", 2),
-        case(NEXT, "probe", "usage\n", 2),
-        case(NEXT, "probes P 4 41", "usage\n", 2),
-        case(NEXT, "probe Q 4 41", "malformed package 0 MissingPart 7\n", 7),
+        given(NEXT, "probe P 10 41", "returned short 42\n", 0),
+        given(NEXT, "probe P 10 32767", "returned short -32768\n", 0),
+        given(NEXT, "probe P 3 41", "spent\n", 0),
+        given(NEXT, "probe P 4 41", "returned short 42\n", 0),
+        given(NEXT, "probe P 0 41", "spent\n", 0),
+        given(NEXT, "probe P 4", "not started ArgCount 0 1\n", 7),
+        given(NEXT, "probe P 04 41", "usage\n", 2),
+        given(NEXT, "probe P 4 32768", "not started ArgKind 0\n", 7),
+        given(NEXT, "probe P 4 null", "not started ArgKind 0\n", 7),
+        given(NEXT, "probe P 4 -0", "usage\n", 2),
+        given(NEXT, "probe P 4 +1", "usage\n", 2),
+        given(NEXT, "probe P 4294967296 41", "usage\n", 2),
+        given(NEXT, "probe -- 4 41", "usage\n", 2),
+        given(NEXT, "probe", "usage\n", 2),
+        given(NEXT, "probes P 4 41", "usage\n", 2),
+        given(NEXT, "probe Q 4 41", "malformed package 0 MissingPart 7\n", 7),
         // a goto into the middle of sspush
-        case(b"\x07\x00\x09\x00\x02\x00\x11\x00\x05\x70\xfe\x78", "probe P 9", "refused place 3 BadTarget 1\n", 1),
-        case(b"\x07\x00\x06\x00\x02\x00\x04\x04\x41", "probe P 9", "refused place 2 FallsOff\n", 1),
+        given(b"\x07\x00\x09\x00\x02\x00\x11\x00\x05\x70\xfe\x78", "probe P 9", "refused place 3 BadTarget 1\n", 1),
+        given(b"\x07\x00\x06\x00\x02\x00\x04\x04\x41", "probe P 9", "refused place 2 FallsOff\n", 1),
         // a target that a later branch has, fallen into with one cell
-        case(b"\x07\x00\x09\x00\x02\x00\x04\x04\x41\x3b\x70\xfd", "probe P 9", "refused place 1 StackAtTarget\n", 1),
-        case(b"\x07\x00\x07\x01\x02\x10\x1c\x04\x41\x78", "probe P 9 1", "malformed package 0 Form 7 3 BadValue\n", 7),
-        case(b"\x07\x00\x07\x00\x12\x10\x1c\x04\x41\x78", "probe P 9 1", "malformed package 0 Form 7 4 BadValue\n", 7),
-        case(b"\x07\x00\x01\x00", "probe P 9", "malformed package 0 Form 7 4 Cut\n", 7),
-        case(b"\x07\x00\x03\x00\x02\x10", "probe P 9", "malformed package 0 MethodLength 1 0\n", 7),
-        case(b"", "probe P 9", "malformed package 0 Form 7 0 Cut\n", 7),
-        case(b"\x06\x00\x07\x00\x02\x10\x1c\x04\x41\x78", "probe P 9", "malformed package 0 Form 7 0 WrongTag\n", 7),
-        case(b"\x07\x00\x08\x00\x02\x10\x1c\x04\x41\x78", "probe P 9", "malformed package 0 Form 7 10 Cut\n", 7),
-        case(b"\x07\x00\x06\x00\x02\x10\x1c\x04\x41\x78", "probe P 9", "malformed package 0 Form 7 9 Trailing\n", 7),
+        given(b"\x07\x00\x09\x00\x02\x00\x04\x04\x41\x3b\x70\xfd", "probe P 9", "refused place 1 StackAtTarget\n", 1),
+        given(b"\x07\x00\x07\x01\x02\x10\x1c\x04\x41\x78", "probe P 9 1", "malformed package 0 Form 7 3 BadValue\n", 7),
+        given(b"\x07\x00\x07\x00\x12\x10\x1c\x04\x41\x78", "probe P 9 1", "malformed package 0 Form 7 4 BadValue\n", 7),
+        given(b"\x07\x00\x01\x00", "probe P 9", "malformed package 0 Form 7 4 Cut\n", 7),
+        given(b"\x07\x00\x03\x00\x02\x10", "probe P 9", "malformed package 0 MethodLength 1 0\n", 7),
+        given(b"", "probe P 9", "malformed package 0 Form 7 0 Cut\n", 7),
+        given(b"\x06\x00\x07\x00\x02\x10\x1c\x04\x41\x78", "probe P 9", "malformed package 0 Form 7 0 WrongTag\n", 7),
+        given(b"\x07\x00\x08\x00\x02\x10\x1c\x04\x41\x78", "probe P 9", "malformed package 0 Form 7 10 Cut\n", 7),
+        given(b"\x07\x00\x06\x00\x02\x10\x1c\x04\x41\x78", "probe P 9", "malformed package 0 Form 7 9 Trailing\n", 7),
     ];
     let mut ram = vec![in alloc; 0u16; 32_832]?;
     let mut heap = vec![in alloc; 0u16; 45_056]?;
