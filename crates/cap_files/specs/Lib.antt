@@ -18,3 +18,6 @@ pub mod Tape
 pub mod Load
 pub mod Sure
 pub mod Mem
+pub mod FileName
+pub mod Path
+pub mod Transfer

@@ -5,10 +5,14 @@
 #![tactic(auto)]
 
 mod calls;
+mod dir_folder;
 mod folder;
 mod load;
 mod mem_folder;
 mod mem_sink;
+mod name;
+mod out_sink;
+mod path;
 mod piece;
 mod pile;
 mod records;
@@ -17,11 +21,15 @@ mod sink;
 mod sure_folder;
 mod sure_sink;
 mod tape;
+mod transfer;
 mod words;
 
+pub use dir_folder::DirFolder;
 pub use folder::{Folder, LoadEnd, StoreFailed};
 pub use mem_folder::MemFolder;
 pub use mem_sink::MemSink;
+pub use name::{FileName, file_name};
+pub use out_sink::OutSink;
 pub use sink::{Sink, SinkFailed};
 pub use sure_folder::SureFolder;
 pub use sure_sink::SureSink;
