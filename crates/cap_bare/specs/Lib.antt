@@ -1,0 +1,9 @@
+pub mod Arithmetic
+pub mod Effects
+pub mod Format
+pub mod Code
+pub mod Typing
+pub mod Met
+pub mod Walk
+pub mod Machine
+pub mod Leading
