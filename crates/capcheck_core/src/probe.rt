@@ -1,5 +1,5 @@
-ghost use Rattle.std.specs.Prelude.{◌≤◌, length};
-ghost use Rattle.cap_bare.specs.Typing.{CardTyping, IsCompact};
+ghost use Rattle.cap_bare.specs.BareFile.{IsVerifiable};
+ghost use Rattle.cap_bare.specs.Typing.{CardTyping};
 ghost use Rattle.cap_text.specs.Probe.{probe_request};
 ghost use Rattle.capcheck_core.specs.Outside.{folders, StoresNothing};
 ghost use Rattle.capcheck_core.specs.Probe.{ProbesMethod, ProbesFile, Probes};
@@ -43,9 +43,7 @@ fn probe_file(alloc: Global, file: &[u8], probe: &Probe<'_>) -> Verdict
 }
 
 fn verify(alloc: Global, method: BareMethod<'_>, probe: &Probe<'_>) -> Verdict
-    requires filled { 1 ≤ length method.code.bytes.now }
-    requires short { length method.code.bytes.now ≤ 32767 }
-    requires compact { IsCompact method.bare }
+    requires { IsVerifiable method }
     ensures { ProbesMethod method.entry.bare method.entry.code.bytes.now (probe_request probe.now) result }
 {
     match bare_verify(method.code, method.bare) {
@@ -55,8 +53,7 @@ fn verify(alloc: Global, method: BareMethod<'_>, probe: &Probe<'_>) -> Verdict
 }
 
 fn start(alloc: Global, method: BareMethod<'_>, probe: &Probe<'_>) -> Verdict
-    requires short { length method.code.bytes.now ≤ 32767 }
-    requires compact { IsCompact method.bare }
+    requires verifiable { IsVerifiable method }
     requires typed { CardTyping method.code.bytes.now method.bare }
     ensures { ProbesMethod method.entry.bare method.entry.code.bytes.now (probe_request probe.now) result }
 {
