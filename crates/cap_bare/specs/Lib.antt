@@ -7,3 +7,5 @@ pub mod Met
 pub mod Walk
 pub mod Machine
 pub mod Leading
+pub mod MethodFile
+pub mod BareFile

@@ -1,6 +1,6 @@
 -- The cases of a switch: an offset for each number from low to high, or pairs of a key and an offset
 -- (JCVM 2.2, chapter 7: stableswitch, itableswitch, slookupswitch, ilookupswitch).
-use Rattle.std.specs.Prelude.{◌≡◌, ◌+◌, ◌*◌, ℕ, ℤ, pos, ◌+ℤ◌, unsigned_abs, List, [], map, Result, Ok, Err, IsTrue, Bool, ◌&&◌, nat_le}
+use Rattle.std.specs.Prelude.{true, false, ◌≡◌, ◌+◌, ◌*◌, ℕ, ℤ, pos, ◌+ℤ◌, unsigned_abs, List, [], map, Result, Ok, Err, IsTrue, Bool}
 use Rattle.std.specs.List.{range_with_len}
 use Rattle.std.specs.Result.{result_unwrap_or}
 use Rattle.jc_decode.specs.declared.layout.Operand.TheVariants.{S2}
@@ -41,9 +41,18 @@ cases_by (Err e) xs at i = []
 unfoldable pub cases : List ℕ → ℕ → Insn → List Case
 cases xs at i = cases_by (layout_of i.op) xs at i
 
--- whether this is the opcode of a switch
+abbrev pub is_table : Cases → Bool
+is_table NoCases = false
+is_table Range = true
+is_table (Pairs key) = true
+
+abbrev pub has_cases : Result Layout CodeEnd → Bool
+has_cases (Ok l) = is_table l.cases
+has_cases (Err e) = false
+
+-- whether this is the opcode of a switch: a table of cases follows its operands
 abbrev pub is_switch : ℕ → Bool
-is_switch op = nat_le 115 op && nat_le op 118
+is_switch op = has_cases (layout_of op)
 
 abbrev pub with_default : ℤ → Result Insn CodeEnd → Result Insn CodeEnd
 with_default x (Ok i) = Ok (record i { x = x })

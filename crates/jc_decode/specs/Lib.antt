@@ -2,3 +2,4 @@ pub mod Layout
 pub mod Decoding
 pub mod Cases
 pub mod Listing
+pub mod Instructions

@@ -154,7 +154,7 @@ impl Operand {
     }
 
     /// The key of the n-th pair of a table of pairs.
-    fn key(self, code: View, table: u32, n: u32) -> i32
+    pub(crate) fn key(self, code: View, table: u32, n: u32) -> i32
         requires { table + pair_width self * n < 2 ^ 32 }
         ensures { result ≡ key_at self code.entry.bytes.now table n }
     {

@@ -3,10 +3,14 @@
 //! the list of its instructions. It stands on `cap_bytes` and `byteorder`; decoding takes no memory.
 #![tactic(auto)]
 
+mod cases;
 mod decoding;
 mod insn;
+mod instructions;
 mod layout;
 
+pub use cases::{case, target};
 pub use decoding::decode;
-pub use insn::{Case, CodeEnd, Insn};
+pub use insn::{Case, CodeEnd, Insn, Placed};
+pub use instructions::{Instructions, code_end};
 pub use layout::{Cases, Layout, Operand};
