@@ -23,7 +23,7 @@ differs xs ys apart same = true≢false (sym ((bytes_decides xs ys).1 same) ∙ 
 
 -- no number stands in a word that the number that was read does not print
 pub no_number : {E : Type 0} (word : List ℕ) (r : Result ℕ E) (x : ℕ) → ParsesUnsigned 32 10 word r → r ≡ Ok x
-  → (word ≡ decimal x → IsTrue false) → (n : ℕ) → IsNumberWord word n → ⊥
+    → (word ≡ decimal x → IsTrue false) → (n : ℕ) → IsNumberWord word n → ⊥
 no_number word r x reads is other n w =
     let read : r ≡ Ok n = number_is_read word r n reads w in
     let writes = w.writes in
@@ -31,7 +31,7 @@ no_number word r x reads is other n w =
 
 -- no argument stands in a word that is not null and that the number that was read does not print
 pub no_argument : {E : Type 0} (word : List ℕ) (r : Result ℤ E) (x : ℤ) → ParsesSigned w32 10 word r → r ≡ Ok x
-  → (word ≡ signed_decimal (to_z w32 (of_z w32 x)) → IsTrue false) → false ≡ pointwise eqb word (codes "null") → (a : Arg) → IsArgWord word a → ⊥
+    → (word ≡ signed_decimal (to_z w32 (of_z w32 x)) → IsTrue false) → false ≡ pointwise eqb word (codes "null") → (a : Arg) → IsArgWord word a → ⊥
 no_argument word r x reads is other no_null (Number z) w =
     let read : r ≡ Ok z = argument_is_read word r z reads w in
     let writes = w.0 in
@@ -41,6 +41,6 @@ no_argument word r x reads is other no_null Null w = differs word (codes "null")
 
 -- no argument stands in a word that is not null and that does not parse
 pub nothing_read : {E : Type 0} (word : List ℕ) (r : Result ℤ E) (e : E) → ParsesSigned w32 10 word r → r ≡ Err e
-  → false ≡ pointwise eqb word (codes "null") → (a : Arg) → IsArgWord word a → ⊥
+    → false ≡ pointwise eqb word (codes "null") → (a : Arg) → IsArgWord word a → ⊥
 nothing_read word r e reads is no_null (Number z) w = let read : r ≡ Ok z = argument_is_read word r z reads w in cc
 nothing_read word r e reads is no_null Null w = differs word (codes "null") no_null w

@@ -1,11 +1,10 @@
 ghost use Rattle.std.specs.Prelude.{Some};
 ghost use Rattle.cap_text.specs.Bare.{code_end_text, bare_kind_text};
 
+use crate::fault::Shown;
 use cap_bare::BareKind;
 use jc_decode::CodeEnd;
 use std::fmt;
-
-use crate::fault::Shown;
 
 impl fmt::Display for Shown<CodeEnd> {
     ghost output = { λ x. Some (code_end_text x.0) };

@@ -1,10 +1,9 @@
 ghost use Rattle.std.specs.Prelude.{IfOk, IfSome, IfNone};
 ghost use Rattle.cap_text.specs.Request.{Request, IsRequest, IsUsage, request_of, OneRequest};
 
+use crate::probe::Probe;
 use cap_files::Words;
 use std::alloc::{AllocError, Global};
-
-use crate::probe::Probe;
 
 /// A command with its operands.
 #[derive(Drop)]

@@ -30,7 +30,13 @@ impl fmt::Display for Shown<FormFault> {
     ghost output = { λ x. Some (form_fault_text x.0) };
 
     fn fmt<W: fmt::Write>(&self, f: &mut fmt::Formatter<W>) -> fmt::Result {
-        write!(f, "Form {} {} {}", self.0.part, self.0.at, Shown(self.0.kind))
+        write!(
+            f,
+            "Form {} {} {}",
+            self.0.part,
+            self.0.at,
+            Shown(self.0.kind)
+        )
     }
 }
 
@@ -41,12 +47,24 @@ impl fmt::Display for Shown<PackFault> {
         match self.0 {
             PackFault::Form(fault) => write!(f, "{}", Shown(fault)),
             PackFault::MissingPart(part) => write!(f, "MissingPart {part}"),
-            PackFault::SizeDisagrees(part, said, found) => write!(f, "SizeDisagrees {part} {said} {found}"),
-            PackFault::MethodOverlaps(first, second) => write!(f, "MethodOverlaps {first} {second}"),
+            PackFault::SizeDisagrees(part, said, found) => write!(
+                f,
+                "SizeDisagrees {part} {said} {found}"
+            ),
+            PackFault::MethodOverlaps(first, second) => write!(
+                f,
+                "MethodOverlaps {first} {second}"
+            ),
             PackFault::MethodOutside(at) => write!(f, "MethodOutside {at}"),
-            PackFault::CountDisagrees(what, said, found) => write!(f, "CountDisagrees {what} {said} {found}"),
+            PackFault::CountDisagrees(what, said, found) => write!(
+                f,
+                "CountDisagrees {what} {said} {found}"
+            ),
             PackFault::HandlerOutside(number) => write!(f, "HandlerOutside {number}"),
-            PackFault::StaticOverlaps(first, second) => write!(f, "StaticOverlaps {first} {second}"),
+            PackFault::StaticOverlaps(first, second) => write!(
+                f,
+                "StaticOverlaps {first} {second}"
+            ),
             PackFault::NoMethodAt(at) => write!(f, "NoMethodAt {at}"),
             PackFault::ClassUndescribed(at) => write!(f, "ClassUndescribed {at}"),
             PackFault::TooManyRegisters(at, n) => write!(f, "TooManyRegisters {at} {n}"),

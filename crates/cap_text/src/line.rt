@@ -1,12 +1,11 @@
 ghost use Rattle.std.specs.Prelude.{◌≡◌, IfOk, string_bytes};
 ghost use Rattle.cap_text.specs.Line.{malformed_line, not_started_line, refused_bare_line, bare_ending_line};
 
+use crate::fault::Shown;
+use crate::start::StartFault;
 use cap_bare::{BareEnd, BareFault};
 use cap_package::PackFault;
 use std::alloc::{AllocError, Global};
-
-use crate::fault::Shown;
-use crate::start::StartFault;
 
 /// The line for a package, by its number, whose parts are malformed.
 pub fn malformed(alloc: Global, number: u16, fault: PackFault) -> Result<String, AllocError>

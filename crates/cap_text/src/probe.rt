@@ -5,10 +5,9 @@ ghost use Rattle.cap_text.specs.Probe.{ProbeRequest, IsProbe, probe_request};
 ghost use Rattle.cap_text.specs.declared.word.Arg.{Arg};
 ghost use Rattle.std.specs.Prelude.{List};
 
+use crate::word::{Arg, argument, folder_word, number};
 use cap_files::WordsIter;
 use std::alloc::{AllocError, Global};
-
-use crate::word::{Arg, argument, folder_word, number};
 
 /// `probe DIR BUDGET ARG*`: verifies the bare method of a folder and runs it with the arguments,
 /// for at most so many steps.
@@ -21,10 +20,7 @@ pub struct Probe<'a> {
 
 impl<'a> Probe<'a> {
     /// Reads the words behind the command's name.
-    pub fn read(
-        alloc: Global,
-        mut operands: WordsIter<'a>,
-    ) -> Result<Option<Probe<'a>>, AllocError>
+    pub fn read(alloc: Global, mut operands: WordsIter<'a>) -> Result<Option<Probe<'a>>, AllocError>
         ensures found { IfOk result (λ o. IfSome o (λ p. IsProbe (words_left operands.entry) (probe_request p))) }
         ensures none { IfOk result (λ o. IfNone o ((p : ProbeRequest) → IsProbe (words_left operands.entry) p → ⊥)) }
     {

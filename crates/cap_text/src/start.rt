@@ -1,9 +1,8 @@
 ghost use Rattle.std.specs.Prelude.{Some};
 ghost use Rattle.cap_text.specs.Start.{start_fault_text};
 
-use std::fmt;
-
 use crate::fault::Shown;
+use std::fmt;
 
 /// Why an entry does not start with the arguments, tried in this order.
 #[derive(Clone, Copy)]

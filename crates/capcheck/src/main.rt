@@ -6,13 +6,14 @@
 use cap_files::{DirFolder, OutSink, Words};
 use capcheck_core::capcheck;
 use std::alloc::AllocError;
-use std::env;
-use std::io;
 use std::process::ExitCode;
+use std::{env, io};
 
 /// The words of the card's three memories.
 const RAM: usize = 32_832;
+
 const HEAP: usize = 45_056;
+
 const STATICS: usize = 32_768;
 
 /// Why no command began.

@@ -39,7 +39,7 @@ absent_not p before can absent =
 long_not : (p : ProbeRequest) (before : Folders) → CanProbe p before → IsTooLong before (method_key p) → ⊥
 long_not p before can long =
     let told : IsSomeAnd (map.get can.parts (method_key p)) (λ file. 65538 < length file)
-          = subst (λ held. IfSome held (λ parts. IsSomeAnd (map.get parts (method_key p)) (λ file. 65538 < length file))) can.told long in
+    = subst (λ held. IfSome held (λ parts. IsSomeAnd (map.get parts (method_key p)) (λ file. 65538 < length file))) can.told long in
     let beyond : 65538 < length can.file = subst (λ found. IsSomeAnd found (λ file. 65538 < length file)) can.there told in
     absurd (omega (arith, can.short, beyond))
 
@@ -57,25 +57,26 @@ starts args wanted values (ArgCount said parameters) fit refused = refused.2 fit
 starts args wanted values (ArgKind n) fit refused = no_misfit values n fit.fit (subst (λ xs. IsSomeAnd (slice_get xs n) (λ arg. (value : ℤ) → IsShort arg value → ⊥)) fit.numbers refused.1.misfit)
 
 unrefused : (p : ProbeRequest) (before : Folders) → CanProbe p before → (text : List ℕ)
-  → OfMethodPart p before (λ file. OfMethod file (λ bare code. IsRefusal bare code text)) → ⊥
+    → OfMethodPart p before (λ file. OfMethod file (λ bare code. IsRefusal bare code text)) → ⊥
 unrefused p before can text part =
     let of = part.holds in
     let method = subst (λ file. IsMethodFile file can.bare can.code) (same_file p before can part.file part.there) can.method in
     of.holds.untyped (same_method part.file can.bare of.bare can.code of.code method of.method (λ bare code. CardTyping code bare) can.typed)
 
 unbroken : (p : ProbeRequest) (before : Folders) → CanProbe p before → (text : List ℕ)
-  → OfMethodPart p before (λ file. IsNoMethod file text ⊎ OfMethod file (λ bare code. IsUnstarted bare code p text)) → ⊥
+    → OfMethodPart p before (λ file. IsNoMethod file text ⊎ OfMethod file (λ bare code. IsUnstarted bare code p text)) → ⊥
 unbroken p before can text part =
     let method = subst (λ file. IsMethodFile file can.bare can.code) (same_file p before can part.file part.there) can.method in
     elim part.holds [
-        inl none ↦ no_breach part.file can.bare can.code none.fault method none.refused
+      | inl none ↦ no_breach part.file can.bare can.code none.fault method none.refused
       | inr of ↦ let fit : AreShorts p.args of.bare.nargs can.values
-                       = same_method part.file can.bare of.bare can.code of.code method of.method (λ bare code. AreShorts p.args bare.nargs can.values) can.fit in
-                 starts p.args of.bare.nargs can.values of.holds.fault fit of.holds.refused ]
+          = same_method part.file can.bare of.bare can.code of.code method of.method (λ bare code. AreShorts p.args bare.nargs can.values) can.fit in
+          starts p.args of.bare.nargs can.values of.holds.fault fit of.holds.refused
+    ]
 
 -- the verdicts that stand where a probe can be done
 can_probe : (p : ProbeRequest) (before after : Folders) (sink put : Seen) (verdict : Verdict) → CanProbe p before → NoFault before after sink put
-  → Probes p before after verdict → (status_of verdict ≡ 0) ⊎ (status_of verdict ≡ 6)
+    → Probes p before after verdict → (status_of verdict ≡ 0) ⊎ (status_of verdict ≡ 6)
 can_probe p before after sink put (Done text) can calm probes = inl refl
 can_probe p before after sink put Memory can calm probes = inr refl
 can_probe p before after sink put (Refused text) can calm probes = absurd (unrefused p before can (string_bytes text) probes)
@@ -88,16 +89,16 @@ can_probe p before after sink put StoreFault can calm probes = absurd probes
 can_probe p before after sink put (Limit text) can calm probes = absurd probes
 
 can_do : (r : Request) (before after : Folders) (old new : Card) (sink put : Seen) (verdict : Verdict) → CanDo r before → NoFault before after sink put
-  → Answers r before after old new verdict → (status_of verdict ≡ 0) ⊎ (status_of verdict ≡ 6)
+    → Answers r before after old new verdict → (status_of verdict ≡ 0) ⊎ (status_of verdict ≡ 6)
 can_do (probe p) before after old new sink put verdict can calm answers = can_probe p before after sink put verdict can calm answers.0
 
 reported : (verdict : Verdict) (before after : Folders) (sink put : Seen) (status : ℕ) → NoFault before after sink put → IsReported verdict sink put status
-  → (status_of verdict ≡ 0) ⊎ (status_of verdict ≡ 6) → (status ≡ 0) ⊎ (status ≡ 6)
+    → (status_of verdict ≡ 0) ⊎ (status_of verdict ≡ 6) → (status ≡ 0) ⊎ (status ≡ 6)
 reported verdict before after sink put status calm (inr broken) known = absurd (calm.puts broken.risen)
 reported verdict before after sink put status calm (inl whole) (inl done) = inl (whole.says ∙ done)
 reported verdict before after sink put status calm (inl whole) (inr memory) = inr (whole.says ∙ memory)
 
 pub completes : (words : List (List ℕ)) (before after : Folders) (old new : Card) (sink put : Seen) (verdict : Verdict) (status : ℕ)
-  → IsVerdict words before after old new verdict → IsReported verdict sink put status → Completes words before after sink put status
+    → IsVerdict words before after old new verdict → IsReported verdict sink put status → Completes words before after sink put status
 completes words before after old new sink put verdict status is report = λ r asks can calm.
     reported verdict before after sink put status calm report (can_do r before after old new sink put verdict can calm (is.command r asks))

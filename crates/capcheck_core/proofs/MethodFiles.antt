@@ -16,10 +16,10 @@ same_bare : (info : List ℕ) (m m' : MethodFile) → Stands method_info info m 
 same_bare info m m' stands stands' = (is_exact (info_of method_tag) method_info info).one_value m m' stands stands'
 
 pub same_method : (file : List ℕ) (bare bare' : Bare) (code code' : List ℕ) → IsMethodFile file bare code → IsMethodFile file bare' code'
-  → (P : Bare → List ℕ → Type 0) → P bare code → P bare' code'
+    → (P : Bare → List ℕ → Type 0) → P bare code → P bare' code'
 same_method file bare bare' code code' m m' P p =
     let method : Stands method_info m'.info (record { bare = bare; code = code })
-               = subst (λ info. Stands method_info info (record { bare = bare; code = code })) (same_info file m.info m'.info m.framed m'.framed) m.method in
+    = subst (λ info. Stands method_info info (record { bare = bare; code = code })) (same_info file m.info m'.info m.framed m'.framed) m.method in
     subst (λ (w : MethodFile). P w.bare w.code) (same_bare m'.info (record { bare = bare; code = code }) (record { bare = bare'; code = code' }) method m'.method) p
 
 -- the info of a bare method breaks nowhere, and its code has no bad length

@@ -6,7 +6,8 @@ use Rattle.capcheck_core.specs.Outside.{Folders, Card}
 use Rattle.capcheck_core.specs.Answers.{Answers, IsVerdict}
 
 pub asked : (words : List (List ℕ)) (r : Request) (before after : Folders) (old new : Card) (verdict : Verdict) → OneRequest words → IsRequest words r
-  → Answers r before after old new verdict → IsVerdict words before after old new verdict
+    → Answers r before after old new verdict → IsVerdict words before after old new verdict
 asked words r before after old new verdict one is answers = record {
   command = λ s is_s. subst (λ t. Answers t before after old new verdict) (one r s is is_s) answers;
-  usage = λ none. absurd (none r is) }
+  usage = λ none. absurd (none r is);
+}

@@ -6,13 +6,12 @@ ghost use Rattle.capcheck_core.specs.Outside.{folders, card};
 ghost use Rattle.capcheck_core.specs.Report.{IsReported, seen};
 ghost use Rattle.capcheck_core.specs.declared.verdict.Verdict.{Verdict};
 
-use cap_files::{Folder, Sink, Words};
-use cap_text::{Command, read_command};
-use std::alloc::Global;
-
 use crate::probe::probe;
 use crate::report::report;
 use crate::verdict::Verdict;
+use cap_files::{Folder, Sink, Words};
+use cap_text::{Command, read_command};
+use std::alloc::Global;
 
 /// Runs the command that the words spell over the folders, puts its text and answers its status.
 /// The three slices are the memory of a card.
@@ -30,9 +29,9 @@ pub fn capcheck<F: Folder, K: Sink>(
     requires statics { length statics.old ≡ 32768 }
     ensures answered { (verdict : Verdict)
         × IsVerdict words.now
-            (folders (F.held folder.old) (F.load_faults folder.old) (F.store_faults folder.old))
-            (folders (F.held folder.new) (F.load_faults folder.new) (F.store_faults folder.new))
-            (card ram.old heap.old statics.old) (card ram.new heap.new statics.new) verdict
+        (folders (F.held folder.old) (F.load_faults folder.old) (F.store_faults folder.old))
+        (folders (F.held folder.new) (F.load_faults folder.new) (F.store_faults folder.new))
+        (card ram.old heap.old statics.old) (card ram.new heap.new statics.new) verdict
         × IsReported verdict (seen (K.received out.old) (K.faults out.old)) (seen (K.received out.new) (K.faults out.new)) result }
     ensures complete { Completes words.now
         (folders (F.held folder.old) (F.load_faults folder.old) (F.store_faults folder.old))

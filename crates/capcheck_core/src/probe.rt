@@ -4,15 +4,14 @@ ghost use Rattle.cap_text.specs.Probe.{probe_request};
 ghost use Rattle.capcheck_core.specs.Outside.{folders, StoresNothing};
 ghost use Rattle.capcheck_core.specs.Probe.{ProbesMethod, ProbesFile, Probes};
 
+use crate::method_file::{METHOD, method_file};
+use crate::shorts::shorts;
+use crate::verdict::Verdict;
 use cap_bare::{BareMethod, bare_run, bare_verify};
 use cap_files::{Folder, LoadEnd};
 use cap_package::PackFault;
 use cap_text::{Probe, bare_ending, malformed, not_started, refused_bare};
 use std::alloc::Global;
-
-use crate::method_file::{METHOD, method_file};
-use crate::shorts::shorts;
-use crate::verdict::Verdict;
 
 /// Verifies and runs the bare method of a folder.
 pub fn probe<F: Folder>(alloc: Global, folder: &mut F, probe: &Probe<'_>) -> Verdict
@@ -27,7 +26,11 @@ pub fn probe<F: Folder>(alloc: Global, folder: &mut F, probe: &Probe<'_>) -> Ver
     match folder.load(alloc, probe.dir, METHOD, &mut file) {
         Ok(true) => probe_file(alloc, &file, probe),
         Ok(false) => Verdict::malformed(malformed(alloc, 0, PackFault::MissingPart(METHOD.0))),
-        Err(LoadEnd::TooLong) => Verdict::malformed(malformed(alloc, 0, PackFault::PartTooLong(METHOD.0))),
+        Err(LoadEnd::TooLong) => Verdict::malformed(malformed(
+            alloc,
+            0,
+            PackFault::PartTooLong(METHOD.0),
+        )),
         Err(LoadEnd::Failed) => Verdict::ReadFault,
         Err(LoadEnd::Memory) => Verdict::Memory,
     }

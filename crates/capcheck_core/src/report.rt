@@ -1,8 +1,7 @@
 ghost use Rattle.capcheck_core.specs.Report.{IsReported, seen};
 
-use cap_files::Sink;
-
 use crate::verdict::Verdict;
+use cap_files::Sink;
 
 /// The status of a command that could not put its text.
 const PUT_FAULT: u8 = 8;

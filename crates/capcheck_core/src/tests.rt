@@ -1,9 +1,7 @@
+use crate::capcheck;
 use cap_bytes::Part;
 use cap_files::{MemFolder, MemSink, SureFolder, SureSink, Words};
 use std::alloc::{AllocError, Global};
-use std::test::Fail;
-
-use crate::capcheck;
 
 /// A run over the folder `P`: the bytes of its Method part, the words, and the text and the status
 /// that they must give.
@@ -52,22 +50,85 @@ fn answers_with_text_and_status(rt: HostRuntime) -> Result<(), AllocError> {
         given(NEXT, "probe P 4 +1", "usage\n", 2),
         given(NEXT, "probe P 4294967296 41", "usage\n", 2),
         given(NEXT, "probe -- 4 41", "usage\n", 2),
+        given(NEXT, "probe  4 41", "usage\n", 2),
+        given(NEXT, "probe P 10 41 41", "not started ArgCount 2 1\n", 7),
         given(NEXT, "probe", "usage\n", 2),
         given(NEXT, "probes P 4 41", "usage\n", 2),
-        given(NEXT, "probe Q 4 41", "malformed package 0 MissingPart 7\n", 7),
+        given(
+            NEXT,
+            "probe Q 4 41",
+            "malformed package 0 MissingPart 7\n",
+            7,
+        ),
         // a goto into the middle of sspush
-        given(b"\x07\x00\x09\x00\x02\x00\x11\x00\x05\x70\xfe\x78", "probe P 9", "refused place 3 BadTarget 1\n", 1),
-        given(b"\x07\x00\x06\x00\x02\x00\x04\x04\x41", "probe P 9", "refused place 2 FallsOff\n", 1),
+        given(
+            b"\x07\x00\x09\x00\x02\x00\x11\x00\x05\x70\xfe\x78",
+            "probe P 9",
+            "refused place 3 BadTarget 1\n",
+            1,
+        ),
+        given(
+            b"\x07\x00\x06\x00\x02\x00\x04\x04\x41",
+            "probe P 9",
+            "refused place 2 FallsOff\n",
+            1,
+        ),
         // a target that a later branch has, fallen into with one cell
-        given(b"\x07\x00\x09\x00\x02\x00\x04\x04\x41\x3b\x70\xfd", "probe P 9", "refused place 1 StackAtTarget\n", 1),
-        given(b"\x07\x00\x07\x01\x02\x10\x1c\x04\x41\x78", "probe P 9 1", "malformed package 0 Form 7 3 BadValue\n", 7),
-        given(b"\x07\x00\x07\x00\x12\x10\x1c\x04\x41\x78", "probe P 9 1", "malformed package 0 Form 7 4 BadValue\n", 7),
-        given(b"\x07\x00\x01\x00", "probe P 9", "malformed package 0 Form 7 4 Cut\n", 7),
-        given(b"\x07\x00\x03\x00\x02\x10", "probe P 9", "malformed package 0 MethodLength 1 0\n", 7),
+        given(
+            b"\x07\x00\x09\x00\x02\x00\x04\x04\x41\x3b\x70\xfd",
+            "probe P 9",
+            "refused place 1 StackAtTarget\n",
+            1,
+        ),
+        given(
+            b"\x07\x00\x07\x01\x02\x10\x1c\x04\x41\x78",
+            "probe P 9 1",
+            "malformed package 0 Form 7 3 BadValue\n",
+            7,
+        ),
+        given(
+            b"\x07\x00\x07\x00\x12\x10\x1c\x04\x41\x78",
+            "probe P 9 1",
+            "malformed package 0 Form 7 4 BadValue\n",
+            7,
+        ),
+        given(
+            b"\x07\x00\x01\x00",
+            "probe P 9",
+            "malformed package 0 Form 7 4 Cut\n",
+            7,
+        ),
+        given(
+            b"\x07\x00\x03\x00\x02\x10",
+            "probe P 9",
+            "malformed package 0 MethodLength 1 0\n",
+            7,
+        ),
         given(b"", "probe P 9", "malformed package 0 Form 7 0 Cut\n", 7),
-        given(b"\x06\x00\x07\x00\x02\x10\x1c\x04\x41\x78", "probe P 9", "malformed package 0 Form 7 0 WrongTag\n", 7),
-        given(b"\x07\x00\x08\x00\x02\x10\x1c\x04\x41\x78", "probe P 9", "malformed package 0 Form 7 10 Cut\n", 7),
-        given(b"\x07\x00\x06\x00\x02\x10\x1c\x04\x41\x78", "probe P 9", "malformed package 0 Form 7 9 Trailing\n", 7),
+        given(
+            b"PK\x03\x04 an archive",
+            "probe P 9",
+            "malformed package 0 Form 7 0 WrongTag\n",
+            7,
+        ),
+        given(
+            b"\x06\x00\x07\x00\x02\x10\x1c\x04\x41\x78",
+            "probe P 9",
+            "malformed package 0 Form 7 0 WrongTag\n",
+            7,
+        ),
+        given(
+            b"\x07\x00\x08\x00\x02\x10\x1c\x04\x41\x78",
+            "probe P 9",
+            "malformed package 0 Form 7 10 Cut\n",
+            7,
+        ),
+        given(
+            b"\x07\x00\x06\x00\x02\x10\x1c\x04\x41\x78",
+            "probe P 9",
+            "malformed package 0 Form 7 9 Trailing\n",
+            7,
+        ),
     ];
     let mut ram = vec![in alloc; 0u16; 32_832]?;
     let mut heap = vec![in alloc; 0u16; 45_056]?;
@@ -77,7 +138,15 @@ fn answers_with_text_and_status(rt: HostRuntime) -> Result<(), AllocError> {
         let mut folder = SureFolder::new(alloc, 1, 100)?;
         assert!(rt; folder.set("P", Part(7), case.file));
         let mut out = SureSink::new(alloc, 100)?;
-        let status = capcheck(alloc, &words, &mut folder, &mut out, &mut ram, &mut heap, &mut statics);
+        let status = capcheck(
+            alloc,
+            &words,
+            &mut folder,
+            &mut out,
+            &mut ram,
+            &mut heap,
+            &mut statics,
+        );
         assert_eq!(rt; status, case.status, "at {}", case.words);
         assert!(rt; out.received() == case.text.as_bytes(), "at {}", case.words);
     }
@@ -95,7 +164,15 @@ fn names_a_file_that_is_too_long(rt: HostRuntime) -> Result<(), AllocError> {
     let mut folder = SureFolder::new(alloc, 1, 66_000)?;
     assert!(rt; folder.set("P", Part(7), &file));
     let mut out = SureSink::new(alloc, 100)?;
-    let status = capcheck(alloc, &words, &mut folder, &mut out, &mut ram, &mut heap, &mut statics);
+    let status = capcheck(
+        alloc,
+        &words,
+        &mut folder,
+        &mut out,
+        &mut ram,
+        &mut heap,
+        &mut statics,
+    );
     assert_eq!(rt; status, 7);
     assert!(rt; out.received() == b"malformed package 0 PartTooLong 7\n".as_slice());
     Ok(())
@@ -122,9 +199,20 @@ fn names_the_device_that_fails(rt: HostRuntime) -> Result<(), AllocError> {
         assert!(rt; folder.fail_load(load));
         let mut out = MemSink::new(alloc, 100)?;
         assert!(rt; out.fail_put(put, keep));
-        let status = capcheck(alloc, &words, &mut folder, &mut out, &mut ram, &mut heap, &mut statics);
+        let status = capcheck(
+            alloc,
+            &words,
+            &mut folder,
+            &mut out,
+            &mut ram,
+            &mut heap,
+            &mut statics,
+        );
         assert_eq!(rt; status, wanted, "where load {load} and put {put} fail");
-        assert!(rt; out.received() == text.as_bytes(), "where load {load} and put {put} fail");
+        assert!(rt;
+            out.received() == text.as_bytes(),
+            "where load {load} and put {put} fail"
+        );
     }
     Ok(())
 }

@@ -12,7 +12,7 @@ returns-in_default-clause-none c = λ xs all.
     let whole = c.loop-word.invariant.whole in
     let seen = map (λ w. w.now) c.loop-word.yielded in
     spoiled seen c.in-Some.word.now (words_left c.next.new.self) c.in_default.ensures.none xs
-      (subst (λ ws. AreArgWords ws xs) (sym whole ∙ ap (λ ws. seen ++ ws) left) all)
+    (subst (λ ws. AreArgWords ws xs) (sym whole ∙ ap (λ ws. seen ++ ws) left) all)
 
 pub loop-word-preserved : goal.loop-word-preserved
 loop-word-preserved c =
@@ -23,4 +23,5 @@ loop-word-preserved c =
     let seen = map (λ w. w.now) c.loop-word.yielded in
     record {
       so_far = rw (items, map-append) (words_and_one seen c.loop-word.args.items c.in-Some.word.now c.in-Some-argument.arg c.loop-word.invariant.so_far found);
-      whole = rw (map-append, append_assoc) (ap (λ ws. seen ++ ws) (sym left) ∙ whole) }
+      whole = rw (map-append, append_assoc) (ap (λ ws. seen ++ ws) (sym left) ∙ whole);
+    }

@@ -6,4 +6,5 @@ use Rattle.cap_text.proofs.probe.arguments.Given as goal
 abbrev pub invariant-loop-word : goal.invariant-loop-word
 invariant-loop-word l = record {
   so_far : AreArgWords (map (λ w. w.now) l.yielded) l.args.items;
-  whole : map (λ w. w.now) l.yielded ++ words_left l.word-iterator ≡ words_left l.fn.words }
+  whole : map (λ w. w.now) l.yielded ++ words_left l.word-iterator ≡ words_left l.fn.words;
+}

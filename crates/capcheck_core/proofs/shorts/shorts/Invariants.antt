@@ -5,4 +5,5 @@ use Rattle.capcheck_core.proofs.shorts.shorts.Given as goal
 abbrev pub invariant-loop-n : goal.invariant-loop-n
 invariant-loop-n l = record {
   first : take l.n l.args ≡ map Number l.shorts.items;
-  fit : All (FitsSigned w16) l.shorts.items }
+  fit : All (FitsSigned w16) l.shorts.items;
+}
