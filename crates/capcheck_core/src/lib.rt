@@ -8,9 +8,11 @@ mod method_file;
 mod probe;
 mod report;
 mod shorts;
+mod sure;
 mod verdict;
 
 pub use call::capcheck;
+pub use sure::sure_forms_never_fail;
 pub use verdict::Verdict;
 
 #[cfg(test)]
