@@ -9,3 +9,4 @@ pub mod Appending
 pub mod Windows
 pub mod ReadBack
 pub mod Written
+pub mod OwnBytes

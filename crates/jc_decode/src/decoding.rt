@@ -1,7 +1,7 @@
 ghost use Rattle.std.specs.Prelude.{◌≡◌, ◌+◌, ◌*◌, ◌^◌, ◌<◌, ◌≤◌, ◌-◌, length, IfOk, pos, if◌then◌else◌};
 ghost use Rattle.cap_bytes.specs.Number.{number_at};
 ghost use Rattle.jc_decode.specs.Layout.{layout_of, width};
-ghost use Rattle.jc_decode.specs.Decoding.{is_dup_words, is_swap_words, is_array_type, is_tested_type, or_cut, reached, bad_operand, operand_at, pair_width, key_at, rises, pairs_end, table_end, decoded, FitsLayout, FitsOperand, IsWithin, AreBytes};
+ghost use Rattle.jc_decode.specs.Decoding.{is_dup_words, is_swap_words, is_array_type, is_tested_type, or_cut, reached, bad_operand, operand_at, pair_width, key_at, rises, pairs_end, table_end, decoded, Begins, FitsLayout, FitsOperand, IsWithin, AreBytes};
 ghost use Rattle.jc_decode.specs.Encoding.{IsAllowed};
 
 use crate::insn::{CodeEnd, Insn};
@@ -12,6 +12,7 @@ use cap_bytes::View;
 pub fn decode(code: View, at: u16) -> Result<Insn, CodeEnd>
     requires { length code.bytes.now ≤ 65535 }
     ensures value { result ≡ decoded code.entry.bytes.now at }
+    ensures begins { IfOk result (λ i. Begins code.entry.bytes.now at i) }
     ensures operands { IfOk result (λ i. FitsLayout i (layout_of i.op)) }
     ensures allowed { IfOk result (λ i. IsAllowed i) }
     ensures within { IfOk result (λ i. IsWithin code.entry.bytes.now at i) }
