@@ -1,6 +1,6 @@
 -- An instruction that is decoded is encoded as the bytes that stand there.
-use Rattle.std.proofs.Common.{◌≡◌, ◌<◌, ◌≤◌, ◌+◌, ◌*◌, ◌-◌, ◌^◌, ◌/◌, ◌%◌, ℕ, zero, suc, Bool, true, false, cond, nat_le, Option, Some, None, Result, Ok, Err, List, [], ◌∷◌, ◌++◌, length, take, drop, slice_index, get_or, Fits, refl, sym, ap, ◌∙◌, subst, arith, rules, append_assoc}
-use Rattle.std.specs.Prelude.{ℤ, unsigned_abs}
+use Rattle.std.proofs.Common.{◌≡◌, ◌<◌, ◌≤◌, ◌+◌, ◌*◌, ◌-◌, ◌^◌, ◌/◌, ◌%◌, ℕ, zero, suc, Bool, true, false, cond, nat_le, Some, None, Result, Ok, List, [], ◌∷◌, ◌++◌, length, take, drop, slice_index, Fits, refl, sym, ap, ◌∙◌, arith, rules, append_assoc}
+use Rattle.std.specs.Prelude.{ℤ}
 use Rattle.std.specs.Int.{w8, w16, w32, byte_at, bytes_high_first}
 use Rattle.std.proofs.Math.Facts.{of_z-to_z}
 use Rattle.std.proofs.Math.Nat.{div-one, mod-eq_of_lt, mul_assoc, mul-add-div_right, mul-add-mod_self_right, one-le-pow, pow-succ'}
@@ -18,10 +18,9 @@ use Rattle.jc_decode.specs.declared.layout.Cases.TheVariants.{Absent as NoCases}
 use Rattle.jc_decode.specs.declared.layout.Layout.{Layout}
 use Rattle.jc_decode.specs.declared.insn.CodeEnd.{CodeEnd}
 use Rattle.jc_decode.specs.declared.insn.Insn.{Insn}
-use Rattle.jc_decode.specs.Layout.{width, total_width, layout_of}
+use Rattle.jc_decode.specs.Layout.{width, total_width}
 use Rattle.jc_decode.specs.Decoding.{allows, value, or_cut, number_of, operand_at, end_of_cases, decoded, AreBytes, Begins}
-use Rattle.jc_decode.specs.Cases.{is_table}
-use Rattle.jc_decode.specs.Encoding.{bits, operand_bytes, head_bytes, table_bytes, encoding, encoding_by}
+use Rattle.jc_decode.specs.Encoding.{bits, operand_bytes, table_bytes, encoding, encoding_by}
 use Rattle.jc_decode.proofs.Decoded.{Begins-decoded, from_bind, or_cut-ok, ok-same, table_end-ok}
 use Rattle.jc_decode.proofs.Ranges.{number_of-fits, allowed-value}
 
