@@ -10,3 +10,4 @@ pub mod Windows
 pub mod ReadBack
 pub mod Written
 pub mod OwnBytes
+pub mod Rising

@@ -1,6 +1,6 @@
 -- The cases of a switch: an offset for each number from low to high, or pairs of a key and an offset
 -- (JCVM 2.2, chapter 7: stableswitch, itableswitch, slookupswitch, ilookupswitch).
-use Rattle.std.specs.Prelude.{negsuc, ◌∷◌, ◌++◌, take, drop, true, false, ◌≡◌, ◌+◌, ◌*◌, ℕ, ℤ, pos, ◌+ℤ◌, unsigned_abs, List, [], map, Result, Ok, Err, IsTrue, Bool}
+use Rattle.std.specs.Prelude.{◌<ℤ◌, slice_get, Some, negsuc, ◌∷◌, ◌++◌, take, drop, true, false, ◌≡◌, ◌+◌, ◌*◌, ℕ, ℤ, pos, ◌+ℤ◌, unsigned_abs, List, [], map, Result, Ok, Err, IsTrue, Bool}
 use Rattle.std.proofs.Common.{refl}
 use Rattle.std.specs.List.{range_with_len}
 use Rattle.std.specs.Int.{cast_unsigned, w16}
@@ -56,6 +56,23 @@ has_cases (Err e) = false
 -- whether this is the opcode of a switch: a table of cases follows its operands
 abbrev pub is_switch : ℕ → Bool
 is_switch op = has_cases (layout_of op)
+
+abbrev pub is_range : Cases → Bool
+is_range NoCases = false
+is_range Range = true
+is_range (Pairs key) = false
+
+abbrev pub has_range : Result Layout CodeEnd → Bool
+has_range (Ok l) = is_range l.cases
+has_range (Err e) = false
+
+-- whether this is the opcode of a switch with an offset for each number from low to high
+abbrev pub is_table_switch : ℕ → Bool
+is_table_switch op = has_range (layout_of op)
+
+-- each key is above the one before it
+abbrev pub KeysRise : List Case → Type 0
+KeysRise cs = (n : ℕ) (c d : Case) → slice_get cs n ≡ Some c → slice_get cs (n + 1) ≡ Some d → c.key <ℤ d.key
 
 abbrev pub with_default : ℤ → Result Insn CodeEnd → Result Insn CodeEnd
 with_default x (Ok i) = Ok (record i { x = x })
