@@ -3,5 +3,7 @@
 #![tactic(auto)]
 
 mod fault;
+mod parts;
 
 pub use fault::PackFault;
+pub use parts::{OwnedParts, Parts};
