@@ -1,0 +1,2 @@
+pub mod DescriptorFormat
+pub mod FieldsSeen
