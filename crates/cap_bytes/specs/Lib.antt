@@ -1,1 +1,5 @@
 pub mod Number
+pub mod Grammar
+pub mod Spelling
+pub mod Reading
+pub mod Taking

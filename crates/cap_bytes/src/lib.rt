@@ -3,9 +3,12 @@
 #![tactic(auto)]
 
 mod fault;
+mod items;
 mod part;
+mod take;
 mod view;
 
 pub use fault::{FormFault, FormKind};
+pub use items::Items;
 pub use part::Part;
 pub use view::View;

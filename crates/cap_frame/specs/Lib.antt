@@ -1,0 +1,2 @@
+pub mod ImportFormat
+pub mod Imports
