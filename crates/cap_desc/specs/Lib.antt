@@ -1,2 +1,3 @@
 pub mod DescriptorFormat
-pub mod FieldsSeen
+pub mod MemberRecords
+pub mod MemberLists

@@ -4,9 +4,10 @@
 #![tactic(auto)]
 
 mod access_flags;
-mod fields;
+mod lists;
 mod records;
+mod take;
 
 pub use access_flags::AccessFlags;
-pub use fields::DescFields;
+pub use lists::{DescFields, DescMethods, Numbers};
 pub use records::{FieldInfo, MethodInfo};
