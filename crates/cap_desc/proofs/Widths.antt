@@ -2,12 +2,13 @@
 -- stands n widths behind the first.
 use Rattle.std.proofs.Common.{◌≡◌, ℕ, zero, suc, ◌+◌, ◌*◌, ◌-◌, ◌≤◌, ◌<◌, List, [], ◌∷◌, Option, Some, None, Result, Ok, Err, Bool, true, false, leb, length, take, drop, IsTrue, refl, sym, ap, subst, ◌∙◌, arith}
 use Rattle.std.specs.List.{slice_get}
+use Rattle.std.proofs.lemmas.Option.{slice_get_past}
 use Rattle.std.proofs.lemmas.Bool.{le-leb, lt-leb, leb-true, leb-false}
 use Rattle.byteorder.specs.Endian.{big_number}
 use Rattle.cap_bytes.specs.declared.fault.FormFault.{FormFault}
 use Rattle.cap_bytes.specs.declared.items.Items.{Items}
 use Rattle.cap_bytes.specs.Number.{number_at}
-use Rattle.cap_bytes.specs.Grammar.{Grammar, give, number, piece, ◌>>=◌, any, repeat}
+use Rattle.cap_bytes.specs.Grammar.{Grammar, give, number, piece, ◌>>=◌, any, repeat, table, u2}
 use Rattle.cap_bytes.specs.Spelling.{Origin, cut, info_of}
 use Rattle.cap_bytes.specs.Reading.{Reading, and_then, read, piece_read, is_read, value_or}
 use Rattle.cap_bytes.specs.Taking.{next, Taken, Fails}
@@ -111,3 +112,43 @@ item-repeat w (suc n) (suc i) g from bytes at h r lt =
     let x = item-repeat w n i g from bytes (at + w) h q l in
     let e : (at + w) + i * w ≡ at + suc i * w = omega arith in
     (x.0, rw (← e) x.1, rw (first.1, xs.1) (rw xs.1 at x.2))
+
+-- ---- what was read
+
+counted : {X : Type 0} (n : ℕ) (first : Reading X) (rest : ℕ → Reading (List X)) → ((at : ℕ) → IsTrue (is_read (rest at)) → length (value_or [] (rest at)) ≡ n)
+    → IsTrue (is_read (and_then first (λ x middle. and_then (rest middle) (λ xs p. Ok (x ∷ xs, p))))) → length (value_or [] (and_then first (λ x middle. and_then (rest middle) (λ xs p. Ok (x ∷ xs, p))))) ≡ suc n
+counted n (Err e) rest known h = absurd cc
+counted {X = X} n (Ok x) rest known h = behind (rest x.1) (known x.1) h
+  where
+    behind : (r : Reading (List X)) → (IsTrue (is_read r) → length (value_or [] r) ≡ n) → IsTrue (is_read (and_then r (λ xs p. Ok (x.0 ∷ xs, p)))) → length (value_or [] (and_then r (λ xs p. Ok (x.0 ∷ xs, p)))) ≡ suc n
+    behind (Ok xs) k h = ap suc (k refl)
+    behind (Err e) k h = absurd cc
+
+-- so many items that were read are so many
+pub length-read : {X : Type 0} (n : ℕ) (g : Grammar X) (from : Origin) (bytes : List ℕ) (at : ℕ) → IsTrue (is_read (read from (repeat n g) bytes at)) → length (value_or [] (read from (repeat n g) bytes at)) ≡ n
+length-read zero g from bytes at h = refl
+length-read (suc n) g from bytes at h = counted n (read from g bytes at) (λ middle. read from (repeat n g) bytes middle) (λ middle k. length-read n g from bytes middle k) h
+
+pub length-left : {X : Type 0} (n : ℕ) (g : Grammar X) (items : Items) → IsTrue (is_read (next (repeat n g) items)) → length (value_or [] (next (repeat n g) items)) ≡ n
+length-left n g items h = length-read n g (info_of items.part) items.info.bytes.now items.at h
+
+reaches : {X : Type 0} (m : ℕ) (g : Grammar X) (from : Origin) (bytes : List ℕ) (at : ℕ) → HasWidth m g → at ≤ length bytes → IsTrue (is_read (read from g bytes at)) → (t : Bool) → leb (at + m) (length bytes) ≡ t → at + m ≤ length bytes
+reaches m g from bytes at w h r true e = leb-true _ _ e
+reaches m g from bytes at w h r false e = let k = rw (w.short from bytes at h (leb-false _ _ e)) at r in absurd cc
+
+-- items of one width that were read lie within the bytes
+pub read-reaches : {X : Type 0} (m : ℕ) (g : Grammar X) (items : Items) → HasWidth m g → IsTrue (is_read (next g items)) → items.at + m ≤ length items.info.bytes.now
+read-reaches m g items w r = reaches m g (info_of items.part) items.info.bytes.now items.at w items.within r (leb (items.at + m) (length items.info.bytes.now)) refl
+
+-- the i-th of a table of numbers
+pub number-left : (n i : ℕ) (items : Items) → IsTrue (is_read (next (table n) items)) → i < n → number_at 2 (items.at + 2 * i) items.info.bytes.now ≡ slice_get (value_or [] (next (table n) items)) i
+unfolding Spells
+number-left n i items h lt =
+    let reach = read-reaches (n * 2) (table n) items (width-repeat 2 n (n * 2) u2 (width-number 2) refl) h in
+    let x = item-repeat 2 n i u2 (info_of items.part) items.info.bytes.now items.at (width-number 2) reach lt in
+    let s = read-spells (info_of items.part) u2 items.info.bytes.now (items.at + i * 2) x.0 (items.at + i * 2 + 2) x.1 in
+    let e : items.at + 2 * i ≡ items.at + i * 2 = omega arith in
+    rw (e, s.0, x.2) refl
+
+pub number-beyond : (n i : ℕ) (items : Items) → IsTrue (is_read (next (table n) items)) → n ≤ i → slice_get (value_or [] (next (table n) items)) i ≡ None
+number-beyond n i items h le = let e = length-left n u2 items h in slice_get_past _ i (omega arith)

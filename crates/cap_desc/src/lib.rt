@@ -4,10 +4,25 @@
 #![tactic(auto)]
 
 mod access_flags;
+mod class;
+mod class_readers;
+mod desc_part;
+mod iterate;
 mod lists;
+mod nibbles;
+mod numbers;
+mod read;
+mod read_types;
 mod records;
 mod take;
+mod type_item;
+mod types;
 
 pub use access_flags::AccessFlags;
-pub use lists::{DescFields, DescMethods, Numbers};
+pub use class::DescClass;
+pub use desc_part::DescPart;
+pub use lists::{DescClasses, DescFields, DescMethods, Numbers};
+pub use read::descriptor;
+pub use type_item::TypeItem;
+pub use types::Types;
 pub use records::{FieldInfo, MethodInfo};

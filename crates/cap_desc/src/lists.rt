@@ -2,7 +2,7 @@ ghost use Rattle.std.specs.Prelude.{IsTrue};
 ghost use Rattle.cap_bytes.specs.Grammar.{repeat, table};
 ghost use Rattle.cap_bytes.specs.Reading.{is_read};
 ghost use Rattle.cap_bytes.specs.Taking.{next};
-ghost use Rattle.cap_desc.specs.DescriptorFormat.{field_info, method_info};
+ghost use Rattle.cap_desc.specs.DescriptorFormat.{field_info, method_info, class_info};
 
 use cap_bytes::Items;
 
@@ -28,4 +28,12 @@ pub struct DescMethods<'a> {
     pub(crate) items: Items<'a>,
     pub(crate) left: u16,
     ghost whole: { IsTrue (is_read (next (repeat left method_info) items)) },
+}
+
+/// The classes and interfaces that are left, in the order of the component.
+#[derive(Clone, Copy)]
+pub struct DescClasses<'a> {
+    pub(crate) items: Items<'a>,
+    pub(crate) left: u8,
+    ghost whole: { IsTrue (is_read (next (repeat left class_info) items)) },
 }

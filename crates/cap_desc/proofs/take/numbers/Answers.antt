@@ -5,11 +5,11 @@ use Rattle.cap_desc.proofs.Widths.{taken-width, fails-width}
 use Rattle.cap_desc.proofs.MemberWidths.{table_width}
 use Rattle.cap_desc.proofs.take.numbers.Goals as goal
 
-pub returns-in_err-piece : goal.returns-in_err-piece
-returns-in_err-piece c = let p = err_from_is_err_and c.from_residual.result c.from_residual.ensures.1 in rw (p.1, p.2) (fails-width _ _ _ _ (table_width c.args.count) c.in_err-piece.ensures)
+pub returns-in_err-piece-clause-taken : goal.returns-in_err-piece-clause-taken
+returns-in_err-piece-clause-taken c = let p = err_from_is_err_and c.from_residual.result c.from_residual.ensures.1 in rw (p.1, p.2) (fails-width _ _ _ _ (table_width c.args.count) c.in_err-piece.ensures)
 
 pub invariant_of-result : goal.invariant_of-result
 invariant_of-result c = record { whole = (taken-width _ _ [] _ _ _ (table_width c.args.count) c.in_ok-piece.ensures).1 }
 
-pub returns : goal.returns
-returns c = (taken-width _ _ [] _ _ _ (table_width c.args.count) c.in_ok-piece.ensures).0
+pub returns-clause-taken : goal.returns-clause-taken
+returns-clause-taken c = (taken-width _ _ [] _ _ _ (table_width c.args.count) c.in_ok-piece.ensures).0

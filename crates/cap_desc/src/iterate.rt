@@ -1,0 +1,118 @@
+use crate::class::DescClass;
+use crate::lists::{DescClasses, DescFields, DescMethods, Numbers};
+use crate::records::{FieldInfo, MethodInfo};
+use crate::take;
+
+impl Iterator for Numbers<'_> {
+    type Item = u16;
+
+    ghost use Rattle.std.specs.Iterator.{YieldsFirst, item_count};
+    ghost use Rattle.cap_desc.specs.MemberLists.{numbers_left};
+
+    ghost next_gives = { YieldsFirst numbers_left };
+
+    ghost remaining = { item_count numbers_left };
+
+    fn next(&mut self) -> Option<u16> {
+        if self.left == 0 {
+            return None;
+        }
+        let mut items = self.items;
+        match items.u2() {
+            Ok(number) => {
+                *self = Numbers {
+                    items,
+                    left: self.left - 1,
+                };
+                Some(number)
+            }
+            Err(_) => None,
+        }
+    }
+}
+
+impl Iterator for DescFields<'_> {
+    type Item = FieldInfo;
+
+    ghost use Rattle.std.specs.Iterator.{YieldsFirstBy, item_count};
+    ghost use Rattle.cap_desc.specs.MemberRecords.{field_seen};
+    ghost use Rattle.cap_desc.specs.MemberLists.{fields_left};
+
+    ghost next_gives = { YieldsFirstBy field_seen fields_left };
+
+    ghost remaining = { item_count fields_left };
+
+    fn next(&mut self) -> Option<FieldInfo> {
+        if self.left == 0 {
+            return None;
+        }
+        let mut items = self.items;
+        match take::field_info(&mut items) {
+            Ok(field) => {
+                *self = DescFields {
+                    items,
+                    left: self.left - 1,
+                };
+                Some(field)
+            }
+            Err(_) => None,
+        }
+    }
+}
+
+impl Iterator for DescMethods<'_> {
+    type Item = MethodInfo;
+
+    ghost use Rattle.std.specs.Iterator.{YieldsFirstBy, item_count};
+    ghost use Rattle.cap_desc.specs.MemberRecords.{method_seen};
+    ghost use Rattle.cap_desc.specs.MemberLists.{methods_left};
+
+    ghost next_gives = { YieldsFirstBy method_seen methods_left };
+
+    ghost remaining = { item_count methods_left };
+
+    fn next(&mut self) -> Option<MethodInfo> {
+        if self.left == 0 {
+            return None;
+        }
+        let mut items = self.items;
+        match take::method_info(&mut items) {
+            Ok(method) => {
+                *self = DescMethods {
+                    items,
+                    left: self.left - 1,
+                };
+                Some(method)
+            }
+            Err(_) => None,
+        }
+    }
+}
+
+impl<'a> Iterator for DescClasses<'a> {
+    type Item = DescClass<'a>;
+
+    ghost use Rattle.std.specs.Iterator.{YieldsFirstBy, item_count};
+    ghost use Rattle.cap_desc.specs.ClassRecords.{class_seen, classes_left};
+
+    ghost next_gives = { YieldsFirstBy class_seen classes_left };
+
+    ghost remaining = { item_count classes_left };
+
+    fn next(&mut self) -> Option<DescClass<'a>> {
+        if self.left == 0 {
+            return None;
+        }
+        let mut items = self.items;
+        match take::class_info(&mut items) {
+            Ok(class) => {
+                *self = DescClasses {
+                    items,
+                    left: self.left - 1,
+                };
+                Some(class)
+            }
+            Err(_) => None,
+        }
+    }
+}
