@@ -1,3 +1,5 @@
+ghost use Rattle.std.specs.Prelude.{◌≤◌};
+
 use cap_bytes::View;
 
 use crate::lists::{DescClasses, Numbers};
@@ -10,4 +12,5 @@ pub struct DescPart<'a> {
     /// Where the item `constant_pool_count` stands in the info.
     pub(crate) types_start: u32,
     pub(crate) pool_types: Numbers<'a>,
+    ghost near: { types_start ≤ 65535 },
 }

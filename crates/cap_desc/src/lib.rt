@@ -7,6 +7,7 @@ mod access_flags;
 mod class;
 mod class_readers;
 mod desc_part;
+mod desc_readers;
 mod iterate;
 mod lists;
 mod nibbles;
@@ -16,6 +17,7 @@ mod read_types;
 mod records;
 mod take;
 mod type_item;
+mod type_list;
 mod types;
 
 pub use access_flags::AccessFlags;

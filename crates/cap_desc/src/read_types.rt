@@ -61,9 +61,10 @@ impl Nibbles<'_> {
     pub(crate) fn type_count(&self) -> Option<u8>
         ensures { MatchOption result (types_in (nibbles_in self.now) ≡ None) (λ n. SpellsTypes (nibbles_in self.now) n) }
     {
+        let nibble_count = self.count as u16;
         let mut at: u16 = 0;
         let mut count: u8 = 0;
-        'types: while at < self.count as u16 {
+        'types: while at < nibble_count {
             let (_, end) = self.type_item(at)?;
             at = end;
             count += 1;

@@ -1,0 +1,71 @@
+ghost use Rattle.std.specs.Prelude.{◌≡◌, ◌+◌, length, option_map};
+ghost use Rattle.std.specs.List.{slice_get};
+ghost use Rattle.cap_desc.specs.TypeFormat.{types_at};
+ghost use Rattle.cap_desc.specs.MemberLists.{numbers_left};
+ghost use Rattle.cap_desc.specs.ClassRecords.{classes_left};
+ghost use Rattle.cap_desc.specs.TypeLists.{types_left};
+ghost use Rattle.cap_desc.specs.Descriptors.{descriptor_seen};
+
+use cap_bytes::View;
+
+use crate::desc_part::DescPart;
+use crate::lists::{DescClasses, Numbers};
+use crate::nibbles::Nibbles;
+use crate::types::Types;
+
+impl<'a> DescPart<'a> {
+    /// The info that the component was read from.
+    pub fn info(&self) -> View<'a>
+        ensures { result ≡ self.now.info }
+    {
+        self.info
+    }
+
+    /// The classes and interfaces of the package, in the order of the component.
+    pub fn classes(&self) -> DescClasses<'a>
+        ensures { classes_left result ≡ (descriptor_seen self.now).classes }
+    {
+        self.classes
+    }
+
+    /// How many types of pool entries there are.
+    pub fn pool_count(&self) -> u16
+        ensures { result ≡ length (descriptor_seen self.now).pool_types }
+    {
+        self.pool_types.len()
+    }
+
+    /// The type of the n-th entry of the constant pool.
+    pub fn pool_type(&self, n: u16) -> Option<u16>
+        ensures { result ≡ slice_get (descriptor_seen self.now).pool_types n }
+    {
+        self.pool_types.get(n)
+    }
+
+    /// The types of the pool's entries, in the order of the pool.
+    pub fn pool_types(&self) -> Numbers<'a>
+        ensures { numbers_left result ≡ (descriptor_seen self.now).pool_types }
+    {
+        self.pool_types
+    }
+
+    /// The types of the type descriptor at an offset from the item `constant_pool_count`, where a
+    /// well-formed one stands there.
+    pub fn types_at(&self, offset: u16) -> Option<Types<'a>>
+        ensures {
+            option_map types_left result
+                ≡ types_at self.now.info.bytes.now ((descriptor_seen self.now).types_start + offset)
+        }
+    {
+        let start = self.types_start + offset as u32;
+        let count = self.info.u1(start)?;
+        let bytes = self.info.part(start + 1, (count as u32 + 1) / 2)?;
+        let nibbles = Nibbles { bytes, count };
+        let left = nibbles.type_count()?;
+        Some(Types {
+            nibbles,
+            at: 0,
+            left,
+        })
+    }
+}
