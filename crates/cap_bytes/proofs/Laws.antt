@@ -1,6 +1,5 @@
 -- What is spelled is read, what breaks is answered, and a reading is one of both.
 use Rattle.std.proofs.Common.{◌≡◌, ℕ, ◌+◌, ◌-◌, ◌≤◌, ◌<◌, ◌⊎◌, List, length, take, drop, Option, Some, None, Ok, Err, Bool, true, false, cond, leb, refl, sym, ap, subst, ◌∙◌, inl, inr}
-use Rattle.std.specs.Prelude.{IsTrue}
 use Rattle.std.proofs.lemmas.Bool.{le-leb, lt-leb, leb-true, leb-false}
 use Rattle.cap_bytes.specs.declared.fault.FormFault.{FormFault}
 use Rattle.cap_bytes.specs.declared.fault.FormKind.{FormKind}
@@ -9,7 +8,7 @@ use Rattle.byteorder.specs.Endian.{big_number}
 use Rattle.cap_bytes.specs.Number.{number_at}
 use Rattle.cap_bytes.specs.Grammar.{Grammar, give, number, piece, remaining, place, finish, ◌>>=◌}
 use Rattle.cap_bytes.specs.Spelling.{Spells, Stands, Origin, fault_at, cut, Breaks, IsExact, info_of}
-use Rattle.cap_bytes.specs.Reading.{Reading, and_then, tested, number_read, read, reading, IsRead, is_read, value_or, value_in}
+use Rattle.cap_bytes.specs.Reading.{Reading, and_then, tested, number_read, read, reading, outcome}
 
 -- ---- what is spelled is read
 
@@ -42,13 +41,13 @@ breaks-read from (g >>= next) bytes at fault (inl h) = rw (breaks-read from g by
 breaks-read from (g >>= next) bytes at fault (inr h) =
     rw (spelled-read from g bytes at h.0 h.1 h.2) (breaks-read from (next h.0) bytes h.1 fault h.3)
 
-abbrev read_ok : {X : Type 0} → X → ℕ → Reading X
+abbrev pub read_ok : {X : Type 0} → X → ℕ → Reading X
 read_ok x after = Ok (x, after)
 
 -- ---- what is read is spelled
 
 -- the first half of a reading that went well
-then_ok : {X Y : Type 0} (r : Reading X) (next : X → ℕ → Reading Y) (y : Y) (after : ℕ) → and_then r next ≡ Ok (y, after) → (x : X) × (middle : ℕ) × (r ≡ Ok (x, middle)) × (next x middle ≡ Ok (y, after))
+pub then_ok : {X Y : Type 0} (r : Reading X) (next : X → ℕ → Reading Y) (y : Y) (after : ℕ) → and_then r next ≡ Ok (y, after) → (x : X) × (middle : ℕ) × (r ≡ Ok (x, middle)) × (next x middle ≡ Ok (y, after))
 then_ok (Ok x) next y after h = (x.0, x.1, refl, h)
 then_ok (Err e) next y after h = absurd cc
 
@@ -67,7 +66,7 @@ number_ok from wrong bytes at end (Some m) n after h =
     let t = tested_ok from at (wrong m) m end n after h in
     (ap Some t.0, subst (λ k. wrong k ≡ None) t.0 t.1, t.2)
 
-pair_ok : {X : Type 0} (x y : X) (a b : ℕ) → read_ok x a ≡ read_ok y b → (y ≡ x) × (b ≡ a)
+pub pair_ok : {X : Type 0} (x y : X) (a b : ℕ) → read_ok x a ≡ read_ok y b → (y ≡ x) × (b ≡ a)
 pair_ok x y a b h = let e : (x, a) ≡ (y, b) = cc in (sym (ap (λ (p : _ × ℕ). p.0) e), sym (ap (λ (p : _ × ℕ). p.1) e))
 
 piece_ok : (from : Origin) (bytes : List ℕ) (at n : ℕ) (b : Bool) (part : List ℕ) (after : ℕ) → leb (at + n) (length bytes) ≡ b → cond b (read_ok (take n (drop at bytes)) (at + n)) (Err (cut from bytes)) ≡ Ok (part, after) → (at + n ≤ length bytes) × (part ≡ take n (drop at bytes)) × (after ≡ at + n)
@@ -142,22 +141,30 @@ is_exact from g bytes = record {
 
 -- ---- whole bytes
 
-pub stands : {X : Type 0} (otherwise : X) (from : Origin) (g : Grammar X) (bytes : List ℕ) → IsRead from g bytes → Stands g bytes (value_in otherwise from g bytes)
+outcome_ok : {X : Type 0} (r : Reading X) (x : X) → outcome r ≡ Ok x → (after : ℕ) × (r ≡ Ok (x, after))
+outcome_ok (Ok y) x h = let e : y.0 ≡ x = cc in (y.1, rw (← e) refl)
+outcome_ok (Err e) x h = absurd cc
+
+outcome_err : {X : Type 0} (r : Reading X) (fault : FormFault) → outcome r ≡ Err fault → r ≡ Err fault
+outcome_err (Ok y) fault h = absurd cc
+outcome_err (Err e) fault h = cc
+
+pub stands : {X : Type 0} (from : Origin) (g : Grammar X) (bytes : List ℕ) (x : X) → reading from g bytes ≡ Ok x → Stands g bytes x
 unfolding Stands reading
-stands otherwise from g bytes h = from_reading (read from g bytes 0) refl h
-  where
-    from_reading : (r : Reading _) → read from g bytes 0 ≡ r → IsTrue (is_read r) → Stands g bytes (value_or otherwise r)
-    from_reading (Ok x) e h = (x.1, read-spells from g bytes 0 x.0 x.1 e)
-    from_reading (Err fault) e h = absurd cc
+stands from g bytes x h = let o = outcome_ok (read from g bytes 0) x h in (o.0, read-spells from g bytes 0 x o.0 o.1)
 
 pub breaks : {X : Type 0} (from : Origin) (g : Grammar X) (bytes : List ℕ) (fault : FormFault) → reading from g bytes ≡ Err fault → Breaks from g bytes 0 fault
 unfolding reading
-breaks from g bytes fault h = read-breaks from g bytes 0 fault h
+breaks from g bytes fault h = read-breaks from g bytes 0 fault (outcome_err (read from g bytes 0) fault h)
 
--- the converse: what stands for a value is read
-pub is_read_where : {X : Type 0} (from : Origin) (g : Grammar X) (bytes : List ℕ) (x : X) → Stands g bytes x → IsRead from g bytes
+-- the converse
+pub reading_where : {X : Type 0} (from : Origin) (g : Grammar X) (bytes : List ℕ) (x : X) → Stands g bytes x → reading from g bytes ≡ Ok x
 unfolding Stands reading
-is_read_where from g bytes x h = rw (spelled-read from g bytes 0 x h.0 h.1) refl
+reading_where from g bytes x h = rw (spelled-read from g bytes 0 x h.0 h.1) refl
+
+pub refused_where : {X : Type 0} (from : Origin) (g : Grammar X) (bytes : List ℕ) (fault : FormFault) → Breaks from g bytes 0 fault → reading from g bytes ≡ Err fault
+unfolding reading
+refused_where from g bytes fault h = rw (breaks-read from g bytes 0 fault h) refl
 
 -- what the reader of a whole component needs
 pub ruleset whole = (stands, breaks, is_exact)

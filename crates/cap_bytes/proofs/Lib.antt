@@ -1,2 +1,5 @@
 pub mod Laws
 pub mod Loops
+pub mod EachLoops
+pub mod UntilLoops
+pub mod Wide

@@ -1,6 +1,6 @@
 -- What reading bytes by a grammar answers: the value and the place behind its items, or the fault of
 -- the first item that breaks it.
-use Rattle.std.specs.Prelude.{ℕ, ◌+◌, ◌-◌, List, length, take, drop, Option, Some, None, Result, Ok, Err, Bool, true, false, IsTrue, nat_le, if◌then◌else◌}
+use Rattle.std.specs.Prelude.{ℕ, ◌+◌, ◌-◌, List, length, take, drop, Option, Some, None, Result, Ok, Err, Bool, true, false, nat_le, if◌then◌else◌}
 use Rattle.cap_bytes.specs.declared.fault.FormFault.{FormFault}
 use Rattle.cap_bytes.specs.declared.fault.FormKind.{FormKind}
 use Rattle.cap_bytes.specs.declared.fault.FormKind.TheVariants.{Trailing}
@@ -39,23 +39,20 @@ read from place bytes at = Ok (at, at)
 read from finish bytes at = finish_read from bytes at
 read from (g >>= next) bytes at = and_then (read from g bytes at) (λ x middle. read from (next x) bytes middle)
 
--- what reading the bytes from the first on answers
-unfoldable pub reading : {X : Type 0} → Origin → Grammar X → List ℕ → Reading X
-reading from g bytes = read from g bytes 0
-
 abbrev pub is_read : {X : Type 0} → Reading X → Bool
 is_read (Ok x) = true
 is_read (Err fault) = false
-
--- the bytes spell a value
-abbrev pub IsRead : {X : Type 0} → Origin → Grammar X → List ℕ → Type 0
-IsRead from g bytes = IsTrue (is_read (reading from g bytes))
 
 -- a reading's value, or another where there is none
 abbrev pub value_or : {X : Type 0} → X → Reading X → X
 value_or otherwise (Ok x) = x.0
 value_or otherwise (Err fault) = otherwise
 
--- the value that the bytes spell, or another where they spell none
-abbrev pub value_in : {X : Type 0} → X → Origin → Grammar X → List ℕ → X
-value_in otherwise from g bytes = value_or otherwise (reading from g bytes)
+-- a reading without its place
+abbrev pub outcome : {X : Type 0} → Reading X → Result X FormFault
+outcome (Ok x) = Ok x.0
+outcome (Err fault) = Err fault
+
+-- what reading the bytes from the first on answers
+unfoldable pub reading : {X : Type 0} → Origin → Grammar X → List ℕ → Result X FormFault
+reading from g bytes = outcome (read from g bytes 0)

@@ -1,11 +1,11 @@
 -- What it is to take items from the front of what is left of some bytes.
-use Rattle.std.specs.Prelude.{◌≡◌, ℕ, List, Result, Ok, Err}
+use Rattle.std.specs.Prelude.{◌≡◌, ℕ, ◌+◌, ◌*◌, List, Result, Ok, Err, Bool, IsTrue}
 use Rattle.std.specs.Borrow.{Bor}
 use Rattle.cap_bytes.specs.declared.fault.FormFault.{FormFault}
 use Rattle.cap_bytes.specs.declared.items.Items.{Items}
 use Rattle.cap_bytes.specs.Grammar.{Grammar}
 use Rattle.cap_bytes.specs.Spelling.{Origin, info_of}
-use Rattle.cap_bytes.specs.Reading.{Reading, read, reading, IsRead}
+use Rattle.cap_bytes.specs.Reading.{Reading, read, reading, is_read, value_or}
 
 -- ---- views: which value of a grammar a value of the program is
 
@@ -45,7 +45,29 @@ abbrev pub Passes : {R X : Type 0} → Grammar X → Items → Result R FormFaul
 Passes {X = X} g before (Ok r) after = (x : X) × Taken g before x after
 Passes g before (Err fault) after = Fails g before fault
 
--- the whole bytes are by the grammar; or the first item that breaks it gives the fault
-abbrev pub Checks : {R X : Type 0} → Origin → Grammar X → List ℕ → Result R FormFault → Type 0
-Checks from g bytes (Ok r) = IsRead from g bytes
-Checks from g bytes (Err fault) = reading from g bytes ≡ Err fault
+-- ---- what is known to be next
+
+-- whether the next items are by the grammar
+unfoldable pub gives : {X : Type 0} → Grammar X → Items → Bool
+gives g items = is_read (next g items)
+
+abbrev pub Gives : {X : Type 0} → Grammar X → Items → Type 0
+Gives g items = IsTrue (gives g items)
+
+-- their value, or another where they are not
+unfoldable pub given : {X : Type 0} → X → Grammar X → Items → X
+given otherwise g items = value_or otherwise (next g items)
+
+-- so many items of one width further on
+pub record IsAhead (now : Items) (n width : ℕ) (there : Items) : Type 0 where
+  pub at : there.at ≡ now.at + n * width
+  pub info : there.info ≡ now.info
+  pub part : there.part ≡ now.part
+
+-- ---- whole bytes
+
+-- the bytes are by the grammar, and the result is their value; or the first item that breaks it gives
+-- the fault
+abbrev pub Reads : {R X : Type 0} → (R → X) → Origin → Grammar X → List ℕ → Result R FormFault → Type 0
+Reads view from g bytes (Ok r) = reading from g bytes ≡ Ok (view r)
+Reads view from g bytes (Err fault) = reading from g bytes ≡ Err fault

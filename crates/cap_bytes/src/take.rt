@@ -1,7 +1,7 @@
-ghost use Rattle.std.specs.Prelude.{◌≡◌, ◌-◌, ◌≤◌, length, Ok};
+ghost use Rattle.std.specs.Prelude.{◌≡◌, ◌+◌, ◌-◌, ◌*◌, ◌≤◌, length, Ok};
 ghost use Rattle.cap_bytes.specs.Grammar.{u1, u2, u4, number, piece, remaining, finish, rest, aid, that, is_aid_length};
 ghost use Rattle.cap_bytes.specs.Spelling.{info_of, fault_at, cut};
-ghost use Rattle.cap_bytes.specs.Taking.{Takes, same, bytes, nothing};
+ghost use Rattle.cap_bytes.specs.Taking.{Takes, IsAhead, same, bytes, nothing};
 
 use crate::fault::{FormFault, FormKind};
 use crate::items::Items;
@@ -16,6 +16,18 @@ impl<'a> Items<'a> {
         ensures first { result.at ≡ 0 }
     {
         Items { info, part, at: 0 }
+    }
+
+    /// The place of the n-th item from here, counted from 0, where each has this width in bytes.
+    pub fn ahead(self, n: u32, width: u32) -> Items<'a>
+        requires { self.at + n * width ≤ length self.info.bytes.now }
+        ensures { IsAhead self.entry n width result }
+    {
+        Items {
+            info: self.info,
+            part: self.part,
+            at: self.at + n * width,
+        }
     }
 
     /// The next number of one byte.

@@ -1,12 +1,16 @@
-use Rattle.std.specs.Prelude.{ℕ, List, []}
-use Rattle.cap_bytes.specs.Spelling.{info_of}
-use Rattle.cap_bytes.specs.Reading.{value_in}
+use Rattle.std.specs.Prelude.{List, []}
 use Rattle.cap_frame.specs.declared.package_info.PackageInfo.{PackageInfo}
 use Rattle.cap_frame.specs.declared.imports.Imports.{Imports}
-use Rattle.cap_frame.specs.ImportFormat.{Package, imports_info}
+use Rattle.cap_bytes.specs.Grammar.{repeat}
+use Rattle.cap_bytes.specs.Taking.{given}
+use Rattle.cap_frame.specs.declared.packages.Packages.{Packages}
+use Rattle.cap_frame.specs.ImportFormat.{Package, package_info}
 
 abbrev pub seen : PackageInfo → Package
 seen p = record { minor = p.minor; major = p.major; aid = p.aid.now }
 
+abbrev pub packages_left : Packages → List Package
+packages_left x = given [] (repeat x.left package_info) x.items
+
 abbrev pub packages : Imports → List Package
-packages x = value_in [] (info_of 4) imports_info x.info.bytes.now
+packages x = packages_left x.packages

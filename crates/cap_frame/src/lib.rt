@@ -3,6 +3,8 @@
 
 mod imports;
 mod package_info;
+mod package_iter;
+mod packages;
 mod read_imports;
 
 pub use imports::Imports;

@@ -1,13 +1,14 @@
-ghost use Rattle.std.specs.Prelude.{◌≡◌, ◌≤◌, length, IfOk, IfErr};
+ghost use Rattle.std.specs.Prelude.{◌≡◌, ◌≤◌, length, IfOk, IfErr, option_map, slice_get};
 ghost use Rattle.cap_bytes.specs.Spelling.{info_of, Stands, Breaks, IsExact};
-ghost use Rattle.cap_bytes.specs.Taking.{Takes, Passes, Checks};
+ghost use Rattle.cap_bytes.specs.Taking.{Takes, Passes, Reads};
 ghost use Rattle.cap_bytes.specs.Grammar.{repeat};
 ghost use Rattle.cap_frame.specs.ImportFormat.{imports_info, package_info};
-ghost use Rattle.cap_frame.specs.Imports.{packages, seen};
+ghost use Rattle.cap_frame.specs.Imports.{packages, packages_left, seen};
 
-use cap_bytes::{FormFault, Items, View};
 use crate::imports::Imports;
 use crate::package_info::PackageInfo;
+use crate::packages::Packages;
+use cap_bytes::{FormFault, Items, View};
 
 pub fn package_info<'a>(items: &mut Items<'a>) -> Result<PackageInfo<'a>, FormFault>
     ensures { Takes seen package_info items.old result items.new }
@@ -19,7 +20,7 @@ pub fn package_info<'a>(items: &mut Items<'a>) -> Result<PackageInfo<'a>, FormFa
 }
 
 #[tactic(auto, using(cap_bytes::proofs::Loops::passing))]
-fn packages<'a>(items: &mut Items<'a>, count: u8) -> Result<(), FormFault>
+fn pass_packages<'a>(items: &mut Items<'a>, count: u8) -> Result<(), FormFault>
     ensures { Passes (repeat count package_info) items.old result items.new }
 {
     'packages: for _ in 0..count {
@@ -28,15 +29,18 @@ fn packages<'a>(items: &mut Items<'a>, count: u8) -> Result<(), FormFault>
     Ok(())
 }
 
-#[tactic(auto, unfolding(cap_bytes::specs::Reading::reading))]
-fn check(info: View<'_>) -> Result<(), FormFault>
+#[tactic(auto, using(cap_bytes::proofs::Loops::yielding), unfolding(cap_bytes::specs::Reading::reading))]
+fn read(info: View<'_>) -> Result<Imports<'_>, FormFault>
     requires { length info.bytes.now ≤ 65535 }
-    ensures { Checks (info_of 4) imports_info info.entry.bytes.now result }
+    ensures value { Reads packages (info_of 4) imports_info info.entry.bytes.now result }
+    ensures info { IfOk result (λ x. x.info ≡ info.entry) }
 {
     let mut items = Items::of(info, 4);
-    let count = items.u1()?;
-    packages(&mut items, count)?;
-    items.end()
+    let left = items.u1()?;
+    let packages = Packages { items, left };
+    pass_packages(&mut items, left)?;
+    items.end()?;
+    Ok(Imports { info, packages })
 }
 
 #[tactic(auto, using(cap_bytes::proofs::Laws::whole))]
@@ -47,6 +51,26 @@ pub fn imports(info: View<'_>) -> Result<Imports<'_>, FormFault>
     ensures exact { IsExact (info_of 4) imports_info info.entry.bytes.now }
     ensures info { IfOk result (λ x. x.info ≡ info.entry) }
 {
-    check(info)?;
-    Ok(Imports { info })
+    read(info)
+}
+
+impl<'a> Imports<'a> {
+    #[tactic(auto, using(cap_bytes::proofs::Loops::yielding))]
+    pub fn count(&self) -> u8
+        ensures { result ≡ length (packages self.now) }
+    {
+        self.packages.left
+    }
+
+    pub fn iter(&self) -> Packages<'a>
+        ensures { packages_left result ≡ packages self.now }
+    {
+        self.packages
+    }
+
+    pub fn at(&self, n: u8) -> Option<PackageInfo<'a>>
+        ensures { option_map seen result ≡ slice_get (packages self.now) n }
+    {
+        self.iter().nth(n as usize)
+    }
 }
