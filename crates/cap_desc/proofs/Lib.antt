@@ -1,5 +1,6 @@
 pub mod Widths
 pub mod MemberWidths
-pub mod TakenWhole
 pub mod NibbleLemmas
 pub mod Counting
+pub mod TypesCounted
+pub mod TakenLength

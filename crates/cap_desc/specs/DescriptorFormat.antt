@@ -61,8 +61,15 @@ method_info = do
   bytecode_count ← u2
   handler_count ← u2
   handler_index ← u2
-  give (record { token = token; flags = method_flags flags; method_offset = method_offset; type_offset = type_offset;
-                 bytecode_count = bytecode_count; handler_count = handler_count; handler_index = handler_index })
+  give (record {
+    token = token;
+    flags = method_flags flags;
+    method_offset = method_offset;
+    type_offset = type_offset;
+    bytecode_count = bytecode_count;
+    handler_count = handler_count;
+    handler_index = handler_index;
+  })
 
 -- the flags of a class are unread: its record in the Class component tells whether it is an interface
 abbrev pub class_info : Grammar Class

@@ -6,7 +6,7 @@ use Rattle.std.specs.Result.{result_ok}
 use Rattle.cap_bytes.specs.Number.{number_at}
 use Rattle.cap_bytes.specs.Grammar.{Grammar, number, any, that, when, repeat, until_end, give, ◌>>=◌}
 use Rattle.cap_bytes.specs.Spelling.{info_of}
-use Rattle.cap_bytes.specs.Reading.{Reading, read}
+use Rattle.cap_bytes.specs.Reading.{Reading, read, is_read, value_or}
 use Rattle.cap_desc.specs.declared.type_item.TypeItem.{TypeItem}
 
 -- the nibbles of bytes
@@ -45,6 +45,14 @@ type_items = until_end (λ (s : Unit {0}). type_item) (λ s x. s) (tt {0})
 -- reading nibbles from a place on
 abbrev pub nibbles_read : {X : Type 0} → Grammar X → List ℕ → ℕ → Reading X
 nibbles_read = read (info_of 11)
+
+-- whether n types stand from a place of nibbles on
+unfoldable pub gives_types : ℕ → List ℕ → ℕ → Bool
+gives_types n ns at = is_read (nibbles_read (repeat n type_item) ns at)
+
+-- the n types, or none where there are not so many
+unfoldable pub given_types : ℕ → List ℕ → ℕ → List TypeItem
+given_types n ns at = value_or [] (nibbles_read (repeat n type_item) ns at)
 
 -- the types that nibbles spell, where they spell any
 unfoldable pub types_in : List ℕ → Option (List TypeItem)

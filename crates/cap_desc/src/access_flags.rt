@@ -9,9 +9,13 @@ pub struct AccessFlags(pub u8);
 
 impl AccessFlags {
     pub const PUBLIC: AccessFlags = AccessFlags(0x01);
+
     pub const PRIVATE: AccessFlags = AccessFlags(0x02);
+
     pub const PROTECTED: AccessFlags = AccessFlags(0x04);
+
     pub const STATIC: AccessFlags = AccessFlags(0x08);
+
     pub const FINAL: AccessFlags = AccessFlags(0x10);
     /// Of methods alone.
     pub const ABSTRACT: AccessFlags = AccessFlags(0x40);
@@ -21,13 +25,34 @@ impl AccessFlags {
     pub const OF_FIELD: AccessFlags = AccessFlags(0x1F);
 
     const FLAGS: &'static [Flag<AccessFlags>] = &[
-        Flag { name: "PUBLIC", value: AccessFlags::PUBLIC },
-        Flag { name: "PRIVATE", value: AccessFlags::PRIVATE },
-        Flag { name: "PROTECTED", value: AccessFlags::PROTECTED },
-        Flag { name: "STATIC", value: AccessFlags::STATIC },
-        Flag { name: "FINAL", value: AccessFlags::FINAL },
-        Flag { name: "ABSTRACT", value: AccessFlags::ABSTRACT },
-        Flag { name: "INIT", value: AccessFlags::INIT },
+        Flag {
+            name: "PUBLIC",
+            value: AccessFlags::PUBLIC,
+        },
+        Flag {
+            name: "PRIVATE",
+            value: AccessFlags::PRIVATE,
+        },
+        Flag {
+            name: "PROTECTED",
+            value: AccessFlags::PROTECTED,
+        },
+        Flag {
+            name: "STATIC",
+            value: AccessFlags::STATIC,
+        },
+        Flag {
+            name: "FINAL",
+            value: AccessFlags::FINAL,
+        },
+        Flag {
+            name: "ABSTRACT",
+            value: AccessFlags::ABSTRACT,
+        },
+        Flag {
+            name: "INIT",
+            value: AccessFlags::INIT,
+        },
     ];
 }
 
@@ -36,10 +61,8 @@ impl Flags for AccessFlags {
 
     ghost exact = { ⊤ };
 
-    ghost table = {
-        (codes "PUBLIC", 1) ∷ (codes "PRIVATE", 2) ∷ (codes "PROTECTED", 4) ∷ (codes "STATIC", 8)
-            ∷ (codes "FINAL", 16) ∷ (codes "ABSTRACT", 64) ∷ (codes "INIT", 128) ∷ []
-    };
+    ghost table = { (codes "PUBLIC", 1) ∷ (codes "PRIVATE", 2) ∷ (codes "PROTECTED", 4) ∷ (codes "STATIC", 8)
+        ∷ (codes "FINAL", 16) ∷ (codes "ABSTRACT", 64) ∷ (codes "INIT", 128) ∷ [] };
 
     ghost set_of = { λ flags. flags.0 };
 

@@ -1,10 +1,12 @@
 ghost use Rattle.std.specs.Prelude.{◌≡◌, length};
 ghost use Rattle.std.specs.List.{slice_get};
-ghost use Rattle.cap_desc.specs.MemberLists.{numbers_left, fields_left, methods_left};
+ghost use Rattle.cap_bytes.specs.Table.{numbers};
+ghost use Rattle.cap_desc.specs.MemberLists.{fields_left, methods_left};
 ghost use Rattle.cap_desc.specs.ClassRecords.{class_seen};
 
 use crate::class::DescClass;
-use crate::lists::{DescFields, DescMethods, Numbers};
+use crate::lists::{DescFields, DescMethods};
+use cap_bytes::Table;
 
 impl<'a> DescClass<'a> {
     pub fn token(&self) -> u8
@@ -26,12 +28,14 @@ impl<'a> DescClass<'a> {
         self.interface_count
     }
 
+    #[tactic(auto, using(cap_bytes::proofs::Loops::yielding))]
     pub fn field_count(&self) -> u16
         ensures { result ≡ length (class_seen self.now).fields }
     {
         self.fields.left
     }
 
+    #[tactic(auto, using(cap_bytes::proofs::Loops::yielding))]
     pub fn method_count(&self) -> u16
         ensures { result ≡ length (class_seen self.now).methods }
     {
@@ -42,12 +46,12 @@ impl<'a> DescClass<'a> {
     pub fn interface(&self, n: u8) -> Option<u16>
         ensures { result ≡ slice_get (class_seen self.now).interfaces n }
     {
-        self.interfaces.get(n as u16)
+        self.interfaces.at(n as u16)
     }
 
     /// The class references of the interfaces.
-    pub fn interfaces(&self) -> Numbers<'a>
-        ensures { numbers_left result ≡ (class_seen self.now).interfaces }
+    pub fn interfaces(&self) -> Table<'a>
+        ensures { numbers result ≡ (class_seen self.now).interfaces }
     {
         self.interfaces
     }

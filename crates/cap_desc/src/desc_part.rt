@@ -1,8 +1,7 @@
 ghost use Rattle.std.specs.Prelude.{◌≤◌};
 
-use cap_bytes::View;
-
-use crate::lists::{DescClasses, Numbers};
+use crate::lists::DescClasses;
+use cap_bytes::{Table, View};
 
 /// The Descriptor component.
 #[derive(Clone, Copy)]
@@ -11,6 +10,6 @@ pub struct DescPart<'a> {
     pub(crate) classes: DescClasses<'a>,
     /// Where the item `constant_pool_count` stands in the info.
     pub(crate) types_start: u32,
-    pub(crate) pool_types: Numbers<'a>,
+    pub(crate) pool_types: Table<'a>,
     ghost near: { types_start ≤ 65535 },
 }

@@ -1,17 +1,16 @@
 ghost use Rattle.std.specs.Prelude.{◌≡◌, ◌+◌, length, option_map};
 ghost use Rattle.std.specs.List.{slice_get};
 ghost use Rattle.cap_desc.specs.TypeFormat.{types_at};
-ghost use Rattle.cap_desc.specs.MemberLists.{numbers_left};
+ghost use Rattle.cap_bytes.specs.Table.{numbers};
 ghost use Rattle.cap_desc.specs.ClassRecords.{classes_left};
 ghost use Rattle.cap_desc.specs.TypeLists.{types_left};
 ghost use Rattle.cap_desc.specs.Descriptors.{descriptor_seen};
 
-use cap_bytes::View;
-
 use crate::desc_part::DescPart;
-use crate::lists::{DescClasses, Numbers};
+use crate::lists::DescClasses;
 use crate::nibbles::Nibbles;
 use crate::types::Types;
+use cap_bytes::{Table, View};
 
 impl<'a> DescPart<'a> {
     /// The info that the component was read from.
@@ -39,12 +38,12 @@ impl<'a> DescPart<'a> {
     pub fn pool_type(&self, n: u16) -> Option<u16>
         ensures { result ≡ slice_get (descriptor_seen self.now).pool_types n }
     {
-        self.pool_types.get(n)
+        self.pool_types.at(n)
     }
 
     /// The types of the pool's entries, in the order of the pool.
-    pub fn pool_types(&self) -> Numbers<'a>
-        ensures { numbers_left result ≡ (descriptor_seen self.now).pool_types }
+    pub fn pool_types(&self) -> Table<'a>
+        ensures { numbers result ≡ (descriptor_seen self.now).pool_types }
     {
         self.pool_types
     }
@@ -52,10 +51,8 @@ impl<'a> DescPart<'a> {
     /// The types of the type descriptor at an offset from the item `constant_pool_count`, where a
     /// well-formed one stands there.
     pub fn types_at(&self, offset: u16) -> Option<Types<'a>>
-        ensures {
-            option_map types_left result
-                ≡ types_at self.now.info.bytes.now ((descriptor_seen self.now).types_start + offset)
-        }
+        ensures { option_map types_left result
+            ≡ types_at self.now.info.bytes.now ((descriptor_seen self.now).types_start + offset) }
     {
         let start = self.types_start + offset as u32;
         let count = self.info.u1(start)?;

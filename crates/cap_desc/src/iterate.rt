@@ -1,35 +1,7 @@
 use crate::class::DescClass;
-use crate::lists::{DescClasses, DescFields, DescMethods, Numbers};
+use crate::lists::{DescClasses, DescFields, DescMethods};
 use crate::records::{FieldInfo, MethodInfo};
 use crate::take;
-
-impl Iterator for Numbers<'_> {
-    type Item = u16;
-
-    ghost use Rattle.std.specs.Iterator.{YieldsFirst, item_count};
-    ghost use Rattle.cap_desc.specs.MemberLists.{numbers_left};
-
-    ghost next_gives = { YieldsFirst numbers_left };
-
-    ghost remaining = { item_count numbers_left };
-
-    fn next(&mut self) -> Option<u16> {
-        if self.left == 0 {
-            return None;
-        }
-        let mut items = self.items;
-        match items.u2() {
-            Ok(number) => {
-                *self = Numbers {
-                    items,
-                    left: self.left - 1,
-                };
-                Some(number)
-            }
-            Err(_) => None,
-        }
-    }
-}
 
 impl Iterator for DescFields<'_> {
     type Item = FieldInfo;
@@ -42,6 +14,7 @@ impl Iterator for DescFields<'_> {
 
     ghost remaining = { item_count fields_left };
 
+    #[tactic(auto, using(cap_bytes::proofs::Loops::yielding))]
     fn next(&mut self) -> Option<FieldInfo> {
         if self.left == 0 {
             return None;
@@ -71,6 +44,7 @@ impl Iterator for DescMethods<'_> {
 
     ghost remaining = { item_count methods_left };
 
+    #[tactic(auto, using(cap_bytes::proofs::Loops::yielding))]
     fn next(&mut self) -> Option<MethodInfo> {
         if self.left == 0 {
             return None;
@@ -99,6 +73,7 @@ impl<'a> Iterator for DescClasses<'a> {
 
     ghost remaining = { item_count classes_left };
 
+    #[tactic(auto, using(cap_bytes::proofs::Loops::yielding))]
     fn next(&mut self) -> Option<DescClass<'a>> {
         if self.left == 0 {
             return None;

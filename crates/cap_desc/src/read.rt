@@ -1,16 +1,15 @@
 ghost use Rattle.std.specs.Prelude.{◌≡◌, ◌≤◌, length, IfOk, IfErr};
 ghost use Rattle.cap_bytes.specs.Grammar.{repeat};
 ghost use Rattle.cap_bytes.specs.Spelling.{info_of, Stands, Breaks, IsExact};
-ghost use Rattle.cap_bytes.specs.Taking.{Takes, Passes};
+ghost use Rattle.cap_bytes.specs.Taking.{Takes, Passes, Reads};
 ghost use Rattle.cap_desc.specs.DescriptorFormat.{class_info, descriptor_info};
 ghost use Rattle.cap_desc.specs.ClassRecords.{classes_left};
 ghost use Rattle.cap_desc.specs.Descriptors.{descriptor_seen};
 
-use cap_bytes::{FormFault, Items, View};
-
 use crate::desc_part::DescPart;
 use crate::lists::DescClasses;
 use crate::take;
+use cap_bytes::{FormFault, Items, View};
 
 /// The tag of the Descriptor component.
 const DESCRIPTOR: u8 = 11;
@@ -27,6 +26,7 @@ fn pass_classes(items: &mut Items<'_>, count: u8) -> Result<(), FormFault>
 }
 
 /// The next so many classes.
+#[tactic(auto, using(cap_bytes::proofs::Loops::yielding))]
 fn classes<'a>(items: &mut Items<'a>, count: u8) -> Result<DescClasses<'a>, FormFault>
     ensures { Takes classes_left (repeat count class_info) items.old result items.new }
 {
@@ -39,16 +39,18 @@ fn classes<'a>(items: &mut Items<'a>, count: u8) -> Result<DescClasses<'a>, Form
 }
 
 /// The items of the component.
-fn descriptor_items<'a>(items: &mut Items<'a>) -> Result<DescPart<'a>, FormFault>
-    ensures taken { Takes descriptor_seen descriptor_info items.old result items.new }
-    ensures info { IfOk result (λ x. x.info ≡ items.old.info) }
+#[tactic(auto, unfolding(cap_bytes::specs::Reading::reading))]
+fn read(info: View<'_>) -> Result<DescPart<'_>, FormFault>
+    requires { length info.bytes.now ≤ 65535 }
+    ensures value { Reads descriptor_seen (info_of 11) descriptor_info info.entry.bytes.now result }
+    ensures info { IfOk result (λ x. x.info ≡ info.entry) }
 {
-    let info = items.info;
+    let mut items = Items::of(info, DESCRIPTOR);
     let class_count = items.u1()?;
-    let classes = classes(items, class_count)?;
+    let classes = classes(&mut items, class_count)?;
     let types_start = items.at;
     let pool_count = items.u2()?;
-    let pool_types = take::numbers(items, pool_count)?;
+    let pool_types = items.table(pool_count)?;
     Ok(DescPart {
         info,
         classes,
@@ -57,7 +59,8 @@ fn descriptor_items<'a>(items: &mut Items<'a>) -> Result<DescPart<'a>, FormFault
     })
 }
 
-/// Reads the info of a Descriptor component.
+/// The Descriptor component that the info is, or the first item that breaks its format. The type
+/// descriptors behind the pool's types are not read.
 #[tactic(auto, using(cap_bytes::proofs::Laws::whole))]
 pub fn descriptor(info: View<'_>) -> Result<DescPart<'_>, FormFault>
     requires { length info.bytes.now ≤ 65535 }
@@ -66,6 +69,5 @@ pub fn descriptor(info: View<'_>) -> Result<DescPart<'_>, FormFault>
     ensures exact { IsExact (info_of 11) descriptor_info info.entry.bytes.now }
     ensures info { IfOk result (λ x. x.info ≡ info.entry) }
 {
-    let mut items = Items::of(info, DESCRIPTOR);
-    descriptor_items(&mut items)
+    read(info)
 }

@@ -36,7 +36,10 @@ impl Nibbles<'_> {
         let b = self.get(at + 1)?;
         let c = self.get(at + 2)?;
         let d = self.get(at + 3)?;
-        Some((4096 * a as u16 + 256 * b as u16 + 16 * c as u16 + d as u16, at + 4))
+        Some((
+            4096 * a as u16 + 256 * b as u16 + 16 * c as u16 + d as u16,
+            at + 4,
+        ))
     }
 
     /// The type at a place, and the place behind it.
@@ -51,7 +54,13 @@ impl Nibbles<'_> {
             return None;
         }
         if !names_class(nibble) {
-            return Some((TypeItem { nibble, class_ref: 0 }, at + 1));
+            return Some((
+                TypeItem {
+                    nibble,
+                    class_ref: 0,
+                },
+                at + 1,
+            ));
         }
         let (class_ref, end) = self.class_ref(at + 1)?;
         Some((TypeItem { nibble, class_ref }, end))

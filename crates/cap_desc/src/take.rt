@@ -1,17 +1,15 @@
-ghost use Rattle.std.specs.Prelude.{◌≡◌, IfOk};
-ghost use Rattle.cap_bytes.specs.Grammar.{repeat, table};
+ghost use Rattle.cap_bytes.specs.Grammar.{repeat};
 ghost use Rattle.cap_bytes.specs.Taking.{Takes};
 ghost use Rattle.cap_desc.specs.DescriptorFormat.{field_info, method_info, class_info};
 ghost use Rattle.cap_desc.specs.MemberRecords.{field_seen, method_seen};
 ghost use Rattle.cap_desc.specs.ClassRecords.{class_seen};
-ghost use Rattle.cap_desc.specs.MemberLists.{numbers_left, fields_left, methods_left};
-
-use cap_bytes::{FormFault, Items};
+ghost use Rattle.cap_desc.specs.MemberLists.{fields_left, methods_left};
 
 use crate::access_flags::AccessFlags;
 use crate::class::DescClass;
-use crate::lists::{DescFields, DescMethods, Numbers};
+use crate::lists::{DescFields, DescMethods};
 use crate::records::{FieldInfo, MethodInfo};
+use cap_bytes::{FormFault, Items};
 
 /// The next `field_descriptor_info`.
 pub(crate) fn field_info(items: &mut Items<'_>) -> Result<FieldInfo, FormFault>
@@ -51,19 +49,6 @@ pub(crate) fn method_info(items: &mut Items<'_>) -> Result<MethodInfo, FormFault
     })
 }
 
-/// The next so many numbers of two bytes.
-pub(crate) fn numbers<'a>(items: &mut Items<'a>, count: u16) -> Result<Numbers<'a>, FormFault>
-    ensures taken { Takes numbers_left (table count) items.old result items.new }
-    ensures counted { IfOk result (λ x. x.left ≡ count) }
-{
-    let first = *items;
-    items.piece(2 * count as u32)?;
-    Ok(Numbers {
-        items: first,
-        left: count,
-    })
-}
-
 /// The next so many fields.
 pub(crate) fn fields<'a>(items: &mut Items<'a>, count: u16) -> Result<DescFields<'a>, FormFault>
     ensures { Takes fields_left (repeat count field_info) items.old result items.new }
@@ -98,7 +83,7 @@ pub(crate) fn class_info<'a>(items: &mut Items<'a>) -> Result<DescClass<'a>, For
     let interface_count = items.u1()?;
     let field_count = items.u2()?;
     let method_count = items.u2()?;
-    let interfaces = numbers(items, interface_count as u16)?;
+    let interfaces = items.table(interface_count as u16)?;
     let fields = fields(items, field_count)?;
     let methods = methods(items, method_count)?;
     Ok(DescClass {

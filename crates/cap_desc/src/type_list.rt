@@ -15,6 +15,7 @@ impl Iterator for Types<'_> {
 
     ghost remaining = { item_count types_left };
 
+    #[tactic(auto, unfolding(crate::specs::TypeFormat::gives_types, crate::specs::TypeFormat::given_types))]
     fn next(&mut self) -> Option<TypeItem> {
         if self.left == 0 {
             return None;
@@ -31,6 +32,7 @@ impl Iterator for Types<'_> {
 
 impl Types<'_> {
     /// How many types there are.
+    #[tactic(auto, using(crate::proofs::TypesCounted::count_types))]
     pub fn len(&self) -> u8
         ensures { result ≡ length (types_left self.now) }
     {
