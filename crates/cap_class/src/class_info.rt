@@ -1,0 +1,31 @@
+use crate::class_flags::ClassFlags;
+use crate::interfaces::Interfaces;
+use crate::numbers::Numbers;
+
+/// The superclass of a class, and what an instance of it has of its own.
+#[derive(Clone, Copy)]
+pub(crate) struct Instance {
+    pub(crate) super_ref: u16,
+    pub(crate) instance_size: u8,
+    pub(crate) first_reference: u8,
+    pub(crate) reference_count: u8,
+}
+
+/// The dispatch tables of a class.
+#[derive(Clone, Copy)]
+pub(crate) struct Tables<'a> {
+    pub(crate) public_base: u8,
+    pub(crate) package_base: u8,
+    pub(crate) public: Numbers<'a>,
+    pub(crate) visible: Numbers<'a>,
+}
+
+/// The record of a class or an interface.
+#[derive(Clone, Copy)]
+pub struct ClassInfo<'a> {
+    pub(crate) offset: u16,
+    pub(crate) flags: ClassFlags,
+    pub(crate) instance: Instance,
+    pub(crate) tables: Tables<'a>,
+    pub(crate) interfaces: Interfaces<'a>,
+}
