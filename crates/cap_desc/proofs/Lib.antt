@@ -4,3 +4,4 @@ pub mod NibbleLemmas
 pub mod Counting
 pub mod TypesCounted
 pub mod TakenLength
+pub mod OneType

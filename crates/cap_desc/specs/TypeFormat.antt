@@ -4,7 +4,7 @@
 use Rattle.std.specs.Prelude.{ℕ, ◌+◌, ◌*◌, ◌/◌, ◌%◌, Bool, List, [], ◌∷◌, length, take, drop, Option, Some, None, ◌==◌, ◌||◌, ◌&&◌, nat_le, if◌then◌else◌, option_and_then, option_map}
 use Rattle.std.specs.Result.{result_ok}
 use Rattle.cap_bytes.specs.Number.{number_at}
-use Rattle.cap_bytes.specs.Grammar.{Grammar, number, any, that, when, repeat, until_end, give, ◌>>=◌}
+use Rattle.cap_bytes.specs.Grammar.{Grammar, number, any, that, when, repeat, until_end, finish, give, ◌>>=◌}
 use Rattle.cap_bytes.specs.Spelling.{info_of}
 use Rattle.cap_bytes.specs.Reading.{Reading, read, is_read, value_or}
 use Rattle.cap_desc.specs.declared.type_item.TypeItem.{TypeItem}
@@ -58,6 +58,10 @@ given_types n ns at = value_or [] (nibbles_read (repeat n type_item) ns at)
 unfoldable pub types_in : List ℕ → Option (List TypeItem)
 types_in ns = option_map (λ p. p.0) (result_ok (nibbles_read type_items ns 0))
 
+-- the type that nibbles spell, where they spell one alone
+unfoldable pub one_type_in : List ℕ → Option TypeItem
+one_type_in ns = option_map (λ p. p.0) (result_ok (nibbles_read (type_item >>= λ x. finish >>= λ end. give x) ns 0))
+
 -- so many nibbles, from a place of bytes on, where the bytes reach
 abbrev pub nibbles_at : List ℕ → ℕ → ℕ → Option (List ℕ)
 nibbles_at bytes at count = if nat_le (at + (count + 1) / 2) (length bytes) then Some (take count (nibbles (take ((count + 1) / 2) (drop at bytes)))) else None
@@ -65,3 +69,7 @@ nibbles_at bytes at count = if nat_le (at + (count + 1) / 2) (length bytes) then
 -- the types of the well-formed type descriptor at a place, if one stands there
 abbrev pub types_at : List ℕ → ℕ → Option (List TypeItem)
 types_at bytes at = option_and_then (λ count. option_and_then types_in (nibbles_at bytes (at + 1) count)) (number_at 1 at bytes)
+
+-- the type of the descriptor of one type at a place, if one stands there
+abbrev pub type_at : List ℕ → ℕ → Option TypeItem
+type_at bytes at = option_and_then (λ count. option_and_then one_type_in (nibbles_at bytes (at + 1) count)) (number_at 1 at bytes)

@@ -1,6 +1,6 @@
 ghost use Rattle.std.specs.Prelude.{◌≡◌, ◌+◌, length, option_map};
 ghost use Rattle.std.specs.List.{slice_get};
-ghost use Rattle.cap_desc.specs.TypeFormat.{types_at};
+ghost use Rattle.cap_desc.specs.TypeFormat.{types_at, type_at};
 ghost use Rattle.cap_bytes.specs.Table.{numbers};
 ghost use Rattle.cap_desc.specs.ClassRecords.{classes_left};
 ghost use Rattle.cap_desc.specs.TypeLists.{types_left};
@@ -9,6 +9,7 @@ ghost use Rattle.cap_desc.specs.Descriptors.{descriptor_seen};
 use crate::desc_part::DescPart;
 use crate::lists::DescClasses;
 use crate::nibbles::Nibbles;
+use crate::type_item::TypeItem;
 use crate::types::Types;
 use cap_bytes::{Table, View};
 
@@ -46,6 +47,20 @@ impl<'a> DescPart<'a> {
         ensures { numbers result ≡ (descriptor_seen self.now).pool_types }
     {
         self.pool_types
+    }
+
+    /// The type of the type descriptor at an offset from the item `constant_pool_count`, where a
+    /// well-formed one of one type stands there.
+    pub fn type_at(&self, offset: u16) -> Option<TypeItem>
+        ensures {
+            result ≡ type_at self.now.info.bytes.now ((descriptor_seen self.now).types_start + offset)
+        }
+    {
+        let start = self.types_start + offset as u32;
+        let count = self.info.u1(start)?;
+        let bytes = self.info.part(start + 1, (count as u32 + 1) / 2)?;
+        let nibbles = Nibbles { bytes, count };
+        nibbles.one_type()
     }
 
     /// The types of the type descriptor at an offset from the item `constant_pool_count`, where a

@@ -1,7 +1,7 @@
 ghost use Rattle.std.specs.Prelude.{◌≡◌, ◌≤◌, ◌<◌, ◌==◌, ◌||◌, IfSome, OnSome, MatchOption, None};
 ghost use Rattle.std.specs.Result.{result_ok};
 ghost use Rattle.cap_bytes.specs.Number.{number_at};
-ghost use Rattle.cap_desc.specs.TypeFormat.{type_item, class_nibbles, is_type, names_class, nibbles_read, types_in};
+ghost use Rattle.cap_desc.specs.TypeFormat.{type_item, class_nibbles, is_type, names_class, nibbles_read, types_in, one_type_in};
 ghost use Rattle.cap_desc.specs.Nibbles.{nibbles_in};
 ghost use Rattle.cap_desc.specs.TypeCount.{SpellsTypes};
 
@@ -64,6 +64,17 @@ impl Nibbles<'_> {
         }
         let (class_ref, end) = self.class_ref(at + 1)?;
         Some((TypeItem { nibble, class_ref }, end))
+    }
+
+    /// The type that the nibbles spell, where they spell one alone.
+    pub(crate) fn one_type(&self) -> Option<TypeItem>
+        ensures { result ≡ one_type_in (nibbles_in self.now) }
+    {
+        let (item, end) = self.type_item(0)?;
+        if end < self.count as u16 {
+            return None;
+        }
+        Some(item)
     }
 
     /// How many types the nibbles spell, where they spell types to their end.
