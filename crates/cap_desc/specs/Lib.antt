@@ -7,3 +7,5 @@ pub mod Descriptors
 pub mod Nibbles
 pub mod TypeCount
 pub mod TypeLists
+pub mod Members
+pub mod MembersLeft

@@ -4,10 +4,13 @@ ghost use Rattle.cap_desc.specs.TypeFormat.{types_at, type_at};
 ghost use Rattle.cap_bytes.specs.Table.{numbers};
 ghost use Rattle.cap_desc.specs.ClassRecords.{classes_left};
 ghost use Rattle.cap_desc.specs.TypeLists.{types_left};
+ghost use Rattle.cap_desc.specs.Members.{methods_from, fields_of};
+ghost use Rattle.cap_desc.specs.MembersLeft.{methods_from_left, fields_of_left};
 ghost use Rattle.cap_desc.specs.Descriptors.{descriptor_seen};
 
 use crate::desc_part::DescPart;
-use crate::lists::DescClasses;
+use crate::lists::{DescClasses, DescFields, DescMethods};
+use crate::members::{FieldsOf, MethodsFrom};
 use crate::nibbles::Nibbles;
 use crate::type_item::TypeItem;
 use crate::types::Types;
@@ -26,6 +29,35 @@ impl<'a> DescPart<'a> {
         ensures { classes_left result ≡ (descriptor_seen self.now).classes }
     {
         self.classes
+    }
+
+    /// The methods of the classes whose reference is at least `start`, class after class.
+    #[tactic(auto, unfolding(cap_bytes::specs::Taking::gives, cap_bytes::specs::Taking::given))]
+    pub fn methods_from(&self, start: u16) -> MethodsFrom<'a>
+        ensures { methods_from_left result ≡ methods_from start (descriptor_seen self.now).classes }
+    {
+        MethodsFrom {
+            methods: DescMethods {
+                items: self.classes.items,
+                left: 0,
+            },
+            classes: self.classes,
+            start,
+        }
+    }
+
+    /// The fields of the classes, class after class.
+    #[tactic(auto, unfolding(cap_bytes::specs::Taking::gives, cap_bytes::specs::Taking::given))]
+    pub fn fields(&self) -> FieldsOf<'a>
+        ensures { fields_of_left result ≡ fields_of (descriptor_seen self.now).classes }
+    {
+        FieldsOf {
+            fields: DescFields {
+                items: self.classes.items,
+                left: 0,
+            },
+            classes: self.classes,
+        }
     }
 
     /// How many types of pool entries there are.

@@ -4,12 +4,14 @@
 #![tactic(auto)]
 
 mod access_flags;
+mod all_members;
 mod class;
 mod class_readers;
 mod desc_part;
 mod desc_readers;
 mod iterate;
 mod lists;
+mod members;
 mod nibbles;
 mod read;
 mod read_types;
@@ -22,6 +24,7 @@ mod types;
 pub use access_flags::AccessFlags;
 pub use class::DescClass;
 pub use desc_part::DescPart;
+pub use members::{FieldsOf, MethodsFrom};
 pub use lists::{DescClasses, DescFields, DescMethods};
 pub use read::descriptor;
 pub use records::{FieldInfo, MethodInfo};
