@@ -1,2 +1,5 @@
 pub mod Parts
 pub mod Inside
+pub mod Order
+pub mod Pairs
+pub mod MethodChecks

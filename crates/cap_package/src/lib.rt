@@ -3,6 +3,8 @@
 #![tactic(auto)]
 
 mod fault;
+mod lesser;
+mod method_checks;
 mod parts;
 
 pub use fault::PackFault;
