@@ -3,3 +3,5 @@ pub mod Inside
 pub mod Order
 pub mod Pairs
 pub mod MethodChecks
+pub mod Descriptions
+pub mod HeaderChecks

@@ -2,7 +2,9 @@
 //! of parts is no package.
 #![tactic(auto)]
 
+mod description;
 mod fault;
+mod header_checks;
 mod lesser;
 mod method_checks;
 mod parts;

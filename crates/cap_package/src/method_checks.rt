@@ -6,11 +6,10 @@ ghost use Rattle.cap_package.specs.Order.{least_of, least_from, refused};
 ghost use Rattle.cap_package.specs.Pairs.{pairs};
 ghost use Rattle.cap_package.specs.MethodChecks.{size_by, code_start, code_end, overlap_fault, overlap_pair, outside_fault};
 
-use cap_bytes::View;
-use cap_desc::{MethodInfo, MethodsFrom};
-
 use crate::fault::PackFault;
 use crate::lesser::{lesser, refuse};
+use cap_bytes::View;
+use cap_desc::{MethodInfo, MethodsFrom};
 
 /// The offset behind a method's header.
 #[tactic(auto, unfolding(crate::specs::MethodChecks::code_start))]
@@ -41,7 +40,9 @@ fn overlap_fault(info: View<'_>, a: &MethodInfo, b: &MethodInfo) -> Option<PackF
 {
     let first = a.method_offset.min(b.method_offset);
     let second = a.method_offset.max(b.method_offset);
-    let end = code_end(info, a).min(code_end(info, b)).min(info.bytes.len() as u32);
+    let end = code_end(info, a)
+        .min(code_end(info, b))
+        .min(info.bytes.len() as u32);
     if (second as u32) < end {
         Some(PackFault::MethodOverlaps(first, second))
     } else {
@@ -57,9 +58,7 @@ fn overlaps_with(
     least: Option<PackFault>,
 ) -> Option<PackFault>
     requires { length info.bytes.now ≤ 65535 }
-    ensures {
-        result ≡ least_from least (overlap_fault info.entry.bytes.now (method_seen method.now)) (methods_from_left behind.entry)
-    }
+    ensures { result ≡ least_from least (overlap_fault info.entry.bytes.now (method_seen method.now)) (methods_from_left behind.entry) }
 {
     let mut least = least;
     'methods: for other in behind {
@@ -89,7 +88,9 @@ fn outside_fault(info: View<'_>, handler_count: u8, method: &MethodInfo) -> Opti
     ensures { result ≡ outside_fault info.entry.bytes.now handler_count (method_seen method.now) }
 {
     let table_end = 1 + 8 * handler_count as u32;
-    if (method.method_offset as u32) < table_end || (info.bytes.len() as u32) < code_end(info, method) {
+    if (method.method_offset as u32) < table_end
+        || (info.bytes.len() as u32) < code_end(info, method)
+    {
         Some(PackFault::MethodOutside(method.method_offset))
     } else {
         None
@@ -97,7 +98,11 @@ fn outside_fault(info: View<'_>, handler_count: u8, method: &MethodInfo) -> Opti
 }
 
 /// No described method begins in the handler table or reaches past the info.
-pub(crate) fn methods_inside(info: View<'_>, handler_count: u8, described: MethodsFrom<'_>) -> Result<(), PackFault>
+pub(crate) fn methods_inside(
+    info: View<'_>,
+    handler_count: u8,
+    described: MethodsFrom<'_>,
+) -> Result<(), PackFault>
     requires { length info.bytes.now ≤ 65535 }
     ensures { result ≡ refused (least_of (outside_fault info.entry.bytes.now handler_count) (methods_from_left described.entry)) }
 {

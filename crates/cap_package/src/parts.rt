@@ -2,10 +2,9 @@ ghost use Rattle.std.specs.Prelude.{◌≡◌, [], ◌∷◌, ◌++◌, IsNone, 
 ghost use Rattle.std.specs.Option.{option_copied};
 ghost use Rattle.cap_package.specs.Parts.{held};
 
+use cap_bytes::Part;
 use std::alloc::{AllocError, Global};
 use std::marker::Model;
-
-use cap_bytes::Part;
 
 /// A borrowed file of a package's folder.
 #[derive(Clone, Copy)]
