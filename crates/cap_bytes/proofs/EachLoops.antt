@@ -1,10 +1,12 @@
 -- Loops that pass over so many items, each of which may depend on a state that they change.
-use Rattle.std.proofs.Common.{◌≡◌, ℕ, suc, ◌+◌, ◌-◌, ◌≤◌, ◌<◌, List, ◌∷◌, zero, Ok, Err, refl, sym, ap, ◌∙◌, arith}
+use Rattle.std.proofs.Common.{◌≡◌, ℕ, suc, ◌+◌, ◌-◌, ◌≤◌, ◌<◌, List, ◌∷◌, Option, Some, None, zero, Ok, Err, refl, sym, ap, ◌∙◌, arith}
 use Rattle.cap_bytes.specs.declared.fault.FormFault.{FormFault}
+use Rattle.cap_bytes.specs.declared.fault.FormKind.{FormKind}
+use Rattle.cap_bytes.specs.Number.{number_at}
 use Rattle.cap_bytes.specs.declared.items.Items.{Items}
-use Rattle.cap_bytes.specs.Grammar.{Grammar, each, repeat, give, ◌>>=◌}
+use Rattle.cap_bytes.specs.Grammar.{Grammar, each, repeat, give, number, ◌>>=◌}
 use Rattle.cap_bytes.specs.Spelling.{Origin, info_of}
-use Rattle.cap_bytes.specs.Reading.{read}
+use Rattle.cap_bytes.specs.Reading.{read, number_read, tested}
 use Rattle.cap_bytes.specs.Taking.{next, Taken, Fails}
 use Rattle.cap_bytes.proofs.Laws.{then_ok, read_ok}
 use Rattle.cap_bytes.proofs.Loops.{end_of, err_of, ok_of, forget}
@@ -30,10 +32,13 @@ each_more g step count start first i now s x after so_far lt h =
       part = h.part ∙ so_far.part;
     }
 
+end_fault : {X S : Type 0} (g : S → Grammar X) (step : S → X → S) (n : ℕ) (now : Items) (s : S) (fault : FormFault) → Fails (g s) now fault → end_of (next (each (suc n) g step s) now) ≡ Err fault
+end_fault g step n now s fault h = rw h.answer refl
+
 pub each_fault : {X S : Type 0} (g : S → Grammar X) (step : S → X → S) (count : ℕ) (start : Items) (first : S) (i : ℕ) (now : Items) (s : S) (fault : FormFault) → HasPassedEach g step count start first i now s → i < count → Fails (g s) now fault → Fails (each count g step first) start fault
 each_fault g step count start first i now s fault so_far lt h =
     let k : count - i ≡ suc (count - (i + 1)) = omega arith in
-    let e : end_of (next (each (suc (count - (i + 1))) g step s) now) ≡ Err fault = rw h.answer refl in
+    let e : end_of (next (each (suc (count - (i + 1))) g step s) now) ≡ Err fault = end_fault g step (count - (i + 1)) now s fault h in
     record { answer = err_of (next (each count g step first) start) fault (sym so_far.goes_on ∙ ap (λ n. end_of (next (each n g step s) now)) k ∙ e) }
 
 pub each_all : {X S : Type 0} (g : S → Grammar X) (step : S → X → S) (count : ℕ) (start : Items) (first : S) (i : ℕ) (now : Items) (s : S) → HasPassedEach g step count start first i now s → count ≤ i → (xs : List X) × Taken (each count g step first) start xs now
@@ -60,3 +65,18 @@ each-repeat g step h all (suc n) s from bytes at xs after e =
 
 pub each_taken : {X S : Type 0} (g : S → Grammar X) (step : S → X → S) (h : Grammar X) → ReadsAll g h → (n : ℕ) (s : S) (now : Items) (xs : List X) (after : Items) → Taken (each n g step s) now xs after → Taken (repeat n h) now xs after
 each_taken g step h all n s now xs after t = record { value = each-repeat g step h all n s (info_of now.part) now.info.bytes.now now.at xs after.at t.value; info = t.info; part = t.part }
+
+-- a number that passes a stricter test passes this one
+number_loose : (from : Origin) (wrong loose : ℕ → Option FormKind) (bytes : List ℕ) (at end : ℕ) (found : Option ℕ) (n after : ℕ) → ((m : ℕ) → wrong m ≡ None → loose m ≡ None) → number_read from wrong bytes at end found ≡ Ok (n, after) → number_read from loose bytes at end found ≡ Ok (n, after)
+number_loose from wrong loose bytes at end None n after all e = absurd cc
+number_loose from wrong loose bytes at end (Some m) n after all e = tested_loose (wrong m) refl e
+  where
+    tested_loose : (k : Option FormKind) → wrong m ≡ k → tested from at k m end ≡ Ok (n, after) → tested from at (loose m) m end ≡ Ok (n, after)
+    tested_loose None h d = rw (all m h) d
+    tested_loose (Some kind) h d = absurd cc
+
+-- items that differ in the test of their first number alone
+pub loose_first : {X S : Type 0} (w : ℕ) (wrong : S → ℕ → Option FormKind) (loose : ℕ → Option FormKind) (rest : ℕ → Grammar X) → ((s : S) (m : ℕ) → wrong s m ≡ None → loose m ≡ None) → ReadsAll (λ s. number w (wrong s) >>= rest) (number w loose >>= rest)
+loose_first w wrong loose rest all s from bytes at x after e =
+    let t = then_ok (read from (number w (wrong s)) bytes at) (λ n middle. read from (rest n) bytes middle) x after e in
+    rw (number_loose from (wrong s) loose bytes at (at + w) (number_at w at bytes) t.0 t.1 (all s) t.2) t.3

@@ -47,10 +47,13 @@ passed_more g count start i now x after so_far lt h =
       part = h.part ∙ so_far.part;
     }
 
+end_fault : {X : Type 0} (g : Grammar X) (n : ℕ) (now : Items) (fault : FormFault) → Fails g now fault → end_of (next (repeat (suc n) g) now) ≡ Err fault
+end_fault g n now fault h = rw h.answer refl
+
 pub passed_fault : {X : Type 0} (g : Grammar X) (count : ℕ) (start : Items) (i : ℕ) (now : Items) (fault : FormFault) → HasPassed g count start i now → i < count → Fails g now fault → Fails (repeat count g) start fault
 passed_fault g count start i now fault so_far lt h =
     let k : count - i ≡ suc (count - (i + 1)) = omega arith in
-    let e : end_of (next (repeat (suc (count - (i + 1))) g) now) ≡ Err fault = rw h.answer refl in
+    let e : end_of (next (repeat (suc (count - (i + 1))) g) now) ≡ Err fault = end_fault g (count - (i + 1)) now fault h in
     record { answer = err_of (next (repeat count g) start) fault (sym so_far.goes_on ∙ ap (λ n. end_of (next (repeat n g) now)) k ∙ e) }
 
 pub passed_all : {X : Type 0} (g : Grammar X) (count : ℕ) (start : Items) (i : ℕ) (now : Items) → HasPassed g count start i now → count ≤ i → (xs : List X) × Taken (repeat count g) start xs now

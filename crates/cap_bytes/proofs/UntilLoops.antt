@@ -84,11 +84,14 @@ until_more g step start first i now s x after so_far lt h moved =
       part = h.part ∙ so_far.part;
     }
 
+one_fault : {X S : Type 0} (g : S → Grammar X) (step : S → X → S) (i n : ℕ) (now : Items) (s : S) (fault : FormFault) → now.at < length now.info.bytes.now → Fails (g s) now fault → plus i (size_of (next (at_most (suc n) g step s) now)) ≡ Err fault
+one_fault g step i n now s fault lt h = rw (one_item g step n now s lt, h.answer) refl
+
 pub until_fault : {X S : Type 0} (g : S → Grammar X) (step : S → X → S) (start : Items) (first : S) (i : ℕ) (now : Items) (s : S) (fault : FormFault) → HasPassedUntil g step start first i now s → now.at < length now.info.bytes.now → Fails (g s) now fault → Fails (until_end g step first) start fault
 until_fault g step start first i now s fault so_far lt h =
     let enough = so_far.enough in
     let k : so_far.fuel ≡ suc (so_far.fuel - 1) = omega arith in
-    let e : plus i (size_of (next (at_most (suc (so_far.fuel - 1)) g step s) now)) ≡ Err fault = rw (one_item g step (so_far.fuel - 1) now s lt, h.answer) refl in
+    let e : plus i (size_of (next (at_most (suc (so_far.fuel - 1)) g step s) now)) ≡ Err fault = one_fault g step i (so_far.fuel - 1) now s fault lt h in
     record { answer = sized_err (next (until_end g step first) start) fault (sym so_far.goes_on ∙ ap (λ m. plus i (size_of (next (at_most m g step s) now))) k ∙ e) }
 
 no_item : {X S : Type 0} (g : S → Grammar X) (step : S → X → S) (n : ℕ) (now : Items) (s : S) → length now.info.bytes.now ≤ now.at → next (at_most n g step s) now ≡ Ok ([], now.at)

@@ -76,7 +76,7 @@ repeat zero g = give []
 repeat (suc n) g = g >>= λ x. repeat n g >>= λ xs. give (x ∷ xs)
 
 -- so many numbers of two bytes
-abbrev pub table : ℕ → Grammar (List ℕ)
+unfoldable pub table : ℕ → Grammar (List ℕ)
 table n = repeat n u2
 
 -- a byte that counts items of one kind, and the items

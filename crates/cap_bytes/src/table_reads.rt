@@ -10,7 +10,7 @@ use crate::table::Table;
 
 impl<'a> Items<'a> {
     /// A table of so many numbers of two bytes.
-    #[tactic(auto, using(crate::proofs::Loops::yielding))]
+    #[tactic(auto, using(crate::proofs::Loops::yielding), unfolding(crate::specs::Grammar::table))]
     pub fn table(&mut self, count: u16) -> Result<Table<'a>, FormFault>
         ensures { Takes numbers (table count) self.old result self.new }
     {

@@ -1,17 +1,7 @@
-use Rattle.std.specs.Prelude.{ℕ, List}
-use Rattle.cap_bytes.specs.Grammar.{Grammar, u1, aid, counted, finish, give, ◌>>=◌}
-
-pub record Package : Type 0 where
-  pub minor : ℕ
-  pub major : ℕ
-  pub aid : List ℕ
-
-abbrev pub package_info : Grammar Package
-package_info = do
-  minor ← u1
-  major ← u1
-  name ← aid
-  give (record { minor = minor; major = major; aid = name })
+-- The Import component (JCVM 2.2, section 6.6): the package token is the position.
+use Rattle.std.specs.Prelude.{List}
+use Rattle.cap_bytes.specs.Grammar.{Grammar, give, finish, counted, ◌>>=◌}
+use Rattle.cap_frame.specs.PackageFormat.{Package, package_info}
 
 abbrev pub imports_info : Grammar (List Package)
 imports_info = do

@@ -1,16 +1,8 @@
-use Rattle.std.specs.Prelude.{List, []}
-use Rattle.cap_frame.specs.declared.package_info.PackageInfo.{PackageInfo}
-use Rattle.cap_frame.specs.declared.imports.Imports.{Imports}
-use Rattle.cap_bytes.specs.Grammar.{repeat}
-use Rattle.cap_bytes.specs.Taking.{given}
-use Rattle.cap_frame.specs.declared.packages.Packages.{Packages}
-use Rattle.cap_frame.specs.ImportFormat.{Package, package_info}
-
-abbrev pub seen : PackageInfo → Package
-seen p = record { minor = p.minor; major = p.major; aid = p.aid.now }
-
-abbrev pub packages_left : Packages → List Package
-packages_left x = given [] (repeat x.left package_info) x.items
+-- The record of the Import component, as its items.
+use Rattle.std.specs.Prelude.{List}
+use Rattle.cap_frame.specs.declared.import_record.Imports.{Imports}
+use Rattle.cap_frame.specs.PackageFormat.{Package}
+use Rattle.cap_frame.specs.Packages.{packages_left}
 
 abbrev pub packages : Imports → List Package
 packages x = packages_left x.packages
