@@ -1,56 +1,67 @@
--- Records up to the end of the component: each takes a byte or more.
-use Rattle.std.proofs.Common.{◌≡◌, ℕ, ◌+◌, ◌≤◌, ◌<◌, Bool, true, false, List, [], ◌∷◌, length, Result, Ok, refl}
-use Rattle.std.specs.Prelude.{IsTrue}
-use Rattle.cap_bytes.specs.declared.fault.FormFault.{FormFault}
+-- Records up to the end of the component: each takes a byte or more, and is one that may stand anywhere.
+use Rattle.std.proofs.Common.{◌≡◌, ℕ, ◌+◌, ◌-◌, ◌≤◌, ◌<◌, Bool, true, false, List, [], ◌∷◌, length, Result, Ok, Err, Option, Some, None, refl, arith, subst, cond}
+use Rattle.std.specs.Prelude.{◌&&◌}
+use Rattle.cap_bytes.specs.declared.fault.FormKind.TheVariants.{BadValue, Remote}
 use Rattle.cap_bytes.specs.declared.items.Items.{Items}
-use Rattle.cap_bytes.specs.Grammar.{Grammar, repeat, table, until_end}
-use Rattle.cap_bytes.specs.Taking.{Taken, Fails, Gives, given, gives}
-use Rattle.cap_bytes.proofs.Until as until
-use Rattle.cap_bytes.proofs.Until.{Advances, number_advances, HasReached, IsLeft, IsAtEnd}
-use Rattle.cap_class.specs.ClassFormat.{Class, wrong_record, behind_first, is_interface, class_flags, record_info, is_behind}
+use Rattle.std.specs.Prelude.{IfOk}
+use Rattle.cap_bytes.specs.declared.fault.FormFault.{FormFault}
+use Rattle.cap_bytes.specs.declared.table.Table.{Table}
+use Rattle.cap_bytes.specs.Table.{numbers}
+use Rattle.cap_bytes.specs.Grammar.{Grammar, u2, repeat, table, until_end, number}
+use Rattle.cap_bytes.specs.Taking.{Taken, Takes, Gives, given, gives}
+use Rattle.cap_bytes.specs.Spelling.{Spells, info_of}
+use Rattle.cap_bytes.proofs.Laws.{read-spells, spelled-read}
+use Rattle.cap_bytes.proofs.Loops.{length-repeat}
+use Rattle.cap_bytes.proofs.EachLoops.{ReadsAll}
+use Rattle.cap_bytes.proofs.UntilLoops.{HasPassedUntil, moves, until_taken}
+use Rattle.cap_class.specs.ClassFormat.{Class, wrong_record, behind_first, is_interface, is_remote, class_flags, record_info, any_record, is_behind}
 
-advances : Advances record_info
-advances = record { by = λ from s bytes at x after h. number_advances from 0 (wrong_record s) (λ first. behind_first (is_interface (class_flags first)) at first) bytes at x after h }
+-- so many records from `start` on are passed up to `now`, and no more than the bytes before it
+pub record HavePassed (start : Items) (count : ℕ) (now : Items) (behind_class : Bool) : Type 0 where
+  pub passed : HasPassedUntil record_info is_behind start false count now behind_class
+  pub few : count ≤ now.at
 
--- the records from `start` on are passed up to `now`
-abbrev pub HasPassedRecords : Items → Bool → Items → Type 0
-HasPassedRecords start behind now = HasReached record_info is_behind false start behind now
+-- a record takes a byte or more
+pub advances : (behind_class : Bool) (now : Items) (x : Class) (after : Items) → Taken (record_info behind_class) now x after → now.at < after.at
+unfolding record_info
+advances behind_class now x after t =
+    let m = moves 1 (wrong_record behind_class) (λ first. behind_first (is_interface (class_flags first)) now.at first) now x after (record { value = t.value; info = t.info; part = t.part }) in
+    omega arith
 
-pub passed_none : (start : Items) → HasPassedRecords start false start
-passed_none start = until.reached_none record_info is_behind false start
+pub ruleset advancing = (advances)
 
-pub passed_more : (start : Items) (s : Bool) (now : Items) (x : Class) (after : Items) → HasPassedRecords start s now → IsLeft now → Taken (record_info s) now x after → HasPassedRecords start (is_behind s x) after
-passed_more start s now x after h lt t = until.reached_more record_info is_behind advances false start s now x after h lt t
+relaxed : (b c d : Bool) → cond (b && c) (Some BadValue) (cond d (Some Remote) None) ≡ None → cond (false && c) (Some BadValue) (cond d (Some Remote) None) ≡ None
+relaxed true true d h = absurd cc
+relaxed true false d h = h
+relaxed false c d h = h
 
-pub passed_fault : (start : Items) (s : Bool) (now : Items) (fault : FormFault) → HasPassedRecords start s now → IsLeft now → Fails (record_info s) now fault → Fails (until_end record_info is_behind false) start fault
-passed_fault start s now fault h lt f = until.reached_fault record_info is_behind false start s now fault h lt f
+-- a record that may stand where it stands may stand anywhere
+reads_all : ReadsAll record_info any_record
+unfolding record_info Spells
+reads_all s from bytes at x after h =
+    let r = read-spells from (record_info s) bytes at x after h in
+    let t = r.3 in
+    let first = relaxed s (is_interface (class_flags t.0)) (is_remote (class_flags t.0)) t.2.1 in
+    spelled-read from any_record bytes at x after (r.0, r.1, r.2, (t.0, t.1, (t.2.0, first, t.2.2), t.3))
 
-pub passed_all : (start : Items) (s : Bool) (now : Items) → HasPassedRecords start s now → IsAtEnd now → (xs : List Class) × Taken (until_end record_info is_behind false) start xs now
-passed_all start s now h le = until.reached_all record_info is_behind false start s now h le
+-- so many records up to the end are so many that may stand anywhere
+pub counted : (n : ℕ) (now : Items) (xs : List Class) (after : Items) → Taken (until_end record_info is_behind false) now xs after → length xs ≡ n → Taken (repeat n any_record) now xs after
+counted n now xs after t e = subst (λ (k : ℕ). Taken (repeat k any_record) now xs after) e (until_taken record_info is_behind any_record reads_all false now xs after t)
 
--- what the loop needs
-pub ruleset passing = (passed_none, passed_more, passed_fault, passed_all)
+-- a table has as many entries as its count says
+table_length : (n : ℕ) (now : Items) (xs : List ℕ) (after : Items) → Taken (repeat n u2) now xs after → length xs ≡ n
+table_length n now xs after t = length-repeat (info_of now.part) u2 n now.info.bytes.now now.at xs after.at t.value
 
-pub leaves_rest : (s : Bool) (now : Items) (x : Class) (after : Items) → Gives (until_end record_info is_behind s) now → IsLeft now → Taken (record_info s) now x after → Gives (until_end record_info is_behind (is_behind s x)) after
-leaves_rest s now x after h lt t = until.leaves_rest record_info is_behind advances s now x after h lt t
+pub few_entries : (n : ℕ) (now : Items) (r : Result Table FormFault) (after : Items) → n < 256 → Takes numbers (table n) now r after → IfOk r (λ t. length (numbers t) ≤ 255)
+unfolding table
+few_entries n now (Ok t) after lt h = let e = table_length n now (numbers t) after h in omega arith
+few_entries n now (Err fault) after lt h = tt
 
-pub leaves_first : (s : Bool) (now : Items) (x : Class) (after : Items) → Gives (until_end record_info is_behind s) now → IsLeft now → Taken (record_info s) now x after → given [] (until_end record_info is_behind s) now ≡ x ∷ given [] (until_end record_info is_behind (is_behind s x)) after
-leaves_first s now x after h lt t = until.leaves_first record_info is_behind advances s now x after h lt t
-
-pub leaves_none : (s : Bool) (now : Items) → IsAtEnd now → given [] (until_end record_info is_behind s) now ≡ []
-leaves_none s now le = until.leaves_none record_info is_behind s now le
-
-pub leaves_not : (s : Bool) (now : Items) (fault : FormFault) → Gives (until_end record_info is_behind s) now → IsLeft now → Fails (record_info s) now fault → ⊥
-leaves_not s now fault h lt f = until.leaves_not record_info is_behind s now fault h lt f
-
--- what the iterator needs
-pub ruleset yielding = (leaves_rest, leaves_first, leaves_none, leaves_not)
-
-pub gives_empty : (now : Items) → Gives (table 0) now
+pub gives_empty : (now : Items) → Gives (repeat 0 u2) now
 unfolding gives
 gives_empty now = refl
 
-pub given_empty : (now : Items) → given [] (table 0) now ≡ []
+pub given_empty : (now : Items) → given [] (repeat 0 u2) now ≡ []
 unfolding given
 given_empty now = refl
 

@@ -90,14 +90,31 @@ tables_info = do
 
 abbrev pub of_interface : ℕ → ℕ → List Interface → Class
 of_interface offset first interfaces = record {
-  offset = offset; flags = class_flags first; super_ref = 0xFFFF; instance_size = 0; first_reference = 0; reference_count = 0;
-  public_base = 0; public = []; package_base = 0; visible = []; interfaces = interfaces;
+  offset = offset;
+  flags = class_flags first;
+  super_ref = 0xFFFF;
+  instance_size = 0;
+  first_reference = 0;
+  reference_count = 0;
+  public_base = 0;
+  public = [];
+  package_base = 0;
+  visible = [];
+  interfaces = interfaces;
 }
 
 abbrev pub of_class : ℕ → ℕ → Instance → Tables → List Interface → Class
 of_class offset first i t interfaces = record {
-  offset = offset; flags = class_flags first; super_ref = i.super_ref; instance_size = i.instance_size; first_reference = i.first_reference;
-  reference_count = i.reference_count; public_base = t.public_base; public = t.public; package_base = t.package_base; visible = t.visible;
+  offset = offset;
+  flags = class_flags first;
+  super_ref = i.super_ref;
+  instance_size = i.instance_size;
+  first_reference = i.first_reference;
+  reference_count = i.reference_count;
+  public_base = t.public_base;
+  public = t.public;
+  package_base = t.package_base;
+  visible = t.visible;
   interfaces = interfaces;
 }
 
@@ -113,11 +130,15 @@ behind_first false offset first = do
   give (of_class offset first i t interfaces)
 
 -- a record, behind a class or not
-abbrev pub record_info : Bool → Grammar Class
+unfoldable pub record_info : Bool → Grammar Class
 record_info behind_class = do
   offset ← place
   first ← number 1 (wrong_record behind_class)
   behind_first (is_interface (class_flags first)) offset first
+
+-- a record that may stand anywhere
+abbrev pub any_record : Grammar Class
+any_record = record_info false
 
 -- whether a class stands before what comes next
 abbrev pub is_behind : Bool → Class → Bool

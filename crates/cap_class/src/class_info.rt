@@ -1,6 +1,9 @@
+ghost use Rattle.std.specs.Prelude.{◌≤◌, length};
+ghost use Rattle.cap_bytes.specs.Table.{numbers};
+
 use crate::class_flags::ClassFlags;
 use crate::interfaces::Interfaces;
-use crate::numbers::Numbers;
+use cap_bytes::Table;
 
 /// The superclass of a class, and what an instance of it has of its own.
 #[derive(Clone, Copy)]
@@ -16,8 +19,10 @@ pub(crate) struct Instance {
 pub(crate) struct Tables<'a> {
     pub(crate) public_base: u8,
     pub(crate) package_base: u8,
-    pub(crate) public: Numbers<'a>,
-    pub(crate) visible: Numbers<'a>,
+    pub(crate) public: Table<'a>,
+    pub(crate) visible: Table<'a>,
+    ghost few_public: { length (numbers public) ≤ 255 },
+    ghost few_visible: { length (numbers visible) ≤ 255 },
 }
 
 /// The record of a class or an interface.

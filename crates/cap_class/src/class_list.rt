@@ -1,6 +1,6 @@
-ghost use Rattle.cap_bytes.specs.Grammar.{until_end};
+ghost use Rattle.cap_bytes.specs.Grammar.{repeat};
 ghost use Rattle.cap_bytes.specs.Taking.{Gives};
-ghost use Rattle.cap_class.specs.ClassFormat.{record_info, is_behind};
+ghost use Rattle.cap_class.specs.ClassFormat.{any_record};
 
 use cap_bytes::Items;
 
@@ -8,7 +8,6 @@ use cap_bytes::Items;
 #[derive(Clone, Copy, Drop)]
 pub struct Classes<'a> {
     pub(crate) items: Items<'a>,
-    /// Whether they stand behind a class.
-    pub(crate) behind_class: bool,
-    ghost known: { Gives (until_end record_info is_behind behind_class) items },
+    pub(crate) left: u16,
+    ghost known: { Gives (repeat left any_record) items },
 }

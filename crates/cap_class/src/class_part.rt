@@ -5,6 +5,5 @@ use cap_bytes::View;
 #[derive(Clone, Copy)]
 pub struct ClassPart<'a> {
     pub(crate) info: View<'a>,
-    pub(crate) count: u16,
     pub(crate) classes: Classes<'a>,
 }

@@ -5,19 +5,17 @@
 
 mod class_flags;
 mod class_info;
-mod class_part;
 mod class_list;
+mod class_part;
 mod implemented;
 mod interfaces;
-mod numbers;
 mod read_classes;
 mod read_record;
 
 pub use class_flags::ClassFlags;
 pub use class_info::ClassInfo;
-pub use class_part::ClassPart;
 pub use class_list::Classes;
+pub use class_part::ClassPart;
 pub use implemented::Implemented;
 pub use interfaces::Interfaces;
-pub use numbers::Numbers;
 pub use read_classes::classes;

@@ -1,37 +1,17 @@
-ghost use Rattle.std.specs.Prelude.{◌≡◌, []};
-ghost use Rattle.std.specs.Iterator.{YieldsFirst, YieldsFirstBy, item_count};
-ghost use Rattle.cap_bytes.specs.Grammar.{repeat, table, u2};
-ghost use Rattle.cap_bytes.specs.Taking.{Takes, Passes, same};
+ghost use Rattle.std.specs.Prelude.{◌≡◌, ◌≤◌, [], length, IfOk};
+ghost use Rattle.std.specs.Iterator.{YieldsFirstBy, item_count};
+ghost use Rattle.cap_bytes.specs.Grammar.{repeat, table};
+ghost use Rattle.cap_bytes.specs.Table.{numbers};
+ghost use Rattle.cap_bytes.specs.Taking.{Takes, Passes};
 ghost use Rattle.cap_class.specs.ClassFormat.{interface_info, instance_info, tables_info, record_info, behind_first, is_interface, class_flags};
-ghost use Rattle.cap_class.specs.Lists.{interface_seen, numbers_left, interfaces_left};
+ghost use Rattle.cap_class.specs.Lists.{interface_seen, interfaces_left};
 ghost use Rattle.cap_class.specs.ClassPart.{instance_seen, tables_seen, class_seen};
-
-use cap_bytes::{FormFault, FormKind, Items};
 
 use crate::class_flags::ClassFlags;
 use crate::class_info::{ClassInfo, Instance, Tables};
 use crate::implemented::Implemented;
 use crate::interfaces::Interfaces;
-use crate::numbers::Numbers;
-
-#[tactic(auto, using(cap_bytes::proofs::Loops::passing))]
-fn pass_numbers(items: &mut Items<'_>, count: u8) -> Result<(), FormFault>
-    ensures { Passes (table count) items.old result items.new }
-{
-    'numbers: for _ in 0..count {
-        items.u2()?;
-    }
-    Ok(())
-}
-
-#[tactic(auto, using(cap_bytes::proofs::Loops::yielding))]
-fn numbers<'a>(items: &mut Items<'a>, left: u8) -> Result<Numbers<'a>, FormFault>
-    ensures { Takes numbers_left (table left) items.old result items.new }
-{
-    let first = *items;
-    pass_numbers(items, left)?;
-    Ok(Numbers { items: first, left })
-}
+use cap_bytes::{FormFault, FormKind, Items, Table};
 
 fn interface<'a>(items: &mut Items<'a>, extended: bool) -> Result<Implemented<'a>, FormFault>
     ensures { Takes interface_seen (interface_info extended) items.old result items.new }
@@ -90,6 +70,14 @@ fn instance(items: &mut Items<'_>) -> Result<Instance, FormFault>
     })
 }
 
+/// A dispatch table of at most 255 entries.
+fn dispatch<'a>(items: &mut Items<'a>, count: u8) -> Result<Table<'a>, FormFault>
+    ensures taken { Takes numbers (table count) items.old result items.new }
+    ensures few { IfOk result (λ t. length (numbers t) ≤ 255) }
+{
+    items.table(u16::from(count))
+}
+
 fn tables<'a>(items: &mut Items<'a>) -> Result<Tables<'a>, FormFault>
     ensures { Takes tables_seen tables_info items.old result items.new }
 {
@@ -97,8 +85,8 @@ fn tables<'a>(items: &mut Items<'a>) -> Result<Tables<'a>, FormFault>
     let public_count = items.u1()?;
     let package_base = items.u1()?;
     let package_count = items.u1()?;
-    let public = numbers(items, public_count)?;
-    let visible = numbers(items, package_count)?;
+    let public = dispatch(items, public_count)?;
+    let visible = dispatch(items, package_count)?;
     Ok(Tables {
         public_base,
         package_base,
@@ -112,7 +100,7 @@ fn tables<'a>(items: &mut Items<'a>) -> Result<Tables<'a>, FormFault>
 fn no_tables<'a>(items: &Items<'a>) -> Tables<'a>
     ensures { tables_seen result ≡ record { public_base = 0; package_base = 0; public = []; visible = [] } }
 {
-    let none = Numbers {
+    let none = Table {
         items: *items,
         left: 0,
     };
@@ -163,6 +151,7 @@ fn behind_first<'a>(
 }
 
 /// The next record, which stands behind a class or not.
+#[tactic(auto, unfolding(crate::specs::ClassFormat::record_info))]
 pub(crate) fn record<'a>(
     items: &mut Items<'a>,
     behind_class: bool,
@@ -179,32 +168,6 @@ pub(crate) fn record<'a>(
         return Err(place.fault(FormKind::Remote));
     }
     behind_first(items, place.at as u16, first)
-}
-
-impl<'a> Iterator for Numbers<'a> {
-    type Item = u16;
-
-    ghost next_gives = { YieldsFirst numbers_left };
-
-    ghost remaining = { item_count numbers_left };
-
-    #[tactic(auto, using(cap_bytes::proofs::Loops::yielding))]
-    fn next(&mut self) -> Option<u16> {
-        if self.left == 0 {
-            return None;
-        }
-        let mut items = self.items;
-        match items.u2() {
-            Ok(number) => {
-                *self = Numbers {
-                    items,
-                    left: self.left - 1,
-                };
-                Some(number)
-            }
-            Err(_) => None,
-        }
-    }
 }
 
 impl<'a> Iterator for Interfaces<'a> {
