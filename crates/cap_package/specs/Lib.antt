@@ -5,3 +5,4 @@ pub mod Pairs
 pub mod MethodChecks
 pub mod Descriptions
 pub mod HeaderChecks
+pub mod HandlerChecks

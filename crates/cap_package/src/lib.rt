@@ -4,6 +4,7 @@
 
 mod description;
 mod fault;
+mod handler_checks;
 mod header_checks;
 mod lesser;
 mod method_checks;

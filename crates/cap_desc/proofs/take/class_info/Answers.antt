@@ -1,7 +1,6 @@
 -- The interfaces are as many as the record says.
-use Rattle.cap_bytes.specs.Grammar.{u2}
-use Rattle.cap_desc.proofs.TakenLength.{taken_length}
+use Rattle.cap_desc.proofs.TakenLength.{taken_table}
 use Rattle.cap_desc.proofs.take.class_info.Goals as goal
 
 pub invariant_of-result : goal.invariant_of-result
-invariant_of-result c = record { counted = taken_length u2 _ _ _ _ c.in_ok-interfaces.ensures }
+invariant_of-result c = record { counted = taken_table _ _ _ _ c.in_ok-interfaces.ensures }
