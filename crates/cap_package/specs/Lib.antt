@@ -6,3 +6,5 @@ pub mod MethodChecks
 pub mod Descriptions
 pub mod HeaderChecks
 pub mod HandlerChecks
+pub mod StaticChecks
+pub mod Places

@@ -9,6 +9,8 @@ mod header_checks;
 mod lesser;
 mod method_checks;
 mod parts;
+mod static_checks;
+mod static_place;
 
 pub use fault::PackFault;
 pub use parts::{OwnedParts, Parts};
