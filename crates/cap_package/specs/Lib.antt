@@ -8,3 +8,6 @@ pub mod HeaderChecks
 pub mod HandlerChecks
 pub mod StaticChecks
 pub mod Places
+pub mod Components
+pub mod MethodsSeen
+pub mod IfThere

@@ -9,6 +9,7 @@ mod header_checks;
 mod lesser;
 mod method_checks;
 mod parts;
+mod read;
 mod static_checks;
 mod static_place;
 
