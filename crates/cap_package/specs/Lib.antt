@@ -11,3 +11,6 @@ pub mod Places
 pub mod Components
 pub mod MethodsSeen
 pub mod IfThere
+pub mod PackageRecord
+pub mod ComponentsSeen
+pub mod ReadPackage

@@ -2,6 +2,7 @@
 //! of parts is no package.
 #![tactic(auto)]
 
+mod components;
 mod description;
 mod fault;
 mod handler_checks;
@@ -10,6 +11,7 @@ mod lesser;
 mod method_checks;
 mod parts;
 mod read;
+mod read_package;
 mod static_checks;
 mod static_place;
 
