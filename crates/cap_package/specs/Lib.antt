@@ -14,3 +14,5 @@ pub mod IfThere
 pub mod PackageRecord
 pub mod ComponentsSeen
 pub mod ReadPackage
+pub mod PartChecks
+pub mod NameChecks

@@ -9,6 +9,8 @@ mod handler_checks;
 mod header_checks;
 mod lesser;
 mod method_checks;
+mod name_checks;
+mod part_checks;
 mod parts;
 mod read;
 mod read_package;
