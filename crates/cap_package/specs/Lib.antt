@@ -16,3 +16,4 @@ pub mod ComponentsSeen
 pub mod ReadPackage
 pub mod PartChecks
 pub mod NameChecks
+pub mod TypeChecks

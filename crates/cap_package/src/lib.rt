@@ -2,6 +2,7 @@
 //! of parts is no package.
 #![tactic(auto)]
 
+mod class_checks;
 mod components;
 mod description;
 mod fault;
@@ -16,6 +17,7 @@ mod read;
 mod read_package;
 mod static_checks;
 mod static_place;
+mod type_checks;
 
 pub use fault::PackFault;
 pub use parts::{OwnedParts, Parts};
