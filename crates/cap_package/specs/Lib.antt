@@ -17,3 +17,5 @@ pub mod ReadPackage
 pub mod PartChecks
 pub mod NameChecks
 pub mod TypeChecks
+pub mod CountChecks
+pub mod Agreement

@@ -2,8 +2,10 @@
 //! of parts is no package.
 #![tactic(auto)]
 
+mod agreement;
 mod class_checks;
 mod components;
+mod count_checks;
 mod description;
 mod fault;
 mod handler_checks;
@@ -11,6 +13,7 @@ mod header_checks;
 mod lesser;
 mod method_checks;
 mod name_checks;
+mod package;
 mod part_checks;
 mod parts;
 mod read;
