@@ -1,6 +1,6 @@
 -- The conditions under which the components of a package agree, in the order in which they are asked. Each is the least
 -- fault of the things that it speaks of.
-use Rattle.std.specs.Prelude.{ℕ, ◌+◌, ◌*◌, List, [], length, Option, Some, None, Result, Ok, Err, map}
+use Rattle.std.specs.Prelude.{◌≡◌, ℕ, ◌+◌, ◌*◌, List, [], length, Option, Some, None, Result, Ok, Err, map}
 use Rattle.cap_frame.specs.AppletFormat.{Applet}
 use Rattle.cap_frame.specs.DirectoryFormat.{directory_info}
 use Rattle.cap_pool.specs.ExportFormat.{Exported}
@@ -130,3 +130,7 @@ package_of parts = do
   counts ← counts_agree p
   members ← members_agree p
   Ok p
+
+-- a package is what its parts stand for
+abbrev pub IsPackage : PackageRecord → Type 0
+IsPackage p = package_of p.parts ≡ Ok p

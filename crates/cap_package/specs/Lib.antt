@@ -19,3 +19,5 @@ pub mod NameChecks
 pub mod TypeChecks
 pub mod CountChecks
 pub mod Agreement
+pub mod Customs
+pub mod CustomSeen

@@ -1,7 +1,11 @@
 ghost use Rattle.std.specs.Prelude.{◌≡◌};
-ghost use Rattle.cap_package.specs.Agreement.{places_agree, counts_agree, members_agree, named_condition, class_condition, export_condition};
+ghost use Rattle.cap_desc.specs.MembersLeft.{methods_from_left};
+ghost use Rattle.cap_package.specs.NameChecks.{no_method_fault, exported_methods};
+ghost use Rattle.cap_package.specs.Agreement.{or_none, places_agree, counts_agree, members_agree, named_condition, class_condition, export_condition};
 ghost use Rattle.cap_package.specs.ComponentsSeen.{components_seen};
-ghost use Rattle.cap_package.specs.Order.{refused};
+ghost use Rattle.cap_package.specs.Order.{least_from, refused};
+
+use cap_desc::MethodsFrom;
 
 use crate::class_checks::{classes_described, descriptors_named, exports_are_classes};
 use crate::components::Components;
@@ -55,16 +59,25 @@ pub(crate) fn counts_agree(all: &Components<'_>) -> Result<(), PackFault>
     abstract_without_code(&all.methods, described)
 }
 
+/// The least fault so far, when the methods that the package exports were looked up, if it does.
+fn export_names(all: &Components<'_>, described: MethodsFrom<'_>, least: Option<PackFault>) -> Option<PackFault>
+    ensures {
+        result ≡ least_from least (no_method_fault (methods_from_left described.entry)) (exported_methods (or_none (components_seen all.now).export))
+    }
+{
+    match &all.export {
+        Some(export) => exports_named(described, export, least),
+        None => least,
+    }
+}
+
 /// Dispatch tables, exports and applets name described methods.
 fn names_agree(all: &Components<'_>) -> Result<(), PackFault>
     ensures { result ≡ refused (named_condition (components_seen all.now)) }
 {
     let described = all.descriptor.methods_from(classes_from(&all.classes));
     let entries = entries_named(described, &all.classes);
-    let exports = match &all.export {
-        Some(export) => exports_named(described, export, entries),
-        None => entries,
-    };
+    let exports = export_names(all, described, entries);
     match &all.applets {
         Some(applets) => refuse(installs_named(described, applets, exports)),
         None => refuse(exports),

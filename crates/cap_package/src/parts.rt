@@ -1,4 +1,4 @@
-ghost use Rattle.std.specs.Prelude.{◌≡◌, [], ◌∷◌, ◌++◌, IsNone, IfOk, OnOk, OnErr, length};
+ghost use Rattle.std.specs.Prelude.{◌≡◌, ◌<◌, [], ◌∷◌, ◌++◌, IsNone, IfOk, OnOk, OnErr, Some, length, slice_get};
 ghost use Rattle.std.specs.Option.{option_copied};
 ghost use Rattle.cap_package.specs.Parts.{held};
 
@@ -49,6 +49,15 @@ impl<'a> Parts<'a> {
         ensures { result ≡ length self.now }
     {
         self.items.len()
+    }
+
+    /// The n-th part and its bytes.
+    pub fn at(&self, n: usize) -> (Part, &'a [u8])
+        requires { n < length self.now }
+        ensures { slice_get self.now n ≡ Some (record { part = result.0.0; bytes = result.1.now }) }
+    {
+        let lent = self.items[n];
+        (lent.part, lent.bytes)
     }
 
     /// The bytes of a part, where it is there.
@@ -117,6 +126,18 @@ impl OwnedParts {
         ensures { result ≡ length self.now }
     {
         self.items.len()
+    }
+
+    /// The bytes of a part, where it is there.
+    pub fn get(&self, part: Part) -> Option<&[u8]>
+        ensures { option_copied result ≡ held self.now part.0 }
+    {
+        for owned in &self.items {
+            if owned.part.0 == part.0 {
+                return Some(&owned.bytes);
+            }
+        }
+        None
     }
 
     /// Appends a part that is not there. After an error the list is as before, and the bytes are

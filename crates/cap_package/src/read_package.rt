@@ -1,4 +1,4 @@
-ghost use Rattle.std.specs.Prelude.{◌≡◌};
+ghost use Rattle.std.specs.Prelude.{◌≡◌, IfOk};
 ghost use Rattle.cap_class.specs.ClassPart.{records};
 ghost use Rattle.cap_package.specs.Components.{Answers};
 ghost use Rattle.cap_package.specs.ComponentsSeen.{components_seen};
@@ -15,7 +15,8 @@ use crate::read::{applets_in, classes_in, descriptor_in, directory_in, export_in
 /// The components of a package, in the order of their tags.
 #[tactic(auto, unfolding(crate::specs::ReadPackage::read_package))]
 pub(crate) fn read_package<'a>(parts: &'a Parts<'a>) -> Result<Components<'a>, PackFault>
-    ensures { Answers components_seen result (read_package parts.now) }
+    ensures value { Answers components_seen result (read_package parts.now) }
+    ensures parts { IfOk result (λ all. all.parts.now ≡ parts.now) }
 {
     let header = header_in(parts)?;
     let directory = directory_in(parts)?;
