@@ -9,3 +9,5 @@ pub mod Walks
 pub mod Running
 pub mod Verdict
 pub mod Stepping
+pub mod Near
+pub mod Seeking

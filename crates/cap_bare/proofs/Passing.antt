@@ -38,9 +38,9 @@ not-target : (depth : ℕ) (t : Bool) → (t ≡ true → depth ≡ 0) → (nat_
 not-target depth true h = let z = h refl in rw z refl
 not-target depth false h = by_test (nat_lt 0 depth)
   where
-  by_test : (b : Bool) → (b && false) ≡ false
-  by_test true = refl
-  by_test false = refl
+    by_test : (b : Bool) → (b && false) ≡ false
+    by_test true = refl
+    by_test false = refl
 
 both-true : (a b : Bool) → (a && b) ≡ true → (a ≡ true) × (b ≡ true)
 both-true true b e = (refl, e)
@@ -80,19 +80,19 @@ module _ (code : List ℕ) (bare : Bare) (i : Placed) where
   passed-ok depth next h =
       by_test (nat_lt 0 depth && is_target code i.place) refl (applied bare i.instruction depth) refl h
     where
-    by_test : (b : Bool) → (nat_lt 0 depth && is_target code i.place) ≡ b → (r : Result ℕ BareKind) → applied bare i.instruction depth ≡ r
-        → passing b r ≡ Ok next → Passing code bare i depth next
-    by_test true e r a h = absurd (cc)
-    by_test false e (Err kind) a h = absurd (cc)
-    by_test false e (Ok after) a h =
-        let k = leaves-ok (is_branch i.instruction && nat_lt 0 after) (falls_through i.instruction) (i.next == length code) after next h refl in
-        record {
-          target = at-target depth (is_target code i.place) e;
-          after = after;
-          rule = applied-ok bare i.instruction depth after a;
-          branch = at-branch after (is_branch i.instruction) k.0;
-          leaves = k.1;
-        }
+      by_test : (b : Bool) → (nat_lt 0 depth && is_target code i.place) ≡ b → (r : Result ℕ BareKind) → applied bare i.instruction depth ≡ r
+          → passing b r ≡ Ok next → Passing code bare i depth next
+      by_test true e r a h = absurd (cc)
+      by_test false e (Err kind) a h = absurd (cc)
+      by_test false e (Ok after) a h =
+          let k = leaves-ok (is_branch i.instruction && nat_lt 0 after) (falls_through i.instruction) (i.next == length code) after next h refl in
+          record {
+            target = at-target depth (is_target code i.place) e;
+            after = after;
+            rule = applied-ok bare i.instruction depth after a;
+            branch = at-branch after (is_branch i.instruction) k.0;
+            leaves = k.1;
+          }
 
   pub passed-is : (depth next : ℕ) → Passing code bare i depth next → passed code bare i depth ≡ Ok next
   passed-is depth next p =
@@ -107,30 +107,32 @@ module _ (code : List ℕ) (bare : Bare) (i : Placed) where
   passed-err depth kind registers e h =
       by_test (nat_lt 0 depth && is_target code i.place) refl (applied bare i.instruction depth) refl h
     where
-    stack-left : (n : ℕ) → nat_lt 0 n ≡ true → shorts n ≢ []
-    stack-left n t none = let z = shorts-none n none in let lt = ltb-true 0 n t in absurd (omega arith)
-    leaving-err : (after : ℕ) → Applied bare i.instruction depth after → (b : Bool) → (is_branch i.instruction && nat_lt 0 after) ≡ b
-        → (f : Bool) → falls_through i.instruction ≡ f → (l : Bool) → (i.next == length code) ≡ l → leaving b f l after ≡ Err kind
-        → IsWrong code bare i registers (shorts depth) kind
-    leaving-err after a true b f fe l le h =
-        let same : StackAtBranch ≡ kind = cc in
-        let two = both-true (is_branch i.instruction) (nat_lt 0 after) b in
-        subst (IsWrong code bare i registers (shorts depth)) same
-        (wrong_branch (shorts after) (applies bare i.instruction registers depth after e a) two.0 (stack-left after two.1))
-    leaving-err after a false b true fe true le h =
-        let same : FallsOff ≡ kind = cc in
-        subst (IsWrong code bare i registers (shorts depth)) same (wrong_end fe (eqb-true i.next (length code) le))
-    leaving-err after a false b true fe false le h = absurd (cc)
-    leaving-err after a false b false fe l le h = absurd (cc)
-    by_test : (b : Bool) → (nat_lt 0 depth && is_target code i.place) ≡ b → (r : Result ℕ BareKind) → applied bare i.instruction depth ≡ r
-        → passing b r ≡ Err kind → IsWrong code bare i registers (shorts depth) kind
-    by_test true t r a h =
-        let same : StackAtTarget ≡ kind = cc in
-        let two = both-true (nat_lt 0 depth) (is_target code i.place) t in
-        subst (IsWrong code bare i registers (shorts depth)) same (wrong_target (target-from code i.place two.1) (stack-left depth two.0))
-    by_test false t (Err k) a h =
-        let same : k ≡ kind = cc in
-        wrong_rule kind (applied-err bare i.instruction depth kind (a ∙ ap Err same))
-    by_test false t (Ok after) a h =
-        leaving-err after (applied-ok bare i.instruction depth after a) (is_branch i.instruction && nat_lt 0 after) refl
-        (falls_through i.instruction) refl (i.next == length code) refl h
+      stack-left : (n : ℕ) → nat_lt 0 n ≡ true → shorts n ≢ []
+      stack-left n t none = let z = shorts-none n none in let lt = ltb-true 0 n t in absurd (omega arith)
+
+      leaving-err : (after : ℕ) → Applied bare i.instruction depth after → (b : Bool) → (is_branch i.instruction && nat_lt 0 after) ≡ b
+          → (f : Bool) → falls_through i.instruction ≡ f → (l : Bool) → (i.next == length code) ≡ l → leaving b f l after ≡ Err kind
+          → IsWrong code bare i registers (shorts depth) kind
+      leaving-err after a true b f fe l le h =
+          let same : StackAtBranch ≡ kind = cc in
+          let two = both-true (is_branch i.instruction) (nat_lt 0 after) b in
+          subst (IsWrong code bare i registers (shorts depth)) same
+          (wrong_branch (shorts after) (applies bare i.instruction registers depth after e a) two.0 (stack-left after two.1))
+      leaving-err after a false b true fe true le h =
+          let same : FallsOff ≡ kind = cc in
+          subst (IsWrong code bare i registers (shorts depth)) same (wrong_end fe (eqb-true i.next (length code) le))
+      leaving-err after a false b true fe false le h = absurd (cc)
+      leaving-err after a false b false fe l le h = absurd (cc)
+
+      by_test : (b : Bool) → (nat_lt 0 depth && is_target code i.place) ≡ b → (r : Result ℕ BareKind) → applied bare i.instruction depth ≡ r
+          → passing b r ≡ Err kind → IsWrong code bare i registers (shorts depth) kind
+      by_test true t r a h =
+          let same : StackAtTarget ≡ kind = cc in
+          let two = both-true (nat_lt 0 depth) (is_target code i.place) t in
+          subst (IsWrong code bare i registers (shorts depth)) same (wrong_target (target-from code i.place two.1) (stack-left depth two.0))
+      by_test false t (Err k) a h =
+          let same : k ≡ kind = cc in
+          wrong_rule kind (applied-err bare i.instruction depth kind (a ∙ ap Err same))
+      by_test false t (Ok after) a h =
+          leaving-err after (applied-ok bare i.instruction depth after a) (is_branch i.instruction && nat_lt 0 after) refl
+          (falls_through i.instruction) refl (i.next == length code) refl h

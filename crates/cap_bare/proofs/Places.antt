@@ -55,23 +55,23 @@ module _ (code : List ℕ) where
   all-of P i s h =
       let split = split-at i.place s.reached in
       let e : instructions code ≡ split.before ++ i ∷ instructions_from code i.next =
-        split.whole ∙ ap (λ xs. split.before ++ xs) (instructions-found code i.place i s.found) in
+      split.whole ∙ ap (λ xs. split.before ++ xs) (instructions-found code i.place i s.found) in
       all-middle P split.before i (instructions_from code i.next) (subst (AllByRecursion P) e h)
 
   any-middle : (test : Placed → Bool) (xs : List Placed) (i : Placed) (ys : List Placed) → test i ≡ true → list_any test (xs ++ i ∷ ys) ≡ true
   any-middle test [] i ys h = rw h refl
   any-middle test (x ∷ xs) i ys h = or-true (test x) (any-middle test xs i ys h)
     where
-    or-true : (b : Bool) {c : Bool} → c ≡ true → (b || c) ≡ true
-    or-true true h = refl
-    or-true false h = h
+      or-true : (b : Bool) {c : Bool} → c ≡ true → (b || c) ≡ true
+      or-true true h = refl
+      or-true false h = h
 
   -- a test finds an instruction exactly where one that passes it stands in the code
   pub any-of : (test : Placed → Bool) (i : Placed) → Stands code i → test i ≡ true → list_any test (instructions code) ≡ true
   any-of test i s h =
       let split = split-at i.place s.reached in
       let e : instructions code ≡ split.before ++ i ∷ instructions_from code i.next =
-        split.whole ∙ ap (λ xs. split.before ++ xs) (instructions-found code i.place i s.found) in
+      split.whole ∙ ap (λ xs. split.before ++ xs) (instructions-found code i.place i s.found) in
       subst (λ xs. list_any test xs ≡ true) (sym e) (any-middle test split.before i (instructions_from code i.next) h)
 
   any-in : (test : Placed → Bool) (is : List Placed) → AllByRecursion (Stands code) is → list_any test is ≡ true
@@ -79,10 +79,10 @@ module _ (code : List ℕ) where
   any-in test [] s h = absurd (cc)
   any-in test (i ∷ is) s h = by_test (test i) refl (any-in test is s.1) h
     where
-    by_test : (b : Bool) → test i ≡ b → (list_any test is ≡ true → (j : Placed) × Stands code j × (test j ≡ true))
-        → (b || list_any test is) ≡ true → (j : Placed) × Stands code j × (test j ≡ true)
-    by_test true e more h = (i, s.0, e)
-    by_test false e more h = more h
+      by_test : (b : Bool) → test i ≡ b → (list_any test is ≡ true → (j : Placed) × Stands code j × (test j ≡ true))
+          → (b || list_any test is) ≡ true → (j : Placed) × Stands code j × (test j ≡ true)
+      by_test true e more h = (i, s.0, e)
+      by_test false e more h = more h
 
   pub any-from : (test : Placed → Bool) → list_any test (instructions code) ≡ true → (i : Placed) × Stands code i × (test i ≡ true)
   any-from test h = any-in test (instructions code) instructions-stand h
@@ -96,10 +96,10 @@ module _ (code : List ℕ) where
   place-from (pos p) h = let found = any-from (λ i. i.place == p) h in (found.0, eqb-true _ _ found.2, found.1)
   place-from (negsuc n) h = absurd (cc)
 
-  at-true : (o : Option ℤ) (p : ℕ) → o ≡ Some (pos p) → is_at o p ≡ true
+  pub at-true : (o : Option ℤ) (p : ℕ) → o ≡ Some (pos p) → is_at o p ≡ true
   at-true o p e = rw e (eq-eqb p p refl)
 
-  at-from : (o : Option ℤ) (p : ℕ) → is_at o p ≡ true → o ≡ Some (pos p)
+  pub at-from : (o : Option ℤ) (p : ℕ) → is_at o p ≡ true → o ≡ Some (pos p)
   at-from None p h = absurd (cc)
   at-from (Some (pos t)) p h = ap (λ (n : ℕ). Some (pos n)) (eqb-true t p h)
   at-from (Some (negsuc t)) p h = absurd (cc)
@@ -131,33 +131,35 @@ module _ (code : List ℕ) where
   from-step p _ j from_here f = inl refl
   from-step p _ j (from_next i k g) f = by_case (from-step p i.place j k f)
     where
-    by_case : (p ≡ i.place) ⊎ IsFrom j.next i.place → (p ≡ i.next) ⊎ IsFrom j.next i.next
-    by_case (inl e) =
-        let same : j ≡ i = cc in inr (subst (λ (n : Placed). IsFrom n.next i.next) (sym same) from_here)
-    by_case (inr m) = inr (from_next i m g)
+      by_case : (p ≡ i.place) ⊎ IsFrom j.next i.place → (p ≡ i.next) ⊎ IsFrom j.next i.next
+      by_case (inl e) =
+          let same : j ≡ i = cc in inr (subst (λ (n : Placed). IsFrom n.next i.next) (sym same) from_here)
+      by_case (inr m) = inr (from_next i m g)
 
   -- of two reached places one is reached from the other
   ordered : (p q : ℕ) → IsReached code p → IsReached code q → IsFrom p q ⊎ IsFrom q p
   ordered p _ r reached_first = inr (from-first p r)
   ordered p _ r (reached_next j s f) = by_case (ordered p j.place r s)
     where
-    back : (j.place ≡ p) ⊎ IsFrom j.next p → IsFrom p j.next ⊎ IsFrom j.next p
-    back (inl e) = inl (from_next j (subst (λ (n : ℕ). IsFrom n j.place) e from_here) f)
-    back (inr m) = inr m
-    by_case : IsFrom p j.place ⊎ IsFrom j.place p → IsFrom p j.next ⊎ IsFrom j.next p
-    by_case (inl k) = inl (from_next j k f)
-    by_case (inr k) = back (from-step j.place p j k f)
+      back : (j.place ≡ p) ⊎ IsFrom j.next p → IsFrom p j.next ⊎ IsFrom j.next p
+      back (inl e) = inl (from_next j (subst (λ (n : ℕ). IsFrom n j.place) e from_here) f)
+      back (inr m) = inr m
+
+      by_case : IsFrom p j.place ⊎ IsFrom j.place p → IsFrom p j.next ⊎ IsFrom j.next p
+      by_case (inl k) = inl (from_next j k f)
+      by_case (inr k) = back (from-step j.place p j k f)
 
   -- a reached place behind an instruction's place is not inside it
   pub apart : (i : Placed) (q : ℕ) → Stands code i → IsReached code q → i.place < q → i.next ≤ q
   apart i q s r h = by_case (ordered i.place q s.reached r)
     where
-    forward : (i.place ≡ q) ⊎ IsFrom i.next q → i.next ≤ q
-    forward (inl e) = absurd (omega arith)
-    forward (inr m) = from-le i.next q m
-    by_case : IsFrom i.place q ⊎ IsFrom q i.place → i.next ≤ q
-    by_case (inl k) = forward (from-step i.place q i k s.found)
-    by_case (inr k) = let le = from-le q i.place k in absurd (omega arith)
+      forward : (i.place ≡ q) ⊎ IsFrom i.next q → i.next ≤ q
+      forward (inl e) = absurd (omega arith)
+      forward (inr m) = from-le i.next q m
+
+      by_case : IsFrom i.place q ⊎ IsFrom q i.place → i.next ≤ q
+      by_case (inl k) = forward (from-step i.place q i k s.found)
+      by_case (inr k) = let le = from-le q i.place k in absurd (omega arith)
 
   stuck : (p q : ℕ) (end : CodeEnd) → IsFrom p q → fetched code p ≡ Err end → q ≡ p
   stuck p _ end from_here f = refl
@@ -167,6 +169,15 @@ module _ (code : List ℕ) where
   pub ends-once : (p q : ℕ) (e f : CodeEnd) → IsReached code p → IsReached code q → fetched code p ≡ Err e → fetched code q ≡ Err f → p ≡ q
   ends-once p q e f r s g h = by_case (ordered p q r s)
     where
-    by_case : IsFrom p q ⊎ IsFrom q p → p ≡ q
-    by_case (inl k) = sym (stuck p q e k g)
-    by_case (inr k) = stuck q p f k h
+      by_case : IsFrom p q ⊎ IsFrom q p → p ≡ q
+      by_case (inl k) = sym (stuck p q e k g)
+      by_case (inr k) = stuck q p f k h
+
+  -- behind the place where the code ends no instruction stands
+  pub stops : (at place : ℕ) (i : Placed) (end : CodeEnd) → IsReached code at → IsReached code place → fetched code at ≡ Err end → fetched code place ≡ Ok i
+      → at ≤ place → ⊥
+  stops at place i end r s f g le = by_case (ordered at place r s)
+    where
+      by_case : IsFrom at place ⊎ IsFrom place at → ⊥
+      by_case (inl k) = let e = stuck at place end k f in cc
+      by_case (inr k) = let ge = from-le place at k in let e : place ≡ at = omega arith in cc

@@ -99,10 +99,10 @@ within-ok : (bare : Bare) (o : Option ℕ) (depth after : ℕ) (rest : Result �
 within-ok bare None depth after rest h = (tt, h)
 within-ok bare (Some x) depth after rest h = by_test (nat_lt x (register_count bare)) refl h
   where
-  by_test : (b : Bool) → nat_lt x (register_count bare) ≡ b → (if b then rest else Err (NoLocal x)) ≡ Ok after
-      → (x < register_count bare) × (rest ≡ Ok after)
-  by_test true e h = (ltb-true _ _ e, h)
-  by_test false e h = absurd (cc)
+    by_test : (b : Bool) → nat_lt x (register_count bare) ≡ b → (if b then rest else Err (NoLocal x)) ≡ Ok after
+        → (x < register_count bare) × (rest ≡ Ok after)
+    by_test true e h = (ltb-true _ _ e, h)
+    by_test false e h = absurd (cc)
 
 abbrev cells : ℕ → ℕ → ℕ → ℕ → Result ℕ BareKind
 cells taken max depth after = if nat_lt depth taken then Err Underflow else if nat_lt max after then Err Overflow else Ok after
@@ -110,11 +110,11 @@ cells taken max depth after = if nat_lt depth taken then Err Underflow else if n
 cells-ok : (taken max depth next after : ℕ) → cells taken max depth next ≡ Ok after → (taken ≤ depth) × (next ≤ max) × (after ≡ next)
 cells-ok taken max depth next after h = by_test (nat_lt depth taken) refl (nat_lt max next) refl h
   where
-  by_test : (b : Bool) → nat_lt depth taken ≡ b → (c : Bool) → nat_lt max next ≡ c
-      → (if b then Err Underflow else if c then Err Overflow else Ok next) ≡ Ok after → (taken ≤ depth) × (next ≤ max) × (after ≡ next)
-  by_test true d c e h = absurd (cc)
-  by_test false d true e h = absurd (cc)
-  by_test false d false e h = (grind (arith, nat_tests), grind (arith, nat_tests), cc)
+    by_test : (b : Bool) → nat_lt depth taken ≡ b → (c : Bool) → nat_lt max next ≡ c
+        → (if b then Err Underflow else if c then Err Overflow else Ok next) ≡ Ok after → (taken ≤ depth) × (next ≤ max) × (after ≡ next)
+    by_test true d c e h = absurd (cc)
+    by_test false d true e h = absurd (cc)
+    by_test false d false e h = (grind (arith, nat_tests), grind (arith, nat_tests), cc)
 
 pub applied-ok : (bare : Bare) (i : Instruction) (depth after : ℕ) → applied bare i depth ≡ Ok after → Applied bare i depth after
 applied-ok bare i depth after h =
@@ -125,12 +125,13 @@ applied-ok bare i depth after h =
 pub applied-is : (bare : Bare) (i : Instruction) (depth after : ℕ) → Applied bare i depth after → applied bare i depth ≡ Ok after
 applied-is bare i depth after a = by_local (register_of i) a.local
   where
-  rest : cells (cells_taken i) bare.max_stack depth (depth - cells_taken i + cells_given i) ≡ Ok after
-  rest = grind (arith, nat_tests, a.enough, a.value, a.room)
-  by_local : (o : Option ℕ) → IfSome o (λ x. x < register_count bare)
-      → within bare o depth (cells (cells_taken i) bare.max_stack depth (depth - cells_taken i + cells_given i)) ≡ Ok after
-  by_local None h = rest
-  by_local (Some x) h = rw (lt-ltb _ _ h) rest
+    rest : cells (cells_taken i) bare.max_stack depth (depth - cells_taken i + cells_given i) ≡ Ok after
+    rest = grind (arith, nat_tests, a.enough, a.value, a.room)
+
+    by_local : (o : Option ℕ) → IfSome o (λ x. x < register_count bare)
+        → within bare o depth (cells (cells_taken i) bare.max_stack depth (depth - cells_taken i + cells_given i)) ≡ Ok after
+    by_local None h = rest
+    by_local (Some x) h = rw (lt-ltb _ _ h) rest
 
 -- then the rule applies, whatever the types in the registers
 pub applies : (bare : Bare) (i : Instruction) (registers : List Kind) (depth after : ℕ) → length registers ≡ register_count bare
@@ -151,9 +152,9 @@ pub applied-from : (bare : Bare) (i : Instruction) (registers : List Kind) (dept
 applied-from bare i registers depth after a =
     let r = shorts-rest depth (cells_taken i) a.rest a.takes in
     let e : after ≡ shorts (depth - cells_taken i + cells_given i) =
-      a.gives ∙ ap (λ ks. shorts (cells_given i) ++ ks) r.1 ∙ shorts-join (cells_given i) (depth - cells_taken i) in
+    a.gives ∙ ap (λ ks. shorts (cells_given i) ++ ks) r.1 ∙ shorts-join (cells_given i) (depth - cells_taken i) in
     let room : depth - cells_taken i + cells_given i ≤ bare.max_stack =
-      omega (arith, a.room, ap length e, shorts-length (depth - cells_taken i + cells_given i)) in
+    omega (arith, a.room, ap length e, shorts-length (depth - cells_taken i + cells_given i)) in
     (record { local = a.local; enough = r.0; value = refl; room = room }, e)
 
 -- the first failure of the rule
@@ -163,30 +164,30 @@ within-err : (bare : Bare) (i : Instruction) (o : Option ℕ) (stack : List Kind
 within-err bare i None stack depth kind rest e more h = more tt h
 within-err bare i (Some x) stack depth kind rest e more h = by_test (nat_lt x (register_count bare)) refl h
   where
-  by_test : (b : Bool) → nat_lt x (register_count bare) ≡ b → (if b then rest else Err (NoLocal x)) ≡ Err kind → Fails bare i stack kind
-  by_test true t h = more (ltb-true _ _ t) h
-  by_test false t h =
-      let same : NoLocal x ≡ kind = cc in
-      let le : register_count bare ≤ x = grind (arith, nat_tests) in
-      subst (Fails bare i stack) same (fails_local x e le)
+    by_test : (b : Bool) → nat_lt x (register_count bare) ≡ b → (if b then rest else Err (NoLocal x)) ≡ Err kind → Fails bare i stack kind
+    by_test true t h = more (ltb-true _ _ t) h
+    by_test false t h =
+        let same : NoLocal x ≡ kind = cc in
+        let le : register_count bare ≤ x = grind (arith, nat_tests) in
+        subst (Fails bare i stack) same (fails_local x e le)
 
 pub applied-err : (bare : Bare) (i : Instruction) (depth : ℕ) (kind : BareKind) → applied bare i depth ≡ Err kind → Fails bare i (shorts depth) kind
 applied-err bare i depth kind h =
     within-err bare i (register_of i) (shorts depth) depth kind _ refl
     (λ local k. by_test local (nat_lt depth (cells_taken i)) refl (nat_lt bare.max_stack (depth - cells_taken i + cells_given i)) refl k) h
   where
-  by_test : IfSome (register_of i) (λ x. x < register_count bare) → (b : Bool) → nat_lt depth (cells_taken i) ≡ b
-      → (c : Bool) → nat_lt bare.max_stack (depth - cells_taken i + cells_given i) ≡ c
-      → (if b then Err Underflow else if c then Err Overflow else Ok (depth - cells_taken i + cells_given i)) ≡ Err kind
-      → Fails bare i (shorts depth) kind
-  by_test local true d c e k =
-      let same : Underflow ≡ kind = cc in
-      let lt : length (shorts depth) < cells_taken i = omega (arith, ltb-true _ _ d, shorts-length depth) in
-      subst (Fails bare i (shorts depth)) same (fails_cells local lt)
-  by_test local false d true e k =
-      let same : Overflow ≡ kind = cc in
-      let enough : cells_taken i ≤ depth = grind (arith, nat_tests) in
-      let lt : bare.max_stack < length (shorts (cells_given i) ++ shorts (depth - cells_taken i)) =
+    by_test : IfSome (register_of i) (λ x. x < register_count bare) → (b : Bool) → nat_lt depth (cells_taken i) ≡ b
+        → (c : Bool) → nat_lt bare.max_stack (depth - cells_taken i + cells_given i) ≡ c
+        → (if b then Err Underflow else if c then Err Overflow else Ok (depth - cells_taken i + cells_given i)) ≡ Err kind
+        → Fails bare i (shorts depth) kind
+    by_test local true d c e k =
+        let same : Underflow ≡ kind = cc in
+        let lt : length (shorts depth) < cells_taken i = omega (arith, ltb-true _ _ d, shorts-length depth) in
+        subst (Fails bare i (shorts depth)) same (fails_cells local lt)
+    by_test local false d true e k =
+        let same : Overflow ≡ kind = cc in
+        let enough : cells_taken i ≤ depth = grind (arith, nat_tests) in
+        let lt : bare.max_stack < length (shorts (cells_given i) ++ shorts (depth - cells_taken i)) =
         omega (arith, ltb-true _ _ e, ap length (shorts-join (cells_given i) (depth - cells_taken i)), shorts-length (depth - cells_taken i + cells_given i)) in
-      subst (Fails bare i (shorts depth)) same (fails_room local (shorts (depth - cells_taken i)) (shorts-split depth (cells_taken i) enough) lt)
-  by_test local false d false e k = absurd (cc)
+        subst (Fails bare i (shorts depth)) same (fails_room local (shorts (depth - cells_taken i)) (shorts-split depth (cells_taken i) enough) lt)
+    by_test local false d false e k = absurd (cc)

@@ -24,7 +24,7 @@ use Rattle.cap_bare.proofs.Rule.{shorts-length}
 -- where an instruction may lead, and what it does to the numbers of registers and of cells
 pub data IsActed (i : Instruction) (next : ℕ) (r s : List ℤ) : Lead → Type 0 where
   acts_on : (to : ℤ) (f : Frame) → ((to ≡ pos next) × (falls_through i ≡ true)) ⊎ (target_of i ≡ Some to)
-    → length f.registers ≡ length r → length f.stack ≡ length s - cells_taken i + cells_given i → IsActed i next r s (leads to f)
+      → length f.registers ≡ length r → length f.stack ≡ length s - cells_taken i + cells_given i → IsActed i next r s (leads to f)
   acts_out : (n : ℤ) → cells_given i ≡ 0 → IsActed i next r s (gives n)
 
 acted-either : (i : Instruction) (next : ℕ) (r s : List ℤ) (b : Bool) (target : ℤ) (f : Frame) → target_of i ≡ Some target → falls_through i ≡ true
@@ -84,18 +84,21 @@ module _ (code : List ℕ) (bare : Bare) where
   sound-from s true p (Ok i) f e h =
       by_tests (has_register bare (register_of i.instruction)) refl (nat_lt (length s.frame.stack) (cells_taken i.instruction)) refl e h
     where
-    by_tests : (b : Bool) → has_register bare (register_of i.instruction) ≡ b → (c : Bool) → nat_lt (length s.frame.stack) (cells_taken i.instruction) ≡ c
-        → step code bare s ≡ (if b then (if c then faulted stack_fault else settled code bare (acted i.instruction i.next s.frame.registers s.frame.stack)) else faulted local_fault)
-        → NoFault (if b then (if c then faulted stack_fault else settled code bare (acted i.instruction i.next s.frame.registers s.frame.stack)) else faulted local_fault)
-        → (i : Placed) × Sound s i
-    by_tests false l c k e h = absurd (h tt)
-    by_tests true l true k e h = absurd (h tt)
-    by_tests true l false k e h = (i, record {
-        found = f;
-        local = register-there bare (register_of i.instruction) l;
-        cells = less-not _ _ k;
-        is = e;
-      })
+      by_tests : (b : Bool) → has_register bare (register_of i.instruction) ≡ b → (c : Bool) → nat_lt (length s.frame.stack) (cells_taken i.instruction) ≡ c
+          → step code bare s ≡ (if b then (if c then faulted stack_fault else settled code bare (acted i.instruction i.next s.frame.registers s.frame.stack)) else faulted local_fault)
+          → NoFault (if b then (if c then faulted stack_fault else settled code bare (acted i.instruction i.next s.frame.registers s.frame.stack)) else faulted local_fault)
+          → (i : Placed) × Sound s i
+      by_tests false l c k e h = absurd (h tt)
+      by_tests true l true k e h = absurd (h tt)
+      by_tests true l false k e h = (
+        i,
+        record {
+          found = f;
+          local = register-there bare (register_of i.instruction) l;
+          cells = less-not _ _ k;
+          is = e;
+        },
+      )
 
   pub sound : (s : State) → (IsFault (step code bare s) → ⊥) → (i : Placed) × Sound s i
   unfolding step
@@ -110,23 +113,23 @@ module _ (code : List ℕ) (bare : Bare) where
   pub settled-from : (to : ℤ) (f : Frame) → (IsFault (settled code bare (leads to f)) → ⊥) → Settled to f
   settled-from to f h = by_tests (nat_lt bare.max_stack (length f.stack)) refl (is_place code to) refl refl h
     where
-    by_tests : (b : Bool) → nat_lt bare.max_stack (length f.stack) ≡ b → (c : Bool) → is_place code to ≡ c
-        → settled code bare (leads to f) ≡ (if b then faulted stack_fault else if c then running (record { place = at_place to; frame = f }) else faulted jump_fault)
-        → (IsFault (if b then faulted stack_fault else if c then running (record { place = at_place to; frame = f }) else faulted jump_fault) → ⊥)
-        → Settled to f
-    by_tests true k c t e h = absurd (h tt)
-    by_tests false k false t e h = absurd (h tt)
-    by_tests false k true t e h = record { room = less-not _ _ k; there = t; is = e }
+      by_tests : (b : Bool) → nat_lt bare.max_stack (length f.stack) ≡ b → (c : Bool) → is_place code to ≡ c
+          → settled code bare (leads to f) ≡ (if b then faulted stack_fault else if c then running (record { place = at_place to; frame = f }) else faulted jump_fault)
+          → (IsFault (if b then faulted stack_fault else if c then running (record { place = at_place to; frame = f }) else faulted jump_fault) → ⊥)
+          → Settled to f
+      by_tests true k c t e h = absurd (h tt)
+      by_tests false k false t e h = absurd (h tt)
+      by_tests false k true t e h = record { room = less-not _ _ k; there = t; is = e }
 
   -- a run that meets no fault takes a step that meets none, and goes on so
   pub safe-step : (s : State) → IsSafe code bare s → IsFault (step code bare s) → ⊥
   unfolding after
   safe-step s safe h = by_outcome (step code bare s) h (safe 1)
     where
-    by_outcome : (o : Outcome) → IsFault o → (IsFault (go_on o (after 0 code bare)) → ⊥) → ⊥
-    by_outcome (faulted f) h k = k h
-    by_outcome (running t) h k = h
-    by_outcome (returned n) h k = h
+      by_outcome : (o : Outcome) → IsFault o → (IsFault (go_on o (after 0 code bare)) → ⊥) → ⊥
+      by_outcome (faulted f) h k = k h
+      by_outcome (running t) h k = h
+      by_outcome (returned n) h k = h
 
   pub safe-next : (s t : State) → step code bare s ≡ running t → IsSafe code bare s → IsSafe code bare t
   unfolding after
@@ -150,11 +153,11 @@ module _ (code : List ℕ) (bare : Bare) where
     there : (p : ℕ) → IsReached code p → p < length code → IsPlace code p
     there p r lt = by_found (fetched code p) refl
       where
-      by_found : (q : Result Placed CodeEnd) → fetched code p ≡ q → IsPlace code p
-      by_found (Ok i) e = (i, (fetched-inside code p i e).place, stands-at code p i r e)
-      by_found (Err end) e =
-          let last = none-at-end code (fetched code (length code)) refl in
-          let same = ends-once code p (length code) end last.0 r t.well_formed.ends e last.1 in absurd (omega arith)
+        by_found : (q : Result Placed CodeEnd) → fetched code p ≡ q → IsPlace code p
+        by_found (Ok i) e = (i, (fetched-inside code p i e).place, stands-at code p i r e)
+        by_found (Err end) e =
+            let last = none-at-end code (fetched code (length code)) refl in
+            let same = ends-once code p (length code) end last.0 r t.well_formed.ends e last.1 in absurd (omega arith)
 
     -- a state has the registers, the cells and a place that the typing says
     record Agrees (s : State) : Type 0 where
@@ -193,8 +196,8 @@ module _ (code : List ℕ) (bare : Bare) where
       is = refl;
       there = h;
       stack =
-        ap length (t.targets p (record { from = i; stands = s; leads = e }))
-        ∙ sym (ap length (k.branch (branching (target_of i.instruction) (pos p) e)));
+          ap length (t.targets p (record { from = i; stands = s; leads = e }))
+          ∙ sym (ap length (k.branch (branching (target_of i.instruction) (pos p) e)));
     }
     next-branch i k s (negsuc n) e h = absurd h
 
@@ -218,49 +221,55 @@ module _ (code : List ℕ) (bare : Bare) where
         (acted-is i.instruction i.next s.frame.registers s.frame.stack cells)
         (performed-is s i a f (has-register bare (register_of i.instruction) k.applies.local) cells)
       where
-      i : Placed
-      i = a.place.0
-      f : fetched code s.place ≡ Ok i
-      f = subst (λ (p : ℕ). fetched code p ≡ Ok i) a.place.1 a.place.2.found
-      k : IsTyped code bare t.registers t.stacks i
-      k = t.typed i a.place.2
-      depth : length s.frame.stack ≡ cells_taken i.instruction + length k.applies.rest
-      depth =
-          a.stack ∙ ap (λ (p : ℕ). length (t.stacks p)) (sym a.place.1) ∙ ap length k.applies.takes
-          ∙ length-append (shorts (cells_taken i.instruction)) k.applies.rest
-          ∙ ap (λ (n : ℕ). n + length k.applies.rest) (shorts-length (cells_taken i.instruction))
-      left : length k.after ≡ cells_given i.instruction + length k.applies.rest
-      left =
-          ap length k.applies.gives
-          ∙ length-append (shorts (cells_given i.instruction)) k.applies.rest
-          ∙ ap (λ (n : ℕ). n + length k.applies.rest) (shorts-length (cells_given i.instruction))
-      cells : cells_taken i.instruction ≤ length s.frame.stack
-      cells = let d = depth in omega arith
-      by_lead : (l : Lead) → IsActed i.instruction i.next s.frame.registers s.frame.stack l → step code bare s ≡ settled code bare l → Goes s
-      by_lead _ (acts_on to g where_to r c) e =
-          let n = next-of i k a.place.2 to where_to in
-          let d = depth in
-          let l = left in
-          let same : length g.stack ≡ length k.after = omega arith in
-          let room : length g.stack ≤ bare.max_stack = omega (arith, same, k.applies.room) in
-          let here : IsTargetPlace code to = subst (IsTargetPlace code) (sym n.is) n.there in
-          let at : at_place to ≡ n.place = ap at_place n.is in
-          goes_on (record { place = at_place to; frame = g }) (e ∙ settled-is to g room (place-true code to here))
-          (record {
-            place = subst (IsPlace code) (sym at) n.there;
-            registers = r ∙ a.registers;
-            stack = same ∙ sym n.stack ∙ ap (λ (p : ℕ). length (t.stacks p)) (sym at);
-          })
-      by_lead _ (acts_out n z) e = goes_out n e
+        i : Placed
+        i = a.place.0
+
+        f : fetched code s.place ≡ Ok i
+        f = subst (λ (p : ℕ). fetched code p ≡ Ok i) a.place.1 a.place.2.found
+
+        k : IsTyped code bare t.registers t.stacks i
+        k = t.typed i a.place.2
+
+        depth : length s.frame.stack ≡ cells_taken i.instruction + length k.applies.rest
+        depth =
+            a.stack ∙ ap (λ (p : ℕ). length (t.stacks p)) (sym a.place.1) ∙ ap length k.applies.takes
+            ∙ length-append (shorts (cells_taken i.instruction)) k.applies.rest
+            ∙ ap (λ (n : ℕ). n + length k.applies.rest) (shorts-length (cells_taken i.instruction))
+
+        left : length k.after ≡ cells_given i.instruction + length k.applies.rest
+        left =
+            ap length k.applies.gives
+            ∙ length-append (shorts (cells_given i.instruction)) k.applies.rest
+            ∙ ap (λ (n : ℕ). n + length k.applies.rest) (shorts-length (cells_given i.instruction))
+
+        cells : cells_taken i.instruction ≤ length s.frame.stack
+        cells = let d = depth in omega arith
+
+        by_lead : (l : Lead) → IsActed i.instruction i.next s.frame.registers s.frame.stack l → step code bare s ≡ settled code bare l → Goes s
+        by_lead _ (acts_on to g where_to r c) e =
+            let n = next-of i k a.place.2 to where_to in
+            let d = depth in
+            let l = left in
+            let same : length g.stack ≡ length k.after = omega arith in
+            let room : length g.stack ≤ bare.max_stack = omega (arith, same, k.applies.room) in
+            let here : IsTargetPlace code to = subst (IsTargetPlace code) (sym n.is) n.there in
+            let at : at_place to ≡ n.place = ap at_place n.is in
+            goes_on (record { place = at_place to; frame = g }) (e ∙ settled-is to g room (place-true code to here))
+            (record {
+              place = subst (IsPlace code) (sym at) n.there;
+              registers = r ∙ a.registers;
+              stack = same ∙ sym n.stack ∙ ap (λ (p : ℕ). length (t.stacks p)) (sym at);
+            })
+        by_lead _ (acts_out n z) e = goes_out n e
 
     safe : (n : ℕ) (s : State) → Agrees s → IsFault (after n code bare s) → ⊥
     unfolding after
     safe zero s a h = h
     safe (suc n) s a h = by_step (one-step s a) (safe n)
       where
-      by_step : Goes s → ((u : State) → Agrees u → IsFault (after n code bare u) → ⊥) → ⊥
-      by_step (goes_on next e b) more = more next b (subst (λ (o : Outcome). IsFault (go_on o (after n code bare))) e h)
-      by_step (goes_out v e) more = subst (λ (o : Outcome). IsFault (go_on o (after n code bare))) e h
+        by_step : Goes s → ((u : State) → Agrees u → IsFault (after n code bare u) → ⊥) → ⊥
+        by_step (goes_on next e b) more = more next b (subst (λ (o : Outcome). IsFault (go_on o (after n code bare))) e h)
+        by_step (goes_out v e) more = subst (λ (o : Outcome). IsFault (go_on o (after n code bare))) e h
 
     pub fault-free : IsFaultFree code bare
     fault-free args e n h =

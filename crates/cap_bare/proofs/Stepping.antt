@@ -41,10 +41,10 @@ module _ (code : List ℕ) (bare : Bare) (s : State) (safe : IsSafe code bare s)
       room = by_lead _ (acted-is i.instruction i.next s.frame.registers s.frame.stack sound-at.cells) (settles _ refl);
     }
       where
-      by_lead : (l : Lead) → IsActed i.instruction i.next s.frame.registers s.frame.stack l → (IsFault (settled code bare l) → ⊥)
-          → 0 < cells_given i.instruction → length s.frame.stack - cells_taken i.instruction + cells_given i.instruction ≤ 15
-      by_lead _ (acts_on to f w r c) h lt = let k = (settled-from code bare to f h).room in omega arith
-      by_lead _ (acts_out n z) h lt = absurd (omega arith)
+        by_lead : (l : Lead) → IsActed i.instruction i.next s.frame.registers s.frame.stack l → (IsFault (settled code bare l) → ⊥)
+            → 0 < cells_given i.instruction → length s.frame.stack - cells_taken i.instruction + cells_given i.instruction ≤ 15
+        by_lead _ (acts_on to f w r c) h lt = let k = (settled-from code bare to f h).room in omega arith
+        by_lead _ (acts_out n z) h lt = absurd (omega arith)
 
     -- where the step leads to a place
     pub record Going (to : ℤ) (f : Frame) : Type 0 where
@@ -74,13 +74,13 @@ module _ (code : List ℕ) (bare : Bare) (s : State) (safe : IsSafe code bare s)
       let k = sound code bare s (safe-step code bare s safe) in
       by_lead k.0 _ (acted-is k.0.instruction k.0.next s.frame.registers s.frame.stack k.1.cells) (sym k.1.is ∙ e)
     where
-    by_lead : (i : Placed) (l : Lead) → IsActed i.instruction i.next s.frame.registers s.frame.stack l → settled code bare l ≡ running t
-        → length t.frame.registers ≡ length s.frame.registers
-    by_lead i _ (acts_on to f w r c) h =
-        let k = settled-from code bare to f (λ fault. subst IsFault h fault) in
-        let same : state_at (at_place to) f ≡ t = cc (k.is, h) in
-        ap (λ (u : State). length u.frame.registers) (sym same) ∙ r
-    by_lead i _ (acts_out n z) h = absurd (cc)
+      by_lead : (i : Placed) (l : Lead) → IsActed i.instruction i.next s.frame.registers s.frame.stack l → settled code bare l ≡ running t
+          → length t.frame.registers ≡ length s.frame.registers
+      by_lead i _ (acts_on to f w r c) h =
+          let k = settled-from code bare to f (λ fault. subst IsFault h fault) in
+          let same : state_at (at_place to) f ≡ t = cc (k.is, h) in
+          ap (λ (u : State). length u.frame.registers) (sym same) ∙ r
+      by_lead i _ (acts_out n z) h = absurd (cc)
 
 -- a place that the machine's word holds
 pub word-is : (z : ℤ) (p : ℕ) → z ≡ pos p → p < 2 ^ 15 → to_z w32 (of_z w32 z) ≡ pos p

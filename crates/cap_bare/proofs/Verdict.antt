@@ -69,13 +69,13 @@ module _ (code : List ℕ) (bare : Bare) where
     pub verdict-kind : IfErr r (λ f. IsFlawKind f.kind ↔ (IsWellFormed code → ⊥))
     verdict-kind = by_answer r verdict-refused
       where
-      by_answer : (x : Result (Unit {0}) BareFault) → IfErr x (λ f. IsRefused code bare f) → IfErr x (λ f. IsFlawKind f.kind ↔ (IsWellFormed code → ⊥))
-      by_answer (Ok u) h = tt
-      by_answer (Err f) h = refused-kind code bare f h
+        by_answer : (x : Result (Unit {0}) BareFault) → IfErr x (λ f. IsRefused code bare f) → IfErr x (λ f. IsFlawKind f.kind ↔ (IsWellFormed code → ⊥))
+        by_answer (Ok u) h = tt
+        by_answer (Err f) h = refused-kind code bare f h
 
     pub verdict-safe : 1 ≤ length code → OnOk r (IsFaultFree code bare)
     verdict-safe filled = by_answer r verdict-accepted
       where
-      by_answer : (x : Result (Unit {0}) BareFault) → OnOk x (CardTyping code bare) → OnOk x (IsFaultFree code bare)
-      by_answer (Ok u) t = fault-free code bare filled t
-      by_answer (Err f) h = tt
+        by_answer : (x : Result (Unit {0}) BareFault) → OnOk x (CardTyping code bare) → OnOk x (IsFaultFree code bare)
+        by_answer (Ok u) t = fault-free code bare filled t
+        by_answer (Err f) h = tt

@@ -88,10 +88,10 @@ module _ (code : List ℕ) (bare : Bare) where
       → depth_at depth (i ∷ is) p ≡ depth_at (next_depth (passed code bare i depth)) is p
   depth-there depth i is p lt = by_test (i.place == p) refl
     where
-    by_test : (b : Bool) → (i.place == p) ≡ b
-        → (if b then depth else depth_at (next_depth (passed code bare i depth)) is p) ≡ depth_at (next_depth (passed code bare i depth)) is p
-    by_test true e = let same = eqb-true i.place p e in absurd (omega arith)
-    by_test false e = refl
+      by_test : (b : Bool) → (i.place == p) ≡ b
+          → (if b then depth else depth_at (next_depth (passed code bare i depth)) is p) ≡ depth_at (next_depth (passed code bare i depth)) is p
+      by_test true e = let same = eqb-true i.place p e in absurd (omega arith)
+      by_test false e = refl
 
   -- behind an instruction stands the next one, or nothing
   depth-next : (is : List Placed) (at depth : ℕ) → Lists code at is → (is ≡ [] → depth ≡ 0) → depth_at depth is at ≡ depth
@@ -123,9 +123,9 @@ module _ (code : List ℕ) (bare : Bare) where
     fits-more depth next i is p lt j f b =
         let e : next_depth (passed code bare i depth) ≡ next = ap next_depth p in
         let here : depth_at depth (i ∷ is) j.place ≡ depth_at next is j.place =
-          depth-there depth i is j.place (omega (arith, b.from, lt)) ∙ ap (λ (n : ℕ). depth_at n is j.place) e in
+        depth-there depth i is j.place (omega (arith, b.from, lt)) ∙ ap (λ (n : ℕ). depth_at n is j.place) e in
         let ahead : depth_at depth (i ∷ is) j.next ≡ depth_at next is j.next =
-          depth-there depth i is j.next (omega (arith, b.from, b.more, lt)) ∙ ap (λ (n : ℕ). depth_at n is j.next) e in
+        depth-there depth i is j.next (omega (arith, b.from, b.more, lt)) ∙ ap (λ (n : ℕ). depth_at n is j.next) e in
         subst (λ (n : ℕ). Fits j n (depth_at depth (i ∷ is) j.next)) (sym here)
         (subst (λ (n : ℕ). Fits j (depth_at next is j.place) n) (sym ahead) f)
 
@@ -137,9 +137,9 @@ module _ (code : List ℕ) (bare : Bare) where
         let e : next_depth (passed code bare i depth) ≡ next = ap next_depth p in
         let here : depth_at depth (i ∷ is) i.place ≡ depth = depth-here depth i is i.place refl in
         let none = λ (none : is ≡ []). nothing-left i k.after next (falls_through i.instruction) k.leaves
-          (none-left i.next is (reached-after code i.place i s.reached s.found) l none) in
+        (none-left i.next is (reached-after code i.place i s.reached s.found) l none) in
         let ahead : depth_at depth (i ∷ is) i.next ≡ next =
-          depth-there depth i is i.next (omega (arith, inside.behind)) ∙ ap (λ (n : ℕ). depth_at n is i.next) e ∙ depth-next is i.next next l none in
+        depth-there depth i is i.next (omega (arith, inside.behind)) ∙ ap (λ (n : ℕ). depth_at n is i.next) e ∙ depth-next is i.next next l none in
         let f : Fits i depth next = record {
           target = λ t. k.target (target-true code i.place t);
           after = k.after;
@@ -155,15 +155,16 @@ module _ (code : List ℕ) (bare : Bare) where
     accepted (i ∷ is) at depth r l h =
         by_answer (passed code bare i depth) refl (λ next. accepted is i.next next (reached-after code at i r l.0) l.1) h
       where
-      by_answer : (q : Result ℕ BareKind) → passed code bare i depth ≡ q
-          → ((next : ℕ) → first_wrong code bare next is ≡ Ok tt → AllByRecursion (FitsIn next is) is)
-          → then_on i.place q (λ next. first_wrong code bare next is) ≡ Ok tt → AllByRecursion (FitsIn depth (i ∷ is)) (i ∷ is)
-      by_answer (Err kind) e more h = absurd (cc)
-      by_answer (Ok next) e more h =
-          let inside = fetched-inside code at i l.0 in
-          let lt : i.place < i.next = omega (arith, inside.place, inside.behind) in
-          (fits-head i is depth next (stands-at code at i r l.0) l.1 e,
-            all-map2 (FitsIn next is) (IsBehind i.next) (FitsIn depth (i ∷ is)) (fits-more depth next i is e lt) is (more next h) (behind is i.next l.1))
+        by_answer : (q : Result ℕ BareKind) → passed code bare i depth ≡ q
+            → ((next : ℕ) → first_wrong code bare next is ≡ Ok tt → AllByRecursion (FitsIn next is) is)
+            → then_on i.place q (λ next. first_wrong code bare next is) ≡ Ok tt → AllByRecursion (FitsIn depth (i ∷ is)) (i ∷ is)
+        by_answer (Err kind) e more h = absurd (cc)
+        by_answer (Ok next) e more h =
+            let inside = fetched-inside code at i l.0 in
+            let lt : i.place < i.next = omega (arith, inside.place, inside.behind) in (
+              fits-head i is depth next (stands-at code at i r l.0) l.1 e,
+              all-map2 (FitsIn next is) (IsBehind i.next) (FitsIn depth (i ∷ is)) (fits-more depth next i is e lt) is (more next h) (behind is i.next l.1),
+            )
 
     -- so the stacks that are read off it make a card typing, with a register list of shorts
     abbrev depths : ℕ → ℕ
@@ -190,10 +191,10 @@ module _ (code : List ℕ) (bare : Bare) where
     typing h =
         let all = accepted (instructions code) 0 0 reached_first (lists-instructions code 0) h in
         let at_target : (place : ℕ) → IsTarget code place → depths place ≡ 0 =
-          λ place t.
-          let p : IsPlace code place = w.leads t.from (pos place) t.stands t.leads in
-          let f = all-of code (FitsIn 0 (instructions code)) p.0 p.2 all in
-          subst (λ (n : ℕ). depths n ≡ 0) p.1 (f.target (subst (IsTarget code) (sym p.1) t)) in
+        λ place t.
+        let p : IsPlace code place = w.leads t.from (pos place) t.stands t.leads in
+        let f = all-of code (FitsIn 0 (instructions code)) p.0 p.2 all in
+        subst (λ (n : ℕ). depths n ≡ 0) p.1 (f.target (subst (IsTarget code) (sym p.1) t)) in
         record {
           well_formed = w;
           registers = shorts (register_count bare);
@@ -213,48 +214,54 @@ module _ (code : List ℕ) (bare : Bare) where
     refused (i ∷ is) at depth registers f r l e m h =
         by_answer (passed code bare i depth) refl
         (λ next. refused is i.next next (raised i.instruction registers) f (reached-after code at i r l.0) l.1
-          (raised-length (register_written i.instruction) registers ∙ e)) h
+        (raised-length (register_written i.instruction) registers ∙ e)) h
       where
-      s : Stands code i
-      s = stands-at code at i r l.0
-      inside : IsInside code at i
-      inside = fetched-inside code at i l.0
-      met : IsMet code bare i.place registers (shorts depth)
-      met = subst (λ (n : ℕ). IsMet code bare n registers (shorts depth)) (sym inside.place) m
-      goes-on : (after next : ℕ) (falls : Bool) → Leaves code i after next falls → falls ≡ true → i.next < length code
-      goes-on after next true k t = let ne = k.0 in let le = inside.inside in omega arith
-      goes-on after next false k t = absurd (cc)
-      stack-next : (after next : ℕ) (falls : Bool) → Leaves code i after next falls → (if falls then shorts after else []) ≡ shorts next
-      stack-next after next true k = ap shorts (sym k.1)
-      stack-next after next false k = ap shorts (sym k)
-      by_end : (next : ℕ) → Passing code bare i depth next → (b : Bool) → (i.next == length code) ≡ b
-          → (IsMet code bare i.next (raised i.instruction registers) (shorts next) → first_wrong code bare next is ≡ Err f → IsRefused code bare f)
-          → first_wrong code bare next is ≡ Err f → IsRefused code bare f
-      by_end next p true t more h =
-          let last = eqb-true i.next (length code) t in
-          let none : instructions_from code i.next ≡ [] = instructions-past code i.next (omega arith) in
-          let empty : is ≡ [] = lists-one code i.next is (instructions_from code i.next) l.1 (lists-instructions code i.next) ∙ none in
-          let ok : first_wrong code bare next is ≡ Ok tt = ap (first_wrong code bare next) empty in absurd (cc)
-      by_end next p false t more h =
-          let ne : i.next ≢ length code = λ k. true≢false (i.next == length code) (eq-eqb i.next (length code) k) t in
-          let le = inside.inside in
-          let passes : Passes code bare i registers (shorts depth) (shorts p.after) = record {
-            stands = s;
-            target = λ k. ap shorts (p.target (target-true code i.place k));
-            applies = applies bare i.instruction registers depth p.after e p.rule;
-            branch = λ k. ap shorts (p.branch k);
-            goes_on = goes-on p.after next (falls_through i.instruction) p.leaves;
-          } in
-          more
-          (subst (IsMet code bare i.next (raised i.instruction registers)) (stack-next p.after next (falls_through i.instruction) p.leaves)
+        s : Stands code i
+        s = stands-at code at i r l.0
+
+        inside : IsInside code at i
+        inside = fetched-inside code at i l.0
+
+        met : IsMet code bare i.place registers (shorts depth)
+        met = subst (λ (n : ℕ). IsMet code bare n registers (shorts depth)) (sym inside.place) m
+
+        goes-on : (after next : ℕ) (falls : Bool) → Leaves code i after next falls → falls ≡ true → i.next < length code
+        goes-on after next true k t = let ne = k.0 in let le = inside.inside in omega arith
+        goes-on after next false k t = absurd (cc)
+
+        stack-next : (after next : ℕ) (falls : Bool) → Leaves code i after next falls → (if falls then shorts after else []) ≡ shorts next
+        stack-next after next true k = ap shorts (sym k.1)
+        stack-next after next false k = ap shorts (sym k)
+
+        by_end : (next : ℕ) → Passing code bare i depth next → (b : Bool) → (i.next == length code) ≡ b
+            → (IsMet code bare i.next (raised i.instruction registers) (shorts next) → first_wrong code bare next is ≡ Err f → IsRefused code bare f)
+            → first_wrong code bare next is ≡ Err f → IsRefused code bare f
+        by_end next p true t more h =
+            let last = eqb-true i.next (length code) t in
+            let none : instructions_from code i.next ≡ [] = instructions-past code i.next (omega arith) in
+            let empty : is ≡ [] = lists-one code i.next is (instructions_from code i.next) l.1 (lists-instructions code i.next) ∙ none in
+            let ok : first_wrong code bare next is ≡ Ok tt = ap (first_wrong code bare next) empty in absurd (cc)
+        by_end next p false t more h =
+            let ne : i.next ≢ length code = λ k. true≢false (i.next == length code) (eq-eqb i.next (length code) k) t in
+            let le = inside.inside in
+            let passes : Passes code bare i registers (shorts depth) (shorts p.after) = record {
+              stands = s;
+              target = λ k. ap shorts (p.target (target-true code i.place k));
+              applies = applies bare i.instruction registers depth p.after e p.rule;
+              branch = λ k. ap shorts (p.branch k);
+              goes_on = goes-on p.after next (falls_through i.instruction) p.leaves;
+            } in
+            more
+            (subst (IsMet code bare i.next (raised i.instruction registers)) (stack-next p.after next (falls_through i.instruction) p.leaves)
             (met_next i registers (shorts depth) (shorts p.after) met passes (omega arith))) h
-      by_answer : (q : Result ℕ BareKind) → passed code bare i depth ≡ q
-          → ((next : ℕ) → IsMet code bare i.next (raised i.instruction registers) (shorts next) → first_wrong code bare next is ≡ Err f → IsRefused code bare f)
-          → then_on i.place q (λ next. first_wrong code bare next is) ≡ Err f → IsRefused code bare f
-      by_answer (Err kind) k more h =
-          let same : fault i.place kind ≡ f = cc in
-          subst (IsRefused code bare) same (refused_state i registers (shorts depth) kind w s met (passed-err code bare i depth kind registers e k))
-      by_answer (Ok next) k more h = by_end next (passed-ok code bare i depth next k) (i.next == length code) refl (more next) h
+
+        by_answer : (q : Result ℕ BareKind) → passed code bare i depth ≡ q
+            → ((next : ℕ) → IsMet code bare i.next (raised i.instruction registers) (shorts next) → first_wrong code bare next is ≡ Err f → IsRefused code bare f)
+            → then_on i.place q (λ next. first_wrong code bare next is) ≡ Err f → IsRefused code bare f
+        by_answer (Err kind) k more h =
+            let same : fault i.place kind ≡ f = cc in
+            subst (IsRefused code bare) same (refused_state i registers (shorts depth) kind w s met (passed-err code bare i depth kind registers e k))
+        by_answer (Ok next) k more h = by_end next (passed-ok code bare i depth next k) (i.next == length code) refl (more next) h
 
     pub refused-at : (f : BareFault) → first_wrong code bare 0 (instructions code) ≡ Err f → IsRefused code bare f
     refused-at f h =
@@ -273,14 +280,17 @@ module _ (code : List ℕ) (bare : Bare) where
     passing-typed i depth s e =
         let k = t.typed i s in
         let a = applied-from bare i.instruction t.registers depth k.after (subst (λ ks. Applies bare i.instruction t.registers ks k.after) e k.applies) in
-        let leaves = typed-leaves i (depth - cells_taken i.instruction + cells_given i.instruction) k.after (falls_through i.instruction) a.1 k.next in
-        (leaves.0, (record {
+        let leaves = typed-leaves i (depth - cells_taken i.instruction + cells_given i.instruction) k.after (falls_through i.instruction) a.1 k.next in (
+          leaves.0,
+          (record {
             target = λ h. shorts-none depth (sym e ∙ t.targets i.place (target-from code i.place h));
             after = depth - cells_taken i.instruction + cells_given i.instruction;
             rule = a.0;
             branch = λ h. shorts-none _ (sym a.1 ∙ k.branch h);
             leaves = leaves.1;
-          }), leaves.2)
+          }),
+          leaves.2,
+        )
 
     walked : (is : List Placed) (at depth : ℕ) → IsReached code at → Lists code at is → t.stacks at ≡ shorts depth
         → first_wrong code bare depth is ≡ Ok tt

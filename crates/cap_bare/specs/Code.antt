@@ -70,9 +70,9 @@ fault place kind = record { place = place; kind = kind }
 -- branch there leads to no place
 pub data IsFlaw (code : List ℕ) : BareFault → Type 0 where
   flaw_end : (place : ℕ) (end : CodeEnd) → IsReached code place → place ≢ length code → fetched code place ≡ Err end
-    → IsFlaw code (fault place (Code end))
+      → IsFlaw code (fault place (Code end))
   flaw_target : (i : Placed) (target : ℤ) → Stands code i → target_of i.instruction ≡ Some target → (IsTargetPlace code target → ⊥)
-    → IsFlaw code (fault i.place (BadTarget target))
+      → IsFlaw code (fault i.place (BadTarget target))
 
 -- the flaw at the least place
 pub record IsFirstFlaw (code : List ℕ) (first : BareFault) : Type 0 where

@@ -2,7 +2,7 @@
 -- what it makes of its operands.
 use Rattle.std.specs.Prelude.{ℕ, ℤ, pos, negsuc, ◌+ℤ◌, ◌<◌, ◌^◌, ◌==◌, unsigned_abs, List, [], ◌∷◌, Option, find, FitsSigned}
 use Rattle.std.specs.Option.{option_map}
-use Rattle.std.specs.Int.{w16}
+use Rattle.std.specs.Int.{w8, w16}
 use Rattle.jc_decode.specs.declared.Insn.{Insn}
 use Rattle.cap_bare.specs.declared.arithmetic.Condition.TheVariants.{Equal, NotEqual, Less, GreaterOrEqual, Greater, LessOrEqual}
 use Rattle.cap_bare.specs.declared.arithmetic.Unary.TheVariants.{Negate, ToByte}
@@ -15,54 +15,54 @@ use Rattle.cap_bare.specs.declared.format.Format.TheVariants.{Implied, Constant,
 -- each opcode that a bare method may have
 abbrev pub formats : List (ℕ × Format)
 formats =
-    (0, Implied Nop) -- nop
-    ∷ (2, Implied (Push (negsuc 0))) -- sconst_m1
+    (0, Implied Nop)  -- nop
+    ∷ (2, Implied (Push (negsuc 0)))  -- sconst_m1
     ∷ (3, Implied (Push (pos 0)))
     ∷ (4, Implied (Push (pos 1)))
     ∷ (5, Implied (Push (pos 2)))
     ∷ (6, Implied (Push (pos 3)))
     ∷ (7, Implied (Push (pos 4)))
     ∷ (8, Implied (Push (pos 5)))
-    ∷ (16, Constant) -- bspush
-    ∷ (17, Constant) -- sspush
-    ∷ (22, Loads) -- sload
-    ∷ (28, Implied (Load 0)) -- sload_0
+    ∷ (16, Constant)  -- bspush
+    ∷ (17, Constant)  -- sspush
+    ∷ (22, Loads)  -- sload
+    ∷ (28, Implied (Load 0))  -- sload_0
     ∷ (29, Implied (Load 1))
     ∷ (30, Implied (Load 2))
     ∷ (31, Implied (Load 3))
-    ∷ (41, Stores) -- sstore
-    ∷ (47, Implied (Store 0)) -- sstore_0
+    ∷ (41, Stores)  -- sstore
+    ∷ (47, Implied (Store 0))  -- sstore_0
     ∷ (48, Implied (Store 1))
     ∷ (49, Implied (Store 2))
     ∷ (50, Implied (Store 3))
-    ∷ (59, Implied Pop) -- pop
-    ∷ (61, Implied Duplicate) -- dup
-    ∷ (65, Implied (Binary Add)) -- sadd
-    ∷ (67, Implied (Binary Subtract)) -- ssub
-    ∷ (69, Implied (Binary Multiply)) -- smul
-    ∷ (75, Implied (Unary Negate)) -- sneg
-    ∷ (77, Implied (Binary ShiftLeft)) -- sshl
-    ∷ (79, Implied (Binary ShiftRight)) -- sshr
-    ∷ (81, Implied (Binary ShiftRightUnsigned)) -- sushr
-    ∷ (83, Implied (Binary And)) -- sand
-    ∷ (85, Implied (Binary Or)) -- sor
-    ∷ (87, Implied (Binary Xor)) -- sxor
-    ∷ (89, Increments) -- sinc
-    ∷ (91, Implied (Unary ToByte)) -- s2b
-    ∷ (96, Tests Equal) -- ifeq
+    ∷ (59, Implied Pop)  -- pop
+    ∷ (61, Implied Duplicate)  -- dup
+    ∷ (65, Implied (Binary Add))  -- sadd
+    ∷ (67, Implied (Binary Subtract))  -- ssub
+    ∷ (69, Implied (Binary Multiply))  -- smul
+    ∷ (75, Implied (Unary Negate))  -- sneg
+    ∷ (77, Implied (Binary ShiftLeft))  -- sshl
+    ∷ (79, Implied (Binary ShiftRight))  -- sshr
+    ∷ (81, Implied (Binary ShiftRightUnsigned))  -- sushr
+    ∷ (83, Implied (Binary And))  -- sand
+    ∷ (85, Implied (Binary Or))  -- sor
+    ∷ (87, Implied (Binary Xor))  -- sxor
+    ∷ (89, Increments)  -- sinc
+    ∷ (91, Implied (Unary ToByte))  -- s2b
+    ∷ (96, Tests Equal)  -- ifeq
     ∷ (97, Tests NotEqual)
     ∷ (98, Tests Less)
     ∷ (99, Tests GreaterOrEqual)
     ∷ (100, Tests Greater)
     ∷ (101, Tests LessOrEqual)
-    ∷ (106, Compares Equal) -- if_scmpeq
+    ∷ (106, Compares Equal)  -- if_scmpeq
     ∷ (107, Compares NotEqual)
     ∷ (108, Compares Less)
     ∷ (109, Compares GreaterOrEqual)
     ∷ (110, Compares Greater)
     ∷ (111, Compares LessOrEqual)
-    ∷ (112, Goes) -- goto
-    ∷ (120, Implied Return) -- sreturn
+    ∷ (112, Goes)  -- goto
+    ∷ (120, Implied Return)  -- sreturn
     ∷ []
 
 -- how an opcode makes an instruction, where bare methods have it
@@ -85,10 +85,12 @@ abbrev pub IsByte : ℤ → Type 0
 IsByte (pos n) = n < 2 ^ 8
 IsByte (negsuc n) = ⊥
 
--- the operands that a format reads lie in their ranges: a byte for a register, a short for the others
+-- the operands that a format reads lie in their ranges: a byte for a register, a signed byte for the distance of a
+-- target, a short for the others
 abbrev pub FitsFormat : Format → Insn → Type 0
 FitsFormat (Implied instruction) insn = Unit {0}
 FitsFormat Loads insn = IsByte insn.x
 FitsFormat Stores insn = IsByte insn.x
 FitsFormat Increments insn = IsByte insn.x × FitsSigned w16 insn.y
-FitsFormat _ insn = FitsSigned w16 insn.x
+FitsFormat Constant insn = FitsSigned w16 insn.x
+FitsFormat _ insn = FitsSigned w8 insn.x

@@ -5,6 +5,7 @@ pub mod Code
 pub mod Typing
 pub mod Met
 pub mod Walk
+pub mod Window
 pub mod Machine
 pub mod Leading
 pub mod MethodFile

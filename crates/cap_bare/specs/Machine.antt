@@ -90,7 +90,7 @@ performed code bare f (Err end) = faulted jump_fault
 performed code bare f (Ok i) =
     if has_register bare (register_of i.instruction)
     then (if nat_lt (length f.stack) (cells_taken i.instruction) then faulted stack_fault
-      else settled code bare (acted i.instruction i.next f.registers f.stack))
+    else settled code bare (acted i.instruction i.next f.registers f.stack))
     else faulted local_fault
 
 -- one step

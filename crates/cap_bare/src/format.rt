@@ -1,10 +1,10 @@
 ghost use Rattle.std.specs.Prelude.{◌≡◌, pos, ◌+ℤ◌, FitsSigned};
-ghost use Rattle.std.specs.Int.{w16};
+ghost use Rattle.std.specs.Int.{w8};
 ghost use Rattle.cap_bare.specs.Format.{format_of, resolved, FitsFormat};
 
+use self::Format::{Compares, Constant, Goes, Implied, Increments, Loads, Stores, Tests};
 use crate::arithmetic::{Binary, Condition, Unary};
 use crate::instruction::Instruction;
-use self::Format::{Compares, Constant, Goes, Implied, Increments, Loads, Stores, Tests};
 use crate::instruction::Instruction::{Duplicate, Load, Nop, Pop, Push, Return, Store};
 use jc_decode::Insn;
 
@@ -61,7 +61,7 @@ impl Format {
 
 /// The place at a distance from a place.
 fn target(place: u16, distance: i32) -> i32
-    requires { FitsSigned w16 distance }
+    requires { FitsSigned w8 distance }
     ensures { result ≡ pos place +ℤ distance }
 {
     i32::from(place) + distance
@@ -70,59 +70,150 @@ fn target(place: u16, distance: i32) -> i32
 /// The instructions of bare methods, by opcode.
 static FORMATS: [Option<Format>; 121] = [
     // 0: nop
-    Some(Implied(Nop)), None,
+    Some(Implied(Nop)),
+    None,
     // 2: sconst_m1
-    Some(Implied(Push(-1))), Some(Implied(Push(0))), Some(Implied(Push(1))), Some(Implied(Push(2))), Some(Implied(Push(3))), Some(Implied(Push(4))), Some(Implied(Push(5))), None,
-    None, None, None, None, None, None,
+    Some(Implied(Push(-1))),
+    Some(Implied(Push(0))),
+    Some(Implied(Push(1))),
+    Some(Implied(Push(2))),
+    Some(Implied(Push(3))),
+    Some(Implied(Push(4))),
+    Some(Implied(Push(5))),
+    None,
+    None,
+    None,
+    None,
+    None,
+    None,
+    None,
     // 16: bspush
     Some(Constant),
     // 17: sspush
-    Some(Constant), None, None, None, None,
+    Some(Constant),
+    None,
+    None,
+    None,
+    None,
     // 22: sload
-    Some(Loads), None, None, None, None, None,
+    Some(Loads),
+    None,
+    None,
+    None,
+    None,
+    None,
     // 28: sload_0
-    Some(Implied(Load(0))), Some(Implied(Load(1))), Some(Implied(Load(2))), Some(Implied(Load(3))), None, None, None, None,
-    None, None, None, None, None,
+    Some(Implied(Load(0))),
+    Some(Implied(Load(1))),
+    Some(Implied(Load(2))),
+    Some(Implied(Load(3))),
+    None,
+    None,
+    None,
+    None,
+    None,
+    None,
+    None,
+    None,
+    None,
     // 41: sstore
-    Some(Stores), None, None, None, None, None,
+    Some(Stores),
+    None,
+    None,
+    None,
+    None,
+    None,
     // 47: sstore_0
-    Some(Implied(Store(0))), Some(Implied(Store(1))), Some(Implied(Store(2))), Some(Implied(Store(3))), None, None, None, None,
-    None, None, None, None,
+    Some(Implied(Store(0))),
+    Some(Implied(Store(1))),
+    Some(Implied(Store(2))),
+    Some(Implied(Store(3))),
+    None,
+    None,
+    None,
+    None,
+    None,
+    None,
+    None,
+    None,
     // 59: pop
-    Some(Implied(Pop)), None,
+    Some(Implied(Pop)),
+    None,
     // 61: dup
-    Some(Implied(Duplicate)), None, None, None,
+    Some(Implied(Duplicate)),
+    None,
+    None,
+    None,
     // 65: sadd
-    Some(Implied(Instruction::Binary(Binary::Add))), None,
+    Some(Implied(Instruction::Binary(Binary::Add))),
+    None,
     // 67: ssub
-    Some(Implied(Instruction::Binary(Binary::Subtract))), None,
+    Some(Implied(Instruction::Binary(Binary::Subtract))),
+    None,
     // 69: smul
-    Some(Implied(Instruction::Binary(Binary::Multiply))), None, None, None, None, None,
+    Some(Implied(Instruction::Binary(Binary::Multiply))),
+    None,
+    None,
+    None,
+    None,
+    None,
     // 75: sneg
-    Some(Implied(Instruction::Unary(Unary::Negate))), None,
+    Some(Implied(Instruction::Unary(Unary::Negate))),
+    None,
     // 77: sshl
-    Some(Implied(Instruction::Binary(Binary::ShiftLeft))), None,
+    Some(Implied(Instruction::Binary(Binary::ShiftLeft))),
+    None,
     // 79: sshr
-    Some(Implied(Instruction::Binary(Binary::ShiftRight))), None,
+    Some(Implied(Instruction::Binary(Binary::ShiftRight))),
+    None,
     // 81: sushr
-    Some(Implied(Instruction::Binary(Binary::ShiftRightUnsigned))), None,
+    Some(Implied(Instruction::Binary(Binary::ShiftRightUnsigned))),
+    None,
     // 83: sand
-    Some(Implied(Instruction::Binary(Binary::And))), None,
+    Some(Implied(Instruction::Binary(Binary::And))),
+    None,
     // 85: sor
-    Some(Implied(Instruction::Binary(Binary::Or))), None,
+    Some(Implied(Instruction::Binary(Binary::Or))),
+    None,
     // 87: sxor
-    Some(Implied(Instruction::Binary(Binary::Xor))), None,
+    Some(Implied(Instruction::Binary(Binary::Xor))),
+    None,
     // 89: sinc
-    Some(Increments), None,
+    Some(Increments),
+    None,
     // 91: s2b
-    Some(Implied(Instruction::Unary(Unary::ToByte))), None, None, None, None,
+    Some(Implied(Instruction::Unary(Unary::ToByte))),
+    None,
+    None,
+    None,
+    None,
     // 96: ifeq
-    Some(Tests(Condition::Equal)), Some(Tests(Condition::NotEqual)), Some(Tests(Condition::Less)), Some(Tests(Condition::GreaterOrEqual)), Some(Tests(Condition::Greater)), Some(Tests(Condition::LessOrEqual)), None, None,
-    None, None,
+    Some(Tests(Condition::Equal)),
+    Some(Tests(Condition::NotEqual)),
+    Some(Tests(Condition::Less)),
+    Some(Tests(Condition::GreaterOrEqual)),
+    Some(Tests(Condition::Greater)),
+    Some(Tests(Condition::LessOrEqual)),
+    None,
+    None,
+    None,
+    None,
     // 106: if_scmpeq
-    Some(Compares(Condition::Equal)), Some(Compares(Condition::NotEqual)), Some(Compares(Condition::Less)), Some(Compares(Condition::GreaterOrEqual)), Some(Compares(Condition::Greater)), Some(Compares(Condition::LessOrEqual)),
+    Some(Compares(Condition::Equal)),
+    Some(Compares(Condition::NotEqual)),
+    Some(Compares(Condition::Less)),
+    Some(Compares(Condition::GreaterOrEqual)),
+    Some(Compares(Condition::Greater)),
+    Some(Compares(Condition::LessOrEqual)),
     // 112: goto
-    Some(Goes), None, None, None, None, None, None, None,
+    Some(Goes),
+    None,
+    None,
+    None,
+    None,
+    None,
+    None,
+    None,
     // 120: sreturn
     Some(Implied(Return)),
 ];

@@ -8,6 +8,7 @@ use std::marker::Model;
 
 /// The greatest numbers of registers and of cells that a compact header can say.
 const REGISTERS: usize = 30;
+
 const CELLS: usize = 15;
 
 /// The shorts in the registers and on the stack of a method that runs.
@@ -140,12 +141,20 @@ impl Frame {
             }
             Instruction::Test(condition, target) => {
                 let value = self.pop();
-                Lead::To(if condition.holds(value, 0) { target } else { next })
+                Lead::To(if condition.holds(value, 0) {
+                    target
+                } else {
+                    next
+                })
             }
             Instruction::Compare(condition, target) => {
                 let second = self.pop();
                 let first = self.pop();
-                Lead::To(if condition.holds(first, second) { target } else { next })
+                Lead::To(if condition.holds(first, second) {
+                    target
+                } else {
+                    next
+                })
             }
             Instruction::Goto(target) => Lead::To(target),
             Instruction::Return => Lead::Gives(self.pop()),

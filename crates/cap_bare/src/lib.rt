@@ -12,6 +12,8 @@ mod frame;
 mod instruction;
 mod method;
 mod run;
+#[cfg(test)]
+mod tests;
 mod verify;
 
 pub use bare::Bare;

@@ -1,10 +1,12 @@
-ghost use Rattle.std.specs.Prelude.{◌≡◌, ◌≤◌, ◌<◌, ◌+◌, ◌↔◌, length, IfOk, IfErr, IsOk, OnOk};
+ghost use Rattle.std.specs.Prelude.{◌≡◌, ◌≤◌, ◌<◌, ◌+◌, ◌↔◌, length, IfOk, IfErr, IsOk, IsTrue, OnOk};
+ghost use Rattle.jc_decode.specs.Decoding.{AreBytes};
 ghost use Rattle.cap_bare.specs.declared.fault.BareFault.{BareFault};
 ghost use Rattle.cap_bare.specs.Effects.{target_of};
-ghost use Rattle.cap_bare.specs.Code.{IsFirstFlaw, IsFlawKind, IsWellFormed};
+ghost use Rattle.cap_bare.specs.Code.{IsFirstFlaw, IsFlawKind, IsReached, IsTarget, IsTargetPlace, IsWellFormed, Stands};
 ghost use Rattle.cap_bare.specs.Typing.{CardTyping, IsCompact};
 ghost use Rattle.cap_bare.specs.Met.{IsRefused};
 ghost use Rattle.cap_bare.specs.Walk.{instructions, has_place, is_place, is_at, is_target, led, first_flaw, applied, passed, first_wrong, verdict};
+ghost use Rattle.cap_bare.specs.Window.{IsFromOn, IsTrailing};
 ghost use Rattle.cap_bare.specs.Machine.{IsFaultFree};
 
 use crate::bare::Bare;
@@ -43,21 +45,29 @@ fn walked(code: View<'_>, bare: Bare) -> Result<(), BareFault>
     find_wrong(code, bare)
 }
 
-#[tactic(auto, using(crate::proofs::Instructions::walking))]
 /// The first flaw of the code, if it is not well formed: the place of an instruction that is missing or leads
 /// nowhere.
+#[tactic(auto, using(crate::proofs::Instructions::walking))]
 fn find_flaw(code: View<'_>) -> Result<(), BareFault>
     requires { length code.bytes.now ≤ 32767 }
     ensures { result ≡ first_flaw code.entry.bytes.now 0 (instructions code.entry.bytes.now) }
 {
     let mut at = 0;
+    let mut behind = 0;
     'walk: while usize::from(at) < code.bytes.len() {
         let placed = match fetch(code, at) {
             Ok(placed) => placed,
-            Err(end) => return Err(BareFault { place: at, kind: BareKind::Code(end) }),
+            Err(end) => return Err(BareFault {
+                place: at,
+                kind: BareKind::Code(end),
+            }),
         };
-        if let Err(kind) = lead(code, placed.instruction) {
-            return Err(BareFault { place: placed.place, kind });
+        behind = trailed(code, behind, at);
+        if let Err(kind) = lead(code, behind, placed) {
+            return Err(BareFault {
+                place: placed.place,
+                kind,
+            });
         }
         at = placed.next;
     }
@@ -65,57 +75,94 @@ fn find_flaw(code: View<'_>) -> Result<(), BareFault>
 }
 
 /// Whether a branch leads to the place of an instruction.
-fn lead(code: View<'_>, instruction: Instruction) -> Result<(), BareKind>
-    requires { length code.bytes.now ≤ 32767 }
-    ensures { result ≡ led code.entry.bytes.now (target_of instruction) }
+fn lead(code: View<'_>, behind: u16, placed: Placed) -> Result<(), BareKind>
+    requires short { length code.bytes.now ≤ 32767 }
+    requires stands { Stands code.bytes.now placed }
+    requires trailing { IsTrailing code.bytes.now behind placed.place }
+    ensures { result ≡ led code.entry.bytes.now (target_of placed.instruction) }
 {
-    match instruction.target() {
-        Some(target) if !is_place(code, target) => Err(BareKind::BadTarget(target)),
+    are_bytes(code.bytes);
+    match placed.instruction.target() {
+        Some(target) if !is_place(code, behind, target) => Err(BareKind::BadTarget(target)),
         _ => Ok(()),
     }
 }
 
-/// Whether an instruction of the code begins at this place, which may lie before the code.
-fn is_place(code: View<'_>, place: i32) -> bool
-    requires { length code.bytes.now ≤ 32767 }
-    ensures { result ≡ is_place code.entry.bytes.now place }
+/// The last instruction that still trails a place, walked to from one that trails it.
+fn trailed(code: View<'_>, from: u16, at: u16) -> u16
+    requires short { length code.bytes.now ≤ 32767 }
+    requires trailing { IsTrailing code.bytes.now from at }
+    ensures { IsTrailing code.entry.bytes.now result at }
+{
+    let mut behind = from;
+    'walk: while let Ok(placed) = fetch(code, behind) {
+        if u32::from(placed.next) + 128 > u32::from(at) {
+            return behind;
+        }
+        behind = placed.next;
+    }
+    behind
+}
+
+/// Whether an instruction of the code begins at this place, which may lie before the code; it is sought from an
+/// instruction on that is not behind it.
+fn is_place(code: View<'_>, from: u16, place: i32) -> bool
+    requires short { length code.bytes.now ≤ 32767 }
+    requires reached { IsReached code.bytes.now from }
+    requires from_on { IsFromOn from place }
+    ensures value { result ≡ is_place code.entry.bytes.now place }
+    ensures meaning { IsTrue result ↔ IsTargetPlace code.entry.bytes.now place }
 {
     match u32::try_from(place) {
-        Ok(place) => begins(code, place),
+        Ok(place) => begins(code, from, place),
         Err(_) => false,
     }
 }
 
-#[tactic(auto, using(crate::proofs::Instructions::walking))]
-/// Whether an instruction of the code begins at this place.
-fn begins(code: View<'_>, place: u32) -> bool
-    requires { length code.bytes.now ≤ 32767 }
+/// Whether an instruction of the code begins at this place, sought from an instruction on that is not behind it.
+fn begins(code: View<'_>, from: u16, place: u32) -> bool
+    requires short { length code.bytes.now ≤ 32767 }
+    requires reached { IsReached code.bytes.now from }
+    requires from_on { from ≤ place }
     ensures { result ≡ has_place (instructions code.entry.bytes.now) place }
 {
-    let mut at = 0;
+    let mut at = from;
+    'walk: while u32::from(at) < place {
+        match fetch(code, at) {
+            Ok(placed) => at = placed.next,
+            Err(_) => return false,
+        }
+    }
+    u32::from(at) == place && fetch(code, at).is_ok()
+}
+
+/// Whether an instruction of the code branches to this place; those that may stand in the 128 bytes before it and
+/// behind it, and are sought from an instruction on that trails it.
+fn is_target(code: View<'_>, behind: u16, place: u16) -> bool
+    requires short { length code.bytes.now ≤ 32767 }
+    requires trailing { IsTrailing code.bytes.now behind place }
+    ensures value { result ≡ is_target code.entry.bytes.now place }
+    ensures meaning { IsTrue result ↔ IsTarget code.entry.bytes.now place }
+{
+    are_bytes(code.bytes);
+    let mut at = behind;
     'walk: while let Ok(placed) = fetch(code, at) {
-        if u32::from(placed.place) == place {
+        if branches_to(placed.instruction, place) {
             return true;
+        }
+        if u32::from(at) > u32::from(place) + 128 {
+            return false;
         }
         at = placed.next;
     }
     false
 }
 
-#[tactic(auto, using(crate::proofs::Instructions::walking))]
-/// Whether an instruction of the code branches to this place.
-fn is_target(code: View<'_>, place: u16) -> bool
-    requires { length code.bytes.now ≤ 32767 }
-    ensures { result ≡ is_target code.entry.bytes.now place }
+/// The items of a list of bytes are bytes: a fact for proofs, and no work.
+fn are_bytes(bytes: &[u8])
+    ensures { AreBytes bytes.now }
 {
-    let mut at = 0;
-    'walk: while let Ok(placed) = fetch(code, at) {
-        if branches_to(placed.instruction, place) {
-            return true;
-        }
-        at = placed.next;
-    }
-    false
+    let _ = bytes;
 }
 
 /// Whether an instruction branches to this place.
@@ -151,13 +198,20 @@ fn applied(bare: Bare, instruction: Instruction, depth: usize) -> Result<usize, 
 }
 
 /// The number of cells before the next place, over a stack of so many shorts.
-fn passed(code: View<'_>, bare: Bare, placed: Placed, depth: usize) -> Result<usize, BareKind>
+fn passed(
+    code: View<'_>,
+    bare: Bare,
+    behind: u16,
+    placed: Placed,
+    depth: usize,
+) -> Result<usize, BareKind>
     requires short { length code.bytes.now ≤ 32767 }
+    requires trailing { IsTrailing code.bytes.now behind placed.place }
     requires low { depth ≤ 30 }
     ensures value { result ≡ passed code.entry.bytes.now bare placed depth }
     ensures room { IfOk result (λ after. after ≤ bare.max_stack) }
 {
-    if depth > 0 && is_target(code, placed.place) {
+    if depth > 0 && is_target(code, behind, placed.place) {
         return Err(BareKind::StackAtTarget);
     }
     let after = applied(bare, placed.instruction, depth)?;
@@ -173,23 +227,28 @@ fn passed(code: View<'_>, bare: Bare, placed: Placed, depth: usize) -> Result<us
     Ok(after)
 }
 
-#[tactic(auto, using(crate::proofs::Instructions::walking))]
 /// What is wrong first in a well-formed method, place by place.
 ///
 /// One pass along the code does: a register's type is at most that of shorts, and that is all that a load asks
 /// for. So no store further on can raise a register to a type at which an instruction before it fails, and a
 /// second pass would meet what the first one met.
+#[tactic(auto, using(crate::proofs::Instructions::walking))]
 fn find_wrong(code: View<'_>, bare: Bare) -> Result<(), BareFault>
     requires short { length code.bytes.now ≤ 32767 }
     requires stack { bare.max_stack ≤ 15 }
     ensures { result ≡ first_wrong code.entry.bytes.now bare 0 (instructions code.entry.bytes.now) }
 {
     let mut at = 0;
+    let mut behind = 0;
     let mut depth = 0;
     'walk: while let Ok(placed) = fetch(code, at) {
-        depth = match passed(code, bare, placed, depth) {
+        behind = trailed(code, behind, at);
+        depth = match passed(code, bare, behind, placed, depth) {
             Ok(after) => after,
-            Err(kind) => return Err(BareFault { place: placed.place, kind }),
+            Err(kind) => return Err(BareFault {
+                place: placed.place,
+                kind,
+            }),
         };
         at = placed.next;
     }

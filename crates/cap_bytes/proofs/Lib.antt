@@ -3,3 +3,4 @@ pub mod Loops
 pub mod EachLoops
 pub mod UntilLoops
 pub mod Wide
+pub mod Triple

@@ -135,4 +135,4 @@ gives_not g left now fault h lt f =
     absurd cc
 
 -- what such an iterator needs
-pub ruleset yielding = (count_given, gives_taken, given_taken, gives_rest, gives_first, gives_none, gives_not)
+pub ruleset yielding = (count_given, length_given, gives_taken, given_taken, gives_rest, gives_first, gives_none, gives_not)

@@ -126,7 +126,7 @@ one_more g step h all n s from bytes at xs after true others e =
     let u = then_ok (read from (at_most n g step (step s t.0)) bytes t.1) (λ ys p. read_ok (t.0 ∷ ys) p) xs after t.3 in
     let p = pair_ok (t.0 ∷ u.0) xs u.1 after u.3 in
     let whole : read from (repeat (suc (length u.0)) h) bytes at ≡ Ok (t.0 ∷ u.0, u.1) = rw (all s from bytes at t.0 t.1 t.2, others (step s t.0) t.1 u.0 u.1 u.2) refl in
-    subst (λ (q : List _ × ℕ). read from (repeat (length q.0) h) bytes at ≡ Ok q) (pair_is (t.0 ∷ u.0) xs u.1 after p.0 p.1) whole
+    subst (λ (q : List _ × ℕ). read from (repeat (length q.0) h) bytes at ≡ Ok q) {x = (t.0 ∷ u.0, u.1)} (pair_is (t.0 ∷ u.0) xs u.1 after p.0 p.1) whole
 
 pub most-repeat : {X S : Type 0} (g : S → Grammar X) (step : S → X → S) (h : Grammar X) → ReadsAll g h → (n : ℕ) (s : S) (from : Origin) (bytes : List ℕ) (at : ℕ) (xs : List X) (after : ℕ) → read from (at_most n g step s) bytes at ≡ Ok (xs, after) → read from (repeat (length xs) h) bytes at ≡ Ok (xs, after)
 most-repeat g step h all zero s from bytes at xs after e = no_more h from bytes at xs after e

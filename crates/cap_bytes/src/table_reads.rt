@@ -1,4 +1,4 @@
-ghost use Rattle.std.specs.Prelude.{◌≡◌, length, slice_get};
+ghost use Rattle.std.specs.Prelude.{◌≡◌, length, slice_get, IfOk};
 ghost use Rattle.std.specs.Iterator.{YieldsFirst, item_count};
 ghost use Rattle.cap_bytes.specs.Grammar.{repeat, table, u2};
 ghost use Rattle.cap_bytes.specs.Taking.{Takes, Passes};
@@ -12,7 +12,8 @@ impl<'a> Items<'a> {
     /// A table of so many numbers of two bytes.
     #[tactic(auto, using(crate::proofs::Loops::yielding), unfolding(crate::specs::Grammar::table))]
     pub fn table(&mut self, count: u16) -> Result<Table<'a>, FormFault>
-        ensures { Takes numbers (table count) self.old result self.new }
+        ensures value { Takes numbers (table count) self.old result self.new }
+        ensures count { IfOk result (λ t. length (numbers t) ≡ count) }
     {
         let items = *self;
         self.pass_table(count)?;

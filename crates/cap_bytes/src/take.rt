@@ -1,4 +1,4 @@
-ghost use Rattle.std.specs.Prelude.{◌≡◌, ◌+◌, ◌-◌, ◌*◌, ◌≤◌, length, Ok};
+ghost use Rattle.std.specs.Prelude.{◌≡◌, ◌+◌, ◌-◌, ◌*◌, ◌≤◌, length, Ok, IfOk};
 ghost use Rattle.cap_bytes.specs.Grammar.{u1, u2, u4, number, piece, remaining, finish, rest, aid, that, is_aid_length};
 ghost use Rattle.cap_bytes.specs.Spelling.{info_of, fault_at, cut};
 ghost use Rattle.cap_bytes.specs.Taking.{Takes, IsAhead, same, bytes, nothing};
@@ -99,7 +99,8 @@ impl<'a> Items<'a> {
 
     /// The next so many bytes.
     pub fn piece(&mut self, len: u32) -> Result<&'a [u8], FormFault>
-        ensures { Takes bytes (piece len) self.old result self.new }
+        ensures value { Takes bytes (piece len) self.old result self.new }
+        ensures len { IfOk result (λ part. length part.now ≡ len) }
     {
         match self.info.part(self.at, len) {
             Some(part) => {
@@ -108,6 +109,15 @@ impl<'a> Items<'a> {
             }
             None => Err(self.cut()),
         }
+    }
+
+    /// The next three bytes.
+    #[tactic(auto, using(crate::proofs::Triple::all_three))]
+    pub fn triple(&mut self) -> Result<[u8; 3], FormFault>
+        ensures { Takes same (piece 3) self.old result self.new }
+    {
+        let bytes = self.piece(3)?;
+        Ok([bytes[0], bytes[1], bytes[2]])
     }
 
     /// What is wrong with the next item, by its offset in the file.

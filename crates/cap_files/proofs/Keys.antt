@@ -1,7 +1,6 @@
 -- Records with distinct keys as a map.
-use Rattle.std.proofs.Common.{◌≡◌, ℕ, zero, suc, ◌+◌, ◌<◌, ◌≤◌, List, [], ◌∷◌, ◌++◌, Bool, true, false, cond, not, ◌&&◌, nat_lt, nat_le, length, Option, Some, None, option_map, is_some, remove, sum_by, find, position, refl, ap, sym, subst, ◌∙◌, arith, length-append}
+use Rattle.std.proofs.Common.{◌≡◌, ℕ, suc, ◌+◌, ◌<◌, List, [], ◌∷◌, ◌++◌, Bool, true, false, cond, ◌&&◌, nat_lt, nat_le, length, Option, Some, None, option_map, is_some, sum_by, find, position, refl, ap, sym, subst, ◌∙◌, arith, length-append}
 use Rattle.std.proofs.lemmas.List.Sums.{sum_by-cons, sum_by_push}
-use Rattle.std.proofs.lemmas.Grind.{common_steps}
 use Rattle.std.proofs.lemmas.Slice.Eq.{bytes_eq-Decides}
 use Rattle.std.proofs.lemmas.Iterator.Adapters.{position_from-zero}
 use Rattle.std.proofs.lemmas.Bool.Decides.{same_from_decides}
@@ -11,11 +10,10 @@ use Rattle.std.specs.Str.{bytes_eq}
 use Rattle.std.specs.declared.cmp.Ordering.{Ordering}
 use Rattle.std.specs.declared.cmp.Ordering.TheVariants.{Less, Equal, Greater}
 use Rattle.std.specs.Ordering.{nat_cmp, eq_by_cmp, is_eq}
-use Rattle.std.specs.Cmp.{tied_itself, eq_by_cmp_equiv}
+use Rattle.std.specs.Cmp.{eq_by_cmp_equiv}
 use Rattle.std.specs.Cmp.Lexicographic.{slice_cmp, nat_list_cmp_total}
 use Rattle.std.specs.FinMap as map
 use Rattle.std.specs.FinMap.Entries.{by_order}
-use Rattle.cap_files.specs.Folder.{Parts}
 use Rattle.cap_files.specs.Room.{Room, size_of, taken, suffices}
 use Rattle.cap_files.specs.Records.{has_key, without}
 use Rattle.cap_files.specs.Distinct.{AreDistinct}
@@ -171,18 +169,18 @@ from_dropped : (k v : List ℕ) (rs : List Held) → map.insert (map.from_entrie
 from_dropped k v rs =
     map.same_map nat_list_cmp_total (map.slice_cmp-IsAntisymmetric map.nat_cmp-IsAntisymmetric) _ _
     (λ q. map.get-insert nat_list_cmp_total _ k v q
-      ∙ elim (eq_by_cmp order q k) as (λ b. eq_by_cmp order q k ≡ b → cond b (Some v) (map.get (map.from_entries {R = order} (dropped k rs)) q) ≡ cond b (Some v) (map.get (map.from_entries {R = order} rs) q)) [
-        | true ↦ λ _. refl
-        | false ↦ λ e. map.get-from_entries nat_list_cmp_total (dropped k rs) q ∙ found_dropped k q rs e ∙ sym (map.get-from_entries nat_list_cmp_total rs q)
-      ] refl
-      ∙ sym (map.get-insert nat_list_cmp_total _ k v q))
+    ∙ elim (eq_by_cmp order q k) as (λ b. eq_by_cmp order q k ≡ b → cond b (Some v) (map.get (map.from_entries {R = order} (dropped k rs)) q) ≡ cond b (Some v) (map.get (map.from_entries {R = order} rs) q)) [
+      | true ↦ λ _. refl
+      | false ↦ λ e. map.get-from_entries nat_list_cmp_total (dropped k rs) q ∙ found_dropped k q rs e ∙ sym (map.get-from_entries nat_list_cmp_total rs q)
+    ] refl
+    ∙ sym (map.get-insert nat_list_cmp_total _ k v q))
 
 -- ---- sizes
 sum_put : (k v : List ℕ) (es : List Held) → found k es ≡ None → sum_by size_of (map.put order k v es) ≡ size_of (k, v) + sum_by size_of es
 sum_put k v [] none = sum_by-cons size_of (k, v) []
 sum_put k v (e ∷ es) none =
     elim (order k e.0) as (λ o. cond (is_eq o) (Some e.1) (found k es) ≡ None
-      → sum_by size_of (by_order o ((k, v) ∷ e ∷ es) ((e.0, v) ∷ es) (e ∷ map.put order k v es)) ≡ size_of (k, v) + sum_by size_of (e ∷ es)) [
+    → sum_by size_of (by_order o ((k, v) ∷ e ∷ es) ((e.0, v) ∷ es) (e ∷ map.put order k v es)) ≡ size_of (k, v) + sum_by size_of (e ∷ es)) [
       | Less ↦ λ _. sum_by-cons size_of (k, v) (e ∷ es)
       | Equal ↦ λ is. cc
       | Greater ↦ λ is. omega (arith, sum_by-cons size_of e (map.put order k v es), sum_by-cons size_of e es, sum_put k v es is)
@@ -201,14 +199,14 @@ taken_is (r ∷ rs) apart =
     let m = map.from_entries {R = order} rs in
     let none : found r.0 (map.entries m) ≡ None = sym (map.get-entries m r.0) ∙ missing_entry r.0 rs apart.0 in
     ap (sum_by size_of) (map.entries-insert nat_list_cmp_total m r.0 r.1) ∙ sum_put r.0 r.1 (map.entries m) none
-      ∙ ap (λ n. size_of r + n) (taken_is rs apart.1) ∙ sym (sum_by-cons size_of r rs)
+    ∙ ap (λ n. size_of r + n) (taken_is rs apart.1) ∙ sym (sum_by-cons size_of r rs)
 
 held_is : (rs : List Held) → AreDistinct rs → map.len (map.from_entries {R = order} rs) ≡ length rs
 held_is [] apart = map.len-empty order (List ℕ)
 held_is (r ∷ rs) apart =
     let m = map.from_entries {R = order} rs in
     map.len-insert nat_list_cmp_total m r.0 r.1 ∙ ap (λ (o : Option (List ℕ)). cond (is_some o) (map.len m) (map.len m + 1)) (missing_entry r.0 rs apart.0)
-      ∙ ap (λ n. n + 1) (held_is rs apart.1) ∙ omega arith
+    ∙ ap (λ n. n + 1) (held_is rs apart.1) ∙ omega arith
 
 -- ---- a part put in the place of another, or behind all
 pub rest_is : (k : List ℕ) (rs : List Held) → without (position (has_key k) rs) rs ≡ dropped k rs
@@ -222,7 +220,7 @@ distinct_put k v rs apart =
     subst (λ xs. AreDistinct (xs ++ (k, v) ∷ [])) (sym (rest_is k rs)) (distinct_pushed k v (dropped k rs) (distinct_dropped k rs apart) (missing_dropped k rs apart))
 
 pub map_put : (k v : List ℕ) (rs : List Held) → AreDistinct rs
-  → map.from_entries {R = order} (without (position (has_key k) rs) rs ++ (k, v) ∷ []) ≡ map.insert (map.from_entries rs) k v
+    → map.from_entries {R = order} (without (position (has_key k) rs) rs ++ (k, v) ∷ []) ≡ map.insert (map.from_entries rs) k v
 map_put k v rs apart =
     ap (λ xs. map.from_entries {R = order} (xs ++ (k, v) ∷ [])) (rest_is k rs) ∙ from_pushed k v (dropped k rs) (missing_dropped k rs apart) ∙ from_dropped k v rs
 
@@ -232,11 +230,11 @@ held_put k v rs apart =
     ap map.len (sym (map_put k v rs apart)) ∙ held_is _ (distinct_put k v rs apart) ∙ length-append rest ((k, v) ∷ []) ∙ omega arith
 
 pub taken_put : (k v : List ℕ) (rs : List Held) → AreDistinct rs
-  → taken (map.insert (map.from_entries rs) k v) ≡ sum_by size_of (without (position (has_key k) rs) rs) + size_of (k, v)
+    → taken (map.insert (map.from_entries rs) k v) ≡ sum_by size_of (without (position (has_key k) rs) rs) + size_of (k, v)
 taken_put k v rs apart =
     ap taken (sym (map_put k v rs apart)) ∙ taken_is _ (distinct_put k v rs apart) ∙ sum_by_push size_of (without (position (has_key k) rs) rs) (k, v)
 
 pub suffices_put : (k v : List ℕ) (rs : List Held) (room : Room) → AreDistinct rs
-  → suffices room (map.insert (map.from_entries rs) k v)
+    → suffices room (map.insert (map.from_entries rs) k v)
     ≡ (nat_lt (length (without (position (has_key k) rs) rs)) room.parts && nat_le (sum_by size_of (without (position (has_key k) rs) rs) + size_of (k, v)) room.bytes)
 suffices_put k v rs room apart = rw (held_put k v rs apart, taken_put k v rs apart) refl

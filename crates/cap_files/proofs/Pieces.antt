@@ -1,9 +1,8 @@
 -- Pieces of a buffer, one behind another.
-use Rattle.std.proofs.Common.{◌≡◌, ℕ, zero, suc, ◌+◌, ◌-◌, ◌<◌, ◌≤◌, List, [], ◌∷◌, ◌++◌, map, length, take, drop, remove, slice_index_or, refl, ap, sym, subst, ◌∙◌, arith, length-append, length-drop, zero-add, add_assoc, sum_by, append_assoc}
+use Rattle.std.proofs.Common.{◌≡◌, ℕ, zero, suc, ◌+◌, ◌<◌, ◌≤◌, List, [], ◌∷◌, ◌++◌, length, take, drop, remove, slice_index_or, refl, ap, sym, subst, ◌∙◌, arith, length-append, length-drop, zero-add, add_assoc, sum_by, append_assoc}
 use Rattle.std.proofs.lemmas.List.{take-append-le, drop-append-le, take-append-drop, length-take-le, drop-drop}
-use Rattle.std.proofs.lemmas.List.Sums.{sum_by-cons, sum_by-append}
+use Rattle.std.proofs.lemmas.List.Sums.{sum_by-cons}
 use Rattle.std.proofs.Math.Seq.{drop-append_seam, take-append_seam, take-add, take-length, drop-length}
-use Rattle.std.proofs.lemmas.Grind.{common_steps}
 use Rattle.cap_bytes.specs.declared.part.Part.{Part}
 use Rattle.cap_files.specs.declared.records.Entry.{Entry}
 use Rattle.cap_files.specs.Laid.{records, record_of, IsLaid}
@@ -69,7 +68,7 @@ cut (e ∷ es) zero bs = drop e.size bs
 cut (e ∷ es) (suc n) bs = take e.size bs ++ cut es n (drop e.size bs)
 
 pub cut-taken : (es : List Entry) (n : ℕ) (d : Entry) (bs : List ℕ) → IsLaid es bs → n < length es
-  → take (end_of (take n es)) bs ++ drop (end_of (take n es) + (slice_index_or es n d).size) bs ≡ cut es n bs
+    → take (end_of (take n es)) bs ++ drop (end_of (take n es) + (slice_index_or es n d).size) bs ≡ cut es n bs
 cut-taken [] n d bs laid l = absurd (omega arith)
 cut-taken (e ∷ es) zero d bs laid l = ap (λ n. drop n bs) (zero-add e.size)
 cut-taken (e ∷ es) (suc n) d bs laid l =
@@ -78,7 +77,7 @@ cut-taken (e ∷ es) (suc n) d bs laid l =
     let size = (slice_index_or es n d).size in
     let front : take (end_of (e ∷ take n es)) bs ≡ take e.size bs ++ take before (drop e.size bs) = ap (λ k. take k bs) (end_of-cons e (take n es)) ∙ take-add e.size before bs in
     let behind : drop (end_of (e ∷ take n es) + size) bs ≡ drop (before + size) (drop e.size bs) =
-        ap (λ k. drop (k + size) bs) (end_of-cons e (take n es)) ∙ ap (λ k. drop k bs) (add_assoc e.size before size) ∙ sym (drop-drop (before + size) e.size bs) in
+    ap (λ k. drop (k + size) bs) (end_of-cons e (take n es)) ∙ ap (λ k. drop k bs) (add_assoc e.size before size) ∙ sym (drop-drop (before + size) e.size bs) in
     rw (front, behind, append_assoc) (ap (λ xs. take e.size bs ++ xs) rest)
 
 pub records-cut : (es : List Entry) (n : ℕ) (bs : List ℕ) → IsLaid es bs → n < length es → records (remove es n) (cut es n bs) ≡ remove (records es bs) n
@@ -92,9 +91,11 @@ pub laid-cut : (es : List Entry) (n : ℕ) (bs : List ℕ) → IsLaid es bs → 
 laid-cut [] n bs laid l = absurd (omega arith)
 laid-cut (e ∷ es) zero bs laid l = laid.2
 laid-cut (e ∷ es) (suc n) bs laid l =
-    let rest = laid-cut es n (drop e.size bs) laid.2 (omega arith) in
-    (laid.0, omega (arith, laid.1, length-append (take e.size bs) (cut es n (drop e.size bs)), length-take-le e.size bs laid.1),
-      rw (behind_kept e.size bs (cut es n (drop e.size bs)) laid.1) rest)
+    let rest = laid-cut es n (drop e.size bs) laid.2 (omega arith) in (
+      laid.0,
+      omega (arith, laid.1, length-append (take e.size bs) (cut es n (drop e.size bs)), length-take-le e.size bs laid.1),
+      rw (behind_kept e.size bs (cut es n (drop e.size bs)) laid.1) rest,
+    )
 
 pub end_within : (es : List Entry) (n : ℕ) (d : Entry) (bs : List ℕ) → IsLaid es bs → n < length es → end_of (take n es) + (slice_index_or es n d).size ≤ length bs
 end_within [] n d bs laid l = absurd (omega arith)
@@ -106,12 +107,12 @@ end_within (e ∷ es) (suc n) d bs laid l =
 
 -- one more piece
 pub records-push : (es : List Entry) (bs word bytes : List ℕ) (part : Part) → IsLaid es bs
-  → records (es ++ record { part = part; word = length word; size = length word + length bytes } ∷ []) ((bs ++ word) ++ bytes) ≡ records es bs ++ (part.0 ∷ word, bytes) ∷ []
+    → records (es ++ record { part = part; word = length word; size = length word + length bytes } ∷ []) ((bs ++ word) ++ bytes) ≡ records es bs ++ (part.0 ∷ word, bytes) ∷ []
 records-push es bs word bytes part laid =
     rw (append_assoc, records-append es _ bs (word ++ bytes) laid, all_taken word bytes, take-append_seam word bytes, drop-append_seam word bytes) refl
 
 pub laid-push : (es : List Entry) (bs word bytes : List ℕ) (part : Part) → IsLaid es bs
-  → IsLaid (es ++ record { part = part; word = length word; size = length word + length bytes } ∷ []) ((bs ++ word) ++ bytes)
+    → IsLaid (es ++ record { part = part; word = length word; size = length word + length bytes } ∷ []) ((bs ++ word) ++ bytes)
 laid-push es bs word bytes part laid =
     rw (append_assoc) (laid-append es _ bs (word ++ bytes) laid (omega arith, omega (arith, length-append word bytes), ap length (all_dropped word bytes)))
 
@@ -125,7 +126,7 @@ length-cut es n d bs laid l =
 
 -- what the records without one take
 pub sizes-cut : (es : List Entry) (n : ℕ) (d : Entry) (bs : List ℕ) → IsLaid es bs → n < length es
-  → sum_by size_of (remove (records es bs) n) + (slice_index_or es n d).size ≡ length bs
+    → sum_by size_of (remove (records es bs) n) + (slice_index_or es n d).size ≡ length bs
 sizes-cut es n d bs laid l =
     let left = ap (sum_by size_of) (records-cut es n bs laid l) in
     let whole = sizes (remove es n) (cut es n bs) (laid-cut es n bs laid l) in

@@ -1,7 +1,6 @@
 -- How a pile lays its parts into one buffer: for each entry a piece, of which the first bytes are the folder's word.
-use Rattle.std.specs.Prelude.{◌≡◌, ℕ, ◌≤◌, List, [], ◌∷◌, length, take, drop, slice_index_or}
+use Rattle.std.specs.Prelude.{◌≡◌, ℕ, ◌≤◌, List, [], ◌∷◌, length, take, drop}
 use Rattle.cap_files.specs.declared.records.Entry.{Entry}
-use Rattle.cap_files.specs.Room.{size_of}
 
 -- the key and the bytes of an entry's piece
 abbrev pub record_of : Entry → List ℕ → List ℕ × List ℕ

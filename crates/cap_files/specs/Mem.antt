@@ -65,9 +65,9 @@ kept calls bytes = kept_of (next_keep calls) bytes
 -- after a store: the bytes that it keeps are put at the part, where the room suffices for them
 abbrev pub stored : MemFolder → List ℕ → List ℕ → MemFolder
 stored folder key bytes = record folder {
-    shelf = shelf.placed folder.shelf key (kept folder.stores bytes);
-    stores = called folder.stores (not (is_stored folder key bytes))
-  }
+  shelf = shelf.placed folder.shelf key (kept folder.stores bytes);
+  stores = called folder.stores (not (is_stored folder key bytes));
+}
 
 -- ---- a sink
 abbrev pub text_received : MemSink → Option (List ℕ)
@@ -87,6 +87,6 @@ is_put sink piece = not (is_due sink.puts) && tape.has_room sink.tape piece
 -- after a put: the bytes that it keeps are received, where the room suffices for them
 abbrev pub received : MemSink → List ℕ → MemSink
 received sink piece = record sink {
-    tape = tape.appended sink.tape (kept sink.puts piece);
-    puts = called sink.puts (not (is_put sink piece))
-  }
+  tape = tape.appended sink.tape (kept sink.puts piece);
+  puts = called sink.puts (not (is_put sink piece));
+}

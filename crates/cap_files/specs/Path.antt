@@ -2,6 +2,6 @@
 use Rattle.std.specs.Prelude.{ℕ, List}
 
 -- the path that was made last, and how long a folder's word may be
-pub record Room : Type 0 where
+pub record PathRoom : Type 0 where
   pub text : List ℕ
   pub longest : ℕ

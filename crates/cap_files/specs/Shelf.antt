@@ -1,7 +1,5 @@
 -- A folder in memory: the parts that it holds, and its room.
-use Rattle.std.specs.Prelude.{◌≡◌, ℕ, Bool, List, [], ◌∷◌, Option, None, refl, if◌then◌else◌}
-use Rattle.std.specs.Ordering.{nat_cmp}
-use Rattle.std.specs.Cmp.Lexicographic.{slice_cmp}
+use Rattle.std.specs.Prelude.{ℕ, Bool, List, refl, if◌then◌else◌}
 use Rattle.std.specs.FinMap as map
 use Rattle.std.specs.Coded.{Coded, code_by, coded×, coded_ℕ, coded_list}
 use Rattle.cap_files.specs.Folder.{Parts}
@@ -18,8 +16,8 @@ shelved_code =
     (λ s. (s.parts, (s.room.parts, s.room.bytes))) (λ p. record { parts = p.0; room = record { parts = p.1.0; bytes = p.1.1 } }) (λ _. refl)
 
 -- nothing is held, and there is room for so many parts and bytes
-abbrev pub bare : ℕ → ℕ → Shelved
-bare parts bytes = record { parts = map.empty; room = record { parts = parts; bytes = bytes } }
+abbrev pub empty_shelf : ℕ → ℕ → Shelved
+empty_shelf parts bytes = record { parts = map.empty; room = record { parts = parts; bytes = bytes } }
 
 -- whether the room suffices for what is held once the bytes are put at the key
 abbrev pub has_room : Shelved → List ℕ → List ℕ → Bool

@@ -7,8 +7,8 @@ pub record Taped : Type 0 where
   pub most : ℕ
 
 -- no bytes yet
-abbrev pub bare : ℕ → Taped
-bare most = record { bytes = []; most = most }
+abbrev pub empty_tape : ℕ → Taped
+empty_tape most = record { bytes = []; most = most }
 
 -- whether the room suffices for a piece more
 abbrev pub has_room : Taped → List ℕ → Bool

@@ -80,7 +80,10 @@ impl Calls {
 fn keep_of(failures: &[Failure], call: u64) -> Option<u32>
     ensures { result ≡ keep_at call failures.now }
 {
-    match failures.iter().find(|failure| u64::from(failure.call) == call) {
+    match failures
+        .iter()
+        .find(|failure| u64::from(failure.call) == call)
+    {
         Some(failure) => Some(failure.keep),
         None => None,
     }

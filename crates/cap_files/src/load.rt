@@ -15,7 +15,11 @@ pub(crate) fn hand_over(held: Option<&[u8]>, to: &mut Vec<u8>) -> Result<bool, L
         return Ok(false);
     };
     let long = bytes.len() > LONGEST_PART;
-    let piece = if long { first(bytes, LONGEST_PART + 1) } else { bytes };
+    let piece = if long {
+        first(bytes, LONGEST_PART + 1)
+    } else {
+        bytes
+    };
     match to.extend_from_slice(piece) {
         Ok(()) if long => Err(LoadEnd::TooLong),
         Ok(()) => Ok(true),

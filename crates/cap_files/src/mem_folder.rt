@@ -2,7 +2,7 @@ ghost use Rattle.std.specs.Prelude.{◌≡◌, ◌≤◌, length, nat_lt, is_ok,
 ghost use Rattle.cap_files.specs.Calls.{no_calls};
 ghost use Rattle.cap_files.specs.Counts.{Rose};
 ghost use Rattle.cap_files.specs.Folder.{Loads, FailsRisen, Stores, key_of};
-ghost use Rattle.cap_files.specs.Shelf.{bare, has_room};
+ghost use Rattle.cap_files.specs.Shelf.{empty_shelf, has_room};
 ghost use Rattle.cap_files.specs.Mem.{parts_held, load_faults_of, store_faults_of, set, load_listed, store_listed, loaded, FailsWhenDue, is_stored, stored};
 
 use crate::calls::Calls;
@@ -26,7 +26,7 @@ pub struct MemFolder {
 impl MemFolder {
     /// Folders that hold nothing, and fail at no call. Their room is taken now.
     pub fn new(alloc: Global, parts: u32, bytes: u32) -> Result<MemFolder, AllocError>
-        ensures { IfOk result (λ f. f ≡ record { shelf = bare parts bytes; loads = no_calls; stores = no_calls }) }
+        ensures { IfOk result (λ f. f ≡ record { shelf = empty_shelf parts bytes; loads = no_calls; stores = no_calls }) }
     {
         Ok(MemFolder {
             shelf: Shelf::new(alloc, parts, bytes)?,

@@ -2,7 +2,7 @@ ghost use Rattle.std.specs.Prelude.{◌≡◌, ◌≤◌, length, nat_lt, is_ok,
 ghost use Rattle.cap_files.specs.Calls.{no_calls};
 ghost use Rattle.cap_files.specs.Counts.{Rose};
 ghost use Rattle.cap_files.specs.Sink.{Puts};
-ghost use Rattle.cap_files.specs.Tape.{bare};
+ghost use Rattle.cap_files.specs.Tape.{empty_tape};
 ghost use Rattle.cap_files.specs.Mem.{text_received, faults_of, put_listed, is_put, received};
 
 use crate::calls::Calls;
@@ -23,7 +23,7 @@ impl MemSink {
     /// A sink that has received nothing, with room for so many bytes, and fails at no call. Its
     /// room is taken now.
     pub fn new(alloc: Global, bytes: u32) -> Result<MemSink, AllocError>
-        ensures { IfOk result (λ s. s ≡ record { tape = bare bytes; puts = no_calls }) }
+        ensures { IfOk result (λ s. s ≡ record { tape = empty_tape bytes; puts = no_calls }) }
     {
         Ok(MemSink {
             tape: Tape::new(alloc, bytes)?,

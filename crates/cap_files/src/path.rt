@@ -1,5 +1,4 @@
 ghost use Rattle.std.specs.Prelude.{◌≡◌, ◌≤◌, ◌+◌, ◌++◌, [], length, nat_le, string_bytes, string_len, string_capacity, IfOk, if◌then◌else◌};
-ghost use Rattle.cap_files.specs.Path.{Room};
 ghost use Rattle.cap_files.specs.FileName.{path_of, name_text};
 
 use crate::name::{FileName, file_name};
@@ -19,9 +18,9 @@ pub(crate) struct Path {
 }
 
 impl Model for Path {
-    ghost use Rattle.cap_files.specs.Path.{Room};
+    ghost use Rattle.cap_files.specs.Path.{PathRoom};
 
-    ghost Value = { Room };
+    ghost Value = { PathRoom };
 
     ghost use Rattle.std.specs.Prelude.{◌+◌, ◌≤◌, string_bytes, string_capacity};
 

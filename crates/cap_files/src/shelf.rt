@@ -1,7 +1,7 @@
 ghost use Rattle.std.specs.Prelude.{◌≡◌, option_map, IfOk};
 ghost use Rattle.std.specs.FinMap as map;
 ghost use Rattle.cap_files.specs.Folder.{key_of};
-ghost use Rattle.cap_files.specs.Shelf.{bare, has_room, placed};
+ghost use Rattle.cap_files.specs.Shelf.{empty_shelf, has_room, placed};
 
 use crate::pile::Pile;
 use cap_bytes::Part;
@@ -31,7 +31,7 @@ impl Model for Shelf {
 
 impl Shelf {
     pub(crate) fn new(alloc: Global, parts: u32, bytes: u32) -> Result<Shelf, AllocError>
-        ensures { IfOk result (λ s. s ≡ bare parts bytes) }
+        ensures { IfOk result (λ s. s ≡ empty_shelf parts bytes) }
     {
         Ok(Shelf {
             pile: Pile::new(alloc, parts, bytes)?,

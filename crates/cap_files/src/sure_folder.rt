@@ -1,7 +1,7 @@
 ghost use Rattle.std.specs.Prelude.{◌≡◌, ◌≤◌, true, IfOk, IsOk, OnErr};
 ghost use Rattle.cap_files.specs.Counts.{Rose};
 ghost use Rattle.cap_files.specs.Folder.{Loads, FailsRisen, Stores, key_of};
-ghost use Rattle.cap_files.specs.Shelf.{bare, has_room};
+ghost use Rattle.cap_files.specs.Shelf.{empty_shelf, has_room};
 ghost use Rattle.cap_files.specs.Sure.{set, stored, parts_told, no_faults};
 
 use crate::folder::{Folder, LoadEnd, StoreFailed};
@@ -21,7 +21,7 @@ pub struct SureFolder {
 impl SureFolder {
     /// Folders that hold nothing. Their room is taken now.
     pub fn new(alloc: Global, parts: u32, bytes: u32) -> Result<SureFolder, AllocError>
-        ensures { IfOk result (λ f. f ≡ record { shelf = bare parts bytes; told = true }) }
+        ensures { IfOk result (λ f. f ≡ record { shelf = empty_shelf parts bytes; told = true }) }
     {
         Ok(SureFolder {
             shelf: Shelf::new(alloc, parts, bytes)?,

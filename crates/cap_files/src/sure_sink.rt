@@ -2,7 +2,7 @@ ghost use Rattle.std.specs.Prelude.{◌≡◌, ◌≤◌, true, IfOk, IsOk, OnEr
 ghost use Rattle.cap_files.specs.Counts.{Rose};
 ghost use Rattle.cap_files.specs.Sink.{Puts};
 ghost use Rattle.cap_files.specs.Sure.{received, text_told, no_faults};
-ghost use Rattle.cap_files.specs.Tape.{bare};
+ghost use Rattle.cap_files.specs.Tape.{empty_tape};
 
 use crate::sink::{Sink, SinkFailed};
 use crate::tape::Tape;
@@ -18,7 +18,7 @@ pub struct SureSink {
 impl SureSink {
     /// A sink that has received nothing. Its room is taken now.
     pub fn new(alloc: Global, bytes: u32) -> Result<SureSink, AllocError>
-        ensures { IfOk result (λ s. s ≡ record { tape = bare bytes; told = true }) }
+        ensures { IfOk result (λ s. s ≡ record { tape = empty_tape bytes; told = true }) }
     {
         Ok(SureSink {
             tape: Tape::new(alloc, bytes)?,

@@ -1,5 +1,5 @@
 ghost use Rattle.std.specs.Prelude.{◌≡◌, ◌≤◌, ◌+◌, length, IfOk};
-ghost use Rattle.cap_files.specs.Tape.{bare, has_room, appended};
+ghost use Rattle.cap_files.specs.Tape.{empty_tape, has_room, appended};
 
 use crate::piece::append;
 use std::alloc::{AllocError, Global};
@@ -27,7 +27,7 @@ impl Model for Tape {
 
 impl Tape {
     pub(crate) fn new(alloc: Global, most: u32) -> Result<Tape, AllocError>
-        ensures { IfOk result (λ t. t ≡ bare most) }
+        ensures { IfOk result (λ t. t ≡ empty_tape most) }
     {
         Ok(Tape {
             bytes: Vec::with_capacity(alloc, most as usize)?,

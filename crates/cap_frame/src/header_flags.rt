@@ -31,6 +31,7 @@ impl HeaderFlags {
     ];
 
     /// The flags that a byte names.
+    #[tactic(auto, unfolding(bitflags::proofs::OnLiterals::bitflags_on_literals))]
     pub fn of(byte: u8) -> HeaderFlags
         ensures { result.0 ≡ header_flags byte }
     {

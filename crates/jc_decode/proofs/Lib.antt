@@ -5,3 +5,7 @@ pub mod Listing
 pub mod Tables
 pub mod Targets
 pub mod Ranges
+pub mod Appending
+pub mod Windows
+pub mod ReadBack
+pub mod Written

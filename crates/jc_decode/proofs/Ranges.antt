@@ -1,6 +1,6 @@
 -- The ranges of operands that are read from bytes.
 use Rattle.std.proofs.Common.{cond, nat_le, Fits, ◌≡◌, ◌<◌, ◌+◌, ◌^◌, ℕ, Bool, true, false, Some, None, List, length, drop, get_or, refl, sym, ap, ◌∙◌, subst, arith, rules}
-use Rattle.std.specs.Prelude.{ℤ, FitsSigned, not, ◌||◌, map, replicate, Result, Ok, Err}
+use Rattle.std.specs.Prelude.{IfOk, ℤ, FitsSigned, not, ◌||◌, map, replicate, Result, Ok, Err}
 use Rattle.std.specs.Int.{w8, w16, w32}
 use Rattle.std.specs.List.{range_with_len}
 use Rattle.std.proofs.Math.Facts.{sfits_widen, sfits_to_z}
@@ -16,9 +16,10 @@ use Rattle.jc_decode.specs.declared.insn.CodeEnd.{CodeEnd}
 use Rattle.jc_decode.specs.declared.insn.CodeEnd.TheVariants.{BadOperand}
 use Rattle.jc_decode.specs.declared.insn.Insn.{Insn}
 use Rattle.jc_decode.specs.Layout.{width, layout_of, opcode}
-use Rattle.jc_decode.specs.Decoding.{allows, decoded, operand_at, or_cut, number_of, value, AreBytes, FitsOperand, FitsLayout}
+use Rattle.jc_decode.specs.Decoding.{IsWithin, allows, decoded, operand_at, or_cut, number_of, value, AreBytes, FitsOperand, FitsLayout}
+use Rattle.jc_decode.specs.Encoding.{bits, Allows, AllowsBy, IsAllowed}
 use Rattle.jc_decode.specs.Listing.{jumps}
-use Rattle.jc_decode.proofs.Decoded.{Begins-decoded, from_bind, or_cut-ok}
+use Rattle.jc_decode.proofs.Decoded.{Begins-decoded, IsWithin-decoded, from_bind, or_cut-ok}
 
 -- a number of so many bytes is below the next power of 256
 number_at-fits : (w at n : ℕ) (xs : List ℕ) → AreBytes xs → number_at w at xs ≡ Some n → n < 256 ^ w
@@ -124,3 +125,49 @@ offset-decoded xs at i bytes h jump =
     let named = names_offset-at i.op (op-fits xs at i bytes h) in
     let signed : is_offset (layout_of i.op) ≡ true = let e : names_offset i.op ≡ is_offset (layout_of i.op) = rw jump refl in sym e ∙ named in
     fits-offset b.layout.x i.x (ap is_offset (sym b.is_layout) ∙ signed) (FitsOperand-read b.layout.x xs _ i.x bytes b.x)
+
+-- what an operand is read from is what it is written as
+bits-value : (o : Operand) (n : ℕ) → allows o n ≡ true → allows o (bits o (value o n)) ≡ true
+bits-value Absent n h = refl
+bits-value U1 n h = refl
+bits-value U2 n h = refl
+bits-value S1 n h = refl
+bits-value S2 n h = refl
+bits-value S4 n h = refl
+bits-value DupWords n h = h
+bits-value SwapWords n h = h
+bits-value ArrayType n h = h
+bits-value TestedType n h = h
+
+allowed-test : (o : Operand) (b : Bool) (n : ℕ) (v : ℤ) → cond b (Ok (value o n)) (Err (BadOperand n)) ≡ Ok v → b ≡ true
+allowed-test o true n v h = refl
+allowed-test o false n v h = absurd (cc)
+
+-- an operand that is read is allowed
+Allows-read : (o : Operand) (xs : List ℕ) (at : ℕ) (v : ℤ) → AreBytes xs → operand_at o xs at ≡ Ok v → Allows o v
+Allows-read o xs at v bytes h =
+    let fits = FitsOperand-read o xs at v bytes h in
+    let test : allows o (bits o v) ≡ true =
+    from_bind (or_cut (number_of o xs at)) _ v h (λ n n_is h1.
+    ap (λ (x : ℤ). allows o (bits o x)) (sym (allowed-value o (allows o n) n v h1)) ∙ bits-value o n (allowed-test o (allows o n) n v h1)) in
+    (fits, rw test (search rules))
+
+-- what is decoded is allowed
+pub IsAllowed-decoded : (xs : List ℕ) (at : ℕ) (i : Insn) → AreBytes xs → decoded xs at ≡ Ok i → IsAllowed i
+IsAllowed-decoded xs at i bytes h =
+    let b = Begins-decoded xs at i h in
+    subst (AllowsBy i) (sym b.is_layout)
+    (Allows-read b.layout.x xs _ i.x bytes b.x, Allows-read b.layout.y xs _ i.y bytes b.y, Allows-read b.layout.z xs _ i.z bytes b.z)
+
+-- what is known of an instruction that is decoded
+pub fits-answer : (xs : List ℕ) (at : ℕ) (r : Result Insn CodeEnd) → AreBytes xs → r ≡ decoded xs at → IfOk r (λ i. FitsLayout i (layout_of i.op))
+fits-answer xs at (Ok i) bytes h = FitsLayout-decoded xs at i bytes (sym h)
+fits-answer xs at (Err e) bytes h = search rules
+
+pub allowed-answer : (xs : List ℕ) (at : ℕ) (r : Result Insn CodeEnd) → AreBytes xs → r ≡ decoded xs at → IfOk r (λ i. IsAllowed i)
+allowed-answer xs at (Ok i) bytes h = IsAllowed-decoded xs at i bytes (sym h)
+allowed-answer xs at (Err e) bytes h = search rules
+
+pub within-answer : (xs : List ℕ) (at : ℕ) (r : Result Insn CodeEnd) → r ≡ decoded xs at → IfOk r (λ i. IsWithin xs at i)
+within-answer xs at (Ok i) h = IsWithin-decoded xs at i (sym h)
+within-answer xs at (Err e) h = search rules

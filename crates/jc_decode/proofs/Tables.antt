@@ -1,5 +1,5 @@
 -- The table of a switch that is decoded, and the cases in it.
-use Rattle.std.proofs.Common.{◌≡◌, ◌≤◌, ◌<◌, ◌+◌, ◌*◌, ◌-◌, ℕ, zero, suc, Bool, true, false, cond, Some, None, Result, Ok, Err, List, length, refl, sym, ap, ◌∙◌, arith, rules}
+use Rattle.std.proofs.Common.{subst, ◌≡◌, ◌≤◌, ◌<◌, ◌+◌, ◌*◌, ◌-◌, ℕ, zero, suc, Bool, true, false, cond, Some, None, Result, Ok, Err, List, length, refl, sym, ap, ◌∙◌, arith, rules}
 use Rattle.std.specs.Prelude.{◌-ℤ◌, FitsSigned, ℤ, ◌≤ℤ◌, unsigned_abs, int_lt, map, slice_get, IsTrue}
 use Rattle.std.specs.List.{range_with_len}
 use Rattle.std.specs.Option.{option_map}
@@ -16,7 +16,7 @@ use Rattle.jc_decode.specs.declared.insn.Insn.{Insn}
 use Rattle.jc_decode.specs.Layout.{width, total_width, layout_of}
 use Rattle.jc_decode.specs.Decoding.{decoded, table_end, range_end, range_count, pairs_end, pair_width, bad_operand, reached}
 use Rattle.jc_decode.specs.Cases.{cases, cases_in, range_case, pair_case, is_switch, is_table, has_cases, with_default, HasTable}
-use Rattle.jc_decode.proofs.Decoded.{Begins-decoded, ok-same, range_end-ok, pairs_end-ok}
+use Rattle.jc_decode.proofs.Decoded.{Begins-decoded, ok-same, range_end-ok, pairs_end-ok, table_end-ok}
 
 -- the n-th of the numbers below k
 slice_get-range : (a k n : ℕ) → n < k → slice_get (range_with_len a k) n ≡ Some (a + n)
@@ -62,13 +62,23 @@ end-moved xs at k l y y' z z' m n e f g h t = rw (← e, ← f, ← g, ← h) t
 
 -- the table of a switch ends where the switch does
 pub HasTable-end : (xs : List ℕ) (at : ℕ) (i : Insn) (l : Layout) → HasTable xs at i → layout_of i.op ≡ Ok l → is_table l.cases ≡ true
-    → table_end l xs (at + 1 + total_width l) i.y i.z ≡ Ok (at + i.len)
+    → (table_end l xs (at + 1 + total_width l) i.y i.z ≡ Ok (at + i.len)) × (at + 1 + total_width l ≤ length xs)
 HasTable-end xs at i l h is_layout is_switch =
     let yes : IsTrue (has_cases (layout_of i.op)) = rw (is_layout, is_switch) (search rules) in
     let d = ButDefault-with_default i.x (decoded xs at) i (h yes) in
     let b = Begins-decoded xs at d.insn d.is_decoded in
-    let same : b.layout ≡ l = ok-same _ _ (layout_of i.op) (ap layout_of (sym d.op) ∙ b.is_layout) is_layout in
-    end-moved xs at b.layout l d.insn.y i.y d.insn.z i.z d.insn.len i.len same d.y d.z d.len b.ends
+    let same : b.layout ≡ l = ok-same _ _ (layout_of i.op) (ap layout_of (sym d.op) ∙ b.is_layout) is_layout in (
+      end-moved xs at b.layout l d.insn.y i.y d.insn.z i.z d.insn.len i.len same d.y d.z d.len b.ends,
+      subst (λ (k : Layout). at + 1 + total_width k ≤ length xs) same b.reaches,
+    )
+
+-- the table stands between the operands and the end
+pub table_within : (xs : List ℕ) (at : ℕ) (i : Insn) (l : Layout) → HasTable xs at i → layout_of i.op ≡ Ok l → is_table l.cases ≡ true
+    → (1 + total_width l ≤ i.len) × (at + i.len ≤ length xs)
+table_within xs at i l h is_layout is_switch =
+    let t = HasTable-end xs at i l h is_layout is_switch in
+    let e = table_end-ok l l.cases xs (at + 1 + total_width l) i.y i.z (at + i.len) t.0 t.1 in
+    (omega (arith, e.0), e.1)
 
 -- low is not above high where there is a table of their numbers, and the table lies within the code
 range_order : (bound : Operand) (xs : List ℕ) (table : ℕ) (low high : ℤ) (e : ℕ) → range_end bound xs table low high ≡ Ok e → low ≤ℤ high
@@ -83,7 +93,7 @@ pub range_table : (xs : List ℕ) (at : ℕ) (i : Insn) (l : Layout) → HasTabl
     → (i.y ≤ℤ i.z) × (at + 1 + total_width l + 2 * range_count i.y i.z ≤ length xs)
 range_table xs at i l h is_layout is_range =
     let ends = HasTable-end xs at i l h is_layout (rw is_range refl) in
-    let range : range_end l.z xs (at + 1 + total_width l) i.y i.z ≡ Ok (at + i.len) = rw is_range at ends in
+    let range : range_end l.z xs (at + 1 + total_width l) i.y i.z ≡ Ok (at + i.len) = rw is_range at ends.0 in
     let place = range_end-ok l.z xs (at + 1 + total_width l) i.y i.z (at + i.len) range in
     (range_order l.z xs _ i.y i.z _ range, omega (arith, place.0, place.1))
 
@@ -91,12 +101,12 @@ pub pairs_table : (xs : List ℕ) (at : ℕ) (i : Insn) (l : Layout) (key : Oper
     → l.cases ≡ Pairs key → at + 1 + total_width l + pair_width key * unsigned_abs i.y ≤ length xs
 pairs_table xs at i l key h is_layout is_pairs =
     let ends = HasTable-end xs at i l h is_layout (rw is_pairs refl) in
-    let pairs : pairs_end key xs (at + 1 + total_width l) (unsigned_abs i.y) ≡ Ok (at + i.len) = rw is_pairs at ends in
+    let pairs : pairs_end key xs (at + 1 + total_width l) (unsigned_abs i.y) ≡ Ok (at + i.len) = rw is_pairs at ends.0 in
     let place = pairs_end-ok key xs (at + 1 + total_width l) (unsigned_abs i.y) (at + i.len) pairs in
     omega (arith, place.0, place.1)
 
 -- the cases of an instruction, by its layout
-cases-by : (xs : List ℕ) (at : ℕ) (i : Insn) (l : Layout) (k : Cases) → layout_of i.op ≡ Ok l → l.cases ≡ k
+pub cases-by : (xs : List ℕ) (at : ℕ) (i : Insn) (l : Layout) (k : Cases) → layout_of i.op ≡ Ok l → l.cases ≡ k
     → cases xs at i ≡ cases_in k xs (at + 1 + total_width l) i
 unfolding cases
 cases-by xs at i l k is_layout is_cases = rw (is_layout, is_cases) refl

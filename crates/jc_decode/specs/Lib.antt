@@ -3,3 +3,4 @@ pub mod Decoding
 pub mod Cases
 pub mod Listing
 pub mod Instructions
+pub mod Encoding

@@ -2,10 +2,11 @@ ghost use Rattle.std.specs.Prelude.{Ok, ◌≤ℤ◌, map, unsigned_abs, FitsSig
 ghost use Rattle.jc_decode.specs.Layout.{width};
 ghost use Rattle.std.specs.List.{range_with_len};
 ghost use Rattle.std.specs.Int.{w16};
-ghost use Rattle.jc_decode.specs.Decoding.{AreBytes, decoded, pair_width, range_count};
+ghost use Rattle.jc_decode.specs.Decoding.{decoded, pair_width, range_count};
 ghost use Rattle.jc_decode.specs.Cases.{offset_at, cases, range_case, pair_case, HasTable, is_switch};
 ghost use Rattle.jc_decode.specs.Listing.{falls, is_branch, jumps, target, targets};
 
+use crate::decoding::are_bytes;
 use crate::insn::{Case, Insn, Placed};
 use crate::layout::{Cases, Layout, Operand};
 use cap_bytes::View;
@@ -136,11 +137,4 @@ fn hop(place: u16, offset: i32) -> i32
     ensures { result ≡ target place offset }
 {
     i32::from(place) + offset
-}
-
-/// The items of a list of bytes are bytes: a fact for proofs, and no work.
-fn are_bytes(bytes: &[u8])
-    ensures { AreBytes bytes.now }
-{
-    let _ = bytes;
 }

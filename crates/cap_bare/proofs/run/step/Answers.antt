@@ -20,13 +20,13 @@ act-requires c =
 pub overflow_cast-result : goal.overflow_cast-result
 overflow_cast-result c =
     let g = step-to c.args.code.bytes.now c.args.bare (state_at c.args.place c.args.frame.now) c.requires.safe c.in-Ok.placed (sym c.in-Ok.ensures.value)
-      c.in-To.next c.act.new.self (sym c.in-To.ensures) in
+    c.in-To.next c.act.new.self (sym c.in-To.ensures) in
     place-fits c.in-To.next g.place g.is (omega (arith, g.small, c.requires.short))
 
 pub returns-in-To : goal.returns-in-To
 returns-in-To c =
     let g = step-to c.args.code.bytes.now c.args.bare (state_at c.args.place c.args.frame.now) c.requires.safe c.in-Ok.placed (sym c.in-Ok.ensures.value)
-      c.in-To.next c.act.new.self (sym c.in-To.ensures) in
+    c.in-To.next c.act.new.self (sym c.in-To.ensures) in
     let small : g.place < 2 ^ 15 = omega (arith, g.small, c.requires.short) in
     ap (λ z. running (state_at (nat_abs z) c.act.new.self)) (word-is c.in-To.next g.place g.is small) ∙ sym g.stepped
 
@@ -35,4 +35,4 @@ returns-in-Gives c =
     let fits : SFits w16 c.in-Gives.value = search rules in
     ap returned (to_z-of_z w16 c.in-Gives.value fits)
     ∙ sym (step-out c.args.code.bytes.now c.args.bare (state_at c.args.place c.args.frame.now) c.requires.safe c.in-Ok.placed (sym c.in-Ok.ensures.value)
-      c.in-Gives.value (sym c.in-Gives.ensures))
+    c.in-Gives.value (sym c.in-Gives.ensures))

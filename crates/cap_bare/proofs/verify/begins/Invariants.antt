@@ -1,9 +1,12 @@
-use Rattle.std.proofs.Common.{◌≡◌, ◌-◌, length}
-use Rattle.cap_bare.specs.Walk.{has_place, instructions, instructions_from}
+use Rattle.std.proofs.Common.{◌≤◌, ◌-◌}
+use Rattle.cap_bare.specs.Code.{IsPlace, IsReached}
 use Rattle.cap_bare.proofs.verify.begins.Given as goal
 
 abbrev pub invariant-walk : goal.invariant-walk
-invariant-walk l = has_place (instructions_from l.code.bytes.now l.at) l.place ≡ has_place (instructions l.code.bytes.now) l.place
+invariant-walk l = record {
+  reached : IsReached l.code.bytes.now l.at;
+  ahead : IsPlace l.code.bytes.now l.place → l.at ≤ l.place;
+}
 
 abbrev pub decreases-walk : goal.decreases-walk
-decreases-walk l = length l.code.bytes.now - l.at
+decreases-walk l = l.place - l.at

@@ -27,11 +27,11 @@ returns-in-Some c =
     let here : n < length es = omega (arith, there, length-records es bs) in
     let sizes = sizes-cut es n c.index.result.now bs c.self.invariant.laid here in
     let parts : c.len-in-Some.result - 1 ≡ length (remove c.args.self.now.records n) =
-        subst (λ p. c.len-in-Some.result - 1 ≡ length (remove p.records n)) c.self.view_is
-        (omega (arith, length-remove es n bs here, c.len-in-Some.ensures, c.self.inside.entries.ok.0)) in
+    subst (λ p. c.len-in-Some.result - 1 ≡ length (remove p.records n)) c.self.view_is
+    (omega (arith, length-remove es n bs here, c.len-in-Some.ensures, c.self.inside.entries.ok.0)) in
     let bytes : c.len.result - c.index.result.now.size ≡ sum_by size_of (remove c.args.self.now.records n) =
-        subst (λ p. c.len.result - c.index.result.now.size ≡ sum_by size_of (remove p.records n)) c.self.view_is
-        (omega (arith, sizes, ap (λ (e : Entry). e.size) c.index.ensures, c.len.ensures, c.self.inside.buffer.ok.0)) in
+    subst (λ p. c.len.result - c.index.result.now.size ≡ sum_by size_of (remove p.records n)) c.self.view_is
+    (omega (arith, sizes, ap (λ (e : Entry). e.size) c.index.ensures, c.len.ensures, c.self.inside.buffer.ok.0)) in
     rw (c.in-Some.is) (c.suffices.ensures ∙ rw (parts, bytes) refl)
 
 pub returns-in-None : goal.returns-in-None
@@ -39,8 +39,8 @@ returns-in-None c =
     let es = c.self.inside.entries.items in
     let bs = c.self.inside.buffer.items in
     let parts : c.len-in-None.result ≡ length c.args.self.now.records =
-        subst (λ p. c.len-in-None.result ≡ length p.records) c.self.view_is (omega (arith, length-records es bs, c.len-in-None.ensures, c.self.inside.entries.ok.0)) in
+    subst (λ p. c.len-in-None.result ≡ length p.records) c.self.view_is (omega (arith, length-records es bs, c.len-in-None.ensures, c.self.inside.entries.ok.0)) in
     let bytes : c.len-in-None-2.result ≡ sum_by size_of c.args.self.now.records =
-        subst (λ p. c.len-in-None-2.result ≡ sum_by size_of p.records) c.self.view_is
-        (omega (arith, sizes es bs c.self.invariant.laid, c.len-in-None-2.ensures, c.self.inside.buffer.ok.0)) in
+    subst (λ p. c.len-in-None-2.result ≡ sum_by size_of p.records) c.self.view_is
+    (omega (arith, sizes es bs c.self.invariant.laid, c.len-in-None-2.ensures, c.self.inside.buffer.ok.0)) in
     rw (c.in-None.is) (c.suffices-in-None.ensures ∙ rw (parts, bytes) refl)

@@ -1,4 +1,4 @@
-use Rattle.std.proofs.Common.{◌≡◌, ◌∙◌, sym, ap, length}
+use Rattle.std.proofs.Common.{◌∙◌, sym}
 use Rattle.cap_files.proofs.Pieces.{length-records}
 use Rattle.cap_files.proofs.pile.Pile.parts.Goals as goal
 

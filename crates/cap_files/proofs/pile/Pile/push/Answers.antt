@@ -1,4 +1,4 @@
-use Rattle.std.proofs.Common.{◌≡◌, ◌≤◌, ◌<◌, ◌+◌, ◌∙◌, refl, sym, ap, subst, length, sum_by, arith}
+use Rattle.std.proofs.Common.{◌≤◌, ◌<◌, ◌+◌, refl, sym, ap, subst, length, sum_by, arith}
 use Rattle.cap_files.specs.Room.{size_of}
 use Rattle.cap_files.proofs.Pieces.{length-records, sizes, records-push, laid-push}
 use Rattle.cap_files.proofs.pile.Pile.push.Goals as goal
@@ -20,10 +20,10 @@ push_reserved-requires c =
 
 pub invariant_of-self : goal.invariant_of-self
 invariant_of-self c = record {
-    laid = rw (c.push_reserved.ensures.items, c.append-2.ensures.items, c.append.ensures.items, c.as_bytes.ensures.value) (laid-push _ _ _ _ _ c.self.invariant.laid);
-    parts = omega (arith, c.self.invariant.parts, c.push_reserved.ensures.capacity);
-    bytes = omega (arith, c.self.invariant.bytes, c.append.ensures.capacity, c.append-2.ensures.capacity)
-  }
+  laid = rw (c.push_reserved.ensures.items, c.append-2.ensures.items, c.append.ensures.items, c.as_bytes.ensures.value) (laid-push _ _ _ _ _ c.self.invariant.laid);
+  parts = omega (arith, c.self.invariant.parts, c.push_reserved.ensures.capacity);
+  bytes = omega (arith, c.self.invariant.bytes, c.append.ensures.capacity, c.append-2.ensures.capacity);
+}
 
 pub returns : goal.returns
 returns c = rw (← c.self.view_is) (rw (c.push_reserved.ensures.items, c.append-2.ensures.items, c.append.ensures.items, c.as_bytes.ensures.value, records-push _ _ _ _ _ c.self.invariant.laid) refl)

@@ -1,5 +1,5 @@
-use Rattle.std.proofs.Common.{◌≡◌, ◌≤◌, ◌<◌, ◌+◌, ◌∙◌, refl, sym, ap, subst, length, take, slice_index_or, arith}
-use Rattle.cap_files.proofs.Pieces.{length-records, end_within, cut-taken, records-cut, laid-cut, end_of}
+use Rattle.std.proofs.Common.{◌<◌, refl, sym, ap, subst, length, arith}
+use Rattle.cap_files.proofs.Pieces.{length-records, end_within, cut-taken, records-cut, laid-cut}
 use Rattle.cap_files.specs.declared.records.Entry.{Entry}
 use Rattle.cap_files.proofs.pile.Pile.remove.Goals as goal
 
@@ -34,10 +34,10 @@ invariant_of-self c =
     let size = ap (λ (e : Entry). e.size) c.remove-entry.ensures.value in
     let left = cut-taken c.self.inside.entries.items c.args.n c.remove-entry.result c.self.inside.buffer.items c.self.invariant.laid here in
     record {
-    laid = rw (c.remove-entry.ensures.items, c.cut_out.ensures.items, c.end_of-start.ensures, size, left) (laid-cut _ _ _ c.self.invariant.laid here);
-    parts = omega (arith, c.self.invariant.parts, c.remove-entry.ensures.capacity);
-    bytes = omega (arith, c.self.invariant.bytes, c.cut_out.ensures.capacity)
-  }
+      laid = rw (c.remove-entry.ensures.items, c.cut_out.ensures.items, c.end_of-start.ensures, size, left) (laid-cut _ _ _ c.self.invariant.laid here);
+      parts = omega (arith, c.self.invariant.parts, c.remove-entry.ensures.capacity);
+      bytes = omega (arith, c.self.invariant.bytes, c.cut_out.ensures.capacity);
+    }
 
 pub returns : goal.returns
 returns c =

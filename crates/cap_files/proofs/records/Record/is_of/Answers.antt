@@ -1,4 +1,4 @@
-use Rattle.std.proofs.Common.{◌≡◌, ◌∙◌, sym, ap, ◌∷◌, Bool, ◌&&◌, eq-eqb}
+use Rattle.std.proofs.Common.{◌∙◌, sym, ap, ◌∷◌, ◌&&◌, eq-eqb}
 use Rattle.std.specs.Str.{bytes_eq}
 use Rattle.cap_files.proofs.Keys.{key_is}
 use Rattle.cap_files.proofs.records.Record.is_of.Goals as goal

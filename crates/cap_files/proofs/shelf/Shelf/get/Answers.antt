@@ -1,4 +1,4 @@
-use Rattle.std.proofs.Common.{◌≡◌, ◌∙◌, sym}
+use Rattle.std.proofs.Common.{◌∙◌}
 use Rattle.cap_files.proofs.Keys.{get_held}
 use Rattle.cap_files.proofs.shelf.Shelf.get.Goals as goal
 
