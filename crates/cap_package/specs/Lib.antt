@@ -21,3 +21,4 @@ pub mod CountChecks
 pub mod Agreement
 pub mod Customs
 pub mod CustomSeen
+pub mod FirstFault
