@@ -22,3 +22,4 @@ pub mod Agreement
 pub mod Customs
 pub mod CustomSeen
 pub mod FirstFault
+pub mod StandsFor
