@@ -30,3 +30,6 @@ pub use fault::PackFault;
 pub use package_type::Package;
 pub use packaging::package;
 pub use parts::{OwnedParts, Parts};
+
+#[cfg(test)]
+mod tests;

@@ -2,6 +2,7 @@ ghost use Rattle.std.specs.Prelude.{◌≡◌, IfOk};
 ghost use Rattle.cap_package.specs.Components.{Answers};
 ghost use Rattle.cap_package.specs.ComponentsSeen.{components_seen};
 ghost use Rattle.cap_package.specs.Agreement.{package_of};
+ghost use Rattle.cap_package.specs.FirstFault.{Tells};
 
 use crate::agreement::{counts_agree, members_agree, places_agree};
 use crate::components::Components;
@@ -26,9 +27,13 @@ fn agreeing<'a>(parts: &'a Parts<'a>) -> Result<Components<'a>, PackFault>
     Ok(all)
 }
 
-/// The package that the parts stand for.
+/// The package that the parts stand for, or why they stand for none.
+#[tactic(auto, using(crate::proofs::FirstTold::first_told))]
 pub fn package<'a>(parts: &'a Parts<'a>) -> Result<Package<'a>, PackFault>
     ensures value { result ≡ package_of parts.now }
+    // A package exactly where nothing is at fault; else the first condition by number that is broken, at its
+    // least thing.
+    ensures tells { Tells parts.now result }
 {
     match agreeing(parts) {
         Ok(all) => Ok(Package { all }),
