@@ -1,0 +1,4 @@
+pub mod Row
+pub mod Stack
+pub mod Effect
+pub mod Demand
