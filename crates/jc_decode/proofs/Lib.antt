@@ -1,0 +1,4 @@
+pub mod Opcodes
+pub mod Pairs
+pub mod Decoded
+pub mod Listing

@@ -1,0 +1,54 @@
+-- The cases of a switch: an offset for each number from low to high, or pairs of a key and an offset
+-- (JCVM 2.2, chapter 7: stableswitch, itableswitch, slookupswitch, ilookupswitch).
+use Rattle.std.specs.Prelude.{◌≡◌, ◌+◌, ◌*◌, ℕ, ℤ, pos, ◌+ℤ◌, unsigned_abs, List, [], map, Result, Ok, Err, IsTrue, Bool, ◌&&◌, nat_le}
+use Rattle.std.specs.List.{range_with_len}
+use Rattle.std.specs.Result.{result_unwrap_or}
+use Rattle.jc_decode.specs.declared.layout.Operand.TheVariants.{S2}
+use Rattle.jc_decode.specs.declared.layout.Operand.{Operand}
+use Rattle.jc_decode.specs.declared.layout.Layout.{Layout}
+use Rattle.jc_decode.specs.declared.layout.Cases.{Cases}
+use Rattle.jc_decode.specs.declared.layout.Cases.TheVariants.{Range, Pairs}
+use Rattle.jc_decode.specs.declared.layout.Cases.TheVariants.{Absent as NoCases}
+use Rattle.jc_decode.specs.declared.insn.Insn.{Insn}
+use Rattle.jc_decode.specs.declared.insn.Case.{Case}
+use Rattle.jc_decode.specs.declared.insn.CodeEnd.{CodeEnd}
+use Rattle.jc_decode.specs.Layout.{width, total_width, layout_of}
+use Rattle.jc_decode.specs.Decoding.{operand_at, key_at, pair_width, range_count, decoded}
+
+-- the offset at a place of a table
+abbrev pub offset_at : List ℕ → ℕ → ℤ
+offset_at xs at = result_unwrap_or (operand_at S2 xs at) (pos 0)
+
+-- the case of low + n, in a table of offsets that begins at this place
+abbrev pub range_case : List ℕ → ℕ → ℤ → ℕ → Case
+range_case xs table low n = record { key = low +ℤ pos n; offset = offset_at xs (table + 2 * n) }
+
+-- the n-th case of a table of pairs that begins at this place
+abbrev pub pair_case : List ℕ → ℕ → Operand → ℕ → Case
+pair_case xs table key n =
+    record { key = key_at key xs table n; offset = offset_at xs (table + pair_width key * n + width key) }
+
+abbrev pub cases_in : Cases → List ℕ → ℕ → Insn → List Case
+cases_in NoCases xs table i = []
+cases_in Range xs table i = map (range_case xs table i.y) (range_with_len 0 (range_count i.y i.z))
+cases_in (Pairs key) xs table i = map (pair_case xs table key) (range_with_len 0 (unsigned_abs i.y))
+
+abbrev pub cases_by : Result Layout CodeEnd → List ℕ → ℕ → Insn → List Case
+cases_by (Ok l) xs at i = cases_in l.cases xs (at + 1 + total_width l) i
+cases_by (Err e) xs at i = []
+
+-- the cases of the switch i at a place, in the table's order; what is no switch has none
+unfoldable pub cases : List ℕ → ℕ → Insn → List Case
+cases xs at i = cases_by (layout_of i.op) xs at i
+
+-- whether this is the opcode of a switch
+abbrev pub is_switch : ℕ → Bool
+is_switch op = nat_le 115 op && nat_le op 118
+
+abbrev pub with_default : ℤ → Result Insn CodeEnd → Result Insn CodeEnd
+with_default x (Ok i) = Ok (record i { x = x })
+with_default x (Err e) = Err e
+
+-- where i is a switch, it is the one at this place of the code but for its default
+abbrev pub HasTable : List ℕ → ℕ → Insn → Type 0
+HasTable xs at i = IsTrue (is_switch i.op) → with_default i.x (decoded xs at) ≡ Ok i
