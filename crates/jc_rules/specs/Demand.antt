@@ -1,6 +1,6 @@
 -- What an instruction asks of the frame before it changes anything (JCVM 2.2, section 7.5; Leroy 2002,
 -- section 2.2), and the first thing that is missing.
-use Rattle.std.specs.Prelude.{◌≡◌, ℕ, ◌-◌, ◌<◌, ◌⊎◌, ⊤, List, [], ◌∷◌, length, reverse, map, All, Option, Some, None, IsSomeAnd, slice_get}
+use Rattle.std.specs.Prelude.{◌≡◌, ℕ, ◌+◌, ◌-◌, ◌≤◌, ◌⊎◌, ⊤, List, [], ◌∷◌, length, reverse, map, All, Option, Some, None, IsSomeAnd, slice_get}
 use Rattle.jc_base.specs.declared.ty.Ty.{Ty}
 use Rattle.jc_base.specs.declared.ty.Ty.TheVariants.{Bottom, Short, IntHigh, IntLow, Null, Class, ArrBool, ArrByte, ArrShort, ArrInt, ArrRef, Fresh, Top}
 use Rattle.jc_base.specs.Class.{ClassTable, IsClass, object}
@@ -9,9 +9,9 @@ use Rattle.jc_rules.specs.declared.fault.RuleFault.{RuleFault}
 use Rattle.jc_rules.specs.declared.fault.RuleFault.TheVariants.{Underflow, Mismatch, NoLocal, SplitInt, FreshKept}
 use Rattle.jc_rules.specs.declared.demand.Before.{Before}
 use Rattle.jc_rules.specs.declared.demand.Want.{Want}
-use Rattle.jc_rules.specs.declared.demand.Want.TheVariants.{Value, Storable, ByteArray, AnyArray, Whole, Anything, Receiver}
+use Rattle.jc_rules.specs.declared.demand.Want.TheVariants.{Value, Storable, ByteArray, AnyArray, Whole, Receiver}
 use Rattle.jc_rules.specs.declared.demand.Demand.{Demand}
-use Rattle.jc_rules.specs.declared.demand.Demand.TheVariants.{Register, Cell, Cut, Held}
+use Rattle.jc_rules.specs.declared.demand.Demand.TheVariants.{Registers, Depth, Cell, Cut, Held}
 
 -- the registers of a method's frame and its operand stack, the top cell first
 pub record Frame : Type 0 where
@@ -57,7 +57,6 @@ Meets t Storable found = Below t found (Class (object t))
 Meets t ByteArray found = Below t found ArrByte ⊎ Below t found ArrBool
 Meets t AnyArray found = IsArrayOrNull found
 Meets t Whole found = ¬ (IsHalf found)
-Meets t Anything found = ⊤
 Meets t (Receiver c) found = IsFreshOf c found ⊎ Below t found (Class c)
 
 -- the fault where it is not
@@ -68,7 +67,6 @@ refusal t Storable found = Mismatch found (Class (object t))
 refusal t ByteArray found = Mismatch found ArrByte
 refusal t AnyArray found = Mismatch found ArrByte
 refusal t Whole found = SplitInt
-refusal t Anything found = SplitInt
 refusal t (Receiver c) found = Mismatch found (Class c)
 
 -- an int lies across the cut below the n-th cell: its low half is above
@@ -77,7 +75,8 @@ Splits stack n = (slice_get stack (n - 1) ≡ Some IntLow) × (slice_get stack n
 
 -- the demand is met
 abbrev pub Holds : ClassTable → Frame → Demand → Type 0
-Holds t f (Register x) = x < length f.regs
+Holds t f (Registers x n) = x + n ≤ length f.regs
+Holds t f (Depth n) = n ≤ length f.stack
 Holds t f (Cell n want) = IsSomeAnd (slice_get f.stack n) (Meets t want)
 Holds t f (Cut n) = ¬ (Splits f.stack n)
 Holds t f (Held x want) = IsSomeAnd (slice_get f.regs x) (Meets t want)
@@ -89,7 +88,8 @@ refused_at t want absent (Some found) = refusal t want found
 
 -- the fault where the demand is not met
 abbrev pub refused : ClassTable → Frame → Demand → RuleFault
-refused t f (Register x) = NoLocal x
+refused t f (Registers x n) = NoLocal x
+refused t f (Depth n) = Underflow
 refused t f (Cell n want) = refused_at t want Underflow (slice_get f.stack n)
 refused t f (Cut n) = SplitInt
 refused t f (Held x want) = refused_at t want (NoLocal x) (slice_get f.regs x)

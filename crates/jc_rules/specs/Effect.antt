@@ -28,21 +28,21 @@ abbrev pub changed : Change → List Ty → List Ty
 changed (Replace taken given) s = listed given ++ drop taken s
 changed (CopyUnder copied under) s = take under s ++ (take copied s ++ drop under s)
 changed (Exchange top under) s = take under (drop top s) ++ (take top s ++ drop (top + under) s)
-changed (MakeReady taken place class) s = map (ready place class) (drop taken s)
+changed (MakeReady taken place class given) s = listed given ++ map (ready place class) (drop taken s)
 
 -- the cells that must be there
 abbrev pub needed : Change → ℕ
 needed (Replace taken given) = taken
 needed (CopyUnder copied under) = max copied under
 needed (Exchange top under) = top + under
-needed (MakeReady taken place class) = taken
+needed (MakeReady taken place class given) = taken
 
 -- the number of cells afterwards
 abbrev pub depth_after : Change → ℕ → ℕ
 depth_after (Replace taken given) d = d - taken + length (listed given)
 depth_after (CopyUnder copied under) d = d + copied
 depth_after (Exchange top under) d = d
-depth_after (MakeReady taken place class) d = d - taken
+depth_after (MakeReady taken place class given) d = d - taken + length (listed given)
 
 -- a register, and Top where there is none
 abbrev pub reg : List Ty → ℕ → Ty

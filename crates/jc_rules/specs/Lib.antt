@@ -2,3 +2,4 @@ pub mod Row
 pub mod Stack
 pub mod Effect
 pub mod Demand
+pub mod Named

@@ -20,7 +20,6 @@ pub enum Want {
     AnyArray,
     /// No half of an int.
     Whole,
-    Anything,
     /// An object of this class, or one that a constructor of the class is yet to make ready.
     Receiver(u16),
 }
@@ -29,8 +28,10 @@ pub enum Want {
 /// the stack, from 0.
 #[derive(Clone, Copy)]
 pub enum Demand {
-    /// The method has the register.
-    Register(u8),
+    /// The method has so many registers from this one on.
+    Registers(u8, u8),
+    /// The stack has so many cells.
+    Depth(u8),
     /// The stack has the cell, and it is as wanted.
     Cell(u8, Want),
     /// No int lies across the cut below this many cells.
@@ -69,8 +70,10 @@ impl Before<'_> {
         ensures { MatchOption result (Holds self.now.classes.now (frame self.now) demand) (λ fault. ¬ (Holds self.now.classes.now (frame self.now) demand) × (fault ≡ refused self.now.classes.now (frame self.now) demand)) }
     {
         match demand {
-            Demand::Register(x) if (x as usize) < self.regs.len() => None,
-            Demand::Register(x) => Some(RuleFault::NoLocal(x)),
+            Demand::Registers(x, n) if x as usize + n as usize <= self.regs.len() => None,
+            Demand::Registers(x, _) => Some(RuleFault::NoLocal(x)),
+            Demand::Depth(n) if n as usize <= self.stack.len() => None,
+            Demand::Depth(_) => Some(RuleFault::Underflow),
             Demand::Cell(n, want) => judged(self.classes, want, self.cell(n), RuleFault::Underflow),
             Demand::Cut(n) if self.splits(n) => Some(RuleFault::SplitInt),
             Demand::Cut(_) => None,
@@ -114,7 +117,6 @@ fn meets(classes: &Classes, want: Want, found: Ty) -> bool
         Want::ByteArray => below(classes, found, Ty::ArrByte) || below(classes, found, Ty::ArrBool),
         Want::AnyArray => is_array_or_null(found),
         Want::Whole => !is_half(found),
-        Want::Anything => true,
         Want::Receiver(class) => is_fresh_of(class, found) || below(classes, found, Ty::Class(class)),
     }
 }
@@ -183,7 +185,7 @@ fn refusal(classes: &Classes, want: Want, found: Ty) -> RuleFault
             found,
             wanted: Ty::ArrByte,
         },
-        Want::Whole | Want::Anything => RuleFault::SplitInt,
+        Want::Whole => RuleFault::SplitInt,
         Want::Receiver(class) => RuleFault::Mismatch {
             found,
             wanted: Ty::Class(class),

@@ -22,8 +22,14 @@ pub enum Change {
     CopyUnder { copied: u8, under: u8 },
     /// The top cells change places with the cells under them.
     Exchange { top: u8, under: u8 },
-    /// The top cells go, and every object of this class that the `new` at the place made is ready.
-    MakeReady { taken: u8, place: u16, class: u16 },
+    /// The top cells give place to others, and every object that the `new` at the place made is ready, of
+    /// this class.
+    MakeReady {
+        taken: u8,
+        place: u16,
+        class: u16,
+        given: Cells,
+    },
 }
 
 /// What goes into registers, from one on.
@@ -70,7 +76,9 @@ impl Change {
             Change::Replace { taken, given } => depth - taken as usize + given.count() as usize,
             Change::CopyUnder { copied, .. } => depth + copied as usize,
             Change::Exchange { .. } => depth,
-            Change::MakeReady { taken, .. } => depth - taken as usize,
+            Change::MakeReady { taken, given, .. } => {
+                depth - taken as usize + given.count() as usize
+            }
         }
     }
 }
@@ -88,7 +96,15 @@ pub fn change_stack(stack: &mut [Ty], depth: u8, change: Change) -> u8
         Change::Replace { taken, given } => push(stack, depth - taken, given),
         Change::CopyUnder { copied, under } => copy_under(stack, depth, copied, under),
         Change::Exchange { top, under } => exchange(stack, depth, top, under),
-        Change::MakeReady { taken, place, class } => make_ready(stack, depth - taken, place, class),
+        Change::MakeReady {
+            taken,
+            place,
+            class,
+            given,
+        } => {
+            let left = make_ready(stack, depth - taken, place, class);
+            push(stack, left, given)
+        }
     }
 }
 

@@ -9,9 +9,11 @@
 mod demand;
 mod effect;
 mod fault;
+mod named;
 mod row;
 
 pub use demand::{Before, Demand, Want};
 pub use effect::{Cells, Change, Effect, Mode, Store};
 pub use fault::RuleFault;
+pub use named::{Named, byte_of, short_of};
 pub use row::{Arithmetic, Branch, Call, Constant, Holder, Local, Make, Move, Number, Operator, Order, Row, Sameness, Sort, TypeTest, Width};
