@@ -1,0 +1,6 @@
+pub mod Lists
+pub mod Chains
+pub mod Climbs
+pub mod Meets
+pub mod Subtypes
+pub mod Joins
