@@ -2,3 +2,4 @@ pub mod Rows
 pub mod Demands
 pub mod Stacks
 pub mod Members
+pub mod Described

@@ -6,6 +6,7 @@
 
 #![tactic(auto)]
 
+mod called;
 mod demand;
 mod effect;
 mod fault;

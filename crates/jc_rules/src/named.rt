@@ -1,16 +1,14 @@
-ghost use Rattle.std.specs.Prelude.{◌≡◌, ◌<◌, ◌==◌, ◌&&◌, length, IfOk, Some, None, slice_get, IfSome};
-ghost use Rattle.jc_base.specs.Class.{IsClass, is_interface, object};
-ghost use Rattle.jc_base.specs.declared.record.Member.TheVariants.{Super, StaticCall};
-ghost use Rattle.jc_base.specs.Dispatch.{entry_at};
-ghost use Rattle.jc_base.specs.Linked.{lacks_code};
+ghost use Rattle.std.specs.Prelude.{◌≡◌, ◌<◌, length, IfOk, IfSome};
+ghost use Rattle.jc_base.specs.Class.{ClassTable, IsClass, is_interface};
+ghost use Rattle.jc_base.specs.declared.ty.Ty.TheVariants.{Class, ArrRef};
+ghost use Rattle.jc_base.specs.Order.{IsKnown, is_reference};
 ghost use Rattle.jc_base.specs.World.{member_at};
-ghost use Rattle.jc_rules.specs.Named.{byte_of, short_of, same_kind, static_named, field_named, virtual_named, entry_named, special_named, static_call_named, own_receiver, IsKnownMember, TakesReceiver, IsNamed};
+ghost use Rattle.jc_rules.specs.Named.{byte_of, short_of, same_kind, static_named, field_named, standing, class_named, array_of, tested, returns, returned, return_named, IsKnownMember, IsNamed};
 
 use crate::demand::Want;
 use crate::fault::RuleFault;
-use crate::row::{Call, Make, Row, Sort, TypeTest};
-use jc_base::{Dispatch, Kind, Member, MethodRec, Ty, World};
-use jc_decode::Insn;
+use crate::row::Sort;
+use jc_base::{Kind, Member, Ty, World};
 
 /// What the operands of an instruction name in the world.
 #[derive(Clone, Copy)]
@@ -39,7 +37,7 @@ pub fn short_of(x: i32) -> u16
 }
 
 /// What the entry of a package's constant pool names, where there is one of this number.
-fn member(world: &World<'_>, package: u16, pool: u16) -> Option<Member>
+pub(crate) fn member(world: &World<'_>, package: u16, pool: u16) -> Option<Member>
     requires { «package» < length world.now.infos }
     ensures is { result ≡ member_at world.now «package» pool }
     ensures known { IfSome result (IsKnownMember world.now) }
@@ -91,147 +89,121 @@ fn field_named(world: &World<'_>, package: u16, pool: u16, kind: Kind) -> Result
     }
 }
 
-/// The entry of a class's own dispatch lists.
-fn entry(world: &World<'_>, class: u16, token: u8) -> Option<u16>
-    requires { IsClass world.now.classes class }
-    ensures { result ≡ entry_at world.now.classes class token }
-{
-    let record = world.class(class);
-    if token < 128 {
-        number_at(&record.public, token as usize)
-    } else {
-        number_at(&record.visible, token as usize - 128)
-    }
-}
-
-fn number_at(list: &Dispatch, n: usize) -> Option<u16>
-    ensures { result ≡ slice_get list.now n }
-{
-    list.as_slice().get(n).copied()
-}
-
-fn virtual_named(world: &World<'_>, package: u16, pool: u16) -> Result<Named, RuleFault>
-    requires { «package» < length world.now.infos }
-    ensures is { result ≡ virtual_named world.now pool (member_at world.now «package» pool) }
-    ensures known { IfOk result (IsNamed world.now) }
-{
-    match member(world, package, pool) {
-        Some(Member::Virtual { class, token }) => entry_named(world, pool, class, entry(world, class, token)),
-        _ => Err(RuleFault::BadMember(pool)),
-    }
-}
-
-/// The method of a dispatch list's entry. An array may be the receiver of a method of object.
-fn entry_named(world: &World<'_>, pool: u16, class: u16, entry: Option<u16>) -> Result<Named, RuleFault>
-    requires class { IsClass world.now.classes class }
-    requires receives { IfSome entry (TakesReceiver world.now.methods) }
-    ensures is { result ≡ entry_named world.now pool class entry }
-    ensures known { IfOk result (IsNamed world.now) }
-{
-    let Some(number) = entry else {
-        return Err(RuleFault::BadMember(pool));
-    };
-    if class == world.role(0) && world.method(number).is_abstract {
-        return Err(RuleFault::BadMember(pool));
-    }
-    Ok(Named::Method {
-        number,
-        receiver: Some(Want::Value(Ty::Class(class))),
-    })
-}
-
 /// Whether a class number names an interface.
-fn is_interface(world: &World<'_>, class: u16) -> bool
+pub(crate) fn is_interface(world: &World<'_>, class: u16) -> bool
     requires { class < length world.now.classes.records }
     ensures { result ≡ is_interface world.now.classes class }
 {
     world.class(class).interface
 }
 
-/// Whether a method has no code: an abstract one, or one of an interface.
-fn lacks_code(world: &World<'_>, method: &MethodRec) -> bool
-    requires { method.now.class < length world.now.classes.records }
-    ensures { result ≡ lacks_code world.now.classes method.now }
+/// The class that stands for a class or an interface in types: object for an interface.
+fn standing(world: &World<'_>, class: u16) -> u16
+    requires { class < length world.now.classes.records }
+    ensures is { result ≡ standing world.now.classes class }
+    ensures known { IsClass world.now.classes result }
 {
-    method.is_abstract || is_interface(world, method.class)
-}
-
-fn super_named(world: &World<'_>, pool: u16, class: u16, number: u16) -> Result<Named, RuleFault>
-    requires class { IsClass world.now.classes class }
-    requires receives { TakesReceiver world.now.methods number }
-    ensures is { result ≡ special_named world.now pool (Some (Super class number)) }
-    ensures known { IfOk result (IsNamed world.now) }
-{
-    if lacks_code(world, world.method(number)) {
-        return Err(RuleFault::BadMember(pool));
-    }
-    Ok(Named::Method {
-        number,
-        receiver: Some(Want::Value(Ty::Class(class))),
-    })
-}
-
-/// What receives a method that is called without dispatch.
-fn own_receiver(method: &MethodRec) -> Want
-    ensures { result ≡ own_receiver method.now }
-{
-    if method.is_init {
-        Want::Receiver(method.class)
+    if is_interface(world, class) {
+        world.role(0)
     } else {
-        Want::Value(Ty::Class(method.class))
+        class
     }
 }
 
-/// A private method or a constructor.
-fn own_named(world: &World<'_>, pool: u16, number: u16) -> Result<Named, RuleFault>
-    requires { number < length world.now.methods }
-    ensures is { result ≡ special_named world.now pool (Some (StaticCall number)) }
-    ensures known { IfOk result (IsNamed world.now) }
-{
-    let method = world.method(number);
-    if method.is_static || lacks_code(world, method) {
-        return Err(RuleFault::BadMember(pool));
-    }
-    Ok(Named::Method {
-        number,
-        receiver: Some(own_receiver(method)),
-    })
-}
-
-fn special_named(world: &World<'_>, package: u16, pool: u16) -> Result<Named, RuleFault>
+/// An array of references of the class that a pool entry names.
+fn array_named(world: &World<'_>, package: u16, pool: u16) -> Result<Named, RuleFault>
     requires { «package» < length world.now.infos }
-    ensures is { result ≡ special_named world.now pool (member_at world.now «package» pool) }
+    ensures is { result ≡ class_named world.now.classes pool ArrRef (member_at world.now «package» pool) }
     ensures known { IfOk result (IsNamed world.now) }
 {
     match member(world, package, pool) {
-        Some(Member::Super { class, method }) => super_named(world, pool, class, method),
-        Some(Member::StaticCall { method }) => own_named(world, pool, method),
+        Some(Member::ClassOf { class }) => Ok(Named::Type(Ty::ArrRef(standing(world, class)))),
         _ => Err(RuleFault::BadMember(pool)),
     }
 }
 
-fn static_call_named(world: &World<'_>, package: u16, pool: u16) -> Result<Named, RuleFault>
+/// A reference of the class that a pool entry names.
+fn class_named(world: &World<'_>, package: u16, pool: u16) -> Result<Named, RuleFault>
     requires { «package» < length world.now.infos }
-    ensures is { result ≡ static_call_named world.now pool (member_at world.now «package» pool) }
+    ensures is { result ≡ class_named world.now.classes pool Class (member_at world.now «package» pool) }
     ensures known { IfOk result (IsNamed world.now) }
 {
     match member(world, package, pool) {
-        Some(Member::StaticCall { method: number }) => static_method_named(world, pool, number),
+        Some(Member::ClassOf { class }) => Ok(Named::Type(Ty::Class(standing(world, class)))),
         _ => Err(RuleFault::BadMember(pool)),
     }
 }
 
-fn static_method_named(world: &World<'_>, pool: u16, number: u16) -> Result<Named, RuleFault>
-    requires { number < length world.now.methods }
-    ensures is { result ≡ static_call_named world.now pool (Some (StaticCall number)) }
+/// The array of primitives of a number: 10 boolean, 11 byte, 12 short, 13 int.
+fn array_of(atype: u8) -> Ty
+    ensures is { result ≡ array_of atype }
+    ensures known { (t : ClassTable) → IsKnown t result }
+{
+    match atype {
+        10 => Ty::ArrBool,
+        11 => Ty::ArrByte,
+        12 => Ty::ArrShort,
+        _ => Ty::ArrInt,
+    }
+}
+
+/// The type that is tested.
+fn tested(world: &World<'_>, package: u16, atype: u8, pool: u16) -> Result<Named, RuleFault>
+    requires { «package» < length world.now.infos }
+    ensures is { result ≡ tested world.now.classes atype pool (member_at world.now «package» pool) }
     ensures known { IfOk result (IsNamed world.now) }
 {
-    let method = world.method(number);
-    if !method.is_static || method.is_init || lacks_code(world, method) {
-        return Err(RuleFault::BadMember(pool));
+    match atype {
+        0 => class_named(world, package, pool),
+        14 => array_named(world, package, pool),
+        _ => Ok(Named::Type(array_of(atype))),
     }
-    Ok(Named::Method {
-        number,
-        receiver: None,
+}
+
+fn is_reference(ty: Ty) -> bool
+    ensures { result ≡ is_reference ty }
+{
+    matches!(ty, Ty::Class(_) | Ty::ArrBool | Ty::ArrByte | Ty::ArrShort | Ty::ArrInt | Ty::ArrRef(_))
+}
+
+/// Whether a result of this type is returned by the instruction.
+fn returns(sort: Option<Sort>, result_type: Option<Ty>) -> bool
+    ensures { result ≡ returns sort result_type }
+{
+    match sort {
+        None => result_type.is_none(),
+        Some(Sort::Reference) => matches!(result_type, Some(ty) if is_reference(ty)),
+        Some(Sort::Short) => matches!(result_type, Some(Ty::Short)),
+        Some(Sort::Int) => matches!(result_type, Some(Ty::IntHigh)),
+    }
+}
+
+/// The type that the instruction returns at most.
+fn returned(world: &World<'_>, sort: Option<Sort>) -> Ty
+    ensures { result ≡ returned world.now.classes sort }
+{
+    match sort {
+        None => Ty::Bottom,
+        Some(Sort::Reference) => Ty::Class(world.role(0)),
+        Some(Sort::Short) => Ty::Short,
+        Some(Sort::Int) => Ty::IntHigh,
+    }
+}
+
+/// The result of the method's own signature.
+fn return_named(world: &World<'_>, sort: Option<Sort>, result_type: Option<Ty>) -> Result<Named, RuleFault>
+    requires { IfSome result_type (IsKnown world.now.classes) }
+    ensures is { result ≡ return_named world.now.classes sort result_type }
+    ensures known { IfOk result (IsNamed world.now) }
+{
+    if !returns(sort, result_type) {
+        return Err(RuleFault::Mismatch {
+            found: returned(world, sort),
+            wanted: result_type.unwrap_or(Ty::Bottom),
+        });
+    }
+    Ok(match result_type {
+        None => Named::Nothing,
+        Some(ty) => Named::Type(ty),
     })
 }
