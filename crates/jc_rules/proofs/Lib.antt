@@ -3,3 +3,4 @@ pub mod Demands
 pub mod Stacks
 pub mod Members
 pub mod Described
+pub mod Bodies

@@ -13,7 +13,7 @@ use Rattle.jc_base.specs.declared.record.StaticRec.{StaticRec}
 use Rattle.jc_base.specs.Class.{ClassTable, IsClass, parent_of, chain, is_interface, is_interface_record}
 use Rattle.jc_base.specs.Order.{IsKnown}
 use Rattle.jc_base.specs.Cell.{IsDeclared}
-use Rattle.jc_base.specs.Dispatch.{of_record, public_of, visible_of, entry_at, cells_of, own_cells}
+use Rattle.jc_base.specs.Dispatch.{of_record, package_of, public_of, visible_of, entry_at, cells_of, own_cells}
 use Rattle.jc_base.specs.Linked.{IsInherited, IsMethod, IsMember, IsLinkedClass, IsDispatch, receiver_words, IsStatic}
 use Rattle.jc_base.specs.World.{Linked, IsWorld}
 use Rattle.jc_rules.specs.Named.{TakesReceiver, IsKnownMember}
@@ -71,6 +71,16 @@ module _ (w : Linked) (is : IsWorld w) where
   pub visible-inherits : (c : ℕ) → All (λ n. IsSomeAnd (slice_get w.methods n) (IsInherited w.classes c)) (visible_of w.classes c)
   unfolding visible_of
   visible-inherits c = (lists_at c (slice_get w.classes.records c) (is.classes c)).1
+
+  -- the entries of a class's lists are numbers of methods
+  inside_list : (c : ℕ) (list : List ℕ) → All (λ n. IsSomeAnd (slice_get w.methods n) (IsInherited w.classes c)) list → All (λ n. n < length w.methods) list
+  inside_list c list all k d lt = in_list (get_or list k d) (slice_get w.methods (get_or list k d)) (IsInherited w.classes c) refl (all k d lt)
+
+  pub public-inside : (c : ℕ) (r : ClassRec) → IsLinkedClass (length w.infos) w.classes w.methods c r → All (λ n. n < length w.methods) r.public
+  public-inside c r h = inside_list c r.public h.public.entries
+
+  pub visible-inside : (c : ℕ) (r : ClassRec) → IsLinkedClass (length w.infos) w.classes w.methods c r → All (λ n. n < length w.methods) r.visible
+  visible-inside c r h = inside_list c r.visible h.visible.entries
 
   list-receives : (c : ℕ) (list : List ℕ) → All (λ n. IsSomeAnd (slice_get w.methods n) (IsInherited w.classes c)) list → (k : ℕ) (o : Option ℕ) → slice_get list k ≡ o → IfSome o (TakesReceiver w.methods)
   list-receives c list all k None e = tt
@@ -135,3 +145,15 @@ entry-visible t c token r e ge = rw (lt_false token 128 ge, e) refl
 pub interface-read : (t : ClassTable) (c : ℕ) (r : ClassRec) → slice_get t.records c ≡ Some r → r.interface ≡ is_interface t c
 unfolding is_interface
 interface-read t c r e = sym (ap is_interface_record e)
+
+pub package-read : (t : ClassTable) (c : ℕ) (r : ClassRec) → slice_get t.records c ≡ Some r → r.package ≡ package_of t c
+unfolding package_of
+package-read t c r e = sym (ap (of_record 0 (λ r. r.package)) e)
+
+pub public-read : (t : ClassTable) (c : ℕ) (r : ClassRec) → slice_get t.records c ≡ Some r → r.public ≡ public_of t c
+unfolding public_of
+public-read t c r e = sym (ap (of_record [] (λ r. r.public)) e)
+
+pub visible-read : (t : ClassTable) (c : ℕ) (r : ClassRec) → slice_get t.records c ≡ Some r → r.visible ≡ visible_of t c
+unfolding visible_of
+visible-read t c r e = sym (ap (of_record [] (λ r. r.visible)) e)
