@@ -1,6 +1,6 @@
 -- What an instruction asks of the frame before it changes anything (JCVM 2.2, section 7.5; Leroy 2002,
 -- section 2.2), and the first thing that is missing.
-use Rattle.std.specs.Prelude.{◌≡◌, ℕ, ◌+◌, ◌-◌, ◌≤◌, ◌⊎◌, ⊤, List, [], ◌∷◌, length, reverse, map, All, Option, Some, None, IsSomeAnd, slice_get}
+use Rattle.std.specs.Prelude.{◌≡◌, ℕ, ◌+◌, ◌-◌, ◌≤◌, ◌⊎◌, ⊤, List, [], ◌∷◌, length, reverse, map, All, Option, Some, None, IsSomeAnd, Result, Ok, Err, slice_get}
 use Rattle.jc_base.specs.declared.ty.Ty.{Ty}
 use Rattle.jc_base.specs.declared.ty.Ty.TheVariants.{Bottom, Short, IntHigh, IntLow, Null, Class, ArrBool, ArrByte, ArrShort, ArrInt, ArrRef, Fresh, Top}
 use Rattle.jc_base.specs.Class.{ClassTable, IsClass, object}
@@ -8,6 +8,7 @@ use Rattle.jc_base.specs.Order.{Below, IsKnown}
 use Rattle.jc_rules.specs.declared.fault.RuleFault.{RuleFault}
 use Rattle.jc_rules.specs.declared.fault.RuleFault.TheVariants.{Underflow, Mismatch, NoLocal, SplitInt, FreshKept}
 use Rattle.jc_rules.specs.declared.demand.Before.{Before}
+use Rattle.jc_rules.specs.declared.effect.Effect.{Effect}
 use Rattle.jc_rules.specs.declared.demand.Want.{Want}
 use Rattle.jc_rules.specs.declared.demand.Want.TheVariants.{Value, Storable, ByteArray, AnyArray, Whole, Receiver}
 use Rattle.jc_rules.specs.declared.demand.Demand.{Demand}
@@ -22,8 +23,9 @@ pub record Frame : Type 0 where
 abbrev pub frame : Before → Frame
 frame b = record { regs = b.regs.now; stack = reverse b.stack.now }
 
--- each class number in a type of the frame names a class, and no interface
+-- each class number in a type of the frame names a class, and no interface; a method has 255 registers at most
 pub record AreKnown (t : ClassTable) (f : Frame) : Type 0 where
+  pub few : length f.regs ≤ 255
   pub regs : All (IsKnown t) f.regs
   pub stack : All (IsKnown t) f.stack
   pub object : IsClass t (object t)
@@ -94,6 +96,11 @@ refused t f (Cell n want) = refused_at t want Underflow (slice_get f.stack n)
 refused t f (Cut n) = SplitInt
 refused t f (Held x want) = refused_at t want (NoLocal x) (slice_get f.regs x)
 
+-- each of the demands is met
+abbrev pub AllHold : ClassTable → Frame → List Demand → Type 0
+AllHold t f [] = ⊤
+AllHold t f (d ∷ ds) = Holds t f d × AllHold t f ds
+
 -- the fault is that of the first demand that is not met
 pub data Breaks (t : ClassTable) (f : Frame) : List Demand → RuleFault → Type 0 where
   here : {d : Demand} {ds : List Demand} {fault : RuleFault} → ¬ (Holds t f d) → fault ≡ refused t f d → Breaks t f (d ∷ ds) fault
@@ -109,3 +116,12 @@ abbrev pub IsKnownDemand : ClassTable → Demand → Type 0
 IsKnownDemand t (Cell n want) = IsKnownWant t want
 IsKnownDemand t (Held x want) = IsKnownWant t want
 IsKnownDemand t _ = ⊤
+
+abbrev pub AreKnownDemands : ClassTable → List Demand → Type 0
+AreKnownDemands t [] = ⊤
+AreKnownDemands t (d ∷ ds) = IsKnownDemand t d × AreKnownDemands t ds
+
+-- what a check of demands answers: the effect where each is met, and else the fault of the first that is not
+abbrev pub IsJudged : ClassTable → Frame → List Demand → Effect → Result Effect RuleFault → Type 0
+IsJudged t f ds effect (Ok e) = AllHold t f ds × (e ≡ effect)
+IsJudged t f ds effect (Err fault) = Breaks t f ds fault

@@ -3,3 +3,4 @@ pub mod Stack
 pub mod Effect
 pub mod Demand
 pub mod Named
+pub mod Rule

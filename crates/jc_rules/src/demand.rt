@@ -2,7 +2,7 @@ ghost use Rattle.std.specs.Prelude.{◌≡◌, ◌↔◌, ◌≤◌, ◌<◌, le
 ghost use Rattle.jc_base.specs.Class.{IsClass, object};
 ghost use Rattle.jc_base.specs.Order.{IsKnown};
 ghost use Rattle.jc_base.specs.declared.ty.Ty.TheVariants.{IntLow, IntHigh};
-ghost use Rattle.jc_rules.specs.Demand.{AreKnown, frame, Meets, Holds, Breaks, refusal, refused, IsKnownWant, IsKnownDemand, IsArrayOrNull, IsHalf, IsFreshOf, Splits, refused_at};
+ghost use Rattle.jc_rules.specs.Demand.{AllHold, AreKnownDemands, AreKnown, frame, Meets, Holds, Breaks, refusal, refused, IsKnownWant, IsKnownDemand, IsArrayOrNull, IsHalf, IsFreshOf, Splits, refused_at};
 
 use crate::fault::RuleFault;
 use jc_base::{Classes, Ty, below};
@@ -52,10 +52,10 @@ impl Before<'_> {
     /// Checks the demands in order; the fault is that of the first that is not met.
     pub fn check(&self, demands: &[Demand]) -> Result<(), RuleFault>
         requires frame { AreKnown self.now.classes.now (frame self.now) }
-        requires demands { All (IsKnownDemand self.now.classes.now) demands.now }
-        ensures { MatchResult result (λ _. All (Holds self.now.classes.now (frame self.now)) demands.now) (Breaks self.now.classes.now (frame self.now) demands.now) }
+        requires demands { AreKnownDemands self.now.classes.now demands.now }
+        ensures { MatchResult result (λ _. AllHold self.now.classes.now (frame self.now) demands.now) (Breaks self.now.classes.now (frame self.now) demands.now) }
     {
-        for demand in demands {
+        'demands: for demand in demands {
             if let Some(fault) = self.broken(*demand) {
                 return Err(fault);
             }

@@ -12,7 +12,10 @@ mod demand;
 mod effect;
 mod fault;
 mod named;
+mod names;
+mod objects;
 mod row;
+mod values;
 
 pub use demand::{Before, Demand, Want};
 pub use effect::{Cells, Change, Effect, Mode, Store};

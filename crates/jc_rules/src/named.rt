@@ -61,7 +61,7 @@ fn same_kind(a: Kind, b: Kind) -> bool
     }
 }
 
-fn static_named(world: &World<'_>, package: u16, pool: u16, kind: Kind) -> Result<Named, RuleFault>
+pub(crate) fn static_named(world: &World<'_>, package: u16, pool: u16, kind: Kind) -> Result<Named, RuleFault>
     requires { «package» < length world.now.infos }
     ensures is { result ≡ static_named pool kind (member_at world.now «package» pool) }
     ensures known { IfOk result (IsNamed world.now) }
@@ -72,7 +72,7 @@ fn static_named(world: &World<'_>, package: u16, pool: u16, kind: Kind) -> Resul
     }
 }
 
-fn field_named(world: &World<'_>, package: u16, pool: u16, kind: Kind) -> Result<Named, RuleFault>
+pub(crate) fn field_named(world: &World<'_>, package: u16, pool: u16, kind: Kind) -> Result<Named, RuleFault>
     requires { «package» < length world.now.infos }
     ensures is { result ≡ field_named world.now.classes pool kind (member_at world.now «package» pool) }
     ensures known { IfOk result (IsNamed world.now) }
@@ -111,7 +111,7 @@ fn standing(world: &World<'_>, class: u16) -> u16
 }
 
 /// An array of references of the class that a pool entry names.
-fn array_named(world: &World<'_>, package: u16, pool: u16) -> Result<Named, RuleFault>
+pub(crate) fn array_named(world: &World<'_>, package: u16, pool: u16) -> Result<Named, RuleFault>
     requires { «package» < length world.now.infos }
     ensures is { result ≡ class_named world.now.classes pool ArrRef (member_at world.now «package» pool) }
     ensures known { IfOk result (IsNamed world.now) }
@@ -135,7 +135,7 @@ fn class_named(world: &World<'_>, package: u16, pool: u16) -> Result<Named, Rule
 }
 
 /// The array of primitives of a number: 10 boolean, 11 byte, 12 short, 13 int.
-fn array_of(atype: u8) -> Ty
+pub(crate) fn array_of(atype: u8) -> Ty
     ensures is { result ≡ array_of atype }
     ensures known { (t : ClassTable) → IsKnown t result }
 {
@@ -148,7 +148,7 @@ fn array_of(atype: u8) -> Ty
 }
 
 /// The type that is tested.
-fn tested(world: &World<'_>, package: u16, atype: u8, pool: u16) -> Result<Named, RuleFault>
+pub(crate) fn tested(world: &World<'_>, package: u16, atype: u8, pool: u16) -> Result<Named, RuleFault>
     requires { «package» < length world.now.infos }
     ensures is { result ≡ tested world.now.classes atype pool (member_at world.now «package» pool) }
     ensures known { IfOk result (IsNamed world.now) }
@@ -191,7 +191,7 @@ fn returned(world: &World<'_>, sort: Option<Sort>) -> Ty
 }
 
 /// The result of the method's own signature.
-fn return_named(world: &World<'_>, sort: Option<Sort>, result_type: Option<Ty>) -> Result<Named, RuleFault>
+pub(crate) fn return_named(world: &World<'_>, sort: Option<Sort>, result_type: Option<Ty>) -> Result<Named, RuleFault>
     requires { IfSome result_type (IsKnown world.now.classes) }
     ensures is { result ≡ return_named world.now.classes sort result_type }
     ensures known { IfOk result (IsNamed world.now) }

@@ -1,20 +1,18 @@
-use Rattle.std.proofs.Common.{arith, subst, take, All}
-use Rattle.std.proofs.lemmas.List.{take_all}
-use Rattle.jc_rules.specs.Demand.{frame, Holds}
-use Rattle.jc_rules.proofs.Demands.{All-Holds-more, Breaks-at, Carries-more}
+use Rattle.std.proofs.Common.{arith}
+use Rattle.jc_rules.proofs.Demands.{Breaks-at, Carries-more, CarriesAll-more, CarriesAll-end, Known-at}
 use Rattle.jc_rules.proofs.demand.Before.check.Goals as goal
 
-pub returns-in-Some : goal.returns-in-Some
-returns-in-Some c = Breaks-at _ _ _ c.loop-demand.demand-index _ (omega arith) _ c.loop-demand.invariant.carries c.in-Some.ensures
+pub broken-requires-clause-demand : goal.broken-requires-clause-demand
+broken-requires-clause-demand c = Known-at c.args.self.now.classes.now c.args.demands.now c.demands.demand-index _ (omega arith) c.requires.demands
 
-pub loop-demand-preserved : goal.loop-demand-preserved
-loop-demand-preserved c = record {
-  hold = All-Holds-more _ _ _ _ _ (omega arith) c.loop-demand.invariant.hold c.in_default.ensures;
-  carries = Carries-more _ _ _ _ _ (omega arith) c.loop-demand.invariant.carries c.in_default.ensures
+pub returns-in-Some : goal.returns-in-Some
+returns-in-Some c = Breaks-at _ _ _ c.demands.demand-index _ (omega arith) _ c.demands.invariant.breaks c.in-Some.ensures
+
+pub demands-preserved : goal.demands-preserved
+demands-preserved c = record {
+  all = CarriesAll-more _ _ _ _ _ (omega arith) c.demands.invariant.all c.in_default.ensures;
+  breaks = Carries-more _ _ _ _ _ (omega arith) c.demands.invariant.breaks c.in_default.ensures
 }
 
 pub returns : goal.returns
-returns c =
-    subst (λ ds. All (Holds c.args.self.now.classes.now (frame c.args.self.now)) ds)
-        (take_all c.loop-demand.demand-index c.args.demands.now (omega arith))
-        c.loop-demand.invariant.hold
+returns c = CarriesAll-end _ _ _ _ (omega arith) c.demands.invariant.all
