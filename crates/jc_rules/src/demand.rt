@@ -64,7 +64,7 @@ impl Before<'_> {
     }
 
     /// The fault of a demand that is not met.
-    fn broken(&self, demand: Demand) -> Option<RuleFault>
+    pub(crate) fn broken(&self, demand: Demand) -> Option<RuleFault>
         requires frame { AreKnown self.now.classes.now (frame self.now) }
         requires demand { IsKnownDemand self.now.classes.now demand }
         ensures { MatchOption result (Holds self.now.classes.now (frame self.now) demand) (λ fault. ¬ (Holds self.now.classes.now (frame self.now) demand) × (fault ≡ refused self.now.classes.now (frame self.now) demand)) }

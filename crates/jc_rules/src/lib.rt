@@ -7,6 +7,7 @@
 #![tactic(auto)]
 
 mod called;
+mod calls;
 mod concrete;
 mod demand;
 mod effect;
