@@ -40,10 +40,10 @@ fn result_given(ty: Option<Ty>) -> Cells
 impl Before<'_> {
     /// Checks that the arguments stand on the stack, the last on top.
     fn check_arguments(&self, args: &[Ty]) -> Result<(), RuleFault>
-        requires frame { AreKnown self.now.classes.now (frame self.now) }
-        requires known { All (IsKnown self.now.classes.now) args.now }
+        requires frame { AreKnown self.now.world.now.classes (frame self.now) }
+        requires known { All (IsKnown self.now.world.now.classes) args.now }
         requires few { length args.now ≤ 255 }
-        ensures { MatchResult result (λ _. AllHold self.now.classes.now (frame self.now) (cells_wanted 0 (reverse args.now))) (Breaks self.now.classes.now (frame self.now) (cells_wanted 0 (reverse args.now))) }
+        ensures { MatchResult result (λ _. AllHold self.now.world.now.classes (frame self.now) (cells_wanted 0 (reverse args.now))) (Breaks self.now.world.now.classes (frame self.now) (cells_wanted 0 (reverse args.now))) }
     {
         let count = args.len();
         'arguments: for n in 0..count {
@@ -57,11 +57,11 @@ impl Before<'_> {
 
     /// Checks the arguments, and then the receiver under them.
     fn check_call(&self, sig: &Sig, receiver: Option<Want>) -> Result<(), RuleFault>
-        requires frame { AreKnown self.now.classes.now (frame self.now) }
-        requires known { All (IsKnown self.now.classes.now) sig.now.args }
-        requires receiver { IfSome receiver (IsKnownWant self.now.classes.now) }
+        requires frame { AreKnown self.now.world.now.classes (frame self.now) }
+        requires known { All (IsKnown self.now.world.now.classes) sig.now.args }
+        requires receiver { IfSome receiver (IsKnownWant self.now.world.now.classes) }
         requires few { length sig.now.args + receiver_count receiver ≤ 255 }
-        ensures { MatchResult result (λ _. AllHold self.now.classes.now (frame self.now) (call_demands sig.now.args receiver)) (Breaks self.now.classes.now (frame self.now) (call_demands sig.now.args receiver)) }
+        ensures { MatchResult result (λ _. AllHold self.now.world.now.classes (frame self.now) (call_demands sig.now.args receiver)) (Breaks self.now.world.now.classes (frame self.now) (call_demands sig.now.args receiver)) }
     {
         self.check_arguments(sig.args.as_slice())?;
         match receiver {
@@ -71,11 +71,11 @@ impl Before<'_> {
     }
 
     pub(crate) fn called(&self, sig: &Sig, receiver: Option<Want>) -> Result<Effect, RuleFault>
-        requires frame { AreKnown self.now.classes.now (frame self.now) }
-        requires known { All (IsKnown self.now.classes.now) sig.now.args }
-        requires receiver { IfSome receiver (IsKnownWant self.now.classes.now) }
+        requires frame { AreKnown self.now.world.now.classes (frame self.now) }
+        requires known { All (IsKnown self.now.world.now.classes) sig.now.args }
+        requires receiver { IfSome receiver (IsKnownWant self.now.world.now.classes) }
         requires few { length sig.now.args + receiver_count receiver ≤ 255 }
-        ensures { IsJudged self.now.classes.now (frame self.now) (call_demands sig.now.args receiver) (call_effect sig.now.args sig.now.result receiver (frame self.now)) result }
+        ensures { IsJudged self.now.world.now.classes (frame self.now) (call_demands sig.now.args receiver) (call_effect sig.now.args sig.now.result receiver (frame self.now)) result }
     {
         self.check_call(sig, receiver)?;
         let count = sig.args.len() as u8;

@@ -5,7 +5,7 @@ ghost use Rattle.jc_base.specs.declared.ty.Ty.TheVariants.{IntLow, IntHigh};
 ghost use Rattle.jc_rules.specs.Demand.{AllHold, AreKnownDemands, AreKnown, frame, Meets, Holds, Breaks, refusal, refused, IsKnownWant, IsKnownDemand, IsArrayOrNull, IsHalf, IsFreshOf, Splits, refused_at};
 
 use crate::fault::RuleFault;
-use jc_base::{Classes, Ty, below};
+use jc_base::{Classes, Ty, World, below};
 
 /// What is wanted of the type of one cell or register.
 #[derive(Clone, Copy)]
@@ -40,10 +40,10 @@ pub enum Demand {
     Held(u8, Want),
 }
 
-/// The registers and the stack that an instruction finds, with the classes that their types speak of.
+/// The registers and the stack that an instruction finds, in a world.
 #[derive(Clone, Copy)]
 pub struct Before<'a> {
-    pub classes: &'a Classes,
+    pub world: &'a World<'a>,
     pub regs: &'a [Ty],
     pub stack: &'a [Ty],
 }
@@ -51,9 +51,9 @@ pub struct Before<'a> {
 impl Before<'_> {
     /// Checks the demands in order; the fault is that of the first that is not met.
     pub fn check(&self, demands: &[Demand]) -> Result<(), RuleFault>
-        requires frame { AreKnown self.now.classes.now (frame self.now) }
-        requires demands { AreKnownDemands self.now.classes.now demands.now }
-        ensures { MatchResult result (λ _. AllHold self.now.classes.now (frame self.now) demands.now) (Breaks self.now.classes.now (frame self.now) demands.now) }
+        requires frame { AreKnown self.now.world.now.classes (frame self.now) }
+        requires demands { AreKnownDemands self.now.world.now.classes demands.now }
+        ensures { MatchResult result (λ _. AllHold self.now.world.now.classes (frame self.now) demands.now) (Breaks self.now.world.now.classes (frame self.now) demands.now) }
     {
         'demands: for demand in demands {
             if let Some(fault) = self.broken(*demand) {
@@ -65,19 +65,19 @@ impl Before<'_> {
 
     /// The fault of a demand that is not met.
     pub(crate) fn broken(&self, demand: Demand) -> Option<RuleFault>
-        requires frame { AreKnown self.now.classes.now (frame self.now) }
-        requires demand { IsKnownDemand self.now.classes.now demand }
-        ensures { MatchOption result (Holds self.now.classes.now (frame self.now) demand) (λ fault. ¬ (Holds self.now.classes.now (frame self.now) demand) × (fault ≡ refused self.now.classes.now (frame self.now) demand)) }
+        requires frame { AreKnown self.now.world.now.classes (frame self.now) }
+        requires demand { IsKnownDemand self.now.world.now.classes demand }
+        ensures { MatchOption result (Holds self.now.world.now.classes (frame self.now) demand) (λ fault. ¬ (Holds self.now.world.now.classes (frame self.now) demand) × (fault ≡ refused self.now.world.now.classes (frame self.now) demand)) }
     {
         match demand {
             Demand::Registers(x, n) if x as usize + n as usize <= self.regs.len() => None,
             Demand::Registers(x, _) => Some(RuleFault::NoLocal(x)),
             Demand::Depth(n) if n as usize <= self.stack.len() => None,
             Demand::Depth(_) => Some(RuleFault::Underflow),
-            Demand::Cell(n, want) => judged(self.classes, want, self.cell(n), RuleFault::Underflow),
+            Demand::Cell(n, want) => judged(self.world.classes(), want, self.cell(n), RuleFault::Underflow),
             Demand::Cut(n) if self.splits(n) => Some(RuleFault::SplitInt),
             Demand::Cut(_) => None,
-            Demand::Held(x, want) => judged(self.classes, want, self.reg(x), RuleFault::NoLocal(x)),
+            Demand::Held(x, want) => judged(self.world.classes(), want, self.reg(x), RuleFault::NoLocal(x)),
         }
     }
 

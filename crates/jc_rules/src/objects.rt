@@ -49,12 +49,12 @@ pub(crate) fn value_size(ty: Ty) -> u8
 impl Before<'_> {
     /// The array of the elements of a kind.
     fn array_wanted(&self, kind: Kind) -> Want
-        requires { IsClass self.now.classes.now (object self.now.classes.now) }
-        ensures is { result ≡ array_wanted self.now.classes.now kind }
-        ensures known { IsKnownWant self.now.classes.now result }
+        requires { IsClass self.now.world.now.classes (object self.now.world.now.classes) }
+        ensures is { result ≡ array_wanted self.now.world.now.classes kind }
+        ensures known { IsKnownWant self.now.world.now.classes result }
     {
         match kind {
-            Kind::Ref => Want::Value(Ty::ArrRef(self.classes.role(0))),
+            Kind::Ref => Want::Value(Ty::ArrRef(self.world.role(0))),
             Kind::Byte => Want::ByteArray,
             Kind::Short => Want::Value(Ty::ArrShort),
             Kind::Int => Want::Value(Ty::ArrInt),
@@ -62,8 +62,8 @@ impl Before<'_> {
     }
 
     pub(crate) fn array_read(&self, kind: Kind) -> Result<Effect, RuleFault>
-        requires { AreKnown self.now.classes.now (frame self.now) }
-        ensures { IsJudged self.now.classes.now (frame self.now) (array_read_demands self.now.classes.now kind) (array_read_effect kind (frame self.now)) result }
+        requires { AreKnown self.now.world.now.classes (frame self.now) }
+        ensures { IsJudged self.now.world.now.classes (frame self.now) (array_read_demands self.now.world.now.classes kind) (array_read_effect kind (frame self.now)) result }
     {
         self.check(&[Demand::Cell(0, SHORT), Demand::Cell(1, self.array_wanted(kind))])?;
         let given = match kind {
@@ -75,8 +75,8 @@ impl Before<'_> {
     }
 
     pub(crate) fn array_write(&self, kind: Kind) -> Result<Effect, RuleFault>
-        requires { AreKnown self.now.classes.now (frame self.now) }
-        ensures { IsJudged self.now.classes.now (frame self.now) (array_write_demands self.now.classes.now kind) (array_write_effect kind) result }
+        requires { AreKnown self.now.world.now.classes (frame self.now) }
+        ensures { IsJudged self.now.world.now.classes (frame self.now) (array_write_demands self.now.world.now.classes kind) (array_write_effect kind) result }
     {
         let array = self.array_wanted(kind);
         match kind {
@@ -101,16 +101,16 @@ impl Before<'_> {
     }
 
     pub(crate) fn array_length(&self) -> Result<Effect, RuleFault>
-        requires { AreKnown self.now.classes.now (frame self.now) }
-        ensures { IsJudged self.now.classes.now (frame self.now) (Cell 0 Want.AnyArray ∷ []) (replacing 1 (Cells.One Ty.Short)) result }
+        requires { AreKnown self.now.world.now.classes (frame self.now) }
+        ensures { IsJudged self.now.world.now.classes (frame self.now) (Cell 0 Want.AnyArray ∷ []) (replacing 1 (Cells.One Ty.Short)) result }
     {
         self.check(&[Demand::Cell(0, Want::AnyArray)])?;
         Ok(Effect::replacing(1, Cells::One(Ty::Short)))
     }
 
     pub(crate) fn branched(&self, branch: Branch) -> Result<Effect, RuleFault>
-        requires { AreKnown self.now.classes.now (frame self.now) }
-        ensures { IsJudged self.now.classes.now (frame self.now) (branch_demands self.now.classes.now branch) (branch_effect branch) result }
+        requires { AreKnown self.now.world.now.classes (frame self.now) }
+        ensures { IsJudged self.now.world.now.classes (frame self.now) (branch_demands self.now.world.now.classes branch) (branch_effect branch) result }
     {
         let reference = self.a_reference();
         match branch {
@@ -135,8 +135,8 @@ impl Before<'_> {
     }
 
     pub(crate) fn switched(&self, width: Width) -> Result<Effect, RuleFault>
-        requires { AreKnown self.now.classes.now (frame self.now) }
-        ensures { IsJudged self.now.classes.now (frame self.now) (number width 0) (replacing (size width) Cells.Nothing) result }
+        requires { AreKnown self.now.world.now.classes (frame self.now) }
+        ensures { IsJudged self.now.world.now.classes (frame self.now) (number width 0) (replacing (size width) Cells.Nothing) result }
     {
         self.check_number(width)?;
         Ok(Effect::replacing(width.size(), Cells::Nothing))
@@ -144,9 +144,9 @@ impl Before<'_> {
 
     /// A value of a declared type goes from the stack.
     pub(crate) fn popped(&self, ty: Ty) -> Result<Effect, RuleFault>
-        requires frame { AreKnown self.now.classes.now (frame self.now) }
-        requires ty { IsKnown self.now.classes.now ty }
-        ensures { IsJudged self.now.classes.now (frame self.now) (value_wanted ty) (replacing (value_size ty) Cells.Nothing) result }
+        requires frame { AreKnown self.now.world.now.classes (frame self.now) }
+        requires ty { IsKnown self.now.world.now.classes ty }
+        ensures { IsJudged self.now.world.now.classes (frame self.now) (value_wanted ty) (replacing (value_size ty) Cells.Nothing) result }
     {
         match ty {
             Ty::IntHigh => self.check(&[Demand::Cell(0, INT_LOW), Demand::Cell(1, INT_HIGH)])?,
@@ -156,9 +156,9 @@ impl Before<'_> {
     }
 
     pub(crate) fn field_read(&self, holder: Holder, class: u16, ty: Ty) -> Result<Effect, RuleFault>
-        requires frame { AreKnown self.now.classes.now (frame self.now) }
-        requires class { IsClass self.now.classes.now class }
-        ensures { IsJudged self.now.classes.now (frame self.now) (field_read_demands holder class) (field_read_effect holder ty) result }
+        requires frame { AreKnown self.now.world.now.classes (frame self.now) }
+        requires class { IsClass self.now.world.now.classes class }
+        ensures { IsJudged self.now.world.now.classes (frame self.now) (field_read_demands holder class) (field_read_effect holder ty) result }
     {
         let object = Want::Value(Ty::Class(class));
         match holder {
@@ -174,10 +174,10 @@ impl Before<'_> {
     }
 
     pub(crate) fn field_write(&self, holder: Holder, class: u16, ty: Ty) -> Result<Effect, RuleFault>
-        requires frame { AreKnown self.now.classes.now (frame self.now) }
-        requires class { IsClass self.now.classes.now class }
-        requires ty { IsKnown self.now.classes.now ty }
-        ensures { IsJudged self.now.classes.now (frame self.now) (field_write_demands holder class ty) (field_write_effect holder ty) result }
+        requires frame { AreKnown self.now.world.now.classes (frame self.now) }
+        requires class { IsClass self.now.world.now.classes class }
+        requires ty { IsKnown self.now.world.now.classes ty }
+        ensures { IsJudged self.now.world.now.classes (frame self.now) (field_write_demands holder class ty) (field_write_effect holder ty) result }
     {
         match holder {
             Holder::Stack => self.object_write(class, ty),
@@ -186,10 +186,10 @@ impl Before<'_> {
     }
 
     fn object_write(&self, class: u16, ty: Ty) -> Result<Effect, RuleFault>
-        requires frame { AreKnown self.now.classes.now (frame self.now) }
-        requires class { IsClass self.now.classes.now class }
-        requires ty { IsKnown self.now.classes.now ty }
-        ensures { IsJudged self.now.classes.now (frame self.now) (field_write_demands Holder.Stack class ty) (field_write_effect Holder.Stack ty) result }
+        requires frame { AreKnown self.now.world.now.classes (frame self.now) }
+        requires class { IsClass self.now.world.now.classes class }
+        requires ty { IsKnown self.now.world.now.classes ty }
+        ensures { IsJudged self.now.world.now.classes (frame self.now) (field_write_demands Holder.Stack class ty) (field_write_effect Holder.Stack ty) result }
     {
         let object = Want::Value(Ty::Class(class));
         match ty {
@@ -204,10 +204,10 @@ impl Before<'_> {
     }
 
     fn this_write(&self, class: u16, ty: Ty) -> Result<Effect, RuleFault>
-        requires frame { AreKnown self.now.classes.now (frame self.now) }
-        requires class { IsClass self.now.classes.now class }
-        requires ty { IsKnown self.now.classes.now ty }
-        ensures { IsJudged self.now.classes.now (frame self.now) (field_write_demands Holder.This class ty) (field_write_effect Holder.This ty) result }
+        requires frame { AreKnown self.now.world.now.classes (frame self.now) }
+        requires class { IsClass self.now.world.now.classes class }
+        requires ty { IsKnown self.now.world.now.classes ty }
+        ensures { IsJudged self.now.world.now.classes (frame self.now) (field_write_demands Holder.This class ty) (field_write_effect Holder.This ty) result }
     {
         let object = Demand::Held(0, Want::Value(Ty::Class(class)));
         match ty {
@@ -223,8 +223,8 @@ impl Before<'_> {
     }
 
     pub(crate) fn made(&self, make: Make, ty: Ty) -> Result<Effect, RuleFault>
-        requires { AreKnown self.now.classes.now (frame self.now) }
-        ensures { IsJudged self.now.classes.now (frame self.now) (make_demands make) (make_effect make ty) result }
+        requires { AreKnown self.now.world.now.classes (frame self.now) }
+        ensures { IsJudged self.now.world.now.classes (frame self.now) (make_demands make) (make_effect make ty) result }
     {
         match make {
             Make::Object => Ok(Effect::replacing(0, Cells::One(ty))),
@@ -236,17 +236,17 @@ impl Before<'_> {
     }
 
     pub(crate) fn thrown(&self) -> Result<Effect, RuleFault>
-        requires frame { AreKnown self.now.classes.now (frame self.now) }
-        requires throwable { IsClass self.now.classes.now (throwable self.now.classes.now) }
-        ensures { IsJudged self.now.classes.now (frame self.now) (Cell 0 (Value (Class (throwable self.now.classes.now))) ∷ []) (replacing 1 Cells.Nothing) result }
+        requires frame { AreKnown self.now.world.now.classes (frame self.now) }
+        requires throwable { IsClass self.now.world.now.classes (throwable self.now.world.now.classes) }
+        ensures { IsJudged self.now.world.now.classes (frame self.now) (Cell 0 (Value (Class (throwable self.now.world.now.classes))) ∷ []) (replacing 1 Cells.Nothing) result }
     {
-        self.check(&[Demand::Cell(0, Want::Value(Ty::Class(self.classes.role(1))))])?;
+        self.check(&[Demand::Cell(0, Want::Value(Ty::Class(self.world.role(1))))])?;
         Ok(Effect::replacing(1, Cells::Nothing))
     }
 
     pub(crate) fn tested(&self, test: TypeTest, ty: Ty) -> Result<Effect, RuleFault>
-        requires { AreKnown self.now.classes.now (frame self.now) }
-        ensures { IsJudged self.now.classes.now (frame self.now) (Cell 0 (a_reference self.now.classes.now) ∷ []) (type_test_effect test ty) result }
+        requires { AreKnown self.now.world.now.classes (frame self.now) }
+        ensures { IsJudged self.now.world.now.classes (frame self.now) (Cell 0 (a_reference self.now.world.now.classes) ∷ []) (type_test_effect test ty) result }
     {
         self.check(&[Demand::Cell(0, self.a_reference())])?;
         let given = match test {

@@ -93,9 +93,9 @@ fn or_null(ty: Ty) -> Ty
 impl Before<'_> {
     /// A reference to an object or an array.
     pub(crate) fn a_reference(&self) -> Want
-        ensures { result ≡ a_reference self.now.classes.now }
+        ensures { result ≡ a_reference self.now.world.now.classes }
     {
-        Want::Value(Ty::Class(self.classes.role(0)))
+        Want::Value(Ty::Class(self.world.role(0)))
     }
 
     /// The type of a register, and Top where there is none.
@@ -113,8 +113,8 @@ impl Before<'_> {
     }
 
     pub(crate) fn load(&self, sort: Sort, x: u8) -> Result<Effect, RuleFault>
-        requires { AreKnown self.now.classes.now (frame self.now) }
-        ensures { IsJudged self.now.classes.now (frame self.now) (load_demands self.now.classes.now sort x) (load_effect sort x (frame self.now)) result }
+        requires { AreKnown self.now.world.now.classes (frame self.now) }
+        ensures { IsJudged self.now.world.now.classes (frame self.now) (load_demands self.now.world.now.classes sort x) (load_effect sort x (frame self.now)) result }
     {
         match sort {
             Sort::Reference => {
@@ -134,8 +134,8 @@ impl Before<'_> {
 
     /// Checks that an int stands in register `x` and the one behind it.
     fn check_int(&self, x: u8) -> Result<(), RuleFault>
-        requires { AreKnown self.now.classes.now (frame self.now) }
-        ensures { MatchResult result (λ _. AllHold self.now.classes.now (frame self.now) (load_demands self.now.classes.now sorts.Int x)) (Breaks self.now.classes.now (frame self.now) (load_demands self.now.classes.now sorts.Int x)) }
+        requires { AreKnown self.now.world.now.classes (frame self.now) }
+        ensures { MatchResult result (λ _. AllHold self.now.world.now.classes (frame self.now) (load_demands self.now.world.now.classes sorts.Int x)) (Breaks self.now.world.now.classes (frame self.now) (load_demands self.now.world.now.classes sorts.Int x)) }
     {
         if x as usize + 2 > self.regs.len() {
             return Err(RuleFault::NoLocal(x));
@@ -144,8 +144,8 @@ impl Before<'_> {
     }
 
     pub(crate) fn store(&self, sort: Sort, x: u8) -> Result<Effect, RuleFault>
-        requires { AreKnown self.now.classes.now (frame self.now) }
-        ensures { IsJudged self.now.classes.now (frame self.now) (store_demands sort x) (store_effect sort x (frame self.now)) result }
+        requires { AreKnown self.now.world.now.classes (frame self.now) }
+        ensures { IsJudged self.now.world.now.classes (frame self.now) (store_demands sort x) (store_effect sort x (frame self.now)) result }
     {
         match sort {
             Sort::Reference => {
@@ -168,8 +168,8 @@ impl Before<'_> {
     }
 
     pub(crate) fn increment(&self, width: Width, x: u8) -> Result<Effect, RuleFault>
-        requires { AreKnown self.now.classes.now (frame self.now) }
-        ensures { IsJudged self.now.classes.now (frame self.now) (increment_demands width x) (increment_effect width x) result }
+        requires { AreKnown self.now.world.now.classes (frame self.now) }
+        ensures { IsJudged self.now.world.now.classes (frame self.now) (increment_demands width x) (increment_effect width x) result }
     {
         match width {
             Width::Short => self.check(&[Demand::Registers(x, 1), Demand::Held(x, SHORT)])?,
@@ -179,9 +179,9 @@ impl Before<'_> {
     }
 
     pub(crate) fn moved(&self, cells: Move, m: u8, n: u8) -> Result<Effect, RuleFault>
-        requires frame { AreKnown self.now.classes.now (frame self.now) }
+        requires frame { AreKnown self.now.world.now.classes (frame self.now) }
         requires small { m + n ≤ 255 }
-        ensures { IsJudged self.now.classes.now (frame self.now) (move_demands cells m n) (move_effect cells m n) result }
+        ensures { IsJudged self.now.world.now.classes (frame self.now) (move_demands cells m n) (move_effect cells m n) result }
     {
         match cells {
             Move::Pop => {
@@ -218,8 +218,8 @@ impl Before<'_> {
 
     /// Checks that a number is on top of the stack.
     pub(crate) fn check_number(&self, width: Width) -> Result<(), RuleFault>
-        requires { AreKnown self.now.classes.now (frame self.now) }
-        ensures { MatchResult result (λ _. AllHold self.now.classes.now (frame self.now) (number width 0)) (Breaks self.now.classes.now (frame self.now) (number width 0)) }
+        requires { AreKnown self.now.world.now.classes (frame self.now) }
+        ensures { MatchResult result (λ _. AllHold self.now.world.now.classes (frame self.now) (number width 0)) (Breaks self.now.world.now.classes (frame self.now) (number width 0)) }
     {
         match width {
             Width::Short => self.check(&[Demand::Cell(0, SHORT)]),
@@ -229,8 +229,8 @@ impl Before<'_> {
 
     /// Checks that two numbers are on top of the stack.
     pub(crate) fn check_two_numbers(&self, width: Width) -> Result<(), RuleFault>
-        requires { AreKnown self.now.classes.now (frame self.now) }
-        ensures { MatchResult result (λ _. AllHold self.now.classes.now (frame self.now) (two_numbers width)) (Breaks self.now.classes.now (frame self.now) (two_numbers width)) }
+        requires { AreKnown self.now.world.now.classes (frame self.now) }
+        ensures { MatchResult result (λ _. AllHold self.now.world.now.classes (frame self.now) (two_numbers width)) (Breaks self.now.world.now.classes (frame self.now) (two_numbers width)) }
     {
         match width {
             Width::Short => self.check(&[Demand::Cell(0, SHORT), Demand::Cell(1, SHORT)]),
@@ -244,8 +244,8 @@ impl Before<'_> {
     }
 
     pub(crate) fn computed(&self, arithmetic: Arithmetic) -> Result<Effect, RuleFault>
-        requires { AreKnown self.now.classes.now (frame self.now) }
-        ensures { IsJudged self.now.classes.now (frame self.now) (arithmetic_demands arithmetic) (arithmetic_effect arithmetic) result }
+        requires { AreKnown self.now.world.now.classes (frame self.now) }
+        ensures { IsJudged self.now.world.now.classes (frame self.now) (arithmetic_demands arithmetic) (arithmetic_effect arithmetic) result }
     {
         match arithmetic {
             Arithmetic::Binary(_, width) => {

@@ -3,7 +3,7 @@ use Rattle.jc_rules.proofs.Demands.{Breaks-at, Carries-more, CarriesAll-more, Ca
 use Rattle.jc_rules.proofs.demand.Before.check.Goals as goal
 
 pub broken-requires-clause-demand : goal.broken-requires-clause-demand
-broken-requires-clause-demand c = Known-at c.args.self.now.classes.now c.args.demands.now c.demands.demand-index _ (omega arith) c.requires.demands
+broken-requires-clause-demand c = Known-at c.args.self.now.world.now.classes c.args.demands.now c.demands.demand-index _ (omega arith) c.requires.demands
 
 pub returns-in-Some : goal.returns-in-Some
 returns-in-Some c = Breaks-at _ _ _ c.demands.demand-index _ (omega arith) _ c.demands.invariant.breaks c.in-Some.ensures

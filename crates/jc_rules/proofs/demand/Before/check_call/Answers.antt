@@ -10,12 +10,12 @@ pub returns-in_err-check_arguments : goal.returns-in_err-check_arguments
 returns-in_err-check_arguments c =
     let p = err_from_is_err_and c.from_residual.result c.from_residual.ensures.1 in
     rw (p.1, p.2)
-        (Breaks-front c.args.self.now.classes.now (frame c.args.self.now) (cells_wanted 0 (reverse c.args.sig.now.args)) (receiver_wanted (length c.args.sig.now.args) c.args.receiver) _
-            (subst (λ args. Breaks c.args.self.now.classes.now (frame c.args.self.now) (cells_wanted 0 (reverse args)) _) c.as_slice.ensures c.in_err-check_arguments.ensures))
+        (Breaks-front c.args.self.now.world.now.classes (frame c.args.self.now) (cells_wanted 0 (reverse c.args.sig.now.args)) (receiver_wanted (length c.args.sig.now.args) c.args.receiver) _
+            (subst (λ args. Breaks c.args.self.now.world.now.classes (frame c.args.self.now) (cells_wanted 0 (reverse args)) c.in_err-check_arguments.field-0.0) c.as_slice.ensures c.in_err-check_arguments.ensures))
 
 pub returns-in-Some : goal.returns-in-Some
 returns-in-Some c =
-    let t = c.args.self.now.classes.now in
+    let t = c.args.self.now.world.now.classes in
     let f = frame c.args.self.now in
     let args = c.args.sig.now.args in
     subst (λ o. MatchResult c.check.result (λ _. AllHold t f (call_demands args o)) (Breaks t f (call_demands args o))) (sym c.in-Some.is)
