@@ -1,6 +1,2 @@
-pub mod Rows
 pub mod Demands
 pub mod Stacks
-pub mod Members
-pub mod Described
-pub mod Bodies

@@ -5,12 +5,13 @@ use Rattle.jc_base.specs.declared.ty.Ty.{Ty}
 use Rattle.jc_base.specs.declared.ty.Ty.TheVariants.{Bottom, Short, IntHigh, IntLow, Null, Class, ArrBool, ArrByte, ArrShort, ArrInt, ArrRef, Fresh, Top}
 use Rattle.jc_base.specs.Class.{ClassTable, IsClass, object}
 use Rattle.jc_base.specs.Order.{Below, IsKnown}
-use Rattle.jc_rules.specs.declared.fault.RuleFault.{RuleFault}
-use Rattle.jc_rules.specs.declared.fault.RuleFault.TheVariants.{Underflow, Mismatch, NoLocal, SplitInt, FreshKept}
+use Rattle.jc_rows.specs.declared.fault.RuleFault.{RuleFault}
+use Rattle.jc_rows.specs.declared.fault.RuleFault.TheVariants.{Underflow, Mismatch, NoLocal, SplitInt, FreshKept}
 use Rattle.jc_rules.specs.declared.demand.Before.{Before}
 use Rattle.jc_rules.specs.declared.effect.Effect.{Effect}
-use Rattle.jc_rules.specs.declared.demand.Want.{Want}
-use Rattle.jc_rules.specs.declared.demand.Want.TheVariants.{Value, Storable, ByteArray, AnyArray, Whole, Receiver}
+use Rattle.jc_rows.specs.declared.want.Want.{Want}
+use Rattle.jc_rows.specs.declared.want.Want.TheVariants.{Value, Storable, ByteArray, AnyArray, Whole, Receiver}
+use Rattle.jc_rows.specs.Named.{IsKnownWant}
 use Rattle.jc_rules.specs.declared.demand.Demand.{Demand}
 use Rattle.jc_rules.specs.declared.demand.Demand.TheVariants.{Registers, Depth, Cell, Cut, Held}
 
@@ -106,12 +107,7 @@ pub data Breaks (t : ClassTable) (f : Frame) : List Demand → RuleFault → Typ
   here : {d : Demand} {ds : List Demand} {fault : RuleFault} → ¬ (Holds t f d) → fault ≡ refused t f d → Breaks t f (d ∷ ds) fault
   later : {d : Demand} {ds : List Demand} {fault : RuleFault} → Holds t f d → Breaks t f ds fault → Breaks t f (d ∷ ds) fault
 
--- each class number in what is wanted names a class, and no interface
-abbrev pub IsKnownWant : ClassTable → Want → Type 0
-IsKnownWant t (Value wanted) = IsKnown t wanted
-IsKnownWant t (Receiver c) = IsClass t c
-IsKnownWant t _ = ⊤
-
+-- each class number in what is asked names a class, and no interface
 abbrev pub IsKnownDemand : ClassTable → Demand → Type 0
 IsKnownDemand t (Cell n want) = IsKnownWant t want
 IsKnownDemand t (Held x want) = IsKnownWant t want

@@ -1,6 +1,5 @@
-pub mod Row
 pub mod Stack
 pub mod Effect
 pub mod Demand
-pub mod Named
 pub mod Rule
+pub mod Apply

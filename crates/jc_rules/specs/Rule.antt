@@ -1,6 +1,6 @@
 -- The typing rule of each instruction (JCVM 2.2, section 7.5; Leroy 2002, section 2.2): by the kind of its row, what it
 -- asks of the frame, in the order in which it is tried, and what it does.
-use Rattle.std.specs.Prelude.{ℕ, ◌+◌, ◌*◌, ◌/◌, ◌%◌, Bool, List, [], ◌∷◌, ◌++◌, length, map, reverse, Option, Some, None, slice_get, slice_index_or}
+use Rattle.std.specs.Prelude.{ℕ, ◌+◌, ◌*◌, ◌/◌, ◌%◌, Bool, true, false, List, [], ◌∷◌, ◌++◌, length, map, reverse, Option, Some, None, slice_get, slice_index_or}
 use Rattle.jc_base.specs.declared.ty.Ty.{Ty}
 use Rattle.jc_base.specs.declared.ty.Ty.TheVariants.{Bottom, Short, IntHigh, IntLow, Null, Class, ArrBool, ArrByte, ArrShort, ArrInt, ArrRef, Fresh, Top}
 use Rattle.jc_base.specs.declared.ty.Kind.{Kind}
@@ -9,30 +9,30 @@ use Rattle.jc_base.specs.declared.record.MethodRec.{MethodRec}
 use Rattle.jc_base.specs.Class.{ClassTable, object, throwable}
 use Rattle.jc_base.specs.World.{Linked}
 use Rattle.jc_decode.specs.declared.insn.Insn.{Insn}
-use Rattle.jc_rules.specs.declared.row.Sort.{Sort}
-use Rattle.jc_rules.specs.declared.row.Sort.TheVariants as sorts
-use Rattle.jc_rules.specs.declared.row.Width.{Width}
-use Rattle.jc_rules.specs.declared.row.Width.TheVariants as widths
-use Rattle.jc_rules.specs.declared.row.Local.{Local}
-use Rattle.jc_rules.specs.declared.row.Local.TheVariants as locals
-use Rattle.jc_rules.specs.declared.row.Constant.{Constant}
-use Rattle.jc_rules.specs.declared.row.Constant.TheVariants as constants
-use Rattle.jc_rules.specs.declared.row.Move.{Move}
-use Rattle.jc_rules.specs.declared.row.Move.TheVariants as moves
-use Rattle.jc_rules.specs.declared.row.Arithmetic.{Arithmetic}
-use Rattle.jc_rules.specs.declared.row.Arithmetic.TheVariants as arithmetic
-use Rattle.jc_rules.specs.declared.row.Branch.{Branch}
-use Rattle.jc_rules.specs.declared.row.Branch.TheVariants as branches
-use Rattle.jc_rules.specs.declared.row.Holder.{Holder}
-use Rattle.jc_rules.specs.declared.row.Holder.TheVariants as holders
-use Rattle.jc_rules.specs.declared.row.Make.{Make}
-use Rattle.jc_rules.specs.declared.row.Make.TheVariants as makes
-use Rattle.jc_rules.specs.declared.row.TypeTest.{TypeTest}
-use Rattle.jc_rules.specs.declared.row.TypeTest.TheVariants as tests
-use Rattle.jc_rules.specs.declared.row.Row.{Row}
-use Rattle.jc_rules.specs.declared.row.Row.TheVariants as rows
-use Rattle.jc_rules.specs.declared.demand.Want.{Want}
-use Rattle.jc_rules.specs.declared.demand.Want.TheVariants.{Value, Storable, ByteArray, AnyArray, Whole, Receiver}
+use Rattle.jc_rows.specs.declared.row.Sort.{Sort}
+use Rattle.jc_rows.specs.declared.row.Sort.TheVariants as sorts
+use Rattle.jc_rows.specs.declared.row.Width.{Width}
+use Rattle.jc_rows.specs.declared.row.Width.TheVariants as widths
+use Rattle.jc_rows.specs.declared.row.Local.{Local}
+use Rattle.jc_rows.specs.declared.row.Local.TheVariants as locals
+use Rattle.jc_rows.specs.declared.row.Constant.{Constant}
+use Rattle.jc_rows.specs.declared.row.Constant.TheVariants as constants
+use Rattle.jc_rows.specs.declared.row.Move.{Move}
+use Rattle.jc_rows.specs.declared.row.Move.TheVariants as moves
+use Rattle.jc_rows.specs.declared.row.Arithmetic.{Arithmetic}
+use Rattle.jc_rows.specs.declared.row.Arithmetic.TheVariants as arithmetic
+use Rattle.jc_rows.specs.declared.row.Branch.{Branch}
+use Rattle.jc_rows.specs.declared.row.Branch.TheVariants as branches
+use Rattle.jc_rows.specs.declared.row.Holder.{Holder}
+use Rattle.jc_rows.specs.declared.row.Holder.TheVariants as holders
+use Rattle.jc_rows.specs.declared.row.Make.{Make}
+use Rattle.jc_rows.specs.declared.row.Make.TheVariants as makes
+use Rattle.jc_rows.specs.declared.row.TypeTest.{TypeTest}
+use Rattle.jc_rows.specs.declared.row.TypeTest.TheVariants as tests
+use Rattle.jc_rows.specs.declared.row.Row.{Row}
+use Rattle.jc_rows.specs.declared.row.Row.TheVariants as rows
+use Rattle.jc_rows.specs.declared.want.Want.{Want}
+use Rattle.jc_rows.specs.declared.want.Want.TheVariants.{Value, Storable, ByteArray, AnyArray, Whole, Receiver}
 use Rattle.jc_rules.specs.declared.demand.Demand.{Demand}
 use Rattle.jc_rules.specs.declared.demand.Demand.TheVariants.{Registers, Depth, Cell, Cut, Held}
 use Rattle.jc_rules.specs.declared.effect.Cells.{Cells}
@@ -40,11 +40,11 @@ use Rattle.jc_rules.specs.declared.effect.Cells.TheVariants as given
 use Rattle.jc_rules.specs.declared.effect.Change.{Change}
 use Rattle.jc_rules.specs.declared.effect.Change.TheVariants.{Replace, CopyUnder, Exchange, MakeReady}
 use Rattle.jc_rules.specs.declared.effect.Effect.{Effect}
-use Rattle.jc_rules.specs.declared.named.Named.{Named}
-use Rattle.jc_rules.specs.declared.named.Named.TheVariants as names
+use Rattle.jc_rows.specs.declared.named.Named.{Named}
+use Rattle.jc_rows.specs.declared.named.Named.TheVariants as names
 use Rattle.jc_rules.specs.Effect.{reg}
 use Rattle.jc_rules.specs.Demand.{Frame}
-use Rattle.jc_rules.specs.Named.{byte_of}
+use Rattle.jc_rows.specs.Named.{byte_of}
 
 -- ---- words
 
@@ -245,14 +245,10 @@ branch_effect (branches.Shorts o) = replacing 2 given.Nothing
 
 -- ---- fields
 
+-- the type that is named
 abbrev pub type_named : Named → Ty
 type_named (names.Type ty) = ty
-type_named (names.Field c ty) = ty
 type_named _ = Top
-
-abbrev pub class_named : Named → ℕ
-class_named (names.Field c ty) = c
-class_named _ = 0
 
 abbrev pub field_read_demands : Holder → ℕ → List Demand
 field_read_demands holders.Stack c = Cell 0 (Value (Class c)) ∷ []
@@ -270,6 +266,23 @@ field_write_demands holders.This c ty = Registers 0 1 ∷ (value_wanted ty ++ He
 abbrev pub field_write_effect : Holder → Ty → Effect
 field_write_effect holders.Stack ty = replacing (value_size ty + 1) given.Nothing
 field_write_effect holders.This ty = replacing (value_size ty) given.Nothing
+
+-- by the field that is named
+abbrev pub read_demands : Holder → Named → List Demand
+read_demands h (names.Field c ty) = field_read_demands h c
+read_demands h _ = []
+
+abbrev pub read_effect : Holder → Named → Effect
+read_effect h (names.Field c ty) = field_read_effect h ty
+read_effect h _ = replacing 0 given.Nothing
+
+abbrev pub write_demands : Holder → Named → List Demand
+write_demands h (names.Field c ty) = field_write_demands h c ty
+write_demands h _ = []
+
+abbrev pub write_effect : Holder → Named → Effect
+write_effect h (names.Field c ty) = field_write_effect h ty
+write_effect h _ = replacing 0 given.Nothing
 
 -- ---- calls
 
@@ -361,8 +374,8 @@ demands w i n (rows.Branch b) = branch_demands w.classes b
 demands w i n (rows.Switch width) = number width 0
 demands w i n (rows.StaticRead k) = []
 demands w i n (rows.StaticWrite k) = value_wanted (type_named n)
-demands w i n (rows.FieldRead k h) = field_read_demands h (class_named n)
-demands w i n (rows.FieldWrite k h) = field_write_demands h (class_named n) (type_named n)
+demands w i n (rows.FieldRead k h) = read_demands h n
+demands w i n (rows.FieldWrite k h) = write_demands h n
 demands w i n (rows.Call c) = method_demands w n
 demands w i n (rows.Make m) = make_demands m
 demands w i n rows.Throw = Cell 0 (Value (Class (throwable w.classes))) ∷ []
@@ -385,11 +398,31 @@ effect w i n (rows.Branch b) f = branch_effect b
 effect w i n (rows.Switch width) f = replacing (size width) given.Nothing
 effect w i n (rows.StaticRead k) f = replacing 0 (value_given (type_named n))
 effect w i n (rows.StaticWrite k) f = replacing (value_size (type_named n)) given.Nothing
-effect w i n (rows.FieldRead k h) f = field_read_effect h (type_named n)
-effect w i n (rows.FieldWrite k h) f = field_write_effect h (type_named n)
+effect w i n (rows.FieldRead k h) f = read_effect h n
+effect w i n (rows.FieldWrite k h) f = write_effect h n
 effect w i n (rows.Call c) f = method_effect w n f
 effect w i n (rows.Make m) f = make_effect m (type_named n)
 effect w i n rows.Throw f = replacing 1 given.Nothing
 effect w i n (rows.TypeTest test) f = type_test_effect test (type_named n)
 effect w i n (rows.Return s) f = return_effect n
 effect w i n rows.Reserved f = replacing 0 given.Nothing
+
+-- whether the instruction behind may come next
+abbrev pub falls_from : Row → Bool
+falls_from (rows.Branch branches.Always) = false
+falls_from (rows.Switch width) = false
+falls_from (rows.Return s) = false
+falls_from rows.Throw = false
+falls_from row = true
+
+-- whether the method ends here, or is left for a handler
+abbrev pub ends_at : Row → Bool
+ends_at (rows.Return s) = true
+ends_at rows.Throw = true
+ends_at row = false
+
+-- the first register that is written and how many are
+abbrev pub wrote : ℕ → Cells → Option (ℕ × ℕ)
+wrote x given.Nothing = None
+wrote x (given.One ty) = Some (x, 1)
+wrote x given.Int = Some (x, 2)

@@ -1,14 +1,14 @@
 ghost use Rattle.std.specs.Prelude.{◌≡◌, ◌+◌, ◌≤◌, length, reverse, MatchResult, IfSome, All};
 ghost use Rattle.jc_base.specs.Order.{IsKnown};
-ghost use Rattle.jc_rules.specs.Demand.{AreKnown, AllHold, Breaks, IsKnownWant, frame, IsJudged};
-ghost use Rattle.jc_rules.specs.Named.{receiver_count};
+ghost use Rattle.jc_rules.specs.Demand.{AreKnown, AllHold, Breaks, frame, IsJudged};
+ghost use Rattle.jc_rows.specs.Named.{IsKnownWant, receiver_count};
 ghost use Rattle.jc_rules.specs.Rule.{cells_wanted, call_demands, call_effect, ready_with, result_given};
 
-use crate::demand::{Before, Demand, Want};
+use crate::demand::{Before, Demand};
 use crate::effect::{Cells, Change, Effect};
-use crate::fault::RuleFault;
 use crate::objects::value_given;
 use jc_base::{Sig, Ty};
+use jc_rows::{RuleFault, Want};
 
 /// What becomes of the stack under a receiver: a constructor makes ready each object that was made with it.
 fn ready_with(taken: u8, given: Cells, found: Ty, want: Want) -> Change

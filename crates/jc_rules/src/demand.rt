@@ -2,27 +2,11 @@ ghost use Rattle.std.specs.Prelude.{◌≡◌, ◌↔◌, ◌≤◌, ◌<◌, le
 ghost use Rattle.jc_base.specs.Class.{IsClass, object};
 ghost use Rattle.jc_base.specs.Order.{IsKnown};
 ghost use Rattle.jc_base.specs.declared.ty.Ty.TheVariants.{IntLow, IntHigh};
-ghost use Rattle.jc_rules.specs.Demand.{AllHold, AreKnownDemands, AreKnown, frame, Meets, Holds, Breaks, refusal, refused, IsKnownWant, IsKnownDemand, IsArrayOrNull, IsHalf, IsFreshOf, Splits, refused_at};
+ghost use Rattle.jc_rows.specs.Named.{IsKnownWant};
+ghost use Rattle.jc_rules.specs.Demand.{AllHold, AreKnownDemands, AreKnown, frame, Meets, Holds, Breaks, refusal, refused, IsKnownDemand, IsArrayOrNull, IsHalf, IsFreshOf, Splits, refused_at};
 
-use crate::fault::RuleFault;
 use jc_base::{Classes, Ty, World, below};
-
-/// What is wanted of the type of one cell or register.
-#[derive(Clone, Copy)]
-pub enum Want {
-    /// A value of this type.
-    Value(Ty),
-    /// A reference that may be kept in a register.
-    Storable,
-    /// An array of bytes or of booleans.
-    ByteArray,
-    /// An array of any kind.
-    AnyArray,
-    /// No half of an int.
-    Whole,
-    /// An object of this class, or one that a constructor of the class is yet to make ready.
-    Receiver(u16),
-}
+use jc_rows::{RuleFault, Want};
 
 /// One thing that an instruction asks before it changes anything. Cells are counted from the top of
 /// the stack, from 0.

@@ -66,18 +66,17 @@ impl Cells {
 }
 
 impl Change {
-    /// The number of cells on a stack of `depth` cells afterwards.
+    /// The number of cells afterwards on a stack of `depth` cells, which has the cells that go.
     pub fn depth_after(self, depth: u8) -> usize
-        requires { needed self ≤ depth }
         ensures { result ≡ depth_after self depth }
     {
         let depth = depth as usize;
         match self {
-            Change::Replace { taken, given } => depth - taken as usize + given.count() as usize,
+            Change::Replace { taken, given } => depth.saturating_sub(taken as usize) + given.count() as usize,
             Change::CopyUnder { copied, .. } => depth + copied as usize,
             Change::Exchange { .. } => depth,
             Change::MakeReady { taken, given, .. } => {
-                depth - taken as usize + given.count() as usize
+                depth.saturating_sub(taken as usize) + given.count() as usize
             }
         }
     }

@@ -1,25 +1,19 @@
-//! The typing rule of every instruction (JCVM 2.2, section 7.5; Leroy 2002).
+//! The typing rule of every instruction (JCVM 2.2, section 7.5; Leroy 2002, section 2.2).
 //!
-//! Each opcode has a row of one of twenty kinds, and `apply` does to types what the row says.
+//! `apply` does to the types of registers and operand stack what the row of an instruction says, or
+//! refuses with the first thing that is missing.
 //! The definitions of dataflow typings, over which the verifiers are proved, stand here too.
-//! It stands on the types and worlds of `jc_base` and on the instructions of `jc_decode`.
+//! It stands on the rows of `jc_rows`, the types and worlds of `jc_base` and the instructions of `jc_decode`.
 
 #![tactic(auto)]
 
-mod called;
+mod apply;
 mod calls;
-mod concrete;
 mod demand;
 mod effect;
-mod fault;
-mod named;
-mod names;
 mod objects;
-mod row;
 mod values;
 
-pub use demand::{Before, Demand, Want};
+pub use apply::{Outcome, Site};
+pub use demand::{Before, Demand};
 pub use effect::{Cells, Change, Effect, Mode, Store};
-pub use fault::RuleFault;
-pub use named::{Named, byte_of, short_of};
-pub use row::{Arithmetic, Branch, Call, Constant, Holder, Local, Make, Move, Number, Operator, Order, Row, Sameness, Sort, TypeTest, Width};

@@ -2,16 +2,17 @@ ghost use Rattle.std.specs.Prelude.{◌≡◌, ◌+◌, ◌≤◌, ◌<◌, ◌+
 ghost use Rattle.jc_base.specs.Class.{IsClass, object, throwable};
 ghost use Rattle.jc_base.specs.declared.ty.Ty.TheVariants.{Class};
 ghost use Rattle.jc_base.specs.Order.{IsKnown};
-ghost use Rattle.jc_rules.specs.declared.demand.Want.TheVariants.{Value};
+ghost use Rattle.jc_rows.specs.declared.want.Want.TheVariants.{Value};
 ghost use Rattle.jc_rules.specs.declared.demand.Demand.TheVariants.{Cell};
-ghost use Rattle.jc_rules.specs.Demand.{AreKnown, AllHold, Breaks, IsKnownWant, frame, IsJudged};
+ghost use Rattle.jc_rules.specs.Demand.{AreKnown, AllHold, Breaks, frame, IsJudged};
+ghost use Rattle.jc_rows.specs.Named.{IsKnownWant};
 ghost use Rattle.jc_rules.specs.Rule.{a_reference, element, array_wanted, array_read_demands, array_read_effect, array_write_demands, array_write_effect, branch_demands, branch_effect, value_given, value_wanted, value_size, field_read_demands, field_read_effect, field_write_demands, field_write_effect, make_demands, make_effect, type_test_effect, replacing, number, size};
 
-use crate::demand::{Before, Demand, Want};
+use crate::demand::{Before, Demand};
 use crate::effect::{Cells, Effect};
-use crate::fault::RuleFault;
-use crate::row::{Branch, Holder, Make, TypeTest, Width};
+use crate::values::size;
 use jc_base::{Kind, Ty};
+use jc_rows::{Branch, Holder, Make, RuleFault, TypeTest, Want, Width};
 
 const SHORT: Want = Want::Value(Ty::Short);
 const INT_LOW: Want = Want::Value(Ty::IntLow);
@@ -139,7 +140,7 @@ impl Before<'_> {
         ensures { IsJudged self.now.world.now.classes (frame self.now) (number width 0) (replacing (size width) Cells.Nothing) result }
     {
         self.check_number(width)?;
-        Ok(Effect::replacing(width.size(), Cells::Nothing))
+        Ok(Effect::replacing(size(width), Cells::Nothing))
     }
 
     /// A value of a declared type goes from the stack.
@@ -236,8 +237,7 @@ impl Before<'_> {
     }
 
     pub(crate) fn thrown(&self) -> Result<Effect, RuleFault>
-        requires frame { AreKnown self.now.world.now.classes (frame self.now) }
-        requires throwable { IsClass self.now.world.now.classes (throwable self.now.world.now.classes) }
+        requires { AreKnown self.now.world.now.classes (frame self.now) }
         ensures { IsJudged self.now.world.now.classes (frame self.now) (Cell 0 (Value (Class (throwable self.now.world.now.classes))) ∷ []) (replacing 1 Cells.Nothing) result }
     {
         self.check(&[Demand::Cell(0, Want::Value(Ty::Class(self.world.role(1))))])?;

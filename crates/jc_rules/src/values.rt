@@ -1,14 +1,13 @@
 ghost use Rattle.std.specs.Prelude.{◌≡◌, ◌+◌, ◌≤◌, ◌<◌, length, reverse, MatchResult};
-ghost use Rattle.jc_rules.specs.declared.row.Sort.TheVariants as sorts;
+ghost use Rattle.jc_rows.specs.declared.row.Sort.TheVariants as sorts;
 ghost use Rattle.jc_rules.specs.Demand.{AreKnown, AllHold, Breaks, frame, IsJudged};
 ghost use Rattle.jc_rules.specs.Effect.{reg};
 ghost use Rattle.jc_rules.specs.Rule.{cell, or_null, number, number_given, size, value_given, value_wanted, value_size, replacing, constant_effect, load_demands, load_effect, store_demands, store_effect, increment_demands, increment_effect, move_demands, move_effect, arithmetic_demands, arithmetic_effect, on_stack, storing, a_reference, two_numbers};
 
-use crate::demand::{Before, Demand, Want};
+use crate::demand::{Before, Demand};
 use crate::effect::{Cells, Change, Effect, Store};
-use crate::fault::RuleFault;
-use crate::row::{Arithmetic, Constant, Move, Sort, Width};
 use jc_base::Ty;
+use jc_rows::{Arithmetic, Constant, Move, RuleFault, Sort, Want, Width};
 
 const SHORT: Want = Want::Value(Ty::Short);
 const INT_LOW: Want = Want::Value(Ty::IntLow);
@@ -47,23 +46,22 @@ impl Effect {
     }
 }
 
-impl Width {
-    pub(crate) fn size(self) -> u8
-        ensures { result ≡ size self }
-    {
-        match self {
-            Width::Short => 1,
-            Width::Int => 2,
-        }
+pub(crate) fn size(width: Width) -> u8
+    ensures { result ≡ size width }
+{
+    match width {
+        Width::Short => 1,
+        Width::Int => 2,
     }
+}
 
-    pub(crate) fn given(self) -> Cells
-        ensures { result ≡ number_given self }
-    {
-        match self {
-            Width::Short => Cells::One(Ty::Short),
-            Width::Int => Cells::Int,
-        }
+/// The cells of a number.
+fn number_given(width: Width) -> Cells
+    ensures { result ≡ number_given width }
+{
+    match width {
+        Width::Short => Cells::One(Ty::Short),
+        Width::Int => Cells::Int,
     }
 }
 
@@ -175,7 +173,7 @@ impl Before<'_> {
             Width::Short => self.check(&[Demand::Registers(x, 1), Demand::Held(x, SHORT)])?,
             Width::Int => self.check_int(x)?,
         }
-        Ok(Effect::storing(0, x, width.given()))
+        Ok(Effect::storing(0, x, number_given(width)))
     }
 
     pub(crate) fn moved(&self, cells: Move, m: u8, n: u8) -> Result<Effect, RuleFault>
@@ -250,11 +248,11 @@ impl Before<'_> {
         match arithmetic {
             Arithmetic::Binary(_, width) => {
                 self.check_two_numbers(width)?;
-                Ok(Effect::replacing(2 * width.size(), width.given()))
+                Ok(Effect::replacing(2 * size(width), number_given(width)))
             }
             Arithmetic::Negate(width) => {
                 self.check_number(width)?;
-                Ok(Effect::replacing(width.size(), width.given()))
+                Ok(Effect::replacing(size(width), number_given(width)))
             }
             Arithmetic::ShortToByte => {
                 self.check_number(Width::Short)?;

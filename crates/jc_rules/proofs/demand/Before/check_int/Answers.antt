@@ -1,6 +1,6 @@
 use Rattle.std.proofs.Common.{◌+◌, ◌≤◌, [], ◌∷◌, length, refl, arith}
 use Rattle.jc_base.specs.declared.ty.Ty.TheVariants.{IntHigh, IntLow}
-use Rattle.jc_rules.specs.declared.demand.Want.TheVariants.{Value}
+use Rattle.jc_rows.specs.declared.want.Want.TheVariants.{Value}
 use Rattle.jc_rules.specs.declared.demand.Demand.TheVariants.{Registers, Held}
 use Rattle.jc_rules.specs.Demand.{here, frame}
 use Rattle.jc_rules.proofs.Demands.{judged-later}
