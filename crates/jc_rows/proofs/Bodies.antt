@@ -58,9 +58,9 @@ module _ (t : ClassTable) (methods : List MethodRec) (c : ℕ) where
       (home : ℕ) → get_or (set seen (package_of t at) true) home false ≡ true → All (HasBody methods) (visible_in t home c)
   met-more seen at cs e k m home h = by_home (dec_eq (package_of t at) home)
     where
-    by_home : ((package_of t at) ≡ home) ⊎ ((package_of t at) ≢ home) → All (HasBody methods) (visible_in t home c)
-    by_home (inl is) = subst (λ n. All (HasBody methods) (visible_in t n c)) is (mark-met seen at cs e k m (get_or seen (package_of t at) false) refl)
-    by_home (inr ne) = k.met home (sym (get_or-set_other seen (package_of t at) home true false (λ e. ne (sym e))) ∙ h)
+      by_home : ((package_of t at) ≡ home) ⊎ ((package_of t at) ≢ home) → All (HasBody methods) (visible_in t home c)
+      by_home (inl is) = subst (λ n. All (HasBody methods) (visible_in t n c)) is (mark-met seen at cs e k m (get_or seen (package_of t at) false) refl)
+      by_home (inr ne) = k.met home (sym (get_or-set_other seen (package_of t at) home true false (λ e. ne (sym e))) ∙ h)
 
   not_seen : (seen : List Bool) (at home : ℕ) → package_of t at < length seen → get_or (set seen (package_of t at) true) home false ≡ false → package_of t at ≢ home
   not_seen seen at home inside h is =
@@ -71,20 +71,20 @@ module _ (t : ClassTable) (methods : List MethodRec) (c : ℕ) where
     met = met-more seen at (chain t p) next.chain_is k m;
     rest = λ home h.
         let ne : package_of t at ≢ home = not_seen seen at home m.inside h in
-        k.rest home (sym (get_or-set_other seen (package_of t at) home true false (λ e. ne (sym e))) ∙ h) ∙ nearest-above at p home next.chain_is ne
+        k.rest home (sym (get_or-set_other seen (package_of t at) home true false (λ e. ne (sym e))) ∙ h) ∙ nearest-above at p home next.chain_is ne;
   }
 
   pub Climbs-end : (seen : List Bool) (at : ℕ) → IsEndOfChain t at → Climbs seen at → Met seen at → (home : ℕ) → All (HasBody methods) (visible_in t home c)
   unfolding visible_in
   Climbs-end seen at end k m home = by_home (dec_eq (package_of t at) home)
     where
-    by_home : ((package_of t at) ≡ home) ⊎ ((package_of t at) ≢ home) → All (HasBody methods) (list_of (visible_of t) (nearest_of t home c))
-    by_home (inl is) = subst (λ n. All (HasBody methods) (list_of (visible_of t) (nearest_of t n c))) is (mark-met seen at [] end.chain_is k m (get_or seen (package_of t at) false) refl)
-    by_home (inr ne) = by_seen (get_or seen home false) refl
-      where
-      by_seen : (b : Bool) → get_or seen home false ≡ b → All (HasBody methods) (list_of (visible_of t) (nearest_of t home c))
-      by_seen true h = k.met home h
-      by_seen false h = subst (λ o. All (HasBody methods) (list_of (visible_of t) o)) (sym (k.rest home h ∙ nearest-end at home end.chain_is ne)) (λ i d lt. absurd (omega arith))
+      by_home : ((package_of t at) ≡ home) ⊎ ((package_of t at) ≢ home) → All (HasBody methods) (list_of (visible_of t) (nearest_of t home c))
+      by_home (inl is) = subst (λ n. All (HasBody methods) (list_of (visible_of t) (nearest_of t n c))) is (mark-met seen at [] end.chain_is k m (get_or seen (package_of t at) false) refl)
+      by_home (inr ne) = by_seen (get_or seen home false) refl
+        where
+          by_seen : (b : Bool) → get_or seen home false ≡ b → All (HasBody methods) (list_of (visible_of t) (nearest_of t home c))
+          by_seen true h = k.met home h
+          by_seen false h = subst (λ o. All (HasBody methods) (list_of (visible_of t) o)) (sym (k.rest home h ∙ nearest-end at home end.chain_is ne)) (λ i d lt. absurd (omega arith))
 
   -- what was read of the class that is reached
   module _ (seen : List Bool) (at home : ℕ) (d : Bool) (is : home ≡ package_of t at) (inside : home < length seen) where

@@ -27,9 +27,9 @@ module _ (p : ℕ → Bool) (len n : ℕ) where
       let e : len - n ≡ 0 = omega arith in
       only_one found ∙ ap (λ k. only (option_to_list found ++ filter p (range_with_len n k))) (sym e) ∙ f
     where
-    only_one : (o : Option ℕ) → o ≡ only (option_to_list o ++ [])
-    only_one None = refl
-    only_one (Some m) = refl
+      only_one : (o : Option ℕ) → o ≡ only (option_to_list o ++ [])
+      only_one None = refl
+      only_one (Some m) = refl
 
 pub Finds-start : (p : ℕ → Bool) (len : ℕ) → Finds p len None 0
 Finds-start p len = let e : len - 0 ≡ len = omega arith in ap (λ k. only (filter p (range_with_len 0 k))) e

@@ -54,7 +54,7 @@ module _ (w : Linked) (is : IsWorld w) where
   pub inherited-receives : (c n : ℕ) → IsSomeAnd (slice_get w.methods n) (IsInherited w.classes c) → TakesReceiver w.methods n
   inherited-receives c n h = record {
     number = in_list n (slice_get w.methods n) (IsInherited w.classes c) refl h;
-    room = inherited_at c (slice_get w.methods n) (λ m e. All-slice_get (IsMethod w.infos w.pools w.classes) w.methods n m is.methods e) h
+    room = inherited_at c (slice_get w.methods n) (λ m e. All-slice_get (IsMethod w.infos w.pools w.classes) w.methods n m is.methods e) h;
   }
 
   -- the entries of a class's lists
@@ -89,9 +89,10 @@ module _ (w : Linked) (is : IsWorld w) where
   pub entry-receives : (c token : ℕ) → IfSome (entry_at w.classes c token) (TakesReceiver w.methods)
   unfolding entry_at
   entry-receives c token =
-      elim (nat_lt token 128) as (λ b. IfSome (cond b (slice_get (public_of w.classes c) token) (slice_get (visible_of w.classes c) (token - 128))) (TakesReceiver w.methods))
-          [ true ↦ list-receives c (public_of w.classes c) (public-inherits c) token (slice_get (public_of w.classes c) token) refl
-          | false ↦ list-receives c (visible_of w.classes c) (visible-inherits c) (token - 128) (slice_get (visible_of w.classes c) (token - 128)) refl ]
+      elim (nat_lt token 128) as (λ b. IfSome (cond b (slice_get (public_of w.classes c) token) (slice_get (visible_of w.classes c) (token - 128))) (TakesReceiver w.methods)) [
+        | true ↦ list-receives c (public_of w.classes c) (public-inherits c) token (slice_get (public_of w.classes c) token) refl
+        | false ↦ list-receives c (visible_of w.classes c) (visible-inherits c) (token - 128) (slice_get (visible_of w.classes c) (token - 128)) refl
+      ]
 
   own_at : (c : ℕ) (o : Option ClassRec) → IfSome o (IsLinkedClass (length w.infos) w.classes w.methods c) → All (IsDeclared w.classes) (of_record [] (λ r. r.own) o)
   own_at c None h = λ k d lt. absurd (omega arith)
@@ -116,8 +117,8 @@ module _ (w : Linked) (is : IsWorld w) where
   super-receives c n None h = absurd h
   super-receives c n (Some p) h =
       inherited-receives p n
-          (All-contains (λ k. IsSomeAnd (slice_get w.methods k) (IsInherited w.classes p)) (public_of w.classes p ++ visible_of w.classes p) n
-              (All-append (λ k. IsSomeAnd (slice_get w.methods k) (IsInherited w.classes p)) (public_of w.classes p) (visible_of w.classes p) (public-inherits p) (visible-inherits p)) h)
+      (All-contains (λ k. IsSomeAnd (slice_get w.methods k) (IsInherited w.classes p)) (public_of w.classes p ++ visible_of w.classes p) n
+      (All-append (λ k. IsSomeAnd (slice_get w.methods k) (IsInherited w.classes p)) (public_of w.classes p) (visible_of w.classes p) (public-inherits p) (visible-inherits p)) h)
 
   pub member-known : (m : Member) → IsMember w.classes w.methods w.statics m → IsKnownMember w m
   member-known (ClassOf c) h = h

@@ -6,10 +6,10 @@ ghost use Rattle.jc_base.specs.Linked.{lacks_code};
 ghost use Rattle.jc_base.specs.World.{member_at};
 ghost use Rattle.jc_rows.specs.Named.{byte_of, short_of, virtual_named, entry_named, special_named, static_call_named, interface_named, described_named, is_described, only, described, call_named, own_receiver, TakesReceiver, IsNamed};
 
-use crate::want::Want;
 use crate::fault::RuleFault;
 use crate::named::{Named, byte_of, is_interface, member, short_of};
 use crate::row::Call;
+use crate::want::Want;
 use jc_base::{Dispatch, Member, MethodRec, Ty, World};
 use jc_decode::Insn;
 
@@ -38,13 +38,23 @@ fn virtual_named(world: &World<'_>, package: u16, pool: u16) -> Result<Named, Ru
     ensures known { IfOk result (IsNamed world.now) }
 {
     match member(world, package, pool) {
-        Some(Member::Virtual { class, token }) => entry_named(world, pool, class, entry(world, class, token)),
+        Some(Member::Virtual { class, token }) => entry_named(
+            world,
+            pool,
+            class,
+            entry(world, class, token),
+        ),
         _ => Err(RuleFault::BadMember(pool)),
     }
 }
 
 /// The method of a dispatch list's entry. An array may be the receiver of a method of object.
-fn entry_named(world: &World<'_>, pool: u16, class: u16, entry: Option<u16>) -> Result<Named, RuleFault>
+fn entry_named(
+    world: &World<'_>,
+    pool: u16,
+    class: u16,
+    entry: Option<u16>,
+) -> Result<Named, RuleFault>
     requires class { IsClass world.now.classes class }
     requires receives { IfSome entry (TakesReceiver world.now.methods) }
     ensures is { result ≡ entry_named world.now pool class entry }
@@ -175,7 +185,12 @@ fn only_described(world: &World<'_>, interface: u16, token: u8) -> Option<u16>
 }
 
 /// The method that an interface describes; its argument words and the receiver are `nargs`.
-fn described_named(world: &World<'_>, pool: u16, nargs: u8, number: Option<u16>) -> Result<Named, RuleFault>
+fn described_named(
+    world: &World<'_>,
+    pool: u16,
+    nargs: u8,
+    number: Option<u16>,
+) -> Result<Named, RuleFault>
     requires { IfSome number (λ n. n < length world.now.methods) }
     ensures is { result ≡ described_named world.now pool nargs number }
     ensures known { IfOk result (IsNamed world.now) }
@@ -192,7 +207,13 @@ fn described_named(world: &World<'_>, pool: u16, nargs: u8, number: Option<u16>)
     })
 }
 
-fn interface_named(world: &World<'_>, package: u16, pool: u16, nargs: u8, token: u8) -> Result<Named, RuleFault>
+fn interface_named(
+    world: &World<'_>,
+    package: u16,
+    pool: u16,
+    nargs: u8,
+    token: u8,
+) -> Result<Named, RuleFault>
     requires { «package» < length world.now.infos }
     ensures is { result ≡ interface_named world.now pool nargs token (member_at world.now «package» pool) }
     ensures known { IfOk result (IsNamed world.now) }
@@ -206,7 +227,12 @@ fn interface_named(world: &World<'_>, package: u16, pool: u16, nargs: u8, token:
 }
 
 /// The method that is called.
-pub(crate) fn call_named(world: &World<'_>, package: u16, insn: Insn, call: Call) -> Result<Named, RuleFault>
+pub(crate) fn call_named(
+    world: &World<'_>,
+    package: u16,
+    insn: Insn,
+    call: Call,
+) -> Result<Named, RuleFault>
     requires { «package» < length world.now.infos }
     ensures is { result ≡ call_named world.now «package» insn call }
     ensures known { IfOk result (IsNamed world.now) }
@@ -215,6 +241,12 @@ pub(crate) fn call_named(world: &World<'_>, package: u16, insn: Insn, call: Call
         Call::Virtual => virtual_named(world, package, short_of(insn.x)),
         Call::Special => special_named(world, package, short_of(insn.x)),
         Call::Static => static_call_named(world, package, short_of(insn.x)),
-        Call::Interface => interface_named(world, package, short_of(insn.y), byte_of(insn.x), byte_of(insn.z)),
+        Call::Interface => interface_named(
+            world,
+            package,
+            short_of(insn.y),
+            byte_of(insn.x),
+            byte_of(insn.z),
+        ),
     }
 }

@@ -17,5 +17,8 @@ mod want;
 pub use fault::RuleFault;
 pub use named::{Named, byte_of, short_of};
 pub use names::name;
-pub use row::{Arithmetic, Branch, Call, Constant, Holder, Local, Make, Move, Number, Operator, Order, Row, Sameness, Sort, TypeTest, Width};
+pub use row::{
+    Arithmetic, Branch, Call, Constant, Holder, Local, Make, Move, Number, Operator, Order, Row,
+    Sameness, Sort, TypeTest, Width,
+};
 pub use want::Want;

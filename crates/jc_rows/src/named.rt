@@ -5,9 +5,9 @@ ghost use Rattle.jc_base.specs.Order.{IsKnown, is_reference};
 ghost use Rattle.jc_base.specs.World.{member_at};
 ghost use Rattle.jc_rows.specs.Named.{byte_of, short_of, same_kind, static_named, field_named, standing, class_named, array_of, tested, returns, returned, return_named, IsKnownMember, IsNamed};
 
-use crate::want::Want;
 use crate::fault::RuleFault;
 use crate::row::Sort;
+use crate::want::Want;
 use jc_base::{Kind, Member, Ty, World};
 
 /// What the operands of an instruction name in the world.
@@ -61,30 +61,48 @@ fn same_kind(a: Kind, b: Kind) -> bool
     }
 }
 
-pub(crate) fn static_named(world: &World<'_>, package: u16, pool: u16, kind: Kind) -> Result<Named, RuleFault>
+pub(crate) fn static_named(
+    world: &World<'_>,
+    package: u16,
+    pool: u16,
+    kind: Kind,
+) -> Result<Named, RuleFault>
     requires { «package» < length world.now.infos }
     ensures is { result ≡ static_named pool kind (member_at world.now «package» pool) }
     ensures known { IfOk result (IsNamed world.now) }
 {
     match member(world, package, pool) {
-        Some(Member::Static { kind: found, ty, .. }) if same_kind(kind, found) => Ok(Named::Type(ty)),
+        Some(
+            Member::Static {
+                kind: found,
+                ty,
+                ..
+            },
+        ) if same_kind(kind, found) => Ok(Named::Type(ty)),
         _ => Err(RuleFault::BadMember(pool)),
     }
 }
 
-pub(crate) fn field_named(world: &World<'_>, package: u16, pool: u16, kind: Kind) -> Result<Named, RuleFault>
+pub(crate) fn field_named(
+    world: &World<'_>,
+    package: u16,
+    pool: u16,
+    kind: Kind,
+) -> Result<Named, RuleFault>
     requires { «package» < length world.now.infos }
     ensures is { result ≡ field_named world.now.classes pool kind (member_at world.now «package» pool) }
     ensures known { IfOk result (IsNamed world.now) }
 {
     let object = world.role(0);
     match member(world, package, pool) {
-        Some(Member::Field {
-            class,
-            kind: found,
-            ty,
-            ..
-        }) if same_kind(kind, found) && class != object => Ok(Named::Field { class, ty }),
+        Some(
+            Member::Field {
+                class,
+                kind: found,
+                ty,
+                ..
+            },
+        ) if same_kind(kind, found) && class != object => Ok(Named::Field { class, ty }),
         _ => Err(RuleFault::BadMember(pool)),
     }
 }
@@ -148,7 +166,12 @@ pub(crate) fn array_of(atype: u8) -> Ty
 }
 
 /// The type that is tested.
-pub(crate) fn tested(world: &World<'_>, package: u16, atype: u8, pool: u16) -> Result<Named, RuleFault>
+pub(crate) fn tested(
+    world: &World<'_>,
+    package: u16,
+    atype: u8,
+    pool: u16,
+) -> Result<Named, RuleFault>
     requires { «package» < length world.now.infos }
     ensures is { result ≡ tested world.now.classes atype pool (member_at world.now «package» pool) }
     ensures known { IfOk result (IsNamed world.now) }
@@ -163,7 +186,10 @@ pub(crate) fn tested(world: &World<'_>, package: u16, atype: u8, pool: u16) -> R
 fn is_reference(ty: Ty) -> bool
     ensures { result ≡ is_reference ty }
 {
-    matches!(ty, Ty::Class(_) | Ty::ArrBool | Ty::ArrByte | Ty::ArrShort | Ty::ArrInt | Ty::ArrRef(_))
+    matches!(
+        ty,
+        Ty::Class(_) | Ty::ArrBool | Ty::ArrByte | Ty::ArrShort | Ty::ArrInt | Ty::ArrRef(_)
+    )
 }
 
 /// Whether a result of this type is returned by the instruction.
@@ -191,7 +217,11 @@ fn returned(world: &World<'_>, sort: Option<Sort>) -> Ty
 }
 
 /// The result of the method's own signature.
-pub(crate) fn return_named(world: &World<'_>, sort: Option<Sort>, result_type: Option<Ty>) -> Result<Named, RuleFault>
+pub(crate) fn return_named(
+    world: &World<'_>,
+    sort: Option<Sort>,
+    result_type: Option<Ty>,
+) -> Result<Named, RuleFault>
     requires { IfSome result_type (IsKnown world.now.classes) }
     ensures is { result ≡ return_named world.now.classes sort result_type }
     ensures known { IfOk result (IsNamed world.now) }

@@ -6,7 +6,10 @@ ghost use Rattle.jc_rows.specs.Named.{Names, NamesObject, IsNamed};
 use crate::called::call_named;
 use crate::concrete::is_concrete;
 use crate::fault::RuleFault;
-use crate::named::{Named, array_named, array_of, byte_of, field_named, member, return_named, short_of, static_named, tested};
+use crate::named::{
+    Named, array_named, array_of, byte_of, field_named, member, return_named, short_of,
+    static_named, tested,
+};
 use crate::row::{Make, Row};
 use jc_base::{Member, MethodRec, Ty, World};
 use jc_decode::Insn;
@@ -40,8 +43,18 @@ pub fn name(
 {
     let package = method.package;
     match row {
-        Row::StaticRead(kind) | Row::StaticWrite(kind) => static_named(world, package, short_of(insn.x), kind),
-        Row::FieldRead(kind, _) | Row::FieldWrite(kind, _) => field_named(world, package, short_of(insn.x), kind),
+        Row::StaticRead(kind) | Row::StaticWrite(kind) => static_named(
+            world,
+            package,
+            short_of(insn.x),
+            kind,
+        ),
+        Row::FieldRead(kind, _) | Row::FieldWrite(kind, _) => field_named(
+            world,
+            package,
+            short_of(insn.x),
+            kind,
+        ),
         Row::Call(call) => call_named(world, package, insn, call),
         Row::Make(Make::Object) => object_named(world, package, place, short_of(insn.x)),
         Row::Make(Make::Numbers) => Ok(Named::Type(array_of(byte_of(insn.x)))),

@@ -79,8 +79,16 @@ module _ (t : ClassTable) (f : Frame) (args : List Ty) (n : ℕ) (d : Ty) (insid
   pub Wanted-more : Wanted t f (reverse args) n → Holds t f (Cell n (Value (get_or args (length args - 1 - n) d))) → Wanted t f (reverse args) (n + 1)
   Wanted-more w h = record {
     all = λ k. w.all (subst (AllHold t f) (sym wanted-step) (h, k));
-    breaks = λ fault b. w.breaks fault (subst (λ es. Breaks t f es fault) (sym wanted-step) (later h b))
+    breaks = λ fault b. w.breaks fault (subst (λ es. Breaks t f es fault) (sym wanted-step) (later h b));
   }
 
 pub Wanted-end : (t : ClassTable) (f : Frame) (args : List Ty) (n : ℕ) → length args ≤ n → Wanted t f (reverse args) n → AllHold t f (cells_wanted 0 (reverse args))
 Wanted-end t f args n h w = w.all (subst (λ es. AllHold t f (cells_wanted n es)) (sym (drop_all n (reverse args) (subst (λ k. k ≤ n) (sym (length-reverse args)) h))) tt)
+
+pub AllHold-front : (t : ClassTable) (f : Frame) (ds es : List Demand) → AllHold t f (ds ++ es) → AllHold t f ds
+AllHold-front t f [] es h = tt
+AllHold-front t f (d ∷ ds) es h = (h.0, AllHold-front t f ds es h.1)
+
+pub AllHold-rest : (t : ClassTable) (f : Frame) (ds es : List Demand) → AllHold t f (ds ++ es) → AllHold t f es
+AllHold-rest t f [] es h = h
+AllHold-rest t f (d ∷ ds) es h = AllHold-rest t f ds es h.1

@@ -1,2 +1,4 @@
 pub mod Demands
 pub mod Stacks
+pub mod Effects
+pub mod Plans

@@ -1,5 +1,6 @@
 ghost use Rattle.std.specs.Prelude.{◌≡◌, ◌+◌, ◌<◌, ◌≤◌, length, reverse, All, Some, MatchResult, IfOk, IfErr, OnErr, IsSomeAnd, IfSome, slice_get};
 ghost use Rattle.jc_base.specs.Order.{IsKnown};
+ghost use Rattle.jc_base.specs.World.{IsWorld};
 ghost use Rattle.jc_rows.specs.Row.{row_at};
 ghost use Rattle.jc_rows.specs.Named.{IsNamed, IsKnownWant, receiver_count};
 ghost use Rattle.jc_rules.specs.declared.demand.Before.{Before};
@@ -146,17 +147,25 @@ impl Before<'_> {
 }
 
 /// Reads what an instruction would do, and decides whether it may: nothing is changed yet.
-fn plan(world: &World<'_>, site: Site, insn: Insn, regs: &[Ty], stack: &[Ty], max_stack: usize) -> Result<Effect, RuleFault>
+fn plan(
+    world: &World<'_>,
+    site: Site,
+    insn: Insn,
+    regs: &[Ty],
+    stack: &[Ty],
+    max_stack: u8,
+) -> Result<Effect, RuleFault>
     requires method { IsSomeAnd (slice_get world.now.methods site.method) (λ m. m.max_stack ≡ max_stack) }
     requires frame { AreKnown world.now.classes (record { regs = regs.now; stack = reverse stack.now }) }
     requires few { length stack.now ≤ 255 }
+    requires world { IsWorld world.now }
     ensures { IsPlanned world.now site insn (record { regs = regs.now; stack = reverse stack.now }) result }
 {
     let row = Row::of(insn.op);
     let named = name(world, world.method(site.method), site.place, insn, row)?;
     let before = Before { world, regs, stack };
     let effect = before.rule(insn, row, named)?;
-    if effect.change.depth_after(stack.len() as u8) > max_stack {
+    if effect.change.depth_after(stack.len() as u8) > max_stack as usize {
         return Err(RuleFault::Overflow);
     }
     Ok(effect)
@@ -215,11 +224,12 @@ pub fn apply(
     ensures regs_known { IfOk result (λ o. All (IsKnown world.now.classes) regs.new) }
     ensures stack_known { IfOk result (λ o. All (IsKnown world.now.classes) (cells stack.new o.depth)) }
 {
-    let max_stack = stack.len();
+    let classes = world.classes();
+    let max_stack = world.method(site.method).max_stack;
     let effect = plan(world, site, insn, regs, &stack[..depth as usize], max_stack)?;
     let row = Row::of(insn.op);
     let depth = change_stack(stack, depth, effect.change);
-    change_regs(world.classes(), regs, effect.store, mode);
+    change_regs(classes, regs, effect.store, mode);
     Ok(Outcome {
         falls: falls(row),
         ends: ends(row),

@@ -58,10 +58,20 @@ impl Before<'_> {
             Demand::Registers(x, _) => Some(RuleFault::NoLocal(x)),
             Demand::Depth(n) if n as usize <= self.stack.len() => None,
             Demand::Depth(_) => Some(RuleFault::Underflow),
-            Demand::Cell(n, want) => judged(self.world.classes(), want, self.cell(n), RuleFault::Underflow),
+            Demand::Cell(n, want) => judged(
+                self.world.classes(),
+                want,
+                self.cell(n),
+                RuleFault::Underflow,
+            ),
             Demand::Cut(n) if self.splits(n) => Some(RuleFault::SplitInt),
             Demand::Cut(_) => None,
-            Demand::Held(x, want) => judged(self.world.classes(), want, self.reg(x), RuleFault::NoLocal(x)),
+            Demand::Held(x, want) => judged(
+                self.world.classes(),
+                want,
+                self.reg(x),
+                RuleFault::NoLocal(x),
+            ),
         }
     }
 
@@ -101,7 +111,8 @@ fn meets(classes: &Classes, want: Want, found: Ty) -> bool
         Want::ByteArray => below(classes, found, Ty::ArrByte) || below(classes, found, Ty::ArrBool),
         Want::AnyArray => is_array_or_null(found),
         Want::Whole => !is_half(found),
-        Want::Receiver(class) => is_fresh_of(class, found) || below(classes, found, Ty::Class(class)),
+        Want::Receiver(class) => is_fresh_of(class, found)
+            || below(classes, found, Ty::Class(class)),
     }
 }
 
@@ -134,7 +145,16 @@ fn is_high(found: Option<Ty>) -> bool
 fn is_array_or_null(found: Ty) -> bool
     ensures { IsTrue result ↔ IsArrayOrNull found }
 {
-    matches!(found, Ty::Bottom | Ty::Null | Ty::ArrBool | Ty::ArrByte | Ty::ArrShort | Ty::ArrInt | Ty::ArrRef(_))
+    matches!(
+        found,
+        Ty::Bottom
+            | Ty::Null
+            | Ty::ArrBool
+            | Ty::ArrByte
+            | Ty::ArrShort
+            | Ty::ArrInt
+            | Ty::ArrRef(_)
+    )
 }
 
 fn is_half(found: Ty) -> bool

@@ -17,11 +17,20 @@ pub enum Cells {
 #[derive(Clone, Copy)]
 pub enum Change {
     /// The top cells give place to others.
-    Replace { taken: u8, given: Cells },
+    Replace {
+        taken: u8,
+        given: Cells,
+    },
     /// A copy of the top cells goes under the first of them, as many as are told, or on top.
-    CopyUnder { copied: u8, under: u8 },
+    CopyUnder {
+        copied: u8,
+        under: u8,
+    },
     /// The top cells change places with the cells under them.
-    Exchange { top: u8, under: u8 },
+    Exchange {
+        top: u8,
+        under: u8,
+    },
     /// The top cells give place to others, and every object that the `new` at the place made is ready, of
     /// this class.
     MakeReady {
@@ -72,7 +81,8 @@ impl Change {
     {
         let depth = depth as usize;
         match self {
-            Change::Replace { taken, given } => depth.saturating_sub(taken as usize) + given.count() as usize,
+            Change::Replace { taken, given } => depth.saturating_sub(taken as usize)
+                + given.count() as usize,
             Change::CopyUnder { copied, .. } => depth + copied as usize,
             Change::Exchange { .. } => depth,
             Change::MakeReady { taken, given, .. } => {
@@ -190,7 +200,8 @@ pub fn change_regs(classes: &Classes, regs: &mut [Ty], store: Store, mode: Mode)
     requires small { length regs.old ≤ 255 }
     requires regs_known { All (IsKnown classes.now) regs.old }
     requires stored_known { All (IsKnown classes.now) (listed store.cells) }
-    ensures { regs.new ≡ stored classes.now mode store regs.old }
+    ensures value { regs.new ≡ stored classes.now mode store regs.old }
+    ensures known { All (IsKnown classes.now) regs.new }
 {
     match store.cells {
         Cells::Nothing => (),

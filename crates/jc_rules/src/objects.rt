@@ -15,7 +15,9 @@ use jc_base::{Kind, Ty};
 use jc_rows::{Branch, Holder, Make, RuleFault, TypeTest, Want, Width};
 
 const SHORT: Want = Want::Value(Ty::Short);
+
 const INT_LOW: Want = Want::Value(Ty::IntLow);
+
 const INT_HIGH: Want = Want::Value(Ty::IntHigh);
 
 /// The type of an element of an array of references.
@@ -66,7 +68,10 @@ impl Before<'_> {
         requires { AreKnown self.now.world.now.classes (frame self.now) }
         ensures { IsJudged self.now.world.now.classes (frame self.now) (array_read_demands self.now.world.now.classes kind) (array_read_effect kind (frame self.now)) result }
     {
-        self.check(&[Demand::Cell(0, SHORT), Demand::Cell(1, self.array_wanted(kind))])?;
+        self.check(&[
+            Demand::Cell(0, SHORT),
+            Demand::Cell(1, self.array_wanted(kind)),
+        ])?;
         let given = match kind {
             Kind::Ref => Cells::One(element(self.found(1))),
             Kind::Byte | Kind::Short => Cells::One(Ty::Short),
@@ -82,11 +87,19 @@ impl Before<'_> {
         let array = self.array_wanted(kind);
         match kind {
             Kind::Ref => {
-                self.check(&[Demand::Cell(0, self.a_reference()), Demand::Cell(1, SHORT), Demand::Cell(2, array)])?;
+                self.check(&[
+                    Demand::Cell(0, self.a_reference()),
+                    Demand::Cell(1, SHORT),
+                    Demand::Cell(2, array),
+                ])?;
                 Ok(Effect::replacing(3, Cells::Nothing))
             }
             Kind::Byte | Kind::Short => {
-                self.check(&[Demand::Cell(0, SHORT), Demand::Cell(1, SHORT), Demand::Cell(2, array)])?;
+                self.check(&[
+                    Demand::Cell(0, SHORT),
+                    Demand::Cell(1, SHORT),
+                    Demand::Cell(2, array),
+                ])?;
                 Ok(Effect::replacing(3, Cells::Nothing))
             }
             Kind::Int => {
@@ -174,7 +187,12 @@ impl Before<'_> {
         }
     }
 
-    pub(crate) fn field_write(&self, holder: Holder, class: u16, ty: Ty) -> Result<Effect, RuleFault>
+    pub(crate) fn field_write(
+        &self,
+        holder: Holder,
+        class: u16,
+        ty: Ty,
+    ) -> Result<Effect, RuleFault>
         requires frame { AreKnown self.now.world.now.classes (frame self.now) }
         requires class { IsClass self.now.world.now.classes class }
         requires ty { IsKnown self.now.world.now.classes ty }
@@ -218,7 +236,11 @@ impl Before<'_> {
                 Demand::Cell(1, INT_HIGH),
                 object,
             ])?,
-            _ => self.check(&[Demand::Registers(0, 1), Demand::Cell(0, Want::Value(ty)), object])?,
+            _ => self.check(&[
+                Demand::Registers(0, 1),
+                Demand::Cell(0, Want::Value(ty)),
+                object,
+            ])?,
         }
         Ok(Effect::replacing(value_size(ty), Cells::Nothing))
     }

@@ -10,7 +10,9 @@ use jc_base::Ty;
 use jc_rows::{Arithmetic, Constant, Move, RuleFault, Sort, Want, Width};
 
 const SHORT: Want = Want::Value(Ty::Short);
+
 const INT_LOW: Want = Want::Value(Ty::IntLow);
+
 const INT_HIGH: Want = Want::Value(Ty::IntHigh);
 
 impl Effect {
@@ -192,15 +194,29 @@ impl Before<'_> {
             }
             Move::Duplicate => {
                 self.check(&[Demand::Cell(0, Want::Whole)])?;
-                Ok(Effect::on_stack(Change::CopyUnder { copied: 1, under: 0 }))
+                Ok(Effect::on_stack(Change::CopyUnder {
+                    copied: 1,
+                    under: 0,
+                }))
             }
             Move::DuplicateTwo => {
                 self.check(&[Demand::Depth(2), Demand::Cut(2)])?;
-                Ok(Effect::on_stack(Change::CopyUnder { copied: 2, under: 0 }))
+                Ok(Effect::on_stack(Change::CopyUnder {
+                    copied: 2,
+                    under: 0,
+                }))
             }
             Move::CopyUnder => {
-                self.check(&[Demand::Depth(m), Demand::Cut(m), Demand::Depth(n), Demand::Cut(n)])?;
-                Ok(Effect::on_stack(Change::CopyUnder { copied: m, under: n }))
+                self.check(&[
+                    Demand::Depth(m),
+                    Demand::Cut(m),
+                    Demand::Depth(n),
+                    Demand::Cut(n),
+                ])?;
+                Ok(Effect::on_stack(Change::CopyUnder {
+                    copied: m,
+                    under: n,
+                }))
             }
             Move::Exchange => {
                 self.check(&[

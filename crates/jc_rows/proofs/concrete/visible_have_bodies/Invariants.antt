@@ -7,7 +7,7 @@ abbrev pub invariant-climb : goal.invariant-climb
 invariant-climb l = record {
   class : IsClass l.world.classes l.at;
   room : length l.seen ≡ 16;
-  climbs : Climbs l.world.classes l.world.methods l.class l.seen l.at
+  climbs : Climbs l.world.classes l.world.methods l.class l.seen l.at;
 }
 
 abbrev pub decreases-climb : goal.decreases-climb

@@ -9,4 +9,4 @@ loop-cell-preserved c =
     let inside : c.loop-cell.cell-index < length c.loop-cell.cells = omega arith in
     ap (λ y. set c.loop-cell.cells c.loop-cell.cell-index y) c.ready.ensures
     ∙ map_over_more (ready c.args.place c.args.class) c.args.cells.now c.loop-cell.cells c.loop-cell.cell-index _ (omega arith)
-        c.loop-cell.invariant (get_or_default _ _ _ _ inside)
+    c.loop-cell.invariant (get_or_default _ _ _ _ inside)

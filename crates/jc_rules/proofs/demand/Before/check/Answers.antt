@@ -11,7 +11,7 @@ returns-in-Some c = Breaks-at _ _ _ c.demands.demand-index _ (omega arith) _ c.d
 pub demands-preserved : goal.demands-preserved
 demands-preserved c = record {
   all = CarriesAll-more _ _ _ _ _ (omega arith) c.demands.invariant.all c.in_default.ensures;
-  breaks = Carries-more _ _ _ _ _ (omega arith) c.demands.invariant.breaks c.in_default.ensures
+  breaks = Carries-more _ _ _ _ _ (omega arith) c.demands.invariant.breaks c.in_default.ensures;
 }
 
 pub returns : goal.returns

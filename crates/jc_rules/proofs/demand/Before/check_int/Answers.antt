@@ -13,4 +13,4 @@ pub returns : goal.returns
 returns c =
     let inside : c.args.x + 2 ≤ length c.args.self.now.regs.now = omega arith in
     judged-later c.args.self.now.world.now.classes (frame c.args.self.now) (Registers c.args.x 2)
-        (Held c.args.x (Value IntHigh) ∷ Held (c.args.x + 1) (Value IntLow) ∷ []) c.check.result inside c.check.ensures
+    (Held c.args.x (Value IntHigh) ∷ Held (c.args.x + 1) (Value IntLow) ∷ []) c.check.result inside c.check.ensures
