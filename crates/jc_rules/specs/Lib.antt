@@ -1,0 +1,5 @@
+pub mod Stack
+pub mod Effect
+pub mod Demand
+pub mod Rule
+pub mod Apply
