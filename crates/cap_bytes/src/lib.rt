@@ -3,9 +3,15 @@
 #![tactic(auto)]
 
 mod fault;
+mod items;
 mod part;
+mod table;
+mod table_reads;
+mod take;
 mod view;
 
 pub use fault::{FormFault, FormKind};
+pub use items::Items;
 pub use part::Part;
+pub use table::Table;
 pub use view::View;

@@ -1,9 +1,9 @@
 -- What holds of chains of superclasses.
-use Rattle.std.proofs.Common.{◌≡◌, ℕ, zero, suc, ◌<◌, ◌≤◌, ◌⊎◌, inl, inr, Bool, true, false, List, [], ◌∷◌, length, Option, Some, None, refl, sym, ap, subst, ◌∙◌, arith}
+use Rattle.std.proofs.Common.{◌≡◌, ℕ, zero, suc, ◌<◌, ◌⊎◌, inl, inr, Bool, true, false, List, [], ◌∷◌, length, Option, Some, None, refl, sym, ap, subst, ◌∙◌, arith}
 use Rattle.std.specs.Prelude.{All, IsTrue, IfSome, IfNone, slice_get}
 use Rattle.jc_base.specs.declared.record.ClassRec.{ClassRec}
 use Rattle.std.proofs.lemmas.List.Elements.{All-head, All-tail}
-use Rattle.jc_base.specs.Class.{ClassTable, IsClass, AreClasses, EndsWithObject, IsNextOnChain, IsEndOfChain, is_interface, parent_of, chain_over, chain, list_of, last, object}
+use Rattle.jc_base.specs.Class.{ClassTable, IsClass, AreClasses, IsNextOnChain, IsEndOfChain, is_interface, parent_of, chain_over, chain, list_of, last, object}
 
 -- a chain begins with its class
 pub chain_over-front : (t : ClassTable) (n c : ℕ) → (cs : List ℕ) × (chain_over t n c ≡ c ∷ cs)

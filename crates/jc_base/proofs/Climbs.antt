@@ -1,11 +1,11 @@
 -- Climbing the chain of superclasses one class at a time.
-use Rattle.std.proofs.Common.{◌≡◌, ℕ, zero, suc, ◌+◌, ◌<◌, ◌≤◌, ◌⊎◌, inl, inr, Bool, true, false, cond, max, List, [], ◌∷◌, length, Option, Some, None, refl, sym, ap, subst, ◌∙◌, arith}
-use Rattle.std.specs.Prelude.{◌==◌, ◌||◌, find, unwrap_or, slice_get}
+use Rattle.std.proofs.Common.{◌≡◌, ℕ, zero, suc, ◌+◌, ◌<◌, ◌≤◌, ◌⊎◌, inl, inr, Bool, true, false, max, List, [], ◌∷◌, length, Option, Some, None, refl, sym, ap, subst, ◌∙◌, arith}
+use Rattle.std.specs.Prelude.{◌==◌, ◌||◌, slice_get}
 use Rattle.std.proofs.lemmas.Bool.{eqb-true, eq-eqb, false≢true, false_from_ne_true, cases_lt}
 use Rattle.std.proofs.Math.Bool.{or-true}
 use Rattle.jc_base.specs.declared.record.ClassRec.{ClassRec}
-use Rattle.jc_base.specs.Class.{ClassTable, IsClass, AreClasses, IsNextOnChain, IsEndOfChain, is_interface, parent_of, parent_in_record, chain_over, chain, height, height_below, list_of, last, object}
-use Rattle.jc_base.specs.Order.{is_on_chain, common}
+use Rattle.jc_base.specs.Class.{ClassTable, IsClass, AreClasses, IsNextOnChain, is_interface, parent_of, parent_in_record, chain_over, chain, height, height_below, list_of, object}
+use Rattle.jc_base.specs.Order.{is_on_chain}
 use Rattle.jc_base.proofs.Lists.{slice_get-below}
 use Rattle.jc_base.proofs.Chains.{chain_over-front, chain_alone, next_on_chain, end_of_chain}
 

@@ -1,11 +1,11 @@
 -- The computed join is the least type above both, and a type rises seldom.
-use Rattle.std.proofs.Common.{◌≡◌, ℕ, zero, suc, ◌+◌, ◌<◌, ◌≤◌, ◌⊎◌, inl, inr, Bool, true, false, cond, ◌&&◌, List, [], ◌∷◌, length, Option, Some, None, refl, sym, ap, subst, ◌∙◌, arith}
-use Rattle.std.specs.Prelude.{◌==◌, ◌||◌, if◌then◌else◌, ⊤}
-use Rattle.std.proofs.lemmas.Bool.{false≢true, true≢false, eqb-true, eq-eqb}
+use Rattle.std.proofs.Common.{◌≡◌, ℕ, ◌+◌, ◌<◌, ◌≤◌, ◌⊎◌, inl, inr, Bool, true, false, ◌&&◌, length, Some, refl, sym, ap, subst, ◌∙◌, arith}
+use Rattle.std.specs.Prelude.{◌==◌, if◌then◌else◌}
+use Rattle.std.proofs.lemmas.Bool.{false≢true, true≢false, eqb-true}
 use Rattle.jc_base.specs.declared.ty.Ty.{Ty}
 use Rattle.jc_base.specs.declared.ty.Ty.TheVariants.{Bottom, Short, IntHigh, IntLow, Null, Class, ArrBool, ArrByte, ArrShort, ArrInt, ArrRef, Fresh, Top}
-use Rattle.jc_base.specs.Class.{ClassTable, IsClass, AreClasses, IsNextOnChain, parent_of, chain, height, object}
-use Rattle.jc_base.specs.Order.{Below, same, joined, nothing, anything, null_object, null_array, subclass, array_object, array_array, IsArray, of_booleans, of_bytes, of_shorts, of_ints, of_references, IsJoin, IsKnown, is_below, is_on_chain, is_reference, is_above_arrays, common, join_of, join_of_others, rises_left}
+use Rattle.jc_base.specs.Class.{ClassTable, IsClass, AreClasses, parent_of, height, object}
+use Rattle.jc_base.specs.Order.{Below, same, joined, nothing, anything, null_object, null_array, subclass, array_object, array_array, IsArray, of_booleans, of_bytes, of_shorts, of_ints, of_references, IsJoin, IsKnown, is_below, is_on_chain, is_reference, is_above_arrays, common, join_of, rises_left}
 use Rattle.jc_base.proofs.Chains.{next_on_chain}
 use Rattle.jc_base.proofs.Climbs.{on_chain-here, on_chain-object, on_chain-class, parent_of-class, chain-height, chain-not_empty, chain-alone}
 use Rattle.jc_base.proofs.Meets.{IsNearest, common-nearest}

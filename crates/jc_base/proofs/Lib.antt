@@ -4,3 +4,4 @@ pub mod Climbs
 pub mod Meets
 pub mod Subtypes
 pub mod Joins
+pub mod Samples

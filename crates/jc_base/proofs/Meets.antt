@@ -1,11 +1,10 @@
 -- The nearest class that is on two chains.
-use Rattle.std.proofs.Common.{◌≡◌, ℕ, zero, suc, ◌+◌, ◌<◌, ◌≤◌, ◌⊎◌, inl, inr, Bool, true, false, cond, List, [], ◌∷◌, length, Option, Some, None, refl, sym, ap, subst, ◌∙◌, arith}
-use Rattle.std.specs.Prelude.{◌==◌, ◌||◌, find, unwrap_or}
-use Rattle.std.proofs.lemmas.Bool.{false_from_ne_true, false≢true, true≢false}
-use Rattle.jc_base.specs.Class.{ClassTable, IsClass, AreClasses, IsNextOnChain, IsEndOfChain, parent_of, chain, object}
+use Rattle.std.proofs.Common.{◌≡◌, ℕ, ◌<◌, ◌≤◌, inl, inr, Bool, true, false, cond, [], ◌∷◌, length, Option, Some, None, refl, sym, ap, subst, ◌∙◌, arith}
+use Rattle.std.specs.Prelude.{find, unwrap_or}
+use Rattle.std.proofs.lemmas.Bool.{false_from_ne_true, false≢true}
+use Rattle.jc_base.specs.Class.{ClassTable, IsClass, AreClasses, IsNextOnChain, IsEndOfChain, chain, object}
 use Rattle.jc_base.specs.Order.{is_on_chain, common}
-use Rattle.jc_base.proofs.Chains.{end_of_chain}
-use Rattle.jc_base.proofs.Climbs.{climb, chain-front, chain-not_empty, on_chain-here, on_chain-alone, on_chain-length, on_chain-object, on_alone, on_next, on_above, not_here-next}
+use Rattle.jc_base.proofs.Climbs.{climb, chain-front, chain-not_empty, on_chain-here, on_chain-length, on_chain-object, on_alone, on_next, on_above, not_here-next}
 
 -- ---- the first class on a chain that passes a test
 

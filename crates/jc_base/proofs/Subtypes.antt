@@ -1,12 +1,11 @@
 -- The computed order is the order of types.
-use Rattle.std.proofs.Common.{◌≡◌, ℕ, zero, suc, ◌+◌, ◌<◌, ◌≤◌, ◌⊎◌, inl, inr, Bool, true, false, ◌&&◌, List, [], ◌∷◌, length, Option, Some, None, refl, sym, ap, subst, ◌∙◌, arith}
-use Rattle.std.specs.Prelude.{◌==◌, ◌||◌, ◌↔◌, IsTrue}
-use Rattle.std.proofs.lemmas.Bool.{false_from_ne_true, false≢true, true≢false, eqb-true, eq-eqb}
+use Rattle.std.proofs.Common.{◌≡◌, ℕ, inl, inr, Bool, true, false, ◌&&◌, refl, sym, subst}
+use Rattle.std.specs.Prelude.{◌==◌, ◌↔◌, IsTrue}
+use Rattle.std.proofs.lemmas.Bool.{false≢true, eqb-true, eq-eqb}
 use Rattle.jc_base.specs.declared.ty.Ty.{Ty}
 use Rattle.jc_base.specs.declared.ty.Ty.TheVariants.{Bottom, Short, IntHigh, IntLow, Null, Class, ArrBool, ArrByte, ArrShort, ArrInt, ArrRef, Fresh, Top}
-use Rattle.jc_base.specs.Class.{ClassTable, IsClass, AreClasses, IsNextOnChain, parent_of, chain, height, object}
+use Rattle.jc_base.specs.Class.{ClassTable, AreClasses, object}
 use Rattle.jc_base.specs.Order.{Below, same, joined, nothing, anything, null_object, null_array, subclass, array_object, array_array, IsArray, of_booleans, of_bytes, of_shorts, of_ints, of_references, is_below, is_on_chain, is_reference, is_above_arrays}
-use Rattle.jc_base.proofs.Chains.{next_on_chain}
 use Rattle.jc_base.proofs.Climbs.{climb, on_chain-here, on_chain-parent, on_chain-trans, on_object, on_alone, on_next}
 
 both : (a b : Bool) → (a && b) ≡ true → (a ≡ true) × (b ≡ true)

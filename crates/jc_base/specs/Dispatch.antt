@@ -1,10 +1,10 @@
 -- Dispatch lists and instance cells of classes (JCVM 2.2, sections 4.3.7.6 and 6.8.2).
-use Rattle.std.specs.Prelude.{◌≡◌, ℕ, ◌-◌, Bool, false, if◌then◌else◌, nat_lt, ◌==◌, List, [], ◌++◌, reverse, Option, Some, None, IsSomeAnd, All, slice_get, find, flat_map, option_map, option_and_then}
+use Rattle.std.specs.Prelude.{◌≡◌, ℕ, ◌-◌, false, if◌then◌else◌, nat_lt, ◌==◌, List, [], reverse, Option, Some, None, IsSomeAnd, All, slice_get, find, flat_map, option_map, option_and_then}
 use Rattle.jc_base.specs.declared.ty.Ty.{Ty}
 use Rattle.jc_base.specs.declared.record.Sig.{Sig}
 use Rattle.jc_base.specs.declared.record.ClassRec.{ClassRec}
 use Rattle.jc_base.specs.declared.record.MethodRec.{MethodRec}
-use Rattle.jc_base.specs.Class.{ClassTable, IsClass, parent_of, chain, list_of}
+use Rattle.jc_base.specs.Class.{ClassTable, IsClass, chain, list_of}
 
 -- what a function gives of the record of a number, and else a default
 abbrev pub of_record : {A : Type 0} → A → (ClassRec → A) → Option ClassRec → A

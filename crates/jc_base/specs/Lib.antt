@@ -4,3 +4,4 @@ pub mod Cell
 pub mod Dispatch
 pub mod Linked
 pub mod World
+pub mod Sample

@@ -15,7 +15,7 @@ use Rattle.jc_base.specs.declared.record.ArrayRec.{ArrayRec}
 use Rattle.jc_base.specs.Class.{ClassTable, IsClass, is_interface, parent_of, throwable, list_of}
 use Rattle.jc_base.specs.Order.{Below}
 use Rattle.jc_base.specs.Cell.{IsDeclared, IsOfKind, width, AreWordsOf}
-use Rattle.jc_base.specs.Dispatch.{package_of, public_of, visible_of, cell_count, cells_of, entry_at, signature_of, signature_at}
+use Rattle.jc_base.specs.Dispatch.{package_of, public_of, visible_of, cell_count, cells_of, entry_at, signature_at}
 
 -- ---- methods
 

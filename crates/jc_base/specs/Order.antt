@@ -1,5 +1,5 @@
 -- The order of types and its join (Leroy 2002, section 2.1; JCVM 2.2, section 2.2).
-use Rattle.std.specs.Prelude.{◌≡◌, ℕ, ◌+◌, ◌<◌, ◌⊎◌, length, Bool, true, false, if◌then◌else◌, ◌&&◌, ◌==◌, Option, Some, None, find, unwrap_or, ⊤}
+use Rattle.std.specs.Prelude.{◌≡◌, ℕ, ◌+◌, ◌<◌, ◌⊎◌, length, Bool, true, false, if◌then◌else◌, ◌&&◌, ◌==◌, Some, find, unwrap_or, ⊤}
 use Rattle.std.specs.List.{list_any}
 use Rattle.jc_base.specs.declared.ty.Ty.{Ty}
 use Rattle.jc_base.specs.declared.ty.Ty.TheVariants.{Bottom, Short, IntHigh, IntLow, Null, Class, ArrBool, ArrByte, ArrShort, ArrInt, ArrRef, Fresh, Top}

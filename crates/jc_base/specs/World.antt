@@ -1,5 +1,5 @@
 -- A linked world: the packages of a command with all that they name resolved (JCVM 2.2, chapters 4 and 6).
-use Rattle.std.specs.Prelude.{◌≡◌, ℕ, ◌+◌, ◌≤◌, ◌<◌, ◌==◌, ◌&&◌, List, [], ◌∷◌, length, take, drop, Option, Some, None, All, sum_by, slice_get, slice_index, option_and_then, position}
+use Rattle.std.specs.Prelude.{◌≡◌, ℕ, ◌≤◌, ◌<◌, Bool, ◌==◌, ◌&&◌, List, length, take, drop, Option, All, sum_by, slice_get, slice_index, position}
 use Rattle.jc_base.specs.declared.ty.Ty.TheVariants.{Class}
 use Rattle.jc_base.specs.declared.record.Member.{Member}
 use Rattle.jc_base.specs.declared.record.MethodRec.{MethodRec}
@@ -62,6 +62,10 @@ member_at w home pool = slice_get (list_at w.pools home) pool
 abbrev pub code_of : List (List ℕ) → MethodRec → List ℕ
 code_of infos m = take m.code_len (drop m.code_at (list_at infos m.package))
 
+-- whether a method has these numbers in the Descriptor of a package
+abbrev pub has_numbers : ℕ → ℕ → ℕ → MethodRec → Bool
+has_numbers home class_no method_no m = (m.package == home && m.class_no == class_no) && m.method_no == method_no
+
 -- the number of the method that has these numbers in the Descriptor of a package
 abbrev pub method_numbered : List MethodRec → ℕ → ℕ → ℕ → Option ℕ
-method_numbered methods home class_no method_no = position (λ m. (m.package == home && m.class_no == class_no) && m.method_no == method_no) methods
+method_numbered methods home class_no method_no = position (has_numbers home class_no method_no) methods

@@ -1,4 +1,4 @@
-ghost use Rattle.std.specs.Prelude.{◌≡◌, ◌<◌, ◌^◌, ◌⊎◌, length, IsTrue, IfSome, IfNone, slice_get, slice_index};
+ghost use Rattle.std.specs.Prelude.{◌≡◌, ◌<◌, ◌^◌, ◌↔◌, length, IsTrue, IfSome, IfNone, slice_get, slice_index};
 ghost use Rattle.jc_base.specs.Class.{AreClasses, IsClass, IsNextOnChain, IsEndOfChain, parent_of, is_interface};
 
 use crate::list::ClassRecs;
@@ -56,10 +56,16 @@ impl Classes {
 
     pub fn is_interface(&self, n: u16) -> bool
         requires { n < length self.now.records }
-        ensures is { result ≡ is_interface self.now n }
-        ensures class { IsTrue result ⊎ IsClass self.now n }
+        ensures { result ≡ is_interface self.now n }
     {
         self.at(n).interface
+    }
+
+    /// Whether a number names a class, and no interface.
+    pub fn is_class(&self, n: u16) -> bool
+        ensures { IsTrue result ↔ IsClass self.now n }
+    {
+        (n as usize) < self.len() && !self.is_interface(n)
     }
 
     /// The superclass of a class; object has none.

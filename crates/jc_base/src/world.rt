@@ -1,8 +1,8 @@
-ghost use Rattle.std.specs.Prelude.{◌≡◌, ◌<◌, ◌≤◌, ◌==◌, ◌&&◌, length, All, IfSome, Some, slice_get, slice_index, option_map};
+ghost use Rattle.std.specs.Prelude.{◌≡◌, ◌<◌, ◌≤◌, length, All, IfSome, Some, slice_get, slice_index, option_map};
 ghost use Rattle.jc_base.specs.Class.{IsClass};
 ghost use Rattle.jc_base.specs.Cell.{AreElementsOf};
 ghost use Rattle.jc_base.specs.Linked.{IsMember, IsLinkedClass, IsMethod, IsStatic, list_at};
-ghost use Rattle.jc_base.specs.World.{IsWorld, IsThrown, member_at, code_of, method_numbered};
+ghost use Rattle.jc_base.specs.World.{IsWorld, IsThrown, member_at, code_of, has_numbers, method_numbered};
 
 use crate::class::Classes;
 use crate::infos::Infos;
@@ -202,7 +202,7 @@ impl<'a> World<'a> {
 }
 
 fn is_numbered(m: &MethodRec, package: u16, class_no: u16, method_no: u16) -> bool
-    ensures { result ≡ (m.now.package == «package» && m.now.class_no == class_no) && m.now.method_no == method_no }
+    ensures { result ≡ has_numbers «package» class_no method_no m.now }
 {
     m.package == package && m.class_no == class_no && m.method_no == method_no
 }

@@ -18,7 +18,7 @@ pub bind-ok : {A B : Type 0} (r : Result A CodeEnd) (f : A → Result B CodeEnd)
 bind-ok (Ok x) f y h = (x, refl, h)
 bind-ok (Err e) f y h = absurd (cc)
 
-or_cut-ok : {A : Type 0} (o : Option A) (x : A) → or_cut o ≡ Ok x → o ≡ Some x
+pub or_cut-ok : {A : Type 0} (o : Option A) (x : A) → or_cut o ≡ Ok x → o ≡ Some x
 or_cut-ok None x h = absurd (cc)
 or_cut-ok (Some y) x h = cc
 
@@ -30,11 +30,11 @@ pub reached-within : (xs : List ℕ) (end : ℕ) → end ≤ length xs → reach
 reached-within xs end h = grind arith
 
 -- a table ends behind its beginning, and within the bytes
-keys_rise-ok : (key : Operand) (xs : List ℕ) (table end : ℕ) (o : Option ℕ) (e : ℕ) → keys_rise key xs table end o ≡ Ok e → e ≡ end
+pub keys_rise-ok : (key : Operand) (xs : List ℕ) (table end : ℕ) (o : Option ℕ) (e : ℕ) → keys_rise key xs table end o ≡ Ok e → e ≡ end
 keys_rise-ok key xs table end None e h = cc
 keys_rise-ok key xs table end (Some n) e h = absurd (cc)
 
-pairs_end-ok : (key : Operand) (xs : List ℕ) (table count e : ℕ) → pairs_end key xs table count ≡ Ok e
+pub pairs_end-ok : (key : Operand) (xs : List ℕ) (table count e : ℕ) → pairs_end key xs table count ≡ Ok e
     → (e ≡ table + pair_width key * count) × (e ≤ length xs)
 pairs_end-ok key xs table count e h =
     let parts = bind-ok (reached xs (table + pair_width key * count)) _ e h in
@@ -42,7 +42,7 @@ pairs_end-ok key xs table count e h =
     let place = reached-ok xs (table + pair_width key * count) parts.0 parts.1 in
     (same ∙ place.0, omega (arith, same, place.1))
 
-range_end-ok : (bound : Operand) (xs : List ℕ) (table : ℕ) (low high : ℤ) (e : ℕ) → range_end bound xs table low high ≡ Ok e
+pub range_end-ok : (bound : Operand) (xs : List ℕ) (table : ℕ) (low high : ℤ) (e : ℕ) → range_end bound xs table low high ≡ Ok e
     → (e ≡ table + 2 * range_count low high) × (e ≤ length xs)
 range_end-ok bound xs table low high e h = by_test (int_lt high low) h
   where
@@ -51,7 +51,7 @@ range_end-ok bound xs table low high e h = by_test (int_lt high low) h
     by_test true h = absurd (cc)
     by_test false h = reached-ok xs _ e h
 
-table_end-ok : (l : Layout) (c : Cases) (xs : List ℕ) (table : ℕ) (y z : ℤ) (e : ℕ) → end_of_cases c l.z xs table y z ≡ Ok e
+pub table_end-ok : (l : Layout) (c : Cases) (xs : List ℕ) (table : ℕ) (y z : ℤ) (e : ℕ) → end_of_cases c l.z xs table y z ≡ Ok e
     → table ≤ length xs → (table ≤ e) × (e ≤ length xs)
 table_end-ok l NoCases xs table y z e h inside = let same : table ≡ e = cc in (omega arith, omega arith)
 table_end-ok l Range xs table y z e h inside = let k = range_end-ok l.z xs table y z e h in (omega (arith, k.0), k.1)
@@ -63,7 +63,7 @@ pub from_bind : {A B C : Type 0} (r : Result A CodeEnd) (f : A → Result B Code
 from_bind (Ok x) f y h k = k x refl h
 from_bind (Err e) f y h k = absurd (cc)
 
-ok-same : {A : Type 0} (x y : A) (r : Result A CodeEnd) → r ≡ Ok x → r ≡ Ok y → x ≡ y
+pub ok-same : {A : Type 0} (x y : A) (r : Result A CodeEnd) → r ≡ Ok x → r ≡ Ok y → x ≡ y
 ok-same x y r h k = cc
 
 -- what is decoded begins there

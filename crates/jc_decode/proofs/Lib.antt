@@ -2,3 +2,10 @@ pub mod Opcodes
 pub mod Pairs
 pub mod Decoded
 pub mod Listing
+pub mod Tables
+pub mod Targets
+pub mod Ranges
+pub mod Appending
+pub mod Windows
+pub mod ReadBack
+pub mod Written

@@ -5,7 +5,7 @@ use Rattle.jc_decode.specs.declared.insn.Insn.{Insn}
 use Rattle.jc_decode.specs.declared.insn.Placed.{Placed}
 use Rattle.jc_decode.specs.declared.insn.CodeEnd.{CodeEnd}
 use Rattle.jc_decode.specs.Decoding.{decoded}
-use Rattle.jc_decode.specs.Listing.{listed, at_most, listing_from, Lists}
+use Rattle.jc_decode.specs.Listing.{listing, listed, at_most, listing_from, Lists}
 use Rattle.jc_decode.proofs.Decoded.{IsWithin-decoded}
 
 -- what follows is looked at only where an instruction is decoded
@@ -73,3 +73,10 @@ listing_from-Lists code at (p ∷ ps) h =
     let more = listing_from-more code at p.insn h.1 in
     ap (λ (n : ℕ). record { place = n; insn = p.insn } ∷ ps) h.0
     ∙ ap (λ (qs : List Placed). record { place = at; insn = p.insn } ∷ qs) rest ∙ sym more
+
+-- a listing from the first place is that of the code
+pub listing_from-start : (code : List ℕ) → listing_from code 0 ≡ listing code
+unfolding listing
+listing_from-start code = refl
+
+pub ruleset listing_facts = (listing_from-more, listing_from-end, listing_from-start)

@@ -1,7 +1,9 @@
 -- The cases of a switch: an offset for each number from low to high, or pairs of a key and an offset
 -- (JCVM 2.2, chapter 7: stableswitch, itableswitch, slookupswitch, ilookupswitch).
-use Rattle.std.specs.Prelude.{◌≡◌, ◌+◌, ◌*◌, ℕ, ℤ, pos, ◌+ℤ◌, unsigned_abs, List, [], map, Result, Ok, Err, IsTrue, Bool, ◌&&◌, nat_le}
+use Rattle.std.specs.Prelude.{◌++◌, take, drop, true, false, ◌≡◌, ◌+◌, ◌*◌, ℕ, ℤ, pos, ◌+ℤ◌, unsigned_abs, List, [], map, Result, Ok, Err, IsTrue, Bool}
 use Rattle.std.specs.List.{range_with_len}
+use Rattle.std.specs.Int.{cast_unsigned, w16}
+use Rattle.byteorder.specs.Endian.{big_bytes}
 use Rattle.std.specs.Result.{result_unwrap_or}
 use Rattle.jc_decode.specs.declared.layout.Operand.TheVariants.{S2}
 use Rattle.jc_decode.specs.declared.layout.Operand.{Operand}
@@ -41,9 +43,18 @@ cases_by (Err e) xs at i = []
 unfoldable pub cases : List ℕ → ℕ → Insn → List Case
 cases xs at i = cases_by (layout_of i.op) xs at i
 
--- whether this is the opcode of a switch
+abbrev pub is_table : Cases → Bool
+is_table NoCases = false
+is_table Range = true
+is_table (Pairs key) = true
+
+abbrev pub has_cases : Result Layout CodeEnd → Bool
+has_cases (Ok l) = is_table l.cases
+has_cases (Err e) = false
+
+-- whether this is the opcode of a switch: a table of cases follows its operands
 abbrev pub is_switch : ℕ → Bool
-is_switch op = nat_le 115 op && nat_le op 118
+is_switch op = has_cases (layout_of op)
 
 abbrev pub with_default : ℤ → Result Insn CodeEnd → Result Insn CodeEnd
 with_default x (Ok i) = Ok (record i { x = x })
@@ -52,3 +63,24 @@ with_default x (Err e) = Err e
 -- where i is a switch, it is the one at this place of the code but for its default
 abbrev pub HasTable : List ℕ → ℕ → Insn → Type 0
 HasTable xs at i = IsTrue (is_switch i.op) → with_default i.x (decoded xs at) ≡ Ok i
+
+abbrev pub offset_place_in : Cases → ℕ → ℕ → ℕ
+offset_place_in NoCases table n = table
+offset_place_in Range table n = table + 2 * n
+offset_place_in (Pairs key) table n = table + pair_width key * n + width key
+
+abbrev pub offset_place_by : Result Layout CodeEnd → ℕ → ℕ → ℕ
+offset_place_by (Ok l) at n = offset_place_in l.cases (at + 1 + total_width l) n
+offset_place_by (Err e) at n = at
+
+-- the place of the offset of the n-th case of the switch i at a place
+unfoldable pub offset_place : ℕ → Insn → ℕ → ℕ
+offset_place at i n = offset_place_by (layout_of i.op) at n
+
+-- the two bytes of an offset in place of those at a place
+abbrev pub with_offset : List ℕ → ℕ → ℤ → List ℕ
+with_offset xs place offset = take place xs ++ (big_bytes 2 (cast_unsigned w16 offset) ++ drop (place + 2) xs)
+
+-- a case that leads so far
+abbrev pub leading : ℤ → Case → Case
+leading offset c = record c { offset = offset }

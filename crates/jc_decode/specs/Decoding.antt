@@ -1,6 +1,6 @@
 -- The instruction at a place of a method's code (JCVM 2.2, chapter 7): its opcode, then its operands one
 -- after the other, the highest byte first, then the table of a switch.
-use Rattle.std.specs.Prelude.{◌≤◌, ℕ, ◌+◌, ◌-◌, ◌*◌, ◌/◌, ◌%◌, ◌<◌, ◌≡◌, ◌^◌, ℤ, pos, ◌-ℤ◌, int_lt, unsigned_abs, negsuc, List, length, Option, Some, None, Result, Ok, Err, Bool, true, not, ◌||◌, ◌&&◌, ◌==◌, nat_le, if◌then◌else◌, FitsSigned}
+use Rattle.std.specs.Prelude.{slice_index, ◌<◌, ◌≤◌, ℕ, ◌+◌, ◌-◌, ◌*◌, ◌/◌, ◌%◌, ◌<◌, ◌≡◌, ◌^◌, ℤ, pos, ◌-ℤ◌, int_lt, unsigned_abs, negsuc, List, length, Option, Some, None, Result, Ok, Err, Bool, true, not, ◌||◌, ◌&&◌, ◌==◌, nat_le, if◌then◌else◌, FitsSigned}
 use Rattle.std.specs.List.{find, range_with_len}
 use Rattle.std.specs.Result.{result_unwrap_or}
 use Rattle.std.specs.Int.{cast_signed, w8, w16, w32}
@@ -133,6 +133,10 @@ decoded xs at = do
   z ← operand_at l.z xs (at + 1 + width l.x + width l.y)
   end ← table_end l xs table y z
   Ok (record { op = op; x = x; y = y; z = z; len = end - at })
+
+-- the items of a list are bytes
+abbrev pub AreBytes : List ℕ → Type 0
+AreBytes xs = (k : ℕ) → slice_index xs k < 256
 
 -- an operand's value lies in the range of its form
 abbrev pub FitsOperand : Operand → ℤ → Type 0

@@ -2,3 +2,5 @@ pub mod Layout
 pub mod Decoding
 pub mod Cases
 pub mod Listing
+pub mod Instructions
+pub mod Encoding

@@ -51,10 +51,14 @@ falls op = not (op == 112 || (nat_le 115 op && nat_le op 122) || op == 147 || op
 abbrev pub target : ℕ → ℤ → ℤ
 target place offset = pos place +ℤ offset
 
+-- whether an instruction of this opcode names places to go to
+abbrev pub jumps : ℕ → Bool
+jumps op = is_branch op || is_switch op
+
 -- where an instruction of the code may lead: a jump's target; of a switch the default, then the targets
 -- of the cases in order
 unfoldable pub targets : List ℕ → Placed → List ℤ
 targets code p =
-    if is_branch p.insn.op || is_switch p.insn.op
+    if jumps p.insn.op
     then target p.place p.insn.x ∷ map (λ c. target p.place c.offset) (cases code p.place p.insn)
     else []

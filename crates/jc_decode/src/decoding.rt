@@ -1,24 +1,34 @@
 ghost use Rattle.std.specs.Prelude.{◌≡◌, ◌+◌, ◌*◌, ◌^◌, ◌<◌, ◌≤◌, ◌-◌, length, IfOk, pos, if◌then◌else◌};
 ghost use Rattle.cap_bytes.specs.Number.{number_at};
 ghost use Rattle.jc_decode.specs.Layout.{layout_of, width};
-ghost use Rattle.jc_decode.specs.Decoding.{is_dup_words, is_swap_words, is_array_type, is_tested_type, or_cut, reached, bad_operand, operand_at, pair_width, key_at, rises, pairs_end, table_end, decoded, FitsLayout, FitsOperand, IsWithin};
+ghost use Rattle.jc_decode.specs.Decoding.{is_dup_words, is_swap_words, is_array_type, is_tested_type, or_cut, reached, bad_operand, operand_at, pair_width, key_at, rises, pairs_end, table_end, decoded, FitsLayout, FitsOperand, IsWithin, AreBytes};
+ghost use Rattle.jc_decode.specs.Encoding.{IsAllowed};
 
 use crate::insn::{CodeEnd, Insn};
 use crate::layout::{Cases, Layout, Operand};
 use cap_bytes::View;
 
-#[tactic(auto, unfolding(crate::specs::Decoding::decoded))]
 /// The instruction that begins at a place of a method's code, of at most 65,535 bytes.
 pub fn decode(code: View, at: u16) -> Result<Insn, CodeEnd>
     requires { length code.bytes.now ≤ 65535 }
     ensures value { result ≡ decoded code.entry.bytes.now at }
     ensures operands { IfOk result (λ i. FitsLayout i (layout_of i.op)) }
+    ensures allowed { IfOk result (λ i. IsAllowed i) }
     ensures within { IfOk result (λ i. IsWithin code.entry.bytes.now at i) }
 {
-    let start = u32::from(at);
-    let op = u1(code, start)?;
+    are_bytes(code.bytes);
+    insn_at(code, u32::from(at))
+}
+
+#[tactic(auto, unfolding(crate::specs::Decoding::decoded))]
+fn insn_at(code: View, at: u32) -> Result<Insn, CodeEnd>
+    requires short { length code.bytes.now ≤ 65535 }
+    requires place { at ≤ 65535 }
+    ensures { result ≡ decoded code.entry.bytes.now at }
+{
+    let op = u1(code, at)?;
     let layout = Layout::of(op)?;
-    let operands = start + 1;
+    let operands = at + 1;
     let table = reach(code, u64::from(operands + layout.width()))?;
     let x = layout.x.read(code, operands)?;
     let y = layout.y.read(code, operands + layout.x.width())?;
@@ -31,7 +41,7 @@ pub fn decode(code: View, at: u16) -> Result<Insn, CodeEnd>
         x,
         y,
         z,
-        len: end - start,
+        len: end - at,
     })
 }
 
@@ -124,8 +134,7 @@ fn allowed(byte: u8, is_allowed: bool) -> Result<i32, CodeEnd>
 impl Operand {
     /// The operand at a place.
     fn read(self, code: View, at: u32) -> Result<i32, CodeEnd>
-        ensures value { result ≡ operand_at self code.entry.bytes.now at }
-        ensures fits { IfOk result (λ v. FitsOperand self v) }
+        ensures { result ≡ operand_at self code.entry.bytes.now at }
     {
         match self {
             Operand::Absent => Ok(0),
@@ -154,7 +163,7 @@ impl Operand {
     }
 
     /// The key of the n-th pair of a table of pairs.
-    fn key(self, code: View, table: u32, n: u32) -> i32
+    pub(crate) fn key(self, code: View, table: u32, n: u32) -> i32
         requires { table + pair_width self * n < 2 ^ 32 }
         ensures { result ≡ key_at self code.entry.bytes.now table n }
     {
@@ -211,4 +220,11 @@ fn end_of_pairs(key: Operand, code: View, table: u32, count: u32) -> Result<u32,
         }
     }
     Ok(end)
+}
+
+/// The items of a list of bytes are bytes: a fact for proofs, and no work.
+pub(crate) fn are_bytes(bytes: &[u8])
+    ensures { AreBytes bytes.now }
+{
+    let _ = bytes;
 }

@@ -3,3 +3,4 @@ pub mod Effect
 pub mod Demand
 pub mod Rule
 pub mod Apply
+pub mod Flow

@@ -1,6 +1,4 @@
 use Rattle.std.proofs.Common.{◌∙◌, sym, ap, length, arith}
-use Rattle.jc_base.specs.Class.{chain}
-use Rattle.jc_base.specs.Order.{common}
 use Rattle.jc_base.proofs.Meets.{meets_same, climb_right, climb_left, not_end_left, not_end_right}
 use Rattle.jc_base.proofs.order.common.Goals as goal
 

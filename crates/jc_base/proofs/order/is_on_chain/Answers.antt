@@ -1,5 +1,4 @@
-use Rattle.std.proofs.Common.{◌∙◌, sym, subst, true}
-use Rattle.jc_base.specs.Order.{is_on_chain}
+use Rattle.std.proofs.Common.{◌∙◌, sym}
 use Rattle.jc_base.proofs.Climbs.{on_chain-here, not_here-next, not_here-alone}
 use Rattle.jc_base.proofs.order.is_on_chain.Goals as goal
 

@@ -1,0 +1,90 @@
+ghost use Rattle.std.specs.Prelude.{◌≡◌, length, slice_get, IfOk};
+ghost use Rattle.std.specs.Iterator.{YieldsFirst, item_count};
+ghost use Rattle.cap_bytes.specs.Grammar.{repeat, table, u2};
+ghost use Rattle.cap_bytes.specs.Taking.{Takes, Passes};
+ghost use Rattle.cap_bytes.specs.Table.{numbers};
+
+use crate::fault::FormFault;
+use crate::items::Items;
+use crate::table::Table;
+
+impl<'a> Items<'a> {
+    /// A table of so many numbers of two bytes.
+    #[tactic(auto, using(crate::proofs::Loops::yielding), unfolding(crate::specs::Grammar::table))]
+    pub fn table(&mut self, count: u16) -> Result<Table<'a>, FormFault>
+        ensures value { Takes numbers (table count) self.old result self.new }
+        ensures count { IfOk result (λ t. length (numbers t) ≡ count) }
+    {
+        let items = *self;
+        self.pass_table(count)?;
+        Ok(Table { items, left: count })
+    }
+
+    #[tactic(auto, using(crate::proofs::Loops::passing))]
+    fn pass_table(&mut self, count: u16) -> Result<(), FormFault>
+        ensures { Passes (repeat count u2) self.old result self.new }
+    {
+        'numbers: for _ in 0..count {
+            self.u2()?;
+        }
+        Ok(())
+    }
+}
+
+impl<'a> Table<'a> {
+    /// How many numbers there are.
+    #[tactic(auto, using(crate::proofs::Loops::yielding))]
+    pub fn len(&self) -> u16
+        ensures { result ≡ length (numbers self.now) }
+    {
+        self.left
+    }
+
+    /// The n-th number, counted from 0.
+    #[tactic(auto, using(crate::proofs::Wide::numbered, crate::proofs::Wide::wide_number))]
+    pub fn at(&self, n: u16) -> Option<u16>
+        ensures { result ≡ slice_get (numbers self.now) n }
+    {
+        if n >= self.left {
+            return None;
+        }
+        let mut there = self.items.ahead(n as u32, 2);
+        match there.u2() {
+            Ok(number) => Some(number),
+            Err(_) => None,
+        }
+    }
+
+    /// The numbers in order.
+    pub fn iter(&self) -> Table<'a>
+        ensures { numbers result ≡ numbers self.now }
+    {
+        *self
+    }
+}
+
+impl<'a> Iterator for Table<'a> {
+    type Item = u16;
+
+    ghost next_gives = { YieldsFirst numbers };
+
+    ghost remaining = { item_count numbers };
+
+    #[tactic(auto, using(crate::proofs::Loops::yielding))]
+    fn next(&mut self) -> Option<u16> {
+        if self.left == 0 {
+            return None;
+        }
+        let mut items = self.items;
+        match items.u2() {
+            Ok(number) => {
+                *self = Table {
+                    items,
+                    left: self.left - 1,
+                };
+                Some(number)
+            }
+            Err(_) => None,
+        }
+    }
+}

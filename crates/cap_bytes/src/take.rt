@@ -1,0 +1,156 @@
+ghost use Rattle.std.specs.Prelude.{◌≡◌, ◌+◌, ◌-◌, ◌*◌, ◌≤◌, length, Ok, IfOk};
+ghost use Rattle.cap_bytes.specs.Grammar.{u1, u2, u4, number, piece, remaining, finish, rest, aid, that, is_aid_length};
+ghost use Rattle.cap_bytes.specs.Spelling.{info_of, fault_at, cut};
+ghost use Rattle.cap_bytes.specs.Taking.{Takes, IsAhead, same, bytes, nothing};
+
+use crate::fault::{FormFault, FormKind};
+use crate::items::Items;
+use crate::view::View;
+
+impl<'a> Items<'a> {
+    /// The items of a component with this tag and info.
+    pub fn of(info: View<'a>, part: u8) -> Items<'a>
+        requires { length info.bytes.now ≤ 65535 }
+        ensures info { result.info ≡ info.entry }
+        ensures part { result.part ≡ part }
+        ensures first { result.at ≡ 0 }
+    {
+        Items { info, part, at: 0 }
+    }
+
+    /// The place of the n-th item from here, counted from 0, where each has this width in bytes.
+    pub fn ahead(self, n: u32, width: u32) -> Items<'a>
+        requires { self.at + n * width ≤ length self.info.bytes.now }
+        ensures { IsAhead self.entry n width result }
+    {
+        Items {
+            info: self.info,
+            part: self.part,
+            at: self.at + n * width,
+        }
+    }
+
+    /// The next number of one byte.
+    pub fn u1(&mut self) -> Result<u8, FormFault>
+        ensures { Takes same u1 self.old result self.new }
+    {
+        match self.info.u1(self.at) {
+            Some(n) => {
+                self.at += 1;
+                Ok(n)
+            }
+            None => Err(self.cut()),
+        }
+    }
+
+    /// The next big-endian number of two bytes.
+    pub fn u2(&mut self) -> Result<u16, FormFault>
+        ensures { Takes same u2 self.old result self.new }
+    {
+        match self.info.u2(self.at) {
+            Some(n) => {
+                self.at += 2;
+                Ok(n)
+            }
+            None => Err(self.cut()),
+        }
+    }
+
+    /// The next big-endian number of four bytes.
+    pub fn u4(&mut self) -> Result<u32, FormFault>
+        ensures { Takes same u4 self.old result self.new }
+    {
+        match self.info.u4(self.at) {
+            Some(n) => {
+                self.at += 4;
+                Ok(n)
+            }
+            None => Err(self.cut()),
+        }
+    }
+
+    /// How many bytes are left.
+    pub fn remaining(&self) -> u32
+        ensures { result ≡ length self.now.info.bytes.now - self.now.at }
+    {
+        self.info.bytes.len() as u32 - self.at
+    }
+
+    /// No byte is left.
+    pub fn end(&self) -> Result<(), FormFault>
+        ensures { Takes nothing finish self.now result self.now }
+    {
+        if self.remaining() == 0 {
+            Ok(())
+        } else {
+            Err(self.fault(FormKind::Trailing))
+        }
+    }
+
+    /// All bytes that are left.
+    pub fn rest(&mut self) -> &'a [u8]
+        ensures { Takes bytes rest self.old (Ok result) self.new }
+    {
+        let left = self.remaining();
+        let from = self.at as usize;
+        self.at += left;
+        &self.info.bytes[from..]
+    }
+
+    /// The next so many bytes.
+    pub fn piece(&mut self, len: u32) -> Result<&'a [u8], FormFault>
+        ensures value { Takes bytes (piece len) self.old result self.new }
+        ensures len { IfOk result (λ part. length part.now ≡ len) }
+    {
+        match self.info.part(self.at, len) {
+            Some(part) => {
+                self.at += len;
+                Ok(part.bytes)
+            }
+            None => Err(self.cut()),
+        }
+    }
+
+    /// The next three bytes.
+    #[tactic(auto, using(crate::proofs::Triple::all_three))]
+    pub fn triple(&mut self) -> Result<[u8; 3], FormFault>
+        ensures { Takes same (piece 3) self.old result self.new }
+    {
+        let bytes = self.piece(3)?;
+        Ok([bytes[0], bytes[1], bytes[2]])
+    }
+
+    /// What is wrong with the next item, by its offset in the file.
+    pub fn fault(&self, kind: FormKind) -> FormFault
+        ensures { result ≡ fault_at (info_of self.now.part) self.now.at kind }
+    {
+        FormFault {
+            part: self.part,
+            at: 3 + self.at,
+            kind,
+        }
+    }
+
+    /// The bytes end too early.
+    fn cut(&self) -> FormFault
+        ensures { result ≡ cut (info_of self.now.part) self.now.info.bytes.now }
+    {
+        FormFault {
+            part: self.part,
+            at: 3 + self.info.bytes.len() as u32,
+            kind: FormKind::Cut,
+        }
+    }
+
+    /// An application identifier behind the byte that counts its bytes.
+    pub fn aid(&mut self) -> Result<&'a [u8], FormFault>
+        ensures { Takes bytes aid self.old result self.new }
+    {
+        let place = *self;
+        let len = self.u1()?;
+        if len < 5 || len > 16 {
+            return Err(place.fault(FormKind::BadValue));
+        }
+        self.piece(len as u32)
+    }
+}

@@ -1,0 +1,55 @@
+-- Records up to the end of the component: each takes a byte or more, and is one that may stand anywhere.
+use Rattle.std.proofs.Common.{◌≡◌, ℕ, ◌+◌, ◌-◌, ◌≤◌, ◌<◌, Bool, true, false, List, [], ◌∷◌, length, Result, Ok, Err, Option, Some, None, refl, arith, subst, cond}
+use Rattle.std.specs.Prelude.{◌&&◌}
+use Rattle.cap_bytes.specs.declared.fault.FormKind.TheVariants.{BadValue, Remote}
+use Rattle.cap_bytes.specs.declared.items.Items.{Items}
+use Rattle.cap_bytes.specs.Grammar.{u2, repeat, until_end}
+use Rattle.cap_bytes.specs.Taking.{Taken, Gives, given, gives}
+use Rattle.cap_bytes.specs.Spelling.{Spells}
+use Rattle.cap_bytes.proofs.Laws.{read-spells, spelled-read}
+use Rattle.cap_bytes.proofs.EachLoops.{ReadsAll}
+use Rattle.cap_bytes.proofs.UntilLoops.{HasPassedUntil, moves, until_taken}
+use Rattle.cap_class.specs.ClassFormat.{Class, wrong_record, behind_first, is_interface, is_remote, class_flags, record_info, any_record, is_behind}
+
+-- so many records from `start` on are passed up to `now`, and no more than the bytes before it
+pub record HavePassed (start : Items) (count : ℕ) (now : Items) (behind_class : Bool) : Type 0 where
+  pub passed : HasPassedUntil record_info is_behind start false count now behind_class
+  pub few : count ≤ now.at
+
+-- a record takes a byte or more
+pub advances : (behind_class : Bool) (now : Items) (x : Class) (after : Items) → Taken (record_info behind_class) now x after → now.at < after.at
+unfolding record_info
+advances behind_class now x after t =
+    let m = moves 1 (wrong_record behind_class) (λ first. behind_first (is_interface (class_flags first)) now.at first) now x after (record { value = t.value; info = t.info; part = t.part }) in
+    omega arith
+
+pub ruleset advancing = (advances)
+
+relaxed : (b c d : Bool) → cond (b && c) (Some BadValue) (cond d (Some Remote) None) ≡ None → cond (false && c) (Some BadValue) (cond d (Some Remote) None) ≡ None
+relaxed true true d h = absurd cc
+relaxed true false d h = h
+relaxed false c d h = h
+
+-- a record that may stand where it stands may stand anywhere
+reads_all : ReadsAll record_info any_record
+unfolding record_info Spells
+reads_all s from bytes at x after h =
+    let r = read-spells from (record_info s) bytes at x after h in
+    let t = r.3 in
+    let first = relaxed s (is_interface (class_flags t.0)) (is_remote (class_flags t.0)) t.2.1 in
+    spelled-read from any_record bytes at x after (r.0, r.1, r.2, (t.0, t.1, (t.2.0, first, t.2.2), t.3))
+
+-- so many records up to the end are so many that may stand anywhere
+pub counted : (n : ℕ) (now : Items) (xs : List Class) (after : Items) → Taken (until_end record_info is_behind false) now xs after → length xs ≡ n → Taken (repeat n any_record) now xs after
+counted n now xs after t e = subst (λ (k : ℕ). Taken (repeat k any_record) now xs after) e (until_taken record_info is_behind any_record reads_all false now xs after t)
+
+pub gives_empty : (now : Items) → Gives (repeat 0 u2) now
+unfolding gives
+gives_empty now = refl
+
+pub given_empty : (now : Items) → given [] (repeat 0 u2) now ≡ []
+unfolding given
+given_empty now = refl
+
+-- what a table of no entries needs
+pub ruleset empty = (gives_empty, given_empty)

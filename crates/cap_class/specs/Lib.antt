@@ -1,0 +1,3 @@
+pub mod ClassFormat
+pub mod Lists
+pub mod ClassPart

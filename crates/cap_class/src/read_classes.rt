@@ -1,0 +1,277 @@
+ghost use Rattle.std.specs.Prelude.{◌≡◌, ◌==◌, ◌≤◌, length, IfOk, IfErr, false, find, option_map, slice_get};
+ghost use Rattle.std.specs.Iterator.{YieldsFirstBy, item_count};
+ghost use Rattle.cap_bytes.specs.Grammar.{until_end};
+ghost use Rattle.cap_bytes.specs.Spelling.{info_of, Stands, Breaks, IsExact};
+ghost use Rattle.cap_bytes.specs.Taking.{Takes, Reads};
+ghost use Rattle.cap_class.specs.ClassFormat.{record_info, is_behind, classes_info};
+ghost use Rattle.cap_bytes.specs.Table.{numbers};
+ghost use Rattle.cap_class.specs.Lists.{interface_seen, interfaces_left};
+ghost use Rattle.cap_class.specs.ClassPart.{class_seen, classes_left, records, PassesRecords};
+
+use crate::class_flags::ClassFlags;
+use crate::class_info::ClassInfo;
+use crate::class_list::Classes;
+use crate::class_part::ClassPart;
+use crate::implemented::Implemented;
+use crate::interfaces::Interfaces;
+use crate::read_record::record;
+use cap_bytes::{FormFault, Items, Table, View};
+
+/// The tag of the component.
+const CLASS: u8 = 6;
+
+/// Whether a class stands before what follows a record.
+fn is_behind(behind_class: bool, class: ClassInfo<'_>) -> bool
+    ensures { result ≡ is_behind behind_class (class_seen class.entry) }
+{
+    behind_class || !class.flags.is_interface()
+}
+
+/// How many records there are up to the end.
+#[tactic(auto, using(cap_bytes::proofs::UntilLoops::passing_until, crate::proofs::Records::advancing))]
+fn pass_records(items: &mut Items<'_>) -> Result<u16, FormFault>
+    ensures { PassesRecords items.old result items.new }
+{
+    let mut behind_class = false;
+    let mut count = 0u16;
+    'records: while items.remaining() > 0 {
+        let class = record(items, behind_class)?;
+        behind_class = is_behind(behind_class, class);
+        count += 1;
+    }
+    Ok(count)
+}
+
+/// The records up to the end.
+#[tactic(auto, using(cap_bytes::proofs::Loops::yielding))]
+fn records<'a>(items: &mut Items<'a>) -> Result<Classes<'a>, FormFault>
+    ensures { Takes classes_left (until_end record_info is_behind false) items.old result items.new }
+{
+    let first = *items;
+    let left = pass_records(items)?;
+    Ok(Classes { items: first, left })
+}
+
+impl<'a> Iterator for Classes<'a> {
+    type Item = ClassInfo<'a>;
+
+    ghost next_gives = { YieldsFirstBy class_seen classes_left };
+
+    ghost remaining = { item_count classes_left };
+
+    #[tactic(auto, using(cap_bytes::proofs::Loops::yielding))]
+    fn next(&mut self) -> Option<ClassInfo<'a>> {
+        if self.left == 0 {
+            return None;
+        }
+        let mut items = self.items;
+        match record(&mut items, false) {
+            Ok(class) => {
+                *self = Classes {
+                    items,
+                    left: self.left - 1,
+                };
+                Some(class)
+            }
+            Err(_) => None,
+        }
+    }
+}
+
+#[tactic(auto, unfolding(cap_bytes::specs::Reading::reading))]
+fn read(info: View<'_>) -> Result<ClassPart<'_>, FormFault>
+    requires { length info.bytes.now ≤ 65535 }
+    ensures value { Reads records (info_of 6) classes_info info.entry.bytes.now result }
+    ensures info { IfOk result (λ x. x.info ≡ info.entry) }
+{
+    let mut items = Items::of(info, CLASS);
+    let signature_pool_length = items.u2()?;
+    items.piece(u32::from(signature_pool_length))?;
+    let classes = records(&mut items)?;
+    Ok(ClassPart { info, classes })
+}
+
+/// The Class component that the info is, or the first item that breaks its format.
+#[tactic(auto, using(cap_bytes::proofs::Laws::whole))]
+pub fn classes(info: View<'_>) -> Result<ClassPart<'_>, FormFault>
+    requires { length info.bytes.now ≤ 65535 }
+    ensures found { IfOk result (λ x. Stands classes_info info.entry.bytes.now (records x)) }
+    ensures fault { IfErr result (λ e. Breaks (info_of 6) classes_info info.entry.bytes.now 0 e) }
+    ensures exact { IsExact (info_of 6) classes_info info.entry.bytes.now }
+    ensures info { IfOk result (λ x. x.info ≡ info.entry) }
+{
+    read(info)
+}
+
+impl<'a> ClassPart<'a> {
+    /// The info that the component was read from.
+    pub fn info(&self) -> View<'a>
+        ensures { result ≡ self.now.info }
+    {
+        self.info
+    }
+
+    /// How many records there are, interfaces and classes.
+    #[tactic(auto, using(cap_bytes::proofs::Loops::yielding))]
+    pub fn count(&self) -> u16
+        ensures { result ≡ length (records self.now) }
+    {
+        self.classes.left
+    }
+
+    /// The records, in order.
+    pub fn iter(&self) -> Classes<'a>
+        ensures records { classes_left result ≡ records self.now }
+        ensures few { length (records self.now) ≤ 65535 }
+    {
+        // Their number is one that `count` can answer.
+        let _count = self.count();
+        self.classes
+    }
+
+    /// The n-th record, from 0.
+    pub fn at(&self, n: u16) -> Option<ClassInfo<'a>>
+        ensures { option_map class_seen result ≡ slice_get (records self.now) n }
+    {
+        self.iter().nth(n as usize)
+    }
+
+    /// The offset in the info at which the n-th record starts, from 0.
+    pub fn offset(&self, n: u16) -> Option<u16>
+        ensures { result ≡ option_map (λ c. c.offset) (slice_get (records self.now) n) }
+    {
+        match self.at(n) {
+            Some(class) => Some(class.offset),
+            None => None,
+        }
+    }
+
+    /// The record that starts at an offset of the info, where one does.
+    pub fn entry(&self, offset: u16) -> Option<ClassInfo<'a>>
+        ensures { option_map class_seen result ≡ find (λ c. c.offset == offset) (records self.now) }
+    {
+        self.iter().find(|class| class.offset == offset)
+    }
+}
+
+impl<'a> ClassInfo<'a> {
+    /// The offset in the info at which the record starts.
+    pub fn offset(&self) -> u16
+        ensures { result ≡ (class_seen self.now).offset }
+    {
+        self.offset
+    }
+
+    pub fn flags(&self) -> ClassFlags
+        ensures { result.0 ≡ (class_seen self.now).flags }
+    {
+        self.flags
+    }
+
+    /// The class_ref of the superclass, and 0xFFFF where there is none.
+    pub fn super_ref(&self) -> u16
+        ensures { result ≡ (class_seen self.now).super_ref }
+    {
+        self.instance.super_ref
+    }
+
+    /// The interfaces that a class implements, or that an interface extends.
+    #[tactic(auto, using(cap_bytes::proofs::Loops::yielding))]
+    pub fn interface_count(&self) -> u8
+        ensures { result ≡ length (class_seen self.now).interfaces }
+    {
+        self.interfaces.left
+    }
+
+    /// The cells of the class's own instance fields.
+    pub fn instance_size(&self) -> u8
+        ensures { result ≡ (class_seen self.now).instance_size }
+    {
+        self.instance.instance_size
+    }
+
+    /// The token of the first own field that is a reference.
+    pub fn first_reference(&self) -> u8
+        ensures { result ≡ (class_seen self.now).first_reference }
+    {
+        self.instance.first_reference
+    }
+
+    /// The number of own fields that are references.
+    pub fn reference_count(&self) -> u8
+        ensures { result ≡ (class_seen self.now).reference_count }
+    {
+        self.instance.reference_count
+    }
+
+    /// The token of the first entry of the public dispatch table.
+    pub fn public_base(&self) -> u8
+        ensures { result ≡ (class_seen self.now).public_base }
+    {
+        self.tables.public_base
+    }
+
+    pub fn public_count(&self) -> u8
+        ensures { result ≡ length (class_seen self.now).public }
+    {
+        self.tables.public.len() as u8
+    }
+
+    /// The token of the first entry of the package-visible dispatch table.
+    pub fn package_base(&self) -> u8
+        ensures { result ≡ (class_seen self.now).package_base }
+    {
+        self.tables.package_base
+    }
+
+    pub fn package_count(&self) -> u8
+        ensures { result ≡ length (class_seen self.now).visible }
+    {
+        self.tables.visible.len() as u8
+    }
+
+    /// The public dispatch table: offsets of methods in the Method component, or 0xFFFF.
+    pub fn publics(&self) -> Table<'a>
+        ensures { numbers result ≡ (class_seen self.now).public }
+    {
+        self.tables.public
+    }
+
+    /// The n-th entry of the public dispatch table, from 0.
+    pub fn public(&self, n: u8) -> Option<u16>
+        ensures { result ≡ slice_get (class_seen self.now).public n }
+    {
+        self.tables.public.at(u16::from(n))
+    }
+
+    /// The package-visible dispatch table, as the public one.
+    pub fn packages(&self) -> Table<'a>
+        ensures { numbers result ≡ (class_seen self.now).visible }
+    {
+        self.tables.visible
+    }
+
+    /// The n-th entry of the package-visible dispatch table, from 0.
+    pub fn package(&self, n: u8) -> Option<u16>
+        ensures { result ≡ slice_get (class_seen self.now).visible n }
+    {
+        self.tables.visible.at(u16::from(n))
+    }
+
+    /// The interfaces, in order.
+    pub fn interfaces(&self) -> Interfaces<'a>
+        ensures interfaces { interfaces_left result ≡ (class_seen self.now).interfaces }
+        ensures few { length (class_seen self.now).interfaces ≤ 255 }
+    {
+        // Their number is one that `interface_count` can answer.
+        let _count = self.interface_count();
+        self.interfaces
+    }
+
+    /// The n-th interface, from 0.
+    pub fn implemented(&self, n: u8) -> Option<Implemented<'a>>
+        ensures { option_map interface_seen result ≡ slice_get (class_seen self.now).interfaces n }
+    {
+        self.interfaces().nth(n as usize)
+    }
+}

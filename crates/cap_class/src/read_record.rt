@@ -1,0 +1,198 @@
+ghost use Rattle.std.specs.Prelude.{◌≡◌, ◌≤◌, [], length, IfOk};
+ghost use Rattle.std.specs.Iterator.{YieldsFirstBy, item_count};
+ghost use Rattle.cap_bytes.specs.Grammar.{repeat, table};
+ghost use Rattle.cap_bytes.specs.Table.{numbers};
+ghost use Rattle.cap_bytes.specs.Taking.{Takes, Passes};
+ghost use Rattle.cap_class.specs.ClassFormat.{interface_info, instance_info, tables_info, record_info, behind_first, is_interface, class_flags};
+ghost use Rattle.cap_class.specs.Lists.{interface_seen, interfaces_left};
+ghost use Rattle.cap_class.specs.ClassPart.{instance_seen, tables_seen, class_seen};
+
+use crate::class_flags::ClassFlags;
+use crate::class_info::{ClassInfo, Instance, Tables};
+use crate::implemented::Implemented;
+use crate::interfaces::Interfaces;
+use cap_bytes::{FormFault, FormKind, Items, Table};
+
+fn interface<'a>(items: &mut Items<'a>, extended: bool) -> Result<Implemented<'a>, FormFault>
+    ensures { Takes interface_seen (interface_info extended) items.old result items.new }
+{
+    let class_ref = items.u2()?;
+    if extended {
+        return Ok(Implemented {
+            class_ref,
+            tokens: &[],
+        });
+    }
+    let count = items.u1()?;
+    let tokens = items.piece(u32::from(count))?;
+    Ok(Implemented { class_ref, tokens })
+}
+
+#[tactic(auto, using(cap_bytes::proofs::Loops::passing))]
+fn pass_interfaces(items: &mut Items<'_>, count: u8, extended: bool) -> Result<(), FormFault>
+    ensures { Passes (repeat count (interface_info extended)) items.old result items.new }
+{
+    'interfaces: for _ in 0..count {
+        interface(items, extended)?;
+    }
+    Ok(())
+}
+
+#[tactic(auto, using(cap_bytes::proofs::Loops::yielding))]
+fn interfaces<'a>(
+    items: &mut Items<'a>,
+    left: u8,
+    extended: bool,
+) -> Result<Interfaces<'a>, FormFault>
+    ensures { Takes interfaces_left (repeat left (interface_info extended)) items.old result items.new }
+{
+    let first = *items;
+    pass_interfaces(items, left, extended)?;
+    Ok(Interfaces {
+        items: first,
+        left,
+        extended,
+    })
+}
+
+fn instance(items: &mut Items<'_>) -> Result<Instance, FormFault>
+    ensures { Takes instance_seen instance_info items.old result items.new }
+{
+    let super_ref = items.u2()?;
+    let instance_size = items.u1()?;
+    let first_reference = items.u1()?;
+    let reference_count = items.u1()?;
+    Ok(Instance {
+        super_ref,
+        instance_size,
+        first_reference,
+        reference_count,
+    })
+}
+
+/// A dispatch table of at most 255 entries.
+fn dispatch<'a>(items: &mut Items<'a>, count: u8) -> Result<Table<'a>, FormFault>
+    ensures taken { Takes numbers (table count) items.old result items.new }
+    ensures few { IfOk result (λ t. length (numbers t) ≤ 255) }
+{
+    items.table(u16::from(count))
+}
+
+fn tables<'a>(items: &mut Items<'a>) -> Result<Tables<'a>, FormFault>
+    ensures { Takes tables_seen tables_info items.old result items.new }
+{
+    let public_base = items.u1()?;
+    let public_count = items.u1()?;
+    let package_base = items.u1()?;
+    let package_count = items.u1()?;
+    let public = dispatch(items, public_count)?;
+    let visible = dispatch(items, package_count)?;
+    Ok(Tables {
+        public_base,
+        package_base,
+        public,
+        visible,
+    })
+}
+
+/// The tables of an interface, which has none.
+#[tactic(auto, using(crate::proofs::Records::empty))]
+fn no_tables<'a>(items: &Items<'a>) -> Tables<'a>
+    ensures { tables_seen result ≡ record { public_base = 0; package_base = 0; public = []; visible = [] } }
+{
+    let none = Table {
+        items: *items,
+        left: 0,
+    };
+    Tables {
+        public_base: 0,
+        package_base: 0,
+        public: none,
+        visible: none,
+    }
+}
+
+/// A record behind its first byte, which stands at this offset.
+fn behind_first<'a>(
+    items: &mut Items<'a>,
+    offset: u16,
+    first: u8,
+) -> Result<ClassInfo<'a>, FormFault>
+    ensures { Takes class_seen (behind_first (is_interface (class_flags first)) offset first) items.old result items.new }
+{
+    let flags = ClassFlags::of(first);
+    if flags.is_interface() {
+        let tables = no_tables(items);
+        let interfaces = interfaces(items, first % 16, true)?;
+        Ok(ClassInfo {
+            offset,
+            flags,
+            instance: Instance {
+                super_ref: 0xFFFF,
+                instance_size: 0,
+                first_reference: 0,
+                reference_count: 0,
+            },
+            tables,
+            interfaces,
+        })
+    } else {
+        let instance = instance(items)?;
+        let tables = tables(items)?;
+        let interfaces = interfaces(items, first % 16, false)?;
+        Ok(ClassInfo {
+            offset,
+            flags,
+            instance,
+            tables,
+            interfaces,
+        })
+    }
+}
+
+/// The next record, which stands behind a class or not.
+#[tactic(auto, unfolding(crate::specs::ClassFormat::record_info))]
+pub(crate) fn record<'a>(
+    items: &mut Items<'a>,
+    behind_class: bool,
+) -> Result<ClassInfo<'a>, FormFault>
+    ensures { Takes class_seen (record_info behind_class) items.old result items.new }
+{
+    let place = *items;
+    let first = items.u1()?;
+    let flags = ClassFlags::of(first);
+    if behind_class && flags.is_interface() {
+        return Err(place.fault(FormKind::BadValue));
+    }
+    if flags.is_remote() {
+        return Err(place.fault(FormKind::Remote));
+    }
+    behind_first(items, place.at as u16, first)
+}
+
+impl<'a> Iterator for Interfaces<'a> {
+    type Item = Implemented<'a>;
+
+    ghost next_gives = { YieldsFirstBy interface_seen interfaces_left };
+
+    ghost remaining = { item_count interfaces_left };
+
+    #[tactic(auto, using(cap_bytes::proofs::Loops::yielding))]
+    fn next(&mut self) -> Option<Implemented<'a>> {
+        if self.left == 0 {
+            return None;
+        }
+        let mut items = self.items;
+        match interface(&mut items, self.extended) {
+            Ok(interface) => {
+                *self = Interfaces {
+                    items,
+                    left: self.left - 1,
+                    extended: self.extended,
+                };
+                Some(interface)
+            }
+            Err(_) => None,
+        }
+    }
+}

@@ -1,0 +1,64 @@
+-- The Directory component (JCVM 2.2, section 6.4).
+use Rattle.std.specs.Prelude.{ℕ, Bool, false, List, not, ◌&&◌, ◌||◌, ◌==◌, nat_le}
+use Rattle.cap_bytes.specs.Grammar.{Grammar, give, number, finish, u1, u2, aid, that, each, table, ◌>>=◌}
+
+-- a custom component
+pub record Custom : Type 0 where
+  pub tag : ℕ
+  pub size : ℕ
+  pub aid : List ℕ
+
+pub record DirectoryItems : Type 0 where
+  -- the sizes of the components 1 to 12, 0 for one that is absent
+  pub sizes : List ℕ
+  pub image_size : ℕ
+  pub array_init_count : ℕ
+  pub array_init_size : ℕ
+  pub import_count : ℕ
+  pub applet_count : ℕ
+  pub customs : List Custom
+
+-- the tags of custom components are from 128, and each stands once
+abbrev pub is_new_tag : (ℕ → Bool) → ℕ → Bool
+is_new_tag named tag = nat_le 128 tag && not (named tag)
+
+abbrev pub custom_info : (ℕ → Bool) → Grammar Custom
+custom_info named = do
+  tag ← number 1 (that (is_new_tag named))
+  size ← u2
+  identifier ← aid
+  give (record { tag = tag; size = size; aid = identifier })
+
+-- no tag
+abbrev pub none : ℕ → Bool
+none tag = false
+
+-- the tags that were named, and that of one more component
+abbrev pub and_that_of : (ℕ → Bool) → Custom → ℕ → Bool
+and_that_of named custom tag = tag == custom.tag || named tag
+
+-- a byte that counts the custom components, and the components
+abbrev pub customs_info : Grammar (List Custom)
+customs_info = do
+  count ← u1
+  each count custom_info and_that_of none
+
+abbrev pub directory_info : Grammar DirectoryItems
+directory_info = do
+  sizes ← table 12
+  image_size ← u2
+  array_init_count ← u2
+  array_init_size ← u2
+  import_count ← u1
+  applet_count ← u1
+  customs ← customs_info
+  end ← finish
+  give (record {
+    sizes = sizes;
+    image_size = image_size;
+    array_init_count = array_init_count;
+    array_init_size = array_init_size;
+    import_count = import_count;
+    applet_count = applet_count;
+    customs = customs;
+  })

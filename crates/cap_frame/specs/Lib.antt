@@ -1,0 +1,13 @@
+pub mod Frame
+pub mod PackageFormat
+pub mod HeaderFormat
+pub mod DirectoryFormat
+pub mod ImportFormat
+pub mod AppletFormat
+pub mod Packages
+pub mod Header
+pub mod Directory
+pub mod Imports
+pub mod Applets
+pub mod Framed
+pub mod Tags

@@ -1,0 +1,32 @@
+ghost use Rattle.std.specs.Iterator.{YieldsFirstBy, item_count};
+ghost use Rattle.cap_frame.specs.Applets.{applet_seen, applets_left};
+
+use crate::applet_reader::applet_info;
+use crate::applet_record::AppletInfo;
+use crate::lists::AppletInfos;
+
+impl<'a> Iterator for AppletInfos<'a> {
+    type Item = AppletInfo<'a>;
+
+    ghost next_gives = { YieldsFirstBy applet_seen applets_left };
+
+    ghost remaining = { item_count applets_left };
+
+    #[tactic(auto, using(cap_bytes::proofs::Loops::yielding))]
+    fn next(&mut self) -> Option<AppletInfo<'a>> {
+        if self.left == 0 {
+            return None;
+        }
+        let mut items = self.items;
+        match applet_info(&mut items) {
+            Ok(applet) => {
+                *self = AppletInfos {
+                    items,
+                    left: self.left - 1,
+                };
+                Some(applet)
+            }
+            Err(_) => None,
+        }
+    }
+}

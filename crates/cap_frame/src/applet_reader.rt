@@ -1,0 +1,54 @@
+ghost use Rattle.std.specs.Prelude.{◌≡◌, ◌≤◌, length, IfOk, IfErr};
+ghost use Rattle.cap_bytes.specs.Grammar.{repeat};
+ghost use Rattle.cap_bytes.specs.Spelling.{info_of, Stands, Breaks, IsExact};
+ghost use Rattle.cap_bytes.specs.Taking.{Takes, Passes, Reads};
+ghost use Rattle.cap_frame.specs.AppletFormat.{applet_info, applets_info};
+ghost use Rattle.cap_frame.specs.Applets.{applet_seen, applets_of};
+
+use crate::applet_record::{AppletInfo, Applets};
+use crate::lists::AppletInfos;
+use cap_bytes::{FormFault, Items, View};
+
+/// Reads the info of an Applet component.
+#[tactic(auto, using(cap_bytes::proofs::Laws::whole))]
+pub fn applets(info: View<'_>) -> Result<Applets<'_>, FormFault>
+    requires { length info.bytes.now ≤ 65535 }
+    ensures found { IfOk result (λ x. Stands applets_info info.entry.bytes.now (applets_of x)) }
+    ensures fault { IfErr result (λ e. Breaks (info_of 3) applets_info info.entry.bytes.now 0 e) }
+    ensures exact { IsExact (info_of 3) applets_info info.entry.bytes.now }
+    ensures info { IfOk result (λ x. x.info ≡ info.entry) }
+{
+    read(info)
+}
+
+#[tactic(auto, using(cap_bytes::proofs::Loops::yielding), unfolding(cap_bytes::specs::Reading::reading))]
+fn read(info: View<'_>) -> Result<Applets<'_>, FormFault>
+    requires { length info.bytes.now ≤ 65535 }
+    ensures value { Reads applets_of (info_of 3) applets_info info.entry.bytes.now result }
+    ensures info { IfOk result (λ x. x.info ≡ info.entry) }
+{
+    let mut items = Items::of(info, 3);
+    let left = items.u1()?;
+    let applets = AppletInfos { items, left };
+    pass_applets(&mut items, left)?;
+    items.end()?;
+    Ok(Applets { info, applets })
+}
+
+#[tactic(auto, using(cap_bytes::proofs::Loops::passing))]
+fn pass_applets(items: &mut Items<'_>, count: u8) -> Result<(), FormFault>
+    ensures { Passes (repeat count applet_info) items.old result items.new }
+{
+    'applets: for _ in 0..count {
+        applet_info(items)?;
+    }
+    Ok(())
+}
+
+pub(crate) fn applet_info<'a>(items: &mut Items<'a>) -> Result<AppletInfo<'a>, FormFault>
+    ensures { Takes applet_seen applet_info items.old result items.new }
+{
+    let aid = items.aid()?;
+    let install = items.u2()?;
+    Ok(AppletInfo { aid, install })
+}

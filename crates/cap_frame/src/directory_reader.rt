@@ -1,0 +1,100 @@
+ghost use Rattle.std.specs.Prelude.{◌≡◌, ◌≤◌, length, IfOk, IfErr};
+ghost use Rattle.cap_bytes.specs.Grammar.{each};
+ghost use Rattle.cap_bytes.specs.Spelling.{info_of, Stands, Breaks, IsExact};
+ghost use Rattle.cap_bytes.specs.Taking.{Takes, Passes, Reads};
+ghost use Rattle.cap_frame.specs.Directory.{custom_seen, customs_left, directory_items};
+ghost use Rattle.cap_frame.specs.DirectoryFormat.{custom_info, customs_info, and_that_of, none, directory_info};
+ghost use Rattle.cap_frame.specs.Tags.{named_in};
+
+use crate::directory_record::{CustomEntry, Directory};
+use crate::lists::CustomEntries;
+use cap_bytes::{FormFault, FormKind, Items, View};
+
+/// Reads the info of a Directory component.
+#[tactic(auto, using(cap_bytes::proofs::Laws::whole))]
+pub fn directory(info: View<'_>) -> Result<Directory<'_>, FormFault>
+    requires { length info.bytes.now ≤ 65535 }
+    ensures found { IfOk result (λ x. Stands directory_info info.entry.bytes.now (directory_items x)) }
+    ensures fault { IfErr result (λ e. Breaks (info_of 2) directory_info info.entry.bytes.now 0 e) }
+    ensures exact { IsExact (info_of 2) directory_info info.entry.bytes.now }
+    ensures info { IfOk result (λ x. x.info ≡ info.entry) }
+{
+    read(info)
+}
+
+#[tactic(auto, using(cap_bytes::proofs::Loops::yielding), unfolding(cap_bytes::specs::Reading::reading))]
+fn read(info: View<'_>) -> Result<Directory<'_>, FormFault>
+    requires { length info.bytes.now ≤ 65535 }
+    ensures value { Reads directory_items (info_of 2) directory_info info.entry.bytes.now result }
+    ensures info { IfOk result (λ x. x.info ≡ info.entry) }
+{
+    let mut items = Items::of(info, 2);
+    let sizes = items.table(12)?;
+    let image_size = items.u2()?;
+    let array_init_count = items.u2()?;
+    let array_init_size = items.u2()?;
+    let import_count = items.u1()?;
+    let applet_count = items.u1()?;
+    let customs = customs(&mut items)?;
+    items.end()?;
+    Ok(Directory {
+        info,
+        sizes,
+        image_size,
+        array_init_count,
+        array_init_size,
+        import_count,
+        applet_count,
+        customs,
+    })
+}
+
+#[tactic(auto, using(cap_bytes::proofs::Loops::yielding, crate::proofs::Customs::customs_known))]
+fn customs<'a>(items: &mut Items<'a>) -> Result<CustomEntries<'a>, FormFault>
+    ensures { Takes customs_left customs_info items.old result items.new }
+{
+    let left = items.u1()?;
+    let first = *items;
+    pass_customs(items, left)?;
+    Ok(CustomEntries { items: first, left })
+}
+
+#[tactic(auto, using(crate::proofs::Customs::naming))]
+fn pass_customs(items: &mut Items<'_>, count: u8) -> Result<(), FormFault>
+    ensures { Passes (each count custom_info and_that_of none) items.old result items.new }
+{
+    let mut named = [false; 256];
+    'customs: for _ in 0..count {
+        let custom = new_custom(items, &named)?;
+        named[custom.tag as usize] = true;
+    }
+    Ok(())
+}
+
+/// The next custom component, whose tag is none of those that are named.
+fn new_custom<'a>(items: &mut Items<'a>, named: &[bool; 256]) -> Result<CustomEntry<'a>, FormFault>
+    ensures { Takes custom_seen (custom_info (named_in named.now)) items.old result items.new }
+{
+    let place = *items;
+    let tag = items.u1()?;
+    if tag < 128 || named[tag as usize] {
+        return Err(place.fault(FormKind::BadValue));
+    }
+    let size = items.u2()?;
+    let aid = items.aid()?;
+    Ok(CustomEntry { tag, size, aid })
+}
+
+/// The next custom component, where nothing is asked of its tag but that it is from 128.
+pub(crate) fn custom_info<'a>(items: &mut Items<'a>) -> Result<CustomEntry<'a>, FormFault>
+    ensures { Takes custom_seen (custom_info none) items.old result items.new }
+{
+    let place = *items;
+    let tag = items.u1()?;
+    if tag < 128 {
+        return Err(place.fault(FormKind::BadValue));
+    }
+    let size = items.u2()?;
+    let aid = items.aid()?;
+    Ok(CustomEntry { tag, size, aid })
+}

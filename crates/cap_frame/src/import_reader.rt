@@ -1,0 +1,36 @@
+ghost use Rattle.std.specs.Prelude.{◌≡◌, ◌≤◌, length, IfOk, IfErr};
+ghost use Rattle.cap_bytes.specs.Spelling.{info_of, Stands, Breaks, IsExact};
+ghost use Rattle.cap_bytes.specs.Taking.{Reads};
+ghost use Rattle.cap_frame.specs.ImportFormat.{imports_info};
+ghost use Rattle.cap_frame.specs.Imports.{packages};
+
+use crate::import_record::Imports;
+use crate::lists::PackageInfos;
+use crate::package_items::pass_packages;
+use cap_bytes::{FormFault, Items, View};
+
+/// Reads the info of an Import component.
+#[tactic(auto, using(cap_bytes::proofs::Laws::whole))]
+pub fn imports(info: View<'_>) -> Result<Imports<'_>, FormFault>
+    requires { length info.bytes.now ≤ 65535 }
+    ensures found { IfOk result (λ x. Stands imports_info info.entry.bytes.now (packages x)) }
+    ensures fault { IfErr result (λ e. Breaks (info_of 4) imports_info info.entry.bytes.now 0 e) }
+    ensures exact { IsExact (info_of 4) imports_info info.entry.bytes.now }
+    ensures info { IfOk result (λ x. x.info ≡ info.entry) }
+{
+    read(info)
+}
+
+#[tactic(auto, using(cap_bytes::proofs::Loops::yielding), unfolding(cap_bytes::specs::Reading::reading))]
+fn read(info: View<'_>) -> Result<Imports<'_>, FormFault>
+    requires { length info.bytes.now ≤ 65535 }
+    ensures value { Reads packages (info_of 4) imports_info info.entry.bytes.now result }
+    ensures info { IfOk result (λ x. x.info ≡ info.entry) }
+{
+    let mut items = Items::of(info, 4);
+    let left = items.u1()?;
+    let packages = PackageInfos { items, left };
+    pass_packages(&mut items, left)?;
+    items.end()?;
+    Ok(Imports { info, packages })
+}

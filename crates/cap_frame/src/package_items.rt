@@ -1,0 +1,54 @@
+ghost use Rattle.std.specs.Iterator.{YieldsFirstBy, item_count};
+ghost use Rattle.cap_bytes.specs.Grammar.{repeat};
+ghost use Rattle.cap_bytes.specs.Taking.{Takes, Passes};
+ghost use Rattle.cap_frame.specs.PackageFormat.{package_info};
+ghost use Rattle.cap_frame.specs.Packages.{package_seen, packages_left};
+
+use crate::lists::PackageInfos;
+use crate::package_info::PackageInfo;
+use cap_bytes::{FormFault, Items};
+
+pub(crate) fn package_info<'a>(items: &mut Items<'a>) -> Result<PackageInfo<'a>, FormFault>
+    ensures { Takes package_seen package_info items.old result items.new }
+{
+    let minor = items.u1()?;
+    let major = items.u1()?;
+    let aid = items.aid()?;
+    Ok(PackageInfo { minor, major, aid })
+}
+
+#[tactic(auto, using(cap_bytes::proofs::Loops::passing))]
+pub(crate) fn pass_packages(items: &mut Items<'_>, count: u8) -> Result<(), FormFault>
+    ensures { Passes (repeat count package_info) items.old result items.new }
+{
+    'packages: for _ in 0..count {
+        package_info(items)?;
+    }
+    Ok(())
+}
+
+impl<'a> Iterator for PackageInfos<'a> {
+    type Item = PackageInfo<'a>;
+
+    ghost next_gives = { YieldsFirstBy package_seen packages_left };
+
+    ghost remaining = { item_count packages_left };
+
+    #[tactic(auto, using(cap_bytes::proofs::Loops::yielding))]
+    fn next(&mut self) -> Option<PackageInfo<'a>> {
+        if self.left == 0 {
+            return None;
+        }
+        let mut items = self.items;
+        match package_info(&mut items) {
+            Ok(package) => {
+                *self = PackageInfos {
+                    items,
+                    left: self.left - 1,
+                };
+                Some(package)
+            }
+            Err(_) => None,
+        }
+    }
+}

@@ -1,0 +1,32 @@
+-- What stands at an offset, from what taking it there answered.
+use Rattle.std.proofs.Common.{◌≡◌, ℕ, ◌+◌, ◌≤◌, ◌<◌, List, length, drop, Option, Some, None, Result, Ok, Err, Bool, true, false, cond, leb, arith, refl}
+use Rattle.std.proofs.lemmas.Bool.{leb-true}
+use Rattle.std.specs.Prelude.{IfSome, IfNone}
+use Rattle.std.specs.Result.{result_ok}
+use Rattle.byteorder.specs.Endian.{big_number}
+use Rattle.cap_bytes.specs.declared.fault.FormFault.{FormFault}
+use Rattle.cap_bytes.specs.declared.items.Items.{Items}
+use Rattle.cap_bytes.specs.Number.{number_at}
+use Rattle.cap_bytes.specs.Spelling.{Spells, info_of}
+use Rattle.cap_bytes.specs.Taking.{Takes}
+use Rattle.cap_bytes.proofs.Laws.{spelled-read, read-spells}
+use Rattle.cap_method.specs.declared.header.MethodHeader.{MethodHeader}
+use Rattle.cap_method.specs.MethodFormat.{Header, header_info}
+use Rattle.cap_method.specs.MethodPart.{header_seen, HeaderAt}
+
+pub header_found : (r : Result MethodHeader FormFault) (before after : Items) → Takes header_seen header_info before r after → IfSome (result_ok r) (λ h. HeaderAt before.info.bytes.now before.at (header_seen h))
+header_found (Ok h) before after t = (after.at, read-spells (info_of before.part) header_info before.info.bytes.now before.at (header_seen h) after.at t.value)
+header_found (Err fault) before after t = tt
+
+pub header_none : (r : Result MethodHeader FormFault) (before after : Items) → Takes header_seen header_info before r after → IfNone (result_ok r) ((h : Header) → HeaderAt before.info.bytes.now before.at h → ⊥)
+header_none (Ok h) before after t = tt
+header_none (Err fault) before after t = λ h there. let e = spelled-read (info_of before.part) header_info before.info.bytes.now before.at h there.0 there.1 in let f = t.answer in absurd cc
+
+reaches : (b : Bool) (w at n : ℕ) (bytes : List ℕ) → leb (at + w) (length bytes) ≡ b → cond b (Some (big_number w (drop at bytes))) None ≡ Some n → at + w ≤ length bytes
+reaches true w at n bytes e h = leb-true _ _ e
+reaches false w at n bytes e h = absurd cc
+
+-- a header has a first byte, so none stands past the end
+pub header_within : (bytes : List ℕ) (offset : ℕ) (h : Header) → HeaderAt bytes offset h → length bytes < offset → ⊥
+unfolding Spells
+header_within bytes offset h there past = let first = reaches _ 1 offset there.1.0 bytes refl there.1.2.0 in absurd (omega arith)

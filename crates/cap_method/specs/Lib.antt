@@ -1,0 +1,4 @@
+pub mod MethodFormat
+pub mod MethodPart
+pub mod StaticFormat
+pub mod StaticPart

@@ -1,0 +1,173 @@
+ghost use Rattle.std.specs.Prelude.{◌≡◌, ◌≤◌, length, IfOk, IfErr, IfSome, IfNone, option_map, slice_get};
+ghost use Rattle.std.specs.Iterator.{YieldsFirst, item_count};
+ghost use Rattle.cap_bytes.specs.Spelling.{info_of, Stands, Breaks, IsExact};
+ghost use Rattle.cap_bytes.specs.Taking.{Takes, Passes, Reads, same};
+ghost use Rattle.cap_bytes.specs.Grammar.{repeat};
+ghost use Rattle.cap_method.specs.MethodFormat.{Header, handler_info, methods_info, header_info};
+ghost use Rattle.cap_method.specs.MethodPart.{handlers, handlers_left, header_seen, HeaderAt};
+
+use crate::handler::HandlerInfo;
+use crate::handlers::Handlers;
+use crate::header::MethodHeader;
+use crate::method_flags::MethodFlags;
+use crate::method_part::MethodPart;
+use cap_bytes::{FormFault, Items, View};
+
+/// The tag of the component.
+const METHOD: u8 = 7;
+
+fn handler(items: &mut Items<'_>) -> Result<HandlerInfo, FormFault>
+    ensures { Takes same handler_info items.old result items.new }
+{
+    let start = items.u2()?;
+    let active = items.u2()?;
+    let entry = items.u2()?;
+    let index = items.u2()?;
+    Ok(HandlerInfo {
+        start,
+        stop: active >= 0x8000,
+        length: active % 0x8000,
+        entry,
+        index,
+    })
+}
+
+#[tactic(auto, using(cap_bytes::proofs::Loops::passing))]
+fn pass_handlers(items: &mut Items<'_>, count: u8) -> Result<(), FormFault>
+    ensures { Passes (repeat count handler_info) items.old result items.new }
+{
+    'handlers: for _ in 0..count {
+        handler(items)?;
+    }
+    Ok(())
+}
+
+#[tactic(auto, using(cap_bytes::proofs::Loops::yielding), unfolding(cap_bytes::specs::Reading::reading))]
+fn read(info: View<'_>) -> Result<MethodPart<'_>, FormFault>
+    requires { length info.bytes.now ≤ 65535 }
+    ensures value { Reads handlers (info_of 7) methods_info info.entry.bytes.now result }
+    ensures info { IfOk result (λ x. x.info ≡ info.entry) }
+{
+    let mut items = Items::of(info, METHOD);
+    let left = items.u1()?;
+    let handlers = Handlers { items, left };
+    pass_handlers(&mut items, left)?;
+    let _methods = items.rest();
+    Ok(MethodPart { info, handlers })
+}
+
+/// The Method component that the info is, or the first item that breaks its format.
+#[tactic(auto, using(cap_bytes::proofs::Laws::whole))]
+pub fn methods(info: View<'_>) -> Result<MethodPart<'_>, FormFault>
+    requires { length info.bytes.now ≤ 65535 }
+    ensures found { IfOk result (λ x. Stands methods_info info.entry.bytes.now (handlers x)) }
+    ensures fault { IfErr result (λ e. Breaks (info_of 7) methods_info info.entry.bytes.now 0 e) }
+    ensures exact { IsExact (info_of 7) methods_info info.entry.bytes.now }
+    ensures info { IfOk result (λ x. x.info ≡ info.entry) }
+{
+    read(info)
+}
+
+impl<'a> Iterator for Handlers<'a> {
+    type Item = HandlerInfo;
+
+    ghost next_gives = { YieldsFirst handlers_left };
+
+    ghost remaining = { item_count handlers_left };
+
+    #[tactic(auto, using(cap_bytes::proofs::Loops::yielding))]
+    fn next(&mut self) -> Option<HandlerInfo> {
+        if self.left == 0 {
+            return None;
+        }
+        let mut items = self.items;
+        match handler(&mut items) {
+            Ok(handler) => {
+                *self = Handlers {
+                    items,
+                    left: self.left - 1,
+                };
+                Some(handler)
+            }
+            Err(_) => None,
+        }
+    }
+}
+
+fn header(items: &mut Items<'_>) -> Result<MethodHeader, FormFault>
+    ensures { Takes header_seen header_info items.old result items.new }
+{
+    let first = items.u1()?;
+    let flags = MethodFlags::of(first);
+    if first >= 0x80 {
+        let max_stack = items.u1()?;
+        let nargs = items.u1()?;
+        let max_locals = items.u1()?;
+        Ok(MethodHeader {
+            flags,
+            size: 4,
+            max_stack,
+            nargs,
+            max_locals,
+        })
+    } else {
+        let second = items.u1()?;
+        Ok(MethodHeader {
+            flags,
+            size: 2,
+            max_stack: first % 16,
+            nargs: second / 16,
+            max_locals: second % 16,
+        })
+    }
+}
+
+impl<'a> MethodPart<'a> {
+    /// The info that the component was read from.
+    pub fn info(&self) -> View<'a>
+        ensures { result ≡ self.now.info }
+    {
+        self.info
+    }
+
+    #[tactic(auto, using(cap_bytes::proofs::Loops::yielding))]
+    pub fn handler_count(&self) -> u8
+        ensures { result ≡ length (handlers self.now) }
+    {
+        self.handlers.left
+    }
+
+    /// The handler table, in order.
+    pub fn handlers(&self) -> Handlers<'a>
+        ensures table { handlers_left result ≡ handlers self.now }
+        ensures few { length (handlers self.now) ≤ 255 }
+    {
+        // Their number is one that `handler_count` can answer.
+        let _count = self.handler_count();
+        self.handlers
+    }
+
+    /// The n-th entry of the handler table, from 0.
+    pub fn handler(&self, n: u8) -> Option<HandlerInfo>
+        ensures { result ≡ slice_get (handlers self.now) n }
+    {
+        self.handlers().nth(n as usize)
+    }
+
+    /// The header that begins at an offset of the info, where its bytes reach.
+    pub fn header(&self, offset: u16) -> Option<MethodHeader>
+        ensures found { IfSome result (λ h. HeaderAt self.now.info.bytes.now offset (header_seen h)) }
+        ensures none { IfNone result ((h : Header) → HeaderAt self.now.info.bytes.now offset h → ⊥) }
+    {
+        let at = u32::from(offset);
+        if at > self.info.bytes.len() as u32 {
+            return None;
+        }
+        let mut items = Items {
+            info: self.info,
+            part: METHOD,
+            at,
+        };
+        header(&mut items).ok()
+    }
+}

@@ -1,0 +1,6 @@
+pub mod PoolFormat
+pub mod ExportFormat
+pub mod LocationFormat
+pub mod Pool
+pub mod Export
+pub mod Locations

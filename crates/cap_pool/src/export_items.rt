@@ -1,0 +1,63 @@
+ghost use Rattle.std.specs.Iterator.{YieldsFirstBy, item_count};
+ghost use Rattle.cap_bytes.specs.Grammar.{repeat};
+ghost use Rattle.cap_bytes.specs.Taking.{Takes, Passes};
+ghost use Rattle.cap_pool.specs.Export.{class_seen, classes_left};
+ghost use Rattle.cap_pool.specs.ExportFormat.{class_info};
+
+use crate::lists::{ExportClass, ExportedClass, ExportedClasses};
+use cap_bytes::{FormFault, Items};
+
+pub(crate) fn class<'a>(items: &mut Items<'a>) -> Result<ExportedClass<'a>, FormFault>
+    ensures { Takes class_seen class_info items.old result items.new }
+{
+    let class_offset = items.u2()?;
+    let field_count = items.u1()?;
+    let method_count = items.u1()?;
+    let fields = items.table(field_count as u16)?;
+    let methods = items.table(method_count as u16)?;
+    Ok(ExportedClass {
+        class: ExportClass {
+            class_offset,
+            field_count,
+            method_count,
+        },
+        fields,
+        methods,
+    })
+}
+
+#[tactic(auto, using(cap_bytes::proofs::Loops::passing))]
+pub(crate) fn pass_classes(items: &mut Items<'_>, count: u8) -> Result<(), FormFault>
+    ensures { Passes (repeat count class_info) items.old result items.new }
+{
+    'classes: for _ in 0..count {
+        class(items)?;
+    }
+    Ok(())
+}
+
+impl<'a> Iterator for ExportedClasses<'a> {
+    type Item = ExportedClass<'a>;
+
+    ghost next_gives = { YieldsFirstBy class_seen classes_left };
+
+    ghost remaining = { item_count classes_left };
+
+    #[tactic(auto, using(cap_bytes::proofs::Loops::yielding))]
+    fn next(&mut self) -> Option<ExportedClass<'a>> {
+        if self.left == 0 {
+            return None;
+        }
+        let mut items = self.items;
+        match class(&mut items) {
+            Ok(class) => {
+                *self = ExportedClasses {
+                    items,
+                    left: self.left - 1,
+                };
+                Some(class)
+            }
+            Err(_) => None,
+        }
+    }
+}

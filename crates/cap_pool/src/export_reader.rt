@@ -1,0 +1,36 @@
+ghost use Rattle.std.specs.Prelude.{◌≡◌, ◌≤◌, length, IfOk, IfErr};
+ghost use Rattle.cap_bytes.specs.Spelling.{info_of, Stands, Breaks, IsExact};
+ghost use Rattle.cap_bytes.specs.Taking.{Reads};
+ghost use Rattle.cap_pool.specs.Export.{classes};
+ghost use Rattle.cap_pool.specs.ExportFormat.{export_info};
+
+use crate::export_items::pass_classes;
+use crate::export_record::Export;
+use crate::lists::ExportedClasses;
+use cap_bytes::{FormFault, Items, View};
+
+/// Reads the info of an Export component.
+#[tactic(auto, using(cap_bytes::proofs::Laws::whole))]
+pub fn export(info: View<'_>) -> Result<Export<'_>, FormFault>
+    requires { length info.bytes.now ≤ 65535 }
+    ensures found { IfOk result (λ x. Stands export_info info.entry.bytes.now (classes x)) }
+    ensures fault { IfErr result (λ e. Breaks (info_of 10) export_info info.entry.bytes.now 0 e) }
+    ensures exact { IsExact (info_of 10) export_info info.entry.bytes.now }
+    ensures info { IfOk result (λ x. x.info ≡ info.entry) }
+{
+    read(info)
+}
+
+#[tactic(auto, using(cap_bytes::proofs::Loops::yielding), unfolding(cap_bytes::specs::Reading::reading))]
+fn read(info: View<'_>) -> Result<Export<'_>, FormFault>
+    requires { length info.bytes.now ≤ 65535 }
+    ensures value { Reads classes (info_of 10) export_info info.entry.bytes.now result }
+    ensures info { IfOk result (λ x. x.info ≡ info.entry) }
+{
+    let mut items = Items::of(info, 10);
+    let left = items.u1()?;
+    let classes = ExportedClasses { items, left };
+    pass_classes(&mut items, left)?;
+    items.end()?;
+    Ok(Export { info, classes })
+}

@@ -1,0 +1,72 @@
+ghost use Rattle.std.specs.Prelude.{◌≡◌, length, slice_get, option_map};
+ghost use Rattle.cap_pool.specs.Export.{class_seen, classes, classes_left, field_in, head_of, method_in};
+
+use crate::lists::{ExportClass, ExportedClass, ExportedClasses};
+use cap_bytes::View;
+
+/// The exported classes, by their tokens (section 6.12).
+#[derive(Clone, Copy)]
+pub struct Export<'a> {
+    pub(crate) info: View<'a>,
+    pub(crate) classes: ExportedClasses<'a>,
+}
+
+impl<'a> Export<'a> {
+    /// The info that was read.
+    pub fn info(&self) -> View<'a>
+        ensures { result ≡ self.now.info }
+    {
+        self.info
+    }
+
+    #[tactic(auto, using(cap_bytes::proofs::Loops::yielding))]
+    pub fn count(&self) -> u8
+        ensures { result ≡ length (classes self.now) }
+    {
+        self.classes.left
+    }
+
+    /// The class with this token.
+    pub fn class(&self, n: u8) -> Option<ExportClass>
+        ensures { result ≡ option_map head_of (slice_get (classes self.now) n) }
+    {
+        match self.exported(n) {
+            Some(exported) => Some(exported.class),
+            None => None,
+        }
+    }
+
+    /// The offset of a class's static field with this token.
+    pub fn field(&self, class: u8, n: u8) -> Option<u16>
+        ensures { result ≡ field_in (classes self.now) class n }
+    {
+        match self.exported(class) {
+            Some(class) => class.fields.at(n as u16),
+            None => None,
+        }
+    }
+
+    /// The offset of a class's static method with this token.
+    pub fn method(&self, class: u8, n: u8) -> Option<u16>
+        ensures { result ≡ method_in (classes self.now) class n }
+    {
+        match self.exported(class) {
+            Some(class) => class.methods.at(n as u16),
+            None => None,
+        }
+    }
+
+    /// The class with this token, with its offsets.
+    pub fn exported(&self, n: u8) -> Option<ExportedClass<'a>>
+        ensures { option_map class_seen result ≡ slice_get (classes self.now) n }
+    {
+        self.iter().nth(n as usize)
+    }
+
+    /// The classes by rising token.
+    pub fn iter(&self) -> ExportedClasses<'a>
+        ensures { classes_left result ≡ classes self.now }
+    {
+        self.classes
+    }
+}

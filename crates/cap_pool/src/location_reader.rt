@@ -1,0 +1,41 @@
+ghost use Rattle.std.specs.Prelude.{◌≡◌, ◌≤◌, length, IfOk, IfErr};
+ghost use Rattle.cap_bytes.specs.Spelling.{info_of, Stands, Breaks, IsExact};
+ghost use Rattle.cap_bytes.specs.Taking.{Reads};
+ghost use Rattle.cap_pool.specs.LocationFormat.{locations_info};
+ghost use Rattle.cap_pool.specs.Locations.{location_items};
+
+use crate::location_record::Locations;
+use cap_bytes::{FormFault, Items, View};
+
+/// Reads the info of a ReferenceLocation component: its shape alone, not where the distances lead.
+#[tactic(auto, using(cap_bytes::proofs::Laws::whole))]
+pub fn locations(info: View<'_>) -> Result<Locations<'_>, FormFault>
+    requires { length info.bytes.now ≤ 65535 }
+    ensures found { IfOk result (λ x. Stands locations_info info.entry.bytes.now (location_items x)) }
+    ensures fault { IfErr result (λ e. Breaks (info_of 9) locations_info info.entry.bytes.now 0 e) }
+    ensures exact { IsExact (info_of 9) locations_info info.entry.bytes.now }
+    ensures info { IfOk result (λ x. x.info ≡ info.entry) }
+{
+    read(info)
+}
+
+#[tactic(auto, unfolding(cap_bytes::specs::Reading::reading))]
+fn read(info: View<'_>) -> Result<Locations<'_>, FormFault>
+    requires { length info.bytes.now ≤ 65535 }
+    ensures value { Reads location_items (info_of 9) locations_info info.entry.bytes.now result }
+    ensures info { IfOk result (λ x. x.info ≡ info.entry) }
+{
+    let mut items = Items::of(info, 9);
+    let byte_count = items.u2()?;
+    let byte = items.piece(byte_count as u32)?;
+    let byte2_count = items.u2()?;
+    let byte2 = items.piece(byte2_count as u32)?;
+    items.end()?;
+    Ok(Locations {
+        info,
+        byte,
+        byte_count,
+        byte2,
+        byte2_count,
+    })
+}

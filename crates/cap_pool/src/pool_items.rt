@@ -1,0 +1,57 @@
+ghost use Rattle.std.specs.Iterator.{YieldsFirstBy, item_count};
+ghost use Rattle.cap_bytes.specs.Grammar.{repeat};
+ghost use Rattle.cap_bytes.specs.Taking.{Takes, Passes};
+ghost use Rattle.cap_pool.specs.Pool.{entries_left, entry_seen};
+ghost use Rattle.cap_pool.specs.PoolFormat.{entry_info};
+
+use crate::lists::PoolEntries;
+use crate::pool_record::PoolEntry;
+use cap_bytes::{FormFault, FormKind, Items};
+
+pub(crate) fn entry(items: &mut Items<'_>) -> Result<PoolEntry, FormFault>
+    ensures { Takes entry_seen entry_info items.old result items.new }
+{
+    let place = *items;
+    let tag = items.u1()?;
+    if tag < 1 || tag > 6 {
+        return Err(place.fault(FormKind::BadValue));
+    }
+    let bytes = items.triple()?;
+    Ok(PoolEntry { tag, bytes })
+}
+
+#[tactic(auto, using(cap_bytes::proofs::Loops::passing))]
+pub(crate) fn pass_entries(items: &mut Items<'_>, count: u16) -> Result<(), FormFault>
+    ensures { Passes (repeat count entry_info) items.old result items.new }
+{
+    'entries: for _ in 0..count {
+        entry(items)?;
+    }
+    Ok(())
+}
+
+impl Iterator for PoolEntries<'_> {
+    type Item = PoolEntry;
+
+    ghost next_gives = { YieldsFirstBy entry_seen entries_left };
+
+    ghost remaining = { item_count entries_left };
+
+    #[tactic(auto, using(cap_bytes::proofs::Loops::yielding))]
+    fn next(&mut self) -> Option<PoolEntry> {
+        if self.left == 0 {
+            return None;
+        }
+        let mut items = self.items;
+        match entry(&mut items) {
+            Ok(entry) => {
+                *self = PoolEntries {
+                    items,
+                    left: self.left - 1,
+                };
+                Some(entry)
+            }
+            Err(_) => None,
+        }
+    }
+}

@@ -1,0 +1,36 @@
+ghost use Rattle.std.specs.Prelude.{◌≡◌, ◌≤◌, length, IfOk, IfErr};
+ghost use Rattle.cap_bytes.specs.Spelling.{info_of, Stands, Breaks, IsExact};
+ghost use Rattle.cap_bytes.specs.Taking.{Reads};
+ghost use Rattle.cap_pool.specs.Pool.{entries};
+ghost use Rattle.cap_pool.specs.PoolFormat.{pool_info};
+
+use crate::lists::PoolEntries;
+use crate::pool_items::pass_entries;
+use crate::pool_record::Pool;
+use cap_bytes::{FormFault, Items, View};
+
+/// Reads the info of a ConstantPool component.
+#[tactic(auto, using(cap_bytes::proofs::Laws::whole))]
+pub fn pool(info: View<'_>) -> Result<Pool<'_>, FormFault>
+    requires { length info.bytes.now ≤ 65535 }
+    ensures found { IfOk result (λ x. Stands pool_info info.entry.bytes.now (entries x)) }
+    ensures fault { IfErr result (λ e. Breaks (info_of 5) pool_info info.entry.bytes.now 0 e) }
+    ensures exact { IsExact (info_of 5) pool_info info.entry.bytes.now }
+    ensures info { IfOk result (λ x. x.info ≡ info.entry) }
+{
+    read(info)
+}
+
+#[tactic(auto, using(cap_bytes::proofs::Loops::yielding), unfolding(cap_bytes::specs::Reading::reading))]
+fn read(info: View<'_>) -> Result<Pool<'_>, FormFault>
+    requires { length info.bytes.now ≤ 65535 }
+    ensures value { Reads entries (info_of 5) pool_info info.entry.bytes.now result }
+    ensures info { IfOk result (λ x. x.info ≡ info.entry) }
+{
+    let mut items = Items::of(info, 5);
+    let left = items.u2()?;
+    let entries = PoolEntries { items, left };
+    pass_entries(&mut items, left)?;
+    items.end()?;
+    Ok(Pool { info, entries })
+}
