@@ -291,7 +291,7 @@ module _ (t : ClassTable) (f : Frame) where
 
     suits-write : (h : Holder) (c : ℕ) (ty : Ty) → AllHold t f (field_write_demands h c ty) → Suits t f (field_write_effect h ty)
     suits-write holders.Stack c ty h = suits-replacing (value_size ty + 1) given.Nothing (cell-there f.stack (value_size ty) (Meets t (Value (Class c))) (AllHold-rest t f (value_wanted ty) (Cell (value_size ty) (Value (Class c)) ∷ []) h).0) tt
-    suits-write holders.This c ty h = suits-replacing (value_size ty) given.Nothing (value-there (Held 0 (Value (Class c)) ∷ []) ty h.1) tt
+    suits-write holders.This c ty h = suits-replacing (value_size ty) given.Nothing (value-there (Held 0 (Class c) ∷ []) ty h.1) tt
 
     suits-make : (m : Make) (ty : Ty) → IsKnown t ty → AllHold t f (make_demands m) → Suits t f (make_effect m ty)
     suits-make makes.Object ty known h = suits-replacing 0 (given.One ty) (omega arith) known

@@ -2,3 +2,4 @@ pub mod Demands
 pub mod Stacks
 pub mod Effects
 pub mod Plans
+pub mod Falls

@@ -82,7 +82,7 @@ Holds t f (Registers x n) = x + n ≤ length f.regs
 Holds t f (Depth n) = n ≤ length f.stack
 Holds t f (Cell n want) = IsSomeAnd (slice_get f.stack n) (Meets t want)
 Holds t f (Cut n) = ¬ (Splits f.stack n)
-Holds t f (Held x want) = IsSomeAnd (slice_get f.regs x) (Meets t want)
+Holds t f (Held x ty) = IsSomeAnd (slice_get f.regs x) (Meets t (Value ty))
 
 -- the fault of what was found, or of a cell or register that is not there
 abbrev pub refused_at : ClassTable → Want → RuleFault → Option Ty → RuleFault
@@ -95,7 +95,7 @@ refused t f (Registers x n) = NoLocal x
 refused t f (Depth n) = Underflow
 refused t f (Cell n want) = refused_at t want Underflow (slice_get f.stack n)
 refused t f (Cut n) = SplitInt
-refused t f (Held x want) = refused_at t want (NoLocal x) (slice_get f.regs x)
+refused t f (Held x ty) = refused_at t (Value ty) (NoLocal x) (slice_get f.regs x)
 
 -- each of the demands is met
 abbrev pub AllHold : ClassTable → Frame → List Demand → Type 0
@@ -110,7 +110,7 @@ pub data Breaks (t : ClassTable) (f : Frame) : List Demand → RuleFault → Typ
 -- each class number in what is asked names a class, and no interface
 abbrev pub IsKnownDemand : ClassTable → Demand → Type 0
 IsKnownDemand t (Cell n want) = IsKnownWant t want
-IsKnownDemand t (Held x want) = IsKnownWant t want
+IsKnownDemand t (Held x ty) = IsKnown t ty
 IsKnownDemand t _ = ⊤
 
 abbrev pub AreKnownDemands : ClassTable → List Demand → Type 0

@@ -4,3 +4,4 @@ pub mod Demand
 pub mod Rule
 pub mod Apply
 pub mod Flow
+pub mod Laws

@@ -119,9 +119,9 @@ constant_effect (constants.Short n) = replacing 0 (given.One Short)
 constant_effect (constants.Int n) = replacing 0 given.Int
 
 abbrev pub load_demands : ClassTable → Sort → ℕ → List Demand
-load_demands t sorts.Reference x = Registers x 1 ∷ Held x (a_reference t) ∷ []
-load_demands t sorts.Short x = Registers x 1 ∷ Held x (Value Short) ∷ []
-load_demands t sorts.Int x = Registers x 2 ∷ Held x (Value IntHigh) ∷ Held (x + 1) (Value IntLow) ∷ []
+load_demands t sorts.Reference x = Registers x 1 ∷ Held x (Class (object t)) ∷ []
+load_demands t sorts.Short x = Registers x 1 ∷ Held x Short ∷ []
+load_demands t sorts.Int x = Registers x 2 ∷ Held x IntHigh ∷ Held (x + 1) IntLow ∷ []
 
 -- the join of the type of a reference with Null
 abbrev pub or_null : Ty → Ty
@@ -145,8 +145,8 @@ store_effect sorts.Int x f = storing 2 x given.Int
 
 -- the register is read as a number and written again
 abbrev pub increment_demands : Width → ℕ → List Demand
-increment_demands widths.Short x = Registers x 1 ∷ Held x (Value Short) ∷ []
-increment_demands widths.Int x = Registers x 2 ∷ Held x (Value IntHigh) ∷ Held (x + 1) (Value IntLow) ∷ []
+increment_demands widths.Short x = Registers x 1 ∷ Held x Short ∷ []
+increment_demands widths.Int x = Registers x 2 ∷ Held x IntHigh ∷ Held (x + 1) IntLow ∷ []
 
 abbrev pub increment_effect : Width → ℕ → Effect
 increment_effect w x = storing 0 x (number_given w)
@@ -252,7 +252,7 @@ type_named _ = Top
 
 abbrev pub field_read_demands : Holder → ℕ → List Demand
 field_read_demands holders.Stack c = Cell 0 (Value (Class c)) ∷ []
-field_read_demands holders.This c = Registers 0 1 ∷ Held 0 (Value (Class c)) ∷ []
+field_read_demands holders.This c = Registers 0 1 ∷ Held 0 (Class c) ∷ []
 
 abbrev pub field_read_effect : Holder → Ty → Effect
 field_read_effect holders.Stack ty = replacing 1 (value_given ty)
@@ -261,7 +261,7 @@ field_read_effect holders.This ty = replacing 0 (value_given ty)
 -- the value is on the object, or the object in register 0
 abbrev pub field_write_demands : Holder → ℕ → Ty → List Demand
 field_write_demands holders.Stack c ty = value_wanted ty ++ Cell (value_size ty) (Value (Class c)) ∷ []
-field_write_demands holders.This c ty = Registers 0 1 ∷ (value_wanted ty ++ Held 0 (Value (Class c)) ∷ [])
+field_write_demands holders.This c ty = Registers 0 1 ∷ (value_wanted ty ++ Held 0 (Class c) ∷ [])
 
 abbrev pub field_write_effect : Holder → Ty → Effect
 field_write_effect holders.Stack ty = replacing (value_size ty + 1) given.Nothing

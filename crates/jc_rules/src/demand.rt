@@ -20,8 +20,8 @@ pub enum Demand {
     Cell(u8, Want),
     /// No int lies across the cut below this many cells.
     Cut(u8),
-    /// The register is as wanted.
-    Held(u8, Want),
+    /// The register holds a value of this type.
+    Held(u8, Ty),
 }
 
 /// The registers and the stack that an instruction finds, in a world.
@@ -66,12 +66,7 @@ impl Before<'_> {
             ),
             Demand::Cut(n) if self.splits(n) => Some(RuleFault::SplitInt),
             Demand::Cut(_) => None,
-            Demand::Held(x, want) => judged(
-                self.world.classes(),
-                want,
-                self.reg(x),
-                RuleFault::NoLocal(x),
-            ),
+            Demand::Held(x, ty) => judged(self.world.classes(), Want::Value(ty), self.reg(x), RuleFault::NoLocal(x)),
         }
     }
 

@@ -11,9 +11,11 @@ mod apply;
 mod calls;
 mod demand;
 mod effect;
+mod laws;
 mod objects;
 mod values;
 
 pub use apply::{Outcome, Site};
 pub use demand::{Before, Demand};
 pub use effect::{Cells, Change, Effect, Mode, Store};
+pub use laws::rule_falls;

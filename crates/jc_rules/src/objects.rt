@@ -181,7 +181,7 @@ impl Before<'_> {
                 Ok(Effect::replacing(1, value_given(ty)))
             }
             Holder::This => {
-                self.check(&[Demand::Registers(0, 1), Demand::Held(0, object)])?;
+                self.check(&[Demand::Registers(0, 1), Demand::Held(0, Ty::Class(class))])?;
                 Ok(Effect::replacing(0, value_given(ty)))
             }
         }
@@ -228,7 +228,7 @@ impl Before<'_> {
         requires ty { IsKnown self.now.world.now.classes ty }
         ensures { IsJudged self.now.world.now.classes (frame self.now) (field_write_demands Holder.This class ty) (field_write_effect Holder.This ty) result }
     {
-        let object = Demand::Held(0, Want::Value(Ty::Class(class)));
+        let object = Demand::Held(0, Ty::Class(class));
         match ty {
             Ty::IntHigh => self.check(&[
                 Demand::Registers(0, 1),

@@ -118,11 +118,11 @@ impl Before<'_> {
     {
         match sort {
             Sort::Reference => {
-                self.check(&[Demand::Registers(x, 1), Demand::Held(x, self.a_reference())])?;
+                self.check(&[Demand::Registers(x, 1), Demand::Held(x, Ty::Class(self.world.role(0)))])?;
                 Ok(Effect::replacing(0, Cells::One(or_null(self.held(x)))))
             }
             Sort::Short => {
-                self.check(&[Demand::Registers(x, 1), Demand::Held(x, SHORT)])?;
+                self.check(&[Demand::Registers(x, 1), Demand::Held(x, Ty::Short)])?;
                 Ok(Effect::replacing(0, Cells::One(Ty::Short)))
             }
             Sort::Int => {
@@ -140,7 +140,7 @@ impl Before<'_> {
         if x as usize + 2 > self.regs.len() {
             return Err(RuleFault::NoLocal(x));
         }
-        self.check(&[Demand::Held(x, INT_HIGH), Demand::Held(x + 1, INT_LOW)])
+        self.check(&[Demand::Held(x, Ty::IntHigh), Demand::Held(x + 1, Ty::IntLow)])
     }
 
     pub(crate) fn store(&self, sort: Sort, x: u8) -> Result<Effect, RuleFault>
@@ -172,7 +172,7 @@ impl Before<'_> {
         ensures { IsJudged self.now.world.now.classes (frame self.now) (increment_demands width x) (increment_effect width x) result }
     {
         match width {
-            Width::Short => self.check(&[Demand::Registers(x, 1), Demand::Held(x, SHORT)])?,
+            Width::Short => self.check(&[Demand::Registers(x, 1), Demand::Held(x, Ty::Short)])?,
             Width::Int => self.check_int(x)?,
         }
         Ok(Effect::storing(0, x, number_given(width)))
