@@ -1,14 +1,16 @@
 -- The rule is monotone in the dataflow.
-use Rattle.std.proofs.Common.{◌≡◌, ℕ, zero, suc, ◌+◌, ◌-◌, ◌≤◌, ◌==◌, cond, Bool, true, false, ◌⊎◌, inl, inr, List, [], ◌∷◌, ◌++◌, length, take, drop, map, get_or, set, Option, Some, None, IsSomeAnd, IfSome, slice_get, All, refl, sym, ◌∙◌, ap, subst, arith, length-append}
+use Rattle.std.proofs.Common.{◌≡◌, ℕ, zero, suc, ◌+◌, ◌-◌, ◌≤◌, ◌==◌, cond, Bool, true, false, ◌⊎◌, inl, inr, List, [], ◌∷◌, ◌++◌, length, take, drop, map, reverse, get_or, set, Option, Some, None, IsSomeAnd, IfSome, slice_get, All, refl, sym, ◌∙◌, ap, subst, arith, length-append}
 use Rattle.std.specs.Bool.{⊤}
 use Rattle.jc_base.specs.declared.ty.Ty.{Ty}
 use Rattle.jc_base.specs.declared.ty.Ty.TheVariants.{Bottom, Short, IntHigh, IntLow, Null, Class, ArrBool, ArrByte, ArrShort, ArrInt, ArrRef, Fresh, Top}
+use Rattle.jc_base.specs.declared.ty.Kind.{Kind}
 use Rattle.jc_base.specs.declared.ty.Kind.TheVariants as kinds
 use Rattle.jc_base.specs.Class.{ClassTable, AreClasses, object}
 use Rattle.jc_base.specs.Order.{Below, same, joined, nothing, anything, null_object, null_array, subclass, array_object, array_array, IsArray, of_booleans, of_bytes, of_shorts, of_ints, of_references, is_below}
 use Rattle.jc_base.proofs.Subtypes.{is_below-from_Below, Below-from_is_below}
 use Rattle.jc_base.specs.World.{Linked, IsWorld}
 use Rattle.jc_decode.specs.declared.insn.Insn.{Insn}
+use Rattle.jc_rows.specs.declared.row.Sort.{Sort}
 use Rattle.jc_rows.specs.declared.row.Sort.TheVariants as sorts
 use Rattle.jc_rows.specs.declared.row.Width.TheVariants as widths
 use Rattle.jc_rows.specs.declared.row.Row.{Row}
@@ -17,6 +19,7 @@ use Rattle.jc_rows.specs.declared.want.Want.{Want}
 use Rattle.jc_rows.specs.declared.want.Want.TheVariants.{Value, Storable, ByteArray, AnyArray, Whole, Receiver}
 use Rattle.jc_rows.specs.declared.named.Named.{Named}
 use Rattle.jc_rows.specs.declared.named.Named.TheVariants as names
+use Rattle.jc_rows.specs.Row.{row_at}
 use Rattle.jc_rules.specs.declared.demand.Demand.{Demand}
 use Rattle.jc_rules.specs.declared.demand.Demand.TheVariants.{Registers, Depth, Cell, Cut, Held}
 use Rattle.jc_rules.specs.declared.effect.Cells.{Cells}
@@ -29,7 +32,7 @@ use Rattle.jc_rules.specs.declared.apply.Site.{Site}
 use Rattle.jc_rules.specs.declared.apply.Outcome.{Outcome}
 use Rattle.jc_rules.specs.Effect.{listed, ready, changed, stored, reg}
 use Rattle.jc_rules.specs.Demand.{Frame, IsArrayOrNull, IsHalf, IsFreshOf, Meets, Splits, Holds, AllHold}
-use Rattle.jc_rules.specs.Rule.{cell, or_null, element, ready_with, call_demands, call_effect, cells_wanted, args_at, result_at, result_given, local_of, demands, effect}
+use Rattle.jc_rules.specs.Rule.{cell, or_null, element, ready_with, call_demands, call_effect, cells_wanted, args_at, result_at, result_given, local_of, load_demands, load_effect, store_effect, array_read_demands, array_read_effect, method_demands, method_effect, falls_from, ends_at, wrote, demands, effect}
 use Rattle.jc_rules.specs.Apply.{Applies}
 use Rattle.jc_rules.specs.Flow.{CellsBelow, no_cells, more_cells, FrameBelow, IsNotTop}
 use Rattle.jc_rules.specs.Laws.{IsNotBottom, FallsTo, RuleFalls}
@@ -262,11 +265,11 @@ plain_under q d _ h k = absurd k
 module _ (t : ClassTable) where
   low_above : {b : Ty} → Below t IntLow b → IsNotTop b → b ≡ IntLow
   unfolding LowUp
-  low_above {b} p n = low_is b (low-up t p tt) n
+  low_above {b = b} p n = low_is b (low-up t p tt) n
 
   high_above : {b : Ty} → Below t IntHigh b → IsNotTop b → b ≡ IntHigh
   unfolding HighUp
-  high_above {b} p n = high_is b (high-up t p tt) n
+  high_above {b = b} p n = high_is b (high-up t p tt) n
 
   half-up : (a : Ty) {b : Ty} → Below t a b → IsNotTop b → IsHalf a → IsHalf b
   half-up IntHigh p n h = subst IsHalf (sym (high_above p n)) tt
@@ -281,7 +284,7 @@ module _ (t : ClassTable) where
 
   fresh_below : (p c : ℕ) {a : Ty} → Below t a (Fresh p c) → IsNotBottom a → a ≡ Fresh p c
   unfolding FreshDown
-  fresh_below p c {a} x n = fresh_at p c a (fresh-down t p c x (refl, refl)) n
+  fresh_below p c {a = a} x n = fresh_at p c a (fresh-down t p c x (refl, refl)) n
 
   receiver-falls : (c : ℕ) (a b : Ty) → Below t a b → IsNotBottom a → IsFreshOf c b → IsFreshOf c a
   receiver-falls c a (Fresh p d) x n h = subst (IsFreshOf c) (sym (fresh_below p d x n)) h
@@ -304,7 +307,7 @@ Each : (Ty → Type 0) → List Ty → Type 0
 Each P [] = ⊤
 Each P (x ∷ xs) = P x × Each P xs
 
-pub each-from_All : (P : Ty → Type 0) (xs : List Ty) → All P xs → Each P xs
+each-from_All : (P : Ty → Type 0) (xs : List Ty) → All P xs → Each P xs
 unfolding Each
 each-from_All P [] h = tt
 each-from_All P (x ∷ xs) h = (h 0 x (omega arith), each-from_All P xs (λ k d lt. h (suc k) d (omega arith)))
@@ -400,7 +403,7 @@ module _ (t : ClassTable) where
         , high-read (slice_get f.stack n) (slice_get g.stack n) (cells-at t n stack) (each-at IsNotTop g.stack n no_top) s.1 )
     holds-falls (Held x ty) h = held-falls ty (slice_get f.regs x) (slice_get g.regs x) (cells-at t x regs) h
 
-    pub all-falls : (ds : List Demand) → AllHold t g ds → AllHold t f ds
+    all-falls : (ds : List Demand) → AllHold t g ds → AllHold t f ds
     all-falls [] h = tt
     all-falls (d ∷ ds) h = (holds-falls d h.0, all-falls ds h.1)
 
@@ -455,24 +458,24 @@ module _ (t : ClassTable) (are : AreClasses t) where
   -- an uninitialised object and what is above it
   ready-fresh : (place class p c : ℕ) {b : Ty} → Below t (Fresh p c) b → FreshUp p c b → Below t (ready place class (Fresh p c)) (ready place class b)
   unfolding FreshUp
-  ready-fresh place class p c {Top} x h = anything
-  ready-fresh place class p c {Fresh q d} x h =
+  ready-fresh place class p c {b = Top} x h = anything
+  ready-fresh place class p c {b = Fresh q d} x h =
       let is : Fresh q d ≡ Fresh p c = cc in subst (λ b. Below t (ready place class (Fresh p c)) (ready place class b)) (sym is) same
-  ready-fresh place class p c {Bottom} x h = absurd h
-  ready-fresh place class p c {Short} x h = absurd h
-  ready-fresh place class p c {IntHigh} x h = absurd h
-  ready-fresh place class p c {IntLow} x h = absurd h
-  ready-fresh place class p c {Null} x h = absurd h
-  ready-fresh place class p c {Class d} x h = absurd h
-  ready-fresh place class p c {ArrBool} x h = absurd h
-  ready-fresh place class p c {ArrByte} x h = absurd h
-  ready-fresh place class p c {ArrShort} x h = absurd h
-  ready-fresh place class p c {ArrInt} x h = absurd h
-  ready-fresh place class p c {ArrRef d} x h = absurd h
+  ready-fresh place class p c {b = Bottom} x h = absurd h
+  ready-fresh place class p c {b = Short} x h = absurd h
+  ready-fresh place class p c {b = IntHigh} x h = absurd h
+  ready-fresh place class p c {b = IntLow} x h = absurd h
+  ready-fresh place class p c {b = Null} x h = absurd h
+  ready-fresh place class p c {b = Class d} x h = absurd h
+  ready-fresh place class p c {b = ArrBool} x h = absurd h
+  ready-fresh place class p c {b = ArrByte} x h = absurd h
+  ready-fresh place class p c {b = ArrShort} x h = absurd h
+  ready-fresh place class p c {b = ArrInt} x h = absurd h
+  ready-fresh place class p c {b = ArrRef d} x h = absurd h
 
   -- what is no uninitialised object stays as it is; what is above it may be one only over Bottom
   ready-plain : (place class : ℕ) (a b : Ty) → IsPlain a → Below t a b → Below t a (ready place class b)
-  unfolding IsPlain
+  unfolding IsPlain FreshDown
   ready-plain place class a (Fresh q d) h x = subst (λ c. Below t c (ready place class (Fresh q d))) (sym (plain_under q d a h (fresh-down t q d x (refl, refl)))) nothing
   ready-plain place class a Bottom h x = x
   ready-plain place class a Short h x = x
@@ -505,7 +508,7 @@ module _ (t : ClassTable) (are : AreClasses t) where
 
   ready-cells : (place class : ℕ) {xs ys : List Ty} → CellsBelow t xs ys → CellsBelow t (map (ready place class) xs) (map (ready place class) ys)
   ready-cells place class no_cells = no_cells
-  ready-cells place class (more_cells {a} {b} p ps) = more_cells (ready-falls place class a b p) (ready-cells place class ps)
+  ready-cells place class (more_cells {a = a} {b = b} p ps) = more_cells (ready-falls place class a b p) (ready-cells place class ps)
 
   changed-same : (c : Change) {xs ys : List Ty} → CellsBelow t xs ys → CellsBelow t (changed c xs) (changed c ys)
   changed-same (Replace m cells) ps = cells-append t (cells-same t (listed cells)) (cells-drop t m ps)
@@ -513,31 +516,31 @@ module _ (t : ClassTable) (are : AreClasses t) where
   changed-same (Exchange m n) ps = cells-append t (cells-take t n (cells-drop t m ps)) (cells-append t (cells-take t m ps) (cells-drop t (m + n) ps))
   changed-same (MakeReady m p c cells) ps = cells-append t (cells-same t (listed cells)) (ready-cells p c (cells-drop t m ps))
 
-  pub changed-falls : (c d : Change) {xs ys : List Ty} → ChangeBelow t c d → CellsBelow t xs ys → CellsBelow t (changed c xs) (changed d ys)
+  changed-falls : (c d : Change) {xs ys : List Ty} → ChangeBelow t c d → CellsBelow t xs ys → CellsBelow t (changed c xs) (changed d ys)
   unfolding ChangeBelow
-  changed-falls (Replace m cells) (Replace n others) {xs} {ys} h ps =
+  changed-falls (Replace m cells) (Replace n others) {xs = xs} {ys = ys} h ps =
       subst (λ k. CellsBelow t (changed (Replace m cells) xs) (listed others ++ drop k ys)) h.0 (cells-append t (listed-falls cells others h.1) (cells-drop t m ps))
   changed-falls (Replace m cells) (CopyUnder k n) h ps = absurd (cc)
   changed-falls (Replace m cells) (Exchange k n) h ps = absurd (cc)
   changed-falls (Replace m cells) (MakeReady k p c others) h ps = absurd (cc)
-  changed-falls (CopyUnder m n) d {xs} {ys} h ps = subst (λ e. CellsBelow t (changed (CopyUnder m n) xs) (changed e ys)) h (changed-same (CopyUnder m n) ps)
-  changed-falls (Exchange m n) d {xs} {ys} h ps = subst (λ e. CellsBelow t (changed (Exchange m n) xs) (changed e ys)) h (changed-same (Exchange m n) ps)
-  changed-falls (MakeReady m p c cells) d {xs} {ys} h ps = subst (λ e. CellsBelow t (changed (MakeReady m p c cells) xs) (changed e ys)) h (changed-same (MakeReady m p c cells) ps)
+  changed-falls (CopyUnder m n) d {xs = xs} {ys = ys} h ps = subst (λ e. CellsBelow t (changed (CopyUnder m n) xs) (changed e ys)) h (changed-same (CopyUnder m n) ps)
+  changed-falls (Exchange m n) d {xs = xs} {ys = ys} h ps = subst (λ e. CellsBelow t (changed (Exchange m n) xs) (changed e ys)) h (changed-same (Exchange m n) ps)
+  changed-falls (MakeReady m p c cells) d {xs = xs} {ys = ys} h ps = subst (λ e. CellsBelow t (changed (MakeReady m p c cells) xs) (changed e ys)) h (changed-same (MakeReady m p c cells) ps)
 
-  pub stored-falls : (d e : Effect) {xs ys : List Ty} → EffectBelow t d e → CellsBelow t xs ys → CellsBelow t (stored t Flow d.store xs) (stored t Flow e.store ys)
-  stored-falls d e {xs} {ys} h ps = at d.store.register e.store.register d.store.cells e.store.cells h.register h.cells
-    where
-    at : (x y : ℕ) (c k : Cells) → x ≡ y → GivenBelow t c k → CellsBelow t (stored t Flow (record { register = x; cells = c }) xs) (stored t Flow (record { register = y; cells = k }) ys)
-    unfolding GivenBelow
-    at x y given.Nothing given.Nothing q g = ps
-    at x y (given.One a) (given.One b) q g = subst (λ n. CellsBelow t (set xs x a) (set ys n b)) q (cells-set t x g ps)
-    at x y given.Int given.Int q g = subst (λ n. CellsBelow t (set (set xs x IntHigh) (x + 1) IntLow) (set (set ys n IntHigh) (n + 1) IntLow)) q (cells-set t (x + 1) same (cells-set t x same ps))
-    at x y given.Nothing (given.One b) q g = absurd g
-    at x y given.Nothing given.Int q g = absurd g
-    at x y (given.One a) given.Nothing q g = absurd g
-    at x y (given.One a) given.Int q g = absurd g
-    at x y given.Int given.Nothing q g = absurd g
-    at x y given.Int (given.One b) q g = absurd g
+  stored-at : {xs ys : List Ty} → CellsBelow t xs ys → (x y : ℕ) (c k : Cells) → x ≡ y → GivenBelow t c k → CellsBelow t (stored t Flow (record { register = x; cells = c }) xs) (stored t Flow (record { register = y; cells = k }) ys)
+  unfolding GivenBelow
+  stored-at ps x y given.Nothing given.Nothing q g = ps
+  stored-at {xs = xs} {ys = ys} ps x y (given.One a) (given.One b) q g = subst (λ n. CellsBelow t (set xs x a) (set ys n b)) q (cells-set t x g ps)
+  stored-at {xs = xs} {ys = ys} ps x y given.Int given.Int q g = subst (λ n. CellsBelow t (set (set xs x IntHigh) (x + 1) IntLow) (set (set ys n IntHigh) (n + 1) IntLow)) q (cells-set t (x + 1) same (cells-set t x same ps))
+  stored-at ps x y given.Nothing (given.One b) q g = absurd g
+  stored-at ps x y given.Nothing given.Int q g = absurd g
+  stored-at ps x y (given.One a) given.Nothing q g = absurd g
+  stored-at ps x y (given.One a) given.Int q g = absurd g
+  stored-at ps x y given.Int given.Nothing q g = absurd g
+  stored-at ps x y given.Int (given.One b) q g = absurd g
+
+  stored-falls : (d e : Effect) {xs ys : List Ty} → EffectBelow t d e → CellsBelow t xs ys → CellsBelow t (stored t Flow d.store xs) (stored t Flow e.store ys)
+  stored-falls d e h ps = stored-at ps d.store.register e.store.register d.store.cells e.store.cells h.register h.cells
 
   -- ---- the cells that are found
 
@@ -568,7 +571,7 @@ module _ (t : ClassTable) (are : AreClasses t) where
   or_null-above (Fresh p c) = same
   or_null-above Top = same
 
-  pub or_null-falls : (a b : Ty) → Below t a b → ReferenceDown b → Below t (or_null a) (or_null b)
+  or_null-falls : (a b : Ty) → Below t a b → ReferenceDown b → Below t (or_null a) (or_null b)
   or_null-falls Bottom b p h = null-below b h
   or_null-falls Short b p h = joined p (or_null-above b)
   or_null-falls IntHigh b p h = joined p (or_null-above b)
@@ -608,7 +611,7 @@ module _ (t : ClassTable) (are : AreClasses t) where
   element-of_null Null b h n p = same
   element-of_null _ b h n p = absurd h
 
-  pub element-falls : (a b : Ty) → Below t a b → ReferencesDown b → Below t (element a) (element b)
+  element-falls : (a b : Ty) → Below t a b → ReferencesDown b → Below t (element a) (element b)
   unfolding ReferencesDown IsNullDown
   element-falls a (ArrRef d) p h = element-of_array a d (references-down t p h) p
   element-falls a Bottom p h = element-of_null a Bottom (references-down t p h) tt p
@@ -645,7 +648,7 @@ module _ (t : ClassTable) (are : AreClasses t) where
   fresh_same taken cells c a _ x n h = absurd h
 
   -- a receiver that is found: both are the same uninitialised object, or neither is one
-  pub ready_with-falls : (taken : ℕ) (cells : Cells) (want : Want) (a b : Ty) → Below t a b → IsNotBottom a → Meets t want b → ready_with taken cells a want ≡ ready_with taken cells b want
+  ready_with-falls : (taken : ℕ) (cells : Cells) (want : Want) (a b : Ty) → Below t a b → IsNotBottom a → Meets t want b → ready_with taken cells a want ≡ ready_with taken cells b want
   unfolding NotReceiver
   ready_with-falls taken cells (Receiver c) a b p n (inl h) = fresh_same taken cells c a b p n h
   ready_with-falls taken cells (Receiver c) a b p n (inr h) = plain_both taken cells c a b (plain_class a (joined p h)) (plain_class b h)
@@ -654,3 +657,128 @@ module _ (t : ClassTable) (are : AreClasses t) where
   ready_with-falls taken cells ByteArray a b p n h = not_receiver taken cells ByteArray a b tt
   ready_with-falls taken cells AnyArray a b p n h = not_receiver taken cells AnyArray a b tt
   ready_with-falls taken cells Whole a b p n h = not_receiver taken cells Whole a b tt
+
+-- ---- the rule
+
+-- what is read of a cell that is there
+some-or : (P : Ty → Type 0) (xs : List Ty) (n : ℕ) → IsSomeAnd (slice_get xs n) P → P (get_or xs n Top)
+some-or P [] n h = absurd h
+some-or P (x ∷ xs) zero h = h
+some-or P (x ∷ xs) (suc n) h = some-or P xs n h
+
+each-or : (P : Ty → Type 0) (xs : List Ty) (n : ℕ) → P Top → Each P xs → P (get_or xs n Top)
+unfolding Each
+each-or P [] n top h = top
+each-or P (x ∷ xs) zero top h = h.0
+each-or P (x ∷ xs) (suc n) top h = each-or P xs n top h.1
+
+module _ (w : Linked) (are : AreClasses w.classes) (f g : Frame) (regs : CellsBelow w.classes f.regs g.regs) (stack : CellsBelow w.classes f.stack g.stack) (no_bottom : Each IsNotBottom f.stack) where
+  load-falls : (s : Sort) (x : ℕ) → AllHold w.classes g (load_demands w.classes s x) → EffectBelow w.classes (load_effect s x f) (load_effect s x g)
+  unfolding ChangeBelow GivenBelow ReferenceDown
+  load-falls sorts.Reference x h = record {
+    change = (refl, or_null-falls w.classes are (reg f.regs x) (reg g.regs x) (cells-or w.classes x regs)
+        (reference-down w.classes (some-or (λ b. Below w.classes b (Class (object w.classes))) g.regs x h.1.0) tt));
+    register = refl;
+    cells = tt
+  }
+  load-falls sorts.Short x h = effect-same w.classes are (load_effect sorts.Short x g)
+  load-falls sorts.Int x h = effect-same w.classes are (load_effect sorts.Int x g)
+
+  store-falls : (s : Sort) (x : ℕ) → EffectBelow w.classes (store_effect s x f) (store_effect s x g)
+  unfolding ChangeBelow GivenBelow
+  store-falls sorts.Reference x = record { change = (refl, tt); register = refl; cells = cells-or w.classes 0 stack }
+  store-falls sorts.Short x = effect-same w.classes are (store_effect sorts.Short x g)
+  store-falls sorts.Int x = effect-same w.classes are (store_effect sorts.Int x g)
+
+  array-falls : (k : Kind) → AllHold w.classes g (array_read_demands w.classes k) → EffectBelow w.classes (array_read_effect k f) (array_read_effect k g)
+  unfolding ChangeBelow GivenBelow ReferencesDown
+  array-falls kinds.Ref h = record {
+    change = (refl, element-falls w.classes are (cell f.stack 1) (cell g.stack 1) (cells-or w.classes 1 stack)
+        (references-down w.classes (some-or (λ b. Below w.classes b (ArrRef (object w.classes))) g.stack 1 h.1.0) tt));
+    register = refl;
+    cells = tt
+  }
+  array-falls kinds.Byte h = effect-same w.classes are (array_read_effect kinds.Byte g)
+  array-falls kinds.Short h = effect-same w.classes are (array_read_effect kinds.Short g)
+  array-falls kinds.Int h = effect-same w.classes are (array_read_effect kinds.Int g)
+
+  call-falls : (args : List Ty) (result : Option Ty) (receiver : Option Want) → AllHold w.classes g (call_demands args receiver) → EffectBelow w.classes (call_effect args result receiver f) (call_effect args result receiver g)
+  unfolding GivenBelow
+  call-falls args result None h = effect-same w.classes are (call_effect args result None g)
+  call-falls args result (Some want) h = record {
+    change = subst (λ c. ChangeBelow w.classes c (ready_with (length args + 1) (result_given result) (cell g.stack (length args)) want))
+        (sym (ready_with-falls w.classes are (length args + 1) (result_given result) want (cell f.stack (length args)) (cell g.stack (length args))
+            (cells-or w.classes (length args) stack)
+            (each-or IsNotBottom f.stack (length args) tt no_bottom)
+            (some-or (Meets w.classes want) g.stack (length args) (AllHold-rest w.classes g (cells_wanted 0 (reverse args)) (Cell (length args) want ∷ []) h).0)))
+        (change-same w.classes are (ready_with (length args + 1) (result_given result) (cell g.stack (length args)) want));
+    register = refl;
+    cells = tt
+  }
+
+  method-falls : (n : Named) → AllHold w.classes g (method_demands w n) → EffectBelow w.classes (method_effect w n f) (method_effect w n g)
+  method-falls (names.Method k receiver) h = call-falls (args_at (slice_get w.methods k)) (result_at (slice_get w.methods k)) receiver h
+  method-falls names.Nothing h = effect-same w.classes are (method_effect w names.Nothing g)
+  method-falls (names.Type ty) h = effect-same w.classes are (method_effect w (names.Type ty) g)
+  method-falls (names.Field c ty) h = effect-same w.classes are (method_effect w (names.Field c ty) g)
+
+  effect-falls : (i : Insn) (n : Named) (row : Row) → AllHold w.classes g (demands w i n row) → EffectBelow w.classes (effect w i n row f) (effect w i n row g)
+  effect-falls i n (rows.Load s l) h = load-falls s (local_of i l) h
+  effect-falls i n (rows.Store s l) h = store-falls s (local_of i l)
+  effect-falls i n (rows.ArrayRead k) h = array-falls k h
+  effect-falls i n (rows.Call c) h = method-falls n h
+  effect-falls i n (rows.Constant c) h = effect-same w.classes are (effect w i n (rows.Constant c) g)
+  effect-falls i n (rows.Increment width) h = effect-same w.classes are (effect w i n (rows.Increment width) g)
+  effect-falls i n (rows.Move m) h = effect-same w.classes are (effect w i n (rows.Move m) g)
+  effect-falls i n (rows.Arithmetic a) h = effect-same w.classes are (effect w i n (rows.Arithmetic a) g)
+  effect-falls i n (rows.ArrayWrite k) h = effect-same w.classes are (effect w i n (rows.ArrayWrite k) g)
+  effect-falls i n rows.ArrayLength h = effect-same w.classes are (effect w i n rows.ArrayLength g)
+  effect-falls i n (rows.Branch b) h = effect-same w.classes are (effect w i n (rows.Branch b) g)
+  effect-falls i n (rows.Switch width) h = effect-same w.classes are (effect w i n (rows.Switch width) g)
+  effect-falls i n (rows.StaticRead k) h = effect-same w.classes are (effect w i n (rows.StaticRead k) g)
+  effect-falls i n (rows.StaticWrite k) h = effect-same w.classes are (effect w i n (rows.StaticWrite k) g)
+  effect-falls i n (rows.FieldRead k holder) h = effect-same w.classes are (effect w i n (rows.FieldRead k holder) g)
+  effect-falls i n (rows.FieldWrite k holder) h = effect-same w.classes are (effect w i n (rows.FieldWrite k holder) g)
+  effect-falls i n (rows.Make m) h = effect-same w.classes are (effect w i n (rows.Make m) g)
+  effect-falls i n rows.Throw h = effect-same w.classes are (effect w i n rows.Throw g)
+  effect-falls i n (rows.TypeTest test) h = effect-same w.classes are (effect w i n (rows.TypeTest test) g)
+  effect-falls i n (rows.Return s) h = effect-same w.classes are (effect w i n (rows.Return s) g)
+  effect-falls i n rows.Reserved h = effect-same w.classes are (effect w i n rows.Reserved g)
+
+pub rule-falls : (w : Linked) → AreClasses w.classes → RuleFalls w
+rule-falls w are site i greater lesser after o below no_top no_bottom a =
+    let t = w.classes in
+    let row = row_at i.op in
+    let none : Each IsNotBottom lesser.stack = each-from_All IsNotBottom lesser.stack no_bottom in
+    let asked : AllHold t lesser (demands w i a.named row) =
+        all-falls t lesser greater below.regs below.stack (each-from_All IsNotTop greater.stack no_top) none (demands w i a.named row) a.asked in
+    let falls_to : EffectBelow t (effect w i a.named row lesser) (effect w i a.named row greater) =
+        effect-falls w are lesser greater below.regs below.stack none i a.named row a.asked in
+    let regs : CellsBelow t (stored t Flow (effect w i a.named row lesser).store lesser.regs) after.regs =
+        subst (CellsBelow t (stored t Flow (effect w i a.named row lesser).store lesser.regs)) (sym a.regs) (stored-falls t are (effect w i a.named row lesser) (effect w i a.named row greater) falls_to below.regs) in
+    let stack : CellsBelow t (changed (effect w i a.named row lesser).change lesser.stack) after.stack =
+        subst (CellsBelow t (changed (effect w i a.named row lesser).change lesser.stack)) (sym a.stack) (changed-falls t are (effect w i a.named row lesser).change (effect w i a.named row greater).change falls_to.change below.stack) in
+    record {
+      below = record { regs = stored t Flow (effect w i a.named row lesser).store lesser.regs; stack = changed (effect w i a.named row lesser).change lesser.stack };
+      outcome = record {
+        falls = falls_from row;
+        ends = ends_at row;
+        depth = length (changed (effect w i a.named row lesser).change lesser.stack);
+        wrote = wrote (effect w i a.named row lesser).store.register (effect w i a.named row lesser).store.cells
+      };
+      applies = record {
+        method = a.method;
+        is_method = a.is_method;
+        named = a.named;
+        names = a.names;
+        asked = asked;
+        regs = refl;
+        stack = refl;
+        room = subst (λ n. n ≤ a.method.max_stack) (sym (cells-length t stack)) a.room;
+        falls = refl;
+        ends = refl;
+        depth = refl;
+        wrote_is = refl
+      };
+      lower = record { regs = regs; stack = stack }
+    }

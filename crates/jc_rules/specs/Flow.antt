@@ -88,7 +88,7 @@ pub data IsLeader (m : Method) : ℕ → Type 0 where
 -- cell by cell; lists of different lengths do not compare
 pub data CellsBelow (t : ClassTable) : List Ty → List Ty → Type 0 where
   no_cells : CellsBelow t [] []
-  more_cells : {a b : Ty} {as bs : List Ty} → Below t a b → CellsBelow t as bs → CellsBelow t (a ∷ as) (b ∷ bs)
+  more_cells : {a b : Ty} {xs ys : List Ty} → Below t a b → CellsBelow t xs ys → CellsBelow t (a ∷ xs) (b ∷ ys)
 
 pub record FrameBelow (t : ClassTable) (f g : Frame) : Type 0 where
   pub regs : CellsBelow t f.regs g.regs
@@ -168,7 +168,7 @@ pub record IsLeastTyping (w : Linked) (m : Method) (unset : Ty) (frames : ℕ �
 -- the join of two lists, cell by cell
 pub data CellsJoin (t : ClassTable) : List Ty → List Ty → List Ty → Type 0 where
   none_joined : CellsJoin t [] [] []
-  more_joined : {a b j : Ty} {as bs js : List Ty} → IsJoin t a b j → CellsJoin t as bs js → CellsJoin t (a ∷ as) (b ∷ bs) (j ∷ js)
+  more_joined : {a b j : Ty} {xs ys js : List Ty} → IsJoin t a b j → CellsJoin t xs ys js → CellsJoin t (a ∷ xs) (b ∷ ys) (j ∷ js)
 
 -- two frames merge where their stacks have equal depth and no cell's join is Top
 pub record Merges (t : ClassTable) (f g joined : Frame) : Type 0 where

@@ -1,4 +1,4 @@
-ghost use Rattle.jc_rules.specs.Laws.{RuleFalls, RuleKeeps};
+ghost use Rattle.jc_rules.specs.Laws.{RuleFalls};
 
 use jc_base::World;
 
@@ -6,5 +6,5 @@ use jc_base::World;
 pub fn rule_falls(world: &World<'_>)
     ensures { RuleFalls world.now }
 {
-    let _classes = world.classes();
+    let _object = world.classes().at(world.role(0));
 }
