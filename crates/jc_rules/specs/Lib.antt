@@ -5,3 +5,4 @@ pub mod Rule
 pub mod Apply
 pub mod Flow
 pub mod Laws
+pub mod Worked
