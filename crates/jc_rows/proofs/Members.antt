@@ -110,7 +110,7 @@ module _ (w : Linked) (is : IsWorld w) where
   unfolding cells_of
   cells-declared c = flat-declared (reverse (chain w.classes c))
 
-  static-known : (f : StaticRec) (k : ℕ) → k < length w.statics → get_or w.statics k f ≡ f → IsDeclared w.classes f.ty
+  pub static-known : (f : StaticRec) (k : ℕ) → k < length w.statics → get_or w.statics k f ≡ f → IsDeclared w.classes f.ty
   static-known f k lt at = (subst (λ g. IsStatic (length w.infos) w.classes w.arrays g) at (is.statics k f lt)).ty
 
   super-receives : (c n : ℕ) → (o : Option ℕ) → IsSomeAnd o (λ p. Contains (public_of w.classes p ++ visible_of w.classes p) n) → TakesReceiver w.methods n

@@ -12,7 +12,8 @@ use Rattle.jc_base.specs.declared.record.MethodRec.{MethodRec}
 use Rattle.jc_base.specs.Class.{ClassTable, IsClass, is_interface, object}
 use Rattle.jc_base.specs.Order.{IsKnown, is_reference}
 use Rattle.jc_base.specs.Dispatch.{IsConcrete, entry_at}
-use Rattle.jc_base.specs.Linked.{lacks_code}
+use Rattle.jc_base.specs.Cell.{IsDeclared}
+use Rattle.jc_base.specs.Linked.{IsMethod, lacks_code}
 use Rattle.jc_base.specs.World.{Linked, member_at}
 use Rattle.jc_decode.specs.declared.insn.Insn.{Insn}
 use Rattle.jc_rows.specs.declared.row.Sort.{Sort}
@@ -223,3 +224,19 @@ IsNamed w names.Nothing = ⊤
 IsNamed w (names.Type ty) = IsKnown w.classes ty
 IsNamed w (names.Field c ty) = IsClass w.classes c × IsKnown w.classes ty
 IsNamed w (names.Method n receiver) = IsSomeAnd (slice_get w.methods n) (λ m. length m.sig.args + receiver_count receiver ≤ 255) × IfSome receiver (IsKnownWant w.classes)
+
+-- a declared type, or an uninitialised object
+abbrev pub IsGiven : ClassTable → Ty → Type 0
+IsGiven t (Fresh place c) = IsClass t c
+IsGiven t ty = IsDeclared t ty
+
+-- what holds of what is named: types are given, classes are classes, and receivers are known
+abbrev pub IsSound : Linked → Named → Type 0
+IsSound w names.Nothing = ⊤
+IsSound w (names.Type ty) = IsGiven w.classes ty
+IsSound w (names.Field c ty) = IsClass w.classes c × IsDeclared w.classes ty
+IsSound w (names.Method n receiver) = IfSome receiver (IsKnownWant w.classes)
+
+-- what an instruction of a method names in a world is sound
+abbrev pub NamesAreSound : Linked → Type 0
+NamesAreSound w = (m : MethodRec) (place : ℕ) (i : Insn) (row : Row) (n : Named) → IsMethod w.infos w.pools w.classes m → Names w m place i row (Ok n) → IsSound w n

@@ -9,12 +9,14 @@
 mod called;
 mod concrete;
 mod fault;
+mod laws;
 mod named;
 mod names;
 mod row;
 mod want;
 
 pub use fault::RuleFault;
+pub use laws::names_are_sound;
 pub use named::{Named, byte_of, short_of};
 pub use names::name;
 pub use row::{
