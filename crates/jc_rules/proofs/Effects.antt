@@ -9,8 +9,8 @@ use Rattle.jc_base.specs.declared.ty.Ty.TheVariants.{Bottom, Short, IntHigh, Int
 use Rattle.jc_base.specs.declared.ty.Kind.{Kind}
 use Rattle.jc_base.specs.declared.ty.Kind.TheVariants as kinds
 use Rattle.jc_base.specs.declared.record.MethodRec.{MethodRec}
-use Rattle.jc_base.specs.Class.{ClassTable, IsClass, throwable}
-use Rattle.jc_base.specs.Order.{IsKnown}
+use Rattle.jc_base.specs.Class.{ClassTable, IsClass, object, throwable}
+use Rattle.jc_base.specs.Order.{Below, IsKnown}
 use Rattle.jc_base.specs.Cell.{IsDeclared}
 use Rattle.jc_base.specs.Linked.{IsMethod}
 use Rattle.jc_base.specs.World.{Linked, IsWorld}
@@ -40,8 +40,7 @@ use Rattle.jc_rows.specs.declared.want.Want.{Want}
 use Rattle.jc_rows.specs.declared.want.Want.TheVariants.{Value, Storable, ByteArray, AnyArray, Whole, Receiver}
 use Rattle.jc_rows.specs.declared.named.Named.{Named}
 use Rattle.jc_rows.specs.declared.named.Named.TheVariants as names
-use Rattle.jc_rows.specs.Named.{IsNamed, IsKnownWant, byte_of}
-use Rattle.jc_rows.proofs.Members.{declared-known}
+use Rattle.jc_rows.specs.Named.{IsGiven, IsSound, IsKnownWant, byte_of}
 use Rattle.jc_rules.specs.declared.demand.Demand.{Demand}
 use Rattle.jc_rules.specs.declared.demand.Demand.TheVariants.{Registers, Depth, Cell, Cut, Held}
 use Rattle.jc_rules.specs.declared.effect.Cells.{Cells}
@@ -52,6 +51,9 @@ use Rattle.jc_rules.specs.declared.effect.Effect.{Effect}
 use Rattle.jc_rules.specs.Effect.{listed, ready, changed, needed, depth_after, reg}
 use Rattle.jc_rules.specs.Demand.{Frame, Meets, Holds, AllHold, AreKnown}
 use Rattle.jc_rules.specs.Rule.{cell, number, two_numbers, size, number_given, value_given, value_wanted, value_size, on_stack, replacing, storing, constant_effect, load_demands, load_effect, or_null, store_demands, store_effect, increment_demands, increment_effect, move_demands, move_effect, arithmetic_demands, arithmetic_effect, element, array_read_demands, array_read_effect, array_write_demands, array_write_effect, branch_demands, branch_effect, field_read_demands, field_read_effect, field_write_demands, field_write_effect, cells_wanted, receiver_wanted, call_demands, call_effect, call_change, ready_with, result_given, args_at, result_at, make_demands, make_effect, type_test_effect, type_named, array_wanted, a_reference, read_demands, read_effect, write_demands, write_effect, method_demands, method_effect, return_demands, return_effect, local_of, copied_of, under_of, demands, effect}
+use Rattle.jc_rules.specs.Flow.{IsNotFresh}
+use Rattle.jc_rules.specs.Laws.{IsNotBottom}
+use Rattle.jc_rules.proofs.Falls.{plain_class, some-or}
 use Rattle.jc_rules.proofs.Demands.{AllHold-front, AllHold-rest, AllHold-append}
 
 -- ---- the number of cells
@@ -68,10 +70,17 @@ length-changed (MakeReady taken place class cells) s h = simp (length-append, le
 
 -- ---- what is known of what is given
 
+-- what goes on the stack names classes alone, and is not Bottom
 abbrev pub CellsKnown : ClassTable → Cells → Type 0
 CellsKnown t given.Nothing = ⊤
-CellsKnown t (given.One ty) = IsKnown t ty
+CellsKnown t (given.One ty) = IsKnown t ty × IsNotBottom ty
 CellsKnown t given.Int = ⊤
+
+-- what goes into a register names classes alone, and is no uninitialised object
+abbrev pub CellsKept : ClassTable → Cells → Type 0
+CellsKept t given.Nothing = ⊤
+CellsKept t (given.One ty) = IsKnown t ty × IsNotFresh ty
+CellsKept t given.Int = ⊤
 
 abbrev pub ChangeKnown : ClassTable → Change → Type 0
 ChangeKnown t (Replace taken cells) = CellsKnown t cells
@@ -81,11 +90,19 @@ ChangeKnown t (MakeReady taken place class cells) = IsClass t class × CellsKnow
 
 pub cells-known : (t : ClassTable) (cells : Cells) → CellsKnown t cells → All (IsKnown t) (listed cells)
 cells-known t given.Nothing h k d lt = absurd (omega arith)
-cells-known t (given.One ty) h zero d lt = h
+cells-known t (given.One ty) h zero d lt = h.0
 cells-known t (given.One ty) h (suc k) d lt = absurd (omega arith)
 cells-known t given.Int h zero d lt = tt
 cells-known t given.Int h (suc zero) d lt = tt
 cells-known t given.Int h (suc (suc k)) d lt = absurd (omega arith)
+
+pub cells-kept : (t : ClassTable) (cells : Cells) → CellsKept t cells → All (IsKnown t) (listed cells)
+cells-kept t given.Nothing h k d lt = absurd (omega arith)
+cells-kept t (given.One ty) h zero d lt = h.0
+cells-kept t (given.One ty) h (suc k) d lt = absurd (omega arith)
+cells-kept t given.Int h zero d lt = tt
+cells-kept t given.Int h (suc zero) d lt = tt
+cells-kept t given.Int h (suc (suc k)) d lt = absurd (omega arith)
 
 ready-known : (t : ClassTable) (place class : ℕ) (ty : Ty) → IsClass t class → IsKnown t ty → IsKnown t (ready place class ty)
 ready-known t place class (Fresh p c) h k = elim (p == place) as (λ b. IsKnown t (cond b (Class class) (Fresh p c))) [ true ↦ h | false ↦ k ]
@@ -115,12 +132,48 @@ changed-known t (MakeReady taken place class cells) s k all =
     (All-map (IsKnown t) (ready place class) (drop taken s)
     (λ i d lt. ready-known t place class (get_or (drop taken s) i d) k.0 (All-drop (IsKnown t) taken s all i d lt)))
 
+ready-full : (place class : ℕ) (ty : Ty) → IsNotBottom ty → IsNotBottom (ready place class ty)
+ready-full place class (Fresh p c) h = elim (p == place) as (λ b. IsNotBottom (cond b (Class class) (Fresh p c))) [ true ↦ tt | false ↦ tt ]
+ready-full place class Bottom h = h
+ready-full place class Short h = h
+ready-full place class IntHigh h = h
+ready-full place class IntLow h = h
+ready-full place class Null h = h
+ready-full place class (Class c) h = h
+ready-full place class ArrBool h = h
+ready-full place class ArrByte h = h
+ready-full place class ArrShort h = h
+ready-full place class ArrInt h = h
+ready-full place class (ArrRef c) h = h
+ready-full place class Top h = h
+
+cells-full : (t : ClassTable) (cells : Cells) → CellsKnown t cells → All IsNotBottom (listed cells)
+cells-full t given.Nothing h k d lt = absurd (omega arith)
+cells-full t (given.One ty) h zero d lt = h.1
+cells-full t (given.One ty) h (suc k) d lt = absurd (omega arith)
+cells-full t given.Int h zero d lt = tt
+cells-full t given.Int h (suc zero) d lt = tt
+cells-full t given.Int h (suc (suc k)) d lt = absurd (omega arith)
+
+pub changed-full : (t : ClassTable) (c : Change) (s : List Ty) → ChangeKnown t c → All IsNotBottom s → All IsNotBottom (changed c s)
+changed-full t (Replace taken cells) s k all = All-append IsNotBottom (listed cells) (drop taken s) (cells-full t cells k) (All-drop IsNotBottom taken s all)
+changed-full t (CopyUnder copied under) s k all =
+    All-append IsNotBottom (take under s) (take copied s ++ drop under s) (All-take IsNotBottom under s all)
+        (All-append IsNotBottom (take copied s) (drop under s) (All-take IsNotBottom copied s all) (All-drop IsNotBottom under s all))
+changed-full t (Exchange top under) s k all =
+    All-append IsNotBottom (take under (drop top s)) (take top s ++ drop (top + under) s) (All-take IsNotBottom under (drop top s) (All-drop IsNotBottom top s all))
+        (All-append IsNotBottom (take top s) (drop (top + under) s) (All-take IsNotBottom top s all) (All-drop IsNotBottom (top + under) s all))
+changed-full t (MakeReady taken place class cells) s k all =
+    All-append IsNotBottom (listed cells) (map (ready place class) (drop taken s)) (cells-full t cells k.1)
+        (All-map IsNotBottom (ready place class) (drop taken s)
+            (λ i d lt. ready-full place class (get_or (drop taken s) i d) (All-drop IsNotBottom taken s all i d lt)))
+
 -- ---- an effect that suits a frame
 
 pub record Suits (t : ClassTable) (f : Frame) (e : Effect) : Type 0 where
   pub there : needed e.change ≤ length f.stack
   pub inside : e.store.register + length (listed e.store.cells) ≤ length f.regs
-  pub stored : CellsKnown t e.store.cells
+  pub stored : CellsKept t e.store.cells
   pub change : ChangeKnown t e.change
 
 cell_there_at : (xs : List Ty) (n : ℕ) (P : Ty → Type 0) (o : Option Ty) → slice_get xs n ≡ o → IsSomeAnd o P → n + 1 ≤ length xs
@@ -134,7 +187,7 @@ module _ (t : ClassTable) (f : Frame) where
   pub suits-replacing : (taken : ℕ) (cells : Cells) → taken ≤ length f.stack → CellsKnown t cells → Suits t f (replacing taken cells)
   suits-replacing taken cells h k = record { there = h; inside = omega arith; stored = tt; change = k }
 
-  pub suits-storing : (taken x : ℕ) (cells : Cells) → taken ≤ length f.stack → x + length (listed cells) ≤ length f.regs → CellsKnown t cells → Suits t f (storing taken x cells)
+  pub suits-storing : (taken x : ℕ) (cells : Cells) → taken ≤ length f.stack → x + length (listed cells) ≤ length f.regs → CellsKept t cells → Suits t f (storing taken x cells)
   suits-storing taken x cells h g k = record { there = h; inside = g; stored = k; change = tt }
 
   pub suits-on_stack : (c : Change) → needed c ≤ length f.stack → ChangeKnown t c → Suits t f (on_stack c)
@@ -149,14 +202,14 @@ module _ (t : ClassTable) (f : Frame) where
   two-there widths.Int h = cell-there f.stack 3 (Meets t (Value IntHigh)) h.1.1.1.0
 
   number-known : (w : Width) → CellsKnown t (number_given w)
-  number-known widths.Short = tt
+  number-known widths.Short = (tt, tt)
   number-known widths.Int = tt
 
   length-number : (w : Width) → length (listed (number_given w)) ≡ size w
   length-number widths.Short = refl
   length-number widths.Int = refl
 
-  value-known : (ty : Ty) → IsKnown t ty → CellsKnown t (value_given ty)
+  value-known : (ty : Ty) → IsKnown t ty × IsNotBottom ty → CellsKnown t (value_given ty)
   value-known IntHigh k = tt
   value-known Bottom k = k
   value-known Short k = k
@@ -202,6 +255,36 @@ module _ (t : ClassTable) (f : Frame) where
   or_null-known (Fresh p c) k = k
   or_null-known Top k = k
 
+  or_null-full : (ty : Ty) → IsNotBottom (or_null ty)
+  or_null-full Bottom = tt
+  or_null-full Short = tt
+  or_null-full IntHigh = tt
+  or_null-full IntLow = tt
+  or_null-full Null = tt
+  or_null-full (Class c) = tt
+  or_null-full ArrBool = tt
+  or_null-full ArrByte = tt
+  or_null-full ArrShort = tt
+  or_null-full ArrInt = tt
+  or_null-full (ArrRef c) = tt
+  or_null-full (Fresh p c) = tt
+  or_null-full Top = tt
+
+  element-full : (ty : Ty) → IsNotBottom (element ty)
+  element-full (ArrRef c) = tt
+  element-full Bottom = tt
+  element-full Short = tt
+  element-full IntHigh = tt
+  element-full IntLow = tt
+  element-full Null = tt
+  element-full (Class c) = tt
+  element-full ArrBool = tt
+  element-full ArrByte = tt
+  element-full ArrShort = tt
+  element-full ArrInt = tt
+  element-full (Fresh p c) = tt
+  element-full Top = tt
+
   element-known : (ty : Ty) → IsKnown t ty → IsKnown t (element ty)
   element-known (ArrRef c) k = k
   element-known Bottom k = tt
@@ -228,22 +311,22 @@ module _ (t : ClassTable) (f : Frame) where
 
     suits-constant : (c : Constant) → Suits t f (constant_effect c)
     suits-constant constants.Nothing = suits-replacing 0 given.Nothing (omega arith) tt
-    suits-constant constants.Null = suits-replacing 0 (given.One Null) (omega arith) tt
-    suits-constant (constants.Short n) = suits-replacing 0 (given.One Short) (omega arith) tt
+    suits-constant constants.Null = suits-replacing 0 (given.One Null) (omega arith) (tt, tt)
+    suits-constant (constants.Short n) = suits-replacing 0 (given.One Short) (omega arith) (tt, tt)
     suits-constant (constants.Int n) = suits-replacing 0 given.Int (omega arith) tt
 
     suits-load : (s : Sort) (x : ℕ) → AllHold t f (load_demands t s x) → Suits t f (load_effect s x f)
-    suits-load sorts.Reference x h = let lt : x < length f.regs = omega (arith, h.0) in suits-replacing 0 (given.One (or_null (reg f.regs x))) (omega arith) (or_null-known (reg f.regs x) (reg-known x lt))
-    suits-load sorts.Short x h = suits-replacing 0 (given.One Short) (omega arith) tt
+    suits-load sorts.Reference x h = let lt : x < length f.regs = omega (arith, h.0) in suits-replacing 0 (given.One (or_null (reg f.regs x))) (omega arith) (or_null-known (reg f.regs x) (reg-known x lt), or_null-full (reg f.regs x))
+    suits-load sorts.Short x h = suits-replacing 0 (given.One Short) (omega arith) (tt, tt)
     suits-load sorts.Int x h = suits-replacing 0 given.Int (omega arith) tt
 
     suits-store : (s : Sort) (x : ℕ) → AllHold t f (store_demands s x) → Suits t f (store_effect s x f)
-    suits-store sorts.Reference x h = let there : 0 + 1 ≤ length f.stack = cell-there f.stack 0 (Meets t Storable) h.1.0 in suits-storing 1 x (given.One (cell f.stack 0)) (omega arith) h.0 (cell-known 0 (omega arith))
-    suits-store sorts.Short x h = suits-storing 1 x (given.One Short) (cell-there f.stack 0 (Meets t (Value Short)) h.1.0) h.0 tt
+    suits-store sorts.Reference x h = let there : 0 + 1 ≤ length f.stack = cell-there f.stack 0 (Meets t Storable) h.1.0 in suits-storing 1 x (given.One (cell f.stack 0)) (omega arith) h.0 (cell-known 0 (omega arith), plain_class t (cell f.stack 0) (some-or (λ ty. Below t ty (Class (object t))) f.stack 0 h.1.0))
+    suits-store sorts.Short x h = suits-storing 1 x (given.One Short) (cell-there f.stack 0 (Meets t (Value Short)) h.1.0) h.0 (tt, tt)
     suits-store sorts.Int x h = suits-storing 2 x given.Int (cell-there f.stack 1 (Meets t (Value IntHigh)) h.1.1.0) h.0 tt
 
     suits-increment : (w : Width) (x : ℕ) → AllHold t f (increment_demands w x) → Suits t f (increment_effect w x)
-    suits-increment widths.Short x h = suits-storing 0 x (given.One Short) (omega arith) h.0 tt
+    suits-increment widths.Short x h = suits-storing 0 x (given.One Short) (omega arith) h.0 (tt, tt)
     suits-increment widths.Int x h = suits-storing 0 x given.Int (omega arith) h.0 tt
 
     suits-move : (m : Move) (p n : ℕ) → AllHold t f (move_demands m p n) → Suits t f (move_effect m p n)
@@ -255,21 +338,21 @@ module _ (t : ClassTable) (f : Frame) where
     suits-move moves.Exchange p n h = suits-on_stack (Exchange p n) h.1.1.0 tt
 
     suits-arithmetic : (a : Arithmetic) → AllHold t f (arithmetic_demands a) → Suits t f (arithmetic_effect a)
-    suits-arithmetic (arithmetic.Binary o widths.Short) h = suits-replacing 2 (given.One Short) (two-there widths.Short h) tt
+    suits-arithmetic (arithmetic.Binary o widths.Short) h = suits-replacing 2 (given.One Short) (two-there widths.Short h) (tt, tt)
     suits-arithmetic (arithmetic.Binary o widths.Int) h = suits-replacing 4 given.Int (two-there widths.Int h) tt
     suits-arithmetic (arithmetic.Negate w) h = let there : 0 + size w ≤ length f.stack = number-there w 0 h in suits-replacing (size w) (number_given w) (omega arith) (number-known w)
-    suits-arithmetic arithmetic.ShortToByte h = suits-replacing 1 (given.One Short) (number-there widths.Short 0 h) tt
+    suits-arithmetic arithmetic.ShortToByte h = suits-replacing 1 (given.One Short) (number-there widths.Short 0 h) (tt, tt)
     suits-arithmetic arithmetic.ShortToInt h = suits-replacing 1 given.Int (number-there widths.Short 0 h) tt
-    suits-arithmetic arithmetic.IntToByte h = suits-replacing 2 (given.One Short) (number-there widths.Int 0 h) tt
-    suits-arithmetic arithmetic.IntToShort h = suits-replacing 2 (given.One Short) (number-there widths.Int 0 h) tt
-    suits-arithmetic arithmetic.CompareInts h = suits-replacing 4 (given.One Short) (two-there widths.Int h) tt
+    suits-arithmetic arithmetic.IntToByte h = suits-replacing 2 (given.One Short) (number-there widths.Int 0 h) (tt, tt)
+    suits-arithmetic arithmetic.IntToShort h = suits-replacing 2 (given.One Short) (number-there widths.Int 0 h) (tt, tt)
+    suits-arithmetic arithmetic.CompareInts h = suits-replacing 4 (given.One Short) (two-there widths.Int h) (tt, tt)
 
     -- ---- objects
 
     suits-array_read : (kind : Kind) → AllHold t f (array_read_demands t kind) → Suits t f (array_read_effect kind f)
-    suits-array_read kinds.Ref h = let there : 1 + 1 ≤ length f.stack = cell-there f.stack 1 (Meets t (array_wanted t kinds.Ref)) h.1.0 in suits-replacing 2 (given.One (element (cell f.stack 1))) there (element-known (cell f.stack 1) (cell-known 1 (omega arith)))
-    suits-array_read kinds.Byte h = suits-replacing 2 (given.One Short) (cell-there f.stack 1 (Meets t (array_wanted t kinds.Byte)) h.1.0) tt
-    suits-array_read kinds.Short h = suits-replacing 2 (given.One Short) (cell-there f.stack 1 (Meets t (array_wanted t kinds.Short)) h.1.0) tt
+    suits-array_read kinds.Ref h = let there : 1 + 1 ≤ length f.stack = cell-there f.stack 1 (Meets t (array_wanted t kinds.Ref)) h.1.0 in suits-replacing 2 (given.One (element (cell f.stack 1))) there (element-known (cell f.stack 1) (cell-known 1 (omega arith)), element-full (cell f.stack 1))
+    suits-array_read kinds.Byte h = suits-replacing 2 (given.One Short) (cell-there f.stack 1 (Meets t (array_wanted t kinds.Byte)) h.1.0) (tt, tt)
+    suits-array_read kinds.Short h = suits-replacing 2 (given.One Short) (cell-there f.stack 1 (Meets t (array_wanted t kinds.Short)) h.1.0) (tt, tt)
     suits-array_read kinds.Int h = suits-replacing 2 given.Int (cell-there f.stack 1 (Meets t (array_wanted t kinds.Int)) h.1.0) tt
 
     suits-array_write : (kind : Kind) → AllHold t f (array_write_demands t kind) → Suits t f (array_write_effect kind)
@@ -285,7 +368,7 @@ module _ (t : ClassTable) (f : Frame) where
     suits-branch (branches.References e) h = suits-replacing 2 given.Nothing (cell-there f.stack 1 (Meets t (a_reference t)) h.1.0) tt
     suits-branch (branches.Shorts o) h = suits-replacing 2 given.Nothing (two-there widths.Short h) tt
 
-    suits-read : (h : Holder) (c : ℕ) (ty : Ty) → IsKnown t ty → AllHold t f (field_read_demands h c) → Suits t f (field_read_effect h ty)
+    suits-read : (h : Holder) (c : ℕ) (ty : Ty) → IsKnown t ty × IsNotBottom ty → AllHold t f (field_read_demands h c) → Suits t f (field_read_effect h ty)
     suits-read holders.Stack c ty known h = suits-replacing 1 (value_given ty) (cell-there f.stack 0 (Meets t (Value (Class c))) h.0) (value-known ty known)
     suits-read holders.This c ty known h = suits-replacing 0 (value_given ty) (omega arith) (value-known ty known)
 
@@ -293,14 +376,14 @@ module _ (t : ClassTable) (f : Frame) where
     suits-write holders.Stack c ty h = suits-replacing (value_size ty + 1) given.Nothing (cell-there f.stack (value_size ty) (Meets t (Value (Class c))) (AllHold-rest t f (value_wanted ty) (Cell (value_size ty) (Value (Class c)) ∷ []) h).0) tt
     suits-write holders.This c ty h = suits-replacing (value_size ty) given.Nothing (value-there (Held 0 (Class c) ∷ []) ty h.1) tt
 
-    suits-make : (m : Make) (ty : Ty) → IsKnown t ty → AllHold t f (make_demands m) → Suits t f (make_effect m ty)
+    suits-make : (m : Make) (ty : Ty) → IsKnown t ty × IsNotBottom ty → AllHold t f (make_demands m) → Suits t f (make_effect m ty)
     suits-make makes.Object ty known h = suits-replacing 0 (given.One ty) (omega arith) known
     suits-make makes.Numbers ty known h = suits-replacing 1 (given.One ty) (cell-there f.stack 0 (Meets t (Value Short)) h.0) known
     suits-make makes.References ty known h = suits-replacing 1 (given.One ty) (cell-there f.stack 0 (Meets t (Value Short)) h.0) known
 
-    suits-test : (test : TypeTest) (ty : Ty) → IsKnown t ty → 0 + 1 ≤ length f.stack → Suits t f (type_test_effect test ty)
+    suits-test : (test : TypeTest) (ty : Ty) → IsKnown t ty × IsNotBottom ty → 0 + 1 ≤ length f.stack → Suits t f (type_test_effect test ty)
     suits-test tests.Cast ty known h = suits-replacing 1 (given.One ty) h known
-    suits-test tests.InstanceOf ty known h = suits-replacing 1 (given.One Short) h tt
+    suits-test tests.InstanceOf ty known h = suits-replacing 1 (given.One Short) h (tt, tt)
 
     suits-popped : (ty : Ty) → AllHold t f (value_wanted ty) → Suits t f (replacing (value_size ty) given.Nothing)
     suits-popped ty h = suits-replacing (value_size ty) given.Nothing (value-there [] ty (AllHold-append t f (value_wanted ty) [] h tt)) tt
@@ -318,7 +401,7 @@ module _ (t : ClassTable) (f : Frame) where
         let there : 0 + length (reverse args) ≤ length f.stack = cells-there 0 (reverse args) (omega arith) (AllHold-front t f (cells_wanted 0 (reverse args)) ds h) in
         omega (arith, length-reverse args)
 
-    result-known : (o : Option Ty) → IfSome o (IsKnown t) → CellsKnown t (result_given o)
+    result-known : (o : Option Ty) → IfSome o (λ ty. IsKnown t ty × IsNotBottom ty) → CellsKnown t (result_given o)
     result-known None k = tt
     result-known (Some ty) k = value-known ty k
 
@@ -342,7 +425,7 @@ module _ (t : ClassTable) (f : Frame) where
     suits-ready taken cells (ArrRef c) want le known w = suits-on_stack (Replace taken cells) le known
     suits-ready taken cells Top want le known w = suits-on_stack (Replace taken cells) le known
 
-    suits-call : (args : List Ty) (result : Option Ty) (receiver : Option Want) → IfSome result (IsKnown t) → IfSome receiver (IsKnownWant t) → AllHold t f (call_demands args receiver) → Suits t f (call_effect args result receiver f)
+    suits-call : (args : List Ty) (result : Option Ty) (receiver : Option Want) → IfSome result (λ ty. IsKnown t ty × IsNotBottom ty) → IfSome receiver (IsKnownWant t) → AllHold t f (call_demands args receiver) → Suits t f (call_effect args result receiver f)
     suits-call args result None known w h = suits-on_stack (Replace (length args) (result_given result)) (arguments-there args [] h) (result-known result known)
     suits-call args result (Some want) known w h =
         suits-ready (length args + 1) (result_given result) (cell f.stack (length args)) want
@@ -351,29 +434,59 @@ module _ (t : ClassTable) (f : Frame) where
 
 -- ---- the rule
 
-result-declared : (w : Linked) → IsWorld w → (o : Option MethodRec) → ((m : MethodRec) → o ≡ Some m → IfSome m.sig.result (IsKnown w.classes)) → IfSome (result_at o) (IsKnown w.classes)
+declared-full : (t : ClassTable) (ty : Ty) → IsDeclared t ty → IsKnown t ty × IsNotBottom ty
+declared-full t Bottom h = absurd h
+declared-full t Short h = (tt, tt)
+declared-full t IntHigh h = (tt, tt)
+declared-full t IntLow h = (tt, tt)
+declared-full t Null h = (tt, tt)
+declared-full t (Class c) h = (h, tt)
+declared-full t ArrBool h = (tt, tt)
+declared-full t ArrByte h = (tt, tt)
+declared-full t ArrShort h = (tt, tt)
+declared-full t ArrInt h = (tt, tt)
+declared-full t (ArrRef c) h = (h, tt)
+declared-full t (Fresh place c) h = absurd h
+declared-full t Top h = absurd h
+
+given-full : (t : ClassTable) (ty : Ty) → IsGiven t ty → IsKnown t ty × IsNotBottom ty
+given-full t Bottom h = absurd h
+given-full t Short h = (tt, tt)
+given-full t IntHigh h = (tt, tt)
+given-full t IntLow h = (tt, tt)
+given-full t Null h = absurd h
+given-full t (Class c) h = (h, tt)
+given-full t ArrBool h = (tt, tt)
+given-full t ArrByte h = (tt, tt)
+given-full t ArrShort h = (tt, tt)
+given-full t ArrInt h = (tt, tt)
+given-full t (ArrRef c) h = (h, tt)
+given-full t (Fresh place c) h = (h, tt)
+given-full t Top h = absurd h
+
+result-declared : (w : Linked) → IsWorld w → (o : Option MethodRec) → ((m : MethodRec) → o ≡ Some m → IfSome m.sig.result (λ ty. IsKnown w.classes ty × IsNotBottom ty)) → IfSome (result_at o) (λ ty. IsKnown w.classes ty × IsNotBottom ty)
 result-declared w is None h = tt
 result-declared w is (Some m) h = h m refl
 
-IfSome-known : (t : ClassTable) (o : Option Ty) → IfSome o (IsDeclared t) → IfSome o (IsKnown t)
-IfSome-known t None h = tt
-IfSome-known t (Some ty) h = declared-known t ty h
+IfSome-full : (t : ClassTable) (o : Option Ty) → IfSome o (IsDeclared t) → IfSome o (λ ty. IsKnown t ty × IsNotBottom ty)
+IfSome-full t None h = tt
+IfSome-full t (Some ty) h = declared-full t ty h
 
-method-result : (w : Linked) → IsWorld w → (n : ℕ) → IfSome (result_at (slice_get w.methods n)) (IsKnown w.classes)
-method-result w is n = result-declared w is (slice_get w.methods n) (λ m e. IfSome-known w.classes m.sig.result (All-slice_get (IsMethod w.infos w.pools w.classes) w.methods n m is.methods e).result)
+method-result : (w : Linked) → IsWorld w → (n : ℕ) → IfSome (result_at (slice_get w.methods n)) (λ ty. IsKnown w.classes ty × IsNotBottom ty)
+method-result w is n = result-declared w is (slice_get w.methods n) (λ m e. IfSome-full w.classes m.sig.result (All-slice_get (IsMethod w.infos w.pools w.classes) w.methods n m is.methods e).result)
 
-type-known : (w : Linked) (n : Named) → IsNamed w n → IsKnown w.classes (type_named n)
-type-known w names.Nothing h = tt
-type-known w (names.Type ty) h = h
-type-known w (names.Field c ty) h = tt
-type-known w (names.Method k receiver) h = tt
+type-known : (w : Linked) (n : Named) → IsSound w n → IsKnown w.classes (type_named n) × IsNotBottom (type_named n)
+type-known w names.Nothing h = (tt, tt)
+type-known w (names.Type ty) h = given-full w.classes ty h
+type-known w (names.Field c ty) h = (tt, tt)
+type-known w (names.Method k receiver) h = (tt, tt)
 
 module _ (w : Linked) (is : IsWorld w) (f : Frame) (k : AreKnown w.classes f) where
   suits-nothing : Suits w.classes f (replacing 0 given.Nothing)
   suits-nothing = suits-replacing w.classes f 0 given.Nothing (omega arith) tt
 
-  suits-named_read : (h : Holder) (n : Named) → IsNamed w n → AllHold w.classes f (read_demands h n) → Suits w.classes f (read_effect h n)
-  suits-named_read h (names.Field c ty) known all = suits-read w.classes f k h c ty known.1 all
+  suits-named_read : (h : Holder) (n : Named) → IsSound w n → AllHold w.classes f (read_demands h n) → Suits w.classes f (read_effect h n)
+  suits-named_read h (names.Field c ty) known all = suits-read w.classes f k h c ty (declared-full w.classes ty known.1) all
   suits-named_read h names.Nothing known all = suits-nothing
   suits-named_read h (names.Type ty) known all = suits-nothing
   suits-named_read h (names.Method m receiver) known all = suits-nothing
@@ -384,8 +497,8 @@ module _ (w : Linked) (is : IsWorld w) (f : Frame) (k : AreKnown w.classes f) wh
   suits-named_write h (names.Type ty) all = suits-nothing
   suits-named_write h (names.Method m receiver) all = suits-nothing
 
-  suits-method : (n : Named) → IsNamed w n → AllHold w.classes f (method_demands w n) → Suits w.classes f (method_effect w n f)
-  suits-method (names.Method m receiver) known all = suits-call w.classes f k (args_at (slice_get w.methods m)) (result_at (slice_get w.methods m)) receiver (method-result w is m) known.1 all
+  suits-method : (n : Named) → IsSound w n → AllHold w.classes f (method_demands w n) → Suits w.classes f (method_effect w n f)
+  suits-method (names.Method m receiver) known all = suits-call w.classes f k (args_at (slice_get w.methods m)) (result_at (slice_get w.methods m)) receiver (method-result w is m) known all
   suits-method names.Nothing known all = suits-nothing
   suits-method (names.Type ty) known all = suits-nothing
   suits-method (names.Field c ty) known all = suits-nothing
@@ -397,7 +510,7 @@ module _ (w : Linked) (is : IsWorld w) (f : Frame) (k : AreKnown w.classes f) wh
   suits-return (names.Method m receiver) all = suits-nothing
 
   -- where what an instruction asks is met, what it does suits the frame
-  pub suits : (i : Insn) (n : Named) (row : Row) → IsNamed w n → AllHold w.classes f (demands w i n row) → Suits w.classes f (effect w i n row f)
+  pub suits : (i : Insn) (n : Named) (row : Row) → IsSound w n → AllHold w.classes f (demands w i n row) → Suits w.classes f (effect w i n row f)
   suits i n (rows.Constant c) known all = suits-constant w.classes f k c
   suits i n (rows.Load s l) known all = suits-load w.classes f k s (local_of i l) all
   suits i n (rows.Store s l) known all = suits-store w.classes f k s (local_of i l) all
@@ -406,7 +519,7 @@ module _ (w : Linked) (is : IsWorld w) (f : Frame) (k : AreKnown w.classes f) wh
   suits i n (rows.Arithmetic a) known all = suits-arithmetic w.classes f k a all
   suits i n (rows.ArrayRead kind) known all = suits-array_read w.classes f k kind all
   suits i n (rows.ArrayWrite kind) known all = suits-array_write w.classes f k kind all
-  suits i n rows.ArrayLength known all = suits-replacing w.classes f 1 (given.One Short) (cell-there w.classes f f.stack 0 (Meets w.classes AnyArray) all.0) tt
+  suits i n rows.ArrayLength known all = suits-replacing w.classes f 1 (given.One Short) (cell-there w.classes f f.stack 0 (Meets w.classes AnyArray) all.0) (tt, tt)
   suits i n (rows.Branch b) known all = suits-branch w.classes f k b all
   suits i n (rows.Switch width) known all = let there : 0 + size width ≤ length f.stack = number-there w.classes f width 0 all in suits-replacing w.classes f (size width) given.Nothing (omega arith) tt
   suits i n (rows.StaticRead kind) known all = suits-replacing w.classes f 0 (value_given (type_named n)) (omega arith) (value-known w.classes f (type_named n) (type-known w n known))

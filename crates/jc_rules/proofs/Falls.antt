@@ -34,7 +34,7 @@ use Rattle.jc_rules.specs.Effect.{listed, ready, changed, stored, reg}
 use Rattle.jc_rules.specs.Demand.{Frame, IsArrayOrNull, IsHalf, IsFreshOf, Meets, Splits, Holds, AllHold}
 use Rattle.jc_rules.specs.Rule.{cell, or_null, element, ready_with, call_demands, call_effect, cells_wanted, args_at, result_at, result_given, local_of, load_demands, load_effect, store_effect, array_read_demands, array_read_effect, method_demands, method_effect, falls_from, ends_at, wrote, demands, effect}
 use Rattle.jc_rules.specs.Apply.{Applies}
-use Rattle.jc_rules.specs.Flow.{CellsBelow, no_cells, more_cells, FrameBelow, IsNotTop}
+use Rattle.jc_rules.specs.Flow.{CellsBelow, no_cells, more_cells, FrameBelow, IsNotTop, IsNotFresh}
 use Rattle.jc_rules.specs.Laws.{IsNotBottom, FallsTo, RuleFalls}
 use Rattle.jc_rules.proofs.Demands.{AllHold-rest}
 
@@ -62,11 +62,6 @@ FreshUp : ℕ → ℕ → Ty → Type 0
 FreshUp p c Top = ⊤
 FreshUp p c (Fresh q d) = (q ≡ p) × (d ≡ c)
 FreshUp p c _ = ⊥
-
--- no uninitialised object
-IsPlain : Ty → Type 0
-IsPlain (Fresh p c) = ⊥
-IsPlain _ = ⊤
 
 -- Bottom and Null
 IsNullDown : Ty → Type 0
@@ -209,8 +204,8 @@ high_is IntHigh h n = refl
 high_is Top h n = absurd n
 high_is _ h n = absurd h
 
-plain_with : (taken : ℕ) (cells : Cells) (want : Want) (a : Ty) → IsPlain a → ready_with taken cells a want ≡ Replace taken cells
-unfolding IsPlain
+plain_with : (taken : ℕ) (cells : Cells) (want : Want) (a : Ty) → IsNotFresh a → ready_with taken cells a want ≡ Replace taken cells
+unfolding IsNullDown
 plain_with taken cells want (Fresh p c) h = absurd h
 plain_with taken cells want Bottom h = refl
 plain_with taken cells want Short h = refl
@@ -225,7 +220,7 @@ plain_with taken cells want ArrInt h = refl
 plain_with taken cells want (ArrRef c) h = refl
 plain_with taken cells want Top h = refl
 
-plain_both : (taken : ℕ) (cells : Cells) (c : ℕ) (a b : Ty) → IsPlain a → IsPlain b → ready_with taken cells a (Receiver c) ≡ ready_with taken cells b (Receiver c)
+plain_both : (taken : ℕ) (cells : Cells) (c : ℕ) (a b : Ty) → IsNotFresh a → IsNotFresh b → ready_with taken cells a (Receiver c) ≡ ready_with taken cells b (Receiver c)
 plain_both taken cells c a b h k = plain_with taken cells (Receiver c) a h ∙ sym (plain_with taken cells (Receiver c) b k)
 
 NotReceiver : Want → Type 0
@@ -256,8 +251,8 @@ replaced taken cells want Top h = refl
 not_receiver : (taken : ℕ) (cells : Cells) (want : Want) (a b : Ty) → NotReceiver want → ready_with taken cells a want ≡ ready_with taken cells b want
 not_receiver taken cells want a b h = replaced taken cells want a h ∙ sym (replaced taken cells want b h)
 
-plain_under : (q d : ℕ) (a : Ty) → IsPlain a → FreshDown q d a → a ≡ Bottom
-unfolding IsPlain FreshDown
+plain_under : (q d : ℕ) (a : Ty) → IsNotFresh a → FreshDown q d a → a ≡ Bottom
+unfolding FreshDown
 plain_under q d Bottom h k = refl
 plain_under q d (Fresh p c) h k = absurd h
 plain_under q d _ h k = absurd k
@@ -299,6 +294,31 @@ module _ (t : ClassTable) where
   meets-falls Whole a b p nb nt h = λ half. h (half-up a p nt half)
   meets-falls (Receiver c) a b p nb nt (inl h) = inl (receiver-falls c a b p nb h)
   meets-falls (Receiver c) a b p nb nt (inr h) = inr (joined p h)
+
+  pub plain_class : {d : ℕ} (a : Ty) → Below t a (Class d) → IsNotFresh a
+  unfolding ReferenceDown
+  plain_class (Fresh p c) x = reference-down t x tt
+  plain_class Bottom x = tt
+  plain_class Short x = tt
+  plain_class IntHigh x = tt
+  plain_class IntLow x = tt
+  plain_class Null x = tt
+  plain_class (Class c) x = tt
+  plain_class ArrBool x = tt
+  plain_class ArrByte x = tt
+  plain_class ArrShort x = tt
+  plain_class ArrInt x = tt
+  plain_class (ArrRef c) x = tt
+  plain_class Top x = tt
+
+  -- below an uninitialised object is nothing else but Bottom
+  pub fresh_is_bottom : (p c : ℕ) (a : Ty) → IsNotFresh a → Below t a (Fresh p c) → a ≡ Bottom
+  unfolding FreshDown
+  fresh_is_bottom p c a n x = plain_under p c a n (fresh-down t p c x (refl, refl))
+
+  pub fresh_not_below_bottom : (p c : ℕ) → Below t (Fresh p c) Bottom → ⊥
+  unfolding FreshUp
+  fresh_not_below_bottom p c x = fresh-up t p c x (refl, refl)
 
 -- ---- lists of cells
 
@@ -474,8 +494,8 @@ module _ (t : ClassTable) (are : AreClasses t) where
   ready-fresh place class p c {b = ArrRef d} x h = absurd h
 
   -- what is no uninitialised object stays as it is; what is above it may be one only over Bottom
-  ready-plain : (place class : ℕ) (a b : Ty) → IsPlain a → Below t a b → Below t a (ready place class b)
-  unfolding IsPlain FreshDown
+  ready-plain : (place class : ℕ) (a b : Ty) → IsNotFresh a → Below t a b → Below t a (ready place class b)
+  unfolding FreshDown
   ready-plain place class a (Fresh q d) h x = subst (λ c. Below t c (ready place class (Fresh q d))) (sym (plain_under q d a h (fresh-down t q d x (refl, refl)))) nothing
   ready-plain place class a Bottom h x = x
   ready-plain place class a Short h x = x
@@ -491,7 +511,7 @@ module _ (t : ClassTable) (are : AreClasses t) where
   ready-plain place class a Top h x = x
 
   ready-falls : (place class : ℕ) (a b : Ty) → Below t a b → Below t (ready place class a) (ready place class b)
-  unfolding IsPlain FreshUp
+  unfolding FreshUp
   ready-falls place class (Fresh p c) b x = ready-fresh place class p c x (fresh-up t p c x (refl, refl))
   ready-falls place class Bottom b x = nothing
   ready-falls place class Short b x = ready-plain place class Short b tt x
@@ -627,22 +647,6 @@ module _ (t : ClassTable) (are : AreClasses t) where
   element-falls a (Fresh q c) p h = absurd h
   element-falls a Top p h = absurd h
 
-  plain_class : {d : ℕ} (a : Ty) → Below t a (Class d) → IsPlain a
-  unfolding IsPlain ReferenceDown
-  plain_class (Fresh p c) x = reference-down t x tt
-  plain_class Bottom x = tt
-  plain_class Short x = tt
-  plain_class IntHigh x = tt
-  plain_class IntLow x = tt
-  plain_class Null x = tt
-  plain_class (Class c) x = tt
-  plain_class ArrBool x = tt
-  plain_class ArrByte x = tt
-  plain_class ArrShort x = tt
-  plain_class ArrInt x = tt
-  plain_class (ArrRef c) x = tt
-  plain_class Top x = tt
-
   fresh_same : (taken : ℕ) (cells : Cells) (c : ℕ) (a b : Ty) → Below t a b → IsNotBottom a → IsFreshOf c b → ready_with taken cells a (Receiver c) ≡ ready_with taken cells b (Receiver c)
   fresh_same taken cells c a (Fresh p d) x n h = ap (λ ty. ready_with taken cells ty (Receiver c)) (fresh_below t p d x n)
   fresh_same taken cells c a _ x n h = absurd h
@@ -651,7 +655,7 @@ module _ (t : ClassTable) (are : AreClasses t) where
   ready_with-falls : (taken : ℕ) (cells : Cells) (want : Want) (a b : Ty) → Below t a b → IsNotBottom a → Meets t want b → ready_with taken cells a want ≡ ready_with taken cells b want
   unfolding NotReceiver
   ready_with-falls taken cells (Receiver c) a b p n (inl h) = fresh_same taken cells c a b p n h
-  ready_with-falls taken cells (Receiver c) a b p n (inr h) = plain_both taken cells c a b (plain_class a (joined p h)) (plain_class b h)
+  ready_with-falls taken cells (Receiver c) a b p n (inr h) = plain_both taken cells c a b (plain_class t a (joined p h)) (plain_class t b h)
   ready_with-falls taken cells (Value ty) a b p n h = not_receiver taken cells (Value ty) a b tt
   ready_with-falls taken cells Storable a b p n h = not_receiver taken cells Storable a b tt
   ready_with-falls taken cells ByteArray a b p n h = not_receiver taken cells ByteArray a b tt
@@ -661,7 +665,7 @@ module _ (t : ClassTable) (are : AreClasses t) where
 -- ---- the rule
 
 -- what is read of a cell that is there
-some-or : (P : Ty → Type 0) (xs : List Ty) (n : ℕ) → IsSomeAnd (slice_get xs n) P → P (get_or xs n Top)
+pub some-or : (P : Ty → Type 0) (xs : List Ty) (n : ℕ) → IsSomeAnd (slice_get xs n) P → P (get_or xs n Top)
 some-or P [] n h = absurd h
 some-or P (x ∷ xs) zero h = h
 some-or P (x ∷ xs) (suc n) h = some-or P xs n h

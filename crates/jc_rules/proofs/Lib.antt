@@ -1,5 +1,6 @@
 pub mod Demands
 pub mod Stacks
+pub mod Falls
 pub mod Effects
 pub mod Plans
-pub mod Falls
+pub mod Keeps

@@ -11,7 +11,8 @@ use Rattle.jc_decode.specs.declared.insn.Insn.{Insn}
 use Rattle.jc_rows.specs.declared.row.Row.{Row}
 use Rattle.jc_rows.specs.declared.named.Named.{Named}
 use Rattle.jc_rows.specs.Row.{row_at}
-use Rattle.jc_rows.specs.Named.{IsNamed}
+use Rattle.jc_rows.specs.Named.{IsSound}
+use Rattle.jc_rows.proofs.Naming.{names-are-sound}
 use Rattle.jc_rules.specs.declared.effect.Effect.{Effect}
 use Rattle.jc_rules.specs.declared.effect.Mode.{Mode}
 use Rattle.jc_rules.specs.declared.apply.Site.{Site}
@@ -25,13 +26,13 @@ use Rattle.jc_rules.proofs.Effects.{Suits, suits, length-changed}
 
 -- the stack would pass the limit
 pub plan-full : (w : Linked) (is : IsWorld w) (f : Frame) (k : AreKnown w.classes f) (i : Insn) (n : Named) (row : Row) (e : Effect) (limit : ℕ) →
-    IsNamed w n → AllHold w.classes f (demands w i n row) → e ≡ effect w i n row f → limit < depth_after e.change (length f.stack) → limit < length (changed (effect w i n row f).change f.stack)
+    IsSound w n → AllHold w.classes f (demands w i n row) → e ≡ effect w i n row f → limit < depth_after e.change (length f.stack) → limit < length (changed (effect w i n row f).change f.stack)
 plan-full w is f k i n row e limit known all is_effect more =
     subst (λ d. limit < d) (sym (length-changed (effect w i n row f).change f.stack (suits w is f k i n row known all).there))
     (subst (λ d. limit < depth_after d.change (length f.stack)) is_effect more)
 
 pub plan-suits : (w : Linked) (is : IsWorld w) (f : Frame) (k : AreKnown w.classes f) (site : Site) (i : Insn) (e : Effect) → IsPlan w site i f e → Suits w.classes f e
-plan-suits w is f k site i e p = subst (Suits w.classes f) (sym p.effect_is) (suits w is f k i p.named (row_at i.op) p.known p.asked)
+plan-suits w is f k site i e p = subst (Suits w.classes f) (sym p.effect_is) (suits w is f k i p.named (row_at i.op) (names-are-sound w is p.method site.place i (row_at i.op) p.named (All-slice_get (IsMethod w.infos w.pools w.classes) w.methods site.method p.method is.methods p.is_method) p.names) p.asked)
 
 -- the lengths that a method declares
 module _ (w : Linked) (is : IsWorld w) (n : ℕ) (regs slice : List Ty) (depth : ℕ) where

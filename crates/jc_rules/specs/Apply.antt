@@ -9,7 +9,7 @@ use Rattle.jc_rows.specs.declared.fault.RuleFault.{RuleFault}
 use Rattle.jc_rows.specs.declared.fault.RuleFault.TheVariants.{Overflow}
 use Rattle.jc_rows.specs.declared.named.Named.{Named}
 use Rattle.jc_rows.specs.Row.{row_at}
-use Rattle.jc_rows.specs.Named.{Names, IsNamed}
+use Rattle.jc_rows.specs.Named.{Names}
 use Rattle.jc_rules.specs.declared.effect.Effect.{Effect}
 use Rattle.jc_rules.specs.declared.effect.Mode.{Mode}
 use Rattle.jc_rules.specs.declared.apply.Site.{Site}
@@ -57,7 +57,6 @@ pub record IsPlan (w : Linked) (site : Site) (i : Insn) (before : Frame) (e : Ef
   pub named : Named
   pub names : Names w method site.place i (row_at i.op) (Ok named)
   pub asked : AllHold w.classes before (demands w i named (row_at i.op))
-  pub known : IsNamed w named
   pub effect_is : e ≡ effect w i named (row_at i.op) before
   pub room : depth_after e.change (length before.stack) ≤ method.max_stack
 

@@ -18,4 +18,4 @@ mod values;
 pub use apply::{Outcome, Site};
 pub use demand::{Before, Demand};
 pub use effect::{Cells, Change, Effect, Mode, Store};
-pub use laws::rule_falls;
+pub use laws::{rule_falls, rule_keeps};

@@ -7,7 +7,7 @@ use Rattle.jc_rules.specs.Demand.{Frame, AreKnown}
 use Rattle.jc_rules.specs.Rule.{falls_from, ends_at}
 use Rattle.jc_rules.specs.Apply.{frame_of, HasRoom, IsPlan}
 use Rattle.jc_rules.proofs.Stacks.{length-cells}
-use Rattle.jc_rules.proofs.Effects.{Suits, cells-known, changed-known, length-changed}
+use Rattle.jc_rules.proofs.Effects.{Suits, cells-kept, changed-known, length-changed}
 use Rattle.jc_rules.proofs.Plans.{plan-suits, plan-applies, room-known, method-room}
 use Rattle.jc_rules.proofs.apply.apply.Goals as goal
 
@@ -37,7 +37,7 @@ unfolding cells
 change_regs-requires-clause-stored_known c =
     let k = room-known c.args.world.now c.classes-classes.ensures.links c.args.site.method c.args.regs.now c.args.stack.now c.args.depth c.requires.room c.requires.regs_known c.requires.stack_known in
     subst (λ t. All (IsKnown t) (listed c.in_ok-effect.effect.store.cells)) (sym c.classes-classes.ensures.is)
-    (cells-known c.args.world.now.classes c.in_ok-effect.effect.store.cells
+    (cells-kept c.args.world.now.classes c.in_ok-effect.effect.store.cells
     (plan-suits c.args.world.now c.classes-classes.ensures.links (frame_of c.args.regs.now c.args.stack.now c.args.depth) k c.args.site c.args.insn c.in_ok-effect.effect c.in_ok-effect.ensures).stored)
 
 pub returns-clause-stack_known : goal.returns-clause-stack_known

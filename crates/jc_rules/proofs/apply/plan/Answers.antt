@@ -3,6 +3,7 @@ use Rattle.std.proofs.lemmas.List.{length-reverse}
 use Rattle.std.proofs.lemmas.Result.{err_from_is_err_and}
 use Rattle.jc_rows.specs.Row.{row_at}
 use Rattle.jc_rows.specs.Named.{Names}
+use Rattle.jc_rows.proofs.Naming.{names-are-sound}
 use Rattle.jc_rules.specs.Effect.{depth_after}
 use Rattle.jc_rules.specs.Demand.{Frame, Breaks, AllHold}
 use Rattle.jc_rules.specs.Rule.{demands, effect}
@@ -37,10 +38,12 @@ returns-then-depth_after-max_stack c =
     subst (λ row. e ≡ effect w c.args.insn c.in_ok-named.named row f) c.of-row.ensures c.in_ok-effect.ensures.1 in
     let limit : m.max_stack ≡ c.args.max_stack = method-room w c.args.site.method m (λ r. r.max_stack ≡ c.args.max_stack) c.method.ensures.is c.requires.method in
     let more : m.max_stack < depth_after e.change (length c.args.stack.now) = omega (arith, limit, c.depth_after.ensures) in
+    let names_are : Names w m c.args.site.place c.args.insn (row_at c.args.insn.op) (Ok c.in_ok-named.named) =
+        subst (λ row. Names w m c.args.site.place c.args.insn row (Ok c.in_ok-named.named)) c.of-row.ensures c.in_ok-named.ensures.names in
     full c.in_ok-named.named c.method.ensures.is
-    (subst (λ row. Names w m c.args.site.place c.args.insn row (Ok c.in_ok-named.named)) c.of-row.ensures c.in_ok-named.ensures.names)
+    names_are
     asked
-    (plan-full w c.requires.world f c.requires.frame c.args.insn c.in_ok-named.named (row_at c.args.insn.op) e m.max_stack c.in_ok-named.ensures.known asked is_effect
+    (plan-full w c.requires.world f c.requires.frame c.args.insn c.in_ok-named.named (row_at c.args.insn.op) e m.max_stack (names-are-sound w c.requires.world m c.args.site.place c.args.insn (row_at c.args.insn.op) c.in_ok-named.named c.method.ensures.links names_are) asked is_effect
     (subst (λ n. m.max_stack < depth_after e.change n) (sym (length-reverse c.args.stack.now)) more))
 
 pub returns : goal.returns
@@ -57,7 +60,6 @@ returns c =
       named = c.in_ok-named.named;
       names = subst (λ row. Names w m c.args.site.place c.args.insn row (Ok c.in_ok-named.named)) c.of-row.ensures c.in_ok-named.ensures.names;
       asked = subst (λ row. AllHold w.classes f (demands w c.args.insn c.in_ok-named.named row)) c.of-row.ensures c.in_ok-effect.ensures.0;
-      known = c.in_ok-named.ensures.known;
       effect_is = subst (λ row. e ≡ effect w c.args.insn c.in_ok-named.named row f) c.of-row.ensures c.in_ok-effect.ensures.1;
       room = subst (λ n. depth_after e.change n ≤ m.max_stack) (sym (length-reverse c.args.stack.now)) room;
     }
