@@ -1,13 +1,12 @@
 -- A climb over the superclasses of a class that looks at the first package-visible list of each package.
-use Rattle.std.proofs.Common.{◌≡◌, ◌≢◌, ℕ, ◌+◌, ◌<◌, ◌≤◌, ◌==◌, Bool, true, false, cond, List, [], ◌∷◌, length, refl, sym, ◌∙◌, ap, subst, arith, All, Option, Some, None, IfSome, get_or, set, find, ◌⊎◌, inl, inr, slice_get, take, IsSomeAnd}
+use Rattle.std.proofs.Common.{◌≡◌, ◌≢◌, ℕ, ◌+◌, ◌<◌, ◌≤◌, ◌==◌, Bool, true, false, List, [], ◌∷◌, length, refl, sym, ◌∙◌, ap, subst, arith, All, Some, None, get_or, set, ◌⊎◌, inl, inr, slice_get, take, IsSomeAnd}
 use Rattle.std.proofs.lemmas.Bool.Decides.{nat_tests, eqb_tells}
 use Rattle.std.proofs.lemmas.Bool.{true≢false}
 use Rattle.std.proofs.lemmas.List.Elements.{All-get_or, All-more}
 use Rattle.std.proofs.lemmas.List.{take_all, get_or_default, get_or-set_same, get_or-set_other}
 use Rattle.jc_base.proofs.Climbs.{chain-front}
-use Rattle.jc_base.specs.declared.record.ClassRec.{ClassRec}
 use Rattle.jc_base.specs.declared.record.MethodRec.{MethodRec}
-use Rattle.jc_base.specs.Class.{ClassTable, IsClass, IsNextOnChain, IsEndOfChain, chain, list_of}
+use Rattle.jc_base.specs.Class.{ClassTable, IsNextOnChain, IsEndOfChain, chain, list_of}
 use Rattle.jc_base.specs.Dispatch.{HasBody, package_of, visible_of, nearest_of, visible_in}
 
 same : (n : ℕ) → (n == n) ≡ true

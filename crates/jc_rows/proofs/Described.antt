@@ -1,9 +1,9 @@
 -- A search for the only method that an interface describes under a token.
-use Rattle.std.proofs.Common.{◌≡◌, ℕ, suc, ◌+◌, ◌-◌, ◌<◌, ◌≤◌, Bool, true, false, cond, List, [], ◌∷◌, ◌++◌, length, refl, sym, ◌∙◌, ap, subst, arith, Option, Some, None, slice_get, filter}
+use Rattle.std.proofs.Common.{◌≡◌, ℕ, suc, ◌+◌, ◌-◌, ◌<◌, ◌≤◌, Bool, true, false, cond, List, [], ◌∷◌, ◌++◌, refl, sym, ◌∙◌, ap, arith, Option, Some, None, slice_get, filter}
 use Rattle.std.specs.Option.{option_to_list}
 use Rattle.std.specs.List.{range_with_len}
 use Rattle.jc_base.specs.declared.record.MethodRec.{MethodRec}
-use Rattle.jc_rows.specs.Named.{only, described, is_described, passes}
+use Rattle.jc_rows.specs.Named.{only, is_described, passes}
 
 -- what is found up to n, with what is found from n on, is what is found in all
 abbrev pub Finds : (ℕ → Bool) → ℕ → Option ℕ → ℕ → Type 0

@@ -1,6 +1,6 @@
 -- What a linked world says of the entries of a constant pool.
-use Rattle.std.proofs.Common.{◌≡◌, ℕ, ◌+◌, ◌-◌, ◌<◌, ◌≤◌, Bool, true, false, nat_lt, List, [], ◌∷◌, ◌++◌, length, refl, sym, ◌∙◌, ap, subst, arith, All, Option, Some, None, IfSome, IsSomeAnd, slice_get, inl, inr, ◌⊎◌, cond, Contains, flat_map, reverse, get_or}
-use Rattle.std.proofs.lemmas.List.Elements.{All-contains, Contains-append_cases, All-append}
+use Rattle.std.proofs.Common.{◌≡◌, ℕ, ◌+◌, ◌-◌, ◌<◌, ◌≤◌, true, false, nat_lt, List, [], ◌∷◌, ◌++◌, length, refl, sym, ap, subst, arith, All, Option, Some, None, IfSome, IsSomeAnd, slice_get, cond, Contains, flat_map, reverse, get_or}
+use Rattle.std.proofs.lemmas.List.Elements.{All-contains, All-append}
 use Rattle.std.proofs.lemmas.Bool.Decides.{nat_tests}
 use Rattle.jc_base.proofs.Lists.{All-slice_get, slice_get-below}
 use Rattle.jc_base.specs.declared.ty.Ty.{Ty}
@@ -10,11 +10,11 @@ use Rattle.jc_base.specs.declared.record.Member.TheVariants.{ClassOf, Field, Sta
 use Rattle.jc_base.specs.declared.record.ClassRec.{ClassRec}
 use Rattle.jc_base.specs.declared.record.MethodRec.{MethodRec}
 use Rattle.jc_base.specs.declared.record.StaticRec.{StaticRec}
-use Rattle.jc_base.specs.Class.{ClassTable, IsClass, parent_of, chain, is_interface, is_interface_record}
+use Rattle.jc_base.specs.Class.{ClassTable, parent_of, chain, is_interface, is_interface_record}
 use Rattle.jc_base.specs.Order.{IsKnown}
 use Rattle.jc_base.specs.Cell.{IsDeclared}
 use Rattle.jc_base.specs.Dispatch.{of_record, package_of, public_of, visible_of, entry_at, cells_of, own_cells}
-use Rattle.jc_base.specs.Linked.{IsInherited, IsMethod, IsMember, IsLinkedClass, IsDispatch, receiver_words, IsStatic}
+use Rattle.jc_base.specs.Linked.{IsInherited, IsMethod, IsMember, IsLinkedClass, receiver_words, IsStatic}
 use Rattle.jc_base.specs.World.{Linked, IsWorld}
 use Rattle.jc_rows.specs.Named.{TakesReceiver, IsKnownMember}
 

@@ -1,6 +1,5 @@
 -- What is named in a linked world has a declared type, or is an uninitialised object.
-use Rattle.std.proofs.Common.{◌≡◌, ℕ, ◌+◌, ◌<◌, ◌≤◌, ◌==◌, ◌&&◌, not, ◌||◌, if◌then◌else◌, zero, suc, Bool, true, false, cond, List, [], ◌∷◌, length, Option, Some, None, IfSome, IsSomeAnd, Result, Ok, Err, slice_get, All, refl, sym, ◌∙◌, ap, subst, arith}
-use Rattle.std.specs.Bool.{⊤}
+use Rattle.std.proofs.Common.{◌≡◌, ℕ, ◌+◌, ◌<◌, ◌==◌, ◌&&◌, not, ◌||◌, if◌then◌else◌, zero, suc, Bool, true, false, List, [], ◌∷◌, length, Option, Some, None, IfSome, Result, Ok, Err, slice_get, All, refl, sym, subst, arith}
 use Rattle.jc_base.specs.declared.ty.Ty.{Ty}
 use Rattle.jc_base.specs.declared.ty.Ty.TheVariants.{Bottom, Short, IntHigh, IntLow, Null, Class, ArrBool, ArrByte, ArrShort, ArrInt, ArrRef, Fresh, Top}
 use Rattle.jc_base.specs.declared.ty.Kind.{Kind}
@@ -8,7 +7,6 @@ use Rattle.jc_base.specs.declared.record.Member.{Member}
 use Rattle.jc_base.specs.declared.record.Member.TheVariants.{ClassOf, Field, Static, Virtual, Super, StaticCall}
 use Rattle.jc_base.specs.declared.record.MethodRec.{MethodRec}
 use Rattle.jc_base.specs.Class.{ClassTable, IsClass, is_interface, object}
-use Rattle.jc_base.specs.Order.{IsKnown}
 use Rattle.jc_base.specs.Cell.{IsDeclared}
 use Rattle.jc_base.specs.Dispatch.{entry_at, cells_of}
 use Rattle.jc_base.specs.Linked.{IsMember, IsMethod, list_at, lacks_code}
@@ -27,7 +25,7 @@ use Rattle.jc_rows.specs.declared.want.Want.{Want}
 use Rattle.jc_rows.specs.declared.want.Want.TheVariants.{Value, Receiver}
 use Rattle.jc_rows.specs.declared.named.Named.{Named}
 use Rattle.jc_rows.specs.declared.named.Named.TheVariants as names
-use Rattle.jc_rows.specs.Named.{IsGiven, IsSound, NamesAreSound, IsKnownWant, byte_of, short_of, same_kind, own_receiver, only, described, returns, returned, result_named, result_type, taken_if, method_if, static_named, field_named, entry_named, virtual_named, special_named, static_call_named, described_named, interface_named, class_named, array_of, tested, return_named, call_named, standing, named, Names, NamesObject}
+use Rattle.jc_rows.specs.Named.{IsGiven, IsSound, NamesAreSound, IsKnownWant, byte_of, short_of, same_kind, own_receiver, only, described, returns, returned, result_named, result_type, taken_if, method_if, static_named, field_named, entry_named, virtual_named, special_named, static_call_named, described_named, interface_named, class_named, array_of, tested, return_named, call_named, standing, Names, NamesObject}
 use Rattle.jc_rows.proofs.Members.{static-known, cells-declared}
 
 declared-given : (t : ClassTable) (ty : Ty) → IsDeclared t ty → IsGiven t ty
@@ -76,7 +74,7 @@ module _ (w : Linked) (is : IsWorld w) where
   field-sound : (pool : ℕ) (k : Kind) (o : Option Member) → IfSome o (IsMember w.classes w.methods w.statics) → (n : Named) → Ok n ≡ field_named w.classes pool k o → IsSound w n
   field-sound pool k (Some (Field c cell kind ty)) h n e =
       given-by (same_kind k kind && not (c == object w.classes)) pool (names.Field c ty) n
-          (λ b. (h.class, All-slice_get (IsDeclared w.classes) (cells_of w.classes c) cell ty (cells-declared w is c) h.first)) e
+      (λ b. (h.class, All-slice_get (IsDeclared w.classes) (cells_of w.classes c) cell ty (cells-declared w is c) h.first)) e
   field-sound pool k None h n e = absurd (cc)
   field-sound pool k (Some (ClassOf c)) h n e = absurd (cc)
   field-sound pool k (Some (Static slot kind ty)) h n e = absurd (cc)
@@ -114,9 +112,9 @@ module _ (w : Linked) (is : IsWorld w) where
       let plain : is_interface w.classes m.class ≡ false = no_interface m (not_true (lacks_code w.classes m) (both_true (not m.is_static) (not (lacks_code w.classes m)) b).1) in
       own_at m.is_init (record { number = number; class = plain })
     where
-    own_at : (i : Bool) → IsClass w.classes m.class → IsKnownWant w.classes (if i then Receiver m.class else Value (Class m.class))
-    own_at true h = h
-    own_at false h = h
+      own_at : (i : Bool) → IsClass w.classes m.class → IsKnownWant w.classes (if i then Receiver m.class else Value (Class m.class))
+      own_at true h = h
+      own_at false h = h
 
   special-sound : (pool : ℕ) (o : Option Member) → IfSome o (IsMember w.classes w.methods w.statics) → (n : Named) → Ok n ≡ special_named w pool o → IsSound w n
   special-sound pool (Some (Super c k)) h n e = method-by (λ m. not (lacks_code w.classes m)) pool k (λ m. Some (Value (Class c))) (slice_get w.methods k) n (λ m q b. h.0) e
@@ -156,9 +154,9 @@ module _ (w : Linked) (is : IsWorld w) where
   standing-class : (c : ℕ) → c < length w.classes.records → IsClass w.classes (standing w.classes c)
   standing-class c lt = at (is_interface w.classes c) refl
     where
-    at : (b : Bool) → is_interface w.classes c ≡ b → IsClass w.classes (if b then object w.classes else c)
-    at true e = is.roles.objects
-    at false e = record { number = lt; class = e }
+      at : (b : Bool) → is_interface w.classes c ≡ b → IsClass w.classes (if b then object w.classes else c)
+      at true e = is.roles.objects
+      at false e = record { number = lt; class = e }
 
   class-sound : (pool : ℕ) (make : ℕ → Ty) → ((c : ℕ) → IsClass w.classes c → IsGiven w.classes (make c)) → (o : Option Member) → IfSome o (IsMember w.classes w.methods w.statics) → (n : Named) → Ok n ≡ class_named w.classes pool make o → IsSound w n
   class-sound pool make g (Some (ClassOf c)) h n e = let is_n : names.Type (make (standing w.classes c)) ≡ n = cc in subst (IsSound w) is_n (g (standing w.classes c) (standing-class c h))
@@ -187,16 +185,16 @@ module _ (w : Linked) (is : IsWorld w) where
   tested-sound : (atype pool : ℕ) (o : Option Member) → IfSome o (IsMember w.classes w.methods w.statics) → (n : Named) → Ok n ≡ tested w.classes atype pool o → IsSound w n
   tested-sound atype pool o h n e =
       tested_if (atype == 0) (class_named w.classes pool Class o) (if atype == 14 then class_named w.classes pool ArrRef o else Ok (names.Type (array_of atype))) n
-          (class-sound pool Class (λ c k. k) o h n)
-          (tested_if (atype == 14) (class_named w.classes pool ArrRef o) (Ok (names.Type (array_of atype))) n (class-sound pool ArrRef (λ c k. k) o h n) (array-sound atype n))
-          e
+      (class-sound pool Class (λ c k. k) o h n)
+      (tested_if (atype == 14) (class_named w.classes pool ArrRef o) (Ok (names.Type (array_of atype))) n (class-sound pool ArrRef (λ c k. k) o h n) (array-sound atype n))
+      e
 
   return-sound : (sort : Option Sort) (result : Option Ty) → IfSome result (IsDeclared w.classes) → (n : Named) → Ok n ≡ return_named w.classes sort result → IsSound w n
   return-sound sort result h n e = tested_if (returns sort result) (Ok (result_named result)) (Err (Mismatch (returned w.classes sort) (result_type result))) n (given result h) (λ q. absurd (cc)) e
     where
-    given : (r : Option Ty) → IfSome r (IsDeclared w.classes) → ◌≡◌ {A = Result Named RuleFault} (Ok n) (Ok (result_named r)) → IsSound w n
-    given None k q = let is_n : names.Nothing ≡ n = cc in subst (IsSound w) is_n tt
-    given (Some ty) k q = let is_n : names.Type ty ≡ n = cc in subst (IsSound w) is_n (declared-given w.classes ty k)
+      given : (r : Option Ty) → IfSome r (IsDeclared w.classes) → ◌≡◌ {A = Result Named RuleFault} (Ok n) (Ok (result_named r)) → IsSound w n
+      given None k q = let is_n : names.Nothing ≡ n = cc in subst (IsSound w) is_n tt
+      given (Some ty) k q = let is_n : names.Type ty ≡ n = cc in subst (IsSound w) is_n (declared-given w.classes ty k)
 
   nothing-sound : (n : Named) → ◌≡◌ {A = Result Named RuleFault} (Ok n) (Ok names.Nothing) → IsSound w n
   nothing-sound n e = let is_n : names.Nothing ≡ n = cc in subst (IsSound w) is_n tt
@@ -219,9 +217,9 @@ module _ (w : Linked) (is : IsWorld w) where
   member-at : (home pool : ℕ) → IfSome (member_at w home pool) (IsMember w.classes w.methods w.statics)
   member-at home pool = at (slice_get (list_at w.pools home) pool) refl
     where
-    at : (o : Option Member) → slice_get (list_at w.pools home) pool ≡ o → IfSome o (IsMember w.classes w.methods w.statics)
-    at None e = tt
-    at (Some m) e = All-slice_get (IsMember w.classes w.methods w.statics) (list_at w.pools home) pool m (all_at w.pools home is.members) e
+      at : (o : Option Member) → slice_get (list_at w.pools home) pool ≡ o → IfSome o (IsMember w.classes w.methods w.statics)
+      at None e = tt
+      at (Some m) e = All-slice_get (IsMember w.classes w.methods w.statics) (list_at w.pools home) pool m (all_at w.pools home is.members) e
 
   call-sound : (home : ℕ) (i : Insn) (c : CallKind) (n : Named) → Ok n ≡ call_named w home i c → IsSound w n
   call-sound home i calls.Virtual n e = virtual-sound (short_of i.x) (member_at w home (short_of i.x)) (member-at home (short_of i.x)) n e

@@ -1,7 +1,7 @@
 -- The kinds of instructions, by opcode (JCVM 2.2, section 7.5, in the order of the opcodes).
 -- A row says what an instruction is without its operands. The typing rules and the machines are
 -- defined over these rows.
-use Rattle.std.specs.Prelude.{ℕ, ℤ, pos, negsuc, List, [], ◌∷◌, ◌++◌, map, replicate, Option, Some, None, slice_index_or}
+use Rattle.std.specs.Prelude.{ℕ, pos, negsuc, List, [], ◌∷◌, ◌++◌, map, replicate, Some, None, slice_index_or}
 use Rattle.jc_base.specs.declared.Kind.{Kind}
 use Rattle.jc_base.specs.declared.Kind.TheVariants as kinds
 use Rattle.jc_rows.specs.declared.row.Sort.{Sort}
@@ -20,10 +20,8 @@ use Rattle.jc_rows.specs.declared.row.Operator.TheVariants as operators
 use Rattle.jc_rows.specs.declared.row.Arithmetic.TheVariants as arithmetic
 use Rattle.jc_rows.specs.declared.row.Order.{Order}
 use Rattle.jc_rows.specs.declared.row.Order.TheVariants as orders
-use Rattle.jc_rows.specs.declared.row.Sameness.{Sameness}
 use Rattle.jc_rows.specs.declared.row.Sameness.TheVariants as sameness
 use Rattle.jc_rows.specs.declared.row.Branch.TheVariants as branches
-use Rattle.jc_rows.specs.declared.row.Holder.{Holder}
 use Rattle.jc_rows.specs.declared.row.Holder.TheVariants as holders
 use Rattle.jc_rows.specs.declared.row.Call.TheVariants as calls
 use Rattle.jc_rows.specs.declared.row.Make.TheVariants as makes

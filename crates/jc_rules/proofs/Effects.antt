@@ -1,9 +1,8 @@
 -- What an instruction asks suffices for what it does: the cells and registers are there, and what it gives is known.
-use Rattle.std.proofs.Common.{◌≡◌, ℕ, zero, suc, ◌+◌, ◌-◌, ◌*◌, ◌<◌, ◌≤◌, max, List, [], ◌∷◌, ◌++◌, length, take, drop, map, reverse, get_or, Option, Some, None, IsSomeAnd, IfSome, slice_get, All, refl, sym, ◌∙◌, ap, subst, arith, cond, Bool, true, false, ◌==◌, length-append, length-take, length-drop, add-one}
+use Rattle.std.proofs.Common.{◌≡◌, ℕ, zero, suc, ◌+◌, ◌-◌, ◌<◌, ◌≤◌, List, [], ◌∷◌, ◌++◌, length, take, drop, map, reverse, get_or, Option, Some, None, IsSomeAnd, IfSome, slice_get, All, refl, arith, cond, true, false, ◌==◌, length-append, length-take, length-drop}
 use Rattle.std.specs.Bool.{⊤}
 use Rattle.std.proofs.lemmas.List.{length-map, length-reverse}
 use Rattle.std.proofs.lemmas.List.Elements.{All-append, All-take, All-drop, All-map, All-get_or}
-use Rattle.std.proofs.lemmas.Option.{slice_get-get_or}
 use Rattle.jc_base.specs.declared.ty.Ty.{Ty}
 use Rattle.jc_base.specs.declared.ty.Ty.TheVariants.{Bottom, Short, IntHigh, IntLow, Null, Class, ArrBool, ArrByte, ArrShort, ArrInt, ArrRef, Fresh, Top}
 use Rattle.jc_base.specs.declared.ty.Kind.{Kind}
@@ -42,15 +41,15 @@ use Rattle.jc_rows.specs.declared.named.Named.{Named}
 use Rattle.jc_rows.specs.declared.named.Named.TheVariants as names
 use Rattle.jc_rows.specs.Named.{IsGiven, IsSound, IsKnownWant, byte_of}
 use Rattle.jc_rules.specs.declared.demand.Demand.{Demand}
-use Rattle.jc_rules.specs.declared.demand.Demand.TheVariants.{Registers, Depth, Cell, Cut, Held}
+use Rattle.jc_rules.specs.declared.demand.Demand.TheVariants.{Cell, Held}
 use Rattle.jc_rules.specs.declared.effect.Cells.{Cells}
 use Rattle.jc_rules.specs.declared.effect.Cells.TheVariants as given
 use Rattle.jc_rules.specs.declared.effect.Change.{Change}
 use Rattle.jc_rules.specs.declared.effect.Change.TheVariants.{Replace, CopyUnder, Exchange, MakeReady}
 use Rattle.jc_rules.specs.declared.effect.Effect.{Effect}
 use Rattle.jc_rules.specs.Effect.{listed, ready, changed, needed, depth_after, reg}
-use Rattle.jc_rules.specs.Demand.{Frame, Meets, Holds, AllHold, AreKnown}
-use Rattle.jc_rules.specs.Rule.{cell, number, two_numbers, size, number_given, value_given, value_wanted, value_size, on_stack, replacing, storing, constant_effect, load_demands, load_effect, or_null, store_demands, store_effect, increment_demands, increment_effect, move_demands, move_effect, arithmetic_demands, arithmetic_effect, element, array_read_demands, array_read_effect, array_write_demands, array_write_effect, branch_demands, branch_effect, field_read_demands, field_read_effect, field_write_demands, field_write_effect, cells_wanted, receiver_wanted, call_demands, call_effect, call_change, ready_with, result_given, args_at, result_at, make_demands, make_effect, type_test_effect, type_named, array_wanted, a_reference, read_demands, read_effect, write_demands, write_effect, method_demands, method_effect, return_demands, return_effect, local_of, copied_of, under_of, demands, effect}
+use Rattle.jc_rules.specs.Demand.{Frame, Meets, AllHold, AreKnown}
+use Rattle.jc_rules.specs.Rule.{cell, number, two_numbers, size, number_given, value_given, value_wanted, value_size, on_stack, replacing, storing, constant_effect, load_demands, load_effect, or_null, store_demands, store_effect, increment_demands, increment_effect, move_demands, move_effect, arithmetic_demands, arithmetic_effect, element, array_read_demands, array_read_effect, array_write_demands, array_write_effect, branch_demands, branch_effect, field_read_demands, field_read_effect, field_write_demands, field_write_effect, cells_wanted, call_demands, call_effect, ready_with, result_given, args_at, result_at, make_demands, make_effect, type_test_effect, type_named, array_wanted, a_reference, read_demands, read_effect, write_demands, write_effect, method_demands, method_effect, return_demands, return_effect, local_of, copied_of, under_of, demands, effect}
 use Rattle.jc_rules.specs.Flow.{IsNotFresh}
 use Rattle.jc_rules.specs.Laws.{IsNotBottom}
 use Rattle.jc_rules.proofs.Falls.{plain_class, some-or}
@@ -159,14 +158,14 @@ pub changed-full : (t : ClassTable) (c : Change) (s : List Ty) → ChangeKnown t
 changed-full t (Replace taken cells) s k all = All-append IsNotBottom (listed cells) (drop taken s) (cells-full t cells k) (All-drop IsNotBottom taken s all)
 changed-full t (CopyUnder copied under) s k all =
     All-append IsNotBottom (take under s) (take copied s ++ drop under s) (All-take IsNotBottom under s all)
-        (All-append IsNotBottom (take copied s) (drop under s) (All-take IsNotBottom copied s all) (All-drop IsNotBottom under s all))
+    (All-append IsNotBottom (take copied s) (drop under s) (All-take IsNotBottom copied s all) (All-drop IsNotBottom under s all))
 changed-full t (Exchange top under) s k all =
     All-append IsNotBottom (take under (drop top s)) (take top s ++ drop (top + under) s) (All-take IsNotBottom under (drop top s) (All-drop IsNotBottom top s all))
-        (All-append IsNotBottom (take top s) (drop (top + under) s) (All-take IsNotBottom top s all) (All-drop IsNotBottom (top + under) s all))
+    (All-append IsNotBottom (take top s) (drop (top + under) s) (All-take IsNotBottom top s all) (All-drop IsNotBottom (top + under) s all))
 changed-full t (MakeReady taken place class cells) s k all =
     All-append IsNotBottom (listed cells) (map (ready place class) (drop taken s)) (cells-full t cells k.1)
-        (All-map IsNotBottom (ready place class) (drop taken s)
-            (λ i d lt. ready-full place class (get_or (drop taken s) i d) (All-drop IsNotBottom taken s all i d lt)))
+    (All-map IsNotBottom (ready place class) (drop taken s)
+    (λ i d lt. ready-full place class (get_or (drop taken s) i d) (All-drop IsNotBottom taken s all i d lt)))
 
 -- ---- an effect that suits a frame
 

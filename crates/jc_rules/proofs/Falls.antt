@@ -1,18 +1,17 @@
 -- The rule is monotone in the dataflow.
-use Rattle.std.proofs.Common.{◌≡◌, ℕ, zero, suc, ◌+◌, ◌-◌, ◌≤◌, ◌==◌, cond, Bool, true, false, ◌⊎◌, inl, inr, List, [], ◌∷◌, ◌++◌, length, take, drop, map, reverse, get_or, set, Option, Some, None, IsSomeAnd, IfSome, slice_get, All, refl, sym, ◌∙◌, ap, subst, arith, length-append}
+use Rattle.std.proofs.Common.{◌≡◌, ℕ, zero, suc, ◌+◌, ◌-◌, ◌≤◌, true, false, inl, inr, List, [], ◌∷◌, ◌++◌, length, take, drop, map, reverse, get_or, set, Option, Some, None, IsSomeAnd, IfSome, slice_get, All, refl, sym, ◌∙◌, ap, subst, arith}
 use Rattle.std.specs.Bool.{⊤}
 use Rattle.jc_base.specs.declared.ty.Ty.{Ty}
 use Rattle.jc_base.specs.declared.ty.Ty.TheVariants.{Bottom, Short, IntHigh, IntLow, Null, Class, ArrBool, ArrByte, ArrShort, ArrInt, ArrRef, Fresh, Top}
 use Rattle.jc_base.specs.declared.ty.Kind.{Kind}
 use Rattle.jc_base.specs.declared.ty.Kind.TheVariants as kinds
 use Rattle.jc_base.specs.Class.{ClassTable, AreClasses, object}
-use Rattle.jc_base.specs.Order.{Below, same, joined, nothing, anything, null_object, null_array, subclass, array_object, array_array, IsArray, of_booleans, of_bytes, of_shorts, of_ints, of_references, is_below}
+use Rattle.jc_base.specs.Order.{Below, same, joined, nothing, anything, null_object, null_array, subclass, array_object, array_array, of_booleans, of_bytes, of_shorts, of_ints, of_references, is_below}
 use Rattle.jc_base.proofs.Subtypes.{is_below-from_Below, Below-from_is_below}
-use Rattle.jc_base.specs.World.{Linked, IsWorld}
+use Rattle.jc_base.specs.World.{Linked}
 use Rattle.jc_decode.specs.declared.insn.Insn.{Insn}
 use Rattle.jc_rows.specs.declared.row.Sort.{Sort}
 use Rattle.jc_rows.specs.declared.row.Sort.TheVariants as sorts
-use Rattle.jc_rows.specs.declared.row.Width.TheVariants as widths
 use Rattle.jc_rows.specs.declared.row.Row.{Row}
 use Rattle.jc_rows.specs.declared.row.Row.TheVariants as rows
 use Rattle.jc_rows.specs.declared.want.Want.{Want}
@@ -28,14 +27,11 @@ use Rattle.jc_rules.specs.declared.effect.Change.{Change}
 use Rattle.jc_rules.specs.declared.effect.Change.TheVariants.{Replace, CopyUnder, Exchange, MakeReady}
 use Rattle.jc_rules.specs.declared.effect.Effect.{Effect}
 use Rattle.jc_rules.specs.declared.effect.Mode.TheVariants.{Flow}
-use Rattle.jc_rules.specs.declared.apply.Site.{Site}
-use Rattle.jc_rules.specs.declared.apply.Outcome.{Outcome}
 use Rattle.jc_rules.specs.Effect.{listed, ready, changed, stored, reg}
-use Rattle.jc_rules.specs.Demand.{Frame, IsArrayOrNull, IsHalf, IsFreshOf, Meets, Splits, Holds, AllHold}
+use Rattle.jc_rules.specs.Demand.{Frame, IsArrayOrNull, IsHalf, IsFreshOf, Meets, Holds, AllHold}
 use Rattle.jc_rules.specs.Rule.{cell, or_null, element, ready_with, call_demands, call_effect, cells_wanted, args_at, result_at, result_given, local_of, load_demands, load_effect, store_effect, array_read_demands, array_read_effect, method_demands, method_effect, falls_from, ends_at, wrote, demands, effect}
-use Rattle.jc_rules.specs.Apply.{Applies}
-use Rattle.jc_rules.specs.Flow.{CellsBelow, no_cells, more_cells, FrameBelow, IsNotTop, IsNotFresh}
-use Rattle.jc_rules.specs.Laws.{IsNotBottom, FallsTo, RuleFalls}
+use Rattle.jc_rules.specs.Flow.{CellsBelow, no_cells, more_cells, IsNotTop, IsNotFresh}
+use Rattle.jc_rules.specs.Laws.{IsNotBottom, RuleFalls}
 use Rattle.jc_rules.proofs.Demands.{AllHold-rest}
 
 -- ---- what lies below and above
@@ -418,9 +414,10 @@ module _ (t : ClassTable) where
     holds-falls (Registers x n) h = subst (λ k. x + n ≤ k) (sym (cells-length t regs)) h
     holds-falls (Depth n) h = subst (λ k. n ≤ k) (sym (cells-length t stack)) h
     holds-falls (Cell n want) h = cell-falls want (slice_get f.stack n) (slice_get g.stack n) (cells-at t n stack) (each-at IsNotBottom f.stack n no_bottom) (each-at IsNotTop g.stack n no_top) h
-    holds-falls (Cut n) h = λ s. h
-        ( low-read (slice_get f.stack (n - 1)) (slice_get g.stack (n - 1)) (cells-at t (n - 1) stack) (each-at IsNotTop g.stack (n - 1) no_top) s.0
-        , high-read (slice_get f.stack n) (slice_get g.stack n) (cells-at t n stack) (each-at IsNotTop g.stack n no_top) s.1 )
+    holds-falls (Cut n) h = λ s. h (
+      low-read (slice_get f.stack (n - 1)) (slice_get g.stack (n - 1)) (cells-at t (n - 1) stack) (each-at IsNotTop g.stack (n - 1) no_top) s.0,
+      high-read (slice_get f.stack n) (slice_get g.stack n) (cells-at t n stack) (each-at IsNotTop g.stack n no_top) s.1,
+    )
     holds-falls (Held x ty) h = held-falls ty (slice_get f.regs x) (slice_get g.regs x) (cells-at t x regs) h
 
     all-falls : (ds : List Demand) → AllHold t g ds → AllHold t f ds
@@ -680,10 +677,13 @@ module _ (w : Linked) (are : AreClasses w.classes) (f g : Frame) (regs : CellsBe
   load-falls : (s : Sort) (x : ℕ) → AllHold w.classes g (load_demands w.classes s x) → EffectBelow w.classes (load_effect s x f) (load_effect s x g)
   unfolding ChangeBelow GivenBelow ReferenceDown
   load-falls sorts.Reference x h = record {
-    change = (refl, or_null-falls w.classes are (reg f.regs x) (reg g.regs x) (cells-or w.classes x regs)
-        (reference-down w.classes (some-or (λ b. Below w.classes b (Class (object w.classes))) g.regs x h.1.0) tt));
+    change = (
+      refl,
+      or_null-falls w.classes are (reg f.regs x) (reg g.regs x) (cells-or w.classes x regs)
+          (reference-down w.classes (some-or (λ b. Below w.classes b (Class (object w.classes))) g.regs x h.1.0) tt),
+    );
     register = refl;
-    cells = tt
+    cells = tt;
   }
   load-falls sorts.Short x h = effect-same w.classes are (load_effect sorts.Short x g)
   load-falls sorts.Int x h = effect-same w.classes are (load_effect sorts.Int x g)
@@ -697,10 +697,13 @@ module _ (w : Linked) (are : AreClasses w.classes) (f g : Frame) (regs : CellsBe
   array-falls : (k : Kind) → AllHold w.classes g (array_read_demands w.classes k) → EffectBelow w.classes (array_read_effect k f) (array_read_effect k g)
   unfolding ChangeBelow GivenBelow ReferencesDown
   array-falls kinds.Ref h = record {
-    change = (refl, element-falls w.classes are (cell f.stack 1) (cell g.stack 1) (cells-or w.classes 1 stack)
-        (references-down w.classes (some-or (λ b. Below w.classes b (ArrRef (object w.classes))) g.stack 1 h.1.0) tt));
+    change = (
+      refl,
+      element-falls w.classes are (cell f.stack 1) (cell g.stack 1) (cells-or w.classes 1 stack)
+          (references-down w.classes (some-or (λ b. Below w.classes b (ArrRef (object w.classes))) g.stack 1 h.1.0) tt),
+    );
     register = refl;
-    cells = tt
+    cells = tt;
   }
   array-falls kinds.Byte h = effect-same w.classes are (array_read_effect kinds.Byte g)
   array-falls kinds.Short h = effect-same w.classes are (array_read_effect kinds.Short g)
@@ -712,12 +715,12 @@ module _ (w : Linked) (are : AreClasses w.classes) (f g : Frame) (regs : CellsBe
   call-falls args result (Some want) h = record {
     change = subst (λ c. ChangeBelow w.classes c (ready_with (length args + 1) (result_given result) (cell g.stack (length args)) want))
         (sym (ready_with-falls w.classes are (length args + 1) (result_given result) want (cell f.stack (length args)) (cell g.stack (length args))
-            (cells-or w.classes (length args) stack)
-            (each-or IsNotBottom f.stack (length args) tt no_bottom)
-            (some-or (Meets w.classes want) g.stack (length args) (AllHold-rest w.classes g (cells_wanted 0 (reverse args)) (Cell (length args) want ∷ []) h).0)))
+        (cells-or w.classes (length args) stack)
+        (each-or IsNotBottom f.stack (length args) tt no_bottom)
+        (some-or (Meets w.classes want) g.stack (length args) (AllHold-rest w.classes g (cells_wanted 0 (reverse args)) (Cell (length args) want ∷ []) h).0)))
         (change-same w.classes are (ready_with (length args + 1) (result_given result) (cell g.stack (length args)) want));
     register = refl;
-    cells = tt
+    cells = tt;
   }
 
   method-falls : (n : Named) → AllHold w.classes g (method_demands w n) → EffectBelow w.classes (method_effect w n f) (method_effect w n g)
@@ -755,20 +758,20 @@ rule-falls w are site i greater lesser after o below no_top no_bottom a =
     let row = row_at i.op in
     let none : Each IsNotBottom lesser.stack = each-from_All IsNotBottom lesser.stack no_bottom in
     let asked : AllHold t lesser (demands w i a.named row) =
-        all-falls t lesser greater below.regs below.stack (each-from_All IsNotTop greater.stack no_top) none (demands w i a.named row) a.asked in
+    all-falls t lesser greater below.regs below.stack (each-from_All IsNotTop greater.stack no_top) none (demands w i a.named row) a.asked in
     let falls_to : EffectBelow t (effect w i a.named row lesser) (effect w i a.named row greater) =
-        effect-falls w are lesser greater below.regs below.stack none i a.named row a.asked in
+    effect-falls w are lesser greater below.regs below.stack none i a.named row a.asked in
     let regs : CellsBelow t (stored t Flow (effect w i a.named row lesser).store lesser.regs) after.regs =
-        subst (CellsBelow t (stored t Flow (effect w i a.named row lesser).store lesser.regs)) (sym a.regs) (stored-falls t are (effect w i a.named row lesser) (effect w i a.named row greater) falls_to below.regs) in
+    subst (CellsBelow t (stored t Flow (effect w i a.named row lesser).store lesser.regs)) (sym a.regs) (stored-falls t are (effect w i a.named row lesser) (effect w i a.named row greater) falls_to below.regs) in
     let stack : CellsBelow t (changed (effect w i a.named row lesser).change lesser.stack) after.stack =
-        subst (CellsBelow t (changed (effect w i a.named row lesser).change lesser.stack)) (sym a.stack) (changed-falls t are (effect w i a.named row lesser).change (effect w i a.named row greater).change falls_to.change below.stack) in
+    subst (CellsBelow t (changed (effect w i a.named row lesser).change lesser.stack)) (sym a.stack) (changed-falls t are (effect w i a.named row lesser).change (effect w i a.named row greater).change falls_to.change below.stack) in
     record {
       below = record { regs = stored t Flow (effect w i a.named row lesser).store lesser.regs; stack = changed (effect w i a.named row lesser).change lesser.stack };
       outcome = record {
         falls = falls_from row;
         ends = ends_at row;
         depth = length (changed (effect w i a.named row lesser).change lesser.stack);
-        wrote = wrote (effect w i a.named row lesser).store.register (effect w i a.named row lesser).store.cells
+        wrote = wrote (effect w i a.named row lesser).store.register (effect w i a.named row lesser).store.cells;
       };
       applies = record {
         method = a.method;
@@ -782,7 +785,7 @@ rule-falls w are site i greater lesser after o below no_top no_bottom a =
         falls = refl;
         ends = refl;
         depth = refl;
-        wrote_is = refl
+        wrote_is = refl;
       };
-      lower = record { regs = regs; stack = stack }
+      lower = record { regs = regs; stack = stack };
     }

@@ -1,5 +1,5 @@
 -- The rule keeps frames well formed.
-use Rattle.std.proofs.Common.{◌≡◌, ℕ, zero, suc, ◌+◌, ◌<◌, ◌≤◌, List, [], ◌∷◌, length, get_or, set, refl, sym, ◌∙◌, ap, subst, arith, All}
+use Rattle.std.proofs.Common.{◌≡◌, ℕ, zero, suc, ◌+◌, ◌≤◌, List, [], ◌∷◌, length, get_or, refl, sym, ◌∙◌, ap, subst, arith, All}
 use Rattle.std.proofs.lemmas.List.{length-set}
 use Rattle.std.proofs.lemmas.List.Elements.{All-set}
 use Rattle.jc_base.proofs.Lists.{All-slice_get}
@@ -15,15 +15,12 @@ use Rattle.jc_rows.specs.Named.{IsSound}
 use Rattle.jc_rows.proofs.Naming.{names-are-sound}
 use Rattle.jc_rules.specs.declared.effect.Cells.{Cells}
 use Rattle.jc_rules.specs.declared.effect.Cells.TheVariants as given
-use Rattle.jc_rules.specs.declared.effect.Store.{Store}
 use Rattle.jc_rules.specs.declared.effect.Mode.{Mode}
 use Rattle.jc_rules.specs.declared.effect.Mode.TheVariants.{Card, Flow}
-use Rattle.jc_rules.specs.Effect.{listed, stored, stored_cells, written, over, reg}
-use Rattle.jc_rules.specs.Demand.{Frame, AreKnown}
+use Rattle.jc_rules.specs.Effect.{stored_cells, written, over, reg}
 use Rattle.jc_rules.specs.Rule.{effect}
-use Rattle.jc_rules.specs.Apply.{Applies}
 use Rattle.jc_rules.specs.Flow.{IsNotFresh}
-use Rattle.jc_rules.specs.Laws.{IsNotBottom, Keeps, RuleKeeps}
+use Rattle.jc_rules.specs.Laws.{IsNotBottom, RuleKeeps}
 use Rattle.jc_rules.proofs.Falls.{fresh_is_bottom, fresh_not_below_bottom}
 use Rattle.jc_rules.proofs.Effects.{CellsKept, Suits, suits, changed-known, changed-full}
 
@@ -68,7 +65,7 @@ module _ (t : ClassTable) (are : AreClasses t) where
     written-not_fresh : (x : ℕ) (ty : Ty) (regs : List Ty) → IsKnown t ty → All (IsKnown t) regs → IsNotFresh ty → All IsNotFresh regs → All IsNotFresh (written t mode x ty regs)
     written-not_fresh x ty regs k all n none =
         All-set IsNotFresh regs x (over t mode (reg regs x) ty)
-            (over-not_fresh mode (reg regs x) ty (all-or (IsKnown t) regs x tt all) k (all-or IsNotFresh regs x tt none) n) none
+        (over-not_fresh mode (reg regs x) ty (all-or (IsKnown t) regs x tt all) k (all-or IsNotFresh regs x tt none) n) none
 
     stored-length : (x : ℕ) (cells : Cells) (regs : List Ty) → length (stored_cells t mode x cells regs) ≡ length regs
     stored-length x given.Nothing regs = refl
@@ -90,7 +87,7 @@ pub rule-keeps : (w : Linked) → IsWorld w → AreClasses w.classes → RuleKee
 rule-keeps w is are site i mode before after o k a =
     let e = effect w i a.named (row_at i.op) before in
     let sound : IsSound w a.named =
-        names-are-sound w is a.method site.place i (row_at i.op) a.named (All-slice_get (IsMethod w.infos w.pools w.classes) w.methods site.method a.method is.methods a.is_method) a.names in
+    names-are-sound w is a.method site.place i (row_at i.op) a.named (All-slice_get (IsMethod w.infos w.pools w.classes) w.methods site.method a.method is.methods a.is_method) a.names in
     let fits : Suits w.classes before e = suits w is before k i a.named (row_at i.op) sound a.asked in
     let count : length after.regs ≡ length before.regs = ap length a.regs ∙ stored-length w.classes are mode e.store.register e.store.cells before.regs in
     record {
@@ -98,9 +95,9 @@ rule-keeps w is are site i mode before after o k a =
         few = subst (λ n. n ≤ 255) (sym count) k.few;
         regs = subst (All (IsKnown w.classes)) (sym a.regs) (stored-known w.classes are mode e.store.register e.store.cells before.regs fits.stored k.regs);
         stack = subst (All (IsKnown w.classes)) (sym a.stack) (changed-known w.classes e.change before.stack fits.change k.stack);
-        object = k.object
+        object = k.object;
       };
       count = count;
       no_fresh = λ none. subst (All IsNotFresh) (sym a.regs) (stored-not_fresh w.classes are mode e.store.register e.store.cells before.regs fits.stored k.regs none);
-      no_bottom = λ none. subst (All IsNotBottom) (sym a.stack) (changed-full w.classes e.change before.stack fits.change none)
+      no_bottom = λ none. subst (All IsNotBottom) (sym a.stack) (changed-full w.classes e.change before.stack fits.change none);
     }

@@ -1,9 +1,8 @@
 -- What is planned suits the frame, and is what the rule says.
-use Rattle.std.proofs.Common.{◌≡◌, ℕ, ◌+◌, ◌<◌, ◌≤◌, List, length, reverse, take, Option, Some, None, IsSomeAnd, slice_get, All, refl, sym, ◌∙◌, ap, subst, arith}
+use Rattle.std.proofs.Common.{◌≡◌, ℕ, ◌+◌, ◌<◌, ◌≤◌, List, length, Option, Some, None, IsSomeAnd, slice_get, All, refl, sym, ◌∙◌, ap, subst, arith}
 use Rattle.jc_base.proofs.Lists.{All-slice_get, slice_get-below}
 use Rattle.jc_base.specs.declared.ty.Ty.{Ty}
 use Rattle.jc_base.specs.declared.record.MethodRec.{MethodRec}
-use Rattle.jc_base.specs.Class.{object}
 use Rattle.jc_base.specs.Order.{IsKnown}
 use Rattle.jc_base.specs.Linked.{IsMethod}
 use Rattle.jc_base.specs.World.{Linked, IsWorld}

@@ -1,6 +1,6 @@
 -- Dataflow typings of a method (Leroy 2002, section 2.3; JCVM 2.2, section 7.5; the data-flow analysis of the class file verifier):
 -- registers and a stack at every reached place at once, that meet the rule of every instruction.
-use Rattle.std.specs.Prelude.{◌≡◌, ℕ, ◌+◌, ◌<◌, ◌≤◌, ◌⊎◌, ℤ, pos, negsuc, Bool, if◌then◌else◌, ⊤, List, [], ◌∷◌, ◌++◌, length, replicate, All, Contains, Option, Some, None, IsSomeAnd, IsTrue, slice_get}
+use Rattle.std.specs.Prelude.{◌≡◌, ℕ, ◌+◌, ◌<◌, ◌≤◌, ◌⊎◌, ℤ, pos, negsuc, if◌then◌else◌, ⊤, List, [], ◌∷◌, ◌++◌, length, replicate, All, Contains, Option, Some, IsSomeAnd, IsTrue, slice_get}
 use Rattle.jc_base.specs.declared.ty.Ty.{Ty}
 use Rattle.jc_base.specs.declared.ty.Ty.TheVariants.{Class, Fresh, Top}
 use Rattle.jc_base.specs.declared.record.Handler.{Handler}
@@ -8,7 +8,6 @@ use Rattle.jc_base.specs.declared.record.MethodRec.{MethodRec}
 use Rattle.jc_base.specs.Class.{ClassTable}
 use Rattle.jc_base.specs.Order.{Below, IsJoin, IsKnown}
 use Rattle.jc_base.specs.World.{Linked, code_of}
-use Rattle.jc_decode.specs.declared.insn.Insn.{Insn}
 use Rattle.jc_decode.specs.declared.insn.Placed.{Placed}
 use Rattle.jc_decode.specs.Listing.{listing, listing_end, falls, jumps, targets}
 use Rattle.jc_rules.specs.declared.effect.Mode.TheVariants.{Flow}

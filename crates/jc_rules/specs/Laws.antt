@@ -1,6 +1,6 @@
 -- Laws of the rule: it keeps frames well formed, and in the dataflow it is monotone (Leroy 2002, section 2.3: the transfer
 -- functions of a dataflow analysis are monotone, so that least solutions exist).
-use Rattle.std.specs.Prelude.{◌≡◌, ⊤, List, length, All}
+use Rattle.std.specs.Prelude.{◌≡◌, ⊤, length, All}
 use Rattle.jc_base.specs.declared.ty.Ty.{Ty}
 use Rattle.jc_base.specs.declared.ty.Ty.TheVariants.{Bottom}
 use Rattle.jc_base.specs.World.{Linked}

@@ -1,22 +1,20 @@
 -- Worked cases of the rules, against the operand stack lines of JCVM 2.2, section 7.5.
-use Rattle.std.specs.Prelude.{◌≡◌, ℕ, ℤ, pos, Bool, List, [], ◌∷◌, ◌++◌, length, map, replicate, slice_get, None, Some, ⊤}
+use Rattle.std.specs.Prelude.{◌≡◌, ℕ, ℤ, pos, [], ◌∷◌, ◌++◌, length, map, replicate}
 use Rattle.std.specs.List.{range_with_len}
 use Rattle.std.proofs.Common.{refl}
 use Rattle.jc_base.specs.declared.ty.Ty.{Ty}
-use Rattle.jc_base.specs.declared.ty.Ty.TheVariants.{Bottom, Short, IntHigh, IntLow, Null, Class, ArrRef, Fresh, Top}
+use Rattle.jc_base.specs.declared.ty.Ty.TheVariants.{IntHigh, IntLow, Class, Fresh}
 use Rattle.jc_base.specs.World.{Linked}
 use Rattle.jc_decode.specs.declared.insn.Insn.{Insn}
 use Rattle.jc_decode.specs.Listing.{falls}
-use Rattle.jc_decode.specs.Layout.{opcode, layout_of}
-use Rattle.jc_rows.specs.declared.want.Want.TheVariants.{Value, Storable, Whole, Receiver}
-use Rattle.jc_rows.specs.declared.named.Named.{Named}
+use Rattle.jc_rows.specs.declared.want.Want.TheVariants.{Value, Receiver}
 use Rattle.jc_rows.specs.declared.named.Named.TheVariants as names
 use Rattle.jc_rows.specs.Row.{rows, row_at, by_sort, by_width, by_kind, first_four, by_local, literals, binary, orders_all, branching}
-use Rattle.jc_rules.specs.declared.demand.Demand.TheVariants.{Registers, Depth, Cell, Cut, Held}
+use Rattle.jc_rules.specs.declared.demand.Demand.TheVariants.{Registers, Cell}
 use Rattle.jc_rules.specs.declared.effect.Cells.TheVariants as given
 use Rattle.jc_rules.specs.declared.effect.Change.{Change}
 use Rattle.jc_rules.specs.declared.effect.Change.TheVariants.{Replace, CopyUnder, Exchange, MakeReady}
-use Rattle.jc_rules.specs.Effect.{listed, changed, stored}
+use Rattle.jc_rules.specs.Effect.{listed, changed}
 use Rattle.jc_rules.specs.Demand.{Frame}
 use Rattle.jc_rules.specs.Rule.{demands, effect, falls_from, ready_with}
 

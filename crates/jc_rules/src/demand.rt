@@ -66,7 +66,12 @@ impl Before<'_> {
             ),
             Demand::Cut(n) if self.splits(n) => Some(RuleFault::SplitInt),
             Demand::Cut(_) => None,
-            Demand::Held(x, ty) => judged(self.world.classes(), Want::Value(ty), self.reg(x), RuleFault::NoLocal(x)),
+            Demand::Held(x, ty) => judged(
+                self.world.classes(),
+                Want::Value(ty),
+                self.reg(x),
+                RuleFault::NoLocal(x),
+            ),
         }
     }
 

@@ -118,7 +118,10 @@ impl Before<'_> {
     {
         match sort {
             Sort::Reference => {
-                self.check(&[Demand::Registers(x, 1), Demand::Held(x, Ty::Class(self.world.role(0)))])?;
+                self.check(&[
+                    Demand::Registers(x, 1),
+                    Demand::Held(x, Ty::Class(self.world.role(0))),
+                ])?;
                 Ok(Effect::replacing(0, Cells::One(or_null(self.held(x)))))
             }
             Sort::Short => {
@@ -140,7 +143,10 @@ impl Before<'_> {
         if x as usize + 2 > self.regs.len() {
             return Err(RuleFault::NoLocal(x));
         }
-        self.check(&[Demand::Held(x, Ty::IntHigh), Demand::Held(x + 1, Ty::IntLow)])
+        self.check(&[
+            Demand::Held(x, Ty::IntHigh),
+            Demand::Held(x + 1, Ty::IntLow),
+        ])
     }
 
     pub(crate) fn store(&self, sort: Sort, x: u8) -> Result<Effect, RuleFault>

@@ -1,4 +1,4 @@
-use Rattle.std.proofs.Common.{◌∙◌, arith}
+use Rattle.std.proofs.Common.{◌∙◌}
 use Rattle.jc_rows.proofs.Members.{entry-public, entry-visible}
 use Rattle.jc_rows.proofs.called.entry.Goals as goal
 

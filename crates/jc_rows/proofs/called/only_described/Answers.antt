@@ -1,4 +1,4 @@
-use Rattle.std.proofs.Common.{◌≡◌, ◌<◌, ◌+◌, ℕ, Bool, true, false, length, IfSome, Option, None, Some, slice_get, ◌∙◌, sym, ap, subst, arith, refl}
+use Rattle.std.proofs.Common.{◌≡◌, ◌<◌, ◌+◌, ℕ, Bool, true, length, IfSome, slice_get, ◌∙◌, sym, subst, arith}
 use Rattle.jc_rows.specs.Named.{passes, is_described, described}
 use Rattle.jc_rows.proofs.Described.{Finds, Finds-skip, Finds-take, Finds-two, Finds-end, passes-read}
 use Rattle.jc_rows.proofs.called.only_described.Goals as goal

@@ -1,4 +1,4 @@
-use Rattle.std.proofs.Common.{◌≡◌, ◌<◌, length, refl, arith, sym, ◌∙◌, subst}
+use Rattle.std.proofs.Common.{◌<◌, length, refl, arith, sym, ◌∙◌, subst}
 use Rattle.std.proofs.lemmas.List.{length-set}
 use Rattle.std.proofs.lemmas.Bool.{true≢false}
 use Rattle.jc_base.specs.Class.{IsNextOnChain, IsEndOfChain}

@@ -1,13 +1,13 @@
-use Rattle.std.proofs.Common.{◌≡◌, ◌≤◌, ℕ, List, length, reverse, take, All, Option, Some, subst, sym, ◌∙◌, ap, arith}
+use Rattle.std.proofs.Common.{◌≡◌, ◌≤◌, length, All, subst, sym, ◌∙◌, ap, arith}
 use Rattle.std.proofs.lemmas.Result.{err_from_is_err_and}
 use Rattle.jc_base.specs.Order.{IsKnown}
 use Rattle.jc_rules.specs.Stack.{cells}
-use Rattle.jc_rules.specs.Effect.{needed, listed, changed, depth_after, stored}
-use Rattle.jc_rules.specs.Demand.{Frame, AreKnown}
+use Rattle.jc_rules.specs.Effect.{needed, listed, depth_after, stored}
+use Rattle.jc_rules.specs.Demand.{Frame}
 use Rattle.jc_rules.specs.Rule.{falls_from, ends_at}
-use Rattle.jc_rules.specs.Apply.{frame_of, HasRoom, IsPlan}
+use Rattle.jc_rules.specs.Apply.{frame_of, HasRoom}
 use Rattle.jc_rules.proofs.Stacks.{length-cells}
-use Rattle.jc_rules.proofs.Effects.{Suits, cells-kept, changed-known, length-changed}
+use Rattle.jc_rules.proofs.Effects.{cells-kept, changed-known, length-changed}
 use Rattle.jc_rules.proofs.Plans.{plan-suits, plan-applies, room-known, method-room}
 use Rattle.jc_rules.proofs.apply.apply.Goals as goal
 

@@ -1,4 +1,4 @@
-use Rattle.std.proofs.Common.{◌≡◌, ◌<◌, ◌≤◌, length, Result, Err, Ok, subst, sym, reverse, arith}
+use Rattle.std.proofs.Common.{◌≡◌, ◌<◌, ◌≤◌, length, Err, Ok, subst, sym, reverse, arith}
 use Rattle.std.proofs.lemmas.List.{length-reverse}
 use Rattle.std.proofs.lemmas.Result.{err_from_is_err_and}
 use Rattle.jc_rows.specs.Row.{row_at}
@@ -39,7 +39,7 @@ returns-then-depth_after-max_stack c =
     let limit : m.max_stack ≡ c.args.max_stack = method-room w c.args.site.method m (λ r. r.max_stack ≡ c.args.max_stack) c.method.ensures.is c.requires.method in
     let more : m.max_stack < depth_after e.change (length c.args.stack.now) = omega (arith, limit, c.depth_after.ensures) in
     let names_are : Names w m c.args.site.place c.args.insn (row_at c.args.insn.op) (Ok c.in_ok-named.named) =
-        subst (λ row. Names w m c.args.site.place c.args.insn row (Ok c.in_ok-named.named)) c.of-row.ensures c.in_ok-named.ensures.names in
+    subst (λ row. Names w m c.args.site.place c.args.insn row (Ok c.in_ok-named.named)) c.of-row.ensures c.in_ok-named.ensures.names in
     full c.in_ok-named.named c.method.ensures.is
     names_are
     asked

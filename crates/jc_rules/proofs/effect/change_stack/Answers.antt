@@ -1,4 +1,4 @@
-use Rattle.std.proofs.Common.{arith, ◌∙◌, ◌++◌, ◌≤◌, ap, sym, map}
+use Rattle.std.proofs.Common.{◌∙◌, ◌++◌, ◌≤◌, ap, sym, map}
 use Rattle.jc_rules.specs.Effect.{listed, ready}
 use Rattle.jc_rules.proofs.Stacks.{drop-cells}
 use Rattle.jc_rules.proofs.effect.change_stack.Goals as goal

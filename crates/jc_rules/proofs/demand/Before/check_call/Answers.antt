@@ -1,4 +1,4 @@
-use Rattle.std.proofs.Common.{◌≡◌, [], ◌∷◌, length, reverse, MatchResult, Result, Option, Some, subst, sym, arith}
+use Rattle.std.proofs.Common.{[], ◌∷◌, length, reverse, MatchResult, subst, sym}
 use Rattle.std.proofs.lemmas.Result.{err_from_is_err_and}
 use Rattle.jc_rules.specs.declared.demand.Demand.TheVariants.{Cell}
 use Rattle.jc_rules.specs.Demand.{frame, AllHold, Breaks}
