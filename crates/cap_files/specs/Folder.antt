@@ -22,7 +22,7 @@ key_of part dir = part.0 ∷ dir
 abbrev pub Holds : Parts → List ℕ → List ℕ → Type 0
 Holds parts key bytes = map.get parts key ≡ Some bytes
 
--- a part is there, is longer than `most`, of which `first` are its first bytes
+-- a part is there, and its bytes begin with `first`
 abbrev pub BeginsWith : Parts → List ℕ → List ℕ → Type 0
 BeginsWith parts key first = IsSomeAnd (map.get parts key) (λ bytes. first ≡ take (length first) bytes)
 

@@ -19,9 +19,11 @@ abbrev pub called : Counted → Bool → Counted
 called calls failed = if failed then faulted (counted calls) else counted calls
 
 -- ---- folders
+-- what a folder holds, which it always tells
 abbrev pub parts_held : MemFolder → Option Parts
 parts_held folder = Some folder.shelf.parts
 
+-- how often its loads and its stores have failed
 abbrev pub load_faults_of : MemFolder → ℕ
 load_faults_of folder = folder.loads.faults
 
@@ -54,6 +56,7 @@ FailsWhenDue calls (Err Failed) = IsTrue (is_due calls)
 abbrev pub is_stored : MemFolder → List ℕ → List ℕ → Bool
 is_stored folder key bytes = not (is_due folder.stores) && shelf.has_room folder.shelf key bytes
 
+-- the bytes that are kept, where so many are listed or none
 abbrev pub kept_of : Option ℕ → List ℕ → List ℕ
 kept_of None bytes = bytes
 kept_of (Some keep) bytes = take keep bytes
@@ -70,9 +73,11 @@ stored folder key bytes = record folder {
 }
 
 -- ---- a sink
+-- what a sink received, which it always tells
 abbrev pub text_received : MemSink → Option (List ℕ)
 text_received sink = Some sink.tape.bytes
 
+-- how often its puts have failed
 abbrev pub faults_of : MemSink → ℕ
 faults_of sink = sink.puts.faults
 

@@ -5,6 +5,7 @@ use Rattle.std.specs.Coded.{Coded, code_by, coded×, coded_ℕ, coded_list}
 use Rattle.cap_files.specs.Folder.{Parts}
 use Rattle.cap_files.specs.Room.{Room, suffices}
 
+-- the parts that are held, and the room for them
 pub record Shelved : Type 0 where
   pub parts : Parts
   pub room : Room

@@ -16,5 +16,6 @@ pub record IsText (buffer : List ℕ) (span : Span) : Type 0 where
   pub begins : IsCharBoundary buffer span.start
   pub ends : IsCharBoundary buffer span.end
 
+-- each span is one
 abbrev pub AreTexts : List ℕ → List Span → Type 0
 AreTexts buffer spans = All (IsText buffer) spans

@@ -1,12 +1,11 @@
 -- Worked cases of the grammar and of the lines.
-use Rattle.std.specs.Prelude.{◌≡◌, List, [], ◌∷◌, pos, negsuc, codes, refl}
+use Rattle.std.specs.Prelude.{◌≡◌, negsuc, codes, refl}
 use Rattle.std.specs.Fmt.{digits}
 use Rattle.cap_bytes.specs.declared.fault.FormKind.TheVariants.{Cut}
 use Rattle.cap_package.specs.declared.fault.PackFault.TheVariants.{Form, MethodLength}
 use Rattle.cap_bare.specs.declared.fault.BareKind.TheVariants.{BadTarget}
 use Rattle.cap_bare.specs.declared.run.BareEnd.TheVariants.{Returned}
 use Rattle.cap_text.specs.declared.start.StartFault.TheVariants.{ArgCount}
-use Rattle.cap_text.specs.Word.{IsNumberWord}
 use Rattle.cap_text.specs.Line.{malformed_line, not_started_line, refused_bare_line, bare_ending_line}
 
 malformed : malformed_line 0 (Form (record { part = 7; at = 21; kind = Cut })) ≡ codes "malformed package 0 Form 7 21 Cut\n"

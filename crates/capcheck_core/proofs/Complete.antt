@@ -1,16 +1,15 @@
 -- Where what a command needs is there and no device failed, no other verdict than Done and Memory has its cause.
-use Rattle.std.proofs.Common.{◌≡◌, ◌⊎◌, List, ℕ, ℤ, ◌≤◌, ◌<◌, length, map, subst, sym, ◌∙◌, ap, inl, inr, refl, arith, rules, suc, zero, [], ◌∷◌, take, All, FitsSigned, w16}
-use Rattle.std.specs.Prelude.{Some, None, IfSome, IsSomeAnd, Option, string_bytes, slice_get}
+use Rattle.std.proofs.Common.{◌≡◌, ◌⊎◌, List, ℕ, ℤ, ◌<◌, length, map, subst, ◌∙◌, inl, inr, refl, arith, rules, suc, zero, [], ◌∷◌, All, FitsSigned, w16}
+use Rattle.std.specs.Prelude.{None, IfSome, IsSomeAnd, string_bytes, slice_get}
 use Rattle.std.specs.FinMap as map
-use Rattle.cap_files.specs.Folder.{Parts, Holds}
-use Rattle.cap_bare.specs.declared.bare.Bare.{Bare}
+use Rattle.cap_files.specs.Folder.{Holds}
 use Rattle.cap_bare.specs.Typing.{CardTyping}
 use Rattle.cap_text.specs.declared.word.Arg.{Arg}
-use Rattle.cap_text.specs.declared.word.Arg.TheVariants.{Number, Null}
+use Rattle.cap_text.specs.declared.word.Arg.TheVariants.{Number}
 use Rattle.cap_text.specs.declared.start.StartFault.{StartFault}
 use Rattle.cap_text.specs.declared.start.StartFault.TheVariants.{NoEntry, NotStatic, ArgCount, ArgKind}
 use Rattle.cap_text.specs.Probe.{ProbeRequest}
-use Rattle.cap_text.specs.Request.{Request, probe, IsRequest}
+use Rattle.cap_text.specs.Request.{Request, probe}
 use Rattle.capcheck_core.specs.declared.verdict.Verdict.{Verdict}
 use Rattle.capcheck_core.specs.declared.verdict.Verdict.TheVariants.{Done, Refused, Limit, Malformed, Usage, ReadFault, StoreFault, Memory}
 use Rattle.capcheck_core.specs.Verdict.{status_of}
@@ -18,9 +17,9 @@ use Rattle.capcheck_core.specs.Outside.{Folders, Card, IsThere, IsAbsent, IsTooL
 use Rattle.capcheck_core.specs.Answers.{Answers, IsVerdict}
 use Rattle.capcheck_core.specs.Completeness.{CanProbe, CanDo, NoFault, Completes}
 use Rattle.capcheck_core.specs.MethodFile.{IsMethodFile}
-use Rattle.capcheck_core.specs.Probe.{Probes, OfMethodPart, OfMethod, IsRefusal, IsUnstarted, IsNoMethod, IsMissing, IsLong, method_key}
-use Rattle.capcheck_core.specs.Report.{Seen, IsReported, IsWhole, IsBroken}
-use Rattle.capcheck_core.specs.Shorts.{IsShort, AreShorts, RefusesStart, IsFirstMisfit}
+use Rattle.capcheck_core.specs.Probe.{Probes, OfMethodPart, OfMethod, IsRefusal, IsUnstarted, IsNoMethod, method_key}
+use Rattle.capcheck_core.specs.Report.{Seen, IsReported}
+use Rattle.capcheck_core.specs.Shorts.{IsShort, AreShorts, RefusesStart}
 use Rattle.capcheck_core.proofs.MethodFiles.{same_method, no_breach}
 
 -- the file that was read is the one that is held

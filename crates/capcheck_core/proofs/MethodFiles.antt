@@ -1,13 +1,13 @@
 -- A file holds at most one bare method, and none where an item breaks it.
-use Rattle.std.proofs.Common.{◌≡◌, ◌≤◌, ◌<◌, List, ℕ, length, subst, sym, ◌∙◌, ap, inl, inr, arith}
-use Rattle.cap_bytes.specs.Spelling.{Stands, Breaks, IsExact, file_of, info_of}
+use Rattle.std.proofs.Common.{◌≡◌, ◌≤◌, List, ℕ, length, subst, ap, inl, inr, arith}
+use Rattle.cap_bytes.specs.Spelling.{Stands, file_of, info_of}
 use Rattle.cap_bytes.proofs.Laws.{is_exact}
 use Rattle.cap_frame.specs.Frame.{component}
 use Rattle.cap_package.specs.declared.fault.PackFault.{PackFault}
-use Rattle.cap_package.specs.declared.fault.PackFault.TheVariants.{Form, MissingPart, SizeDisagrees, MethodOverlaps, MethodOutside, CountDisagrees, HandlerOutside, StaticOverlaps, NoMethodAt, ClassUndescribed, TooManyRegisters, BadType, StaticOutside, MethodLength, NoStaticAt, PartTooLong}
+use Rattle.cap_package.specs.declared.fault.PackFault.TheVariants.{Form, MethodLength}
 use Rattle.cap_bare.specs.declared.bare.Bare.{Bare}
 use Rattle.cap_bare.specs.MethodFile.{MethodFile, method_info, IsFileFault}
-use Rattle.capcheck_core.specs.MethodFile.{method_tag, IsMethodFile, RefusesFile, BreaksInFrame, BreaksInMethod}
+use Rattle.capcheck_core.specs.MethodFile.{method_tag, IsMethodFile, RefusesFile}
 
 same_info : (file info info' : List ℕ) → Stands (component method_tag) file info → Stands (component method_tag) file info' → info ≡ info'
 same_info file info info' framed framed' = (is_exact (file_of method_tag) (component method_tag) file).one_value info info' framed framed'

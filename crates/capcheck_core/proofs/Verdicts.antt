@@ -1,6 +1,6 @@
 -- A list of words asks for one thing, so the verdict for it is the verdict for whatever they ask.
-use Rattle.std.proofs.Common.{◌≡◌, List, ℕ, subst}
-use Rattle.cap_text.specs.Request.{Request, IsRequest, IsUsage, OneRequest}
+use Rattle.std.proofs.Common.{List, ℕ, subst}
+use Rattle.cap_text.specs.Request.{Request, IsRequest, OneRequest}
 use Rattle.capcheck_core.specs.declared.verdict.Verdict.{Verdict}
 use Rattle.capcheck_core.specs.Outside.{Folders, Card}
 use Rattle.capcheck_core.specs.Answers.{Answers, IsVerdict}

@@ -1,5 +1,5 @@
 -- How a verdict is reported: its status and its whole text, or status 8 and a prefix of the text.
-use Rattle.std.specs.Prelude.{◌≡◌, ℕ, ◌<◌, List, ◌++◌, take, Option, IfSome, IsSomeAnd, ◌⊎◌}
+use Rattle.std.specs.Prelude.{◌≡◌, ℕ, List, ◌++◌, take, Option, IfSome, IsSomeAnd, ◌⊎◌}
 use Rattle.cap_files.specs.Counts.{Rose}
 use Rattle.capcheck_core.specs.Verdict.{status_of, text_of}
 use Rattle.capcheck_core.specs.declared.verdict.Verdict.{Verdict}

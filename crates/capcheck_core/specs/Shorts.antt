@@ -1,5 +1,5 @@
 -- The arguments of a bare method: as many as it has parameters, each a short (JCVM 2.2, section 2.2: a short has 16 bits).
-use Rattle.std.specs.Prelude.{◌≡◌, ◌≢◌, ℕ, ℤ, ◌<◌, List, map, length, take, All, slice_get, IsSomeAnd, FitsSigned}
+use Rattle.std.specs.Prelude.{◌≡◌, ◌≢◌, ℕ, ℤ, List, map, length, take, All, slice_get, IsSomeAnd, FitsSigned}
 use Rattle.std.specs.Int.{w16}
 use Rattle.cap_text.specs.declared.word.Arg.{Arg}
 use Rattle.cap_text.specs.declared.word.Arg.TheVariants.{Number, Null}

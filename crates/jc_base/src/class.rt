@@ -45,6 +45,7 @@ impl Classes {
         &self.records
     }
 
+    /// The record of a class or an interface, by its number.
     pub fn at(&self, n: u16) -> &ClassRec
         requires { n < length self.now.records }
         ensures is { slice_get self.now.records n ≡ Some result.now }

@@ -18,6 +18,7 @@ impl<'a> Model for Infos<'a> {
 }
 
 impl<'a> Infos<'a> {
+    /// No info yet.
     pub fn new(alloc: Global) -> Infos<'a>
         ensures { result ≡ [] }
     {
@@ -26,7 +27,7 @@ impl<'a> Infos<'a> {
         }
     }
 
-    /// Appends one info.
+    /// Appends the info of the next package. After want of memory the list is as before.
     pub fn push(&mut self, info: &'a [u8]) -> Result<(), AllocError>
         ensures ok { OnOk result (self.new ≡ self.old ++ info.now ∷ []) }
         ensures err { OnErr result (self.new ≡ self.old) }
@@ -41,6 +42,7 @@ impl<'a> Infos<'a> {
         self.items.len()
     }
 
+    /// The info of a package, by its number.
     pub fn at(&self, n: usize) -> &'a [u8]
         requires { n < length self.now }
         ensures { slice_get self.now n ≡ Some result.now }

@@ -42,6 +42,7 @@ impl<T> Model for Items<T> {
 }
 
 impl<T> Items<T> {
+    /// The list of these items.
     pub fn of(items: Vec<T>) -> Items<T>
         ensures { result ≡ items.items }
     {
@@ -54,6 +55,7 @@ impl<T> Items<T> {
         self.items.len()
     }
 
+    /// The item at a place, counted from 0.
     pub fn at(&self, n: usize) -> &T
         requires { n < length self.now }
         ensures { slice_get self.now n ≡ Some result.now }
@@ -61,6 +63,7 @@ impl<T> Items<T> {
         &self.items[n]
     }
 
+    /// All items, to go over them.
     pub fn as_slice(&self) -> &[T]
         ensures { result.now ≡ self.now }
     {

@@ -9,3 +9,5 @@ pub mod Appending
 pub mod Windows
 pub mod ReadBack
 pub mod Written
+pub mod OwnBytes
+pub mod Rising

@@ -16,7 +16,7 @@ use Rattle.jc_decode.specs.declared.insn.CodeEnd.{CodeEnd}
 use Rattle.jc_decode.specs.declared.insn.CodeEnd.TheVariants.{BadOperand}
 use Rattle.jc_decode.specs.declared.insn.Insn.{Insn}
 use Rattle.jc_decode.specs.Layout.{width, layout_of, opcode}
-use Rattle.jc_decode.specs.Decoding.{IsWithin, allows, decoded, operand_at, or_cut, number_of, value, AreBytes, FitsOperand, FitsLayout}
+use Rattle.jc_decode.specs.Decoding.{Begins, IsWithin, allows, decoded, operand_at, or_cut, number_of, value, AreBytes, FitsOperand, FitsLayout}
 use Rattle.jc_decode.specs.Encoding.{bits, Allows, AllowsBy, IsAllowed}
 use Rattle.jc_decode.specs.Listing.{jumps}
 use Rattle.jc_decode.proofs.Decoded.{Begins-decoded, IsWithin-decoded, from_bind, or_cut-ok}
@@ -32,7 +32,7 @@ number_at-fits w at n xs bytes h = by_reach (nat_le (at + w) (length xs)) h
     by_reach true h = let e : big_number w (drop at xs) ≡ n = cc in omega (arith, below, e)
     by_reach false h = absurd (cc)
 
-number_of-fits : (o : Operand) (xs : List ℕ) (at n : ℕ) → AreBytes xs → number_of o xs at ≡ Some n → n < 256 ^ width o
+pub number_of-fits : (o : Operand) (xs : List ℕ) (at n : ℕ) → AreBytes xs → number_of o xs at ≡ Some n → n < 256 ^ width o
 number_of-fits Absent xs at n bytes h = let e : 0 ≡ n = cc in omega (arith, e)
 number_of-fits U1 xs at n bytes h = number_at-fits 1 at n xs bytes h
 number_of-fits U2 xs at n bytes h = number_at-fits 2 at n xs bytes h
@@ -56,7 +56,7 @@ value-fits SwapWords n h = h
 value-fits ArrayType n h = h
 value-fits TestedType n h = h
 
-allowed-value : (o : Operand) (b : Bool) (n : ℕ) (v : ℤ) → cond b (Ok (value o n)) (Err (BadOperand n)) ≡ Ok v → value o n ≡ v
+pub allowed-value : (o : Operand) (b : Bool) (n : ℕ) (v : ℤ) → cond b (Ok (value o n)) (Err (BadOperand n)) ≡ Ok v → value o n ≡ v
 allowed-value o true n v h = cc
 allowed-value o false n v h = absurd (cc)
 
@@ -160,6 +160,10 @@ IsAllowed-decoded xs at i bytes h =
     (Allows-read b.layout.x xs _ i.x bytes b.x, Allows-read b.layout.y xs _ i.y bytes b.y, Allows-read b.layout.z xs _ i.z bytes b.z)
 
 -- what is known of an instruction that is decoded
+pub begins-answer : (xs : List ℕ) (at : ℕ) (r : Result Insn CodeEnd) → r ≡ decoded xs at → IfOk r (λ i. Begins xs at i)
+begins-answer xs at (Ok i) h = Begins-decoded xs at i (sym h)
+begins-answer xs at (Err e) h = search rules
+
 pub fits-answer : (xs : List ℕ) (at : ℕ) (r : Result Insn CodeEnd) → AreBytes xs → r ≡ decoded xs at → IfOk r (λ i. FitsLayout i (layout_of i.op))
 fits-answer xs at (Ok i) bytes h = FitsLayout-decoded xs at i bytes (sym h)
 fits-answer xs at (Err e) bytes h = search rules

@@ -81,7 +81,7 @@ table_within xs at i l h is_layout is_switch =
     (omega (arith, e.0), e.1)
 
 -- low is not above high where there is a table of their numbers, and the table lies within the code
-range_order : (bound : Operand) (xs : List ℕ) (table : ℕ) (low high : ℤ) (e : ℕ) → range_end bound xs table low high ≡ Ok e → low ≤ℤ high
+pub range_order : (bound : Operand) (xs : List ℕ) (table : ℕ) (low high : ℤ) (e : ℕ) → range_end bound xs table low high ≡ Ok e → low ≤ℤ high
 range_order bound xs table low high e h = by_test (int_lt high low) refl h
   where
     by_test : (b : Bool) → int_lt high low ≡ b

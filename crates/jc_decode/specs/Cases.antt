@@ -1,6 +1,7 @@
 -- The cases of a switch: an offset for each number from low to high, or pairs of a key and an offset
 -- (JCVM 2.2, chapter 7: stableswitch, itableswitch, slookupswitch, ilookupswitch).
-use Rattle.std.specs.Prelude.{◌++◌, take, drop, true, false, ◌≡◌, ◌+◌, ◌*◌, ℕ, ℤ, pos, ◌+ℤ◌, unsigned_abs, List, [], map, Result, Ok, Err, IsTrue, Bool}
+use Rattle.std.specs.Prelude.{◌<ℤ◌, slice_get, Some, negsuc, ◌∷◌, ◌++◌, take, drop, true, false, ◌≡◌, ◌+◌, ◌*◌, ℕ, ℤ, pos, ◌+ℤ◌, unsigned_abs, List, [], map, Result, Ok, Err, IsTrue, Bool}
+use Rattle.std.proofs.Common.{refl}
 use Rattle.std.specs.List.{range_with_len}
 use Rattle.std.specs.Int.{cast_unsigned, w16}
 use Rattle.byteorder.specs.Endian.{big_bytes}
@@ -14,7 +15,7 @@ use Rattle.jc_decode.specs.declared.layout.Cases.TheVariants.{Absent as NoCases}
 use Rattle.jc_decode.specs.declared.insn.Insn.{Insn}
 use Rattle.jc_decode.specs.declared.insn.Case.{Case}
 use Rattle.jc_decode.specs.declared.insn.CodeEnd.{CodeEnd}
-use Rattle.jc_decode.specs.Layout.{width, total_width, layout_of}
+use Rattle.jc_decode.specs.Layout.{opcode, width, total_width, layout_of}
 use Rattle.jc_decode.specs.Decoding.{operand_at, key_at, pair_width, range_count, decoded}
 
 -- the offset at a place of a table
@@ -56,6 +57,23 @@ has_cases (Err e) = false
 abbrev pub is_switch : ℕ → Bool
 is_switch op = has_cases (layout_of op)
 
+abbrev pub is_range : Cases → Bool
+is_range NoCases = false
+is_range Range = true
+is_range (Pairs key) = false
+
+abbrev pub has_range : Result Layout CodeEnd → Bool
+has_range (Ok l) = is_range l.cases
+has_range (Err e) = false
+
+-- whether this is the opcode of a switch with an offset for each number from low to high
+abbrev pub is_table_switch : ℕ → Bool
+is_table_switch op = has_range (layout_of op)
+
+-- each key is above the one before it
+abbrev pub KeysRise : List Case → Type 0
+KeysRise cs = (n : ℕ) (c d : Case) → slice_get cs n ≡ Some c → slice_get cs (n + 1) ≡ Some d → c.key <ℤ d.key
+
 abbrev pub with_default : ℤ → Result Insn CodeEnd → Result Insn CodeEnd
 with_default x (Ok i) = Ok (record i { x = x })
 with_default x (Err e) = Err e
@@ -84,3 +102,9 @@ with_offset xs place offset = take place xs ++ (big_bytes 2 (cast_unsigned w16 o
 -- a case that leads so far
 abbrev pub leading : ℤ → Case → Case
 leading offset c = record c { offset = offset }
+
+-- a stableswitch from -1 to 0
+table : cases (115 ∷ 0 ∷ 5 ∷ 255 ∷ 255 ∷ 0 ∷ 0 ∷ 0 ∷ 16 ∷ 255 ∷ 254 ∷ []) 0 (record { op = 115; x = pos 5; y = negsuc 0; z = pos 0; len = 11 })
+    ≡ record { key = negsuc 0; offset = pos 16 } ∷ record { key = pos 0; offset = negsuc 1 } ∷ []
+unfolding cases layout_of opcode
+table = refl

@@ -1,6 +1,7 @@
 -- The instruction at a place of a method's code (JCVM 2.2, chapter 7): its opcode, then its operands one
 -- after the other, the highest byte first, then the table of a switch.
-use Rattle.std.specs.Prelude.{slice_index, ◌<◌, ◌≤◌, ℕ, ◌+◌, ◌-◌, ◌*◌, ◌/◌, ◌%◌, ◌<◌, ◌≡◌, ◌^◌, ℤ, pos, ◌-ℤ◌, int_lt, unsigned_abs, negsuc, List, length, Option, Some, None, Result, Ok, Err, Bool, true, not, ◌||◌, ◌&&◌, ◌==◌, nat_le, if◌then◌else◌, FitsSigned}
+use Rattle.std.specs.Prelude.{[], ◌∷◌, slice_index, ◌<◌, ◌≤◌, ℕ, ◌+◌, ◌-◌, ◌*◌, ◌/◌, ◌%◌, ◌<◌, ◌≡◌, ◌^◌, ℤ, pos, ◌-ℤ◌, int_lt, unsigned_abs, negsuc, List, length, Option, Some, None, Result, Ok, Err, Bool, true, not, ◌||◌, ◌&&◌, ◌==◌, nat_le, if◌then◌else◌, FitsSigned}
+use Rattle.std.proofs.Common.{refl}
 use Rattle.std.specs.List.{find, range_with_len}
 use Rattle.std.specs.Result.{result_unwrap_or}
 use Rattle.std.specs.Int.{cast_signed, w8, w16, w32}
@@ -12,9 +13,9 @@ use Rattle.jc_decode.specs.declared.layout.Cases.TheVariants.{Range, Pairs}
 use Rattle.jc_decode.specs.declared.layout.Cases.TheVariants.{Absent as NoCases}
 use Rattle.jc_decode.specs.declared.layout.Layout.{Layout}
 use Rattle.jc_decode.specs.declared.insn.CodeEnd.{CodeEnd}
-use Rattle.jc_decode.specs.declared.insn.CodeEnd.TheVariants.{Cut, BadOperand}
+use Rattle.jc_decode.specs.declared.insn.CodeEnd.TheVariants.{Cut, BadOperand, NoOpcode, OutOfScope}
 use Rattle.jc_decode.specs.declared.insn.Insn.{Insn}
-use Rattle.jc_decode.specs.Layout.{width, total_width, layout_of}
+use Rattle.jc_decode.specs.Layout.{opcode, width, total_width, layout_of}
 
 infixl 10 ◌>>=◌
 abbrev pub ◌>>=◌ : {A B : Type 0} → Result A CodeEnd → (A → Result B CodeEnd) → Result B CodeEnd
@@ -167,3 +168,37 @@ pub record Begins (xs : List ℕ) (at : ℕ) (i : Insn) : Type 0 where
   pub y : operand_at layout.y xs (at + 1 + width layout.x) ≡ Ok i.y
   pub z : operand_at layout.z xs (at + 1 + width layout.x + width layout.y) ≡ Ok i.z
   pub ends : table_end layout xs (at + 1 + total_width layout) i.y i.z ≡ Ok (at + i.len)
+
+-- sspush 258; the second byte of an invokestatic, read as nop; dup_x of two words below one; half a goto_w; jsr; opcode 185
+push : decoded (17 ∷ 1 ∷ 2 ∷ []) 0 ≡ Ok (record { op = 17; x = pos 258; y = pos 0; z = pos 0; len = 3 })
+unfolding decoded layout_of opcode
+push = refl
+
+within : decoded (141 ∷ 0 ∷ 7 ∷ []) 1 ≡ Ok (record { op = 0; x = pos 0; y = pos 0; z = pos 0; len = 1 })
+unfolding decoded layout_of opcode
+within = refl
+
+few_words : decoded (63 ∷ 33 ∷ []) 0 ≡ Err (BadOperand 33)
+unfolding decoded layout_of opcode
+few_words = refl
+
+half : decoded (168 ∷ 0 ∷ []) 0 ≡ Err Cut
+unfolding decoded layout_of opcode
+half = refl
+
+subroutine : decoded (113 ∷ 0 ∷ []) 0 ≡ Err (OutOfScope 113)
+unfolding decoded layout_of opcode
+subroutine = refl
+
+beyond : decoded (185 ∷ []) 0 ≡ Err (NoOpcode 185)
+unfolding decoded layout_of opcode
+beyond = refl
+
+-- an slookupswitch of no pair; one whose keys are equal
+no_pair : decoded (117 ∷ 0 ∷ 5 ∷ 0 ∷ 0 ∷ []) 0 ≡ Ok (record { op = 117; x = pos 5; y = pos 0; z = pos 0; len = 5 })
+unfolding decoded layout_of opcode
+no_pair = refl
+
+equal_keys : decoded (117 ∷ 0 ∷ 5 ∷ 0 ∷ 2 ∷ 3 ∷ 4 ∷ 0 ∷ 9 ∷ 3 ∷ 4 ∷ 0 ∷ 9 ∷ []) 0 ≡ Err (BadOperand 3)
+unfolding decoded layout_of opcode
+equal_keys = refl

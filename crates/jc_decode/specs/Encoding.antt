@@ -1,6 +1,7 @@
 -- The bytes of an instruction: its opcode, its operands and, of a switch, the table that stands in a code
 -- (JCVM 2.2, chapter 7).
-use Rattle.std.specs.Prelude.{◌≡◌, ◌+◌, ◌-◌, ℕ, ℤ, unsigned_abs, List, [], ◌∷◌, ◌++◌, length, take, drop, Result, Ok, Err, IsTrue, if◌then◌else◌}
+use Rattle.std.specs.Prelude.{pos, negsuc, ◌≡◌, ◌+◌, ◌-◌, ℕ, ℤ, unsigned_abs, List, [], ◌∷◌, ◌++◌, length, take, drop, Result, Ok, Err, IsTrue, if◌then◌else◌}
+use Rattle.std.proofs.Common.{refl}
 use Rattle.std.specs.Int.{cast_unsigned, w8, w16, w32}
 use Rattle.byteorder.specs.Endian.{big_bytes}
 use Rattle.jc_decode.specs.declared.layout.Operand.{Operand}
@@ -8,7 +9,7 @@ use Rattle.jc_decode.specs.declared.layout.Operand.TheVariants.{Absent, S1, S2, 
 use Rattle.jc_decode.specs.declared.layout.Layout.{Layout}
 use Rattle.jc_decode.specs.declared.insn.Insn.{Insn}
 use Rattle.jc_decode.specs.declared.insn.CodeEnd.{CodeEnd}
-use Rattle.jc_decode.specs.Layout.{width, total_width, layout_of}
+use Rattle.jc_decode.specs.Layout.{opcode, width, total_width, layout_of}
 use Rattle.jc_decode.specs.Decoding.{allows, decoded, FitsOperand}
 use Rattle.jc_decode.specs.Cases.{cases, is_table}
 
@@ -62,3 +63,8 @@ sized bytes i = record i { len = length bytes }
 pub record ReadsBack (xs : List ℕ) (at : ℕ) (i : Insn) (bytes : List ℕ) : Type 0 where
   pub insn : (before after : List ℕ) → decoded (before ++ (bytes ++ after)) (length before) ≡ Ok (sized bytes i)
   pub cases : (before after : List ℕ) → cases (before ++ (bytes ++ after)) (length before) (sized bytes i) ≡ cases xs at i
+
+-- iipush -2
+minus_two : encoding [] 0 (record { op = 20; x = negsuc 1; y = pos 0; z = pos 0; len = 5 }) ≡ 20 ∷ 255 ∷ 255 ∷ 255 ∷ 254 ∷ []
+unfolding encoding layout_of opcode
+minus_two = refl

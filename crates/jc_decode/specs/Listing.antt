@@ -1,8 +1,10 @@
 -- The instructions of a method's code, and where each leads.
-use Rattle.std.specs.Prelude.{Bool, ℤ, pos, ◌+ℤ◌, map, not, ◌||◌, ◌&&◌, ◌==◌, nat_le, if◌then◌else◌, ◌≡◌, ◌+◌, ℕ, zero, suc, List, [], ◌∷◌, length, Result, Ok, Err, IsErr}
+use Rattle.std.specs.Prelude.{negsuc, Bool, ℤ, pos, ◌+ℤ◌, map, not, ◌||◌, ◌&&◌, ◌==◌, nat_le, if◌then◌else◌, ◌≡◌, ◌+◌, ℕ, zero, suc, List, [], ◌∷◌, length, Result, Ok, Err, IsErr}
 use Rattle.jc_decode.specs.declared.insn.Insn.{Insn}
 use Rattle.jc_decode.specs.declared.insn.Placed.{Placed}
 use Rattle.jc_decode.specs.declared.insn.CodeEnd.{CodeEnd}
+use Rattle.std.proofs.Common.{refl}
+use Rattle.jc_decode.specs.Layout.{layout_of, opcode}
 use Rattle.jc_decode.specs.Decoding.{decoded}
 use Rattle.jc_decode.specs.Cases.{cases, is_switch}
 
@@ -62,3 +64,16 @@ targets code p =
     if jumps p.insn.op
     then target p.place p.insn.x ∷ map (λ c. target p.place c.offset) (cases code p.place p.insn)
     else []
+
+abbrev plain : ℕ → ℕ → Placed
+plain place op = record { place = place; insn = record { op = op; x = pos 0; y = pos 0; z = pos 0; len = 1 } }
+
+-- nop, sspush 258, return, and what is no instruction
+short : listing (0 ∷ 17 ∷ 1 ∷ 2 ∷ 122 ∷ 185 ∷ []) ≡ plain 0 0 ∷ record { place = 1; insn = record { op = 17; x = pos 258; y = pos 0; z = pos 0; len = 3 } } ∷ plain 4 122 ∷ []
+unfolding listing listing_from at_most decoded layout_of opcode
+short = refl
+
+-- a goto that leads before the code
+back : targets (112 ∷ 255 ∷ []) (record { place = 0; insn = record { op = 112; x = negsuc 0; y = pos 0; z = pos 0; len = 2 } }) ≡ negsuc 0 ∷ []
+unfolding targets cases layout_of opcode
+back = refl

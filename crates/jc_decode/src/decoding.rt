@@ -1,7 +1,8 @@
-ghost use Rattle.std.specs.Prelude.{◌≡◌, ◌+◌, ◌*◌, ◌^◌, ◌<◌, ◌≤◌, ◌-◌, length, IfOk, pos, if◌then◌else◌};
+ghost use Rattle.std.specs.Prelude.{◌≤ℤ◌, IsTrue, ◌≡◌, ◌+◌, ◌*◌, ◌^◌, ◌<◌, ◌≤◌, ◌-◌, length, IfOk, pos, if◌then◌else◌};
 ghost use Rattle.cap_bytes.specs.Number.{number_at};
 ghost use Rattle.jc_decode.specs.Layout.{layout_of, width};
-ghost use Rattle.jc_decode.specs.Decoding.{is_dup_words, is_swap_words, is_array_type, is_tested_type, or_cut, reached, bad_operand, operand_at, pair_width, key_at, rises, pairs_end, table_end, decoded, FitsLayout, FitsOperand, IsWithin, AreBytes};
+ghost use Rattle.jc_decode.specs.Decoding.{is_dup_words, is_swap_words, is_array_type, is_tested_type, or_cut, reached, bad_operand, operand_at, pair_width, key_at, rises, pairs_end, table_end, decoded, Begins, FitsLayout, FitsOperand, IsWithin, AreBytes};
+ghost use Rattle.jc_decode.specs.Cases.{cases, is_table_switch, KeysRise};
 ghost use Rattle.jc_decode.specs.Encoding.{IsAllowed};
 
 use crate::insn::{CodeEnd, Insn};
@@ -9,11 +10,19 @@ use crate::layout::{Cases, Layout, Operand};
 use cap_bytes::View;
 
 /// The instruction that begins at a place of a method's code, of at most 65,535 bytes.
+///
+/// The reasons for none are tried in this order: `OutOfScope` and `NoOpcode` by the opcode; `Cut` where
+/// the bytes do not reach, also where there is none at the place; `BadOperand` with the first byte of
+/// the first operand that the instruction forbids. Of a table switch that is `high` where it is below
+/// `low`, of a lookup switch a key that is not above the one before it.
 pub fn decode(code: View, at: u16) -> Result<Insn, CodeEnd>
     requires { length code.bytes.now ≤ 65535 }
     ensures value { result ≡ decoded code.entry.bytes.now at }
+    ensures begins { IfOk result (λ i. Begins code.entry.bytes.now at i) }
     ensures operands { IfOk result (λ i. FitsLayout i (layout_of i.op)) }
     ensures allowed { IfOk result (λ i. IsAllowed i) }
+    ensures order { IfOk result (λ i. IsTrue (is_table_switch i.op) → i.y ≤ℤ i.z) }
+    ensures rising { IfOk result (λ i. KeysRise (cases code.entry.bytes.now at i)) }
     ensures within { IfOk result (λ i. IsWithin code.entry.bytes.now at i) }
 {
     are_bytes(code.bytes);

@@ -1,9 +1,10 @@
-ghost use Rattle.std.specs.Prelude.{◌≡◌, ◌≤◌, ◌+◌, ◌++◌, length, take, OnOk, OnErr, IsTrue, Ok};
-ghost use Rattle.jc_decode.specs.Decoding.{FitsOperand};
+ghost use Rattle.std.specs.Prelude.{◌≡◌, ◌≤◌, ◌+◌, ◌++◌, length, take, drop, OnOk, OnErr, IsTrue, Ok};
+ghost use Rattle.jc_decode.specs.Decoding.{decoded, FitsOperand};
 ghost use Rattle.jc_decode.specs.Layout.{total_width};
 ghost use Rattle.jc_decode.specs.Cases.{HasTable, is_table};
 ghost use Rattle.jc_decode.specs.Encoding.{operand_bytes, head_bytes, AllowsBy, table_bytes, encoding, IsAllowed, ReadsBack};
 
+use crate::decoding::are_bytes;
 use crate::insn::Insn;
 use crate::layout::{Cases, Layout, Operand};
 use cap_bytes::View;
@@ -18,8 +19,10 @@ pub fn encode(insn: Insn, code: View, at: u16, to: &mut Vec<u8>) -> Result<(), A
     requires table { HasTable code.bytes.now at insn }
     ensures appended { OnOk result (to.new.items ≡ to.old.items ++ encoding code.entry.bytes.now at insn) }
     ensures read_back { ReadsBack code.entry.bytes.now at insn (encoding code.entry.bytes.now at insn) }
+    ensures same_bytes { decoded code.entry.bytes.now at ≡ Ok insn → encoding code.entry.bytes.now at insn ≡ take insn.len (drop at code.entry.bytes.now) }
     ensures unchanged { OnErr result (to.new.items ≡ to.old.items) }
 {
+    are_bytes(code.bytes);
     let before = to.len();
     let result = append(insn, code, at, to);
     if result.is_err() {

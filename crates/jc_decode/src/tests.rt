@@ -1,4 +1,6 @@
-ghost use Rattle.std.specs.Prelude.{◌≡◌, ◌≤◌, length};
+ghost use Rattle.std.specs.Prelude.{◌≡◌, ◌≤◌, ◌<◌, IsTrue, Ok, length};
+ghost use Rattle.jc_decode.specs.Decoding.{decoded};
+ghost use Rattle.jc_decode.specs.Cases.{cases};
 
 use super::*;
 use cap_bytes::View;
@@ -193,11 +195,20 @@ fn what_is_encoded_are_the_bytes_that_were_decoded(rt: HostRuntime) -> Result<()
     Ok(())
 }
 
+/// Whether the switch at place 0 has a second case.
+fn has_second(code: &[u8], insn: Insn) -> bool
+    requires short { length code.now ≤ 65535 }
+    requires decoded { decoded code.now 0 ≡ Ok insn }
+    ensures { IsTrue result → 1 < length (cases code.now 0 insn) }
+{
+    case(View::of(code), 0, insn, 1).is_some()
+}
+
 #[test]
 fn one_offset_is_set(rt: HostRuntime) {
     let mut code = LOOKUP;
     if let Ok(insn) = decode(View::of(&code), 0) {
-        if case(View::of(&code), 0, insn, 1).is_some() {
+        if has_second(&code, insn) {
             set_case(&mut code, 0, insn, 1, -2);
         }
     }

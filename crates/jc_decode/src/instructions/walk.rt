@@ -1,6 +1,6 @@
 ghost use Rattle.std.specs.Prelude.{◌≡◌, ◌≤◌, length, Err};
 ghost use Rattle.std.specs.Iterator.{YieldsFirst, item_count};
-ghost use Rattle.jc_decode.specs.Listing.{listing, listing_end};
+ghost use Rattle.jc_decode.specs.Listing.{listing, listing_end, Lists};
 ghost use Rattle.jc_decode.specs.Decoding.{decoded};
 ghost use Rattle.jc_decode.specs.Instructions.{rest_of};
 
@@ -14,7 +14,8 @@ impl<'a> Instructions<'a> {
     /// The instructions of a method's code of at most 65,535 bytes.
     pub fn of(code: View<'a>) -> Instructions<'a>
         requires { length code.bytes.now ≤ 65535 }
-        ensures { rest_of result ≡ listing code.entry.bytes.now }
+        ensures instructions { rest_of result ≡ listing code.entry.bytes.now }
+        ensures lists { Lists code.entry.bytes.now 0 (rest_of result) }
     {
         Instructions { code, at: 0 }
     }

@@ -1,5 +1,3 @@
-use Rattle.capcheck_core.specs.Outside.{folders, card}
-use Rattle.capcheck_core.specs.Report.{seen}
 use Rattle.capcheck_core.proofs.Complete.{completes}
 use Rattle.capcheck_core.proofs.call.capcheck.Goals as goal
 

@@ -1,0 +1,7 @@
+pub mod Widths
+pub mod MemberWidths
+pub mod NibbleLemmas
+pub mod Counting
+pub mod TypesCounted
+pub mod TakenLength
+pub mod OneType

@@ -1,0 +1,11 @@
+pub mod DescriptorFormat
+pub mod TypeFormat
+pub mod MemberRecords
+pub mod MemberLists
+pub mod ClassRecords
+pub mod Descriptors
+pub mod Nibbles
+pub mod TypeCount
+pub mod TypeLists
+pub mod Members
+pub mod MembersLeft

@@ -1,0 +1,48 @@
+use crate::members::{FieldsOf, MethodsFrom};
+use crate::records::{FieldInfo, MethodInfo};
+
+impl Iterator for MethodsFrom<'_> {
+    type Item = MethodInfo;
+
+    ghost use Rattle.std.specs.Iterator.{YieldsFirstBy, item_count};
+    ghost use Rattle.cap_desc.specs.MemberRecords.{method_seen};
+    ghost use Rattle.cap_desc.specs.MembersLeft.{methods_from_left};
+
+    ghost next_gives = { YieldsFirstBy method_seen methods_from_left };
+
+    ghost remaining = { item_count methods_from_left };
+
+    fn next(&mut self) -> Option<MethodInfo> {
+        'classes: loop {
+            if let Some(method) = self.methods.next() {
+                return Some(method);
+            }
+            let class = self.classes.next()?;
+            if class.class_ref() >= self.start {
+                self.methods = class.methods();
+            }
+        }
+    }
+}
+
+impl Iterator for FieldsOf<'_> {
+    type Item = FieldInfo;
+
+    ghost use Rattle.std.specs.Iterator.{YieldsFirstBy, item_count};
+    ghost use Rattle.cap_desc.specs.MemberRecords.{field_seen};
+    ghost use Rattle.cap_desc.specs.MembersLeft.{fields_of_left};
+
+    ghost next_gives = { YieldsFirstBy field_seen fields_of_left };
+
+    ghost remaining = { item_count fields_of_left };
+
+    fn next(&mut self) -> Option<FieldInfo> {
+        'classes: loop {
+            if let Some(field) = self.fields.next() {
+                return Some(field);
+            }
+            let class = self.classes.next()?;
+            self.fields = class.fields();
+        }
+    }
+}

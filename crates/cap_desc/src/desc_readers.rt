@@ -1,0 +1,115 @@
+ghost use Rattle.std.specs.Prelude.{◌≡◌, ◌+◌, length, option_map};
+ghost use Rattle.std.specs.List.{slice_get};
+ghost use Rattle.cap_desc.specs.TypeFormat.{types_at, type_at};
+ghost use Rattle.cap_bytes.specs.Table.{numbers};
+ghost use Rattle.cap_desc.specs.ClassRecords.{classes_left};
+ghost use Rattle.cap_desc.specs.TypeLists.{types_left};
+ghost use Rattle.cap_desc.specs.Members.{methods_from, fields_of};
+ghost use Rattle.cap_desc.specs.MembersLeft.{methods_from_left, fields_of_left};
+ghost use Rattle.cap_desc.specs.Descriptors.{descriptor_seen};
+
+use crate::desc_part::DescPart;
+use crate::lists::{DescClasses, DescFields, DescMethods};
+use crate::members::{FieldsOf, MethodsFrom};
+use crate::nibbles::Nibbles;
+use crate::type_item::TypeItem;
+use crate::types::Types;
+use cap_bytes::{Table, View};
+
+impl<'a> DescPart<'a> {
+    /// The info that the component was read from.
+    pub fn info(&self) -> View<'a>
+        ensures { result ≡ self.now.info }
+    {
+        self.info
+    }
+
+    /// The classes and interfaces of the package, in the order of the component.
+    pub fn classes(&self) -> DescClasses<'a>
+        ensures { classes_left result ≡ (descriptor_seen self.now).classes }
+    {
+        self.classes
+    }
+
+    /// The methods of the classes whose reference is at least `start`, class after class.
+    #[tactic(auto, unfolding(cap_bytes::specs::Taking::gives, cap_bytes::specs::Taking::given))]
+    pub fn methods_from(&self, start: u16) -> MethodsFrom<'a>
+        ensures { methods_from_left result ≡ methods_from start (descriptor_seen self.now).classes }
+    {
+        MethodsFrom {
+            methods: DescMethods {
+                items: self.classes.items,
+                left: 0,
+            },
+            classes: self.classes,
+            start,
+        }
+    }
+
+    /// The fields of the classes, class after class.
+    #[tactic(auto, unfolding(cap_bytes::specs::Taking::gives, cap_bytes::specs::Taking::given))]
+    pub fn fields(&self) -> FieldsOf<'a>
+        ensures { fields_of_left result ≡ fields_of (descriptor_seen self.now).classes }
+    {
+        FieldsOf {
+            fields: DescFields {
+                items: self.classes.items,
+                left: 0,
+            },
+            classes: self.classes,
+        }
+    }
+
+    /// How many types of pool entries there are.
+    pub fn pool_count(&self) -> u16
+        ensures { result ≡ length (descriptor_seen self.now).pool_types }
+    {
+        self.pool_types.len()
+    }
+
+    /// The type of the n-th entry of the constant pool.
+    pub fn pool_type(&self, n: u16) -> Option<u16>
+        ensures { result ≡ slice_get (descriptor_seen self.now).pool_types n }
+    {
+        self.pool_types.at(n)
+    }
+
+    /// The types of the pool's entries, in the order of the pool.
+    pub fn pool_types(&self) -> Table<'a>
+        ensures { numbers result ≡ (descriptor_seen self.now).pool_types }
+    {
+        self.pool_types
+    }
+
+    /// The type of the type descriptor at an offset from the item `constant_pool_count`, where a
+    /// well-formed one of one type stands there.
+    pub fn type_at(&self, offset: u16) -> Option<TypeItem>
+        ensures {
+            result ≡ type_at self.now.info.bytes.now ((descriptor_seen self.now).types_start + offset)
+        }
+    {
+        let start = self.types_start + offset as u32;
+        let count = self.info.u1(start)?;
+        let bytes = self.info.part(start + 1, (count as u32 + 1) / 2)?;
+        let nibbles = Nibbles { bytes, count };
+        nibbles.one_type()
+    }
+
+    /// The types of the type descriptor at an offset from the item `constant_pool_count`, where a
+    /// well-formed one stands there.
+    pub fn types_at(&self, offset: u16) -> Option<Types<'a>>
+        ensures { option_map types_left result
+            ≡ types_at self.now.info.bytes.now ((descriptor_seen self.now).types_start + offset) }
+    {
+        let start = self.types_start + offset as u32;
+        let count = self.info.u1(start)?;
+        let bytes = self.info.part(start + 1, (count as u32 + 1) / 2)?;
+        let nibbles = Nibbles { bytes, count };
+        let left = nibbles.type_count()?;
+        Some(Types {
+            nibbles,
+            at: 0,
+            left,
+        })
+    }
+}

@@ -1,0 +1,73 @@
+ghost use Rattle.std.specs.Prelude.{◌≡◌, ◌≤◌, length, IfOk, IfErr};
+ghost use Rattle.cap_bytes.specs.Grammar.{repeat};
+ghost use Rattle.cap_bytes.specs.Spelling.{info_of, Stands, Breaks, IsExact};
+ghost use Rattle.cap_bytes.specs.Taking.{Takes, Passes, Reads};
+ghost use Rattle.cap_desc.specs.DescriptorFormat.{class_info, descriptor_info};
+ghost use Rattle.cap_desc.specs.ClassRecords.{classes_left};
+ghost use Rattle.cap_desc.specs.Descriptors.{descriptor_seen};
+
+use crate::desc_part::DescPart;
+use crate::lists::DescClasses;
+use crate::take;
+use cap_bytes::{FormFault, Items, View};
+
+/// The tag of the Descriptor component.
+const DESCRIPTOR: u8 = 11;
+
+/// Passes over so many classes.
+#[tactic(auto, using(cap_bytes::proofs::Loops::passing))]
+fn pass_classes(items: &mut Items<'_>, count: u8) -> Result<(), FormFault>
+    ensures { Passes (repeat count class_info) items.old result items.new }
+{
+    'classes: for _ in 0..count {
+        take::class_info(items)?;
+    }
+    Ok(())
+}
+
+/// The next so many classes.
+#[tactic(auto, using(cap_bytes::proofs::Loops::yielding))]
+fn classes<'a>(items: &mut Items<'a>, count: u8) -> Result<DescClasses<'a>, FormFault>
+    ensures { Takes classes_left (repeat count class_info) items.old result items.new }
+{
+    let first = *items;
+    pass_classes(items, count)?;
+    Ok(DescClasses {
+        items: first,
+        left: count,
+    })
+}
+
+/// The items of the component.
+#[tactic(auto, unfolding(cap_bytes::specs::Reading::reading))]
+fn read(info: View<'_>) -> Result<DescPart<'_>, FormFault>
+    requires { length info.bytes.now ≤ 65535 }
+    ensures value { Reads descriptor_seen (info_of 11) descriptor_info info.entry.bytes.now result }
+    ensures info { IfOk result (λ x. x.info ≡ info.entry) }
+{
+    let mut items = Items::of(info, DESCRIPTOR);
+    let class_count = items.u1()?;
+    let classes = classes(&mut items, class_count)?;
+    let types_start = items.at;
+    let pool_count = items.u2()?;
+    let pool_types = items.table(pool_count)?;
+    Ok(DescPart {
+        info,
+        classes,
+        types_start,
+        pool_types,
+    })
+}
+
+/// The Descriptor component that the info is, or the first item that breaks its format. The type
+/// descriptors behind the pool's types are not read.
+#[tactic(auto, using(cap_bytes::proofs::Laws::whole))]
+pub fn descriptor(info: View<'_>) -> Result<DescPart<'_>, FormFault>
+    requires { length info.bytes.now ≤ 65535 }
+    ensures found { IfOk result (λ x. Stands descriptor_info info.entry.bytes.now (descriptor_seen x)) }
+    ensures fault { IfErr result (λ e. Breaks (info_of 11) descriptor_info info.entry.bytes.now 0 e) }
+    ensures exact { IsExact (info_of 11) descriptor_info info.entry.bytes.now }
+    ensures info { IfOk result (λ x. x.info ≡ info.entry) }
+{
+    read(info)
+}

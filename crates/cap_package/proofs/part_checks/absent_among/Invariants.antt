@@ -1,0 +1,8 @@
+use Rattle.std.proofs.Common.{◌≡◌, drop}
+use Rattle.cap_frame.specs.Directory.{directory_items}
+use Rattle.cap_package.specs.Order.{least_of, least_from}
+use Rattle.cap_package.specs.PartChecks.{absent_fault, size_fault}
+use Rattle.cap_package.proofs.part_checks.absent_among.Given as goal
+
+abbrev pub invariant-tags : goal.invariant-tags
+invariant-tags l = least_from l.least (absent_fault l.parts) (drop l.tag-index l.tags) ≡ least_of (absent_fault l.parts) l.tags

@@ -1,0 +1,40 @@
+-- What dispatch tables, exports and applets name (JCVM 2.2, sections 6.5, 6.8 and 6.12).
+use Rattle.std.specs.Prelude.{ℕ, List, [], ◌∷◌, ◌++◌, Option, Some, None, map, count_by, ◌==◌, if◌then◌else◌}
+use Rattle.std.specs.List.{list_any}
+use Rattle.cap_frame.specs.AppletFormat.{Applet}
+use Rattle.cap_pool.specs.ExportFormat.{Exported}
+use Rattle.cap_class.specs.ClassFormat.{Class}
+use Rattle.cap_desc.specs.DescriptorFormat as described
+use Rattle.cap_desc.specs.DescriptorFormat.{Method}
+use Rattle.cap_package.specs.declared.fault.PackFault.{PackFault}
+use Rattle.cap_package.specs.declared.fault.PackFault.TheVariants.{NoMethodAt, ClassUndescribed}
+
+-- no described method stands at an offset
+unfoldable pub no_method_fault : List Method → ℕ → Option PackFault
+no_method_fault methods offset = if list_any (λ (m : Method). m.method_offset == offset) methods then None else Some (NoMethodAt offset)
+
+-- 0xFFFF in a dispatch table keeps the superclass's entry
+unfoldable pub no_entry_fault : List Method → ℕ → Option PackFault
+no_entry_fault methods offset = if offset == 0xFFFF then None else no_method_fault methods offset
+
+-- the entries of the dispatch tables
+abbrev pub table_entries : List Class → List ℕ
+table_entries [] = []
+table_entries (c ∷ cs) = c.public ++ (c.visible ++ table_entries cs)
+
+-- the offsets of the static methods, and of the static fields, that a package exports
+abbrev pub exported_methods : List Exported → List ℕ
+exported_methods [] = []
+exported_methods (c ∷ cs) = c.methods ++ exported_methods cs
+
+abbrev pub exported_fields : List Exported → List ℕ
+exported_fields [] = []
+exported_fields (c ∷ cs) = c.fields ++ exported_fields cs
+
+-- a class record is not described exactly once
+unfoldable pub undescribed_fault : List described.Class → Class → Option PackFault
+undescribed_fault descriptions c = if count_by (λ (d : described.Class). d.class_ref == c.offset) descriptions == 1 then None else Some (ClassUndescribed c.offset)
+
+-- an offset names no class record
+unfoldable pub no_class_fault : List Class → ℕ → Option PackFault
+no_class_fault classes offset = if list_any (λ (c : Class). c.offset == offset) classes then None else Some (ClassUndescribed offset)

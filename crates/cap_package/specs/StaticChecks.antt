@@ -1,0 +1,85 @@
+-- The static fields in the image (JCVM 2.2, section 6.10): the references first, two bytes each, of which the first
+-- name the initial arrays; then the primitive values.
+use Rattle.std.specs.Prelude.{ℕ, ◌+◌, ◌*◌, ◌/◌, ◌%◌, Bool, List, [], ◌∷◌, ◌++◌, Option, Some, None, map, min, max, nat_lt, nat_le, slice_index, ◌==◌, ◌||◌, ◌&&◌, not, if◌then◌else◌}
+use Rattle.std.specs.List.{list_any}
+use Rattle.cap_method.specs.StaticFormat.{Array, Statics}
+use Rattle.cap_desc.specs.declared.type_item.TypeItem.{TypeItem}
+use Rattle.cap_desc.specs.DescriptorFormat.{Field}
+use Rattle.cap_package.specs.Descriptions.{Description, field_type}
+use Rattle.cap_package.specs.HeaderChecks.{is_static}
+use Rattle.cap_package.specs.declared.fault.PackFault.{PackFault}
+use Rattle.cap_package.specs.declared.fault.PackFault.TheVariants.{StaticOverlaps, StaticOutside, NoStaticAt}
+
+-- the offset of a static field in the image
+abbrev pub image_offset : Field → ℕ
+image_offset f = slice_index f.bytes 1 * 256 + slice_index f.bytes 2
+
+-- the bytes of a value of a type in the image: one for boolean and byte, four for int, two for the others
+abbrev pub width_of : TypeItem → ℕ
+width_of t = if t.nibble == 2 || t.nibble == 3 then 1 else (if t.nibble == 5 then 4 else 2)
+
+abbrev pub is_reference : TypeItem → Bool
+is_reference t = nat_le 6 t.nibble
+
+-- where a static field stands in the image, and of which type it is
+pub record Place : Type 0 where
+  pub offset : ℕ
+  pub ty : TypeItem
+
+abbrev pub place_by : Field → Option TypeItem → Option Place
+place_by f None = None
+place_by f (Some t) = if is_static f.flags then Some (record { offset = image_offset f; ty = t }) else None
+
+unfoldable pub place_in : Description → Field → Option Place
+place_in d f = place_by f (field_type d f.ty)
+
+-- two static fields share a byte
+abbrev pub share_by : Option Place → Option Place → Option PackFault
+share_by None q = None
+share_by (Some p) None = None
+share_by (Some p) (Some q) =
+    if nat_lt (max p.offset q.offset) (min (p.offset + width_of p.ty) (q.offset + width_of q.ty))
+    then Some (StaticOverlaps (min p.offset q.offset) (max p.offset q.offset)) else None
+
+unfoldable pub share_fault : Description → Option Place → Field → Option PackFault
+share_fault d p g = share_by p (place_in d g)
+
+abbrev pub share_pair : Description → Field × Field → Option PackFault
+share_pair d p = share_fault d (place_in d p.0) p.1
+
+-- a place lies in the part of the image for its kind
+abbrev pub is_in_image : Statics → Place → Bool
+is_in_image s p =
+    if is_reference p.ty then p.offset % 2 == 0 && nat_le (p.offset + 2) (2 * s.reference_count)
+    else nat_le (2 * s.reference_count) p.offset && nat_le (p.offset + width_of p.ty) s.image_size
+
+abbrev pub image_by : Statics → Option Place → Option PackFault
+image_by s None = None
+image_by s (Some p) = if is_in_image s p then None else Some (StaticOutside p.offset)
+
+unfoldable pub image_fault : Statics → Description → Field → Option PackFault
+image_fault s d f = image_by s (place_in d f)
+
+-- the reference with this number is initialised by an array of this kind, and the field there is of another type
+abbrev pub array_by : ℕ → ℕ → Option Place → Option PackFault
+array_by number kind None = None
+array_by number kind (Some p) = if p.offset == 2 * number && not (p.ty.nibble == kind + 8) then Some (StaticOutside p.offset) else None
+
+unfoldable pub array_fault : Description → ℕ → ℕ → Field → Option PackFault
+array_fault d number kind f = array_by number kind (place_in d f)
+
+-- each array with its number and each field
+abbrev pub array_fields : ℕ → List Array → List Field → List (ℕ × ℕ × Field)
+array_fields number [] fields = []
+array_fields number (a ∷ others) fields = map (λ f. (number, a.kind, f)) fields ++ array_fields (number + 1) others fields
+
+abbrev pub array_field_fault : Description → ℕ × ℕ × Field → Option PackFault
+array_field_fault d p = array_fault d p.0 p.1 p.2
+
+-- a field stands at an offset of the image
+abbrev pub stands_at : ℕ → Field → Bool
+stands_at offset f = is_static f.flags && image_offset f == offset
+
+-- an exported offset names no static field
+unfoldable pub no_static_fault : List Field → ℕ → Option PackFault
+no_static_fault fields offset = if list_any (stands_at offset) fields then None else Some (NoStaticAt offset)

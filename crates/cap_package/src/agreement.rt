@@ -1,0 +1,144 @@
+ghost use Rattle.std.specs.Prelude.{◌≡◌};
+ghost use Rattle.cap_desc.specs.MembersLeft.{methods_from_left};
+ghost use Rattle.cap_package.specs.NameChecks.{no_method_fault, exported_methods};
+ghost use Rattle.cap_package.specs.Agreement.{or_none, places_agree, counts_agree, members_agree, named_condition, class_condition, export_condition};
+ghost use Rattle.cap_package.specs.ComponentsSeen.{components_seen};
+ghost use Rattle.cap_package.specs.Order.{least_from, refused};
+
+use crate::class_checks::{classes_described, descriptors_named, exports_are_classes};
+use crate::components::Components;
+use crate::count_checks::{agree, array_bytes, instances_agree};
+use crate::fault::PackFault;
+use crate::handler_checks::handlers_at_home;
+use crate::header_checks::{abstract_without_code, arguments_agree, lengths_fit, registers_few};
+use crate::lesser::refuse;
+use crate::method_checks::{methods_apart, methods_inside};
+use crate::name_checks::{entries_named, exports_named, installs_named, statics_named};
+use crate::part_checks::sizes_agree;
+use crate::read_package::classes_from;
+use crate::static_checks::{statics_apart, statics_in_image};
+use crate::type_checks::types_fit;
+use cap_desc::MethodsFrom;
+
+/// The sizes of the parts and the places of the methods agree.
+#[tactic(auto, unfolding(crate::specs::Agreement::places_agree))]
+pub(crate) fn places_agree(all: &Components<'_>) -> Result<(), PackFault>
+    ensures { result ≡ places_agree (components_seen all.now) }
+{
+    let described = all.descriptor.methods_from(classes_from(&all.classes));
+    let info = all.methods.info();
+    sizes_agree(all.parts, &all.directory)?;
+    methods_apart(info, described)?;
+    methods_inside(info, all.methods.handler_count(), described)
+}
+
+/// The numbers that two components tell are equal.
+#[tactic(auto, unfolding(crate::specs::Agreement::counts_agree))]
+pub(crate) fn counts_agree(all: &Components<'_>) -> Result<(), PackFault>
+    ensures { result ≡ counts_agree (components_seen all.now) }
+{
+    let described = all.descriptor.methods_from(classes_from(&all.classes));
+    let directory = &all.directory;
+    let statics = &all.statics;
+    let applets = match all.applets {
+        Some(applets) => applets.count() as u32,
+        None => 0,
+    };
+    agree(
+        1,
+        directory.import_count() as u32,
+        all.imports.count() as u32,
+    )?;
+    agree(2, directory.applet_count() as u32, applets)?;
+    agree(
+        3,
+        directory.image_size() as u32,
+        statics.image_size() as u32,
+    )?;
+    agree(
+        4,
+        directory.array_init_count() as u32,
+        statics.array_init_count() as u32,
+    )?;
+    agree(5, directory.array_init_size() as u32, array_bytes(statics))?;
+    agree(
+        6,
+        all.descriptor.pool_count() as u32,
+        all.pool.count() as u32,
+    )?;
+    arguments_agree(&all.methods, &all.descriptor, described)?;
+    instances_agree(&all.classes, &all.descriptor)?;
+    let references = 2 * statics.reference_count() as u32;
+    let values = statics.default_value_count() as u32 + statics.non_default_value_count() as u32;
+    agree(9, statics.image_size() as u32, references + values)?;
+    abstract_without_code(&all.methods, described)
+}
+
+/// The least fault so far, when the methods that the package exports were looked up, if it does.
+fn export_names(
+    all: &Components<'_>,
+    described: MethodsFrom<'_>,
+    least: Option<PackFault>,
+) -> Option<PackFault>
+    ensures { result ≡ least_from least (no_method_fault (methods_from_left described.entry)) (exported_methods (or_none (components_seen all.now).export)) }
+{
+    match &all.export {
+        Some(export) => exports_named(described, export, least),
+        None => least,
+    }
+}
+
+/// Dispatch tables, exports and applets name described methods.
+fn names_agree(all: &Components<'_>) -> Result<(), PackFault>
+    ensures { result ≡ refused (named_condition (components_seen all.now)) }
+{
+    let described = all.descriptor.methods_from(classes_from(&all.classes));
+    let entries = entries_named(described, &all.classes);
+    let exports = export_names(all, described, entries);
+    match &all.applets {
+        Some(applets) => refuse(installs_named(described, applets, exports)),
+        None => refuse(exports),
+    }
+}
+
+/// Each class record is described once, and descriptors and exports name class records.
+fn classes_agree(all: &Components<'_>) -> Result<(), PackFault>
+    ensures { result ≡ refused (class_condition (components_seen all.now)) }
+{
+    let descriptors = all.descriptor.classes();
+    let undescribed = classes_described(&all.classes, descriptors);
+    let unnamed = descriptors_named(&all.classes, descriptors, undescribed);
+    match &all.export {
+        Some(export) => refuse(exports_are_classes(&all.classes, export, unnamed)),
+        None => refuse(unnamed),
+    }
+}
+
+/// Exports name static fields.
+fn exports_agree(all: &Components<'_>) -> Result<(), PackFault>
+    ensures { result ≡ refused (export_condition (components_seen all.now)) }
+{
+    match &all.export {
+        Some(export) => refuse(statics_named(all.descriptor.fields(), export)),
+        None => Ok(()),
+    }
+}
+
+/// Handlers, static fields, names, classes, headers and types agree.
+#[tactic(auto, unfolding(crate::specs::Agreement::members_agree))]
+pub(crate) fn members_agree(all: &Components<'_>) -> Result<(), PackFault>
+    ensures { result ≡ members_agree (components_seen all.now) }
+{
+    let start = classes_from(&all.classes);
+    let described = all.descriptor.methods_from(start);
+    let fields = all.descriptor.fields();
+    handlers_at_home(&all.methods, described)?;
+    statics_apart(&all.descriptor, fields)?;
+    names_agree(all)?;
+    classes_agree(all)?;
+    registers_few(&all.methods, described)?;
+    types_fit(&all.descriptor, start)?;
+    statics_in_image(&all.statics, &all.descriptor, fields)?;
+    lengths_fit(&all.methods, described)?;
+    exports_agree(all)
+}

@@ -1,0 +1,108 @@
+ghost use Rattle.std.specs.Prelude.{◌≡◌, ◌≤◌, ◌*◌, length};
+ghost use Rattle.cap_class.specs.ClassPart.{records};
+ghost use Rattle.cap_method.specs.StaticPart.{statics_seen, arrays_left};
+ghost use Rattle.cap_desc.specs.ClassRecords.{class_seen, classes_left};
+ghost use Rattle.cap_desc.specs.MemberRecords.{field_seen};
+ghost use Rattle.cap_desc.specs.MemberLists.{fields_left};
+ghost use Rattle.cap_package.specs.Order.{least_of, least_from, refused};
+ghost use Rattle.cap_package.specs.Descriptions.{description};
+ghost use Rattle.cap_package.specs.CountChecks.{differ, array_bytes, cells_of, instance_cells, instance_fault};
+
+use crate::description::{field_type, words_of};
+use crate::fault::PackFault;
+use crate::lesser::{lesser, refuse};
+use cap_class::ClassPart;
+use cap_desc::{DescClass, DescPart, FieldInfo};
+use cap_method::StaticPart;
+
+/// Whether two numbers of one thing differ.
+#[tactic(auto, unfolding(crate::specs::CountChecks::differ))]
+pub(crate) fn differ(what: u8, said: u32, found: u32) -> Option<PackFault>
+    ensures { result ≡ differ what said found }
+{
+    if said == found {
+        None
+    } else {
+        Some(PackFault::CountDisagrees(what, said, found))
+    }
+}
+
+/// Two numbers of one thing are equal.
+pub(crate) fn agree(what: u8, said: u32, found: u32) -> Result<(), PackFault>
+    ensures { result ≡ refused (differ what said found) }
+{
+    refuse(differ(what, said, found))
+}
+
+/// The bytes of the initial arrays.
+#[tactic(auto, using(crate::proofs::ArrayBytes::arrays_short))]
+pub(crate) fn array_bytes(statics: &StaticPart<'_>) -> u32
+    ensures value { result ≡ array_bytes (statics_seen statics.now).arrays }
+{
+    let mut total: u32 = 0;
+    'arrays: for array in statics.arrays() {
+        total += array.values.len() as u32;
+    }
+    total
+}
+
+/// The cells of an instance field, and 0 of a static one.
+#[tactic(auto, unfolding(crate::specs::CountChecks::cells_of))]
+fn cells_of(descriptor: &DescPart<'_>, field: &FieldInfo) -> u32
+    ensures value { result ≡ cells_of (description descriptor.now) (field_seen field.now) }
+    ensures few { result ≤ 2 }
+{
+    if field.flags.is_static() {
+        return 0;
+    }
+    match field_type(descriptor, field.ty) {
+        Some(ty) => words_of(ty) as u32,
+        None => 1,
+    }
+}
+
+/// The cells of a class's own instance fields.
+fn instance_cells(descriptor: &DescPart<'_>, class: &DescClass<'_>) -> u32
+    ensures { result ≡ instance_cells (description descriptor.now) (class_seen class.now).fields }
+{
+    let count = class.field_count();
+    let mut cells: u32 = 0;
+    'fields: for field in class.fields() {
+        cells += cells_of(descriptor, &field);
+    }
+    let _count = count;
+    cells
+}
+
+#[tactic(auto, unfolding(crate::specs::CountChecks::instance_fault))]
+fn instance_fault(
+    classes: &ClassPart<'_>,
+    descriptor: &DescPart<'_>,
+    class: &DescClass<'_>,
+) -> Option<PackFault>
+    ensures { result ≡ instance_fault (records classes.now) (description descriptor.now) (class_seen class.now) }
+{
+    let entry = classes.entry(class.class_ref())?;
+    if entry.flags().is_interface() {
+        return None;
+    }
+    differ(
+        8,
+        entry.instance_size() as u32,
+        instance_cells(descriptor, class),
+    )
+}
+
+/// Each class declares the cells of its own instance fields.
+pub(crate) fn instances_agree(
+    classes: &ClassPart<'_>,
+    descriptor: &DescPart<'_>,
+) -> Result<(), PackFault>
+    ensures { result ≡ refused (least_of (instance_fault (records classes.now) (description descriptor.now)) (description descriptor.now).items.classes) }
+{
+    let mut least = None;
+    'classes: for class in descriptor.classes() {
+        least = lesser(least, instance_fault(classes, descriptor, &class));
+    }
+    refuse(least)
+}

@@ -1,0 +1,131 @@
+ghost use Rattle.std.specs.Prelude.{◌≡◌, option_map};
+ghost use Rattle.cap_method.specs.MethodPart.{header_seen};
+ghost use Rattle.cap_desc.specs.MemberRecords.{method_seen};
+ghost use Rattle.cap_desc.specs.MembersLeft.{methods_from_left};
+ghost use Rattle.cap_package.specs.Order.{least_of, refused};
+ghost use Rattle.cap_package.specs.Descriptions.{description};
+ghost use Rattle.cap_package.specs.HeaderChecks.{header_in, registers_fault, length_fault, arguments_fault, abstract_fault};
+
+use crate::description::argument_words;
+use crate::fault::PackFault;
+use crate::lesser::{lesser, refuse};
+use cap_desc::{DescPart, MethodInfo, MethodsFrom};
+use cap_method::{MethodHeader, MethodPart};
+
+/// The header of a method, where its bytes reach.
+#[tactic(auto, using(crate::proofs::HeaderKnown::header_known))]
+pub(crate) fn header(methods: &MethodPart<'_>, offset: u16) -> Option<MethodHeader>
+    ensures { option_map header_seen result ≡ header_in methods.now.info.bytes.now offset }
+{
+    methods.header(offset)
+}
+
+#[tactic(auto, unfolding(crate::specs::HeaderChecks::registers_fault))]
+fn registers_fault(methods: &MethodPart<'_>, method: &MethodInfo) -> Option<PackFault>
+    ensures { result ≡ registers_fault methods.now.info.bytes.now (method_seen method.now) }
+{
+    let header = header(methods, method.method_offset)?;
+    let registers = header.nargs as u16 + header.max_locals as u16;
+    if registers > 255 {
+        return Some(PackFault::TooManyRegisters(method.method_offset, registers));
+    }
+    None
+}
+
+/// No described method has more than 255 registers.
+pub(crate) fn registers_few(
+    methods: &MethodPart<'_>,
+    described: MethodsFrom<'_>,
+) -> Result<(), PackFault>
+    ensures { result ≡ refused (least_of (registers_fault methods.now.info.bytes.now) (methods_from_left described.entry)) }
+{
+    let mut least = None;
+    'methods: for method in described {
+        least = lesser(least, registers_fault(methods, &method));
+    }
+    refuse(least)
+}
+
+#[tactic(auto, unfolding(crate::specs::HeaderChecks::length_fault))]
+fn length_fault(methods: &MethodPart<'_>, method: &MethodInfo) -> Option<PackFault>
+    ensures { result ≡ length_fault methods.now.info.bytes.now (method_seen method.now) }
+{
+    let header = header(methods, method.method_offset)?;
+    let count = method.bytecode_count;
+    if !header.flags.is_abstract() && (count == 0 || count > 32767) {
+        return Some(PackFault::MethodLength(method.method_offset, count));
+    }
+    None
+}
+
+/// Each described method with code has 1 to 32,767 bytes of it.
+pub(crate) fn lengths_fit(
+    methods: &MethodPart<'_>,
+    described: MethodsFrom<'_>,
+) -> Result<(), PackFault>
+    ensures { result ≡ refused (least_of (length_fault methods.now.info.bytes.now) (methods_from_left described.entry)) }
+{
+    let mut least = None;
+    'methods: for method in described {
+        least = lesser(least, length_fault(methods, &method));
+    }
+    refuse(least)
+}
+
+#[tactic(auto, unfolding(crate::specs::HeaderChecks::arguments_fault))]
+fn arguments_fault(
+    methods: &MethodPart<'_>,
+    descriptor: &DescPart<'_>,
+    method: &MethodInfo,
+) -> Option<PackFault>
+    ensures { result ≡ arguments_fault methods.now.info.bytes.now (description descriptor.now) (method_seen method.now) }
+{
+    let header = header(methods, method.method_offset)?;
+    let words = argument_words(descriptor, method.type_offset)?;
+    let receiver = if method.flags.is_static() { 0 } else { 1 };
+    let found = words + receiver;
+    if header.nargs as u16 == found {
+        return None;
+    }
+    Some(PackFault::CountDisagrees(7, header.nargs as u32, found as u32))
+}
+
+/// Each described method takes as many words as its type descriptor tells.
+pub(crate) fn arguments_agree(
+    methods: &MethodPart<'_>,
+    descriptor: &DescPart<'_>,
+    described: MethodsFrom<'_>,
+) -> Result<(), PackFault>
+    ensures { result ≡ refused (least_of (arguments_fault methods.now.info.bytes.now (description descriptor.now)) (methods_from_left described.entry)) }
+{
+    let mut least = None;
+    'methods: for method in described {
+        least = lesser(least, arguments_fault(methods, descriptor, &method));
+    }
+    refuse(least)
+}
+
+#[tactic(auto, unfolding(crate::specs::HeaderChecks::abstract_fault))]
+fn abstract_fault(methods: &MethodPart<'_>, method: &MethodInfo) -> Option<PackFault>
+    ensures { result ≡ abstract_fault methods.now.info.bytes.now (method_seen method.now) }
+{
+    let header = header(methods, method.method_offset)?;
+    if header.flags.is_abstract() && method.bytecode_count != 0 {
+        return Some(PackFault::CountDisagrees(10, method.bytecode_count as u32, 0));
+    }
+    None
+}
+
+/// No abstract method has code.
+pub(crate) fn abstract_without_code(
+    methods: &MethodPart<'_>,
+    described: MethodsFrom<'_>,
+) -> Result<(), PackFault>
+    ensures { result ≡ refused (least_of (abstract_fault methods.now.info.bytes.now) (methods_from_left described.entry)) }
+{
+    let mut least = None;
+    'methods: for method in described {
+        least = lesser(least, abstract_fault(methods, &method));
+    }
+    refuse(least)
+}

@@ -1,0 +1,114 @@
+ghost use Rattle.std.specs.Prelude.{◌≡◌, ◌≤◌, ◌<◌, ◌^◌, length};
+ghost use Rattle.cap_bytes.specs.Number.{number_at};
+ghost use Rattle.cap_desc.specs.MemberRecords.{method_seen};
+ghost use Rattle.cap_desc.specs.MembersLeft.{methods_from_left};
+ghost use Rattle.cap_package.specs.Order.{least_of, least_from, refused};
+ghost use Rattle.cap_package.specs.Pairs.{pairs};
+ghost use Rattle.cap_package.specs.MethodChecks.{size_by, code_start, code_end, overlap_fault, overlap_pair, outside_fault};
+
+use crate::fault::PackFault;
+use crate::lesser::{lesser, refuse};
+use cap_bytes::View;
+use cap_desc::{MethodInfo, MethodsFrom};
+
+/// The offset behind a method's header.
+#[tactic(auto, unfolding(crate::specs::MethodChecks::code_start))]
+pub(crate) fn code_start(info: View<'_>, method: &MethodInfo) -> u32
+    ensures value { result ≡ code_start info.entry.bytes.now (method_seen method.now) }
+    ensures near { result ≤ 65539 }
+{
+    let size = match info.u1(method.method_offset as u32) {
+        Some(first) if first >= 0x80 => 4,
+        _ => 2,
+    };
+    method.method_offset as u32 + size
+}
+
+/// The offset behind a method's code.
+#[tactic(auto, unfolding(crate::specs::MethodChecks::code_end))]
+pub(crate) fn code_end(info: View<'_>, method: &MethodInfo) -> u32
+    ensures { result ≡ code_end info.entry.bytes.now (method_seen method.now) }
+{
+    code_start(info, method) + method.bytecode_count as u32
+}
+
+/// Whether two methods share a byte of the info.
+#[tactic(auto, unfolding(crate::specs::MethodChecks::overlap_fault))]
+fn overlap_fault(info: View<'_>, a: &MethodInfo, b: &MethodInfo) -> Option<PackFault>
+    requires { length info.bytes.now ≤ 65535 }
+    ensures { result ≡ overlap_fault info.entry.bytes.now (method_seen a.now) (method_seen b.now) }
+{
+    let first = a.method_offset.min(b.method_offset);
+    let second = a.method_offset.max(b.method_offset);
+    let end = code_end(info, a)
+        .min(code_end(info, b))
+        .min(info.bytes.len() as u32);
+    if (second as u32) < end {
+        Some(PackFault::MethodOverlaps(first, second))
+    } else {
+        None
+    }
+}
+
+/// The least fault so far, when a method was compared with those behind it.
+fn overlaps_with(
+    info: View<'_>,
+    method: &MethodInfo,
+    behind: MethodsFrom<'_>,
+    least: Option<PackFault>,
+) -> Option<PackFault>
+    requires { length info.bytes.now ≤ 65535 }
+    ensures { result ≡ least_from least (overlap_fault info.entry.bytes.now (method_seen method.now)) (methods_from_left behind.entry) }
+{
+    let mut least = least;
+    'methods: for other in behind {
+        least = lesser(least, overlap_fault(info, method, &other));
+    }
+    least
+}
+
+/// No two described methods share a byte of the info.
+#[tactic(auto, using(crate::proofs::PairFaults::least_pairs))]
+pub(crate) fn methods_apart(info: View<'_>, described: MethodsFrom<'_>) -> Result<(), PackFault>
+    requires { length info.bytes.now ≤ 65535 }
+    ensures { result ≡ refused (least_of (overlap_pair info.entry.bytes.now) (pairs (methods_from_left described.entry))) }
+{
+    let mut rest = described;
+    let mut least = None;
+    'methods: while let Some(method) = rest.next() {
+        least = overlaps_with(info, &method, rest, least);
+    }
+    refuse(least)
+}
+
+/// Whether a method stands outside the place for methods.
+#[tactic(auto, unfolding(crate::specs::MethodChecks::outside_fault))]
+fn outside_fault(info: View<'_>, handler_count: u8, method: &MethodInfo) -> Option<PackFault>
+    requires { length info.bytes.now ≤ 65535 }
+    ensures { result ≡ outside_fault info.entry.bytes.now handler_count (method_seen method.now) }
+{
+    let table_end = 1 + 8 * handler_count as u32;
+    if (method.method_offset as u32) < table_end
+        || (info.bytes.len() as u32) < code_end(info, method)
+    {
+        Some(PackFault::MethodOutside(method.method_offset))
+    } else {
+        None
+    }
+}
+
+/// No described method begins in the handler table or reaches past the info.
+pub(crate) fn methods_inside(
+    info: View<'_>,
+    handler_count: u8,
+    described: MethodsFrom<'_>,
+) -> Result<(), PackFault>
+    requires { length info.bytes.now ≤ 65535 }
+    ensures { result ≡ refused (least_of (outside_fault info.entry.bytes.now handler_count) (methods_from_left described.entry)) }
+{
+    let mut least = None;
+    'methods: for method in described {
+        least = lesser(least, outside_fault(info, handler_count, &method));
+    }
+    refuse(least)
+}

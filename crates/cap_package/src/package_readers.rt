@@ -1,0 +1,146 @@
+ghost use Rattle.std.specs.Prelude.{◌≡◌, option_map};
+ghost use Rattle.cap_frame.specs.Header.{header_items};
+ghost use Rattle.cap_frame.specs.Directory.{directory_items};
+ghost use Rattle.cap_frame.specs.Imports.{packages};
+ghost use Rattle.cap_frame.specs.Applets.{applets_of};
+ghost use Rattle.cap_pool.specs.Pool.{entries};
+ghost use Rattle.cap_pool.specs.Export.{classes as exported};
+ghost use Rattle.cap_pool.specs.Locations.{location_items};
+ghost use Rattle.cap_class.specs.ClassPart.{records};
+ghost use Rattle.cap_method.specs.StaticPart.{statics_seen};
+ghost use Rattle.cap_package.specs.Components.{info_in};
+ghost use Rattle.cap_package.specs.ComponentsSeen.{components_seen};
+ghost use Rattle.cap_package.specs.Customs.{custom_in, info_or_none};
+ghost use Rattle.cap_package.specs.CustomSeen.{custom_items};
+ghost use Rattle.cap_package.specs.Descriptions.{description};
+ghost use Rattle.cap_package.specs.MethodsSeen.{methods_seen};
+
+use crate::components::Components;
+use crate::custom::Custom;
+use crate::package_type::Package;
+use crate::parts::Parts;
+use crate::read::info_in;
+use cap_bytes::View;
+use cap_class::ClassPart;
+use cap_desc::DescPart;
+use cap_frame::{Applets, Directory, Header, Imports};
+use cap_method::{MethodPart, StaticPart};
+use cap_pool::{Export, Locations, Pool};
+
+impl<'a> Package<'a> {
+    /// The parts that the package was made from.
+    pub fn parts(&self) -> &'a Parts<'a>
+        ensures { result.now ≡ self.now.parts }
+    {
+        self.all.parts
+    }
+
+    /// The Header component.
+    pub fn header(&self) -> Header<'a>
+        ensures { header_items result ≡ self.now.header }
+    {
+        self.all.header
+    }
+
+    /// The Directory component.
+    pub fn directory(&self) -> Directory<'a>
+        ensures { directory_items result ≡ self.now.directory }
+    {
+        self.all.directory
+    }
+
+    /// The Import component.
+    pub fn imports(&self) -> Imports<'a>
+        ensures { packages result ≡ self.now.imports }
+    {
+        self.all.imports
+    }
+
+    /// The ConstantPool component.
+    pub fn pool(&self) -> Pool<'a>
+        ensures { entries result ≡ self.now.pool }
+    {
+        self.all.pool
+    }
+
+    /// The Class component.
+    pub fn classes(&self) -> ClassPart<'a>
+        ensures { records result ≡ self.now.classes }
+    {
+        self.all.classes
+    }
+
+    /// The Method component.
+    pub fn methods(&self) -> MethodPart<'a>
+        ensures { methods_seen result ≡ self.now.methods }
+    {
+        self.all.methods
+    }
+
+    /// The StaticField component.
+    pub fn statics(&self) -> StaticPart<'a>
+        ensures { statics_seen result ≡ self.now.statics }
+    {
+        self.all.statics
+    }
+
+    /// The ReferenceLocation component.
+    pub fn locations(&self) -> Locations<'a>
+        ensures { location_items result ≡ self.now.locations }
+    {
+        self.all.locations
+    }
+
+    /// The Descriptor component.
+    pub fn descriptor(&self) -> DescPart<'a>
+        ensures { description result ≡ self.now.description }
+    {
+        self.all.descriptor
+    }
+
+    /// The Applet component, where it is there.
+    pub fn applets(&self) -> Option<Applets<'a>>
+        ensures { option_map applets_of result ≡ self.now.applets }
+    {
+        self.all.applets
+    }
+
+    /// The Export component, where it is there.
+    pub fn export(&self) -> Option<Export<'a>>
+        ensures { option_map exported result ≡ self.now.export }
+    {
+        self.all.export
+    }
+
+    /// The custom component with a tag, where the Directory names one.
+    pub fn custom(&self, tag: u8) -> Option<Custom<'a>>
+        ensures { option_map custom_items result ≡ custom_in self.now tag }
+    {
+        custom_of(&self.all, tag)
+    }
+}
+
+/// The custom component with a tag, where the Directory names one.
+fn custom_of<'a>(all: &Components<'a>, tag: u8) -> Option<Custom<'a>>
+    ensures { option_map custom_items result ≡ custom_in (components_seen all.now) tag }
+{
+    'customs: for custom in all.directory.customs() {
+        if custom.tag == tag {
+            return Some(Custom {
+                aid: custom.aid,
+                info: info_or_none(all.parts, tag),
+            });
+        }
+    }
+    None
+}
+
+/// The info of a component, and none where it is absent.
+fn info_or_none<'a>(parts: &Parts<'a>, tag: u8) -> View<'a>
+    ensures { result.bytes.now ≡ info_or_none (info_in parts.now tag) }
+{
+    match info_in(parts, tag) {
+        Ok(info) => info,
+        Err(_) => View::of(&[]),
+    }
+}

@@ -1,0 +1,42 @@
+ghost use Rattle.std.specs.Prelude.{◌≡◌, IfOk};
+ghost use Rattle.cap_package.specs.Components.{Answers};
+ghost use Rattle.cap_package.specs.ComponentsSeen.{components_seen};
+ghost use Rattle.cap_package.specs.Agreement.{package_of};
+ghost use Rattle.cap_package.specs.FirstFault.{Tells};
+
+use crate::agreement::{counts_agree, members_agree, places_agree};
+use crate::components::Components;
+use crate::fault::PackFault;
+use crate::package_type::Package;
+use crate::part_checks::{customs_formed, none_missing};
+use crate::parts::Parts;
+use crate::read_package::read_package;
+
+/// The components of the package that the parts stand for.
+#[tactic(auto, unfolding(crate::specs::Agreement::package_of))]
+fn agreeing<'a>(parts: &'a Parts<'a>) -> Result<Components<'a>, PackFault>
+    ensures value { Answers components_seen result (package_of parts.now) }
+    ensures parts { IfOk result (λ all. all.parts.now ≡ parts.now) }
+{
+    none_missing(parts)?;
+    let all = read_package(parts)?;
+    customs_formed(parts, &all.directory)?;
+    places_agree(&all)?;
+    counts_agree(&all)?;
+    members_agree(&all)?;
+    Ok(all)
+}
+
+/// The package that the parts stand for, or why they stand for none.
+#[tactic(auto, using(crate::proofs::FirstTold::first_told))]
+pub fn package<'a>(parts: &'a Parts<'a>) -> Result<Package<'a>, PackFault>
+    ensures value { result ≡ package_of parts.now }
+    // A package exactly where nothing is at fault; else the first condition by number that is broken, at its
+    // least thing.
+    ensures tells { Tells parts.now result }
+{
+    match agreeing(parts) {
+        Ok(all) => Ok(Package { all }),
+        Err(fault) => Err(fault),
+    }
+}

@@ -1,0 +1,111 @@
+ghost use Rattle.std.specs.Prelude.{◌≡◌};
+ghost use Rattle.cap_desc.specs.ClassRecords.{classes_left};
+ghost use Rattle.cap_desc.specs.MemberLists.{methods_left};
+ghost use Rattle.cap_desc.specs.MemberRecords.{field_seen, method_seen};
+ghost use Rattle.cap_desc.specs.Members.{methods_from, fields_of};
+ghost use Rattle.cap_desc.specs.MembersLeft.{methods_from_left, fields_of_left};
+ghost use Rattle.cap_package.specs.Order.{least_of, least_from, refused};
+ghost use Rattle.cap_package.specs.Descriptions.{description};
+ghost use Rattle.cap_package.specs.TypeChecks.{field_type_fault, method_type_fault, interface_methods};
+
+use crate::description::{argument_words, field_type};
+use crate::fault::PackFault;
+use crate::lesser::{lesser, refuse};
+use cap_desc::{DescMethods, DescPart, FieldInfo, MethodInfo};
+
+/// The argument words that a type descriptor can tell at all.
+const ANY_WORDS: u16 = 510;
+/// The argument words of a method of an interface without its receiver.
+const INTERFACE_WORDS: u16 = 254;
+
+#[tactic(auto, unfolding(crate::specs::TypeChecks::field_type_fault))]
+fn field_type_fault(descriptor: &DescPart<'_>, field: &FieldInfo) -> Option<PackFault>
+    ensures { result ≡ field_type_fault (description descriptor.now) (field_seen field.now) }
+{
+    match field_type(descriptor, field.ty) {
+        Some(_) => None,
+        None => Some(PackFault::BadType(field.ty)),
+    }
+}
+
+#[tactic(auto, unfolding(crate::specs::TypeChecks::method_type_fault))]
+fn method_type_fault(descriptor: &DescPart<'_>, most: u16, method: &MethodInfo) -> Option<PackFault>
+    ensures { result ≡ method_type_fault (description descriptor.now) most (method_seen method.now) }
+{
+    match argument_words(descriptor, method.type_offset) {
+        Some(words) if words <= most => None,
+        _ => Some(PackFault::BadType(method.type_offset)),
+    }
+}
+
+/// The least fault of the types of fields.
+fn field_types(descriptor: &DescPart<'_>) -> Option<PackFault>
+    ensures { result ≡ least_of (field_type_fault (description descriptor.now)) (fields_of (description descriptor.now).items.classes) }
+{
+    let mut least = None;
+    'fields: for field in descriptor.fields() {
+        least = lesser(least, field_type_fault(descriptor, &field));
+    }
+    least
+}
+
+/// The least fault so far, when the types of all methods were looked at.
+fn method_types(descriptor: &DescPart<'_>, least: Option<PackFault>) -> Option<PackFault>
+    ensures { result ≡ least_from least (method_type_fault (description descriptor.now) 510) (methods_from 0 (description descriptor.now).items.classes) }
+{
+    let mut least = least;
+    'methods: for method in descriptor.methods_from(0) {
+        least = lesser(least, method_type_fault(descriptor, ANY_WORDS, &method));
+    }
+    least
+}
+
+/// The least fault so far, when the types of the methods of an interface were looked at.
+fn types_of_interface(
+    descriptor: &DescPart<'_>,
+    methods: DescMethods<'_>,
+    least: Option<PackFault>,
+) -> Option<PackFault>
+    ensures { result ≡ least_from least (method_type_fault (description descriptor.now) 254) (methods_left methods.entry) }
+{
+    let mut least = least;
+    'methods: for method in methods {
+        least = lesser(
+            least,
+            method_type_fault(descriptor, INTERFACE_WORDS, &method),
+        );
+    }
+    least
+}
+
+/// The least fault so far, when the types of the methods of interfaces were looked at.
+#[tactic(auto, using(crate::proofs::InterfaceFaults::least_interface, crate::proofs::InterfaceFaults::least_class))]
+fn interface_types(
+    descriptor: &DescPart<'_>,
+    start: u16,
+    least: Option<PackFault>,
+) -> Option<PackFault>
+    ensures { result ≡ least_from least (method_type_fault (description descriptor.now) 254) (interface_methods start (description descriptor.now).items.classes) }
+{
+    let mut least = least;
+    'classes: for class in descriptor.classes() {
+        if class.class_ref() < start {
+            least = types_of_interface(descriptor, class.methods(), least);
+        }
+    }
+    least
+}
+
+/// Each field and method names a well-formed type descriptor of its shape.
+pub(crate) fn types_fit(descriptor: &DescPart<'_>, start: u16) -> Result<(), PackFault>
+    ensures { result ≡ refused
+        (least_from
+        (least_from
+        (least_of (field_type_fault (description descriptor.now)) (fields_of (description descriptor.now).items.classes))
+        (method_type_fault (description descriptor.now) 510) (methods_from 0 (description descriptor.now).items.classes))
+        (method_type_fault (description descriptor.now) 254) (interface_methods start (description descriptor.now).items.classes)) }
+{
+    let fields = field_types(descriptor);
+    let methods = method_types(descriptor, fields);
+    refuse(interface_types(descriptor, start, methods))
+}
