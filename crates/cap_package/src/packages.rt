@@ -46,7 +46,7 @@ impl<'a> Packages<'a> {
 
     /// Appends a package. After an error the list is as before.
     pub fn push(&mut self, package: Package<'a>) -> Result<(), AllocError>
-        ensures ok { OnOk result (self.new ≡ self.old ++ «package» ∷ []) }
+        ensures ok { OnOk result (self.new ≡ self.old ++ «package».entry ∷ []) }
         ensures err { OnErr result (self.new ≡ self.old) }
     {
         self.items.push(package)?;
