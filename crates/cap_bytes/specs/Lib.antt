@@ -4,3 +4,4 @@ pub mod Spelling
 pub mod Reading
 pub mod Taking
 pub mod Table
+pub mod Samples

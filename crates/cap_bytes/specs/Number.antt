@@ -1,4 +1,4 @@
--- Numbers in a list of bytes. The format is big-endian (JCVM 2.2, section 6.2).
+-- Numbers in a list of bytes. The format is big-endian (JCVM 2.2, chapter 6).
 use Rattle.std.specs.Prelude.{ℕ, ◌+◌, List, length, drop, Option, Some, None, nat_le, if◌then◌else◌}
 use Rattle.byteorder.specs.Endian.{big_number}
 

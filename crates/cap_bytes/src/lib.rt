@@ -1,5 +1,8 @@
 //! Borrowed bytes of CAP components (Java Card 2.2 VM Specification, chapter 6): big-endian numbers
-//! at places, and the faults of a file. It stands on `byteorder`, and takes no memory.
+//! at places, the faults of a file, and the items of a component, taken one after the other by the
+//! words in which the formats are written (specs/Grammar.antt). A reader of a component is a chain of
+//! items; what it promises is which bytes its format stands for, and which item is the first that
+//! breaks it. It stands on `byteorder`, and takes no memory.
 #![tactic(auto)]
 
 mod fault;

@@ -6,7 +6,7 @@ use crate::items::Items;
 /// A table of numbers of two bytes: those that are left, from the first on.
 #[derive(Clone, Copy, Drop)]
 pub struct Table<'a> {
-    pub items: Items<'a>,
-    pub left: u16,
+    pub(crate) items: Items<'a>,
+    pub(crate) left: u16,
     ghost known: { Gives (repeat left u2) items },
 }

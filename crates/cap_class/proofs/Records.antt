@@ -2,16 +2,12 @@
 use Rattle.std.proofs.Common.{◌≡◌, ℕ, ◌+◌, ◌-◌, ◌≤◌, ◌<◌, Bool, true, false, List, [], ◌∷◌, length, Result, Ok, Err, Option, Some, None, refl, arith, subst, cond}
 use Rattle.std.specs.Prelude.{◌&&◌}
 use Rattle.cap_bytes.specs.declared.fault.FormKind.TheVariants.{BadValue, Remote}
-use Rattle.cap_bytes.specs.declared.items.Items.{Items}
-use Rattle.std.specs.Prelude.{IfOk}
 use Rattle.cap_bytes.specs.declared.fault.FormFault.{FormFault}
-use Rattle.cap_bytes.specs.declared.table.Table.{Table}
-use Rattle.cap_bytes.specs.Table.{numbers}
-use Rattle.cap_bytes.specs.Grammar.{Grammar, u2, repeat, table, until_end, number}
-use Rattle.cap_bytes.specs.Taking.{Taken, Takes, Gives, given, gives}
-use Rattle.cap_bytes.specs.Spelling.{Spells, info_of}
+use Rattle.cap_bytes.specs.declared.items.Items.{Items}
+use Rattle.cap_bytes.specs.Grammar.{repeat, table, until_end}
+use Rattle.cap_bytes.specs.Taking.{Taken, Fails}
+use Rattle.cap_bytes.specs.Spelling.{Spells}
 use Rattle.cap_bytes.proofs.Laws.{read-spells, spelled-read}
-use Rattle.cap_bytes.proofs.Loops.{length-repeat}
 use Rattle.cap_bytes.proofs.EachLoops.{ReadsAll}
 use Rattle.cap_bytes.proofs.UntilLoops.{HasPassedUntil, moves, until_taken}
 use Rattle.cap_class.specs.ClassFormat.{Class, wrong_record, behind_first, is_interface, is_remote, class_flags, record_info, any_record, is_behind}
@@ -48,22 +44,14 @@ reads_all s from bytes at x after h =
 pub counted : (n : ℕ) (now : Items) (xs : List Class) (after : Items) → Taken (until_end record_info is_behind false) now xs after → length xs ≡ n → Taken (repeat n any_record) now xs after
 counted n now xs after t e = subst (λ (k : ℕ). Taken (repeat k any_record) now xs after) e (until_taken record_info is_behind any_record reads_all false now xs after t)
 
--- a table has as many entries as its count says
-table_length : (n : ℕ) (now : Items) (xs : List ℕ) (after : Items) → Taken (repeat n u2) now xs after → length xs ≡ n
-table_length n now xs after t = length-repeat (info_of now.part) u2 n now.info.bytes.now now.at xs after.at t.value
-
-pub few_entries : (n : ℕ) (now : Items) (r : Result Table FormFault) (after : Items) → n < 256 → Takes numbers (table n) now r after → IfOk r (λ t. length (numbers t) ≤ 255)
+-- a table of no entries is always there
+pub never_fails : (now : Items) (fault : FormFault) → Fails (table 0) now fault → ⊥
 unfolding table
-few_entries n now (Ok t) after lt h = let e = table_length n now (numbers t) after h in omega arith
-few_entries n now (Err fault) after lt h = tt
+never_fails now fault h = let e = h.answer in absurd cc
 
-pub gives_empty : (now : Items) → Gives (repeat 0 u2) now
-unfolding gives
-gives_empty now = refl
-
-pub given_empty : (now : Items) → given [] (repeat 0 u2) now ≡ []
-unfolding given
-given_empty now = refl
+pub no_entries : (xs : List ℕ) → length xs ≡ 0 → xs ≡ []
+no_entries [] h = refl
+no_entries (x ∷ xs) h = absurd (omega arith)
 
 -- what a table of no entries needs
-pub ruleset empty = (gives_empty, given_empty)
+pub ruleset empty = (never_fails, no_entries)

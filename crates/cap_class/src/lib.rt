@@ -19,3 +19,6 @@ pub use class_part::ClassPart;
 pub use implemented::Implemented;
 pub use interfaces::Interfaces;
 pub use read_classes::classes;
+
+#[cfg(test)]
+mod tests;

@@ -121,8 +121,11 @@ impl<'a> ClassPart<'a> {
 
     /// The records, in order.
     pub fn iter(&self) -> Classes<'a>
-        ensures { classes_left result ≡ records self.now }
+        ensures records { classes_left result ≡ records self.now }
+        ensures few { length (records self.now) ≤ 65535 }
     {
+        // Their number is one that `count` can answer.
+        let _count = self.count();
         self.classes
     }
 
@@ -257,8 +260,11 @@ impl<'a> ClassInfo<'a> {
 
     /// The interfaces, in order.
     pub fn interfaces(&self) -> Interfaces<'a>
-        ensures { interfaces_left result ≡ (class_seen self.now).interfaces }
+        ensures interfaces { interfaces_left result ≡ (class_seen self.now).interfaces }
+        ensures few { length (class_seen self.now).interfaces ≤ 255 }
     {
+        // Their number is one that `interface_count` can answer.
+        let _count = self.interface_count();
         self.interfaces
     }
 

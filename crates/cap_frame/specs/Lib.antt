@@ -11,3 +11,4 @@ pub mod Imports
 pub mod Applets
 pub mod Framed
 pub mod Tags
+pub mod Samples

@@ -1,4 +1,4 @@
-ghost use Rattle.std.specs.Prelude.{◌≤◌, length};
+ghost use Rattle.std.specs.Prelude.{◌<◌, ◌≤◌, length};
 
 use crate::{applets, directory, frame, header, imports};
 use cap_bytes::{FormFault, FormKind, Part, View};

@@ -139,8 +139,11 @@ impl<'a> MethodPart<'a> {
 
     /// The handler table, in order.
     pub fn handlers(&self) -> Handlers<'a>
-        ensures { handlers_left result ≡ handlers self.now }
+        ensures table { handlers_left result ≡ handlers self.now }
+        ensures few { length (handlers self.now) ≤ 255 }
     {
+        // Their number is one that `handler_count` can answer.
+        let _count = self.handler_count();
         self.handlers
     }
 

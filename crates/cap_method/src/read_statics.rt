@@ -183,8 +183,11 @@ impl<'a> StaticPart<'a> {
 
     /// The initial arrays, in order.
     pub fn arrays(&self) -> ArrayInits<'a>
-        ensures { arrays_left result ≡ (statics_seen self.now).arrays }
+        ensures arrays { arrays_left result ≡ (statics_seen self.now).arrays }
+        ensures few { length (statics_seen self.now).arrays ≤ 65535 }
     {
+        // Their number is one that `array_init_count` can answer.
+        let _count = self.array_init_count();
         self.arrays
     }
 

@@ -4,3 +4,4 @@ pub mod LocationFormat
 pub mod Pool
 pub mod Export
 pub mod Locations
+pub mod Samples

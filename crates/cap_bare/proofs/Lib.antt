@@ -1,0 +1,13 @@
+pub mod Formats
+pub mod Operands
+pub mod Instructions
+pub mod Places
+pub mod WellFormed
+pub mod Rule
+pub mod Passing
+pub mod Walks
+pub mod Running
+pub mod Verdict
+pub mod Stepping
+pub mod Near
+pub mod Seeking

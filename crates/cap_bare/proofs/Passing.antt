@@ -1,0 +1,138 @@
+-- What it means that nothing is wrong, or something is, at an instruction over a stack of shorts.
+use Rattle.std.proofs.Common.{◌≡◌, ◌≢◌, ◌∙◌, sym, ap, subst, ℕ, zero, suc, ◌+◌, ◌-◌, ◌<◌, ◌≤◌, Bool, true, false, Option, Some, None, Result, Ok, Err, List, [], ◌∷◌, ◌++◌, length, refl, arith, ◌==◌, eq-eqb}
+use Rattle.std.proofs.lemmas.Bool.{eqb-true, ltb-true, lt-ltb}
+use Rattle.std.proofs.lemmas.Bool.Decides.{nat_tests}
+use Rattle.std.specs.Prelude.{if◌then◌else◌, ◌&&◌, nat_lt, IsTrue, MatchBool}
+use Rattle.cap_bare.specs.declared.bare.Bare.{Bare}
+use Rattle.cap_bare.specs.declared.code.Placed.{Placed}
+use Rattle.cap_bare.specs.declared.fault.BareKind.{BareKind}
+use Rattle.cap_bare.specs.declared.fault.BareKind.TheVariants.{StackAtTarget, StackAtBranch, FallsOff}
+use Rattle.cap_bare.specs.Effects.{is_branch, falls_through}
+use Rattle.cap_bare.specs.Code.{IsTarget, Stands}
+use Rattle.cap_bare.specs.Typing.{Kind, short, shorts, register_count, Applies}
+use Rattle.cap_bare.specs.Met.{IsWrong, wrong_target, wrong_rule, wrong_branch, wrong_end, Passes}
+use Rattle.cap_bare.specs.Walk.{is_target, applied, left, passed}
+use Rattle.cap_bare.proofs.Places.{target-true, target-from}
+use Rattle.cap_bare.proofs.Rule.{Applied, applied-ok, applied-is, applied-err, applies, shorts-none, shorts-length}
+
+-- where an instruction that falls through, or doesn't, leads from a stack of so many shorts
+abbrev pub Leaves : List ℕ → Placed → ℕ → ℕ → Bool → Type 0
+Leaves code i after next true = (i.next ≢ length code) × (next ≡ after)
+Leaves code i after next false = next ≡ 0
+
+-- nothing is wrong
+pub record Passing (code : List ℕ) (bare : Bare) (i : Placed) (depth next : ℕ) : Type 0 where
+  pub target : is_target code i.place ≡ true → depth ≡ 0
+  pub after : ℕ
+  pub rule : Applied bare i.instruction depth after
+  pub branch : is_branch i.instruction ≡ true → after ≡ 0
+  pub leaves : Leaves code i after next (falls_through i.instruction)
+
+true≢false : (b : Bool) → b ≡ true → b ≡ false → ⊥
+true≢false b e f = cc
+
+at-target : (depth : ℕ) (t : Bool) → (nat_lt 0 depth && t) ≡ false → t ≡ true → depth ≡ 0
+at-target depth t e h = grind (arith, nat_tests)
+
+not-target : (depth : ℕ) (t : Bool) → (t ≡ true → depth ≡ 0) → (nat_lt 0 depth && t) ≡ false
+not-target depth true h = let z = h refl in rw z refl
+not-target depth false h = by_test (nat_lt 0 depth)
+  where
+    by_test : (b : Bool) → (b && false) ≡ false
+    by_test true = refl
+    by_test false = refl
+
+both-true : (a b : Bool) → (a && b) ≡ true → (a ≡ true) × (b ≡ true)
+both-true true b e = (refl, e)
+both-true false b e = absurd (cc)
+
+at-branch : (after : ℕ) (b : Bool) → (b && nat_lt 0 after) ≡ false → b ≡ true → after ≡ 0
+at-branch after true e h = grind (arith, nat_tests)
+at-branch after false e h = absurd (cc)
+
+not-branch : (after : ℕ) (b : Bool) → (b ≡ true → after ≡ 0) → (b && nat_lt 0 after) ≡ false
+not-branch after true h = let z = h refl in rw z refl
+not-branch after false h = refl
+
+module _ (code : List ℕ) (bare : Bare) (i : Placed) where
+  abbrev leaving : Bool → Bool → Bool → ℕ → Result ℕ BareKind
+  leaving branching falling last after =
+      if branching then Err StackAtBranch else if falling then (if last then Err FallsOff else Ok after) else Ok 0
+
+  leaves-ok : (branching falling last : Bool) (after next : ℕ) → leaving branching falling last after ≡ Ok next → (i.next == length code) ≡ last
+      → (branching ≡ false) × Leaves code i after next falling
+  leaves-ok true f l after next h e = absurd (cc)
+  leaves-ok false true true after next h e = absurd (cc)
+  leaves-ok false true false after next h e =
+      (refl, ((λ same. true≢false (i.next == length code) (eq-eqb i.next (length code) same) e), cc))
+  leaves-ok false false l after next h e = (refl, cc)
+
+  leaves-is : (falling last : Bool) (after next : ℕ) → Leaves code i after next falling → (i.next == length code) ≡ last
+      → leaving false falling last after ≡ Ok next
+  leaves-is true true after next h e = absurd (h.0 (eqb-true i.next (length code) e))
+  leaves-is true false after next h e = ap Ok (sym h.1)
+  leaves-is false l after next h e = ap Ok (sym h)
+
+  abbrev passing : Bool → Result ℕ BareKind → Result ℕ BareKind
+  passing met rest = if met then Err StackAtTarget else left code i rest
+
+  pub passed-ok : (depth next : ℕ) → passed code bare i depth ≡ Ok next → Passing code bare i depth next
+  passed-ok depth next h =
+      by_test (nat_lt 0 depth && is_target code i.place) refl (applied bare i.instruction depth) refl h
+    where
+      by_test : (b : Bool) → (nat_lt 0 depth && is_target code i.place) ≡ b → (r : Result ℕ BareKind) → applied bare i.instruction depth ≡ r
+          → passing b r ≡ Ok next → Passing code bare i depth next
+      by_test true e r a h = absurd (cc)
+      by_test false e (Err kind) a h = absurd (cc)
+      by_test false e (Ok after) a h =
+          let k = leaves-ok (is_branch i.instruction && nat_lt 0 after) (falls_through i.instruction) (i.next == length code) after next h refl in
+          record {
+            target = at-target depth (is_target code i.place) e;
+            after = after;
+            rule = applied-ok bare i.instruction depth after a;
+            branch = at-branch after (is_branch i.instruction) k.0;
+            leaves = k.1;
+          }
+
+  pub passed-is : (depth next : ℕ) → Passing code bare i depth next → passed code bare i depth ≡ Ok next
+  passed-is depth next p =
+      let t : (nat_lt 0 depth && is_target code i.place) ≡ false = not-target depth (is_target code i.place) p.target in
+      let a : applied bare i.instruction depth ≡ Ok p.after = applied-is bare i.instruction depth p.after p.rule in
+      let b : (is_branch i.instruction && nat_lt 0 p.after) ≡ false = not-branch p.after (is_branch i.instruction) p.branch in
+      let l = leaves-is (falls_through i.instruction) (i.next == length code) p.after next p.leaves refl in
+      rw (t, a, b) l
+
+  pub passed-err : (depth : ℕ) (kind : BareKind) (registers : List Kind) → length registers ≡ register_count bare
+      → passed code bare i depth ≡ Err kind → IsWrong code bare i registers (shorts depth) kind
+  passed-err depth kind registers e h =
+      by_test (nat_lt 0 depth && is_target code i.place) refl (applied bare i.instruction depth) refl h
+    where
+      stack-left : (n : ℕ) → nat_lt 0 n ≡ true → shorts n ≢ []
+      stack-left n t none = let z = shorts-none n none in let lt = ltb-true 0 n t in absurd (omega arith)
+
+      leaving-err : (after : ℕ) → Applied bare i.instruction depth after → (b : Bool) → (is_branch i.instruction && nat_lt 0 after) ≡ b
+          → (f : Bool) → falls_through i.instruction ≡ f → (l : Bool) → (i.next == length code) ≡ l → leaving b f l after ≡ Err kind
+          → IsWrong code bare i registers (shorts depth) kind
+      leaving-err after a true b f fe l le h =
+          let same : StackAtBranch ≡ kind = cc in
+          let two = both-true (is_branch i.instruction) (nat_lt 0 after) b in
+          subst (IsWrong code bare i registers (shorts depth)) same
+          (wrong_branch (shorts after) (applies bare i.instruction registers depth after e a) two.0 (stack-left after two.1))
+      leaving-err after a false b true fe true le h =
+          let same : FallsOff ≡ kind = cc in
+          subst (IsWrong code bare i registers (shorts depth)) same (wrong_end fe (eqb-true i.next (length code) le))
+      leaving-err after a false b true fe false le h = absurd (cc)
+      leaving-err after a false b false fe l le h = absurd (cc)
+
+      by_test : (b : Bool) → (nat_lt 0 depth && is_target code i.place) ≡ b → (r : Result ℕ BareKind) → applied bare i.instruction depth ≡ r
+          → passing b r ≡ Err kind → IsWrong code bare i registers (shorts depth) kind
+      by_test true t r a h =
+          let same : StackAtTarget ≡ kind = cc in
+          let two = both-true (nat_lt 0 depth) (is_target code i.place) t in
+          subst (IsWrong code bare i registers (shorts depth)) same (wrong_target (target-from code i.place two.1) (stack-left depth two.0))
+      by_test false t (Err k) a h =
+          let same : k ≡ kind = cc in
+          wrong_rule kind (applied-err bare i.instruction depth kind (a ∙ ap Err same))
+      by_test false t (Ok after) a h =
+          leaving-err after (applied-ok bare i.instruction depth after a) (is_branch i.instruction && nat_lt 0 after) refl
+          (falls_through i.instruction) refl (i.next == length code) refl h

@@ -1,0 +1,12 @@
+use Rattle.std.proofs.Common.{◌≤◌, ◌-◌}
+use Rattle.cap_bare.specs.Code.{IsPlace, IsReached}
+use Rattle.cap_bare.proofs.verify.begins.Given as goal
+
+abbrev pub invariant-walk : goal.invariant-walk
+invariant-walk l = record {
+  reached : IsReached l.code.bytes.now l.at;
+  ahead : IsPlace l.code.bytes.now l.place → l.at ≤ l.place;
+}
+
+abbrev pub decreases-walk : goal.decreases-walk
+decreases-walk l = l.place - l.at

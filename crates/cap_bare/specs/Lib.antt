@@ -1,0 +1,12 @@
+pub mod Arithmetic
+pub mod Effects
+pub mod Format
+pub mod Code
+pub mod Typing
+pub mod Met
+pub mod Walk
+pub mod Window
+pub mod Machine
+pub mod Leading
+pub mod MethodFile
+pub mod BareFile

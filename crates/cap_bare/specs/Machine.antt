@@ -1,0 +1,129 @@
+-- The machine of a bare method: its state, its step and its runs (JCVM 2.2, sections 3.5 and 3.7). An operand
+-- that is missing, a register or a place that is not there ends the run with a fault: a machine that checks each
+-- of them, and the measure of code that never makes it do so.
+use Rattle.std.specs.Prelude.{ℕ, zero, suc, ◌+◌, ◌-◌, ◌<◌, ◌≡◌, ℤ, pos, Bool, true, false, List, [], ◌∷◌, ◌++◌, length, drop, replicate, slice_index_or, slice_set, Option, Some, None, Result, Ok, Err, nat_lt, if◌then◌else◌}
+use Rattle.std.specs.Int.{w16, int_wrapping_add}
+use Rattle.jc_decode.specs.declared.insn.CodeEnd.{CodeEnd}
+use Rattle.cap_bare.specs.declared.bare.Bare.{Bare}
+use Rattle.cap_bare.specs.declared.run.BareEnd.{BareEnd}
+use Rattle.cap_bare.specs.declared.run.BareEnd.TheVariants.{Returned, Spent}
+use Rattle.cap_bare.specs.declared.instruction.Instruction.{Instruction}
+use Rattle.cap_bare.specs.declared.instruction.Instruction.TheVariants.{Nop, Push, Load, Store, Increment, Pop, Duplicate, Unary, Binary, Test, Compare, Goto, Return}
+use Rattle.cap_bare.specs.declared.code.Placed.{Placed}
+use Rattle.cap_bare.specs.Arithmetic.{holds, unary, binary}
+use Rattle.cap_bare.specs.Effects.{register_of, cells_taken}
+use Rattle.cap_bare.specs.Code.{fetched}
+use Rattle.cap_bare.specs.Walk.{is_place}
+use Rattle.cap_bare.specs.Typing.{register_count}
+
+-- the shorts in the registers, and those on the stack, top first
+pub record Frame : Type 0 where
+  pub registers : List ℤ
+  pub stack : List ℤ
+
+-- a frame before the instruction at a place
+pub record State : Type 0 where
+  pub place : ℕ
+  pub frame : Frame
+
+-- a place that is none, a register that the method doesn't have, too few or too many cells
+pub data Fault : Type 0 where
+  jump_fault : Fault
+  local_fault : Fault
+  stack_fault : Fault
+
+pub data Outcome : Type 0 where
+  running : State → Outcome
+  returned : ℤ → Outcome
+  faulted : Fault → Outcome
+
+-- where an instruction leads: to a place with a frame, or out of the method with its result
+pub data Lead : Type 0 where
+  leads : ℤ → Frame → Lead
+  gives : ℤ → Lead
+
+abbrev pub top : List ℤ → ℤ
+top stack = slice_index_or stack 0 (pos 0)
+
+abbrev pub second : List ℤ → ℤ
+second stack = slice_index_or stack 1 (pos 0)
+
+abbrev pub frame : List ℤ → List ℤ → Frame
+frame registers stack = record { registers = registers; stack = stack }
+
+-- what an instruction does with the registers r and the stack s, before the instruction at `next` (JCVM 2.2,
+-- chapter 7)
+abbrev pub acted : Instruction → ℕ → List ℤ → List ℤ → Lead
+acted Nop next r s = leads (pos next) (frame r s)
+acted (Push n) next r s = leads (pos next) (frame r (n ∷ s))
+acted (Load x) next r s = leads (pos next) (frame r (slice_index_or r x (pos 0) ∷ s))
+acted (Store x) next r s = leads (pos next) (frame (slice_set r x (top s)) (drop 1 s))
+acted (Increment x n) next r s = leads (pos next) (frame (slice_set r x (int_wrapping_add w16 (slice_index_or r x (pos 0)) n)) s)
+acted Pop next r s = leads (pos next) (frame r (drop 1 s))
+acted Duplicate next r s = leads (pos next) (frame r (top s ∷ s))
+acted (Unary operator) next r s = leads (pos next) (frame r (unary operator (top s) ∷ drop 1 s))
+acted (Binary operator) next r s = leads (pos next) (frame r (binary operator (second s) (top s) ∷ drop 2 s))
+acted (Test condition target) next r s = leads (if holds condition (top s) (pos 0) then target else pos next) (frame r (drop 1 s))
+acted (Compare condition target) next r s = leads (if holds condition (second s) (top s) then target else pos next) (frame r (drop 2 s))
+acted (Goto target) next r s = leads target (frame r s)
+acted Return next r s = gives (top s)
+
+abbrev pub has_register : Bare → Option ℕ → Bool
+has_register bare None = true
+has_register bare (Some x) = nat_lt x (register_count bare)
+
+abbrev pub at_place : ℤ → ℕ
+at_place (pos place) = place
+at_place _ = 0
+
+-- the tests behind an instruction: room on the stack, and a place to go on at
+abbrev pub settled : List ℕ → Bare → Lead → Outcome
+settled code bare (gives n) = returned n
+settled code bare (leads to f) =
+    if nat_lt bare.max_stack (length f.stack) then faulted stack_fault
+    else if is_place code to then running (record { place = at_place to; frame = f })
+    else faulted jump_fault
+
+-- the tests before an instruction: its register, and cells enough
+abbrev pub performed : List ℕ → Bare → Frame → Result Placed CodeEnd → Outcome
+performed code bare f (Err end) = faulted jump_fault
+performed code bare f (Ok i) =
+    if has_register bare (register_of i.instruction)
+    then (if nat_lt (length f.stack) (cells_taken i.instruction) then faulted stack_fault
+    else settled code bare (acted i.instruction i.next f.registers f.stack))
+    else faulted local_fault
+
+-- one step
+unfoldable pub step : List ℕ → Bare → State → Outcome
+step code bare s = if is_place code (pos s.place) then performed code bare s.frame (fetched code s.place) else faulted jump_fault
+
+abbrev pub go_on : Outcome → (State → Outcome) → Outcome
+go_on (running s) rest = rest s
+go_on (returned n) rest = returned n
+go_on (faulted f) rest = faulted f
+
+-- the ending, where one comes within so many steps, and else the state after them
+unfoldable pub after : ℕ → List ℕ → Bare → State → Outcome
+after zero code bare s = running s
+after (suc n) code bare s = go_on (step code bare s) (after n code bare)
+
+-- a method is entered with its arguments in the first registers, and 0 in the others
+abbrev pub entered : Bare → List ℤ → State
+entered bare args = record { place = 0; frame = frame (args ++ replicate bare.max_locals (pos 0)) [] }
+
+abbrev pub IsFault : Outcome → Type 0
+IsFault (faulted f) = Unit {0}
+IsFault _ = ⊥
+
+-- no number of steps from here meets a fault
+abbrev pub IsSafe : List ℕ → Bare → State → Type 0
+IsSafe code bare s = (n : ℕ) → IsFault (after n code bare s) → ⊥
+
+-- no arguments make a run that meets a fault
+abbrev pub IsFaultFree : List ℕ → Bare → Type 0
+IsFaultFree code bare = (args : List ℤ) → length args ≡ bare.nargs → IsSafe code bare (entered bare args)
+
+-- a run's answer: the result, or that no ending is reached
+abbrev pub Answers : BareEnd → Outcome → Type 0
+Answers (Returned n) outcome = outcome ≡ returned n
+Answers Spent outcome = (s : State) × (outcome ≡ running s)

@@ -1,0 +1,65 @@
+-- The states that the verifier on the card meets as it walks the instructions in the order of the code, and why it
+-- refuses one (Leroy 2002, section 3).
+use Rattle.std.specs.Prelude.{ℕ, ◌<◌, ◌≤◌, ◌≡◌, ◌≢◌, List, [], ◌++◌, length, replicate, slice_set, Option, Some, None, IfSome, IsTrue, if◌then◌else◌}
+use Rattle.cap_bare.specs.declared.bare.Bare.{Bare}
+use Rattle.cap_bare.specs.declared.instruction.Instruction.{Instruction}
+use Rattle.cap_bare.specs.declared.code.Placed.{Placed}
+use Rattle.cap_bare.specs.declared.fault.BareFault.{BareFault}
+use Rattle.cap_bare.specs.declared.fault.BareKind.{BareKind}
+use Rattle.cap_bare.specs.declared.fault.BareKind.TheVariants.{NoLocal, Underflow, Overflow, StackAtTarget, StackAtBranch, FallsOff}
+use Rattle.cap_bare.specs.Effects.{register_of, register_written, cells_taken, cells_given, is_branch, falls_through}
+use Rattle.cap_bare.specs.Code.{Stands, IsTarget, IsWellFormed, IsFirstFlaw, fault}
+use Rattle.cap_bare.specs.Typing.{Kind, bottom, short, shorts, register_count, Applies}
+
+-- the registers as a method is entered: its arguments, and nothing in the others
+abbrev pub declared : Bare → List Kind
+declared bare = replicate bare.nargs short ++ replicate bare.max_locals bottom
+
+abbrev pub raised_at : Option ℕ → List Kind → List Kind
+raised_at None registers = registers
+raised_at (Some x) registers = slice_set registers x short
+
+-- a store raises its register to the least type above what was there and a short, which is that of shorts
+abbrev pub raised : Instruction → List Kind → List Kind
+raised i registers = raised_at (register_written i) registers
+
+-- nothing is wrong at an instruction, with these registers and this stack before it and that stack after it
+pub record Passes (code : List ℕ) (bare : Bare) (i : Placed) (registers stack after : List Kind) : Type 0 where
+  pub stands : Stands code i
+  pub target : IsTarget code i.place → stack ≡ []
+  pub applies : Applies bare i.instruction registers stack after
+  pub branch : IsTrue (is_branch i.instruction) → after ≡ []
+  pub goes_on : IsTrue (falls_through i.instruction) → i.next < length code
+
+-- The states that are met: the one of the method's entry, and what follows a met state at which nothing is wrong.
+-- Behind the last instruction another pass begins at place 0.
+pub data IsMet (code : List ℕ) (bare : Bare) : ℕ → List Kind → List Kind → Type 0 where
+  met_entry : IsMet code bare 0 (declared bare) []
+  met_next : (i : Placed) (registers stack after : List Kind) → IsMet code bare i.place registers stack
+      → Passes code bare i registers stack after → i.next < length code
+      → IsMet code bare i.next (raised i.instruction registers) (if falls_through i.instruction then after else [])
+  met_again : (i : Placed) (registers stack after : List Kind) → IsMet code bare i.place registers stack
+      → Passes code bare i registers stack after → i.next ≡ length code
+      → IsMet code bare 0 (raised i.instruction registers) []
+
+-- the first failure of an instruction's rule on a stack: its register, the cells that it takes, the room
+pub data Fails (bare : Bare) (i : Instruction) (stack : List Kind) : BareKind → Type 0 where
+  fails_local : (x : ℕ) → register_of i ≡ Some x → register_count bare ≤ x → Fails bare i stack (NoLocal x)
+  fails_cells : IfSome (register_of i) (λ x. x < register_count bare) → length stack < cells_taken i → Fails bare i stack Underflow
+  fails_room : IfSome (register_of i) (λ x. x < register_count bare) → (rest : List Kind) → stack ≡ shorts (cells_taken i) ++ rest
+      → bare.max_stack < length (shorts (cells_given i) ++ rest) → Fails bare i stack Overflow
+
+-- what is wrong at an instruction with these registers and this stack before it
+pub data IsWrong (code : List ℕ) (bare : Bare) (i : Placed) (registers stack : List Kind) : BareKind → Type 0 where
+  wrong_target : IsTarget code i.place → stack ≢ [] → IsWrong code bare i registers stack StackAtTarget
+  wrong_rule : (kind : BareKind) → Fails bare i.instruction stack kind → IsWrong code bare i registers stack kind
+  wrong_branch : (after : List Kind) → Applies bare i.instruction registers stack after → IsTrue (is_branch i.instruction) → after ≢ []
+      → IsWrong code bare i registers stack StackAtBranch
+  wrong_end : IsTrue (falls_through i.instruction) → i.next ≡ length code → IsWrong code bare i registers stack FallsOff
+
+-- the reasons to refuse a method: its first flaw, or what is wrong with a met state of a well-formed one
+pub data IsRefused (code : List ℕ) (bare : Bare) : BareFault → Type 0 where
+  refused_flaw : (first : BareFault) → IsFirstFlaw code first → IsRefused code bare first
+  refused_state : (i : Placed) (registers stack : List Kind) (kind : BareKind) → IsWellFormed code → Stands code i
+      → IsMet code bare i.place registers stack → IsWrong code bare i registers stack kind
+      → IsRefused code bare (fault i.place kind)

@@ -1,0 +1,23 @@
+//! Bare methods: one static method of shorts, given alone as the info of a Method component. Here they are
+//! read from that file, verified as on the card (Leroy 2002; Java Card 2.2 VM Specification, chapters 3 and
+//! 7) and run. It stands on `cap_bytes` for bytes and on `jc_decode` for instructions, and takes no memory.
+#![tactic(auto)]
+
+mod arithmetic;
+mod bare;
+mod code;
+mod fault;
+mod format;
+mod frame;
+mod instruction;
+mod method;
+mod run;
+#[cfg(test)]
+mod tests;
+mod verify;
+
+pub use bare::Bare;
+pub use fault::{BareFault, BareKind};
+pub use method::{BareMethod, bare_method};
+pub use run::{BareEnd, bare_run};
+pub use verify::bare_verify;

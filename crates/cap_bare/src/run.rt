@@ -1,0 +1,65 @@
+ghost use Rattle.std.specs.Prelude.{◌≡◌, ◌≤◌, length};
+ghost use Rattle.cap_bare.specs.Typing.{CardTyping, IsCompact, register_count};
+ghost use Rattle.cap_bare.specs.Machine.{Answers, after, entered, step, IsSafe};
+ghost use Rattle.cap_bare.specs.Leading.{state_at, stepped};
+
+use crate::bare::Bare;
+use crate::code::fetch;
+use crate::frame::{Frame, Lead};
+use cap_bytes::View;
+
+/// How the run of a bare method ends.
+#[derive(Clone, Copy)]
+pub enum BareEnd {
+    /// The method returned this short.
+    Returned(i16),
+    /// No ending is reached within the budget.
+    Spent,
+}
+
+/// What one step comes to.
+#[derive(Clone, Copy)]
+pub enum Progress {
+    /// The next instruction is at this place.
+    At(u16),
+    /// The method returned this short.
+    Ended(i16),
+}
+
+/// Runs a method that `bare_verify` accepts, for at most `budget` steps: an instruction is one step.
+pub fn bare_run(code: View<'_>, bare: Bare, args: &[i16], budget: u64) -> BareEnd
+    requires filled { 1 ≤ length code.bytes.now }
+    requires short { length code.bytes.now ≤ 32767 }
+    requires compact { IsCompact bare }
+    requires accepted { CardTyping code.bytes.now bare }
+    requires arguments { length args.now ≡ bare.nargs }
+    ensures { Answers result (after budget code.entry.bytes.now bare (entered bare args.now)) }
+{
+    let mut frame = Frame::entered(bare, args);
+    let mut place = 0;
+    'steps: for _taken in 0..budget {
+        match step(code, bare, &mut frame, place) {
+            Progress::At(next) => place = next,
+            Progress::Ended(value) => return BareEnd::Returned(value),
+        }
+    }
+    BareEnd::Spent
+}
+
+/// Takes one step of a run that meets no fault.
+fn step(code: View<'_>, bare: Bare, frame: &mut Frame, place: u16) -> Progress
+    requires short { length code.bytes.now ≤ 32767 }
+    requires compact { IsCompact bare }
+    requires safe { IsSafe code.bytes.now bare (state_at place frame.old) }
+    requires registers { length frame.old.registers ≡ register_count bare }
+    ensures { stepped result frame.new ≡ step code.entry.bytes.now bare (state_at place frame.old) }
+{
+    let placed = match fetch(code, place) {
+        Ok(placed) => placed,
+        Err(_) => unreachable!(),
+    };
+    match frame.act(placed.instruction, placed.next) {
+        Lead::To(next) => Progress::At(next as u16),
+        Lead::Gives(value) => Progress::Ended(value),
+    }
+}

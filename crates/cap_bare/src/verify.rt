@@ -1,0 +1,256 @@
+ghost use Rattle.std.specs.Prelude.{◌≡◌, ◌≤◌, ◌<◌, ◌+◌, ◌↔◌, length, IfOk, IfErr, IsOk, IsTrue, OnOk};
+ghost use Rattle.jc_decode.specs.Decoding.{AreBytes};
+ghost use Rattle.cap_bare.specs.declared.fault.BareFault.{BareFault};
+ghost use Rattle.cap_bare.specs.Effects.{target_of};
+ghost use Rattle.cap_bare.specs.Code.{IsFirstFlaw, IsFlawKind, IsReached, IsTarget, IsTargetPlace, IsWellFormed, Stands};
+ghost use Rattle.cap_bare.specs.Typing.{CardTyping, IsCompact};
+ghost use Rattle.cap_bare.specs.Met.{IsRefused};
+ghost use Rattle.cap_bare.specs.Walk.{instructions, has_place, is_place, is_at, is_target, led, first_flaw, applied, passed, first_wrong, verdict};
+ghost use Rattle.cap_bare.specs.Window.{IsFromOn, IsTrailing};
+ghost use Rattle.cap_bare.specs.Machine.{IsFaultFree};
+
+use crate::bare::Bare;
+use crate::code::{Placed, fetch};
+use crate::fault::{BareFault, BareKind};
+use crate::instruction::Instruction;
+use cap_bytes::View;
+
+/// Verifies a bare method as a verifier on the card does, in one walk for its form and one for its types.
+///
+/// It accepts exactly the methods that have a card typing. A method that is not well formed is refused at its
+/// first flaw, and any other at a state that the walk meets.
+pub fn bare_verify(code: View<'_>, bare: Bare) -> Result<(), BareFault>
+    requires filled { 1 ≤ length code.bytes.now }
+    requires short { length code.bytes.now ≤ 32767 }
+    requires compact { IsCompact bare }
+    ensures accepted { OnOk result (CardTyping code.entry.bytes.now bare) }
+    ensures complete { CardTyping code.entry.bytes.now bare → IsOk result }
+    ensures refused { IfErr result (λ fault. IsRefused code.entry.bytes.now bare fault) }
+    ensures first_flaw { (first : BareFault) → IsFirstFlaw code.entry.bytes.now first → result ≡ Err first }
+    ensures ill_formed { IfErr result (λ fault. IsFlawKind fault.kind ↔ (IsWellFormed code.entry.bytes.now → ⊥)) }
+
+    // What is accepted never meets a fault when it runs.
+    ensures fault_free { OnOk result (IsFaultFree code.entry.bytes.now bare) }
+{
+    walked(code, bare)
+}
+
+/// What the two walks find.
+fn walked(code: View<'_>, bare: Bare) -> Result<(), BareFault>
+    requires short { length code.bytes.now ≤ 32767 }
+    requires stack { bare.max_stack ≤ 15 }
+    ensures { result ≡ verdict code.entry.bytes.now bare }
+{
+    find_flaw(code)?;
+    find_wrong(code, bare)
+}
+
+/// The first flaw of the code, if it is not well formed: the place of an instruction that is missing or leads
+/// nowhere.
+#[tactic(auto, using(crate::proofs::Instructions::walking))]
+fn find_flaw(code: View<'_>) -> Result<(), BareFault>
+    requires { length code.bytes.now ≤ 32767 }
+    ensures { result ≡ first_flaw code.entry.bytes.now 0 (instructions code.entry.bytes.now) }
+{
+    let mut at = 0;
+    let mut behind = 0;
+    'walk: while usize::from(at) < code.bytes.len() {
+        let placed = match fetch(code, at) {
+            Ok(placed) => placed,
+            Err(end) => return Err(BareFault {
+                place: at,
+                kind: BareKind::Code(end),
+            }),
+        };
+        behind = trailed(code, behind, at);
+        if let Err(kind) = lead(code, behind, placed) {
+            return Err(BareFault {
+                place: placed.place,
+                kind,
+            });
+        }
+        at = placed.next;
+    }
+    Ok(())
+}
+
+/// Whether a branch leads to the place of an instruction.
+fn lead(code: View<'_>, behind: u16, placed: Placed) -> Result<(), BareKind>
+    requires short { length code.bytes.now ≤ 32767 }
+    requires stands { Stands code.bytes.now placed }
+    requires trailing { IsTrailing code.bytes.now behind placed.place }
+    ensures { result ≡ led code.entry.bytes.now (target_of placed.instruction) }
+{
+    are_bytes(code.bytes);
+    match placed.instruction.target() {
+        Some(target) if !is_place(code, behind, target) => Err(BareKind::BadTarget(target)),
+        _ => Ok(()),
+    }
+}
+
+/// The last instruction that still trails a place, walked to from one that trails it.
+fn trailed(code: View<'_>, from: u16, at: u16) -> u16
+    requires short { length code.bytes.now ≤ 32767 }
+    requires trailing { IsTrailing code.bytes.now from at }
+    ensures { IsTrailing code.entry.bytes.now result at }
+{
+    let mut behind = from;
+    'walk: while let Ok(placed) = fetch(code, behind) {
+        if u32::from(placed.next) + 128 > u32::from(at) {
+            return behind;
+        }
+        behind = placed.next;
+    }
+    behind
+}
+
+/// Whether an instruction of the code begins at this place, which may lie before the code; it is sought from an
+/// instruction on that is not behind it.
+fn is_place(code: View<'_>, from: u16, place: i32) -> bool
+    requires short { length code.bytes.now ≤ 32767 }
+    requires reached { IsReached code.bytes.now from }
+    requires from_on { IsFromOn from place }
+    ensures value { result ≡ is_place code.entry.bytes.now place }
+    ensures meaning { IsTrue result ↔ IsTargetPlace code.entry.bytes.now place }
+{
+    match u32::try_from(place) {
+        Ok(place) => begins(code, from, place),
+        Err(_) => false,
+    }
+}
+
+/// Whether an instruction of the code begins at this place, sought from an instruction on that is not behind it.
+fn begins(code: View<'_>, from: u16, place: u32) -> bool
+    requires short { length code.bytes.now ≤ 32767 }
+    requires reached { IsReached code.bytes.now from }
+    requires from_on { from ≤ place }
+    ensures { result ≡ has_place (instructions code.entry.bytes.now) place }
+{
+    let mut at = from;
+    'walk: while u32::from(at) < place {
+        match fetch(code, at) {
+            Ok(placed) => at = placed.next,
+            Err(_) => return false,
+        }
+    }
+    u32::from(at) == place && fetch(code, at).is_ok()
+}
+
+/// Whether an instruction of the code branches to this place; those that may stand in the 128 bytes before it and
+/// behind it, and are sought from an instruction on that trails it.
+fn is_target(code: View<'_>, behind: u16, place: u16) -> bool
+    requires short { length code.bytes.now ≤ 32767 }
+    requires trailing { IsTrailing code.bytes.now behind place }
+    ensures value { result ≡ is_target code.entry.bytes.now place }
+    ensures meaning { IsTrue result ↔ IsTarget code.entry.bytes.now place }
+{
+    are_bytes(code.bytes);
+    let mut at = behind;
+    'walk: while let Ok(placed) = fetch(code, at) {
+        if branches_to(placed.instruction, place) {
+            return true;
+        }
+        if u32::from(at) > u32::from(place) + 128 {
+            return false;
+        }
+        at = placed.next;
+    }
+    false
+}
+
+/// The items of a list of bytes are bytes: a fact for proofs, and no work.
+fn are_bytes(bytes: &[u8])
+    ensures { AreBytes bytes.now }
+{
+    let _ = bytes;
+}
+
+/// Whether an instruction branches to this place.
+fn branches_to(instruction: Instruction, place: u16) -> bool
+    ensures { result ≡ is_at (target_of instruction) place }
+{
+    match instruction.target() {
+        Some(target) => target == i32::from(place),
+        None => false,
+    }
+}
+
+/// The number of cells behind an instruction, over a stack of so many shorts.
+fn applied(bare: Bare, instruction: Instruction, depth: usize) -> Result<usize, BareKind>
+    requires { depth ≤ 30 }
+    ensures value { result ≡ applied bare instruction depth }
+    ensures room { IfOk result (λ after. after ≤ bare.max_stack) }
+{
+    if let Some(x) = instruction.register() {
+        if usize::from(x) >= usize::from(bare.nargs) + usize::from(bare.max_locals) {
+            return Err(BareKind::NoLocal(x));
+        }
+    }
+    if depth < instruction.taken() {
+        return Err(BareKind::Underflow);
+    }
+    let after = depth - instruction.taken() + instruction.given();
+    if after > usize::from(bare.max_stack) {
+        Err(BareKind::Overflow)
+    } else {
+        Ok(after)
+    }
+}
+
+/// The number of cells before the next place, over a stack of so many shorts.
+fn passed(
+    code: View<'_>,
+    bare: Bare,
+    behind: u16,
+    placed: Placed,
+    depth: usize,
+) -> Result<usize, BareKind>
+    requires short { length code.bytes.now ≤ 32767 }
+    requires trailing { IsTrailing code.bytes.now behind placed.place }
+    requires low { depth ≤ 30 }
+    ensures value { result ≡ passed code.entry.bytes.now bare placed depth }
+    ensures room { IfOk result (λ after. after ≤ bare.max_stack) }
+{
+    if depth > 0 && is_target(code, behind, placed.place) {
+        return Err(BareKind::StackAtTarget);
+    }
+    let after = applied(bare, placed.instruction, depth)?;
+    if placed.instruction.is_branch() && after > 0 {
+        return Err(BareKind::StackAtBranch);
+    }
+    if !placed.instruction.falls_through() {
+        return Ok(0);
+    }
+    if usize::from(placed.next) == code.bytes.len() {
+        return Err(BareKind::FallsOff);
+    }
+    Ok(after)
+}
+
+/// What is wrong first in a well-formed method, place by place.
+///
+/// One pass along the code does: a register's type is at most that of shorts, and that is all that a load asks
+/// for. So no store further on can raise a register to a type at which an instruction before it fails, and a
+/// second pass would meet what the first one met.
+#[tactic(auto, using(crate::proofs::Instructions::walking))]
+fn find_wrong(code: View<'_>, bare: Bare) -> Result<(), BareFault>
+    requires short { length code.bytes.now ≤ 32767 }
+    requires stack { bare.max_stack ≤ 15 }
+    ensures { result ≡ first_wrong code.entry.bytes.now bare 0 (instructions code.entry.bytes.now) }
+{
+    let mut at = 0;
+    let mut behind = 0;
+    let mut depth = 0;
+    'walk: while let Ok(placed) = fetch(code, at) {
+        behind = trailed(code, behind, at);
+        depth = match passed(code, bare, behind, placed, depth) {
+            Ok(after) => after,
+            Err(kind) => return Err(BareFault {
+                place: placed.place,
+                kind,
+            }),
+        };
+        at = placed.next;
+    }
+    Ok(())
+}

@@ -1,0 +1,4 @@
+pub mod Buffer
+pub mod Pieces
+pub mod Keys
+pub mod Transfers

@@ -1,0 +1,36 @@
+-- What is known of a file after each read and write.
+use Rattle.std.proofs.Common.{◌≡◌, ℕ, ◌+◌, List, ◌++◌, length, take, drop, Option, Err, sym, subst, ap, ◌∙◌, append_assoc}
+use Rattle.std.proofs.Math.Seq.{take-append-add, take-append_seam}
+use Rattle.std.proofs.lemmas.List.{take-append-drop}
+use Rattle.std.proofs.KnownBytes.{Appends-trans, Appends-kept}
+use Rattle.std.specs.Io.KnownBytes.{Appends, Keeps}
+use Rattle.cap_files.specs.declared.folder.LoadEnd.{LoadEnd}
+use Rattle.cap_files.specs.declared.folder.LoadEnd.TheVariants.{Failed, TooLong, Memory}
+use Rattle.cap_files.specs.Transfer.{IsRead, TakesMore, TakesAll}
+
+pub written_last : (a b c : Option (List ℕ)) (bytes left given : List ℕ) (k : ℕ) → bytes ≡ given ++ left → Appends a b given → Appends b c (take k left) → (n : ℕ) × Appends a c (take n bytes)
+written_last a b c bytes left given k whole before now =
+    (length given + k, subst (Appends a c) (sym (ap (take (length given + k)) whole ∙ take-append-add given left k)) (Appends-trans a b c given (take k left) before now))
+
+pub written_no_more : (a b c : Option (List ℕ)) (bytes left given : List ℕ) → bytes ≡ given ++ left → Appends a b given → Keeps b c → (n : ℕ) × Appends a c (take n bytes)
+written_no_more a b c bytes left given whole before now =
+    (length given, subst (Appends a c) (sym (ap (take (length given)) whole ∙ take-append_seam given left)) (Appends-kept a b c given before now))
+
+pub written_on : (a b c : Option (List ℕ)) (bytes left given after : List ℕ) (k : ℕ) → bytes ≡ given ++ left → Appends a b given → Appends b c (take k left) → after ≡ drop k left
+    → (x : List ℕ) × (bytes ≡ x ++ after) × Appends a c x
+written_on a b c bytes left given after k whole before now behind = (
+  given ++ take k left,
+  whole ∙ ap (λ xs. given ++ xs) (sym (take-append-drop k left)) ∙ sym (append_assoc given (take k left) (drop k left)) ∙ ap (λ xs. (given ++ take k left) ++ xs) (sym behind),
+  Appends-trans a b c given (take k left) before now,
+)
+
+-- a read that ends with an error
+pub read_ended : (end : LoadEnd) (left rest : Option (List ℕ)) (to after : List ℕ) → TakesMore left rest to after (Err end) → IsRead after (Err end)
+read_ended Failed left rest to after more = tt
+read_ended TooLong left rest to after more = absurd more
+read_ended Memory left rest to after more = tt
+
+pub taken_ended : (end : LoadEnd) (left rest : Option (List ℕ)) (to after : List ℕ) (all : Option (List ℕ)) → TakesMore left rest to after (Err end) → TakesAll all after (Err end)
+taken_ended Failed left rest to after all more = tt
+taken_ended TooLong left rest to after all more = absurd more
+taken_ended Memory left rest to after all more = tt

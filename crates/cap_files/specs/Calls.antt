@@ -1,0 +1,31 @@
+-- Which calls to a device in memory fail.
+use Rattle.std.specs.Prelude.{ℕ, ◌+◌, ◌-◌, ◌^◌, ◌==◌, min, List, [], ◌∷◌, ◌++◌, Option, option_map, find}
+use Rattle.cap_files.specs.declared.calls.Failure.{Failure}
+use Rattle.cap_files.specs.CallCounts.{Counted}
+
+-- one more, where a count of 64 bits stands still at its end
+abbrev pub one_more : ℕ → ℕ
+one_more n = min (n + 1) (2 ^ 64 - 1)
+
+-- no call was made, and none is to fail
+abbrev pub no_calls : Counted
+no_calls = record { made = 0; faults = 0; failures = [] }
+
+-- one more call is to fail
+abbrev pub listed : Counted → ℕ → ℕ → Counted
+listed calls call keep = record calls { failures = calls.failures ++ record { call = call; keep = keep } ∷ [] }
+
+-- how many bytes a call keeps that is to fail, by the first failure that is listed with its number
+abbrev pub keep_at : ℕ → List Failure → Option ℕ
+keep_at call failures = option_map (λ f. f.keep) (find (λ f. f.call == call) failures)
+
+-- the same of the next call
+abbrev pub next_keep : Counted → Option ℕ
+next_keep calls = keep_at (one_more calls.made) calls.failures
+
+-- the counts after a call, and after a failure
+abbrev pub counted : Counted → Counted
+counted calls = record calls { made = one_more calls.made }
+
+abbrev pub faulted : Counted → Counted
+faulted calls = record calls { faults = one_more calls.faults }

@@ -1,0 +1,31 @@
+-- Devices in memory that never fail: what goes beyond their room is taken, and from then on they do not tell what they have.
+use Rattle.std.specs.Prelude.{ℕ, false, List, Option, Some, None, if◌then◌else◌}
+use Rattle.cap_files.specs.declared.sure_folder.SureFolder.{SureFolder}
+use Rattle.cap_files.specs.declared.sure_sink.SureSink.{SureSink}
+use Rattle.cap_files.specs.Folder.{Parts}
+use Rattle.cap_files.specs.Shelf as shelf
+use Rattle.cap_files.specs.Tape as tape
+
+-- what a folder holds, where it tells
+abbrev pub parts_told : SureFolder → Option Parts
+parts_told folder = if folder.told then Some folder.shelf.parts else None
+
+-- a part set, where the room suffices
+abbrev pub set : SureFolder → List ℕ → List ℕ → SureFolder
+set folder key bytes = record folder { shelf = shelf.placed folder.shelf key bytes }
+
+-- a part stored
+abbrev pub stored : SureFolder → List ℕ → List ℕ → SureFolder
+stored folder key bytes = if shelf.has_room folder.shelf key bytes then set folder key bytes else record folder { told = false }
+
+-- what a sink received, where it tells
+abbrev pub text_told : SureSink → Option (List ℕ)
+text_told sink = if sink.told then Some sink.tape.bytes else None
+
+-- a piece put
+abbrev pub received : SureSink → List ℕ → SureSink
+received sink piece = if tape.has_room sink.tape piece then record sink { tape = tape.appended sink.tape piece } else record sink { told = false }
+
+-- neither ever fails
+abbrev pub no_faults : {A : Type 0} → A → ℕ
+no_faults device = 0

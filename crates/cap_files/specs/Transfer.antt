@@ -1,0 +1,33 @@
+-- What is read of a file, and written to one, where the file tells its bytes or not.
+use Rattle.std.specs.Prelude.{◌≡◌, ℕ, ◌≤◌, Bool, true, false, List, [], ◌++◌, length, take, Option, IfSome, Result, Ok, Err}
+use Rattle.std.specs.Io.KnownBytes.{Appends, Consumes, IsAtEnd}
+use Rattle.cap_files.specs.declared.folder.LoadEnd.{LoadEnd}
+use Rattle.cap_files.specs.declared.folder.LoadEnd.TheVariants.{Failed, TooLong, Memory}
+use Rattle.cap_files.specs.declared.folder.StoreFailed.{StoreFailed}
+
+-- at most the bytes that a part can have, and more only as TooLong
+abbrev pub IsRead : List ℕ → Result Bool LoadEnd → Type 0
+IsRead to (Ok true) = length to ≤ 65538
+IsRead to (Ok false) = to ≡ []
+IsRead to (Err TooLong) = length to ≡ 65539
+IsRead to (Err Failed) = Unit {0}
+IsRead to (Err Memory) = Unit {0}
+
+-- all that a file has left was read, or as TooLong its first bytes
+abbrev pub TakesAll : Option (List ℕ) → List ℕ → Result Bool LoadEnd → Type 0
+TakesAll left to (Ok there) = IfSome left (λ bytes. to ≡ bytes)
+TakesAll left to (Err TooLong) = IfSome left (λ bytes. to ≡ take (length to) bytes)
+TakesAll left to (Err Failed) = Unit {0}
+TakesAll left to (Err Memory) = Unit {0}
+
+-- one read puts the next bytes behind those that were read, and answers false at the file's end alone; it is never too long
+abbrev pub TakesMore : Option (List ℕ) → Option (List ℕ) → List ℕ → List ℕ → Result Bool LoadEnd → Type 0
+TakesMore left rest to after (Ok more) = ((bytes : List ℕ) × (after ≡ to ++ bytes) × Consumes left rest bytes) × (more ≡ false → IsAtEnd rest)
+TakesMore left rest to after (Err TooLong) = ⊥
+TakesMore left rest to after (Err Failed) = Unit {0}
+TakesMore left rest to after (Err Memory) = Unit {0}
+
+-- all bytes were written, or after a failure the first of them
+abbrev pub GivesAll : Option (List ℕ) → Option (List ℕ) → List ℕ → Result (Unit {0}) StoreFailed → Type 0
+GivesAll before after bytes (Ok _) = Appends before after bytes
+GivesAll before after bytes (Err _) = (n : ℕ) × Appends before after (take n bytes)

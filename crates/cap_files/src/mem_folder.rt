@@ -1,0 +1,120 @@
+ghost use Rattle.std.specs.Prelude.{◌≡◌, ◌≤◌, length, nat_lt, is_ok, IfOk, OnErr, if◌then◌else◌};
+ghost use Rattle.cap_files.specs.Calls.{no_calls};
+ghost use Rattle.cap_files.specs.Counts.{Rose};
+ghost use Rattle.cap_files.specs.Folder.{Loads, FailsRisen, Stores, key_of};
+ghost use Rattle.cap_files.specs.Shelf.{empty_shelf, has_room};
+ghost use Rattle.cap_files.specs.Mem.{parts_held, load_faults_of, store_faults_of, set, load_listed, store_listed, loaded, FailsWhenDue, is_stored, stored};
+
+use crate::calls::Calls;
+use crate::folder::{Folder, LoadEnd, StoreFailed};
+use crate::load::hand_over;
+use crate::piece::front;
+use crate::shelf::Shelf;
+use cap_bytes::Part;
+use std::alloc::{AllocError, Global};
+
+/// Folders in memory that fail at the loads and stores that were listed, and at a store that their
+/// room does not suffice for. They have room for so many parts, and for so many bytes of the parts
+/// and of their folders' words together.
+#[derive(Drop)]
+pub struct MemFolder {
+    shelf: Shelf,
+    loads: Calls,
+    stores: Calls,
+}
+
+impl MemFolder {
+    /// Folders that hold nothing, and fail at no call. Their room is taken now.
+    pub fn new(alloc: Global, parts: u32, bytes: u32) -> Result<MemFolder, AllocError>
+        ensures { IfOk result (λ f. f ≡ record { shelf = empty_shelf parts bytes; loads = no_calls; stores = no_calls }) }
+    {
+        Ok(MemFolder {
+            shelf: Shelf::new(alloc, parts, bytes)?,
+            loads: Calls::new(alloc)?,
+            stores: Calls::new(alloc)?,
+        })
+    }
+
+    /// Places a part, where the room suffices for what is held then.
+    pub fn set(&mut self, dir: &str, part: Part, bytes: &[u8]) -> bool
+        ensures room { result ≡ has_room self.old.shelf (key_of part dir.now) bytes.now }
+        ensures after { self.new ≡ set self.old (key_of part dir.now) bytes.now }
+    {
+        self.shelf.place(dir, part, bytes)
+    }
+
+    /// Lets the n-th load fail, from 1, unless 32 are listed. Every load counts, whatever it
+    /// answers.
+    pub fn fail_load(&mut self, n: u32) -> bool
+        ensures room { result ≡ nat_lt (length self.old.loads.failures) 32 }
+        ensures after { self.new ≡ (if result then load_listed self.old n else self.old) }
+    {
+        self.loads.fail(n, 0)
+    }
+
+    /// Lets the n-th store fail, from 1, after `keep` bytes, unless 32 are listed. Every store
+    /// counts, whatever it answers. Of two that are listed with one number the first counts.
+    pub fn fail_store(&mut self, n: u32, keep: u32) -> bool
+        ensures room { result ≡ nat_lt (length self.old.stores.failures) 32 }
+        ensures after { self.new ≡ (if result then store_listed self.old n keep else self.old) }
+    {
+        self.stores.fail(n, keep)
+    }
+}
+
+impl Folder for MemFolder {
+    ghost held = { parts_held };
+
+    ghost load_faults = { load_faults_of };
+
+    ghost store_faults = { store_faults_of };
+
+    fn load(
+        &mut self,
+        alloc: Global,
+        dir: &str,
+        part: Part,
+        to: &mut Vec<u8>,
+    ) -> Result<bool, LoadEnd>
+        ensures bytes { Loads (parts_held self.old) (key_of part dir.now) to.new.items result }
+        ensures held { parts_held self.new ≡ parts_held self.old }
+        ensures failed { FailsRisen (load_faults_of self.old) (load_faults_of self.new) result }
+        ensures load_faults { load_faults_of self.old ≤ load_faults_of self.new }
+        ensures store_faults { store_faults_of self.new ≡ store_faults_of self.old }
+        ensures due { FailsWhenDue self.old.loads result }
+        ensures after { self.new ≡ loaded self.old }
+    {
+        if self.loads.next().is_some() {
+            self.loads.fault();
+            to.clear();
+            return Err(LoadEnd::Failed);
+        }
+        hand_over(self.shelf.get(dir, part), to)
+    }
+
+    /// Puts a part. A store that is listed to fail puts the bytes that it is to keep, where the
+    /// room suffices for them.
+    fn store(&mut self, dir: &str, part: Part, bytes: &[u8]) -> Result<(), StoreFailed>
+        ensures bytes { Stores (parts_held self.old) (key_of part dir.now) bytes.now (parts_held self.new) result }
+        ensures failed { OnErr result (Rose (store_faults_of self.old) (store_faults_of self.new)) }
+        ensures store_faults { store_faults_of self.old ≤ store_faults_of self.new }
+        ensures load_faults { load_faults_of self.new ≡ load_faults_of self.old }
+        ensures stored { is_ok result ≡ is_stored self.old (key_of part dir.now) bytes.now }
+        ensures after { self.new ≡ stored self.old (key_of part dir.now) bytes.now }
+    {
+        match self.stores.next() {
+            Some(keep) => {
+                let _placed = self.shelf.place(dir, part, front(bytes, keep));
+                self.stores.fault();
+                Err(StoreFailed)
+            }
+            None => {
+                if self.shelf.place(dir, part, bytes) {
+                    return Ok(());
+                }
+                self.stores.fault();
+                Err(StoreFailed)
+            }
+        }
+    }
+}

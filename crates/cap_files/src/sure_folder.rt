@@ -1,0 +1,80 @@
+ghost use Rattle.std.specs.Prelude.{◌≡◌, ◌≤◌, true, IfOk, IsOk, OnErr};
+ghost use Rattle.cap_files.specs.Counts.{Rose};
+ghost use Rattle.cap_files.specs.Folder.{Loads, FailsRisen, Stores, key_of};
+ghost use Rattle.cap_files.specs.Shelf.{empty_shelf, has_room};
+ghost use Rattle.cap_files.specs.Sure.{set, stored, parts_told, no_faults};
+
+use crate::folder::{Folder, LoadEnd, StoreFailed};
+use crate::load::hand_over;
+use crate::shelf::Shelf;
+use cap_bytes::Part;
+use std::alloc::{AllocError, Global};
+
+/// Folders in memory that never fail. They have room for so many parts, and for so many bytes of
+/// the parts and of their folders' words together.
+#[derive(Drop)]
+pub struct SureFolder {
+    shelf: Shelf,
+    told: bool,
+}
+
+impl SureFolder {
+    /// Folders that hold nothing. Their room is taken now.
+    pub fn new(alloc: Global, parts: u32, bytes: u32) -> Result<SureFolder, AllocError>
+        ensures { IfOk result (λ f. f ≡ record { shelf = empty_shelf parts bytes; told = true }) }
+    {
+        Ok(SureFolder {
+            shelf: Shelf::new(alloc, parts, bytes)?,
+            told: true,
+        })
+    }
+
+    /// Places a part, where the room suffices for what is held then.
+    pub fn set(&mut self, dir: &str, part: Part, bytes: &[u8]) -> bool
+        ensures room { result ≡ has_room self.old.shelf (key_of part dir.now) bytes.now }
+        ensures after { self.new ≡ set self.old (key_of part dir.now) bytes.now }
+    {
+        self.shelf.place(dir, part, bytes)
+    }
+}
+
+impl Folder for SureFolder {
+    ghost held = { parts_told };
+
+    ghost load_faults = { no_faults };
+
+    ghost store_faults = { no_faults };
+
+    fn load(
+        &mut self,
+        alloc: Global,
+        dir: &str,
+        part: Part,
+        to: &mut Vec<u8>,
+    ) -> Result<bool, LoadEnd>
+        ensures bytes { Loads (parts_told self.old) (key_of part dir.now) to.new.items result }
+        ensures held { parts_told self.new ≡ parts_told self.old }
+        ensures failed { FailsRisen (no_faults self.old) (no_faults self.new) result }
+        ensures load_faults { no_faults self.old ≤ no_faults self.new }
+        ensures store_faults { no_faults self.new ≡ no_faults self.old }
+        ensures after { self.new ≡ self.old }
+    {
+        hand_over(self.shelf.get(dir, part), to)
+    }
+
+    /// Puts a part. Beyond the room the bytes are let go, and from then on the folders do not tell
+    /// what they hold.
+    fn store(&mut self, dir: &str, part: Part, bytes: &[u8]) -> Result<(), StoreFailed>
+        ensures bytes { Stores (parts_told self.old) (key_of part dir.now) bytes.now (parts_told self.new) result }
+        ensures failed { OnErr result (Rose (no_faults self.old) (no_faults self.new)) }
+        ensures store_faults { no_faults self.old ≤ no_faults self.new }
+        ensures load_faults { no_faults self.new ≡ no_faults self.old }
+        ensures sure { IsOk result }
+        ensures after { self.new ≡ stored self.old (key_of part dir.now) bytes.now }
+    {
+        if !self.shelf.place(dir, part, bytes) {
+            self.told = false;
+        }
+        Ok(())
+    }
+}

@@ -1,0 +1,47 @@
+-- A list of words asks for one thing: each number and each argument has one word.
+use Rattle.std.proofs.Common.{◌≡◌, ℕ, ℤ, pos, negsuc, List, [], ◌∷◌, sym, ◌∙◌, ap, arith, rules, codes, subst, refl, FitsSigned, w32}
+use Rattle.std.specs.Fmt.{signed_decimal}
+use Rattle.std.specs.Str.Parse.{AllDigits}
+use Rattle.std.proofs.lemmas.Fmt.{decimal_injective, signed_decimal_injective, decimal_is_IsNumeral}
+use Rattle.cap_text.specs.Word.{IsArgWord, AreArgWords}
+use Rattle.cap_text.specs.Probe.{ProbeRequest, IsProbe}
+use Rattle.cap_text.specs.Request.{probe, OneRequest}
+use Rattle.cap_text.specs.declared.word.Arg.{Arg}
+use Rattle.cap_text.specs.declared.word.Arg.TheVariants.{Number, Null}
+
+first : List ℕ → ℕ
+first [] = 0
+first (x ∷ xs) = x
+
+-- `null` is no number
+no_null : (z : ℤ) → FitsSigned w32 z → codes "null" ≡ signed_decimal z → ⊥
+unfolding first
+no_null (pos n) fits e = absurd (omega (arith, (subst (AllDigits 10) (sym e) ((decimal_is_IsNumeral n (search rules)).0.1)).0))
+no_null (negsuc n) fits e = let differ : 110 ≡ 45 = ap first e in omega (arith, differ)
+
+one_argument : (word : List ℕ) (a b : Arg) → IsArgWord word a → IsArgWord word b → a ≡ b
+one_argument word Null Null p q = refl
+one_argument word Null (Number z) p q = absurd (no_null z q.1 (sym p ∙ q.0))
+one_argument word (Number z) Null p q = absurd (no_null z p.1 (sym q ∙ p.0))
+one_argument word (Number y) (Number z) p q = ap Number (signed_decimal_injective y z (search rules) (search rules) (sym p.0 ∙ q.0))
+
+one_list : (words : List (List ℕ)) (xs ys : List Arg) → AreArgWords words xs → AreArgWords words ys → xs ≡ ys
+one_list [] [] [] p q = refl
+one_list [] [] (y ∷ ys) p q = absurd q
+one_list [] (x ∷ xs) ys p q = absurd p
+one_list (w ∷ ws) [] ys p q = absurd p
+one_list (w ∷ ws) (x ∷ xs) [] p q = absurd q
+one_list (w ∷ ws) (x ∷ xs) (y ∷ ys) p q = let head = one_argument w x y p.0 q.0 in let tail = one_list ws xs ys p.1 q.1 in cc
+
+one_probe : (operands : List (List ℕ)) (p q : ProbeRequest) → IsProbe operands p → IsProbe operands q → p ≡ q
+one_probe [] p q is_p is_q = absurd is_p
+one_probe (dir ∷ []) p q is_p is_q = absurd is_p
+one_probe (dir ∷ budget ∷ args) p q is_p is_q =
+    let steps : p.budget ≡ q.budget = decimal_injective p.budget q.budget (omega (arith, is_p.2.fits)) (omega (arith, is_q.2.fits)) (sym is_p.2.writes ∙ is_q.2.writes) in
+    let same_dir : p.dir ≡ q.dir = is_p.0 ∙ sym is_q.0 in
+    let same_args = one_list args p.args q.args is_p.3 is_q.3 in
+    λ i. record { dir = same_dir i; budget = steps i; args = same_args i }
+
+pub one_request : (words : List (List ℕ)) → OneRequest words
+one_request [] r s is_r is_s = absurd is_r
+one_request (name ∷ operands) (probe p) (probe q) is_r is_s = ap probe (one_probe operands p q is_r.1 is_s.1)

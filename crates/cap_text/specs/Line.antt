@@ -1,0 +1,42 @@
+-- The lines that capcheck prints for its answers. Each ends with a line feed.
+use Rattle.std.specs.Prelude.{ℕ, List, [], ◌∷◌, codes, decimal}
+use Rattle.std.specs.List.{concat}
+use Rattle.cap_package.specs.declared.fault.PackFault.{PackFault}
+use Rattle.cap_text.specs.declared.start.StartFault.{StartFault}
+use Rattle.cap_bare.specs.declared.fault.BareFault.{BareFault}
+use Rattle.cap_bare.specs.declared.run.BareEnd.{BareEnd}
+use Rattle.cap_bare.specs.declared.run.BareEnd.TheVariants.{Returned, Spent}
+use Rattle.std.specs.Fmt.{signed_decimal}
+use Rattle.cap_text.specs.Fault.{pack_fault_text}
+use Rattle.cap_text.specs.Bare.{bare_kind_text}
+use Rattle.cap_text.specs.Start.{start_fault_text}
+
+-- the parts of a package, by its number from 0, make no package
+abbrev pub malformed_line : ℕ → PackFault → List ℕ
+malformed_line number fault = concat (codes "malformed package " ∷ decimal number ∷ codes " " ∷ pack_fault_text fault ∷ codes "\n" ∷ [])
+
+-- the entry does not start
+abbrev pub not_started_line : StartFault → List ℕ
+not_started_line fault = concat (codes "not started " ∷ start_fault_text fault ∷ codes "\n" ∷ [])
+
+-- the other causes of an answer that is not Done
+abbrev pub usage_line : List ℕ
+usage_line = codes "usage\n"
+
+abbrev pub read_fault_line : List ℕ
+read_fault_line = codes "read fault\n"
+
+abbrev pub store_fault_line : List ℕ
+store_fault_line = codes "store fault\n"
+
+abbrev pub memory_line : List ℕ
+memory_line = codes "memory\n"
+
+-- the verifier refuses the bare method at a place
+abbrev pub refused_bare_line : BareFault → List ℕ
+refused_bare_line fault = concat (codes "refused place " ∷ decimal fault.place ∷ codes " " ∷ bare_kind_text fault.kind ∷ codes "\n" ∷ [])
+
+-- how a run of a bare method ends
+abbrev pub bare_ending_line : BareEnd → List ℕ
+bare_ending_line (Returned value) = concat (codes "returned short " ∷ signed_decimal value ∷ codes "\n" ∷ [])
+bare_ending_line Spent = codes "spent\n"

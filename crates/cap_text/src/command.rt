@@ -1,0 +1,29 @@
+ghost use Rattle.std.specs.Prelude.{IfOk, IfSome, IfNone};
+ghost use Rattle.cap_text.specs.Request.{Request, IsRequest, IsUsage, request_of, OneRequest};
+
+use crate::probe::Probe;
+use cap_files::Words;
+use std::alloc::{AllocError, Global};
+
+/// A command with its operands.
+#[derive(Drop)]
+pub enum Command<'a> {
+    Probe(Probe<'a>),
+}
+
+/// The command that the words spell, where they spell one. The arguments of a run take memory.
+#[tactic(auto, using(crate::proofs::Requests::one_request))]
+pub fn read_command<'a>(alloc: Global, words: &'a Words) -> Result<Option<Command<'a>>, AllocError>
+    ensures found { IfOk result (λ o. IfSome o (λ c. IsRequest words.now (request_of c))) }
+    ensures one { OneRequest words.now }
+    ensures usage { IfOk result (λ o. IfNone o (IsUsage words.now)) }
+{
+    let mut operands = words.iter();
+    let Some(name) = operands.next() else {
+        return Ok(None);
+    };
+    if name == "probe" {
+        return Ok(Probe::read(alloc, operands)?.map(Command::Probe));
+    }
+    Ok(None)
+}

@@ -1,0 +1,19 @@
+//! The words that capcheck takes and the texts that it prints: the grammar of its commands, and the
+//! lines for each answer. Faults and endings are those of the crates below. It stands on `cap_files`
+//! for the words, and on `itoa` for numbers.
+#![tactic(auto)]
+
+mod bare;
+mod command;
+mod fault;
+mod line;
+mod probe;
+mod start;
+mod word;
+
+pub use command::{Command, read_command};
+pub use fault::Shown;
+pub use line::{bare_ending, malformed, not_started, refused_bare};
+pub use probe::Probe;
+pub use start::StartFault;
+pub use word::{Arg, argument, folder_word, number};

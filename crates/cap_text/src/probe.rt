@@ -1,0 +1,59 @@
+ghost use Rattle.std.specs.Prelude.{IfOk, IfSome, IfNone, ⊤};
+ghost use Rattle.cap_files.specs.WordsLeft.{words_left};
+ghost use Rattle.cap_text.specs.Word.{AreArgWords};
+ghost use Rattle.cap_text.specs.Probe.{ProbeRequest, IsProbe, probe_request};
+ghost use Rattle.cap_text.specs.declared.word.Arg.{Arg};
+ghost use Rattle.std.specs.Prelude.{List};
+
+use crate::word::{Arg, argument, folder_word, number};
+use cap_files::WordsIter;
+use std::alloc::{AllocError, Global};
+
+/// `probe DIR BUDGET ARG*`: verifies the bare method of a folder and runs it with the arguments,
+/// for at most so many steps.
+#[derive(Drop)]
+pub struct Probe<'a> {
+    pub dir: &'a str,
+    pub budget: u32,
+    pub args: Vec<Arg>,
+}
+
+impl<'a> Probe<'a> {
+    /// Reads the words behind the command's name.
+    pub fn read(alloc: Global, mut operands: WordsIter<'a>) -> Result<Option<Probe<'a>>, AllocError>
+        ensures found { IfOk result (λ o. IfSome o (λ p. IsProbe (words_left operands.entry) (probe_request p))) }
+        ensures none { IfOk result (λ o. IfNone o ((p : ProbeRequest) → IsProbe (words_left operands.entry) p → ⊥)) }
+    {
+        let Some(dir) = operands.next() else {
+            return Ok(None);
+        };
+        let Some(budget) = operands.next() else {
+            return Ok(None);
+        };
+        if !folder_word(dir) {
+            return Ok(None);
+        }
+        let Some(budget) = number(budget) else {
+            return Ok(None);
+        };
+        let Some(args) = arguments(alloc, operands)? else {
+            return Ok(None);
+        };
+        Ok(Some(Probe { dir, budget, args }))
+    }
+}
+
+// The arguments that the words write, where each writes one.
+pub fn arguments(alloc: Global, words: WordsIter) -> Result<Option<Vec<Arg>>, AllocError>
+    ensures found { IfOk result (λ o. IfSome o (λ v. AreArgWords (words_left words.entry) v.items)) }
+    ensures none { IfOk result (λ o. IfNone o ((xs : List Arg) → AreArgWords (words_left words.entry) xs → ⊥)) }
+{
+    let mut args = Vec::new(alloc);
+    for word in words {
+        let Some(arg) = argument(word) else {
+            return Ok(None);
+        };
+        args.push(arg)?;
+    }
+    Ok(Some(args))
+}

@@ -1,0 +1,31 @@
+ghost use Rattle.std.specs.Prelude.{Some};
+ghost use Rattle.cap_text.specs.Start.{start_fault_text};
+
+use crate::fault::Shown;
+use std::fmt;
+
+/// Why an entry does not start with the arguments, tried in this order.
+#[derive(Clone, Copy)]
+pub enum StartFault {
+    /// The entry is no method.
+    NoEntry,
+    /// The entry is not static, or has no code.
+    NotStatic,
+    /// The numbers of arguments and of parameters differ.
+    ArgCount { said: usize, wanted: u16 },
+    /// The argument of this number, from 0, is the first that does not fit its parameter.
+    ArgKind(u16),
+}
+
+impl fmt::Display for Shown<StartFault> {
+    ghost output = { λ x. Some (start_fault_text x.0) };
+
+    fn fmt<W: fmt::Write>(&self, f: &mut fmt::Formatter<W>) -> fmt::Result {
+        match self.0 {
+            StartFault::NoEntry => f.write_str("NoEntry"),
+            StartFault::NotStatic => f.write_str("NotStatic"),
+            StartFault::ArgCount { said, wanted } => write!(f, "ArgCount {said} {wanted}"),
+            StartFault::ArgKind(number) => write!(f, "ArgKind {number}"),
+        }
+    }
+}

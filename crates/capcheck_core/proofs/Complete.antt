@@ -1,0 +1,103 @@
+-- Where what a command needs is there and no device failed, no other verdict than Done and Memory has its cause.
+use Rattle.std.proofs.Common.{◌≡◌, ◌⊎◌, List, ℕ, ℤ, ◌<◌, length, map, subst, ◌∙◌, inl, inr, refl, arith, rules, suc, zero, [], ◌∷◌, All, FitsSigned, w16}
+use Rattle.std.specs.Prelude.{None, IfSome, IsSomeAnd, string_bytes, slice_get}
+use Rattle.std.specs.FinMap as map
+use Rattle.cap_files.specs.Folder.{Holds}
+use Rattle.cap_bare.specs.Typing.{CardTyping}
+use Rattle.cap_text.specs.declared.word.Arg.{Arg}
+use Rattle.cap_text.specs.declared.word.Arg.TheVariants.{Number}
+use Rattle.cap_text.specs.declared.start.StartFault.{StartFault}
+use Rattle.cap_text.specs.declared.start.StartFault.TheVariants.{NoEntry, NotStatic, ArgCount, ArgKind}
+use Rattle.cap_text.specs.Probe.{ProbeRequest}
+use Rattle.cap_text.specs.Request.{Request, probe}
+use Rattle.capcheck_core.specs.declared.verdict.Verdict.{Verdict}
+use Rattle.capcheck_core.specs.declared.verdict.Verdict.TheVariants.{Done, Refused, Limit, Malformed, Usage, ReadFault, StoreFault, Memory}
+use Rattle.capcheck_core.specs.Verdict.{status_of}
+use Rattle.capcheck_core.specs.Outside.{Folders, Card, IsThere, IsAbsent, IsTooLong}
+use Rattle.capcheck_core.specs.Answers.{Answers, IsVerdict}
+use Rattle.capcheck_core.specs.Completeness.{CanProbe, CanDo, NoFault, Completes}
+use Rattle.capcheck_core.specs.MethodFile.{IsMethodFile}
+use Rattle.capcheck_core.specs.Probe.{Probes, OfMethodPart, OfMethod, IsRefusal, IsUnstarted, IsNoMethod, method_key}
+use Rattle.capcheck_core.specs.Report.{Seen, IsReported}
+use Rattle.capcheck_core.specs.Shorts.{IsShort, AreShorts, RefusesStart}
+use Rattle.capcheck_core.proofs.MethodFiles.{same_method, no_breach}
+
+-- the file that was read is the one that is held
+same_file : (p : ProbeRequest) (before : Folders) (can : CanProbe p before) (file : List ℕ) → IsThere before (method_key p) file → can.file ≡ file
+same_file p before can file there =
+    let held : Holds can.parts (method_key p) file = subst (λ held. IfSome held (λ parts. Holds parts (method_key p) file)) can.told there in
+    let is = can.there in
+    cc
+
+absent_not : (p : ProbeRequest) (before : Folders) → CanProbe p before → IsAbsent before (method_key p) → ⊥
+absent_not p before can absent =
+    let none : map.get can.parts (method_key p) ≡ None = subst (λ held. IfSome held (λ parts. map.get parts (method_key p) ≡ None)) can.told absent in
+    let is = can.there in
+    cc
+
+long_not : (p : ProbeRequest) (before : Folders) → CanProbe p before → IsTooLong before (method_key p) → ⊥
+long_not p before can long =
+    let told : IsSomeAnd (map.get can.parts (method_key p)) (λ file. 65538 < length file)
+    = subst (λ held. IfSome held (λ parts. IsSomeAnd (map.get parts (method_key p)) (λ file. 65538 < length file))) can.told long in
+    let beyond : 65538 < length can.file = subst (λ found. IsSomeAnd found (λ file. 65538 < length file)) can.there told in
+    absurd (omega (arith, can.short, beyond))
+
+-- each of a list of shorts is a short
+no_misfit : (values : List ℤ) (n : ℕ) → All (FitsSigned w16) values → IsSomeAnd (slice_get (map Number values) n) (λ arg. (value : ℤ) → IsShort arg value → ⊥) → ⊥
+no_misfit [] n fit misfit = absurd misfit
+no_misfit (x ∷ xs) zero fit misfit = misfit x (refl, fit 0 x (search rules))
+no_misfit (x ∷ xs) (suc n) fit misfit = no_misfit xs n (λ k d below. fit (suc k) d (omega (arith, below))) misfit
+
+-- arguments that fit are refused for nothing
+starts : (args : List Arg) (wanted : ℕ) (values : List ℤ) (fault : StartFault) → AreShorts args wanted values → RefusesStart args wanted fault → ⊥
+starts args wanted values NoEntry fit refused = refused
+starts args wanted values NotStatic fit refused = refused
+starts args wanted values (ArgCount said parameters) fit refused = refused.2 fit.count
+starts args wanted values (ArgKind n) fit refused = no_misfit values n fit.fit (subst (λ xs. IsSomeAnd (slice_get xs n) (λ arg. (value : ℤ) → IsShort arg value → ⊥)) fit.numbers refused.1.misfit)
+
+unrefused : (p : ProbeRequest) (before : Folders) → CanProbe p before → (text : List ℕ)
+    → OfMethodPart p before (λ file. OfMethod file (λ bare code. IsRefusal bare code text)) → ⊥
+unrefused p before can text part =
+    let of = part.holds in
+    let method = subst (λ file. IsMethodFile file can.bare can.code) (same_file p before can part.file part.there) can.method in
+    of.holds.untyped (same_method part.file can.bare of.bare can.code of.code method of.method (λ bare code. CardTyping code bare) can.typed)
+
+unbroken : (p : ProbeRequest) (before : Folders) → CanProbe p before → (text : List ℕ)
+    → OfMethodPart p before (λ file. IsNoMethod file text ⊎ OfMethod file (λ bare code. IsUnstarted bare code p text)) → ⊥
+unbroken p before can text part =
+    let method = subst (λ file. IsMethodFile file can.bare can.code) (same_file p before can part.file part.there) can.method in
+    elim part.holds [
+      | inl none ↦ no_breach part.file can.bare can.code none.fault method none.refused
+      | inr of ↦ let fit : AreShorts p.args of.bare.nargs can.values
+          = same_method part.file can.bare of.bare can.code of.code method of.method (λ bare code. AreShorts p.args bare.nargs can.values) can.fit in
+          starts p.args of.bare.nargs can.values of.holds.fault fit of.holds.refused
+    ]
+
+-- the verdicts that stand where a probe can be done
+can_probe : (p : ProbeRequest) (before after : Folders) (sink put : Seen) (verdict : Verdict) → CanProbe p before → NoFault before after sink put
+    → Probes p before after verdict → (status_of verdict ≡ 0) ⊎ (status_of verdict ≡ 6)
+can_probe p before after sink put (Done text) can calm probes = inl refl
+can_probe p before after sink put Memory can calm probes = inr refl
+can_probe p before after sink put (Refused text) can calm probes = absurd (unrefused p before can (string_bytes text) probes)
+can_probe p before after sink put (Malformed text) can calm (inl missing) = absurd (absent_not p before can missing.absent)
+can_probe p before after sink put (Malformed text) can calm (inr (inl long)) = absurd (long_not p before can long.long)
+can_probe p before after sink put (Malformed text) can calm (inr (inr part)) = absurd (unbroken p before can (string_bytes text) part)
+can_probe p before after sink put ReadFault can calm probes = absurd (calm.loads probes)
+can_probe p before after sink put Usage can calm probes = absurd probes
+can_probe p before after sink put StoreFault can calm probes = absurd probes
+can_probe p before after sink put (Limit text) can calm probes = absurd probes
+
+can_do : (r : Request) (before after : Folders) (old new : Card) (sink put : Seen) (verdict : Verdict) → CanDo r before → NoFault before after sink put
+    → Answers r before after old new verdict → (status_of verdict ≡ 0) ⊎ (status_of verdict ≡ 6)
+can_do (probe p) before after old new sink put verdict can calm answers = can_probe p before after sink put verdict can calm answers.0
+
+reported : (verdict : Verdict) (before after : Folders) (sink put : Seen) (status : ℕ) → NoFault before after sink put → IsReported verdict sink put status
+    → (status_of verdict ≡ 0) ⊎ (status_of verdict ≡ 6) → (status ≡ 0) ⊎ (status ≡ 6)
+reported verdict before after sink put status calm (inr broken) known = absurd (calm.puts broken.risen)
+reported verdict before after sink put status calm (inl whole) (inl done) = inl (whole.says ∙ done)
+reported verdict before after sink put status calm (inl whole) (inr memory) = inr (whole.says ∙ memory)
+
+pub completes : (words : List (List ℕ)) (before after : Folders) (old new : Card) (sink put : Seen) (verdict : Verdict) (status : ℕ)
+    → IsVerdict words before after old new verdict → IsReported verdict sink put status → Completes words before after sink put status
+completes words before after old new sink put verdict status is report = λ r asks can calm.
+    reported verdict before after sink put status calm report (can_do r before after old new sink put verdict can calm (is.command r asks))

@@ -1,0 +1,3 @@
+pub mod Verdicts
+pub mod MethodFiles
+pub mod Complete

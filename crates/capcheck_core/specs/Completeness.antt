@@ -1,0 +1,42 @@
+-- When a command does its work, or wants memory for it.
+use Rattle.std.specs.Prelude.{◌≡◌, ℕ, ℤ, ◌≤◌, List, length, Some, ◌⊎◌}
+use Rattle.cap_files.specs.Counts.{Rose}
+use Rattle.cap_files.specs.Folder.{Parts, Holds}
+use Rattle.cap_bare.specs.declared.bare.Bare.{Bare}
+use Rattle.cap_bare.specs.Typing.{CardTyping}
+use Rattle.cap_text.specs.Probe.{ProbeRequest}
+use Rattle.cap_text.specs.Request.{Request, probe, IsRequest}
+use Rattle.capcheck_core.specs.MethodFile.{IsMethodFile}
+use Rattle.capcheck_core.specs.Outside.{Folders}
+use Rattle.capcheck_core.specs.Probe.{method_key}
+use Rattle.capcheck_core.specs.Report.{Seen}
+use Rattle.capcheck_core.specs.Shorts.{AreShorts}
+
+-- no load, store or put failed
+pub record NoFault (before after : Folders) (sink put : Seen) : Type 0 where
+  pub loads : Rose before.load_faults after.load_faults → ⊥
+  pub stores : Rose before.store_faults after.store_faults → ⊥
+  pub puts : Rose sink.faults put.faults → ⊥
+
+-- the Method part of the folder is a bare method that has a typing, and the arguments fit it
+pub record CanProbe (p : ProbeRequest) (before : Folders) : Type 0 where
+  pub parts : Parts
+  pub told : before.held ≡ Some parts
+  pub file : List ℕ
+  pub there : Holds parts (method_key p) file
+  pub short : length file ≤ 65538
+  pub bare : Bare
+  pub code : List ℕ
+  pub method : IsMethodFile file bare code
+  pub typed : CardTyping code bare
+  pub values : List ℤ
+  pub fit : AreShorts p.args bare.nargs values
+
+-- what a command needs is there
+abbrev pub CanDo : Request → Folders → Type 0
+CanDo (probe p) before = CanProbe p before
+
+-- where the words ask for something, what it needs is there and no device failed, the work is done or memory is wanting
+abbrev pub Completes : List (List ℕ) → Folders → Folders → Seen → Seen → ℕ → Type 0
+Completes words before after sink put status =
+    (r : Request) → IsRequest words r → CanDo r before → NoFault before after sink put → (status ≡ 0) ⊎ (status ≡ 6)

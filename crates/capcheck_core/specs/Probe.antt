@@ -1,0 +1,103 @@
+-- What `probe` may answer, by the file of the Method component in its folder.
+use Rattle.std.specs.Prelude.{◌≡◌, ℕ, ℤ, ◌≤◌, List, ◌∷◌, length, string_bytes, ◌⊎◌}
+use Rattle.cap_files.specs.Counts.{Rose}
+use Rattle.cap_package.specs.declared.fault.PackFault.{PackFault}
+use Rattle.cap_package.specs.declared.fault.PackFault.TheVariants.{MissingPart, PartTooLong}
+use Rattle.cap_bare.specs.declared.bare.Bare.{Bare}
+use Rattle.cap_bare.specs.declared.fault.BareFault.{BareFault}
+use Rattle.cap_bare.specs.declared.run.BareEnd.{BareEnd}
+use Rattle.cap_bare.specs.Typing.{CardTyping}
+use Rattle.cap_bare.specs.Met.{IsRefused}
+use Rattle.cap_bare.specs.Machine.{Answers, after, entered}
+use Rattle.cap_text.specs.declared.start.StartFault.{StartFault}
+use Rattle.cap_text.specs.Probe.{ProbeRequest}
+use Rattle.cap_text.specs.Line.{malformed_line, not_started_line, refused_bare_line, bare_ending_line}
+use Rattle.capcheck_core.specs.declared.verdict.Verdict.{Verdict}
+use Rattle.capcheck_core.specs.declared.verdict.Verdict.TheVariants.{Done, Refused, Limit, Malformed, Usage, ReadFault, StoreFault, Memory}
+use Rattle.capcheck_core.specs.MethodFile.{method_tag, IsMethodFile, RefusesFile}
+use Rattle.capcheck_core.specs.Outside.{Folders, IsThere, IsAbsent, IsTooLong}
+use Rattle.capcheck_core.specs.Shorts.{AreShorts, RefusesStart}
+
+-- the method has a typing, and the text is how its run with the arguments ends within the budget
+pub record IsRun (bare : Bare) (code : List ℕ) (p : ProbeRequest) (text : List ℕ) : Type 0 where
+  pub typed : CardTyping code bare
+  pub values : List ℤ
+  pub fit : AreShorts p.args bare.nargs values
+  pub end : BareEnd
+  pub ends : Answers end (after p.budget code bare (entered bare values))
+  pub prints : text ≡ bare_ending_line end
+
+-- the verifier finds no typing, and the text names why
+pub record IsRefusal (bare : Bare) (code : List ℕ) (text : List ℕ) : Type 0 where
+  pub untyped : CardTyping code bare → ⊥
+  pub fault : BareFault
+  pub refused : IsRefused code bare fault
+  pub prints : text ≡ refused_bare_line fault
+
+-- the method has a typing and does not start with the arguments, and the text names why
+pub record IsUnstarted (bare : Bare) (code : List ℕ) (p : ProbeRequest) (text : List ℕ) : Type 0 where
+  pub typed : CardTyping code bare
+  pub fault : StartFault
+  pub refused : RefusesStart p.args bare.nargs fault
+  pub prints : text ≡ not_started_line fault
+
+-- the file holds a bare method of which this is true
+pub record OfMethod (file : List ℕ) (P : Bare → List ℕ → Type 0) : Type 0 where
+  pub bare : Bare
+  pub code : List ℕ
+  pub method : IsMethodFile file bare code
+  pub holds : P bare code
+
+-- the file holds no bare method, and the text names why
+pub record IsNoMethod (file : List ℕ) (text : List ℕ) : Type 0 where
+  pub fault : PackFault
+  pub refused : RefusesFile file fault
+  pub prints : text ≡ malformed_line 0 fault
+
+-- the key of the Method part of the request's folder
+abbrev pub method_key : ProbeRequest → List ℕ
+method_key p = method_tag ∷ p.dir
+
+-- the Method part is a file of which this is true
+pub record OfMethodPart (p : ProbeRequest) (before : Folders) (P : List ℕ → Type 0) : Type 0 where
+  pub file : List ℕ
+  pub there : IsThere before (method_key p) file
+  pub short : length file ≤ 65538
+  pub holds : P file
+
+-- the Method part is absent or too long, and the text says so
+pub record IsMissing (p : ProbeRequest) (before : Folders) (text : List ℕ) : Type 0 where
+  pub absent : IsAbsent before (method_key p)
+  pub prints : text ≡ malformed_line 0 (MissingPart method_tag)
+
+pub record IsLong (p : ProbeRequest) (before : Folders) (text : List ℕ) : Type 0 where
+  pub long : IsTooLong before (method_key p)
+  pub prints : text ≡ malformed_line 0 (PartTooLong method_tag)
+
+-- what a probe of this method answers, and when
+abbrev pub ProbesMethod : Bare → List ℕ → ProbeRequest → Verdict → Type 0
+ProbesMethod bare code p (Done text) = IsRun bare code p (string_bytes text)
+ProbesMethod bare code p (Refused text) = IsRefusal bare code (string_bytes text)
+ProbesMethod bare code p (Malformed text) = IsUnstarted bare code p (string_bytes text)
+ProbesMethod bare code p Memory = Unit {0}
+ProbesMethod bare code p _ = ⊥
+
+-- what a probe of this file answers, and when
+abbrev pub ProbesFile : List ℕ → ProbeRequest → Verdict → Type 0
+ProbesFile file p (Done text) = OfMethod file (λ bare code. IsRun bare code p (string_bytes text))
+ProbesFile file p (Refused text) = OfMethod file (λ bare code. IsRefusal bare code (string_bytes text))
+ProbesFile file p (Malformed text) = IsNoMethod file (string_bytes text) ⊎ OfMethod file (λ bare code. IsUnstarted bare code p (string_bytes text))
+ProbesFile file p Memory = Unit {0}
+ProbesFile file p _ = ⊥
+
+-- what a probe answers, and when: the folders are as they were when it began, and as they are afterwards
+abbrev pub Probes : ProbeRequest → Folders → Folders → Verdict → Type 0
+Probes p before after (Done text) = OfMethodPart p before (λ file. ProbesFile file p (Done text))
+Probes p before after (Refused text) = OfMethodPart p before (λ file. ProbesFile file p (Refused text))
+Probes p before after (Malformed text) =
+    IsMissing p before (string_bytes text) ⊎ IsLong p before (string_bytes text) ⊎ OfMethodPart p before (λ file. ProbesFile file p (Malformed text))
+Probes p before after ReadFault = Rose before.load_faults after.load_faults
+Probes p before after Memory = Unit {0}
+Probes p before after Usage = ⊥
+Probes p before after StoreFault = ⊥
+Probes p before after (Limit text) = ⊥

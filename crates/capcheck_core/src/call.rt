@@ -1,0 +1,84 @@
+ghost use Rattle.std.specs.Prelude.{◌≡◌, length};
+ghost use Rattle.cap_text.specs.Request.{request_of};
+ghost use Rattle.capcheck_core.specs.Answers.{Answers, IsVerdict};
+ghost use Rattle.capcheck_core.specs.Completeness.{Completes};
+ghost use Rattle.capcheck_core.specs.Outside.{folders, card};
+ghost use Rattle.capcheck_core.specs.Report.{IsReported, seen};
+ghost use Rattle.capcheck_core.specs.declared.verdict.Verdict.{Verdict};
+
+use crate::probe::probe;
+use crate::report::report;
+use crate::verdict::Verdict;
+use cap_files::{Folder, Sink, Words};
+use cap_text::{Command, read_command};
+use std::alloc::Global;
+
+/// Runs the command that the words spell over the folders, puts its text and answers its status.
+/// The three slices are the memory of a card.
+pub fn capcheck<F: Folder, K: Sink>(
+    alloc: Global,
+    words: &Words,
+    folder: &mut F,
+    out: &mut K,
+    ram: &mut [u16],
+    heap: &mut [u16],
+    statics: &mut [u16],
+) -> u8
+    requires ram { length ram.old ≡ 32832 }
+    requires heap { length heap.old ≡ 45056 }
+    requires statics { length statics.old ≡ 32768 }
+    ensures answered { (verdict : Verdict)
+        × IsVerdict words.now
+        (folders (F.held folder.old) (F.load_faults folder.old) (F.store_faults folder.old))
+        (folders (F.held folder.new) (F.load_faults folder.new) (F.store_faults folder.new))
+        (card ram.old heap.old statics.old) (card ram.new heap.new statics.new) verdict
+        × IsReported verdict (seen (K.received out.old) (K.faults out.old)) (seen (K.received out.new) (K.faults out.new)) result }
+    ensures complete { Completes words.now
+        (folders (F.held folder.old) (F.load_faults folder.old) (F.store_faults folder.old))
+        (folders (F.held folder.new) (F.load_faults folder.new) (F.store_faults folder.new))
+        (seen (K.received out.old) (K.faults out.old)) (seen (K.received out.new) (K.faults out.new)) result }
+{
+    let verdict = answer(alloc, words, folder, ram, heap, statics);
+    report(out, &verdict)
+}
+
+#[tactic(auto, using(crate::proofs::Verdicts::asked))]
+// What the command that the words spell decides.
+fn answer<F: Folder>(
+    alloc: Global,
+    words: &Words,
+    folder: &mut F,
+    ram: &mut [u16],
+    heap: &mut [u16],
+    statics: &mut [u16],
+) -> Verdict
+    ensures { IsVerdict words.now
+        (folders (F.held folder.old) (F.load_faults folder.old) (F.store_faults folder.old))
+        (folders (F.held folder.new) (F.load_faults folder.new) (F.store_faults folder.new))
+        (card ram.old heap.old statics.old) (card ram.new heap.new statics.new) result }
+{
+    match read_command(alloc, words) {
+        Ok(Some(command)) => perform(alloc, &command, folder, ram, heap, statics),
+        Ok(None) => Verdict::Usage,
+        Err(_) => Verdict::Memory,
+    }
+}
+
+// What a command decides.
+fn perform<F: Folder>(
+    alloc: Global,
+    command: &Command<'_>,
+    folder: &mut F,
+    ram: &mut [u16],
+    heap: &mut [u16],
+    statics: &mut [u16],
+) -> Verdict
+    ensures { Answers (request_of command.now)
+        (folders (F.held folder.old) (F.load_faults folder.old) (F.store_faults folder.old))
+        (folders (F.held folder.new) (F.load_faults folder.new) (F.store_faults folder.new))
+        (card ram.old heap.old statics.old) (card ram.new heap.new statics.new) result }
+{
+    match command {
+        Command::Probe(operands) => probe(alloc, folder, operands),
+    }
+}

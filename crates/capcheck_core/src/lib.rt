@@ -1,0 +1,19 @@
+//! The commands of capcheck, from the words to the line that is printed: what each loads, decides
+//! and answers, and the one call that runs them. It stands on every crate below it; folders and the
+//! place of the text are handed in.
+#![tactic(auto)]
+
+mod call;
+mod method_file;
+mod probe;
+mod report;
+mod shorts;
+mod sure;
+mod verdict;
+
+pub use call::capcheck;
+pub use sure::sure_forms_never_fail;
+pub use verdict::Verdict;
+
+#[cfg(test)]
+mod tests;

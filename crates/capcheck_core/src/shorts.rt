@@ -1,0 +1,40 @@
+ghost use Rattle.std.specs.Prelude.{◌≡◌, ℤ, ◌≤◌, IfOk, IfErr, IfSome, IfNone};
+ghost use Rattle.capcheck_core.specs.Shorts.{IsShort, AreShorts, RefusesStart};
+
+use arrayvec::ArrayVec;
+use cap_text::{Arg, StartFault};
+
+/// The most arguments that the compact header of a method can count.
+pub const MOST_ARGS: usize = 15;
+
+/// The arguments of a method of so many shorts, or the first reason why it does not start.
+pub fn shorts(args: &[Arg], wanted: u8) -> Result<ArrayVec<i16, MOST_ARGS>, StartFault>
+    requires { wanted ≤ 15 }
+    ensures found { IfOk result (λ v. AreShorts args.now wanted v.items) }
+    ensures fault { IfErr result (λ f. RefusesStart args.now wanted f) }
+{
+    if args.len() != usize::from(wanted) {
+        return Err(StartFault::ArgCount {
+            said: args.len(),
+            wanted: u16::from(wanted),
+        });
+    }
+    let mut shorts = ArrayVec::new();
+    for (n, arg) in args.iter().enumerate() {
+        match short(*arg) {
+            Some(value) => shorts.push(value),
+            None => return Err(StartFault::ArgKind(n as u16)),
+        }
+    }
+    Ok(shorts)
+}
+
+fn short(arg: Arg) -> Option<i16>
+    ensures found { IfSome result (λ value. IsShort arg value) }
+    ensures none { IfNone result ((value : ℤ) → IsShort arg value → ⊥) }
+{
+    match arg {
+        Arg::Number(number) => i16::try_from(number).ok(),
+        Arg::Null => None,
+    }
+}

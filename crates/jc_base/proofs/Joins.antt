@@ -1,0 +1,380 @@
+-- The computed join is the least type above both, and a type rises seldom.
+use Rattle.std.proofs.Common.{◌≡◌, ℕ, ◌+◌, ◌<◌, ◌≤◌, ◌⊎◌, inl, inr, Bool, true, false, ◌&&◌, length, Some, refl, sym, ap, subst, ◌∙◌, arith}
+use Rattle.std.specs.Prelude.{◌==◌, if◌then◌else◌}
+use Rattle.std.proofs.lemmas.Bool.{false≢true, true≢false, eqb-true}
+use Rattle.jc_base.specs.declared.ty.Ty.{Ty}
+use Rattle.jc_base.specs.declared.ty.Ty.TheVariants.{Bottom, Short, IntHigh, IntLow, Null, Class, ArrBool, ArrByte, ArrShort, ArrInt, ArrRef, Fresh, Top}
+use Rattle.jc_base.specs.Class.{ClassTable, IsClass, AreClasses, parent_of, height, object}
+use Rattle.jc_base.specs.Order.{Below, same, joined, nothing, anything, null_object, null_array, subclass, array_object, array_array, IsArray, of_booleans, of_bytes, of_shorts, of_ints, of_references, IsJoin, IsKnown, is_below, is_on_chain, is_reference, is_above_arrays, common, join_of, rises_left}
+use Rattle.jc_base.proofs.Chains.{next_on_chain}
+use Rattle.jc_base.proofs.Climbs.{on_chain-here, on_chain-object, on_chain-class, parent_of-class, chain-height, chain-not_empty, chain-alone}
+use Rattle.jc_base.proofs.Meets.{IsNearest, common-nearest}
+use Rattle.jc_base.proofs.Subtypes.{is_below-refl, is_below-top, is_below-from_Below, Below-from_is_below}
+
+-- ---- two classes, and two arrays of classes
+
+class_is_below : (t : ClassTable) → AreClasses t → (c d : ℕ) → is_on_chain t d c ≡ true → Below t (Class c) (Class d)
+unfolding is_below
+class_is_below t are c d on = Below-from_is_below t are (Class c) (Class d) on
+
+above_classes : (t : ClassTable) → AreClasses t → (c d n : ℕ) (u : Ty) → IsNearest t c d n → is_below t (Class c) u ≡ true → is_below t (Class d) u ≡ true → is_below t (Class n) u ≡ true
+unfolding is_below
+above_classes t are c d n (Class e) near p q = near.least e p q
+above_classes t are c d n Top near p q = refl
+above_classes t are c d n u near p q = absurd (false≢true p)
+
+above_references : (t : ClassTable) → AreClasses t → (c d n : ℕ) (u : Ty) → IsNearest t c d n → is_below t (ArrRef c) u ≡ true → is_below t (ArrRef d) u ≡ true → is_below t (ArrRef n) u ≡ true
+unfolding is_below
+above_references t are c d n (ArrRef e) near p q = near.least e p q
+above_references t are c d n (Class e) near p q = p
+above_references t are c d n Top near p q = refl
+above_references t are c d n u near p q = absurd (false≢true p)
+
+join_of_classes : (t : ClassTable) → AreClasses t → (c d : ℕ) → IsClass t c → IsClass t d → IsJoin t (Class c) (Class d) (Class (common t c d))
+join_of_classes t are c d c_is d_is =
+    let near = common-nearest t are c d c_is d_is in
+    record {
+      left = class_is_below t are c (common t c d) near.left;
+      right = class_is_below t are d (common t c d) near.right;
+      least = λ u p q. Below-from_is_below t are (Class (common t c d)) u (above_classes t are c d (common t c d) u near (is_below-from_Below t are p) (is_below-from_Below t are q));
+    }
+
+join_of_arrays : (t : ClassTable) → AreClasses t → (c d : ℕ) → IsClass t c → IsClass t d → IsJoin t (ArrRef c) (ArrRef d) (ArrRef (common t c d))
+join_of_arrays t are c d c_is d_is =
+    let near = common-nearest t are c d c_is d_is in
+    record {
+      left = array_array (class_is_below t are c (common t c d) near.left);
+      right = array_array (class_is_below t are d (common t c d) near.right);
+      least = λ u p q. Below-from_is_below t are (ArrRef (common t c d)) u (above_references t are c d (common t c d) u near (is_below-from_Below t are p) (is_below-from_Below t are q));
+    }
+
+-- ---- the others
+
+-- not both classes, and not both arrays of classes
+abbrev AreOthers : Ty → Ty → Type 0
+AreOthers (Class c) (Class d) = ⊥
+AreOthers (ArrRef c) (ArrRef d) = ⊥
+AreOthers a b = Unit {0}
+
+-- how the types stand to one another: short, the halves of an int and fresh objects are above nothing but Bottom
+data Sort : Ty → Type 0 where
+  bottom : Sort Bottom
+  top : Sort Top
+  null : Sort Null
+  single : {a : Ty} → ((t : ClassTable) (u : Ty) → is_below t a u ≡ true → (u ≡ a) ⊎ (u ≡ Top)) → Sort a
+  object_or_array : {a : Ty} → is_reference a ≡ true → Sort a
+
+single_short : (t : ClassTable) (u : Ty) → is_below t Short u ≡ true → (u ≡ Short) ⊎ (u ≡ Top)
+unfolding is_below
+single_short t Short h = inl refl
+single_short t Top h = inr refl
+single_short t u h = absurd (false≢true h)
+
+single_high : (t : ClassTable) (u : Ty) → is_below t IntHigh u ≡ true → (u ≡ IntHigh) ⊎ (u ≡ Top)
+unfolding is_below
+single_high t IntHigh h = inl refl
+single_high t Top h = inr refl
+single_high t u h = absurd (false≢true h)
+
+single_low : (t : ClassTable) (u : Ty) → is_below t IntLow u ≡ true → (u ≡ IntLow) ⊎ (u ≡ Top)
+unfolding is_below
+single_low t IntLow h = inl refl
+single_low t Top h = inr refl
+single_low t u h = absurd (false≢true h)
+
+both : (a b : Bool) → (a && b) ≡ true → (a ≡ true) × (b ≡ true)
+both true b e = (refl, e)
+both false b e = absurd (false≢true e)
+
+single_fresh : (p c : ℕ) (t : ClassTable) (u : Ty) → is_below t (Fresh p c) u ≡ true → (u ≡ Fresh p c) ⊎ (u ≡ Top)
+unfolding is_below
+single_fresh p c t (Fresh q d) h =
+    let e = both (p == q) (c == d) h in
+    let place : p ≡ q = eqb-true p q e.0 in
+    let class : c ≡ d = eqb-true c d e.1 in
+    inl (rw (place, class) refl)
+single_fresh p c t Top h = inr refl
+single_fresh p c t u h = absurd (false≢true h)
+
+sort_of : (a : Ty) → Sort a
+sort_of Bottom = bottom
+sort_of Short = single single_short
+sort_of IntHigh = single single_high
+sort_of IntLow = single single_low
+sort_of Null = null
+sort_of (Class c) = object_or_array refl
+sort_of ArrBool = object_or_array refl
+sort_of ArrByte = object_or_array refl
+sort_of ArrShort = object_or_array refl
+sort_of ArrInt = object_or_array refl
+sort_of (ArrRef c) = object_or_array refl
+sort_of (Fresh p c) = single (single_fresh p c)
+sort_of Top = top
+
+bottom_is_below : (t : ClassTable) (b : Ty) → is_below t Bottom b ≡ true
+unfolding is_below
+bottom_is_below t b = refl
+
+null_is_below : (t : ClassTable) (b : Ty) → is_reference b ≡ true → is_below t Null b ≡ true
+unfolding is_below
+null_is_below t (Class c) h = refl
+null_is_below t ArrBool h = refl
+null_is_below t ArrByte h = refl
+null_is_below t ArrShort h = refl
+null_is_below t ArrInt h = refl
+null_is_below t (ArrRef c) h = refl
+null_is_below t b h = absurd (false≢true h)
+
+-- what is above two types that do not compare and are not both references is Top
+only_top : (t : ClassTable) (a b u : Ty) → Sort a → Sort b → is_below t a b ≡ false → is_below t b a ≡ false → (is_reference a && is_reference b) ≡ false
+    → is_below t a u ≡ true → is_below t b u ≡ true → u ≡ Top
+only_top t a b u bottom sb ab ba r p q = absurd (true≢false (sym (bottom_is_below t b) ∙ ab))
+only_top t a b u top sb ab ba r p q = absurd (true≢false (sym (is_below-top t b) ∙ ba))
+only_top t a b u (single only) sb ab ba r p q = elim (only t u p) [
+  | inl e ↦ absurd (true≢false (sym (subst (λ (x : Ty). is_below t b x ≡ true) e q) ∙ ba))
+  | inr e ↦ e
+]
+only_top t a b u null bottom ab ba r p q = absurd (true≢false (sym (bottom_is_below t a) ∙ ba))
+only_top t a b u null top ab ba r p q = absurd (true≢false (sym (is_below-top t a) ∙ ab))
+only_top t a b u null null ab ba r p q = absurd (true≢false (sym (is_below-refl t Null) ∙ ab))
+only_top t a b u null (single only) ab ba r p q = elim (only t u q) [
+  | inl e ↦ absurd (true≢false (sym (subst (λ (x : Ty). is_below t Null x ≡ true) e p) ∙ ab))
+  | inr e ↦ e
+]
+only_top t a b u null (object_or_array h) ab ba r p q = absurd (true≢false (sym (null_is_below t b h) ∙ ab))
+only_top t a b u (object_or_array h) bottom ab ba r p q = absurd (true≢false (sym (bottom_is_below t a) ∙ ba))
+only_top t a b u (object_or_array h) top ab ba r p q = absurd (true≢false (sym (is_below-top t a) ∙ ab))
+only_top t a b u (object_or_array h) null ab ba r p q = absurd (true≢false (sym (null_is_below t a h) ∙ ba))
+only_top t a b u (object_or_array h) (single only) ab ba r p q = elim (only t u q) [
+  | inl e ↦ absurd (true≢false (sym (subst (λ (x : Ty). is_below t a x ≡ true) e p) ∙ ab))
+  | inr e ↦ e
+]
+only_top t a b u (object_or_array h) (object_or_array k) ab ba r p q = absurd (true≢false (sym (ap (λ (x : Bool). x && is_reference b) h ∙ k) ∙ r))
+
+-- how the references stand to one another
+data Reference : Ty → Type 0 where
+  class : {c : ℕ} → Reference (Class c)
+  references : {c : ℕ} → Reference (ArrRef c)
+  primitive : {a : Ty} → IsArray a → ((t : ClassTable) (u : Ty) → is_below t a u ≡ true → (u ≡ a) ⊎ (is_above_arrays t u ≡ true)) → Reference a
+
+above_booleans : (t : ClassTable) (u : Ty) → is_below t ArrBool u ≡ true → (u ≡ ArrBool) ⊎ (is_above_arrays t u ≡ true)
+unfolding is_below
+above_booleans t ArrBool h = inl refl
+above_booleans t u h = inr h
+
+above_bytes : (t : ClassTable) (u : Ty) → is_below t ArrByte u ≡ true → (u ≡ ArrByte) ⊎ (is_above_arrays t u ≡ true)
+unfolding is_below
+above_bytes t ArrByte h = inl refl
+above_bytes t u h = inr h
+
+above_shorts : (t : ClassTable) (u : Ty) → is_below t ArrShort u ≡ true → (u ≡ ArrShort) ⊎ (is_above_arrays t u ≡ true)
+unfolding is_below
+above_shorts t ArrShort h = inl refl
+above_shorts t u h = inr h
+
+above_ints : (t : ClassTable) (u : Ty) → is_below t ArrInt u ≡ true → (u ≡ ArrInt) ⊎ (is_above_arrays t u ≡ true)
+unfolding is_below
+above_ints t ArrInt h = inl refl
+above_ints t u h = inr h
+
+reference_of : (a : Ty) → is_reference a ≡ true → Reference a
+reference_of (Class c) h = class
+reference_of ArrBool h = primitive of_booleans above_booleans
+reference_of ArrByte h = primitive of_bytes above_bytes
+reference_of ArrShort h = primitive of_shorts above_shorts
+reference_of ArrInt h = primitive of_ints above_ints
+reference_of (ArrRef c) h = references
+reference_of a h = absurd (false≢true h)
+
+-- what is above every array is above object
+object_is_below : (t : ClassTable) (u : Ty) → is_above_arrays t u ≡ true → is_below t (Class (object t)) u ≡ true
+unfolding is_below
+object_is_below t (Class d) h = subst (λ (x : ℕ). is_on_chain t x (object t) ≡ true) (sym (eqb-true d (object t) h)) (on_chain-here t (object t))
+object_is_below t Top h = refl
+object_is_below t u h = absurd (false≢true h)
+
+-- what is above a class and an array is above every array
+above_class_array : (t : ClassTable) (c d : ℕ) (u : Ty) → is_below t (Class c) u ≡ true → is_below t (ArrRef d) u ≡ true → is_above_arrays t u ≡ true
+unfolding is_below
+above_class_array t c d (Class e) p q = q
+above_class_array t c d Top p q = refl
+above_class_array t c d u p q = absurd (false≢true p)
+
+above_both : (t : ClassTable) (a b u : Ty) → AreOthers a b → Reference a → Reference b → is_below t a b ≡ false → is_below t b a ≡ false
+    → is_below t a u ≡ true → is_below t b u ≡ true → is_above_arrays t u ≡ true
+above_both t a b u others (primitive k only) rb ab ba p q = elim (only t u p) [
+  | inl e ↦ absurd (true≢false (sym (subst (λ (x : Ty). is_below t b x ≡ true) e q) ∙ ba))
+  | inr h ↦ h
+]
+above_both t a b u others class (primitive k only) ab ba p q = elim (only t u q) [
+  | inl e ↦ absurd (true≢false (sym (subst (λ (x : Ty). is_below t a x ≡ true) e p) ∙ ab))
+  | inr h ↦ h
+]
+above_both t a b u others references (primitive k only) ab ba p q = elim (only t u q) [
+  | inl e ↦ absurd (true≢false (sym (subst (λ (x : Ty). is_below t a x ≡ true) e p) ∙ ab))
+  | inr h ↦ h
+]
+above_both t (Class c) (ArrRef d) u others class references ab ba p q = above_class_array t c d u p q
+above_both t (ArrRef d) (Class c) u others references class ab ba p q = above_class_array t c d u q p
+above_both t a b u others class class ab ba p q = absurd others
+above_both t a b u others references references ab ba p q = absurd others
+
+below_object : (t : ClassTable) → AreClasses t → (a : Ty) → IsKnown t a → Reference a → Below t a (Class (object t))
+below_object t are (Class c) known class = class_is_below t are c (object t) (on_chain-object t are c known)
+below_object t are a known references = array_object of_references refl
+below_object t are a known (primitive k only) = array_object k refl
+
+others_is : (t : ClassTable) → AreClasses t → (a b : Ty) → AreOthers a b → IsKnown t a → IsKnown t b → (x y z : Bool) → is_below t a b ≡ x → is_below t b a ≡ y → (is_reference a && is_reference b) ≡ z
+    → IsJoin t a b (if x then b else if y then a else if z then Class (object t) else Top)
+others_is t are a b others ka kb true y z ab ba r =
+    record { left = Below-from_is_below t are a b ab; right = same; least = λ u p q. q }
+others_is t are a b others ka kb false true z ab ba r =
+    record { left = same; right = Below-from_is_below t are b a ba; least = λ u p q. p }
+others_is t are a b others ka kb false false true ab ba r =
+    let refs = both (is_reference a) (is_reference b) r in
+    let ra = reference_of a refs.0 in
+    let rb = reference_of b refs.1 in
+    record {
+      left = below_object t are a ka ra;
+      right = below_object t are b kb rb;
+      least = λ u p q. Below-from_is_below t are (Class (object t)) u (object_is_below t u (above_both t a b u others ra rb ab ba (is_below-from_Below t are p) (is_below-from_Below t are q)));
+    }
+others_is t are a b others ka kb false false false ab ba r =
+    record {
+      left = anything;
+      right = anything;
+      least = λ u p q. subst (λ (x : Ty). Below t Top x) (sym (only_top t a b u (sort_of a) (sort_of b) ab ba r (is_below-from_Below t are p) (is_below-from_Below t are q))) same;
+    }
+
+others_known : (t : ClassTable) → AreClasses t → (a b : Ty) → IsKnown t a → IsKnown t b → (x y z : Bool) → IsKnown t (if x then b else if y then a else if z then Class (object t) else Top)
+others_known t are a b ka kb true y z = kb
+others_known t are a b ka kb false true z = ka
+others_known t are a b ka kb false false true = are.objects
+others_known t are a b ka kb false false false = tt
+
+-- ---- the join
+
+pub join_of-is : (t : ClassTable) → AreClasses t → (a b : Ty) → IsKnown t a → IsKnown t b → IsJoin t a b (join_of t a b)
+unfolding join_of
+join_of-is t are (Class c) (Class d) ka kb = join_of_classes t are c d ka kb
+join_of-is t are (ArrRef c) (ArrRef d) ka kb = join_of_arrays t are c d ka kb
+join_of-is t are a b ka kb = others_is t are a b tt ka kb (is_below t a b) (is_below t b a) (is_reference a && is_reference b) refl refl refl
+
+pub join_of-known : (t : ClassTable) → AreClasses t → (a b : Ty) → IsKnown t a → IsKnown t b → IsKnown t (join_of t a b)
+unfolding join_of
+join_of-known t are (Class c) (Class d) ka kb = on_chain-class t are c (common t c d) ka (common-nearest t are c d ka kb).left
+join_of-known t are (ArrRef c) (ArrRef d) ka kb = on_chain-class t are c (common t c d) ka (common-nearest t are c d ka kb).left
+join_of-known t are a b ka kb = others_known t are a b ka kb (is_below t a b) (is_below t b a) (is_reference a && is_reference b)
+
+-- ---- how often a type rises
+
+rises-most : (t : ClassTable) (b : Ty) → (b ≡ Bottom) ⊎ (rises_left t b ≤ height t + 2)
+unfolding rises_left
+rises-most t Bottom = inl refl
+rises-most t Short = inr (omega arith)
+rises-most t IntHigh = inr (omega arith)
+rises-most t IntLow = inr (omega arith)
+rises-most t Null = inr (omega arith)
+rises-most t (Class c) = inr (omega (arith, chain-height t c))
+rises-most t ArrBool = inr (omega arith)
+rises-most t ArrByte = inr (omega arith)
+rises-most t ArrShort = inr (omega arith)
+rises-most t ArrInt = inr (omega arith)
+rises-most t (ArrRef c) = inr (omega (arith, chain-height t c))
+rises-most t (Fresh p c) = inr (omega arith)
+rises-most t Top = inr (omega arith)
+
+rises-least : (t : ClassTable) (a : Ty) → (a ≡ Top) ⊎ (0 < rises_left t a)
+unfolding rises_left
+rises-least t Bottom = inr (omega arith)
+rises-least t Short = inr (omega arith)
+rises-least t IntHigh = inr (omega arith)
+rises-least t IntLow = inr (omega arith)
+rises-least t Null = inr (omega arith)
+rises-least t (Class c) = inr (omega (arith, chain-not_empty t c))
+rises-least t ArrBool = inr (omega arith)
+rises-least t ArrByte = inr (omega arith)
+rises-least t ArrShort = inr (omega arith)
+rises-least t ArrInt = inr (omega arith)
+rises-least t (ArrRef c) = inr (omega arith)
+rises-least t (Fresh p c) = inr (omega arith)
+rises-least t Top = inl refl
+
+null_falls : (t : ClassTable) {b : Ty} → IsArray b → rises_left t b < rises_left t Null
+unfolding rises_left
+null_falls t of_booleans = omega (arith, chain-height t (object t), chain-not_empty t (object t))
+null_falls t of_bytes = omega (arith, chain-height t (object t), chain-not_empty t (object t))
+null_falls t of_shorts = omega (arith, chain-height t (object t), chain-not_empty t (object t))
+null_falls t of_ints = omega (arith, chain-height t (object t), chain-not_empty t (object t))
+null_falls t (of_references {c}) = omega (arith, chain-height t c)
+
+array_falls : (t : ClassTable) → AreClasses t → {a : Ty} → IsArray a → rises_left t (Class (object t)) < rises_left t a
+unfolding rises_left
+array_falls t are of_booleans = omega (arith, ap length (chain-alone t (object t) are.object_ends))
+array_falls t are of_bytes = omega (arith, ap length (chain-alone t (object t) are.object_ends))
+array_falls t are of_shorts = omega (arith, ap length (chain-alone t (object t) are.object_ends))
+array_falls t are of_ints = omega (arith, ap length (chain-alone t (object t) are.object_ends))
+array_falls t are (of_references {c}) = omega (arith, ap length (chain-alone t (object t) are.object_ends), chain-not_empty t c)
+
+class_falls : (t : ClassTable) → AreClasses t → (c p : ℕ) → parent_of t c ≡ Some p → rises_left t (Class p) < rises_left t (Class c)
+unfolding rises_left
+class_falls t are c p e = omega (arith, ap length (next_on_chain t c p are (parent_of-class t c p e) e).chain_is)
+
+null_class_falls : (t : ClassTable) (c : ℕ) → rises_left t (Class c) < rises_left t Null
+unfolding rises_left
+null_class_falls t c = omega (arith, chain-height t c)
+
+array_array_falls : (t : ClassTable) (c d : ℕ) → (Class c ≡ Class d) ⊎ (rises_left t (Class d) < rises_left t (Class c)) → (ArrRef c ≡ ArrRef d) ⊎ (rises_left t (ArrRef d) < rises_left t (ArrRef c))
+unfolding rises_left
+array_array_falls t c d (inl e) = let n : c ≡ d = cc in inl (ap (λ (x : ℕ). ArrRef x) n)
+array_array_falls t c d (inr lt) = inr (omega arith)
+
+bottom_falls : (t : ClassTable) (b : Ty) → (b ≡ Bottom) ⊎ (rises_left t b ≤ height t + 2) → (Bottom ≡ b) ⊎ (rises_left t b < rises_left t Bottom)
+unfolding rises_left
+bottom_falls t b (inl e) = inl (sym e)
+bottom_falls t b (inr le) = inr (omega arith)
+
+top_falls : (t : ClassTable) (a : Ty) → (a ≡ Top) ⊎ (0 < rises_left t a) → (a ≡ Top) ⊎ (rises_left t Top < rises_left t a)
+unfolding rises_left
+top_falls t a (inl e) = inl e
+top_falls t a (inr lt) = inr lt
+
+falls-joined : (t : ClassTable) (a b c : Ty) → (a ≡ b) ⊎ (rises_left t b < rises_left t a) → (b ≡ c) ⊎ (rises_left t c < rises_left t b) → (a ≡ c) ⊎ (rises_left t c < rises_left t a)
+falls-joined t a b c (inl e) second = subst (λ (x : Ty). (x ≡ c) ⊎ (rises_left t c < rises_left t x)) (sym e) second
+falls-joined t a b c (inr lt) (inl e) = inr (subst (λ (x : Ty). rises_left t x < rises_left t a) e lt)
+falls-joined t a b c (inr lt) (inr le) = inr (omega arith)
+
+-- along the order a type stays or the number of rises that are left falls
+pub rises-falls : (t : ClassTable) → AreClasses t → {a b : Ty} → Below t a b → (a ≡ b) ⊎ (rises_left t b < rises_left t a)
+rises-falls t are same = inl refl
+rises-falls t are (joined {a} {b} {c} p q) = falls-joined t a b c (rises-falls t are p) (rises-falls t are q)
+rises-falls t are (nothing {b}) = bottom_falls t b (rises-most t b)
+rises-falls t are (anything {a}) = top_falls t a (rises-least t a)
+rises-falls t are (null_object {c}) = inr (null_class_falls t c)
+rises-falls t are (null_array k) = inr (null_falls t k)
+rises-falls t are (subclass {c} {p} e) = inr (class_falls t are c p e)
+rises-falls t are (array_object {a} {c} k e) = inr (subst (λ (x : ℕ). rises_left t (Class x) < rises_left t a) (sym e) (array_falls t are k))
+rises-falls t are (array_array {c} {d} h) = array_array_falls t c d (rises-falls t are h)
+
+pub rises-bound : (t : ClassTable) (a : Ty) → rises_left t a ≤ height t + 3
+unfolding rises_left
+rises-bound t a = bound a (rises-most t a) where
+  bound : (b : Ty) → (b ≡ Bottom) ⊎ (rises_left t b ≤ height t + 2) → rises_left t b ≤ height t + 3
+  bound b (inl e) = subst (λ (x : Ty). rises_left t x ≤ height t + 3) (sym e) (omega arith)
+  bound b (inr le) = omega arith
+
+-- the order is antisymmetric
+pub Below-antisym : (t : ClassTable) → AreClasses t → {a b : Ty} → Below t a b → Below t b a → a ≡ b
+Below-antisym t are {a} {b} p q = meet (rises-falls t are p) (rises-falls t are q) where
+  meet : (a ≡ b) ⊎ (rises_left t b < rises_left t a) → (b ≡ a) ⊎ (rises_left t a < rises_left t b) → a ≡ b
+  meet (inl e) second = e
+  meet (inr lt) (inl e) = sym e
+  meet (inr lt) (inr gt) = absurd (omega arith)
+
+-- a join rises with what it joins
+pub IsJoin-monotone : (t : ClassTable) {a b c d j k : Ty} → Below t a c → Below t b d → IsJoin t a b j → IsJoin t c d k → Below t j k
+IsJoin-monotone t {a} {b} {c} {d} {j} {k} p q low high = low.least k (joined p high.left) (joined q high.right)
+
+-- there is one join
+pub IsJoin-unique : (t : ClassTable) → AreClasses t → {a b j k : Ty} → IsJoin t a b j → IsJoin t a b k → j ≡ k
+IsJoin-unique t are {a} {b} {j} {k} one other = Below-antisym t are (one.least k other.left other.right) (other.least j one.left one.right)

@@ -1,0 +1,7 @@
+pub mod Lists
+pub mod Chains
+pub mod Climbs
+pub mod Meets
+pub mod Subtypes
+pub mod Joins
+pub mod Samples

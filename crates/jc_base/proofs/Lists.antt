@@ -1,0 +1,45 @@
+-- Reading what holds of the elements of a list at one of them.
+use Rattle.std.proofs.Common.{◌≡◌, ℕ, zero, suc, ◌<◌, ◌≤◌, List, [], ◌∷◌, length, Option, Some, None, subst, arith}
+use Rattle.std.specs.Prelude.{All, IfSome, slice_get, sum_by}
+use Rattle.jc_base.specs.declared.ty.Kind.{Kind}
+use Rattle.jc_base.specs.declared.ty.Kind.TheVariants.{Ref, Byte, Short, Int}
+use Rattle.jc_base.specs.declared.record.StaticRec.{StaticRec}
+use Rattle.jc_base.specs.Cell.{width}
+use Rattle.std.proofs.lemmas.List.Sums.{sum_by-cons}
+use Rattle.std.proofs.lemmas.List.Elements.{All-head, All-tail}
+use Rattle.jc_base.specs.Linked.{list_at}
+
+pub All-slice_get : {X : Type 0} (P : X → Type 0) (xs : List X) (n : ℕ) (x : X) → All P xs → slice_get xs n ≡ Some x → P x
+All-slice_get P [] n x all e = absurd cc
+All-slice_get P (y ∷ ys) zero x all e =
+    let same : y ≡ x = cc in
+    subst P same (All-head P y ys all)
+All-slice_get P (y ∷ ys) (suc n) x all e = All-slice_get P ys n x (All-tail P y ys all) e
+
+pub IfSome-is : {X : Type 0} (P : X → Type 0) (o : Option X) (x : X) → IfSome o P → o ≡ Some x → P x
+IfSome-is P None x h e = absurd cc
+IfSome-is P (Some y) x h e =
+    let same : y ≡ x = cc in
+    subst P same h
+
+-- the list of a number is the element there
+pub list_at-slice_get : {X : Type 0} (xss : List (List X)) (n : ℕ) (xs : List X) → slice_get xss n ≡ Some xs → list_at xss n ≡ xs
+list_at-slice_get [] n xs e = absurd cc
+list_at-slice_get (ys ∷ yss) zero xs e = cc
+list_at-slice_get (ys ∷ yss) (suc n) xs e = list_at-slice_get yss n xs e
+
+pub slice_get-below : {X : Type 0} (xs : List X) (n : ℕ) (x : X) → slice_get xs n ≡ Some x → n < length xs
+slice_get-below [] n x e = absurd cc
+slice_get-below (y ∷ ys) zero x e = omega arith
+slice_get-below (y ∷ ys) (suc n) x e = omega (arith, slice_get-below ys n x e)
+
+one_at_least : (k : Kind) → 1 ≤ width k
+one_at_least Ref = omega arith
+one_at_least Byte = omega arith
+one_at_least Short = omega arith
+one_at_least Int = omega arith
+
+-- each static field takes a cell
+pub statics_fit : (fs : List StaticRec) → length fs ≤ sum_by (λ f. width f.kind) fs
+statics_fit [] = omega arith
+statics_fit (f ∷ fs) = rw sum_by-cons (omega (arith, one_at_least f.kind, statics_fit fs))

@@ -1,0 +1,7 @@
+pub mod Class
+pub mod Order
+pub mod Cell
+pub mod Dispatch
+pub mod Linked
+pub mod World
+pub mod Sample

@@ -1,0 +1,27 @@
+//! The types of Java Card bytecode verification with their order and join (Leroy 2002, section 2),
+//! the records of classes, methods and static fields (JCVM 2.2, chapter 6), and the linked world of
+//! packages that verifiers and machines read.
+//! It stands on std alone.
+#![tactic(auto)]
+
+mod class;
+mod infos;
+mod list;
+mod order;
+mod record;
+mod ty;
+mod world;
+
+pub use class::Classes;
+pub use infos::Infos;
+pub use list::{
+    Arrays, ClassRecs, Dispatch, Handlers, Ifaces, Initial, Items, Members, Methods, Pools,
+    Statics, Tokens, Tys,
+};
+pub use order::{below, join};
+pub use record::{ArrayRec, ClassRec, Handler, Iface, Member, MethodRec, Sig, StaticRec};
+pub use ty::{Kind, Ty};
+pub use world::World;
+
+#[cfg(test)]
+mod tests;

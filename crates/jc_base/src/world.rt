@@ -1,0 +1,218 @@
+ghost use Rattle.std.specs.Prelude.{◌≡◌, ◌<◌, ◌≤◌, length, All, IfSome, Some, slice_get, slice_index, option_map};
+ghost use Rattle.jc_base.specs.Class.{IsClass};
+ghost use Rattle.jc_base.specs.Cell.{AreElementsOf};
+ghost use Rattle.jc_base.specs.Linked.{IsMember, IsLinkedClass, IsMethod, IsStatic, list_at};
+ghost use Rattle.jc_base.specs.World.{IsWorld, IsThrown, member_at, code_of, has_numbers, method_numbered};
+
+use crate::class::Classes;
+use crate::infos::Infos;
+use crate::list::{Arrays, Members, Methods, Pools, Statics};
+use crate::record::{ArrayRec, ClassRec, Member, MethodRec, StaticRec};
+use std::marker::Model;
+
+/// Linked packages: what each constant pool names is found, and classes, methods and static fields are
+/// numbered over all packages. The code stays in the packages' own bytes.
+#[derive(Drop)]
+pub struct World<'a> {
+    infos: Infos<'a>,
+    pools: Pools,
+    classes: Classes,
+    methods: Methods,
+    statics: Statics,
+    arrays: Arrays,
+}
+
+impl<'a> Model for World<'a> {
+    ghost use Rattle.jc_base.specs.World.{Linked, IsWorld};
+
+    ghost Value = { Linked };
+
+    ghost view = { λ a. record { infos = a.infos; pools = a.pools; classes = a.classes; methods = a.methods; statics = a.statics; arrays = a.arrays } };
+
+    ghost invariant = { λ a. IsWorld (record { infos = a.infos; pools = a.pools; classes = a.classes; methods = a.methods; statics = a.statics; arrays = a.arrays }) };
+}
+
+impl<'a> World<'a> {
+    /// The world of these lists: by package the Method info and what the pool entries name, and over all
+    /// packages the classes, methods, static fields and initial arrays.
+    pub fn of(
+        infos: Infos<'a>,
+        pools: Pools,
+        classes: Classes,
+        methods: Methods,
+        statics: Statics,
+        arrays: Arrays,
+    ) -> World<'a>
+        requires { IsWorld (record { infos = infos; pools = pools; classes = classes; methods = methods; statics = statics; arrays = arrays }) }
+        ensures { result ≡ record { infos = infos.entry; pools = pools; classes = classes; methods = methods; statics = statics; arrays = arrays } }
+    {
+        World {
+            infos,
+            pools,
+            classes,
+            methods,
+            statics,
+            arrays,
+        }
+    }
+
+    /// The classes of all packages; every fact on the world is known of them.
+    pub fn classes(&self) -> &Classes
+        ensures is { result.now ≡ self.now.classes }
+        ensures links { IsWorld self.now }
+    {
+        &self.classes
+    }
+
+    /// The Method info of a package.
+    fn info(&self, package: u16) -> &'a [u8]
+        requires { «package» < length self.now.infos }
+        ensures { result.now ≡ list_at self.now.infos «package» }
+    {
+        self.infos.at(package as usize)
+    }
+
+    /// What the entries of the constant pool of a package name.
+    fn pool(&self, package: u16) -> &Members
+        requires { «package» < length self.now.infos }
+        ensures is { result.now ≡ list_at self.now.pools «package» }
+        ensures links { All (IsMember self.now.classes self.now.methods self.now.statics) result.now }
+        ensures most { length result.now ≤ 65535 }
+    {
+        self.pools.at(package as usize)
+    }
+
+    pub fn package_count(&self) -> u16
+        ensures is { result ≡ length self.now.infos }
+        ensures most { result ≤ 16 }
+    {
+        self.infos.len() as u16
+    }
+
+    pub fn class_count(&self) -> u16
+        ensures is { result ≡ length self.now.classes.records }
+        ensures most { result ≤ 4096 }
+    {
+        self.classes.len() as u16
+    }
+
+    pub fn method_count(&self) -> u16
+        ensures is { result ≡ length self.now.methods }
+        ensures most { result ≤ 32768 }
+    {
+        self.methods.len() as u16
+    }
+
+    pub fn static_count(&self) -> u16
+        ensures is { result ≡ length self.now.statics }
+        ensures most { result ≤ 32768 }
+    {
+        self.statics.len() as u16
+    }
+
+    pub fn array_count(&self) -> u16
+        ensures is { result ≡ length self.now.arrays }
+        ensures most { result ≤ 4096 }
+    {
+        self.arrays.len() as u16
+    }
+
+    /// The number of entries in the constant pool of a package.
+    pub fn pool_count(&self, package: u16) -> u16
+        requires { «package» < length self.now.infos }
+        ensures { result ≡ length (list_at self.now.pools «package») }
+    {
+        self.pool(package).len() as u16
+    }
+
+    pub fn class(&self, n: u16) -> &ClassRec
+        requires { n < length self.now.classes.records }
+        ensures is { slice_get self.now.classes.records n ≡ Some result.now }
+        ensures links { IsLinkedClass (length self.now.infos) self.now.classes self.now.methods n result.now }
+    {
+        self.classes.at(n)
+    }
+
+    pub fn method(&self, n: u16) -> &MethodRec
+        requires { n < length self.now.methods }
+        ensures is { slice_get self.now.methods n ≡ Some result.now }
+        ensures links { IsMethod self.now.infos self.now.pools self.now.classes result.now }
+    {
+        self.methods.at(n as usize)
+    }
+
+    /// What an entry of the constant pool of a package names.
+    pub fn member(&self, package: u16, pool: u16) -> Member
+        requires known { «package» < length self.now.infos }
+        requires entry { pool < length (list_at self.now.pools «package») }
+        ensures is { member_at self.now «package» pool ≡ Some result }
+        ensures links { IsMember self.now.classes self.now.methods self.now.statics result }
+    {
+        *self.pool(package).at(pool as usize)
+    }
+
+    pub fn static_field(&self, n: u16) -> &StaticRec
+        requires { n < length self.now.statics }
+        ensures is { slice_get self.now.statics n ≡ Some result.now }
+        ensures links { IsStatic (length self.now.infos) self.now.classes self.now.arrays result.now }
+    {
+        self.statics.at(n as usize)
+    }
+
+    pub fn array(&self, n: u16) -> &ArrayRec
+        requires { n < length self.now.arrays }
+        ensures is { slice_get self.now.arrays n ≡ Some result.now }
+        ensures links { AreElementsOf result.now.kind result.now.initial }
+    {
+        self.arrays.at(n as usize)
+    }
+
+    /// The class of a role: 0 object, 1 throwable, and from 2 to 7 the classes that the machine throws
+    /// for null, arithmetic, array index, negative size, class cast and array store.
+    pub fn role(&self, k: u8) -> u16
+        requires { k < 8 }
+        ensures is { result ≡ slice_index self.now.classes.roles k }
+        ensures class { IsClass self.now.classes result }
+        ensures thrown { 2 ≤ k → IsThrown self.now.classes self.now.methods result }
+    {
+        self.classes.role(k)
+    }
+
+    /// The bytes of a method's code, in its package's Method info.
+    pub fn code(&self, method: u16) -> &'a [u8]
+        requires { method < length self.now.methods }
+        ensures is { option_map (code_of self.now.infos) (slice_get self.now.methods method) ≡ Some result.now }
+        ensures len { IfSome (slice_get self.now.methods method) (λ m. length result.now ≡ m.code_len) }
+    {
+        let m = self.method(method);
+        let from = m.code_at as usize;
+        let end = from + m.code_len as usize;
+        &self.info(m.package)[from..end]
+    }
+
+    /// The number of the method that has these numbers in the Descriptor of a package.
+    pub fn method_at(&self, package: u16, class_no: u16, method_no: u16) -> Option<u16>
+        ensures { result ≡ method_numbered self.now.methods «package» class_no method_no }
+    {
+        match place(&self.methods, package, class_no, method_no) {
+            Some(n) => Some(n as u16),
+            None => None,
+        }
+    }
+}
+
+fn is_numbered(m: &MethodRec, package: u16, class_no: u16, method_no: u16) -> bool
+    ensures { result ≡ has_numbers «package» class_no method_no m.now }
+{
+    m.package == package && m.class_no == class_no && m.method_no == method_no
+}
+
+fn place(methods: &Methods, package: u16, class_no: u16, method_no: u16) -> Option<usize>
+    ensures is { result ≡ method_numbered methods.now «package» class_no method_no }
+    ensures below { IfSome result (λ n. n < length methods.now) }
+{
+    methods
+        .as_slice()
+        .iter()
+        .position(|m| is_numbered(m, package, class_no, method_no))
+}

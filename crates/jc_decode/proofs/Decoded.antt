@@ -1,0 +1,108 @@
+-- What holds where an instruction is decoded.
+use Rattle.std.proofs.Common.{◌≡◌, ◌≤◌, ◌+◌, ◌-◌, ◌*◌, ℕ, Bool, true, false, cond, Option, Some, None, Result, Ok, Err, List, length, refl, sym, ap, ◌∙◌, subst, arith}
+use Rattle.std.specs.Prelude.{ℤ, int_lt, unsigned_abs}
+use Rattle.cap_bytes.specs.Number.{number_at}
+use Rattle.jc_decode.specs.declared.layout.Operand.{Operand}
+use Rattle.jc_decode.specs.declared.layout.Cases.{Cases}
+use Rattle.jc_decode.specs.declared.layout.Cases.TheVariants.{Range, Pairs}
+use Rattle.jc_decode.specs.declared.layout.Cases.TheVariants.{Absent as NoCases}
+use Rattle.jc_decode.specs.declared.layout.Layout.{Layout}
+use Rattle.jc_decode.specs.declared.insn.CodeEnd.{CodeEnd}
+use Rattle.jc_decode.specs.declared.insn.Insn.{Insn}
+use Rattle.jc_decode.specs.Layout.{width, total_width, layout_of}
+use Rattle.jc_decode.specs.Decoding.{◌>>=◌, or_cut, reached, keys_rise, pairs_end, pair_width, range_end, range_count, bad_operand, operand_at, table_end, end_of_cases, decoded, Begins, IsWithin}
+
+-- a step that succeeds, and what comes of it
+pub bind-ok : {A B : Type 0} (r : Result A CodeEnd) (f : A → Result B CodeEnd) (y : B)
+    → (r >>= f) ≡ Ok y → (x : A) × (r ≡ Ok x) × (f x ≡ Ok y)
+bind-ok (Ok x) f y h = (x, refl, h)
+bind-ok (Err e) f y h = absurd (cc)
+
+pub or_cut-ok : {A : Type 0} (o : Option A) (x : A) → or_cut o ≡ Ok x → o ≡ Some x
+or_cut-ok None x h = absurd (cc)
+or_cut-ok (Some y) x h = cc
+
+-- what is reached is the place, and lies within the bytes
+pub reached-ok : (xs : List ℕ) (end e : ℕ) → reached xs end ≡ Ok e → (e ≡ end) × (e ≤ length xs)
+reached-ok xs end e h = grind arith
+
+pub reached-within : (xs : List ℕ) (end : ℕ) → end ≤ length xs → reached xs end ≡ Ok end
+reached-within xs end h = grind arith
+
+-- a table ends behind its beginning, and within the bytes
+pub keys_rise-ok : (key : Operand) (xs : List ℕ) (table end : ℕ) (o : Option ℕ) (e : ℕ) → keys_rise key xs table end o ≡ Ok e → e ≡ end
+keys_rise-ok key xs table end None e h = cc
+keys_rise-ok key xs table end (Some n) e h = absurd (cc)
+
+pub pairs_end-ok : (key : Operand) (xs : List ℕ) (table count e : ℕ) → pairs_end key xs table count ≡ Ok e
+    → (e ≡ table + pair_width key * count) × (e ≤ length xs)
+pairs_end-ok key xs table count e h =
+    let parts = bind-ok (reached xs (table + pair_width key * count)) _ e h in
+    let same = keys_rise-ok key xs table parts.0 _ e parts.2 in
+    let place = reached-ok xs (table + pair_width key * count) parts.0 parts.1 in
+    (same ∙ place.0, omega (arith, same, place.1))
+
+pub range_end-ok : (bound : Operand) (xs : List ℕ) (table : ℕ) (low high : ℤ) (e : ℕ) → range_end bound xs table low high ≡ Ok e
+    → (e ≡ table + 2 * range_count low high) × (e ≤ length xs)
+range_end-ok bound xs table low high e h = by_test (int_lt high low) h
+  where
+    by_test : (b : Bool) → cond b (Err (bad_operand xs (table - width bound))) (reached xs (table + 2 * range_count low high)) ≡ Ok e
+        → (e ≡ table + 2 * range_count low high) × (e ≤ length xs)
+    by_test true h = absurd (cc)
+    by_test false h = reached-ok xs _ e h
+
+pub table_end-ok : (l : Layout) (c : Cases) (xs : List ℕ) (table : ℕ) (y z : ℤ) (e : ℕ) → end_of_cases c l.z xs table y z ≡ Ok e
+    → table ≤ length xs → (table ≤ e) × (e ≤ length xs)
+table_end-ok l NoCases xs table y z e h inside = let same : table ≡ e = cc in (omega arith, omega arith)
+table_end-ok l Range xs table y z e h inside = let k = range_end-ok l.z xs table y z e h in (omega (arith, k.0), k.1)
+table_end-ok l (Pairs key) xs table y z e h inside = let k = pairs_end-ok key xs table (unsigned_abs y) e h in (omega (arith, k.0), k.1)
+
+-- the same for a chain of steps
+pub from_bind : {A B C : Type 0} (r : Result A CodeEnd) (f : A → Result B CodeEnd) (y : B)
+    → (r >>= f) ≡ Ok y → ((x : A) → r ≡ Ok x → f x ≡ Ok y → C) → C
+from_bind (Ok x) f y h k = k x refl h
+from_bind (Err e) f y h k = absurd (cc)
+
+pub ok-same : {A : Type 0} (x y : A) (r : Result A CodeEnd) → r ≡ Ok x → r ≡ Ok y → x ≡ y
+ok-same x y r h k = cc
+
+-- what is decoded begins there
+pub Begins-decoded : (xs : List ℕ) (at : ℕ) (i : Insn) → decoded xs at ≡ Ok i → Begins xs at i
+unfolding decoded
+Begins-decoded xs at i h =
+    from_bind (or_cut (number_at 1 at xs)) _ i h (λ op op_is h1.
+    from_bind (layout_of op) _ i h1 (λ l l_is h2.
+    from_bind (reached xs (at + 1 + total_width l)) _ i h2 (λ table table_is h3.
+    from_bind (operand_at l.x xs (at + 1)) _ i h3 (λ x x_is h4.
+    from_bind (operand_at l.y xs (at + 1 + width l.x)) _ i h4 (λ y y_is h5.
+    from_bind (operand_at l.z xs (at + 1 + width l.x + width l.y)) _ i h5 (λ z z_is h6.
+    from_bind (table_end l xs table y z) _ i h6 (λ end end_is h7.
+    let place = reached-ok xs (at + 1 + total_width l) table table_is in
+    let inside = table_end-ok l l.cases xs table y z end end_is place.1 in
+    let behind : at + (end - at) ≡ end = omega (arith, place.0, inside.0) in
+    let at_table : table_end l xs (at + 1 + total_width l) y z ≡ Ok end = rw (← place.0) end_is in
+    subst (Begins xs at) (ok-same _ i _ refl h7) (record {
+      opcode = or_cut-ok _ _ op_is;
+      layout = l;
+      is_layout = l_is;
+      reaches = omega (arith, place.0, place.1);
+      x = x_is;
+      y = y_is;
+      z = z_is;
+      ends = at_table ∙ ap Ok (sym behind);
+    }))))))))
+
+-- and what begins there is decoded
+pub decoded-Begins : (xs : List ℕ) (at : ℕ) (i : Insn) → Begins xs at i → decoded xs at ≡ Ok i
+unfolding decoded
+decoded-Begins xs at i b =
+    let reach : reached xs (at + 1 + total_width b.layout) ≡ Ok (at + 1 + total_width b.layout) = reached-within xs _ b.reaches in
+    let len : at + i.len - at ≡ i.len = omega arith in
+    rw (b.opcode, b.is_layout, reach, b.x, b.y, b.z, b.ends, len) refl
+
+-- an instruction takes a byte at least, and only bytes that are there
+pub IsWithin-decoded : (xs : List ℕ) (at : ℕ) (i : Insn) → decoded xs at ≡ Ok i → IsWithin xs at i
+IsWithin-decoded xs at i h =
+    let b = Begins-decoded xs at i h in
+    let inside = table_end-ok b.layout b.layout.cases xs _ i.y i.z (at + i.len) b.ends b.reaches in
+    record { one = omega (arith, inside.0); reaches = inside.1 }

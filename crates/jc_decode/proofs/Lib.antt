@@ -1,0 +1,13 @@
+pub mod Opcodes
+pub mod Pairs
+pub mod Decoded
+pub mod Listing
+pub mod Tables
+pub mod Targets
+pub mod Ranges
+pub mod Appending
+pub mod Windows
+pub mod ReadBack
+pub mod Written
+pub mod OwnBytes
+pub mod Rising

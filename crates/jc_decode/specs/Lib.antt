@@ -1,0 +1,6 @@
+pub mod Layout
+pub mod Decoding
+pub mod Cases
+pub mod Listing
+pub mod Instructions
+pub mod Encoding

@@ -1,0 +1,239 @@
+ghost use Rattle.std.specs.Prelude.{◌≤ℤ◌, IsTrue, ◌≡◌, ◌+◌, ◌*◌, ◌^◌, ◌<◌, ◌≤◌, ◌-◌, length, IfOk, pos, if◌then◌else◌};
+ghost use Rattle.cap_bytes.specs.Number.{number_at};
+ghost use Rattle.jc_decode.specs.Layout.{layout_of, width};
+ghost use Rattle.jc_decode.specs.Decoding.{is_dup_words, is_swap_words, is_array_type, is_tested_type, or_cut, reached, bad_operand, operand_at, pair_width, key_at, rises, pairs_end, table_end, decoded, Begins, FitsLayout, FitsOperand, IsWithin, AreBytes};
+ghost use Rattle.jc_decode.specs.Cases.{cases, is_table_switch, KeysRise};
+ghost use Rattle.jc_decode.specs.Encoding.{IsAllowed};
+
+use crate::insn::{CodeEnd, Insn};
+use crate::layout::{Cases, Layout, Operand};
+use cap_bytes::View;
+
+/// The instruction that begins at a place of a method's code, of at most 65,535 bytes.
+///
+/// The reasons for none are tried in this order: `OutOfScope` and `NoOpcode` by the opcode; `Cut` where
+/// the bytes do not reach, also where there is none at the place; `BadOperand` with the first byte of
+/// the first operand that the instruction forbids. Of a table switch that is `high` where it is below
+/// `low`, of a lookup switch a key that is not above the one before it.
+pub fn decode(code: View, at: u16) -> Result<Insn, CodeEnd>
+    requires { length code.bytes.now ≤ 65535 }
+    ensures value { result ≡ decoded code.entry.bytes.now at }
+    ensures begins { IfOk result (λ i. Begins code.entry.bytes.now at i) }
+    ensures operands { IfOk result (λ i. FitsLayout i (layout_of i.op)) }
+    ensures allowed { IfOk result (λ i. IsAllowed i) }
+    ensures order { IfOk result (λ i. IsTrue (is_table_switch i.op) → i.y ≤ℤ i.z) }
+    ensures rising { IfOk result (λ i. KeysRise (cases code.entry.bytes.now at i)) }
+    ensures within { IfOk result (λ i. IsWithin code.entry.bytes.now at i) }
+{
+    are_bytes(code.bytes);
+    insn_at(code, u32::from(at))
+}
+
+#[tactic(auto, unfolding(crate::specs::Decoding::decoded))]
+fn insn_at(code: View, at: u32) -> Result<Insn, CodeEnd>
+    requires short { length code.bytes.now ≤ 65535 }
+    requires place { at ≤ 65535 }
+    ensures { result ≡ decoded code.entry.bytes.now at }
+{
+    let op = u1(code, at)?;
+    let layout = Layout::of(op)?;
+    let operands = at + 1;
+    let table = reach(code, u64::from(operands + layout.width()))?;
+    let x = layout.x.read(code, operands)?;
+    let y = layout.y.read(code, operands + layout.x.width())?;
+    let z = layout
+        .z
+        .read(code, operands + layout.x.width() + layout.y.width())?;
+    let end = end_of_table(layout, code, table, y, z)?;
+    Ok(Insn {
+        op,
+        x,
+        y,
+        z,
+        len: end - at,
+    })
+}
+
+fn u1(code: View, at: u32) -> Result<u8, CodeEnd>
+    ensures { result ≡ or_cut (number_at 1 at code.entry.bytes.now) }
+{
+    match code.u1(at) {
+        Some(byte) => Ok(byte),
+        None => Err(CodeEnd::Cut),
+    }
+}
+
+fn u2(code: View, at: u32) -> Result<u16, CodeEnd>
+    ensures { result ≡ or_cut (number_at 2 at code.entry.bytes.now) }
+{
+    match code.u2(at) {
+        Some(number) => Ok(number),
+        None => Err(CodeEnd::Cut),
+    }
+}
+
+fn u4(code: View, at: u32) -> Result<u32, CodeEnd>
+    ensures { result ≡ or_cut (number_at 4 at code.entry.bytes.now) }
+{
+    match code.u4(at) {
+        Some(number) => Ok(number),
+        None => Err(CodeEnd::Cut),
+    }
+}
+
+/// The place, if the code reaches to it.
+fn reach(code: View, end: u64) -> Result<u32, CodeEnd>
+    requires { length code.bytes.now ≤ 65535 }
+    ensures value { result ≡ reached code.entry.bytes.now end }
+    ensures within { IfOk result (λ e. (e ≡ end) × (e ≤ length code.entry.bytes.now)) }
+{
+    if end <= code.bytes.len() as u64 {
+        Ok(end as u32)
+    } else {
+        Err(CodeEnd::Cut)
+    }
+}
+
+/// The refusal of the operand that begins at a place.
+fn refusal(code: View, at: u32) -> CodeEnd
+    ensures { result ≡ bad_operand code.entry.bytes.now at }
+{
+    match code.u1(at) {
+        Some(byte) => CodeEnd::BadOperand(byte),
+        None => CodeEnd::Cut,
+    }
+}
+
+fn allows_dup_x(byte: u8) -> bool
+    ensures { result ≡ is_dup_words byte }
+{
+    let (m, n) = (byte / 16, byte % 16);
+    1 <= m && m <= 4 && (n == 0 || m <= n && n <= m + 4)
+}
+
+fn allows_swap_x(byte: u8) -> bool
+    ensures { result ≡ is_swap_words byte }
+{
+    let (m, n) = (byte / 16, byte % 16);
+    1 <= m && m <= 2 && 1 <= n && n <= 2
+}
+
+fn allows_array(byte: u8) -> bool
+    ensures { result ≡ is_array_type byte }
+{
+    10 <= byte && byte <= 13
+}
+
+fn allows_type(byte: u8) -> bool
+    ensures { result ≡ is_tested_type byte }
+{
+    byte == 0 || 10 <= byte && byte <= 14
+}
+
+fn allowed(byte: u8, is_allowed: bool) -> Result<i32, CodeEnd>
+    ensures { result ≡ (if is_allowed then Ok (pos byte) else Err (CodeEnd.BadOperand byte)) }
+{
+    if is_allowed {
+        Ok(i32::from(byte))
+    } else {
+        Err(CodeEnd::BadOperand(byte))
+    }
+}
+
+impl Operand {
+    /// The operand at a place.
+    fn read(self, code: View, at: u32) -> Result<i32, CodeEnd>
+        ensures { result ≡ operand_at self code.entry.bytes.now at }
+    {
+        match self {
+            Operand::Absent => Ok(0),
+            Operand::U1 => Ok(i32::from(u1(code, at)?)),
+            Operand::U2 => Ok(i32::from(u2(code, at)?)),
+            Operand::S1 => Ok(i32::from(u1(code, at)?.cast_signed())),
+            Operand::S2 => Ok(i32::from(u2(code, at)?.cast_signed())),
+            Operand::S4 => Ok(u4(code, at)?.cast_signed()),
+            Operand::DupWords => {
+                let byte = u1(code, at)?;
+                allowed(byte, allows_dup_x(byte))
+            }
+            Operand::SwapWords => {
+                let byte = u1(code, at)?;
+                allowed(byte, allows_swap_x(byte))
+            }
+            Operand::ArrayType => {
+                let byte = u1(code, at)?;
+                allowed(byte, allows_array(byte))
+            }
+            Operand::TestedType => {
+                let byte = u1(code, at)?;
+                allowed(byte, allows_type(byte))
+            }
+        }
+    }
+
+    /// The key of the n-th pair of a table of pairs.
+    pub(crate) fn key(self, code: View, table: u32, n: u32) -> i32
+        requires { table + pair_width self * n < 2 ^ 32 }
+        ensures { result ≡ key_at self code.entry.bytes.now table n }
+    {
+        match self.read(code, table + (self.width() + 2) * n) {
+            Ok(key) => key,
+            Err(_) => 0,
+        }
+    }
+
+    /// Whether the n-th key of a table of pairs is above the one before it.
+    fn is_risen(self, code: View, table: u32, n: u32) -> bool
+        requires after_one { 1 ≤ n }
+        requires inside { table + pair_width self * n < 2 ^ 32 }
+        ensures { result ≡ rises self code.entry.bytes.now table n }
+    {
+        self.key(code, table, n - 1) < self.key(code, table, n)
+    }
+}
+
+/// The place behind a switch's table, which begins at this place.
+fn end_of_table(layout: Layout, code: View, table: u32, y: i32, z: i32) -> Result<u32, CodeEnd>
+    requires short { length code.bytes.now ≤ 65535 }
+    requires inside { table ≤ length code.bytes.now }
+    requires behind { width layout.z ≤ table }
+    ensures value { result ≡ table_end layout code.entry.bytes.now table y z }
+    ensures within { IfOk result (λ e. (table ≤ e) × (e ≤ length code.entry.bytes.now)) }
+{
+    match layout.cases {
+        Cases::Absent => Ok(table),
+        Cases::Range => {
+            if z < y {
+                Err(refusal(code, table - layout.z.width()))
+            } else {
+                reach(code, u64::from(table) + 2 * (u64::from(z.abs_diff(y)) + 1))
+            }
+        }
+        Cases::Pairs(key) => end_of_pairs(key, code, table, y.unsigned_abs()),
+    }
+}
+
+#[tactic(auto, using(crate::proofs::Pairs::pairs_facts))]
+/// The place behind this many pairs, the first of which begins at `table`.
+fn end_of_pairs(key: Operand, code: View, table: u32, count: u32) -> Result<u32, CodeEnd>
+    requires { length code.bytes.now ≤ 65535 }
+    ensures value { result ≡ pairs_end key code.entry.bytes.now table count }
+    ensures within { IfOk result (λ e. (table ≤ e) × (e ≤ length code.entry.bytes.now)) }
+{
+    let width = key.width() + 2;
+    let end = reach(code, u64::from(table) + u64::from(width) * u64::from(count))?;
+    'pairs: for n in 1..count {
+        let place = table + width * n;
+        if !key.is_risen(code, table, n) {
+            return Err(refusal(code, place));
+        }
+    }
+    Ok(end)
+}
+
+/// The items of a list of bytes are bytes: a fact for proofs, and no work.
+pub(crate) fn are_bytes(bytes: &[u8])
+    ensures { AreBytes bytes.now }
+{
+    let _ = bytes;
+}
