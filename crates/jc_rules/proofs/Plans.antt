@@ -14,8 +14,8 @@ use Rattle.jc_rows.specs.Named.{IsSound}
 use Rattle.jc_rows.proofs.Naming.{names-are-sound}
 use Rattle.jc_rules.specs.declared.effect.Effect.{Effect}
 use Rattle.jc_rules.specs.declared.effect.Mode.{Mode}
-use Rattle.jc_rules.specs.declared.apply.Site.{Site}
-use Rattle.jc_rules.specs.declared.apply.Outcome.{Outcome}
+use Rattle.jc_rules.specs.declared.rule.Site.{Site}
+use Rattle.jc_rules.specs.declared.rule.Outcome.{Outcome}
 use Rattle.jc_rules.specs.Stack.{cells}
 use Rattle.jc_rules.specs.Effect.{changed, depth_after, stored}
 use Rattle.jc_rules.specs.Demand.{Frame, AllHold, AreKnown}

@@ -12,8 +12,8 @@ use Rattle.jc_rows.specs.Row.{row_at}
 use Rattle.jc_rows.specs.Named.{Names}
 use Rattle.jc_rules.specs.declared.effect.Effect.{Effect}
 use Rattle.jc_rules.specs.declared.effect.Mode.{Mode}
-use Rattle.jc_rules.specs.declared.apply.Site.{Site}
-use Rattle.jc_rules.specs.declared.apply.Outcome.{Outcome}
+use Rattle.jc_rules.specs.declared.rule.Site.{Site}
+use Rattle.jc_rules.specs.declared.rule.Outcome.{Outcome}
 use Rattle.jc_rules.specs.Stack.{cells}
 use Rattle.jc_rules.specs.Effect.{changed, stored, depth_after}
 use Rattle.jc_rules.specs.Demand.{Frame, AllHold, Breaks}

@@ -7,8 +7,8 @@ use Rattle.jc_base.specs.World.{Linked}
 use Rattle.jc_decode.specs.declared.insn.Insn.{Insn}
 use Rattle.jc_rules.specs.declared.effect.Mode.{Mode}
 use Rattle.jc_rules.specs.declared.effect.Mode.TheVariants.{Flow}
-use Rattle.jc_rules.specs.declared.apply.Site.{Site}
-use Rattle.jc_rules.specs.declared.apply.Outcome.{Outcome}
+use Rattle.jc_rules.specs.declared.rule.Site.{Site}
+use Rattle.jc_rules.specs.declared.rule.Outcome.{Outcome}
 use Rattle.jc_rules.specs.Demand.{Frame, AreKnown}
 use Rattle.jc_rules.specs.Apply.{Applies}
 use Rattle.jc_rules.specs.Flow.{FrameBelow, IsNotTop, IsNotFresh}

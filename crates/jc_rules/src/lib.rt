@@ -7,15 +7,18 @@
 
 #![tactic(auto)]
 
-mod apply;
 mod calls;
 mod demand;
 mod effect;
 mod laws;
 mod objects;
+mod rule;
 mod values;
 
-pub use apply::{Outcome, Site};
 pub use demand::{Before, Demand};
 pub use effect::{Cells, Change, Effect, Mode, Store};
 pub use laws::{rule_falls, rule_keeps};
+pub use rule::{Outcome, Site, apply};
+
+#[cfg(test)]
+mod tests;

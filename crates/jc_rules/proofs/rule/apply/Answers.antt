@@ -9,7 +9,7 @@ use Rattle.jc_rules.specs.Apply.{frame_of, HasRoom}
 use Rattle.jc_rules.proofs.Stacks.{length-cells}
 use Rattle.jc_rules.proofs.Effects.{cells-kept, changed-known, length-changed}
 use Rattle.jc_rules.proofs.Plans.{plan-suits, plan-applies, room-known, method-room}
-use Rattle.jc_rules.proofs.apply.apply.Goals as goal
+use Rattle.jc_rules.proofs.rule.apply.Goals as goal
 
 pub plan-requires-clause-frame : goal.plan-requires-clause-frame
 unfolding cells

@@ -9,7 +9,7 @@ use Rattle.jc_rules.specs.Demand.{Frame, Breaks, AllHold}
 use Rattle.jc_rules.specs.Rule.{demands, effect}
 use Rattle.jc_rules.specs.Apply.{unnamed, unmet, full}
 use Rattle.jc_rules.proofs.Plans.{plan-full, method-room}
-use Rattle.jc_rules.proofs.apply.plan.Goals as goal
+use Rattle.jc_rules.proofs.rule.plan.Goals as goal
 
 pub returns-in_err-named : goal.returns-in_err-named
 returns-in_err-named c =
