@@ -22,7 +22,7 @@ use cap_desc::MethodsFrom;
 
 /// The sizes of the parts and the places of the methods agree.
 #[tactic(auto, unfolding(crate::specs::Agreement::places_agree))]
-pub(crate) fn places_agree(all: &Components<'_>) -> Result<(), PackFault>
+pub(crate) fn places_agree(all: &Components<'_, '_>) -> Result<(), PackFault>
     ensures { result ≡ places_agree (components_seen all.now) }
 {
     let described = all.descriptor.methods_from(classes_from(&all.classes));
@@ -34,7 +34,7 @@ pub(crate) fn places_agree(all: &Components<'_>) -> Result<(), PackFault>
 
 /// The numbers that two components tell are equal.
 #[tactic(auto, unfolding(crate::specs::Agreement::counts_agree))]
-pub(crate) fn counts_agree(all: &Components<'_>) -> Result<(), PackFault>
+pub(crate) fn counts_agree(all: &Components<'_, '_>) -> Result<(), PackFault>
     ensures { result ≡ counts_agree (components_seen all.now) }
 {
     let described = all.descriptor.methods_from(classes_from(&all.classes));
@@ -76,7 +76,7 @@ pub(crate) fn counts_agree(all: &Components<'_>) -> Result<(), PackFault>
 
 /// The least fault so far, when the methods that the package exports were looked up, if it does.
 fn export_names(
-    all: &Components<'_>,
+    all: &Components<'_, '_>,
     described: MethodsFrom<'_>,
     least: Option<PackFault>,
 ) -> Option<PackFault>
@@ -89,7 +89,7 @@ fn export_names(
 }
 
 /// Dispatch tables, exports and applets name described methods.
-fn names_agree(all: &Components<'_>) -> Result<(), PackFault>
+fn names_agree(all: &Components<'_, '_>) -> Result<(), PackFault>
     ensures { result ≡ refused (named_condition (components_seen all.now)) }
 {
     let described = all.descriptor.methods_from(classes_from(&all.classes));
@@ -102,7 +102,7 @@ fn names_agree(all: &Components<'_>) -> Result<(), PackFault>
 }
 
 /// Each class record is described once, and descriptors and exports name class records.
-fn classes_agree(all: &Components<'_>) -> Result<(), PackFault>
+fn classes_agree(all: &Components<'_, '_>) -> Result<(), PackFault>
     ensures { result ≡ refused (class_condition (components_seen all.now)) }
 {
     let descriptors = all.descriptor.classes();
@@ -115,7 +115,7 @@ fn classes_agree(all: &Components<'_>) -> Result<(), PackFault>
 }
 
 /// Exports name static fields.
-fn exports_agree(all: &Components<'_>) -> Result<(), PackFault>
+fn exports_agree(all: &Components<'_, '_>) -> Result<(), PackFault>
     ensures { result ≡ refused (export_condition (components_seen all.now)) }
 {
     match &all.export {
@@ -126,7 +126,7 @@ fn exports_agree(all: &Components<'_>) -> Result<(), PackFault>
 
 /// Handlers, static fields, names, classes, headers and types agree.
 #[tactic(auto, unfolding(crate::specs::Agreement::members_agree))]
-pub(crate) fn members_agree(all: &Components<'_>) -> Result<(), PackFault>
+pub(crate) fn members_agree(all: &Components<'_, '_>) -> Result<(), PackFault>
     ensures { result ≡ members_agree (components_seen all.now) }
 {
     let start = classes_from(&all.classes);

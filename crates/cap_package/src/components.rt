@@ -8,8 +8,8 @@ use cap_pool::{Export, Locations, Pool};
 /// The components of a package and the parts that they were read from. Nothing says yet that they
 /// agree.
 #[derive(Clone, Copy)]
-pub(crate) struct Components<'a> {
-    pub(crate) parts: &'a Parts<'a>,
+pub(crate) struct Components<'p, 'a> {
+    pub(crate) parts: &'p Parts<'a>,
     pub(crate) header: Header<'a>,
     pub(crate) directory: Directory<'a>,
     pub(crate) applets: Option<Applets<'a>>,

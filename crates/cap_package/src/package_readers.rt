@@ -27,9 +27,9 @@ use cap_frame::{Applets, Directory, Header, Imports};
 use cap_method::{MethodPart, StaticPart};
 use cap_pool::{Export, Locations, Pool};
 
-impl<'a> Package<'a> {
+impl<'p, 'a> Package<'p, 'a> {
     /// The parts that the package was made from.
-    pub fn parts(&self) -> &'a Parts<'a>
+    pub fn parts(&self) -> &'p Parts<'a>
         ensures { result.now ≡ self.now.parts }
     {
         self.all.parts
@@ -121,7 +121,7 @@ impl<'a> Package<'a> {
 }
 
 /// The custom component with a tag, where the Directory names one.
-fn custom_of<'a>(all: &Components<'a>, tag: u8) -> Option<Custom<'a>>
+fn custom_of<'a>(all: &Components<'_, 'a>, tag: u8) -> Option<Custom<'a>>
     ensures { option_map custom_items result ≡ custom_in (components_seen all.now) tag }
 {
     'customs: for custom in all.directory.customs() {

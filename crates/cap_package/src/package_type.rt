@@ -3,11 +3,11 @@ use std::marker::Model;
 
 /// A package whose parts agree (chapter 6 of the specification). It borrows its parts.
 #[derive(Drop)]
-pub struct Package<'a> {
-    pub(crate) all: Components<'a>,
+pub struct Package<'p, 'a> {
+    pub(crate) all: Components<'p, 'a>,
 }
 
-impl<'a> Model for Package<'a> {
+impl<'p, 'a> Model for Package<'p, 'a> {
     ghost use Rattle.cap_package.specs.PackageRecord.{PackageRecord};
 
     ghost Value = { PackageRecord };

@@ -6,11 +6,11 @@ use std::marker::Model;
 
 /// Packages in the order of a command's folders: a list.
 #[derive(Drop)]
-pub struct Packages<'a> {
-    items: Vec<Package<'a>>,
+pub struct Packages<'p, 'a> {
+    items: Vec<Package<'p, 'a>>,
 }
 
-impl<'a> Model for Packages<'a> {
+impl<'p, 'a> Model for Packages<'p, 'a> {
     ghost use Rattle.std.specs.Prelude.{List};
     ghost use Rattle.cap_package.specs.PackageRecord.{PackageRecord};
 
@@ -19,9 +19,9 @@ impl<'a> Model for Packages<'a> {
     ghost view = { λ p. p.items.items };
 }
 
-impl<'a> Packages<'a> {
+impl<'p, 'a> Packages<'p, 'a> {
     /// No package.
-    pub fn new(alloc: Global) -> Packages<'a>
+    pub fn new(alloc: Global) -> Packages<'p, 'a>
         ensures { result ≡ [] }
     {
         Packages {
@@ -37,7 +37,7 @@ impl<'a> Packages<'a> {
     }
 
     /// The n-th package.
-    pub fn at(&self, n: usize) -> &Package<'a>
+    pub fn at(&self, n: usize) -> &Package<'p, 'a>
         requires { n < length self.now }
         ensures { slice_get self.now n ≡ Some result.now }
     {
@@ -45,7 +45,7 @@ impl<'a> Packages<'a> {
     }
 
     /// Appends a package. After an error the list is as before.
-    pub fn push(&mut self, package: Package<'a>) -> Result<(), AllocError>
+    pub fn push(&mut self, package: Package<'p, 'a>) -> Result<(), AllocError>
         ensures ok { OnOk result (self.new ≡ self.old ++ «package».entry ∷ []) }
         ensures err { OnErr result (self.new ≡ self.old) }
     {

@@ -16,7 +16,7 @@ use crate::read_package::read_package;
 
 /// The components of the package that the parts stand for.
 #[tactic(auto, unfolding(crate::specs::Agreement::package_of))]
-fn agreeing<'a>(parts: &'a Parts<'a>) -> Result<Components<'a>, PackFault>
+fn agreeing<'p, 'a>(parts: &'p Parts<'a>) -> Result<Components<'p, 'a>, PackFault>
     ensures value { Answers components_seen result (package_of parts.now) }
     ensures parts { IfOk result (λ all. all.parts.now ≡ parts.now) }
 {
@@ -31,7 +31,7 @@ fn agreeing<'a>(parts: &'a Parts<'a>) -> Result<Components<'a>, PackFault>
 
 /// The package that the parts stand for, or why they stand for none.
 #[tactic(auto, using(crate::proofs::FirstTold::first_told))]
-pub fn package<'a>(parts: &'a Parts<'a>) -> Result<Package<'a>, PackFault>
+pub fn package<'p, 'a>(parts: &'p Parts<'a>) -> Result<Package<'p, 'a>, PackFault>
     ensures value { result ≡ package_of parts.now }
     // A package exactly where nothing is at fault; else the first condition by number that is broken, at its
     // least thing.

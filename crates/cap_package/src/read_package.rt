@@ -16,7 +16,7 @@ use cap_class::ClassPart;
 
 /// The components of a package, in the order of their tags.
 #[tactic(auto, unfolding(crate::specs::ReadPackage::read_package))]
-pub(crate) fn read_package<'a>(parts: &'a Parts<'a>) -> Result<Components<'a>, PackFault>
+pub(crate) fn read_package<'p, 'a>(parts: &'p Parts<'a>) -> Result<Components<'p, 'a>, PackFault>
     ensures value { Answers components_seen result (read_package parts.now) }
     ensures parts { IfOk result (λ all. all.parts.now ≡ parts.now) }
 {

@@ -1,6 +1,7 @@
 use crate::fault::PackFault;
+use crate::package_type::Package;
 use crate::packaging::package;
-use crate::parts::{OwnedParts, Parts};
+use crate::parts::OwnedParts;
 use cap_bytes::{FormKind, Part};
 use std::alloc::{AllocError, Global};
 use std::process::Abort;
@@ -98,32 +99,41 @@ fn names(fault: PackFault) -> (u32, u32, u32, u32) {
     }
 }
 
-fn add<'a>(parts: &mut Parts<'a>, tag: u8, bytes: &'a [u8]) -> Result<(), AllocError> {
+/// What is wrong with the parts, and 0 where they stand for a package.
+fn answer(alloc: Global, owned: &OwnedParts) -> (u32, u32, u32, u32) {
+    let parts = match owned.lend(alloc) {
+        Ok(parts) => parts,
+        Err(_) => return (6, 6, 6, 6),
+    };
+    match package(&parts) {
+        Ok(_) => (0, 0, 0, 0),
+        Err(fault) => names(fault),
+    }
+}
+
+fn add(alloc: Global, parts: &mut OwnedParts, tag: u8, bytes: &[u8]) -> Result<(), AllocError> {
     if parts.get(Part(tag)).is_some() {
         return Ok(());
     }
-    parts.push(Part(tag), bytes)
+    parts.put(Part(tag), Vec::from_slice(alloc, bytes)?)
 }
 
-/// What is wrong with the package when some parts are changed or added and one is left out.
-fn fault_of(
+/// The package when some parts are changed or added and one is left out.
+fn changed_package(
     alloc: Global,
     changed: &[(u8, &[u8])],
     without: u8,
-) -> Result<(u32, u32, u32, u32), AllocError> {
-    let mut parts = Parts::new(alloc);
+) -> Result<OwnedParts, AllocError> {
+    let mut parts = OwnedParts::new(alloc);
     for (tag, bytes) in changed {
-        add(&mut parts, *tag, bytes)?;
+        add(alloc, &mut parts, *tag, bytes)?;
     }
     for (tag, bytes) in &PACKAGE {
         if *tag != without {
-            add(&mut parts, *tag, bytes)?;
+            add(alloc, &mut parts, *tag, bytes)?;
         }
     }
-    Ok(match package(&parts) {
-        Ok(_) => (0, 0, 0, 0),
-        Err(fault) => names(fault),
-    })
+    Ok(parts)
 }
 
 fn expect(
@@ -133,10 +143,8 @@ fn expect(
     without: u8,
     want: (u32, u32, u32, u32),
 ) {
-    let found = match fault_of(alloc, changed, without) {
-        Ok(found) => found,
-        Err(_) => (6, 6, 6, 6),
-    };
+    let owned = changed_package(alloc, changed, without).unwrap_or(OwnedParts::new(alloc));
+    let found = answer(alloc, &owned);
     assert_eq!(rt; found, want);
 }
 
@@ -674,69 +682,60 @@ fn types_and_exports_are_refused_by_number(rt: HostRuntime) {
 }
 
 /// The package with every optional part and two custom components, one of them of size 0 and absent.
-fn whole(alloc: Global) -> Result<OwnedParts, AllocError> {
-    let mut parts = OwnedParts::new(alloc);
-    let changed: [(u8, &[u8]); 4] = [
-        (
-            2,
-            &[
-                0x02, 0x00, 0x33, 0x00, 0x10, 0x00, 0x33, 0x00, 0x09, 0x00, 0x01, 0x00, 0x02, 0x00,
-                0x52, 0x00, 0x13, 0x00, 0x0C, 0x00, 0x04, 0x00, 0x09, 0x00, 0x6F, 0x00, 0x00, 0x00,
-                0x02, 0x00, 0x00, 0x00, 0x00, 0x00, 0x01, 0x02, 0x82, 0x00, 0x02, 0x05, 0xF0, 0x01,
-                0x02, 0x03, 0x04, 0x81, 0x00, 0x00, 0x05, 0xF0, 0x01, 0x02, 0x03, 0x04,
-            ],
+const WHOLE: [(u8, &'static [u8]); 4] = [
+    (
+        2,
+        &[
+            0x02, 0x00, 0x33, 0x00, 0x10, 0x00, 0x33, 0x00, 0x09, 0x00, 0x01, 0x00, 0x02, 0x00,
+            0x52, 0x00, 0x13, 0x00, 0x0C, 0x00, 0x04, 0x00, 0x09, 0x00, 0x6F, 0x00, 0x00, 0x00,
+            0x02, 0x00, 0x00, 0x00, 0x00, 0x00, 0x01, 0x02, 0x82, 0x00, 0x02, 0x05, 0xF0, 0x01,
+            0x02, 0x03, 0x04, 0x81, 0x00, 0x00, 0x05, 0xF0, 0x01, 0x02, 0x03, 0x04,
+        ],
+    ),
+    (
+        3,
+        &[
+            0x03, 0x00, 0x09, 0x01, 0x05, 0xF0, 0x01, 0x02, 0x03, 0x04, 0x00, 0x01,
+        ],
+    ),
+    (
+        10,
+        &[
+            0x0A, 0x00, 0x09, 0x01, 0x00, 0x02, 0x01, 0x01, 0x00, 0x00, 0x00, 0x01,
+        ],
+    ),
+    (130, &[0x82, 0x00, 0x02, 0x07, 0x09]),
+];
+
+/// The bytes of the infos of the custom components 130, 129 and 131.
+fn custom_sizes(alloc: Global, owned: &OwnedParts) -> (usize, usize, usize) {
+    let parts = match owned.lend(alloc) {
+        Ok(parts) => parts,
+        Err(_) => return (6, 6, 6),
+    };
+    match package(&parts) {
+        Ok(found) => (
+            custom_size(&found, 130),
+            custom_size(&found, 129),
+            custom_size(&found, 131),
         ),
-        (
-            3,
-            &[
-                0x03, 0x00, 0x09, 0x01, 0x05, 0xF0, 0x01, 0x02, 0x03, 0x04, 0x00, 0x01,
-            ],
-        ),
-        (
-            10,
-            &[
-                0x0A, 0x00, 0x09, 0x01, 0x00, 0x02, 0x01, 0x01, 0x00, 0x00, 0x00, 0x01,
-            ],
-        ),
-        (130, &[0x82, 0x00, 0x02, 0x07, 0x09]),
-    ];
-    for (tag, bytes) in &changed {
-        if parts.get(Part(*tag)).is_none() {
-            parts.put(Part(*tag), Vec::from_slice(alloc, bytes)?)?;
-        }
+        Err(_) => (7, 7, 7),
     }
-    for (tag, bytes) in &PACKAGE {
-        if parts.get(Part(*tag)).is_none() {
-            parts.put(Part(*tag), Vec::from_slice(alloc, bytes)?)?;
-        }
+}
+
+/// The bytes of a custom component's info, and 9 where there is none.
+fn custom_size(found: &Package<'_, '_>, tag: u8) -> usize {
+    match found.custom(tag) {
+        Some(custom) => custom.info.bytes.len(),
+        None => 9,
     }
-    Ok(parts)
 }
 
 #[test]
 fn a_package_has_its_optional_and_custom_parts(rt: HostRuntime) {
     let alloc = rt.alloc();
-    let owned = whole(alloc).unwrap_or(OwnedParts::new(alloc));
-    let parts = owned.lend(alloc).unwrap_or(Parts::new(alloc));
-    assert_eq!(rt; parts.len(), 12);
-    match package(&parts) {
-        Err(fault) => assert_eq!(rt; names(fault), (0, 0, 0, 0)),
-        Ok(package) => {
-            assert_eq!(rt; package.header().package().minor, 0);
-            assert!(rt; package.applets().is_some() && package.export().is_some());
-            assert_eq!(rt;
-                package
-                    .custom(130)
-                    .map_or(9, |custom| custom.info.bytes.len()),
-                2
-            );
-            assert_eq!(rt;
-                package
-                    .custom(129)
-                    .map_or(9, |custom| custom.info.bytes.len()),
-                0
-            );
-            assert!(rt; package.custom(131).is_none());
-        }
-    }
+    let owned = changed_package(alloc, &WHOLE, 0).unwrap_or(OwnedParts::new(alloc));
+    assert_eq!(rt; owned.len(), 12);
+    assert_eq!(rt; answer(alloc, &owned), (0, 0, 0, 0));
+    assert_eq!(rt; custom_sizes(alloc, &owned), (2, 0, 9));
 }
