@@ -3,6 +3,8 @@ ghost use Rattle.jc_base.specs.Order.{IsKnown};
 ghost use Rattle.jc_base.specs.Sample.{instance_method, interface_method, static_method, methods, derived_class, records, classes, first_pool, second_pool, statics, arrays};
 
 use super::*;
+use Gives::{Fault, Frame, Mismatch};
+use Regs::{Int, Lifted, Plain, Raised, Shorts, Stored, Unset};
 use jc_base::*;
 use jc_decode::Insn;
 use jc_rows::RuleFault;
@@ -254,1079 +256,191 @@ fn world<'a>(alloc: Global) -> Result<World<'a>, AllocError> {
     ))
 }
 
+const S: Ty = Ty::Short;
+
+const HIGH: Ty = Ty::IntHigh;
+
+const LOW: Ty = Ty::IntLow;
+
+const NULL: Ty = Ty::Null;
+/// No cell on the stack, or a register that holds anything.
+const NO: Ty = Ty::Top;
+
+const NONE: Ty = Ty::Bottom;
+
 const CLASS: Ty = Ty::Class(4);
 
 const BASE: Ty = Ty::Class(3);
 
 const OBJECT: Ty = Ty::Class(0);
 
+const THROWN: Ty = Ty::Class(1);
+
 const FRESH: Ty = Ty::Fresh { place: 7, class: 4 };
 
-/// The registers of the method that most cases stand in: `this`, a short and an unset local.
-const REGS: [Ty; 3] = [CLASS, Ty::Short, Ty::Top];
+const BOOLEANS: Ty = Ty::ArrBool;
+
+const BYTES: Ty = Ty::ArrByte;
+
+const SHORTS: Ty = Ty::ArrShort;
+
+const INTS: Ty = Ty::ArrInt;
+
+const CLASSES: Ty = Ty::ArrRef(4);
+
+const OBJECTS: Ty = Ty::ArrRef(0);
+
+/// The registers of the method: `this` and two others.
+#[derive(Clone, Copy)]
+enum Regs {
+    /// A short, and a local that holds anything.
+    Plain,
+    /// An int.
+    Int,
+    /// A short, and a local that no path has written yet.
+    Unset,
+    /// A class, and a local that holds anything.
+    Stored,
+    /// Two shorts.
+    Shorts,
+    /// Anything in place of `this`.
+    Raised,
+    /// The superclass in place of `this`.
+    Lifted,
+}
+
+fn types_of(regs: Regs) -> [Ty; 3] {
+    match regs {
+        Regs::Plain => [CLASS, S, NO],
+        Regs::Int => [CLASS, HIGH, LOW],
+        Regs::Unset => [CLASS, S, NONE],
+        Regs::Stored => [CLASS, BASE, NO],
+        Regs::Shorts => [CLASS, S, S],
+        Regs::Raised => [NO, S, NO],
+        Regs::Lifted => [BASE, S, NO],
+    }
+}
 
 /// What a rule gives: registers and stack, or the first fault.
 #[derive(Clone, Copy)]
 enum Gives {
-    Frame([Ty; 3], [Ty; 2], u8),
+    Frame(Regs, Ty, Ty),
+    Mismatch(Ty, Ty),
     Fault(RuleFault),
 }
 
-/// An instruction with two operands, the frame that it finds, and what its rule gives. The stack has the top last.
-#[derive(Clone, Copy)]
-struct Case {
-    op: u8,
-    x: i32,
-    y: i32,
-    regs: [Ty; 3],
-    stack: [Ty; 2],
-    depth: u8,
-    gives: Gives,
-}
+/// Opcode and operand; the registers, and the stack of two cells with the top last; what the rule gives.
+type Case = (u8, i32, Regs, Ty, Ty, Gives);
 
-static CASES: [Case; 109] = [
-    Case {
-        op: 0,
-        x: 0,
-        y: 0,
-        regs: REGS,
-        stack: [Ty::Short, Ty::Top],
-        depth: 1,
-        gives: Gives::Frame(REGS, [Ty::Short, Ty::Top], 1),
-    },
-    Case {
-        op: 1,
-        x: 0,
-        y: 0,
-        regs: REGS,
-        stack: [Ty::Top, Ty::Top],
-        depth: 0,
-        gives: Gives::Frame(REGS, [Ty::Null, Ty::Top], 1),
-    },
-    Case {
-        op: 3,
-        x: 0,
-        y: 0,
-        regs: REGS,
-        stack: [Ty::Top, Ty::Top],
-        depth: 0,
-        gives: Gives::Frame(REGS, [Ty::Short, Ty::Top], 1),
-    },
-    Case {
-        op: 3,
-        x: 0,
-        y: 0,
-        regs: REGS,
-        stack: [Ty::Short, Ty::Short],
-        depth: 2,
-        gives: Gives::Fault(RuleFault::Overflow),
-    },
-    Case {
-        op: 10,
-        x: 0,
-        y: 0,
-        regs: REGS,
-        stack: [Ty::Top, Ty::Top],
-        depth: 0,
-        gives: Gives::Frame(REGS, [Ty::IntHigh, Ty::IntLow], 2),
-    },
-    Case {
-        op: 10,
-        x: 0,
-        y: 0,
-        regs: REGS,
-        stack: [Ty::Short, Ty::Top],
-        depth: 1,
-        gives: Gives::Fault(RuleFault::Overflow),
-    },
-    Case {
-        op: 16,
-        x: 5,
-        y: 0,
-        regs: REGS,
-        stack: [Ty::Short, Ty::Top],
-        depth: 1,
-        gives: Gives::Frame(REGS, [Ty::Short, Ty::Short], 2),
-    },
-    Case {
-        op: 20,
-        x: 5,
-        y: 0,
-        regs: REGS,
-        stack: [Ty::Top, Ty::Top],
-        depth: 0,
-        gives: Gives::Frame(REGS, [Ty::IntHigh, Ty::IntLow], 2),
-    },
-    Case {
-        op: 24,
-        x: 0,
-        y: 0,
-        regs: REGS,
-        stack: [Ty::Top, Ty::Top],
-        depth: 0,
-        gives: Gives::Frame(REGS, [CLASS, Ty::Top], 1),
-    },
-    Case {
-        op: 26,
-        x: 0,
-        y: 0,
-        regs: REGS,
-        stack: [Ty::Top, Ty::Top],
-        depth: 0,
-        gives: Gives::Fault(RuleFault::Mismatch {
-            found: Ty::Top,
-            wanted: OBJECT,
-        }),
-    },
-    Case {
-        op: 26,
-        x: 0,
-        y: 0,
-        regs: [CLASS, Ty::Short, Ty::Bottom],
-        stack: [Ty::Top, Ty::Top],
-        depth: 0,
-        gives: Gives::Frame([CLASS, Ty::Short, Ty::Bottom], [Ty::Null, Ty::Top], 1),
-    },
-    Case {
-        op: 21,
-        x: 9,
-        y: 0,
-        regs: REGS,
-        stack: [Ty::Top, Ty::Top],
-        depth: 0,
-        gives: Gives::Fault(RuleFault::NoLocal(9)),
-    },
-    Case {
-        op: 22,
-        x: 1,
-        y: 0,
-        regs: REGS,
-        stack: [Ty::Top, Ty::Top],
-        depth: 0,
-        gives: Gives::Frame(REGS, [Ty::Short, Ty::Top], 1),
-    },
-    Case {
-        op: 28,
-        x: 0,
-        y: 0,
-        regs: REGS,
-        stack: [Ty::Top, Ty::Top],
-        depth: 0,
-        gives: Gives::Fault(RuleFault::Mismatch {
-            found: CLASS,
-            wanted: Ty::Short,
-        }),
-    },
-    Case {
-        op: 33,
-        x: 0,
-        y: 0,
-        regs: [CLASS, Ty::IntHigh, Ty::IntLow],
-        stack: [Ty::Top, Ty::Top],
-        depth: 0,
-        gives: Gives::Frame(
-            [CLASS, Ty::IntHigh, Ty::IntLow],
-            [Ty::IntHigh, Ty::IntLow],
-            2,
-        ),
-    },
-    Case {
-        op: 34,
-        x: 0,
-        y: 0,
-        regs: [CLASS, Ty::IntHigh, Ty::IntLow],
-        stack: [Ty::Top, Ty::Top],
-        depth: 0,
-        gives: Gives::Fault(RuleFault::NoLocal(2)),
-    },
-    Case {
-        op: 33,
-        x: 0,
-        y: 0,
-        regs: [CLASS, Ty::IntHigh, Ty::Short],
-        stack: [Ty::Top, Ty::Top],
-        depth: 0,
-        gives: Gives::Fault(RuleFault::Mismatch {
-            found: Ty::Short,
-            wanted: Ty::IntLow,
-        }),
-    },
-    Case {
-        op: 44,
-        x: 0,
-        y: 0,
-        regs: REGS,
-        stack: [BASE, Ty::Top],
-        depth: 1,
-        gives: Gives::Frame([CLASS, BASE, Ty::Top], [Ty::Top, Ty::Top], 0),
-    },
-    Case {
-        op: 44,
-        x: 0,
-        y: 0,
-        regs: REGS,
-        stack: [FRESH, Ty::Top],
-        depth: 1,
-        gives: Gives::Fault(RuleFault::FreshKept),
-    },
-    Case {
-        op: 44,
-        x: 0,
-        y: 0,
-        regs: REGS,
-        stack: [Ty::Short, Ty::Top],
-        depth: 1,
-        gives: Gives::Fault(RuleFault::Mismatch {
-            found: Ty::Short,
-            wanted: OBJECT,
-        }),
-    },
-    Case {
-        op: 44,
-        x: 0,
-        y: 0,
-        regs: REGS,
-        stack: [Ty::Top, Ty::Top],
-        depth: 0,
-        gives: Gives::Fault(RuleFault::Underflow),
-    },
-    Case {
-        op: 49,
-        x: 0,
-        y: 0,
-        regs: REGS,
-        stack: [Ty::Short, Ty::Top],
-        depth: 1,
-        gives: Gives::Frame([CLASS, Ty::Short, Ty::Short], [Ty::Top, Ty::Top], 0),
-    },
-    Case {
-        op: 52,
-        x: 0,
-        y: 0,
-        regs: REGS,
-        stack: [Ty::IntHigh, Ty::IntLow],
-        depth: 2,
-        gives: Gives::Frame([CLASS, Ty::IntHigh, Ty::IntLow], [Ty::Top, Ty::Top], 0),
-    },
-    Case {
-        op: 53,
-        x: 0,
-        y: 0,
-        regs: REGS,
-        stack: [Ty::IntHigh, Ty::IntLow],
-        depth: 2,
-        gives: Gives::Fault(RuleFault::NoLocal(2)),
-    },
-    Case {
-        op: 52,
-        x: 0,
-        y: 0,
-        regs: REGS,
-        stack: [Ty::Short, Ty::Short],
-        depth: 2,
-        gives: Gives::Fault(RuleFault::Mismatch {
-            found: Ty::Short,
-            wanted: Ty::IntLow,
-        }),
-    },
-    Case {
-        op: 52,
-        x: 0,
-        y: 0,
-        regs: REGS,
-        stack: [Ty::IntLow, Ty::Top],
-        depth: 1,
-        gives: Gives::Fault(RuleFault::Underflow),
-    },
-    Case {
-        op: 36,
-        x: 0,
-        y: 0,
-        regs: REGS,
-        stack: [Ty::ArrRef(4), Ty::Short],
-        depth: 2,
-        gives: Gives::Frame(REGS, [CLASS, Ty::Top], 1),
-    },
-    Case {
-        op: 36,
-        x: 0,
-        y: 0,
-        regs: REGS,
-        stack: [Ty::Null, Ty::Short],
-        depth: 2,
-        gives: Gives::Frame(REGS, [Ty::Null, Ty::Top], 1),
-    },
-    Case {
-        op: 36,
-        x: 0,
-        y: 0,
-        regs: REGS,
-        stack: [Ty::ArrByte, Ty::Short],
-        depth: 2,
-        gives: Gives::Fault(RuleFault::Mismatch {
-            found: Ty::ArrByte,
-            wanted: Ty::ArrRef(0),
-        }),
-    },
-    Case {
-        op: 36,
-        x: 0,
-        y: 0,
-        regs: REGS,
-        stack: [Ty::Short, Ty::Top],
-        depth: 1,
-        gives: Gives::Fault(RuleFault::Underflow),
-    },
-    Case {
-        op: 37,
-        x: 0,
-        y: 0,
-        regs: REGS,
-        stack: [Ty::ArrBool, Ty::Short],
-        depth: 2,
-        gives: Gives::Frame(REGS, [Ty::Short, Ty::Top], 1),
-    },
-    Case {
-        op: 37,
-        x: 0,
-        y: 0,
-        regs: REGS,
-        stack: [Ty::ArrShort, Ty::Short],
-        depth: 2,
-        gives: Gives::Fault(RuleFault::Mismatch {
-            found: Ty::ArrShort,
-            wanted: Ty::ArrByte,
-        }),
-    },
-    Case {
-        op: 38,
-        x: 0,
-        y: 0,
-        regs: REGS,
-        stack: [Ty::ArrShort, Ty::Short],
-        depth: 2,
-        gives: Gives::Frame(REGS, [Ty::Short, Ty::Top], 1),
-    },
-    Case {
-        op: 39,
-        x: 0,
-        y: 0,
-        regs: REGS,
-        stack: [Ty::ArrInt, Ty::Short],
-        depth: 2,
-        gives: Gives::Frame(REGS, [Ty::IntHigh, Ty::IntLow], 2),
-    },
-    Case {
-        op: 55,
-        x: 0,
-        y: 0,
-        regs: REGS,
-        stack: [Ty::Short, CLASS],
-        depth: 2,
-        gives: Gives::Fault(RuleFault::Underflow),
-    },
-    Case {
-        op: 56,
-        x: 0,
-        y: 0,
-        regs: REGS,
-        stack: [Ty::Short, Ty::Short],
-        depth: 2,
-        gives: Gives::Fault(RuleFault::Underflow),
-    },
-    Case {
-        op: 57,
-        x: 0,
-        y: 0,
-        regs: REGS,
-        stack: [Ty::Short, CLASS],
-        depth: 2,
-        gives: Gives::Fault(RuleFault::Mismatch {
-            found: CLASS,
-            wanted: Ty::Short,
-        }),
-    },
-    Case {
-        op: 58,
-        x: 0,
-        y: 0,
-        regs: REGS,
-        stack: [Ty::IntHigh, Ty::IntLow],
-        depth: 2,
-        gives: Gives::Fault(RuleFault::Underflow),
-    },
-    Case {
-        op: 59,
-        x: 0,
-        y: 0,
-        regs: REGS,
-        stack: [FRESH, Ty::Top],
-        depth: 1,
-        gives: Gives::Frame(REGS, [Ty::Top, Ty::Top], 0),
-    },
-    Case {
-        op: 59,
-        x: 0,
-        y: 0,
-        regs: REGS,
-        stack: [Ty::IntHigh, Ty::IntLow],
-        depth: 2,
-        gives: Gives::Fault(RuleFault::SplitInt),
-    },
-    Case {
-        op: 60,
-        x: 0,
-        y: 0,
-        regs: REGS,
-        stack: [Ty::IntHigh, Ty::IntLow],
-        depth: 2,
-        gives: Gives::Frame(REGS, [Ty::Top, Ty::Top], 0),
-    },
-    Case {
-        op: 60,
-        x: 0,
-        y: 0,
-        regs: REGS,
-        stack: [Ty::Short, Ty::Top],
-        depth: 1,
-        gives: Gives::Fault(RuleFault::Underflow),
-    },
-    Case {
-        op: 61,
-        x: 0,
-        y: 0,
-        regs: REGS,
-        stack: [CLASS, Ty::Top],
-        depth: 1,
-        gives: Gives::Frame(REGS, [CLASS, CLASS], 2),
-    },
-    Case {
-        op: 61,
-        x: 0,
-        y: 0,
-        regs: REGS,
-        stack: [Ty::IntHigh, Ty::IntLow],
-        depth: 2,
-        gives: Gives::Fault(RuleFault::SplitInt),
-    },
-    Case {
-        op: 61,
-        x: 0,
-        y: 0,
-        regs: REGS,
-        stack: [Ty::Short, Ty::Short],
-        depth: 2,
-        gives: Gives::Fault(RuleFault::Overflow),
-    },
-    Case {
-        op: 62,
-        x: 0,
-        y: 0,
-        regs: REGS,
-        stack: [Ty::Short, Ty::Short],
-        depth: 2,
-        gives: Gives::Fault(RuleFault::Overflow),
-    },
-    Case {
-        op: 62,
-        x: 0,
-        y: 0,
-        regs: REGS,
-        stack: [Ty::Short, Ty::Top],
-        depth: 1,
-        gives: Gives::Fault(RuleFault::Underflow),
-    },
-    Case {
-        op: 63,
-        x: 16,
-        y: 0,
-        regs: REGS,
-        stack: [Ty::Short, Ty::Top],
-        depth: 1,
-        gives: Gives::Frame(REGS, [Ty::Short, Ty::Short], 2),
-    },
-    Case {
-        op: 63,
-        x: 17,
-        y: 0,
-        regs: REGS,
-        stack: [Ty::IntHigh, Ty::IntLow],
-        depth: 2,
-        gives: Gives::Fault(RuleFault::SplitInt),
-    },
-    Case {
-        op: 63,
-        x: 18,
-        y: 0,
-        regs: REGS,
-        stack: [Ty::Short, Ty::Top],
-        depth: 1,
-        gives: Gives::Fault(RuleFault::Underflow),
-    },
-    Case {
-        op: 63,
-        x: 18,
-        y: 0,
-        regs: REGS,
-        stack: [Ty::Short, Ty::Short],
-        depth: 2,
-        gives: Gives::Fault(RuleFault::Overflow),
-    },
-    Case {
-        op: 64,
-        x: 17,
-        y: 0,
-        regs: REGS,
-        stack: [Ty::Short, CLASS],
-        depth: 2,
-        gives: Gives::Frame(REGS, [CLASS, Ty::Short], 2),
-    },
-    Case {
-        op: 64,
-        x: 17,
-        y: 0,
-        regs: REGS,
-        stack: [Ty::IntHigh, Ty::IntLow],
-        depth: 2,
-        gives: Gives::Fault(RuleFault::SplitInt),
-    },
-    Case {
-        op: 64,
-        x: 18,
-        y: 0,
-        regs: REGS,
-        stack: [Ty::Short, Ty::Short],
-        depth: 2,
-        gives: Gives::Fault(RuleFault::Underflow),
-    },
-    Case {
-        op: 65,
-        x: 0,
-        y: 0,
-        regs: REGS,
-        stack: [Ty::Short, Ty::Short],
-        depth: 2,
-        gives: Gives::Frame(REGS, [Ty::Short, Ty::Top], 1),
-    },
-    Case {
-        op: 65,
-        x: 0,
-        y: 0,
-        regs: REGS,
-        stack: [Ty::Short, Ty::Top],
-        depth: 1,
-        gives: Gives::Fault(RuleFault::Underflow),
-    },
-    Case {
-        op: 65,
-        x: 0,
-        y: 0,
-        regs: REGS,
-        stack: [BASE, Ty::Short],
-        depth: 2,
-        gives: Gives::Fault(RuleFault::Mismatch {
-            found: BASE,
-            wanted: Ty::Short,
-        }),
-    },
-    Case {
-        op: 66,
-        x: 0,
-        y: 0,
-        regs: REGS,
-        stack: [Ty::IntHigh, Ty::IntLow],
-        depth: 2,
-        gives: Gives::Fault(RuleFault::Underflow),
-    },
-    Case {
-        op: 75,
-        x: 0,
-        y: 0,
-        regs: REGS,
-        stack: [Ty::Short, Ty::Top],
-        depth: 1,
-        gives: Gives::Frame(REGS, [Ty::Short, Ty::Top], 1),
-    },
-    Case {
-        op: 76,
-        x: 0,
-        y: 0,
-        regs: REGS,
-        stack: [Ty::IntHigh, Ty::IntLow],
-        depth: 2,
-        gives: Gives::Frame(REGS, [Ty::IntHigh, Ty::IntLow], 2),
-    },
-    Case {
-        op: 89,
-        x: 1,
-        y: 1,
-        regs: REGS,
-        stack: [Ty::Top, Ty::Top],
-        depth: 0,
-        gives: Gives::Frame(REGS, [Ty::Top, Ty::Top], 0),
-    },
-    Case {
-        op: 89,
-        x: 0,
-        y: 1,
-        regs: REGS,
-        stack: [Ty::Top, Ty::Top],
-        depth: 0,
-        gives: Gives::Fault(RuleFault::Mismatch {
-            found: CLASS,
-            wanted: Ty::Short,
-        }),
-    },
-    Case {
-        op: 90,
-        x: 1,
-        y: 1,
-        regs: [CLASS, Ty::IntHigh, Ty::IntLow],
-        stack: [Ty::Top, Ty::Top],
-        depth: 0,
-        gives: Gives::Frame([CLASS, Ty::IntHigh, Ty::IntLow], [Ty::Top, Ty::Top], 0),
-    },
-    Case {
-        op: 91,
-        x: 0,
-        y: 0,
-        regs: REGS,
-        stack: [Ty::Short, Ty::Top],
-        depth: 1,
-        gives: Gives::Frame(REGS, [Ty::Short, Ty::Top], 1),
-    },
-    Case {
-        op: 92,
-        x: 0,
-        y: 0,
-        regs: REGS,
-        stack: [Ty::Short, Ty::Top],
-        depth: 1,
-        gives: Gives::Frame(REGS, [Ty::IntHigh, Ty::IntLow], 2),
-    },
-    Case {
-        op: 94,
-        x: 0,
-        y: 0,
-        regs: REGS,
-        stack: [Ty::IntHigh, Ty::IntLow],
-        depth: 2,
-        gives: Gives::Frame(REGS, [Ty::Short, Ty::Top], 1),
-    },
-    Case {
-        op: 95,
-        x: 0,
-        y: 0,
-        regs: REGS,
-        stack: [Ty::IntHigh, Ty::IntLow],
-        depth: 2,
-        gives: Gives::Fault(RuleFault::Underflow),
-    },
-    Case {
-        op: 96,
-        x: 0,
-        y: 0,
-        regs: REGS,
-        stack: [Ty::Short, Ty::Top],
-        depth: 1,
-        gives: Gives::Frame(REGS, [Ty::Top, Ty::Top], 0),
-    },
-    Case {
-        op: 102,
-        x: 0,
-        y: 0,
-        regs: REGS,
-        stack: [Ty::Null, Ty::Top],
-        depth: 1,
-        gives: Gives::Frame(REGS, [Ty::Top, Ty::Top], 0),
-    },
-    Case {
-        op: 102,
-        x: 0,
-        y: 0,
-        regs: REGS,
-        stack: [FRESH, Ty::Top],
-        depth: 1,
-        gives: Gives::Fault(RuleFault::Mismatch {
-            found: FRESH,
-            wanted: OBJECT,
-        }),
-    },
-    Case {
-        op: 104,
-        x: 0,
-        y: 0,
-        regs: REGS,
-        stack: [CLASS, Ty::Null],
-        depth: 2,
-        gives: Gives::Frame(REGS, [Ty::Top, Ty::Top], 0),
-    },
-    Case {
-        op: 111,
-        x: 0,
-        y: 0,
-        regs: REGS,
-        stack: [Ty::Short, Ty::Short],
-        depth: 2,
-        gives: Gives::Frame(REGS, [Ty::Top, Ty::Top], 0),
-    },
-    Case {
-        op: 112,
-        x: 0,
-        y: 0,
-        regs: REGS,
-        stack: [Ty::Top, Ty::Top],
-        depth: 0,
-        gives: Gives::Frame(REGS, [Ty::Top, Ty::Top], 0),
-    },
-    Case {
-        op: 115,
-        x: 0,
-        y: 0,
-        regs: REGS,
-        stack: [Ty::Short, Ty::Top],
-        depth: 1,
-        gives: Gives::Frame(REGS, [Ty::Top, Ty::Top], 0),
-    },
-    Case {
-        op: 118,
-        x: 0,
-        y: 0,
-        regs: REGS,
-        stack: [Ty::IntHigh, Ty::IntLow],
-        depth: 2,
-        gives: Gives::Frame(REGS, [Ty::Top, Ty::Top], 0),
-    },
-    Case {
-        op: 116,
-        x: 0,
-        y: 0,
-        regs: REGS,
-        stack: [Ty::Short, Ty::Short],
-        depth: 2,
-        gives: Gives::Fault(RuleFault::Mismatch {
-            found: Ty::Short,
-            wanted: Ty::IntLow,
-        }),
-    },
-    Case {
-        op: 120,
-        x: 0,
-        y: 0,
-        regs: REGS,
-        stack: [Ty::Short, Ty::Top],
-        depth: 1,
-        gives: Gives::Frame(REGS, [Ty::Top, Ty::Top], 0),
-    },
-    Case {
-        op: 119,
-        x: 0,
-        y: 0,
-        regs: REGS,
-        stack: [CLASS, Ty::Top],
-        depth: 1,
-        gives: Gives::Fault(RuleFault::Mismatch {
-            found: OBJECT,
-            wanted: Ty::Short,
-        }),
-    },
-    Case {
-        op: 121,
-        x: 0,
-        y: 0,
-        regs: REGS,
-        stack: [Ty::IntHigh, Ty::IntLow],
-        depth: 2,
-        gives: Gives::Fault(RuleFault::Mismatch {
-            found: Ty::IntHigh,
-            wanted: Ty::Short,
-        }),
-    },
-    Case {
-        op: 122,
-        x: 0,
-        y: 0,
-        regs: REGS,
-        stack: [Ty::Top, Ty::Top],
-        depth: 0,
-        gives: Gives::Fault(RuleFault::Mismatch {
-            found: Ty::Bottom,
-            wanted: Ty::Short,
-        }),
-    },
-    Case {
-        op: 124,
-        x: 2,
-        y: 0,
-        regs: REGS,
-        stack: [Ty::Top, Ty::Top],
-        depth: 0,
-        gives: Gives::Frame(REGS, [Ty::Short, Ty::Top], 1),
-    },
-    Case {
-        op: 125,
-        x: 2,
-        y: 0,
-        regs: REGS,
-        stack: [Ty::Top, Ty::Top],
-        depth: 0,
-        gives: Gives::Fault(RuleFault::BadMember(2)),
-    },
-    Case {
-        op: 123,
-        x: 9,
-        y: 0,
-        regs: REGS,
-        stack: [Ty::Top, Ty::Top],
-        depth: 0,
-        gives: Gives::Fault(RuleFault::BadMember(9)),
-    },
-    Case {
-        op: 128,
-        x: 2,
-        y: 0,
-        regs: REGS,
-        stack: [Ty::Short, Ty::Top],
-        depth: 1,
-        gives: Gives::Frame(REGS, [Ty::Top, Ty::Top], 0),
-    },
-    Case {
-        op: 134,
-        x: 1,
-        y: 0,
-        regs: REGS,
-        stack: [CLASS, Ty::Top],
-        depth: 1,
-        gives: Gives::Frame(REGS, [Ty::IntHigh, Ty::IntLow], 2),
-    },
-    Case {
-        op: 134,
-        x: 1,
-        y: 0,
-        regs: REGS,
-        stack: [BASE, Ty::Top],
-        depth: 1,
-        gives: Gives::Fault(RuleFault::Mismatch {
-            found: BASE,
-            wanted: CLASS,
-        }),
-    },
-    Case {
-        op: 133,
-        x: 1,
-        y: 0,
-        regs: REGS,
-        stack: [CLASS, Ty::Top],
-        depth: 1,
-        gives: Gives::Fault(RuleFault::BadMember(1)),
-    },
-    Case {
-        op: 138,
-        x: 1,
-        y: 0,
-        regs: REGS,
-        stack: [Ty::IntHigh, Ty::IntLow],
-        depth: 2,
-        gives: Gives::Fault(RuleFault::Underflow),
-    },
-    Case {
-        op: 176,
-        x: 1,
-        y: 0,
-        regs: REGS,
-        stack: [Ty::Top, Ty::Top],
-        depth: 0,
-        gives: Gives::Frame(REGS, [Ty::IntHigh, Ty::IntLow], 2),
-    },
-    Case {
-        op: 184,
-        x: 1,
-        y: 0,
-        regs: REGS,
-        stack: [Ty::IntHigh, Ty::IntLow],
-        depth: 2,
-        gives: Gives::Frame(REGS, [Ty::Top, Ty::Top], 0),
-    },
-    Case {
-        op: 139,
-        x: 3,
-        y: 0,
-        regs: REGS,
-        stack: [CLASS, Ty::Short],
-        depth: 2,
-        gives: Gives::Frame(REGS, [Ty::Short, Ty::Top], 1),
-    },
-    Case {
-        op: 139,
-        x: 3,
-        y: 0,
-        regs: REGS,
-        stack: [BASE, Ty::Short],
-        depth: 2,
-        gives: Gives::Fault(RuleFault::Mismatch {
-            found: BASE,
-            wanted: CLASS,
-        }),
-    },
-    Case {
-        op: 139,
-        x: 6,
-        y: 0,
-        regs: REGS,
-        stack: [Ty::Short, Ty::Top],
-        depth: 1,
-        gives: Gives::Fault(RuleFault::BadMember(6)),
-    },
-    Case {
-        op: 140,
-        x: 5,
-        y: 0,
-        regs: REGS,
-        stack: [CLASS, Ty::Short],
-        depth: 2,
-        gives: Gives::Frame(REGS, [Ty::Short, Ty::Top], 1),
-    },
-    Case {
-        op: 141,
-        x: 6,
-        y: 0,
-        regs: REGS,
-        stack: [Ty::Short, Ty::Top],
-        depth: 1,
-        gives: Gives::Frame(REGS, [Ty::Short, Ty::Top], 1),
-    },
-    Case {
-        op: 141,
-        x: 3,
-        y: 0,
-        regs: REGS,
-        stack: [Ty::Short, Ty::Top],
-        depth: 1,
-        gives: Gives::Fault(RuleFault::BadMember(3)),
-    },
-    Case {
-        op: 142,
-        x: 2,
-        y: 0,
-        regs: REGS,
-        stack: [CLASS, Ty::Short],
-        depth: 2,
-        gives: Gives::Fault(RuleFault::BadMember(0)),
-    },
-    Case {
-        op: 143,
-        x: 0,
-        y: 0,
-        regs: REGS,
-        stack: [Ty::Top, Ty::Top],
-        depth: 0,
-        gives: Gives::Frame(REGS, [FRESH, Ty::Top], 1),
-    },
-    Case {
-        op: 143,
-        x: 1,
-        y: 0,
-        regs: REGS,
-        stack: [Ty::Top, Ty::Top],
-        depth: 0,
-        gives: Gives::Fault(RuleFault::BadMember(1)),
-    },
-    Case {
-        op: 144,
-        x: 12,
-        y: 0,
-        regs: REGS,
-        stack: [Ty::Short, Ty::Top],
-        depth: 1,
-        gives: Gives::Frame(REGS, [Ty::ArrShort, Ty::Top], 1),
-    },
-    Case {
-        op: 145,
-        x: 0,
-        y: 0,
-        regs: REGS,
-        stack: [Ty::Short, Ty::Top],
-        depth: 1,
-        gives: Gives::Frame(REGS, [Ty::ArrRef(4), Ty::Top], 1),
-    },
-    Case {
-        op: 146,
-        x: 0,
-        y: 0,
-        regs: REGS,
-        stack: [Ty::ArrInt, Ty::Top],
-        depth: 1,
-        gives: Gives::Frame(REGS, [Ty::Short, Ty::Top], 1),
-    },
-    Case {
-        op: 146,
-        x: 0,
-        y: 0,
-        regs: REGS,
-        stack: [Ty::Short, Ty::Top],
-        depth: 1,
-        gives: Gives::Fault(RuleFault::Mismatch {
-            found: Ty::Short,
-            wanted: Ty::ArrByte,
-        }),
-    },
-    Case {
-        op: 147,
-        x: 0,
-        y: 0,
-        regs: REGS,
-        stack: [Ty::Class(1), Ty::Top],
-        depth: 1,
-        gives: Gives::Frame(REGS, [Ty::Top, Ty::Top], 0),
-    },
-    Case {
-        op: 147,
-        x: 0,
-        y: 0,
-        regs: REGS,
-        stack: [BASE, Ty::Top],
-        depth: 1,
-        gives: Gives::Fault(RuleFault::Mismatch {
-            found: BASE,
-            wanted: Ty::Class(1),
-        }),
-    },
-    Case {
-        op: 148,
-        x: 0,
-        y: 0,
-        regs: REGS,
-        stack: [OBJECT, Ty::Top],
-        depth: 1,
-        gives: Gives::Frame(REGS, [CLASS, Ty::Top], 1),
-    },
-    Case {
-        op: 148,
-        x: 14,
-        y: 0,
-        regs: REGS,
-        stack: [OBJECT, Ty::Top],
-        depth: 1,
-        gives: Gives::Frame(REGS, [Ty::ArrRef(4), Ty::Top], 1),
-    },
-    Case {
-        op: 149,
-        x: 10,
-        y: 0,
-        regs: REGS,
-        stack: [OBJECT, Ty::Top],
-        depth: 1,
-        gives: Gives::Frame(REGS, [Ty::Short, Ty::Top], 1),
-    },
-    Case {
-        op: 168,
-        x: 0,
-        y: 0,
-        regs: REGS,
-        stack: [Ty::Top, Ty::Top],
-        depth: 0,
-        gives: Gives::Frame(REGS, [Ty::Top, Ty::Top], 0),
-    },
+static CASES: [Case; 108] = [
+    (0, 0, Plain, S, NO, Frame(Plain, S, NO)),
+    (1, 0, Plain, NO, NO, Frame(Plain, NULL, NO)),
+    (3, 0, Plain, NO, NO, Frame(Plain, S, NO)),
+    (3, 0, Plain, S, S, Fault(RuleFault::Overflow)),
+    (10, 0, Plain, NO, NO, Frame(Plain, HIGH, LOW)),
+    (10, 0, Plain, S, NO, Fault(RuleFault::Overflow)),
+    (16, 5, Plain, S, NO, Frame(Plain, S, S)),
+    (20, 5, Plain, NO, NO, Frame(Plain, HIGH, LOW)),
+    (24, 0, Plain, NO, NO, Frame(Plain, CLASS, NO)),
+    (26, 0, Plain, NO, NO, Mismatch(NO, OBJECT)),
+    (26, 0, Unset, NO, NO, Frame(Unset, NULL, NO)),
+    (21, 9, Plain, NO, NO, Fault(RuleFault::NoLocal(9))),
+    (22, 1, Plain, NO, NO, Frame(Plain, S, NO)),
+    (28, 0, Plain, NO, NO, Mismatch(CLASS, S)),
+    (33, 0, Int, NO, NO, Frame(Int, HIGH, LOW)),
+    (34, 0, Int, NO, NO, Fault(RuleFault::NoLocal(2))),
+    (44, 0, Plain, BASE, NO, Frame(Stored, NO, NO)),
+    (44, 0, Plain, FRESH, NO, Fault(RuleFault::FreshKept)),
+    (44, 0, Plain, S, NO, Mismatch(S, OBJECT)),
+    (44, 0, Plain, NO, NO, Fault(RuleFault::Underflow)),
+    (49, 0, Plain, S, NO, Frame(Shorts, NO, NO)),
+    (52, 0, Plain, HIGH, LOW, Frame(Int, NO, NO)),
+    (53, 0, Plain, HIGH, LOW, Fault(RuleFault::NoLocal(2))),
+    (52, 0, Plain, S, S, Mismatch(S, LOW)),
+    (52, 0, Plain, LOW, NO, Fault(RuleFault::Underflow)),
+    (36, 0, Plain, CLASSES, S, Frame(Plain, CLASS, NO)),
+    (36, 0, Plain, NULL, S, Frame(Plain, NULL, NO)),
+    (36, 0, Plain, BYTES, S, Mismatch(BYTES, OBJECTS)),
+    (36, 0, Plain, S, NO, Fault(RuleFault::Underflow)),
+    (37, 0, Plain, BOOLEANS, S, Frame(Plain, S, NO)),
+    (37, 0, Plain, SHORTS, S, Mismatch(SHORTS, BYTES)),
+    (38, 0, Plain, SHORTS, S, Frame(Plain, S, NO)),
+    (39, 0, Plain, INTS, S, Frame(Plain, HIGH, LOW)),
+    (55, 0, Plain, S, CLASS, Fault(RuleFault::Underflow)),
+    (56, 0, Plain, S, S, Fault(RuleFault::Underflow)),
+    (57, 0, Plain, S, CLASS, Mismatch(CLASS, S)),
+    (58, 0, Plain, HIGH, LOW, Fault(RuleFault::Underflow)),
+    (59, 0, Plain, FRESH, NO, Frame(Plain, NO, NO)),
+    (59, 0, Plain, HIGH, LOW, Fault(RuleFault::SplitInt)),
+    (60, 0, Plain, HIGH, LOW, Frame(Plain, NO, NO)),
+    (60, 0, Plain, S, NO, Fault(RuleFault::Underflow)),
+    (61, 0, Plain, CLASS, NO, Frame(Plain, CLASS, CLASS)),
+    (61, 0, Plain, HIGH, LOW, Fault(RuleFault::SplitInt)),
+    (61, 0, Plain, S, S, Fault(RuleFault::Overflow)),
+    (62, 0, Plain, S, S, Fault(RuleFault::Overflow)),
+    (62, 0, Plain, S, NO, Fault(RuleFault::Underflow)),
+    (63, 16, Plain, S, NO, Frame(Plain, S, S)),
+    (63, 17, Plain, HIGH, LOW, Fault(RuleFault::SplitInt)),
+    (63, 18, Plain, S, NO, Fault(RuleFault::Underflow)),
+    (63, 18, Plain, S, S, Fault(RuleFault::Overflow)),
+    (64, 17, Plain, S, CLASS, Frame(Plain, CLASS, S)),
+    (64, 17, Plain, HIGH, LOW, Fault(RuleFault::SplitInt)),
+    (64, 18, Plain, S, S, Fault(RuleFault::Underflow)),
+    (65, 0, Plain, S, S, Frame(Plain, S, NO)),
+    (65, 0, Plain, S, NO, Fault(RuleFault::Underflow)),
+    (65, 0, Plain, BASE, S, Mismatch(BASE, S)),
+    (66, 0, Plain, HIGH, LOW, Fault(RuleFault::Underflow)),
+    (75, 0, Plain, S, NO, Frame(Plain, S, NO)),
+    (76, 0, Plain, HIGH, LOW, Frame(Plain, HIGH, LOW)),
+    (89, 1, Plain, NO, NO, Frame(Plain, NO, NO)),
+    (89, 0, Plain, NO, NO, Mismatch(CLASS, S)),
+    (90, 1, Int, NO, NO, Frame(Int, NO, NO)),
+    (91, 0, Plain, S, NO, Frame(Plain, S, NO)),
+    (92, 0, Plain, S, NO, Frame(Plain, HIGH, LOW)),
+    (94, 0, Plain, HIGH, LOW, Frame(Plain, S, NO)),
+    (95, 0, Plain, HIGH, LOW, Fault(RuleFault::Underflow)),
+    (96, 0, Plain, S, NO, Frame(Plain, NO, NO)),
+    (102, 0, Plain, NULL, NO, Frame(Plain, NO, NO)),
+    (102, 0, Plain, FRESH, NO, Mismatch(FRESH, OBJECT)),
+    (104, 0, Plain, CLASS, NULL, Frame(Plain, NO, NO)),
+    (111, 0, Plain, S, S, Frame(Plain, NO, NO)),
+    (112, 0, Plain, NO, NO, Frame(Plain, NO, NO)),
+    (115, 0, Plain, S, NO, Frame(Plain, NO, NO)),
+    (118, 0, Plain, HIGH, LOW, Frame(Plain, NO, NO)),
+    (116, 0, Plain, S, S, Mismatch(S, LOW)),
+    (120, 0, Plain, S, NO, Frame(Plain, NO, NO)),
+    (119, 0, Plain, CLASS, NO, Mismatch(OBJECT, S)),
+    (121, 0, Plain, HIGH, LOW, Mismatch(HIGH, S)),
+    (122, 0, Plain, NO, NO, Mismatch(NONE, S)),
+    (124, 2, Plain, NO, NO, Frame(Plain, S, NO)),
+    (125, 2, Plain, NO, NO, Fault(RuleFault::BadMember(2))),
+    (123, 9, Plain, NO, NO, Fault(RuleFault::BadMember(9))),
+    (128, 2, Plain, S, NO, Frame(Plain, NO, NO)),
+    (134, 1, Plain, CLASS, NO, Frame(Plain, HIGH, LOW)),
+    (134, 1, Plain, BASE, NO, Mismatch(BASE, CLASS)),
+    (133, 1, Plain, CLASS, NO, Fault(RuleFault::BadMember(1))),
+    (138, 1, Plain, HIGH, LOW, Fault(RuleFault::Underflow)),
+    (176, 1, Plain, NO, NO, Frame(Plain, HIGH, LOW)),
+    (184, 1, Plain, HIGH, LOW, Frame(Plain, NO, NO)),
+    (139, 3, Plain, CLASS, S, Frame(Plain, S, NO)),
+    (139, 3, Plain, BASE, S, Mismatch(BASE, CLASS)),
+    (139, 6, Plain, S, NO, Fault(RuleFault::BadMember(6))),
+    (140, 5, Plain, CLASS, S, Frame(Plain, S, NO)),
+    (141, 6, Plain, S, NO, Frame(Plain, S, NO)),
+    (141, 3, Plain, S, NO, Fault(RuleFault::BadMember(3))),
+    (142, 2, Plain, CLASS, S, Fault(RuleFault::BadMember(0))),
+    (143, 0, Plain, NO, NO, Frame(Plain, FRESH, NO)),
+    (143, 1, Plain, NO, NO, Fault(RuleFault::BadMember(1))),
+    (144, 12, Plain, S, NO, Frame(Plain, SHORTS, NO)),
+    (145, 0, Plain, S, NO, Frame(Plain, CLASSES, NO)),
+    (146, 0, Plain, INTS, NO, Frame(Plain, S, NO)),
+    (146, 0, Plain, S, NO, Mismatch(S, BYTES)),
+    (147, 0, Plain, THROWN, NO, Frame(Plain, NO, NO)),
+    (147, 0, Plain, BASE, NO, Mismatch(BASE, THROWN)),
+    (148, 0, Plain, OBJECT, NO, Frame(Plain, CLASS, NO)),
+    (148, 14, Plain, OBJECT, NO, Frame(Plain, CLASSES, NO)),
+    (149, 10, Plain, OBJECT, NO, Frame(Plain, S, NO)),
+    (168, 0, Plain, NO, NO, Frame(Plain, NO, NO)),
 ];
 
 /// A number for each type, to compare by.
@@ -1413,6 +527,7 @@ fn tried(
     depth: u8,
     mode: Mode,
 ) -> Option<Result<Outcome, RuleFault>> {
+    let classes = world.classes();
     if site.method >= world.method_count() {
         return None;
     }
@@ -1423,76 +538,95 @@ fn tried(
     {
         return None;
     }
-    if !all_known(world.classes(), regs) || !all_known(world.classes(), &stack[..depth as usize]) {
+    if !all_known(classes, regs) {
+        return None;
+    }
+    if !all_known(classes, &stack[..depth as usize]) {
         return None;
     }
     Some(apply(world, site, insn, regs, stack, depth, mode))
 }
 
+/// The number of cells before the first that is none.
+fn depth_of(low: Ty, high: Ty) -> u8 {
+    if number_of(low) == number_of(NO) {
+        0
+    } else if number_of(high) == number_of(NO) {
+        1
+    } else {
+        2
+    }
+}
+
 /// Whether the rule gives what the case says, in the method 4 of the sample world at place 7.
 fn holds(world: &World<'_>, case: Case, mode: Mode) -> bool {
+    let (op, x, before, low, high, gives) = case;
     let site = Site {
         method: 4,
         place: 7,
     };
     let insn = Insn {
-        op: case.op,
-        x: case.x,
-        y: case.y,
+        op,
+        x,
+        y: 0,
         z: 0,
         len: 1,
     };
-    let mut regs = case.regs;
-    let mut stack = case.stack;
-    match tried(world, site, insn, &mut regs, &mut stack, case.depth, mode) {
+    let mut regs = types_of(before);
+    let mut stack = [low, high];
+    let depth = depth_of(low, high);
+    match tried(world, site, insn, &mut regs, &mut stack, depth, mode) {
         None => false,
-        Some(Ok(outcome)) => match case.gives {
-            Gives::Frame(after, cells, depth) => {
-                outcome.depth == depth
-                    && depth <= 2
-                    && is_same(&regs, &after)
-                    && is_same(&stack[..depth as usize], &cells[..depth as usize])
-            }
-            Gives::Fault(_) => false,
-        },
-        Some(Err(fault)) => match case.gives {
-            Gives::Frame(_, _, _) => false,
-            Gives::Fault(wanted) => is_same_fault(fault, wanted)
-                && is_same(&regs, &case.regs)
-                && is_same(&stack, &case.stack),
-        },
+        Some(Ok(outcome)) => is_frame(gives, &regs, &stack, outcome.depth),
+        Some(Err(fault)) => {
+            is_fault(gives, fault)
+                && is_same(&regs, &types_of(before))
+                && is_same(&stack, &[low, high])
+        }
+    }
+}
+
+fn is_frame(gives: Gives, regs: &[Ty], stack: &[Ty], depth: u8) -> bool {
+    match gives {
+        Frame(after, low, high) => {
+            depth_of(low, high) == depth
+                && is_same(regs, &types_of(after))
+                && is_same(first(stack, depth), first(&[low, high], depth))
+        }
+        _ => false,
+    }
+}
+
+/// The first `depth` cells.
+fn first(stack: &[Ty], depth: u8) -> &[Ty] {
+    stack.get(..depth as usize).unwrap_or(stack)
+}
+
+fn is_fault(gives: Gives, fault: RuleFault) -> bool {
+    match gives {
+        Frame(_, _, _) => false,
+        Mismatch(found, wanted) => is_same_fault(fault, RuleFault::Mismatch { found, wanted }),
+        Fault(wanted) => is_same_fault(fault, wanted),
     }
 }
 
 #[test]
 fn each_instruction_by_the_table(rt: HostRuntime) -> Result<(), Fail> {
     let world = world(rt.alloc())?;
-    for case in CASES {
-        assert!(rt; holds(&world, case, Mode::Flow));
+    for case in CASES.iter() {
+        assert!(rt; holds(&world, *case, Mode::Flow));
     }
     Ok(())
 }
 
-/// On the card a short stored over a class raises the register to Top, and a class over its superclass to that.
+/// On the card a short stored over a class raises the register to Top, and a class over its superclass to
+/// that.
 #[test]
 fn stores_raise_on_the_card(rt: HostRuntime) -> Result<(), Fail> {
     let world = world(rt.alloc())?;
-    let short_over_class = Case {
-        op: 47,
-        x: 0,
-        y: 0,
-        regs: REGS,
-        stack: [Ty::Short, Ty::Top],
-        depth: 1,
-        gives: Gives::Frame([Ty::Top, Ty::Short, Ty::Top], [Ty::Top, Ty::Top], 0),
-    };
-    assert!(rt; holds(&world, short_over_class, Mode::Card));
-    let base_over_class = Case {
-        op: 43,
-        stack: [BASE, Ty::Top],
-        gives: Gives::Frame([BASE, Ty::Short, Ty::Top], [Ty::Top, Ty::Top], 0),
-        ..short_over_class
-    };
-    assert!(rt; holds(&world, base_over_class, Mode::Card));
+    let short = (47, 0, Plain, S, NO, Frame(Raised, NO, NO));
+    assert!(rt; holds(&world, short, Mode::Card));
+    let base = (43, 0, Plain, BASE, NO, Frame(Lifted, NO, NO));
+    assert!(rt; holds(&world, base, Mode::Card));
     Ok(())
 }
