@@ -19,3 +19,6 @@ pub use demand::{Before, Demand};
 pub use effect::{Cells, Change, Effect, Mode, Store};
 pub use laws::{rule_falls, rule_keeps};
 pub use rule::{Outcome, Site, apply};
+
+#[cfg(test)]
+mod tests;
