@@ -1,0 +1,69 @@
+ghost use Rattle.std.specs.Prelude.{◌≡◌, IfOk, string_bytes};
+ghost use Rattle.std.specs.List.{flat_map};
+ghost use Rattle.cap_frame.specs.Directory.{directory_items};
+ghost use Rattle.cap_frame.specs.Packages.{package_seen};
+ghost use Rattle.cap_text.specs.Table.{package_line, component_line, tag_line, custom_lines, component_table};
+
+use cap_bytes::Part;
+use cap_files::file_name;
+use cap_frame::{Directory, PackageInfo};
+use cap_package::Package;
+use std::alloc::{AllocError, Global};
+
+/// The tags of the components of the standard, in order.
+const TAGS: [u8; 12] = [1, 2, 3, 4, 5, 6, 7, 8, 9, 10, 11, 12];
+
+/// The component table of a package: a line for the package, one for each component of the standard
+/// and one for each custom component, with the sizes that the Directory gives.
+pub fn component_table(alloc: Global, package: &Package<'_>) -> Result<String, AllocError>
+    ensures { IfOk result (λ t. string_bytes t ≡ component_table «package».now) }
+{
+    let directory = package.directory();
+    let head = package_line(alloc, package.header().package())?;
+    let components = component_lines(alloc, &directory, &TAGS)?;
+    let customs = custom_lines(alloc, &directory)?;
+    format!(in alloc; "{head}{components}{customs}")
+}
+
+fn package_line(alloc: Global, info: PackageInfo<'_>) -> Result<String, AllocError>
+    ensures { IfOk result (λ t. string_bytes t ≡ package_line (package_seen info.entry)) }
+{
+    let aid = hex::encode(alloc, info.aid)?;
+    format!(in alloc; "package {aid} {}.{} format 2.2\n", info.major, info.minor)
+}
+
+fn component_lines(
+    alloc: Global,
+    directory: &Directory<'_>,
+    tags: &[u8],
+) -> Result<String, AllocError>
+    ensures { IfOk result (λ t. string_bytes t ≡ flat_map (tag_line (directory_items directory.now)) tags.now) }
+{
+    let mut text = String::new(alloc);
+    'tags: for tag in tags {
+        let size = directory.size(*tag).unwrap_or(0);
+        text.push_str(component_line(alloc, *tag, size)?.as_str())?;
+    }
+    Ok(text)
+}
+
+fn custom_lines(alloc: Global, directory: &Directory<'_>) -> Result<String, AllocError>
+    ensures { IfOk result (λ t. string_bytes t ≡ custom_lines (directory_items directory.now)) }
+{
+    let mut text = String::new(alloc);
+    'customs: for custom in directory.customs() {
+        text.push_str(component_line(alloc, custom.tag, custom.size)?.as_str())?;
+    }
+    Ok(text)
+}
+
+fn component_line(alloc: Global, tag: u8, size: u16) -> Result<String, AllocError>
+    ensures { IfOk result (λ t. string_bytes t ≡ component_line tag size) }
+{
+    let name = file_name(Part(tag));
+    if size == 0 {
+        format!(in alloc; "{name} {tag} absent\n")
+    } else {
+        format!(in alloc; "{name} {tag} {size}\n")
+    }
+}
