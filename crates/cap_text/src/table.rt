@@ -2,7 +2,7 @@ ghost use Rattle.std.specs.Prelude.{◌≡◌, IfOk, string_bytes};
 ghost use Rattle.std.specs.List.{flat_map};
 ghost use Rattle.cap_frame.specs.Directory.{directory_items};
 ghost use Rattle.cap_frame.specs.Packages.{package_seen};
-ghost use Rattle.cap_text.specs.Table.{package_line, component_line, tag_line, custom_lines, component_table};
+ghost use Rattle.cap_text.specs.Table.{package_line, component_line, tag_line, component_lines, custom_lines, table_of, component_table};
 
 use cap_bytes::Part;
 use cap_files::file_name;
@@ -18,18 +18,40 @@ const TAGS: [u8; 12] = [1, 2, 3, 4, 5, 6, 7, 8, 9, 10, 11, 12];
 pub fn component_table(alloc: Global, package: &Package<'_>) -> Result<String, AllocError>
     ensures { IfOk result (λ t. string_bytes t ≡ component_table «package».now) }
 {
-    let directory = package.directory();
-    let head = package_line(alloc, package.header().package())?;
-    let components = component_lines(alloc, &directory, &TAGS)?;
-    let customs = custom_lines(alloc, &directory)?;
-    format!(in alloc; "{head}{components}{customs}")
+    table_of(
+        alloc,
+        package.header().package(),
+        &package.directory(),
+    )
 }
 
+#[tactic(auto, unfolding(crate::specs::Table::table_of))]
+fn table_of(
+    alloc: Global,
+    info: PackageInfo<'_>,
+    directory: &Directory<'_>,
+) -> Result<String, AllocError>
+    ensures { IfOk result (λ t. string_bytes t ≡ table_of (package_seen info.entry) (directory_items directory.now)) }
+{
+    let mut text = package_line(alloc, info)?;
+    text.push_str(standard_lines(alloc, directory)?.as_str())?;
+    text.push_str(custom_lines(alloc, directory)?.as_str())?;
+    Ok(text)
+}
+
+#[tactic(auto, unfolding(crate::specs::Table::package_line))]
 fn package_line(alloc: Global, info: PackageInfo<'_>) -> Result<String, AllocError>
     ensures { IfOk result (λ t. string_bytes t ≡ package_line (package_seen info.entry)) }
 {
     let aid = hex::encode(alloc, info.aid)?;
     format!(in alloc; "package {aid} {}.{} format 2.2\n", info.major, info.minor)
+}
+
+#[tactic(auto, unfolding(crate::specs::Table::component_lines))]
+fn standard_lines(alloc: Global, directory: &Directory<'_>) -> Result<String, AllocError>
+    ensures { IfOk result (λ t. string_bytes t ≡ component_lines (directory_items directory.now)) }
+{
+    component_lines(alloc, directory, &TAGS)
 }
 
 fn component_lines(
@@ -47,6 +69,7 @@ fn component_lines(
     Ok(text)
 }
 
+#[tactic(auto, unfolding(crate::specs::Table::custom_lines))]
 fn custom_lines(alloc: Global, directory: &Directory<'_>) -> Result<String, AllocError>
     ensures { IfOk result (λ t. string_bytes t ≡ custom_lines (directory_items directory.now)) }
 {
