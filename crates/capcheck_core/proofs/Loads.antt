@@ -1,22 +1,20 @@
 -- The parts that are loaded have rising tags, and a folder that tells what it holds has one list of them.
-use Rattle.std.proofs.Common.{◌≡◌, ◌≤◌, ◌<◌, ℕ, zero, suc, List, [], ◌∷◌, ◌++◌, Option, Some, None, IsNone, true, false, true≢false, eqb, refl, sym, ap, subst, ◌∙◌, inl, inr, ◌⊎◌, arith, length, tt}
-use Rattle.std.specs.Prelude.{IfSome, IsSomeAnd, Ok, Err}
+use Rattle.std.proofs.Common.{◌≡◌, ◌<◌, ◌+◌, ℕ, suc, List, [], ◌∷◌, ◌++◌, Option, Some, None, IsNone, true, false, true≢false, eqb, refl, sym, ap, subst, ◌∙◌, inl, inr, ◌⊎◌, arith, length}
+use Rattle.std.specs.Prelude.{Bool, Result, IfSome, IsSomeAnd, Ok}
 use Rattle.std.specs.FinMap as map
 use Rattle.std.proofs.lemmas.Bool.{ne_eqb}
 use Rattle.std.proofs.Math.Nat.{eq-or-lt_of_le}
-use Rattle.cap_files.specs.Counts.{Rose}
-use Rattle.cap_files.specs.Folder.{Parts, Holds}
+use Rattle.cap_files.specs.Folder.{Parts, Holds, Loads}
+use Rattle.cap_files.specs.declared.folder.LoadEnd.{LoadEnd}
 use Rattle.cap_package.specs.Parts.{Lent, held}
 use Rattle.cap_package.proofs.PartsLemmas.{held-other}
-use Rattle.capcheck_core.specs.declared.load.LoadStop.{LoadStop}
-use Rattle.capcheck_core.specs.declared.load.LoadStop.TheVariants.{TooLong, Failed, Memory}
 use Rattle.capcheck_core.specs.Outside.{Folders, IsTooLong}
 use Rattle.capcheck_core.specs.Loads.{is_asked, Has, with_file, AreLoaded, loaded_none, loaded_unasked, loaded_asked, IsFirstLong}
-use Rattle.capcheck_core.specs.LoadEnds.{LoadsParts, LoadsAsked, LoadsNext}
+use Rattle.capcheck_core.specs.LoadEnds.{LoadsNext}
 
 -- ---- each tag stands once
 
-AreBelow : ℕ → List Lent → Type 0
+abbrev AreBelow : ℕ → List Lent → Type 0
 AreBelow tag [] = Unit {0}
 AreBelow tag (lent ∷ parts) = (lent.part < tag) × AreBelow tag parts
 
@@ -47,29 +45,32 @@ next_absent before dir tag parts loaded = below_absent tag parts (loaded_below b
 
 -- ---- one more part
 
+-- what a load read is what the folder has
+pub has_read : (before : Folders) (dir to : List ℕ) (tag : ℕ) (r : Result Bool LoadEnd) (there : Bool) → r ≡ Ok there → there ≡ true
+    → Loads before.held (tag ∷ dir) to r → Has before dir tag (Some to)
+has_read before dir to tag r there is known loads =
+    let read : Loads before.held (tag ∷ dir) to (Ok true) = subst (λ x. Loads before.held (tag ∷ dir) to x) (is ∙ ap Ok known) loads in (read.1, read.0)
+
 had : (before now : Folders) (dir : List ℕ) (tag : ℕ) (file : Option (List ℕ)) → now.held ≡ before.held → Has now dir tag file → Has before dir tag file
 had before now dir tag None same has = subst (λ held. IfSome held (λ parts. map.get parts (tag ∷ dir) ≡ None)) same has
 had before now dir tag (Some bytes) same has = (subst (λ held. IfSome held (λ parts. Holds parts (tag ∷ dir) bytes)) same has.0, has.1)
 
-pub next_loaded : (before now after : Folders) (dir : List ℕ) (tag : ℕ) (parts more : List Lent) → AreLoaded before dir tag parts → now.held ≡ before.held
+-- no part before the first
+pub begun : (before : Folders) (dir : List ℕ) (parts : List Lent) → parts ≡ [] → AreLoaded before dir 1 parts
+begun before dir parts none = subst (λ ps. AreLoaded before dir 1 ps) (sym none) (loaded_unasked 0 [] loaded_none refl)
+
+-- the parts with the next one
+next : (before now after : Folders) (dir : List ℕ) (tag : ℕ) (parts more : List Lent) → AreLoaded before dir tag parts → now.held ≡ before.held
     → LoadsNext now after dir tag parts more (Ok tt) → AreLoaded before dir (suc tag) more
-next_loaded before now after dir tag parts more loaded same (inl added) =
+next before now after dir tag parts more loaded same (inl added) =
     subst (λ ps. AreLoaded before dir (suc tag) ps) (sym added.adds) (loaded_asked tag parts added.file loaded added.asked (had before now dir tag added.file same added.has))
-next_loaded before now after dir tag parts more loaded same (inr skipped) =
+next before now after dir tag parts more loaded same (inr skipped) =
     subst (λ ps. AreLoaded before dir (suc tag) ps) (sym skipped.same) (loaded_unasked tag parts loaded skipped.unasked)
 
-rose_earlier : (a b c : ℕ) → a ≤ b → Rose b c → Rose a c
-rose_earlier a b c less rose = omega (arith, less, rose)
-
-pub stopped : (before now after : Folders) (dir : List ℕ) (tag : ℕ) (parts more : List Lent) (stop : LoadStop) → tag < 256 → AreLoaded before dir tag parts
-    → now.held ≡ before.held → before.load_faults ≤ now.load_faults → LoadsNext now after dir tag parts more (Err stop) → LoadsParts before after dir (Err stop)
-stopped before now after dir tag parts more (TooLong part) byte loaded same fewer stops =
-    subst (λ t. IsFirstLong before dir t) (sym stops.0) (record {
-      byte = byte; parts = parts; loaded = loaded; asked = stops.1;
-      long = subst (λ held. IfSome held (λ ps. IsSomeAnd (map.get ps (tag ∷ dir)) (λ file. 65538 < length file))) same stops.2;
-    })
-stopped before now after dir tag parts more Failed byte loaded same fewer stops = rose_earlier before.load_faults now.load_faults after.load_faults fewer stops
-stopped before now after dir tag parts more Memory byte loaded same fewer stops = tt {0}
+pub next_loaded : (before now after : Folders) (dir : List ℕ) (tag : ℕ) (parts more : List Lent) → AreLoaded before dir tag parts → now.held ≡ before.held
+    → LoadsNext now after dir tag parts more (Ok tt) → AreLoaded before dir (tag + 1) more
+next_loaded before now after dir tag parts more loaded same loads =
+    let step : suc tag ≡ tag + 1 = omega arith in subst (λ n. AreLoaded before dir n more) step (next before now after dir tag parts more loaded same loads)
 
 -- ---- a folder that tells has one list of parts
 

@@ -5,7 +5,7 @@ ghost use Rattle.capcheck_core.specs.Show.{ShowsParts, Shows};
 use crate::load::{LoadStop, load_parts};
 use crate::verdict::Verdict;
 use cap_files::Folder;
-use cap_package::{OwnedParts, PackFault, package};
+use cap_package::{OwnedParts, PackFault, Parts, package};
 use cap_text::{Show, component_table, malformed};
 use std::alloc::Global;
 
@@ -19,7 +19,7 @@ pub fn show<F: Folder>(alloc: Global, folder: &mut F, show: &Show<'_>) -> Verdic
         (folders (F.held folder.new) (F.load_faults folder.new) (F.store_faults folder.new)) }
 {
     match load_parts(alloc, folder, show.dir) {
-        Ok(parts) => show_parts(alloc, &parts),
+        Ok(parts) => show_parts(alloc, parts),
         Err(LoadStop::TooLong(part)) => Verdict::malformed(malformed(
             alloc,
             0,
@@ -30,13 +30,18 @@ pub fn show<F: Folder>(alloc: Global, folder: &mut F, show: &Show<'_>) -> Verdic
     }
 }
 
-fn show_parts(alloc: Global, parts: &OwnedParts) -> Verdict
-    ensures { ShowsParts parts.now result }
+fn show_parts(alloc: Global, owned: OwnedParts) -> Verdict
+    ensures { ShowsParts owned result }
 {
-    let parts = match parts.lend(alloc) {
-        Ok(parts) => parts,
-        Err(_) => return Verdict::Memory,
-    };
+    match owned.lend(alloc) {
+        Ok(parts) => show_lent(alloc, parts),
+        Err(_) => Verdict::Memory,
+    }
+}
+
+fn show_lent(alloc: Global, parts: Parts<'_>) -> Verdict
+    ensures { ShowsParts parts.entry result }
+{
     match package(&parts) {
         Ok(package) => Verdict::done(component_table(alloc, &package)),
         Err(fault) => Verdict::malformed(malformed(alloc, 0, fault)),
