@@ -147,7 +147,7 @@ fn names_what_is_wrong_with_the_package(rt: HostRuntime) -> Result<(), AllocErro
     let mut folder = SureFolder::new(alloc, 1, 100)?;
     let mut out = SureSink::new(alloc, 100)?;
     assert_eq!(rt; run(alloc, "show E", &mut folder, &mut out)?, 7);
-    assert!(rt; out.received() == b"malformed package 0 MissingPart 1\n");
+    assert!(rt; out.received() == "malformed package 0 MissingPart 1\n".as_bytes());
     Ok(())
 }
 
