@@ -2,9 +2,10 @@
 use Rattle.std.proofs.Common.{◌≡◌, ℕ, ◌+◌, ◌-◌, ◌≤◌, ◌<◌, Bool, true, false, List, [], ◌∷◌, length, Result, Ok, Err, Option, Some, None, refl, arith, subst, cond}
 use Rattle.std.specs.Prelude.{◌&&◌}
 use Rattle.cap_bytes.specs.declared.fault.FormKind.TheVariants.{BadValue, Remote}
+use Rattle.cap_bytes.specs.declared.fault.FormFault.{FormFault}
 use Rattle.cap_bytes.specs.declared.items.Items.{Items}
-use Rattle.cap_bytes.specs.Grammar.{u2, repeat, until_end}
-use Rattle.cap_bytes.specs.Taking.{Taken, Gives, given, gives}
+use Rattle.cap_bytes.specs.Grammar.{repeat, table, until_end}
+use Rattle.cap_bytes.specs.Taking.{Taken, Fails}
 use Rattle.cap_bytes.specs.Spelling.{Spells}
 use Rattle.cap_bytes.proofs.Laws.{read-spells, spelled-read}
 use Rattle.cap_bytes.proofs.EachLoops.{ReadsAll}
@@ -43,13 +44,14 @@ reads_all s from bytes at x after h =
 pub counted : (n : ℕ) (now : Items) (xs : List Class) (after : Items) → Taken (until_end record_info is_behind false) now xs after → length xs ≡ n → Taken (repeat n any_record) now xs after
 counted n now xs after t e = subst (λ (k : ℕ). Taken (repeat k any_record) now xs after) e (until_taken record_info is_behind any_record reads_all false now xs after t)
 
-pub gives_empty : (now : Items) → Gives (repeat 0 u2) now
-unfolding gives
-gives_empty now = refl
+-- a table of no entries is always there
+pub never_fails : (now : Items) (fault : FormFault) → Fails (table 0) now fault → ⊥
+unfolding table
+never_fails now fault h = let e = h.answer in absurd cc
 
-pub given_empty : (now : Items) → given [] (repeat 0 u2) now ≡ []
-unfolding given
-given_empty now = refl
+pub no_entries : (xs : List ℕ) → length xs ≡ 0 → xs ≡ []
+no_entries [] h = refl
+no_entries (x ∷ xs) h = absurd (omega arith)
 
 -- what a table of no entries needs
-pub ruleset empty = (gives_empty, given_empty)
+pub ruleset empty = (never_fails, no_entries)

@@ -95,20 +95,27 @@ fn tables<'a>(items: &mut Items<'a>) -> Result<Tables<'a>, FormFault>
     })
 }
 
-/// The tables of an interface, which has none.
+/// A table of no entries.
 #[tactic(auto, using(crate::proofs::Records::empty))]
+fn no_table<'a>(items: &Items<'a>) -> Table<'a>
+    ensures { numbers result ≡ [] }
+{
+    let mut there = *items;
+    match there.table(0) {
+        Ok(none) => none,
+        Err(_) => unreachable!(),
+    }
+}
+
+/// The tables of an interface, which has none.
 fn no_tables<'a>(items: &Items<'a>) -> Tables<'a>
     ensures { tables_seen result ≡ record { public_base = 0; package_base = 0; public = []; visible = [] } }
 {
-    let none = Table {
-        items: *items,
-        left: 0,
-    };
     Tables {
         public_base: 0,
         package_base: 0,
-        public: none,
-        visible: none,
+        public: no_table(items),
+        visible: no_table(items),
     }
 }
 

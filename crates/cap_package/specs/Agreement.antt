@@ -60,14 +60,14 @@ static_condition p = least_of (share_pair p.description) (pairs (fields p))
 abbrev pub named_condition : PackageRecord → Option PackFault
 named_condition p =
     least_from
-      (least_from (least_of (no_entry_fault (described p)) (table_entries p.classes)) (no_method_fault (described p)) (exported_methods (or_none p.export)))
-      (no_method_fault (described p)) (map (λ (a : Applet). a.install) (or_none p.applets))
+    (least_from (least_of (no_entry_fault (described p)) (table_entries p.classes)) (no_method_fault (described p)) (exported_methods (or_none p.export)))
+    (no_method_fault (described p)) (map (λ (a : Applet). a.install) (or_none p.applets))
 
 abbrev pub class_condition : PackageRecord → Option PackFault
 class_condition p =
     least_from
-      (least_from (least_of (undescribed_fault p.description.items.classes) p.classes) (no_class_fault p.classes) (map (λ (d : described.Class). d.class_ref) p.description.items.classes))
-      (no_class_fault p.classes) (map (λ (c : Exported). c.class_offset) (or_none p.export))
+    (least_from (least_of (undescribed_fault p.description.items.classes) p.classes) (no_class_fault p.classes) (map (λ (d : described.Class). d.class_ref) p.description.items.classes))
+    (no_class_fault p.classes) (map (λ (c : Exported). c.class_offset) (or_none p.export))
 
 abbrev pub register_condition : PackageRecord → Option PackFault
 register_condition p = least_of (registers_fault p.methods.info) (described p)
@@ -75,8 +75,8 @@ register_condition p = least_of (registers_fault p.methods.info) (described p)
 abbrev pub type_condition : PackageRecord → Option PackFault
 type_condition p =
     least_from
-      (least_from (least_of (field_type_fault p.description) (fields p)) (method_type_fault p.description 510) (methods_from 0 p.description.items.classes))
-      (method_type_fault p.description 254) (interface_methods (classes_from p.classes) p.description.items.classes)
+    (least_from (least_of (field_type_fault p.description) (fields p)) (method_type_fault p.description 510) (methods_from 0 p.description.items.classes))
+    (method_type_fault p.description 254) (interface_methods (classes_from p.classes) p.description.items.classes)
 
 abbrev pub image_condition : PackageRecord → Option PackFault
 image_condition p = least_from (least_of (image_fault p.statics p.description) (fields p)) (array_field_fault p.description) (array_fields 0 p.statics.arrays (fields p))

@@ -14,7 +14,6 @@ use Rattle.cap_package.specs.Parts.{Lent, held}
 use Rattle.cap_package.specs.Descriptions.{Description}
 
 infixl 10 ◌>>=◌
-
 -- one answer after the other, up to the first fault
 abbrev pub ◌>>=◌ : {A B : Type 0} → Result A PackFault → (A → Result B PackFault) → Result B PackFault
 (Ok x) >>= f = f x

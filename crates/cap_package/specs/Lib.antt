@@ -21,3 +21,5 @@ pub mod CountChecks
 pub mod Agreement
 pub mod Customs
 pub mod CustomSeen
+pub mod FirstFault
+pub mod StandsFor

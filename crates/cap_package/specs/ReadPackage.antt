@@ -29,6 +29,16 @@ read_package parts = do
   export ← read_if_held export_info 10 parts
   description ← read_description parts
   Ok (record {
-    parts = parts; header = header; directory = directory; applets = applets; imports = imports; pool = pool; classes = classes; methods = methods;
-    statics = statics; locations = locations; export = export; description = description;
+    parts = parts;
+    header = header;
+    directory = directory;
+    applets = applets;
+    imports = imports;
+    pool = pool;
+    classes = classes;
+    methods = methods;
+    statics = statics;
+    locations = locations;
+    export = export;
+    description = description;
   })

@@ -5,8 +5,6 @@ ghost use Rattle.cap_package.specs.Agreement.{or_none, places_agree, counts_agre
 ghost use Rattle.cap_package.specs.ComponentsSeen.{components_seen};
 ghost use Rattle.cap_package.specs.Order.{least_from, refused};
 
-use cap_desc::MethodsFrom;
-
 use crate::class_checks::{classes_described, descriptors_named, exports_are_classes};
 use crate::components::Components;
 use crate::count_checks::{agree, array_bytes, instances_agree};
@@ -20,6 +18,7 @@ use crate::part_checks::sizes_agree;
 use crate::read_package::classes_from;
 use crate::static_checks::{statics_apart, statics_in_image};
 use crate::type_checks::types_fit;
+use cap_desc::MethodsFrom;
 
 /// The sizes of the parts and the places of the methods agree.
 #[tactic(auto, unfolding(crate::specs::Agreement::places_agree))]
@@ -45,12 +44,28 @@ pub(crate) fn counts_agree(all: &Components<'_>) -> Result<(), PackFault>
         Some(applets) => applets.count() as u32,
         None => 0,
     };
-    agree(1, directory.import_count() as u32, all.imports.count() as u32)?;
+    agree(
+        1,
+        directory.import_count() as u32,
+        all.imports.count() as u32,
+    )?;
     agree(2, directory.applet_count() as u32, applets)?;
-    agree(3, directory.image_size() as u32, statics.image_size() as u32)?;
-    agree(4, directory.array_init_count() as u32, statics.array_init_count() as u32)?;
+    agree(
+        3,
+        directory.image_size() as u32,
+        statics.image_size() as u32,
+    )?;
+    agree(
+        4,
+        directory.array_init_count() as u32,
+        statics.array_init_count() as u32,
+    )?;
     agree(5, directory.array_init_size() as u32, array_bytes(statics))?;
-    agree(6, all.descriptor.pool_count() as u32, all.pool.count() as u32)?;
+    agree(
+        6,
+        all.descriptor.pool_count() as u32,
+        all.pool.count() as u32,
+    )?;
     arguments_agree(&all.methods, &all.descriptor, described)?;
     instances_agree(&all.classes, &all.descriptor)?;
     let references = 2 * statics.reference_count() as u32;
@@ -60,10 +75,12 @@ pub(crate) fn counts_agree(all: &Components<'_>) -> Result<(), PackFault>
 }
 
 /// The least fault so far, when the methods that the package exports were looked up, if it does.
-fn export_names(all: &Components<'_>, described: MethodsFrom<'_>, least: Option<PackFault>) -> Option<PackFault>
-    ensures {
-        result ≡ least_from least (no_method_fault (methods_from_left described.entry)) (exported_methods (or_none (components_seen all.now).export))
-    }
+fn export_names(
+    all: &Components<'_>,
+    described: MethodsFrom<'_>,
+    least: Option<PackFault>,
+) -> Option<PackFault>
+    ensures { result ≡ least_from least (no_method_fault (methods_from_left described.entry)) (exported_methods (or_none (components_seen all.now).export)) }
 {
     match &all.export {
         Some(export) => exports_named(described, export, least),

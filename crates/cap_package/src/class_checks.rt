@@ -9,12 +9,11 @@ ghost use Rattle.cap_desc.specs.ClassRecords.{classes_left as described_left};
 ghost use Rattle.cap_package.specs.Order.{least_of, least_from, refused};
 ghost use Rattle.cap_package.specs.NameChecks.{undescribed_fault, no_class_fault};
 
+use crate::fault::PackFault;
+use crate::lesser::lesser;
 use cap_class::{ClassInfo, ClassPart};
 use cap_desc::DescClasses;
 use cap_pool::Export;
-
-use crate::fault::PackFault;
-use crate::lesser::lesser;
 
 /// Whether exactly one descriptor is of the class record at an offset.
 fn is_described_once(offset: u16, descriptors: DescClasses<'_>) -> bool
@@ -68,7 +67,10 @@ fn no_class_fault(classes: &ClassPart<'_>, offset: u16) -> Option<PackFault>
 }
 
 /// The least class record that is not described once.
-pub(crate) fn classes_described(classes: &ClassPart<'_>, descriptors: DescClasses<'_>) -> Option<PackFault>
+pub(crate) fn classes_described(
+    classes: &ClassPart<'_>,
+    descriptors: DescClasses<'_>,
+) -> Option<PackFault>
     ensures { result ≡ least_of (undescribed_fault (described_left descriptors.entry)) (records classes.now) }
 {
     let mut least = None;
@@ -79,10 +81,12 @@ pub(crate) fn classes_described(classes: &ClassPart<'_>, descriptors: DescClasse
 }
 
 /// The least fault so far, when the classes that descriptors name were looked up.
-pub(crate) fn descriptors_named(classes: &ClassPart<'_>, descriptors: DescClasses<'_>, least: Option<PackFault>) -> Option<PackFault>
-    ensures {
-        result ≡ least_from least (no_class_fault (records classes.now)) (map (λ (d : desc.Class). d.class_ref) (described_left descriptors.entry))
-    }
+pub(crate) fn descriptors_named(
+    classes: &ClassPart<'_>,
+    descriptors: DescClasses<'_>,
+    least: Option<PackFault>,
+) -> Option<PackFault>
+    ensures { result ≡ least_from least (no_class_fault (records classes.now)) (map (λ (d : desc.Class). d.class_ref) (described_left descriptors.entry)) }
 {
     let mut least = least;
     'classes: for class in descriptors {
@@ -92,10 +96,12 @@ pub(crate) fn descriptors_named(classes: &ClassPart<'_>, descriptors: DescClasse
 }
 
 /// The least fault so far, when the exported classes were looked up.
-pub(crate) fn exports_are_classes(classes: &ClassPart<'_>, export: &Export<'_>, least: Option<PackFault>) -> Option<PackFault>
-    ensures {
-        result ≡ least_from least (no_class_fault (records classes.now)) (map (λ (c : Exported). c.class_offset) (exported export.now))
-    }
+pub(crate) fn exports_are_classes(
+    classes: &ClassPart<'_>,
+    export: &Export<'_>,
+    least: Option<PackFault>,
+) -> Option<PackFault>
+    ensures { result ≡ least_from least (no_class_fault (records classes.now)) (map (λ (c : Exported). c.class_offset) (exported export.now)) }
 {
     let mut least = least;
     'classes: for class in export.iter() {

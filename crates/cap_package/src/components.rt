@@ -1,10 +1,9 @@
+use crate::parts::Parts;
 use cap_class::ClassPart;
 use cap_desc::DescPart;
 use cap_frame::{Applets, Directory, Header, Imports};
 use cap_method::{MethodPart, StaticPart};
 use cap_pool::{Export, Locations, Pool};
-
-use crate::parts::Parts;
 
 /// The components of a package and the parts that they were read from. Nothing says yet that they
 /// agree.

@@ -8,13 +8,12 @@ ghost use Rattle.cap_package.specs.Order.{least_of, least_from, refused};
 ghost use Rattle.cap_package.specs.Descriptions.{description};
 ghost use Rattle.cap_package.specs.CountChecks.{differ, array_bytes, cells_of, instance_cells, instance_fault};
 
-use cap_class::ClassPart;
-use cap_desc::{DescClass, DescPart, FieldInfo};
-use cap_method::StaticPart;
-
 use crate::description::{field_type, words_of};
 use crate::fault::PackFault;
 use crate::lesser::{lesser, refuse};
+use cap_class::ClassPart;
+use cap_desc::{DescClass, DescPart, FieldInfo};
+use cap_method::StaticPart;
 
 /// Whether two numbers of one thing differ.
 #[tactic(auto, unfolding(crate::specs::CountChecks::differ))]
@@ -76,21 +75,30 @@ fn instance_cells(descriptor: &DescPart<'_>, class: &DescClass<'_>) -> u32
 }
 
 #[tactic(auto, unfolding(crate::specs::CountChecks::instance_fault))]
-fn instance_fault(classes: &ClassPart<'_>, descriptor: &DescPart<'_>, class: &DescClass<'_>) -> Option<PackFault>
+fn instance_fault(
+    classes: &ClassPart<'_>,
+    descriptor: &DescPart<'_>,
+    class: &DescClass<'_>,
+) -> Option<PackFault>
     ensures { result ≡ instance_fault (records classes.now) (description descriptor.now) (class_seen class.now) }
 {
     let entry = classes.entry(class.class_ref())?;
     if entry.flags().is_interface() {
         return None;
     }
-    differ(8, entry.instance_size() as u32, instance_cells(descriptor, class))
+    differ(
+        8,
+        entry.instance_size() as u32,
+        instance_cells(descriptor, class),
+    )
 }
 
 /// Each class declares the cells of its own instance fields.
-pub(crate) fn instances_agree(classes: &ClassPart<'_>, descriptor: &DescPart<'_>) -> Result<(), PackFault>
-    ensures {
-        result ≡ refused (least_of (instance_fault (records classes.now) (description descriptor.now)) (description descriptor.now).items.classes)
-    }
+pub(crate) fn instances_agree(
+    classes: &ClassPart<'_>,
+    descriptor: &DescPart<'_>,
+) -> Result<(), PackFault>
+    ensures { result ≡ refused (least_of (instance_fault (records classes.now) (description descriptor.now)) (description descriptor.now).items.classes) }
 {
     let mut least = None;
     'classes: for class in descriptor.classes() {

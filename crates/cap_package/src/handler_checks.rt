@@ -5,13 +5,12 @@ ghost use Rattle.cap_desc.specs.MembersLeft.{methods_from_left};
 ghost use Rattle.cap_package.specs.Order.{least_of, least_from, refused};
 ghost use Rattle.cap_package.specs.HandlerChecks.{claims, is_within, has_home, owners, entry_fault, claim_fault, numbered, numbered_fault};
 
-use cap_bytes::View;
-use cap_desc::{MethodInfo, MethodsFrom};
-use cap_method::{HandlerInfo, MethodPart};
-
 use crate::fault::PackFault;
 use crate::lesser::{lesser, refuse};
 use crate::method_checks::{code_end, code_start};
+use cap_bytes::View;
+use cap_desc::{MethodInfo, MethodsFrom};
+use cap_method::{HandlerInfo, MethodPart};
 
 /// Whether a method claims an entry of the handler table.
 fn claims(number: u32, method: &MethodInfo) -> bool
@@ -23,10 +22,8 @@ fn claims(number: u32, method: &MethodInfo) -> bool
 
 /// The next of the methods that owns an entry.
 fn next_owner(number: u32, rest: &mut MethodsFrom<'_>) -> Option<MethodInfo>
-    ensures {
-        MatchOption result (filter (claims number) (methods_from_left rest.old) ≡ [])
-            (λ m. filter (claims number) (methods_from_left rest.old) ≡ method_seen m ∷ filter (claims number) (methods_from_left rest.new))
-    }
+    ensures { MatchOption result (filter (claims number) (methods_from_left rest.old) ≡ [])
+        (λ m. filter (claims number) (methods_from_left rest.old) ≡ method_seen m ∷ filter (claims number) (methods_from_left rest.new)) }
 {
     'methods: while let Some(method) = rest.next() {
         if claims(number, &method) {
@@ -63,7 +60,12 @@ fn has_home(info: View<'_>, handler: HandlerInfo, number: u32, described: Method
 }
 
 #[tactic(auto, unfolding(crate::specs::HandlerChecks::entry_fault, crate::specs::HandlerChecks::owners))]
-fn entry_fault(info: View<'_>, described: MethodsFrom<'_>, number: u32, handler: HandlerInfo) -> Option<PackFault>
+fn entry_fault(
+    info: View<'_>,
+    described: MethodsFrom<'_>,
+    number: u32,
+    handler: HandlerInfo,
+) -> Option<PackFault>
     ensures { result ≡ entry_fault info.entry.bytes.now (methods_from_left described.entry) number handler }
 {
     if has_home(info, handler, number, described) {
@@ -87,15 +89,16 @@ fn claim_fault(count: u8, method: &MethodInfo) -> Option<PackFault>
 
 /// The least fault of the entries of the table.
 fn entry_faults(methods: &MethodPart<'_>, described: MethodsFrom<'_>) -> Option<PackFault>
-    ensures {
-        result ≡ least_of (numbered_fault methods.now.info.bytes.now (methods_from_left described.entry)) (numbered 0 (handlers methods.now))
-    }
+    ensures { result ≡ least_of (numbered_fault methods.now.info.bytes.now (methods_from_left described.entry)) (numbered 0 (handlers methods.now)) }
 {
     let count = methods.handler_count();
     let mut least = None;
     let mut number: u32 = 0;
     'handlers: for handler in methods.handlers() {
-        least = lesser(least, entry_fault(methods.info(), described, number, handler));
+        least = lesser(
+            least,
+            entry_fault(methods.info(), described, number, handler),
+        );
         number += 1;
     }
     let _count = count;
@@ -104,12 +107,13 @@ fn entry_faults(methods: &MethodPart<'_>, described: MethodsFrom<'_>) -> Option<
 
 /// Exactly one method owns each entry of the handler table, in whose code it lies, and no method claims an
 /// entry behind the table.
-pub(crate) fn handlers_at_home(methods: &MethodPart<'_>, described: MethodsFrom<'_>) -> Result<(), PackFault>
-    ensures {
-        result ≡ refused (least_from
-            (least_of (numbered_fault methods.now.info.bytes.now (methods_from_left described.entry)) (numbered 0 (handlers methods.now)))
-            (claim_fault (length (handlers methods.now))) (methods_from_left described.entry))
-    }
+pub(crate) fn handlers_at_home(
+    methods: &MethodPart<'_>,
+    described: MethodsFrom<'_>,
+) -> Result<(), PackFault>
+    ensures { result ≡ refused (least_from
+        (least_of (numbered_fault methods.now.info.bytes.now (methods_from_left described.entry)) (numbered 0 (handlers methods.now)))
+        (claim_fault (length (handlers methods.now))) (methods_from_left described.entry)) }
 {
     let count = methods.handler_count();
     let mut least = entry_faults(methods, described);

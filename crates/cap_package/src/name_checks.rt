@@ -11,15 +11,14 @@ ghost use Rattle.cap_package.specs.Order.{least_of, least_from, refused};
 ghost use Rattle.cap_package.specs.NameChecks.{no_method_fault, no_entry_fault, table_entries, exported_methods, exported_fields};
 ghost use Rattle.cap_package.specs.StaticChecks.{stands_at, no_static_fault};
 
+use crate::fault::PackFault;
+use crate::lesser::lesser;
+use crate::static_checks::image_offset;
 use cap_bytes::Table;
 use cap_class::ClassPart;
 use cap_desc::{FieldsOf, MethodsFrom};
 use cap_frame::Applets;
 use cap_pool::Export;
-
-use crate::fault::PackFault;
-use crate::lesser::lesser;
-use crate::static_checks::image_offset;
 
 /// Whether a described method stands at an offset.
 fn is_described(offset: u16, described: MethodsFrom<'_>) -> bool
@@ -55,7 +54,11 @@ fn no_entry_fault(described: MethodsFrom<'_>, offset: u16) -> Option<PackFault>
 }
 
 /// The least fault so far, when the entries of a dispatch table were looked up.
-fn entries_of_table(described: MethodsFrom<'_>, table: Table<'_>, least: Option<PackFault>) -> Option<PackFault>
+fn entries_of_table(
+    described: MethodsFrom<'_>,
+    table: Table<'_>,
+    least: Option<PackFault>,
+) -> Option<PackFault>
     ensures { result ≡ least_from least (no_entry_fault (methods_from_left described.entry)) (numbers table.entry) }
 {
     let mut least = least;
@@ -66,7 +69,11 @@ fn entries_of_table(described: MethodsFrom<'_>, table: Table<'_>, least: Option<
 }
 
 /// The least fault so far, when offsets of methods were looked up.
-fn methods_of_table(described: MethodsFrom<'_>, table: Table<'_>, least: Option<PackFault>) -> Option<PackFault>
+fn methods_of_table(
+    described: MethodsFrom<'_>,
+    table: Table<'_>,
+    least: Option<PackFault>,
+) -> Option<PackFault>
     ensures { result ≡ least_from least (no_method_fault (methods_from_left described.entry)) (numbers table.entry) }
 {
     let mut least = least;
@@ -78,7 +85,10 @@ fn methods_of_table(described: MethodsFrom<'_>, table: Table<'_>, least: Option<
 
 /// The least fault of the dispatch tables.
 #[tactic(auto, using(crate::proofs::TableFaults::least_entries))]
-pub(crate) fn entries_named(described: MethodsFrom<'_>, classes: &ClassPart<'_>) -> Option<PackFault>
+pub(crate) fn entries_named(
+    described: MethodsFrom<'_>,
+    classes: &ClassPart<'_>,
+) -> Option<PackFault>
     ensures { result ≡ least_of (no_entry_fault (methods_from_left described.entry)) (table_entries (records classes.now)) }
 {
     let mut least = None;
@@ -91,7 +101,11 @@ pub(crate) fn entries_named(described: MethodsFrom<'_>, classes: &ClassPart<'_>)
 
 /// The least fault so far, when the exported methods were looked up.
 #[tactic(auto, using(crate::proofs::TableFaults::least_exported_methods))]
-pub(crate) fn exports_named(described: MethodsFrom<'_>, export: &Export<'_>, least: Option<PackFault>) -> Option<PackFault>
+pub(crate) fn exports_named(
+    described: MethodsFrom<'_>,
+    export: &Export<'_>,
+    least: Option<PackFault>,
+) -> Option<PackFault>
     ensures { result ≡ least_from least (no_method_fault (methods_from_left described.entry)) (exported_methods (exported export.now)) }
 {
     let mut least = least;
@@ -102,10 +116,12 @@ pub(crate) fn exports_named(described: MethodsFrom<'_>, export: &Export<'_>, lea
 }
 
 /// The least fault so far, when the applets' install methods were looked up.
-pub(crate) fn installs_named(described: MethodsFrom<'_>, applets: &Applets<'_>, least: Option<PackFault>) -> Option<PackFault>
-    ensures {
-        result ≡ least_from least (no_method_fault (methods_from_left described.entry)) (map (λ (a : Applet). a.install) (applets_of applets.now))
-    }
+pub(crate) fn installs_named(
+    described: MethodsFrom<'_>,
+    applets: &Applets<'_>,
+    least: Option<PackFault>,
+) -> Option<PackFault>
+    ensures { result ≡ least_from least (no_method_fault (methods_from_left described.entry)) (map (λ (a : Applet). a.install) (applets_of applets.now)) }
 {
     let mut least = least;
     'applets: for applet in applets.iter() {
@@ -138,7 +154,11 @@ fn no_static_fault(fields: FieldsOf<'_>, offset: u16) -> Option<PackFault>
 }
 
 /// The least fault so far, when offsets of static fields were looked up.
-fn statics_of_table(fields: FieldsOf<'_>, table: Table<'_>, least: Option<PackFault>) -> Option<PackFault>
+fn statics_of_table(
+    fields: FieldsOf<'_>,
+    table: Table<'_>,
+    least: Option<PackFault>,
+) -> Option<PackFault>
     ensures { result ≡ least_from least (no_static_fault (fields_of_left fields.entry)) (numbers table.entry) }
 {
     let mut least = least;

@@ -15,18 +15,17 @@ ghost use Rattle.cap_package.specs.CustomSeen.{custom_items};
 ghost use Rattle.cap_package.specs.Descriptions.{description};
 ghost use Rattle.cap_package.specs.MethodsSeen.{methods_seen};
 
+use crate::components::Components;
+use crate::custom::Custom;
+use crate::package_type::Package;
+use crate::parts::Parts;
+use crate::read::info_in;
 use cap_bytes::View;
 use cap_class::ClassPart;
 use cap_desc::DescPart;
 use cap_frame::{Applets, Directory, Header, Imports};
 use cap_method::{MethodPart, StaticPart};
 use cap_pool::{Export, Locations, Pool};
-
-use crate::components::Components;
-use crate::custom::Custom;
-use crate::package_type::Package;
-use crate::parts::Parts;
-use crate::read::info_in;
 
 impl<'a> Package<'a> {
     /// The parts that the package was made from.

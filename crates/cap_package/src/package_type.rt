@@ -1,6 +1,5 @@
-use std::marker::Model;
-
 use crate::components::Components;
+use std::marker::Model;
 
 /// A package whose parts agree (chapter 6 of the specification). It borrows its parts.
 #[derive(Drop)]

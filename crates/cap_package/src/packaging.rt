@@ -1,7 +1,10 @@
-ghost use Rattle.std.specs.Prelude.{◌≡◌, IfOk};
+ghost use Rattle.std.specs.Prelude.{◌≡◌, IfOk, Ok};
 ghost use Rattle.cap_package.specs.Components.{Answers};
 ghost use Rattle.cap_package.specs.ComponentsSeen.{components_seen};
 ghost use Rattle.cap_package.specs.Agreement.{package_of};
+ghost use Rattle.cap_package.specs.FirstFault.{Tells};
+ghost use Rattle.cap_package.specs.StandsFor.{StandsFor};
+ghost use Rattle.cap_package.specs.PackageRecord.{PackageRecord};
 
 use crate::agreement::{counts_agree, members_agree, places_agree};
 use crate::components::Components;
@@ -26,9 +29,16 @@ fn agreeing<'a>(parts: &'a Parts<'a>) -> Result<Components<'a>, PackFault>
     Ok(all)
 }
 
-/// The package that the parts stand for.
+/// The package that the parts stand for, or why they stand for none.
+#[tactic(auto, using(crate::proofs::FirstTold::first_told))]
 pub fn package<'a>(parts: &'a Parts<'a>) -> Result<Package<'a>, PackFault>
     ensures value { result ≡ package_of parts.now }
+    // A package exactly where nothing is at fault; else the first condition by number that is broken, at its
+    // least thing.
+    ensures tells { Tells parts.now result }
+    // The answer is a package only where the parts stand for it, and they stand for no other.
+    ensures stands { IfOk result (λ p. StandsFor parts.now p) }
+    ensures only { (p : PackageRecord) → StandsFor parts.now p → result ≡ Ok p }
 {
     match agreeing(parts) {
         Ok(all) => Ok(Package { all }),

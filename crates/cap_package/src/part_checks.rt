@@ -5,13 +5,12 @@ ghost use Rattle.cap_package.specs.Components.{read_part};
 ghost use Rattle.cap_package.specs.Order.{least_of, least_from, refused};
 ghost use Rattle.cap_package.specs.PartChecks.{required, components, optional, custom_tags, absent_fault, sized_fault, missing, form_fault, size_fault};
 
-use cap_bytes::Part;
-use cap_frame::Directory;
-
 use crate::fault::PackFault;
 use crate::lesser::{lesser, refuse};
 use crate::parts::Parts;
 use crate::read::{directory_in, info_in};
+use cap_bytes::Part;
+use cap_frame::Directory;
 
 #[tactic(auto, unfolding(crate::specs::PartChecks::absent_fault))]
 fn absent_fault(parts: &Parts<'_>, tag: u8) -> Option<PackFault>
@@ -47,11 +46,13 @@ fn absent_among(parts: &Parts<'_>, tags: &[u8]) -> Option<PackFault>
 }
 
 /// The least fault so far, when the parts were compared with the Directory's sizes.
-fn absent_sized(parts: &Parts<'_>, directory: &Directory<'_>, least: Option<PackFault>) -> Option<PackFault>
-    ensures {
-        result ≡ least_from (least_from least (sized_fault parts.now (directory_items directory.now)) optional)
-            (sized_fault parts.now (directory_items directory.now)) (custom_tags (directory_items directory.now))
-    }
+fn absent_sized(
+    parts: &Parts<'_>,
+    directory: &Directory<'_>,
+    least: Option<PackFault>,
+) -> Option<PackFault>
+    ensures { result ≡ least_from (least_from least (sized_fault parts.now (directory_items directory.now)) optional)
+        (sized_fault parts.now (directory_items directory.now)) (custom_tags (directory_items directory.now)) }
 {
     let applet = lesser(least, sized_fault(parts, directory, 3));
     let mut least = lesser(applet, sized_fault(parts, directory, 10));
@@ -114,10 +115,8 @@ fn size_fault(parts: &Parts<'_>, directory: &Directory<'_>, tag: u8) -> Option<P
 
 /// The Directory's size of every part is the part's own.
 pub(crate) fn sizes_agree(parts: &Parts<'_>, directory: &Directory<'_>) -> Result<(), PackFault>
-    ensures {
-        result ≡ refused (least_from (least_of (size_fault parts.now (directory_items directory.now)) components)
-            (size_fault parts.now (directory_items directory.now)) (custom_tags (directory_items directory.now)))
-    }
+    ensures { result ≡ refused (least_from (least_of (size_fault parts.now (directory_items directory.now)) components)
+        (size_fault parts.now (directory_items directory.now)) (custom_tags (directory_items directory.now))) }
 {
     let mut least = size_faults(parts, directory, &[1, 2, 3, 4, 5, 6, 7, 8, 9, 10, 11]);
     'customs: for custom in directory.customs() {

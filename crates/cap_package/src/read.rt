@@ -23,15 +23,14 @@ ghost use Rattle.cap_package.specs.Components.{Answers, info_in, read_part, read
 ghost use Rattle.cap_package.specs.MethodsSeen.{methods_seen};
 ghost use Rattle.cap_package.specs.IfThere.{seen_if};
 
+use crate::fault::PackFault;
+use crate::parts::Parts;
 use cap_bytes::{Part, View};
 use cap_class::ClassPart;
 use cap_desc::DescPart;
 use cap_frame::{Applets, Directory, Header, Imports, applets, directory, frame, header, imports};
 use cap_method::{MethodPart, StaticPart};
 use cap_pool::{Export, Locations, Pool, export, locations, pool};
-
-use crate::fault::PackFault;
-use crate::parts::Parts;
 
 /// The info of the component with a tag.
 #[tactic(auto, using(cap_bytes::proofs::Laws::reading_where, cap_bytes::proofs::Laws::refused_where), unfolding(crate::specs::Components::info_in))]

@@ -5,12 +5,14 @@ ghost use Rattle.cap_package.specs.ComponentsSeen.{components_seen};
 ghost use Rattle.cap_package.specs.PackageRecord.{classes_from};
 ghost use Rattle.cap_package.specs.ReadPackage.{read_package};
 
-use cap_class::ClassPart;
-
 use crate::components::Components;
 use crate::fault::PackFault;
 use crate::parts::Parts;
-use crate::read::{applets_in, classes_in, descriptor_in, directory_in, export_in, header_in, imports_in, locations_in, methods_in, pool_in, statics_in};
+use crate::read::{
+    applets_in, classes_in, descriptor_in, directory_in, export_in, header_in, imports_in,
+    locations_in, methods_in, pool_in, statics_in,
+};
+use cap_class::ClassPart;
 
 /// The components of a package, in the order of their tags.
 #[tactic(auto, unfolding(crate::specs::ReadPackage::read_package))]

@@ -9,13 +9,12 @@ ghost use Rattle.cap_package.specs.Descriptions.{description};
 ghost use Rattle.cap_package.specs.StaticChecks.{image_offset, width_of, is_reference, place_in, share_fault, share_pair, is_in_image, image_fault, array_fault, array_fields, array_field_fault, stands_at};
 ghost use Rattle.cap_package.specs.Places.{place_seen};
 
-use cap_desc::{DescPart, FieldInfo, FieldsOf, TypeItem};
-use cap_method::StaticPart;
-
 use crate::description::field_type;
 use crate::fault::PackFault;
 use crate::lesser::{lesser, refuse};
 use crate::static_place::StaticPlace;
+use cap_desc::{DescPart, FieldInfo, FieldsOf, TypeItem};
+use cap_method::StaticPart;
 
 /// The offset of a static field in the image.
 pub(crate) fn image_offset(field: &FieldInfo) -> u16
@@ -52,7 +51,11 @@ fn place_in(descriptor: &DescPart<'_>, field: &FieldInfo) -> Option<StaticPlace>
 
 /// Whether a static field shares a byte with one at a place.
 #[tactic(auto, unfolding(crate::specs::StaticChecks::share_fault))]
-fn share_fault(descriptor: &DescPart<'_>, place: Option<StaticPlace>, field: &FieldInfo) -> Option<PackFault>
+fn share_fault(
+    descriptor: &DescPart<'_>,
+    place: Option<StaticPlace>,
+    field: &FieldInfo,
+) -> Option<PackFault>
     ensures { result ≡ share_fault (description descriptor.now) (option_map place_seen place) (field_seen field.now) }
 {
     let a = place?;
@@ -68,10 +71,13 @@ fn share_fault(descriptor: &DescPart<'_>, place: Option<StaticPlace>, field: &Fi
 }
 
 /// The least fault so far, when a place was compared with the fields behind it.
-fn shares_with(descriptor: &DescPart<'_>, place: Option<StaticPlace>, behind: FieldsOf<'_>, least: Option<PackFault>) -> Option<PackFault>
-    ensures {
-        result ≡ least_from least (share_fault (description descriptor.now) (option_map place_seen place)) (fields_of_left behind.entry)
-    }
+fn shares_with(
+    descriptor: &DescPart<'_>,
+    place: Option<StaticPlace>,
+    behind: FieldsOf<'_>,
+    least: Option<PackFault>,
+) -> Option<PackFault>
+    ensures { result ≡ least_from least (share_fault (description descriptor.now) (option_map place_seen place)) (fields_of_left behind.entry) }
 {
     let mut least = least;
     'fields: for other in behind {
@@ -82,7 +88,10 @@ fn shares_with(descriptor: &DescPart<'_>, place: Option<StaticPlace>, behind: Fi
 
 /// No two static fields share a byte.
 #[tactic(auto, using(crate::proofs::PairFaults::least_pairs))]
-pub(crate) fn statics_apart(descriptor: &DescPart<'_>, fields: FieldsOf<'_>) -> Result<(), PackFault>
+pub(crate) fn statics_apart(
+    descriptor: &DescPart<'_>,
+    fields: FieldsOf<'_>,
+) -> Result<(), PackFault>
     ensures { result ≡ refused (least_of (share_pair (description descriptor.now)) (pairs (fields_of_left fields.entry))) }
 {
     let mut rest = fields;
@@ -108,7 +117,11 @@ fn is_in_image(statics: &StaticPart<'_>, place: &StaticPlace) -> bool
 }
 
 #[tactic(auto, unfolding(crate::specs::StaticChecks::image_fault))]
-fn image_fault(statics: &StaticPart<'_>, descriptor: &DescPart<'_>, field: &FieldInfo) -> Option<PackFault>
+fn image_fault(
+    statics: &StaticPart<'_>,
+    descriptor: &DescPart<'_>,
+    field: &FieldInfo,
+) -> Option<PackFault>
     ensures { result ≡ image_fault (statics_seen statics.now) (description descriptor.now) (field_seen field.now) }
 {
     let place = place_in(descriptor, field)?;
@@ -120,24 +133,36 @@ fn image_fault(statics: &StaticPart<'_>, descriptor: &DescPart<'_>, field: &Fiel
 }
 
 #[tactic(auto, unfolding(crate::specs::StaticChecks::array_fault))]
-fn array_fault(descriptor: &DescPart<'_>, number: u32, kind: u8, field: &FieldInfo) -> Option<PackFault>
+fn array_fault(
+    descriptor: &DescPart<'_>,
+    number: u32,
+    kind: u8,
+    field: &FieldInfo,
+) -> Option<PackFault>
     requires { number < 65536 }
     ensures { result ≡ array_fault (description descriptor.now) number kind (field_seen field.now) }
 {
-    let place = place_in(descriptor, field)?;
-    if place.offset as u32 == 2 * number && place.ty.nibble as u16 != kind as u16 + 8 {
-        Some(PackFault::StaticOutside(place.offset))
-    } else {
-        None
+    // Most fields stand elsewhere, and their types are not looked at.
+    if image_offset(field) as u32 != 2 * number {
+        return None;
     }
+    let place = place_in(descriptor, field)?;
+    if place.ty.nibble as u16 == kind as u16 + 8 {
+        return None;
+    }
+    Some(PackFault::StaticOutside(place.offset))
 }
 
 /// The least fault so far, when the fields were compared with an initial array.
-fn array_faults(descriptor: &DescPart<'_>, number: u32, kind: u8, fields: FieldsOf<'_>, least: Option<PackFault>) -> Option<PackFault>
+fn array_faults(
+    descriptor: &DescPart<'_>,
+    number: u32,
+    kind: u8,
+    fields: FieldsOf<'_>,
+    least: Option<PackFault>,
+) -> Option<PackFault>
     requires { number < 65536 }
-    ensures {
-        result ≡ least_from least (array_fault (description descriptor.now) number kind) (fields_of_left fields.entry)
-    }
+    ensures { result ≡ least_from least (array_fault (description descriptor.now) number kind) (fields_of_left fields.entry) }
 {
     let mut least = least;
     'fields: for field in fields {
@@ -147,10 +172,12 @@ fn array_faults(descriptor: &DescPart<'_>, number: u32, kind: u8, fields: Fields
 }
 
 /// The least fault of the fields' places in the image.
-fn image_faults(statics: &StaticPart<'_>, descriptor: &DescPart<'_>, fields: FieldsOf<'_>) -> Option<PackFault>
-    ensures {
-        result ≡ least_of (image_fault (statics_seen statics.now) (description descriptor.now)) (fields_of_left fields.entry)
-    }
+fn image_faults(
+    statics: &StaticPart<'_>,
+    descriptor: &DescPart<'_>,
+    fields: FieldsOf<'_>,
+) -> Option<PackFault>
+    ensures { result ≡ least_of (image_fault (statics_seen statics.now) (description descriptor.now)) (fields_of_left fields.entry) }
 {
     let mut least = None;
     'fields: for field in fields {
@@ -161,12 +188,14 @@ fn image_faults(statics: &StaticPart<'_>, descriptor: &DescPart<'_>, fields: Fie
 
 /// Each static field lies in the part of the image for its kind, and is of the type of its initial array.
 #[tactic(auto, using(crate::proofs::ArrayFaults::least_arrays))]
-pub(crate) fn statics_in_image(statics: &StaticPart<'_>, descriptor: &DescPart<'_>, fields: FieldsOf<'_>) -> Result<(), PackFault>
-    ensures {
-        result ≡ refused (least_from
-            (least_of (image_fault (statics_seen statics.now) (description descriptor.now)) (fields_of_left fields.entry))
-            (array_field_fault (description descriptor.now)) (array_fields 0 (statics_seen statics.now).arrays (fields_of_left fields.entry)))
-    }
+pub(crate) fn statics_in_image(
+    statics: &StaticPart<'_>,
+    descriptor: &DescPart<'_>,
+    fields: FieldsOf<'_>,
+) -> Result<(), PackFault>
+    ensures { result ≡ refused (least_from
+        (least_of (image_fault (statics_seen statics.now) (description descriptor.now)) (fields_of_left fields.entry))
+        (array_field_fault (description descriptor.now)) (array_fields 0 (statics_seen statics.now).arrays (fields_of_left fields.entry))) }
 {
     let count = statics.array_init_count();
     let mut least = image_faults(statics, descriptor, fields);

@@ -8,11 +8,10 @@ ghost use Rattle.cap_package.specs.Order.{least_of, least_from, refused};
 ghost use Rattle.cap_package.specs.Descriptions.{description};
 ghost use Rattle.cap_package.specs.TypeChecks.{field_type_fault, method_type_fault, interface_methods};
 
-use cap_desc::{DescMethods, DescPart, FieldInfo, MethodInfo};
-
 use crate::description::{argument_words, field_type};
 use crate::fault::PackFault;
 use crate::lesser::{lesser, refuse};
+use cap_desc::{DescMethods, DescPart, FieldInfo, MethodInfo};
 
 /// The argument words that a type descriptor can tell at all.
 const ANY_WORDS: u16 = 510;
@@ -52,9 +51,7 @@ fn field_types(descriptor: &DescPart<'_>) -> Option<PackFault>
 
 /// The least fault so far, when the types of all methods were looked at.
 fn method_types(descriptor: &DescPart<'_>, least: Option<PackFault>) -> Option<PackFault>
-    ensures {
-        result ≡ least_from least (method_type_fault (description descriptor.now) 510) (methods_from 0 (description descriptor.now).items.classes)
-    }
+    ensures { result ≡ least_from least (method_type_fault (description descriptor.now) 510) (methods_from 0 (description descriptor.now).items.classes) }
 {
     let mut least = least;
     'methods: for method in descriptor.methods_from(0) {
@@ -64,22 +61,31 @@ fn method_types(descriptor: &DescPart<'_>, least: Option<PackFault>) -> Option<P
 }
 
 /// The least fault so far, when the types of the methods of an interface were looked at.
-fn types_of_interface(descriptor: &DescPart<'_>, methods: DescMethods<'_>, least: Option<PackFault>) -> Option<PackFault>
+fn types_of_interface(
+    descriptor: &DescPart<'_>,
+    methods: DescMethods<'_>,
+    least: Option<PackFault>,
+) -> Option<PackFault>
     ensures { result ≡ least_from least (method_type_fault (description descriptor.now) 254) (methods_left methods.entry) }
 {
     let mut least = least;
     'methods: for method in methods {
-        least = lesser(least, method_type_fault(descriptor, INTERFACE_WORDS, &method));
+        least = lesser(
+            least,
+            method_type_fault(descriptor, INTERFACE_WORDS, &method),
+        );
     }
     least
 }
 
 /// The least fault so far, when the types of the methods of interfaces were looked at.
 #[tactic(auto, using(crate::proofs::InterfaceFaults::least_interface, crate::proofs::InterfaceFaults::least_class))]
-fn interface_types(descriptor: &DescPart<'_>, start: u16, least: Option<PackFault>) -> Option<PackFault>
-    ensures {
-        result ≡ least_from least (method_type_fault (description descriptor.now) 254) (interface_methods start (description descriptor.now).items.classes)
-    }
+fn interface_types(
+    descriptor: &DescPart<'_>,
+    start: u16,
+    least: Option<PackFault>,
+) -> Option<PackFault>
+    ensures { result ≡ least_from least (method_type_fault (description descriptor.now) 254) (interface_methods start (description descriptor.now).items.classes) }
 {
     let mut least = least;
     'classes: for class in descriptor.classes() {
@@ -92,14 +98,12 @@ fn interface_types(descriptor: &DescPart<'_>, start: u16, least: Option<PackFaul
 
 /// Each field and method names a well-formed type descriptor of its shape.
 pub(crate) fn types_fit(descriptor: &DescPart<'_>, start: u16) -> Result<(), PackFault>
-    ensures {
-        result ≡ refused
-            (least_from
-                (least_from
-                    (least_of (field_type_fault (description descriptor.now)) (fields_of (description descriptor.now).items.classes))
-                    (method_type_fault (description descriptor.now) 510) (methods_from 0 (description descriptor.now).items.classes))
-                (method_type_fault (description descriptor.now) 254) (interface_methods start (description descriptor.now).items.classes))
-    }
+    ensures { result ≡ refused
+        (least_from
+        (least_from
+        (least_of (field_type_fault (description descriptor.now)) (fields_of (description descriptor.now).items.classes))
+        (method_type_fault (description descriptor.now) 510) (methods_from 0 (description descriptor.now).items.classes))
+        (method_type_fault (description descriptor.now) 254) (interface_methods start (description descriptor.now).items.classes)) }
 {
     let fields = field_types(descriptor);
     let methods = method_types(descriptor, fields);

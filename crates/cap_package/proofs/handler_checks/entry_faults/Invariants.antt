@@ -8,5 +8,5 @@ use Rattle.cap_package.proofs.handler_checks.entry_faults.Given as goal
 abbrev pub invariant-handlers : goal.invariant-handlers
 invariant-handlers l =
     (least_from l.least (numbered_fault l.methods.info.bytes.now (methods_from_left l.fn.described)) (numbered l.number (handlers_left l.handler-iterator))
-      ≡ least_of (numbered_fault l.methods.info.bytes.now (methods_from_left l.fn.described)) (numbered 0 (handlers l.methods)))
+    ≡ least_of (numbered_fault l.methods.info.bytes.now (methods_from_left l.fn.described)) (numbered 0 (handlers l.methods)))
     × (l.number + length (handlers_left l.handler-iterator) ≡ l.count)

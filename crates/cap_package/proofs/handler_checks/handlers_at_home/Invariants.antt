@@ -9,4 +9,4 @@ abbrev pub invariant-methods : goal.invariant-methods
 invariant-methods l =
     least_from l.least (claim_fault (length (handlers l.methods))) (methods_from_left l.method-iterator)
     ≡ least_from (least_of (numbered_fault l.methods.info.bytes.now (methods_from_left l.fn.described)) (numbered 0 (handlers l.methods)))
-        (claim_fault (length (handlers l.methods))) (methods_from_left l.fn.described)
+    (claim_fault (length (handlers l.methods))) (methods_from_left l.fn.described)

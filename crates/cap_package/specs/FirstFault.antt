@@ -1,0 +1,127 @@
+-- Which fault is named, in the subject's words: the conditions stand in the order of their numbers, each with the list
+-- of the things that break it; the first list that is not empty tells the fault, and the least thing in it is named.
+use Rattle.std.specs.Prelude.{◌≡◌, ℕ, ◌+◌, ◌≤◌, ◌⊎◌, List, [], ◌∷◌, ◌++◌, length, Option, Some, None, Result, Ok, Err, map}
+use Rattle.std.specs.List.{filter_map}
+use Rattle.std.specs.Option.{option_to_list}
+use Rattle.cap_frame.specs.AppletFormat.{Applet}
+use Rattle.cap_frame.specs.DirectoryFormat.{DirectoryItems, directory_info}
+use Rattle.cap_pool.specs.ExportFormat.{Exported}
+use Rattle.cap_desc.specs.DescriptorFormat as described
+use Rattle.cap_desc.specs.Members.{methods_from}
+use Rattle.cap_package.specs.declared.fault.PackFault.{PackFault}
+use Rattle.cap_package.specs.Parts.{Lent}
+use Rattle.cap_package.specs.Order.{place_of}
+use Rattle.cap_package.specs.Pairs.{pairs}
+use Rattle.cap_package.specs.Components.{read_part}
+use Rattle.cap_package.specs.PackageRecord.{PackageRecord, classes_from, described, fields}
+use Rattle.cap_package.specs.ReadPackage.{read_package}
+use Rattle.cap_package.specs.PartChecks.{required, optional, absent_fault, sized_fault, form_fault, size_fault, components, custom_tags}
+use Rattle.cap_package.specs.MethodChecks.{overlap_pair, outside_fault}
+use Rattle.cap_package.specs.HeaderChecks.{registers_fault, length_fault, arguments_fault, abstract_fault}
+use Rattle.cap_package.specs.HandlerChecks.{numbered, numbered_fault, claim_fault}
+use Rattle.cap_package.specs.StaticChecks.{share_pair, image_fault, array_field_fault, array_fields, no_static_fault}
+use Rattle.cap_package.specs.NameChecks.{no_method_fault, no_entry_fault, table_entries, exported_methods, exported_fields, undescribed_fault, no_class_fault}
+use Rattle.cap_package.specs.TypeChecks.{field_type_fault, method_type_fault, interface_methods}
+use Rattle.cap_package.specs.CountChecks.{differ, array_bytes, image_bytes, instance_fault, count_if}
+use Rattle.cap_package.specs.Agreement.{or_none}
+
+-- the things at fault
+abbrev pub at_fault : {X : Type 0} → (X → Option PackFault) → List X → List PackFault
+at_fault = filter_map
+
+-- ---- the conditions, as lists of what breaks them
+
+abbrev pub missing_parts : List Lent → Result DirectoryItems PackFault → List PackFault
+missing_parts parts (Err fault) = at_fault (absent_fault parts) required
+missing_parts parts (Ok d) = (at_fault (absent_fault parts) required ++ at_fault (sized_fault parts d) optional) ++ at_fault (sized_fault parts d) (custom_tags d)
+
+abbrev pub disagreements : ℕ → ℕ → ℕ → List PackFault
+disagreements what said found = option_to_list (differ what said found)
+
+abbrev pub place_lists : PackageRecord → List (List PackFault)
+place_lists p =
+    -- the Directory's sizes
+    (at_fault (size_fault p.parts p.directory) components ++ at_fault (size_fault p.parts p.directory) (custom_tags p.directory))
+    -- methods that share a byte, and those that lie outside
+    ∷ at_fault (overlap_pair p.methods.info) (pairs (described p))
+    ∷ at_fault (outside_fault p.methods.info (length p.methods.handlers)) (described p)
+    ∷ []
+
+abbrev pub count_lists : PackageRecord → List (List PackFault)
+count_lists p =
+    -- numbers that two components tell
+    disagreements 1 p.directory.import_count (length p.imports)
+    ∷ disagreements 2 p.directory.applet_count (count_if p.applets)
+    ∷ disagreements 3 p.directory.image_size p.statics.image_size
+    ∷ disagreements 4 p.directory.array_init_count (length p.statics.arrays)
+    ∷ disagreements 5 p.directory.array_init_size (array_bytes p.statics.arrays)
+    ∷ disagreements 6 (length p.description.items.pool_types) (length p.pool)
+    ∷ at_fault (arguments_fault p.methods.info p.description) (described p)
+    ∷ at_fault (instance_fault p.classes p.description) p.description.items.classes
+    ∷ disagreements 9 p.statics.image_size (image_bytes p.statics)
+    ∷ at_fault (abstract_fault p.methods.info) (described p)
+    ∷ []
+
+abbrev pub member_lists : PackageRecord → List (List PackFault)
+member_lists p =
+    -- handlers
+    (at_fault (numbered_fault p.methods.info (described p)) (numbered 0 p.methods.handlers) ++ at_fault (claim_fault (length p.methods.handlers)) (described p))
+    -- static fields that share a byte
+    ∷ at_fault (share_pair p.description) (pairs (fields p))
+    -- dispatch entries, exports and applets that name no method
+    ∷ ((at_fault (no_entry_fault (described p)) (table_entries p.classes) ++ at_fault (no_method_fault (described p)) (exported_methods (or_none p.export)))
+    ++ at_fault (no_method_fault (described p)) (map (λ (a : Applet). a.install) (or_none p.applets)))
+    -- classes that are not described once, and names of none
+    ∷ ((at_fault (undescribed_fault p.description.items.classes) p.classes ++ at_fault (no_class_fault p.classes) (map (λ (d : described.Class). d.class_ref) p.description.items.classes))
+    ++ at_fault (no_class_fault p.classes) (map (λ (c : Exported). c.class_offset) (or_none p.export)))
+    -- registers
+    ∷ at_fault (registers_fault p.methods.info) (described p)
+    -- types
+    ∷ ((at_fault (field_type_fault p.description) (fields p) ++ at_fault (method_type_fault p.description 510) (methods_from 0 p.description.items.classes))
+    ++ at_fault (method_type_fault p.description 254) (interface_methods (classes_from p.classes) p.description.items.classes))
+    -- static fields in the image
+    ∷ (at_fault (image_fault p.statics p.description) (fields p) ++ at_fault (array_field_fault p.description) (array_fields 0 p.statics.arrays (fields p)))
+    -- lengths of code
+    ∷ at_fault (length_fault p.methods.info) (described p)
+    -- exports that name no static field
+    ∷ at_fault (no_static_fault (fields p)) (exported_fields (or_none p.export))
+    ∷ []
+
+abbrev pub conditions : PackageRecord → List (List PackFault)
+conditions p = place_lists p ++ (count_lists p ++ member_lists p)
+
+-- ---- which fault is named
+
+abbrev pub IsOneOf : List PackFault → PackFault → Type 0
+IsOneOf [] fault = ⊥
+IsOneOf (other ∷ others) fault = (fault ≡ other) ⊎ IsOneOf others fault
+
+abbrev pub ComesFirst : List PackFault → PackFault → Type 0
+ComesFirst [] fault = Unit {0}
+ComesFirst (other ∷ others) fault = (place_of fault ≤ place_of other) × ComesFirst others fault
+
+-- one of the faults, at or before all others
+pub record IsLeast (faults : List PackFault) (fault : PackFault) : Type 0 where
+  pub one : IsOneOf faults fault
+  pub least : ComesFirst faults fault
+
+-- the least of the first list that is not empty
+abbrev pub IsFirst : List (List PackFault) → PackFault → Type 0
+IsFirst [] fault = ⊥
+IsFirst (faults ∷ others) fault = IsLeast faults fault ⊎ ((faults ≡ []) × IsFirst others fault)
+
+abbrev pub AllEmpty : List (List PackFault) → Type 0
+AllEmpty [] = Unit {0}
+AllEmpty (faults ∷ others) = (faults ≡ []) × AllEmpty others
+
+-- what is asked of the parts before their agreement: nothing is missing, and the custom components have their format
+abbrev pub conditions_of : List Lent → PackageRecord → List (List PackFault)
+conditions_of parts p = at_fault (form_fault parts) (custom_tags p.directory) ∷ conditions p
+
+-- a package exactly where nothing is at fault; else the first condition by number that is broken, at its least thing
+abbrev pub Tells : List Lent → Result PackageRecord PackFault → Type 0
+Tells parts (Ok p) = (missing_parts parts (read_part directory_info 2 parts) ≡ []) × (read_package parts ≡ Ok p) × AllEmpty (conditions_of parts p)
+Tells parts (Err fault) =
+    IsLeast (missing_parts parts (read_part directory_info 2 parts)) fault
+    ⊎ ((missing_parts parts (read_part directory_info 2 parts) ≡ [])
+    × ((read_package parts ≡ Err fault) ⊎ ((p : PackageRecord) × (read_package parts ≡ Ok p) × IsFirst (conditions_of parts p) fault)))

@@ -1,0 +1,5 @@
+pub mod Rows
+pub mod Members
+pub mod Described
+pub mod Bodies
+pub mod Naming

@@ -1,0 +1,533 @@
+-- What an instruction asks suffices for what it does: the cells and registers are there, and what it gives is known.
+use Rattle.std.proofs.Common.{◌≡◌, ℕ, zero, suc, ◌+◌, ◌-◌, ◌<◌, ◌≤◌, List, [], ◌∷◌, ◌++◌, length, take, drop, map, reverse, get_or, Option, Some, None, IsSomeAnd, IfSome, slice_get, All, refl, arith, cond, true, false, ◌==◌, length-append, length-take, length-drop}
+use Rattle.std.specs.Bool.{⊤}
+use Rattle.std.proofs.lemmas.List.{length-map, length-reverse}
+use Rattle.std.proofs.lemmas.List.Elements.{All-append, All-take, All-drop, All-map, All-get_or}
+use Rattle.jc_base.specs.declared.ty.Ty.{Ty}
+use Rattle.jc_base.specs.declared.ty.Ty.TheVariants.{Bottom, Short, IntHigh, IntLow, Null, Class, ArrBool, ArrByte, ArrShort, ArrInt, ArrRef, Fresh, Top}
+use Rattle.jc_base.specs.declared.ty.Kind.{Kind}
+use Rattle.jc_base.specs.declared.ty.Kind.TheVariants as kinds
+use Rattle.jc_base.specs.declared.record.MethodRec.{MethodRec}
+use Rattle.jc_base.specs.Class.{ClassTable, IsClass, object, throwable}
+use Rattle.jc_base.specs.Order.{Below, IsKnown}
+use Rattle.jc_base.specs.Cell.{IsDeclared}
+use Rattle.jc_base.specs.Linked.{IsMethod}
+use Rattle.jc_base.specs.World.{Linked, IsWorld}
+use Rattle.jc_base.proofs.Lists.{All-slice_get, slice_get-below}
+use Rattle.jc_decode.specs.declared.insn.Insn.{Insn}
+use Rattle.jc_rows.specs.declared.row.Sort.{Sort}
+use Rattle.jc_rows.specs.declared.row.Sort.TheVariants as sorts
+use Rattle.jc_rows.specs.declared.row.Width.{Width}
+use Rattle.jc_rows.specs.declared.row.Width.TheVariants as widths
+use Rattle.jc_rows.specs.declared.row.Constant.{Constant}
+use Rattle.jc_rows.specs.declared.row.Constant.TheVariants as constants
+use Rattle.jc_rows.specs.declared.row.Move.{Move}
+use Rattle.jc_rows.specs.declared.row.Move.TheVariants as moves
+use Rattle.jc_rows.specs.declared.row.Arithmetic.{Arithmetic}
+use Rattle.jc_rows.specs.declared.row.Arithmetic.TheVariants as arithmetic
+use Rattle.jc_rows.specs.declared.row.Branch.{Branch}
+use Rattle.jc_rows.specs.declared.row.Branch.TheVariants as branches
+use Rattle.jc_rows.specs.declared.row.Holder.{Holder}
+use Rattle.jc_rows.specs.declared.row.Holder.TheVariants as holders
+use Rattle.jc_rows.specs.declared.row.Make.{Make}
+use Rattle.jc_rows.specs.declared.row.Make.TheVariants as makes
+use Rattle.jc_rows.specs.declared.row.TypeTest.{TypeTest}
+use Rattle.jc_rows.specs.declared.row.TypeTest.TheVariants as tests
+use Rattle.jc_rows.specs.declared.row.Row.{Row}
+use Rattle.jc_rows.specs.declared.row.Row.TheVariants as rows
+use Rattle.jc_rows.specs.declared.want.Want.{Want}
+use Rattle.jc_rows.specs.declared.want.Want.TheVariants.{Value, Storable, ByteArray, AnyArray, Whole, Receiver}
+use Rattle.jc_rows.specs.declared.named.Named.{Named}
+use Rattle.jc_rows.specs.declared.named.Named.TheVariants as names
+use Rattle.jc_rows.specs.Named.{IsGiven, IsSound, IsKnownWant, byte_of}
+use Rattle.jc_rules.specs.declared.demand.Demand.{Demand}
+use Rattle.jc_rules.specs.declared.demand.Demand.TheVariants.{Cell, Held}
+use Rattle.jc_rules.specs.declared.effect.Cells.{Cells}
+use Rattle.jc_rules.specs.declared.effect.Cells.TheVariants as given
+use Rattle.jc_rules.specs.declared.effect.Change.{Change}
+use Rattle.jc_rules.specs.declared.effect.Change.TheVariants.{Replace, CopyUnder, Exchange, MakeReady}
+use Rattle.jc_rules.specs.declared.effect.Effect.{Effect}
+use Rattle.jc_rules.specs.Effect.{listed, ready, changed, needed, depth_after, reg}
+use Rattle.jc_rules.specs.Demand.{Frame, Meets, AllHold, AreKnown}
+use Rattle.jc_rules.specs.Rule.{cell, number, two_numbers, size, number_given, value_given, value_wanted, value_size, on_stack, replacing, storing, constant_effect, load_demands, load_effect, or_null, store_demands, store_effect, increment_demands, increment_effect, move_demands, move_effect, arithmetic_demands, arithmetic_effect, element, array_read_demands, array_read_effect, array_write_demands, array_write_effect, branch_demands, branch_effect, field_read_demands, field_read_effect, field_write_demands, field_write_effect, cells_wanted, call_demands, call_effect, ready_with, result_given, args_at, result_at, make_demands, make_effect, type_test_effect, type_named, array_wanted, a_reference, read_demands, read_effect, write_demands, write_effect, method_demands, method_effect, return_demands, return_effect, local_of, copied_of, under_of, demands, effect}
+use Rattle.jc_rules.specs.Flow.{IsNotFresh}
+use Rattle.jc_rules.specs.Laws.{IsNotBottom}
+use Rattle.jc_rules.proofs.Falls.{plain_class, some-or}
+use Rattle.jc_rules.proofs.Demands.{AllHold-front, AllHold-rest, AllHold-append}
+
+-- ---- the number of cells
+
+module _ (taken : ℕ) (s : List Ty) where
+  private_length : (xs : List Ty) → length (xs ++ drop taken s) ≡ length s - taken + length xs
+  private_length xs = simp (length-append, length-drop) (omega arith)
+
+pub length-changed : (c : Change) (s : List Ty) → needed c ≤ length s → length (changed c s) ≡ depth_after c (length s)
+length-changed (Replace taken cells) s h = private_length taken s (listed cells)
+length-changed (CopyUnder copied under) s h = simp (length-append, length-take, length-drop) (omega arith)
+length-changed (Exchange top under) s h = simp (length-append, length-take, length-drop) (omega arith)
+length-changed (MakeReady taken place class cells) s h = simp (length-append, length-map, length-drop) (omega arith)
+
+-- ---- what is known of what is given
+
+-- what goes on the stack names classes alone, and is not Bottom
+abbrev pub CellsKnown : ClassTable → Cells → Type 0
+CellsKnown t given.Nothing = ⊤
+CellsKnown t (given.One ty) = IsKnown t ty × IsNotBottom ty
+CellsKnown t given.Int = ⊤
+
+-- what goes into a register names classes alone, and is no uninitialised object
+abbrev pub CellsKept : ClassTable → Cells → Type 0
+CellsKept t given.Nothing = ⊤
+CellsKept t (given.One ty) = IsKnown t ty × IsNotFresh ty
+CellsKept t given.Int = ⊤
+
+abbrev pub ChangeKnown : ClassTable → Change → Type 0
+ChangeKnown t (Replace taken cells) = CellsKnown t cells
+ChangeKnown t (CopyUnder copied under) = ⊤
+ChangeKnown t (Exchange top under) = ⊤
+ChangeKnown t (MakeReady taken place class cells) = IsClass t class × CellsKnown t cells
+
+pub cells-known : (t : ClassTable) (cells : Cells) → CellsKnown t cells → All (IsKnown t) (listed cells)
+cells-known t given.Nothing h k d lt = absurd (omega arith)
+cells-known t (given.One ty) h zero d lt = h.0
+cells-known t (given.One ty) h (suc k) d lt = absurd (omega arith)
+cells-known t given.Int h zero d lt = tt
+cells-known t given.Int h (suc zero) d lt = tt
+cells-known t given.Int h (suc (suc k)) d lt = absurd (omega arith)
+
+pub cells-kept : (t : ClassTable) (cells : Cells) → CellsKept t cells → All (IsKnown t) (listed cells)
+cells-kept t given.Nothing h k d lt = absurd (omega arith)
+cells-kept t (given.One ty) h zero d lt = h.0
+cells-kept t (given.One ty) h (suc k) d lt = absurd (omega arith)
+cells-kept t given.Int h zero d lt = tt
+cells-kept t given.Int h (suc zero) d lt = tt
+cells-kept t given.Int h (suc (suc k)) d lt = absurd (omega arith)
+
+ready-known : (t : ClassTable) (place class : ℕ) (ty : Ty) → IsClass t class → IsKnown t ty → IsKnown t (ready place class ty)
+ready-known t place class (Fresh p c) h k = elim (p == place) as (λ b. IsKnown t (cond b (Class class) (Fresh p c))) [ true ↦ h | false ↦ k ]
+ready-known t place class Bottom h k = k
+ready-known t place class Short h k = k
+ready-known t place class IntHigh h k = k
+ready-known t place class IntLow h k = k
+ready-known t place class Null h k = k
+ready-known t place class (Class c) h k = k
+ready-known t place class ArrBool h k = k
+ready-known t place class ArrByte h k = k
+ready-known t place class ArrShort h k = k
+ready-known t place class ArrInt h k = k
+ready-known t place class (ArrRef c) h k = k
+ready-known t place class Top h k = k
+
+pub changed-known : (t : ClassTable) (c : Change) (s : List Ty) → ChangeKnown t c → All (IsKnown t) s → All (IsKnown t) (changed c s)
+changed-known t (Replace taken cells) s k all = All-append (IsKnown t) (listed cells) (drop taken s) (cells-known t cells k) (All-drop (IsKnown t) taken s all)
+changed-known t (CopyUnder copied under) s k all =
+    All-append (IsKnown t) (take under s) (take copied s ++ drop under s) (All-take (IsKnown t) under s all)
+    (All-append (IsKnown t) (take copied s) (drop under s) (All-take (IsKnown t) copied s all) (All-drop (IsKnown t) under s all))
+changed-known t (Exchange top under) s k all =
+    All-append (IsKnown t) (take under (drop top s)) (take top s ++ drop (top + under) s) (All-take (IsKnown t) under (drop top s) (All-drop (IsKnown t) top s all))
+    (All-append (IsKnown t) (take top s) (drop (top + under) s) (All-take (IsKnown t) top s all) (All-drop (IsKnown t) (top + under) s all))
+changed-known t (MakeReady taken place class cells) s k all =
+    All-append (IsKnown t) (listed cells) (map (ready place class) (drop taken s)) (cells-known t cells k.1)
+    (All-map (IsKnown t) (ready place class) (drop taken s)
+    (λ i d lt. ready-known t place class (get_or (drop taken s) i d) k.0 (All-drop (IsKnown t) taken s all i d lt)))
+
+ready-full : (place class : ℕ) (ty : Ty) → IsNotBottom ty → IsNotBottom (ready place class ty)
+ready-full place class (Fresh p c) h = elim (p == place) as (λ b. IsNotBottom (cond b (Class class) (Fresh p c))) [ true ↦ tt | false ↦ tt ]
+ready-full place class Bottom h = h
+ready-full place class Short h = h
+ready-full place class IntHigh h = h
+ready-full place class IntLow h = h
+ready-full place class Null h = h
+ready-full place class (Class c) h = h
+ready-full place class ArrBool h = h
+ready-full place class ArrByte h = h
+ready-full place class ArrShort h = h
+ready-full place class ArrInt h = h
+ready-full place class (ArrRef c) h = h
+ready-full place class Top h = h
+
+cells-full : (t : ClassTable) (cells : Cells) → CellsKnown t cells → All IsNotBottom (listed cells)
+cells-full t given.Nothing h k d lt = absurd (omega arith)
+cells-full t (given.One ty) h zero d lt = h.1
+cells-full t (given.One ty) h (suc k) d lt = absurd (omega arith)
+cells-full t given.Int h zero d lt = tt
+cells-full t given.Int h (suc zero) d lt = tt
+cells-full t given.Int h (suc (suc k)) d lt = absurd (omega arith)
+
+pub changed-full : (t : ClassTable) (c : Change) (s : List Ty) → ChangeKnown t c → All IsNotBottom s → All IsNotBottom (changed c s)
+changed-full t (Replace taken cells) s k all = All-append IsNotBottom (listed cells) (drop taken s) (cells-full t cells k) (All-drop IsNotBottom taken s all)
+changed-full t (CopyUnder copied under) s k all =
+    All-append IsNotBottom (take under s) (take copied s ++ drop under s) (All-take IsNotBottom under s all)
+    (All-append IsNotBottom (take copied s) (drop under s) (All-take IsNotBottom copied s all) (All-drop IsNotBottom under s all))
+changed-full t (Exchange top under) s k all =
+    All-append IsNotBottom (take under (drop top s)) (take top s ++ drop (top + under) s) (All-take IsNotBottom under (drop top s) (All-drop IsNotBottom top s all))
+    (All-append IsNotBottom (take top s) (drop (top + under) s) (All-take IsNotBottom top s all) (All-drop IsNotBottom (top + under) s all))
+changed-full t (MakeReady taken place class cells) s k all =
+    All-append IsNotBottom (listed cells) (map (ready place class) (drop taken s)) (cells-full t cells k.1)
+    (All-map IsNotBottom (ready place class) (drop taken s)
+    (λ i d lt. ready-full place class (get_or (drop taken s) i d) (All-drop IsNotBottom taken s all i d lt)))
+
+-- ---- an effect that suits a frame
+
+pub record Suits (t : ClassTable) (f : Frame) (e : Effect) : Type 0 where
+  pub there : needed e.change ≤ length f.stack
+  pub inside : e.store.register + length (listed e.store.cells) ≤ length f.regs
+  pub stored : CellsKept t e.store.cells
+  pub change : ChangeKnown t e.change
+
+cell_there_at : (xs : List Ty) (n : ℕ) (P : Ty → Type 0) (o : Option Ty) → slice_get xs n ≡ o → IsSomeAnd o P → n + 1 ≤ length xs
+cell_there_at xs n P None e h = absurd h
+cell_there_at xs n P (Some ty) e h = let lt : n < length xs = slice_get-below xs n ty e in omega arith
+
+module _ (t : ClassTable) (f : Frame) where
+  pub cell-there : (xs : List Ty) (n : ℕ) (P : Ty → Type 0) → IsSomeAnd (slice_get xs n) P → n + 1 ≤ length xs
+  cell-there xs n P h = cell_there_at xs n P (slice_get xs n) refl h
+
+  pub suits-replacing : (taken : ℕ) (cells : Cells) → taken ≤ length f.stack → CellsKnown t cells → Suits t f (replacing taken cells)
+  suits-replacing taken cells h k = record { there = h; inside = omega arith; stored = tt; change = k }
+
+  pub suits-storing : (taken x : ℕ) (cells : Cells) → taken ≤ length f.stack → x + length (listed cells) ≤ length f.regs → CellsKept t cells → Suits t f (storing taken x cells)
+  suits-storing taken x cells h g k = record { there = h; inside = g; stored = k; change = tt }
+
+  pub suits-on_stack : (c : Change) → needed c ≤ length f.stack → ChangeKnown t c → Suits t f (on_stack c)
+  suits-on_stack c h k = record { there = h; inside = omega arith; stored = tt; change = k }
+
+  number-there : (w : Width) (n : ℕ) → AllHold t f (number w n) → n + size w ≤ length f.stack
+  number-there widths.Short n h = cell-there f.stack n (Meets t (Value Short)) h.0
+  number-there widths.Int n h = let two : n + 1 + 1 ≤ length f.stack = cell-there f.stack (n + 1) (Meets t (Value IntHigh)) h.1.0 in omega arith
+
+  two-there : (w : Width) → AllHold t f (two_numbers w) → size w + size w ≤ length f.stack
+  two-there widths.Short h = cell-there f.stack 1 (Meets t (Value Short)) h.1.0
+  two-there widths.Int h = cell-there f.stack 3 (Meets t (Value IntHigh)) h.1.1.1.0
+
+  number-known : (w : Width) → CellsKnown t (number_given w)
+  number-known widths.Short = (tt, tt)
+  number-known widths.Int = tt
+
+  length-number : (w : Width) → length (listed (number_given w)) ≡ size w
+  length-number widths.Short = refl
+  length-number widths.Int = refl
+
+  value-known : (ty : Ty) → IsKnown t ty × IsNotBottom ty → CellsKnown t (value_given ty)
+  value-known IntHigh k = tt
+  value-known Bottom k = k
+  value-known Short k = k
+  value-known IntLow k = k
+  value-known Null k = k
+  value-known (Class c) k = k
+  value-known ArrBool k = k
+  value-known ArrByte k = k
+  value-known ArrShort k = k
+  value-known ArrInt k = k
+  value-known (ArrRef c) k = k
+  value-known (Fresh p c) k = k
+  value-known Top k = k
+
+  module _ (rest : List Demand) where
+    value-there : (ty : Ty) → AllHold t f (value_wanted ty ++ rest) → value_size ty ≤ length f.stack
+    value-there IntHigh h = cell-there f.stack 1 (Meets t (Value IntHigh)) h.1.0
+    value-there Bottom h = cell-there f.stack 0 (Meets t (Value Bottom)) h.0
+    value-there Short h = cell-there f.stack 0 (Meets t (Value Short)) h.0
+    value-there IntLow h = cell-there f.stack 0 (Meets t (Value IntLow)) h.0
+    value-there Null h = cell-there f.stack 0 (Meets t (Value Null)) h.0
+    value-there (Class c) h = cell-there f.stack 0 (Meets t (Value (Class c))) h.0
+    value-there ArrBool h = cell-there f.stack 0 (Meets t (Value ArrBool)) h.0
+    value-there ArrByte h = cell-there f.stack 0 (Meets t (Value ArrByte)) h.0
+    value-there ArrShort h = cell-there f.stack 0 (Meets t (Value ArrShort)) h.0
+    value-there ArrInt h = cell-there f.stack 0 (Meets t (Value ArrInt)) h.0
+    value-there (ArrRef c) h = cell-there f.stack 0 (Meets t (Value (ArrRef c))) h.0
+    value-there (Fresh p c) h = cell-there f.stack 0 (Meets t (Value (Fresh p c))) h.0
+    value-there Top h = cell-there f.stack 0 (Meets t (Value Top)) h.0
+
+  or_null-known : (ty : Ty) → IsKnown t ty → IsKnown t (or_null ty)
+  or_null-known Bottom k = tt
+  or_null-known Short k = k
+  or_null-known IntHigh k = k
+  or_null-known IntLow k = k
+  or_null-known Null k = k
+  or_null-known (Class c) k = k
+  or_null-known ArrBool k = k
+  or_null-known ArrByte k = k
+  or_null-known ArrShort k = k
+  or_null-known ArrInt k = k
+  or_null-known (ArrRef c) k = k
+  or_null-known (Fresh p c) k = k
+  or_null-known Top k = k
+
+  or_null-full : (ty : Ty) → IsNotBottom (or_null ty)
+  or_null-full Bottom = tt
+  or_null-full Short = tt
+  or_null-full IntHigh = tt
+  or_null-full IntLow = tt
+  or_null-full Null = tt
+  or_null-full (Class c) = tt
+  or_null-full ArrBool = tt
+  or_null-full ArrByte = tt
+  or_null-full ArrShort = tt
+  or_null-full ArrInt = tt
+  or_null-full (ArrRef c) = tt
+  or_null-full (Fresh p c) = tt
+  or_null-full Top = tt
+
+  element-full : (ty : Ty) → IsNotBottom (element ty)
+  element-full (ArrRef c) = tt
+  element-full Bottom = tt
+  element-full Short = tt
+  element-full IntHigh = tt
+  element-full IntLow = tt
+  element-full Null = tt
+  element-full (Class c) = tt
+  element-full ArrBool = tt
+  element-full ArrByte = tt
+  element-full ArrShort = tt
+  element-full ArrInt = tt
+  element-full (Fresh p c) = tt
+  element-full Top = tt
+
+  element-known : (ty : Ty) → IsKnown t ty → IsKnown t (element ty)
+  element-known (ArrRef c) k = k
+  element-known Bottom k = tt
+  element-known Short k = tt
+  element-known IntHigh k = tt
+  element-known IntLow k = tt
+  element-known Null k = tt
+  element-known (Class c) k = tt
+  element-known ArrBool k = tt
+  element-known ArrByte k = tt
+  element-known ArrShort k = tt
+  element-known ArrInt k = tt
+  element-known (Fresh p c) k = tt
+  element-known Top k = tt
+
+  module _ (k : AreKnown t f) where
+    reg-known : (x : ℕ) → x < length f.regs → IsKnown t (reg f.regs x)
+    reg-known x lt = All-get_or (IsKnown t) f.regs x Top lt k.regs
+
+    cell-known : (n : ℕ) → n < length f.stack → IsKnown t (cell f.stack n)
+    cell-known n lt = All-get_or (IsKnown t) f.stack n Top lt k.stack
+
+    -- ---- values
+
+    suits-constant : (c : Constant) → Suits t f (constant_effect c)
+    suits-constant constants.Nothing = suits-replacing 0 given.Nothing (omega arith) tt
+    suits-constant constants.Null = suits-replacing 0 (given.One Null) (omega arith) (tt, tt)
+    suits-constant (constants.Short n) = suits-replacing 0 (given.One Short) (omega arith) (tt, tt)
+    suits-constant (constants.Int n) = suits-replacing 0 given.Int (omega arith) tt
+
+    suits-load : (s : Sort) (x : ℕ) → AllHold t f (load_demands t s x) → Suits t f (load_effect s x f)
+    suits-load sorts.Reference x h = let lt : x < length f.regs = omega (arith, h.0) in suits-replacing 0 (given.One (or_null (reg f.regs x))) (omega arith) (or_null-known (reg f.regs x) (reg-known x lt), or_null-full (reg f.regs x))
+    suits-load sorts.Short x h = suits-replacing 0 (given.One Short) (omega arith) (tt, tt)
+    suits-load sorts.Int x h = suits-replacing 0 given.Int (omega arith) tt
+
+    suits-store : (s : Sort) (x : ℕ) → AllHold t f (store_demands s x) → Suits t f (store_effect s x f)
+    suits-store sorts.Reference x h = let there : 0 + 1 ≤ length f.stack = cell-there f.stack 0 (Meets t Storable) h.1.0 in suits-storing 1 x (given.One (cell f.stack 0)) (omega arith) h.0 (cell-known 0 (omega arith), plain_class t (cell f.stack 0) (some-or (λ ty. Below t ty (Class (object t))) f.stack 0 h.1.0))
+    suits-store sorts.Short x h = suits-storing 1 x (given.One Short) (cell-there f.stack 0 (Meets t (Value Short)) h.1.0) h.0 (tt, tt)
+    suits-store sorts.Int x h = suits-storing 2 x given.Int (cell-there f.stack 1 (Meets t (Value IntHigh)) h.1.1.0) h.0 tt
+
+    suits-increment : (w : Width) (x : ℕ) → AllHold t f (increment_demands w x) → Suits t f (increment_effect w x)
+    suits-increment widths.Short x h = suits-storing 0 x (given.One Short) (omega arith) h.0 (tt, tt)
+    suits-increment widths.Int x h = suits-storing 0 x given.Int (omega arith) h.0 tt
+
+    suits-move : (m : Move) (p n : ℕ) → AllHold t f (move_demands m p n) → Suits t f (move_effect m p n)
+    suits-move moves.Pop p n h = suits-replacing 1 given.Nothing (cell-there f.stack 0 (Meets t Whole) h.0) tt
+    suits-move moves.PopTwo p n h = suits-replacing 2 given.Nothing h.0 tt
+    suits-move moves.Duplicate p n h = let there : 0 + 1 ≤ length f.stack = cell-there f.stack 0 (Meets t Whole) h.0 in suits-on_stack (CopyUnder 1 0) (omega arith) tt
+    suits-move moves.DuplicateTwo p n h = suits-on_stack (CopyUnder 2 0) (omega (arith, h.0)) tt
+    suits-move moves.CopyUnder p n h = suits-on_stack (CopyUnder p n) (omega (arith, h.0, h.1.1.0)) tt
+    suits-move moves.Exchange p n h = suits-on_stack (Exchange p n) h.1.1.0 tt
+
+    suits-arithmetic : (a : Arithmetic) → AllHold t f (arithmetic_demands a) → Suits t f (arithmetic_effect a)
+    suits-arithmetic (arithmetic.Binary o widths.Short) h = suits-replacing 2 (given.One Short) (two-there widths.Short h) (tt, tt)
+    suits-arithmetic (arithmetic.Binary o widths.Int) h = suits-replacing 4 given.Int (two-there widths.Int h) tt
+    suits-arithmetic (arithmetic.Negate w) h = let there : 0 + size w ≤ length f.stack = number-there w 0 h in suits-replacing (size w) (number_given w) (omega arith) (number-known w)
+    suits-arithmetic arithmetic.ShortToByte h = suits-replacing 1 (given.One Short) (number-there widths.Short 0 h) (tt, tt)
+    suits-arithmetic arithmetic.ShortToInt h = suits-replacing 1 given.Int (number-there widths.Short 0 h) tt
+    suits-arithmetic arithmetic.IntToByte h = suits-replacing 2 (given.One Short) (number-there widths.Int 0 h) (tt, tt)
+    suits-arithmetic arithmetic.IntToShort h = suits-replacing 2 (given.One Short) (number-there widths.Int 0 h) (tt, tt)
+    suits-arithmetic arithmetic.CompareInts h = suits-replacing 4 (given.One Short) (two-there widths.Int h) (tt, tt)
+
+    -- ---- objects
+
+    suits-array_read : (kind : Kind) → AllHold t f (array_read_demands t kind) → Suits t f (array_read_effect kind f)
+    suits-array_read kinds.Ref h = let there : 1 + 1 ≤ length f.stack = cell-there f.stack 1 (Meets t (array_wanted t kinds.Ref)) h.1.0 in suits-replacing 2 (given.One (element (cell f.stack 1))) there (element-known (cell f.stack 1) (cell-known 1 (omega arith)), element-full (cell f.stack 1))
+    suits-array_read kinds.Byte h = suits-replacing 2 (given.One Short) (cell-there f.stack 1 (Meets t (array_wanted t kinds.Byte)) h.1.0) (tt, tt)
+    suits-array_read kinds.Short h = suits-replacing 2 (given.One Short) (cell-there f.stack 1 (Meets t (array_wanted t kinds.Short)) h.1.0) (tt, tt)
+    suits-array_read kinds.Int h = suits-replacing 2 given.Int (cell-there f.stack 1 (Meets t (array_wanted t kinds.Int)) h.1.0) tt
+
+    suits-array_write : (kind : Kind) → AllHold t f (array_write_demands t kind) → Suits t f (array_write_effect kind)
+    suits-array_write kinds.Ref h = suits-replacing 3 given.Nothing (cell-there f.stack 2 (Meets t (array_wanted t kinds.Ref)) h.1.1.0) tt
+    suits-array_write kinds.Byte h = suits-replacing 3 given.Nothing (cell-there f.stack 2 (Meets t (array_wanted t kinds.Byte)) h.1.1.0) tt
+    suits-array_write kinds.Short h = suits-replacing 3 given.Nothing (cell-there f.stack 2 (Meets t (array_wanted t kinds.Short)) h.1.1.0) tt
+    suits-array_write kinds.Int h = suits-replacing 4 given.Nothing (cell-there f.stack 3 (Meets t (array_wanted t kinds.Int)) h.1.1.1.0) tt
+
+    suits-branch : (b : Branch) → AllHold t f (branch_demands t b) → Suits t f (branch_effect b)
+    suits-branch branches.Always h = suits-replacing 0 given.Nothing (omega arith) tt
+    suits-branch (branches.Zero o) h = suits-replacing 1 given.Nothing (number-there widths.Short 0 h) tt
+    suits-branch (branches.Null e) h = suits-replacing 1 given.Nothing (cell-there f.stack 0 (Meets t (a_reference t)) h.0) tt
+    suits-branch (branches.References e) h = suits-replacing 2 given.Nothing (cell-there f.stack 1 (Meets t (a_reference t)) h.1.0) tt
+    suits-branch (branches.Shorts o) h = suits-replacing 2 given.Nothing (two-there widths.Short h) tt
+
+    suits-read : (h : Holder) (c : ℕ) (ty : Ty) → IsKnown t ty × IsNotBottom ty → AllHold t f (field_read_demands h c) → Suits t f (field_read_effect h ty)
+    suits-read holders.Stack c ty known h = suits-replacing 1 (value_given ty) (cell-there f.stack 0 (Meets t (Value (Class c))) h.0) (value-known ty known)
+    suits-read holders.This c ty known h = suits-replacing 0 (value_given ty) (omega arith) (value-known ty known)
+
+    suits-write : (h : Holder) (c : ℕ) (ty : Ty) → AllHold t f (field_write_demands h c ty) → Suits t f (field_write_effect h ty)
+    suits-write holders.Stack c ty h = suits-replacing (value_size ty + 1) given.Nothing (cell-there f.stack (value_size ty) (Meets t (Value (Class c))) (AllHold-rest t f (value_wanted ty) (Cell (value_size ty) (Value (Class c)) ∷ []) h).0) tt
+    suits-write holders.This c ty h = suits-replacing (value_size ty) given.Nothing (value-there (Held 0 (Class c) ∷ []) ty h.1) tt
+
+    suits-make : (m : Make) (ty : Ty) → IsKnown t ty × IsNotBottom ty → AllHold t f (make_demands m) → Suits t f (make_effect m ty)
+    suits-make makes.Object ty known h = suits-replacing 0 (given.One ty) (omega arith) known
+    suits-make makes.Numbers ty known h = suits-replacing 1 (given.One ty) (cell-there f.stack 0 (Meets t (Value Short)) h.0) known
+    suits-make makes.References ty known h = suits-replacing 1 (given.One ty) (cell-there f.stack 0 (Meets t (Value Short)) h.0) known
+
+    suits-test : (test : TypeTest) (ty : Ty) → IsKnown t ty × IsNotBottom ty → 0 + 1 ≤ length f.stack → Suits t f (type_test_effect test ty)
+    suits-test tests.Cast ty known h = suits-replacing 1 (given.One ty) h known
+    suits-test tests.InstanceOf ty known h = suits-replacing 1 (given.One Short) h (tt, tt)
+
+    suits-popped : (ty : Ty) → AllHold t f (value_wanted ty) → Suits t f (replacing (value_size ty) given.Nothing)
+    suits-popped ty h = suits-replacing (value_size ty) given.Nothing (value-there [] ty (AllHold-append t f (value_wanted ty) [] h tt)) tt
+
+    -- ---- calls
+
+    cells-there : (n : ℕ) (tys : List Ty) → n ≤ length f.stack → AllHold t f (cells_wanted n tys) → n + length tys ≤ length f.stack
+    cells-there n [] le h = omega arith
+    cells-there n (ty ∷ tys) le h =
+        let more : (n + 1) + length tys ≤ length f.stack = cells-there (n + 1) tys (cell-there f.stack n (Meets t (Value ty)) h.0) h.1 in
+        omega arith
+
+    arguments-there : (args : List Ty) (ds : List Demand) → AllHold t f (cells_wanted 0 (reverse args) ++ ds) → length args ≤ length f.stack
+    arguments-there args ds h =
+        let there : 0 + length (reverse args) ≤ length f.stack = cells-there 0 (reverse args) (omega arith) (AllHold-front t f (cells_wanted 0 (reverse args)) ds h) in
+        omega (arith, length-reverse args)
+
+    result-known : (o : Option Ty) → IfSome o (λ ty. IsKnown t ty × IsNotBottom ty) → CellsKnown t (result_given o)
+    result-known None k = tt
+    result-known (Some ty) k = value-known ty k
+
+    suits-ready : (taken : ℕ) (cells : Cells) (found : Ty) (want : Want) → taken ≤ length f.stack → CellsKnown t cells → IsKnownWant t want → Suits t f (on_stack (ready_with taken cells found want))
+    suits-ready taken cells (Fresh p c) (Receiver d) le known w = suits-on_stack (MakeReady taken p d cells) le (w, known)
+    suits-ready taken cells (Fresh p c) (Value ty) le known w = suits-on_stack (Replace taken cells) le known
+    suits-ready taken cells (Fresh p c) Storable le known w = suits-on_stack (Replace taken cells) le known
+    suits-ready taken cells (Fresh p c) ByteArray le known w = suits-on_stack (Replace taken cells) le known
+    suits-ready taken cells (Fresh p c) AnyArray le known w = suits-on_stack (Replace taken cells) le known
+    suits-ready taken cells (Fresh p c) Whole le known w = suits-on_stack (Replace taken cells) le known
+    suits-ready taken cells Bottom want le known w = suits-on_stack (Replace taken cells) le known
+    suits-ready taken cells Short want le known w = suits-on_stack (Replace taken cells) le known
+    suits-ready taken cells IntHigh want le known w = suits-on_stack (Replace taken cells) le known
+    suits-ready taken cells IntLow want le known w = suits-on_stack (Replace taken cells) le known
+    suits-ready taken cells Null want le known w = suits-on_stack (Replace taken cells) le known
+    suits-ready taken cells (Class c) want le known w = suits-on_stack (Replace taken cells) le known
+    suits-ready taken cells ArrBool want le known w = suits-on_stack (Replace taken cells) le known
+    suits-ready taken cells ArrByte want le known w = suits-on_stack (Replace taken cells) le known
+    suits-ready taken cells ArrShort want le known w = suits-on_stack (Replace taken cells) le known
+    suits-ready taken cells ArrInt want le known w = suits-on_stack (Replace taken cells) le known
+    suits-ready taken cells (ArrRef c) want le known w = suits-on_stack (Replace taken cells) le known
+    suits-ready taken cells Top want le known w = suits-on_stack (Replace taken cells) le known
+
+    suits-call : (args : List Ty) (result : Option Ty) (receiver : Option Want) → IfSome result (λ ty. IsKnown t ty × IsNotBottom ty) → IfSome receiver (IsKnownWant t) → AllHold t f (call_demands args receiver) → Suits t f (call_effect args result receiver f)
+    suits-call args result None known w h = suits-on_stack (Replace (length args) (result_given result)) (arguments-there args [] h) (result-known result known)
+    suits-call args result (Some want) known w h =
+        suits-ready (length args + 1) (result_given result) (cell f.stack (length args)) want
+        (cell-there f.stack (length args) (Meets t want) (AllHold-rest t f (cells_wanted 0 (reverse args)) (Cell (length args) want ∷ []) h).0)
+        (result-known result known) w
+
+-- ---- the rule
+
+declared-full : (t : ClassTable) (ty : Ty) → IsDeclared t ty → IsKnown t ty × IsNotBottom ty
+declared-full t Bottom h = absurd h
+declared-full t Short h = (tt, tt)
+declared-full t IntHigh h = (tt, tt)
+declared-full t IntLow h = (tt, tt)
+declared-full t Null h = (tt, tt)
+declared-full t (Class c) h = (h, tt)
+declared-full t ArrBool h = (tt, tt)
+declared-full t ArrByte h = (tt, tt)
+declared-full t ArrShort h = (tt, tt)
+declared-full t ArrInt h = (tt, tt)
+declared-full t (ArrRef c) h = (h, tt)
+declared-full t (Fresh place c) h = absurd h
+declared-full t Top h = absurd h
+
+given-full : (t : ClassTable) (ty : Ty) → IsGiven t ty → IsKnown t ty × IsNotBottom ty
+given-full t Bottom h = absurd h
+given-full t Short h = (tt, tt)
+given-full t IntHigh h = (tt, tt)
+given-full t IntLow h = (tt, tt)
+given-full t Null h = absurd h
+given-full t (Class c) h = (h, tt)
+given-full t ArrBool h = (tt, tt)
+given-full t ArrByte h = (tt, tt)
+given-full t ArrShort h = (tt, tt)
+given-full t ArrInt h = (tt, tt)
+given-full t (ArrRef c) h = (h, tt)
+given-full t (Fresh place c) h = (h, tt)
+given-full t Top h = absurd h
+
+result-declared : (w : Linked) → IsWorld w → (o : Option MethodRec) → ((m : MethodRec) → o ≡ Some m → IfSome m.sig.result (λ ty. IsKnown w.classes ty × IsNotBottom ty)) → IfSome (result_at o) (λ ty. IsKnown w.classes ty × IsNotBottom ty)
+result-declared w is None h = tt
+result-declared w is (Some m) h = h m refl
+
+IfSome-full : (t : ClassTable) (o : Option Ty) → IfSome o (IsDeclared t) → IfSome o (λ ty. IsKnown t ty × IsNotBottom ty)
+IfSome-full t None h = tt
+IfSome-full t (Some ty) h = declared-full t ty h
+
+method-result : (w : Linked) → IsWorld w → (n : ℕ) → IfSome (result_at (slice_get w.methods n)) (λ ty. IsKnown w.classes ty × IsNotBottom ty)
+method-result w is n = result-declared w is (slice_get w.methods n) (λ m e. IfSome-full w.classes m.sig.result (All-slice_get (IsMethod w.infos w.pools w.classes) w.methods n m is.methods e).result)
+
+type-known : (w : Linked) (n : Named) → IsSound w n → IsKnown w.classes (type_named n) × IsNotBottom (type_named n)
+type-known w names.Nothing h = (tt, tt)
+type-known w (names.Type ty) h = given-full w.classes ty h
+type-known w (names.Field c ty) h = (tt, tt)
+type-known w (names.Method k receiver) h = (tt, tt)
+
+module _ (w : Linked) (is : IsWorld w) (f : Frame) (k : AreKnown w.classes f) where
+  suits-nothing : Suits w.classes f (replacing 0 given.Nothing)
+  suits-nothing = suits-replacing w.classes f 0 given.Nothing (omega arith) tt
+
+  suits-named_read : (h : Holder) (n : Named) → IsSound w n → AllHold w.classes f (read_demands h n) → Suits w.classes f (read_effect h n)
+  suits-named_read h (names.Field c ty) known all = suits-read w.classes f k h c ty (declared-full w.classes ty known.1) all
+  suits-named_read h names.Nothing known all = suits-nothing
+  suits-named_read h (names.Type ty) known all = suits-nothing
+  suits-named_read h (names.Method m receiver) known all = suits-nothing
+
+  suits-named_write : (h : Holder) (n : Named) → AllHold w.classes f (write_demands h n) → Suits w.classes f (write_effect h n)
+  suits-named_write h (names.Field c ty) all = suits-write w.classes f k h c ty all
+  suits-named_write h names.Nothing all = suits-nothing
+  suits-named_write h (names.Type ty) all = suits-nothing
+  suits-named_write h (names.Method m receiver) all = suits-nothing
+
+  suits-method : (n : Named) → IsSound w n → AllHold w.classes f (method_demands w n) → Suits w.classes f (method_effect w n f)
+  suits-method (names.Method m receiver) known all = suits-call w.classes f k (args_at (slice_get w.methods m)) (result_at (slice_get w.methods m)) receiver (method-result w is m) known all
+  suits-method names.Nothing known all = suits-nothing
+  suits-method (names.Type ty) known all = suits-nothing
+  suits-method (names.Field c ty) known all = suits-nothing
+
+  suits-return : (n : Named) → AllHold w.classes f (return_demands n) → Suits w.classes f (return_effect n)
+  suits-return (names.Type ty) all = suits-popped w.classes f k ty all
+  suits-return names.Nothing all = suits-nothing
+  suits-return (names.Field c ty) all = suits-nothing
+  suits-return (names.Method m receiver) all = suits-nothing
+
+  -- where what an instruction asks is met, what it does suits the frame
+  pub suits : (i : Insn) (n : Named) (row : Row) → IsSound w n → AllHold w.classes f (demands w i n row) → Suits w.classes f (effect w i n row f)
+  suits i n (rows.Constant c) known all = suits-constant w.classes f k c
+  suits i n (rows.Load s l) known all = suits-load w.classes f k s (local_of i l) all
+  suits i n (rows.Store s l) known all = suits-store w.classes f k s (local_of i l) all
+  suits i n (rows.Increment width) known all = suits-increment w.classes f k width (byte_of i.x) all
+  suits i n (rows.Move m) known all = suits-move w.classes f k m (copied_of i) (under_of i) all
+  suits i n (rows.Arithmetic a) known all = suits-arithmetic w.classes f k a all
+  suits i n (rows.ArrayRead kind) known all = suits-array_read w.classes f k kind all
+  suits i n (rows.ArrayWrite kind) known all = suits-array_write w.classes f k kind all
+  suits i n rows.ArrayLength known all = suits-replacing w.classes f 1 (given.One Short) (cell-there w.classes f f.stack 0 (Meets w.classes AnyArray) all.0) (tt, tt)
+  suits i n (rows.Branch b) known all = suits-branch w.classes f k b all
+  suits i n (rows.Switch width) known all = let there : 0 + size width ≤ length f.stack = number-there w.classes f width 0 all in suits-replacing w.classes f (size width) given.Nothing (omega arith) tt
+  suits i n (rows.StaticRead kind) known all = suits-replacing w.classes f 0 (value_given (type_named n)) (omega arith) (value-known w.classes f (type_named n) (type-known w n known))
+  suits i n (rows.StaticWrite kind) known all = suits-popped w.classes f k (type_named n) all
+  suits i n (rows.FieldRead kind h) known all = suits-named_read h n known all
+  suits i n (rows.FieldWrite kind h) known all = suits-named_write h n all
+  suits i n (rows.Call c) known all = suits-method n known all
+  suits i n (rows.Make m) known all = suits-make w.classes f k m (type_named n) (type-known w n known) all
+  suits i n rows.Throw known all = suits-replacing w.classes f 1 given.Nothing (cell-there w.classes f f.stack 0 (Meets w.classes (Value (Class (throwable w.classes)))) all.0) tt
+  suits i n (rows.TypeTest test) known all = suits-test w.classes f k test (type_named n) (type-known w n known) (cell-there w.classes f f.stack 0 (Meets w.classes (a_reference w.classes)) all.0)
+  suits i n (rows.Return s) known all = suits-return n all
+  suits i n rows.Reserved known all = suits-nothing

@@ -1,0 +1,791 @@
+-- The rule is monotone in the dataflow.
+use Rattle.std.proofs.Common.{◌≡◌, ℕ, zero, suc, ◌+◌, ◌-◌, ◌≤◌, true, false, inl, inr, List, [], ◌∷◌, ◌++◌, length, take, drop, map, reverse, get_or, set, Option, Some, None, IsSomeAnd, IfSome, slice_get, All, refl, sym, ◌∙◌, ap, subst, arith}
+use Rattle.std.specs.Bool.{⊤}
+use Rattle.jc_base.specs.declared.ty.Ty.{Ty}
+use Rattle.jc_base.specs.declared.ty.Ty.TheVariants.{Bottom, Short, IntHigh, IntLow, Null, Class, ArrBool, ArrByte, ArrShort, ArrInt, ArrRef, Fresh, Top}
+use Rattle.jc_base.specs.declared.ty.Kind.{Kind}
+use Rattle.jc_base.specs.declared.ty.Kind.TheVariants as kinds
+use Rattle.jc_base.specs.Class.{ClassTable, AreClasses, object}
+use Rattle.jc_base.specs.Order.{Below, same, joined, nothing, anything, null_object, null_array, subclass, array_object, array_array, of_booleans, of_bytes, of_shorts, of_ints, of_references, is_below}
+use Rattle.jc_base.proofs.Subtypes.{is_below-from_Below, Below-from_is_below}
+use Rattle.jc_base.specs.World.{Linked}
+use Rattle.jc_decode.specs.declared.insn.Insn.{Insn}
+use Rattle.jc_rows.specs.declared.row.Sort.{Sort}
+use Rattle.jc_rows.specs.declared.row.Sort.TheVariants as sorts
+use Rattle.jc_rows.specs.declared.row.Row.{Row}
+use Rattle.jc_rows.specs.declared.row.Row.TheVariants as rows
+use Rattle.jc_rows.specs.declared.want.Want.{Want}
+use Rattle.jc_rows.specs.declared.want.Want.TheVariants.{Value, Storable, ByteArray, AnyArray, Whole, Receiver}
+use Rattle.jc_rows.specs.declared.named.Named.{Named}
+use Rattle.jc_rows.specs.declared.named.Named.TheVariants as names
+use Rattle.jc_rows.specs.Row.{row_at}
+use Rattle.jc_rules.specs.declared.demand.Demand.{Demand}
+use Rattle.jc_rules.specs.declared.demand.Demand.TheVariants.{Registers, Depth, Cell, Cut, Held}
+use Rattle.jc_rules.specs.declared.effect.Cells.{Cells}
+use Rattle.jc_rules.specs.declared.effect.Cells.TheVariants as given
+use Rattle.jc_rules.specs.declared.effect.Change.{Change}
+use Rattle.jc_rules.specs.declared.effect.Change.TheVariants.{Replace, CopyUnder, Exchange, MakeReady}
+use Rattle.jc_rules.specs.declared.effect.Effect.{Effect}
+use Rattle.jc_rules.specs.declared.effect.Mode.TheVariants.{Flow}
+use Rattle.jc_rules.specs.Effect.{listed, ready, changed, stored, reg}
+use Rattle.jc_rules.specs.Demand.{Frame, IsArrayOrNull, IsHalf, IsFreshOf, Meets, Holds, AllHold}
+use Rattle.jc_rules.specs.Rule.{cell, or_null, element, ready_with, call_demands, call_effect, cells_wanted, args_at, result_at, result_given, local_of, load_demands, load_effect, store_effect, array_read_demands, array_read_effect, method_demands, method_effect, falls_from, ends_at, wrote, demands, effect}
+use Rattle.jc_rules.specs.Flow.{CellsBelow, no_cells, more_cells, IsNotTop, IsNotFresh}
+use Rattle.jc_rules.specs.Laws.{IsNotBottom, RuleFalls}
+use Rattle.jc_rules.proofs.Demands.{AllHold-rest}
+
+-- ---- what lies below and above
+
+-- IntLow and what is above it, IntHigh and what is above it
+LowUp : Ty → Type 0
+LowUp IntLow = ⊤
+LowUp Top = ⊤
+LowUp _ = ⊥
+
+HighUp : Ty → Type 0
+HighUp IntHigh = ⊤
+HighUp Top = ⊤
+HighUp _ = ⊥
+
+-- what is below an uninitialised object
+FreshDown : ℕ → ℕ → Ty → Type 0
+FreshDown p c Bottom = ⊤
+FreshDown p c (Fresh q d) = (q ≡ p) × (d ≡ c)
+FreshDown p c _ = ⊥
+
+-- what is above an uninitialised object
+FreshUp : ℕ → ℕ → Ty → Type 0
+FreshUp p c Top = ⊤
+FreshUp p c (Fresh q d) = (q ≡ p) × (d ≡ c)
+FreshUp p c _ = ⊥
+
+-- Bottom and Null
+IsNullDown : Ty → Type 0
+IsNullDown Bottom = ⊤
+IsNullDown Null = ⊤
+IsNullDown _ = ⊥
+
+-- what is below class object
+ReferenceDown : Ty → Type 0
+ReferenceDown Bottom = ⊤
+ReferenceDown Null = ⊤
+ReferenceDown (Class c) = ⊤
+ReferenceDown ArrBool = ⊤
+ReferenceDown ArrByte = ⊤
+ReferenceDown ArrShort = ⊤
+ReferenceDown ArrInt = ⊤
+ReferenceDown (ArrRef c) = ⊤
+ReferenceDown _ = ⊥
+
+-- what is below an array of references
+ReferencesDown : Ty → Type 0
+ReferencesDown Bottom = ⊤
+ReferencesDown Null = ⊤
+ReferencesDown (ArrRef c) = ⊤
+ReferencesDown _ = ⊥
+
+module _ (t : ClassTable) where
+  low-up : {a b : Ty} → Below t a b → LowUp a → LowUp b
+  unfolding LowUp
+  low-up same h = h
+  low-up (joined p q) h = low-up q (low-up p h)
+  low-up nothing h = absurd h
+  low-up anything h = tt
+  low-up null_object h = absurd h
+  low-up (null_array i) h = absurd h
+  low-up (subclass e) h = absurd h
+  low-up (array_object of_booleans e) h = absurd h
+  low-up (array_object of_bytes e) h = absurd h
+  low-up (array_object of_shorts e) h = absurd h
+  low-up (array_object of_ints e) h = absurd h
+  low-up (array_object of_references e) h = absurd h
+  low-up (array_array p) h = absurd h
+
+  high-up : {a b : Ty} → Below t a b → HighUp a → HighUp b
+  unfolding HighUp
+  high-up same h = h
+  high-up (joined p q) h = high-up q (high-up p h)
+  high-up nothing h = absurd h
+  high-up anything h = tt
+  high-up null_object h = absurd h
+  high-up (null_array i) h = absurd h
+  high-up (subclass e) h = absurd h
+  high-up (array_object of_booleans e) h = absurd h
+  high-up (array_object of_bytes e) h = absurd h
+  high-up (array_object of_shorts e) h = absurd h
+  high-up (array_object of_ints e) h = absurd h
+  high-up (array_object of_references e) h = absurd h
+  high-up (array_array p) h = absurd h
+
+  fresh-down : (p c : ℕ) {a b : Ty} → Below t a b → FreshDown p c b → FreshDown p c a
+  unfolding FreshDown
+  fresh-down p c same h = h
+  fresh-down p c (joined x y) h = fresh-down p c x (fresh-down p c y h)
+  fresh-down p c nothing h = tt
+  fresh-down p c anything h = absurd h
+  fresh-down p c null_object h = absurd h
+  fresh-down p c (null_array of_booleans) h = absurd h
+  fresh-down p c (null_array of_bytes) h = absurd h
+  fresh-down p c (null_array of_shorts) h = absurd h
+  fresh-down p c (null_array of_ints) h = absurd h
+  fresh-down p c (null_array of_references) h = absurd h
+  fresh-down p c (subclass e) h = absurd h
+  fresh-down p c (array_object i e) h = absurd h
+  fresh-down p c (array_array x) h = absurd h
+
+  fresh-up : (p c : ℕ) {a b : Ty} → Below t a b → FreshUp p c a → FreshUp p c b
+  unfolding FreshUp
+  fresh-up p c same h = h
+  fresh-up p c (joined x y) h = fresh-up p c y (fresh-up p c x h)
+  fresh-up p c nothing h = absurd h
+  fresh-up p c anything h = tt
+  fresh-up p c null_object h = absurd h
+  fresh-up p c (null_array i) h = absurd h
+  fresh-up p c (subclass e) h = absurd h
+  fresh-up p c (array_object of_booleans e) h = absurd h
+  fresh-up p c (array_object of_bytes e) h = absurd h
+  fresh-up p c (array_object of_shorts e) h = absurd h
+  fresh-up p c (array_object of_ints e) h = absurd h
+  fresh-up p c (array_object of_references e) h = absurd h
+  fresh-up p c (array_array x) h = absurd h
+
+  reference-down : {a b : Ty} → Below t a b → ReferenceDown b → ReferenceDown a
+  unfolding ReferenceDown
+  reference-down same h = h
+  reference-down (joined x y) h = reference-down x (reference-down y h)
+  reference-down nothing h = tt
+  reference-down anything h = absurd h
+  reference-down null_object h = tt
+  reference-down (null_array i) h = tt
+  reference-down (subclass e) h = tt
+  reference-down (array_object of_booleans e) h = tt
+  reference-down (array_object of_bytes e) h = tt
+  reference-down (array_object of_shorts e) h = tt
+  reference-down (array_object of_ints e) h = tt
+  reference-down (array_object of_references e) h = tt
+  reference-down (array_array x) h = tt
+
+  references-down : {a b : Ty} → Below t a b → ReferencesDown b → ReferencesDown a
+  unfolding ReferencesDown
+  references-down same h = h
+  references-down (joined x y) h = references-down x (references-down y h)
+  references-down nothing h = tt
+  references-down anything h = absurd h
+  references-down null_object h = absurd h
+  references-down (null_array i) h = tt
+  references-down (subclass e) h = absurd h
+  references-down (array_object i e) h = absurd h
+  references-down (array_array x) h = tt
+
+  array-down : {a b : Ty} → Below t a b → IsArrayOrNull b → IsArrayOrNull a
+  array-down same h = h
+  array-down (joined x y) h = array-down x (array-down y h)
+  array-down nothing h = tt
+  array-down anything h = absurd h
+  array-down null_object h = tt
+  array-down (null_array i) h = tt
+  array-down (subclass e) h = absurd h
+  array-down (array_object i e) h = absurd h
+  array-down (array_array x) h = tt
+
+low_is : (b : Ty) → LowUp b → IsNotTop b → b ≡ IntLow
+unfolding LowUp
+low_is IntLow h n = refl
+low_is Top h n = absurd n
+low_is _ h n = absurd h
+
+high_is : (b : Ty) → HighUp b → IsNotTop b → b ≡ IntHigh
+unfolding HighUp
+high_is IntHigh h n = refl
+high_is Top h n = absurd n
+high_is _ h n = absurd h
+
+plain_with : (taken : ℕ) (cells : Cells) (want : Want) (a : Ty) → IsNotFresh a → ready_with taken cells a want ≡ Replace taken cells
+unfolding IsNullDown
+plain_with taken cells want (Fresh p c) h = absurd h
+plain_with taken cells want Bottom h = refl
+plain_with taken cells want Short h = refl
+plain_with taken cells want IntHigh h = refl
+plain_with taken cells want IntLow h = refl
+plain_with taken cells want Null h = refl
+plain_with taken cells want (Class c) h = refl
+plain_with taken cells want ArrBool h = refl
+plain_with taken cells want ArrByte h = refl
+plain_with taken cells want ArrShort h = refl
+plain_with taken cells want ArrInt h = refl
+plain_with taken cells want (ArrRef c) h = refl
+plain_with taken cells want Top h = refl
+
+plain_both : (taken : ℕ) (cells : Cells) (c : ℕ) (a b : Ty) → IsNotFresh a → IsNotFresh b → ready_with taken cells a (Receiver c) ≡ ready_with taken cells b (Receiver c)
+plain_both taken cells c a b h k = plain_with taken cells (Receiver c) a h ∙ sym (plain_with taken cells (Receiver c) b k)
+
+NotReceiver : Want → Type 0
+NotReceiver (Receiver c) = ⊥
+NotReceiver _ = ⊤
+
+replaced : (taken : ℕ) (cells : Cells) (want : Want) (a : Ty) → NotReceiver want → ready_with taken cells a want ≡ Replace taken cells
+unfolding NotReceiver
+replaced taken cells (Receiver c) a h = absurd h
+replaced taken cells (Value ty) (Fresh p c) h = refl
+replaced taken cells Storable (Fresh p c) h = refl
+replaced taken cells ByteArray (Fresh p c) h = refl
+replaced taken cells AnyArray (Fresh p c) h = refl
+replaced taken cells Whole (Fresh p c) h = refl
+replaced taken cells want Bottom h = refl
+replaced taken cells want Short h = refl
+replaced taken cells want IntHigh h = refl
+replaced taken cells want IntLow h = refl
+replaced taken cells want Null h = refl
+replaced taken cells want (Class c) h = refl
+replaced taken cells want ArrBool h = refl
+replaced taken cells want ArrByte h = refl
+replaced taken cells want ArrShort h = refl
+replaced taken cells want ArrInt h = refl
+replaced taken cells want (ArrRef c) h = refl
+replaced taken cells want Top h = refl
+
+not_receiver : (taken : ℕ) (cells : Cells) (want : Want) (a b : Ty) → NotReceiver want → ready_with taken cells a want ≡ ready_with taken cells b want
+not_receiver taken cells want a b h = replaced taken cells want a h ∙ sym (replaced taken cells want b h)
+
+plain_under : (q d : ℕ) (a : Ty) → IsNotFresh a → FreshDown q d a → a ≡ Bottom
+unfolding FreshDown
+plain_under q d Bottom h k = refl
+plain_under q d (Fresh p c) h k = absurd h
+plain_under q d _ h k = absurd k
+
+module _ (t : ClassTable) where
+  low_above : {b : Ty} → Below t IntLow b → IsNotTop b → b ≡ IntLow
+  unfolding LowUp
+  low_above {b = b} p n = low_is b (low-up t p tt) n
+
+  high_above : {b : Ty} → Below t IntHigh b → IsNotTop b → b ≡ IntHigh
+  unfolding HighUp
+  high_above {b = b} p n = high_is b (high-up t p tt) n
+
+  half-up : (a : Ty) {b : Ty} → Below t a b → IsNotTop b → IsHalf a → IsHalf b
+  half-up IntHigh p n h = subst IsHalf (sym (high_above p n)) tt
+  half-up IntLow p n h = subst IsHalf (sym (low_above p n)) tt
+  half-up _ p n h = absurd h
+
+  fresh_at : (p c : ℕ) (a : Ty) → FreshDown p c a → IsNotBottom a → a ≡ Fresh p c
+  unfolding FreshDown
+  fresh_at p c Bottom h n = absurd n
+  fresh_at p c (Fresh q d) h n = cc
+  fresh_at p c _ h n = absurd h
+
+  fresh_below : (p c : ℕ) {a : Ty} → Below t a (Fresh p c) → IsNotBottom a → a ≡ Fresh p c
+  unfolding FreshDown
+  fresh_below p c {a = a} x n = fresh_at p c a (fresh-down t p c x (refl, refl)) n
+
+  receiver-falls : (c : ℕ) (a b : Ty) → Below t a b → IsNotBottom a → IsFreshOf c b → IsFreshOf c a
+  receiver-falls c a (Fresh p d) x n h = subst (IsFreshOf c) (sym (fresh_below p d x n)) h
+  receiver-falls c a _ x n h = absurd h
+
+  meets-falls : (want : Want) (a b : Ty) → Below t a b → IsNotBottom a → IsNotTop b → Meets t want b → Meets t want a
+  meets-falls (Value ty) a b p nb nt h = joined p h
+  meets-falls Storable a b p nb nt h = joined p h
+  meets-falls ByteArray a b p nb nt (inl h) = inl (joined p h)
+  meets-falls ByteArray a b p nb nt (inr h) = inr (joined p h)
+  meets-falls AnyArray a b p nb nt h = array-down t p h
+  meets-falls Whole a b p nb nt h = λ half. h (half-up a p nt half)
+  meets-falls (Receiver c) a b p nb nt (inl h) = inl (receiver-falls c a b p nb h)
+  meets-falls (Receiver c) a b p nb nt (inr h) = inr (joined p h)
+
+  pub plain_class : {d : ℕ} (a : Ty) → Below t a (Class d) → IsNotFresh a
+  unfolding ReferenceDown
+  plain_class (Fresh p c) x = reference-down t x tt
+  plain_class Bottom x = tt
+  plain_class Short x = tt
+  plain_class IntHigh x = tt
+  plain_class IntLow x = tt
+  plain_class Null x = tt
+  plain_class (Class c) x = tt
+  plain_class ArrBool x = tt
+  plain_class ArrByte x = tt
+  plain_class ArrShort x = tt
+  plain_class ArrInt x = tt
+  plain_class (ArrRef c) x = tt
+  plain_class Top x = tt
+
+  -- below an uninitialised object is nothing else but Bottom
+  pub fresh_is_bottom : (p c : ℕ) (a : Ty) → IsNotFresh a → Below t a (Fresh p c) → a ≡ Bottom
+  unfolding FreshDown
+  fresh_is_bottom p c a n x = plain_under p c a n (fresh-down t p c x (refl, refl))
+
+  pub fresh_not_below_bottom : (p c : ℕ) → Below t (Fresh p c) Bottom → ⊥
+  unfolding FreshUp
+  fresh_not_below_bottom p c x = fresh-up t p c x (refl, refl)
+
+-- ---- lists of cells
+
+-- each element, by recursion
+Each : (Ty → Type 0) → List Ty → Type 0
+Each P [] = ⊤
+Each P (x ∷ xs) = P x × Each P xs
+
+each-from_All : (P : Ty → Type 0) (xs : List Ty) → All P xs → Each P xs
+unfolding Each
+each-from_All P [] h = tt
+each-from_All P (x ∷ xs) h = (h 0 x (omega arith), each-from_All P xs (λ k d lt. h (suc k) d (omega arith)))
+
+each-at : (P : Ty → Type 0) (xs : List Ty) (n : ℕ) → Each P xs → IfSome (slice_get xs n) P
+unfolding Each
+each-at P [] n h = tt
+each-at P (x ∷ xs) zero h = h.0
+each-at P (x ∷ xs) (suc n) h = each-at P xs n h.1
+
+-- two reads of lists of which one is below the other
+PairAt : ClassTable → Option Ty → Option Ty → Type 0
+PairAt t None None = ⊤
+PairAt t (Some a) (Some b) = Below t a b
+PairAt t _ _ = ⊥
+
+module _ (t : ClassTable) where
+  cells-at : {xs ys : List Ty} (n : ℕ) → CellsBelow t xs ys → PairAt t (slice_get xs n) (slice_get ys n)
+  unfolding PairAt
+  cells-at n no_cells = tt
+  cells-at zero (more_cells p ps) = p
+  cells-at (suc n) (more_cells p ps) = cells-at n ps
+
+  cells-or : {xs ys : List Ty} (n : ℕ) → CellsBelow t xs ys → Below t (get_or xs n Top) (get_or ys n Top)
+  cells-or n no_cells = same
+  cells-or zero (more_cells p ps) = p
+  cells-or (suc n) (more_cells p ps) = cells-or n ps
+
+  cells-length : {xs ys : List Ty} → CellsBelow t xs ys → length xs ≡ length ys
+  cells-length no_cells = refl
+  cells-length (more_cells p ps) = ap suc (cells-length ps)
+
+  cells-same : (xs : List Ty) → CellsBelow t xs xs
+  cells-same [] = no_cells
+  cells-same (x ∷ xs) = more_cells same (cells-same xs)
+
+  cells-append : {xs ys us vs : List Ty} → CellsBelow t xs ys → CellsBelow t us vs → CellsBelow t (xs ++ us) (ys ++ vs)
+  cells-append no_cells q = q
+  cells-append (more_cells p ps) q = more_cells p (cells-append ps q)
+
+  cells-take : {xs ys : List Ty} (n : ℕ) → CellsBelow t xs ys → CellsBelow t (take n xs) (take n ys)
+  cells-take zero ps = no_cells
+  cells-take (suc n) no_cells = no_cells
+  cells-take (suc n) (more_cells p ps) = more_cells p (cells-take n ps)
+
+  cells-drop : {xs ys : List Ty} (n : ℕ) → CellsBelow t xs ys → CellsBelow t (drop n xs) (drop n ys)
+  cells-drop zero ps = ps
+  cells-drop (suc n) no_cells = no_cells
+  cells-drop (suc n) (more_cells p ps) = cells-drop n ps
+
+  cells-set : {xs ys : List Ty} {a b : Ty} (n : ℕ) → Below t a b → CellsBelow t xs ys → CellsBelow t (set xs n a) (set ys n b)
+  cells-set n q no_cells = no_cells
+  cells-set zero q (more_cells p ps) = more_cells q ps
+  cells-set (suc n) q (more_cells p ps) = more_cells p (cells-set n q ps)
+
+-- ---- demands
+
+module _ (t : ClassTable) where
+  cell-falls : (want : Want) (o p : Option Ty) → PairAt t o p → IfSome o IsNotBottom → IfSome p IsNotTop → IsSomeAnd p (Meets t want) → IsSomeAnd o (Meets t want)
+  unfolding PairAt
+  cell-falls want (Some a) (Some b) x nb nt h = meets-falls t want a b x nb nt h
+  cell-falls want None (Some b) x nb nt h = absurd x
+  cell-falls want None None x nb nt h = absurd h
+  cell-falls want (Some a) None x nb nt h = absurd h
+
+  held-falls : (ty : Ty) (o p : Option Ty) → PairAt t o p → IsSomeAnd p (λ b. Below t b ty) → IsSomeAnd o (λ a. Below t a ty)
+  unfolding PairAt
+  held-falls ty (Some a) (Some b) x h = joined x h
+  held-falls ty None (Some b) x h = absurd x
+  held-falls ty None None x h = absurd h
+  held-falls ty (Some a) None x h = absurd h
+
+  low-read : (o p : Option Ty) → PairAt t o p → IfSome p IsNotTop → o ≡ Some IntLow → p ≡ Some IntLow
+  unfolding PairAt
+  low-read (Some a) (Some b) x n e = let is : a ≡ IntLow = cc in ap Some (low_above t (subst (λ c. Below t c b) is x) n)
+  low-read (Some a) None x n e = absurd x
+  low-read None p x n e = absurd (cc)
+
+  high-read : (o p : Option Ty) → PairAt t o p → IfSome p IsNotTop → o ≡ Some IntHigh → p ≡ Some IntHigh
+  unfolding PairAt
+  high-read (Some a) (Some b) x n e = let is : a ≡ IntHigh = cc in ap Some (high_above t (subst (λ c. Below t c b) is x) n)
+  high-read (Some a) None x n e = absurd x
+  high-read None p x n e = absurd (cc)
+
+  -- f is the lesser frame, g the greater
+  module _ (f g : Frame) (regs : CellsBelow t f.regs g.regs) (stack : CellsBelow t f.stack g.stack) (no_top : Each IsNotTop g.stack) (no_bottom : Each IsNotBottom f.stack) where
+    holds-falls : (d : Demand) → Holds t g d → Holds t f d
+    holds-falls (Registers x n) h = subst (λ k. x + n ≤ k) (sym (cells-length t regs)) h
+    holds-falls (Depth n) h = subst (λ k. n ≤ k) (sym (cells-length t stack)) h
+    holds-falls (Cell n want) h = cell-falls want (slice_get f.stack n) (slice_get g.stack n) (cells-at t n stack) (each-at IsNotBottom f.stack n no_bottom) (each-at IsNotTop g.stack n no_top) h
+    holds-falls (Cut n) h = λ s. h (
+      low-read (slice_get f.stack (n - 1)) (slice_get g.stack (n - 1)) (cells-at t (n - 1) stack) (each-at IsNotTop g.stack (n - 1) no_top) s.0,
+      high-read (slice_get f.stack n) (slice_get g.stack n) (cells-at t n stack) (each-at IsNotTop g.stack n no_top) s.1,
+    )
+    holds-falls (Held x ty) h = held-falls ty (slice_get f.regs x) (slice_get g.regs x) (cells-at t x regs) h
+
+    all-falls : (ds : List Demand) → AllHold t g ds → AllHold t f ds
+    all-falls [] h = tt
+    all-falls (d ∷ ds) h = (holds-falls d h.0, all-falls ds h.1)
+
+-- ---- effects
+
+-- what is given is lesser
+GivenBelow : ClassTable → Cells → Cells → Type 0
+GivenBelow t given.Nothing given.Nothing = ⊤
+GivenBelow t (given.One a) (given.One b) = Below t a b
+GivenBelow t given.Int given.Int = ⊤
+GivenBelow t _ _ = ⊥
+
+-- the lesser effect makes the same change with lesser cells
+ChangeBelow : ClassTable → Change → Change → Type 0
+ChangeBelow t (Replace m cells) (Replace n others) = (m ≡ n) × GivenBelow t cells others
+ChangeBelow t c d = c ≡ d
+
+record EffectBelow (t : ClassTable) (d e : Effect) : Type 0 where
+  change : ChangeBelow t d.change e.change
+  register : d.store.register ≡ e.store.register
+  cells : GivenBelow t d.store.cells e.store.cells
+
+module _ (t : ClassTable) (are : AreClasses t) where
+  given-same : (cells : Cells) → GivenBelow t cells cells
+  unfolding GivenBelow
+  given-same given.Nothing = tt
+  given-same (given.One a) = same
+  given-same given.Int = tt
+
+  change-same : (c : Change) → ChangeBelow t c c
+  unfolding ChangeBelow
+  change-same (Replace m cells) = (refl, given-same cells)
+  change-same (CopyUnder m n) = refl
+  change-same (Exchange m n) = refl
+  change-same (MakeReady m p c cells) = refl
+
+  effect-same : (e : Effect) → EffectBelow t e e
+  effect-same e = record { change = change-same e.change; register = refl; cells = given-same e.store.cells }
+
+  listed-falls : (c d : Cells) → GivenBelow t c d → CellsBelow t (listed c) (listed d)
+  unfolding GivenBelow
+  listed-falls given.Nothing given.Nothing h = no_cells
+  listed-falls (given.One a) (given.One b) h = more_cells h no_cells
+  listed-falls given.Int given.Int h = more_cells same (more_cells same no_cells)
+  listed-falls given.Nothing (given.One b) h = absurd h
+  listed-falls given.Nothing given.Int h = absurd h
+  listed-falls (given.One a) given.Nothing h = absurd h
+  listed-falls (given.One a) given.Int h = absurd h
+  listed-falls given.Int given.Nothing h = absurd h
+  listed-falls given.Int (given.One b) h = absurd h
+
+  -- an uninitialised object and what is above it
+  ready-fresh : (place class p c : ℕ) {b : Ty} → Below t (Fresh p c) b → FreshUp p c b → Below t (ready place class (Fresh p c)) (ready place class b)
+  unfolding FreshUp
+  ready-fresh place class p c {b = Top} x h = anything
+  ready-fresh place class p c {b = Fresh q d} x h =
+      let is : Fresh q d ≡ Fresh p c = cc in subst (λ b. Below t (ready place class (Fresh p c)) (ready place class b)) (sym is) same
+  ready-fresh place class p c {b = Bottom} x h = absurd h
+  ready-fresh place class p c {b = Short} x h = absurd h
+  ready-fresh place class p c {b = IntHigh} x h = absurd h
+  ready-fresh place class p c {b = IntLow} x h = absurd h
+  ready-fresh place class p c {b = Null} x h = absurd h
+  ready-fresh place class p c {b = Class d} x h = absurd h
+  ready-fresh place class p c {b = ArrBool} x h = absurd h
+  ready-fresh place class p c {b = ArrByte} x h = absurd h
+  ready-fresh place class p c {b = ArrShort} x h = absurd h
+  ready-fresh place class p c {b = ArrInt} x h = absurd h
+  ready-fresh place class p c {b = ArrRef d} x h = absurd h
+
+  -- what is no uninitialised object stays as it is; what is above it may be one only over Bottom
+  ready-plain : (place class : ℕ) (a b : Ty) → IsNotFresh a → Below t a b → Below t a (ready place class b)
+  unfolding FreshDown
+  ready-plain place class a (Fresh q d) h x = subst (λ c. Below t c (ready place class (Fresh q d))) (sym (plain_under q d a h (fresh-down t q d x (refl, refl)))) nothing
+  ready-plain place class a Bottom h x = x
+  ready-plain place class a Short h x = x
+  ready-plain place class a IntHigh h x = x
+  ready-plain place class a IntLow h x = x
+  ready-plain place class a Null h x = x
+  ready-plain place class a (Class d) h x = x
+  ready-plain place class a ArrBool h x = x
+  ready-plain place class a ArrByte h x = x
+  ready-plain place class a ArrShort h x = x
+  ready-plain place class a ArrInt h x = x
+  ready-plain place class a (ArrRef d) h x = x
+  ready-plain place class a Top h x = x
+
+  ready-falls : (place class : ℕ) (a b : Ty) → Below t a b → Below t (ready place class a) (ready place class b)
+  unfolding FreshUp
+  ready-falls place class (Fresh p c) b x = ready-fresh place class p c x (fresh-up t p c x (refl, refl))
+  ready-falls place class Bottom b x = nothing
+  ready-falls place class Short b x = ready-plain place class Short b tt x
+  ready-falls place class IntHigh b x = ready-plain place class IntHigh b tt x
+  ready-falls place class IntLow b x = ready-plain place class IntLow b tt x
+  ready-falls place class Null b x = ready-plain place class Null b tt x
+  ready-falls place class (Class c) b x = ready-plain place class (Class c) b tt x
+  ready-falls place class ArrBool b x = ready-plain place class ArrBool b tt x
+  ready-falls place class ArrByte b x = ready-plain place class ArrByte b tt x
+  ready-falls place class ArrShort b x = ready-plain place class ArrShort b tt x
+  ready-falls place class ArrInt b x = ready-plain place class ArrInt b tt x
+  ready-falls place class (ArrRef c) b x = ready-plain place class (ArrRef c) b tt x
+  ready-falls place class Top b x = ready-plain place class Top b tt x
+
+  ready-cells : (place class : ℕ) {xs ys : List Ty} → CellsBelow t xs ys → CellsBelow t (map (ready place class) xs) (map (ready place class) ys)
+  ready-cells place class no_cells = no_cells
+  ready-cells place class (more_cells {a = a} {b = b} p ps) = more_cells (ready-falls place class a b p) (ready-cells place class ps)
+
+  changed-same : (c : Change) {xs ys : List Ty} → CellsBelow t xs ys → CellsBelow t (changed c xs) (changed c ys)
+  changed-same (Replace m cells) ps = cells-append t (cells-same t (listed cells)) (cells-drop t m ps)
+  changed-same (CopyUnder m n) ps = cells-append t (cells-take t n ps) (cells-append t (cells-take t m ps) (cells-drop t n ps))
+  changed-same (Exchange m n) ps = cells-append t (cells-take t n (cells-drop t m ps)) (cells-append t (cells-take t m ps) (cells-drop t (m + n) ps))
+  changed-same (MakeReady m p c cells) ps = cells-append t (cells-same t (listed cells)) (ready-cells p c (cells-drop t m ps))
+
+  changed-falls : (c d : Change) {xs ys : List Ty} → ChangeBelow t c d → CellsBelow t xs ys → CellsBelow t (changed c xs) (changed d ys)
+  unfolding ChangeBelow
+  changed-falls (Replace m cells) (Replace n others) {xs = xs} {ys = ys} h ps =
+      subst (λ k. CellsBelow t (changed (Replace m cells) xs) (listed others ++ drop k ys)) h.0 (cells-append t (listed-falls cells others h.1) (cells-drop t m ps))
+  changed-falls (Replace m cells) (CopyUnder k n) h ps = absurd (cc)
+  changed-falls (Replace m cells) (Exchange k n) h ps = absurd (cc)
+  changed-falls (Replace m cells) (MakeReady k p c others) h ps = absurd (cc)
+  changed-falls (CopyUnder m n) d {xs = xs} {ys = ys} h ps = subst (λ e. CellsBelow t (changed (CopyUnder m n) xs) (changed e ys)) h (changed-same (CopyUnder m n) ps)
+  changed-falls (Exchange m n) d {xs = xs} {ys = ys} h ps = subst (λ e. CellsBelow t (changed (Exchange m n) xs) (changed e ys)) h (changed-same (Exchange m n) ps)
+  changed-falls (MakeReady m p c cells) d {xs = xs} {ys = ys} h ps = subst (λ e. CellsBelow t (changed (MakeReady m p c cells) xs) (changed e ys)) h (changed-same (MakeReady m p c cells) ps)
+
+  stored-at : {xs ys : List Ty} → CellsBelow t xs ys → (x y : ℕ) (c k : Cells) → x ≡ y → GivenBelow t c k → CellsBelow t (stored t Flow (record { register = x; cells = c }) xs) (stored t Flow (record { register = y; cells = k }) ys)
+  unfolding GivenBelow
+  stored-at ps x y given.Nothing given.Nothing q g = ps
+  stored-at {xs = xs} {ys = ys} ps x y (given.One a) (given.One b) q g = subst (λ n. CellsBelow t (set xs x a) (set ys n b)) q (cells-set t x g ps)
+  stored-at {xs = xs} {ys = ys} ps x y given.Int given.Int q g = subst (λ n. CellsBelow t (set (set xs x IntHigh) (x + 1) IntLow) (set (set ys n IntHigh) (n + 1) IntLow)) q (cells-set t (x + 1) same (cells-set t x same ps))
+  stored-at ps x y given.Nothing (given.One b) q g = absurd g
+  stored-at ps x y given.Nothing given.Int q g = absurd g
+  stored-at ps x y (given.One a) given.Nothing q g = absurd g
+  stored-at ps x y (given.One a) given.Int q g = absurd g
+  stored-at ps x y given.Int given.Nothing q g = absurd g
+  stored-at ps x y given.Int (given.One b) q g = absurd g
+
+  stored-falls : (d e : Effect) {xs ys : List Ty} → EffectBelow t d e → CellsBelow t xs ys → CellsBelow t (stored t Flow d.store xs) (stored t Flow e.store ys)
+  stored-falls d e h ps = stored-at ps d.store.register e.store.register d.store.cells e.store.cells h.register h.cells
+
+  -- ---- the cells that are found
+
+  null-below : (b : Ty) → ReferenceDown b → Below t Null (or_null b)
+  unfolding ReferenceDown
+  null-below Bottom h = same
+  null-below Null h = same
+  null-below (Class c) h = null_object
+  null-below ArrBool h = null_array of_booleans
+  null-below ArrByte h = null_array of_bytes
+  null-below ArrShort h = null_array of_shorts
+  null-below ArrInt h = null_array of_ints
+  null-below (ArrRef c) h = null_array of_references
+  null-below _ h = absurd h
+
+  or_null-above : (b : Ty) → Below t b (or_null b)
+  or_null-above Bottom = nothing
+  or_null-above Short = same
+  or_null-above IntHigh = same
+  or_null-above IntLow = same
+  or_null-above Null = same
+  or_null-above (Class c) = same
+  or_null-above ArrBool = same
+  or_null-above ArrByte = same
+  or_null-above ArrShort = same
+  or_null-above ArrInt = same
+  or_null-above (ArrRef c) = same
+  or_null-above (Fresh p c) = same
+  or_null-above Top = same
+
+  or_null-falls : (a b : Ty) → Below t a b → ReferenceDown b → Below t (or_null a) (or_null b)
+  or_null-falls Bottom b p h = null-below b h
+  or_null-falls Short b p h = joined p (or_null-above b)
+  or_null-falls IntHigh b p h = joined p (or_null-above b)
+  or_null-falls IntLow b p h = joined p (or_null-above b)
+  or_null-falls Null b p h = joined p (or_null-above b)
+  or_null-falls (Class c) b p h = joined p (or_null-above b)
+  or_null-falls ArrBool b p h = joined p (or_null-above b)
+  or_null-falls ArrByte b p h = joined p (or_null-above b)
+  or_null-falls ArrShort b p h = joined p (or_null-above b)
+  or_null-falls ArrInt b p h = joined p (or_null-above b)
+  or_null-falls (ArrRef c) b p h = joined p (or_null-above b)
+  or_null-falls (Fresh q c) b p h = joined p (or_null-above b)
+  or_null-falls Top b p h = joined p (or_null-above b)
+
+  classes-below : (c d : ℕ) → Below t (ArrRef c) (ArrRef d) → Below t (Class c) (Class d)
+  unfolding is_below
+  classes-below c d p = Below-from_is_below t are (Class c) (Class d) (is_below-from_Below t are p)
+
+  array-not : (c : ℕ) (b : Ty) → IsNullDown b → Below t (ArrRef c) b → ⊥
+  unfolding is_below IsNullDown
+  array-not c Bottom h p = absurd (let e : false ≡ true = is_below-from_Below t are p in cc)
+  array-not c Null h p = absurd (let e : false ≡ true = is_below-from_Below t are p in cc)
+  array-not c _ h p = absurd h
+
+  -- what is below an array of references has null's elements or those of a lesser class
+  element-of_array : (a : Ty) (d : ℕ) → ReferencesDown a → Below t a (ArrRef d) → Below t (element a) (Class d)
+  unfolding ReferencesDown
+  element-of_array (ArrRef c) d h p = classes-below c d p
+  element-of_array Bottom d h p = null_object
+  element-of_array Null d h p = null_object
+  element-of_array _ d h p = absurd h
+
+  element-of_null : (a b : Ty) → ReferencesDown a → IsNullDown b → Below t a b → Below t (element a) Null
+  unfolding ReferencesDown
+  element-of_null (ArrRef c) b h n p = absurd (array-not c b n p)
+  element-of_null Bottom b h n p = same
+  element-of_null Null b h n p = same
+  element-of_null _ b h n p = absurd h
+
+  element-falls : (a b : Ty) → Below t a b → ReferencesDown b → Below t (element a) (element b)
+  unfolding ReferencesDown IsNullDown
+  element-falls a (ArrRef d) p h = element-of_array a d (references-down t p h) p
+  element-falls a Bottom p h = element-of_null a Bottom (references-down t p h) tt p
+  element-falls a Null p h = element-of_null a Null (references-down t p h) tt p
+  element-falls a Short p h = absurd h
+  element-falls a IntHigh p h = absurd h
+  element-falls a IntLow p h = absurd h
+  element-falls a (Class c) p h = absurd h
+  element-falls a ArrBool p h = absurd h
+  element-falls a ArrByte p h = absurd h
+  element-falls a ArrShort p h = absurd h
+  element-falls a ArrInt p h = absurd h
+  element-falls a (Fresh q c) p h = absurd h
+  element-falls a Top p h = absurd h
+
+  fresh_same : (taken : ℕ) (cells : Cells) (c : ℕ) (a b : Ty) → Below t a b → IsNotBottom a → IsFreshOf c b → ready_with taken cells a (Receiver c) ≡ ready_with taken cells b (Receiver c)
+  fresh_same taken cells c a (Fresh p d) x n h = ap (λ ty. ready_with taken cells ty (Receiver c)) (fresh_below t p d x n)
+  fresh_same taken cells c a _ x n h = absurd h
+
+  -- a receiver that is found: both are the same uninitialised object, or neither is one
+  ready_with-falls : (taken : ℕ) (cells : Cells) (want : Want) (a b : Ty) → Below t a b → IsNotBottom a → Meets t want b → ready_with taken cells a want ≡ ready_with taken cells b want
+  unfolding NotReceiver
+  ready_with-falls taken cells (Receiver c) a b p n (inl h) = fresh_same taken cells c a b p n h
+  ready_with-falls taken cells (Receiver c) a b p n (inr h) = plain_both taken cells c a b (plain_class t a (joined p h)) (plain_class t b h)
+  ready_with-falls taken cells (Value ty) a b p n h = not_receiver taken cells (Value ty) a b tt
+  ready_with-falls taken cells Storable a b p n h = not_receiver taken cells Storable a b tt
+  ready_with-falls taken cells ByteArray a b p n h = not_receiver taken cells ByteArray a b tt
+  ready_with-falls taken cells AnyArray a b p n h = not_receiver taken cells AnyArray a b tt
+  ready_with-falls taken cells Whole a b p n h = not_receiver taken cells Whole a b tt
+
+-- ---- the rule
+
+-- what is read of a cell that is there
+pub some-or : (P : Ty → Type 0) (xs : List Ty) (n : ℕ) → IsSomeAnd (slice_get xs n) P → P (get_or xs n Top)
+some-or P [] n h = absurd h
+some-or P (x ∷ xs) zero h = h
+some-or P (x ∷ xs) (suc n) h = some-or P xs n h
+
+each-or : (P : Ty → Type 0) (xs : List Ty) (n : ℕ) → P Top → Each P xs → P (get_or xs n Top)
+unfolding Each
+each-or P [] n top h = top
+each-or P (x ∷ xs) zero top h = h.0
+each-or P (x ∷ xs) (suc n) top h = each-or P xs n top h.1
+
+module _ (w : Linked) (are : AreClasses w.classes) (f g : Frame) (regs : CellsBelow w.classes f.regs g.regs) (stack : CellsBelow w.classes f.stack g.stack) (no_bottom : Each IsNotBottom f.stack) where
+  load-falls : (s : Sort) (x : ℕ) → AllHold w.classes g (load_demands w.classes s x) → EffectBelow w.classes (load_effect s x f) (load_effect s x g)
+  unfolding ChangeBelow GivenBelow ReferenceDown
+  load-falls sorts.Reference x h = record {
+    change = (
+      refl,
+      or_null-falls w.classes are (reg f.regs x) (reg g.regs x) (cells-or w.classes x regs)
+          (reference-down w.classes (some-or (λ b. Below w.classes b (Class (object w.classes))) g.regs x h.1.0) tt),
+    );
+    register = refl;
+    cells = tt;
+  }
+  load-falls sorts.Short x h = effect-same w.classes are (load_effect sorts.Short x g)
+  load-falls sorts.Int x h = effect-same w.classes are (load_effect sorts.Int x g)
+
+  store-falls : (s : Sort) (x : ℕ) → EffectBelow w.classes (store_effect s x f) (store_effect s x g)
+  unfolding ChangeBelow GivenBelow
+  store-falls sorts.Reference x = record { change = (refl, tt); register = refl; cells = cells-or w.classes 0 stack }
+  store-falls sorts.Short x = effect-same w.classes are (store_effect sorts.Short x g)
+  store-falls sorts.Int x = effect-same w.classes are (store_effect sorts.Int x g)
+
+  array-falls : (k : Kind) → AllHold w.classes g (array_read_demands w.classes k) → EffectBelow w.classes (array_read_effect k f) (array_read_effect k g)
+  unfolding ChangeBelow GivenBelow ReferencesDown
+  array-falls kinds.Ref h = record {
+    change = (
+      refl,
+      element-falls w.classes are (cell f.stack 1) (cell g.stack 1) (cells-or w.classes 1 stack)
+          (references-down w.classes (some-or (λ b. Below w.classes b (ArrRef (object w.classes))) g.stack 1 h.1.0) tt),
+    );
+    register = refl;
+    cells = tt;
+  }
+  array-falls kinds.Byte h = effect-same w.classes are (array_read_effect kinds.Byte g)
+  array-falls kinds.Short h = effect-same w.classes are (array_read_effect kinds.Short g)
+  array-falls kinds.Int h = effect-same w.classes are (array_read_effect kinds.Int g)
+
+  call-falls : (args : List Ty) (result : Option Ty) (receiver : Option Want) → AllHold w.classes g (call_demands args receiver) → EffectBelow w.classes (call_effect args result receiver f) (call_effect args result receiver g)
+  unfolding GivenBelow
+  call-falls args result None h = effect-same w.classes are (call_effect args result None g)
+  call-falls args result (Some want) h = record {
+    change = subst (λ c. ChangeBelow w.classes c (ready_with (length args + 1) (result_given result) (cell g.stack (length args)) want))
+        (sym (ready_with-falls w.classes are (length args + 1) (result_given result) want (cell f.stack (length args)) (cell g.stack (length args))
+        (cells-or w.classes (length args) stack)
+        (each-or IsNotBottom f.stack (length args) tt no_bottom)
+        (some-or (Meets w.classes want) g.stack (length args) (AllHold-rest w.classes g (cells_wanted 0 (reverse args)) (Cell (length args) want ∷ []) h).0)))
+        (change-same w.classes are (ready_with (length args + 1) (result_given result) (cell g.stack (length args)) want));
+    register = refl;
+    cells = tt;
+  }
+
+  method-falls : (n : Named) → AllHold w.classes g (method_demands w n) → EffectBelow w.classes (method_effect w n f) (method_effect w n g)
+  method-falls (names.Method k receiver) h = call-falls (args_at (slice_get w.methods k)) (result_at (slice_get w.methods k)) receiver h
+  method-falls names.Nothing h = effect-same w.classes are (method_effect w names.Nothing g)
+  method-falls (names.Type ty) h = effect-same w.classes are (method_effect w (names.Type ty) g)
+  method-falls (names.Field c ty) h = effect-same w.classes are (method_effect w (names.Field c ty) g)
+
+  effect-falls : (i : Insn) (n : Named) (row : Row) → AllHold w.classes g (demands w i n row) → EffectBelow w.classes (effect w i n row f) (effect w i n row g)
+  effect-falls i n (rows.Load s l) h = load-falls s (local_of i l) h
+  effect-falls i n (rows.Store s l) h = store-falls s (local_of i l)
+  effect-falls i n (rows.ArrayRead k) h = array-falls k h
+  effect-falls i n (rows.Call c) h = method-falls n h
+  effect-falls i n (rows.Constant c) h = effect-same w.classes are (effect w i n (rows.Constant c) g)
+  effect-falls i n (rows.Increment width) h = effect-same w.classes are (effect w i n (rows.Increment width) g)
+  effect-falls i n (rows.Move m) h = effect-same w.classes are (effect w i n (rows.Move m) g)
+  effect-falls i n (rows.Arithmetic a) h = effect-same w.classes are (effect w i n (rows.Arithmetic a) g)
+  effect-falls i n (rows.ArrayWrite k) h = effect-same w.classes are (effect w i n (rows.ArrayWrite k) g)
+  effect-falls i n rows.ArrayLength h = effect-same w.classes are (effect w i n rows.ArrayLength g)
+  effect-falls i n (rows.Branch b) h = effect-same w.classes are (effect w i n (rows.Branch b) g)
+  effect-falls i n (rows.Switch width) h = effect-same w.classes are (effect w i n (rows.Switch width) g)
+  effect-falls i n (rows.StaticRead k) h = effect-same w.classes are (effect w i n (rows.StaticRead k) g)
+  effect-falls i n (rows.StaticWrite k) h = effect-same w.classes are (effect w i n (rows.StaticWrite k) g)
+  effect-falls i n (rows.FieldRead k holder) h = effect-same w.classes are (effect w i n (rows.FieldRead k holder) g)
+  effect-falls i n (rows.FieldWrite k holder) h = effect-same w.classes are (effect w i n (rows.FieldWrite k holder) g)
+  effect-falls i n (rows.Make m) h = effect-same w.classes are (effect w i n (rows.Make m) g)
+  effect-falls i n rows.Throw h = effect-same w.classes are (effect w i n rows.Throw g)
+  effect-falls i n (rows.TypeTest test) h = effect-same w.classes are (effect w i n (rows.TypeTest test) g)
+  effect-falls i n (rows.Return s) h = effect-same w.classes are (effect w i n (rows.Return s) g)
+  effect-falls i n rows.Reserved h = effect-same w.classes are (effect w i n rows.Reserved g)
+
+pub rule-falls : (w : Linked) → AreClasses w.classes → RuleFalls w
+rule-falls w are site i greater lesser after o below no_top no_bottom a =
+    let t = w.classes in
+    let row = row_at i.op in
+    let none : Each IsNotBottom lesser.stack = each-from_All IsNotBottom lesser.stack no_bottom in
+    let asked : AllHold t lesser (demands w i a.named row) =
+    all-falls t lesser greater below.regs below.stack (each-from_All IsNotTop greater.stack no_top) none (demands w i a.named row) a.asked in
+    let falls_to : EffectBelow t (effect w i a.named row lesser) (effect w i a.named row greater) =
+    effect-falls w are lesser greater below.regs below.stack none i a.named row a.asked in
+    let regs : CellsBelow t (stored t Flow (effect w i a.named row lesser).store lesser.regs) after.regs =
+    subst (CellsBelow t (stored t Flow (effect w i a.named row lesser).store lesser.regs)) (sym a.regs) (stored-falls t are (effect w i a.named row lesser) (effect w i a.named row greater) falls_to below.regs) in
+    let stack : CellsBelow t (changed (effect w i a.named row lesser).change lesser.stack) after.stack =
+    subst (CellsBelow t (changed (effect w i a.named row lesser).change lesser.stack)) (sym a.stack) (changed-falls t are (effect w i a.named row lesser).change (effect w i a.named row greater).change falls_to.change below.stack) in
+    record {
+      below = record { regs = stored t Flow (effect w i a.named row lesser).store lesser.regs; stack = changed (effect w i a.named row lesser).change lesser.stack };
+      outcome = record {
+        falls = falls_from row;
+        ends = ends_at row;
+        depth = length (changed (effect w i a.named row lesser).change lesser.stack);
+        wrote = wrote (effect w i a.named row lesser).store.register (effect w i a.named row lesser).store.cells;
+      };
+      applies = record {
+        method = a.method;
+        is_method = a.is_method;
+        named = a.named;
+        names = a.names;
+        asked = asked;
+        regs = refl;
+        stack = refl;
+        room = subst (λ n. n ≤ a.method.max_stack) (sym (cells-length t stack)) a.room;
+        falls = refl;
+        ends = refl;
+        depth = refl;
+        wrote_is = refl;
+      };
+      lower = record { regs = regs; stack = stack };
+    }

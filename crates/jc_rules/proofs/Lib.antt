@@ -1,0 +1,6 @@
+pub mod Demands
+pub mod Stacks
+pub mod Falls
+pub mod Effects
+pub mod Plans
+pub mod Keeps

@@ -1,0 +1,81 @@
+-- What is planned suits the frame, and is what the rule says.
+use Rattle.std.proofs.Common.{◌≡◌, ℕ, ◌+◌, ◌<◌, ◌≤◌, List, length, Option, Some, None, IsSomeAnd, slice_get, All, refl, sym, ◌∙◌, ap, subst, arith}
+use Rattle.jc_base.proofs.Lists.{All-slice_get, slice_get-below}
+use Rattle.jc_base.specs.declared.ty.Ty.{Ty}
+use Rattle.jc_base.specs.declared.record.MethodRec.{MethodRec}
+use Rattle.jc_base.specs.Order.{IsKnown}
+use Rattle.jc_base.specs.Linked.{IsMethod}
+use Rattle.jc_base.specs.World.{Linked, IsWorld}
+use Rattle.jc_decode.specs.declared.insn.Insn.{Insn}
+use Rattle.jc_rows.specs.declared.row.Row.{Row}
+use Rattle.jc_rows.specs.declared.named.Named.{Named}
+use Rattle.jc_rows.specs.Row.{row_at}
+use Rattle.jc_rows.specs.Named.{IsSound}
+use Rattle.jc_rows.proofs.Naming.{names-are-sound}
+use Rattle.jc_rules.specs.declared.effect.Effect.{Effect}
+use Rattle.jc_rules.specs.declared.effect.Mode.{Mode}
+use Rattle.jc_rules.specs.declared.rule.Site.{Site}
+use Rattle.jc_rules.specs.declared.rule.Outcome.{Outcome}
+use Rattle.jc_rules.specs.Stack.{cells}
+use Rattle.jc_rules.specs.Effect.{changed, depth_after, stored}
+use Rattle.jc_rules.specs.Demand.{Frame, AllHold, AreKnown}
+use Rattle.jc_rules.specs.Rule.{demands, effect, falls_from, ends_at, wrote}
+use Rattle.jc_rules.specs.Apply.{frame_of, HasRoom, IsPlan, Applies}
+use Rattle.jc_rules.proofs.Effects.{Suits, suits, length-changed}
+
+-- the stack would pass the limit
+pub plan-full : (w : Linked) (is : IsWorld w) (f : Frame) (k : AreKnown w.classes f) (i : Insn) (n : Named) (row : Row) (e : Effect) (limit : ℕ) →
+    IsSound w n → AllHold w.classes f (demands w i n row) → e ≡ effect w i n row f → limit < depth_after e.change (length f.stack) → limit < length (changed (effect w i n row f).change f.stack)
+plan-full w is f k i n row e limit known all is_effect more =
+    subst (λ d. limit < d) (sym (length-changed (effect w i n row f).change f.stack (suits w is f k i n row known all).there))
+    (subst (λ d. limit < depth_after d.change (length f.stack)) is_effect more)
+
+pub plan-suits : (w : Linked) (is : IsWorld w) (f : Frame) (k : AreKnown w.classes f) (site : Site) (i : Insn) (e : Effect) → IsPlan w site i f e → Suits w.classes f e
+plan-suits w is f k site i e p = subst (Suits w.classes f) (sym p.effect_is) (suits w is f k i p.named (row_at i.op) (names-are-sound w is p.method site.place i (row_at i.op) p.named (All-slice_get (IsMethod w.infos w.pools w.classes) w.methods site.method p.method is.methods p.is_method) p.names) p.asked)
+
+-- the lengths that a method declares
+module _ (w : Linked) (is : IsWorld w) (n : ℕ) (regs slice : List Ty) (depth : ℕ) where
+  few_at : (o : Option MethodRec) → ((m : MethodRec) → o ≡ Some m → IsMethod w.infos w.pools w.classes m) → IsSomeAnd o (λ m. HasRoom m regs slice depth) → length regs ≤ 255
+  few_at None all h = absurd h
+  few_at (Some m) all h = let most : m.nargs + m.max_locals ≤ 255 = (all m refl).registers in let same : length regs ≡ m.nargs + m.max_locals = h.registers in omega arith
+
+  pub room-few : IsSomeAnd (slice_get w.methods n) (λ m. HasRoom m regs slice depth) → length regs ≤ 255
+  room-few h = few_at (slice_get w.methods n) (λ m e. All-slice_get (IsMethod w.infos w.pools w.classes) w.methods n m is.methods e) h
+
+  pub room-known : IsSomeAnd (slice_get w.methods n) (λ m. HasRoom m regs slice depth) → All (IsKnown w.classes) regs → All (IsKnown w.classes) (cells slice depth) → AreKnown w.classes (frame_of regs slice depth)
+  room-known h r s = record { few = room-few h; regs = r; stack = s; object = is.roles.objects }
+
+in_list : (w : Linked) (n : ℕ) (P : MethodRec → Type 0) (o : Option MethodRec) → slice_get w.methods n ≡ o → IsSomeAnd o P → n < length w.methods
+in_list w n P None e h = absurd h
+in_list w n P (Some m) e h = slice_get-below w.methods n m e
+
+pub method-inside : (w : Linked) (n : ℕ) (P : MethodRec → Type 0) → IsSomeAnd (slice_get w.methods n) P → n < length w.methods
+method-inside w n P h = in_list w n P (slice_get w.methods n) refl h
+
+-- what the method's record says
+pub method-room : (w : Linked) (n : ℕ) (m : MethodRec) (P : MethodRec → Type 0) → slice_get w.methods n ≡ Some m → IsSomeAnd (slice_get w.methods n) P → P m
+method-room w n m P e h = subst (λ o. IsSomeAnd o P) e h
+
+-- the stack fits
+pub plan-room : (w : Linked) (is : IsWorld w) (f : Frame) (k : AreKnown w.classes f) (site : Site) (i : Insn) (e : Effect) (m : MethodRec) → IsPlan w site i f e → slice_get w.methods site.method ≡ Some m → depth_after e.change (length f.stack) ≤ m.max_stack
+plan-room w is f k site i e m p at = let same : p.method ≡ m = cc (p.is_method, at) in subst (λ r. depth_after e.change (length f.stack) ≤ r.max_stack) same p.room
+
+-- the plan is carried out
+pub plan-applies : (w : Linked) (is : IsWorld w) (site : Site) (i : Insn) (mode : Mode) (before after : Frame) (e : Effect) (o : Outcome) (k : AreKnown w.classes before) → IsPlan w site i before e →
+    after.regs ≡ stored w.classes mode e.store before.regs → after.stack ≡ changed e.change before.stack →
+    o.falls ≡ falls_from (row_at i.op) → o.ends ≡ ends_at (row_at i.op) → o.depth ≡ length after.stack → o.wrote ≡ wrote e.store.register e.store.cells →
+    Applies w site i mode before after o
+plan-applies w is site i mode before after e o k p regs stack falls ends depth wrote_is = record {
+  method = p.method;
+  is_method = p.is_method;
+  named = p.named;
+  names = p.names;
+  asked = p.asked;
+  regs = subst (λ x. after.regs ≡ stored w.classes mode x.store before.regs) p.effect_is regs;
+  stack = subst (λ x. after.stack ≡ changed x.change before.stack) p.effect_is stack;
+  room = subst (λ d. d ≤ p.method.max_stack) (sym (ap length stack ∙ length-changed e.change before.stack (plan-suits w is before k site i e p).there)) p.room;
+  falls = falls;
+  ends = ends;
+  depth = depth;
+  wrote_is = subst (λ x. o.wrote ≡ wrote x.store.register x.store.cells) p.effect_is wrote_is;
+}

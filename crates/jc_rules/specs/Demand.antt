@@ -1,0 +1,123 @@
+-- What an instruction asks of the frame before it changes anything (JCVM 2.2, section 7.5; Leroy 2002,
+-- section 2.2), and the first thing that is missing.
+use Rattle.std.specs.Prelude.{◌≡◌, ℕ, ◌+◌, ◌-◌, ◌≤◌, ◌⊎◌, ⊤, List, [], ◌∷◌, length, reverse, All, Option, Some, None, IsSomeAnd, Result, Ok, Err, slice_get}
+use Rattle.jc_base.specs.declared.ty.Ty.{Ty}
+use Rattle.jc_base.specs.declared.ty.Ty.TheVariants.{Bottom, IntHigh, IntLow, Null, Class, ArrBool, ArrByte, ArrShort, ArrInt, ArrRef, Fresh}
+use Rattle.jc_base.specs.Class.{ClassTable, IsClass, object}
+use Rattle.jc_base.specs.Order.{Below, IsKnown}
+use Rattle.jc_rows.specs.declared.fault.RuleFault.{RuleFault}
+use Rattle.jc_rows.specs.declared.fault.RuleFault.TheVariants.{Underflow, Mismatch, NoLocal, SplitInt, FreshKept}
+use Rattle.jc_rules.specs.declared.demand.Before.{Before}
+use Rattle.jc_rules.specs.declared.effect.Effect.{Effect}
+use Rattle.jc_rows.specs.declared.want.Want.{Want}
+use Rattle.jc_rows.specs.declared.want.Want.TheVariants.{Value, Storable, ByteArray, AnyArray, Whole, Receiver}
+use Rattle.jc_rows.specs.Named.{IsKnownWant}
+use Rattle.jc_rules.specs.declared.demand.Demand.{Demand}
+use Rattle.jc_rules.specs.declared.demand.Demand.TheVariants.{Registers, Depth, Cell, Cut, Held}
+
+-- the registers of a method's frame and its operand stack, the top cell first
+pub record Frame : Type 0 where
+  pub regs : List Ty
+  pub stack : List Ty
+
+-- what the code finds: its slice of the stack has the top last
+abbrev pub frame : Before → Frame
+frame b = record { regs = b.regs.now; stack = reverse b.stack.now }
+
+-- each class number in a type of the frame names a class, and no interface; a method has 255 registers at most
+pub record AreKnown (t : ClassTable) (f : Frame) : Type 0 where
+  pub few : length f.regs ≤ 255
+  pub regs : All (IsKnown t) f.regs
+  pub stack : All (IsKnown t) f.stack
+  pub object : IsClass t (object t)
+
+-- an array, or null
+abbrev pub IsArrayOrNull : Ty → Type 0
+IsArrayOrNull Bottom = ⊤
+IsArrayOrNull Null = ⊤
+IsArrayOrNull ArrBool = ⊤
+IsArrayOrNull ArrByte = ⊤
+IsArrayOrNull ArrShort = ⊤
+IsArrayOrNull ArrInt = ⊤
+IsArrayOrNull (ArrRef c) = ⊤
+IsArrayOrNull _ = ⊥
+
+-- one half of an int
+abbrev pub IsHalf : Ty → Type 0
+IsHalf IntHigh = ⊤
+IsHalf IntLow = ⊤
+IsHalf _ = ⊥
+
+-- an object of the class on which no constructor was called
+abbrev pub IsFreshOf : ℕ → Ty → Type 0
+IsFreshOf c (Fresh place d) = d ≡ c
+IsFreshOf c _ = ⊥
+
+-- what is found is as wanted
+abbrev pub Meets : ClassTable → Want → Ty → Type 0
+Meets t (Value wanted) found = Below t found wanted
+Meets t Storable found = Below t found (Class (object t))
+Meets t ByteArray found = Below t found ArrByte ⊎ Below t found ArrBool
+Meets t AnyArray found = IsArrayOrNull found
+Meets t Whole found = ¬ (IsHalf found)
+Meets t (Receiver c) found = IsFreshOf c found ⊎ Below t found (Class c)
+
+-- the fault where it is not
+abbrev pub refusal : ClassTable → Want → Ty → RuleFault
+refusal t (Value wanted) found = Mismatch found wanted
+refusal t Storable (Fresh place c) = FreshKept
+refusal t Storable found = Mismatch found (Class (object t))
+refusal t ByteArray found = Mismatch found ArrByte
+refusal t AnyArray found = Mismatch found ArrByte
+refusal t Whole found = SplitInt
+refusal t (Receiver c) found = Mismatch found (Class c)
+
+-- an int lies across the cut below the n-th cell: its low half is above
+abbrev pub Splits : List Ty → ℕ → Type 0
+Splits stack n = (slice_get stack (n - 1) ≡ Some IntLow) × (slice_get stack n ≡ Some IntHigh)
+
+-- the demand is met
+abbrev pub Holds : ClassTable → Frame → Demand → Type 0
+Holds t f (Registers x n) = x + n ≤ length f.regs
+Holds t f (Depth n) = n ≤ length f.stack
+Holds t f (Cell n want) = IsSomeAnd (slice_get f.stack n) (Meets t want)
+Holds t f (Cut n) = ¬ (Splits f.stack n)
+Holds t f (Held x ty) = IsSomeAnd (slice_get f.regs x) (Meets t (Value ty))
+
+-- the fault of what was found, or of a cell or register that is not there
+abbrev pub refused_at : ClassTable → Want → RuleFault → Option Ty → RuleFault
+refused_at t want absent None = absent
+refused_at t want absent (Some found) = refusal t want found
+
+-- the fault where the demand is not met
+abbrev pub refused : ClassTable → Frame → Demand → RuleFault
+refused t f (Registers x n) = NoLocal x
+refused t f (Depth n) = Underflow
+refused t f (Cell n want) = refused_at t want Underflow (slice_get f.stack n)
+refused t f (Cut n) = SplitInt
+refused t f (Held x ty) = refused_at t (Value ty) (NoLocal x) (slice_get f.regs x)
+
+-- each of the demands is met
+abbrev pub AllHold : ClassTable → Frame → List Demand → Type 0
+AllHold t f [] = ⊤
+AllHold t f (d ∷ ds) = Holds t f d × AllHold t f ds
+
+-- the fault is that of the first demand that is not met
+pub data Breaks (t : ClassTable) (f : Frame) : List Demand → RuleFault → Type 0 where
+  here : {d : Demand} {ds : List Demand} {fault : RuleFault} → ¬ (Holds t f d) → fault ≡ refused t f d → Breaks t f (d ∷ ds) fault
+  later : {d : Demand} {ds : List Demand} {fault : RuleFault} → Holds t f d → Breaks t f ds fault → Breaks t f (d ∷ ds) fault
+
+-- each class number in what is asked names a class, and no interface
+abbrev pub IsKnownDemand : ClassTable → Demand → Type 0
+IsKnownDemand t (Cell n want) = IsKnownWant t want
+IsKnownDemand t (Held x ty) = IsKnown t ty
+IsKnownDemand t _ = ⊤
+
+abbrev pub AreKnownDemands : ClassTable → List Demand → Type 0
+AreKnownDemands t [] = ⊤
+AreKnownDemands t (d ∷ ds) = IsKnownDemand t d × AreKnownDemands t ds
+
+-- what a check of demands answers: the effect where each is met, and else the fault of the first that is not
+abbrev pub IsJudged : ClassTable → Frame → List Demand → Effect → Result Effect RuleFault → Type 0
+IsJudged t f ds effect (Ok e) = AllHold t f ds × (e ≡ effect)
+IsJudged t f ds effect (Err fault) = Breaks t f ds fault

@@ -1,0 +1,183 @@
+-- Dataflow typings of a method (Leroy 2002, section 2.3; JCVM 2.2, section 7.5; the data-flow analysis of the class file verifier):
+-- registers and a stack at every reached place at once, that meet the rule of every instruction.
+use Rattle.std.specs.Prelude.{◌≡◌, ℕ, ◌+◌, ◌<◌, ◌≤◌, ◌⊎◌, ℤ, pos, negsuc, if◌then◌else◌, ⊤, List, [], ◌∷◌, ◌++◌, length, replicate, All, Contains, Option, Some, IsSomeAnd, IsTrue, slice_get}
+use Rattle.jc_base.specs.declared.ty.Ty.{Ty}
+use Rattle.jc_base.specs.declared.ty.Ty.TheVariants.{Class, Fresh, Top}
+use Rattle.jc_base.specs.declared.record.Handler.{Handler}
+use Rattle.jc_base.specs.declared.record.MethodRec.{MethodRec}
+use Rattle.jc_base.specs.Class.{ClassTable}
+use Rattle.jc_base.specs.Order.{Below, IsJoin, IsKnown}
+use Rattle.jc_base.specs.World.{Linked, code_of}
+use Rattle.jc_decode.specs.declared.insn.Placed.{Placed}
+use Rattle.jc_decode.specs.Listing.{listing, listing_end, falls, jumps, targets}
+use Rattle.jc_rules.specs.declared.effect.Mode.TheVariants.{Flow}
+use Rattle.jc_rules.specs.declared.rule.Site.{Site}
+use Rattle.jc_rules.specs.declared.rule.Outcome.{Outcome}
+use Rattle.jc_rules.specs.Demand.{Frame}
+use Rattle.jc_rules.specs.Apply.{Applies}
+
+-- a method of a world: its number, its record and the bytes of its code
+pub record Method : Type 0 where
+  pub number : ℕ
+  pub rec : MethodRec
+  pub code : List ℕ
+
+-- the method of this number has code
+pub record IsMethodOf (w : Linked) (m : Method) : Type 0 where
+  pub rec : slice_get w.methods m.number ≡ Some m.rec
+  pub code : m.code ≡ code_of w.infos m.rec
+  pub filled : 0 < length m.code
+
+-- ---- well-formed methods
+
+-- one of the instructions of the code
+abbrev pub Stands : List ℕ → Placed → Type 0
+Stands code i = Contains (listing code) i
+
+-- an instruction of the code begins at this place
+abbrev pub IsPlace : List ℕ → ℕ → Type 0
+IsPlace code place = (i : Placed) × Stands code i × (i.place ≡ place)
+
+abbrev pub IsTargetPlace : List ℕ → ℤ → Type 0
+IsTargetPlace code (pos place) = IsPlace code place
+IsTargetPlace code (negsuc n) = ⊥
+
+-- a place of the code, or its end
+abbrev pub IsBoundary : List ℕ → ℕ → Type 0
+IsBoundary code place = (place ≡ length code) ⊎ IsPlace code place
+
+-- its range is not empty and lies between instructions, and its entry is one
+pub record IsHandlerOf (code : List ℕ) (h : Handler) : Type 0 where
+  pub start : IsPlace code h.start
+  pub end : IsBoundary code h.end
+  pub order : h.start < h.end
+  pub entry : IsPlace code h.entry
+
+-- the code decodes to its end, each target of each instruction is a place, and each handler is well formed
+pub record IsWellFormed (m : Method) : Type 0 where
+  pub ends : listing_end m.code ≡ length m.code
+  pub targets : (i : Placed) → Stands m.code i → All (IsTargetPlace m.code) (targets m.code i)
+  pub handlers : All (IsHandlerOf m.code) m.rec.handlers
+
+-- ---- where control goes
+
+-- control may go from the instruction to this place: behind it, or to a target
+pub data IsSuccessor (code : List ℕ) (i : Placed) : ℕ → Type 0 where
+  behind : IsTrue (falls i.insn.op) → IsSuccessor code i (i.place + i.insn.len)
+  jumped : {q : ℕ} → Contains (targets code i) (pos q) → IsSuccessor code i q
+
+-- the handler's range has the place
+pub record Covers (h : Handler) (place : ℕ) : Type 0 where
+  pub from : h.start ≤ place
+  pub before : place < h.end
+
+-- the least set of places with place 0, the successors of its members, and the entry of each handler that covers a member
+pub data IsReached (m : Method) : ℕ → Type 0 where
+  begins : IsReached m 0
+  follows : {i : Placed} {q : ℕ} → Stands m.code i → IsReached m i.place → IsSuccessor m.code i q → IsReached m q
+  caught : {h : Handler} {p : ℕ} → IsReached m p → Contains m.rec.handlers h → Covers h p → IsReached m h.entry
+
+-- a target of a reached branch or switch, or the entry of a handler that covers a reached place
+pub data IsLeader (m : Method) : ℕ → Type 0 where
+  led_to : {i : Placed} {q : ℕ} → Stands m.code i → IsReached m i.place → Contains (targets m.code i) (pos q) → IsLeader m q
+  entered : {h : Handler} {p : ℕ} → IsReached m p → Contains m.rec.handlers h → Covers h p → IsLeader m h.entry
+
+-- ---- frames
+
+-- cell by cell; lists of different lengths do not compare
+pub data CellsBelow (t : ClassTable) : List Ty → List Ty → Type 0 where
+  no_cells : CellsBelow t [] []
+  more_cells : {a b : Ty} {xs ys : List Ty} → Below t a b → CellsBelow t xs ys → CellsBelow t (a ∷ xs) (b ∷ ys)
+
+pub record FrameBelow (t : ClassTable) (f g : Frame) : Type 0 where
+  pub regs : CellsBelow t f.regs g.regs
+  pub stack : CellsBelow t f.stack g.stack
+
+-- the receiver, then the declared arguments, and a type in every other register; the stack is empty
+abbrev pub receiver_of : MethodRec → List Ty
+receiver_of r = if r.is_static then [] else Class r.class ∷ []
+
+abbrev pub start_frame : MethodRec → Ty → Frame
+start_frame r unset = record { regs = receiver_of r ++ r.sig.args ++ replicate r.max_locals unset; stack = [] }
+
+-- the same registers with the caught object alone on the stack
+abbrev pub caught_frame : Handler → Frame → Frame
+caught_frame h f = record { regs = f.regs; stack = Class h.class ∷ [] }
+
+abbrev pub IsNotFresh : Ty → Type 0
+IsNotFresh (Fresh place class) = ⊥
+IsNotFresh _ = ⊤
+
+abbrev pub IsNotTop : Ty → Type 0
+IsNotTop Top = ⊥
+IsNotTop _ = ⊤
+
+-- the frame at this place, where the assignment has one, is as said
+abbrev pub At : (ℕ → Option Frame) → ℕ → (Frame → Type 0) → Type 0
+At frames place P = IsSomeAnd (frames place) P
+
+-- ---- flow typings
+
+abbrev pub site_of : Method → ℕ → Site
+site_of m place = record { method = m.number; place = place }
+
+-- the rule of the instruction applies to the frame with this result, in the dataflow
+abbrev pub Steps : Linked → Method → Placed → Frame → Frame → Type 0
+Steps w m i before after = (o : Outcome) × Applies w (site_of m i.place) i.insn Flow before after o
+
+-- the rule applies, its result is below the frame at each successor, and under the operands of a branch or switch no object is uninitialised
+pub record IsFollowed (w : Linked) (m : Method) (frames : ℕ → Option Frame) (i : Placed) (f : Frame) : Type 0 where
+  pub after : Frame
+  pub steps : Steps w m i f after
+  pub below : (q : ℕ) → IsSuccessor m.code i q → At frames q (FrameBelow w.classes after)
+  pub ready : IsTrue (jumps i.insn.op) → All IsNotFresh after.stack
+
+-- a frame that may stand at a reached place
+pub record IsFit (w : Linked) (m : Method) (f : Frame) : Type 0 where
+  pub known_regs : All (IsKnown w.classes) f.regs
+  pub known_stack : All (IsKnown w.classes) f.stack
+  pub room : length f.stack ≤ m.rec.max_stack
+  pub no_top : All IsNotTop f.stack
+  pub no_fresh : All IsNotFresh f.regs
+
+-- registers and a stack at each reached place, such that: the start is below the first; the rule applies everywhere and leads on; no
+-- reached place falls past the end; what a handler catches is below the frame at its entry; and no uninitialised object stands in a
+-- register or at a leader
+pub record FlowTyping (w : Linked) (m : Method) (unset : Ty) (frames : ℕ → Option Frame) : Type 0 where
+  pub formed : IsWellFormed m
+  pub start : At frames 0 (FrameBelow w.classes (start_frame m.rec unset))
+  pub fit : (p : ℕ) → IsReached m p → At frames p (IsFit w m)
+  pub rules : (i : Placed) → Stands m.code i → IsReached m i.place → At frames i.place (IsFollowed w m frames i)
+  pub stays : (i : Placed) → Stands m.code i → IsReached m i.place → IsTrue (falls i.insn.op) → i.place + i.insn.len < length m.code
+  pub handlers : (p : ℕ) (h : Handler) → IsReached m p → Contains m.rec.handlers h → Covers h p → At frames p (λ f. At frames h.entry (FrameBelow w.classes (caught_frame h f)))
+  pub leaders : (q : ℕ) → IsLeader m q → At frames q (λ f. All IsNotFresh f.stack)
+
+-- a flow typing exists
+pub record HasFlowTyping (w : Linked) (m : Method) (unset : Ty) : Type 0 where
+  pub frames : ℕ → Option Frame
+  pub typing : FlowTyping w m unset frames
+
+-- the least one: below every other at each reached place
+pub record IsLeastTyping (w : Linked) (m : Method) (unset : Ty) (frames : ℕ → Option Frame) : Type 0 where
+  pub typing : FlowTyping w m unset frames
+  pub least : (others : ℕ → Option Frame) → FlowTyping w m unset others → (p : ℕ) → IsReached m p → At frames p (λ f. At others p (FrameBelow w.classes f))
+
+-- ---- derived states
+
+-- the join of two lists, cell by cell
+pub data CellsJoin (t : ClassTable) : List Ty → List Ty → List Ty → Type 0 where
+  none_joined : CellsJoin t [] [] []
+  more_joined : {a b j : Ty} {xs ys js : List Ty} → IsJoin t a b j → CellsJoin t xs ys js → CellsJoin t (a ∷ xs) (b ∷ ys) (j ∷ js)
+
+-- two frames merge where their stacks have equal depth and no cell's join is Top
+pub record Merges (t : ClassTable) (f g joined : Frame) : Type 0 where
+  pub regs : CellsJoin t f.regs g.regs joined.regs
+  pub stack : CellsJoin t f.stack g.stack joined.stack
+  pub no_top : All IsNotTop joined.stack
+
+-- the least set of places with frames that has the start, what handlers catch, what rules lead to, and the joins of its members that merge
+pub data IsDerived (w : Linked) (m : Method) (unset : Ty) : ℕ → Frame → Type 0 where
+  derived_start : IsDerived w m unset 0 (start_frame m.rec unset)
+  derived_caught : {h : Handler} {p : ℕ} {f : Frame} → IsDerived w m unset p f → Contains m.rec.handlers h → Covers h p → IsDerived w m unset h.entry (caught_frame h f)
+  derived_next : {i : Placed} {q : ℕ} {f g : Frame} → IsDerived w m unset i.place f → Stands m.code i → Steps w m i f g → IsSuccessor m.code i q → IsDerived w m unset q g
+  derived_joined : {p : ℕ} {f g j : Frame} → IsDerived w m unset p f → IsDerived w m unset p g → Merges w.classes f g j → IsDerived w m unset p j

@@ -1,0 +1,198 @@
+ghost use Rattle.std.specs.Prelude.{◌≡◌, ◌↔◌, ◌≤◌, ◌<◌, length, reverse, IsTrue, All, slice_get, MatchOption, MatchResult, IfSome, IsSomeAnd};
+ghost use Rattle.jc_base.specs.Class.{IsClass, object};
+ghost use Rattle.jc_base.specs.Order.{IsKnown};
+ghost use Rattle.jc_base.specs.declared.ty.Ty.TheVariants.{IntLow, IntHigh};
+ghost use Rattle.jc_rows.specs.Named.{IsKnownWant};
+ghost use Rattle.jc_rules.specs.Demand.{AllHold, AreKnownDemands, AreKnown, frame, Meets, Holds, Breaks, refusal, refused, IsKnownDemand, IsArrayOrNull, IsHalf, IsFreshOf, Splits, refused_at};
+
+use jc_base::{Classes, Ty, World, below};
+use jc_rows::{RuleFault, Want};
+
+/// One thing that an instruction asks before it changes anything. Cells are counted from the top of
+/// the stack, from 0.
+#[derive(Clone, Copy)]
+pub enum Demand {
+    /// The method has so many registers from this one on.
+    Registers(u8, u8),
+    /// The stack has so many cells.
+    Depth(u8),
+    /// The stack has the cell, and it is as wanted.
+    Cell(u8, Want),
+    /// No int lies across the cut below this many cells.
+    Cut(u8),
+    /// The register holds a value of this type.
+    Held(u8, Ty),
+}
+
+/// The registers and the stack that an instruction finds, in a world.
+#[derive(Clone, Copy)]
+pub struct Before<'a> {
+    pub world: &'a World<'a>,
+    pub regs: &'a [Ty],
+    pub stack: &'a [Ty],
+}
+
+impl Before<'_> {
+    /// Checks the demands in order; the fault is that of the first that is not met.
+    pub fn check(&self, demands: &[Demand]) -> Result<(), RuleFault>
+        requires frame { AreKnown self.now.world.now.classes (frame self.now) }
+        requires demands { AreKnownDemands self.now.world.now.classes demands.now }
+        ensures { MatchResult result (λ _. AllHold self.now.world.now.classes (frame self.now) demands.now) (Breaks self.now.world.now.classes (frame self.now) demands.now) }
+    {
+        'demands: for demand in demands {
+            if let Some(fault) = self.broken(*demand) {
+                return Err(fault);
+            }
+        }
+        Ok(())
+    }
+
+    /// The fault of a demand that is not met.
+    pub(crate) fn broken(&self, demand: Demand) -> Option<RuleFault>
+        requires frame { AreKnown self.now.world.now.classes (frame self.now) }
+        requires demand { IsKnownDemand self.now.world.now.classes demand }
+        ensures { MatchOption result (Holds self.now.world.now.classes (frame self.now) demand) (λ fault. ¬ (Holds self.now.world.now.classes (frame self.now) demand) × (fault ≡ refused self.now.world.now.classes (frame self.now) demand)) }
+    {
+        match demand {
+            Demand::Registers(x, n) if x as usize + n as usize <= self.regs.len() => None,
+            Demand::Registers(x, _) => Some(RuleFault::NoLocal(x)),
+            Demand::Depth(n) if n as usize <= self.stack.len() => None,
+            Demand::Depth(_) => Some(RuleFault::Underflow),
+            Demand::Cell(n, want) => judged(
+                self.world.classes(),
+                want,
+                self.cell(n),
+                RuleFault::Underflow,
+            ),
+            Demand::Cut(n) if self.splits(n) => Some(RuleFault::SplitInt),
+            Demand::Cut(_) => None,
+            Demand::Held(x, ty) => judged(
+                self.world.classes(),
+                Want::Value(ty),
+                self.reg(x),
+                RuleFault::NoLocal(x),
+            ),
+        }
+    }
+
+    /// Whether an int lies across the cut below the `n`-th cell.
+    fn splits(&self, n: u8) -> bool
+        ensures { IsTrue result ↔ Splits (reverse self.now.stack.now) n }
+    {
+        let above = self.cell(n.saturating_sub(1));
+        let below = self.cell(n);
+        is_low(above) && is_high(below)
+    }
+
+    /// The cell under `n` others.
+    pub fn cell(&self, n: u8) -> Option<Ty>
+        ensures { result ≡ slice_get (reverse self.now.stack.now) n }
+    {
+        self.stack.iter().rev().nth(n as usize).copied()
+    }
+
+    pub fn reg(&self, x: u8) -> Option<Ty>
+        ensures { result ≡ slice_get self.now.regs.now x }
+    {
+        self.regs.get(x as usize).copied()
+    }
+}
+
+/// Whether what is found is as wanted.
+fn meets(classes: &Classes, want: Want, found: Ty) -> bool
+    requires want_known { IsKnownWant classes.now want }
+    requires found_known { IsKnown classes.now found }
+    requires object_known { IsClass classes.now (object classes.now) }
+    ensures { IsTrue result ↔ Meets classes.now want found }
+{
+    match want {
+        Want::Value(wanted) => below(classes, found, wanted),
+        Want::Storable => below(classes, found, Ty::Class(classes.role(0))),
+        Want::ByteArray => below(classes, found, Ty::ArrByte) || below(classes, found, Ty::ArrBool),
+        Want::AnyArray => is_array_or_null(found),
+        Want::Whole => !is_half(found),
+        Want::Receiver(class) => is_fresh_of(class, found)
+            || below(classes, found, Ty::Class(class)),
+    }
+}
+
+/// The fault of a cell or register that is not there, or not as wanted.
+fn judged(classes: &Classes, want: Want, found: Option<Ty>, absent: RuleFault) -> Option<RuleFault>
+    requires want_known { IsKnownWant classes.now want }
+    requires found_known { IfSome found (IsKnown classes.now) }
+    requires object_known { IsClass classes.now (object classes.now) }
+    ensures { MatchOption result (IsSomeAnd found (Meets classes.now want)) (λ fault. ¬ (IsSomeAnd found (Meets classes.now want)) × (fault ≡ refused_at classes.now want absent found)) }
+{
+    match found {
+        None => Some(absent),
+        Some(found) if meets(classes, want, found) => None,
+        Some(found) => Some(refusal(classes, want, found)),
+    }
+}
+
+fn is_low(found: Option<Ty>) -> bool
+    ensures { IsTrue result ↔ (found ≡ Some IntLow) }
+{
+    matches!(found, Some(Ty::IntLow))
+}
+
+fn is_high(found: Option<Ty>) -> bool
+    ensures { IsTrue result ↔ (found ≡ Some IntHigh) }
+{
+    matches!(found, Some(Ty::IntHigh))
+}
+
+fn is_array_or_null(found: Ty) -> bool
+    ensures { IsTrue result ↔ IsArrayOrNull found }
+{
+    matches!(
+        found,
+        Ty::Bottom
+            | Ty::Null
+            | Ty::ArrBool
+            | Ty::ArrByte
+            | Ty::ArrShort
+            | Ty::ArrInt
+            | Ty::ArrRef(_)
+    )
+}
+
+fn is_half(found: Ty) -> bool
+    ensures { IsTrue result ↔ IsHalf found }
+{
+    matches!(found, Ty::IntHigh | Ty::IntLow)
+}
+
+fn is_fresh_of(class: u16, found: Ty) -> bool
+    ensures { IsTrue result ↔ IsFreshOf class found }
+{
+    match found {
+        Ty::Fresh { class: of, .. } => of == class,
+        _ => false,
+    }
+}
+
+/// The fault of what was found where it is not as wanted.
+fn refusal(classes: &Classes, want: Want, found: Ty) -> RuleFault
+    ensures { result ≡ refusal classes.now want found }
+{
+    match want {
+        Want::Value(wanted) => RuleFault::Mismatch { found, wanted },
+        Want::Storable => match found {
+            Ty::Fresh { .. } => RuleFault::FreshKept,
+            _ => RuleFault::Mismatch {
+                found,
+                wanted: Ty::Class(classes.role(0)),
+            },
+        },
+        Want::ByteArray | Want::AnyArray => RuleFault::Mismatch {
+            found,
+            wanted: Ty::ArrByte,
+        },
+        Want::Whole => RuleFault::SplitInt,
+        Want::Receiver(class) => RuleFault::Mismatch {
+            found,
+            wanted: Ty::Class(class),
+        },
+    }
+}

@@ -1,0 +1,21 @@
+//! The typing rule of every instruction (JCVM 2.2, section 7.5; Leroy 2002, section 2.2).
+//!
+//! `apply` does to the types of registers and operand stack what the row of an instruction says, or
+//! refuses with the first thing that is missing.
+//! The definitions of dataflow typings, over which the verifiers are proved, stand here too.
+//! It stands on the rows of `jc_rows`, the types and worlds of `jc_base` and the instructions of `jc_decode`.
+
+#![tactic(auto)]
+
+mod calls;
+mod demand;
+mod effect;
+mod laws;
+mod objects;
+mod rule;
+mod values;
+
+pub use demand::{Before, Demand};
+pub use effect::{Cells, Change, Effect, Mode, Store};
+pub use laws::{rule_falls, rule_keeps};
+pub use rule::{Outcome, Site, apply};

@@ -1,0 +1,280 @@
+ghost use Rattle.std.specs.Prelude.{◌≡◌, ◌+◌, ◌≤◌, ◌<◌, ◌++◌, ◌∷◌, [], length, reverse, MatchResult, IfSome, All};
+ghost use Rattle.jc_base.specs.Class.{IsClass, object, throwable};
+ghost use Rattle.jc_base.specs.declared.ty.Ty.TheVariants.{Class};
+ghost use Rattle.jc_base.specs.Order.{IsKnown};
+ghost use Rattle.jc_rows.specs.declared.want.Want.TheVariants.{Value};
+ghost use Rattle.jc_rules.specs.declared.demand.Demand.TheVariants.{Cell};
+ghost use Rattle.jc_rules.specs.Demand.{AreKnown, AllHold, Breaks, frame, IsJudged};
+ghost use Rattle.jc_rows.specs.Named.{IsKnownWant};
+ghost use Rattle.jc_rules.specs.Rule.{a_reference, element, array_wanted, array_read_demands, array_read_effect, array_write_demands, array_write_effect, branch_demands, branch_effect, value_given, value_wanted, value_size, field_read_demands, field_read_effect, field_write_demands, field_write_effect, make_demands, make_effect, type_test_effect, replacing, number, size};
+
+use crate::demand::{Before, Demand};
+use crate::effect::{Cells, Effect};
+use crate::values::size;
+use jc_base::{Kind, Ty};
+use jc_rows::{Branch, Holder, Make, RuleFault, TypeTest, Want, Width};
+
+const SHORT: Want = Want::Value(Ty::Short);
+
+const INT_LOW: Want = Want::Value(Ty::IntLow);
+
+const INT_HIGH: Want = Want::Value(Ty::IntHigh);
+
+/// The type of an element of an array of references.
+fn element(array: Ty) -> Ty
+    ensures { result ≡ element array }
+{
+    match array {
+        Ty::ArrRef(class) => Ty::Class(class),
+        _ => Ty::Null,
+    }
+}
+
+/// The cells of a value of a declared type.
+pub(crate) fn value_given(ty: Ty) -> Cells
+    ensures { result ≡ value_given ty }
+{
+    match ty {
+        Ty::IntHigh => Cells::Int,
+        other => Cells::One(other),
+    }
+}
+
+pub(crate) fn value_size(ty: Ty) -> u8
+    ensures { result ≡ value_size ty }
+{
+    match ty {
+        Ty::IntHigh => 2,
+        _ => 1,
+    }
+}
+
+impl Before<'_> {
+    /// The array of the elements of a kind.
+    fn array_wanted(&self, kind: Kind) -> Want
+        requires { IsClass self.now.world.now.classes (object self.now.world.now.classes) }
+        ensures is { result ≡ array_wanted self.now.world.now.classes kind }
+        ensures known { IsKnownWant self.now.world.now.classes result }
+    {
+        match kind {
+            Kind::Ref => Want::Value(Ty::ArrRef(self.world.role(0))),
+            Kind::Byte => Want::ByteArray,
+            Kind::Short => Want::Value(Ty::ArrShort),
+            Kind::Int => Want::Value(Ty::ArrInt),
+        }
+    }
+
+    pub(crate) fn array_read(&self, kind: Kind) -> Result<Effect, RuleFault>
+        requires { AreKnown self.now.world.now.classes (frame self.now) }
+        ensures { IsJudged self.now.world.now.classes (frame self.now) (array_read_demands self.now.world.now.classes kind) (array_read_effect kind (frame self.now)) result }
+    {
+        self.check(&[
+            Demand::Cell(0, SHORT),
+            Demand::Cell(1, self.array_wanted(kind)),
+        ])?;
+        let given = match kind {
+            Kind::Ref => Cells::One(element(self.found(1))),
+            Kind::Byte | Kind::Short => Cells::One(Ty::Short),
+            Kind::Int => Cells::Int,
+        };
+        Ok(Effect::replacing(2, given))
+    }
+
+    pub(crate) fn array_write(&self, kind: Kind) -> Result<Effect, RuleFault>
+        requires { AreKnown self.now.world.now.classes (frame self.now) }
+        ensures { IsJudged self.now.world.now.classes (frame self.now) (array_write_demands self.now.world.now.classes kind) (array_write_effect kind) result }
+    {
+        let array = self.array_wanted(kind);
+        match kind {
+            Kind::Ref => {
+                self.check(&[
+                    Demand::Cell(0, self.a_reference()),
+                    Demand::Cell(1, SHORT),
+                    Demand::Cell(2, array),
+                ])?;
+                Ok(Effect::replacing(3, Cells::Nothing))
+            }
+            Kind::Byte | Kind::Short => {
+                self.check(&[
+                    Demand::Cell(0, SHORT),
+                    Demand::Cell(1, SHORT),
+                    Demand::Cell(2, array),
+                ])?;
+                Ok(Effect::replacing(3, Cells::Nothing))
+            }
+            Kind::Int => {
+                self.check(&[
+                    Demand::Cell(0, INT_LOW),
+                    Demand::Cell(1, INT_HIGH),
+                    Demand::Cell(2, SHORT),
+                    Demand::Cell(3, array),
+                ])?;
+                Ok(Effect::replacing(4, Cells::Nothing))
+            }
+        }
+    }
+
+    pub(crate) fn array_length(&self) -> Result<Effect, RuleFault>
+        requires { AreKnown self.now.world.now.classes (frame self.now) }
+        ensures { IsJudged self.now.world.now.classes (frame self.now) (Cell 0 Want.AnyArray ∷ []) (replacing 1 (Cells.One Ty.Short)) result }
+    {
+        self.check(&[Demand::Cell(0, Want::AnyArray)])?;
+        Ok(Effect::replacing(1, Cells::One(Ty::Short)))
+    }
+
+    pub(crate) fn branched(&self, branch: Branch) -> Result<Effect, RuleFault>
+        requires { AreKnown self.now.world.now.classes (frame self.now) }
+        ensures { IsJudged self.now.world.now.classes (frame self.now) (branch_demands self.now.world.now.classes branch) (branch_effect branch) result }
+    {
+        let reference = self.a_reference();
+        match branch {
+            Branch::Always => Ok(Effect::replacing(0, Cells::Nothing)),
+            Branch::Zero(_) => {
+                self.check(&[Demand::Cell(0, SHORT)])?;
+                Ok(Effect::replacing(1, Cells::Nothing))
+            }
+            Branch::Null(_) => {
+                self.check(&[Demand::Cell(0, reference)])?;
+                Ok(Effect::replacing(1, Cells::Nothing))
+            }
+            Branch::References(_) => {
+                self.check(&[Demand::Cell(0, reference), Demand::Cell(1, reference)])?;
+                Ok(Effect::replacing(2, Cells::Nothing))
+            }
+            Branch::Shorts(_) => {
+                self.check(&[Demand::Cell(0, SHORT), Demand::Cell(1, SHORT)])?;
+                Ok(Effect::replacing(2, Cells::Nothing))
+            }
+        }
+    }
+
+    pub(crate) fn switched(&self, width: Width) -> Result<Effect, RuleFault>
+        requires { AreKnown self.now.world.now.classes (frame self.now) }
+        ensures { IsJudged self.now.world.now.classes (frame self.now) (number width 0) (replacing (size width) Cells.Nothing) result }
+    {
+        self.check_number(width)?;
+        Ok(Effect::replacing(size(width), Cells::Nothing))
+    }
+
+    /// A value of a declared type goes from the stack.
+    pub(crate) fn popped(&self, ty: Ty) -> Result<Effect, RuleFault>
+        requires frame { AreKnown self.now.world.now.classes (frame self.now) }
+        requires ty { IsKnown self.now.world.now.classes ty }
+        ensures { IsJudged self.now.world.now.classes (frame self.now) (value_wanted ty) (replacing (value_size ty) Cells.Nothing) result }
+    {
+        match ty {
+            Ty::IntHigh => self.check(&[Demand::Cell(0, INT_LOW), Demand::Cell(1, INT_HIGH)])?,
+            _ => self.check(&[Demand::Cell(0, Want::Value(ty))])?,
+        }
+        Ok(Effect::replacing(value_size(ty), Cells::Nothing))
+    }
+
+    pub(crate) fn field_read(&self, holder: Holder, class: u16, ty: Ty) -> Result<Effect, RuleFault>
+        requires frame { AreKnown self.now.world.now.classes (frame self.now) }
+        requires class { IsClass self.now.world.now.classes class }
+        ensures { IsJudged self.now.world.now.classes (frame self.now) (field_read_demands holder class) (field_read_effect holder ty) result }
+    {
+        let object = Want::Value(Ty::Class(class));
+        match holder {
+            Holder::Stack => {
+                self.check(&[Demand::Cell(0, object)])?;
+                Ok(Effect::replacing(1, value_given(ty)))
+            }
+            Holder::This => {
+                self.check(&[Demand::Registers(0, 1), Demand::Held(0, Ty::Class(class))])?;
+                Ok(Effect::replacing(0, value_given(ty)))
+            }
+        }
+    }
+
+    pub(crate) fn field_write(
+        &self,
+        holder: Holder,
+        class: u16,
+        ty: Ty,
+    ) -> Result<Effect, RuleFault>
+        requires frame { AreKnown self.now.world.now.classes (frame self.now) }
+        requires class { IsClass self.now.world.now.classes class }
+        requires ty { IsKnown self.now.world.now.classes ty }
+        ensures { IsJudged self.now.world.now.classes (frame self.now) (field_write_demands holder class ty) (field_write_effect holder ty) result }
+    {
+        match holder {
+            Holder::Stack => self.object_write(class, ty),
+            Holder::This => self.this_write(class, ty),
+        }
+    }
+
+    fn object_write(&self, class: u16, ty: Ty) -> Result<Effect, RuleFault>
+        requires frame { AreKnown self.now.world.now.classes (frame self.now) }
+        requires class { IsClass self.now.world.now.classes class }
+        requires ty { IsKnown self.now.world.now.classes ty }
+        ensures { IsJudged self.now.world.now.classes (frame self.now) (field_write_demands Holder.Stack class ty) (field_write_effect Holder.Stack ty) result }
+    {
+        let object = Want::Value(Ty::Class(class));
+        match ty {
+            Ty::IntHigh => self.check(&[
+                Demand::Cell(0, INT_LOW),
+                Demand::Cell(1, INT_HIGH),
+                Demand::Cell(2, object),
+            ])?,
+            _ => self.check(&[Demand::Cell(0, Want::Value(ty)), Demand::Cell(1, object)])?,
+        }
+        Ok(Effect::replacing(value_size(ty) + 1, Cells::Nothing))
+    }
+
+    fn this_write(&self, class: u16, ty: Ty) -> Result<Effect, RuleFault>
+        requires frame { AreKnown self.now.world.now.classes (frame self.now) }
+        requires class { IsClass self.now.world.now.classes class }
+        requires ty { IsKnown self.now.world.now.classes ty }
+        ensures { IsJudged self.now.world.now.classes (frame self.now) (field_write_demands Holder.This class ty) (field_write_effect Holder.This ty) result }
+    {
+        let object = Demand::Held(0, Ty::Class(class));
+        match ty {
+            Ty::IntHigh => self.check(&[
+                Demand::Registers(0, 1),
+                Demand::Cell(0, INT_LOW),
+                Demand::Cell(1, INT_HIGH),
+                object,
+            ])?,
+            _ => self.check(&[
+                Demand::Registers(0, 1),
+                Demand::Cell(0, Want::Value(ty)),
+                object,
+            ])?,
+        }
+        Ok(Effect::replacing(value_size(ty), Cells::Nothing))
+    }
+
+    pub(crate) fn made(&self, make: Make, ty: Ty) -> Result<Effect, RuleFault>
+        requires { AreKnown self.now.world.now.classes (frame self.now) }
+        ensures { IsJudged self.now.world.now.classes (frame self.now) (make_demands make) (make_effect make ty) result }
+    {
+        match make {
+            Make::Object => Ok(Effect::replacing(0, Cells::One(ty))),
+            Make::Numbers | Make::References => {
+                self.check(&[Demand::Cell(0, SHORT)])?;
+                Ok(Effect::replacing(1, Cells::One(ty)))
+            }
+        }
+    }
+
+    pub(crate) fn thrown(&self) -> Result<Effect, RuleFault>
+        requires { AreKnown self.now.world.now.classes (frame self.now) }
+        ensures { IsJudged self.now.world.now.classes (frame self.now) (Cell 0 (Value (Class (throwable self.now.world.now.classes))) ∷ []) (replacing 1 Cells.Nothing) result }
+    {
+        self.check(&[Demand::Cell(0, Want::Value(Ty::Class(self.world.role(1))))])?;
+        Ok(Effect::replacing(1, Cells::Nothing))
+    }
+
+    pub(crate) fn tested(&self, test: TypeTest, ty: Ty) -> Result<Effect, RuleFault>
+        requires { AreKnown self.now.world.now.classes (frame self.now) }
+        ensures { IsJudged self.now.world.now.classes (frame self.now) (Cell 0 (a_reference self.now.world.now.classes) ∷ []) (type_test_effect test ty) result }
+    {
+        self.check(&[Demand::Cell(0, self.a_reference())])?;
+        let given = match test {
+            TypeTest::Cast => ty,
+            TypeTest::InstanceOf => Ty::Short,
+        };
+        Ok(Effect::replacing(1, Cells::One(given)))
+    }
+}
