@@ -1,7 +1,7 @@
 -- The parts of a package's folder, as they are loaded: by rising tag, the components that every package has (JCVM 2.2, section 6.1),
 -- and the other ones to which the Directory gives a size that is not 0 (section 6.4). A Directory that is absent or malformed tells no
 -- sizes.
-use Rattle.std.specs.Prelude.{◌≡◌, ℕ, suc, ◌<◌, ◌≤◌, Bool, true, false, not, ◌&&◌, ◌||◌, ◌==◌, nat_le, List, [], ◌∷◌, ◌++◌, length, Option, Some, None, Result, Ok, Err}
+use Rattle.std.specs.Prelude.{◌≡◌, ℕ, suc, ◌<◌, ◌≤◌, Bool, true, false, not, ◌&&◌, ◌||◌, ◌==◌, nat_le, List, [], ◌∷◌, ◌++◌, length, Option, Some, None, Result, Ok, Err, refl}
 use Rattle.cap_frame.specs.DirectoryFormat.{DirectoryItems, directory_info}
 use Rattle.cap_frame.specs.Directory.{size_in}
 use Rattle.cap_package.specs.declared.fault.PackFault.{PackFault}
@@ -71,3 +71,13 @@ pub record IsFirstLong (before : Folders) (dir : List ℕ) (tag : ℕ) : Type 0 
 -- all parts of the folder that are asked for and are there: tags are bytes
 abbrev pub AreParts : Folders → List ℕ → List Lent → Type 0
 AreParts before dir parts = AreLoaded before dir 256 parts
+
+-- whatever was loaded, the Header is asked for, and neither the roles nor Debug are
+header_asked : (parts : List Lent) → is_asked parts 1 ≡ true
+header_asked parts = refl
+
+roles_unasked : (parts : List Lent) → is_asked parts 0 ≡ false
+roles_unasked parts = refl
+
+debug_unasked : (parts : List Lent) → is_asked parts 12 ≡ false
+debug_unasked parts = refl
