@@ -5,7 +5,8 @@ use Rattle.std.specs.Str.Parse.{AllDigits}
 use Rattle.std.proofs.lemmas.Fmt.{decimal_injective, signed_decimal_injective, decimal_is_IsNumeral}
 use Rattle.cap_text.specs.Word.{IsArgWord, AreArgWords}
 use Rattle.cap_text.specs.Probe.{ProbeRequest, IsProbe}
-use Rattle.cap_text.specs.Request.{probe, OneRequest}
+use Rattle.cap_text.specs.Show.{ShowRequest, IsShow}
+use Rattle.cap_text.specs.Request.{probe, show, OneRequest}
 use Rattle.cap_text.specs.declared.word.Arg.{Arg}
 use Rattle.cap_text.specs.declared.word.Arg.TheVariants.{Number, Null}
 
@@ -42,6 +43,18 @@ one_probe (dir ∷ budget ∷ args) p q is_p is_q =
     let same_args = one_list args p.args q.args is_p.3 is_q.3 in
     λ i. record { dir = same_dir i; budget = steps i; args = same_args i }
 
+one_show : (operands : List (List ℕ)) (s t : ShowRequest) → IsShow operands s → IsShow operands t → s ≡ t
+one_show [] s t is_s is_t = absurd is_s
+one_show (dir ∷ []) s t is_s is_t = let same : s.dir ≡ t.dir = is_s.0 ∙ sym is_t.0 in λ i. record { dir = same i }
+one_show (dir ∷ more ∷ rest) s t is_s is_t = absurd is_s
+
+probe_show : (name : List ℕ) → name ≡ codes "probe" → name ≡ codes "show" → ⊥
+unfolding first
+probe_show name is_probe is_show = let differ : 112 ≡ 115 = ap first (sym is_probe ∙ is_show) in omega (arith, differ)
+
 pub one_request : (words : List (List ℕ)) → OneRequest words
 one_request [] r s is_r is_s = absurd is_r
 one_request (name ∷ operands) (probe p) (probe q) is_r is_s = ap probe (one_probe operands p q is_r.1 is_s.1)
+one_request (name ∷ operands) (probe p) (show t) is_r is_s = absurd (probe_show name is_r.0 is_s.0)
+one_request (name ∷ operands) (show s) (probe q) is_r is_s = absurd (probe_show name is_s.0 is_r.0)
+one_request (name ∷ operands) (show s) (show t) is_r is_s = ap show (one_show operands s t is_r.1 is_s.1)

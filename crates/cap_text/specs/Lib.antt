@@ -1,8 +1,10 @@
 pub mod Word
 pub mod Probe
+pub mod Show
 pub mod Request
 pub mod Fault
 pub mod Bare
 pub mod Start
 pub mod Line
+pub mod Table
 pub mod Worked

@@ -6,6 +6,7 @@ use Rattle.cap_package.specs.declared.fault.PackFault.TheVariants.{Form, MethodL
 use Rattle.cap_bare.specs.declared.fault.BareKind.TheVariants.{BadTarget}
 use Rattle.cap_bare.specs.declared.run.BareEnd.TheVariants.{Returned}
 use Rattle.cap_text.specs.declared.start.StartFault.TheVariants.{ArgCount}
+use Rattle.cap_text.specs.Table.{component_line}
 use Rattle.cap_text.specs.Line.{malformed_line, not_started_line, refused_bare_line, bare_ending_line}
 
 malformed : malformed_line 0 (Form (record { part = 7; at = 21; kind = Cut })) ≡ codes "malformed package 0 Form 7 21 Cut\n"
@@ -27,3 +28,15 @@ refused = refl
 returned : bare_ending_line (Returned (negsuc 32767)) ≡ codes "returned short -32768\n"
 unfolding digits
 returned = refl
+
+method_size : component_line 7 19 ≡ codes "Method 7 19\n"
+unfolding digits
+method_size = refl
+
+no_applet : component_line 3 0 ≡ codes "Applet 3 absent\n"
+unfolding digits
+no_applet = refl
+
+custom_size : component_line 130 2 ≡ codes "Custom130 130 2\n"
+unfolding digits
+custom_size = refl

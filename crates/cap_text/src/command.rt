@@ -2,6 +2,7 @@ ghost use Rattle.std.specs.Prelude.{IfOk, IfSome, IfNone};
 ghost use Rattle.cap_text.specs.Request.{Request, IsRequest, IsUsage, request_of, OneRequest};
 
 use crate::probe::Probe;
+use crate::show::Show;
 use cap_files::Words;
 use std::alloc::{AllocError, Global};
 
@@ -9,6 +10,7 @@ use std::alloc::{AllocError, Global};
 #[derive(Drop)]
 pub enum Command<'a> {
     Probe(Probe<'a>),
+    Show(Show<'a>),
 }
 
 /// The command that the words spell, where they spell one. The arguments of a run take memory.
@@ -24,6 +26,9 @@ pub fn read_command<'a>(alloc: Global, words: &'a Words) -> Result<Option<Comman
     };
     if name == "probe" {
         return Ok(Probe::read(alloc, operands)?.map(Command::Probe));
+    }
+    if name == "show" {
+        return Ok(Show::read(operands).map(Command::Show));
     }
     Ok(None)
 }

@@ -8,12 +8,16 @@ mod command;
 mod fault;
 mod line;
 mod probe;
+mod show;
 mod start;
+mod table;
 mod word;
 
 pub use command::{Command, read_command};
 pub use fault::Shown;
 pub use line::{bare_ending, malformed, not_started, refused_bare};
 pub use probe::Probe;
+pub use show::Show;
 pub use start::StartFault;
+pub use table::component_table;
 pub use word::{Arg, argument, folder_word, number};

@@ -1,6 +1,6 @@
 -- Where what a command needs is there and no device failed, no other verdict than Done and Memory has its cause.
 use Rattle.std.proofs.Common.{◌≡◌, ◌⊎◌, List, ℕ, ℤ, ◌<◌, length, map, subst, ◌∙◌, inl, inr, refl, arith, rules, suc, zero, [], ◌∷◌, All, FitsSigned, w16}
-use Rattle.std.specs.Prelude.{None, IfSome, IsSomeAnd, string_bytes, slice_get}
+use Rattle.std.specs.Prelude.{Result, Ok, Err, None, IfSome, IsSomeAnd, string_bytes, slice_get}
 use Rattle.std.specs.FinMap as map
 use Rattle.cap_files.specs.Folder.{Holds}
 use Rattle.cap_bare.specs.Typing.{CardTyping}
@@ -9,18 +9,24 @@ use Rattle.cap_text.specs.declared.word.Arg.TheVariants.{Number}
 use Rattle.cap_text.specs.declared.start.StartFault.{StartFault}
 use Rattle.cap_text.specs.declared.start.StartFault.TheVariants.{NoEntry, NotStatic, ArgCount, ArgKind}
 use Rattle.cap_text.specs.Probe.{ProbeRequest}
-use Rattle.cap_text.specs.Request.{Request, probe}
+use Rattle.cap_text.specs.Show.{ShowRequest}
+use Rattle.cap_text.specs.Request.{Request, probe, show}
 use Rattle.capcheck_core.specs.declared.verdict.Verdict.{Verdict}
 use Rattle.capcheck_core.specs.declared.verdict.Verdict.TheVariants.{Done, Refused, Limit, Malformed, Usage, ReadFault, StoreFault, Memory}
 use Rattle.capcheck_core.specs.Verdict.{status_of}
 use Rattle.capcheck_core.specs.Outside.{Folders, Card, IsThere, IsAbsent, IsTooLong}
 use Rattle.capcheck_core.specs.Answers.{Answers, IsVerdict}
-use Rattle.capcheck_core.specs.Completeness.{CanProbe, CanDo, NoFault, Completes}
+use Rattle.capcheck_core.specs.Completeness.{CanProbe, CanShow, CanDo, NoFault, Completes}
 use Rattle.capcheck_core.specs.MethodFile.{IsMethodFile}
 use Rattle.capcheck_core.specs.Probe.{Probes, OfMethodPart, OfMethod, IsRefusal, IsUnstarted, IsNoMethod, method_key}
 use Rattle.capcheck_core.specs.Report.{Seen, IsReported}
 use Rattle.capcheck_core.specs.Shorts.{IsShort, AreShorts, RefusesStart}
+use Rattle.capcheck_core.specs.Show.{Shows, OfParts, IsUnshown}
 use Rattle.capcheck_core.proofs.MethodFiles.{same_method, no_breach}
+use Rattle.capcheck_core.proofs.Loads.{one_list, none_long}
+use Rattle.cap_package.specs.PackageRecord.{PackageRecord}
+use Rattle.cap_package.specs.Agreement.{package_of}
+use Rattle.cap_package.specs.declared.fault.PackFault.{PackFault}
 
 -- the file that was read is the one that is held
 same_file : (p : ProbeRequest) (before : Folders) (can : CanProbe p before) (file : List ℕ) → IsThere before (method_key p) file → can.file ≡ file
@@ -87,9 +93,31 @@ can_probe p before after sink put Usage can calm probes = absurd probes
 can_probe p before after sink put StoreFault can calm probes = absurd probes
 can_probe p before after sink put (Limit text) can calm probes = absurd probes
 
+-- a package is no fault
+no_fault : (p : PackageRecord) (fault : PackFault) (r : Result PackageRecord PackFault) → r ≡ Ok p → r ≡ Err fault → ⊥
+no_fault p fault r is_ok is_err = absurd (cc)
+
+shown : (s : ShowRequest) (before : Folders) → CanShow s before → (text : List ℕ) → OfParts s before (λ parts. IsUnshown parts text) → ⊥
+shown s before can text of =
+    let same = one_list before can.held s.dir 256 can.parts of.parts can.told can.loaded of.loaded in
+    no_fault can.shown of.holds.fault (package_of of.parts) (subst (λ ps. package_of ps ≡ Ok can.shown) same can.stands) of.holds.refused
+
+can_show : (s : ShowRequest) (before after : Folders) (sink put : Seen) (verdict : Verdict) → CanShow s before → NoFault before after sink put
+    → Shows s before after verdict → (status_of verdict ≡ 0) ⊎ (status_of verdict ≡ 6)
+can_show s before after sink put (Done text) can calm shows = inl refl
+can_show s before after sink put Memory can calm shows = inr refl
+can_show s before after sink put (Malformed text) can calm (inl long) = absurd (none_long before can.held s.dir 256 long.tag can.parts can.told can.loaded long.first.byte long.first)
+can_show s before after sink put (Malformed text) can calm (inr of) = absurd (shown s before can (string_bytes text) of)
+can_show s before after sink put ReadFault can calm shows = absurd (calm.loads shows)
+can_show s before after sink put (Refused text) can calm shows = absurd shows
+can_show s before after sink put Usage can calm shows = absurd shows
+can_show s before after sink put StoreFault can calm shows = absurd shows
+can_show s before after sink put (Limit text) can calm shows = absurd shows
+
 can_do : (r : Request) (before after : Folders) (old new : Card) (sink put : Seen) (verdict : Verdict) → CanDo r before → NoFault before after sink put
     → Answers r before after old new verdict → (status_of verdict ≡ 0) ⊎ (status_of verdict ≡ 6)
 can_do (probe p) before after old new sink put verdict can calm answers = can_probe p before after sink put verdict can calm answers.0
+can_do (show s) before after old new sink put verdict can calm answers = can_show s before after sink put verdict can calm answers.0
 
 reported : (verdict : Verdict) (before after : Folders) (sink put : Seen) (status : ℕ) → NoFault before after sink put → IsReported verdict sink put status
     → (status_of verdict ≡ 0) ⊎ (status_of verdict ≡ 6) → (status ≡ 0) ⊎ (status ≡ 6)

@@ -1,10 +1,11 @@
 -- What each command may answer, and what it leaves as it was.
 use Rattle.std.specs.Prelude.{◌≡◌, ℕ, List}
-use Rattle.cap_text.specs.Request.{Request, probe, IsRequest, IsUsage}
+use Rattle.cap_text.specs.Request.{Request, probe, show, IsRequest, IsUsage}
 use Rattle.capcheck_core.specs.declared.verdict.Verdict.{Verdict}
 use Rattle.capcheck_core.specs.declared.verdict.Verdict.TheVariants.{Usage, Memory}
 use Rattle.capcheck_core.specs.Outside.{Folders, StoresNothing, Card}
 use Rattle.capcheck_core.specs.Probe.{Probes}
+use Rattle.capcheck_core.specs.Show.{Shows}
 
 -- nothing was stored, and the card's memory is as before
 pub record Untouched (before after : Folders) (old new : Card) : Type 0 where
@@ -14,6 +15,7 @@ pub record Untouched (before after : Folders) (old new : Card) : Type 0 where
 -- the verdicts of each command
 abbrev pub Answers : Request → Folders → Folders → Card → Card → Verdict → Type 0
 Answers (probe p) before after old new verdict = Probes p before after verdict × Untouched before after old new
+Answers (show s) before after old new verdict = Shows s before after verdict × Untouched before after old new
 
 -- the verdicts where the words ask for nothing
 abbrev pub SaysUsage : Verdict → Type 0

@@ -1,12 +1,17 @@
 -- When a command does its work, or wants memory for it.
-use Rattle.std.specs.Prelude.{◌≡◌, ℕ, ℤ, ◌≤◌, List, length, Some, ◌⊎◌}
+use Rattle.std.specs.Prelude.{◌≡◌, ℕ, ℤ, ◌≤◌, List, length, Some, Ok, ◌⊎◌}
 use Rattle.cap_files.specs.Counts.{Rose}
 use Rattle.cap_files.specs.Folder.{Parts, Holds}
 use Rattle.cap_bare.specs.declared.bare.Bare.{Bare}
 use Rattle.cap_bare.specs.Typing.{CardTyping}
 use Rattle.cap_text.specs.Probe.{ProbeRequest}
-use Rattle.cap_text.specs.Request.{Request, probe, IsRequest}
+use Rattle.cap_text.specs.Show.{ShowRequest}
+use Rattle.cap_text.specs.Request.{Request, probe, show, IsRequest}
+use Rattle.cap_package.specs.Parts.{Lent}
+use Rattle.cap_package.specs.PackageRecord.{PackageRecord}
+use Rattle.cap_package.specs.Agreement.{package_of}
 use Rattle.capcheck_core.specs.MethodFile.{IsMethodFile}
+use Rattle.capcheck_core.specs.Loads.{AreParts}
 use Rattle.capcheck_core.specs.Outside.{Folders}
 use Rattle.capcheck_core.specs.Probe.{method_key}
 use Rattle.capcheck_core.specs.Report.{Seen}
@@ -32,9 +37,19 @@ pub record CanProbe (p : ProbeRequest) (before : Folders) : Type 0 where
   pub values : List ℤ
   pub fit : AreShorts p.args bare.nargs values
 
+-- the parts of the folder stand for a package
+pub record CanShow (s : ShowRequest) (before : Folders) : Type 0 where
+  pub held : Parts
+  pub told : before.held ≡ Some held
+  pub parts : List Lent
+  pub loaded : AreParts before s.dir parts
+  pub shown : PackageRecord
+  pub stands : package_of parts ≡ Ok shown
+
 -- what a command needs is there
 abbrev pub CanDo : Request → Folders → Type 0
 CanDo (probe p) before = CanProbe p before
+CanDo (show s) before = CanShow s before
 
 -- where the words ask for something, what it needs is there and no device failed, the work is done or memory is wanting
 abbrev pub Completes : List (List ℕ) → Folders → Folders → Seen → Seen → ℕ → Type 0

@@ -4,5 +4,8 @@ pub mod Shorts
 pub mod Outside
 pub mod MethodFile
 pub mod Probe
+pub mod Loads
+pub mod LoadEnds
+pub mod Show
 pub mod Answers
 pub mod Completeness

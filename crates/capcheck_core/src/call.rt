@@ -8,6 +8,7 @@ ghost use Rattle.capcheck_core.specs.declared.verdict.Verdict.{Verdict};
 
 use crate::probe::probe;
 use crate::report::report;
+use crate::show::show;
 use crate::verdict::Verdict;
 use cap_files::{Folder, Sink, Words};
 use cap_text::{Command, read_command};
@@ -80,5 +81,6 @@ fn perform<F: Folder>(
 {
     match command {
         Command::Probe(operands) => probe(alloc, folder, operands),
+        Command::Show(operands) => show(alloc, folder, operands),
     }
 }

@@ -4,10 +4,12 @@
 #![tactic(auto)]
 
 mod call;
+mod load;
 mod method_file;
 mod probe;
 mod report;
 mod shorts;
+mod show;
 mod sure;
 mod verdict;
 
@@ -15,5 +17,7 @@ pub use call::capcheck;
 pub use sure::sure_forms_never_fail;
 pub use verdict::Verdict;
 
+#[cfg(test)]
+mod show_tests;
 #[cfg(test)]
 mod tests;

@@ -16,7 +16,7 @@ fn memory(alloc: Global, words: usize) -> Result<Vec<u16>, AllocError>
 }
 
 /// Runs a command, its words parted by single spaces.
-fn run<F: Folder, K: Sink>(
+pub(crate) fn run<F: Folder, K: Sink>(
     alloc: Global,
     line: &str,
     folder: &mut F,
@@ -98,6 +98,11 @@ fn answers_usage_outside_the_grammar(rt: HostRuntime) -> Result<(), AllocError> 
         "probe P",
         "probe",
         "probes P 4 41",
+        "show",
+        "show --",
+        "show ",
+        "show P 4",
+        "shows P",
     ];
     for line in lines {
         assert!(rt; gives(alloc, NEXT, line, "usage\n", 2)?, "at {line}");

@@ -1,0 +1,46 @@
+-- The component table of a package, as capcheck prints it: the package's identifier in lower-case hexadecimal digits and its version;
+-- then for each component of the standard (JCVM 2.2, section 6.1) and each custom component the name of its file, its tag, and the size
+-- that the Directory gives, or that it is absent.
+use Rattle.std.specs.Prelude.{ℕ, List, [], ◌∷◌, ◌++◌, codes, decimal, unwrap_or, ◌==◌, if◌then◌else◌}
+use Rattle.std.specs.List.{concat, flat_map}
+use Rattle.hex.specs.Hex.{encode_lower}
+use Rattle.cap_files.specs.FileName.{part_name}
+use Rattle.cap_frame.specs.DirectoryFormat.{DirectoryItems, Custom}
+use Rattle.cap_frame.specs.Directory.{size_in}
+use Rattle.cap_frame.specs.PackageFormat.{Package}
+use Rattle.cap_package.specs.PackageRecord.{PackageRecord}
+
+unfoldable pub package_line : Package → List ℕ
+package_line p = concat (codes "package " ∷ encode_lower p.aid ∷ codes " " ∷ decimal p.major ∷ codes "." ∷ decimal p.minor ∷ codes " format 2.2\n" ∷ [])
+
+-- a size of 0 says that the component is absent
+abbrev pub size_text : ℕ → List ℕ
+size_text size = if size == 0 then codes "absent" else decimal size
+
+abbrev pub component_line : ℕ → ℕ → List ℕ
+component_line tag size = concat (part_name tag ∷ codes " " ∷ decimal tag ∷ codes " " ∷ size_text size ∷ codes "\n" ∷ [])
+
+-- the line of a component of the standard
+abbrev pub tag_line : DirectoryItems → ℕ → List ℕ
+tag_line d tag = component_line tag (unwrap_or (size_in d tag) 0)
+
+-- the tags of the components of the standard
+abbrev pub standard_tags : List ℕ
+standard_tags = 1 ∷ 2 ∷ 3 ∷ 4 ∷ 5 ∷ 6 ∷ 7 ∷ 8 ∷ 9 ∷ 10 ∷ 11 ∷ 12 ∷ []
+
+unfoldable pub component_lines : DirectoryItems → List ℕ
+component_lines d = flat_map (tag_line d) standard_tags
+
+-- the line of a custom component
+abbrev pub custom_line : Custom → List ℕ
+custom_line c = component_line c.tag c.size
+
+unfoldable pub custom_lines : DirectoryItems → List ℕ
+custom_lines d = flat_map custom_line d.customs
+
+-- the lines of a package with this identifier and version and with these sizes
+unfoldable pub table_of : Package → DirectoryItems → List ℕ
+table_of p d = (package_line p ++ component_lines d) ++ custom_lines d
+
+abbrev pub component_table : PackageRecord → List ℕ
+component_table p = table_of p.header.package_of p.directory

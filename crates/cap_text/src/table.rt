@@ -1,0 +1,100 @@
+ghost use Rattle.std.specs.Prelude.{◌≡◌, IfOk, string_bytes, unwrap_or};
+ghost use Rattle.std.specs.List.{flat_map};
+ghost use Rattle.cap_frame.specs.Directory.{directory_items, size_in};
+ghost use Rattle.cap_frame.specs.Packages.{package_seen};
+ghost use Rattle.cap_text.specs.Table.{package_line, component_line, tag_line, component_lines, custom_lines, table_of, component_table};
+
+use cap_bytes::Part;
+use cap_files::file_name;
+use cap_frame::{Directory, PackageInfo};
+use cap_package::Package;
+use std::alloc::{AllocError, Global};
+
+/// The tags of the components of the standard, in order.
+const TAGS: [u8; 12] = [1, 2, 3, 4, 5, 6, 7, 8, 9, 10, 11, 12];
+
+/// The component table of a package: a line for the package, one for each component of the standard
+/// and one for each custom component, with the sizes that the Directory gives.
+pub fn component_table(alloc: Global, package: &Package<'_>) -> Result<String, AllocError>
+    ensures { IfOk result (λ t. string_bytes t ≡ component_table «package».now) }
+{
+    table_of(alloc, package.header().package(), package)
+}
+
+#[tactic(auto, unfolding(crate::specs::Table::table_of))]
+fn table_of(
+    alloc: Global,
+    info: PackageInfo<'_>,
+    package: &Package<'_>,
+) -> Result<String, AllocError>
+    ensures { IfOk result (λ t. string_bytes t ≡ table_of (package_seen info.entry) «package».now.directory) }
+{
+    let mut text = package_line(alloc, info)?;
+    text.push_str(standard_lines(alloc, package)?.as_str())?;
+    text.push_str(lines_of_customs(alloc, package)?.as_str())?;
+    Ok(text)
+}
+
+#[tactic(auto, unfolding(crate::specs::Table::package_line))]
+fn package_line(alloc: Global, info: PackageInfo<'_>) -> Result<String, AllocError>
+    ensures { IfOk result (λ t. string_bytes t ≡ package_line (package_seen info.entry)) }
+{
+    let aid = hex::encode(alloc, info.aid)?;
+    format!(in alloc; "package {aid} {}.{} format 2.2\n", info.major, info.minor)
+}
+
+#[tactic(auto, unfolding(crate::specs::Table::component_lines))]
+fn standard_lines(alloc: Global, package: &Package<'_>) -> Result<String, AllocError>
+    ensures { IfOk result (λ t. string_bytes t ≡ component_lines «package».now.directory) }
+{
+    component_lines(alloc, package, &TAGS)
+}
+
+fn component_lines(
+    alloc: Global,
+    package: &Package<'_>,
+    tags: &[u8],
+) -> Result<String, AllocError>
+    ensures { IfOk result (λ t. string_bytes t ≡ flat_map (tag_line «package».now.directory) tags.now) }
+{
+    let mut text = String::new(alloc);
+    'tags: for tag in tags {
+        text.push_str(component_line(alloc, *tag, size_of(package, *tag))?.as_str())?;
+    }
+    Ok(text)
+}
+
+// The size that the Directory gives a component, and 0 where it gives none.
+fn size_of(package: &Package<'_>, tag: u8) -> u16
+    ensures { result ≡ unwrap_or (size_in «package».now.directory tag) 0 }
+{
+    package.directory().size(tag).unwrap_or(0)
+}
+
+fn lines_of_customs(alloc: Global, package: &Package<'_>) -> Result<String, AllocError>
+    ensures { IfOk result (λ t. string_bytes t ≡ custom_lines «package».now.directory) }
+{
+    custom_lines(alloc, &package.directory())
+}
+
+#[tactic(auto, unfolding(crate::specs::Table::custom_lines))]
+fn custom_lines(alloc: Global, directory: &Directory<'_>) -> Result<String, AllocError>
+    ensures { IfOk result (λ t. string_bytes t ≡ custom_lines (directory_items directory.now)) }
+{
+    let mut text = String::new(alloc);
+    'customs: for custom in directory.customs() {
+        text.push_str(component_line(alloc, custom.tag, custom.size)?.as_str())?;
+    }
+    Ok(text)
+}
+
+fn component_line(alloc: Global, tag: u8, size: u16) -> Result<String, AllocError>
+    ensures { IfOk result (λ t. string_bytes t ≡ component_line tag size) }
+{
+    let name = file_name(Part(tag));
+    if size == 0 {
+        format!(in alloc; "{name} {tag} absent\n")
+    } else {
+        format!(in alloc; "{name} {tag} {size}\n")
+    }
+}

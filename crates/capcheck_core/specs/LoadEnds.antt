@@ -1,0 +1,27 @@
+-- Why the parts of a folder were not loaded, and when.
+use Rattle.std.specs.Prelude.{◌≡◌, ℕ, true, List, ◌∷◌, Result, Ok, Err, ◌⊎◌}
+use Rattle.cap_files.specs.Counts.{Rose}
+use Rattle.cap_package.specs.Parts.{Lent}
+use Rattle.capcheck_core.specs.declared.load.LoadStop.{LoadStop}
+use Rattle.capcheck_core.specs.declared.load.LoadStop.TheVariants.{TooLong, Failed, Memory}
+use Rattle.capcheck_core.specs.Outside.{Folders, IsTooLong}
+use Rattle.capcheck_core.specs.Loads.{is_asked, AreParts, IsAdded, IsSkipped, IsFirstLong}
+
+-- the loads of a folder's parts by their answer: all of them, or the first that stopped
+abbrev pub LoadsParts : Folders → Folders → List ℕ → Result (List Lent) LoadStop → Type 0
+LoadsParts before after dir (Ok parts) = AreParts before dir parts
+LoadsParts before after dir (Err (TooLong part)) = IsFirstLong before dir part.0
+LoadsParts before after dir (Err Failed) = Rose before.load_faults after.load_faults
+LoadsParts before after dir (Err Memory) = Unit {0}
+
+-- the load of one more part that is asked for, by its answer
+abbrev pub LoadsAsked : Folders → Folders → List ℕ → ℕ → List Lent → List Lent → Result (Unit {0}) LoadStop → Type 0
+LoadsAsked before after dir tag parts more (Ok done) = IsAdded before dir tag parts more
+LoadsAsked before after dir tag parts more (Err (TooLong part)) = (part.0 ≡ tag) × (is_asked parts tag ≡ true) × IsTooLong before (tag ∷ dir)
+LoadsAsked before after dir tag parts more (Err Failed) = Rose before.load_faults after.load_faults
+LoadsAsked before after dir tag parts more (Err Memory) = Unit {0}
+
+-- the same for a part that may not be asked for
+abbrev pub LoadsNext : Folders → Folders → List ℕ → ℕ → List Lent → List Lent → Result (Unit {0}) LoadStop → Type 0
+LoadsNext before after dir tag parts more (Ok done) = IsAdded before dir tag parts more ⊎ IsSkipped tag parts more
+LoadsNext before after dir tag parts more (Err stop) = LoadsAsked before after dir tag parts more (Err stop)

@@ -1,0 +1,83 @@
+-- The parts of a package's folder, as they are loaded: by rising tag, the components that every package has (JCVM 2.2, section 6.1),
+-- and the other ones to which the Directory gives a size that is not 0 (section 6.4). A Directory that is absent or malformed tells no
+-- sizes.
+use Rattle.std.specs.Prelude.{◌≡◌, ℕ, suc, ◌<◌, ◌≤◌, Bool, true, false, not, ◌&&◌, ◌||◌, ◌==◌, nat_le, List, [], ◌∷◌, ◌++◌, length, Option, Some, None, Result, Ok, Err, refl}
+use Rattle.cap_frame.specs.DirectoryFormat.{DirectoryItems, directory_info}
+use Rattle.cap_frame.specs.Directory.{size_in}
+use Rattle.cap_package.specs.declared.fault.PackFault.{PackFault}
+use Rattle.cap_package.specs.Parts.{Lent}
+use Rattle.cap_package.specs.Components.{read_part}
+use Rattle.capcheck_core.specs.Outside.{Folders, IsThere, IsAbsent, IsTooLong}
+
+-- the components that every package has: all of the standard but Applet, Export and Debug
+abbrev pub is_required : ℕ → Bool
+is_required tag = (nat_le 1 tag && nat_le tag 2) || (nat_le 4 tag && nat_le tag 9) || tag == 11
+
+-- those that it may be without: Applet, Export and custom components
+abbrev pub is_optional : ℕ → Bool
+is_optional tag = tag == 3 || tag == 10 || nat_le 128 tag
+
+abbrev pub is_some_size : Option ℕ → Bool
+is_some_size None = false
+is_some_size (Some size) = not (size == 0)
+
+-- the Directory gives the component a size that is not 0
+abbrev pub is_sized : Result DirectoryItems PackFault → ℕ → Bool
+is_sized (Ok directory) tag = is_some_size (size_in directory tag)
+is_sized (Err fault) tag = false
+
+-- a part is asked for, by the parts that were loaded before it
+abbrev pub is_asked : List Lent → ℕ → Bool
+is_asked parts tag = is_required tag || (is_optional tag && is_sized (read_part directory_info 2 parts) tag)
+
+-- what a folder has for a part: nothing, or a file that is not too long
+abbrev pub Has : Folders → List ℕ → ℕ → Option (List ℕ) → Type 0
+Has before dir tag None = IsAbsent before (tag ∷ dir)
+Has before dir tag (Some bytes) = IsThere before (tag ∷ dir) bytes × (length bytes ≤ 65538)
+
+-- the parts with what a folder has for one more
+abbrev pub with_file : List Lent → ℕ → Option (List ℕ) → List Lent
+with_file parts tag None = parts
+with_file parts tag (Some bytes) = parts ++ record { part = tag; bytes = bytes } ∷ []
+
+-- the parts with a tag below this one that are asked for and are there, by rising tag
+pub data AreLoaded (before : Folders) (dir : List ℕ) : ℕ → List Lent → Type 0 where
+  loaded_none : AreLoaded before dir 0 []
+  loaded_unasked : (tag : ℕ) (parts : List Lent) → AreLoaded before dir tag parts → is_asked parts tag ≡ false
+      → AreLoaded before dir (suc tag) parts
+  loaded_asked : (tag : ℕ) (parts : List Lent) (file : Option (List ℕ)) → AreLoaded before dir tag parts → is_asked parts tag ≡ true
+      → Has before dir tag file → AreLoaded before dir (suc tag) (with_file parts tag file)
+
+-- what was loaded for a tag that was asked for, with the parts before and after it
+pub record IsAdded (before : Folders) (dir : List ℕ) (tag : ℕ) (parts more : List Lent) : Type 0 where
+  pub asked : is_asked parts tag ≡ true
+  pub file : Option (List ℕ)
+  pub has : Has before dir tag file
+  pub adds : more ≡ with_file parts tag file
+
+-- nothing was loaded for a tag that was not asked for
+pub record IsSkipped (tag : ℕ) (parts more : List Lent) : Type 0 where
+  pub unasked : is_asked parts tag ≡ false
+  pub same : more ≡ parts
+
+-- a part is the first that is asked for and is longer than a component can be
+pub record IsFirstLong (before : Folders) (dir : List ℕ) (tag : ℕ) : Type 0 where
+  pub byte : tag < 256
+  pub parts : List Lent
+  pub loaded : AreLoaded before dir tag parts
+  pub asked : is_asked parts tag ≡ true
+  pub long : IsTooLong before (tag ∷ dir)
+
+-- all parts of the folder that are asked for and are there: tags are bytes
+abbrev pub AreParts : Folders → List ℕ → List Lent → Type 0
+AreParts before dir parts = AreLoaded before dir 256 parts
+
+-- whatever was loaded, the Header is asked for, and neither the roles nor Debug are
+header_asked : (parts : List Lent) → is_asked parts 1 ≡ true
+header_asked parts = refl
+
+roles_unasked : (parts : List Lent) → is_asked parts 0 ≡ false
+roles_unasked parts = refl
+
+debug_unasked : (parts : List Lent) → is_asked parts 12 ≡ false
+debug_unasked parts = refl

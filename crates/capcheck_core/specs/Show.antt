@@ -1,0 +1,57 @@
+-- What `show` may answer, by the parts in its folder.
+use Rattle.std.specs.Prelude.{◌≡◌, ℕ, List, string_bytes, Ok, Err, ◌⊎◌}
+use Rattle.cap_files.specs.Counts.{Rose}
+use Rattle.cap_package.specs.declared.fault.PackFault.{PackFault}
+use Rattle.cap_package.specs.declared.fault.PackFault.TheVariants.{PartTooLong}
+use Rattle.cap_package.specs.Parts.{Lent}
+use Rattle.cap_package.specs.PackageRecord.{PackageRecord}
+use Rattle.cap_package.specs.Agreement.{package_of}
+use Rattle.cap_text.specs.Show.{ShowRequest}
+use Rattle.cap_text.specs.Line.{malformed_line}
+use Rattle.cap_text.specs.Table.{component_table}
+use Rattle.capcheck_core.specs.declared.verdict.Verdict.{Verdict}
+use Rattle.capcheck_core.specs.declared.verdict.Verdict.TheVariants.{Done, Refused, Limit, Malformed, Usage, ReadFault, StoreFault, Memory}
+use Rattle.capcheck_core.specs.Outside.{Folders}
+use Rattle.capcheck_core.specs.Loads.{AreParts, IsFirstLong}
+
+-- the parts stand for a package, and the text is its component table
+pub record IsShown (parts : List Lent) (text : List ℕ) : Type 0 where
+  pub shown : PackageRecord
+  pub stands : package_of parts ≡ Ok shown
+  pub prints : text ≡ component_table shown
+
+-- the parts stand for no package, and the text names why
+pub record IsUnshown (parts : List Lent) (text : List ℕ) : Type 0 where
+  pub fault : PackFault
+  pub refused : package_of parts ≡ Err fault
+  pub prints : text ≡ malformed_line 0 fault
+
+-- the parts of the request's folder are such that this is true
+pub record OfParts (s : ShowRequest) (before : Folders) (P : List Lent → Type 0) : Type 0 where
+  pub parts : List Lent
+  pub loaded : AreParts before s.dir parts
+  pub holds : P parts
+
+-- a part of the request's folder is too long, and the text says so
+pub record IsLongPart (s : ShowRequest) (before : Folders) (text : List ℕ) : Type 0 where
+  pub tag : ℕ
+  pub first : IsFirstLong before s.dir tag
+  pub prints : text ≡ malformed_line 0 (PartTooLong tag)
+
+-- what a show of these parts answers, and when
+abbrev pub ShowsParts : List Lent → Verdict → Type 0
+ShowsParts parts (Done text) = IsShown parts (string_bytes text)
+ShowsParts parts (Malformed text) = IsUnshown parts (string_bytes text)
+ShowsParts parts Memory = Unit {0}
+ShowsParts parts _ = ⊥
+
+-- what a show answers, and when: the folders are as they were when it began, and as they are afterwards
+abbrev pub Shows : ShowRequest → Folders → Folders → Verdict → Type 0
+Shows s before after (Done text) = OfParts s before (λ parts. ShowsParts parts (Done text))
+Shows s before after (Malformed text) = IsLongPart s before (string_bytes text) ⊎ OfParts s before (λ parts. ShowsParts parts (Malformed text))
+Shows s before after ReadFault = Rose before.load_faults after.load_faults
+Shows s before after Memory = Unit {0}
+Shows s before after (Refused text) = ⊥
+Shows s before after Usage = ⊥
+Shows s before after StoreFault = ⊥
+Shows s before after (Limit text) = ⊥
