@@ -50,11 +50,7 @@ fn standard_lines(alloc: Global, package: &Package<'_>) -> Result<String, AllocE
     component_lines(alloc, package, &TAGS)
 }
 
-fn component_lines(
-    alloc: Global,
-    package: &Package<'_>,
-    tags: &[u8],
-) -> Result<String, AllocError>
+fn component_lines(alloc: Global, package: &Package<'_>, tags: &[u8]) -> Result<String, AllocError>
     ensures { IfOk result (λ t. string_bytes t ≡ flat_map (tag_line «package».now.directory) tags.now) }
 {
     let mut text = String::new(alloc);

@@ -116,7 +116,7 @@ none_long before parts dir _ tag _ told (loaded_unasked top xs l u) below first 
     elim (split tag top below) [
       | inr less ↦ none_long before parts dir top tag xs told l less first
       | inl same ↦ both xs first.parts top (one_list before parts dir top xs first.parts told l (subst (λ t. AreLoaded before dir t first.parts) same first.loaded)) u
-        (subst (λ t. is_asked first.parts t ≡ true) same first.asked)
+          (subst (λ t. is_asked first.parts t ≡ true) same first.asked)
     ]
 none_long before parts dir _ tag _ told (loaded_asked top xs f l a hf) below first =
     elim (split tag top below) [

@@ -72,7 +72,8 @@ const PACKAGE: [(u8, &'static [u8]); 9] = [
 ];
 
 /// Its component table.
-const TABLE: &str = "package f001020304 1.0 format 2.2\nHeader 1 16\nDirectory 2 33\nApplet 3 absent\nImport 4 1\nConstantPool 5 2\nClass 6 82\nMethod 7 19\nStaticField 8 12\nRefLocation 9 4\nExport 10 absent\nDescriptor 11 111\nDebug 12 absent\n";
+const TABLE: &str =
+    "package f001020304 1.0 format 2.2\nHeader 1 16\nDirectory 2 33\nApplet 3 absent\nImport 4 1\nConstantPool 5 2\nClass 6 82\nMethod 7 19\nStaticField 8 12\nRefLocation 9 4\nExport 10 absent\nDescriptor 11 111\nDebug 12 absent\n";
 
 /// A Directory with every component, and the custom ones 130 and 129.
 const WHOLE_DIRECTORY: [u8; 54] = [
@@ -114,7 +115,14 @@ fn shows_the_table_of_a_package(rt: HostRuntime) -> Result<(), AllocError> {
     let alloc = rt.alloc();
     assert!(rt; shows(alloc, &[], TABLE, 0)?);
     // parts that the Directory gives no size, and Debug, are not read
-    assert!(rt; shows(alloc, &[(3, b"?"), (10, b"?"), (12, b"?"), (128, b"?")], TABLE, 0)?);
+    assert!(rt;
+        shows(
+            alloc,
+            &[(3, b"?"), (10, b"?"), (12, b"?"), (128, b"?")],
+            TABLE,
+            0
+        )?
+    );
     let whole: [(u8, &[u8]); 5] = [
         (2, &WHOLE_DIRECTORY),
         (3, b"\x03\x00\x09\x01\x05\xf0\x01\x02\x03\x04\x00\x01"),
@@ -122,7 +130,8 @@ fn shows_the_table_of_a_package(rt: HostRuntime) -> Result<(), AllocError> {
         (129, b"\x81\x00\x03\x01\x02\x03"),
         (130, b"\x82\x00\x02\x07\x09"),
     ];
-    let table = "package f001020304 1.0 format 2.2\nHeader 1 16\nDirectory 2 51\nApplet 3 9\nImport 4 1\nConstantPool 5 2\nClass 6 82\nMethod 7 19\nStaticField 8 12\nRefLocation 9 4\nExport 10 9\nDescriptor 11 111\nDebug 12 4\nCustom130 130 2\nCustom129 129 3\n";
+    let table =
+        "package f001020304 1.0 format 2.2\nHeader 1 16\nDirectory 2 51\nApplet 3 9\nImport 4 1\nConstantPool 5 2\nClass 6 82\nMethod 7 19\nStaticField 8 12\nRefLocation 9 4\nExport 10 9\nDescriptor 11 111\nDebug 12 4\nCustom130 130 2\nCustom129 129 3\n";
     assert!(rt; shows(alloc, &whole, table, 0)?);
     Ok(())
 }
@@ -137,13 +146,24 @@ fn names_what_is_wrong_with_the_package(rt: HostRuntime) -> Result<(), AllocErro
         (2, &APPLET_DIRECTORY, "malformed package 0 MissingPart 3\n"),
         (2, &WHOLE_DIRECTORY, "malformed package 0 MissingPart 3\n"),
         (2, b"\x02\x00\x01\x00", "malformed package 0 Form 2 4 Cut\n"),
-        (5, b"\x05\x00\x06\x00\x01\x01\x00\x00\x00", "malformed package 0 SizeDisagrees 5 2 6\n"),
+        (
+            5,
+            b"\x05\x00\x06\x00\x01\x01\x00\x00\x00",
+            "malformed package 0 SizeDisagrees 5 2 6\n",
+        ),
     ];
     for (tag, bytes, text) in cases {
         assert!(rt; shows(alloc, &[(tag, bytes)], text, 7)?, "for {text}");
     }
     let long = vec![in alloc; 7u8; 65_539]?;
-    assert!(rt; shows(alloc, &[(2, b""), (6, &long)], "malformed package 0 PartTooLong 6\n", 7)?);
+    assert!(rt;
+        shows(
+            alloc,
+            &[(2, b""), (6, &long)],
+            "malformed package 0 PartTooLong 6\n",
+            7
+        )?
+    );
     let mut folder = SureFolder::new(alloc, 1, 100)?;
     let mut out = SureSink::new(alloc, 100)?;
     assert_eq!(rt; run(alloc, "show E", &mut folder, &mut out)?, 7);

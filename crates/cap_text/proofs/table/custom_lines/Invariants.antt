@@ -7,4 +7,5 @@ use Rattle.cap_text.proofs.table.custom_lines.Given as goal
 abbrev pub invariant-customs : goal.invariant-customs
 invariant-customs l = record {
   so_far : string_bytes l.text ≡ flat_map custom_line (map custom_seen l.yielded);
-  whole : map custom_seen l.yielded ++ customs_left l.custom-iterator ≡ (directory_items l.directory).customs }
+  whole : map custom_seen l.yielded ++ customs_left l.custom-iterator ≡ (directory_items l.directory).customs;
+}

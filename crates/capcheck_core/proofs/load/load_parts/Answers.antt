@@ -7,7 +7,7 @@ use Rattle.capcheck_core.proofs.load.load_parts.Goals as goal
 pub tags-init : goal.tags-init
 tags-init g c = record {
   loaded = begun (folders (g.F.Folder.held c.args.folder.now) (g.F.Folder.load_faults c.args.folder.now) (g.F.Folder.store_faults c.args.folder.now)) c.args.dir.now
-    c.new-parts.result c.new-parts.ensures;
+      c.new-parts.result c.new-parts.ensures;
   held = refl;
   loads = omega arith;
   stores = refl;
@@ -22,10 +22,10 @@ tags-preserved g c =
     let counts = c.in-Ok.ensures.counts in
     record {
       loaded = next_loaded
-        (folders (g.F.Folder.held c.args.folder.now) (g.F.Folder.load_faults c.args.folder.now) (g.F.Folder.store_faults c.args.folder.now))
-        (folders (g.F.Folder.held c.tags.folder) (g.F.Folder.load_faults c.tags.folder) (g.F.Folder.store_faults c.tags.folder))
-        (folders (g.F.Folder.held c.load_next.new.folder) (g.F.Folder.load_faults c.load_next.new.folder) (g.F.Folder.store_faults c.load_next.new.folder))
-        c.args.dir.now c.tags.tag c.tags.parts c.load_next.new.parts c.tags.invariant.loaded c.tags.invariant.held c.in-Ok.ensures.loads;
+          (folders (g.F.Folder.held c.args.folder.now) (g.F.Folder.load_faults c.args.folder.now) (g.F.Folder.store_faults c.args.folder.now))
+          (folders (g.F.Folder.held c.tags.folder) (g.F.Folder.load_faults c.tags.folder) (g.F.Folder.store_faults c.tags.folder))
+          (folders (g.F.Folder.held c.load_next.new.folder) (g.F.Folder.load_faults c.load_next.new.folder) (g.F.Folder.store_faults c.load_next.new.folder))
+          c.args.dir.now c.tags.tag c.tags.parts c.load_next.new.parts c.tags.invariant.loaded c.tags.invariant.held c.in-Ok.ensures.loads;
       held = c.in-Ok.ensures.stores.held ∙ c.tags.invariant.held;
       loads = omega (arith, fewer, counts);
       stores = c.in-Ok.ensures.stores.faults ∙ c.tags.invariant.stores;
