@@ -15,7 +15,7 @@ const TAGS: [u8; 12] = [1, 2, 3, 4, 5, 6, 7, 8, 9, 10, 11, 12];
 
 /// The component table of a package: a line for the package, one for each component of the standard
 /// and one for each custom component, with the sizes that the Directory gives.
-pub fn component_table(alloc: Global, package: &Package<'_>) -> Result<String, AllocError>
+pub fn component_table(alloc: Global, package: &Package<'_, '_>) -> Result<String, AllocError>
     ensures { IfOk result (λ t. string_bytes t ≡ component_table «package».now) }
 {
     table_of(alloc, package.header().package(), package)
@@ -25,7 +25,7 @@ pub fn component_table(alloc: Global, package: &Package<'_>) -> Result<String, A
 fn table_of(
     alloc: Global,
     info: PackageInfo<'_>,
-    package: &Package<'_>,
+    package: &Package<'_, '_>,
 ) -> Result<String, AllocError>
     ensures { IfOk result (λ t. string_bytes t ≡ table_of (package_seen info.entry) «package».now.directory) }
 {
@@ -44,13 +44,13 @@ fn package_line(alloc: Global, info: PackageInfo<'_>) -> Result<String, AllocErr
 }
 
 #[tactic(auto, unfolding(crate::specs::Table::component_lines))]
-fn standard_lines(alloc: Global, package: &Package<'_>) -> Result<String, AllocError>
+fn standard_lines(alloc: Global, package: &Package<'_, '_>) -> Result<String, AllocError>
     ensures { IfOk result (λ t. string_bytes t ≡ component_lines «package».now.directory) }
 {
     component_lines(alloc, package, &TAGS)
 }
 
-fn component_lines(alloc: Global, package: &Package<'_>, tags: &[u8]) -> Result<String, AllocError>
+fn component_lines(alloc: Global, package: &Package<'_, '_>, tags: &[u8]) -> Result<String, AllocError>
     ensures { IfOk result (λ t. string_bytes t ≡ flat_map (tag_line «package».now.directory) tags.now) }
 {
     let mut text = String::new(alloc);
@@ -61,13 +61,13 @@ fn component_lines(alloc: Global, package: &Package<'_>, tags: &[u8]) -> Result<
 }
 
 // The size that the Directory gives a component, and 0 where it gives none.
-fn size_of(package: &Package<'_>, tag: u8) -> u16
+fn size_of(package: &Package<'_, '_>, tag: u8) -> u16
     ensures { result ≡ unwrap_or (size_in «package».now.directory tag) 0 }
 {
     package.directory().size(tag).unwrap_or(0)
 }
 
-fn lines_of_customs(alloc: Global, package: &Package<'_>) -> Result<String, AllocError>
+fn lines_of_customs(alloc: Global, package: &Package<'_, '_>) -> Result<String, AllocError>
     ensures { IfOk result (λ t. string_bytes t ≡ custom_lines «package».now.directory) }
 {
     custom_lines(alloc, &package.directory())
