@@ -50,7 +50,11 @@ fn standard_lines(alloc: Global, package: &Package<'_, '_>) -> Result<String, Al
     component_lines(alloc, package, &TAGS)
 }
 
-fn component_lines(alloc: Global, package: &Package<'_, '_>, tags: &[u8]) -> Result<String, AllocError>
+fn component_lines(
+    alloc: Global,
+    package: &Package<'_, '_>,
+    tags: &[u8],
+) -> Result<String, AllocError>
     ensures { IfOk result (λ t. string_bytes t ≡ flat_map (tag_line «package».now.directory) tags.now) }
 {
     let mut text = String::new(alloc);
