@@ -1,12 +1,8 @@
 -- A field's descriptor has seven bytes, a method's twelve, and a number of a table two.
-use Rattle.std.proofs.Common.{◌≡◌, ℕ, ◌*◌, List, [], IsTrue, arith}
-use Rattle.cap_bytes.specs.declared.fault.FormFault.{FormFault}
-use Rattle.cap_bytes.specs.declared.items.Items.{Items}
-use Rattle.cap_bytes.specs.Grammar.{give, number, piece, ◌>>=◌, repeat, table, u1, u2}
-use Rattle.cap_bytes.specs.Reading.{is_read, value_or}
-use Rattle.cap_bytes.specs.Taking.{next, Taken, Fails}
+use Rattle.std.proofs.Common.{◌≡◌, ℕ, ◌*◌, arith}
+use Rattle.cap_bytes.specs.Grammar.{piece, repeat, u1, u2}
 use Rattle.cap_desc.specs.DescriptorFormat.{field_info, method_info}
-use Rattle.cap_desc.proofs.Widths.{HasWidth, width-number, width-piece, width-give, width-then, width-repeat, taken-width, fails-width}
+use Rattle.cap_desc.proofs.Widths.{HasWidth, width-number, width-piece, width-give, width-then, width-repeat}
 
 pub field_width : HasWidth 7 field_info
 field_width =

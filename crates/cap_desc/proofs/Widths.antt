@@ -1,16 +1,13 @@
 -- Items of one width: so many of them are read where so many times as many bytes reach, and the n-th
 -- stands n widths behind the first.
-use Rattle.std.proofs.Common.{◌≡◌, ℕ, zero, suc, ◌+◌, ◌*◌, ◌-◌, ◌≤◌, ◌<◌, List, [], ◌∷◌, Option, Some, None, Result, Ok, Err, Bool, true, false, leb, length, take, drop, IsTrue, refl, sym, ap, subst, ◌∙◌, arith}
-use Rattle.std.specs.List.{slice_get}
-use Rattle.std.proofs.lemmas.Option.{slice_get_past}
+use Rattle.std.proofs.Common.{◌≡◌, ℕ, zero, suc, ◌+◌, ◌*◌, ◌≤◌, ◌<◌, List, [], ◌∷◌, Ok, Err, Bool, true, false, leb, length, take, drop, refl, subst, arith}
 use Rattle.std.proofs.lemmas.Bool.{le-leb, lt-leb, leb-true, leb-false}
 use Rattle.byteorder.specs.Endian.{big_number}
 use Rattle.cap_bytes.specs.declared.fault.FormFault.{FormFault}
 use Rattle.cap_bytes.specs.declared.items.Items.{Items}
-use Rattle.cap_bytes.specs.Number.{number_at}
-use Rattle.cap_bytes.specs.Grammar.{Grammar, give, number, piece, ◌>>=◌, any, repeat, table, u2}
+use Rattle.cap_bytes.specs.Grammar.{Grammar, give, number, piece, ◌>>=◌, any, repeat}
 use Rattle.cap_bytes.specs.Spelling.{Origin, cut, info_of}
-use Rattle.cap_bytes.specs.Reading.{Reading, and_then, read, piece_read, is_read, value_or}
+use Rattle.cap_bytes.specs.Reading.{Reading, read, value_or}
 use Rattle.cap_bytes.specs.Taking.{next, Taken, Fails, Gives, gives, given}
 use Rattle.cap_bytes.specs.Spelling.{Spells, Breaks}
 use Rattle.cap_bytes.proofs.Laws.{read-spells, read-breaks}

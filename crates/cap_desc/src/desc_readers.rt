@@ -84,9 +84,7 @@ impl<'a> DescPart<'a> {
     /// The type of the type descriptor at an offset from the item `constant_pool_count`, where a
     /// well-formed one of one type stands there.
     pub fn type_at(&self, offset: u16) -> Option<TypeItem>
-        ensures {
-            result ≡ type_at self.now.info.bytes.now ((descriptor_seen self.now).types_start + offset)
-        }
+        ensures { result ≡ type_at self.now.info.bytes.now ((descriptor_seen self.now).types_start + offset) }
     {
         let start = self.types_start + offset as u32;
         let count = self.info.u1(start)?;

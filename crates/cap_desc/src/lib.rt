@@ -24,9 +24,12 @@ mod types;
 pub use access_flags::AccessFlags;
 pub use class::DescClass;
 pub use desc_part::DescPart;
-pub use members::{FieldsOf, MethodsFrom};
 pub use lists::{DescClasses, DescFields, DescMethods};
+pub use members::{FieldsOf, MethodsFrom};
 pub use read::descriptor;
 pub use records::{FieldInfo, MethodInfo};
 pub use type_item::TypeItem;
 pub use types::Types;
+
+#[cfg(test)]
+mod tests;

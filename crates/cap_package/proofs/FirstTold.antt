@@ -85,40 +85,40 @@ places-told : (p : PackageRecord) → IsTold (places_agree p) (place_lists p)
 unfolding places_agree
 places-told p =
     step (two_kinds (size_fault p.parts p.directory) components (size_fault p.parts p.directory) (custom_tags p.directory))
-      (step (one_kind (overlap_pair p.methods.info) (pairs (described p)))
-        (last (one_kind (outside_fault p.methods.info (length p.methods.handlers)) (described p))))
+    (step (one_kind (overlap_pair p.methods.info) (pairs (described p)))
+    (last (one_kind (outside_fault p.methods.info (length p.methods.handlers)) (described p))))
 
 counts-told : (p : PackageRecord) → IsTold (counts_agree p) (count_lists p)
 unfolding counts_agree
 counts-told p =
     step (two_numbers (differ 1 p.directory.import_count (length p.imports)))
-      (step (two_numbers (differ 2 p.directory.applet_count (count_if p.applets)))
-        (step (two_numbers (differ 3 p.directory.image_size p.statics.image_size))
-          (step (two_numbers (differ 4 p.directory.array_init_count (length p.statics.arrays)))
-            (step (two_numbers (differ 5 p.directory.array_init_size (array_bytes p.statics.arrays)))
-              (step (two_numbers (differ 6 (length p.description.items.pool_types) (length p.pool)))
-                (step (one_kind (arguments_fault p.methods.info p.description) (described p))
-                  (step (one_kind (instance_fault p.classes p.description) p.description.items.classes)
-                    (step (two_numbers (differ 9 p.statics.image_size (image_bytes p.statics)))
-                      (last (one_kind (abstract_fault p.methods.info) (described p)))))))))))
+    (step (two_numbers (differ 2 p.directory.applet_count (count_if p.applets)))
+    (step (two_numbers (differ 3 p.directory.image_size p.statics.image_size))
+    (step (two_numbers (differ 4 p.directory.array_init_count (length p.statics.arrays)))
+    (step (two_numbers (differ 5 p.directory.array_init_size (array_bytes p.statics.arrays)))
+    (step (two_numbers (differ 6 (length p.description.items.pool_types) (length p.pool)))
+    (step (one_kind (arguments_fault p.methods.info p.description) (described p))
+    (step (one_kind (instance_fault p.classes p.description) p.description.items.classes)
+    (step (two_numbers (differ 9 p.statics.image_size (image_bytes p.statics)))
+    (last (one_kind (abstract_fault p.methods.info) (described p)))))))))))
 
 members-told : (p : PackageRecord) → IsTold (members_agree p) (member_lists p)
 unfolding members_agree
 members-told p =
     step (two_kinds (numbered_fault p.methods.info (described p)) (numbered 0 p.methods.handlers) (claim_fault (length p.methods.handlers)) (described p))
-      (step (one_kind (share_pair p.description) (pairs (fields p)))
-        (step (three_kinds (no_entry_fault (described p)) (table_entries p.classes) (no_method_fault (described p)) (exported_methods (or_none p.export)) (no_method_fault (described p)) (map (λ (a : Applet). a.install) (or_none p.applets)))
-          (step (three_kinds (undescribed_fault p.description.items.classes) p.classes (no_class_fault p.classes) (map (λ (d : described.Class). d.class_ref) p.description.items.classes) (no_class_fault p.classes) (map (λ (c : Exported). c.class_offset) (or_none p.export)))
-            (step (one_kind (registers_fault p.methods.info) (described p))
-              (step (three_kinds (field_type_fault p.description) (fields p) (method_type_fault p.description 510) (methods_from 0 p.description.items.classes) (method_type_fault p.description 254) (interface_methods (classes_from p.classes) p.description.items.classes))
-                (step (two_kinds (image_fault p.statics p.description) (fields p) (array_field_fault p.description) (array_fields 0 p.statics.arrays (fields p)))
-                  (step (one_kind (length_fault p.methods.info) (described p))
-                    (last (one_kind (no_static_fault (fields p)) (exported_fields (or_none p.export)))))))))))
+    (step (one_kind (share_pair p.description) (pairs (fields p)))
+    (step (three_kinds (no_entry_fault (described p)) (table_entries p.classes) (no_method_fault (described p)) (exported_methods (or_none p.export)) (no_method_fault (described p)) (map (λ (a : Applet). a.install) (or_none p.applets)))
+    (step (three_kinds (undescribed_fault p.description.items.classes) p.classes (no_class_fault p.classes) (map (λ (d : described.Class). d.class_ref) p.description.items.classes) (no_class_fault p.classes) (map (λ (c : Exported). c.class_offset) (or_none p.export)))
+    (step (one_kind (registers_fault p.methods.info) (described p))
+    (step (three_kinds (field_type_fault p.description) (fields p) (method_type_fault p.description 510) (methods_from 0 p.description.items.classes) (method_type_fault p.description 254) (interface_methods (classes_from p.classes) p.description.items.classes))
+    (step (two_kinds (image_fault p.statics p.description) (fields p) (array_field_fault p.description) (array_fields 0 p.statics.arrays (fields p)))
+    (step (one_kind (length_fault p.methods.info) (described p))
+    (last (one_kind (no_static_fault (fields p)) (exported_fields (or_none p.export)))))))))))
 
 all-told : (p : PackageRecord) → (places_agree p >>= λ _. (counts_agree p >>= λ _. members_agree p)) ≡ first_refused (conditions p)
 all-told p =
     both (places_agree p) (counts_agree p >>= λ _. members_agree p) (place_lists p) (count_lists p ++ member_lists p) (places-told p).same
-      (both (counts_agree p) (members_agree p) (count_lists p) (member_lists p) (counts-told p).same (members-told p).same)
+    (both (counts_agree p) (members_agree p) (count_lists p) (member_lists p) (counts-told p).same (members-told p).same)
 
 -- ---- what the first list that is not empty tells
 

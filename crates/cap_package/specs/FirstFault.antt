@@ -70,15 +70,15 @@ member_lists p =
     ∷ at_fault (share_pair p.description) (pairs (fields p))
     -- dispatch entries, exports and applets that name no method
     ∷ ((at_fault (no_entry_fault (described p)) (table_entries p.classes) ++ at_fault (no_method_fault (described p)) (exported_methods (or_none p.export)))
-        ++ at_fault (no_method_fault (described p)) (map (λ (a : Applet). a.install) (or_none p.applets)))
+    ++ at_fault (no_method_fault (described p)) (map (λ (a : Applet). a.install) (or_none p.applets)))
     -- classes that are not described once, and names of none
     ∷ ((at_fault (undescribed_fault p.description.items.classes) p.classes ++ at_fault (no_class_fault p.classes) (map (λ (d : described.Class). d.class_ref) p.description.items.classes))
-        ++ at_fault (no_class_fault p.classes) (map (λ (c : Exported). c.class_offset) (or_none p.export)))
+    ++ at_fault (no_class_fault p.classes) (map (λ (c : Exported). c.class_offset) (or_none p.export)))
     -- registers
     ∷ at_fault (registers_fault p.methods.info) (described p)
     -- types
     ∷ ((at_fault (field_type_fault p.description) (fields p) ++ at_fault (method_type_fault p.description 510) (methods_from 0 p.description.items.classes))
-        ++ at_fault (method_type_fault p.description 254) (interface_methods (classes_from p.classes) p.description.items.classes))
+    ++ at_fault (method_type_fault p.description 254) (interface_methods (classes_from p.classes) p.description.items.classes))
     -- static fields in the image
     ∷ (at_fault (image_fault p.statics p.description) (fields p) ++ at_fault (array_field_fault p.description) (array_fields 0 p.statics.arrays (fields p)))
     -- lengths of code
@@ -124,4 +124,4 @@ Tells parts (Ok p) = (missing_parts parts (read_part directory_info 2 parts) ≡
 Tells parts (Err fault) =
     IsLeast (missing_parts parts (read_part directory_info 2 parts)) fault
     ⊎ ((missing_parts parts (read_part directory_info 2 parts) ≡ [])
-        × ((read_package parts ≡ Err fault) ⊎ ((p : PackageRecord) × (read_package parts ≡ Ok p) × IsFirst (conditions_of parts p) fault)))
+    × ((read_package parts ≡ Err fault) ⊎ ((p : PackageRecord) × (read_package parts ≡ Ok p) × IsFirst (conditions_of parts p) fault)))

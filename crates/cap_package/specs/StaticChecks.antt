@@ -61,12 +61,12 @@ unfoldable pub image_fault : Statics → Description → Field → Option PackFa
 image_fault s d f = image_by s (place_in d f)
 
 -- the reference with this number is initialised by an array of this kind, and the field there is of another type
-abbrev pub array_by : ℕ → ℕ → Option Place → Option PackFault
-array_by number kind None = None
-array_by number kind (Some p) = if p.offset == 2 * number && not (p.ty.nibble == kind + 8) then Some (StaticOutside p.offset) else None
+abbrev pub array_by : ℕ → Option Place → Option PackFault
+array_by kind None = None
+array_by kind (Some p) = if p.ty.nibble == kind + 8 then None else Some (StaticOutside p.offset)
 
 unfoldable pub array_fault : Description → ℕ → ℕ → Field → Option PackFault
-array_fault d number kind f = array_by number kind (place_in d f)
+array_fault d number kind f = if image_offset f == 2 * number then array_by kind (place_in d f) else None
 
 -- each array with its number and each field
 abbrev pub array_fields : ℕ → List Array → List Field → List (ℕ × ℕ × Field)

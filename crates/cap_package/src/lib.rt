@@ -16,6 +16,7 @@ mod method_checks;
 mod name_checks;
 mod package_readers;
 mod package_type;
+mod packages;
 mod packaging;
 mod part_checks;
 mod parts;
@@ -28,6 +29,7 @@ mod type_checks;
 pub use custom::Custom;
 pub use fault::PackFault;
 pub use package_type::Package;
+pub use packages::Packages;
 pub use packaging::package;
 pub use parts::{OwnedParts, Parts};
 

@@ -1,8 +1,10 @@
-ghost use Rattle.std.specs.Prelude.{◌≡◌, IfOk};
+ghost use Rattle.std.specs.Prelude.{◌≡◌, IfOk, Ok};
 ghost use Rattle.cap_package.specs.Components.{Answers};
 ghost use Rattle.cap_package.specs.ComponentsSeen.{components_seen};
 ghost use Rattle.cap_package.specs.Agreement.{package_of};
 ghost use Rattle.cap_package.specs.FirstFault.{Tells};
+ghost use Rattle.cap_package.specs.StandsFor.{StandsFor};
+ghost use Rattle.cap_package.specs.PackageRecord.{PackageRecord};
 
 use crate::agreement::{counts_agree, members_agree, places_agree};
 use crate::components::Components;
@@ -34,6 +36,9 @@ pub fn package<'a>(parts: &'a Parts<'a>) -> Result<Package<'a>, PackFault>
     // A package exactly where nothing is at fault; else the first condition by number that is broken, at its
     // least thing.
     ensures tells { Tells parts.now result }
+    // The answer is a package only where the parts stand for it, and they stand for no other.
+    ensures stands { IfOk result (λ p. StandsFor parts.now p) }
+    ensures only { (p : PackageRecord) → StandsFor parts.now p → result ≡ Ok p }
 {
     match agreeing(parts) {
         Ok(all) => Ok(Package { all }),

@@ -142,12 +142,15 @@ fn array_fault(
     requires { number < 65536 }
     ensures { result ≡ array_fault (description descriptor.now) number kind (field_seen field.now) }
 {
-    let place = place_in(descriptor, field)?;
-    if place.offset as u32 == 2 * number && place.ty.nibble as u16 != kind as u16 + 8 {
-        Some(PackFault::StaticOutside(place.offset))
-    } else {
-        None
+    // Most fields stand elsewhere, and their types are not looked at.
+    if image_offset(field) as u32 != 2 * number {
+        return None;
     }
+    let place = place_in(descriptor, field)?;
+    if place.ty.nibble as u16 == kind as u16 + 8 {
+        return None;
+    }
+    Some(PackFault::StaticOutside(place.offset))
 }
 
 /// The least fault so far, when the fields were compared with an initial array.

@@ -4,4 +4,5 @@ pub mod Climbs
 pub mod Meets
 pub mod Subtypes
 pub mod Joins
+pub mod Dispatches
 pub mod Samples

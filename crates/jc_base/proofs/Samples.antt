@@ -346,6 +346,7 @@ is_world =
       };
       one_pool_each = refl;
       members = are_members;
+      chains = are_classes;
       classes = linked;
       methods = are_methods;
       statics = are_statics;

@@ -15,7 +15,7 @@ use Rattle.jc_base.specs.declared.record.ArrayRec.{ArrayRec}
 use Rattle.jc_base.specs.Class.{ClassTable, IsClass, is_interface, parent_of, throwable, list_of}
 use Rattle.jc_base.specs.Order.{Below}
 use Rattle.jc_base.specs.Cell.{IsDeclared, IsOfKind, width, AreWordsOf}
-use Rattle.jc_base.specs.Dispatch.{package_of, public_of, visible_of, cell_count, cells_of, entry_at, signature_at}
+use Rattle.jc_base.specs.Dispatch.{package_of, public_of, visible_of, cell_count, cells_of, entry_at, dispatched, signature_of, signature_at}
 
 -- ---- methods
 
@@ -110,6 +110,17 @@ pub record IsLinkedClass (packages : ℕ) (t : ClassTable) (methods : List Metho
 -- each record at its number
 abbrev pub AreLinkedClasses : ℕ → ClassTable → List MethodRec → Type 0
 AreLinkedClasses packages t methods = (c : ℕ) → IfSome (slice_get t.records c) (IsLinkedClass packages t methods c)
+
+-- the method that an object of class r runs for a token of class c, whose own entry there is n: it is there, has the signature of n, and may stand in a list of r
+pub record Dispatches (t : ClassTable) (methods : List MethodRec) (c token r n : ℕ) : Type 0 where
+  pub method : ℕ
+  pub found : dispatched t c token r ≡ Some method
+  pub signature : signature_of methods method ≡ signature_of methods n
+  pub inherited : IsSomeAnd (slice_get methods method) (IsInherited t r)
+
+-- an object of a class below another runs a method for each entry of the other's lists
+abbrev pub AreDispatched : ClassTable → List MethodRec → Type 0
+AreDispatched t methods = (c token r n : ℕ) → Below t (Class r) (Class c) → entry_at t c token ≡ Some n → Dispatches t methods c token r n
 
 -- ---- static fields
 

@@ -5,7 +5,7 @@ use Rattle.jc_base.specs.declared.record.Member.{Member}
 use Rattle.jc_base.specs.declared.record.MethodRec.{MethodRec}
 use Rattle.jc_base.specs.declared.record.StaticRec.{StaticRec}
 use Rattle.jc_base.specs.declared.record.ArrayRec.{ArrayRec}
-use Rattle.jc_base.specs.Class.{ClassTable, IsClass, object, throwable}
+use Rattle.jc_base.specs.Class.{ClassTable, IsClass, AreClasses, object, throwable}
 use Rattle.jc_base.specs.Order.{Below}
 use Rattle.jc_base.specs.Cell.{width, AreElementsOf}
 use Rattle.jc_base.specs.Dispatch.{IsConcrete}
@@ -47,6 +47,7 @@ pub record IsWorld (w : Linked) : Type 0 where
   pub limits : IsWithinLimits w
   pub one_pool_each : length w.pools ≡ length w.infos
   pub members : All (All (IsMember w.classes w.methods w.statics)) w.pools
+  pub chains : AreClasses w.classes
   pub classes : AreLinkedClasses (length w.infos) w.classes w.methods
   pub methods : All (IsMethod w.infos w.pools w.classes) w.methods
   pub statics : All (IsStatic (length w.infos) w.classes w.arrays) w.statics

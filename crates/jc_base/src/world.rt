@@ -1,7 +1,8 @@
 ghost use Rattle.std.specs.Prelude.{◌≡◌, ◌<◌, ◌≤◌, length, All, IfSome, Some, slice_get, slice_index, option_map};
 ghost use Rattle.jc_base.specs.Class.{IsClass};
 ghost use Rattle.jc_base.specs.Cell.{AreElementsOf};
-ghost use Rattle.jc_base.specs.Linked.{IsMember, IsLinkedClass, IsMethod, IsStatic, list_at};
+ghost use Rattle.jc_base.specs.Dispatch.{cells_of};
+ghost use Rattle.jc_base.specs.Linked.{AreDispatched, IsMember, IsLinkedClass, IsMethod, IsStatic, list_at};
 ghost use Rattle.jc_base.specs.World.{IsWorld, IsThrown, member_at, code_of, has_numbers, method_numbered};
 
 use crate::class::Classes;
@@ -56,10 +57,12 @@ impl<'a> World<'a> {
         }
     }
 
-    /// The classes of all packages; every fact on the world is known of them.
+    /// The classes of all packages, with every fact on the world.
     pub fn classes(&self) -> &Classes
         ensures is { result.now ≡ self.now.classes }
         ensures links { IsWorld self.now }
+        // What an object runs for a token has the signature that the named class gives it.
+        ensures dispatch { AreDispatched self.now.classes self.now.methods }
     {
         &self.classes
     }
@@ -129,6 +132,7 @@ impl<'a> World<'a> {
         requires { n < length self.now.classes.records }
         ensures is { slice_get self.now.classes.records n ≡ Some result.now }
         ensures links { IsLinkedClass (length self.now.infos) self.now.classes self.now.methods n result.now }
+        ensures cells { length (cells_of self.now.classes n) ≡ result.now.cells }
     {
         self.classes.at(n)
     }

@@ -1,11 +1,9 @@
-use Rattle.std.proofs.Common.{◌≡◌, ◌+◌, ◌*◌, ◌≤◌, length}
+use Rattle.std.proofs.Common.{◌≡◌}
 use Rattle.cap_class.specs.ClassPart.{records}
-use Rattle.cap_method.specs.StaticPart.{statics_seen, arrays_left}
-use Rattle.cap_desc.specs.ClassRecords.{class_seen, classes_left}
-use Rattle.cap_desc.specs.MemberLists.{fields_left}
+use Rattle.cap_desc.specs.ClassRecords.{classes_left}
 use Rattle.cap_package.specs.Order.{least_of, least_from}
 use Rattle.cap_package.specs.Descriptions.{description}
-use Rattle.cap_package.specs.CountChecks.{array_bytes, instance_cells, instance_fault}
+use Rattle.cap_package.specs.CountChecks.{instance_fault}
 use Rattle.cap_package.proofs.count_checks.instances_agree.Given as goal
 
 abbrev pub invariant-classes : goal.invariant-classes

@@ -1,7 +1,6 @@
 use Rattle.std.proofs.Common.{◌≡◌, drop}
-use Rattle.cap_frame.specs.Directory.{directory_items}
 use Rattle.cap_package.specs.Order.{least_of, least_from}
-use Rattle.cap_package.specs.PartChecks.{absent_fault, size_fault}
+use Rattle.cap_package.specs.PartChecks.{absent_fault}
 use Rattle.cap_package.proofs.part_checks.absent_among.Given as goal
 
 abbrev pub invariant-tags : goal.invariant-tags

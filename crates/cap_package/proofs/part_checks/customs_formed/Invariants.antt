@@ -1,8 +1,8 @@
-use Rattle.std.proofs.Common.{◌≡◌, drop, map}
+use Rattle.std.proofs.Common.{◌≡◌, map}
 use Rattle.cap_frame.specs.Directory.{directory_items, customs_left}
 use Rattle.cap_frame.specs.DirectoryFormat.{Custom}
-use Rattle.cap_package.specs.Order.{least_of, least_from}
-use Rattle.cap_package.specs.PartChecks.{required, components, optional, custom_tags, absent_fault, sized_fault, form_fault, size_fault}
+use Rattle.cap_package.specs.Order.{least_from}
+use Rattle.cap_package.specs.PartChecks.{custom_tags, form_fault}
 use Rattle.cap_package.proofs.part_checks.customs_formed.Given as goal
 
 abbrev pub invariant-customs : goal.invariant-customs

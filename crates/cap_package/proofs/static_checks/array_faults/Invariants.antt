@@ -1,9 +1,8 @@
-use Rattle.std.proofs.Common.{◌≡◌, ◌+◌, length}
-use Rattle.cap_method.specs.StaticPart.{statics_seen, arrays_left}
+use Rattle.std.proofs.Common.{◌≡◌}
 use Rattle.cap_desc.specs.MembersLeft.{fields_of_left}
-use Rattle.cap_package.specs.Order.{least_from, least_of}
+use Rattle.cap_package.specs.Order.{least_from}
 use Rattle.cap_package.specs.Descriptions.{description}
-use Rattle.cap_package.specs.StaticChecks.{image_fault, array_fault, array_fields, array_field_fault}
+use Rattle.cap_package.specs.StaticChecks.{array_fault}
 use Rattle.cap_package.proofs.static_checks.array_faults.Given as goal
 
 abbrev pub invariant-fields : goal.invariant-fields

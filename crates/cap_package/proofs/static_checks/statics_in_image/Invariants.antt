@@ -3,7 +3,7 @@ use Rattle.cap_method.specs.StaticPart.{statics_seen, arrays_left}
 use Rattle.cap_desc.specs.MembersLeft.{fields_of_left}
 use Rattle.cap_package.specs.Order.{least_from, least_of}
 use Rattle.cap_package.specs.Descriptions.{description}
-use Rattle.cap_package.specs.StaticChecks.{image_fault, array_fault, array_fields, array_field_fault}
+use Rattle.cap_package.specs.StaticChecks.{image_fault, array_fields, array_field_fault}
 use Rattle.cap_package.proofs.static_checks.statics_in_image.Given as goal
 
 abbrev pub invariant-arrays : goal.invariant-arrays

@@ -1,5 +1,5 @@
 -- The nibble stands in the byte n / 2.
-use Rattle.std.proofs.Common.{sym, ◌∙◌, ◌<◌, arith}
+use Rattle.std.proofs.Common.{sym, ◌∙◌, arith}
 use Rattle.cap_desc.specs.TypeFormat.{nibbles}
 use Rattle.cap_desc.proofs.NibbleLemmas.{number-item, item-taken, high-nibble, low-nibble}
 use Rattle.cap_desc.proofs.nibbles.Nibbles.get.Goals as goal

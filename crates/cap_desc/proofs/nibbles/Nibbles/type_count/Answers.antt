@@ -1,9 +1,9 @@
 -- The types are counted to the end of the nibbles.
-use Rattle.std.proofs.Common.{arith, subst, sym, length, ◌≡◌, ◌≤◌, ◌<◌, ◌∙◌, None}
+use Rattle.std.proofs.Common.{arith, sym}
 use Rattle.cap_desc.specs.TypeFormat.{type_item, types_in, gives_types, given_types}
 use Rattle.cap_desc.specs.Nibbles.{nibbles_in}
 use Rattle.cap_desc.proofs.NibbleLemmas.{length-some}
-use Rattle.cap_desc.proofs.Counting.{HasCounted, counted-more, counted-all, counted-fails, read_where}
+use Rattle.cap_desc.proofs.Counting.{counted-more, counted-all, counted-fails, read_where}
 use Rattle.cap_desc.proofs.nibbles.Nibbles.type_count.Goals as goal
 
 pub types-preserved : goal.types-preserved

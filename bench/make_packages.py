@@ -1,0 +1,201 @@
+#!/usr/bin/env python3
+"""Makes the largest packages of each shape, and packages of half the size, and times `show` on them.
+
+    bench/make_packages.py FOLDER [CAPCHECK]
+
+Each shape becomes the folders FOLDER/SHAPE-full and FOLDER/SHAPE-half. With CAPCHECK, the path of the
+program or of the script `capcheck`, the time of `show` on both is printed side by side, with its first
+line. A component has at most 65,535 bytes of info; each shape fills one or two of them with as many
+records as fit, so that the conditions on the agreement of the parts compare as many pairs as they can.
+"""
+import os
+import subprocess
+import sys
+import time
+
+AID = bytes([0xF0, 1, 2, 3, 4])
+NAMES = {1: "Header", 2: "Directory", 3: "Applet", 4: "Import", 5: "ConstantPool", 6: "Class", 7: "Method",
+         8: "StaticField", 9: "RefLocation", 10: "Export", 11: "Descriptor"}
+BOOLEAN, SHORT = 0x8002, 0x8004
+
+
+def u2(n):
+    return n.to_bytes(2, "big")
+
+
+def class_record(public=(), visible=()):
+    head = bytes([0]) + u2(0xFFFF) + bytes([0, 0xFF, 0, 0, len(public), 0, len(visible)])
+    return head + b"".join(map(u2, public)) + b"".join(map(u2, visible))
+
+
+def static_field(offset, ty):
+    return bytes([0, 8, 0]) + u2(offset) + u2(ty)
+
+
+def method(offset, type_offset, code, handlers=0, index=0):
+    return bytes([0, 8]) + u2(offset) + u2(type_offset) + u2(code) + u2(handlers) + u2(index)
+
+
+class Package:
+    """The infos of a package's components; classes are described in their order."""
+
+    def __init__(self):
+        self.classes = []       # Class records
+        self.described = []     # for each a pair of field records and method records
+        self.handlers = b""
+        self.methods = b""
+        self.references = 0
+        self.arrays = []
+        self.zeros = 0
+        self.values = b""
+        self.export = None
+        self.types = bytes([1, 0x10])   # at offset 2: no argument, void
+
+    def add_class(self, record, fields=(), methods=()):
+        self.classes.append(record)
+        self.described.append((fields, methods))
+
+    def infos(self):
+        classes, offsets, at = u2(0), [], 2
+        for record in self.classes:
+            offsets.append(at)
+            classes += record
+            at += len(record)
+        descriptor = bytes([min(len(self.described), 255)])
+        for offset, (fields, methods) in list(zip(offsets, self.described))[:255]:
+            descriptor += bytes([0, 0]) + u2(offset) + bytes([0]) + u2(len(fields)) + u2(len(methods))
+            descriptor += b"".join(fields) + b"".join(methods)
+        descriptor += u2(0) + self.types
+        image = 2 * self.references + self.zeros + len(self.values)
+        statics = u2(image) + u2(self.references) + u2(len(self.arrays))
+        statics += b"".join(bytes([kind]) + u2(len(values)) + values for kind, values in self.arrays)
+        statics += u2(self.zeros) + u2(len(self.values)) + self.values
+        infos = {
+            1: bytes.fromhex("DECAFFED0202") + bytes([0, 0, 1, len(AID)]) + AID + bytes([0]),
+            4: bytes([0]), 5: u2(0), 6: classes,
+            7: bytes([len(self.handlers) // 8]) + self.handlers + self.methods,
+            8: statics, 9: bytes(4), 11: descriptor,
+        }
+        if self.export is not None:
+            infos[10] = self.export
+        array_bytes = sum(len(values) for _, values in self.arrays)
+        sizes = {tag: len(info) for tag, info in infos.items()}
+        sizes[2] = 33
+        directory = b"".join(u2(sizes.get(tag, 0)) for tag in range(1, 13))
+        directory += u2(image) + u2(len(self.arrays)) + u2(array_bytes & 0xFFFF) + bytes([0, 0, 0])
+        infos[2] = directory
+        return infos
+
+    def write(self, folder):
+        os.makedirs(folder, exist_ok=True)
+        for tag, info in self.infos().items():
+            assert len(info) <= 65535, (folder, tag, len(info))
+            with open(os.path.join(folder, NAMES[tag] + ".cap"), "wb") as file:
+                file.write(bytes([tag]) + u2(len(info)) + info)
+
+
+def code(count, start):
+    """Methods of one byte of code with compact headers, and the offsets at which they stand."""
+    return bytes([0x01, 0x00, 0x7A]) * count, [start + 3 * n for n in range(count)]
+
+
+def methods_only(size):
+    """As many methods as the Descriptor can describe: pairs of methods."""
+    package, count = Package(), size // 12 - 2
+    package.methods, offsets = code(count, 1)
+    package.add_class(class_record(), [], [method(o, 2, 1) for o in offsets])
+    return package
+
+
+def statics_only(size):
+    """As many static fields as the Descriptor can describe: pairs of fields."""
+    package, count = Package(), size // 7 - 4
+    package.zeros = count
+    package.add_class(class_record(), [static_field(o, BOOLEAN) for o in range(count)])
+    return package
+
+
+def dispatch(size):
+    """Full dispatch tables whose entries name the last method: entries and methods."""
+    package = Package()
+    classes = size // 1032
+    count = (size - 9 * classes - 20) // 12
+    package.methods, offsets = code(count, 1)
+    entries = [offsets[-1]] * 255
+    for n in range(classes):
+        package.add_class(class_record(entries, entries), [], [method(o, 2, 1) for o in offsets] if n == 0 else [])
+    return package
+
+
+def exports(size):
+    """Full exports that name the last static field and the last method."""
+    package = Package()
+    fields, count = size // 2 // 7 - 4, size // 2 // 12 - 4
+    package.methods, offsets = code(count, 1)
+    package.zeros = fields
+    package.add_class(class_record(), [static_field(o, BOOLEAN) for o in range(fields)], [method(o, 2, 1) for o in offsets])
+    one = u2(2) + bytes([255, 255]) + u2(fields - 1) * 255 + u2(offsets[-1]) * 255
+    classes = size // len(one)
+    package.export = bytes([classes]) + one * classes
+    return package
+
+
+def handlers(size):
+    """A full handler table, of which the last method owns every entry."""
+    package = Package()
+    entries = 255 * size // 65535
+    start = 1 + 8 * entries
+    count = size // 12 - 2
+    package.methods, offsets = code(count, start)
+    last = offsets[-1] + 2
+    package.handlers = (u2(last) + u2(0x8001) + u2(last) + u2(0)) * entries
+    records = [method(o, 2, 1) for o in offsets[:-1]] + [method(offsets[-1], 2, 1, entries, 0)]
+    package.add_class(class_record(), [], records)
+    return package
+
+
+def interfaces(size):
+    """As many records of one byte as the Class component holds, described as far as a byte counts."""
+    package = Package()
+    for _ in range(size - 2):
+        package.add_class(bytes([0x80]))
+    return package
+
+
+def arrays(size):
+    """Empty initial arrays, and static fields that are references."""
+    package = Package()
+    package.types += bytes([1, 0xC0])    # at offset 4: an array of shorts
+    count = size // 3 - 8
+    package.arrays = [(4, b"")] * count
+    fields = min(size // 7 - 4, count)
+    package.references = count
+    package.add_class(class_record(), [static_field(2 * n, 4) for n in range(fields)])
+    return package
+
+
+SHAPES = [methods_only, statics_only, dispatch, exports, handlers, interfaces, arrays]
+
+
+def show(capcheck, folder):
+    begin = time.monotonic()
+    done = subprocess.run([capcheck, "show", folder], capture_output=True, text=True)
+    first = done.stdout.split("\n", 1)[0]
+    return time.monotonic() - begin, done.returncode, first
+
+
+def main(words):
+    if not 2 <= len(words) <= 3:
+        sys.exit(__doc__)
+    for shape in SHAPES:
+        row = []
+        for name, size in (("full", 65535), ("half", 32767)):
+            folder = os.path.join(words[1], shape.__name__ + "-" + name)
+            shape(size).write(folder)
+            if len(words) == 3:
+                seconds, status, first = show(words[2], os.path.abspath(folder))
+                row.append("%s %6.2f s status %d %s" % (name, seconds, status, first))
+        print("%-13s %s" % (shape.__name__, "   ".join(row)), flush=True)
+
+
+main(sys.argv)

@@ -1,0 +1,55 @@
+ghost use Rattle.std.specs.Prelude.{◌≡◌, ◌<◌, [], ◌∷◌, ◌++◌, OnOk, OnErr, Some, length, slice_get};
+
+use crate::package_type::Package;
+use std::alloc::{AllocError, Global};
+use std::marker::Model;
+
+/// Packages in the order of a command's folders: a list.
+#[derive(Drop)]
+pub struct Packages<'a> {
+    items: Vec<Package<'a>>,
+}
+
+impl<'a> Model for Packages<'a> {
+    ghost use Rattle.std.specs.Prelude.{List};
+    ghost use Rattle.cap_package.specs.PackageRecord.{PackageRecord};
+
+    ghost Value = { List PackageRecord };
+
+    ghost view = { λ p. p.items.items };
+}
+
+impl<'a> Packages<'a> {
+    /// No package.
+    pub fn new(alloc: Global) -> Packages<'a>
+        ensures { result ≡ [] }
+    {
+        Packages {
+            items: Vec::new(alloc),
+        }
+    }
+
+    /// How many packages there are.
+    pub fn len(&self) -> usize
+        ensures { result ≡ length self.now }
+    {
+        self.items.len()
+    }
+
+    /// The n-th package.
+    pub fn at(&self, n: usize) -> &Package<'a>
+        requires { n < length self.now }
+        ensures { slice_get self.now n ≡ Some result.now }
+    {
+        &self.items[n]
+    }
+
+    /// Appends a package. After an error the list is as before.
+    pub fn push(&mut self, package: Package<'a>) -> Result<(), AllocError>
+        ensures ok { OnOk result (self.new ≡ self.old ++ «package».entry ∷ []) }
+        ensures err { OnErr result (self.new ≡ self.old) }
+    {
+        self.items.push(package)?;
+        Ok(())
+    }
+}
