@@ -2,7 +2,7 @@ use super::*;
 use cap_bytes::{FormFault, FormKind, View};
 use std::test::Fail;
 
-// The Class component of eight classes: object, throwable below it, and six below throwable.
+// The Class component of package T, of eight classes: object, throwable below it, and six below throwable.
 const EIGHT: [u8; 82] = [
     0, 0, //
     0, 0xFF, 0xFF, 0, 0xFF, 0, 0, 0, 0, 0, //
@@ -82,10 +82,15 @@ fn records_are_interfaces_and_then_classes(rt: HostRuntime) -> Result<(), Fail> 
 
 #[test]
 fn reads_interfaces_and_tables(rt: HostRuntime) -> Result<(), Fail> {
-    for len in 5..MIXED.len() {
+    for len in 0..MIXED.len() {
         let whole = len == 5 || len == 8;
-        assert_eq!(rt; fault(&MIXED[..len]).is_none(), whole);
+        let cut = &MIXED[..len];
+        assert_eq!(rt; is_fault(cut, 3 + len as u32, FormKind::Cut), !whole);
+        assert_eq!(rt; fault(cut).is_none(), whole);
     }
+    let mut longer = Vec::from_slice(rt.alloc(), &MIXED)?;
+    longer.push(0)?;
+    assert!(rt; is_fault(&longer, 33, FormKind::Cut));
     let part = classes(View::of(&MIXED))
         .ok()
         .ok_or("an interface and a class")?;

@@ -2,7 +2,7 @@ use super::*;
 use cap_bytes::{FormFault, FormKind, View};
 use std::test::Fail;
 
-// Two methods with compact headers and no handler.
+// The Method component of package T: two methods with compact headers and no handler.
 const TWO: [u8; 19] = [
     0, //
     0x02, 0x10, 0x1C, 0x04, 0x41, 0x78, //
@@ -25,6 +25,19 @@ const IMAGE: [u8; 19] = [
     4, 0, 4, 1, 2, 3, 4, //
     0, 2, 0, 2, 0xCA, 0xFE,
 ];
+
+// An image of four references with an initial array of each type, one zero byte and two values.
+const ARRAYS: [u8; 36] = [
+    0, 11, 0, 4, 0, 4, //
+    2, 0, 3, 1, 0, 1, //
+    3, 0, 3, 0x80, 0, 0x7F, //
+    4, 0, 2, 0xFF, 0xFE, //
+    5, 0, 4, 0x80, 0, 0, 1, //
+    0, 1, 0, 2, 0xCA, 0xFE,
+];
+
+// The StaticField component of package T: two values.
+const VALUES: [u8; 12] = [0, 2, 0, 0, 0, 0, 0, 0, 0, 2, 0, 7];
 
 fn is_fault(fault: Option<FormFault>, part: u8, at: u32, kind: FormKind) -> bool {
     match fault {
@@ -66,6 +79,13 @@ fn reads_handlers_and_headers(rt: HostRuntime) -> Result<(), Fail> {
         );
     }
     assert!(rt; is_fault(method_fault(&[]), 7, 3, FormKind::Cut));
+    // Where a method ends is no matter of the component's own format.
+    for len in 1..TWO.len() {
+        assert!(rt; method_fault(&TWO[..len]).is_none());
+    }
+    let mut longer = Vec::from_slice(rt.alloc(), &TWO)?;
+    longer.push(0)?;
+    assert!(rt; method_fault(&longer).is_none());
     let plain = methods(View::of(&TWO)).ok().ok_or("two methods")?;
     assert_eq!(rt; plain.handler_count(), 0);
     let first = plain.header(1).ok_or("the first header")?;
@@ -107,19 +127,17 @@ fn reads_handlers_and_headers(rt: HostRuntime) -> Result<(), Fail> {
 
 #[test]
 fn reads_the_static_image(rt: HostRuntime) -> Result<(), Fail> {
-    for len in 0..IMAGE.len() {
-        assert!(rt;
-            is_fault(
-                static_fault(&IMAGE[..len]),
-                8,
-                3 + len as u32,
-                FormKind::Cut
-            )
-        );
+    for whole in [IMAGE.as_slice(), ARRAYS.as_slice(), VALUES.as_slice()] {
+        for len in 0..whole.len() {
+            let cut = static_fault(&whole[..len]);
+            assert!(rt; is_fault(cut, 8, 3 + len as u32, FormKind::Cut));
+        }
+        assert!(rt; static_fault(whole).is_none());
+        let mut longer = Vec::from_slice(rt.alloc(), whole)?;
+        longer.push(0)?;
+        let end = 3 + whole.len() as u32;
+        assert!(rt; is_fault(static_fault(&longer), 8, end, FormKind::Trailing));
     }
-    let mut longer = Vec::from_slice(rt.alloc(), &IMAGE)?;
-    longer.push(0)?;
-    assert!(rt; is_fault(static_fault(&longer), 8, 22, FormKind::Trailing));
     for (place, byte, at) in [(6, 1, 9), (6, 6, 9), (6, 5, 9), (8, 3, 10), (3, 0, 7)] {
         let mut bytes = IMAGE;
         bytes[place] = byte;
@@ -145,5 +163,24 @@ fn reads_the_static_image(rt: HostRuntime) -> Result<(), Fail> {
     assert_eq!(rt; array.values, [1, 2, 3, 4].as_slice());
     assert!(rt; part.array(1).is_none());
     assert_eq!(rt; part.arrays().count(), 1);
+
+    let part = statics(View::of(&ARRAYS)).ok().ok_or("four arrays")?;
+    for (n, kind, values) in [
+        (0, 2, [1, 0, 1].as_slice()),
+        (1, 3, [0x80, 0, 0x7F].as_slice()),
+        (2, 4, [0xFF, 0xFE].as_slice()),
+        (3, 5, [0x80, 0, 0, 1].as_slice()),
+    ] {
+        let array = part.array(n).ok_or("an array")?;
+        assert_eq!(rt; array.kind, kind);
+        assert_eq!(rt; array.values, values);
+    }
+    assert!(rt; part.array(4).is_none());
+
+    let part = statics(View::of(&VALUES)).ok().ok_or("two values")?;
+    assert_eq!(rt; (part.image_size(), part.reference_count()), (2, 0));
+    assert_eq!(rt; part.arrays().count(), 0);
+    assert_eq!(rt; part.default_value_count(), 0);
+    assert_eq!(rt; part.values(), [0, 7].as_slice());
     Ok(())
 }
