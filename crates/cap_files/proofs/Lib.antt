@@ -2,3 +2,4 @@ pub mod Buffer
 pub mod Pieces
 pub mod Keys
 pub mod Transfers
+pub mod Outputs

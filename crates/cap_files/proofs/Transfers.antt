@@ -6,7 +6,7 @@ use Rattle.std.proofs.KnownBytes.{Appends-trans, Appends-kept}
 use Rattle.std.specs.Io.KnownBytes.{Appends, Keeps}
 use Rattle.cap_files.specs.declared.folder.LoadEnd.{LoadEnd}
 use Rattle.cap_files.specs.declared.folder.LoadEnd.TheVariants.{Failed, TooLong, Memory}
-use Rattle.cap_files.specs.Transfer.{IsRead, TakesMore, TakesAll}
+use Rattle.cap_files.specs.Transfer.{TakesMore, TakesAll}
 
 pub written_last : (a b c : Option (List ℕ)) (bytes left given : List ℕ) (k : ℕ) → bytes ≡ given ++ left → Appends a b given → Appends b c (take k left) → (n : ℕ) × Appends a c (take n bytes)
 written_last a b c bytes left given k whole before now =
@@ -25,11 +25,6 @@ written_on a b c bytes left given after k whole before now behind = (
 )
 
 -- a read that ends with an error
-pub read_ended : (end : LoadEnd) (left rest : Option (List ℕ)) (to after : List ℕ) → TakesMore left rest to after (Err end) → IsRead after (Err end)
-read_ended Failed left rest to after more = tt
-read_ended TooLong left rest to after more = absurd more
-read_ended Memory left rest to after more = tt
-
 pub taken_ended : (end : LoadEnd) (left rest : Option (List ℕ)) (to after : List ℕ) (all : Option (List ℕ)) → TakesMore left rest to after (Err end) → TakesAll all after (Err end)
 taken_ended Failed left rest to after all more = tt
 taken_ended TooLong left rest to after all more = absurd more

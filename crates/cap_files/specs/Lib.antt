@@ -1,5 +1,6 @@
 pub mod Counts
 pub mod Folder
+pub mod Disk
 pub mod Sink
 pub mod Words
 pub mod WordsLeft

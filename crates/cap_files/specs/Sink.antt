@@ -1,6 +1,15 @@
--- What a sink has received after a put.
-use Rattle.std.specs.Prelude.{◌≡◌, ℕ, List, ◌++◌, take, Option, IfSome, IsSomeAnd, Result, Ok, Err}
+-- What a sink has received after a put, and an output taken.
+use Rattle.std.specs.Prelude.{◌≡◌, ℕ, ◌≤◌, List, [], ◌++◌, length, take, Option, IfSome, IsSomeAnd, Result, Ok, Err}
 use Rattle.cap_files.specs.declared.sink.SinkFailed.{SinkFailed}
+
+-- the bytes were taken behind those that were there. A device may cease to tell what it took, and never begins to
+abbrev pub Taken : Option (List ℕ) → List ℕ → Option (List ℕ) → Type 0
+Taken before bytes after = IfSome after (λ now. IsSomeAnd before (λ text. now ≡ text ++ bytes))
+
+-- some of the bytes were taken, the first ones, or after a failure none
+abbrev pub TakesSome : Option (List ℕ) → List ℕ → Option (List ℕ) → Result ℕ SinkFailed → Type 0
+TakesSome before bytes after (Ok count) = (count ≤ length bytes) × Taken before (take count bytes) after
+TakesSome before bytes after (Err _) = Taken before [] after
 
 -- what was received after a put, by its answer: the piece behind what was there, and after a failure the first bytes of the piece. A
 -- device may cease to tell what it received, and never begins to

@@ -1,22 +1,14 @@
--- What is read of a file, and written to one, where the file tells its bytes or not.
-use Rattle.std.specs.Prelude.{◌≡◌, ℕ, ◌≤◌, Bool, true, false, List, [], ◌++◌, length, take, Option, IfSome, Result, Ok, Err}
+-- What is read of a file, and written to one, where the disk tells its bytes or not.
+use Rattle.std.specs.Prelude.{◌≡◌, ℕ, ◌≤◌, Bool, false, List, ◌++◌, length, take, Option, IfSome, Result, Ok, Err}
 use Rattle.std.specs.Io.KnownBytes.{Appends, Consumes, IsAtEnd}
 use Rattle.cap_files.specs.declared.folder.LoadEnd.{LoadEnd}
 use Rattle.cap_files.specs.declared.folder.LoadEnd.TheVariants.{Failed, TooLong, Memory}
 use Rattle.cap_files.specs.declared.folder.StoreFailed.{StoreFailed}
 
--- at most the bytes that a part can have, and more only as TooLong
-abbrev pub IsRead : List ℕ → Result Bool LoadEnd → Type 0
-IsRead to (Ok true) = length to ≤ 65538
-IsRead to (Ok false) = to ≡ []
-IsRead to (Err TooLong) = length to ≡ 65539
-IsRead to (Err Failed) = Unit {0}
-IsRead to (Err Memory) = Unit {0}
-
--- all that a file has left was read, or as TooLong its first bytes
-abbrev pub TakesAll : Option (List ℕ) → List ℕ → Result Bool LoadEnd → Type 0
-TakesAll left to (Ok there) = IfSome left (λ bytes. to ≡ bytes)
-TakesAll left to (Err TooLong) = IfSome left (λ bytes. to ≡ take (length to) bytes)
+-- all that a file has left was read, at most the bytes that a part can have; or as TooLong its first bytes
+abbrev pub TakesAll : Option (List ℕ) → List ℕ → Result (Unit {0}) LoadEnd → Type 0
+TakesAll left to (Ok _) = (length to ≤ 65538) × IfSome left (λ bytes. to ≡ bytes)
+TakesAll left to (Err TooLong) = (length to ≡ 65539) × IfSome left (λ bytes. to ≡ take (length to) bytes)
 TakesAll left to (Err Failed) = Unit {0}
 TakesAll left to (Err Memory) = Unit {0}
 

@@ -1,74 +1,44 @@
-ghost use Rattle.std.specs.Prelude.{◌≡◌, [], None, IfOk};
-ghost use Rattle.cap_files.specs.Transfer.{IsRead};
+ghost use Rattle.std.specs.Prelude.{◌≡◌, IfOk};
+ghost use Rattle.cap_files.specs.Folder.{Loads, Stores, key_of};
 
+use crate::disk::Disk;
+use crate::file_system::FileSystem;
 use crate::folder::{Folder, LoadEnd, StoreFailed};
-use crate::path::Path;
 use crate::transfer::{read_part, write_part};
 use cap_bytes::Part;
 use std::alloc::{AllocError, Global};
-use std::fs;
-use std::io::ErrorKind;
 use std::rt::Files;
 
-/// Folders of the file system. A folder's word is its path, and a part is the file of its name in
-/// it. What they hold is not told.
+/// Folders whose parts are the files of a disk. They tell what the disk tells.
 #[derive(Drop)]
-pub struct DirFolder<'a, R: Files> {
-    files: &'a R,
-    path: Path,
+pub struct DirFolder<D: Disk> {
+    disk: D,
     load_faults: u64,
     store_faults: u64,
 }
 
-impl<'a, R: Files> DirFolder<'a, R> {
-    /// The folders whose words have at most `longest` bytes. The room for their paths is taken
-    /// now. A longer word counts as a failure of the device.
-    pub fn new(files: &'a R, alloc: Global, longest: u32) -> Result<DirFolder<'a, R>, AllocError>
-        ensures room { IfOk result (λ d. d.path.longest ≡ longest) }
+impl<'a, R: Files> DirFolder<FileSystem<'a, R>> {
+    /// The folders of the file system whose words have at most `longest` bytes. The room for their
+    /// paths is taken now. A longer word counts as a failure of the device.
+    pub fn new(
+        files: &'a R,
+        alloc: Global,
+        longest: u32,
+    ) -> Result<DirFolder<FileSystem<'a, R>>, AllocError>
+        ensures room { IfOk result (λ d. d.disk.path.longest ≡ longest) }
         ensures load_faults { IfOk result (λ d. d.load_faults ≡ 0) }
         ensures store_faults { IfOk result (λ d. d.store_faults ≡ 0) }
     {
         Ok(DirFolder {
-            files,
-            path: Path::new(alloc, longest)?,
+            disk: FileSystem::new(files, alloc, longest)?,
             load_faults: 0,
             store_faults: 0,
         })
     }
-
-    // Reads the file of a part, if it is there.
-    fn read(&mut self, dir: &str, part: Part, to: &mut Vec<u8>) -> Result<bool, LoadEnd>
-        requires { to.old.items ≡ [] }
-        ensures read { IsRead to.new.items result }
-        ensures load_faults { self.new.load_faults ≡ self.old.load_faults }
-        ensures store_faults { self.new.store_faults ≡ self.old.store_faults }
-    {
-        if !self.path.set(dir, part) {
-            return Err(LoadEnd::Failed);
-        }
-        match fs::open(self.files, self.path.text()) {
-            Ok(mut file) => read_part(&mut file, to),
-            Err(e) if matches!(e.kind(), ErrorKind::NotFound) => Ok(false),
-            Err(_) => Err(LoadEnd::Failed),
-        }
-    }
-
-    fn write(&mut self, dir: &str, part: Part, bytes: &[u8]) -> Result<(), StoreFailed>
-        ensures load_faults { self.new.load_faults ≡ self.old.load_faults }
-        ensures store_faults { self.new.store_faults ≡ self.old.store_faults }
-    {
-        if !self.path.set(dir, part) {
-            return Err(StoreFailed);
-        }
-        match fs::create(self.files, self.path.text()) {
-            Ok(mut file) => write_part(&mut file, bytes),
-            Err(_) => Err(StoreFailed),
-        }
-    }
 }
 
-impl<'a, R: Files> Folder for DirFolder<'a, R> {
-    ghost held = { λ _. None };
+impl<D: Disk> Folder for DirFolder<D> {
+    ghost held = { λ d. D.held d.disk };
 
     ghost load_faults = { λ d. d.load_faults };
 
@@ -76,32 +46,60 @@ impl<'a, R: Files> Folder for DirFolder<'a, R> {
 
     fn load(
         &mut self,
-        alloc: Global,
+        _alloc: Global,
         dir: &str,
         part: Part,
         to: &mut Vec<u8>,
     ) -> Result<bool, LoadEnd> {
-        to.clear();
-        match self.read(dir, part, to) {
-            Ok(there) => Ok(there),
-            Err(LoadEnd::TooLong) => Err(LoadEnd::TooLong),
-            Err(LoadEnd::Memory) => {
-                to.clear();
-                Err(LoadEnd::Memory)
-            }
-            Err(LoadEnd::Failed) => {
-                to.clear();
-                self.load_faults = self.load_faults.saturating_add(1);
-                Err(LoadEnd::Failed)
-            }
+        let loaded = read(&mut self.disk, dir, part, to);
+        if let Err(LoadEnd::Failed) = loaded {
+            self.load_faults = self.load_faults.saturating_add(1);
         }
+        loaded
     }
 
     fn store(&mut self, dir: &str, part: Part, bytes: &[u8]) -> Result<(), StoreFailed> {
-        let stored = self.write(dir, part, bytes);
+        let stored = write(&mut self.disk, dir, part, bytes);
         if stored.is_err() {
             self.store_faults = self.store_faults.saturating_add(1);
         }
         stored
     }
+}
+
+// Reads the file of a part, if it is there. After a failure, and for want of memory, `to` is empty.
+fn read<D: Disk>(disk: &mut D, dir: &str, part: Part, to: &mut Vec<u8>) -> Result<bool, LoadEnd>
+    ensures bytes { Loads (D.held disk.old) (key_of part dir.now) to.new.items result }
+    ensures held { D.held disk.new ≡ D.held disk.old }
+{
+    to.clear();
+    match disk.open(dir, part) {
+        Ok(true) => {}
+        Ok(false) => return Ok(false),
+        Err(_) => return Err(LoadEnd::Failed),
+    }
+    match read_part(disk, to) {
+        Ok(()) => Ok(true),
+        Err(LoadEnd::TooLong) => Err(LoadEnd::TooLong),
+        Err(LoadEnd::Failed) => {
+            to.clear();
+            Err(LoadEnd::Failed)
+        }
+        Err(LoadEnd::Memory) => {
+            to.clear();
+            Err(LoadEnd::Memory)
+        }
+    }
+}
+
+// Writes the file of a part, and closes it also where a write failed.
+fn write<D: Disk>(disk: &mut D, dir: &str, part: Part, bytes: &[u8]) -> Result<(), StoreFailed>
+    ensures { Stores (D.held disk.old) (key_of part dir.now) bytes.now (D.held disk.new) result }
+{
+    if disk.create(dir, part).is_err() {
+        return Err(StoreFailed);
+    }
+    let stored = write_part(disk, bytes);
+    disk.close(dir, part);
+    stored
 }

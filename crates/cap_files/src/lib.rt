@@ -6,12 +6,15 @@
 
 mod calls;
 mod dir_folder;
+mod disk;
+mod file_system;
 mod folder;
 mod load;
 mod mem_folder;
 mod mem_sink;
 mod name;
 mod out_sink;
+mod output;
 mod path;
 mod piece;
 mod pile;
@@ -27,11 +30,14 @@ mod transfer;
 mod words;
 
 pub use dir_folder::DirFolder;
+pub use disk::{Disk, DiskFailed};
+pub use file_system::FileSystem;
 pub use folder::{Folder, LoadEnd, StoreFailed};
 pub use mem_folder::MemFolder;
 pub use mem_sink::MemSink;
 pub use name::{FileName, file_name};
 pub use out_sink::OutSink;
+pub use output::{Output, StandardOutput};
 pub use sink::{Sink, SinkFailed};
 pub use sure_folder::SureFolder;
 pub use sure_sink::SureSink;

@@ -1,29 +1,35 @@
 ghost use Rattle.std.specs.Prelude.{◌≡◌, None};
+ghost use Rattle.cap_files.specs.Sink.{Puts};
 
+use crate::output::{Output, StandardOutput};
 use crate::sink::{Sink, SinkFailed};
 
-/// The standard output. What it received is not told.
+/// A sink that hands its text to an output, and tells what that tells.
 #[derive(Drop)]
-pub struct OutSink<'a, R: Print> {
-    output: &'a R,
+pub struct OutSink<O: Output> {
+    output: O,
     faults: u64,
 }
 
-impl<'a, R: Print> OutSink<'a, R> {
-    pub fn new(output: &'a R) -> OutSink<'a, R>
+impl<'a, R: Print> OutSink<StandardOutput<'a, R>> {
+    /// The standard output.
+    pub fn new(output: &'a R) -> OutSink<StandardOutput<'a, R>>
         ensures { result.faults ≡ 0 }
     {
-        OutSink { output, faults: 0 }
+        OutSink {
+            output: StandardOutput::new(output),
+            faults: 0,
+        }
     }
 }
 
-impl<'a, R: Print> Sink for OutSink<'a, R> {
-    ghost received = { λ _. None };
+impl<O: Output> Sink for OutSink<O> {
+    ghost received = { λ s. O.taken s.output };
 
     ghost faults = { λ s. s.faults };
 
     fn put(&mut self, piece: &[u8]) -> Result<(), SinkFailed> {
-        let put = print_all(self.output, piece);
+        let put = write_all(&mut self.output, piece);
         if put.is_err() {
             self.faults = self.faults.saturating_add(1);
         }
@@ -32,13 +38,15 @@ impl<'a, R: Print> Sink for OutSink<'a, R> {
 }
 
 // Writes all bytes to the output. A write that takes none of them is a failure.
-fn print_all<R: Print>(output: &R, piece: &[u8]) -> Result<(), SinkFailed> {
+fn write_all<O: Output>(output: &mut O, piece: &[u8]) -> Result<(), SinkFailed>
+    ensures { Puts (O.taken output.old) piece.now (O.taken output.new) result }
+{
     let mut left = piece;
-    while !left.is_empty() {
-        match output.write_some(left) {
+    'pieces: while !left.is_empty() {
+        match output.take(left) {
             Ok(0) => return Err(SinkFailed),
             Ok(taken) => left = &left[taken..],
-            Err(_) => return Err(SinkFailed),
+            Err(end) => return Err(end),
         }
     }
     Ok(())

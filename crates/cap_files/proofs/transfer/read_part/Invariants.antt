@@ -1,12 +1,13 @@
-use Rattle.std.proofs.Common.{◌-◌, ◌≤◌, vec_len}
+use Rattle.std.proofs.Common.{◌≡◌, ◌-◌, ◌≤◌, vec_len}
 use Rattle.std.specs.Io.KnownBytes.{Consumes}
 use Rattle.cap_files.proofs.transfer.read_part.Given as goal
 
-abbrev pub invariant-loop-file : goal.invariant-loop-file
-invariant-loop-file g l = record {
+abbrev pub invariant-chunks : goal.invariant-chunks
+invariant-chunks g l = record {
   few : vec_len l.to ≤ 65539;
-  bytes : Consumes (g.F.Read.remaining l.initial.file) (g.F.Read.remaining l.file) l.to.items;
+  bytes : Consumes (g.D.Disk.left l.initial.disk) (g.D.Disk.left l.disk) l.to.items;
+  held : g.D.Disk.held l.disk ≡ g.D.Disk.held l.initial.disk;
 }
 
-abbrev pub decreases-loop-file : goal.decreases-loop-file
-decreases-loop-file g l = 65539 - vec_len l.to
+abbrev pub decreases-chunks : goal.decreases-chunks
+decreases-chunks g l = 65539 - vec_len l.to

@@ -1,0 +1,9 @@
+use Rattle.std.proofs.Common.{◌≡◌, ℕ, List, ◌++◌, length}
+use Rattle.cap_files.specs.Sink.{Taken}
+use Rattle.cap_files.proofs.out_sink.write_all.Given as goal
+
+abbrev pub invariant-pieces : goal.invariant-pieces
+invariant-pieces g l = (given : List ℕ) × (l.piece ≡ given ++ l.left) × Taken (g.O.Output.taken l.initial.output) given (g.O.Output.taken l.output)
+
+abbrev pub decreases-pieces : goal.decreases-pieces
+decreases-pieces g l = length l.left
