@@ -31,6 +31,14 @@ impl<'a> DescPart<'a> {
         self.classes
     }
 
+    /// How many classes and interfaces there are.
+    #[tactic(auto, using(cap_bytes::proofs::Loops::yielding))]
+    pub fn class_count(&self) -> u8
+        ensures { result ≡ length (descriptor_seen self.now).classes }
+    {
+        self.classes.left
+    }
+
     /// The methods of the classes whose reference is at least `start`, class after class.
     #[tactic(auto, unfolding(cap_bytes::specs::Taking::gives, cap_bytes::specs::Taking::given))]
     pub fn methods_from(&self, start: u16) -> MethodsFrom<'a>

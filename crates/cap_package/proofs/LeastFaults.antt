@@ -6,7 +6,7 @@ use Rattle.std.proofs.lemmas.List.Sums.{fold-append}
 use Rattle.std.proofs.lemmas.Bool.{ltb-true, ltb-false}
 use Rattle.cap_package.specs.declared.fault.PackFault.{PackFault}
 use Rattle.cap_package.specs.Order.{place_of, lesser, least_of, least_from, refused}
-use Rattle.cap_package.specs.FirstFault.{IsOneOf, ComesFirst, IsLeast, IsFirst, AllEmpty}
+use Rattle.cap_package.specs.FirstFault.{ComesFirst, IsLeast, IsFirst, AllEmpty}
 
 -- the least of a list of faults, beside one that was seen before
 abbrev pub least_in : Option PackFault → List PackFault → Option PackFault
@@ -42,30 +42,34 @@ least-one (Some f) = refl
 
 -- ---- the least of a list
 
-one_further : (f g x : PackFault) (xs : List PackFault) → (f ≡ g) ⊎ IsOneOf xs f → (f ≡ g) ⊎ IsOneOf (x ∷ xs) f
-one_further f g x xs (inl e) = inl e
-one_further f g x xs (inr h) = inr (inr h)
+least-before : (x : PackFault) (xs : List PackFault) (f : PackFault) → IsLeast (x ∷ xs) f → place_of f ≤ place_of x
+least-before x xs f (inl here) = rw here.0 (omega arith)
+least-before x xs f (inr behind) = let lt = behind.0 in omega arith
+
+-- another fault that is not before the first of a list leaves the least where it is
+least-kept : (g x : PackFault) (xs : List PackFault) (f : PackFault) → place_of g ≤ place_of x → IsLeast (g ∷ xs) f → IsLeast (g ∷ x ∷ xs) f
+least-kept g x xs f le (inl here) =
+    let m : place_of f ≤ place_of x = rw here.0 le in
+    inl (here.0, (m, here.1))
+least-kept g x xs f le (inr behind) =
+    let lt : place_of f < place_of g = behind.0 in
+    let m : place_of f < place_of x = omega arith in
+    inr (lt, inr (m, behind.1))
 
 chosen_least : (g x : PackFault) (xs : List PackFault) (f : PackFault) (b : Bool) → ltb (place_of x) (place_of g) ≡ b → (least_in (Some x) xs ≡ Some f → IsLeast (x ∷ xs) f) → (least_in (Some g) xs ≡ Some f → IsLeast (g ∷ xs) f) → least_in (lesser (Some g) (Some x)) xs ≡ Some f → IsLeast (g ∷ x ∷ xs) f
 unfolding lesser
 chosen_least g x xs f true e by_x by_g h =
     let l = by_x (rw e at h) in
     let lt : place_of x < place_of g = ltb-true (place_of x) (place_of g) e in
-    let first : place_of f ≤ place_of x = l.least.0 in
-    let m : place_of f ≤ place_of g = omega arith in
-    record { one = inr l.one; least = (m, l.least) }
-chosen_least g x xs f false e by_x by_g h =
-    let l = by_g (rw e at h) in
-    let le : place_of g ≤ place_of x = ltb-false (place_of x) (place_of g) e in
-    let first : place_of f ≤ place_of g = l.least.0 in
-    let m : place_of f ≤ place_of x = omega arith in
-    record { one = one_further f g x xs l.one; least = (first, (m, l.least.1)) }
+    let first : place_of f ≤ place_of x = least-before x xs f l in
+    let m : place_of f < place_of g = omega arith in
+    inr (m, l)
+chosen_least g x xs f false e by_x by_g h = least-kept g x xs f (ltb-false (place_of x) (place_of g) e) (by_g (rw e at h))
 
 pub least-some : (g : PackFault) (fs : List PackFault) (f : PackFault) → least_in (Some g) fs ≡ Some f → IsLeast (g ∷ fs) f
 least-some g [] f h =
     let e : f ≡ g = cc in
-    let m : place_of f ≤ place_of g = rw e (omega arith) in
-    record { one = inl e; least = (m, tt {0}) }
+    inl (e, tt {0})
 least-some g (x ∷ xs) f h = chosen_least g x xs f (ltb (place_of x) (place_of g)) refl (λ k. least-some x xs f k) (λ k. least-some g xs f k) h
 
 chosen_none : (g x : PackFault) (xs : List PackFault) (b : Bool) → ltb (place_of x) (place_of g) ≡ b → (least_in (Some x) xs ≡ None → ⊥) → (least_in (Some g) xs ≡ None → ⊥) → least_in (lesser (Some g) (Some x)) xs ≡ None → ⊥

@@ -80,15 +80,16 @@ stands-read parts p s =
 
 none_first : (lists : List (List PackFault)) (f : PackFault) → AllEmpty lists → IsFirst lists f → ⊥
 none_first [] f empty first = first
-none_first (faults ∷ others) f empty (inl l) = subst (λ fs. IsLeast fs f → ⊥) (sym empty.0) (λ k. k.one) l
+none_first (faults ∷ others) f empty (inl l) = subst (λ fs. IsLeast fs f → ⊥) (sym empty.0) (λ k. k) l
 none_first (faults ∷ others) f empty (inr h) = none_first others f empty.1 h.1
 
 ok_same : (p q : PackageRecord) (r : Result PackageRecord PackFault) → r ≡ Ok p → r ≡ Ok q → q ≡ p
 ok_same p q r e h = cc
 
-stands_told : (parts : List Lent) (p : PackageRecord) (answer : Result PackageRecord PackFault) → StandsFor parts p → Tells parts answer → answer ≡ Ok p
+-- what is told of parts that stand for a package
+pub stands_told : (parts : List Lent) (p : PackageRecord) (answer : Result PackageRecord PackFault) → StandsFor parts p → Tells parts answer → answer ≡ Ok p
 stands_told parts p (Ok q) s t = ap Ok (ok_same p q (read_package parts) (stands-read parts p s) t.1)
-stands_told parts p (Err f) s (inl l) = absurd (subst (λ fs. IsLeast fs f → ⊥) (sym s.missing) (λ k. k.one) l)
+stands_told parts p (Err f) s (inl l) = absurd (subst (λ fs. IsLeast fs f → ⊥) (sym s.missing) (λ k. k) l)
 stands_told parts p (Err f) s (inr (none, inl e)) = absurd (let r = stands-read parts p s in cc)
 stands_told parts p (Err f) s (inr (none, inr (q, read, first))) =
     let same = ok_same p q (read_package parts) (stands-read parts p s) read in

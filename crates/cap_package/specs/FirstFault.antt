@@ -1,6 +1,6 @@
 -- Which fault is named, in the subject's words: the conditions stand in the order of their numbers, each with the list
 -- of the things that break it; the first list that is not empty tells the fault, and the least thing in it is named.
-use Rattle.std.specs.Prelude.{◌≡◌, ℕ, ◌+◌, ◌≤◌, ◌⊎◌, List, [], ◌∷◌, ◌++◌, length, Option, Some, None, Result, Ok, Err, map}
+use Rattle.std.specs.Prelude.{◌≡◌, ℕ, ◌+◌, ◌≤◌, ◌<◌, ◌⊎◌, List, [], ◌∷◌, ◌++◌, length, Option, Some, None, Result, Ok, Err, map}
 use Rattle.std.specs.List.{filter_map}
 use Rattle.std.specs.Option.{option_to_list}
 use Rattle.cap_frame.specs.AppletFormat.{Applet}
@@ -92,18 +92,15 @@ conditions p = place_lists p ++ (count_lists p ++ member_lists p)
 
 -- ---- which fault is named
 
-abbrev pub IsOneOf : List PackFault → PackFault → Type 0
-IsOneOf [] fault = ⊥
-IsOneOf (other ∷ others) fault = (fault ≡ other) ⊎ IsOneOf others fault
-
+-- nothing in the list comes before the fault
 abbrev pub ComesFirst : List PackFault → PackFault → Type 0
 ComesFirst [] fault = Unit {0}
 ComesFirst (other ∷ others) fault = (place_of fault ≤ place_of other) × ComesFirst others fault
 
--- one of the faults, at or before all others
-pub record IsLeast (faults : List PackFault) (fault : PackFault) : Type 0 where
-  pub one : IsOneOf faults fault
-  pub least : ComesFirst faults fault
+-- the least of the faults, and of several that are least the first in the list
+abbrev pub IsLeast : List PackFault → PackFault → Type 0
+IsLeast [] fault = ⊥
+IsLeast (other ∷ others) fault = ((fault ≡ other) × ComesFirst others fault) ⊎ ((place_of fault < place_of other) × IsLeast others fault)
 
 -- the least of the first list that is not empty
 abbrev pub IsFirst : List (List PackFault) → PackFault → Type 0

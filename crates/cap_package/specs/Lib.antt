@@ -23,3 +23,4 @@ pub mod Customs
 pub mod CustomSeen
 pub mod FirstFault
 pub mod StandsFor
+pub mod StaticPlaces

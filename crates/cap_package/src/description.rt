@@ -44,9 +44,9 @@ pub(crate) fn argument_words(descriptor: &DescPart<'_>, offset: u16) -> Option<u
     words_in(descriptor.types_at(offset)?)
 }
 
-/// A field's type.
+/// A field's type: that of its number, or of the type descriptor of one type at that offset.
 #[tactic(auto, unfolding(crate::specs::Descriptions::field_type))]
-pub(crate) fn field_type(descriptor: &DescPart<'_>, ty: u16) -> Option<TypeItem>
+pub fn field_type(descriptor: &DescPart<'_>, ty: u16) -> Option<TypeItem>
     ensures { result ≡ field_type (description descriptor.now) ty }
 {
     if ty >= 0x8002 && ty <= 0x8005 {

@@ -14,7 +14,7 @@ use cap_method::{MethodHeader, MethodPart};
 
 /// The header of a method, where its bytes reach.
 #[tactic(auto, using(crate::proofs::HeaderKnown::header_known))]
-pub(crate) fn header(methods: &MethodPart<'_>, offset: u16) -> Option<MethodHeader>
+pub fn header(methods: &MethodPart<'_>, offset: u16) -> Option<MethodHeader>
     ensures { option_map header_seen result ≡ header_in methods.now.info.bytes.now offset }
 {
     methods.header(offset)

@@ -1,4 +1,4 @@
-ghost use Rattle.std.specs.Prelude.{◌≡◌, option_map};
+ghost use Rattle.std.specs.Prelude.{◌≡◌, All, Ok, option_map};
 ghost use Rattle.cap_frame.specs.Header.{header_items};
 ghost use Rattle.cap_frame.specs.Directory.{directory_items};
 ghost use Rattle.cap_frame.specs.Imports.{packages};
@@ -14,11 +14,15 @@ ghost use Rattle.cap_package.specs.Customs.{custom_in, info_or_none};
 ghost use Rattle.cap_package.specs.CustomSeen.{custom_items};
 ghost use Rattle.cap_package.specs.Descriptions.{description};
 ghost use Rattle.cap_package.specs.MethodsSeen.{methods_seen};
+ghost use Rattle.cap_package.specs.StandsFor.{StandsFor};
+ghost use Rattle.cap_package.specs.Agreement.{package_of};
+ghost use Rattle.cap_package.specs.StaticPlaces.{places_left, static_places, AreApart, IsStaticPlace};
 
 use crate::components::Components;
 use crate::custom::Custom;
 use crate::package_type::Package;
 use crate::parts::Parts;
+use crate::places::StaticPlaces;
 use crate::read::info_in;
 use cap_bytes::View;
 use cap_class::ClassPart;
@@ -28,9 +32,11 @@ use cap_method::{MethodPart, StaticPart};
 use cap_pool::{Export, Locations, Pool};
 
 impl<'p, 'a> Package<'p, 'a> {
-    /// The parts that the package was made from.
+    /// The parts that the package was made from, which stand for it: nothing of them disagrees.
     pub fn parts(&self) -> &'p Parts<'a>
-        ensures { result.now ≡ self.now.parts }
+        ensures is { result.now ≡ self.now.parts }
+        ensures agree { StandsFor self.now.parts self.now }
+        ensures only { package_of self.now.parts ≡ Ok self.now }
     {
         self.all.parts
     }
@@ -82,6 +88,18 @@ impl<'p, 'a> Package<'p, 'a> {
         ensures { statics_seen result ≡ self.now.statics }
     {
         self.all.statics
+    }
+
+    /// The places of the static fields in the image, in the order of the Descriptor.
+    pub fn static_places(&self) -> StaticPlaces<'a>
+        ensures places { places_left result ≡ static_places self.now }
+        ensures known { All (IsStaticPlace self.now.statics) (static_places self.now) }
+        ensures apart { AreApart (static_places self.now) }
+    {
+        StaticPlaces {
+            descriptor: self.all.descriptor,
+            fields: self.all.descriptor.fields(),
+        }
     }
 
     /// The ReferenceLocation component.

@@ -44,6 +44,13 @@ impl<'p, 'a> Packages<'p, 'a> {
         &self.items[n]
     }
 
+    /// All packages, to go over them.
+    pub fn as_slice(&self) -> &[Package<'p, 'a>]
+        ensures { result.now ≡ self.now }
+    {
+        self.items.as_slice()
+    }
+
     /// Appends a package. After an error the list is as before.
     pub fn push(&mut self, package: Package<'p, 'a>) -> Result<(), AllocError>
         ensures ok { OnOk result (self.new ≡ self.old ++ «package».entry ∷ []) }

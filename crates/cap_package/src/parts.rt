@@ -128,6 +128,15 @@ impl OwnedParts {
         self.items.len()
     }
 
+    /// The n-th part and its bytes.
+    pub fn at(&self, n: usize) -> (Part, &[u8])
+        requires { n < length self.now }
+        ensures { slice_get self.now n ≡ Some (record { part = result.0.0; bytes = result.1.now }) }
+    {
+        let owned = &self.items[n];
+        (owned.part, &owned.bytes)
+    }
+
     /// The bytes of a part, where it is there.
     pub fn get(&self, part: Part) -> Option<&[u8]>
         ensures { option_copied result ≡ held self.now part.0 }

@@ -36,7 +36,7 @@ fn width_of(ty: TypeItem) -> u32
 
 /// Where a static field stands in the image, and of which type it is.
 #[tactic(auto, unfolding(crate::specs::StaticChecks::place_in))]
-fn place_in(descriptor: &DescPart<'_>, field: &FieldInfo) -> Option<StaticPlace>
+pub(crate) fn place_in(descriptor: &DescPart<'_>, field: &FieldInfo) -> Option<StaticPlace>
     ensures { option_map place_seen result ≡ place_in (description descriptor.now) (field_seen field.now) }
 {
     let ty = field_type(descriptor, field.ty)?;

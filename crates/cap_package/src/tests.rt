@@ -1,7 +1,8 @@
 use crate::fault::PackFault;
 use crate::package_type::Package;
+use crate::packages::Packages;
 use crate::packaging::package;
-use crate::parts::OwnedParts;
+use crate::parts::{OwnedParts, Parts};
 use cap_bytes::{FormKind, Part};
 use std::alloc::{AllocError, Global};
 use std::process::Abort;
@@ -731,6 +732,32 @@ fn custom_size(found: &Package<'_, '_>, tag: u8) -> usize {
     }
 }
 
+/// Pushes the parts one by one, and the package of them: how many packages there are then, and how many
+/// parts the first has.
+fn pushed(alloc: Global, owned: &OwnedParts) -> Result<(usize, usize), AllocError> {
+    let mut parts = Parts::new(alloc);
+    for n in 0..owned.len() {
+        let (part, bytes) = owned.at(n);
+        if parts.get(part).is_none() {
+            parts.push(part, bytes)?;
+        }
+    }
+    pushed_package(alloc, parts)
+}
+
+fn pushed_package(alloc: Global, parts: Parts<'_>) -> Result<(usize, usize), AllocError> {
+    match package(&parts) {
+        Ok(found) => pushed_alone(alloc, found),
+        Err(_) => Ok((0, 0)),
+    }
+}
+
+fn pushed_alone(alloc: Global, found: Package<'_, '_>) -> Result<(usize, usize), AllocError> {
+    let mut packages = Packages::new(alloc);
+    packages.push(found)?;
+    Ok((packages.len(), packages.at(0).parts().len()))
+}
+
 #[test]
 fn a_package_has_its_optional_and_custom_parts(rt: HostRuntime) {
     let alloc = rt.alloc();
@@ -738,4 +765,5 @@ fn a_package_has_its_optional_and_custom_parts(rt: HostRuntime) {
     assert_eq!(rt; owned.len(), 12);
     assert_eq!(rt; answer(alloc, &owned), (0, 0, 0, 0));
     assert_eq!(rt; custom_sizes(alloc, &owned), (2, 0, 9));
+    assert_eq!(rt; pushed(alloc, &owned).unwrap_or((6, 6)), (1, 12));
 }

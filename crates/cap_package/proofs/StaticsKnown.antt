@@ -1,0 +1,256 @@
+-- What holds of the static fields of a package, since its parts agree.
+use Rattle.std.proofs.Common.{◌≡◌, ℕ, zero, suc, ◌+◌, ◌-◌, ◌*◌, ◌≤◌, Bool, true, false, ◌&&◌, ◌||◌, leb, ltb, eqb, cond, min, max, List, [], ◌∷◌, ◌++◌, map, Option, Some, None, Ok, Err, refl, sym, ap, subst, ◌∙◌, arith}
+use Rattle.std.specs.Prelude.{All, slice_get, option_and_then, option_map}
+use Rattle.std.specs.List.{filter_map, cons_option}
+use Rattle.std.specs.Result.{result_ok}
+use Rattle.std.proofs.lemmas.Bool.{leb-true, le-leb, ltb-false, ne_eqb, eq-eqb, eqb-true}
+use Rattle.std.proofs.lemmas.List.Elements.{All-nil, All-cons}
+use Rattle.cap_bytes.specs.Grammar.{that, give, finish, ◌>>=◌}
+use Rattle.cap_bytes.specs.Spelling.{Spells, info_of}
+use Rattle.cap_bytes.specs.Reading.{Reading}
+use Rattle.cap_bytes.proofs.Laws.{read-spells}
+use Rattle.cap_method.specs.StaticFormat.{Array, Statics}
+use Rattle.cap_desc.specs.declared.type_item.TypeItem.{TypeItem}
+use Rattle.cap_desc.specs.DescriptorFormat.{Field}
+use Rattle.cap_desc.specs.TypeFormat.{is_type, type_item, one_type_in, nibbles_read, nibbles_at, type_at}
+use Rattle.cap_bytes.specs.Number.{number_at}
+use Rattle.cap_package.specs.declared.fault.PackFault.{PackFault}
+use Rattle.cap_package.specs.declared.fault.PackFault.TheVariants.{StaticOutside, StaticOverlaps}
+use Rattle.cap_package.specs.Descriptions.{Description, no_void, field_type}
+use Rattle.cap_package.specs.HeaderChecks.{is_static}
+use Rattle.cap_package.specs.StaticChecks.{Place, image_offset, place_by, place_in, is_in_image, image_fault, array_by, array_fault, array_fields, array_field_fault, width_of, share_by, share_fault, share_pair}
+use Rattle.cap_package.specs.Pairs.{pairs}
+use Rattle.cap_package.specs.PackageRecord.{PackageRecord, fields}
+use Rattle.cap_package.specs.Agreement.{IsPackage}
+use Rattle.cap_package.specs.StaticPlaces.{static_places, IsStaticPlace, AreApart}
+use Rattle.cap_package.proofs.OneRecord.{answer_is}
+
+-- ---- where nothing is at fault, each thing is right
+
+abbrev NoneOf : {X Y : Type 0} → (X → Option Y) → List X → Type 0
+NoneOf f [] = Unit {0}
+NoneOf f (x ∷ xs) = (f x ≡ None) × NoneOf f xs
+
+none_first : {X Y : Type 0} (f : X → Option Y) (xs : List X) (o : Option Y) → (filter_map f xs ≡ [] → NoneOf f xs) → cons_option o (filter_map f xs) ≡ [] → (o ≡ None) × NoneOf f xs
+none_first f xs None known h = (refl, known h)
+none_first f xs (Some y) known h = absurd cc
+
+none_of : {X Y : Type 0} (f : X → Option Y) (xs : List X) → filter_map f xs ≡ [] → NoneOf f xs
+none_of f [] h = tt {0}
+none_of f (x ∷ xs) h = none_first f xs (f x) (none_of f xs) h
+
+both_empty : {X : Type 0} (xs ys : List X) → xs ++ ys ≡ [] → (xs ≡ []) × (ys ≡ [])
+both_empty [] ys h = (refl, h)
+both_empty (x ∷ xs) ys h = absurd cc
+
+none_front : {X Y : Type 0} (f : X → Option Y) (xs ys : List X) → NoneOf f (xs ++ ys) → NoneOf f xs
+none_front f [] ys h = tt {0}
+none_front f (x ∷ xs) ys h = (h.0, none_front f xs ys h.1)
+
+none_behind : {X Y : Type 0} (f : X → Option Y) (xs ys : List X) → NoneOf f (xs ++ ys) → NoneOf f ys
+none_behind f [] ys h = h
+none_behind f (x ∷ xs) ys h = none_behind f xs ys h.1
+
+none_map : {W X Y : Type 0} (f : X → Option Y) (g : W → X) (ws : List W) → NoneOf f (map g ws) → NoneOf (λ w. f (g w)) ws
+none_map f g [] h = tt {0}
+none_map f g (w ∷ ws) h = (h.0, none_map f g ws h.1)
+
+-- no field is of another type than an initial array there
+array_fields_none : (d : Description) (number : ℕ) (arrays : List Array) (fs : List Field) → NoneOf (array_field_fault d) (array_fields number arrays fs) → (k : ℕ) (a : Array) → slice_get arrays k ≡ Some a → NoneOf (array_fault d (number + k) a.kind) fs
+array_fields_none d number [] fs h k a e = absurd cc
+array_fields_none d number (b ∷ others) fs h zero a e =
+    let same : b ≡ a = cc in
+    let n : number + 0 ≡ number = omega arith in
+    let all = none_map (array_field_fault d) (λ f. (number, b.kind, f)) fs (none_front (array_field_fault d) (map (λ f. (number, b.kind, f)) fs) (array_fields (number + 1) others fs) h) in
+    rw (n, ← same) all
+array_fields_none d number (b ∷ others) fs h (suc k) a e =
+    let n : number + suc k ≡ (number + 1) + k = omega arith in
+    rw n (array_fields_none d (number + 1) others fs (none_behind (array_field_fault d) (map (λ f. (number, b.kind, f)) fs) (array_fields (number + 1) others fs) h) k a e)
+
+-- ---- the type of a field
+
+if_some : {X Y : Type 0} (f : X → Option Y) (o : Option X) (y : Y) → option_and_then f o ≡ Some y → (x : X) × (f x ≡ Some y)
+if_some f None y h = absurd cc
+if_some f (Some x) y h = (x, h)
+
+read_some : (r : Reading TypeItem) (t : TypeItem) → option_map (λ p. p.0) (result_ok r) ≡ Some t → (after : ℕ) × (r ≡ Ok (t, after))
+read_some (Ok x) t h = let e : x.0 ≡ t = cc in (x.1, rw (← e) refl)
+read_some (Err e) t h = absurd cc
+
+test_passed : (test : ℕ → Bool) (n : ℕ) (b : Bool) → test n ≡ b → that (λ m. b) n ≡ None → test n ≡ true
+test_passed test n true e h = e
+test_passed test n false e h = absurd cc
+
+spelled_type : (ns : List ℕ) (at : ℕ) (t : TypeItem) (after : ℕ) → Spells type_item ns at t after → is_type t.nibble ≡ true
+unfolding Spells
+spelled_type ns at t after h =
+    let same : t.nibble ≡ h.0 = ap (λ (x : TypeItem). x.nibble) h.3.3.0 in
+    subst (λ n. is_type n ≡ true) (sym same) (test_passed is_type h.0 (is_type h.0) refl h.2.1)
+
+one_typed : (ns : List ℕ) (t : TypeItem) → one_type_in ns ≡ Some t → is_type t.nibble ≡ true
+unfolding one_type_in Spells
+one_typed ns t h =
+    let r = read_some (nibbles_read (type_item >>= λ x. finish >>= λ end. give x) ns 0) t h in
+    let s = read-spells (info_of 11) (type_item >>= λ x. finish >>= λ end. give x) ns 0 t r.0 r.1 in
+    subst (λ (u : TypeItem). is_type u.nibble ≡ true) (sym s.3.3.0) (spelled_type ns 0 s.0 s.1 s.2)
+
+type_typed : (bytes : List ℕ) (at : ℕ) (t : TypeItem) → type_at bytes at ≡ Some t → is_type t.nibble ≡ true
+type_typed bytes at t h =
+    let count = if_some (λ n. option_and_then one_type_in (nibbles_at bytes (at + 1) n)) (number_at 1 at bytes) t h in
+    let ns = if_some one_type_in (nibbles_at bytes (at + 1) count.0) t count.1 in
+    one_typed ns.0 t ns.1
+
+record IsFieldType (t : TypeItem) : Type 0 where
+  typed : is_type t.nibble ≡ true
+  no_void : eqb t.nibble 1 ≡ false
+
+void_by : (u t : TypeItem) (b : Bool) → eqb u.nibble 1 ≡ b → cond b None (Some u) ≡ Some t → is_type u.nibble ≡ true → IsFieldType t
+void_by u t true e h typed = absurd cc
+void_by u t false e h typed =
+    let same : u ≡ t = cc in
+    subst IsFieldType same (record { typed = typed; no_void = e })
+
+by_descriptor : (o : Option TypeItem) (t : TypeItem) → ((u : TypeItem) → o ≡ Some u → is_type u.nibble ≡ true) → option_and_then no_void o ≡ Some t → IsFieldType t
+by_descriptor None t known h = absurd cc
+by_descriptor (Some u) t known h = void_by u t (eqb u.nibble 1) refl h (known u refl)
+
+small_typed : (n : ℕ) → 2 ≤ n → n ≤ 5 → is_type n ≡ true
+small_typed n low high =
+    let a : 1 ≤ n = omega arith in
+    let b : n ≤ 6 = omega arith in
+    rw (le-leb 1 n a, le-leb n 6 b) refl
+
+by_number : (n : ℕ) (t : TypeItem) → 2 ≤ n → n ≤ 5 → Some (record { nibble = n; class_ref = 0 }) ≡ Some t → IsFieldType t
+by_number n t low high h =
+    let same : record { nibble = n; class_ref = 0 } ≡ t = cc in
+    subst IsFieldType same (record { typed = small_typed n low high; no_void = ne_eqb n 1 (λ e. omega (arith, e)) })
+
+named_type : (d : Description) (ty : ℕ) (t : TypeItem) (a b : Bool) → leb 0x8002 ty ≡ a → leb ty 0x8005 ≡ b
+    → cond (a && b) (Some (record { nibble = ty - 0x8000; class_ref = 0 })) (option_and_then no_void (type_at d.info (d.items.types_start + ty))) ≡ Some t → IsFieldType t
+named_type d ty t true true e f h =
+    let low = leb-true 0x8002 ty e in
+    let high = leb-true ty 0x8005 f in
+    by_number (ty - 0x8000) t (omega arith) (omega arith) h
+named_type d ty t true false e f h = by_descriptor _ t (λ u k. type_typed d.info (d.items.types_start + ty) u k) h
+named_type d ty t false b e f h = by_descriptor _ t (λ u k. type_typed d.info (d.items.types_start + ty) u k) h
+
+field_typed : (d : Description) (ty : ℕ) (t : TypeItem) → field_type d ty ≡ Some t → IsFieldType t
+unfolding field_type
+field_typed d ty t h = named_type d ty t (leb 0x8002 ty) (leb ty 0x8005) refl refl h
+
+-- ---- the place of a field
+
+record IsPlaceOf (f : Field) (t : TypeItem) (p : Place) : Type 0 where
+  offset : p.offset ≡ image_offset f
+  ty : p.ty ≡ t
+
+static_by : (f : Field) (t : TypeItem) (p : Place) (b : Bool) → cond b (Some (record { offset = image_offset f; ty = t })) None ≡ Some p → IsPlaceOf f t p
+static_by f t p true h =
+    let same : record { offset = image_offset f; ty = t } ≡ p = cc in
+    subst (IsPlaceOf f t) same (record { offset = refl; ty = refl })
+static_by f t p false h = absurd cc
+
+record ComesFrom (d : Description) (f : Field) (p : Place) : Type 0 where
+  offset : p.offset ≡ image_offset f
+  typed : IsFieldType p.ty
+
+place_from : (d : Description) (f : Field) (p : Place) (o : Option TypeItem) → field_type d f.ty ≡ o → place_by f o ≡ Some p → ComesFrom d f p
+place_from d f p None e h = absurd cc
+place_from d f p (Some t) e h =
+    let s = static_by f t p (is_static f.flags) h in
+    record { offset = s.offset; typed = subst IsFieldType (sym s.ty) (field_typed d f.ty t e) }
+
+inside_by : (s : Statics) (p : Place) (fault : PackFault) (b : Bool) → is_in_image s p ≡ b → cond b None (Some fault) ≡ None → is_in_image s p ≡ true
+inside_by s p fault true e h = e
+inside_by s p fault false e h = absurd cc
+
+filled_by : (kind : ℕ) (p : Place) (fault : PackFault) (b : Bool) → eqb p.ty.nibble (kind + 8) ≡ b → cond b None (Some fault) ≡ None → p.ty.nibble ≡ kind + 8
+filled_by kind p fault true e h = eqb-true _ _ e
+filled_by kind p fault false e h = absurd cc
+
+filled_at : (d : Description) (f : Field) (p : Place) (number kind : ℕ) → place_in d f ≡ Some p → image_offset f ≡ 2 * number → array_fault d number kind f ≡ None → p.ty.nibble ≡ kind + 8
+unfolding array_fault
+filled_at d f p number kind e at h =
+    let g : array_by kind (place_in d f) ≡ None = rw (eq-eqb (image_offset f) (2 * number) at) at h in
+    filled_by kind p (StaticOutside p.offset) (eqb p.ty.nibble (kind + 8)) refl (rw e at g)
+
+abbrev FillsRight : Statics → Description → Field → Type 0
+FillsRight s d f = (k : ℕ) (a : Array) → slice_get s.arrays k ≡ Some a → array_fault d (0 + k) a.kind f ≡ None
+
+place_known : (s : Statics) (d : Description) (f : Field) (p : Place) → place_in d f ≡ Some p → image_fault s d f ≡ None → FillsRight s d f → IsStaticPlace s p
+unfolding place_in image_fault
+place_known s d f p e image fills =
+    let from = place_from d f p (field_type d f.ty) refl e in
+    record {
+      typed = from.typed.typed;
+      no_void = from.typed.no_void;
+      inside = inside_by s p (StaticOutside p.offset) (is_in_image s p) refl (rw e at image);
+      filled = λ k a there at. filled_at d f p k a.kind e (sym from.offset ∙ at) (let n : 0 + k ≡ k = omega arith in rw n at (fills k a there));
+    }
+
+place_first : (s : Statics) (d : Description) (f : Field) (fs : List Field) (o : Option Place) → place_in d f ≡ o → image_fault s d f ≡ None → FillsRight s d f → All (IsStaticPlace s) (filter_map (place_in d) fs) → All (IsStaticPlace s) (cons_option o (filter_map (place_in d) fs))
+place_first s d f fs None e image fills others = others
+place_first s d f fs (Some p) e image fills others = All-cons (IsStaticPlace s) p (filter_map (place_in d) fs) (place_known s d f p e image fills) others
+
+places_known : (s : Statics) (d : Description) (fs : List Field) → NoneOf (image_fault s d) fs → ((k : ℕ) (a : Array) → slice_get s.arrays k ≡ Some a → NoneOf (array_fault d (0 + k) a.kind) fs) → All (IsStaticPlace s) (filter_map (place_in d) fs)
+places_known s d [] images fills = All-nil (IsStaticPlace s)
+places_known s d (f ∷ fs) images fills =
+    place_first s d f fs (place_in d f) refl images.0 (λ k a e. (fills k a e).0)
+    (places_known s d fs images.1 (λ k a e. (fills k a e).1))
+
+-- the static fields of a package lie where they must
+pub statics_known : (p : PackageRecord) → IsPackage p → All (IsStaticPlace p.statics) (static_places p)
+statics_known p h =
+    let agree = (answer_is p.parts p h).agree in
+    let none = agree.1.1.1.1.1.1.1.1.1.1.1.1.1.1.1.1.1.1.1.1.0 in
+    let both = both_empty (filter_map (image_fault p.statics p.description) (fields p)) (filter_map (array_field_fault p.description) (array_fields 0 p.statics.arrays (fields p))) none in
+    places_known p.statics p.description (fields p) (none_of (image_fault p.statics p.description) (fields p) both.0)
+    (array_fields_none p.description 0 p.statics.arrays (fields p) (none_of (array_field_fault p.description) (array_fields 0 p.statics.arrays (fields p)) both.1))
+
+-- ---- fields that share no byte stand apart
+
+one_byte : (a b c : Bool) → 1 ≤ cond (a || b) 1 (cond c 4 2)
+one_byte true b c = omega arith
+one_byte false true c = omega arith
+one_byte false false true = omega arith
+one_byte false false false = omega arith
+
+takes_byte : (t : TypeItem) → 1 ≤ width_of t
+takes_byte t = one_byte (eqb t.nibble 2) (eqb t.nibble 3) (eqb t.nibble 5)
+
+apart_by : (p q : Place) (fault : PackFault) (b : Bool) → ltb (max p.offset q.offset) (min (p.offset + width_of p.ty) (q.offset + width_of q.ty)) ≡ b → cond b (Some fault) None ≡ None → p.offset ≡ q.offset → ⊥
+apart_by p q fault true e h same = absurd cc
+apart_by p q fault false e h same =
+    let le = ltb-false (max p.offset q.offset) (min (p.offset + width_of p.ty) (q.offset + width_of q.ty)) e in
+    omega (arith, le, same, takes_byte p.ty, takes_byte q.ty)
+
+abbrev IsApart : Place → Place → Type 0
+IsApart p q = p.offset ≡ q.offset → ⊥
+
+next_apart : (d : Description) (p : Place) (fs : List Field) (o : Option Place) → share_by (Some p) o ≡ None → All (IsApart p) (filter_map (place_in d) fs) → All (IsApart p) (cons_option o (filter_map (place_in d) fs))
+next_apart d p fs None h others = others
+next_apart d p fs (Some q) h others =
+    All-cons (IsApart p) q (filter_map (place_in d) fs)
+    (apart_by p q (StaticOverlaps (min p.offset q.offset) (max p.offset q.offset)) (ltb (max p.offset q.offset) (min (p.offset + width_of p.ty) (q.offset + width_of q.ty))) refl h) others
+
+others_apart : (d : Description) (p : Place) (fs : List Field) → NoneOf (share_fault d (Some p)) fs → All (IsApart p) (filter_map (place_in d) fs)
+unfolding share_fault
+others_apart d p [] none = All-nil (IsApart p)
+others_apart d p (f ∷ fs) none = next_apart d p fs (place_in d f) none.0 (others_apart d p fs none.1)
+
+first_apart : (d : Description) (fs : List Field) (o : Option Place) → NoneOf (share_fault d o) fs → AreApart (filter_map (place_in d) fs) → AreApart (cons_option o (filter_map (place_in d) fs))
+first_apart d fs None none others = others
+first_apart d fs (Some p) none others = (others_apart d p fs none, others)
+
+all_apart : (d : Description) (fs : List Field) → NoneOf (share_pair d) (pairs fs) → AreApart (filter_map (place_in d) fs)
+all_apart d [] none = tt {0}
+all_apart d (f ∷ fs) none =
+    first_apart d fs (place_in d f) (none_map (share_pair d) (λ g. (f, g)) fs (none_front (share_pair d) (map (λ g. (f, g)) fs) (pairs fs) none))
+    (all_apart d fs (none_behind (share_pair d) (map (λ g. (f, g)) fs) (pairs fs) none))
+
+-- the static fields of a package share no byte
+pub statics_apart : (p : PackageRecord) → IsPackage p → AreApart (static_places p)
+statics_apart p h =
+    let agree = (answer_is p.parts p h).agree in
+    let none = agree.1.1.1.1.1.1.1.1.1.1.1.1.1.1.1.0 in
+    all_apart p.description (fields p) (none_of (share_pair p.description) (pairs (fields p)) none)
