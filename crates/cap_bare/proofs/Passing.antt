@@ -10,7 +10,7 @@ use Rattle.cap_bare.specs.declared.fault.BareKind.TheVariants.{StackAtTarget, St
 use Rattle.cap_bare.specs.Effects.{is_branch, falls_through}
 use Rattle.cap_bare.specs.Code.{IsTarget, Stands}
 use Rattle.cap_bare.specs.Typing.{Kind, short, shorts, register_count, Applies}
-use Rattle.cap_bare.specs.Met.{IsWrong, wrong_target, wrong_rule, wrong_branch, wrong_end, Passes}
+use Rattle.cap_bare.specs.Met.{IsWrong, wrong_target, wrong_rule, wrong_branch, wrong_end, LandsEmpty, Passes}
 use Rattle.cap_bare.specs.Walk.{is_target, applied, left, passed}
 use Rattle.cap_bare.proofs.Places.{target-true, target-from}
 use Rattle.cap_bare.proofs.Rule.{Applied, applied-ok, applied-is, applied-err, applies, shorts-none, shorts-length}
@@ -110,19 +110,24 @@ module _ (code : List ℕ) (bare : Bare) (i : Placed) where
       stack-left : (n : ℕ) → nat_lt 0 n ≡ true → shorts n ≢ []
       stack-left n t none = let z = shorts-none n none in let lt = ltb-true 0 n t in absurd (omega arith)
 
-      leaving-err : (after : ℕ) → Applied bare i.instruction depth after → (b : Bool) → (is_branch i.instruction && nat_lt 0 after) ≡ b
+      landing : (nat_lt 0 depth && is_target code i.place) ≡ false → LandsEmpty code i (shorts depth)
+      landing e t = ap shorts (at-target depth (is_target code i.place) e (target-true code i.place t))
+
+      leaving-err : (after : ℕ) → LandsEmpty code i (shorts depth) → Applied bare i.instruction depth after → (b : Bool) → (is_branch i.instruction && nat_lt 0 after) ≡ b
           → (f : Bool) → falls_through i.instruction ≡ f → (l : Bool) → (i.next == length code) ≡ l → leaving b f l after ≡ Err kind
           → IsWrong code bare i registers (shorts depth) kind
-      leaving-err after a true b f fe l le h =
+      leaving-err after empty a true b f fe l le h =
           let same : StackAtBranch ≡ kind = cc in
           let two = both-true (is_branch i.instruction) (nat_lt 0 after) b in
           subst (IsWrong code bare i registers (shorts depth)) same
-          (wrong_branch (shorts after) (applies bare i.instruction registers depth after e a) two.0 (stack-left after two.1))
-      leaving-err after a false b true fe true le h =
+          (wrong_branch (shorts after) empty (applies bare i.instruction registers depth after e a) two.0 (stack-left after two.1))
+      leaving-err after empty a false b true fe true le h =
           let same : FallsOff ≡ kind = cc in
-          subst (IsWrong code bare i registers (shorts depth)) same (wrong_end fe (eqb-true i.next (length code) le))
-      leaving-err after a false b true fe false le h = absurd (cc)
-      leaving-err after a false b false fe l le h = absurd (cc)
+          subst (IsWrong code bare i registers (shorts depth)) same
+          (wrong_end (shorts after) empty (applies bare i.instruction registers depth after e a) (λ branching. ap shorts (at-branch after (is_branch i.instruction) b branching)) fe
+          (eqb-true i.next (length code) le))
+      leaving-err after empty a false b true fe false le h = absurd (cc)
+      leaving-err after empty a false b false fe l le h = absurd (cc)
 
       by_test : (b : Bool) → (nat_lt 0 depth && is_target code i.place) ≡ b → (r : Result ℕ BareKind) → applied bare i.instruction depth ≡ r
           → passing b r ≡ Err kind → IsWrong code bare i registers (shorts depth) kind
@@ -132,7 +137,7 @@ module _ (code : List ℕ) (bare : Bare) (i : Placed) where
           subst (IsWrong code bare i registers (shorts depth)) same (wrong_target (target-from code i.place two.1) (stack-left depth two.0))
       by_test false t (Err k) a h =
           let same : k ≡ kind = cc in
-          wrong_rule kind (applied-err bare i.instruction depth kind (a ∙ ap Err same))
+          wrong_rule kind (landing t) (applied-err bare i.instruction depth kind (a ∙ ap Err same))
       by_test false t (Ok after) a h =
-          leaving-err after (applied-ok bare i.instruction depth after a) (is_branch i.instruction && nat_lt 0 after) refl
+          leaving-err after (landing t) (applied-ok bare i.instruction depth after a) (is_branch i.instruction && nat_lt 0 after) refl
           (falls_through i.instruction) refl (i.next == length code) refl h

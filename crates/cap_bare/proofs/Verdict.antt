@@ -25,9 +25,9 @@ fails-kind bare i stack _ (fails_room l rest e lt) h = h
 wrong-kind : (code : List ℕ) (bare : Bare) (i : Placed) (registers stack : List Kind) (kind : BareKind) → IsWrong code bare i registers stack kind
     → IsFlawKind kind → ⊥
 wrong-kind code bare i registers stack _ (wrong_target t ne) h = h
-wrong-kind code bare i registers stack kind (wrong_rule k f) h = fails-kind bare i.instruction stack kind f h
-wrong-kind code bare i registers stack _ (wrong_branch after a b ne) h = h
-wrong-kind code bare i registers stack _ (wrong_end f e) h = h
+wrong-kind code bare i registers stack kind (wrong_rule k empty f) h = fails-kind bare i.instruction stack kind f h
+wrong-kind code bare i registers stack _ (wrong_branch after empty a b ne) h = h
+wrong-kind code bare i registers stack _ (wrong_end after empty a b f e) h = h
 
 -- a refusal is of a flaw's kind exactly where the code is not well formed
 refused-kind : (code : List ℕ) (bare : Bare) (f : BareFault) → IsRefused code bare f → IsFlawKind f.kind ↔ (IsWellFormed code → ⊥)

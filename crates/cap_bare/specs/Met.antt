@@ -49,13 +49,23 @@ pub data Fails (bare : Bare) (i : Instruction) (stack : List Kind) : BareKind �
   fails_room : IfSome (register_of i) (λ x. x < register_count bare) → (rest : List Kind) → stack ≡ shorts (cells_taken i) ++ rest
       → bare.max_stack < length (shorts (cells_given i) ++ rest) → Fails bare i stack Overflow
 
--- what is wrong at an instruction with these registers and this stack before it
+-- no target is fallen into with cells on the stack
+abbrev pub LandsEmpty : List ℕ → Placed → List Kind → Type 0
+LandsEmpty code i stack = IsTarget code i.place → stack ≡ []
+
+-- no branch is left with cells on the stack
+abbrev pub LeavesEmpty : Placed → List Kind → Type 0
+LeavesEmpty i after = IsTrue (is_branch i.instruction) → after ≡ []
+
+-- what is wrong first at an instruction with these registers and this stack before it: it is a target that is fallen into with cells on the
+-- stack; its rule; it is a branch that is left with cells on the stack; it is the last and falls through
 pub data IsWrong (code : List ℕ) (bare : Bare) (i : Placed) (registers stack : List Kind) : BareKind → Type 0 where
   wrong_target : IsTarget code i.place → stack ≢ [] → IsWrong code bare i registers stack StackAtTarget
-  wrong_rule : (kind : BareKind) → Fails bare i.instruction stack kind → IsWrong code bare i registers stack kind
-  wrong_branch : (after : List Kind) → Applies bare i.instruction registers stack after → IsTrue (is_branch i.instruction) → after ≢ []
+  wrong_rule : (kind : BareKind) → LandsEmpty code i stack → Fails bare i.instruction stack kind → IsWrong code bare i registers stack kind
+  wrong_branch : (after : List Kind) → LandsEmpty code i stack → Applies bare i.instruction registers stack after → IsTrue (is_branch i.instruction) → after ≢ []
       → IsWrong code bare i registers stack StackAtBranch
-  wrong_end : IsTrue (falls_through i.instruction) → i.next ≡ length code → IsWrong code bare i registers stack FallsOff
+  wrong_end : (after : List Kind) → LandsEmpty code i stack → Applies bare i.instruction registers stack after → LeavesEmpty i after
+      → IsTrue (falls_through i.instruction) → i.next ≡ length code → IsWrong code bare i registers stack FallsOff
 
 -- the reasons to refuse a method: its first flaw, or what is wrong with a met state of a well-formed one
 pub data IsRefused (code : List ℕ) (bare : Bare) : BareFault → Type 0 where

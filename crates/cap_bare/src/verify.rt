@@ -1,4 +1,4 @@
-ghost use Rattle.std.specs.Prelude.{◌≡◌, ◌≤◌, ◌<◌, ◌+◌, ◌↔◌, length, IfOk, IfErr, IsOk, IsTrue, OnOk};
+ghost use Rattle.std.specs.Prelude.{ℤ, ◌≡◌, ◌≤◌, ◌<◌, ◌+◌, ◌↔◌, length, IfOk, IfErr, IsOk, IsTrue, OnOk};
 ghost use Rattle.jc_decode.specs.Decoding.{AreBytes};
 ghost use Rattle.cap_bare.specs.declared.fault.BareFault.{BareFault};
 ghost use Rattle.cap_bare.specs.Effects.{target_of};
@@ -29,8 +29,10 @@ pub fn bare_verify(code: View<'_>, bare: Bare) -> Result<(), BareFault>
     ensures first_flaw { (first : BareFault) → IsFirstFlaw code.entry.bytes.now first → result ≡ Err first }
     ensures ill_formed { IfErr result (λ fault. IsFlawKind fault.kind ↔ (IsWellFormed code.entry.bytes.now → ⊥)) }
 
-    // What is accepted never meets a fault when it runs.
+    // What is accepted never meets a fault when it runs; the machine asks at each step whether it goes on at the
+    // place of an instruction.
     ensures fault_free { OnOk result (IsFaultFree code.entry.bytes.now bare) }
+    ensures places { (z : ℤ) → IsTrue (is_place code.entry.bytes.now z) ↔ IsTargetPlace code.entry.bytes.now z }
 {
     walked(code, bare)
 }
