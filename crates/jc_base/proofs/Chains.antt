@@ -11,7 +11,7 @@ unfolding chain_over
 chain_over-front t zero c = ([], refl)
 chain_over-front t (suc n) c = (list_of (chain_over t n) (parent_of t c), refl)
 
-last-cons : (x : ℕ) (xs ys : List ℕ) (y : ℕ) → xs ≡ y ∷ ys → last (x ∷ xs) ≡ last xs
+pub last-cons : (x : ℕ) (xs ys : List ℕ) (y : ℕ) → xs ≡ y ∷ ys → last (x ∷ xs) ≡ last xs
 last-cons x xs ys y e = subst (λ (zs : List ℕ). last (x ∷ zs) ≡ last zs) (sym e) refl
 
 more_above : (t : ClassTable) (o n c : ℕ) (p : Option ℕ) → parent_of t c ≡ p → ((q : ℕ) → last (chain_over t n q) ≡ Some o → chain_over t (suc n) q ≡ chain_over t n q)
@@ -33,7 +33,7 @@ chain_over-more t o zero c top ends =
     rw (e, top) refl
 chain_over-more t o (suc n) c top ends = more_above t o n c (parent_of t c) refl (λ q. chain_over-more t o n q top) ends
 
-chain_above : (t : ClassTable) (n c p : ℕ) → parent_of t c ≡ Some p → chain_over t (suc n) c ≡ c ∷ chain_over t n p
+pub chain_above : (t : ClassTable) (n c p : ℕ) → parent_of t c ≡ Some p → chain_over t (suc n) c ≡ c ∷ chain_over t n p
 unfolding chain_over
 chain_above t n c p e = rw e refl
 

@@ -71,9 +71,17 @@ earlier_of t n (Some q) p e h =
     let same : q ≡ p = cc in
     subst (λ (x : ℕ). package_of t x ≤ n) same h
 
-package_read : (t : ClassTable) (c : ℕ) (r : ClassRec) → slice_get t.records c ≡ Some r → package_of t c ≡ r.package
+pub package_read : (t : ClassTable) (c : ℕ) (r : ClassRec) → slice_get t.records c ≡ Some r → package_of t c ≡ r.package
 unfolding package_of
 package_read t c r e = rw e refl
+
+pub public_read : (t : ClassTable) (c : ℕ) (r : ClassRec) → slice_get t.records c ≡ Some r → public_of t c ≡ r.public
+unfolding public_of
+public_read t c r e = rw e refl
+
+pub visible_read : (t : ClassTable) (c : ℕ) (r : ClassRec) → slice_get t.records c ≡ Some r → visible_of t c ≡ r.visible
+unfolding visible_of
+visible_read t c r e = rw e refl
 
 package_before : (packages : ℕ) (t : ClassTable) (methods : List MethodRec) (c p : ℕ) (o : Option ClassRec) → slice_get t.records c ≡ o → IfSome o (IsLinkedClass packages t methods c)
     → parent_of t c ≡ Some p → package_of t p ≤ package_of t c

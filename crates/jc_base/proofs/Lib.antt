@@ -5,4 +5,5 @@ pub mod Meets
 pub mod Subtypes
 pub mod Joins
 pub mod Dispatches
+pub mod Bodies
 pub mod Samples

@@ -204,6 +204,7 @@ plain_method home class token class_no method_no at home_is class_is plain reach
       code = rw plain (record { least = lit< tt; most = lit≤ tt });
       inside = reaches home home_is;
       handlers = All-nil _;
+      few_handlers = lit≤ tt;
     }
   where
     reaches : (n : ℕ) → n < 2 → at + 2 ≤ length (list_at (first_info ∷ second_info ∷ []) n)
@@ -223,6 +224,7 @@ abstract_method =
       code = refl;
       inside = lit≤ tt;
       handlers = All-nil _;
+      few_handlers = lit≤ tt;
     }
 
 last_method : IsMethod (first_info ∷ second_info ∷ []) (first_pool ∷ second_pool ∷ []) classes static_method
@@ -239,6 +241,7 @@ last_method =
       inside = lit≤ tt;
       handlers = All-from_recursion (IsHandler classes second_pool 4) static_method.handlers
           (record { range = lit≤ tt; inside = lit≤ tt; entry = lit< tt; catches = refl; class = is_throwable; thrown = same }, tt);
+      few_handlers = lit≤ tt;
     }
 
 are_methods : All (IsMethod (first_info ∷ second_info ∷ []) (first_pool ∷ second_pool ∷ []) classes) methods

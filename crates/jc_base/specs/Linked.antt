@@ -64,6 +64,8 @@ pub record IsMethod (infos : List (List ℕ)) (pools : List (List Member)) (t : 
   -- its code lies in the Method info of its package
   pub inside : m.code_at + m.code_len ≤ length (list_at infos m.package)
   pub handlers : All (IsHandler t (list_at pools m.package) m.code_len) m.handlers
+  -- a Method component counts its handlers in one byte
+  pub few_handlers : length m.handlers ≤ 255
 
 -- ---- classes
 
@@ -89,6 +91,15 @@ pub record IsImplemented (t : ClassTable) (methods : List MethodRec) (public : L
   pub interface : is_interface t i.class ≡ true
   pub serves : All (λ m. m.class ≡ i.class → option_and_then (signature_at methods public) (slice_get i.tokens m.token) ≡ Some m.sig) methods
 
+-- an interface that an interface extends: it serves no method, so it lists no token
+pub record IsExtended (t : ClassTable) (i : Iface) : Type 0 where
+  pub number : i.class < length t.records
+  pub interface : is_interface t i.class ≡ true
+
+-- the interfaces that an interface extends, or those that a class implements
+abbrev pub AreInterfaces : ClassTable → List MethodRec → ClassRec → Type 0
+AreInterfaces t methods r = MatchBool r.interface (All (IsExtended t) r.implements) (All (IsImplemented t methods r.public) r.implements)
+
 -- how many cells the superclass has
 abbrev pub cells_above : ClassTable → Option ℕ → ℕ
 cells_above t None = 0
@@ -105,7 +116,7 @@ pub record IsLinkedClass (packages : ℕ) (t : ClassTable) (methods : List Metho
   pub own : All (IsDeclared t) r.own
   pub public : IsDispatch t methods c (list_of (public_of t) (parent_of t c)) r.public
   pub visible : IsDispatch t methods c (list_of (visible_from t r.package) (parent_of t c)) r.visible
-  pub implements : All (IsImplemented t methods r.public) r.implements
+  pub implements : AreInterfaces t methods r
 
 -- each record at its number
 abbrev pub AreLinkedClasses : ℕ → ClassTable → List MethodRec → Type 0

@@ -88,4 +88,11 @@ impl Classes {
     {
         self.roles[k as usize]
     }
+
+    /// The classes of the eight roles.
+    pub fn roles(&self) -> [u16; 8]
+        ensures { result ≡ self.now.roles }
+    {
+        self.roles
+    }
 }

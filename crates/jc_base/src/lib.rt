@@ -5,6 +5,7 @@
 #![tactic(auto)]
 
 mod class;
+mod concrete;
 mod infos;
 mod list;
 mod order;
@@ -13,6 +14,7 @@ mod ty;
 mod world;
 
 pub use class::Classes;
+pub use concrete::is_concrete;
 pub use infos::Infos;
 pub use list::{
     Arrays, ClassRecs, Dispatch, Handlers, Ifaces, Initial, Items, Members, Methods, Pools,

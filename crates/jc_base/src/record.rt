@@ -86,7 +86,7 @@ pub struct MethodRec {
     pub handlers: Handlers,
 }
 
-/// An interface that a class implements.
+/// An interface that a class implements, or that an interface extends, then without tokens.
 #[derive(Drop)]
 pub struct Iface {
     /// The number of the interface.

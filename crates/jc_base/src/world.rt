@@ -1,11 +1,12 @@
-ghost use Rattle.std.specs.Prelude.{◌≡◌, ◌<◌, ◌≤◌, length, All, IfSome, Some, slice_get, slice_index, option_map};
+ghost use Rattle.std.specs.Prelude.{◌≡◌, ◌<◌, ◌≤◌, ◌↔◌, length, All, IsTrue, IfSome, Some, slice_get, slice_index, option_map};
 ghost use Rattle.jc_base.specs.Class.{IsClass};
 ghost use Rattle.jc_base.specs.Cell.{AreElementsOf};
-ghost use Rattle.jc_base.specs.Dispatch.{cells_of};
+ghost use Rattle.jc_base.specs.Dispatch.{IsConcrete, cells_of};
 ghost use Rattle.jc_base.specs.Linked.{AreDispatched, IsMember, IsLinkedClass, IsMethod, IsStatic, list_at};
 ghost use Rattle.jc_base.specs.World.{IsWorld, IsThrown, member_at, code_of, has_numbers, method_numbered};
 
 use crate::class::Classes;
+use crate::concrete::is_concrete;
 use crate::infos::Infos;
 use crate::list::{Arrays, Members, Methods, Pools, Statics};
 use crate::record::{ArrayRec, ClassRec, Member, MethodRec, StaticRec};
@@ -135,6 +136,15 @@ impl<'a> World<'a> {
         ensures cells { length (cells_of self.now.classes n) ≡ result.now.cells }
     {
         self.classes.at(n)
+    }
+
+    /// Whether objects can be made of a class: it is no interface, and no entry of its dispatch lists is
+    /// abstract.
+    pub fn is_concrete(&self, class: u16) -> bool
+        requires { class < length self.now.classes.records }
+        ensures { IsTrue result ↔ IsConcrete self.now.classes self.now.methods class }
+    {
+        is_concrete(&self.classes, &self.methods, class)
     }
 
     pub fn method(&self, n: u16) -> &MethodRec

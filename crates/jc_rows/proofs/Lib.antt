@@ -1,5 +1,4 @@
 pub mod Rows
 pub mod Members
 pub mod Described
-pub mod Bodies
 pub mod Naming

@@ -13,7 +13,7 @@ use Rattle.jc_base.specs.declared.record.StaticRec.{StaticRec}
 use Rattle.jc_base.specs.Class.{ClassTable, parent_of, chain, is_interface, is_interface_record}
 use Rattle.jc_base.specs.Order.{IsKnown}
 use Rattle.jc_base.specs.Cell.{IsDeclared}
-use Rattle.jc_base.specs.Dispatch.{of_record, package_of, public_of, visible_of, entry_at, cells_of, own_cells}
+use Rattle.jc_base.specs.Dispatch.{of_record, public_of, visible_of, entry_at, cells_of, own_cells}
 use Rattle.jc_base.specs.Linked.{IsInherited, IsMethod, IsMember, IsLinkedClass, receiver_words, IsStatic}
 use Rattle.jc_base.specs.World.{Linked, IsWorld}
 use Rattle.jc_rows.specs.Named.{TakesReceiver, IsKnownMember}
@@ -146,15 +146,3 @@ entry-visible t c token r e ge = rw (lt_false token 128 ge, e) refl
 pub interface-read : (t : ClassTable) (c : ℕ) (r : ClassRec) → slice_get t.records c ≡ Some r → r.interface ≡ is_interface t c
 unfolding is_interface
 interface-read t c r e = sym (ap is_interface_record e)
-
-pub package-read : (t : ClassTable) (c : ℕ) (r : ClassRec) → slice_get t.records c ≡ Some r → r.package ≡ package_of t c
-unfolding package_of
-package-read t c r e = sym (ap (of_record 0 (λ r. r.package)) e)
-
-pub public-read : (t : ClassTable) (c : ℕ) (r : ClassRec) → slice_get t.records c ≡ Some r → r.public ≡ public_of t c
-unfolding public_of
-public-read t c r e = sym (ap (of_record [] (λ r. r.public)) e)
-
-pub visible-read : (t : ClassTable) (c : ℕ) (r : ClassRec) → slice_get t.records c ≡ Some r → r.visible ≡ visible_of t c
-unfolding visible_of
-visible-read t c r e = sym (ap (of_record [] (λ r. r.visible)) e)

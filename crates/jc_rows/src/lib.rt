@@ -7,7 +7,6 @@
 #![tactic(auto)]
 
 mod called;
-mod concrete;
 mod fault;
 mod laws;
 mod named;

@@ -4,7 +4,6 @@ ghost use Rattle.jc_base.specs.World.{member_at};
 ghost use Rattle.jc_rows.specs.Named.{Names, NamesObject, IsNamed};
 
 use crate::called::call_named;
-use crate::concrete::is_concrete;
 use crate::fault::RuleFault;
 use crate::named::{
     Named, array_named, array_of, byte_of, field_named, member, return_named, short_of,
@@ -21,7 +20,7 @@ fn object_named(world: &World<'_>, package: u16, place: u16, pool: u16) -> Resul
     ensures known { IfOk result (IsNamed world.now) }
 {
     match member(world, package, pool) {
-        Some(Member::ClassOf { class }) if is_concrete(world, class) => {
+        Some(Member::ClassOf { class }) if world.is_concrete(class) => {
             Ok(Named::Type(Ty::Fresh { place, class }))
         }
         Some(Member::ClassOf { class }) => Err(RuleFault::NotConcrete(class)),

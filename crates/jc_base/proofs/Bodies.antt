@@ -1,12 +1,15 @@
 -- A climb over the superclasses of a class that looks at the first package-visible list of each package.
-use Rattle.std.proofs.Common.{◌≡◌, ◌≢◌, ℕ, ◌+◌, ◌<◌, ◌≤◌, ◌==◌, Bool, true, false, List, [], ◌∷◌, length, refl, sym, ◌∙◌, ap, subst, arith, All, Some, None, get_or, set, ◌⊎◌, inl, inr, slice_get, take, IsSomeAnd}
+use Rattle.std.proofs.Common.{◌≡◌, ◌≢◌, ℕ, ◌+◌, ◌<◌, ◌≤◌, ◌==◌, Bool, true, false, List, [], ◌∷◌, length, refl, sym, ◌∙◌, ap, subst, arith, All, Some, None, get_or, set, ◌⊎◌, inl, inr, slice_get, take, IsSomeAnd, IfSome, Option}
 use Rattle.std.proofs.lemmas.Bool.Decides.{nat_tests, eqb_tells}
 use Rattle.std.proofs.lemmas.Bool.{true≢false}
 use Rattle.std.proofs.lemmas.List.Elements.{All-get_or, All-more}
 use Rattle.std.proofs.lemmas.List.{take_all, get_or_default, get_or-set_same, get_or-set_other}
+use Rattle.jc_base.proofs.Lists.{slice_get-below}
 use Rattle.jc_base.proofs.Climbs.{chain-front}
+use Rattle.jc_base.specs.declared.record.ClassRec.{ClassRec}
 use Rattle.jc_base.specs.declared.record.MethodRec.{MethodRec}
 use Rattle.jc_base.specs.Class.{ClassTable, IsNextOnChain, IsEndOfChain, chain, list_of}
+use Rattle.jc_base.specs.Linked.{AreLinkedClasses, IsLinkedClass, IsInherited}
 use Rattle.jc_base.specs.Dispatch.{HasBody, package_of, visible_of, nearest_of, visible_in}
 
 same : (n : ℕ) → (n == n) ≡ true
@@ -115,3 +118,23 @@ module _ (methods : List MethodRec) (list : List ℕ) (i d : ℕ) (m : MethodRec
 
 pub bodies-all : (methods : List MethodRec) (list : List ℕ) (i : ℕ) → length list ≤ i → All (HasBody methods) (take i list) → All (HasBody methods) list
 bodies-all methods list i h all = subst (All (HasBody methods)) (take_all i list h) all
+
+-- ---- what holds of the classes of some packages holds of them among more
+
+linked_by : (p q : ℕ) (t : ClassTable) (methods : List MethodRec) (c : ℕ) (o : Option ClassRec) → p ≤ q → IfSome o (IsLinkedClass p t methods c) → IfSome o (IsLinkedClass q t methods c)
+linked_by p q t methods c None le h = tt
+linked_by p q t methods c (Some r) le h =
+    let home : r.package < p = h.home in
+    record { home = omega arith; earlier = h.earlier; cells = h.cells; size = h.size; own = h.own; public = h.public; visible = h.visible; implements = h.implements }
+
+pub linked_more : (p q : ℕ) (t : ClassTable) (methods : List MethodRec) → p ≤ q → AreLinkedClasses p t methods → AreLinkedClasses q t methods
+linked_more p q t methods le h c = linked_by p q t methods c (slice_get t.records c) le (h c)
+
+-- ---- entries of dispatch lists are numbers of methods
+
+in_methods : (methods : List MethodRec) (n : ℕ) (o : Option MethodRec) (P : MethodRec → Type 0) → slice_get methods n ≡ o → IsSomeAnd o P → n < length methods
+in_methods methods n None P e h = absurd h
+in_methods methods n (Some m) P e h = slice_get-below methods n m e
+
+pub inside_methods : (t : ClassTable) (methods : List MethodRec) (c : ℕ) (list : List ℕ) → All (λ n. IsSomeAnd (slice_get methods n) (IsInherited t c)) list → All (λ n. n < length methods) list
+inside_methods t methods c list all k d lt = in_methods methods (get_or list k d) (slice_get methods (get_or list k d)) (IsInherited t c) refl (all k d lt)

@@ -1,6 +1,0 @@
-use Rattle.std.proofs.Common.{take, All}
-use Rattle.jc_base.specs.Dispatch.{HasBody}
-use Rattle.jc_rows.proofs.concrete.all_have_bodies.Given as goal
-
-abbrev pub invariant-entries : goal.invariant-entries
-invariant-entries l = All (HasBody l.world.methods) (take l.n-index l.list)
