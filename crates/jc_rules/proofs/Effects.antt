@@ -50,9 +50,9 @@ use Rattle.jc_rules.specs.declared.effect.Effect.{Effect}
 use Rattle.jc_rules.specs.Effect.{listed, ready, changed, needed, depth_after, reg}
 use Rattle.jc_rules.specs.Demand.{Frame, Meets, AllHold, AreKnown}
 use Rattle.jc_rules.specs.Rule.{cell, number, two_numbers, size, number_given, value_given, value_wanted, value_size, on_stack, replacing, storing, constant_effect, load_demands, load_effect, or_null, store_demands, store_effect, increment_demands, increment_effect, move_demands, move_effect, arithmetic_demands, arithmetic_effect, element, array_read_demands, array_read_effect, array_write_demands, array_write_effect, branch_demands, branch_effect, field_read_demands, field_read_effect, field_write_demands, field_write_effect, cells_wanted, call_demands, call_effect, ready_with, result_given, args_at, result_at, make_demands, make_effect, type_test_effect, type_named, array_wanted, a_reference, read_demands, read_effect, write_demands, write_effect, method_demands, method_effect, return_demands, return_effect, local_of, copied_of, under_of, demands, effect}
-use Rattle.jc_rules.specs.Flow.{IsNotFresh}
+use Rattle.jc_rules.specs.Flow.{IsNotFresh, IsNotTop}
 use Rattle.jc_rules.specs.Laws.{IsNotBottom}
-use Rattle.jc_rules.proofs.Falls.{plain_class, some-or}
+use Rattle.jc_rules.proofs.Falls.{plain_class, top_not_below_class, some-or}
 use Rattle.jc_rules.proofs.Demands.{AllHold-front, AllHold-rest, AllHold-append}
 
 -- ---- the number of cells
@@ -69,10 +69,46 @@ length-changed (MakeReady taken place class cells) s h = simp (length-append, le
 
 -- ---- what is known of what is given
 
--- what goes on the stack names classes alone, and is not Bottom
+-- the type of a value: neither Bottom nor Top
+abbrev pub IsValue : Ty → Type 0
+IsValue Bottom = ⊥
+IsValue Top = ⊥
+IsValue _ = ⊤
+
+value-full : (ty : Ty) → IsValue ty → IsNotBottom ty
+value-full Bottom h = h
+value-full Short h = tt
+value-full IntHigh h = tt
+value-full IntLow h = tt
+value-full Null h = tt
+value-full (Class c) h = tt
+value-full ArrBool h = tt
+value-full ArrByte h = tt
+value-full ArrShort h = tt
+value-full ArrInt h = tt
+value-full (ArrRef c) h = tt
+value-full (Fresh p c) h = tt
+value-full Top h = tt
+
+value-topless : (ty : Ty) → IsValue ty → IsNotTop ty
+value-topless Bottom h = tt
+value-topless Short h = tt
+value-topless IntHigh h = tt
+value-topless IntLow h = tt
+value-topless Null h = tt
+value-topless (Class c) h = tt
+value-topless ArrBool h = tt
+value-topless ArrByte h = tt
+value-topless ArrShort h = tt
+value-topless ArrInt h = tt
+value-topless (ArrRef c) h = tt
+value-topless (Fresh p c) h = tt
+value-topless Top h = h
+
+-- what goes on the stack names classes alone, and is the type of a value
 abbrev pub CellsKnown : ClassTable → Cells → Type 0
 CellsKnown t given.Nothing = ⊤
-CellsKnown t (given.One ty) = IsKnown t ty × IsNotBottom ty
+CellsKnown t (given.One ty) = IsKnown t ty × IsValue ty
 CellsKnown t given.Int = ⊤
 
 -- what goes into a register names classes alone, and is no uninitialised object
@@ -146,26 +182,65 @@ ready-full place class ArrInt h = h
 ready-full place class (ArrRef c) h = h
 ready-full place class Top h = h
 
-cells-full : (t : ClassTable) (cells : Cells) → CellsKnown t cells → All IsNotBottom (listed cells)
-cells-full t given.Nothing h k d lt = absurd (omega arith)
-cells-full t (given.One ty) h zero d lt = h.1
-cells-full t (given.One ty) h (suc k) d lt = absurd (omega arith)
-cells-full t given.Int h zero d lt = tt
-cells-full t given.Int h (suc zero) d lt = tt
-cells-full t given.Int h (suc (suc k)) d lt = absurd (omega arith)
+ready-topless : (place class : ℕ) (ty : Ty) → IsNotTop ty → IsNotTop (ready place class ty)
+ready-topless place class (Fresh p c) h = elim (p == place) as (λ b. IsNotTop (cond b (Class class) (Fresh p c))) [ true ↦ tt | false ↦ tt ]
+ready-topless place class Bottom h = h
+ready-topless place class Short h = h
+ready-topless place class IntHigh h = h
+ready-topless place class IntLow h = h
+ready-topless place class Null h = h
+ready-topless place class (Class c) h = h
+ready-topless place class ArrBool h = h
+ready-topless place class ArrByte h = h
+ready-topless place class ArrShort h = h
+ready-topless place class ArrInt h = h
+ready-topless place class (ArrRef c) h = h
+ready-topless place class Top h = h
+
+-- what holds of values, and stays when objects are made ready, holds of the stack that is given
+module _ (t : ClassTable) (P : Ty → Type 0) (values : (ty : Ty) → IsValue ty → P ty) (readies : (place class : ℕ) (ty : Ty) → P ty → P (ready place class ty)) where
+  cells-each : (cells : Cells) → CellsKnown t cells → All P (listed cells)
+  cells-each given.Nothing h k d lt = absurd (omega arith)
+  cells-each (given.One ty) h zero d lt = values ty h.1
+  cells-each (given.One ty) h (suc k) d lt = absurd (omega arith)
+  cells-each given.Int h zero d lt = values IntLow tt
+  cells-each given.Int h (suc zero) d lt = values IntHigh tt
+  cells-each given.Int h (suc (suc k)) d lt = absurd (omega arith)
+
+  changed-each : (c : Change) (s : List Ty) → ChangeKnown t c → All P s → All P (changed c s)
+  changed-each (Replace taken cells) s k all = All-append P (listed cells) (drop taken s) (cells-each cells k) (All-drop P taken s all)
+  changed-each (CopyUnder copied under) s k all =
+      All-append P (take under s) (take copied s ++ drop under s) (All-take P under s all)
+      (All-append P (take copied s) (drop under s) (All-take P copied s all) (All-drop P under s all))
+  changed-each (Exchange top under) s k all =
+      All-append P (take under (drop top s)) (take top s ++ drop (top + under) s) (All-take P under (drop top s) (All-drop P top s all))
+      (All-append P (take top s) (drop (top + under) s) (All-take P top s all) (All-drop P (top + under) s all))
+  changed-each (MakeReady taken place class cells) s k all =
+      All-append P (listed cells) (map (ready place class) (drop taken s)) (cells-each cells k.1)
+      (All-map P (ready place class) (drop taken s)
+      (λ i d lt. readies place class (get_or (drop taken s) i d) (All-drop P taken s all i d lt)))
 
 pub changed-full : (t : ClassTable) (c : Change) (s : List Ty) → ChangeKnown t c → All IsNotBottom s → All IsNotBottom (changed c s)
-changed-full t (Replace taken cells) s k all = All-append IsNotBottom (listed cells) (drop taken s) (cells-full t cells k) (All-drop IsNotBottom taken s all)
-changed-full t (CopyUnder copied under) s k all =
-    All-append IsNotBottom (take under s) (take copied s ++ drop under s) (All-take IsNotBottom under s all)
-    (All-append IsNotBottom (take copied s) (drop under s) (All-take IsNotBottom copied s all) (All-drop IsNotBottom under s all))
-changed-full t (Exchange top under) s k all =
-    All-append IsNotBottom (take under (drop top s)) (take top s ++ drop (top + under) s) (All-take IsNotBottom under (drop top s) (All-drop IsNotBottom top s all))
-    (All-append IsNotBottom (take top s) (drop (top + under) s) (All-take IsNotBottom top s all) (All-drop IsNotBottom (top + under) s all))
-changed-full t (MakeReady taken place class cells) s k all =
-    All-append IsNotBottom (listed cells) (map (ready place class) (drop taken s)) (cells-full t cells k.1)
-    (All-map IsNotBottom (ready place class) (drop taken s)
-    (λ i d lt. ready-full place class (get_or (drop taken s) i d) (All-drop IsNotBottom taken s all i d lt)))
+changed-full t = changed-each t IsNotBottom value-full ready-full
+
+pub changed-topless : (t : ClassTable) (c : Change) (s : List Ty) → ChangeKnown t c → All IsNotTop s → All IsNotTop (changed c s)
+changed-topless t = changed-each t IsNotTop value-topless ready-topless
+
+module _ (t : ClassTable) {d : ℕ} where
+  topless_class : (a : Ty) → Below t a (Class d) → IsNotTop a
+  topless_class Top x = top_not_below_class t x
+  topless_class Bottom x = tt
+  topless_class Short x = tt
+  topless_class IntHigh x = tt
+  topless_class IntLow x = tt
+  topless_class Null x = tt
+  topless_class (Class c) x = tt
+  topless_class ArrBool x = tt
+  topless_class ArrByte x = tt
+  topless_class ArrShort x = tt
+  topless_class ArrInt x = tt
+  topless_class (ArrRef c) x = tt
+  topless_class (Fresh p c) x = tt
 
 -- ---- an effect that suits a frame
 
@@ -208,7 +283,7 @@ module _ (t : ClassTable) (f : Frame) where
   length-number widths.Short = refl
   length-number widths.Int = refl
 
-  value-known : (ty : Ty) → IsKnown t ty × IsNotBottom ty → CellsKnown t (value_given ty)
+  value-known : (ty : Ty) → IsKnown t ty × IsValue ty → CellsKnown t (value_given ty)
   value-known IntHigh k = tt
   value-known Bottom k = k
   value-known Short k = k
@@ -254,22 +329,22 @@ module _ (t : ClassTable) (f : Frame) where
   or_null-known (Fresh p c) k = k
   or_null-known Top k = k
 
-  or_null-full : (ty : Ty) → IsNotBottom (or_null ty)
-  or_null-full Bottom = tt
-  or_null-full Short = tt
-  or_null-full IntHigh = tt
-  or_null-full IntLow = tt
-  or_null-full Null = tt
-  or_null-full (Class c) = tt
-  or_null-full ArrBool = tt
-  or_null-full ArrByte = tt
-  or_null-full ArrShort = tt
-  or_null-full ArrInt = tt
-  or_null-full (ArrRef c) = tt
-  or_null-full (Fresh p c) = tt
-  or_null-full Top = tt
+  or_null-full : (ty : Ty) → IsNotTop ty → IsValue (or_null ty)
+  or_null-full Bottom h = tt
+  or_null-full Short h = tt
+  or_null-full IntHigh h = tt
+  or_null-full IntLow h = tt
+  or_null-full Null h = tt
+  or_null-full (Class c) h = tt
+  or_null-full ArrBool h = tt
+  or_null-full ArrByte h = tt
+  or_null-full ArrShort h = tt
+  or_null-full ArrInt h = tt
+  or_null-full (ArrRef c) h = tt
+  or_null-full (Fresh p c) h = tt
+  or_null-full Top h = h
 
-  element-full : (ty : Ty) → IsNotBottom (element ty)
+  element-full : (ty : Ty) → IsValue (element ty)
   element-full (ArrRef c) = tt
   element-full Bottom = tt
   element-full Short = tt
@@ -315,7 +390,7 @@ module _ (t : ClassTable) (f : Frame) where
     suits-constant (constants.Int n) = suits-replacing 0 given.Int (omega arith) tt
 
     suits-load : (s : Sort) (x : ℕ) → AllHold t f (load_demands t s x) → Suits t f (load_effect s x f)
-    suits-load sorts.Reference x h = let lt : x < length f.regs = omega (arith, h.0) in suits-replacing 0 (given.One (or_null (reg f.regs x))) (omega arith) (or_null-known (reg f.regs x) (reg-known x lt), or_null-full (reg f.regs x))
+    suits-load sorts.Reference x h = let lt : x < length f.regs = omega (arith, h.0) in suits-replacing 0 (given.One (or_null (reg f.regs x))) (omega arith) (or_null-known (reg f.regs x) (reg-known x lt), or_null-full (reg f.regs x) (topless_class t (reg f.regs x) (some-or (λ ty. Below t ty (Class (object t))) f.regs x h.1.0)))
     suits-load sorts.Short x h = suits-replacing 0 (given.One Short) (omega arith) (tt, tt)
     suits-load sorts.Int x h = suits-replacing 0 given.Int (omega arith) tt
 
@@ -367,7 +442,7 @@ module _ (t : ClassTable) (f : Frame) where
     suits-branch (branches.References e) h = suits-replacing 2 given.Nothing (cell-there f.stack 1 (Meets t (a_reference t)) h.1.0) tt
     suits-branch (branches.Shorts o) h = suits-replacing 2 given.Nothing (two-there widths.Short h) tt
 
-    suits-read : (h : Holder) (c : ℕ) (ty : Ty) → IsKnown t ty × IsNotBottom ty → AllHold t f (field_read_demands h c) → Suits t f (field_read_effect h ty)
+    suits-read : (h : Holder) (c : ℕ) (ty : Ty) → IsKnown t ty × IsValue ty → AllHold t f (field_read_demands h c) → Suits t f (field_read_effect h ty)
     suits-read holders.Stack c ty known h = suits-replacing 1 (value_given ty) (cell-there f.stack 0 (Meets t (Value (Class c))) h.0) (value-known ty known)
     suits-read holders.This c ty known h = suits-replacing 0 (value_given ty) (omega arith) (value-known ty known)
 
@@ -375,12 +450,12 @@ module _ (t : ClassTable) (f : Frame) where
     suits-write holders.Stack c ty h = suits-replacing (value_size ty + 1) given.Nothing (cell-there f.stack (value_size ty) (Meets t (Value (Class c))) (AllHold-rest t f (value_wanted ty) (Cell (value_size ty) (Value (Class c)) ∷ []) h).0) tt
     suits-write holders.This c ty h = suits-replacing (value_size ty) given.Nothing (value-there (Held 0 (Class c) ∷ []) ty h.1) tt
 
-    suits-make : (m : Make) (ty : Ty) → IsKnown t ty × IsNotBottom ty → AllHold t f (make_demands m) → Suits t f (make_effect m ty)
+    suits-make : (m : Make) (ty : Ty) → IsKnown t ty × IsValue ty → AllHold t f (make_demands m) → Suits t f (make_effect m ty)
     suits-make makes.Object ty known h = suits-replacing 0 (given.One ty) (omega arith) known
     suits-make makes.Numbers ty known h = suits-replacing 1 (given.One ty) (cell-there f.stack 0 (Meets t (Value Short)) h.0) known
     suits-make makes.References ty known h = suits-replacing 1 (given.One ty) (cell-there f.stack 0 (Meets t (Value Short)) h.0) known
 
-    suits-test : (test : TypeTest) (ty : Ty) → IsKnown t ty × IsNotBottom ty → 0 + 1 ≤ length f.stack → Suits t f (type_test_effect test ty)
+    suits-test : (test : TypeTest) (ty : Ty) → IsKnown t ty × IsValue ty → 0 + 1 ≤ length f.stack → Suits t f (type_test_effect test ty)
     suits-test tests.Cast ty known h = suits-replacing 1 (given.One ty) h known
     suits-test tests.InstanceOf ty known h = suits-replacing 1 (given.One Short) h (tt, tt)
 
@@ -400,7 +475,7 @@ module _ (t : ClassTable) (f : Frame) where
         let there : 0 + length (reverse args) ≤ length f.stack = cells-there 0 (reverse args) (omega arith) (AllHold-front t f (cells_wanted 0 (reverse args)) ds h) in
         omega (arith, length-reverse args)
 
-    result-known : (o : Option Ty) → IfSome o (λ ty. IsKnown t ty × IsNotBottom ty) → CellsKnown t (result_given o)
+    result-known : (o : Option Ty) → IfSome o (λ ty. IsKnown t ty × IsValue ty) → CellsKnown t (result_given o)
     result-known None k = tt
     result-known (Some ty) k = value-known ty k
 
@@ -424,7 +499,7 @@ module _ (t : ClassTable) (f : Frame) where
     suits-ready taken cells (ArrRef c) want le known w = suits-on_stack (Replace taken cells) le known
     suits-ready taken cells Top want le known w = suits-on_stack (Replace taken cells) le known
 
-    suits-call : (args : List Ty) (result : Option Ty) (receiver : Option Want) → IfSome result (λ ty. IsKnown t ty × IsNotBottom ty) → IfSome receiver (IsKnownWant t) → AllHold t f (call_demands args receiver) → Suits t f (call_effect args result receiver f)
+    suits-call : (args : List Ty) (result : Option Ty) (receiver : Option Want) → IfSome result (λ ty. IsKnown t ty × IsValue ty) → IfSome receiver (IsKnownWant t) → AllHold t f (call_demands args receiver) → Suits t f (call_effect args result receiver f)
     suits-call args result None known w h = suits-on_stack (Replace (length args) (result_given result)) (arguments-there args [] h) (result-known result known)
     suits-call args result (Some want) known w h =
         suits-ready (length args + 1) (result_given result) (cell f.stack (length args)) want
@@ -433,7 +508,7 @@ module _ (t : ClassTable) (f : Frame) where
 
 -- ---- the rule
 
-declared-full : (t : ClassTable) (ty : Ty) → IsDeclared t ty → IsKnown t ty × IsNotBottom ty
+declared-full : (t : ClassTable) (ty : Ty) → IsDeclared t ty → IsKnown t ty × IsValue ty
 declared-full t Bottom h = absurd h
 declared-full t Short h = (tt, tt)
 declared-full t IntHigh h = (tt, tt)
@@ -448,7 +523,7 @@ declared-full t (ArrRef c) h = (h, tt)
 declared-full t (Fresh place c) h = absurd h
 declared-full t Top h = absurd h
 
-given-full : (t : ClassTable) (ty : Ty) → IsGiven t ty → IsKnown t ty × IsNotBottom ty
+given-full : (t : ClassTable) (ty : Ty) → IsGiven t ty → IsKnown t ty × IsValue ty
 given-full t Bottom h = absurd h
 given-full t Short h = (tt, tt)
 given-full t IntHigh h = (tt, tt)
@@ -463,18 +538,18 @@ given-full t (ArrRef c) h = (h, tt)
 given-full t (Fresh place c) h = (h, tt)
 given-full t Top h = absurd h
 
-result-declared : (w : Linked) → IsWorld w → (o : Option MethodRec) → ((m : MethodRec) → o ≡ Some m → IfSome m.sig.result (λ ty. IsKnown w.classes ty × IsNotBottom ty)) → IfSome (result_at o) (λ ty. IsKnown w.classes ty × IsNotBottom ty)
+result-declared : (w : Linked) → IsWorld w → (o : Option MethodRec) → ((m : MethodRec) → o ≡ Some m → IfSome m.sig.result (λ ty. IsKnown w.classes ty × IsValue ty)) → IfSome (result_at o) (λ ty. IsKnown w.classes ty × IsValue ty)
 result-declared w is None h = tt
 result-declared w is (Some m) h = h m refl
 
-IfSome-full : (t : ClassTable) (o : Option Ty) → IfSome o (IsDeclared t) → IfSome o (λ ty. IsKnown t ty × IsNotBottom ty)
+IfSome-full : (t : ClassTable) (o : Option Ty) → IfSome o (IsDeclared t) → IfSome o (λ ty. IsKnown t ty × IsValue ty)
 IfSome-full t None h = tt
 IfSome-full t (Some ty) h = declared-full t ty h
 
-method-result : (w : Linked) → IsWorld w → (n : ℕ) → IfSome (result_at (slice_get w.methods n)) (λ ty. IsKnown w.classes ty × IsNotBottom ty)
+method-result : (w : Linked) → IsWorld w → (n : ℕ) → IfSome (result_at (slice_get w.methods n)) (λ ty. IsKnown w.classes ty × IsValue ty)
 method-result w is n = result-declared w is (slice_get w.methods n) (λ m e. IfSome-full w.classes m.sig.result (All-slice_get (IsMethod w.infos w.pools w.classes) w.methods n m is.methods e).result)
 
-type-known : (w : Linked) (n : Named) → IsSound w n → IsKnown w.classes (type_named n) × IsNotBottom (type_named n)
+type-known : (w : Linked) (n : Named) → IsSound w n → IsKnown w.classes (type_named n) × IsValue (type_named n)
 type-known w names.Nothing h = (tt, tt)
 type-known w (names.Type ty) h = given-full w.classes ty h
 type-known w (names.Field c ty) h = (tt, tt)

@@ -307,6 +307,10 @@ module _ (t : ClassTable) where
   plain_class (ArrRef c) x = tt
   plain_class Top x = tt
 
+  pub top_not_below_class : {d : ℕ} → Below t Top (Class d) → ⊥
+  unfolding ReferenceDown
+  top_not_below_class x = reference-down t x tt
+
   -- below an uninitialised object is nothing else but Bottom
   pub fresh_is_bottom : (p c : ℕ) (a : Ty) → IsNotFresh a → Below t a (Fresh p c) → a ≡ Bottom
   unfolding FreshDown

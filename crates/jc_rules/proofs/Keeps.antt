@@ -19,10 +19,10 @@ use Rattle.jc_rules.specs.declared.effect.Mode.{Mode}
 use Rattle.jc_rules.specs.declared.effect.Mode.TheVariants.{Card, Flow}
 use Rattle.jc_rules.specs.Effect.{stored_cells, written, over, reg}
 use Rattle.jc_rules.specs.Rule.{effect}
-use Rattle.jc_rules.specs.Flow.{IsNotFresh}
+use Rattle.jc_rules.specs.Flow.{IsNotFresh, IsNotTop}
 use Rattle.jc_rules.specs.Laws.{IsNotBottom, RuleKeeps}
 use Rattle.jc_rules.proofs.Falls.{fresh_is_bottom, fresh_not_below_bottom}
-use Rattle.jc_rules.proofs.Effects.{CellsKept, Suits, suits, changed-known, changed-full}
+use Rattle.jc_rules.proofs.Effects.{CellsKept, Suits, suits, changed-known, changed-full, changed-topless}
 
 -- what is read, or Top
 all-or : (P : Ty → Type 0) (xs : List Ty) (n : ℕ) → P Top → All P xs → P (get_or xs n Top)
@@ -32,7 +32,7 @@ all-or P (x ∷ xs) (suc n) top h = all-or P xs n top (λ k d lt. h (suc k) d (o
 
 module _ (t : ClassTable) (are : AreClasses t) where
   -- the join of two types is an uninitialised object only where one of them is
-  join-not_fresh : (a b j : Ty) → IsNotFresh a → IsNotFresh b → IsJoin t a b j → IsNotFresh j
+  pub join-not_fresh : (a b j : Ty) → IsNotFresh a → IsNotFresh b → IsJoin t a b j → IsNotFresh j
   join-not_fresh a b (Fresh p c) h k is =
       let a_bottom : a ≡ Bottom = fresh_is_bottom t p c a h is.left in
       let b_bottom : b ≡ Bottom = fresh_is_bottom t p c b k is.right in
@@ -100,4 +100,5 @@ rule-keeps w is are site i mode before after o k a =
       count = count;
       no_fresh = λ none. subst (All IsNotFresh) (sym a.regs) (stored-not_fresh w.classes are mode e.store.register e.store.cells before.regs fits.stored k.regs none);
       no_bottom = λ none. subst (All IsNotBottom) (sym a.stack) (changed-full w.classes e.change before.stack fits.change none);
+      no_top = λ none. subst (All IsNotTop) (sym a.stack) (changed-topless w.classes e.change before.stack fits.change none);
     }

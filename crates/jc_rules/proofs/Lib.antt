@@ -4,3 +4,4 @@ pub mod Falls
 pub mod Effects
 pub mod Plans
 pub mod Keeps
+pub mod Raising

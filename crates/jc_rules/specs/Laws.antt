@@ -35,7 +35,8 @@ pub record Keeps (w : Linked) (before after : Frame) : Type 0 where
   pub count : length after.regs ≡ length before.regs
   pub no_fresh : All IsNotFresh before.regs → All IsNotFresh after.regs
   pub no_bottom : All IsNotBottom before.stack → All IsNotBottom after.stack
+  pub no_top : All IsNotTop before.stack → All IsNotTop after.stack
 
--- a rule keeps the number of registers, names classes alone, and gives neither an uninitialised object to a register nor Bottom to the stack
+-- a rule keeps the number of registers, names classes alone, gives no uninitialised object to a register, and neither Bottom nor Top to the stack
 abbrev pub RuleKeeps : Linked → Type 0
 RuleKeeps w = (site : Site) (i : Insn) (mode : Mode) (before after : Frame) (o : Outcome) → AreKnown w.classes before → Applies w site i mode before after o → Keeps w before after

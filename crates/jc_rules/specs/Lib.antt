@@ -4,5 +4,6 @@ pub mod Demand
 pub mod Rule
 pub mod Apply
 pub mod Flow
+pub mod Typing
 pub mod Laws
 pub mod Worked

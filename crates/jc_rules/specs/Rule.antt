@@ -248,7 +248,7 @@ branch_effect (branches.Shorts o) = replacing 2 given.Nothing
 -- the type that is named
 abbrev pub type_named : Named → Ty
 type_named (names.Type ty) = ty
-type_named _ = Top
+type_named _ = Null
 
 abbrev pub field_read_demands : Holder → ℕ → List Demand
 field_read_demands holders.Stack c = Cell 0 (Value (Class c)) ∷ []

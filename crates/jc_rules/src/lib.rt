@@ -2,7 +2,8 @@
 //!
 //! `apply` does to the types of registers and operand stack what the row of an instruction says, or
 //! refuses with the first thing that is missing.
-//! The definitions of dataflow typings, over which the verifiers are proved, stand here too.
+//! The definitions of dataflow typings, over which the verifiers are proved, stand here too, with the type that
+//! holds one.
 //! It stands on the rows of `jc_rows`, the types and worlds of `jc_base` and the instructions of `jc_decode`.
 
 #![tactic(auto)]
@@ -13,12 +14,16 @@ mod effect;
 mod laws;
 mod objects;
 mod rule;
+mod state;
+mod typing;
 mod values;
 
 pub use demand::{Before, Demand};
 pub use effect::{Cells, Change, Effect, Mode, Store};
 pub use laws::{rule_falls, rule_keeps};
 pub use rule::{Outcome, Site, apply};
+pub use state::{Merged, State};
+pub use typing::Typing;
 
 #[cfg(test)]
 mod tests;

@@ -56,7 +56,7 @@ fn type_named(world: &World<'_>, named: Named) -> Ty
 {
     match named {
         Named::Type(ty) => ty,
-        _ => Ty::Top,
+        _ => Ty::Null,
     }
 }
 

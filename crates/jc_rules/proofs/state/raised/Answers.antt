@@ -1,0 +1,8 @@
+use Rattle.jc_rules.proofs.Raising.{join_held, join_rises, not_both}
+use Rattle.jc_rules.proofs.state.raised.Goals as goal
+
+pub returns-then-below : goal.returns-then-below
+returns-then-below c = join_held c.args.classes.now (c.below.ensures.is.0 c.if-below.true)
+
+pub returns-else-below : goal.returns-else-below
+returns-else-below c = (c.join.ensures.is, c.join.ensures.known, join_rises c.args.classes.now c.records-chains.ensures.chains c.join.ensures.is (λ h. not_both c.if-below.false (c.below.ensures.is.1 h)))

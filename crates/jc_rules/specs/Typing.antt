@@ -1,0 +1,32 @@
+-- A dataflow typing as it is held: a list with a frame, or none, for each place of the code (Leroy 2002, section 2.3).
+use Rattle.std.specs.Prelude.{◌≡◌, ℕ, ◌+◌, ◌<◌, List, length, All, sum_by, Option, Some, None, slice_get}
+use Rattle.jc_base.specs.declared.ty.Ty.{Ty}
+use Rattle.jc_base.specs.Class.{ClassTable}
+use Rattle.jc_base.specs.Order.{rises_left}
+use Rattle.jc_rules.specs.declared.state.Merged.{Merged}
+use Rattle.jc_rules.specs.declared.state.Merged.TheVariants.{Same, Risen, Clashing}
+use Rattle.jc_rules.specs.Demand.{Frame}
+use Rattle.jc_rules.specs.Flow.{CellsJoin, Merges, IsNotTop}
+
+abbrev pub flat : {X : Type 0} → Option (Option X) → Option X
+flat None = None
+flat (Some x) = x
+
+-- the frame at a place, where there is one: an assignment of frames to places
+unfoldable pub state_at : List (Option Frame) → ℕ → Option Frame
+state_at typing place = flat (slice_get typing place)
+
+-- two stacks do not merge: their depths differ, or a cell's join is Top
+pub data Clashes (t : ClassTable) (f g : Frame) : Type 0 where
+  depths : ¬ (length f.stack ≡ length g.stack) → Clashes t f g
+  cells : {joined : List Ty} → CellsJoin t f.stack g.stack joined → ¬ (All IsNotTop joined) → Clashes t f g
+
+-- how many times the cells of a frame can rise at most
+abbrev pub rises_of : ClassTable → Frame → ℕ
+rises_of t f = sum_by (rises_left t) f.regs + sum_by (rises_left t) f.stack
+
+-- what becomes of a frame that another is merged into
+abbrev pub IsMerged : ClassTable → Frame → Frame → Frame → Merged → Type 0
+IsMerged t old other new Same = Merges t old other old × (new ≡ old)
+IsMerged t old other new Risen = Merges t old other new × (rises_of t new < rises_of t old)
+IsMerged t old other new Clashing = Clashes t old other
