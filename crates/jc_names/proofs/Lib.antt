@@ -1,0 +1,10 @@
+pub mod LeastFaults
+pub mod FirstTold
+pub mod Totals
+pub mod NumberLaws
+pub mod NamedFaults
+pub mod Parts
+pub mod Steps
+pub mod FieldSteps
+pub mod NamesTold
+pub mod ReferenceLaws

@@ -1,0 +1,5 @@
+use Rattle.jc_names.proofs.NamesTold.{names_told}
+use Rattle.jc_names.proofs.naming.names.Goals as goal
+
+pub returns-clause-tells : goal.returns-clause-tells
+returns-clause-tells c = names_told c.args.packages.now c.args.roles c.names_or_fault.result c.names_or_fault.ensures

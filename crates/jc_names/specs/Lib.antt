@@ -1,0 +1,12 @@
+pub mod FirstFault
+pub mod Fault
+pub mod Numbering
+pub mod References
+pub mod WorldTypes
+pub mod NamedClasses
+pub mod NamedMethods
+pub mod Named
+pub mod Counts
+pub mod Numbers
+pub mod Conditions
+pub mod Names

@@ -1,0 +1,32 @@
+//! Who is named in packages (JCVM 2.2, chapters 4 and 6): classes and methods by number over all packages,
+//! the package that meets an import, and what each class reference names.
+//! It stands on `cap_package` for what packages say and on `jc_base` for the records of a world.
+
+#![tactic(auto)]
+
+mod class_index;
+mod class_records;
+mod counts;
+mod fault;
+mod import_checks;
+mod imports;
+mod least;
+mod method_index;
+mod method_records;
+mod named;
+mod names_type;
+mod naming;
+mod numbers;
+mod place;
+mod reference_checks;
+mod world_types;
+
+pub use fault::{LinkEnd, LinkFault};
+pub use least::{lesser, refuse};
+pub use named::{NamedClass, NamedClasses, Table};
+pub use names_type::Names;
+pub use naming::names;
+pub use place::Place;
+
+#[cfg(test)]
+mod tests;
