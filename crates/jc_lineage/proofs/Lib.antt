@@ -1,0 +1,12 @@
+pub mod Numbered
+pub mod Leading
+pub mod Marking
+pub mod Above
+pub mod Faultless
+pub mod Ranks
+pub mod Descent
+pub mod Told
+pub mod Settled
+pub mod Kinship
+pub mod SameLines
+pub mod Naming
