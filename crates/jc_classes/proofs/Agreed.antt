@@ -1,0 +1,91 @@
+-- The class table of classes of which nothing is at fault.
+use Rattle.std.proofs.Common.{◌≡◌, ℕ, zero, suc, ◌+◌, ◌<◌, ◌≤◌, Bool, true, false, take, get_or, List, [], ◌∷◌, length, flat_map, Option, Some, None, Ok, Err, refl, sym, ap, subst, ◌∙◌, arith}
+use Rattle.std.specs.Prelude.{filter_map, slice_get, nat_lt}
+use Rattle.std.specs.List.{range_with_len, cons_option}
+use Rattle.std.proofs.lemmas.Bool.{ltb-false}
+use Rattle.std.proofs.lemmas.List.{take_all}
+use Rattle.jc_base.specs.declared.record.MethodRec.{MethodRec}
+use Rattle.jc_base.specs.declared.record.ClassRec.{ClassRec}
+use Rattle.jc_base.specs.Class.{ClassTable, AreClasses}
+use Rattle.jc_names.specs.declared.fault.LinkFault.{LinkFault}
+use Rattle.jc_names.specs.declared.fault.LinkFault.TheVariants.{InstanceLong}
+use Rattle.jc_names.specs.declared.named.NamedClass.{NamedClass}
+use Rattle.jc_names.specs.Fault.{place_of}
+use Rattle.jc_names.specs.FirstFault.{IsFirst, AllEmpty}
+use Rattle.jc_names.proofs.FirstTold.{IsTold, things-told, step, last, refused-first, accepted-empty}
+use Rattle.jc_classes.specs.declared.layout.Layout.{Layout}
+use Rattle.jc_lineage.specs.Outline.{outline}
+use Rattle.jc_classes.specs.Layout.{instance_cells, layouts}
+use Rattle.jc_classes.specs.Conditions.{hole_fault, entries_in, override_fault, replacements_in, interface_fault, implementations_in, long_fault, class_numbers, long_instances, conditions}
+use Rattle.jc_classes.specs.Tables.{records_from, classes_agree}
+use Rattle.jc_classes.proofs.Folds.{cells_are, layout_at, layouts_count}
+use Rattle.jc_classes.proofs.Lines.{IsOutline, tables-classes, records-length}
+
+-- ---- nothing of a list is at fault
+
+pub none_first : {Y : Type 0} (o : Option Y) (ys : List Y) → cons_option o ys ≡ [] → (o ≡ None) × (ys ≡ [])
+none_first None ys e = (refl, e)
+none_first (Some y) ys e = absurd cc
+
+pub faultless_at : {X Y : Type 0} (f : X → Option Y) (xs : List X) (i : ℕ) (x : X) → filter_map f xs ≡ [] → slice_get xs i ≡ Some x → f x ≡ None
+faultless_at f [] i x e at = absurd cc
+faultless_at f (y ∷ ys) zero x e at =
+    let same : y ≡ x = cc in
+    ap f (sym same) ∙ (none_first (f y) (filter_map f ys) e).0
+faultless_at f (y ∷ ys) (suc i) x e at = faultless_at f ys i x (none_first (f y) (filter_map f ys) e).1 at
+
+-- ---- no instance is too long
+
+pub slice_get-numbers : (a n c : ℕ) → c < n → slice_get (range_with_len a n) c ≡ Some (a + c)
+slice_get-numbers a zero c h = absurd (omega arith)
+slice_get-numbers a (suc n) zero h = let same : a ≡ a + 0 = omega arith in ap Some same
+slice_get-numbers a (suc n) (suc c) h =
+    let same : a + 1 + c ≡ a + suc c = omega arith in
+    slice_get-numbers (a + 1) n c (omega arith) ∙ ap Some same
+
+within_by : (t : ClassTable) (classes : List NamedClass) (c : ℕ) (b : Bool) → nat_lt 32767 (instance_cells t classes c) ≡ b → long_fault t classes c ≡ None → instance_cells t classes c ≤ 32767
+unfolding long_fault
+within_by t classes c true e h =
+    let some : long_fault t classes c ≡ Some (InstanceLong c (instance_cells t classes c)) = rw e refl in
+    let no : Some (InstanceLong c (instance_cells t classes c)) ≡ None = sym some ∙ h in
+    absurd cc
+within_by t classes c false e h = ltb-false 32767 (instance_cells t classes c) e
+
+pub cells_short : (t : ClassTable) (classes : List NamedClass) (c : ℕ) → long_instances t classes ≡ [] → c < length classes → instance_cells t classes c ≤ 32767
+cells_short t classes c none h =
+    let at : slice_get (class_numbers classes) c ≡ Some c = slice_get-numbers 0 (length classes) c h ∙ ap Some (omega arith) in
+    within_by t classes c (nat_lt 32767 (instance_cells t classes c)) refl (faultless_at (long_fault t classes) (class_numbers classes) c c none at)
+
+pub layout_cells_short : (t : ClassTable) (classes : List NamedClass) (all : List Layout) (c : ℕ) (l : Layout) → all ≡ layouts t classes → long_instances t classes ≡ [] → c < length classes → l ≡ get_or all c l → l.cells ≤ 32767
+layout_cells_short t classes all c l e none h at = rw (cells_are t classes all c l e h at) (cells_short t classes c none h)
+
+pub records_whole : (t : ClassTable) (classes : List NamedClass) (n : ℕ) (records : List ClassRec) → length classes ≤ n → records ≡ take n (records_from t classes 0 classes) → records ≡ records_from t classes 0 classes
+records_whole t classes n records h e = e ∙ take_all n (records_from t classes 0 classes) (omega (arith, records-length t classes classes 0))
+
+pub table_classes : (t : ClassTable) (classes : List NamedClass) (records : List ClassRec) → t ≡ outline classes t.roles → AreClasses t → records ≡ records_from t classes 0 classes → AreClasses (record { records = records; roles = t.roles })
+table_classes t classes records o are e =
+    let outlined : IsOutline t classes = record { is = o } in
+    subst (λ (rs : List ClassRec). AreClasses (record { records = rs; roles = t.roles })) (sym e) (tables-classes t classes outlined are)
+
+pub ruleset building = (layouts_count)
+
+-- ---- the conditions one after the other
+
+pub agree-told : (t : ClassTable) (classes : List NamedClass) (methods : List MethodRec) → IsTold place_of (classes_agree t classes methods) (conditions t classes methods)
+unfolding classes_agree
+agree-told t classes methods =
+    step place_of (things-told place_of (hole_fault t methods) (flat_map (entries_in t classes) (class_numbers classes)))
+    (step place_of (things-told place_of (override_fault methods) (flat_map (replacements_in t classes) (class_numbers classes)))
+    (step place_of (things-told place_of (interface_fault methods) (flat_map (implementations_in t classes) (class_numbers classes)))
+    (last place_of (things-told place_of (long_fault t classes) (class_numbers classes)))))
+
+pub told_first : (t : ClassTable) (classes : List NamedClass) (methods : List MethodRec) (f : LinkFault) → Err f ≡ classes_agree t classes methods → IsFirst place_of (conditions t classes methods) f
+told_first t classes methods f e = refused-first place_of (conditions t classes methods) f (sym (agree-told t classes methods).same ∙ sym e)
+
+pub told_empty : (t : ClassTable) (classes : List NamedClass) (methods : List MethodRec) → Ok (tt {0}) ≡ classes_agree t classes methods → AllEmpty (conditions t classes methods)
+told_empty t classes methods e = accepted-empty place_of (conditions t classes methods) (sym (agree-told t classes methods).same ∙ sym e)
+
+pub told_short : (t : ClassTable) (classes : List NamedClass) (methods : List MethodRec) → Ok (tt {0}) ≡ classes_agree t classes methods → long_instances t classes ≡ []
+told_short t classes methods e = (told_empty t classes methods e).1.1.1.0
+
+pub ruleset telling = (told_first, told_empty, told_short, layouts_count)

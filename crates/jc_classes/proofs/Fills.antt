@@ -1,0 +1,293 @@
+-- The slots of classes as they are filled.
+use Rattle.std.proofs.Common.{◌≡◌, ℕ, zero, suc, ◌+◌, ◌≤◌, ◌<◌, set, List, [], ◌∷◌, ◌++◌, length, map, length-set, get_or, append_assoc, append-nil, replicate, ◌⊎◌, Option, Some, None, refl, sym, ap, subst, ◌∙◌, arith, inl, inr}
+use Rattle.std.specs.List.{range_with_len}
+use Rattle.std.proofs.lemmas.List.{length-replicate}
+use Rattle.std.specs.Prelude.{All, filter_map, IfSome, IsSome, slice_get}
+use Rattle.std.specs.Option.{option_to_list, option_map, option_flatten, option_and_then}
+use Rattle.std.proofs.lemmas.Bool.{cases_lt, false≢true}
+use Rattle.std.proofs.lemmas.List.Sums.{sum_by-le}
+use Rattle.jc_base.proofs.Lists.{All-slice_get}
+use Rattle.jc_base.specs.Class.{ClassTable, AreClasses, chain, list_of, parent_of}
+use Rattle.jc_base.proofs.Chains.{next_on_chain}
+use Rattle.jc_base.proofs.Climbs.{chain-length, chain-front, parent_of-class}
+use Rattle.jc_classes.specs.Known.{AreKnown, IsSized}
+use Rattle.jc_classes.proofs.Climbs.{chain_from, chain_step, climbed_whole, head_same, tail_same, no_end}
+use Rattle.jc_names.specs.declared.named.NamedClass.{NamedClass}
+use Rattle.jc_classes.specs.declared.layout.Layout.{Layout}
+use Rattle.jc_classes.specs.Layout.{layouts, of_class, own_of, instance_cells, layout_of, layout_from, above_or_nothing, at_home}
+use Rattle.jc_classes.specs.Slots.{slot_at, IsFilled, AreSlots, IsMade, Keeps, IsClimb}
+use Rattle.jc_classes.proofs.Steps.{layout_step}
+
+-- ---- a write to a slot
+
+pub slice_get-set_here : {X : Type 0} (xs : List X) (i : ℕ) (x : X) → i < length xs → slice_get (set xs i x) i ≡ Some x
+slice_get-set_here [] i x h = absurd (omega arith)
+slice_get-set_here (y ∷ ys) zero x h = refl
+slice_get-set_here (y ∷ ys) (suc i) x h = slice_get-set_here ys i x (omega arith)
+
+pub slice_get-set_other : {X : Type 0} (xs : List X) (i j : ℕ) (x : X) → (i ≡ j → ⊥) → slice_get (set xs i x) j ≡ slice_get xs j
+slice_get-set_other [] i j x ne = refl
+slice_get-set_other (y ∷ ys) zero zero x ne = absurd (ne refl)
+slice_get-set_other (y ∷ ys) zero (suc j) x ne = refl
+slice_get-set_other (y ∷ ys) (suc i) zero x ne = refl
+slice_get-set_other (y ∷ ys) (suc i) (suc j) x ne = slice_get-set_other ys i j x (λ e. ne (ap suc e))
+
+pub same_or_other : (i j : ℕ) → (i ≡ j) ⊎ (i ≡ j → ⊥)
+same_or_other i j = elim (cases_lt i j) [
+  | inl lt ↦ inr (λ e. omega arith)
+  | inr le ↦ elim (cases_lt j i) [
+    | inl lt ↦ inr (λ e. omega arith)
+    | inr ge ↦ inl (omega arith)
+  ]
+]
+
+pub filled-here : (slots : List (Option Layout)) (c : ℕ) (l : Layout) → c < length slots → slot_at (set slots c (Some l)) c ≡ Some l
+unfolding slot_at
+filled-here slots c l h = ap option_flatten (slice_get-set_here slots c (Some l) h)
+
+pub filled-other : (slots : List (Option Layout)) (c d : ℕ) (l : Layout) → (c ≡ d → ⊥) → slot_at (set slots c (Some l)) d ≡ slot_at slots d
+unfolding slot_at
+filled-other slots c d l ne = ap option_flatten (slice_get-set_other slots c d (Some l) ne)
+
+pub slots_filled : (t : ClassTable) (classes : List NamedClass) (slots : List (Option Layout)) (c : ℕ) (l : Layout) → AreSlots t classes slots → c < length classes → l ≡ layout_of t classes c
+    → AreSlots t classes (set slots c (Some l))
+slots_filled t classes slots c l are h is = record {
+  count = length-set slots c (Some l) ∙ are.count;
+  right = λ d. elim (same_or_other c d) [
+    | inl e ↦
+        let within : c < length slots = omega (arith, are.count) in
+        let here : slot_at (set slots c (Some l)) d ≡ Some l = ap (slot_at (set slots c (Some l))) (sym e) ∙ filled-here slots c l within in
+        subst (λ (o : Option Layout). IfSome o (λ m. m ≡ layout_of t classes d)) (sym here) (is ∙ ap (layout_of t classes) e)
+    | inr ne ↦ subst (λ (o : Option Layout). IfSome o (λ m. m ≡ layout_of t classes d)) (sym (filled-other slots c d l ne)) (are.right d)
+  ];
+}
+
+pub slots_kept : (t : ClassTable) (classes : List NamedClass) (slots : List (Option Layout)) (c : ℕ) (l : Layout) → AreSlots t classes slots → c < length classes → l ≡ layout_of t classes c
+    → Keeps t classes slots (set slots c (Some l))
+slots_kept t classes slots c l are h is = record {
+  filled = λ d was. elim (same_or_other c d) [
+    | inl e ↦
+        let within : c < length slots = omega (arith, are.count) in
+        ap (slot_at (set slots c (Some l))) (sym e) ∙ filled-here slots c l within ∙ ap Some (is ∙ ap (layout_of t classes) e)
+    | inr ne ↦ filled-other slots c d l ne ∙ was
+  ];
+}
+
+-- ---- the superclass's slot
+
+made_is : (t : ClassTable) (classes : List NamedClass) (p : ℕ) (o : Option Layout) → IsSome o → IfSome o (λ l. l ≡ layout_of t classes p) → o ≡ Some (layout_of t classes p)
+made_is t classes p None is e = absurd (false≢true is)
+made_is t classes p (Some l) is e = ap Some e
+
+-- a slot that is not empty holds the layout of its class
+pub filled_from : (t : ClassTable) (classes : List NamedClass) (slots : List (Option Layout)) (above : Option ℕ) → AreSlots t classes slots → IfSome above (λ p. IsSome (slot_at slots p)) → IfSome above (IsFilled t classes slots)
+filled_from t classes slots None are made = tt
+filled_from t classes slots (Some p) are made = made_is t classes p (slot_at slots p) made (are.right p)
+
+pub above_filled : (t : ClassTable) (classes : List NamedClass) (slots : List (Option Layout)) (above : Option ℕ) → IfSome above (IsFilled t classes slots) → option_and_then (slot_at slots) above ≡ option_map (layout_of t classes) above
+above_filled t classes slots None made = refl
+above_filled t classes slots (Some p) made = made
+
+-- ---- how many cells an instance can have
+
+own_few_by : (o : Option NamedClass) → IfSome o IsSized → length (of_class [] (λ k. k.own) o) ≤ 131070
+own_few_by None h = omega arith
+own_few_by (Some k) h = h.own
+
+sized_at : (classes : List NamedClass) (c : ℕ) (o : Option NamedClass) → slice_get classes c ≡ o → All IsSized classes → IfSome o IsSized
+sized_at classes c None e all = tt
+sized_at classes c (Some k) e all = All-slice_get IsSized classes c k all e
+
+own_few : (classes : List NamedClass) (c : ℕ) → All IsSized classes → length (own_of classes c) ≤ 131070
+unfolding own_of
+own_few classes c all = own_few_by (slice_get classes c) (sized_at classes c (slice_get classes c) refl all)
+
+all_few : (classes : List NamedClass) (cs : List ℕ) → All IsSized classes → All (λ a. length (own_of classes a) ≤ 131070) cs
+all_few classes cs all = λ k d h. own_few classes (get_or cs k d) all
+
+pub cells_few : (t : ClassTable) (classes : List NamedClass) (c : ℕ) → All IsSized classes → length t.records ≤ 4096 → instance_cells t classes c ≤ 536993790
+unfolding instance_cells
+cells_few t classes c all few =
+    let sum = sum_by-le (λ a. length (own_of classes a)) 131070 (chain t c) (all_few classes (chain t c) all) in
+    let long = chain-length t c in
+    omega (arith, sum, long)
+
+pub above_few : (t : ClassTable) (classes : List NamedClass) (above : Option ℕ) → All IsSized classes → length t.records ≤ 4096 → (above_or_nothing (option_map (layout_of t classes) above)).cells ≤ 536993790
+unfolding layout_of
+above_few t classes None all few = omega arith
+above_few t classes (Some p) all few = cells_few t classes p all few
+
+-- ---- a class made from the one above it
+
+pub up_is : (t : ClassTable) (classes : List NamedClass) (slots : List (Option Layout)) (above : Option ℕ) (up : Option Layout) → up ≡ option_and_then (slot_at slots) above → IfSome above (IsFilled t classes slots) → up ≡ option_map (layout_of t classes) above
+up_is t classes slots above up e made = e ∙ above_filled t classes slots above made
+
+pub up_few : (t : ClassTable) (classes : List NamedClass) (slots : List (Option Layout)) (above : Option ℕ) (up : Option Layout) → up ≡ option_and_then (slot_at slots) above → IfSome above (IsFilled t classes slots) → AreKnown t classes
+    → (above_or_nothing up).cells ≤ 536993790
+up_few t classes slots above up e made known = rw (up_is t classes slots above up e made) (above_few t classes above known.sized (omega (arith, known.few, known.count)))
+
+pub made_right : (t : ClassTable) (classes : List NamedClass) (slots : List (Option Layout)) (above : Option ℕ) (up : Option Layout) (c : ℕ) (k : NamedClass) (made : Layout) → AreSlots t classes slots → c < length classes
+    → up ≡ option_and_then (slot_at slots) above → IfSome above (IsFilled t classes slots) → slice_get classes c ≡ Some k → chain t c ≡ c ∷ list_of (chain t) above
+    → made ≡ layout_from k (above_or_nothing up) (at_home t above c) → IsMade t classes slots (set slots c (Some made)) c
+made_right t classes slots above up c k made are known e filled at step is =
+    let same : made ≡ layout_of t classes c =
+    is ∙ ap (λ (o : Option Layout). layout_from k (above_or_nothing o) (at_home t above c)) (up_is t classes slots above up e filled) ∙ sym (layout_step t classes c above k step at) in
+    let within : c < length slots = omega (arith, are.count) in
+    record {
+      slots = slots_filled t classes slots c made are known same;
+      keeps = slots_kept t classes slots c made are known same;
+      filled = filled-here slots c made within ∙ ap Some same;
+    }
+
+pub ruleset makes = (up_few, made_right)
+
+-- ---- down the climbed classes
+
+known_by : (t : ClassTable) (c : ℕ) (above : Option ℕ) → AreClasses t → parent_of t c ≡ above → IfSome above (λ p. p < length t.records)
+known_by t c None are e = tt
+known_by t c (Some p) are e = (next_on_chain t c p are (parent_of-class t c p e) e).class.number
+
+above_known_by : (t : ClassTable) (above : Option ℕ) (xs : List ℕ) (x : ℕ) (rest : List ℕ) → ((p : ℕ) → p < length t.records → xs ++ (x ∷ rest) ≡ chain t p → x < length t.records)
+    → IfSome above (λ p. p < length t.records) → xs ++ (x ∷ rest) ≡ list_of (chain t) above → x < length t.records
+above_known_by t None xs x rest further known e = absurd (no_end xs rest x e)
+above_known_by t (Some p) xs x rest further known e = further p known e
+
+-- the number of each class on a chain is that of a record
+on_chain_known : (t : ClassTable) → AreClasses t → (xs : List ℕ) (c x : ℕ) (rest : List ℕ) → c < length t.records → xs ++ (x ∷ rest) ≡ chain t c → x < length t.records
+on_chain_known t are [] c x rest h e =
+    let f = chain-front t c in
+    let same : x ≡ c = head_same x c rest f.0 (e ∙ f.1) in
+    rw same h
+on_chain_known t are (y ∷ xs) c x rest h e =
+    above_known_by t (parent_of t c) xs x rest (λ p k g. on_chain_known t are xs p x rest k g) (known_by t c (parent_of t c) are refl)
+    (tail_same y c (xs ++ (x ∷ rest)) (list_of (chain t) (parent_of t c)) (e ∙ chain_step t c are))
+
+taken : (t : ClassTable) (path rest : List ℕ) (x : ℕ) (above : Option ℕ) (c : ℕ) → path ≡ rest ++ (x ∷ []) → path ++ list_of (chain t) above ≡ chain t c → rest ++ (x ∷ list_of (chain t) above) ≡ chain t c
+taken t path rest x above c e whole = sym (append_assoc rest (x ∷ []) (list_of (chain t) above)) ∙ ap (λ (xs : List ℕ). xs ++ list_of (chain t) above) (sym e) ∙ whole
+
+-- the last class of the path stands below the class above it
+pub down_step : (t : ClassTable) (path rest : List ℕ) (x : ℕ) (above : Option ℕ) (c : ℕ) → AreClasses t → path ≡ rest ++ (x ∷ []) → path ++ list_of (chain t) above ≡ chain t c → chain t x ≡ x ∷ list_of (chain t) above
+down_step t path rest x above c are e whole = chain_from t are rest c x (list_of (chain t) above) (taken t path rest x above c e whole)
+
+pub down_whole : (t : ClassTable) (path rest : List ℕ) (x : ℕ) (above : Option ℕ) (c : ℕ) → AreClasses t → path ≡ rest ++ (x ∷ []) → path ++ list_of (chain t) above ≡ chain t c → rest ++ list_of (chain t) (Some x) ≡ chain t c
+down_whole t path rest x above c are e whole = ap (λ (xs : List ℕ). rest ++ xs) (down_step t path rest x above c are e whole) ∙ taken t path rest x above c e whole
+
+pub down_known : (t : ClassTable) (classes : List NamedClass) (path rest : List ℕ) (x : ℕ) (above : Option ℕ) (c : ℕ) → AreClasses t → AreKnown t classes → c < length classes → path ≡ rest ++ (x ∷ []) → path ++ list_of (chain t) above ≡ chain t c
+    → x < length classes
+down_known t classes path rest x above c are known h e whole =
+    let low : c < length t.records = omega (arith, known.count) in
+    let k = on_chain_known t are rest c x (list_of (chain t) above) low (taken t path rest x above c e whole) in
+    omega (arith, known.count, k)
+
+-- ---- the invariant of the descent
+
+pub record IsDescent (t : ClassTable) (classes : List NamedClass) (first : List (Option Layout)) (slots : List (Option Layout)) (c : ℕ) (path : List ℕ) (above : Option ℕ) : Type 0 where
+  pub whole : path ++ list_of (chain t) above ≡ chain t c
+  pub right : AreSlots t classes slots
+  pub keeps : Keeps t classes first slots
+  pub filled : IfSome above (IsFilled t classes slots)
+  pub known : IfSome above (λ p. p < length classes)
+
+above_counted : (t : ClassTable) (classes : List NamedClass) (above : Option ℕ) → AreKnown t classes → IfSome above (λ p. p < length t.records) → IfSome above (λ p. p < length classes)
+above_counted t classes None known h = tt
+above_counted t classes (Some p) known h = omega (arith, known.count, h)
+
+pub descent_first : (t : ClassTable) (classes : List NamedClass) (slots : List (Option Layout)) (c : ℕ) (path : List ℕ) (above : Option ℕ) → AreKnown t classes → AreSlots t classes slots → IsClimb t slots c path above → IsDescent t classes slots slots c path above
+descent_first t classes slots c path above known are climb = record {
+  whole = climb.whole;
+  right = are;
+  keeps = record { filled = λ d h. h };
+  filled = filled_from t classes slots above are climb.made;
+  known = above_counted t classes above known climb.known;
+}
+
+pub descent_next : (t : ClassTable) (classes : List NamedClass) (first slots next : List (Option Layout)) (c : ℕ) (path rest : List ℕ) (x : ℕ) (above : Option ℕ) → AreClasses t → AreKnown t classes → c < length classes → path ≡ rest ++ (x ∷ [])
+    → IsDescent t classes first slots c path above → IsMade t classes slots next x → IsDescent t classes first next c rest (Some x)
+descent_next t classes first slots next c path rest x above are known low e d made = record {
+  whole = down_whole t path rest x above c are e d.whole;
+  right = made.slots;
+  keeps = record { filled = λ y h. made.keeps.filled y (d.keeps.filled y h) };
+  filled = made.filled;
+  known = down_known t classes path rest x above c are known low e d.whole;
+}
+
+pub descent_last : (t : ClassTable) (classes : List NamedClass) (first slots : List (Option Layout)) (c : ℕ) (path : List ℕ) (above : Option ℕ) → path ≡ [] → IsDescent t classes first slots c path above → IsMade t classes first slots c
+descent_last t classes first slots c path above e d =
+    let top : above ≡ Some c = climbed_whole t above c (ap (λ (xs : List ℕ). xs ++ list_of (chain t) above) (sym e) ∙ d.whole) in
+    record {
+      slots = d.right;
+      keeps = d.keeps;
+      filled = subst (λ (o : Option ℕ). IfSome o (IsFilled t classes slots)) top d.filled;
+    }
+
+pub ruleset fills = (descent_first, descent_last, down_step, down_known)
+
+-- ---- all classes
+
+-- slots of which those below a number are filled
+pub record AreFilledBelow (t : ClassTable) (classes : List NamedClass) (slots : List (Option Layout)) (n : ℕ) : Type 0 where
+  pub right : AreSlots t classes slots
+  pub filled : (c : ℕ) → c < n → IsFilled t classes slots c
+
+nothing_there : (n c : ℕ) → option_flatten (slice_get {X = Option Layout} (replicate n None) c) ≡ None
+nothing_there zero c = refl
+nothing_there (suc n) zero = refl
+nothing_there (suc n) (suc c) = nothing_there n c
+
+pub none_filled : (t : ClassTable) (classes : List NamedClass) (slots : List (Option Layout)) (n : ℕ) → n ≡ length classes → slots ≡ replicate n None → AreFilledBelow t classes slots 0
+unfolding slot_at
+none_filled t classes slots n m e =
+    let f : (c : ℕ) → c < 0 → IsFilled t classes slots c = λ c h. absurd (omega arith) in
+    record {
+      right = record {
+        count = ap length e ∙ length-replicate n None ∙ m;
+        right = λ c. subst (λ (o : Option Layout). IfSome o (λ l. l ≡ layout_of t classes c)) (sym (ap (λ (xs : List (Option Layout)). slot_at xs c) e ∙ nothing_there n c)) tt;
+      };
+      filled = f;
+    }
+
+pub more_filled : (t : ClassTable) (classes : List NamedClass) (old new : List (Option Layout)) (n : ℕ) → AreFilledBelow t classes old n → IsMade t classes old new n → AreFilledBelow t classes new (n + 1)
+more_filled t classes old new n are made = record {
+  right = made.slots;
+  filled = λ c h. elim (cases_lt c n) [
+    | inl lt ↦ made.keeps.filled c (are.filled c lt)
+    | inr le ↦ let e : n ≡ c = omega arith in subst (IsFilled t classes new) e made.filled
+  ];
+}
+
+there_by : {A : Type 0} (xs : List (Option A)) (o : Option A) → filter_map (λ o. o) (xs ++ (o ∷ [])) ≡ filter_map (λ o. o) xs ++ option_to_list o
+there_by [] None = refl
+there_by [] (Some x) = refl
+there_by (None ∷ xs) o = there_by xs o
+there_by (Some y ∷ xs) o = ap (λ ys. y ∷ ys) (there_by xs o)
+
+-- one more slot, filled or empty
+pub there_more : {A : Type 0} (xs : List (Option A)) (o : Option A) (x : A) (ys : List A) → o ≡ Some x → ys ≡ filter_map (λ o. o) xs → ys ++ (x ∷ []) ≡ filter_map (λ o. o) (xs ++ (o ∷ []))
+there_more xs o x ys e h = rw e (ap (λ zs. zs ++ (x ∷ [])) h ∙ sym (there_by xs (Some x)))
+
+pub there_same : {A : Type 0} (xs : List (Option A)) (o : Option A) (ys : List A) → o ≡ None → ys ≡ filter_map (λ o. o) xs → ys ≡ filter_map (λ o. o) (xs ++ (o ∷ []))
+there_same xs o ys e h = rw e (h ∙ sym (append-nil (filter_map (λ o. o) xs)) ∙ sym (there_by xs None))
+
+pub ruleset slots_read = (there_more, there_same)
+
+-- the items of a list that are there are those that a function gives by number
+all_some : {A : Type 0} (f : ℕ → A) (slots : List (Option A)) (a : ℕ) → ((c : ℕ) → c < length slots → option_flatten (slice_get slots c) ≡ Some (f (a + c))) → filter_map (λ o. o) slots ≡ map f (range_with_len a (length slots))
+all_some f [] a h = refl
+all_some f (o ∷ os) a h =
+    let here : option_flatten (Some o) ≡ Some (f (a + 0)) = h 0 (omega arith) in
+    let start : a + 0 ≡ a = omega arith in
+    let first : o ≡ Some (f a) = here ∙ ap (λ (n : ℕ). Some (f n)) start in
+    let rest = all_some f os (a + 1) (λ c k. shifted c k) in
+    rw first (ap (λ xs. f a ∷ xs) rest)
+  where
+    shifted : (c : ℕ) → c < length os → option_flatten (slice_get os c) ≡ Some (f (a + 1 + c))
+    shifted c k = let e : a + suc c ≡ a + 1 + c = omega arith in h (suc c) (omega arith) ∙ ap (λ (n : ℕ). Some (f n)) e
+
+pub all_filled : (t : ClassTable) (classes : List NamedClass) (slots : List (Option Layout)) → AreFilledBelow t classes slots (length classes) → filter_map (λ o. o) slots ≡ layouts t classes
+unfolding slot_at
+all_filled t classes slots are =
+    let n : length slots ≡ length classes = are.right.count in
+    all_some (layout_of t classes) slots 0 (λ c h. are.filled c (omega (arith, n)) ∙ ap (λ (k : ℕ). Some (layout_of t classes k)) (omega arith))
+    ∙ ap (λ (k : ℕ). map (layout_of t classes) (range_with_len 0 k)) n
+
+pub ruleset filled_in_turn = (none_filled, more_filled, all_filled)

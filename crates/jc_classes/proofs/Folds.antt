@@ -1,0 +1,204 @@
+-- The least fault of the things of all classes, class by class.
+use Rattle.std.proofs.Common.{◌≡◌, ℕ, suc, ◌+◌, ◌≤◌, ◌<◌, min, inl, inr, get_or, drop, drop-cons, append-nil, List, [], ◌∷◌, ◌++◌, length, map, flat_map, Option, Some, None, refl, sym, ap, ◌∙◌, arith}
+use Rattle.std.specs.Prelude.{All, Bool, nat_lt, if◌then◌else◌, IfSome, slice_get, option_map}
+use Rattle.std.proofs.lemmas.Bool.{cases_lt}
+use Rattle.std.specs.List.{range_with_len}
+use Rattle.std.proofs.lemmas.List.Sums.{fold-append}
+use Rattle.std.proofs.lemmas.List.{drop_all, map-id}
+use Rattle.std.proofs.lemmas.Grind.{flat_map-append}
+use Rattle.std.proofs.lemmas.List.FromFn.{map-range_with_len_more, get_or-map-range_with_len, length-map-range_with_len}
+use Rattle.jc_base.proofs.Lists.{All-slice_get}
+use Rattle.jc_base.specs.declared.record.MethodRec.{MethodRec}
+use Rattle.jc_base.specs.Class.{ClassTable, chain, parent_of}
+use Rattle.jc_names.specs.declared.fault.LinkFault.{LinkFault}
+use Rattle.jc_names.specs.declared.fault.LinkFault.TheVariants.{InstanceLong}
+use Rattle.jc_names.specs.declared.named.Table.{Table}
+use Rattle.jc_names.specs.declared.named.NamedClass.{NamedClass}
+use Rattle.jc_names.specs.Fault.{place_of}
+use Rattle.jc_names.specs.FirstFault.{least_from, least_of, lesser}
+use Rattle.jc_classes.specs.Known.{AreKnown, IsByteTable, IsSized}
+use Rattle.jc_classes.specs.declared.layout.Layout.{Layout}
+use Rattle.jc_classes.specs.Entries.{reach, reach_from, reach_of}
+use Rattle.jc_classes.specs.Layout.{above_or_nothing, at_home, no_table, of_class, public_table, visible_table, home_run, public_entries, visible_entries, instance_cells, layout_of, layouts}
+use Rattle.jc_classes.specs.Slots.{IsShort}
+use Rattle.jc_classes.specs.Signatures.{method_in}
+use Rattle.jc_classes.specs.Conditions.{Entry, entries_from, Replacement, replacements_from, replacements_in, layout_above, visible_above, long_fault}
+use Rattle.jc_classes.proofs.Overlays.{length-entries}
+
+-- the class of a method of an entry
+pub class_known : (methods : List MethodRec) (n : ℕ) (entry : Option ℕ) (m : MethodRec) → All (λ (k : MethodRec). k.class < n) methods → Some m ≡ method_in methods entry → m.class < n
+class_known methods n None m all e = absurd cc
+class_known methods n (Some k) m all e = All-slice_get (λ (k : MethodRec). k.class < n) methods k m all (sym e)
+
+-- ---- entry by entry
+
+pub entries_next : (fault : Entry → Option LinkFault) (c token i : ℕ) (list : List (Option ℕ)) (least : Option LinkFault) (d : Option ℕ) → i < length list
+    → least_from place_of least fault (entries_from c token (drop i list)) ≡ least_from place_of (lesser place_of least (fault (record { class = c; token = token; method = get_or list i d }))) fault (entries_from c (token + 1) (drop (i + 1) list))
+entries_next fault c token i list least d h =
+    let more : suc i ≡ i + 1 = omega arith in
+    ap (λ (es : List (Option ℕ)). least_from place_of least fault (entries_from c token es)) (drop-cons list i d h ∙ ap (λ (k : ℕ). get_or list i d ∷ drop k list) more)
+
+pub entries_end : (fault : Entry → Option LinkFault) (c token i : ℕ) (list : List (Option ℕ)) (least : Option LinkFault) → length list ≤ i → least_from place_of least fault (entries_from c token (drop i list)) ≡ least
+entries_end fault c token i list least h = rw (drop_all i list h) refl
+
+pub ruleset entry_folds = (entries_next, entries_end)
+
+-- ---- class by class
+
+range_more : (n : ℕ) → range_with_len 0 (n + 1) ≡ range_with_len 0 n ++ (n ∷ [])
+range_more n =
+    sym (map-id (range_with_len 0 (n + 1)))
+    ∙ map-range_with_len_more (λ (k : ℕ). k) 0 n n (omega arith)
+    ∙ ap (λ (ks : List ℕ). ks ++ (n ∷ [])) (map-id (range_with_len 0 n))
+
+flat_range : {X : Type 0} (f : ℕ → List X) (n : ℕ) → flat_map f (range_with_len 0 (n + 1)) ≡ flat_map f (range_with_len 0 n) ++ f n
+flat_range f n =
+    ap (flat_map f) (range_more n)
+    ∙ flat_map-append f (range_with_len 0 n) (n ∷ [])
+    ∙ ap (λ xs. flat_map f (range_with_len 0 n) ++ xs) (append-nil (f n))
+
+pub least_next : {X : Type 0} (fault : X → Option LinkFault) (f : ℕ → List X) (n : ℕ) (least : Option LinkFault) → least ≡ least_of place_of fault (flat_map f (range_with_len 0 n))
+    → least_from place_of least fault (f n) ≡ least_of place_of fault (flat_map f (range_with_len 0 (n + 1)))
+least_next fault f n least e =
+    ap (λ (o : Option LinkFault). least_from place_of o fault (f n)) e
+    ∙ sym (fold-append _ None (flat_map f (range_with_len 0 n)) (f n))
+    ∙ ap (least_of place_of fault) (sym (flat_range f n))
+
+pub least_both : {X : Type 0} (fault : X → Option LinkFault) (xs ys : List X) (least : Option LinkFault) → least_from place_of (least_from place_of least fault xs) fault ys ≡ least_from place_of least fault (xs ++ ys)
+least_both fault xs ys least = sym (fold-append _ least xs ys)
+
+-- ---- how long dispatch lists are
+
+reach_few_by : (base : ℕ) (entries : List (Option ℕ)) → base ≤ 255 → length entries ≤ 255 → reach_from base entries ≤ 510
+reach_few_by base [] h k = omega arith
+reach_few_by base (e ∷ es) h k = omega arith
+
+reach_few : (table : Table) → IsByteTable table → reach table ≤ 510
+unfolding reach
+reach_few table h = reach_few_by table.base table.entries h.base h.count
+
+empty_table : IsByteTable no_table
+empty_table = record { base = omega arith; count = omega arith }
+
+table_few_by : (f : NamedClass → Table) → ((k : NamedClass) → IsSized k → IsByteTable (f k)) → (o : Option NamedClass) → IfSome o IsSized → IsByteTable (of_class no_table f o)
+table_few_by f each None h = empty_table
+table_few_by f each (Some k) h = each k h
+
+sized_at : (classes : List NamedClass) (c : ℕ) (o : Option NamedClass) → slice_get classes c ≡ o → All IsSized classes → IfSome o IsSized
+sized_at classes c None e all = tt
+sized_at classes c (Some k) e all = All-slice_get IsSized classes c k all e
+
+public_few : (classes : List NamedClass) (c : ℕ) → All IsSized classes → reach (public_table classes c) ≤ 510
+unfolding public_table
+public_few classes c all = reach_few (public_table classes c) (table_few_by (λ k. k.public) (λ k h. h.public) (slice_get classes c) (sized_at classes c (slice_get classes c) refl all))
+
+visible_few : (classes : List NamedClass) (c : ℕ) → All IsSized classes → reach (visible_table classes c) ≤ 510
+unfolding visible_table
+visible_few classes c all = reach_few (visible_table classes c) (table_few_by (λ k. k.visible) (λ k h. h.visible) (slice_get classes c) (sized_at classes c (slice_get classes c) refl all))
+
+reach_of_few : (f : ℕ → Table) → ((c : ℕ) → reach (f c) ≤ 510) → (cs : List ℕ) → reach_of (map f cs) ≤ 510
+reach_of_few f each [] = omega arith
+reach_of_few f each (c ∷ cs) = omega (arith, each c, reach_of_few f each cs)
+
+pub lists_short : (t : ClassTable) (classes : List NamedClass) (c : ℕ) → All IsSized classes → IsShort (layout_of t classes c)
+unfolding layout_of public_entries visible_entries
+lists_short t classes c all = record {
+  public = rw (length-entries (map (public_table classes) (chain t c))) (reach_of_few (public_table classes) (λ k. public_few classes k all) (chain t c));
+  visible = rw (length-entries (map (visible_table classes) (home_run t c))) (reach_of_few (visible_table classes) (λ k. visible_few classes k all) (home_run t c));
+}
+
+-- the layout of a class in the list of all
+pub layout_is : (t : ClassTable) (classes : List NamedClass) (all : List Layout) (c : ℕ) (d : Layout) → all ≡ layouts t classes → c < length classes → get_or all c d ≡ layout_of t classes c
+layout_is t classes all c d e h = ap (λ (ls : List Layout). get_or ls c d) e ∙ get_or-map-range_with_len (layout_of t classes) 0 (length classes) c c d h (omega arith)
+
+pub layout_short : (t : ClassTable) (classes : List NamedClass) (all : List Layout) (c : ℕ) (d : Layout) → all ≡ layouts t classes → c < length classes → AreKnown t classes → IsShort (get_or all c d)
+layout_short t classes all c d e h known = rw (layout_is t classes all c d e h) (lists_short t classes c known.sized)
+
+pub layouts_count : (t : ClassTable) (classes : List NamedClass) (all : List Layout) → all ≡ layouts t classes → length all ≡ length classes
+layouts_count t classes all e = ap length e ∙ length-map-range_with_len (layout_of t classes) 0 (length classes)
+
+pub ruleset folds = (least_next, least_both, layout_is, layout_short, layouts_count)
+
+pub layout_at : (t : ClassTable) (classes : List NamedClass) (all : List Layout) (c : ℕ) (l : Layout) → all ≡ layouts t classes → c < length classes → l ≡ get_or all c l → l ≡ layout_of t classes c
+layout_at t classes all c l e h is = is ∙ layout_is t classes all c l e h
+
+-- ---- replacement by replacement
+
+pub replacements_next : (fault : Replacement → Option LinkFault) (c first i : ℕ) (inherited list : List (Option ℕ)) (least : Option LinkFault) (d e : Option ℕ) → i < length inherited → i < length list
+    → least_from place_of least fault (replacements_from c (first + i) (drop i inherited) (drop i list))
+    ≡ least_from place_of (lesser place_of least (fault (record { class = c; token = first + i; inherited = get_or inherited i d; method = get_or list i e }))) fault (replacements_from c (first + (i + 1)) (drop (i + 1) inherited) (drop (i + 1) list))
+replacements_next fault c first i inherited list least d e h k =
+    let more : suc i ≡ i + 1 = omega arith in
+    let token : first + i + 1 ≡ first + (i + 1) = omega arith in
+    ap (λ (es : List (Option ℕ)). least_from place_of least fault (replacements_from c (first + i) es (drop i list))) (drop-cons inherited i d h ∙ ap (λ (n : ℕ). get_or inherited i d ∷ drop n inherited) more)
+    ∙ ap (λ (es : List (Option ℕ)). least_from place_of least fault (replacements_from c (first + i) (get_or inherited i d ∷ drop (i + 1) inherited) es)) (drop-cons list i e k ∙ ap (λ (n : ℕ). get_or list i e ∷ drop n list) more)
+    ∙ ap (λ (n : ℕ). least_from place_of (lesser place_of least (fault (record { class = c; token = first + i; inherited = get_or inherited i d; method = get_or list i e }))) fault (replacements_from c n (drop (i + 1) inherited) (drop (i + 1) list))) token
+
+no_more : (c token : ℕ) (inherited list : List (Option ℕ)) → inherited ≡ [] → replacements_from c token inherited list ≡ []
+no_more c token inherited list e = rw e refl
+
+none_left_by : (c token : ℕ) (inherited list : List (Option ℕ)) → list ≡ [] → replacements_from c token inherited list ≡ []
+none_left_by c token [] list e = refl
+none_left_by c token (x ∷ xs) list e = rw e refl
+
+pub replacements_end : (fault : Replacement → Option LinkFault) (c token i : ℕ) (inherited list : List (Option ℕ)) (least : Option LinkFault) → min (length inherited) (length list) ≤ i
+    → least_from place_of least fault (replacements_from c token (drop i inherited) (drop i list)) ≡ least
+replacements_end fault c token i inherited list least h = ap (least_from place_of least fault) (elim (cases_lt i (length inherited)) [
+  | inl lt ↦ none_left_by c token (drop i inherited) (drop i list) (drop_all i list (omega arith))
+  | inr le ↦ no_more c token (drop i inherited) (drop i list) (drop_all i inherited le)
+])
+
+pub ruleset replacement_folds = (replacements_next, replacements_end)
+
+-- ---- the superclass among all classes
+
+pub above_at : (t : ClassTable) (classes : List NamedClass) (all : List Layout) (p : ℕ) (d : Layout) (o : Option ℕ) → all ≡ layouts t classes → p < length t.records → AreKnown t classes → Some p ≡ o → d ≡ get_or all p d
+    → Some d ≡ option_map (layout_of t classes) o
+above_at t classes all p d o e h known is at =
+    let low : p < length classes = omega (arith, known.count) in
+    ap Some (layout_at t classes all p d e low at) ∙ ap (option_map (layout_of t classes)) is
+
+pub ruleset above_in_all = (above_at, layouts_count)
+
+pub ruleset compares = (least_both, layout_at, layouts_count)
+
+-- both lists of a class compared with those of its superclass
+pub class_compared : (t : ClassTable) (classes : List NamedClass) (c : ℕ) (fault : Replacement → Option LinkFault) (least middle last : Option LinkFault) (own : Layout) (up : Option Layout) (home : Bool) (above_public public above_visible visible : List (Option ℕ))
+    → own ≡ layout_of t classes c → up ≡ option_map (layout_of t classes) (parent_of t c) → home ≡ at_home t (parent_of t c) c
+    → above_public ≡ (above_or_nothing up).public → public ≡ own.public → above_visible ≡ (if home then (above_or_nothing up).visible else []) → visible ≡ own.visible
+    → middle ≡ least_from place_of least fault (replacements_from c 0 above_public public) → last ≡ least_from place_of middle fault (replacements_from c 128 above_visible visible)
+    → last ≡ least_from place_of least fault (replacements_in t classes c)
+unfolding layout_above layout_of
+class_compared t classes c fault least middle last own up home above_public public above_visible visible is_own is_up is_home e1 e2 e3 e4 m l =
+    l
+    ∙ rw (m, e1, e2, e3, e4, is_home, is_own, is_up) (least_both fault
+    (replacements_from c 0 (layout_above t classes c).public (public_entries t classes c))
+    (replacements_from c 128 (visible_above t classes c) (visible_entries t classes c)) least)
+
+-- ---- class numbers one by one
+
+pub least_one : (fault : ℕ → Option LinkFault) (n : ℕ) (least : Option LinkFault) → least ≡ least_of place_of fault (range_with_len 0 n) → lesser place_of least (fault n) ≡ least_of place_of fault (range_with_len 0 (n + 1))
+least_one fault n least e =
+    ap (λ (o : Option LinkFault). lesser place_of o (fault n)) e
+    ∙ sym (fold-append _ None (range_with_len 0 n) (n ∷ []))
+    ∙ ap (least_of place_of fault) (sym (range_more n))
+
+long_by : (c cells : ℕ) (t : ClassTable) (classes : List NamedClass) (b : Bool) → nat_lt 32767 cells ≡ b → cells ≡ instance_cells t classes c → (if b then Some (InstanceLong c cells) else None) ≡ long_fault t classes c
+unfolding long_fault
+long_by c cells t classes b e is = rw (← is, e) refl
+
+pub cells_are : (t : ClassTable) (classes : List NamedClass) (all : List Layout) (c : ℕ) (l : Layout) → all ≡ layouts t classes → c < length classes → l ≡ get_or all c l → l.cells ≡ instance_cells t classes c
+unfolding layout_of
+cells_are t classes all c l e h is = ap (λ (x : Layout). x.cells) (layout_at t classes all c l e h is)
+
+pub long_next : (t : ClassTable) (classes : List NamedClass) (all : List Layout) (c : ℕ) (d : Layout) (least fault : Option LinkFault) → all ≡ layouts t classes → c < length classes → d ≡ get_or all c d
+    → fault ≡ (if nat_lt 32767 d.cells then Some (InstanceLong c d.cells) else None) → least ≡ least_of place_of (long_fault t classes) (range_with_len 0 c)
+    → lesser place_of least fault ≡ least_of place_of (long_fault t classes) (range_with_len 0 (c + 1))
+long_next t classes all c d least fault e h at is before =
+    ap (lesser place_of least) (is ∙ long_by c d.cells t classes (nat_lt 32767 d.cells) refl (cells_are t classes all c d e h at)) ∙ least_one (long_fault t classes) c least before
+
+pub ruleset long_folds = (long_next, layouts_count)
+
+pub public_at : (t : ClassTable) (classes : List NamedClass) (all : List Layout) (c : ℕ) (l : Layout) → all ≡ layouts t classes → c < length classes → l ≡ get_or all c l → l.public ≡ public_entries t classes c
+unfolding layout_of
+public_at t classes all c l e h is = ap (λ (x : Layout). x.public) (layout_at t classes all c l e h is)

@@ -1,0 +1,16 @@
+pub mod Ranges
+pub mod Overlays
+pub mod Climbs
+pub mod Steps
+pub mod Fills
+pub mod SameTypes
+pub mod Marks
+pub mod Folds
+pub mod Grouping
+pub mod Passing
+pub mod Implementing
+pub mod Built
+pub mod Lines
+pub mod Agreed
+pub mod Faultless
+pub mod Linking

@@ -1,0 +1,86 @@
+-- Marks on the classes of a chain.
+use Rattle.std.proofs.Common.{◌≡◌, ℕ, ◌+◌, ◌<◌, set, get_or, Bool, true, false, List, ◌∷◌, length, map, Option, Some, None, refl, sym, ap, subst, ◌∙◌, arith, inl, inr}
+use Rattle.std.specs.Prelude.{◌==◌, ◌||◌, ◌≢◌, IfSome}
+use Rattle.std.proofs.lemmas.Bool.{cases_lt, false≢true, eq-eqb, eqb-true}
+use Rattle.std.proofs.lemmas.List.{get_or-set_same, get_or-set_other, length-set}
+use Rattle.std.proofs.lemmas.List.FromFn.{fill_by_all, get_or-map-range_with_len, length-map-range_with_len}
+use Rattle.std.specs.List.{range_with_len, list_any}
+use Rattle.jc_base.specs.Class.{ClassTable, chain, list_of}
+use Rattle.jc_base.specs.Order.{is_on_chain}
+
+-- marks of the classes of a chain below one that is still to be climbed
+pub record AreMarked (t : ClassTable) (c : ℕ) (marks : List Bool) (above : Option ℕ) : Type 0 where
+  pub count : length marks ≡ length t.records
+  pub each : (d : ℕ) → d < length t.records → (get_or marks d false || list_any (λ x. x == d) (list_of (chain t) above)) ≡ is_on_chain t d c
+  pub known : IfSome above (λ a. a < length t.records)
+
+pub unmarked : (t : ClassTable) (c : ℕ) (marks : List Bool) → c < length t.records → length marks ≡ length t.records → ((k : ℕ) → k < length marks → get_or marks k false ≡ false) → AreMarked t c marks (Some c)
+unfolding is_on_chain
+unmarked t c marks h count none = record {
+  count = count;
+  each = λ d k. ap (λ (b : Bool). b || list_any (λ x. x == d) (chain t c)) (none d (omega (arith, count)));
+  known = h;
+}
+
+at_class : (t : ClassTable) (a d : ℕ) (next : Option ℕ) → chain t a ≡ a ∷ list_of (chain t) next → list_any (λ x. x == d) (list_of (chain t) (Some a)) ≡ ((a == d) || list_any (λ x. x == d) (list_of (chain t) next))
+at_class t a d next step = ap (list_any (λ x. x == d)) step
+
+or_true : (b : Bool) → (b || true) ≡ true
+or_true true = refl
+or_true false = refl
+
+marked_each : (t : ClassTable) (c a : ℕ) (marks : List Bool) (next : Option ℕ) (d : ℕ) (b : Bool) → (a == d) ≡ b → a < length marks → chain t a ≡ a ∷ list_of (chain t) next
+    → (get_or marks d false || list_any (λ x. x == d) (list_of (chain t) (Some a))) ≡ is_on_chain t d c
+    → (get_or (set marks a true) d false || list_any (λ x. x == d) (list_of (chain t) next)) ≡ is_on_chain t d c
+marked_each t c a marks next d true e h step before =
+    let same : a ≡ d = eqb-true a d e in
+    let here : get_or (set marks a true) d false ≡ true = ap (λ (k : ℕ). get_or (set marks a true) k false) (sym same) ∙ get_or-set_same marks a true false h in
+    let there : list_any (λ x. x == d) (list_of (chain t) (Some a)) ≡ true = at_class t a d next step ∙ rw e refl in
+    let whole : true ≡ is_on_chain t d c = sym (ap (λ (b : Bool). get_or marks d false || b) there ∙ or_true (get_or marks d false)) ∙ before in
+    ap (λ (b : Bool). b || list_any (λ x. x == d) (list_of (chain t) next)) here ∙ whole
+marked_each t c a marks next d false e h step before =
+    let other : d ≢ a = λ same. false≢true (sym e ∙ eq-eqb a d (sym same)) in
+    let here : get_or (set marks a true) d false ≡ get_or marks d false = get_or-set_other marks a d true false other in
+    let there : list_any (λ x. x == d) (list_of (chain t) (Some a)) ≡ list_any (λ x. x == d) (list_of (chain t) next) = at_class t a d next step ∙ rw e refl in
+    ap (λ (b : Bool). b || list_any (λ x. x == d) (list_of (chain t) next)) here ∙ ap (λ (b : Bool). get_or marks d false || b) (sym there) ∙ before
+
+pub marked_more : (t : ClassTable) (c a : ℕ) (marks : List Bool) (above next : Option ℕ) → above ≡ Some a → chain t a ≡ a ∷ list_of (chain t) next → IfSome next (λ p. p < length t.records) → AreMarked t c marks above → AreMarked t c (set marks a true) next
+marked_more t c a marks above next is step known are =
+    let low : a < length t.records = subst (λ (o : Option ℕ). IfSome o (λ p. p < length t.records)) is are.known in
+    record {
+      count = length-set marks a true ∙ are.count;
+      each = λ d k. marked_each t c a marks next d (a == d) refl (omega (arith, are.count)) step
+          (subst (λ (o : Option ℕ). (get_or marks d false || list_any (λ x. x == d) (list_of (chain t) o)) ≡ is_on_chain t d c) is (are.each d k));
+      known = known;
+    }
+
+or_false : (b : Bool) → (b || false) ≡ b
+or_false true = refl
+or_false false = refl
+
+pub marked_all : (t : ClassTable) (c : ℕ) (marks : List Bool) (above : Option ℕ) → above ≡ None → AreMarked t c marks above → marks ≡ map (λ d. is_on_chain t d c) (range_with_len 0 (length t.records))
+marked_all t c marks above is are =
+    let whole : AreMarked t c marks None = subst (AreMarked t c marks) is are in
+    fill_by_all (λ d. is_on_chain t d c) marks (length t.records) false whole.count (λ d k. sym (or_false (get_or marks d false)) ∙ whole.each d k)
+
+pub ruleset marking = (unmarked, marked_more, marked_all)
+
+-- ---- taking marks away
+
+pub cleared_more : (marks : List Bool) (i : ℕ) → i < length marks → ((k : ℕ) → k < i → get_or marks k false ≡ false) → (k : ℕ) → k < i + 1 → get_or (set marks i false) k false ≡ false
+cleared_more marks i h none k lt = elim (cases_lt k i) [
+  | inl less ↦ let other : k ≢ i = λ e. omega (arith, e) in get_or-set_other marks i k false false other ∙ none k less
+  | inr le ↦ let e : i ≡ k = omega arith in ap (λ (j : ℕ). get_or (set marks i false) j false) (sym e) ∙ get_or-set_same marks i false false h
+]
+
+pub ruleset clearing = (cleared_more)
+
+-- ---- reading a mark
+
+pub mark_is : (t : ClassTable) (c : ℕ) (marks : List Bool) (d : ℕ) (b : Bool) → marks ≡ map (λ d. is_on_chain t d c) (range_with_len 0 (length t.records)) → d < length t.records → get_or marks d b ≡ is_on_chain t d c
+mark_is t c marks d b e h = ap (λ (ms : List Bool). get_or ms d b) e ∙ get_or-map-range_with_len (λ d. is_on_chain t d c) 0 (length t.records) d d b h (omega arith)
+
+pub marks_count : (t : ClassTable) (c : ℕ) (marks : List Bool) → marks ≡ map (λ d. is_on_chain t d c) (range_with_len 0 (length t.records)) → length marks ≡ length t.records
+marks_count t c marks e = ap length e ∙ length-map-range_with_len (λ d. is_on_chain t d c) 0 (length t.records)
+
+pub ruleset reading = (mark_is, marks_count)

@@ -1,0 +1,66 @@
+-- What a table makes of an inherited list.
+use Rattle.std.proofs.Common.{◌≡◌, ℕ, ◌-◌, ◌≤◌, ◌<◌, max, Bool, true, false, ltb, List, [], ◌∷◌, length, map, Option, Some, None, refl, sym, ap, ◌∙◌, arith, inl, inr}
+use Rattle.std.specs.Prelude.{slice_get}
+use Rattle.std.specs.Option.{option_or, option_flatten}
+use Rattle.std.specs.List.{range_with_len}
+use Rattle.std.proofs.lemmas.Bool.{cases_lt, ltb-false}
+use Rattle.std.proofs.lemmas.Option.{slice_get-get_or, slice_get_past}
+use Rattle.std.proofs.lemmas.List.FromFn.{length-map-range_with_len, get_or-map-range_with_len}
+use Rattle.jc_names.specs.declared.named.Table.{Table}
+use Rattle.jc_classes.specs.Entries.{reach, reach_from, reach_of, named_by, method_named, entries_of, overlaid, overlaid_at}
+
+pub map-same : {A B : Type 0} (f g : A → B) → ((x : A) → f x ≡ g x) → (xs : List A) → map f xs ≡ map g xs
+map-same f g h [] = refl
+map-same f g h (x ∷ xs) = ap (λ y. y ∷ map f xs) (h x) ∙ ap (λ ys. g x ∷ ys) (map-same f g h xs)
+
+-- a list by number, at a number
+pub slice_get-range : {A : Type 0} (f : ℕ → A) (n k : ℕ) → k < n → slice_get (map f (range_with_len 0 n)) k ≡ Some (f k)
+slice_get-range f n k h =
+    let within : k < length (map f (range_with_len 0 n)) = rw (length-map-range_with_len f 0 n) h in
+    slice_get-get_or (map f (range_with_len 0 n)) k (f k) within ∙ ap Some (get_or-map-range_with_len f 0 n k k (f k) h (omega arith))
+
+pub slice_get-range_past : {A : Type 0} (f : ℕ → A) (n k : ℕ) → n ≤ k → slice_get (map f (range_with_len 0 n)) k ≡ None
+slice_get-range_past f n k h = slice_get_past (map f (range_with_len 0 n)) k (rw (length-map-range_with_len f 0 n) h)
+
+-- a table names no method from its reach on
+past_from : (base token : ℕ) (entries : List (Option ℕ)) → base ≤ token → reach_from base entries ≤ token → slice_get entries (token - base) ≡ None
+past_from base token [] low h = refl
+past_from base token (e ∷ es) low h = slice_get_past (e ∷ es) (token - base) (omega arith)
+
+named_past_by : (table : Table) (token : ℕ) (b : Bool) → ltb token table.base ≡ b → reach table ≤ token → named_by table token ≡ None
+unfolding named_by reach
+named_past_by table token true e h = rw e refl
+named_past_by table token false e h = rw (e, past_from table.base token table.entries (ltb-false token table.base e) h) refl
+
+pub named_past : (table : Table) (token : ℕ) → reach table ≤ token → named_by table token ≡ None
+named_past table token h = named_past_by table token (ltb token table.base) refl h
+
+method_past : (tables : List Table) (token : ℕ) → reach_of tables ≤ token → method_named tables token ≡ None
+method_past [] token h = refl
+method_past (table ∷ tables) token h =
+    let here : reach table ≤ token = omega arith in
+    let rest : reach_of tables ≤ token = omega arith in
+    ap (λ o. option_or o (method_named tables token)) (named_past table token here) ∙ method_past tables token rest
+
+-- the method that a dispatch list has at a token
+pub entry_is : (tables : List Table) (token : ℕ) → option_flatten (slice_get (entries_of tables) token) ≡ method_named tables token
+unfolding entries_of
+entry_is tables token = elim (cases_lt token (reach_of tables)) [
+  | inl lt ↦ ap option_flatten (slice_get-range (method_named tables) (reach_of tables) token lt)
+  | inr le ↦ ap option_flatten (slice_get-range_past (method_named tables) (reach_of tables) token le) ∙ sym (method_past tables token le)
+]
+
+pub length-entries : (tables : List Table) → length (entries_of tables) ≡ reach_of tables
+unfolding entries_of
+length-entries tables = length-map-range_with_len (method_named tables) 0 (reach_of tables)
+
+overlaid_is : (table : Table) (tables : List Table) (token : ℕ) → overlaid_at table (entries_of tables) token ≡ method_named (table ∷ tables) token
+unfolding overlaid_at
+overlaid_is table tables token = ap (λ o. option_or (named_by table token) o) (entry_is tables token)
+
+-- a class's list is that of its superclass, overwritten and extended by its own table
+pub overlaid-is : (table : Table) (tables : List Table) → overlaid table (entries_of tables) ≡ entries_of (table ∷ tables)
+unfolding entries_of
+overlaid-is table tables =
+    ap (λ (n : ℕ). map (overlaid_at table (entries_of tables)) (range_with_len 0 (max n (reach table)))) (length-entries tables)
+    ∙ map-same (overlaid_at table (entries_of tables)) (method_named (table ∷ tables)) (overlaid_is table tables) (range_with_len 0 (max (reach_of tables) (reach table)))

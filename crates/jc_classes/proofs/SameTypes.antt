@@ -1,0 +1,151 @@
+-- Types and signatures that are the same.
+use Rattle.std.proofs.Common.{◌≡◌, ℕ, suc, ◌+◌, ◌<◌, Bool, true, false, List, [], ◌∷◌, length, drop, get_or, refl, sym, ap, subst, ◌∙◌, ◌≤◌, arith, drop-cons, add-one}
+use Rattle.std.proofs.lemmas.List.{drop_all}
+use Rattle.std.specs.Prelude.{◌&&◌, ◌==◌, ◌↔◌, IsTrue, Option, Some, None}
+use Rattle.std.proofs.lemmas.Bool.{false≢true, eqb-true, eq-eqb}
+use Rattle.jc_base.specs.declared.ty.Ty.{Ty}
+use Rattle.jc_base.specs.declared.ty.Ty.TheVariants.{Bottom, Short, IntHigh, IntLow, Null, Class, ArrBool, ArrByte, ArrShort, ArrInt, ArrRef, Fresh, Top}
+use Rattle.jc_base.specs.declared.record.Sig.{Sig}
+use Rattle.jc_base.specs.declared.record.MethodRec.{MethodRec}
+use Rattle.jc_classes.specs.Signatures.{same_type, same_types, same_result, same_sig, same_signature, signature_in}
+
+both-first : (a b : Bool) → (a && b) ≡ true → a ≡ true
+both-first true b h = refl
+both-first false b h = absurd (false≢true h)
+
+both-second : (a b : Bool) → (a && b) ≡ true → b ≡ true
+both-second true b h = h
+both-second false b h = absurd (false≢true h)
+
+-- lists of different lengths are not the same
+pub same-lengths : (xs ys : List Ty) → same_types xs ys ≡ true → length xs ≡ length ys
+same-lengths [] [] e = refl
+same-lengths [] (y ∷ ys) e = absurd (false≢true e)
+same-lengths (x ∷ xs) [] e = absurd (false≢true e)
+same-lengths (x ∷ xs) (y ∷ ys) e = ap suc (same-lengths xs ys (both-second (same_type x y) (same_types xs ys) e))
+
+lengths_differ : (xs ys : List Ty) → (length xs ≡ length ys → ⊥) → (b : Bool) → same_types xs ys ≡ b → false ≡ b
+lengths_differ xs ys ne true e = absurd (ne (same-lengths xs ys e))
+lengths_differ xs ys ne false e = refl
+
+pub same_types-differ : (xs ys : List Ty) → (length xs ≡ length ys → ⊥) → false ≡ same_types xs ys
+same_types-differ xs ys ne = lengths_differ xs ys ne (same_types xs ys) refl
+
+pub same_types-step : (xs ys : List Ty) (i : ℕ) (d e : Ty) → i < length xs → length xs ≡ length ys
+    → same_types (drop i xs) (drop i ys) ≡ (same_type (get_or xs i d) (get_or ys i e) && same_types (drop (i + 1) xs) (drop (i + 1) ys))
+same_types-step xs ys i d e h same =
+    let k : i < length ys = omega (arith, same) in
+    rw (add-one, drop-cons xs i d h, drop-cons ys i e k) refl
+
+pub same_types-end : (xs ys : List Ty) (i : ℕ) → length xs ≤ i → length xs ≡ length ys → same_types (drop i xs) (drop i ys) ≡ true
+same_types-end xs ys i h same = rw (drop_all i xs h, drop_all i ys (omega (arith, same))) refl
+
+-- the turn of the loop at types that are the same, and at types that differ
+pub same_types-next : (xs ys : List Ty) (i : ℕ) (d e : Ty) → i < length xs → length xs ≡ length ys → same_type (get_or xs i d) (get_or ys i e) ≡ true → same_types (drop i xs) (drop i ys) ≡ same_types xs ys
+    → same_types (drop (i + 1) xs) (drop (i + 1) ys) ≡ same_types xs ys
+same_types-next xs ys i d e h same on before = sym (same_types-step xs ys i d e h same ∙ ap (λ (b : Bool). b && same_types (drop (i + 1) xs) (drop (i + 1) ys)) on) ∙ before
+
+pub same_types-other : (xs ys : List Ty) (i : ℕ) (d e : Ty) → i < length xs → length xs ≡ length ys → same_type (get_or xs i d) (get_or ys i e) ≡ false → same_types (drop i xs) (drop i ys) ≡ same_types xs ys
+    → false ≡ same_types xs ys
+same_types-other xs ys i d e h same on before = sym (same_types-step xs ys i d e h same ∙ ap (λ (b : Bool). b && same_types (drop (i + 1) xs) (drop (i + 1) ys)) on) ∙ before
+
+pub same_types-whole : (xs ys : List Ty) (i : ℕ) → length xs ≤ i → length xs ≡ length ys → same_types (drop i xs) (drop i ys) ≡ same_types xs ys → true ≡ same_types xs ys
+same_types-whole xs ys i h same before = sym (same_types-end xs ys i h same) ∙ before
+
+pub ruleset same_lists = (same_types-differ, same_types-next, same_types-other, same_types-whole)
+
+-- ---- what is the same is equal
+
+pub same_type-equal : (a b : Ty) → same_type a b ≡ true → a ≡ b
+unfolding same_type
+same_type-equal Bottom Bottom e = refl
+same_type-equal Short Short e = refl
+same_type-equal IntHigh IntHigh e = refl
+same_type-equal IntLow IntLow e = refl
+same_type-equal Null Null e = refl
+same_type-equal (Class c) (Class d) e = ap Class (eqb-true c d e)
+same_type-equal ArrBool ArrBool e = refl
+same_type-equal ArrByte ArrByte e = refl
+same_type-equal ArrShort ArrShort e = refl
+same_type-equal ArrInt ArrInt e = refl
+same_type-equal (ArrRef c) (ArrRef d) e = ap ArrRef (eqb-true c d e)
+same_type-equal (Fresh p c) (Fresh q d) e =
+    let places : p ≡ q = eqb-true p q (both-first (p == q) (c == d) e) in
+    let classes : c ≡ d = eqb-true c d (both-second (p == q) (c == d) e) in
+    rw (places, classes) refl
+same_type-equal Top Top e = refl
+same_type-equal a b e = absurd (false≢true e)
+
+pub same_type-itself : (a : Ty) → same_type a a ≡ true
+unfolding same_type
+same_type-itself Bottom = refl
+same_type-itself Short = refl
+same_type-itself IntHigh = refl
+same_type-itself IntLow = refl
+same_type-itself Null = refl
+same_type-itself (Class c) = eq-eqb c c refl
+same_type-itself ArrBool = refl
+same_type-itself ArrByte = refl
+same_type-itself ArrShort = refl
+same_type-itself ArrInt = refl
+same_type-itself (ArrRef c) = eq-eqb c c refl
+same_type-itself (Fresh p c) = rw (eq-eqb p p refl, eq-eqb c c refl) refl
+same_type-itself Top = refl
+
+same_types-equal : (xs ys : List Ty) → same_types xs ys ≡ true → xs ≡ ys
+same_types-equal [] [] e = refl
+same_types-equal [] (y ∷ ys) e = absurd (false≢true e)
+same_types-equal (x ∷ xs) [] e = absurd (false≢true e)
+same_types-equal (x ∷ xs) (y ∷ ys) e =
+    let first : x ≡ y = same_type-equal x y (both-first (same_type x y) (same_types xs ys) e) in
+    let rest : xs ≡ ys = same_types-equal xs ys (both-second (same_type x y) (same_types xs ys) e) in
+    rw (first, rest) refl
+
+same_types-itself : (xs : List Ty) → same_types xs xs ≡ true
+same_types-itself [] = refl
+same_types-itself (x ∷ xs) = rw (same_type-itself x) (same_types-itself xs)
+
+same_result-equal : (a b : Option Ty) → same_result a b ≡ true → a ≡ b
+same_result-equal None None e = refl
+same_result-equal None (Some b) e = absurd (false≢true e)
+same_result-equal (Some a) None e = absurd (false≢true e)
+same_result-equal (Some a) (Some b) e = ap Some (same_type-equal a b e)
+
+same_result-itself : (a : Option Ty) → same_result a a ≡ true
+same_result-itself None = refl
+same_result-itself (Some a) = same_type-itself a
+
+same_sig-equal : (a b : Sig) → same_sig a b ≡ true → a ≡ b
+unfolding same_sig
+same_sig-equal a b e =
+    let args : a.args ≡ b.args = same_types-equal a.args b.args (both-first (same_types a.args b.args) (same_result a.result b.result) e) in
+    let results : a.result ≡ b.result = same_result-equal a.result b.result (both-second (same_types a.args b.args) (same_result a.result b.result) e) in
+    equal_parts a b args results where
+      equal_parts : (a b : Sig) → a.args ≡ b.args → a.result ≡ b.result → a ≡ b
+      equal_parts a b e f = ap (λ (xs : List Ty). let s : Sig = record { args = xs; result = a.result } in s) e ∙ ap (λ (r : Option Ty). let s : Sig = record { args = b.args; result = r } in s) f
+
+pub same_sig-itself : (a : Sig) → same_sig a a ≡ true
+unfolding same_sig
+same_sig-itself a = rw (same_types-itself a.args, same_result-itself a.result) refl
+
+pub same_signature-equal : (a b : Option Sig) → same_signature a b ≡ true → a ≡ b
+same_signature-equal None None e = refl
+same_signature-equal None (Some b) e = absurd (false≢true e)
+same_signature-equal (Some a) None e = absurd (false≢true e)
+same_signature-equal (Some a) (Some b) e = ap Some (same_sig-equal a b e)
+
+same_signature-itself : (a : Option Sig) → same_signature a a ≡ true
+same_signature-itself None = refl
+same_signature-itself (Some a) = same_sig-itself a
+
+-- two entries have the same signature exactly where their signatures are equal
+pub same_signature-exact : (a b : Option Sig) → IsTrue (same_signature a b) ↔ (a ≡ b)
+same_signature-exact a b = (λ e. same_signature-equal a b e, λ e. subst (λ (o : Option Sig). IsTrue (same_signature a o)) e (same_signature-itself a))
+
+pub same_signature-by : (methods : List MethodRec) (a b : Option ℕ) (r : Bool) → r ≡ same_signature (signature_in methods a) (signature_in methods b) → IsTrue r ↔ (signature_in methods a ≡ signature_in methods b)
+same_signature-by methods a b r e = subst (λ (x : Bool). IsTrue x ↔ (signature_in methods a ≡ signature_in methods b)) (sym e) (same_signature-exact (signature_in methods a) (signature_in methods b))
+
+pub same_entry : (methods : List MethodRec) (a b : Option ℕ) → a ≡ b → true ≡ same_signature (signature_in methods a) (signature_in methods b)
+same_entry methods a b e = sym (same_signature-itself (signature_in methods a)) ∙ ap (λ (o : Option ℕ). same_signature (signature_in methods a) (signature_in methods o)) e
+
+pub ruleset signatures = (same_signature-by, same_entry)

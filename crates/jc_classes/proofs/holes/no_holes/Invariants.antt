@@ -1,0 +1,12 @@
+use Rattle.std.proofs.Common.{◌≡◌, length}
+use Rattle.std.specs.Prelude.{flat_map}
+use Rattle.std.specs.List.{range_with_len}
+use Rattle.jc_names.specs.Fault.{place_of}
+use Rattle.jc_names.specs.FirstFault.{least_of}
+use Rattle.jc_classes.specs.Conditions.{hole_fault, entries_in}
+use Rattle.jc_classes.proofs.holes.no_holes.Given as goal
+
+abbrev pub invariant-classes : goal.invariant-classes
+invariant-classes l =
+    (l.least ≡ least_of place_of (hole_fault l.lineage l.methods) (flat_map (entries_in l.lineage l.classes) (range_with_len 0 l.c)))
+    × (length l.marks ≡ length l.lineage.records)

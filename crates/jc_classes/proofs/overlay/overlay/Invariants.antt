@@ -1,0 +1,7 @@
+use Rattle.std.proofs.Common.{◌≡◌, map}
+use Rattle.std.specs.List.{range_with_len}
+use Rattle.jc_classes.specs.Entries.{overlaid_at}
+use Rattle.jc_classes.proofs.overlay.overlay.Given as goal
+
+abbrev pub invariant-tokens : goal.invariant-tokens
+invariant-tokens l = l.entries.items ≡ map (overlaid_at l.fn.table l.fn.inherited) (range_with_len 0 l.token)

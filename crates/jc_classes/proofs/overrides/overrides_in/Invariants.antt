@@ -1,0 +1,8 @@
+use Rattle.std.proofs.Common.{◌≡◌, ◌+◌, drop}
+use Rattle.jc_names.specs.Fault.{place_of}
+use Rattle.jc_names.specs.FirstFault.{least_from}
+use Rattle.jc_classes.specs.Conditions.{override_fault, replacements_from}
+use Rattle.jc_classes.proofs.overrides.overrides_in.Given as goal
+
+abbrev pub invariant-tokens : goal.invariant-tokens
+invariant-tokens l = least_from place_of l.least (override_fault l.methods) (replacements_from l.c (l.first + l.i) (drop l.i l.inherited) (drop l.i l.list)) ≡ least_from place_of l.fn.least (override_fault l.methods) (replacements_from l.c l.first l.inherited l.list)

@@ -1,0 +1,27 @@
+-- What is asked of the classes by number before their lists are made (JCVM 2.2, section 6.8).
+use Rattle.std.specs.Prelude.{◌≡◌, ◌≤◌, ◌<◌, List, length, All}
+use Rattle.jc_base.specs.declared.record.Iface.{Iface}
+use Rattle.jc_base.specs.Class.{ClassTable}
+use Rattle.jc_names.specs.declared.named.Table.{Table}
+use Rattle.jc_names.specs.declared.named.NamedClass.{NamedClass}
+
+-- a table whose numbers are bytes
+pub record IsByteTable (table : Table) : Type 0 where
+  pub base : table.base ≤ 255
+  pub count : length table.entries ≤ 255
+
+-- the tables and the own cells of a class are no more than the Class and Descriptor components can count
+pub record IsSized (k : NamedClass) : Type 0 where
+  pub public : IsByteTable k.public
+  pub visible : IsByteTable k.visible
+  pub own : length k.own ≤ 131070
+
+-- classes by number, of which the table has the superclasses
+pub record AreKnown (t : ClassTable) (classes : List NamedClass) : Type 0 where
+  pub count : length t.records ≡ length classes
+  pub few : length classes ≤ 4096
+  pub sized : All IsSized classes
+
+-- the interfaces that classes name are numbers of the list
+abbrev pub AreInRange : List NamedClass → Type 0
+AreInRange classes = All (λ (k : NamedClass). All (λ (i : Iface). i.class < length classes) k.interfaces) classes

@@ -1,0 +1,51 @@
+-- Signatures of methods compared: the types of the argument words and of the result (JCVM 2.2, section 6.13.4).
+use Rattle.std.specs.Prelude.{ℕ, ◌==◌, ◌&&◌, Bool, true, false, List, [], ◌∷◌, Option, Some, None, option_map, option_and_then, slice_get}
+use Rattle.jc_base.specs.declared.ty.Ty.{Ty}
+use Rattle.jc_base.specs.declared.ty.Ty.TheVariants.{Bottom, Short, IntHigh, IntLow, Null, Class, ArrBool, ArrByte, ArrShort, ArrInt, ArrRef, Fresh, Top}
+use Rattle.jc_base.specs.declared.record.Sig.{Sig}
+use Rattle.jc_base.specs.declared.record.MethodRec.{MethodRec}
+
+unfoldable pub same_type : Ty → Ty → Bool
+same_type Bottom Bottom = true
+same_type Short Short = true
+same_type IntHigh IntHigh = true
+same_type IntLow IntLow = true
+same_type Null Null = true
+same_type (Class c) (Class d) = c == d
+same_type ArrBool ArrBool = true
+same_type ArrByte ArrByte = true
+same_type ArrShort ArrShort = true
+same_type ArrInt ArrInt = true
+same_type (ArrRef c) (ArrRef d) = c == d
+same_type (Fresh p c) (Fresh q d) = p == q && c == d
+same_type Top Top = true
+same_type a b = false
+
+abbrev pub same_types : List Ty → List Ty → Bool
+same_types [] [] = true
+same_types [] (b ∷ bs) = false
+same_types (a ∷ as_) [] = false
+same_types (a ∷ as_) (b ∷ bs) = same_type a b && same_types as_ bs
+
+abbrev pub same_result : Option Ty → Option Ty → Bool
+same_result None None = true
+same_result None (Some b) = false
+same_result (Some a) None = false
+same_result (Some a) (Some b) = same_type a b
+
+unfoldable pub same_sig : Sig → Sig → Bool
+same_sig a b = same_types a.args b.args && same_result a.result b.result
+
+-- whether two entries have one signature, or neither has a method
+abbrev pub same_signature : Option Sig → Option Sig → Bool
+same_signature None None = true
+same_signature None (Some b) = false
+same_signature (Some a) None = false
+same_signature (Some a) (Some b) = same_sig a b
+
+-- the method of an entry of a dispatch list, and its signature
+abbrev pub method_in : List MethodRec → Option ℕ → Option MethodRec
+method_in methods entry = option_and_then (slice_get methods) entry
+
+abbrev pub signature_in : List MethodRec → Option ℕ → Option Sig
+signature_in methods entry = option_map (λ m. m.sig) (method_in methods entry)

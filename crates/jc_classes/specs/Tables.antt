@@ -1,0 +1,71 @@
+-- The class table of packages: each class with its dispatch lists, its cells and the interfaces that it implements, each interface with those that it extends (JCVM 2.2, section 6.8).
+use Rattle.std.specs.Prelude.{◌≡◌, ℕ, ◌+◌, List, [], ◌∷◌, All, length, filter_map, flat_map, Option, Result, Ok, Err}
+use Rattle.jc_base.specs.declared.record.ClassRec.{ClassRec}
+use Rattle.jc_base.specs.declared.record.MethodRec.{MethodRec}
+use Rattle.jc_base.specs.Class.{ClassTable, object}
+use Rattle.jc_base.specs.Linked.{AreLinkedClasses}
+use Rattle.jc_names.specs.Named.{IsNamedClass}
+use Rattle.jc_names.specs.declared.fault.LinkFault.{LinkFault}
+use Rattle.jc_names.specs.declared.fault.LinkEnd.{LinkEnd}
+use Rattle.jc_names.specs.declared.fault.LinkEnd.TheVariants.{Fault, Memory}
+use Rattle.jc_names.specs.declared.named.NamedClass.{NamedClass}
+use Rattle.jc_names.specs.Fault.{place_of}
+use Rattle.jc_names.specs.FirstFault.{◌>>=◌, least_of, refused, IsFirst, AllEmpty}
+use Rattle.jc_classes.specs.declared.layout.Layout.{Layout}
+use Rattle.jc_classes.specs.Layout.{layout_of}
+use Rattle.jc_classes.specs.Conditions.{hole_fault, entries_in, override_fault, replacements_in, interface_fault, implementations_in, long_fault, class_numbers, conditions}
+
+-- the methods of a dispatch list
+abbrev pub methods_listed : List (Option ℕ) → List ℕ
+methods_listed entries = filter_map (λ entry. entry) entries
+
+-- a class with these lists and cells
+unfoldable pub record_from : NamedClass → Layout → ClassRec
+record_from k l = record {
+  «package» = k.«package»;
+  interface = k.interface;
+  parent = k.parent;
+  cells = l.cells;
+  own = k.own;
+  implements = k.interfaces;
+  public = methods_listed l.public;
+  visible = methods_listed l.visible;
+}
+
+-- the records of classes whose numbers begin with c
+abbrev pub records_from : ClassTable → List NamedClass → ℕ → List NamedClass → List ClassRec
+records_from t classes c [] = []
+records_from t classes c (k ∷ ks) = record_from k (layout_of t classes c) ∷ records_from t classes (c + 1) ks
+
+-- the table of classes whose superclasses are those of a table
+abbrev pub class_tables : ClassTable → List NamedClass → ClassTable
+class_tables t classes = record { records = records_from t classes 0 classes; roles = t.roles }
+
+-- what is asked, in the order of the numbers
+unfoldable pub classes_agree : ClassTable → List NamedClass → List MethodRec → Result (Unit {0}) LinkFault
+classes_agree t classes methods =
+    refused (least_of place_of (hole_fault t methods) (flat_map (entries_in t classes) (class_numbers classes))) >>= λ _.
+    (refused (least_of place_of (override_fault methods) (flat_map (replacements_in t classes) (class_numbers classes))) >>= λ _.
+    (refused (least_of place_of (interface_fault methods) (flat_map (implementations_in t classes) (class_numbers classes))) >>= λ _.
+    refused (least_of place_of (long_fault t classes) (class_numbers classes))))
+
+-- the table exactly where nothing is at fault; else the first condition by number that is broken, at its least thing
+abbrev pub Tells : ClassTable → List NamedClass → List MethodRec → Result ClassTable LinkFault → Type 0
+Tells t classes methods (Ok table) = (table ≡ class_tables t classes) × AllEmpty (conditions t classes methods)
+Tells t classes methods (Err fault) = IsFirst place_of (conditions t classes methods) fault
+
+-- the same of what linking ends with; want of memory tells nothing
+abbrev pub TellsEnd : ClassTable → List NamedClass → List MethodRec → Result ClassTable LinkEnd → Type 0
+TellsEnd t classes methods (Ok table) = Tells t classes methods (Ok table)
+TellsEnd t classes methods (Err (Fault fault)) = Tells t classes methods (Err fault)
+TellsEnd t classes methods (Err Memory) = Unit {0}
+
+-- what linking ends with is what the conditions, asked one after the other, answer
+abbrev pub Answers : ClassTable → List NamedClass → List MethodRec → Result ClassTable LinkEnd → Type 0
+Answers t classes methods (Ok table) = (table ≡ class_tables t classes) × (classes_agree t classes methods ≡ Ok (tt {0}))
+Answers t classes methods (Err (Fault fault)) = classes_agree t classes methods ≡ Err fault
+Answers t classes methods (Err Memory) = Unit {0}
+
+-- in a world of so many packages, in which everything is a number, the table is what a world needs of its classes
+abbrev pub Links : ClassTable → List NamedClass → List MethodRec → ClassTable → Type 0
+Links t classes methods table = (packages : ℕ) → All (IsNamedClass packages (length methods) classes (object t)) classes → AreLinkedClasses packages table methods

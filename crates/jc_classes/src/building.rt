@@ -1,0 +1,63 @@
+ghost use Rattle.std.specs.Prelude.{◌≡◌, ◌≤◌, IfOk, Some, length};
+ghost use Rattle.jc_classes.specs.Tables.{methods_listed, record_from};
+
+use crate::layout::{Entries, Layout};
+use jc_base::{ClassRec, Dispatch, Iface, Ifaces, Items};
+use jc_names::NamedClass;
+use std::alloc::{AllocError, Global};
+
+/// The methods of a dispatch list without open entries.
+#[tactic(auto, using(crate::proofs::Built::listing))]
+fn methods_listed(alloc: Global, entries: &Entries) -> Result<Dispatch, AllocError>
+    ensures { IfOk result (λ list. list ≡ methods_listed entries.now) }
+{
+    let mut list = Vec::with_capacity(alloc, entries.len())?;
+    'entries: for entry in entries.as_slice() {
+        if let Some(method) = *entry {
+            list.push(method)?;
+        }
+    }
+    Ok(Items::of(list))
+}
+
+fn copied<T: Copy>(alloc: Global, items: &Items<T>) -> Result<Items<T>, AllocError>
+    ensures { IfOk result (λ list. list ≡ items.now) }
+{
+    Ok(Items::of(Vec::from_slice(alloc, items.as_slice())?))
+}
+
+#[tactic(auto, using(std::proofs::lemmas::List::take_more))]
+fn copied_interfaces(alloc: Global, interfaces: &Ifaces) -> Result<Ifaces, AllocError>
+    ensures { IfOk result (λ list. list ≡ interfaces.now) }
+{
+    let mut list = Vec::with_capacity(alloc, interfaces.len())?;
+    'interfaces: for interface in interfaces.as_slice() {
+        list.push(Iface {
+            class: interface.class,
+            tokens: copied(alloc, &interface.tokens)?,
+        })?;
+    }
+    Ok(Items::of(list))
+}
+
+/// The record of a class with its lists.
+#[tactic(auto, unfolding(crate::specs::Tables::record_from))]
+pub(crate) fn record_from(
+    alloc: Global,
+    class: &NamedClass,
+    layout: &Layout,
+) -> Result<ClassRec, AllocError>
+    requires short { layout.now.cells ≤ 32767 }
+    ensures { IfOk result (λ r. r ≡ record_from class.now layout.now) }
+{
+    Ok(ClassRec {
+        package: class.package,
+        interface: class.interface,
+        parent: class.parent,
+        cells: layout.cells as u16,
+        own: copied(alloc, &class.own)?,
+        implements: copied_interfaces(alloc, &class.interfaces)?,
+        public: methods_listed(alloc, &layout.public)?,
+        visible: methods_listed(alloc, &layout.visible)?,
+    })
+}

@@ -1,0 +1,163 @@
+ghost use Rattle.std.specs.Prelude.{ℕ, false, slice_index_or, ◌≡◌, ◌≤◌, ◌<◌, ◌+◌, ◌++◌, All, length, map, flat_map, option_map, IfSome, Some, None};
+ghost use Rattle.std.specs.List.{range_with_len};
+ghost use Rattle.jc_base.specs.Class.{chain, list_of};
+ghost use Rattle.jc_base.specs.Order.{is_on_chain};
+ghost use Rattle.jc_names.specs.Fault.{place_of};
+ghost use Rattle.jc_names.specs.FirstFault.{least_of, least_from, refused};
+ghost use Rattle.jc_classes.specs.Known.{AreKnown};
+ghost use Rattle.jc_classes.specs.Layout.{layout_of, layouts};
+ghost use Rattle.jc_classes.specs.Signatures.{method_in};
+ghost use Rattle.jc_classes.specs.Slots.{IsShort};
+ghost use Rattle.jc_classes.specs.Conditions.{may_stand, entries_from, entries_in, hole_fault, class_numbers};
+
+use crate::layout::Layout;
+use crate::signatures::method_in;
+use crate::slots::parent;
+use jc_base::{Classes, MethodRec, Methods};
+use jc_names::{LinkFault, NamedClasses, lesser, refuse};
+
+/// A class with a mark for each class that is one of its superclasses or the class itself.
+#[derive(Clone, Copy)]
+struct Line<'a> {
+    lineage: &'a Classes,
+    class: u16,
+    marks: &'a [bool],
+    ghost marked: { marks.now ≡ map (λ d. is_on_chain lineage.now d class) (range_with_len 0 (length lineage.now.records)) },
+}
+
+/// Takes all marks away.
+#[tactic(auto, using(crate::proofs::Marks::clearing))]
+fn clear(marks: &mut [bool])
+    ensures len { length marks.new ≡ length marks.old }
+    ensures none { (k : ℕ) → k < length marks.new → slice_index_or marks.new k false ≡ false }
+{
+    let mut i = 0;
+    'marks: while i < marks.len() {
+        marks[i] = false;
+        i += 1;
+    }
+}
+
+/// Marks a class and its superclasses, and nothing else.
+#[tactic(auto, using(crate::proofs::Marks::marking))]
+fn mark(lineage: &Classes, c: u16, marks: &mut [bool])
+    requires known { c < length lineage.now.records }
+    requires room { length marks.now ≡ length lineage.now.records }
+    ensures is { marks.new ≡ map (λ d. is_on_chain lineage.now d c) (range_with_len 0 (length lineage.now.records)) }
+    ensures room { length marks.new ≡ length lineage.now.records }
+{
+    clear(marks);
+    let mut above = Some(c);
+    'climb: while let Some(a) = above {
+        marks[a as usize] = true;
+        above = parent(lineage, a);
+    }
+}
+
+impl<'a> Line<'a> {
+    /// Whether a class is the class of the line or one of its superclasses.
+    #[tactic(auto, using(crate::proofs::Marks::reading))]
+    fn has(self, d: u16) -> bool
+        requires { d < length self.lineage.now.records }
+        ensures { result ≡ is_on_chain self.entry.lineage.now d self.entry.class }
+    {
+        self.marks[d as usize]
+    }
+
+    /// Whether a method can stand in a dispatch list of the class.
+    fn may_hold(self, method: &MethodRec) -> bool
+        requires { method.now.class < length self.lineage.now.records }
+        ensures { result ≡ may_stand self.entry.lineage.now self.entry.class (Some method.now) }
+    {
+        self.has(method.class) && (!method.is_static && !method.is_init)
+    }
+
+    /// What is wrong with an entry of a dispatch list of the class.
+    #[tactic(auto, using(crate::proofs::Folds::class_known), unfolding(crate::specs::Conditions::hole_fault))]
+    fn hole_fault(self, methods: &Methods, token: u16, entry: Option<u16>) -> Option<LinkFault>
+        requires known { All (λ m. m.class < length self.lineage.now.records) methods.now }
+        ensures { result ≡ hole_fault self.entry.lineage.now methods.now (record { class = self.entry.class; token = token; method = entry }) }
+    {
+        let stands = match method_in(methods, entry) {
+            Some(method) => self.may_hold(method),
+            None => false,
+        };
+        if stands {
+            None
+        } else {
+            Some(LinkFault::Hole(self.class, token))
+        }
+    }
+
+    /// The least fault so far, when a list was seen whose first token has this name.
+    #[tactic(auto, using(crate::proofs::Folds::entry_folds))]
+    fn holes_in(
+        self,
+        methods: &Methods,
+        first: u16,
+        list: &[Option<u16>],
+        least: Option<LinkFault>,
+    ) -> Option<LinkFault>
+        requires known { All (λ m. m.class < length self.lineage.now.records) methods.now }
+        requires few { first + length list.now ≤ 65535 }
+        ensures { result ≡ least_from place_of least (hole_fault self.entry.lineage.now methods.now) (entries_from self.entry.class first list.now) }
+    {
+        let mut least = least;
+        let mut token = first;
+        'entries: for entry in list {
+            least = lesser(least, self.hole_fault(methods, token, *entry));
+            token += 1;
+        }
+        least
+    }
+}
+
+/// The least fault so far, when the lists of a class were seen.
+#[tactic(auto, using(crate::proofs::Folds::folds))]
+fn holes_of(
+    lineage: &Classes,
+    methods: &Methods,
+    layout: &Layout,
+    c: u16,
+    marks: &mut [bool],
+    least: Option<LinkFault>,
+) -> Option<LinkFault>
+    requires class { c < length lineage.now.records }
+    requires room { length marks.now ≡ length lineage.now.records }
+    requires known { All (λ m. m.class < length lineage.now.records) methods.now }
+    requires few { IsShort layout.now }
+    ensures room { length marks.new ≡ length lineage.now.records }
+    ensures is { result ≡ least_from place_of least (hole_fault lineage.now methods.now) (entries_from c 0 layout.now.public ++ entries_from c 128 layout.now.visible) }
+{
+    mark(lineage, c, marks);
+    let line = Line {
+        lineage,
+        class: c,
+        marks: &*marks,
+    };
+    let least = line.holes_in(methods, 0, layout.public.as_slice(), least);
+    line.holes_in(methods, 128, layout.visible.as_slice(), least)
+}
+
+/// Each entry of each dispatch list has a method of the class or of one of its superclasses. `marks` is
+/// room for a mark a class.
+#[tactic(auto, using(crate::proofs::Folds::folds))]
+pub(crate) fn no_holes(
+    lineage: &Classes,
+    classes: &NamedClasses,
+    methods: &Methods,
+    all: &[Layout],
+    marks: &mut [bool],
+) -> Result<(), LinkFault>
+    requires known { AreKnown lineage.now classes.now }
+    requires layouts { all.now ≡ layouts lineage.now classes.now }
+    requires methods { All (λ m. m.class < length lineage.now.records) methods.now }
+    requires room { length marks.now ≡ length lineage.now.records }
+    ensures { result ≡ refused (least_of place_of (hole_fault lineage.now methods.now) (flat_map (entries_in lineage.now classes.now) (class_numbers classes.now))) }
+{
+    let mut least = None;
+    'classes: for c in 0..classes.len() {
+        least = holes_of(lineage, methods, &all[c], c as u16, marks, least);
+    }
+    refuse(least)
+}

@@ -1,0 +1,75 @@
+ghost use Rattle.std.specs.Prelude.{◌≡◌, ◌≤◌, ◌<◌, ◌^◌, length, max, map, IfOk, slice_get};
+ghost use Rattle.std.specs.Option.{option_or, option_flatten};
+ghost use Rattle.std.specs.List.{range_with_len};
+ghost use Rattle.jc_classes.specs.Known.{IsByteTable};
+ghost use Rattle.jc_classes.specs.Entries.{reach, named_by, overlaid_at, overlaid};
+
+use crate::layout::Entries;
+use jc_base::Items;
+use jc_names::Table;
+use std::alloc::{AllocError, Global};
+
+/// The token behind the last entry of a table, and 0 where it has none.
+#[tactic(auto, unfolding(crate::specs::Entries::reach))]
+fn reach(table: &Table) -> usize
+    requires few { length table.now.entries ≤ 255 }
+    ensures { result ≡ reach table.now }
+{
+    if table.entries.len() == 0 {
+        0
+    } else {
+        table.base as usize + table.entries.len()
+    }
+}
+
+/// The method that a table names for a token.
+#[tactic(auto, unfolding(crate::specs::Entries::named_by))]
+fn named_by(table: &Table, token: usize) -> Option<u16>
+    ensures { result ≡ named_by table.now token }
+{
+    let base = table.base as usize;
+    if token < base || table.entries.len() <= token - base {
+        None
+    } else {
+        *table.entries.at(token - base)
+    }
+}
+
+/// The entry of a list at a token.
+pub(crate) fn entry_at(list: &[Option<u16>], token: usize) -> Option<u16>
+    ensures { result ≡ option_flatten (slice_get list.now token) }
+{
+    if token < list.len() {
+        list[token]
+    } else {
+        None
+    }
+}
+
+#[tactic(auto, unfolding(crate::specs::Entries::overlaid_at))]
+fn overlaid_at(table: &Table, inherited: &[Option<u16>], token: usize) -> Option<u16>
+    ensures { result ≡ overlaid_at table.now inherited.now token }
+{
+    match named_by(table, token) {
+        Some(method) => Some(method),
+        None => entry_at(inherited, token),
+    }
+}
+
+/// The inherited list, overwritten and extended by a table.
+#[tactic(auto, using(crate::proofs::Ranges::ranges))]
+pub(crate) fn overlay(
+    alloc: Global,
+    table: &Table,
+    inherited: &[Option<u16>],
+) -> Result<Entries, AllocError>
+    requires few { IsByteTable table.now }
+    ensures { IfOk result (λ entries. entries ≡ overlaid table.now inherited.now) }
+{
+    let len = inherited.len().max(reach(table));
+    let mut entries = Vec::with_capacity(alloc, len)?;
+    'tokens: for token in 0..len {
+        entries.push(overlaid_at(table, inherited, token))?;
+    }
+    Ok(Items::of(entries))
+}

@@ -1,0 +1,115 @@
+ghost use Rattle.std.specs.Prelude.{◌≡◌, ◌<◌, ◌↔◌, All, IfSome, IsTrue, length, option_map, Some};
+ghost use Rattle.jc_classes.specs.Signatures.{same_type, same_types, same_result, same_sig, same_signature, method_in, signature_in};
+
+use jc_base::{MethodRec, Methods, Sig, Ty};
+
+#[tactic(auto, unfolding(crate::specs::Signatures::same_type))]
+fn same_type(a: Ty, b: Ty) -> bool
+    ensures { result ≡ same_type a b }
+{
+    match a {
+        Ty::Bottom => matches!(b, Ty::Bottom),
+        Ty::Short => matches!(b, Ty::Short),
+        Ty::IntHigh => matches!(b, Ty::IntHigh),
+        Ty::IntLow => matches!(b, Ty::IntLow),
+        Ty::Null => matches!(b, Ty::Null),
+        Ty::Class(c) => matches!(b, Ty::Class(d) if c == d),
+        Ty::ArrBool => matches!(b, Ty::ArrBool),
+        Ty::ArrByte => matches!(b, Ty::ArrByte),
+        Ty::ArrShort => matches!(b, Ty::ArrShort),
+        Ty::ArrInt => matches!(b, Ty::ArrInt),
+        Ty::ArrRef(c) => matches!(b, Ty::ArrRef(d) if c == d),
+        Ty::Fresh { place, class } => match b {
+            Ty::Fresh {
+                place: other,
+                class: other_class,
+            } => place == other && class == other_class,
+            _ => false,
+        },
+        Ty::Top => matches!(b, Ty::Top),
+    }
+}
+
+#[tactic(auto, using(crate::proofs::SameTypes::same_lists))]
+fn same_types(a: &[Ty], b: &[Ty]) -> bool
+    ensures { result ≡ same_types a.now b.now }
+{
+    if a.len() != b.len() {
+        return false;
+    }
+    let mut i = 0;
+    'types: while i < a.len() {
+        if !same_type(a[i], b[i]) {
+            return false;
+        }
+        i += 1;
+    }
+    true
+}
+
+fn same_result(a: Option<Ty>, b: Option<Ty>) -> bool
+    ensures { result ≡ same_result a b }
+{
+    match a {
+        Some(a) => match b {
+            Some(b) => same_type(a, b),
+            None => false,
+        },
+        None => b.is_none(),
+    }
+}
+
+/// Whether two signatures have the same types.
+#[tactic(auto, unfolding(crate::specs::Signatures::same_sig))]
+pub(crate) fn same_sig(a: &Sig, b: &Sig) -> bool
+    ensures { result ≡ same_sig a.now b.now }
+{
+    same_types(a.args.as_slice(), b.args.as_slice()) && same_result(a.result, b.result)
+}
+
+/// The method of an entry of a dispatch list.
+pub(crate) fn method_in<'a>(methods: &'a Methods, entry: Option<u16>) -> Option<&'a MethodRec>
+    ensures is { option_map (λ m. m.now) result ≡ method_in methods.now entry }
+    ensures there { IfSome result (λ m. Some m.now ≡ method_in methods.now entry) }
+{
+    let n = entry? as usize;
+    if n < methods.len() {
+        Some(methods.at(n))
+    } else {
+        None
+    }
+}
+
+/// Whether two entries have methods of one signature, or neither has a method.
+#[tactic(auto, using(crate::proofs::SameTypes::signatures))]
+pub(crate) fn same_signature(methods: &Methods, a: Option<u16>, b: Option<u16>) -> bool
+    ensures is { result ≡ same_signature (signature_in methods.now a) (signature_in methods.now b) }
+    ensures exact { IsTrue result ↔ signature_in methods.now a ≡ signature_in methods.now b }
+{
+    // Most entries are inherited as they are.
+    is_same_entry(a, b) || are_alike(method_in(methods, a), method_in(methods, b))
+}
+
+fn is_same_entry(a: Option<u16>, b: Option<u16>) -> bool
+    ensures { IsTrue result → a ≡ b }
+{
+    match a {
+        Some(m) => match b {
+            Some(n) => m == n,
+            None => false,
+        },
+        None => b.is_none(),
+    }
+}
+
+fn are_alike(a: Option<&MethodRec>, b: Option<&MethodRec>) -> bool
+    ensures { result ≡ same_signature (option_map (λ m. m.sig) (option_map (λ m. m.now) a.entry)) (option_map (λ m. m.sig) (option_map (λ m. m.now) b.entry)) }
+{
+    match a {
+        Some(m) => match b {
+            Some(n) => same_sig(&m.sig, &n.sig),
+            None => false,
+        },
+        None => b.is_none(),
+    }
+}

@@ -1,0 +1,239 @@
+ghost use Rattle.std.specs.Prelude.{◌≡◌, ◌≤◌, ◌<◌, ◌∷◌, ◌++◌, length, map, Some, None, [], if◌then◌else◌, All, replicate, filter_map, IfOk, IfSome, slice_get};
+ghost use Rattle.std.specs.Option.{option_map, option_and_then};
+ghost use Rattle.jc_base.specs.Class.{chain, list_of, parent_of};
+ghost use Rattle.jc_base.specs.Dispatch.{package_of};
+ghost use Rattle.jc_classes.specs.Known.{AreKnown, IsSized};
+ghost use Rattle.jc_classes.specs.Layout.{layout_of, layouts, layout_from, above_or_nothing, at_home};
+ghost use Rattle.jc_classes.specs.Slots.{IsFilled, AreSlots, IsMade, IsClimb, slot_at};
+
+use crate::layout::Layout;
+use crate::overlay::overlay;
+use jc_base::Classes;
+use jc_names::{NamedClass, NamedClasses};
+use std::alloc::{AllocError, Global};
+
+/// The classes from one upwards whose lists are not yet made, the lowest first, and the class above them.
+#[derive(Drop)]
+struct Climb {
+    path: Vec<u16>,
+    above: Option<u16>,
+}
+
+/// The superclass of a class; an interface has none.
+pub(crate) fn parent(lineage: &Classes, c: u16) -> Option<u16>
+    requires { c < length lineage.now.records }
+    ensures is { result ≡ parent_of lineage.now c }
+    ensures known { IfSome result (λ p. p < length lineage.now.records) }
+    ensures step { chain lineage.now c ≡ c ∷ list_of (chain lineage.now) result }
+{
+    if lineage.is_interface(c) {
+        None
+    } else {
+        lineage.parent(c)
+    }
+}
+
+/// The layout in the slot of a class.
+#[tactic(auto, unfolding(crate::specs::Slots::slot_at))]
+fn slot_at(slots: &Vec<Option<Layout>>, c: u16) -> Option<&Layout>
+    ensures { option_map (λ l. l.now) result ≡ slot_at slots.now.items c }
+{
+    let c = c as usize;
+    if c < slots.len() {
+        slots[c].as_ref()
+    } else {
+        None
+    }
+}
+
+#[tactic(auto, using(crate::proofs::Climbs::climbed_more))]
+fn climb_from(
+    alloc: Global,
+    lineage: &Classes,
+    slots: &Vec<Option<Layout>>,
+    c: u16,
+) -> Result<Climb, AllocError>
+    requires known { c < length lineage.now.records }
+    ensures { IfOk result (λ climb. IsClimb lineage.now slots.now.items c climb.path.items climb.above) }
+{
+    let mut path = Vec::new(alloc);
+    let mut above = Some(c);
+    'climb: while let Some(a) = above {
+        if slot_at(slots, a).is_some() {
+            return Ok(Climb { path, above });
+        }
+        path.push(a)?;
+        above = parent(lineage, a);
+    }
+    Ok(Climb { path, above: None })
+}
+
+/// Whether the superclass, where there is one, is of the package of a class.
+#[tactic(auto, unfolding(crate::specs::Layout::at_home))]
+pub(crate) fn at_home(lineage: &Classes, above: Option<u16>, c: u16) -> bool
+    requires known { c < length lineage.now.records }
+    requires above_known { IfSome above (λ p. p < length lineage.now.records) }
+    ensures { result ≡ at_home lineage.now above c }
+{
+    match above {
+        Some(p) => package_of(lineage, p) == package_of(lineage, c),
+        None => false,
+    }
+}
+
+#[tactic(auto, unfolding(jc_base::specs::Dispatch::package_of))]
+fn package_of(lineage: &Classes, c: u16) -> u16
+    requires { c < length lineage.now.records }
+    ensures { result ≡ package_of lineage.now c }
+{
+    lineage.at(c).package
+}
+
+pub(crate) fn public_above<'a>(up: Option<&'a Layout>) -> &'a [Option<u16>]
+    ensures { result.now ≡ (above_or_nothing (option_map (λ l. l.now) up.entry)).public }
+{
+    match up {
+        Some(up) => up.public.as_slice(),
+        None => &[],
+    }
+}
+
+pub(crate) fn visible_above<'a>(up: Option<&'a Layout>, home: bool) -> &'a [Option<u16>]
+    ensures { result.now ≡ (if home then (above_or_nothing (option_map (λ l. l.now) up.entry)).visible else []) }
+{
+    match up {
+        Some(up) if home => up.visible.as_slice(),
+        _ => &[],
+    }
+}
+
+fn cells_above(up: Option<&Layout>) -> u32
+    ensures { result ≡ (above_or_nothing (option_map (λ l. l.now) up.entry)).cells }
+{
+    match up {
+        Some(up) => up.cells,
+        None => 0,
+    }
+}
+
+/// What a class makes of the lists of its superclass.
+#[tactic(auto, unfolding(crate::specs::Layout::layout_from))]
+fn layout_from(
+    alloc: Global,
+    class: &NamedClass,
+    up: Option<&Layout>,
+    home: bool,
+) -> Result<Layout, AllocError>
+    requires sized { IsSized class.now }
+    requires few { (above_or_nothing (option_map (λ l. l.now) up)).cells ≤ 536993790 }
+    ensures { IfOk result (λ l. l ≡ layout_from class.now (above_or_nothing (option_map (λ l. l.now) up.entry)) home) }
+{
+    Ok(Layout {
+        public: overlay(alloc, &class.public, public_above(up))?,
+        visible: overlay(alloc, &class.visible, visible_above(up, home))?,
+        cells: class.own.len() as u32 + cells_above(up),
+    })
+}
+
+/// The layout of the superclass, where there is one.
+fn slot_above<'a>(slots: &'a Vec<Option<Layout>>, above: Option<u16>) -> Option<&'a Layout>
+    ensures { option_map (λ l. l.now) result ≡ option_and_then (slot_at slots.now.items) above }
+{
+    match above {
+        Some(p) => slot_at(slots, p),
+        None => None,
+    }
+}
+
+/// Makes the lists of a class from those of the class above it.
+#[tactic(auto, using(crate::proofs::Fills::makes))]
+fn make(
+    alloc: Global,
+    lineage: &Classes,
+    classes: &NamedClasses,
+    slots: &mut Vec<Option<Layout>>,
+    above: Option<u16>,
+    c: u16,
+) -> Result<(), AllocError>
+    requires known { AreKnown lineage.now classes.now }
+    requires class { c < length classes.now }
+    requires above_known { IfSome above (λ p. p < length classes.now) }
+    requires step { chain lineage.now c ≡ c ∷ list_of (chain lineage.now) above }
+    requires slots { AreSlots lineage.now classes.now slots.now.items }
+    requires filled { IfSome above (IsFilled lineage.now classes.now slots.now.items) }
+    ensures { IfOk result (λ _. IsMade lineage.now classes.now slots.old.items slots.new.items c) }
+{
+    let home = at_home(lineage, above, c);
+    let up = slot_above(slots, above);
+    let made = layout_from(alloc, classes.at(c as usize), up, home)?;
+    slots[c as usize] = Some(made);
+    Ok(())
+}
+
+/// Makes the lists of a class, and before it those of its superclasses that are not yet made.
+#[tactic(auto, using(crate::proofs::Fills::fills))]
+fn fill(
+    alloc: Global,
+    lineage: &Classes,
+    classes: &NamedClasses,
+    slots: &mut Vec<Option<Layout>>,
+    c: u16,
+) -> Result<(), AllocError>
+    requires known { AreKnown lineage.now classes.now }
+    requires class { c < length classes.now }
+    requires slots { AreSlots lineage.now classes.now slots.now.items }
+    ensures { IfOk result (λ _. IsMade lineage.now classes.now slots.old.items slots.new.items c) }
+{
+    let climb = climb_from(alloc, lineage, slots, c)?;
+    let mut path = climb.path;
+    let mut above = climb.above;
+    let _ = lineage.records();
+    'descent: while let Some(next) = path.pop() {
+        make(alloc, lineage, classes, slots, above, next)?;
+        above = Some(next);
+    }
+    Ok(())
+}
+
+/// An empty slot for each class.
+fn empty_slots(alloc: Global, n: usize) -> Result<Vec<Option<Layout>>, AllocError>
+    ensures { IfOk result (λ slots. slots.items ≡ replicate n None) }
+{
+    let mut slots = Vec::with_capacity(alloc, n)?;
+    'slots: for _ in 0..n {
+        slots.push(None)?;
+    }
+    Ok(slots)
+}
+
+/// The layouts in slots that are all filled.
+#[tactic(auto, using(crate::proofs::Fills::slots_read))]
+fn layouts_of(alloc: Global, slots: Vec<Option<Layout>>) -> Result<Vec<Layout>, AllocError>
+    ensures { IfOk result (λ layouts. layouts.items ≡ filter_map (λ slot. slot) slots.items) }
+{
+    let mut layouts = Vec::with_capacity(alloc, slots.len())?;
+    'slots: for slot in slots {
+        if let Some(layout) = slot {
+            layouts.push(layout)?;
+        }
+    }
+    Ok(layouts)
+}
+
+/// The dispatch lists and the number of cells of each class, by number.
+#[tactic(auto, using(crate::proofs::Fills::filled_in_turn))]
+pub(crate) fn layouts(
+    alloc: Global,
+    lineage: &Classes,
+    classes: &NamedClasses,
+) -> Result<Vec<Layout>, AllocError>
+    requires known { AreKnown lineage.now classes.now }
+    ensures { IfOk result (λ all. all.items ≡ layouts lineage.now classes.now) }
+{
+    let count = classes.len();
+    let mut slots = empty_slots(alloc, count)?;
+    'classes: for c in 0..count {
+        fill(alloc, lineage, classes, &mut slots, c as u16)?;
+    }
+    layouts_of(alloc, slots)
+}

@@ -1,0 +1,114 @@
+ghost use Rattle.std.specs.Prelude.{◌≡◌, ◌<◌, All, IfOk, [], length, false};
+ghost use Rattle.jc_names.specs.Fault.{place_of};
+ghost use Rattle.jc_lineage.specs.Outline.{outline};
+ghost use Rattle.jc_lineage.specs.Lines.{HaveLines};
+ghost use Rattle.jc_classes.specs.Known.{AreInRange, AreKnown};
+ghost use Rattle.jc_classes.specs.Layout.{layouts};
+ghost use Rattle.jc_classes.specs.Groups.{AreGroups};
+ghost use Rattle.jc_classes.specs.Conditions.{long_instances};
+ghost use Rattle.jc_classes.specs.Tables.{class_tables, classes_agree, Answers, Links, TellsEnd};
+
+use crate::building::record_from;
+use crate::groups::{Group, groups};
+use crate::holes::no_holes;
+use crate::instances::instances_fit;
+use crate::interfaces::interfaces_served;
+use crate::layout::Layout;
+use crate::overrides::overrides_agree;
+use crate::slots::layouts;
+use jc_base::{Classes, Items, Methods};
+use jc_names::{LinkEnd, LinkFault, NamedClasses};
+use std::alloc::{AllocError, Global};
+
+/// Asks the conditions on classes in the order of their numbers. `marks` is room for a mark a class.
+#[tactic(auto, unfolding(crate::specs::Tables::classes_agree))]
+fn agree(
+    lineage: &Classes,
+    classes: &NamedClasses,
+    methods: &Methods,
+    all: &[Layout],
+    groups: &[Group<'_>],
+    marks: &mut [bool],
+) -> Result<(), LinkFault>
+    requires known { AreKnown lineage.now classes.now }
+    requires layouts { all.now ≡ layouts lineage.now classes.now }
+    requires methods { All (λ m. m.class < length lineage.now.records) methods.now }
+    requires grouped { AreGroups (length classes.now) methods.now groups.now }
+    requires interfaces { AreInRange classes.now }
+    requires room { length marks.now ≡ length lineage.now.records }
+    ensures { result ≡ classes_agree lineage.now classes.now methods.now }
+{
+    no_holes(lineage, classes, methods, all, marks)?;
+    overrides_agree(lineage, classes, methods, all)?;
+    interfaces_served(lineage, classes, methods, all, groups)?;
+    instances_fit(lineage, classes, all)
+}
+
+/// The table of classes whose lists are made.
+#[tactic(auto, using(crate::proofs::Agreed::building))]
+fn build(
+    alloc: Global,
+    lineage: &Classes,
+    classes: &NamedClasses,
+    all: &[Layout],
+) -> Result<Classes, AllocError>
+    requires outline { lineage.now ≡ outline classes.now lineage.now.roles }
+    requires layouts { all.now ≡ layouts lineage.now classes.now }
+    requires short { long_instances lineage.now classes.now ≡ [] }
+    ensures { IfOk result (λ t. t ≡ class_tables lineage.now classes.now) }
+{
+    let _ = lineage.records();
+    let mut records = Vec::with_capacity(alloc, classes.len())?;
+    'classes: for c in 0..classes.len() {
+        records.push(record_from(alloc, classes.at(c), &all[c])?)?;
+    }
+    Ok(Classes::of(Items::of(records), lineage.roles()))
+}
+
+/// Room for a mark a class, without marks.
+fn no_marks(alloc: Global, count: usize) -> Result<Vec<bool>, AllocError>
+    ensures { IfOk result (λ marks. length marks.items ≡ count) }
+{
+    let marks = vec![in alloc; false; count]?;
+    Ok(marks)
+}
+
+/// The dispatch lists, the cells and the interfaces of classes whose superclasses are known: their class
+/// table.
+#[tactic(auto, using(crate::proofs::Agreed::telling))]
+pub fn tables(
+    alloc: Global,
+    lineage: &Classes,
+    classes: &NamedClasses,
+    methods: &Methods,
+) -> Result<Classes, LinkEnd>
+    requires outline { lineage.now ≡ outline classes.now lineage.now.roles }
+    requires known { AreKnown lineage.now classes.now }
+    requires interfaces { AreInRange classes.now }
+    requires methods { All (λ m. m.class < length classes.now) methods.now }
+    requires lines { HaveLines classes.now lineage.now }
+    ensures value { Answers lineage.now classes.now methods.now result }
+    // The table exactly where nothing is at fault; else the first condition by number that is broken, at
+    // its least thing.
+    ensures tells { TellsEnd lineage.now classes.now methods.now result }
+    // What a world needs of its classes, where all that they name are numbers.
+    ensures linked { IfOk result (λ table. Links lineage.now classes.now methods.now table) }
+{
+    let _ = lineage.records();
+    let all = layouts(alloc, lineage, classes)?;
+    let groups = groups(alloc, methods, classes.len())?;
+    let mut marks = no_marks(alloc, classes.len())?;
+    match agree(
+        lineage,
+        classes,
+        methods,
+        all.as_slice(),
+        groups.as_slice(),
+        marks.as_mut_slice(),
+    ) {
+        Ok(()) => {}
+        Err(fault) => return Err(LinkEnd::Fault(fault)),
+    }
+    let table = build(alloc, lineage, classes, all.as_slice())?;
+    Ok(table)
+}
