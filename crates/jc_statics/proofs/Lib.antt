@@ -1,0 +1,10 @@
+pub mod Steps
+pub mod Repeats
+pub mod ArrayLists
+pub mod ImageBytes
+pub mod Counts
+pub mod FieldLists
+pub mod FieldFacts
+pub mod TypeFacts
+pub mod NoPackages
+pub mod FieldsApart

@@ -1,0 +1,20 @@
+//! The static fields and the initial arrays of packages as records of a world (JCVM 2.2, section 6.10).
+//! It stands on `jc_names` for the types that fields name, on `cap_package` for what packages say and on
+//! `jc_base` for the records.
+
+#![tactic(auto)]
+
+mod field_types;
+mod image;
+mod initial_arrays;
+mod room;
+mod static_fields;
+mod words;
+
+pub use field_types::FieldTypes;
+pub use initial_arrays::arrays;
+pub use room::{arrays_fit, statics_fit};
+pub use static_fields::statics;
+
+#[cfg(test)]
+mod tests;

@@ -1,0 +1,123 @@
+ghost use Rattle.std.specs.Prelude.{◌≡◌, ◌+◌, ◌≤◌, ◌++◌, length, map, sum_by, All, IfOk};
+ghost use Rattle.jc_base.specs.Class.{ClassTable};
+ghost use Rattle.jc_base.specs.Cell.{IsDeclared, width};
+ghost use Rattle.jc_base.specs.Linked.{AreSlots, IsStatic};
+ghost use Rattle.cap_package.specs.Places.{place_seen};
+ghost use Rattle.cap_package.specs.StaticPlaces.{static_places};
+ghost use Rattle.cap_method.specs.StaticPart.{statics_seen};
+ghost use Rattle.jc_statics.specs.Arrays.{array_records};
+ghost use Rattle.jc_names.specs.WorldTypes.{type_of};
+ghost use Rattle.jc_statics.specs.Known.{AreStaticsKnown, StandApart};
+ghost use Rattle.jc_statics.specs.Statics.{cells_at, site, static_cells, static_record, records_from, static_records};
+
+use crate::field_types::FieldTypes;
+use crate::image::{kind_of, width, words_at};
+use cap_method::StaticPart;
+use cap_package::{Package, Packages, StaticPlace};
+use jc_base::{StaticRec, Statics, Ty, Tys};
+use std::alloc::{AllocError, Global};
+
+/// A package among all: its number, and the handle of its first initial array.
+#[derive(Clone, Copy)]
+struct Home {
+    package: u16,
+    first: u16,
+}
+
+/// The static field at a place, whose first cell is the slot.
+fn static_record(
+    alloc: Global,
+    home: Home,
+    slot: u16,
+    statics: &StaticPart<'_>,
+    place: StaticPlace,
+    ty: Ty,
+) -> Result<StaticRec, AllocError>
+    requires { home.first + length (statics_seen statics.now).arrays ≤ 65535 }
+    ensures { IfOk result (λ r. r ≡ static_record slot (site home.«package» home.first (statics_seen statics.now) (place_seen place)) ty) }
+{
+    let kind = kind_of(place.ty);
+    Ok(StaticRec {
+        package: home.package,
+        offset: place.offset,
+        kind,
+        ty,
+        slot,
+        initial: words_at(alloc, statics, home.first, kind, place.offset)?,
+    })
+}
+
+/// Appends the static fields of a package, whose cells begin at a slot, and gives the slot behind them.
+fn push_statics<T: FieldTypes>(
+    alloc: Global,
+    records: &mut Vec<StaticRec>,
+    package: &Package<'_, '_>,
+    home: Home,
+    slot: u32,
+    types: &T,
+) -> Result<u32, AllocError>
+    requires arrays { home.first + length «package».now.statics.arrays ≤ 65535 }
+    requires cells { slot + sum_by cells_at (static_places «package».now) ≤ 32768 }
+    ensures is { IfOk result (λ _. records.new.items ≡ records.old.items ++ records_from (type_of (T.named types.now) (T.object types.now)) slot (map (site home.«package» home.first «package».now.statics) (static_places «package».now))) }
+    ensures next { IfOk result (λ next. next ≡ slot + sum_by cells_at (static_places «package».now)) }
+    ensures known { IfOk result (λ _. AreStaticsKnown «package».now) }
+{
+    let statics = package.statics();
+    let mut slot = slot;
+    'places: for place in package.static_places() {
+        let ty = types.type_of(home.package, place.ty);
+        records.push(static_record(alloc, home, slot as u16, &statics, place, ty)?)?;
+        slot += width(kind_of(place.ty));
+    }
+    Ok(slot)
+}
+
+/// The static fields of all packages.
+fn all_statics<T: FieldTypes>(
+    alloc: Global,
+    packages: &Packages<'_, '_>,
+    types: &T,
+) -> Result<Statics, AllocError>
+    requires count { length packages.now ≤ 16 }
+    requires arrays { length (array_records packages.now) ≤ 4096 }
+    requires cells { static_cells packages.now ≤ 32768 }
+    ensures is { IfOk result (λ fields. fields ≡ static_records (type_of (T.named types.now) (T.object types.now)) packages.now) }
+    ensures known { IfOk result (λ _. All AreStaticsKnown packages.now) }
+{
+    let mut records = Vec::new(alloc);
+    let mut first: u16 = 1;
+    let mut slot: u32 = 0;
+    'packages: for n in 0..packages.len() {
+        let package = packages.at(n);
+        let home = Home {
+            package: n as u16,
+            first,
+        };
+        slot = push_statics(alloc, &mut records, package, home, slot, types)?;
+        first += package.statics().array_init_count();
+    }
+    Ok(Statics::of(records))
+}
+
+/// The static fields of all packages, by number.
+#[tactic(auto, using(crate::proofs::FieldLists::slots_of, crate::proofs::FieldLists::cells_of_records))]
+pub fn statics<T: FieldTypes>(
+    alloc: Global,
+    packages: &Packages<'_, '_>,
+    types: &T,
+) -> Result<Statics, AllocError>
+    requires count { length packages.now ≤ 16 }
+    requires arrays { length (array_records packages.now) ≤ 4096 }
+    requires cells { static_cells packages.now ≤ 32768 }
+    ensures is { IfOk result (λ fields. fields ≡ static_records (type_of (T.named types.now) (T.object types.now)) packages.now) }
+    // Their cells are 0, 1 and so on without a gap.
+    ensures slots { IfOk result (AreSlots 0) }
+    ensures cells { IfOk result (λ fields. sum_by (λ f. width f.kind) fields ≤ 32768) }
+    // No two stand at one place of one package.
+    ensures apart { IfOk result StandApart }
+    // Each has its type and its words, in any class table that has the classes of their types.
+    ensures fields { IfOk result (λ fields. (t : ClassTable) → All (λ f. IsDeclared t f.ty) fields → All (IsStatic (length packages.now) t (array_records packages.now)) fields) }
+{
+    let fields = all_statics(alloc, packages, types)?;
+    Ok(fields)
+}
