@@ -1,0 +1,7 @@
+pub mod SiteLaws
+pub mod Holders
+pub mod Rooms
+pub mod Known
+pub mod Told
+pub mod Behind
+pub mod Concretes

@@ -1,0 +1,30 @@
+-- The answer tells the members, or the least entry without its one member.
+use Rattle.std.proofs.Common.{◌≡◌, List, Option, Some, None, Result, Ok, Err, refl, sym, ap, ◌∙◌}
+use Rattle.cap_package.specs.PackageRecord.{PackageRecord}
+use Rattle.jc_base.specs.declared.record.Member.{Member}
+use Rattle.jc_base.specs.declared.record.StaticRec.{StaticRec}
+use Rattle.jc_base.specs.Class.{ClassTable}
+use Rattle.jc_names.specs.declared.fault.LinkFault.{LinkFault}
+use Rattle.jc_names.specs.declared.fault.LinkEnd.{LinkEnd}
+use Rattle.jc_names.specs.declared.fault.LinkEnd.TheVariants.{Fault, Memory}
+use Rattle.jc_names.specs.Fault.{place_of}
+use Rattle.jc_names.specs.FirstFault.{◌>>=◌, least_of, refused}
+use Rattle.jc_names.proofs.LeastFaults.{least-at_fault, least-found, least-none}
+use Rattle.jc_members.specs.Pools.{pool_places, member_fault, missing_members, pools, pools_of, IsDue, Tells}
+
+module _ (ps : List PackageRecord) (t : ClassTable) (statics : List StaticRec) where
+  told-by : (o : Option LinkFault) (r : Result (List (List Member)) LinkEnd) → least_of place_of (member_fault ps t statics) (pool_places ps) ≡ o → IsDue (refused o >>= λ _. Ok (pools ps t statics)) r → Tells ps t statics r
+  told-by None (Ok found) e due =
+      let same : pools ps t statics ≡ found = cc in
+      (sym same, least-none place_of (missing_members ps t statics) (sym (least-at_fault place_of (member_fault ps t statics) (pool_places ps) None) ∙ e))
+  told-by None (Err (Fault f)) e due = absurd cc
+  told-by None (Err Memory) e due = tt {0}
+  told-by (Some g) (Ok found) e due = absurd cc
+  told-by (Some g) (Err (Fault f)) e due =
+      let same : g ≡ f = cc in
+      least-found place_of (missing_members ps t statics) f (sym (least-at_fault place_of (member_fault ps t statics) (pool_places ps) None) ∙ e ∙ ap Some same)
+  told-by (Some g) (Err Memory) e due = tt {0}
+
+  pub due-tells : (r : Result (List (List Member)) LinkEnd) → IsDue (pools_of ps t statics) r → Tells ps t statics r
+  unfolding pools_of
+  due-tells r due = told-by (least_of place_of (member_fault ps t statics) (pool_places ps)) r refl due

@@ -1,0 +1,13 @@
+use Rattle.std.proofs.Common.{◌≡◌, ◌+◌, ◌≤◌, length}
+use Rattle.cap_class.specs.ClassPart.{classes_left}
+use Rattle.jc_members.specs.Sites.{all_entered}
+use Rattle.jc_members.specs.Fields.{sites_of_classes, HaveRoomIn}
+use Rattle.jc_members.proofs.fields.enter_package.Given as goal
+
+abbrev pub invariant-classes : goal.invariant-classes
+invariant-classes g l = record {
+  entered : all_entered l.sites (sites_of_classes (g.N.Names.named_in l.names) l.classes l.number l.«package» l.c (classes_left l.class-iterator))
+      ≡ all_entered l.initial.sites (sites_of_classes (g.N.Names.named_in l.names) l.classes l.number l.«package» l.first l.«package».classes);
+  known : l.c + length (classes_left l.class-iterator) ≤ length l.classes.records;
+  room : HaveRoomIn (g.N.Names.named_in l.names) l.classes l.number l.«package» l.c (classes_left l.class-iterator);
+}

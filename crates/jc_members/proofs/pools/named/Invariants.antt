@@ -1,0 +1,13 @@
+use Rattle.std.proofs.Common.{◌≡◌, ◌++◌, drop}
+use Rattle.jc_names.specs.Fault.{place_of}
+use Rattle.jc_names.specs.FirstFault.{least_from, least_of}
+use Rattle.jc_members.specs.Members.{member_of}
+use Rattle.jc_members.specs.Pools.{places_behind, pool_places, member_fault, pools_behind, pools}
+use Rattle.jc_members.proofs.pools.named.Given as goal
+
+abbrev pub invariant-packages : goal.invariant-packages
+invariant-packages g l = record {
+  fault : least_from place_of l.least (member_fault l.packages l.classes l.statics) (places_behind l.k (drop l.k l.packages))
+      ≡ least_of place_of (member_fault l.packages l.classes l.statics) (pool_places l.packages);
+  pools : l.pools.items ++ pools_behind (member_of l.packages l.classes l.statics) l.k (drop l.k l.packages) ≡ pools l.packages l.classes l.statics;
+}

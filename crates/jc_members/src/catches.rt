@@ -1,0 +1,133 @@
+ghost use Rattle.std.specs.Prelude.{◌≡◌, ◌≤◌, ◌<◌, IfSome, Some, length, slice_get};
+ghost use Rattle.cap_method.specs.MethodPart.{handlers_left};
+ghost use Rattle.cap_pool.specs.Pool.{entries};
+ghost use Rattle.jc_base.specs.Class.{IsClass, throwable};
+ghost use Rattle.jc_names.specs.Numbering.{numbered_classes};
+ghost use Rattle.jc_names.specs.Fault.{place_of};
+ghost use Rattle.jc_names.specs.FirstFault.{least_from, least_of, refused};
+ghost use Rattle.jc_members.specs.Catches.{caught_by, thrown_by, catches, handlers_from, handler_places, catch_fault};
+
+use crate::entries::class_in;
+use crate::names::Names;
+use cap_method::{HandlerInfo, Handlers};
+use cap_package::Packages;
+use cap_pool::Pool;
+use jc_base::{Classes, Ty, below};
+use jc_names::{LinkFault, lesser, refuse};
+
+/// The tag of a Classref.
+const CLASSREF: u8 = 1;
+
+/// A class below throwable.
+fn is_thrown(classes: &Classes, class: u16) -> bool
+    requires known { class < length classes.now.records }
+    requires throwable { IsClass classes.now (throwable classes.now) }
+    ensures { result ≡ thrown_by classes.now (Some class) }
+{
+    let _ = classes.records();
+    if classes.is_interface(class) {
+        return false;
+    }
+    below(classes, Ty::Class(class), Ty::Class(classes.role(1)))
+}
+
+/// The class or interface that an entry names, if it is a Classref.
+fn caught_by<N: Names>(names: &N, package: u16, pool: &Pool<'_>, index: u16) -> Option<u16>
+    ensures is { result ≡ caught_by (N.named_in names.now) «package» (slice_get (entries pool.now) index) }
+    ensures below { IfSome result (λ c. c < length (numbered_classes (N.named_in names.now))) }
+{
+    let entry = pool.at(index)?;
+    if entry.tag == CLASSREF {
+        class_in(names, package, entry)
+    } else {
+        None
+    }
+}
+
+/// Whether a handler of a package catches all, or a class below throwable.
+#[tactic(auto, unfolding(crate::specs::Catches::catches))]
+fn catches<N: Names>(
+    names: &N,
+    classes: &Classes,
+    package: u16,
+    pool: &Pool<'_>,
+    index: u16,
+) -> bool
+    requires count { length classes.now.records ≡ length (numbered_classes (N.named_in names.now)) }
+    requires throwable { IsClass classes.now (throwable classes.now) }
+    ensures { result ≡ catches (N.named_in names.now) classes.now «package» (entries pool.now) index }
+{
+    if index == 0 {
+        return true;
+    }
+    match caught_by(names, package, pool, index) {
+        Some(class) => is_thrown(classes, class),
+        None => false,
+    }
+}
+
+/// What is wrong with a handler of a package.
+#[tactic(auto, unfolding(crate::specs::Catches::catch_fault))]
+fn catch_fault<N: Names>(
+    names: &N,
+    classes: &Classes,
+    package: u16,
+    pool: &Pool<'_>,
+    number: u16,
+    handler: HandlerInfo,
+) -> Option<LinkFault>
+    requires count { length classes.now.records ≡ length (numbered_classes (N.named_in names.now)) }
+    requires throwable { IsClass classes.now (throwable classes.now) }
+    ensures { result ≡ catch_fault (N.named_in names.now) classes.now (record { home = «package»; pool = entries pool.now; number = number; handler = handler }) }
+{
+    if catches(names, classes, package, pool, handler.index) {
+        None
+    } else {
+        Some(LinkFault::BadCatch(package, number))
+    }
+}
+
+/// The least fault so far, when the handlers of a package were looked at.
+fn handlers_catch<N: Names>(
+    names: &N,
+    classes: &Classes,
+    package: u16,
+    pool: &Pool<'_>,
+    handlers: Handlers<'_>,
+    least: Option<LinkFault>,
+) -> Option<LinkFault>
+    requires count { length classes.now.records ≡ length (numbered_classes (N.named_in names.now)) }
+    requires throwable { IsClass classes.now (throwable classes.now) }
+    requires few { length (handlers_left handlers) ≤ 255 }
+    ensures { result ≡ least_from place_of least (catch_fault (N.named_in names.now) classes.now) (handlers_from «package» (entries pool.now) 0 (handlers_left handlers.entry)) }
+{
+    let mut least = least;
+    let mut number: u16 = 0;
+    'handlers: for handler in handlers {
+        let fault = catch_fault(names, classes, package, pool, number, handler);
+        least = lesser(least, fault);
+        number += 1;
+    }
+    least
+}
+
+/// Each handler catches all, or a class below throwable.
+#[tactic(auto, using(crate::proofs::Behind::least_handlers))]
+pub fn handlers_fit<N: Names>(
+    packages: &Packages<'_, '_>,
+    names: &N,
+    classes: &Classes,
+) -> Result<(), LinkFault>
+    requires same { N.named_in names.now ≡ packages.now }
+    requires many { length packages.now ≤ 16 }
+    requires count { length classes.now.records ≡ length (numbered_classes packages.now) }
+    requires throwable { IsClass classes.now (throwable classes.now) }
+    ensures { result ≡ refused (least_of place_of (catch_fault packages.now classes.now) (handler_places packages.now)) }
+{
+    let mut least = None;
+    'packages: for (k, package) in packages.as_slice().iter().enumerate() {
+        let handlers = package.methods().handlers();
+        least = handlers_catch(names, classes, k as u16, &package.pool(), handlers, least);
+    }
+    refuse(least)
+}

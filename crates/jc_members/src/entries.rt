@@ -1,0 +1,255 @@
+ghost use Rattle.std.specs.Prelude.{◌≡◌, ◌<◌, [], IfSome, length, slice_get};
+ghost use Rattle.cap_pool.specs.Pool.{entry_seen};
+ghost use Rattle.jc_base.specs.Class.{IsClass};
+ghost use Rattle.jc_base.specs.Dispatch.{entry_at, package_of};
+ghost use Rattle.jc_names.specs.Numbering.{numbered_classes};
+ghost use Rattle.jc_members.specs.Sites.{all_entered};
+ghost use Rattle.jc_members.specs.Entries.{class_in, exported_field, exported_method, own_place, field_place, method_place};
+ghost use Rattle.jc_members.specs.Members.{class_member, proper_in, virtual_member, may_name, super_of, super_member, static_sites, static_at, static_member, call_member};
+
+use crate::names::Names;
+use crate::sites::{Sites, Spot};
+use cap_package::Packages;
+use cap_pool::PoolEntry;
+use jc_base::{Classes, Dispatch, Member, Statics};
+use jc_names::Place;
+
+/// The class or interface that the first two bytes of an entry name.
+#[tactic(auto, unfolding(crate::specs::Entries::class_in))]
+pub(crate) fn class_in<N: Names>(names: &N, package: u16, entry: PoolEntry) -> Option<u16>
+    ensures is { result ≡ class_in (N.named_in names.now) «package» (entry_seen entry) }
+    ensures below { IfSome result (λ c. c < length (numbered_classes (N.named_in names.now))) }
+{
+    names.class_named(package, entry.bytes[0] as u16 * 256 + entry.bytes[1] as u16)
+}
+
+/// The class or interface that a Classref names.
+#[tactic(auto, unfolding(crate::specs::Members::class_member))]
+pub(crate) fn class_member<N: Names>(names: &N, package: u16, entry: PoolEntry) -> Option<Member>
+    ensures { result ≡ class_member (N.named_in names.now) «package» (entry_seen entry) }
+{
+    let class = class_in(names, package, entry)?;
+    Some(Member::ClassOf { class })
+}
+
+/// The class that an entry names, if it is no interface.
+#[tactic(auto, unfolding(crate::specs::Members::proper_in))]
+pub(crate) fn proper_in<N: Names>(
+    names: &N,
+    classes: &Classes,
+    package: u16,
+    entry: PoolEntry,
+) -> Option<u16>
+    requires { length classes.now.records ≡ length (numbered_classes (N.named_in names.now)) }
+    ensures is { result ≡ proper_in (N.named_in names.now) classes.now «package» (entry_seen entry) }
+    ensures class { IfSome result (IsClass classes.now) }
+{
+    let class = class_in(names, package, entry)?;
+    if classes.is_interface(class) {
+        None
+    } else {
+        Some(class)
+    }
+}
+
+fn number_at(list: &Dispatch, n: usize) -> Option<u16>
+    ensures { result ≡ slice_get list.now n }
+{
+    list.as_slice().get(n).copied()
+}
+
+/// The entry of a class's own dispatch lists at a token.
+fn entry_at(classes: &Classes, class: u16, token: u8) -> Option<u16>
+    requires { class < length classes.now.records }
+    ensures { result ≡ entry_at classes.now class token }
+{
+    let record = classes.at(class);
+    if token < 128 {
+        number_at(&record.public, token as usize)
+    } else {
+        number_at(&record.visible, token as usize - 128)
+    }
+}
+
+/// The token of a class that a VirtualMethodref names.
+#[tactic(auto, unfolding(crate::specs::Members::virtual_member, crate::specs::Members::virtual_by))]
+pub(crate) fn virtual_member<N: Names>(
+    names: &N,
+    classes: &Classes,
+    package: u16,
+    entry: PoolEntry,
+) -> Option<Member>
+    requires { length classes.now.records ≡ length (numbered_classes (N.named_in names.now)) }
+    ensures { result ≡ virtual_member (N.named_in names.now) classes.now «package» (entry_seen entry) }
+{
+    let class = proper_in(names, classes, package, entry)?;
+    let token = entry.bytes[2];
+    let _method = entry_at(classes, class, token)?;
+    Some(Member::Virtual { class, token })
+}
+
+/// The package of a class or an interface.
+fn package_of(classes: &Classes, class: u16) -> u16
+    requires { class < length classes.now.records }
+    ensures { result ≡ package_of classes.now class }
+{
+    classes.at(class).package
+}
+
+/// Whether a class may name a token of its superclass: a package-visible one only within the package.
+fn may_name(classes: &Classes, class: u16, token: u8, parent: u16) -> bool
+    requires class { class < length classes.now.records }
+    requires parent { parent < length classes.now.records }
+    ensures { result ≡ may_name classes.now class token parent }
+{
+    token < 128 || package_of(classes, parent) == package_of(classes, class)
+}
+
+/// The method that a class's superclass has for a token.
+#[tactic(auto, unfolding(crate::specs::Members::super_of, crate::specs::Members::super_by))]
+fn super_of(classes: &Classes, class: u16, token: u8) -> Option<Member>
+    requires { IsClass classes.now class }
+    ensures { result ≡ super_of classes.now token class }
+{
+    let parent = classes.parent(class)?;
+    if !may_name(classes, class, token, parent) {
+        return None;
+    }
+    let method = entry_at(classes, parent, token)?;
+    Some(Member::Super { class, method })
+}
+
+/// The method of a superclass that a SuperMethodref names.
+#[tactic(auto, unfolding(crate::specs::Members::super_member))]
+pub(crate) fn super_member<N: Names>(
+    names: &N,
+    classes: &Classes,
+    package: u16,
+    entry: PoolEntry,
+) -> Option<Member>
+    requires { length classes.now.records ≡ length (numbered_classes (N.named_in names.now)) }
+    ensures { result ≡ super_member (N.named_in names.now) classes.now «package» (entry_seen entry) }
+{
+    let class = proper_in(names, classes, package, entry)?;
+    super_of(classes, class, entry.bytes[2])
+}
+
+/// The offset of a static field that a package exports, by its class's token and its own.
+fn exported_field(packages: &Packages<'_, '_>, home: u16, class: u8, token: u8) -> Option<u16>
+    ensures { result ≡ exported_field packages.now home class token }
+{
+    if home as usize >= packages.len() {
+        return None;
+    }
+    packages.at(home as usize).export()?.field(class, token)
+}
+
+/// The offset of a method that a package exports, by its class's token and its own.
+fn exported_method(packages: &Packages<'_, '_>, home: u16, class: u8, token: u8) -> Option<u16>
+    ensures { result ≡ exported_method packages.now home class token }
+{
+    if home as usize >= packages.len() {
+        return None;
+    }
+    packages.at(home as usize).export()?.method(class, token)
+}
+
+/// Where an entry's member stands in its own package.
+fn own_place(package: u16, entry: PoolEntry) -> Place
+    ensures { result ≡ own_place «package» (entry_seen entry) }
+{
+    Place {
+        package,
+        offset: entry.bytes[1] as u16 * 256 + entry.bytes[2] as u16,
+    }
+}
+
+/// Where the static field stands that an entry names.
+#[tactic(auto, unfolding(crate::specs::Entries::field_place))]
+fn field_place<N: Names>(
+    packages: &Packages<'_, '_>,
+    names: &N,
+    package: u16,
+    entry: PoolEntry,
+) -> Option<Place>
+    requires { N.named_in names.now ≡ packages.now }
+    ensures { result ≡ field_place packages.now «package» (entry_seen entry) }
+{
+    if entry.bytes[0] < 128 {
+        return Some(own_place(package, entry));
+    }
+    let home = names.met_by(package, entry.bytes[0] - 128)?;
+    let offset = exported_field(packages, home, entry.bytes[1], entry.bytes[2])?;
+    Some(Place {
+        package: home,
+        offset,
+    })
+}
+
+/// Where the method stands that an entry names.
+#[tactic(auto, unfolding(crate::specs::Entries::method_place))]
+fn method_place<N: Names>(
+    packages: &Packages<'_, '_>,
+    names: &N,
+    package: u16,
+    entry: PoolEntry,
+) -> Option<Place>
+    requires { N.named_in names.now ≡ packages.now }
+    ensures { result ≡ method_place packages.now «package» (entry_seen entry) }
+{
+    if entry.bytes[0] < 128 {
+        return Some(own_place(package, entry));
+    }
+    let home = names.met_by(package, entry.bytes[0] - 128)?;
+    let offset = exported_method(packages, home, entry.bytes[1], entry.bytes[2])?;
+    Some(Place {
+        package: home,
+        offset,
+    })
+}
+
+/// The static field at a place.
+#[tactic(auto, unfolding(crate::specs::Members::static_at), using(crate::proofs::SiteLaws::only_kept))]
+fn static_at(statics: &Statics, sites: &Sites, place: Place) -> Option<Member>
+    requires { sites.now ≡ all_entered [] (static_sites statics.now) }
+    ensures { result ≡ static_at statics.now place }
+{
+    sites.only(Spot {
+        owner: place.package,
+        number: place.offset,
+    })
+}
+
+/// The static field that a StaticFieldref names, where the static fields are known by their places.
+#[tactic(auto, unfolding(crate::specs::Members::static_member))]
+pub(crate) fn static_member<N: Names>(
+    packages: &Packages<'_, '_>,
+    names: &N,
+    statics: &Statics,
+    sites: &Sites,
+    package: u16,
+    entry: PoolEntry,
+) -> Option<Member>
+    requires same { N.named_in names.now ≡ packages.now }
+    requires sites { sites.now ≡ all_entered [] (static_sites statics.now) }
+    ensures { result ≡ static_member packages.now statics.now «package» (entry_seen entry) }
+{
+    let place = field_place(packages, names, package, entry)?;
+    static_at(statics, sites, place)
+}
+
+/// The method that a StaticMethodref names.
+#[tactic(auto, unfolding(crate::specs::Members::call_member))]
+pub(crate) fn call_member<N: Names>(
+    packages: &Packages<'_, '_>,
+    names: &N,
+    package: u16,
+    entry: PoolEntry,
+) -> Option<Member>
+    requires { N.named_in names.now ≡ packages.now }
+    ensures { result ≡ call_member packages.now «package» (entry_seen entry) }
+{
+    let place = method_place(packages, names, package, entry)?;
+    let method = names.method_at(place)?;
+    Some(Member::StaticCall { method })
+}

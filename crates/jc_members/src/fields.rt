@@ -1,0 +1,178 @@
+ghost use Rattle.std.specs.Prelude.{◌≡◌, ◌+◌, ◌≤◌, ◌<◌, [], IfOk, IfSome, OnOk, length};
+ghost use Rattle.cap_class.specs.ClassPart.{classes_left};
+ghost use Rattle.cap_pool.specs.Pool.{entry_seen};
+ghost use Rattle.jc_base.specs.Class.{IsClass, parent_of};
+ghost use Rattle.jc_base.specs.Linked.{cells_above};
+ghost use Rattle.jc_names.specs.Counts.{class_total};
+ghost use Rattle.jc_names.specs.Numbering.{numbered_classes};
+ghost use Rattle.jc_members.specs.Fields.{HasRoom, HaveRoomIn, HaveRoom, class_sites, sites_of_classes, field_sites};
+ghost use Rattle.jc_members.specs.Sites.{all_entered};
+ghost use Rattle.jc_members.specs.Members.{as_of, kept_holder, kept_field, field_member};
+
+use crate::entries::proper_in;
+use crate::names::Names;
+use crate::own_field::{OwnField, cells_before, own_fields};
+use crate::sites::{Sites, Spot};
+use cap_package::{Package, Packages};
+use cap_pool::PoolEntry;
+use jc_base::{Classes, Member};
+use std::alloc::{AllocError, Global};
+
+/// How many cells the superclass of a class has.
+fn cells_above(classes: &Classes, class: u16) -> u32
+    requires { class < length classes.now.records }
+    ensures { result ≡ cells_above classes.now (parent_of classes.now class) }
+{
+    if classes.is_interface(class) {
+        return 0;
+    }
+    match classes.parent(class) {
+        Some(parent) => classes.at(parent).cells as u32,
+        None => 0,
+    }
+}
+
+/// Keeps the fields that a class has of its own.
+fn enter_class(
+    sites: &mut Sites,
+    classes: &Classes,
+    class: u16,
+    own: &Vec<OwnField>,
+) -> Result<(), AllocError>
+    requires known { class < length classes.now.records }
+    requires room { HasRoom classes.now class own.now.items }
+    ensures { OnOk result (sites.new ≡ all_entered sites.old (class_sites classes.now class own.now.items)) }
+{
+    let above = cells_above(classes, class);
+    'fields: for field in own.as_slice() {
+        let spot = Spot {
+            owner: class,
+            number: field.token as u16,
+        };
+        let member = Member::Field {
+            class,
+            cell: (above + cells_before(own, field.token)) as u16,
+            kind: field.kind,
+            ty: field.ty,
+        };
+        sites.enter(spot, member)?;
+    }
+    Ok(())
+}
+
+/// Keeps the fields of the classes of a package, the first of which has a number.
+#[tactic(auto, using(crate::proofs::Rooms::entered_both))]
+fn enter_package<N: Names>(
+    alloc: Global,
+    sites: &mut Sites,
+    names: &N,
+    classes: &Classes,
+    number: u16,
+    package: &Package<'_, '_>,
+    first: u16,
+) -> Result<(), AllocError>
+    requires few { length classes.now.records ≤ 4096 }
+    requires known { first + length «package».now.classes ≤ length classes.now.records }
+    requires room { HaveRoomIn (N.named_in names.now) classes.now number «package».now first «package».now.classes }
+    ensures { OnOk result (sites.new ≡ all_entered sites.old (sites_of_classes (N.named_in names.now) classes.now number «package».now first «package».now.classes)) }
+{
+    let object = classes.role(0);
+    let mut c = first;
+    'classes: for class in package.classes().iter() {
+        let own = own_fields(alloc, names, object, number, package, class)?;
+        enter_class(sites, classes, c, &own)?;
+        c += 1;
+    }
+    Ok(())
+}
+
+/// The instance fields of all classes by class and token.
+#[tactic(auto, using(crate::proofs::Rooms::entered_both))]
+pub(crate) fn field_sites<N: Names>(
+    alloc: Global,
+    packages: &Packages<'_, '_>,
+    names: &N,
+    classes: &Classes,
+) -> Result<Sites, AllocError>
+    requires same { N.named_in names.now ≡ packages.now }
+    requires many { length packages.now ≤ 16 }
+    requires few { length classes.now.records ≤ 4096 }
+    requires count { length classes.now.records ≡ class_total packages.now }
+    requires room { HaveRoom packages.now classes.now }
+    ensures { IfOk result (λ sites. sites ≡ all_entered [] (field_sites packages.now classes.now)) }
+{
+    let mut sites = Sites::new(alloc);
+    let mut first: u16 = 0;
+    'packages: for (k, package) in packages.as_slice().iter().enumerate() {
+        enter_package(alloc, &mut sites, names, classes, k as u16, package, first)?;
+        first += package.classes().count();
+    }
+    Ok(sites)
+}
+
+/// The nearest class, among a class and its superclasses, that has a field with a token.
+fn holder_of(classes: &Classes, sites: &Sites, class: u16, token: u8) -> Option<u16>
+    requires { IsClass classes.now class }
+    ensures { result ≡ kept_holder sites.now classes.now token class }
+{
+    let mut at = class;
+    'climb: loop {
+        let spot = Spot {
+            owner: at,
+            number: token as u16,
+        };
+        if sites.holds(spot) {
+            return Some(at);
+        }
+        match classes.parent(at) {
+            Some(parent) => at = parent,
+            None => return None,
+        }
+    }
+}
+
+/// A field of a superclass as one of the class.
+fn as_of(class: u16, member: Member) -> Member
+    ensures { result ≡ as_of class member }
+{
+    match member {
+        Member::Field { cell, kind, ty, .. } => Member::Field {
+            class,
+            cell,
+            kind,
+            ty,
+        },
+        _ => member,
+    }
+}
+
+/// The field that a class has with a token.
+fn field_of(classes: &Classes, sites: &Sites, class: u16, token: u8) -> Option<Member>
+    requires { IsClass classes.now class }
+    ensures { result ≡ kept_field sites.now classes.now token class }
+{
+    let holder = holder_of(classes, sites, class, token)?;
+    let spot = Spot {
+        owner: holder,
+        number: token as u16,
+    };
+    let member = sites.only(spot)?;
+    Some(as_of(class, member))
+}
+
+/// The field that an InstanceFieldref names, where the fields are known by class and token.
+#[tactic(auto, unfolding(crate::specs::Members::field_member), using(crate::proofs::Holders::field_kept))]
+pub(crate) fn field_member<N: Names>(
+    names: &N,
+    classes: &Classes,
+    sites: &Sites,
+    package: u16,
+    entry: PoolEntry,
+) -> Option<Member>
+    requires count { length classes.now.records ≡ length (numbered_classes (N.named_in names.now)) }
+    requires sites { sites.now ≡ all_entered [] (field_sites (N.named_in names.now) classes.now) }
+    ensures { result ≡ field_member (N.named_in names.now) classes.now «package» (entry_seen entry) }
+{
+    let class = proper_in(names, classes, package, entry)?;
+    field_of(classes, sites, class, entry.bytes[2])
+}

@@ -1,0 +1,153 @@
+ghost use Rattle.std.specs.Prelude.{◌≡◌, ◌+◌, ◌≤◌, ◌<◌, ◌++◌, IfOk, OnOk, map, filter_map, flat_map, length};
+ghost use Rattle.cap_class.specs.ClassPart.{class_seen as record_seen};
+ghost use Rattle.cap_desc.specs.ClassRecords.{class_seen, classes_left};
+ghost use Rattle.cap_desc.specs.MemberLists.{fields_left};
+ghost use Rattle.cap_desc.specs.MemberRecords.{field_seen};
+ghost use Rattle.cap_package.specs.Descriptions.{description};
+ghost use Rattle.jc_base.specs.Cell.{width};
+ghost use Rattle.jc_members.specs.Fields.{kind_of, own_field, fields_in, own_fields, cells_taken, cells_before};
+
+use crate::names::Names;
+use cap_class::ClassInfo;
+use cap_desc::{DescClass, DescFields, DescPart, FieldInfo, TypeItem};
+use cap_package::{Package, field_type};
+use jc_base::{Kind, Ty};
+use std::alloc::{AllocError, Global};
+
+/// An instance field that a class has of its own.
+#[derive(Clone, Copy)]
+pub(crate) struct OwnField {
+    pub(crate) token: u8,
+    pub(crate) kind: Kind,
+    /// The type of its first cell.
+    pub(crate) ty: Ty,
+}
+
+/// How a field keeps a value of a type.
+#[tactic(auto, unfolding(crate::specs::Fields::kind_of))]
+fn kind_of(ty: TypeItem) -> Kind
+    ensures { result ≡ kind_of ty }
+{
+    match ty.nibble {
+        2 | 3 => Kind::Byte,
+        4 => Kind::Short,
+        5 => Kind::Int,
+        _ => Kind::Ref,
+    }
+}
+
+/// The cells of a field of a kind.
+fn width(kind: Kind) -> u32
+    ensures { result ≡ width kind }
+{
+    match kind {
+        Kind::Int => 2,
+        _ => 1,
+    }
+}
+
+/// An instance field, by its description in a package; `object` is the number of class object.
+#[tactic(auto, unfolding(crate::specs::Fields::own_field))]
+fn own_field<N: Names>(
+    names: &N,
+    object: u16,
+    package: u16,
+    descriptor: &DescPart<'_>,
+    field: FieldInfo,
+) -> Option<OwnField>
+    ensures { result ≡ own_field (N.named_in names.now) object «package» (description descriptor.now) (field_seen field) }
+{
+    if field.flags.is_static() {
+        return None;
+    }
+    let ty = field_type(descriptor, field.ty)?;
+    Some(OwnField {
+        token: field.bytes[2],
+        kind: kind_of(ty),
+        ty: names.type_of(object, package, ty),
+    })
+}
+
+/// Appends the instance fields among described fields.
+fn push_fields<N: Names>(
+    own: &mut Vec<OwnField>,
+    names: &N,
+    object: u16,
+    package: u16,
+    descriptor: &DescPart<'_>,
+    fields: DescFields<'_>,
+) -> Result<(), AllocError>
+    ensures { OnOk result (own.new.items ≡ own.old.items ++ filter_map (own_field (N.named_in names.now) object «package» (description descriptor.now)) (fields_left fields.entry)) }
+{
+    'fields: for field in fields {
+        if let Some(field) = own_field(names, object, package, descriptor, field) {
+            own.push(field)?;
+        }
+    }
+    Ok(())
+}
+
+/// Appends those that a record of the Descriptor has of the class at an offset.
+fn push_record<N: Names>(
+    own: &mut Vec<OwnField>,
+    names: &N,
+    object: u16,
+    package: u16,
+    descriptor: &DescPart<'_>,
+    offset: u16,
+    described: DescClass<'_>,
+) -> Result<(), AllocError>
+    ensures { OnOk result (own.new.items ≡ own.old.items ++ fields_in (N.named_in names.now) object «package» (description descriptor.now) offset (class_seen described.entry)) }
+{
+    if offset < 0x8000 && described.class_ref() == offset {
+        return push_fields(own, names, object, package, descriptor, described.fields());
+    }
+    Ok(())
+}
+
+/// The fields that a class has of its own; an interface has none.
+#[tactic(auto, unfolding(crate::specs::Fields::own_fields))]
+pub(crate) fn own_fields<N: Names>(
+    alloc: Global,
+    names: &N,
+    object: u16,
+    number: u16,
+    package: &Package<'_, '_>,
+    class: ClassInfo<'_>,
+) -> Result<Vec<OwnField>, AllocError>
+    ensures { IfOk result (λ own. own.items ≡ own_fields (N.named_in names.now) object number «package».now (record_seen class.entry)) }
+{
+    let mut own = Vec::new(alloc);
+    if class.flags().is_interface() {
+        return Ok(own);
+    }
+    let descriptor = package.descriptor();
+    'records: for described in descriptor.classes() {
+        push_record(
+            &mut own,
+            names,
+            object,
+            number,
+            &descriptor,
+            class.offset(),
+            described,
+        )?;
+    }
+    Ok(own)
+}
+
+/// The cells of the fields of lesser tokens.
+#[tactic(auto, using(crate::proofs::Rooms::taken_before, crate::proofs::Rooms::before_most))]
+pub(crate) fn cells_before(fields: &Vec<OwnField>, token: u8) -> u32
+    requires { cells_taken fields.now.items ≤ 32767 }
+    ensures is { result ≡ cells_before fields.now.items token }
+    ensures most { result ≤ cells_taken fields.now.items }
+{
+    let mut cells: u32 = 0;
+    'fields: for field in fields.as_slice() {
+        if field.token < token {
+            cells += width(field.kind);
+        }
+    }
+    cells
+}

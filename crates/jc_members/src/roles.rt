@@ -1,0 +1,56 @@
+ghost use Rattle.std.specs.Prelude.{◌≡◌, ◌<◌, ℕ, length, slice_index};
+ghost use Rattle.jc_base.specs.Linked.{AreLinkedClasses};
+ghost use Rattle.jc_names.specs.Fault.{place_of};
+ghost use Rattle.jc_names.specs.FirstFault.{least_of, refused};
+ghost use Rattle.jc_members.specs.Roles.{is_concrete, role_fault, thrown_roles};
+
+use jc_base::{Classes, Methods};
+use jc_names::{LinkFault, lesser, refuse};
+
+/// Whether objects can be made of a class.
+fn is_concrete(classes: &Classes, methods: &Methods, class: u16) -> bool
+    requires known { class < length classes.now.records }
+    requires links { AreLinkedClasses 16 classes.now methods.now }
+    ensures { result ≡ is_concrete classes.now methods.now class }
+{
+    jc_base::is_concrete(classes, methods, class)
+}
+
+/// The class of a role.
+fn role_of(classes: &Classes, role: u8) -> u16
+    requires role { role < 8 }
+    requires known { (k : ℕ) → k < 8 → slice_index classes.now.roles k < length classes.now.records }
+    ensures is { result ≡ slice_index classes.now.roles role }
+    ensures below { result < length classes.now.records }
+{
+    classes.role(role)
+}
+
+/// What is wrong with the class of a role.
+#[tactic(auto, unfolding(crate::specs::Roles::role_fault))]
+fn role_fault(classes: &Classes, methods: &Methods, role: u8) -> Option<LinkFault>
+    requires role { role < 8 }
+    requires known { (k : ℕ) → k < 8 → slice_index classes.now.roles k < length classes.now.records }
+    requires links { AreLinkedClasses 16 classes.now methods.now }
+    ensures { result ≡ role_fault classes.now methods.now role }
+{
+    if is_concrete(classes, methods, role_of(classes, role)) {
+        None
+    } else {
+        Some(LinkFault::RoleAbstract(role))
+    }
+}
+
+/// The classes that the machine throws are concrete.
+pub fn roles_fit(classes: &Classes, methods: &Methods) -> Result<(), LinkFault>
+    requires known { (k : ℕ) → k < 8 → slice_index classes.now.roles k < length classes.now.records }
+    requires links { AreLinkedClasses 16 classes.now methods.now }
+    ensures { result ≡ refused (least_of place_of (role_fault classes.now methods.now) thrown_roles) }
+{
+    let least = lesser(None, role_fault(classes, methods, 2));
+    let least = lesser(least, role_fault(classes, methods, 3));
+    let least = lesser(least, role_fault(classes, methods, 4));
+    let least = lesser(least, role_fault(classes, methods, 5));
+    let least = lesser(least, role_fault(classes, methods, 6));
+    refuse(lesser(least, role_fault(classes, methods, 7)))
+}
