@@ -1,0 +1,100 @@
+-- The world that packages and the roles of classes make (JCVM 2.2, chapters 4 and 6): each class reference, import and pool entry replaced by the one class, package or member that it names, where none of the conditions on linking is broken.
+use Rattle.std.specs.Prelude.{◌≡◌, ℕ, List, [], ◌∷◌, ◌++◌, length, map, Result, Ok, Err, slice_index}
+use Rattle.std.specs.Option.{option_to_list}
+use Rattle.cap_package.specs.PackageRecord.{PackageRecord}
+use Rattle.jc_base.specs.declared.record.MethodRec.{MethodRec}
+use Rattle.jc_base.specs.declared.record.StaticRec.{StaticRec}
+use Rattle.jc_base.specs.Class.{ClassTable}
+use Rattle.jc_base.specs.World.{Linked}
+use Rattle.jc_names.specs.declared.fault.LinkFault.{LinkFault}
+use Rattle.jc_names.specs.declared.fault.LinkEnd.{LinkEnd}
+use Rattle.jc_names.specs.declared.fault.LinkEnd.TheVariants.{Fault, Memory}
+use Rattle.jc_names.specs.declared.named.NamedClass.{NamedClass}
+use Rattle.jc_names.specs.Fault.{place_of}
+use Rattle.jc_names.specs.FirstFault.{IsFirst, AllEmpty}
+use Rattle.jc_names.specs.NamedClasses.{named_classes}
+use Rattle.jc_names.specs.NamedMethods.{named_methods}
+use Rattle.jc_names.specs.WorldTypes.{type_of}
+use Rattle.jc_names.specs.Conditions as names
+use Rattle.jc_lineage.specs.Conditions as lineage
+use Rattle.jc_lineage.specs.Outline.{outline}
+use Rattle.jc_classes.specs.Conditions as classes
+use Rattle.jc_classes.specs.Tables.{class_tables}
+use Rattle.jc_statics.specs.Arrays.{array_records}
+use Rattle.jc_statics.specs.Statics.{static_records}
+use Rattle.jc_statics.specs.Room.{statics_fault, arrays_fault}
+use Rattle.jc_members.specs.Pools.{pools, missing_members}
+use Rattle.jc_members.specs.Catches.{bad_catches}
+use Rattle.jc_members.specs.Roles.{abstract_roles}
+
+-- ---- the lists of the world; a role is the number of a class, role 0 that of class object
+
+abbrev pub classes_of : List PackageRecord → List ℕ → List NamedClass
+classes_of ps roles = named_classes ps (slice_index roles 0)
+
+-- the classes with their superclasses alone, and with their dispatch lists and cells
+abbrev pub lineage_of : List PackageRecord → List ℕ → ClassTable
+lineage_of ps roles = outline (classes_of ps roles) roles
+
+abbrev pub table_of : List PackageRecord → List ℕ → ClassTable
+table_of ps roles = class_tables (lineage_of ps roles) (classes_of ps roles)
+
+abbrev pub methods_of : List PackageRecord → List ℕ → List MethodRec
+methods_of = named_methods
+
+abbrev pub statics_of : List PackageRecord → List ℕ → List StaticRec
+statics_of ps roles = static_records (type_of ps (slice_index roles 0)) ps
+
+-- the Method info of each package
+abbrev pub infos_of : List PackageRecord → List (List ℕ)
+infos_of = map (λ (p : PackageRecord). p.methods.info)
+
+-- a world is that of packages and roles
+pub record AreListsOf (ps : List PackageRecord) (roles : List ℕ) (w : Linked) : Type 0 where
+  pub infos : w.infos ≡ infos_of ps
+  -- of each pool entry the one member that it names
+  pub pools : w.pools ≡ pools ps (table_of ps roles) (statics_of ps roles)
+  pub classes : w.classes ≡ table_of ps roles
+  pub methods : w.methods ≡ methods_of ps roles
+  pub statics : w.statics ≡ statics_of ps roles
+  pub arrays : w.arrays ≡ array_records ps
+
+-- ---- what breaks the conditions, in the order of their numbers
+
+-- how many classes the first package has
+abbrev pub first_classes : List PackageRecord → ℕ
+first_classes [] = 0
+first_classes (p ∷ ps) = length p.classes
+
+abbrev pub conditions : List PackageRecord → List ℕ → List (List LinkFault)
+conditions ps roles =
+    -- numbers, imports and class references
+    names.conditions ps
+    -- superclasses, roles and interfaces
+    ++ (lineage.conditions (classes_of ps roles) (first_classes ps) roles
+    -- dispatch lists and instances
+    ++ (classes.conditions (lineage_of ps roles) (classes_of ps roles) (methods_of ps roles)
+    -- static cells
+    ++ (option_to_list (statics_fault ps)
+    -- pool entries that have not exactly one member
+    ∷ missing_members ps (table_of ps roles) (statics_of ps roles)
+    -- handlers that catch no class below throwable
+    ∷ bad_catches ps (table_of ps roles)
+    -- initial arrays
+    ∷ option_to_list (arrays_fault ps)
+    -- roles whose class is abstract
+    ∷ abstract_roles (table_of ps roles) (methods_of ps roles)
+    ∷ [])))
+
+-- ---- the definition
+
+-- packages and roles make this world
+pub record IsLinked (ps : List PackageRecord) (roles : List ℕ) (w : Linked) : Type 0 where
+  pub faultless : AllEmpty (conditions ps roles)
+  pub lists : AreListsOf ps roles w
+
+-- the world exactly where nothing is at fault; else the first condition by number that is broken, at its least thing
+abbrev pub LinkTells : List PackageRecord → List ℕ → Result Linked LinkEnd → Type 0
+LinkTells ps roles (Ok w) = IsLinked ps roles w
+LinkTells ps roles (Err (Fault fault)) = IsFirst place_of (conditions ps roles) fault
+LinkTells ps roles (Err Memory) = Unit {0}
