@@ -1,0 +1,12 @@
+pub mod Flaw
+pub mod Laws
+pub mod Flags
+pub mod Survey
+pub mod MethodIn
+pub mod Subject
+pub mod Places
+pub mod FirstFailing
+pub mod Scan
+pub mod Targets
+pub mod Search
+pub mod Sample
