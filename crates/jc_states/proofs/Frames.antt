@@ -1,0 +1,191 @@
+-- Frames are ordered cell by cell, and joined cell by cell.
+use Rattle.std.proofs.Common.{◌≡◌, ℕ, zero, suc, true, List, [], ◌∷◌, length, replicate, All, refl, sym, ap, subst, arith}
+use Rattle.jc_base.specs.declared.ty.Ty.{Ty}
+use Rattle.jc_base.specs.declared.ty.Ty.TheVariants.{Bottom, Short, IntHigh, IntLow, Null, Class, ArrBool, ArrByte, ArrShort, ArrInt, ArrRef, Fresh, Top}
+use Rattle.jc_base.specs.Class.{ClassTable, AreClasses}
+use Rattle.jc_base.specs.Order.{Below, IsJoin, IsKnown, same, joined, is_below}
+use Rattle.jc_base.proofs.Subtypes.{is_below-from_Below}
+use Rattle.jc_base.proofs.Joins.{IsJoin-unique, join_of-is, join_of-known}
+use Rattle.jc_rules.specs.Demand.{Frame}
+use Rattle.jc_rules.specs.Flow.{CellsBelow, no_cells, more_cells, FrameBelow, CellsJoin, none_joined, more_joined, IsNotFresh, IsNotTop}
+use Rattle.jc_rules.specs.Laws.{IsNotBottom}
+
+-- ---- all cells of a list
+
+module _ {X : Type 0} (P : X → Type 0) where
+  pub all_none : All P []
+  all_none k d lt = absurd (omega arith)
+
+  pub all_more : (x : X) (xs : List X) → P x → All P xs → All P (x ∷ xs)
+  all_more x xs p all zero d lt = p
+  all_more x xs p all (suc k) d lt = all k d (omega arith)
+
+  pub all_first : (x : X) (xs : List X) → All P (x ∷ xs) → P x
+  all_first x xs all = all 0 x (omega arith)
+
+  pub all_rest : (x : X) (xs : List X) → All P (x ∷ xs) → All P xs
+  all_rest x xs all k d lt = all (suc k) d (omega arith)
+
+  pub all_same : (n : ℕ) (x : X) → P x → All P (replicate n x)
+  all_same zero x p = all_none
+  all_same (suc n) x p = all_more x (replicate n x) p (all_same n x p)
+
+-- neither an uninitialised object nor Top
+abbrev pub IsReady : Ty → Type 0
+IsReady ty = IsNotFresh ty × IsNotTop ty
+
+-- ---- the order
+
+module _ (t : ClassTable) where
+  pub cells-same : (xs : List Ty) → CellsBelow t xs xs
+  cells-same [] = no_cells
+  cells-same (x ∷ xs) = more_cells same (cells-same xs)
+
+  pub frame-same : (f : Frame) → FrameBelow t f f
+  frame-same f = record { regs = cells-same f.regs; stack = cells-same f.stack }
+
+  pub cells-trans : {xs ys zs : List Ty} → CellsBelow t xs ys → CellsBelow t ys zs → CellsBelow t xs zs
+  cells-trans no_cells q = q
+  cells-trans (more_cells h p) (more_cells k q) = more_cells (joined h k) (cells-trans p q)
+
+  pub frame-trans : {f g h : Frame} → FrameBelow t f g → FrameBelow t g h → FrameBelow t f h
+  frame-trans p q = record { regs = cells-trans p.regs q.regs; stack = cells-trans p.stack q.stack }
+
+  pub cells-length : {xs ys : List Ty} → CellsBelow t xs ys → length xs ≡ length ys
+  cells-length no_cells = refl
+  cells-length (more_cells h p) = ap suc (cells-length p)
+
+  -- what holds of what is below something of which it holds
+  module _ (P Q : Ty → Type 0) (falls : (a b : Ty) → Below t a b → Q b → P a) where
+    pub cells-fall : {xs ys : List Ty} → CellsBelow t xs ys → All Q ys → All P xs
+    cells-fall no_cells all = all_none P
+    cells-fall (more_cells {a} {b} {xs} {ys} h p) all = all_more P a xs (falls a b h (all_first Q b ys all)) (cells-fall p (all_rest Q b ys all))
+
+  -- ---- the join
+
+  pub join-left : {xs ys js : List Ty} → CellsJoin t xs ys js → CellsBelow t xs js
+  join-left none_joined = no_cells
+  join-left (more_joined h p) = more_cells h.left (join-left p)
+
+  pub join-right : {xs ys js : List Ty} → CellsJoin t xs ys js → CellsBelow t ys js
+  join-right none_joined = no_cells
+  join-right (more_joined h p) = more_cells h.right (join-right p)
+
+  pub join-least : {xs ys js us : List Ty} → CellsJoin t xs ys js → CellsBelow t xs us → CellsBelow t ys us → CellsBelow t js us
+  join-least none_joined p q = p
+  join-least (more_joined h j) (more_cells p ps) (more_cells q qs) = more_cells (h.least _ p q) (join-least j ps qs)
+
+  pub join-length : {xs ys js : List Ty} → CellsJoin t xs ys js → length js ≡ length xs
+  join-length j = sym (cells-length (join-left j))
+
+  -- what holds of a join of types of which it holds
+  module _ (P : Ty → Type 0) (joins : (a b j : Ty) → P a → P b → IsJoin t a b j → P j) where
+    pub join-all : {xs ys js : List Ty} → CellsJoin t xs ys js → All P xs → All P ys → All P js
+    join-all none_joined p q = p
+    join-all (more_joined {a} {b} {j} {xs} {ys} {js} h rest) p q =
+        all_more P j js (joins a b j (all_first P a xs p) (all_first P b ys q) h) (join-all rest (all_rest P a xs p) (all_rest P b ys q))
+
+  module _ (are : AreClasses t) where
+    pub known-join : (a b j : Ty) → IsKnown t a → IsKnown t b → IsJoin t a b j → IsKnown t j
+    known-join a b j p q is = subst (IsKnown t) (IsJoin-unique t are (join_of-is t are a b p q) is) (join_of-known t are a b p q)
+
+    -- ---- Bottom, Top and uninitialised objects
+
+    under_bottom : (a : Ty) → is_below t a Bottom ≡ true → IsNotBottom a → ⊥
+    unfolding is_below
+    under_bottom Bottom e n = n
+    under_bottom Short e n = absurd (cc)
+    under_bottom IntHigh e n = absurd (cc)
+    under_bottom IntLow e n = absurd (cc)
+    under_bottom Null e n = absurd (cc)
+    under_bottom (Class c) e n = absurd (cc)
+    under_bottom ArrBool e n = absurd (cc)
+    under_bottom ArrByte e n = absurd (cc)
+    under_bottom ArrShort e n = absurd (cc)
+    under_bottom ArrInt e n = absurd (cc)
+    under_bottom (ArrRef c) e n = absurd (cc)
+    under_bottom (Fresh p c) e n = absurd (cc)
+    under_bottom Top e n = absurd (cc)
+
+    -- what is above a type that is not Bottom is not Bottom
+    pub full-rises : (a b : Ty) → Below t a b → IsNotBottom a → IsNotBottom b
+    full-rises a Bottom h n = under_bottom a (is_below-from_Below t are h) n
+    full-rises a Short h n = tt
+    full-rises a IntHigh h n = tt
+    full-rises a IntLow h n = tt
+    full-rises a Null h n = tt
+    full-rises a (Class c) h n = tt
+    full-rises a ArrBool h n = tt
+    full-rises a ArrByte h n = tt
+    full-rises a ArrShort h n = tt
+    full-rises a ArrInt h n = tt
+    full-rises a (ArrRef c) h n = tt
+    full-rises a (Fresh p c) h n = tt
+    full-rises a Top h n = tt
+
+    pub full-join : (a b j : Ty) → IsNotBottom a → IsNotBottom b → IsJoin t a b j → IsNotBottom j
+    full-join a b j p q is = full-rises a j is.left p
+
+    over_top : (b : Ty) → is_below t Top b ≡ true → IsNotTop b → ⊥
+    unfolding is_below
+    over_top Top e n = n
+    over_top Bottom e n = absurd (cc)
+    over_top Short e n = absurd (cc)
+    over_top IntHigh e n = absurd (cc)
+    over_top IntLow e n = absurd (cc)
+    over_top Null e n = absurd (cc)
+    over_top (Class c) e n = absurd (cc)
+    over_top ArrBool e n = absurd (cc)
+    over_top ArrByte e n = absurd (cc)
+    over_top ArrShort e n = absurd (cc)
+    over_top ArrInt e n = absurd (cc)
+    over_top (ArrRef c) e n = absurd (cc)
+    over_top (Fresh p c) e n = absurd (cc)
+
+    -- what is below a type that is not Top is not Top
+    pub topless-falls : (a b : Ty) → Below t a b → IsNotTop b → IsNotTop a
+    topless-falls Top b h n = over_top b (is_below-from_Below t are h) n
+    topless-falls Bottom b h n = tt
+    topless-falls Short b h n = tt
+    topless-falls IntHigh b h n = tt
+    topless-falls IntLow b h n = tt
+    topless-falls Null b h n = tt
+    topless-falls (Class c) b h n = tt
+    topless-falls ArrBool b h n = tt
+    topless-falls ArrByte b h n = tt
+    topless-falls ArrShort b h n = tt
+    topless-falls ArrInt b h n = tt
+    topless-falls (ArrRef c) b h n = tt
+    topless-falls (Fresh p c) b h n = tt
+
+    over_fresh : (p c : ℕ) (b : Ty) → is_below t (Fresh p c) b ≡ true → IsNotFresh b → IsNotTop b → ⊥
+    unfolding is_below
+    over_fresh p c Top e f n = n
+    over_fresh p c (Fresh q d) e f n = f
+    over_fresh p c Bottom e f n = absurd (cc)
+    over_fresh p c Short e f n = absurd (cc)
+    over_fresh p c IntHigh e f n = absurd (cc)
+    over_fresh p c IntLow e f n = absurd (cc)
+    over_fresh p c Null e f n = absurd (cc)
+    over_fresh p c (Class d) e f n = absurd (cc)
+    over_fresh p c ArrBool e f n = absurd (cc)
+    over_fresh p c ArrByte e f n = absurd (cc)
+    over_fresh p c ArrShort e f n = absurd (cc)
+    over_fresh p c ArrInt e f n = absurd (cc)
+    over_fresh p c (ArrRef d) e f n = absurd (cc)
+
+    -- what is below a type that is neither is no uninitialised object
+    pub ready-falls : (a b : Ty) → Below t a b → IsReady b → IsNotFresh a
+    ready-falls (Fresh p c) b h n = over_fresh p c b (is_below-from_Below t are h) n.0 n.1
+    ready-falls Top b h n = tt
+    ready-falls Bottom b h n = tt
+    ready-falls Short b h n = tt
+    ready-falls IntHigh b h n = tt
+    ready-falls IntLow b h n = tt
+    ready-falls Null b h n = tt
+    ready-falls (Class c) b h n = tt
+    ready-falls ArrBool b h n = tt
+    ready-falls ArrByte b h n = tt
+    ready-falls ArrShort b h n = tt
+    ready-falls ArrInt b h n = tt
+    ready-falls (ArrRef c) b h n = tt

@@ -1,0 +1,7 @@
+pub mod Frames
+pub mod Landing
+pub mod Decides
+pub mod Derived
+pub mod Growth
+pub mod Settled
+pub mod Measure
