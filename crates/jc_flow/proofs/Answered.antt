@@ -1,0 +1,72 @@
+-- What is answered for a method of the world.
+use Rattle.std.proofs.Common.{◌≡◌, ℕ, ◌<◌, ◌≤◌, Bool, true, false, List, length, Option, Some, option_map, IsSomeAnd, MatchBool, slice_get, sym, ◌∙◌, ap, subst, arith, length-take}
+use Rattle.jc_base.specs.declared.ty.Ty.TheVariants.{Top}
+use Rattle.jc_base.specs.declared.record.MethodRec.{MethodRec}
+use Rattle.jc_base.specs.Linked.{IsCodeLength, lacks_code}
+use Rattle.jc_base.specs.World.{Linked, IsWorld, code_of}
+use Rattle.jc_base.proofs.Lists.{slice_get-below}
+use Rattle.jc_rules.specs.Flow.{Method, IsMethodOf, HasFlowTyping}
+use Rattle.jc_places.specs.declared.flaw.Flaw.{Flaw}
+use Rattle.jc_places.specs.declared.flaw.Flaw.TheVariants as flaws
+use Rattle.jc_places.specs.declared.flaw.SurveyEnd.{SurveyEnd}
+use Rattle.jc_places.specs.declared.flaw.SurveyEnd.TheVariants.{Flawed}
+use Rattle.jc_places.specs.declared.flaw.SurveyEnd.TheVariants.{Memory as NotSurveyed}
+use Rattle.jc_places.specs.Flaw.{IsFirstFlaw}
+use Rattle.jc_places.specs.MethodIn.{method_in, method_with}
+use Rattle.jc_places.specs.Survey.{TellsFlaw}
+use Rattle.jc_places.proofs.FlawLaws.{first-flaw-refuses}
+use Rattle.jc_states.proofs.Derived.{some_to, some_at, at_some, some_map, of_world}
+use Rattle.jc_flow.specs.declared.end.FlowEnd.{FlowEnd}
+use Rattle.jc_flow.specs.declared.end.FlowEnd.TheVariants.{NoTyping, Code, BadTarget, FallsOff, BadHandler, Memory}
+use Rattle.jc_flow.specs.Fails.{IsFailure}
+use Rattle.jc_flow.specs.Infer.{HasNone, unsurveyed_as}
+use Rattle.jc_flow.proofs.Never.{none-where-fails, none-where-falls}
+
+pub number-below : {X : Type 0} (P : X → Type 0) (xs : List X) (n : ℕ) → IsSomeAnd (slice_get xs n) P → n < length xs
+number-below P xs n h = some_to P (n < length xs) (slice_get xs n) (λ x e p. slice_get-below xs n x e) h
+
+some-same : {X : Type 0} {a b : X} → ◌≡◌ {A = Option X} (Some a) (Some b) → a ≡ b
+some-same e = cc
+
+length-short : (b : Bool) (n : ℕ) → MatchBool b (n ≡ 0) (IsCodeLength n) → n ≤ 32767
+length-short true n h = omega (arith, h)
+length-short false n h = h.most
+
+module _ (w : Linked) (n : ℕ) (rec : MethodRec) (code : List ℕ) (here : slice_get w.methods n ≡ Some rec) (bytes : option_map (code_of w.infos) (slice_get w.methods n) ≡ Some code) where
+  own_code : code_of w.infos rec ≡ code
+  own_code = some-same (ap (option_map (code_of w.infos)) (sym here) ∙ bytes)
+
+  pub method-is : method_in w n ≡ Some (record { number = n; rec = rec; code = code })
+  method-is = ap (option_map (method_with w n)) here ∙ ap (λ (c : List ℕ). Some (record { number = n; rec = rec; code = c })) own_code
+
+  pub of-method : (P : Method → Type 0) → IsSomeAnd (method_in w n) P → P (record { number = n; rec = rec; code = code })
+  of-method P h = some_at P method-is h
+
+  pub to-method : (P : Method → Type 0) → P (record { number = n; rec = rec; code = code }) → IsSomeAnd (method_in w n) P
+  to-method P h = at_some P method-is h
+
+  pub code-short : IsWorld w → IsMethodOf w (record { number = n; rec = rec; code = code }) → length code ≤ 32767
+  code-short is mo =
+      let most : rec.code_len ≤ 32767 = length-short (lacks_code w.classes rec) rec.code_len (of_world w is (record { number = n; rec = rec; code = code }) mo).code in
+      let size : length code ≡ _ = ap length mo.code ∙ length-take rec.code_len _ in
+      omega arith
+
+flaw-none : (w : Linked) (m : Method) (f : Flaw) → IsFirstFlaw m f → ¬ (HasFlowTyping w m Top)
+flaw-none w m f first has = first-flaw-refuses m f first has.typing.formed
+
+unsurveyed-none : (w : Linked) (m : Method) (end : SurveyEnd) → TellsFlaw m end → HasNone w m (unsurveyed_as end)
+unsurveyed-none w m (Flawed (flaws.Code p e)) h = flaw-none w m (flaws.Code p e) h
+unsurveyed-none w m (Flawed (flaws.BadTarget p t)) h = flaw-none w m (flaws.BadTarget p t) h
+unsurveyed-none w m (Flawed (flaws.BadHandler p k)) h = flaw-none w m (flaws.BadHandler p k) h
+unsurveyed-none w m NotSurveyed h = tt
+
+pub none-unsurveyed : (w : Linked) (o : Option Method) (end : SurveyEnd) (r : FlowEnd) → r ≡ unsurveyed_as end → IsSomeAnd o (λ m. TellsFlaw m end) → IsSomeAnd o (λ m. HasNone w m r)
+none-unsurveyed w o end r e h = some_map (λ m. TellsFlaw m end) (λ m. HasNone w m r) o (λ m t. subst (HasNone w m) (sym e) (unsurveyed-none w m end t)) h
+
+pub none-failed : (w : Linked) → IsWorld w → (m : Method) → IsMethodOf w m → (end : FlowEnd) → IsFailure w m end → HasNone w m end
+none-failed w is m mo (NoTyping p fault) h = none-where-fails w is m mo p fault h
+none-failed w is m mo (FallsOff p) h = none-where-falls w is m mo p h
+none-failed w is m mo (Code p end) h = absurd h
+none-failed w is m mo (BadTarget p target) h = absurd h
+none-failed w is m mo (BadHandler entry number) h = absurd h
+none-failed w is m mo Memory h = tt

@@ -1,0 +1,61 @@
+-- The search's begin: an empty table, and the frame of the method's start.
+use Rattle.std.proofs.Common.{◌≡◌, ℕ, zero, suc, ◌⊎◌, inl, inr, false, length, replicate, Option, Some, None, IsSomeAnd, refl, sym, ◌∙◌, ap, subst, arith}
+use Rattle.std.proofs.lemmas.List.{length-replicate}
+use Rattle.jc_base.specs.declared.ty.Ty.TheVariants.{Top}
+use Rattle.jc_base.specs.World.{Linked}
+use Rattle.jc_rules.specs.Demand.{Frame}
+use Rattle.jc_rules.specs.Flow.{Method, IsMethodOf, IsWellFormed, IsNotTop, IsNotFresh, start_frame, derived_start}
+use Rattle.jc_rules.specs.Typing.{state_at, Clashes}
+use Rattle.jc_states.specs.declared.table.PutEnd.{PutEnd}
+use Rattle.jc_states.specs.declared.table.PutEnd.TheVariants.{Clash, Memory}
+use Rattle.jc_states.specs.Found.{Found, IsPending, Prevents}
+use Rattle.jc_states.specs.Progress.{IsHeld, AreHeld, IsClosed, AreClosed}
+use Rattle.jc_states.proofs.Frames.{all_none}
+use Rattle.jc_flow.specs.Fails.{IsFailure}
+use Rattle.jc_flow.specs.Visit.{Goes, broken_at}
+use Rattle.jc_flow.proofs.Behind.{place-first}
+
+abbrev pub empty : ℕ → Found
+empty n = record { states = replicate n None; pending = replicate n false }
+
+nothing-at : (n p : ℕ) → state_at (replicate n None) p ≡ None
+unfolding state_at
+nothing-at zero zero = refl
+nothing-at zero (suc p) = refl
+nothing-at (suc n) zero = refl
+nothing-at (suc n) (suc p) = nothing-at n p
+
+no-frame : {f : Frame} → ◌≡◌ {A = Option Frame} None (Some f) → ⊥
+no-frame e = cc
+
+module _ (w : Linked) (m : Method) where
+  pub empty-held : (found : Found) → found ≡ empty (length m.code) → AreHeld w m found
+  empty-held found e = subst (AreHeld w m) (sym e) (record {
+    places = length-replicate (length m.code) None;
+    flags = length-replicate (length m.code) false;
+    held = λ p f h. absurd (no-frame (sym (nothing-at (length m.code) p) ∙ h));
+  })
+
+  pub start-held : IsMethodOf w m → IsWellFormed m → IsHeld w m 0 (start_frame m.rec Top)
+  start-held mo formed = record {
+    derived = derived_start;
+    place = place-first m.code formed.ends mo.filled;
+    room = omega arith;
+    no_top = all_none IsNotTop;
+    ready = λ l. all_none IsNotFresh;
+  }
+
+  pub begun-closed : (old new : Found) → old ≡ empty (length m.code) → Goes w m old new → AreClosed w m new
+  begun-closed old new e goes p f h = by (goes.grown.stays p)
+    where
+      by : (state_at new.states p ≡ state_at old.states p) ⊎ IsPending new p → IsPending new p ⊎ IsClosed w m new p f
+      by (inr k) = inl k
+      by (inl same) = absurd (no-frame (sym (nothing-at (length m.code) p) ∙ ap (λ (x : Found). state_at x.states p) (sym e) ∙ sym same ∙ h))
+
+  none-there : (P : Frame → Type 0) (o : Option Frame) → o ≡ None → IsSomeAnd o P → ⊥
+  none-there P None e h = h
+  none-there P (Some f) e h = no-frame (sym e)
+
+  pub begin-failed : (old : Found) (f : Frame) (end : PutEnd) → old ≡ empty (length m.code) → Prevents w.classes old 0 f end → IsFailure w m (broken_at 0 end)
+  begin-failed old f Memory e h = tt
+  begin-failed old f Clash e h = absurd (none-there (λ g. Clashes w.classes g f) (state_at old.states 0) (ap (λ (x : Found). state_at x.states 0) e ∙ nothing-at (length m.code) 0) h)

@@ -1,0 +1,36 @@
+-- The first cells of a list are those of another.
+use Rattle.std.proofs.Common.{◌≡◌, ℕ, zero, suc, ◌+◌, ◌<◌, ◌≤◌, List, [], ◌∷◌, ◌++◌, length, get_or, set, take, drop, reverse, length-append, length-drop, refl, sym, ◌∙◌, ap, arith, add-one}
+use Rattle.std.proofs.Math.Seq.{take-length, take-append_seam}
+use Rattle.std.proofs.lemmas.List.{append-nil, drop_all}
+use Rattle.jc_base.specs.declared.ty.Ty.{Ty}
+use Rattle.jc_rules.specs.Stack.{cells}
+use Rattle.jc_rules.specs.Demand.{Frame}
+use Rattle.jc_flow.specs.Scratch.{Scratched}
+
+more : (from to : List Ty) (n : ℕ) (d : Ty) → n < length from → n < length to → set (take n from ++ drop n to) n (get_or from n d) ≡ take (suc n) from ++ drop (suc n) to
+more [] to n d h k = absurd (omega arith)
+more (x ∷ xs) [] n d h k = absurd (omega arith)
+more (x ∷ xs) (y ∷ ys) zero d h k = refl
+more (x ∷ xs) (y ∷ ys) (suc n) d h k = ap (λ zs. x ∷ zs) (more xs ys n d (omega arith) (omega arith))
+
+pub copied_more : (from to now : List Ty) (n : ℕ) (d : Ty) → n < length from → n < length to → now ≡ take n from ++ drop n to → set now n (get_or from n d) ≡ take (n + 1) from ++ drop (n + 1) to
+copied_more from to now n d h k e = ap (λ xs. set xs n (get_or from n d)) e ∙ rw (add-one n) (more from to n d h k)
+
+pub copied_all : (from to now : List Ty) (n : ℕ) → length from ≤ n → n ≤ length from → now ≡ take n from ++ drop n to → now ≡ from ++ drop (length from) to
+copied_all from to now n h k e =
+    let same : n ≡ length from = omega arith in
+    e ∙ ap (λ m. take m from ++ drop m to) same ∙ ap (λ xs. xs ++ drop (length from) to) (take-length from)
+
+-- registers and a stack that are copied make the frame that they come from
+pub copied_frame : (regs old_regs new_regs stack old_stack new_stack : List Ty) (f : Frame) (depth : ℕ) → f.regs ≡ regs → length regs ≡ length old_regs → new_regs ≡ regs ++ drop (length regs) old_regs
+    → f.stack ≡ reverse stack → new_stack ≡ stack ++ drop (length stack) old_stack → depth ≡ length stack → length stack ≤ length old_stack
+    → ◌≡◌ {A = Scratched} (record { frame = record { regs = new_regs; stack = cells new_stack depth }; room = length new_stack }) (record { frame = f; room = length old_stack })
+unfolding cells
+copied_frame regs old_regs new_regs stack old_stack new_stack f depth rf rl rn sf sn d sl =
+    let now_regs : new_regs ≡ f.regs = rn ∙ ap (λ xs. regs ++ xs) (drop_all (length regs) old_regs (omega arith)) ∙ append-nil regs ∙ sym rf in
+    let now_stack : reverse (take depth new_stack) ≡ f.stack = ap (λ n. reverse (take n new_stack)) d ∙ ap (λ xs. reverse (take (length stack) xs)) sn ∙ ap reverse (take-append_seam stack (drop (length stack) old_stack)) ∙ sym sf in
+    let room : length new_stack ≡ length old_stack = ap length sn ∙ length-append stack (drop (length stack) old_stack) ∙ omega (arith, length-drop (length stack) old_stack) in
+    let held : List Ty → List Ty → ℕ → Scratched = λ xs ys n. record { frame = record { regs = xs; stack = ys }; room = n } in
+    ap (λ xs. held xs (reverse (take depth new_stack)) (length new_stack)) now_regs
+    ∙ ap (λ ys. held f.regs ys (length new_stack)) now_stack
+    ∙ ap (λ n. held f.regs f.stack n) room

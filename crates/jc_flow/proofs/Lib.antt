@@ -1,0 +1,11 @@
+pub mod Copies
+pub mod Raise
+pub mod Steps
+pub mod Behind
+pub mod Leading
+pub mod Visits
+pub mod Settling
+pub mod Never
+pub mod Beginning
+pub mod Answered
+pub mod SampleWorld

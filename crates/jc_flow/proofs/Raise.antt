@@ -1,0 +1,52 @@
+-- A frame that may stand at a place can be put there, and the table grows.
+use Rattle.std.proofs.Common.{◌≡◌, ℕ, ◌<◌, length, All, Option, Some, None, IfSome, Result, Ok, Err, MatchResult, refl, sym, ◌∙◌, subst, arith}
+use Rattle.jc_base.specs.Order.{IsKnown}
+use Rattle.jc_base.specs.World.{Linked, IsWorld}
+use Rattle.jc_rules.specs.Demand.{Frame}
+use Rattle.jc_rules.specs.Flow.{Method, IsMethodOf}
+use Rattle.jc_rules.specs.Typing.{state_at}
+use Rattle.jc_places.proofs.Listed.{place-inside}
+use Rattle.jc_states.specs.declared.table.PutEnd.{PutEnd}
+use Rattle.jc_states.specs.Found.{Found, HasKnown, Lands, Prevents}
+use Rattle.jc_base.specs.Class.{ClassTable}
+use Rattle.jc_states.specs.Progress.{IsHeld, AreHeld}
+use Rattle.jc_states.proofs.Derived.{derived-fine}
+use Rattle.jc_states.proofs.Growth.{lands-grown, lands-above, lands-held}
+use Rattle.jc_states.proofs.Measure.{frame-rises}
+use Rattle.jc_flow.specs.Visit.{Raised}
+
+module _ (w : Linked) (is : IsWorld w) (m : Method) (mo : IsMethodOf w m) where
+  module _ (found : Found) (held : AreHeld w m found) (to : ℕ) (f : Frame) (h : IsHeld w m to f) where
+    pub place-there : to < length found.states
+    place-there = let inside : to < length m.code = place-inside m.code to h.place in omega (arith, held.places)
+
+    flag-there : to < length found.pending
+    flag-there = let inside : to < length m.code = place-inside m.code to h.place in omega (arith, held.flags)
+
+    pub regs-known : All (IsKnown w.classes) f.regs
+    regs-known = (derived-fine w is m mo h.derived).known.regs
+
+    pub stack-known : All (IsKnown w.classes) f.stack
+    stack-known = (derived-fine w is m mo h.derived).known.stack
+
+    there-known : (o : Option Frame) → state_at found.states to ≡ o → IfSome o (HasKnown w.classes (length f.regs))
+    there-known None e = tt
+    there-known (Some g) e =
+        let fine = derived-fine w is m mo (held.held to g e).derived in
+        record { count = (derived-fine w is m mo h.derived).count ∙ sym fine.count; regs = fine.known.regs; stack = fine.known.stack }
+
+    pub held-known : IfSome (state_at found.states to) (HasKnown w.classes (length f.regs))
+    held-known = there-known (state_at found.states to) refl
+
+    pub raised : (new : Found) → Lands w.classes found to f new → Raised w m found new to f
+    raised new lands = record {
+      goes = record {
+        grown = lands-grown w.classes _ place-there flag-there (frame-rises w.classes m f (derived-fine w is m mo h.derived).count h.room) lands;
+        held = lands-held w is.chains m place-there held h lands;
+      };
+      above = lands-above w.classes 0 place-there lands;
+    }
+
+    pub raise-result : (t : ClassTable) (new : Found) (r : Result (Unit {0}) PutEnd) → t ≡ w.classes → MatchResult r (λ _. Lands t found to f new) (Prevents t found to f) → MatchResult r (λ _. Raised w m found new to f) (Prevents w.classes found to f)
+    raise-result t new (Ok x) e h = raised new (subst (λ c. Lands c found to f new) e h)
+    raise-result t new (Err end) e h = subst (λ c. Prevents c found to f end) e h

@@ -1,0 +1,54 @@
+-- The search from visit to visit, and its end.
+use Rattle.std.proofs.Common.{◌≡◌, ℕ, ◌+◌, ◌<◌, Option, Some, None, IsSome, IfSome, length, refl, subst, sym, arith}
+use Rattle.jc_base.specs.declared.ty.Ty.TheVariants.{Top}
+use Rattle.jc_base.specs.World.{Linked, IsWorld}
+use Rattle.jc_rules.specs.Demand.{Frame}
+use Rattle.jc_rules.specs.Flow.{Method, IsMethodOf, IsWellFormed, At, FrameBelow, start_frame, IsLeastTyping}
+use Rattle.jc_rules.specs.Typing.{state_at}
+use Rattle.jc_states.specs.Found.{Found, IsPending, NonePending, taken}
+use Rattle.jc_states.specs.Progress.{AreHeld, AreClosed, most_rises, work}
+use Rattle.jc_states.proofs.Derived.{derived-fine}
+use Rattle.jc_states.proofs.Growth.{visited, at-grown, taken-less}
+use Rattle.jc_states.proofs.Settled.{settled-least, reached-found, found-reached}
+use Rattle.jc_flow.specs.Infer.{AreReached, HaveRegisters}
+use Rattle.jc_flow.specs.Visit.{IsVisited}
+
+module _ (w : Linked) (is : IsWorld w) (m : Method) (p : ℕ) (old new : Found) (v : IsVisited w m p (taken old p) new) where
+  pub still-closed : AreClosed w m old → AreClosed w m new
+  still-closed closed = visited w is.chains m (most_rises w.classes m) old new p v.goes.grown closed v.closed
+
+module _ (w : Linked) (m : Method) (p : ℕ) (old new : Found) (v : IsVisited w m p (taken old p) new) where
+  pub still-started : At (state_at old.states) 0 (FrameBelow w.classes (start_frame m.rec Top)) → At (state_at new.states) 0 (FrameBelow w.classes (start_frame m.rec Top))
+  still-started start = at-grown w.classes (most_rises w.classes m) (taken old p) new (start_frame m.rec Top) v.goes.grown 0 start
+
+  pub still-less : IsPending old p → work w.classes (most_rises w.classes m) new < work w.classes (most_rises w.classes m) old
+  still-less waits = let less = taken-less w.classes (most_rises w.classes m) old p waits in omega (arith, v.goes.grown.less)
+
+pub least-found : (w : Linked) → IsWorld w → (m : Method) → IsMethodOf w m → IsWellFormed m → (found end : Found) → end ≡ found → AreHeld w m found → AreClosed w m found → NonePending found
+    → At (state_at found.states) 0 (FrameBelow w.classes (start_frame m.rec Top)) → IsLeastTyping w m Top (state_at end.states)
+least-found w is m mo formed found end e held closed none start =
+    subst (λ (x : Found). IsLeastTyping w m Top (state_at x.states)) (sym e) (settled-least w is m mo found formed held closed none start)
+
+some-there : {f : Frame} (o : Option Frame) → o ≡ Some f → IsSome o
+some-there None e = cc
+some-there (Some f) e = refl
+
+is-there : (o : Option Frame) → IsSome o → (f : Frame) × (o ≡ Some f)
+is-there None h = absurd (cc)
+is-there (Some f) h = (f, refl)
+
+-- the places with a frame are those that control reaches
+pub reached-are : (w : Linked) → IsWorld w → (m : Method) → IsMethodOf w m → IsWellFormed m → (found end : Found) → end ≡ found → AreHeld w m found → AreClosed w m found → NonePending found
+    → At (state_at found.states) 0 (FrameBelow w.classes (start_frame m.rec Top)) → AreReached m end.states
+reached-are w is m mo formed found end e held closed none start = subst (λ (x : Found). AreReached m x.states) (sym e) (λ p. (
+  (λ h. found-reached w is m mo found formed held closed none start (is-there (state_at found.states p) h).1),
+  (λ r. let here = reached-found w is m mo found formed held closed none start r in some-there (state_at found.states p) here.1),
+))
+
+-- each frame has the method's registers
+pub registers-are : (w : Linked) → IsWorld w → (m : Method) → IsMethodOf w m → (found end : Found) → end ≡ found → AreHeld w m found → HaveRegisters m end.states
+registers-are w is m mo found end e held = subst (λ (x : Found). HaveRegisters m x.states) (sym e) (λ p. at (state_at found.states p) p refl)
+  where
+    at : (o : Option Frame) (p : ℕ) → state_at found.states p ≡ o → IfSome o (λ f. length f.regs ≡ m.rec.nargs + m.rec.max_locals)
+    at None p h = tt
+    at (Some f) p h = (derived-fine w is m mo (held.held p f h).derived).count

@@ -1,0 +1,49 @@
+-- What the instruction at the place of a frame does.
+use Rattle.std.proofs.Common.{◌≡◌, ℕ, ◌+◌, ◌≤◌, List, length, reverse, All, IsTrue, Result, Ok, Err, refl, sym, ◌∙◌, ap, subst}
+use Rattle.jc_base.specs.declared.ty.Ty.{Ty}
+use Rattle.jc_base.specs.World.{Linked}
+use Rattle.jc_decode.specs.declared.insn.Insn.{Insn}
+use Rattle.jc_decode.specs.declared.insn.CodeEnd.{CodeEnd}
+use Rattle.jc_decode.specs.Decoding.{decoded}
+use Rattle.jc_decode.specs.Listing.{falls, jumps}
+use Rattle.jc_rows.specs.declared.fault.RuleFault.{RuleFault}
+use Rattle.jc_rows.specs.declared.fault.RuleFault.TheVariants.{FreshKept}
+use Rattle.jc_rules.specs.Demand.{Frame}
+use Rattle.jc_rules.specs.Apply.{Refuses}
+use Rattle.jc_rules.specs.Flow.{Method, Stands, IsPlace, IsNotFresh, Steps, site_of}
+use Rattle.jc_rules.proofs.Raising.{All-turned, All-reverse}
+use Rattle.jc_places.proofs.Listed.{decoded-Stands}
+use Rattle.jc_states.specs.Progress.{IsHeld}
+use Rattle.jc_flow.specs.Fails.{FailsAt, FallsPast, fails_rule, fails_jump}
+
+ok-same : {i j : Insn} → ◌≡◌ {A = Result Insn CodeEnd} (Ok i) (Ok j) → i ≡ j
+ok-same e = cc
+
+-- the stack, with its top last, that is read of a frame
+pub all-of_slice : (P : Ty → Type 0) (slice stack : List Ty) → reverse slice ≡ stack → All P slice → All P stack
+all-of_slice P slice stack e all = subst (All P) e (All-reverse P slice all)
+
+pub all-to_slice : (P : Ty → Type 0) (slice stack : List Ty) → reverse slice ≡ stack → All P stack → All P slice
+all-to_slice P slice stack e all = All-turned P slice (subst (All P) (sym e) all)
+
+module _ (code : List ℕ) (p : ℕ) (here : IsPlace code p) where
+  pub decoded-here : decoded code p ≡ Ok here.0.insn
+  decoded-here = ap (decoded code) (sym here.2) ∙ decoded-Stands code here.0 here.1
+
+  pub decodes-always : {end : CodeEnd} → decoded code p ≡ Err end → ⊥
+  decodes-always e = let same = decoded-here in absurd (cc)
+
+  pub stands-here : (insn : Insn) → decoded code p ≡ Ok insn → Stands code (record { place = p; insn = insn })
+  stands-here insn e =
+      let same : here.0.insn ≡ insn = ok-same (sym decoded-here ∙ e) in
+      subst (Stands code) (ap (λ q. record { place = q; insn = here.0.insn }) here.2 ∙ ap (λ i. record { place = p; insn = i }) same) here.1
+
+module _ (w : Linked) (m : Method) (p : ℕ) (f : Frame) (h : IsHeld w m p f) (insn : Insn) (d : decoded m.code p ≡ Ok insn) where
+  pub fail-rule : (fault : RuleFault) → Refuses w (site_of m p) insn f fault → FailsAt w m p fault
+  fail-rule fault r = record { frame = f; derived = h.derived; fails = fails_rule (record { place = p; insn = insn }) (stands-here m.code p h.place insn d) refl r }
+
+  pub fail-jump : (g : Frame) → Steps w m (record { place = p; insn = insn }) f g → IsTrue (jumps insn.op) → ¬ (All IsNotFresh g.stack) → FailsAt w m p FreshKept
+  fail-jump g s j n = record { frame = f; derived = h.derived; fails = fails_jump (record { place = p; insn = insn }) g (stands-here m.code p h.place insn d) refl s j n }
+
+  pub fall-past : IsTrue (falls insn.op) → length m.code ≤ p + insn.len → FallsPast w m p
+  fall-past on past = record { frame = f; derived = h.derived; instruction = record { place = p; insn = insn }; stands = stands-here m.code p h.place insn d; at = refl; falls_on = on; past = past }

@@ -1,0 +1,110 @@
+-- The visit of a place closes it.
+use Rattle.std.proofs.Common.{◌≡◌, ℕ, ◌+◌, ◌<◌, ◌≤◌, List, length, get_or, take, All, IsTrue, Option, Some, None, sym, ◌∙◌, ap, subst, arith}
+use Rattle.std.specs.Prelude.{ℤ, pos, negsuc}
+use Rattle.std.proofs.lemmas.List.{take_all}
+use Rattle.std.proofs.lemmas.List.Elements.{All-more}
+use Rattle.jc_base.specs.declared.record.Handler.{Handler}
+use Rattle.jc_base.specs.World.{Linked, IsWorld}
+use Rattle.jc_decode.specs.declared.insn.Insn.{Insn}
+use Rattle.jc_decode.specs.declared.insn.Placed.{Placed}
+use Rattle.jc_decode.specs.Listing.{falls, targets}
+use Rattle.jc_rules.specs.Demand.{Frame}
+use Rattle.jc_rules.specs.Flow.{Method, IsMethodOf, Stands, IsSuccessor, behind, jumped, At, FrameBelow, IsFollowed, caught_frame}
+use Rattle.jc_rules.specs.Typing.{state_at}
+use Rattle.jc_places.proofs.Listed.{one-at}
+use Rattle.jc_states.specs.Found.{Found}
+use Rattle.jc_states.specs.Progress.{IsHeld, IsClosed, most_rises}
+use Rattle.jc_states.proofs.Derived.{derived-fine, all_contained}
+use Rattle.jc_states.proofs.Growth.{grown-trans, at-grown}
+use Rattle.jc_flow.specs.declared.edges.Step.{Step}
+use Rattle.jc_flow.specs.Scratch.{Scratched, SuitsMethod}
+use Rattle.jc_flow.specs.Visit.{HasStepped, IsStep, Goes, IsCaught, IsAtTarget, IsVisited}
+use Rattle.jc_flow.proofs.Steps.{stands-here}
+
+module _ (w : Linked) (m : Method) where
+  pub goes-on : (a b c : Found) → Goes w m a b → Goes w m b c → Goes w m a c
+  goes-on a b c g h = record { grown = grown-trans w.classes (most_rises w.classes m) g.grown h.grown; held = h.held }
+
+  pub goes-above : (a b : Found) (f : Frame) → Goes w m a b → (q : ℕ) → At (state_at a.states) q (FrameBelow w.classes f) → At (state_at b.states) q (FrameBelow w.classes f)
+  goes-above a b f g q h = at-grown w.classes (most_rises w.classes m) a b f g.grown q h
+
+  -- ---- handlers
+
+  module _ (p : ℕ) (f : Frame) (old new : Found) (goes : Goes w m old new) where
+    pub caught-on : (hs : List Handler) → All (IsCaught w p f old) hs → All (IsCaught w p f new) hs
+    caught-on hs all k d lt cov = goes-above old new (caught_frame (get_or hs k d) f) goes (get_or hs k d).entry (all k d lt cov)
+
+    pub caught-more : (hs : List Handler) (k : ℕ) (d : Handler) → k < length hs → All (IsCaught w p f old) (take k hs) → IsCaught w p f new (get_or hs k d) → All (IsCaught w p f new) (take (k + 1) hs)
+    caught-more hs k d lt all one = All-more (IsCaught w p f new) hs k d lt (caught-on (take k hs) all) one
+
+  pub caught-all : (p : ℕ) (f : Frame) (found : Found) (hs items : List Handler) (k : ℕ) → items ≡ hs → length items ≤ k → All (IsCaught w p f found) (take k items) → All (IsCaught w p f found) hs
+  caught-all p f found hs items k e le all = subst (All (IsCaught w p f found)) (take_all k items le ∙ e) all
+
+  -- ---- targets
+
+  target-on : (g : Frame) (old new : Found) → Goes w m old new → (t : ℤ) → IsAtTarget w g old t → IsAtTarget w g new t
+  target-on g old new goes (pos q) h = goes-above old new g goes q h
+  target-on g old new goes (negsuc n) h = h
+
+  pub targets-on : (g : Frame) (old new : Found) → Goes w m old new → (ts : List ℤ) → All (IsAtTarget w g old) ts → All (IsAtTarget w g new) ts
+  targets-on g old new goes ts all k d lt = target-on g old new goes (get_or ts k d) (all k d lt)
+
+-- ---- the frames that the rules work on
+
+module _ (w : Linked) (is : IsWorld w) (m : Method) (mo : IsMethodOf w m) (p : ℕ) (f : Frame) (here : IsHeld w m p f) where
+  pub load-registers : (s : Scratched) → SuitsMethod s m.rec → length f.regs ≡ length s.frame.regs
+  load-registers s suits = (derived-fine w is m mo here.derived).count ∙ sym suits.registers
+
+  pub load-room : (s : Scratched) → SuitsMethod s m.rec → length f.stack ≤ s.room
+  load-room s suits = omega (arith, here.room, suits.room)
+
+  pub suits-loaded : (s n : Scratched) → SuitsMethod s m.rec → n ≡ record { frame = f; room = s.room } → SuitsMethod n m.rec
+  suits-loaded s n suits e = record {
+    registers = ap (λ (x : Scratched). length x.frame.regs) e ∙ (derived-fine w is m mo here.derived).count;
+    room = ap (λ (x : Scratched). x.room) e ∙ suits.room;
+  }
+
+  pub held-loaded : (s n : Scratched) → n ≡ record { frame = f; room = s.room } → IsHeld w m p n.frame
+  held-loaded s n e = subst (IsHeld w m p) (sym (ap (λ (x : Scratched). x.frame) e)) here
+
+  pub step-loaded : (b a old_b old_a : Scratched) (g : Frame) (insn : Insn) → b ≡ record { frame = f; room = old_b.room } → a ≡ record { frame = f; room = old_a.room } → HasStepped w m p a.frame g insn → HasStepped w m p b.frame g insn
+  step-loaded b a old_b old_a g insn eb ea st = subst (λ x. HasStepped w m p x g insn) (ap (λ (x : Scratched). x.frame) ea ∙ sym (ap (λ (x : Scratched). x.frame) eb)) st
+
+  pub is-step : (s : Step) (b a old_b old_a : Scratched) → s.place ≡ p → s.before.now ≡ b → b ≡ record { frame = f; room = old_b.room } → a ≡ record { frame = f; room = old_a.room } → HasStepped w m p a.frame s.after.now.frame s.insn → IsStep w m s
+  is-step s b a old_b old_a place now eb ea st =
+      let before : s.before.now.frame ≡ f = ap (λ (x : Scratched). x.frame) (now ∙ eb) in
+      let loaded : a.frame ≡ f = ap (λ (x : Scratched). x.frame) ea in
+      record {
+        here = subst (λ q. IsHeld w m q s.before.now.frame) (sym place) (subst (IsHeld w m p) (sym before) here);
+        stepped = subst (λ q. HasStepped w m q s.before.now.frame s.after.now.frame s.insn) (sym place) (subst (λ x. HasStepped w m p x s.after.now.frame s.insn) (loaded ∙ sym before) st);
+      }
+
+-- ---- a visit
+
+module _ (w : Linked) (m : Method) (t0 t1 t2 t3 : Found) (p : ℕ) (f g : Frame) (insn : Insn) (here : IsHeld w m p f) (stepped : HasStepped w m p f g insn) (g1 : Goes w m t0 t1) (g2 : Goes w m t1 t2) (g3 : Goes w m t2 t3) (caught : All (IsCaught w p f t1) m.rec.handlers) (on : IsTrue (falls insn.op) → At (state_at t2.states) (p + insn.len) (FrameBelow w.classes g)) (reached : All (IsAtTarget w g t3) (targets m.code (record { place = p; insn = insn }))) where
+  to-successor : (q : ℕ) → IsSuccessor m.code (record { place = p; insn = insn }) q → At (state_at t3.states) q (FrameBelow w.classes g)
+  to-successor q (behind falls_on) = goes-above w m t2 t3 g g3 q (on falls_on)
+  to-successor q (jumped c) = all_contained (IsAtTarget w g t3) (targets m.code (record { place = p; insn = insn })) (pos q) reached c
+
+  same-instruction : (i : Placed) → Stands m.code i → i.place ≡ p → record { place = p; insn = insn } ≡ i
+  same-instruction i st e = one-at m.code (record { place = p; insn = insn }) i (stands-here m.code p here.place insn stepped.decodes) st (sym e)
+
+  visit-closed : IsClosed w m t3 p f
+  visit-closed = record {
+    handlers = λ h c cov. goes-above w m t1 t3 (caught_frame h f) (goes-on w m t1 t2 t3 g2 g3) h.entry (all_contained (IsCaught w p f t1) m.rec.handlers h caught c cov);
+    rule = λ i st e. subst (λ j. IsFollowed w m (state_at t3.states) j f) (same-instruction i st e)
+        (record { after = g; steps = stepped.steps; below = to-successor; ready = stepped.ready });
+    stays = λ i st e. subst (λ j. IsTrue (falls j.insn.op) → j.place + j.insn.len < length m.code) (same-instruction i st e) stepped.stays;
+  }
+
+  some-same : {f g : Frame} → ◌≡◌ {A = Option Frame} (Some f) (Some g) → f ≡ g
+  some-same e = cc
+
+  pub visit-over : state_at t0.states p ≡ Some f → IsVisited w m p t0 t3
+  visit-over at = record {
+    goes = goes-on w m t0 t1 t3 g1 (goes-on w m t1 t2 t3 g2 g3);
+    closed = λ x ex. subst (IsClosed w m t3 p) (some-same (sym at ∙ ex)) visit-closed;
+  }
+
+pub nothing-there : {f : Frame} → ◌≡◌ {A = Option Frame} None (Some f) → ⊥
+nothing-there e = cc

@@ -1,0 +1,48 @@
+-- What the inference of a method's dataflow typing answers (JCVM 2.2, section 7.5; Leroy 2002, section 2.3).
+use Rattle.std.specs.Prelude.{◌≡◌, ℕ, ◌+◌, ◌↔◌, List, length, Option, IsSome, IfSome, ⊤}
+use Rattle.jc_base.specs.declared.ty.Ty.TheVariants.{Top}
+use Rattle.jc_base.specs.World.{Linked}
+use Rattle.jc_rules.specs.Demand.{Frame}
+use Rattle.jc_rules.specs.Flow.{Method, IsWellFormed, IsReached, HasFlowTyping}
+use Rattle.jc_rules.specs.Typing.{state_at}
+use Rattle.jc_places.specs.Flaw.{IsFirstFlaw}
+use Rattle.jc_places.specs.declared.flaw.Flaw.TheVariants as flaws
+use Rattle.jc_places.specs.declared.flaw.SurveyEnd.{SurveyEnd}
+use Rattle.jc_places.specs.declared.flaw.SurveyEnd.TheVariants.{Flawed}
+use Rattle.jc_places.specs.declared.flaw.SurveyEnd.TheVariants.{Memory as NotSurveyed}
+use Rattle.jc_flow.specs.declared.end.FlowEnd.{FlowEnd}
+use Rattle.jc_flow.specs.declared.end.FlowEnd.TheVariants.{NoTyping, Code, BadTarget, FallsOff, BadHandler, Memory}
+use Rattle.jc_flow.specs.Fails.{FailsAt, FallsPast}
+
+-- a place has a frame exactly where control reaches it
+abbrev pub AreReached : Method → List (Option Frame) → Type 0
+AreReached m typing = (place : ℕ) → IsSome (state_at typing place) ↔ IsReached m place
+
+-- each frame has a type for each register of the method
+abbrev pub HaveRegisters : Method → List (Option Frame) → Type 0
+HaveRegisters m typing = (place : ℕ) → IfSome (state_at typing place) (λ f. length f.regs ≡ m.rec.nargs + m.rec.max_locals)
+
+-- why there is no typing: the method is not well formed, and this is its first flaw; or it is, and a derived frame fails so at the place
+abbrev pub TellsEnd : Linked → Method → FlowEnd → Type 0
+TellsEnd w m (NoTyping p fault) = IsWellFormed m × FailsAt w m p fault
+TellsEnd w m (FallsOff p) = IsWellFormed m × FallsPast w m p
+TellsEnd w m (Code p end) = IsFirstFlaw m (flaws.Code p end)
+TellsEnd w m (BadTarget p target) = IsFirstFlaw m (flaws.BadTarget p target)
+TellsEnd w m (BadHandler entry number) = IsFirstFlaw m (flaws.BadHandler entry number)
+TellsEnd w m Memory = ⊤
+
+-- but for want of memory no typing exists
+abbrev pub HasNone : Linked → Method → FlowEnd → Type 0
+HasNone w m Memory = ⊤
+HasNone w m (NoTyping p fault) = ¬ (HasFlowTyping w m Top)
+HasNone w m (FallsOff p) = ¬ (HasFlowTyping w m Top)
+HasNone w m (Code p end) = ¬ (HasFlowTyping w m Top)
+HasNone w m (BadTarget p target) = ¬ (HasFlowTyping w m Top)
+HasNone w m (BadHandler entry number) = ¬ (HasFlowTyping w m Top)
+
+-- why a method was not surveyed
+abbrev pub unsurveyed_as : SurveyEnd → FlowEnd
+unsurveyed_as (Flawed (flaws.Code p end)) = Code p end
+unsurveyed_as (Flawed (flaws.BadTarget p target)) = BadTarget p target
+unsurveyed_as (Flawed (flaws.BadHandler entry number)) = BadHandler entry number
+unsurveyed_as NotSurveyed = Memory

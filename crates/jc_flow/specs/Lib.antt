@@ -1,0 +1,5 @@
+pub mod Fails
+pub mod Infer
+pub mod Sample
+pub mod Scratch
+pub mod Visit

@@ -1,0 +1,85 @@
+-- What a visit of a place brings about.
+use Rattle.std.specs.Prelude.{◌≡◌, ℕ, ◌+◌, ◌<◌, ◌≤◌, length, All, IsTrue, ℤ, pos, negsuc, Some, Ok}
+use Rattle.jc_base.specs.declared.record.Handler.{Handler}
+use Rattle.jc_base.specs.World.{Linked, IsWorld}
+use Rattle.jc_decode.specs.declared.insn.Insn.{Insn}
+use Rattle.jc_decode.specs.Decoding.{decoded}
+use Rattle.jc_decode.specs.Listing.{falls, jumps}
+use Rattle.jc_rules.specs.Demand.{Frame}
+use Rattle.jc_rules.specs.Flow.{Method, IsMethodOf, Covers, IsNotFresh, Steps, At, FrameBelow, caught_frame}
+use Rattle.jc_rules.specs.Typing.{state_at}
+use Rattle.jc_states.specs.Found.{Found}
+use Rattle.jc_states.specs.Progress.{IsHeld, AreHeld, IsClosed, Grown, most_rises}
+use Rattle.jc_places.specs.Survey.{IsSurvey}
+use Rattle.jc_flow.specs.declared.search.Search.{Search}
+use Rattle.jc_flow.specs.declared.edges.Step.{Step}
+use Rattle.jc_rows.specs.declared.fault.RuleFault.TheVariants.{StackMerge}
+use Rattle.jc_states.specs.declared.table.PutEnd.{PutEnd}
+use Rattle.jc_states.specs.declared.table.PutEnd.TheVariants.{Clash, Memory}
+use Rattle.jc_flow.specs.declared.end.FlowEnd.{FlowEnd}
+use Rattle.jc_flow.specs.declared.end.FlowEnd.TheVariants.{NoTyping}
+use Rattle.jc_flow.specs.declared.end.FlowEnd.TheVariants.{Memory as NoMemory}
+
+-- the method that is searched
+abbrev pub searched : Search → Method
+searched s = record { number = s.number; rec = s.rec.now; code = s.code.bytes.now }
+
+abbrev pub world_of : Search → Linked
+world_of s = s.world.now
+
+-- a search of a well-formed method of the world, with what its survey tells
+pub record IsSearch (s : Search) : Type 0 where
+  pub world : IsWorld s.world.now
+  pub method : IsMethodOf s.world.now (searched s)
+  pub survey : IsSurvey (searched s) s.survey.now
+  pub short : length s.code.bytes.now ≤ 32767
+
+-- a table grows, and its frames may stand where they stand
+pub record Goes (w : Linked) (m : Method) (old new : Found) : Type 0 where
+  pub grown : Grown w.classes (most_rises w.classes m) old new
+  pub held : AreHeld w m new
+
+-- it grows, and a frame that is not less than f is found for the place
+pub record Raised (w : Linked) (m : Method) (old new : Found) (to : ℕ) (f : Frame) : Type 0 where
+  pub goes : Goes w m old new
+  pub above : At (state_at new.states) to (FrameBelow w.classes f)
+
+-- what the handler catches is found at its entry
+abbrev pub IsCaught : Linked → ℕ → Frame → Found → Handler → Type 0
+IsCaught w p f found h = Covers h p → At (state_at found.states) h.entry (FrameBelow w.classes (caught_frame h f))
+
+-- what the handlers of the method catch at the place
+pub record HandlersRaised (w : Linked) (m : Method) (p : ℕ) (f : Frame) (old new : Found) : Type 0 where
+  pub goes : Goes w m old new
+  pub caught : All (IsCaught w p f new) m.rec.handlers
+
+-- the instruction at a place has taken f to g
+pub record HasStepped (w : Linked) (m : Method) (p : ℕ) (f g : Frame) (insn : Insn) : Type 0 where
+  pub decodes : decoded m.code p ≡ Ok insn
+  pub steps : Steps w m (record { place = p; insn = insn }) f g
+  pub ready : IsTrue (jumps insn.op) → All IsNotFresh g.stack
+  pub stays : IsTrue (falls insn.op) → p + insn.len < length m.code
+
+-- the step at the place of a frame
+pub record IsStep (w : Linked) (m : Method) (s : Step) : Type 0 where
+  pub here : IsHeld w m s.place s.before.now.frame
+  pub stepped : HasStepped w m s.place s.before.now.frame s.after.now.frame s.insn
+
+-- what the step leads to behind the instruction
+abbrev pub IsBehind : Linked → Step → Found → Type 0
+IsBehind w s found = IsTrue (falls s.insn.op) → At (state_at found.states) (s.place + s.insn.len) (FrameBelow w.classes s.after.now.frame)
+
+-- and at a target
+abbrev pub IsAtTarget : Linked → Frame → Found → ℤ → Type 0
+IsAtTarget w g found (pos q) = At (state_at found.states) q (FrameBelow w.classes g)
+IsAtTarget w g found (negsuc n) = ⊥
+
+-- the visit of a place is over
+pub record IsVisited (w : Linked) (m : Method) (p : ℕ) (old new : Found) : Type 0 where
+  pub goes : Goes w m old new
+  pub closed : (f : Frame) → state_at old.states p ≡ Some f → IsClosed w m new p f
+
+-- why an edge from the place breaks
+abbrev pub broken_at : ℕ → PutEnd → FlowEnd
+broken_at p Clash = NoTyping p StackMerge
+broken_at p Memory = NoMemory

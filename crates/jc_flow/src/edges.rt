@@ -1,0 +1,181 @@
+ghost use Rattle.std.specs.Prelude.{◌≡◌, ◌+◌, ◌<◌, ◌≤◌, length, reverse, All, Contains, IfOk, IfErr, OnOk, IsTrue, MatchBool, pos, ◌≤ℤ◌, ◌<ℤ◌};
+ghost use Rattle.jc_decode.specs.Listing.{targets};
+ghost use Rattle.jc_rules.specs.Flow.{Covers, At, FrameBelow};
+ghost use Rattle.jc_rules.specs.Typing.{state_at};
+ghost use Rattle.jc_states.specs.Progress.{AreHeld};
+ghost use Rattle.jc_flow.specs.Fails.{IsFailure};
+ghost use Rattle.jc_flow.specs.Visit.{searched, world_of, IsSearch, IsStep, Goes, IsCaught, HandlersRaised, IsBehind, IsAtTarget, broken_at};
+
+use crate::end::FlowEnd;
+use crate::scratch::Scratch;
+use crate::search::Search;
+use jc_base::{Handler, Ty};
+use jc_decode::{Insn, Placed};
+use jc_places::Targets;
+use jc_rows::RuleFault;
+use jc_states::{PutEnd, Table};
+use std::alloc::Global;
+
+/// The instruction at a place, with the frames before and after its rule.
+#[derive(Clone, Copy)]
+pub struct Step<'a> {
+    pub place: u16,
+    pub insn: Insn,
+    pub before: &'a Scratch,
+    pub after: &'a Scratch,
+}
+
+fn covers(handler: Handler, place: u16) -> bool
+    ensures { MatchBool result (Covers handler place) (¬ (Covers handler place)) }
+{
+    handler.start <= place && place < handler.end
+}
+
+/// The place of a target that lies in the code.
+fn place_of(target: i32) -> u16
+    requires { (pos 0 ≤ℤ target) × (target <ℤ pos 65536) }
+    ensures { target ≡ pos result }
+{
+    target as u16
+}
+
+/// Why the edge from a place breaks.
+pub(crate) fn broken(place: u16, end: PutEnd) -> FlowEnd
+    ensures { result ≡ broken_at place end }
+{
+    match end {
+        PutEnd::Clash => FlowEnd::NoTyping(place, RuleFault::StackMerge),
+        PutEnd::Memory => FlowEnd::Memory,
+    }
+}
+
+impl Search<'_> {
+    /// Leads to the entry of a handler, if it covers the place.
+    fn raise_handler(
+        &self,
+        alloc: Global,
+        table: &mut Table,
+        step: Step<'_>,
+        handler: Handler,
+    ) -> Result<(), FlowEnd>
+        requires search { IsSearch self.now }
+        requires held { AreHeld (world_of self.now) (searched self.now) table.old }
+        requires step { IsStep (world_of self.now) (searched self.now) step }
+        requires listed { Contains self.now.rec.now.handlers handler }
+        ensures goes { OnOk result (Goes (world_of self.now) (searched self.now) table.old table.new) }
+        ensures caught { OnOk result (IsCaught (world_of self.now) step.entry.place step.entry.before.now.frame table.new handler) }
+        ensures failed { IfErr result (IsFailure (world_of self.now) (searched self.now)) }
+    {
+        if !covers(handler, step.place) {
+            return Ok(());
+        }
+        if self.rec.max_stack == 0 {
+            return Err(FlowEnd::NoTyping(step.place, RuleFault::Overflow));
+        }
+        let caught = [Ty::Class(handler.class)];
+        match self.raise(alloc, table, handler.entry, step.before.regs(), &caught) {
+            Ok(()) => Ok(()),
+            Err(end) => Err(broken(step.place, end)),
+        }
+    }
+
+    /// Leads to the instruction behind, if the one at the place falls through.
+    pub fn raise_behind(
+        &self,
+        alloc: Global,
+        table: &mut Table,
+        step: Step<'_>,
+    ) -> Result<(), FlowEnd>
+        requires search { IsSearch self.now }
+        requires held { AreHeld (world_of self.now) (searched self.now) table.old }
+        requires step { IsStep (world_of self.now) (searched self.now) step }
+        ensures goes { OnOk result (Goes (world_of self.now) (searched self.now) table.old table.new) }
+        ensures behind { OnOk result (IsBehind (world_of self.now) step.entry table.new) }
+        ensures failed { IfErr result (IsFailure (world_of self.now) (searched self.now)) }
+    {
+        if !step.insn.falls() {
+            return Ok(());
+        }
+        let next = (u32::from(step.place) + step.insn.len) as u16;
+        if self.keeps_fresh(next, step.after.stack()) {
+            return Err(FlowEnd::NoTyping(step.place, RuleFault::FreshKept));
+        }
+        match self.raise(alloc, table, next, step.after.regs(), step.after.stack()) {
+            Ok(()) => Ok(()),
+            Err(end) => Err(broken(step.place, end)),
+        }
+    }
+
+    /// Leads to a target.
+    fn raise_target(
+        &self,
+        alloc: Global,
+        table: &mut Table,
+        step: Step<'_>,
+        target: i32,
+    ) -> Result<(), FlowEnd>
+        requires search { IsSearch self.now }
+        requires held { AreHeld (world_of self.now) (searched self.now) table.old }
+        requires step { IsStep (world_of self.now) (searched self.now) step }
+        requires listed { Contains (targets self.now.code.bytes.now (record { place = step.place; insn = step.insn })) target }
+        ensures goes { OnOk result (Goes (world_of self.now) (searched self.now) table.old table.new) }
+        ensures reached { OnOk result (IsAtTarget (world_of self.now) step.entry.after.now.frame table.new target) }
+        ensures failed { IfErr result (IsFailure (world_of self.now) (searched self.now)) }
+    {
+        let to = place_of(target);
+        match self.raise(alloc, table, to, step.after.regs(), step.after.stack()) {
+            Ok(()) => Ok(()),
+            Err(end) => Err(broken(step.place, end)),
+        }
+    }
+}
+
+impl Search<'_> {
+    /// Leads to the entries of the handlers that cover the place.
+    pub fn raise_handlers(
+        &self,
+        alloc: Global,
+        table: &mut Table,
+        step: Step<'_>,
+    ) -> Result<(), FlowEnd>
+        requires search { IsSearch self.now }
+        requires held { AreHeld (world_of self.now) (searched self.now) table.old }
+        requires step { IsStep (world_of self.now) (searched self.now) step }
+        ensures goes { OnOk result (Goes (world_of self.now) (searched self.now) table.old table.new) }
+        ensures caught { OnOk result (All (IsCaught (world_of self.now) step.entry.place step.entry.before.now.frame table.new) self.now.rec.now.handlers) }
+        ensures failed { IfErr result (IsFailure (world_of self.now) (searched self.now)) }
+    {
+        'handlers: for handler in self.rec.handlers.as_slice() {
+            if let Err(end) = self.raise_handler(alloc, table, step, *handler) {
+                return Err(end);
+            }
+        }
+        Ok(())
+    }
+
+    /// Leads to the targets of a branch or switch.
+    pub fn raise_targets(
+        &self,
+        alloc: Global,
+        table: &mut Table,
+        step: Step<'_>,
+    ) -> Result<(), FlowEnd>
+        requires search { IsSearch self.now }
+        requires held { AreHeld (world_of self.now) (searched self.now) table.old }
+        requires step { IsStep (world_of self.now) (searched self.now) step }
+        ensures goes { OnOk result (Goes (world_of self.now) (searched self.now) table.old table.new) }
+        ensures reached { OnOk result (All (IsAtTarget (world_of self.now) step.entry.after.now.frame table.new) (targets self.now.code.bytes.now (record { place = step.entry.place; insn = step.entry.insn }))) }
+        ensures failed { IfErr result (IsFailure (world_of self.now) (searched self.now)) }
+    {
+        let placed = Placed {
+            place: step.place,
+            insn: step.insn,
+        };
+        'targets: for target in Targets::of(self.code, placed) {
+            if let Err(end) = self.raise_target(alloc, table, step, target) {
+                return Err(end);
+            }
+        }
+        Ok(())
+    }
+}

@@ -1,0 +1,130 @@
+ghost use Rattle.std.specs.Prelude.{◌≡◌, ◌<◌, ◌≤◌, None, false, length, replicate, IfOk, IfErr, OnOk, IsSomeAnd, slice_get};
+ghost use Rattle.jc_base.specs.declared.ty.Ty.TheVariants.{Top};
+ghost use Rattle.jc_rules.specs.Flow.{IsMethodOf, IsLeastTyping, At, FrameBelow, start_frame, receiver_of};
+ghost use Rattle.jc_rules.specs.Typing.{state_at};
+ghost use Rattle.jc_states.specs.Progress.{AreHeld, AreClosed};
+ghost use Rattle.jc_places.specs.MethodIn.{method_in};
+ghost use Rattle.jc_flow.specs.Fails.{IsFailure};
+ghost use Rattle.jc_flow.specs.Infer.{AreReached, HaveRegisters, TellsEnd, HasNone, unsurveyed_as};
+ghost use Rattle.jc_flow.specs.Visit.{searched, world_of, IsSearch};
+
+use crate::edges::broken;
+use crate::end::FlowEnd;
+use crate::scratch::Scratch;
+use crate::search::Search;
+use cap_bytes::View;
+use jc_base::{MethodRec, Ty, World};
+use jc_places::{Flaw, SurveyEnd, survey};
+use jc_rules::Typing;
+use jc_states::Table;
+use std::alloc::{AllocError, Global};
+
+/// The least dataflow typing of a method with code, in which every register that is no argument starts as Top.
+///
+/// First the method's code, targets and handlers are tried, and then the places in the order in which they wait,
+/// the least first. At one place come the rule, an uninitialised object under the operands of a branch or switch,
+/// the end of the code, and then the edges: the covering handlers in table order, the instruction behind, and the
+/// targets in order, the default first.
+pub fn infer(alloc: Global, world: &World<'_>, method: u16) -> Result<Typing, FlowEnd>
+    requires { IsSomeAnd (slice_get world.now.methods method) (λ m. 0 < m.code_len) }
+    ensures known { IsSomeAnd (method_in world.now method) (λ m. IsMethodOf world.now m) }
+    ensures typing { IsSomeAnd (method_in world.now method) (λ m. IfOk result (λ t. IsLeastTyping world.now m Top (state_at t))) }
+    // A place has a state exactly where control reaches it.
+    ensures states { IsSomeAnd (method_in world.now method) (λ m. IfOk result (λ t. AreReached m t)) }
+    ensures registers { IsSomeAnd (method_in world.now method) (λ m. IfOk result (HaveRegisters m)) }
+    // But for want of memory an end says that there is no typing, and why.
+    ensures none { IsSomeAnd (method_in world.now method) (λ m. IfErr result (HasNone world.now m)) }
+    ensures end { IsSomeAnd (method_in world.now method) (λ m. IfErr result (TellsEnd world.now m)) }
+{
+    // The facts that hold of each world.
+    let _ = world.classes();
+    let survey = match survey(alloc, world, method) {
+        Ok(survey) => survey,
+        Err(end) => return Err(unsurveyed(end)),
+    };
+    let search = Search {
+        world,
+        number: method,
+        rec: world.method(method),
+        code: View::of(world.code(method)),
+        survey: &survey,
+    };
+    match search.settled(alloc) {
+        Ok(table) => Ok(table.into_typing()),
+        Err(end) => Err(end),
+    }
+}
+
+/// Why a method was not surveyed.
+fn unsurveyed(end: SurveyEnd) -> FlowEnd
+    ensures { result ≡ unsurveyed_as end }
+{
+    match end {
+        SurveyEnd::Flawed(flaw) => match flaw {
+            Flaw::Code(place, why) => FlowEnd::Code(place, why),
+            Flaw::BadTarget(place, target) => FlowEnd::BadTarget(place, target),
+            Flaw::BadHandler(entry, number) => FlowEnd::BadHandler(entry, number),
+        },
+        SurveyEnd::Memory => FlowEnd::Memory,
+    }
+}
+
+/// The receiver of a method, where there is one.
+fn receiver(alloc: Global, rec: &MethodRec) -> Result<Vec<Ty>, AllocError>
+    ensures { IfOk result (λ v. v.items ≡ receiver_of rec.now) }
+{
+    if rec.is_static {
+        Ok(Vec::new(alloc))
+    } else {
+        Ok(vec![in alloc; Ty::Class(rec.class)]?)
+    }
+}
+
+/// The registers at a method's start.
+fn start_regs(alloc: Global, rec: &MethodRec) -> Result<Vec<Ty>, AllocError>
+    ensures { IfOk result (λ v. v.items ≡ (start_frame rec.now Top).regs) }
+{
+    let unset: Vec<Ty> = vec![in alloc; Ty::Top; rec.max_locals as usize]?;
+    let mut regs = receiver(alloc, rec)?;
+    regs.extend_from_slice(rec.sig.args.as_slice())?;
+    regs.extend_from_slice(unset.as_slice())?;
+    Ok(regs)
+}
+
+impl Search<'_> {
+    /// Puts the frame of the method's start at place 0 of an empty table.
+    fn begin(&self, alloc: Global, table: &mut Table) -> Result<(), FlowEnd>
+        requires search { IsSearch self.now }
+        requires empty { table.old ≡ record { states = replicate (length self.now.code.bytes.now) None; pending = replicate (length self.now.code.bytes.now) false } }
+        ensures held { OnOk result (AreHeld (world_of self.now) (searched self.now) table.new) }
+        ensures closed { OnOk result (AreClosed (world_of self.now) (searched self.now) table.new) }
+        ensures start { OnOk result (At (state_at table.new.states) 0 (FrameBelow self.now.world.now.classes (start_frame self.now.rec.now Top))) }
+        ensures failed { IfErr result (IsFailure (world_of self.now) (searched self.now)) }
+    {
+        let regs = match start_regs(alloc, self.rec) {
+            Ok(regs) => regs,
+            Err(_) => return Err(FlowEnd::Memory),
+        };
+        match self.raise(alloc, table, 0, regs.as_slice(), &[]) {
+            Ok(()) => Ok(()),
+            Err(end) => Err(broken(0, end)),
+        }
+    }
+
+    /// The table once no place waits.
+    fn settled(&self, alloc: Global) -> Result<Table, FlowEnd>
+        requires { IsSearch self.now }
+        ensures typing { IfOk result (λ t. IsLeastTyping (world_of self.now) (searched self.now) Top (state_at t.states)) }
+        ensures reached { IfOk result (λ t. AreReached (searched self.now) t.states) }
+        ensures registers { IfOk result (λ t. HaveRegisters (searched self.now) t.states) }
+        ensures failed { IfErr result (IsFailure (world_of self.now) (searched self.now)) }
+    {
+        let registers = self.rec.nargs + self.rec.max_locals;
+        let mut table = Table::new(alloc, self.code.bytes.len())?;
+        let mut before = Scratch::new(alloc, registers, self.rec.max_stack)?;
+        let mut after = Scratch::new(alloc, registers, self.rec.max_stack)?;
+        self.begin(alloc, &mut table)?;
+        self.settle(alloc, &mut table, &mut before, &mut after)?;
+        Ok(table)
+    }
+}
