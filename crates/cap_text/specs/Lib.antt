@@ -4,6 +4,8 @@ pub mod Show
 pub mod Request
 pub mod Fault
 pub mod Bare
+pub mod Linked
+pub mod Rule
 pub mod Start
 pub mod Line
 pub mod Table

@@ -10,10 +10,16 @@ use Rattle.std.specs.Fmt.{signed_decimal}
 use Rattle.cap_text.specs.Fault.{pack_fault_text}
 use Rattle.cap_text.specs.Bare.{bare_kind_text}
 use Rattle.cap_text.specs.Start.{start_fault_text}
+use Rattle.cap_text.specs.Linked.{link_fault_text}
+use Rattle.jc_names.specs.declared.fault.LinkFault.{LinkFault}
 
 -- the parts of a package, by its number from 0, make no package
 abbrev pub malformed_line : ℕ → PackFault → List ℕ
 malformed_line number fault = concat (codes "malformed package " ∷ decimal number ∷ codes " " ∷ pack_fault_text fault ∷ codes "\n" ∷ [])
+
+-- the packages make no world with the roles
+abbrev pub not_linked_line : LinkFault → List ℕ
+not_linked_line fault = concat (codes "not linked " ∷ link_fault_text fault ∷ codes "\n" ∷ [])
 
 -- the entry does not start
 abbrev pub not_started_line : StartFault → List ℕ

@@ -7,7 +7,9 @@ mod bare;
 mod command;
 mod fault;
 mod line;
+mod linked;
 mod probe;
+mod rule;
 mod show;
 mod start;
 mod table;
@@ -15,7 +17,7 @@ mod word;
 
 pub use command::{Command, read_command};
 pub use fault::Shown;
-pub use line::{bare_ending, malformed, not_started, refused_bare};
+pub use line::{bare_ending, malformed, not_linked, not_started, refused_bare};
 pub use probe::Probe;
 pub use show::Show;
 pub use start::StartFault;
