@@ -1,6 +1,6 @@
 -- Where what a command needs is there and no device failed, no other verdict than Done and Memory has its cause.
 use Rattle.std.proofs.Common.{◌≡◌, ◌⊎◌, List, ℕ, ℤ, ◌<◌, length, map, subst, ◌∙◌, inl, inr, refl, arith, rules, suc, zero, [], ◌∷◌, All, FitsSigned, w16}
-use Rattle.std.specs.Prelude.{Result, Ok, Err, None, IfSome, IsSomeAnd, string_bytes, slice_get}
+use Rattle.std.specs.Prelude.{Err, None, IfSome, IsSomeAnd, string_bytes, slice_get}
 use Rattle.std.specs.FinMap as map
 use Rattle.cap_files.specs.Folder.{Holds}
 use Rattle.cap_bare.specs.Typing.{CardTyping}
@@ -25,7 +25,10 @@ use Rattle.capcheck_core.specs.Show.{Shows, OfParts, IsUnshown}
 use Rattle.capcheck_core.proofs.MethodFiles.{same_method, no_breach}
 use Rattle.capcheck_core.proofs.Loads.{one_list, none_long}
 use Rattle.cap_package.specs.PackageRecord.{PackageRecord}
-use Rattle.cap_package.specs.Agreement.{package_of}
+use Rattle.cap_package.specs.Parts.{Lent}
+use Rattle.cap_package.specs.StandsFor.{StandsFor}
+use Rattle.cap_package.specs.FirstFault.{Tells}
+use Rattle.cap_package.proofs.OneRecord.{stands_told}
 use Rattle.cap_package.specs.declared.fault.PackFault.{PackFault}
 
 -- the file that was read is the one that is held
@@ -93,14 +96,14 @@ can_probe p before after sink put Usage can calm probes = absurd probes
 can_probe p before after sink put StoreFault can calm probes = absurd probes
 can_probe p before after sink put (Limit text) can calm probes = absurd probes
 
--- a package is no fault
-no_fault : (p : PackageRecord) (fault : PackFault) (r : Result PackageRecord PackFault) → r ≡ Ok p → r ≡ Err fault → ⊥
-no_fault p fault r is_ok is_err = absurd (cc)
+-- nothing is told against parts that stand for a package
+no_fault : (parts : List Lent) (p : PackageRecord) (fault : PackFault) → StandsFor parts p → Tells parts (Err fault) → ⊥
+no_fault parts p fault stands told = let same = stands_told parts p (Err fault) stands told in absurd (cc)
 
 shown : (s : ShowRequest) (before : Folders) → CanShow s before → (text : List ℕ) → OfParts s before (λ parts. IsUnshown parts text) → ⊥
 shown s before can text of =
     let same = one_list before can.held s.dir 256 can.parts of.parts can.told can.loaded of.loaded in
-    no_fault can.shown of.holds.fault (package_of of.parts) (subst (λ ps. package_of ps ≡ Ok can.shown) same can.stands) of.holds.refused
+    no_fault of.parts can.shown of.holds.fault (subst (λ ps. StandsFor ps can.shown) same can.stands) of.holds.refused
 
 can_show : (s : ShowRequest) (before after : Folders) (sink put : Seen) (verdict : Verdict) → CanShow s before → NoFault before after sink put
     → Shows s before after verdict → (status_of verdict ≡ 0) ⊎ (status_of verdict ≡ 6)

@@ -1,5 +1,5 @@
 -- When a command does its work, or wants memory for it.
-use Rattle.std.specs.Prelude.{◌≡◌, ℕ, ℤ, ◌≤◌, List, length, Some, Ok, ◌⊎◌}
+use Rattle.std.specs.Prelude.{◌≡◌, ℕ, ℤ, ◌≤◌, List, length, Some, ◌⊎◌}
 use Rattle.cap_files.specs.Counts.{Rose}
 use Rattle.cap_files.specs.Folder.{Parts, Holds}
 use Rattle.cap_bare.specs.declared.bare.Bare.{Bare}
@@ -9,7 +9,7 @@ use Rattle.cap_text.specs.Show.{ShowRequest}
 use Rattle.cap_text.specs.Request.{Request, probe, show, IsRequest}
 use Rattle.cap_package.specs.Parts.{Lent}
 use Rattle.cap_package.specs.PackageRecord.{PackageRecord}
-use Rattle.cap_package.specs.Agreement.{package_of}
+use Rattle.cap_package.specs.StandsFor.{StandsFor}
 use Rattle.capcheck_core.specs.MethodFile.{IsMethodFile}
 use Rattle.capcheck_core.specs.Loads.{AreParts}
 use Rattle.capcheck_core.specs.Outside.{Folders}
@@ -44,7 +44,7 @@ pub record CanShow (s : ShowRequest) (before : Folders) : Type 0 where
   pub parts : List Lent
   pub loaded : AreParts before s.dir parts
   pub shown : PackageRecord
-  pub stands : package_of parts ≡ Ok shown
+  pub stands : StandsFor parts shown
 
 -- what a command needs is there
 abbrev pub CanDo : Request → Folders → Type 0

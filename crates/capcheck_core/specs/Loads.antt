@@ -1,17 +1,23 @@
 -- The parts of a package's folder, as they are loaded: by rising tag, the components that every package has (JCVM 2.2, section 6.1),
 -- and the other ones to which the Directory gives a size that is not 0 (section 6.4). A Directory that is absent or malformed tells no
 -- sizes.
-use Rattle.std.specs.Prelude.{◌≡◌, ℕ, suc, ◌<◌, ◌≤◌, Bool, true, false, not, ◌&&◌, ◌||◌, ◌==◌, nat_le, List, [], ◌∷◌, ◌++◌, length, Option, Some, None, Result, Ok, Err, refl}
+use Rattle.std.specs.Prelude.{◌≡◌, ℕ, suc, ◌<◌, ◌≤◌, Bool, true, false, not, ◌&&◌, ◌||◌, ◌==◌, nat_le, List, [], ◌∷◌, ◌++◌, length, filter, Option, Some, None, Result, Ok, Err, refl}
 use Rattle.cap_frame.specs.DirectoryFormat.{DirectoryItems, directory_info}
 use Rattle.cap_frame.specs.Directory.{size_in}
 use Rattle.cap_package.specs.declared.fault.PackFault.{PackFault}
 use Rattle.cap_package.specs.Parts.{Lent}
 use Rattle.cap_package.specs.Components.{read_part}
+use Rattle.cap_package.specs.PartChecks.{required}
+use Rattle.std.specs.List.{range_with_len}
 use Rattle.capcheck_core.specs.Outside.{Folders, IsThere, IsAbsent, IsTooLong}
 
 -- the components that every package has: all of the standard but Applet, Export and Debug
 abbrev pub is_required : ℕ → Bool
 is_required tag = (nat_le 1 tag && nat_le tag 2) || (nat_le 4 tag && nat_le tag 9) || tag == 11
+
+-- these are the components that a package must have
+required_are : filter is_required (range_with_len 0 256) ≡ required
+required_are = refl
 
 -- those that it may be without: Applet, Export and custom components
 abbrev pub is_optional : ℕ → Bool

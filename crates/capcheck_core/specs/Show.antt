@@ -1,11 +1,12 @@
 -- What `show` may answer, by the parts in its folder.
-use Rattle.std.specs.Prelude.{◌≡◌, ℕ, List, string_bytes, Ok, Err, ◌⊎◌}
+use Rattle.std.specs.Prelude.{◌≡◌, ℕ, List, string_bytes, Err, ◌⊎◌}
 use Rattle.cap_files.specs.Counts.{Rose}
 use Rattle.cap_package.specs.declared.fault.PackFault.{PackFault}
 use Rattle.cap_package.specs.declared.fault.PackFault.TheVariants.{PartTooLong}
 use Rattle.cap_package.specs.Parts.{Lent}
 use Rattle.cap_package.specs.PackageRecord.{PackageRecord}
-use Rattle.cap_package.specs.Agreement.{package_of}
+use Rattle.cap_package.specs.StandsFor.{StandsFor}
+use Rattle.cap_package.specs.FirstFault.{Tells}
 use Rattle.cap_text.specs.Show.{ShowRequest}
 use Rattle.cap_text.specs.Line.{malformed_line}
 use Rattle.cap_text.specs.Table.{component_table}
@@ -17,13 +18,13 @@ use Rattle.capcheck_core.specs.Loads.{AreParts, IsFirstLong}
 -- the parts stand for a package, and the text is its component table
 pub record IsShown (parts : List Lent) (text : List ℕ) : Type 0 where
   pub shown : PackageRecord
-  pub stands : package_of parts ≡ Ok shown
+  pub stands : StandsFor parts shown
   pub prints : text ≡ component_table shown
 
--- the parts stand for no package, and the text names why
+-- the parts stand for no package, and the text names the first thing that is at fault
 pub record IsUnshown (parts : List Lent) (text : List ℕ) : Type 0 where
   pub fault : PackFault
-  pub refused : package_of parts ≡ Err fault
+  pub refused : Tells parts (Err fault)
   pub prints : text ≡ malformed_line 0 fault
 
 -- the parts of the request's folder are such that this is true
