@@ -3,11 +3,18 @@
 //! `capcheck_core`.
 #![tactic(auto)]
 
+ghost use Rattle.std.specs.Prelude.{◌≡◌, map, drop, string_bytes, IfOk};
+ghost use Rattle.std.specs.Vec.Iter.{into_iter_items};
+ghost use Rattle.std.specs.IoError.{error_kind};
+ghost use Rattle.capcheck.specs.declared.NoStart.TheVariants.{Memory};
+ghost use Rattle.capcheck.specs.Start.{longest_from, start_by, status_of};
+
 use cap_files::{DirFolder, OutSink, Words};
 use capcheck_core::capcheck;
-use std::alloc::AllocError;
+use std::alloc::{AllocError, Global};
+use std::env::{self, Args};
+use std::io;
 use std::process::ExitCode;
-use std::{env, io};
 
 /// The words of the card's three memories.
 const RAM: usize = 32_832;
@@ -26,7 +33,9 @@ enum NoStart {
 }
 
 impl NoStart {
-    fn status(self) -> u8 {
+    fn status(self) -> u8
+        ensures { result ≡ status_of self }
+    {
         match self {
             NoStart::Memory => 6,
             NoStart::Words => 9,
@@ -35,6 +44,8 @@ impl NoStart {
 }
 
 impl From<AllocError> for NoStart {
+    ghost from_gives = { λ _ end. end ≡ Memory };
+
     fn from(_: AllocError) -> NoStart {
         NoStart::Memory
     }
@@ -66,28 +77,40 @@ fn run(rt: &HostRuntime) -> Result<u8, NoStart> {
     ))
 }
 
-/// The words behind the program's name.
 fn words(rt: &HostRuntime) -> Result<Words, NoStart> {
-    let mut words = Words::new(rt.alloc());
-    for word in env::args(rt).map_err(no_words)?.skip(1) {
+    let arguments = env::args(rt).map_err(no_words)?;
+    Ok(behind_name(rt.alloc(), arguments)?)
+}
+
+/// The words behind the program's name, which comes first.
+fn behind_name(alloc: Global, arguments: Args) -> Result<Words, AllocError>
+    ensures { IfOk result (λ w. w ≡ map string_bytes (drop 1 (into_iter_items arguments))) }
+{
+    let mut left = arguments;
+    let _name = left.next();
+    let mut words = Words::new(alloc);
+    'words: for word in left {
         words.push(word.as_str())?;
     }
     Ok(words)
 }
 
-fn no_words(error: io::Error) -> NoStart {
-    if error.kind() == io::ErrorKind::OutOfMemory {
-        NoStart::Memory
-    } else {
-        NoStart::Words
+fn no_words(error: io::Error) -> NoStart
+    ensures { result ≡ start_by (error_kind error) }
+{
+    match error.kind() {
+        io::ErrorKind::OutOfMemory => NoStart::Memory,
+        _ => NoStart::Words,
     }
 }
 
 /// The length of the longest word in bytes.
-fn longest(words: &Words) -> u32 {
-    words
-        .iter()
-        .map(|word| u32::try_from(word.len()).unwrap_or(u32::MAX))
-        .max()
-        .unwrap_or(0)
+fn longest(words: &Words) -> u32
+    ensures { result ≡ longest_from 0 words.now }
+{
+    let mut longest = 0;
+    'words: for word in words.iter() {
+        longest = longest.max(u32::try_from(word.len()).unwrap_or(u32::MAX));
+    }
+    longest
 }

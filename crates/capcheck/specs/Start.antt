@@ -1,0 +1,21 @@
+-- What comes before a command: its words, the room for their paths, and why none begins.
+use Rattle.std.specs.Prelude.{ℕ, ◌^◌, ◌-◌, max, min, List, [], ◌∷◌, length}
+use Rattle.std.specs.declared.io.ErrorKind.{ErrorKind}
+use Rattle.std.specs.declared.io.ErrorKind.TheVariants.{OutOfMemory}
+use Rattle.capcheck.specs.declared.NoStart.{NoStart}
+use Rattle.capcheck.specs.declared.NoStart.TheVariants.{Memory, Words}
+
+-- the exit status where no command begins
+abbrev pub status_of : NoStart → ℕ
+status_of Memory = 6
+status_of Words = 9
+
+-- why none begins where the words cannot be taken
+abbrev pub start_by : ErrorKind → NoStart
+start_by OutOfMemory = Memory
+start_by _ = Words
+
+-- the length of the longest word and no less than this, where a length of 32 bits stands still at its end
+abbrev pub longest_from : ℕ → List (List ℕ) → ℕ
+longest_from least [] = least
+longest_from least (word ∷ words) = longest_from (max least (min (length word) (2 ^ 32 - 1))) words
