@@ -1,3 +1,4 @@
 pub mod Numerals
 pub mod Arguments
+pub mod Folders
 pub mod Requests

@@ -6,7 +6,8 @@ use Rattle.std.proofs.lemmas.Fmt.{decimal_injective, signed_decimal_injective, d
 use Rattle.cap_text.specs.Word.{IsArgWord, AreArgWords}
 use Rattle.cap_text.specs.Probe.{ProbeRequest, IsProbe}
 use Rattle.cap_text.specs.Show.{ShowRequest, IsShow}
-use Rattle.cap_text.specs.Request.{probe, show, OneRequest}
+use Rattle.cap_text.specs.Check.{CheckRequest, IsCheck}
+use Rattle.cap_text.specs.Request.{probe, show, check, IsUsage, OneRequest}
 use Rattle.cap_text.specs.declared.word.Arg.{Arg}
 use Rattle.cap_text.specs.declared.word.Arg.TheVariants.{Number, Null}
 
@@ -48,9 +49,37 @@ one_show [] s t is_s is_t = absurd is_s
 one_show (dir ∷ []) s t is_s is_t = let same : s.dir ≡ t.dir = is_s.0 ∙ sym is_t.0 in λ i. record { dir = same i }
 one_show (dir ∷ more ∷ rest) s t is_s is_t = absurd is_s
 
+one_check : (operands : List (List ℕ)) (c d : CheckRequest) → IsCheck operands c → IsCheck operands d → c ≡ d
+one_check operands c d is_c is_d = let same : c.dirs ≡ d.dirs = is_c.0 ∙ sym is_d.0 in λ i. record { dirs = same i }
+
 probe_show : (name : List ℕ) → name ≡ codes "probe" → name ≡ codes "show" → ⊥
 unfolding first
 probe_show name is_probe is_show = let differ : 112 ≡ 115 = ap first (sym is_probe ∙ is_show) in omega (arith, differ)
+
+probe_check : (name : List ℕ) → name ≡ codes "probe" → name ≡ codes "check" → ⊥
+unfolding first
+probe_check name is_probe is_check = let differ : 112 ≡ 99 = ap first (sym is_probe ∙ is_check) in omega (arith, differ)
+
+show_check : (name : List ℕ) → name ≡ codes "show" → name ≡ codes "check" → ⊥
+unfolding first
+show_check name is_show is_check = let differ : 115 ≡ 99 = ap first (sym is_show ∙ is_check) in omega (arith, differ)
+
+first_word : List (List ℕ) → List ℕ
+first_word [] = []
+first_word (word ∷ words) = word
+
+others : List (List ℕ) → List (List ℕ)
+others [] = []
+others (word ∷ words) = words
+
+-- words that begin with the command's name and are outside its grammar ask for nothing
+pub no_check : (words : List (List ℕ)) (name : List ℕ) (operands : List (List ℕ)) → words ≡ name ∷ operands → name ≡ codes "check"
+    → ((c : CheckRequest) → IsCheck operands c → ⊥) → IsUsage words
+unfolding first_word others
+no_check [] name operands is called none r is_r = is_r
+no_check (word ∷ words) name operands is called none (probe p) is_r = absurd (probe_check word is_r.0 (ap first_word is ∙ called))
+no_check (word ∷ words) name operands is called none (show s) is_r = absurd (show_check word is_r.0 (ap first_word is ∙ called))
+no_check (word ∷ words) name operands is called none (check c) is_r = none c (subst (λ ws. IsCheck ws c) (ap others is) is_r.1)
 
 pub one_request : (words : List (List ℕ)) → OneRequest words
 one_request [] r s is_r is_s = absurd is_r
@@ -58,3 +87,8 @@ one_request (name ∷ operands) (probe p) (probe q) is_r is_s = ap probe (one_pr
 one_request (name ∷ operands) (probe p) (show t) is_r is_s = absurd (probe_show name is_r.0 is_s.0)
 one_request (name ∷ operands) (show s) (probe q) is_r is_s = absurd (probe_show name is_s.0 is_r.0)
 one_request (name ∷ operands) (show s) (show t) is_r is_s = ap show (one_show operands s t is_r.1 is_s.1)
+one_request (name ∷ operands) (probe p) (check c) is_r is_s = absurd (probe_check name is_r.0 is_s.0)
+one_request (name ∷ operands) (check c) (probe p) is_r is_s = absurd (probe_check name is_s.0 is_r.0)
+one_request (name ∷ operands) (show s) (check c) is_r is_s = absurd (show_check name is_r.0 is_s.0)
+one_request (name ∷ operands) (check c) (show s) is_r is_s = absurd (show_check name is_s.0 is_r.0)
+one_request (name ∷ operands) (check c) (check d) is_r is_s = ap check (one_check operands c d is_r.1 is_s.1)

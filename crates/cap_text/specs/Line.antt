@@ -12,6 +12,10 @@ use Rattle.cap_text.specs.Bare.{bare_kind_text}
 use Rattle.cap_text.specs.Start.{start_fault_text}
 use Rattle.cap_text.specs.Linked.{link_fault_text}
 use Rattle.jc_names.specs.declared.fault.LinkFault.{LinkFault}
+use Rattle.cap_text.specs.declared.line.MethodNumber.{MethodNumber}
+use Rattle.cap_text.specs.Flow.{flow_end_text}
+use Rattle.jc_flow.specs.declared.end.FlowEnd.{FlowEnd}
+use Rattle.jc_flow.specs.declared.end.FlowEnd.TheVariants.{Memory}
 
 -- the parts of a package, by its number from 0, make no package
 abbrev pub malformed_line : ℕ → PackFault → List ℕ
@@ -41,6 +45,19 @@ memory_line = codes "memory\n"
 -- the verifier refuses the bare method at a place
 abbrev pub refused_bare_line : BareFault → List ℕ
 refused_bare_line fault = concat (codes "refused place " ∷ decimal fault.place ∷ codes " " ∷ bare_kind_text fault.kind ∷ codes "\n" ∷ [])
+
+-- each method with code of the last package has a dataflow typing, and there are so many
+abbrev pub typed_line : ℕ → List ℕ
+typed_line count = concat (codes "typed " ∷ decimal count ∷ codes " methods\n" ∷ [])
+
+-- a method by the numbers of its package, of its class in the Descriptor, and of itself in the class, each from 0
+abbrev pub method_text : MethodNumber → List ℕ
+method_text m = concat (codes "package " ∷ decimal m.package ∷ codes " method " ∷ decimal m.class_no ∷ codes "." ∷ decimal m.method_no ∷ [])
+
+-- the method has no dataflow typing; for want of memory nothing is known of it, and there is no line
+abbrev pub refused_flow_line : MethodNumber → FlowEnd → List ℕ
+refused_flow_line method Memory = []
+refused_flow_line method end = concat (codes "refused " ∷ method_text method ∷ codes " " ∷ flow_end_text end ∷ codes "\n" ∷ [])
 
 -- how a run of a bare method ends
 abbrev pub bare_ending_line : BareEnd → List ℕ

@@ -1,6 +1,6 @@
 -- The words of a command line. A number is written in decimal with no leading zero, no plus sign
 -- and no negative zero, so each number has one word.
-use Rattle.std.specs.Prelude.{◌≡◌, ◌≢◌, ℕ, ◌<◌, ◌^◌, List, [], ◌∷◌, codes, decimal, FitsSigned}
+use Rattle.std.specs.Prelude.{◌≡◌, ◌≢◌, ℕ, ◌<◌, ◌^◌, List, [], ◌∷◌, All, codes, decimal, FitsSigned}
 use Rattle.std.specs.Fmt.{signed_decimal}
 use Rattle.std.specs.Int.{w32}
 use Rattle.cap_text.specs.declared.word.Arg.{Arg}
@@ -10,6 +10,11 @@ use Rattle.cap_text.specs.declared.word.Arg.TheVariants.{Number, Null}
 pub record IsFolderWord (word : List ℕ) : Type 0 where
   pub filled : word ≢ []
   pub no_end : word ≢ codes "--"
+
+-- one or more of them
+abbrev pub AreFolderWords : List (List ℕ) → Type 0
+AreFolderWords [] = ⊥
+AreFolderWords (dir ∷ dirs) = IsFolderWord dir × All IsFolderWord dirs
 
 -- the word writes this number, of 32 bits
 pub record IsNumberWord (word : List ℕ) (n : ℕ) : Type 0 where

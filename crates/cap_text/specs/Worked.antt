@@ -7,9 +7,11 @@ use Rattle.cap_bare.specs.declared.fault.BareKind.TheVariants.{BadTarget}
 use Rattle.cap_bare.specs.declared.run.BareEnd.TheVariants.{Returned}
 use Rattle.cap_text.specs.declared.start.StartFault.TheVariants.{ArgCount}
 use Rattle.cap_text.specs.Table.{component_line}
-use Rattle.cap_text.specs.Line.{malformed_line, not_linked_line, not_started_line, refused_bare_line, bare_ending_line}
+use Rattle.cap_text.specs.Line.{malformed_line, not_linked_line, not_started_line, refused_bare_line, typed_line, refused_flow_line, bare_ending_line}
 use Rattle.cap_text.specs.Rule.{rule_fault_text}
-use Rattle.jc_base.specs.declared.ty.Ty.TheVariants.{Class, Top}
+use Rattle.jc_base.specs.declared.ty.Ty.TheVariants.{Short, Class, Top}
+use Rattle.jc_decode.specs.declared.insn.CodeEnd.TheVariants.{NoOpcode}
+use Rattle.jc_flow.specs.declared.end.FlowEnd.TheVariants as flow
 use Rattle.jc_names.specs.declared.fault.LinkFault.TheVariants.{Hole}
 use Rattle.jc_rows.specs.declared.fault.RuleFault.TheVariants.{Mismatch}
 
@@ -36,6 +38,35 @@ not_started = refl
 refused : refused_bare_line (record { place = 3; kind = BadTarget (negsuc 0) }) ≡ codes "refused place 3 BadTarget -1\n"
 unfolding digits
 refused = refl
+
+typed : typed_line 2 ≡ codes "typed 2 methods\n"
+unfolding digits
+typed = refl
+
+target_before_code : refused_flow_line (record { «package» = 0; class_no = 0; method_no = 1 }) (flow.BadTarget 3 (negsuc 0))
+    ≡ codes "refused package 0 method 0.1 place 3 BadTarget -1\n"
+unfolding digits
+target_before_code = refl
+
+wrong_operand : refused_flow_line (record { «package» = 1; class_no = 0; method_no = 3 }) (flow.NoTyping 12 (Mismatch Short (Class 0)))
+    ≡ codes "refused package 1 method 0.3 place 12 Mismatch found short wanted class 0\n"
+unfolding digits
+wrong_operand = refl
+
+no_instruction : refused_flow_line (record { «package» = 2; class_no = 14; method_no = 3 }) (flow.Code 4 (NoOpcode 200))
+    ≡ codes "refused package 2 method 14.3 place 4 NoOpcode 200\n"
+unfolding digits
+no_instruction = refl
+
+past_the_end : refused_flow_line (record { «package» = 0; class_no = 0; method_no = 1 }) (flow.FallsOff 5)
+    ≡ codes "refused package 0 method 0.1 place 5 FallsOff\n"
+unfolding digits
+past_the_end = refl
+
+handler_within_instruction : refused_flow_line (record { «package» = 0; class_no = 2; method_no = 1 }) (flow.BadHandler 9 4)
+    ≡ codes "refused package 0 method 2.1 place 9 BadHandler 4\n"
+unfolding digits
+handler_within_instruction = refl
 
 returned : bare_ending_line (Returned (negsuc 32767)) ≡ codes "returned short -32768\n"
 unfolding digits

@@ -1,6 +1,7 @@
 ghost use Rattle.std.specs.Prelude.{IfOk, IfSome, IfNone};
 ghost use Rattle.cap_text.specs.Request.{Request, IsRequest, IsUsage, request_of, OneRequest};
 
+use crate::check::Check;
 use crate::probe::Probe;
 use crate::show::Show;
 use cap_files::Words;
@@ -11,6 +12,7 @@ use std::alloc::{AllocError, Global};
 pub enum Command<'a> {
     Probe(Probe<'a>),
     Show(Show<'a>),
+    Check(Check<'a>),
 }
 
 /// The command that the words spell, where they spell one. The arguments of a run take memory.
@@ -29,6 +31,9 @@ pub fn read_command<'a>(alloc: Global, words: &'a Words) -> Result<Option<Comman
     }
     if name == "show" {
         return Ok(Show::read(operands).map(Command::Show));
+    }
+    if name == "check" {
+        return Ok(Check::read(operands).map(Command::Check));
     }
     Ok(None)
 }

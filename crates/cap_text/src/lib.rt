@@ -4,8 +4,10 @@
 #![tactic(auto)]
 
 mod bare;
+mod check;
 mod command;
 mod fault;
+mod flow;
 mod line;
 mod linked;
 mod probe;
@@ -15,11 +17,15 @@ mod start;
 mod table;
 mod word;
 
+pub use check::Check;
 pub use command::{Command, read_command};
 pub use fault::Shown;
-pub use line::{bare_ending, malformed, not_linked, not_started, refused_bare};
+pub use line::{
+    MethodNumber, bare_ending, malformed, not_linked, not_started, refused_bare, refused_flow,
+    typed,
+};
 pub use probe::Probe;
 pub use show::Show;
 pub use start::StartFault;
 pub use table::component_table;
-pub use word::{Arg, argument, folder_word, number};
+pub use word::{Arg, argument, folder_word, folder_words, number};

@@ -1,7 +1,9 @@
 ghost use Rattle.std.specs.Prelude.{◌≡◌, ℕ, ◌↔◌, IsTrue, IfSome, IfNone};
-ghost use Rattle.cap_text.specs.Word.{IsFolderWord, IsNumberWord, IsArgWord};
+ghost use Rattle.cap_files.specs.WordsLeft.{words_left};
+ghost use Rattle.cap_text.specs.Word.{IsFolderWord, AreFolderWords, IsNumberWord, IsArgWord};
 ghost use Rattle.cap_text.specs.declared.word.Arg.{Arg};
 
+use cap_files::WordsIter;
 use itoa::{Buffer, Integer};
 
 /// An argument of a run.
@@ -18,6 +20,16 @@ pub fn folder_word(word: &str) -> bool
     ensures { IsTrue result ↔ IsFolderWord word.now }
 {
     !word.is_empty() && word != "--"
+}
+
+/// Whether there are words left, and each names a folder.
+pub fn folder_words(mut words: WordsIter<'_>) -> bool
+    ensures { IsTrue result ↔ AreFolderWords (words_left words.entry) }
+{
+    let Some(first) = words.next() else {
+        return false;
+    };
+    folder_word(first) && words.all(folder_word)
 }
 
 // Whether the word is how this number prints.

@@ -1,5 +1,5 @@
 -- the reader of a package's Directory gives what the record says
-use Rattle.std.proofs.Common.{◌≡◌, ◌∙◌, ap}
+use Rattle.std.proofs.Common.{◌∙◌, ap}
 use Rattle.std.specs.Prelude.{unwrap_or}
 use Rattle.cap_frame.specs.Directory.{size_in}
 use Rattle.cap_text.proofs.table.size_of.Goals as goal
