@@ -1,0 +1,127 @@
+"""A package as it is laid into the files of its components, for the makers of large ones."""
+import os
+
+AID = bytes([0xF0, 1, 2, 3, 4])
+NAMES = {1: "Header", 2: "Directory", 3: "Applet", 4: "Import", 5: "ConstantPool", 6: "Class", 7: "Method",
+         8: "StaticField", 9: "RefLocation", 10: "Export", 11: "Descriptor"}
+BOOLEAN, SHORT = 0x8002, 0x8004
+NO_SUPERCLASS = 0xFFFF
+MOST = 65535    # bytes of a component's info
+
+
+def u2(n):
+    return n.to_bytes(2, "big")
+
+
+def class_record(public=(), visible=(), above=NO_SUPERCLASS, cells=0):
+    """A class with full tables from token 0 on, its superclass's reference, and so many cells of its own."""
+    head = bytes([0]) + u2(above) + bytes([cells, 0xFF, 0, 0, len(public), 0, len(visible)])
+    return head + b"".join(map(u2, public)) + b"".join(map(u2, visible))
+
+
+def static_field(offset, ty):
+    return bytes([0, 8, 0]) + u2(offset) + u2(ty)
+
+
+def instance_field(token, reference, ty):
+    return bytes([token, 0]) + u2(reference) + bytes([token]) + u2(ty)
+
+
+def method(offset, type_offset, code, handlers=0, index=0, token=0, static=True):
+    """A method of the Descriptor, with its bytes of code and its entries of the handler table."""
+    return bytes([token, 8 if static else 0]) + u2(offset) + u2(type_offset) + u2(code) + u2(handlers) + u2(index)
+
+
+def distances(places):
+    """Rising offsets as distances of one byte, where 255 goes on."""
+    out, last = b"", 0
+    for place in places:
+        out += bytes([255]) * ((place - last) // 255) + bytes([(place - last) % 255])
+        last = place
+    return u2(len(out)) + out
+
+
+class Package:
+    """The infos of a package's components; classes are described in their order."""
+
+    def __init__(self, aid=AID):
+        self.aid = aid
+        self.imports = []       # identifiers of packages
+        self.pool = []          # entries of four bytes
+        self.classes = []       # Class records
+        self.described = []     # for each a pair of field records and method records
+        self.handlers = b""
+        self.methods = b""
+        self.indices = []       # where indices of two bytes into the pool stand in the info of Method
+        self.references = 0
+        self.arrays = []
+        self.zeros = 0
+        self.values = b""
+        self.export = None
+        self.types = bytes([1, 0x10])   # the first: no argument, void
+        self.roles = None
+
+    def add_class(self, record, fields=(), methods=()):
+        self.classes.append(record)
+        self.described.append((fields, methods))
+
+    def next_class(self):
+        """The offset of the next class in the Class component."""
+        return 2 + sum(map(len, self.classes))
+
+    def next_method(self):
+        """The offset of the next method in the Method component."""
+        return 1 + len(self.handlers) + len(self.methods)
+
+    def first_type(self):
+        """The offset of the first type descriptor; the pool has to be whole."""
+        return 2 + 2 * len(self.pool)
+
+    def descriptor(self):
+        info, at = bytes([min(len(self.described), 255)]), 2
+        for record, (fields, methods) in list(zip(self.classes, self.described))[:255]:
+            info += bytes([0, 0]) + u2(at) + bytes([0]) + u2(len(fields)) + u2(len(methods))
+            info += b"".join(fields) + b"".join(methods)
+            at += len(record)
+        return info + u2(len(self.pool)) + bytes(2 * len(self.pool)) + self.types
+
+    def statics(self):
+        info = u2(self.image_size()) + u2(self.references) + u2(len(self.arrays))
+        info += b"".join(bytes([kind]) + u2(len(values)) + values for kind, values in self.arrays)
+        return info + u2(self.zeros) + u2(len(self.values)) + self.values
+
+    def image_size(self):
+        return 2 * self.references + self.zeros + len(self.values)
+
+    def directory(self, infos):
+        sizes = {tag: len(info) for tag, info in infos.items()}
+        sizes[2] = 33
+        array_bytes = sum(len(values) for _, values in self.arrays)
+        info = b"".join(u2(sizes.get(tag, 0)) for tag in range(1, 13))
+        info += u2(self.image_size()) + u2(len(self.arrays)) + u2(array_bytes & 0xFFFF)
+        return info + bytes([len(self.imports), 0, 0])
+
+    def infos(self):
+        flags = 0 if self.export is None else 2
+        infos = {
+            1: bytes.fromhex("DECAFFED0202") + bytes([flags, 0, 1, len(self.aid)]) + self.aid + bytes([0]),
+            4: bytes([len(self.imports)]) + b"".join(bytes([0, 1, len(aid)]) + aid for aid in self.imports),
+            5: u2(len(self.pool)) + b"".join(self.pool),
+            6: u2(0) + b"".join(self.classes),
+            7: bytes([len(self.handlers) // 8]) + self.handlers + self.methods,
+            8: self.statics(), 9: u2(0) + distances(self.indices), 11: self.descriptor(),
+        }
+        if self.export is not None:
+            infos[10] = self.export
+        infos[2] = self.directory(infos)
+        return infos
+
+    def write(self, folder):
+        os.makedirs(folder, exist_ok=True)
+        for tag, info in self.infos().items():
+            assert len(info) <= MOST, (folder, tag, len(info))
+            with open(os.path.join(folder, NAMES[tag] + ".cap"), "wb") as file:
+                file.write(bytes([tag]) + u2(len(info)) + info)
+        if self.roles is not None:
+            with open(os.path.join(folder, "Roles.cap"), "wb") as file:
+                file.write(self.roles)
