@@ -8,3 +8,4 @@ pub mod Steps
 pub mod FieldSteps
 pub mod NamesTold
 pub mod ReferenceLaws
+pub mod DeclaredTypes
