@@ -9,3 +9,13 @@ pub mod FieldSteps
 pub mod NamesTold
 pub mod ReferenceLaws
 pub mod DeclaredTypes
+pub mod Faultless
+pub mod WordLaws
+pub mod HeaderLaws
+pub mod OwnedHandlers
+pub mod InfoLaws
+pub mod MethodFacts
+pub mod NumberedLaws
+pub mod NamedClassLaws
+pub mod MethodBodies
+pub mod NamedMethodLaws
