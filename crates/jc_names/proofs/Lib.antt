@@ -19,3 +19,7 @@ pub mod NumberedLaws
 pub mod NamedClassLaws
 pub mod MethodBodies
 pub mod NamedMethodLaws
+pub mod ClassFacts
+pub mod Repeats
+pub mod FieldCounts
+pub mod NamedTold

@@ -22,7 +22,7 @@ both true true h = (refl, refl)
 both true false h = absurd cc
 both false y h = absurd cc
 
-same-equal : (a b : Place) → same_place a b ≡ true → a ≡ b
+pub same-equal : (a b : Place) → same_place a b ≡ true → a ≡ b
 same-equal a b h =
     let p = both (eqb a.package b.package) (eqb a.offset b.offset) h in
     let e = eqb-true a.package b.package p.0 in
