@@ -1,5 +1,5 @@
 -- Everything in named classes is a number of a class or a method.
-use Rattle.std.proofs.Common.{◌≡◌, ℕ, suc, ◌+◌, ◌≤◌, ◌<◌, Bool, true, false, eqb, List, [], ◌∷◌, ◌++◌, length, get_or, map, take, Option, Some, None, option_map, option_and_then, position, if◌then◌else◌, refl, sym, ap, subst, ◌∙◌, arith, inl, inr}
+use Rattle.std.proofs.Common.{◌≡◌, ℕ, ◌+◌, ◌≤◌, ◌<◌, Bool, true, false, eqb, List, [], ◌∷◌, length, get_or, map, take, Option, Some, None, option_map, option_and_then, position, if◌then◌else◌, refl, sym, ap, subst, ◌∙◌, arith, inl, inr}
 use Rattle.std.specs.Prelude.{All, IfSome, slice_get, flat_map}
 use Rattle.std.specs.List.{cons_option}
 use Rattle.std.proofs.lemmas.Bool.{false≢true}
@@ -19,8 +19,8 @@ use Rattle.jc_names.specs.declared.named.NamedClass.{NamedClass}
 use Rattle.jc_names.specs.declared.place.Place.{Place}
 use Rattle.jc_names.specs.Numbering.{NumberedClass, numbered_class, classes_of, classes_behind, numbered_classes, numbered_methods, same_place, place_of_class, class_places, class_at, method_at}
 use Rattle.jc_names.specs.References.{meets, met_by, import_of, class_named, Refers, internal, imported}
-use Rattle.jc_names.specs.NamedClasses.{with_token, by_token, cells_by, cells_of_field, cells_of_fields, instance_fields, entry_of, table_of, interface_named, interfaces_named, parent_named, named_interface, named_proper, named_class, named_classes}
-use Rattle.jc_names.specs.Named.{package_by, package_of, IsDeclared, AreEntries, HasNoMembers, IsSized, IsNamedClass}
+use Rattle.jc_names.specs.NamedClasses.{by_token, cells_by, cells_of_field, cells_of_fields, instance_fields, entry_of, table_of, interface_named, interfaces_named, parent_named, named_interface, named_proper, named_class, named_classes}
+use Rattle.jc_names.specs.Named.{package_by, package_of, IsDeclared, AreEntries, IsSized, IsNamedClass}
 use Rattle.jc_names.proofs.NumberLaws.{same-equal, position_below, method_below}
 use Rattle.jc_names.proofs.ReferenceLaws.{named-refers}
 use Rattle.jc_names.proofs.DeclaredTypes.{either, named-length, named_below, cells_declared}

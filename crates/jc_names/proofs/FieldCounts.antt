@@ -1,5 +1,5 @@
 -- How many cells the instance fields of a class have.
-use Rattle.std.proofs.Common.{◌≡◌, ℕ, zero, suc, ◌+◌, ◌*◌, ◌≤◌, ◌<◌, Bool, true, false, cond, eqb, List, [], ◌∷◌, ◌++◌, length, length-append, map, Option, Some, None, refl, ap, arith, inl, inr}
+use Rattle.std.proofs.Common.{◌≡◌, ℕ, zero, suc, ◌+◌, ◌*◌, ◌≤◌, ◌<◌, Bool, true, false, cond, eqb, List, [], ◌∷◌, length, length-append, map, Option, Some, None, refl, ap, arith, inl, inr}
 use Rattle.std.specs.Prelude.{filter, flat_map, sum_by}
 use Rattle.std.specs.List.{range_with_len}
 use Rattle.std.proofs.lemmas.Bool.{cases_eq, ne_eqb}
@@ -17,7 +17,7 @@ use Rattle.cap_desc.specs.DescriptorFormat.{Class, Field, field_info, method_inf
 use Rattle.cap_desc.specs.Members.{fields_of}
 use Rattle.cap_package.specs.Descriptions.{Description, description, field_type}
 use Rattle.cap_package.specs.PackageRecord.{PackageRecord}
-use Rattle.jc_names.specs.WorldTypes.{type_of, cells_of_type}
+use Rattle.jc_names.specs.WorldTypes.{type_of}
 use Rattle.jc_names.specs.NamedClasses.{describes, is_instance, fields_described, instance_fields, token_of, with_token, by_token, cells_by, cells_of_field, cells_of_fields}
 use Rattle.jc_names.proofs.DeclaredTypes.{either}
 use Rattle.jc_names.proofs.Repeats.{TakesEach, goes_on, spelled_within, given_within}

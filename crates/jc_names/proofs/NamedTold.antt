@@ -1,9 +1,8 @@
 -- Names of packages name classes and methods of theirs alone.
-use Rattle.std.proofs.Common.{◌≡◌, ℕ, List, length, map, Result, Ok, Err, sym, ap, subst, ◌∙◌}
+use Rattle.std.proofs.Common.{◌≡◌, ℕ, List, length, Result, Ok, Err, sym, subst}
 use Rattle.std.specs.Prelude.{All, IfOk, slice_index}
 use Rattle.std.proofs.lemmas.List.{length-map}
 use Rattle.cap_package.specs.PackageRecord.{PackageRecord}
-use Rattle.jc_base.specs.declared.record.MethodRec.{MethodRec}
 use Rattle.jc_names.specs.declared.fault.LinkFault.{LinkFault}
 use Rattle.jc_names.specs.declared.fault.LinkEnd.{LinkEnd}
 use Rattle.jc_names.specs.Conditions.{conditions}
@@ -12,7 +11,6 @@ use Rattle.jc_names.specs.Named.{IsAgreed, IsSized, IsNamedClass, AreNamed, info
 use Rattle.jc_names.specs.NamedClasses.{named_classes}
 use Rattle.jc_names.specs.NamedMethods.{HasFewHandlers, named_methods}
 use Rattle.jc_names.specs.Names.{NamesRecord, named, checked, names_of, Answers}
-use Rattle.jc_names.specs.Numbering.{numbered_methods}
 use Rattle.jc_names.proofs.ClassFacts.{classes-named}
 use Rattle.jc_names.proofs.NamedMethodLaws.{methods-named}
 use Rattle.jc_names.proofs.NamesTold.{names_told}

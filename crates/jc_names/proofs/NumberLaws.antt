@@ -1,5 +1,5 @@
 -- The numbers that the tables keep are the positions of classes and methods.
-use Rattle.std.proofs.Common.{◌≡◌, ℕ, zero, suc, ◌+◌, ◌≤◌, ◌<◌, Bool, true, false, cond, eqb, ◌&&◌, List, [], ◌∷◌, ◌++◌, length, map, Option, Some, None, position, slice_get, option_map, IfSome, is_some, refl, sym, ap, ap₂, subst, ◌∙◌, arith, if◌then◌else◌, get_or}
+use Rattle.std.proofs.Common.{◌≡◌, ℕ, suc, ◌+◌, ◌<◌, Bool, true, false, cond, eqb, ◌&&◌, List, [], ◌∷◌, ◌++◌, length, map, Option, Some, None, position, slice_get, option_map, IfSome, is_some, refl, sym, ap, ap₂, subst, ◌∙◌, arith, if◌then◌else◌, get_or}
 use Rattle.std.specs.List.{position_from}
 use Rattle.std.specs.Map.{lookup}
 use Rattle.std.proofs.lemmas.Bool.{eqb-true}
