@@ -21,5 +21,6 @@ pub mod MethodBodies
 pub mod NamedMethodLaws
 pub mod ClassFacts
 pub mod Repeats
+pub mod DescribedFields
 pub mod FieldCounts
 pub mod NamedTold
