@@ -5,3 +5,10 @@ pub mod Known
 pub mod Told
 pub mod Behind
 pub mod Concretes
+pub mod TokenCells
+pub mod OwnCells
+pub mod NumberedFields
+pub mod OwnRecords
+pub mod FieldTypes
+pub mod FieldsLinked
+pub mod MembersLinked

@@ -1,5 +1,5 @@
 -- The instance fields of classes as packages describe them (JCVM 2.2, sections 6.8 and 6.13.2).
-use Rattle.std.specs.Prelude.{ℕ, ◌+◌, ◌≤◌, List, [], ◌∷◌, ◌++◌, length, map, Option, None, option_map, filter, filter_map, flat_map, sum_by, nat_lt, ◌==◌, ◌||◌, if◌then◌else◌}
+use Rattle.std.specs.Prelude.{◌≡◌, ℕ, ◌+◌, ◌≤◌, List, [], ◌∷◌, ◌++◌, length, map, Option, None, option_map, filter, filter_map, flat_map, sum_by, nat_lt, ◌==◌, ◌||◌, if◌then◌else◌}
 use Rattle.cap_class.specs.ClassFormat.{Class, is_interface}
 use Rattle.cap_desc.specs.declared.type_item.TypeItem.{TypeItem}
 use Rattle.cap_desc.specs.DescriptorFormat as described
@@ -9,9 +9,11 @@ use Rattle.cap_package.specs.PackageRecord.{PackageRecord}
 use Rattle.jc_base.specs.declared.ty.Kind.{Kind}
 use Rattle.jc_base.specs.declared.ty.Kind.TheVariants.{Ref, Byte, Short, Int}
 use Rattle.jc_base.specs.declared.record.Member.TheVariants.{Field}
+use Rattle.jc_base.specs.declared.record.ClassRec.{ClassRec}
 use Rattle.jc_base.specs.Cell.{width}
 use Rattle.jc_base.specs.Class.{ClassTable, parent_of, object}
 use Rattle.jc_base.specs.Linked.{cells_above}
+use Rattle.jc_names.specs.declared.named.NamedClass.{NamedClass}
 use Rattle.jc_names.specs.NamedClasses.{describes, token_of}
 use Rattle.jc_names.specs.WorldTypes.{type_of}
 use Rattle.jc_members.specs.declared.own_field.OwnField.{OwnField}
@@ -69,8 +71,9 @@ field_sites ps t = sites_behind ps t 0 0 ps
 
 -- ---- an instance of each class has room for its fields
 
+-- its fields are those whose tokens are bytes, below 256
 abbrev pub HasRoom : ClassTable → ℕ → List OwnField → Type 0
-HasRoom t c fields = cells_above t (parent_of t c) + cells_taken fields ≤ 32767
+HasRoom t c fields = cells_above t (parent_of t c) + cells_before fields 256 ≤ 32767
 
 abbrev pub HaveRoomIn : List PackageRecord → ClassTable → ℕ → PackageRecord → ℕ → List Class → Type 0
 HaveRoomIn ps t k p c [] = Unit {0}
@@ -82,3 +85,9 @@ HaveRoomBehind ps t c k (p ∷ others) = HaveRoomIn ps t k p c p.classes × Have
 
 abbrev pub HaveRoom : List PackageRecord → ClassTable → Type 0
 HaveRoom ps t = HaveRoomBehind ps t 0 0 ps
+
+-- ---- the records of a table have the own cells of the named classes, and its object is theirs
+
+pub record HasCellsOf (classes : List NamedClass) (object_is : ℕ) (t : ClassTable) : Type 0 where
+  pub object : object t ≡ object_is
+  pub own : map (λ (r : ClassRec). r.own) t.records ≡ map (λ (c : NamedClass). c.own) classes
