@@ -33,16 +33,13 @@ pub class-below : (ps : List PackageRecord) (k reference : ℕ) → IfSome (clas
 unfolding class_named
 class-below ps k reference = below_by ps (place_named ps k reference)
 
-pub class_there : (ps : List PackageRecord) (k reference : ℕ) (o : Option ℕ) → o ≡ class_named ps k reference → IfSome o (λ c. c < length (numbered_classes ps))
-class_there ps k reference o e = subst (λ x. IfSome x (λ c. c < length (numbered_classes ps))) (sym e) (class-below ps k reference)
-
 pub method_there : (ps : List PackageRecord) (place : Place) (o : Option ℕ) → o ≡ method_at ps place → IfSome o (λ n. n < length (numbered_methods ps))
 unfolding method_at
 method_there ps place None e = tt
 method_there ps place (Some n) e = subst (λ len. n < len) (length-map (numbered_methods ps) _) (position_below (is_at place) (method_places ps) n (sym e))
 
-pub counted : (ps qs : List PackageRecord) (n : ℕ) → n ≡ class_total ps → qs ≡ ps → n ≡ length (numbered_classes qs)
-counted ps qs n e same = rw same (e ∙ sym (classes_total ps))
+pub counted : (ps : List PackageRecord) (n : ℕ) → n ≡ class_total ps → n ≡ length (numbered_classes ps)
+counted ps n e = e ∙ sym (classes_total ps)
 
 -- ---- dispatch lists
 

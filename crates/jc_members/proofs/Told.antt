@@ -1,5 +1,7 @@
 -- The answer tells the members, or the least entry without its one member.
-use Rattle.std.proofs.Common.{◌≡◌, List, Option, Some, None, Result, Ok, Err, refl, sym, ap, ◌∙◌}
+use Rattle.std.proofs.Common.{◌≡◌, ℕ, suc, ◌+◌, List, [], ◌∷◌, length, Option, Some, None, Result, Ok, Err, refl, sym, ap, ◌∙◌}
+use Rattle.std.specs.Prelude.{IfOk}
+use Rattle.cap_pool.specs.PoolFormat.{Entry}
 use Rattle.cap_package.specs.PackageRecord.{PackageRecord}
 use Rattle.jc_base.specs.declared.record.Member.{Member}
 use Rattle.jc_base.specs.declared.record.StaticRec.{StaticRec}
@@ -10,7 +12,13 @@ use Rattle.jc_names.specs.declared.fault.LinkEnd.TheVariants.{Fault, Memory}
 use Rattle.jc_names.specs.Fault.{place_of}
 use Rattle.jc_names.specs.FirstFault.{◌>>=◌, least_of, refused}
 use Rattle.jc_names.proofs.LeastFaults.{least-at_fault, least-found, least-none}
-use Rattle.jc_members.specs.Pools.{pool_places, member_fault, missing_members, pools, pools_of, IsDue, Tells}
+use Rattle.jc_members.specs.Members.{member_of}
+use Rattle.jc_members.specs.Pools.{pool_places, member_fault, missing_members, pools_behind, pools, pools_of, IsDue, Tells}
+
+-- there are as many pools as packages
+pools-each : (named : ℕ → Entry → Option Member) (k : ℕ) (ps : List PackageRecord) → length (pools_behind named k ps) ≡ length ps
+pools-each named k [] = refl
+pools-each named k (p ∷ ps) = ap suc (pools-each named (k + 1) ps)
 
 module _ (ps : List PackageRecord) (t : ClassTable) (statics : List StaticRec) where
   told-by : (o : Option LinkFault) (r : Result (List (List Member)) LinkEnd) → least_of place_of (member_fault ps t statics) (pool_places ps) ≡ o → IsDue (refused o >>= λ _. Ok (pools ps t statics)) r → Tells ps t statics r
@@ -28,3 +36,8 @@ module _ (ps : List PackageRecord) (t : ClassTable) (statics : List StaticRec) w
   pub due-tells : (r : Result (List (List Member)) LinkEnd) → IsDue (pools_of ps t statics) r → Tells ps t statics r
   unfolding pools_of
   due-tells r due = told-by (least_of place_of (member_fault ps t statics) (pool_places ps)) r refl due
+
+  pub due-each : (r : Result (List (List Member)) LinkEnd) → IsDue (pools_of ps t statics) r → IfOk r (λ found. length found ≡ length ps)
+  due-each (Ok found) due = ap length (due-tells (Ok found) due).0 ∙ pools-each (member_of ps t statics) 0 ps
+  due-each (Err (Fault f)) due = tt
+  due-each (Err Memory) due = tt

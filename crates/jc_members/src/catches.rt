@@ -8,12 +8,10 @@ ghost use Rattle.jc_names.specs.FirstFault.{least_from, least_of, refused};
 ghost use Rattle.jc_members.specs.Catches.{caught_by, thrown_by, catches, handlers_from, handler_places, catch_fault};
 
 use crate::entries::class_in;
-use crate::names::Names;
 use cap_method::{HandlerInfo, Handlers};
-use cap_package::Packages;
 use cap_pool::Pool;
 use jc_base::{Classes, Ty, below};
-use jc_names::{LinkFault, lesser, refuse};
+use jc_names::{LinkFault, Names, lesser, refuse};
 
 /// The tag of a Classref.
 const CLASSREF: u8 = 1;
@@ -32,9 +30,9 @@ fn is_thrown(classes: &Classes, class: u16) -> bool
 }
 
 /// The class or interface that an entry names, if it is a Classref.
-fn caught_by<N: Names>(names: &N, package: u16, pool: &Pool<'_>, index: u16) -> Option<u16>
-    ensures is { result ≡ caught_by (N.named_in names.now) «package» (slice_get (entries pool.now) index) }
-    ensures below { IfSome result (λ c. c < length (numbered_classes (N.named_in names.now))) }
+fn caught_by(names: &Names<'_, '_, '_>, package: u16, pool: &Pool<'_>, index: u16) -> Option<u16>
+    ensures is { result ≡ caught_by names.now.packages «package» (slice_get (entries pool.now) index) }
+    ensures below { IfSome result (λ c. c < length (numbered_classes names.now.packages)) }
 {
     let entry = pool.at(index)?;
     if entry.tag == CLASSREF {
@@ -46,16 +44,16 @@ fn caught_by<N: Names>(names: &N, package: u16, pool: &Pool<'_>, index: u16) -> 
 
 /// Whether a handler of a package catches all, or a class below throwable.
 #[tactic(auto, unfolding(crate::specs::Catches::catches))]
-fn catches<N: Names>(
-    names: &N,
+fn catches(
+    names: &Names<'_, '_, '_>,
     classes: &Classes,
     package: u16,
     pool: &Pool<'_>,
     index: u16,
 ) -> bool
-    requires count { length classes.now.records ≡ length (numbered_classes (N.named_in names.now)) }
+    requires count { length classes.now.records ≡ length (numbered_classes names.now.packages) }
     requires throwable { IsClass classes.now (throwable classes.now) }
-    ensures { result ≡ catches (N.named_in names.now) classes.now «package» (entries pool.now) index }
+    ensures { result ≡ catches names.now.packages classes.now «package» (entries pool.now) index }
 {
     if index == 0 {
         return true;
@@ -68,17 +66,17 @@ fn catches<N: Names>(
 
 /// What is wrong with a handler of a package.
 #[tactic(auto, unfolding(crate::specs::Catches::catch_fault))]
-fn catch_fault<N: Names>(
-    names: &N,
+fn catch_fault(
+    names: &Names<'_, '_, '_>,
     classes: &Classes,
     package: u16,
     pool: &Pool<'_>,
     number: u16,
     handler: HandlerInfo,
 ) -> Option<LinkFault>
-    requires count { length classes.now.records ≡ length (numbered_classes (N.named_in names.now)) }
+    requires count { length classes.now.records ≡ length (numbered_classes names.now.packages) }
     requires throwable { IsClass classes.now (throwable classes.now) }
-    ensures { result ≡ catch_fault (N.named_in names.now) classes.now (record { home = «package»; pool = entries pool.now; number = number; handler = handler }) }
+    ensures { result ≡ catch_fault names.now.packages classes.now (record { home = «package»; pool = entries pool.now; number = number; handler = handler }) }
 {
     if catches(names, classes, package, pool, handler.index) {
         None
@@ -88,18 +86,18 @@ fn catch_fault<N: Names>(
 }
 
 /// The least fault so far, when the handlers of a package were looked at.
-fn handlers_catch<N: Names>(
-    names: &N,
+fn handlers_catch(
+    names: &Names<'_, '_, '_>,
     classes: &Classes,
     package: u16,
     pool: &Pool<'_>,
     handlers: Handlers<'_>,
     least: Option<LinkFault>,
 ) -> Option<LinkFault>
-    requires count { length classes.now.records ≡ length (numbered_classes (N.named_in names.now)) }
+    requires count { length classes.now.records ≡ length (numbered_classes names.now.packages) }
     requires throwable { IsClass classes.now (throwable classes.now) }
     requires few { length (handlers_left handlers) ≤ 255 }
-    ensures { result ≡ least_from place_of least (catch_fault (N.named_in names.now) classes.now) (handlers_from «package» (entries pool.now) 0 (handlers_left handlers.entry)) }
+    ensures { result ≡ least_from place_of least (catch_fault names.now.packages classes.now) (handlers_from «package» (entries pool.now) 0 (handlers_left handlers.entry)) }
 {
     let mut least = least;
     let mut number: u16 = 0;
@@ -113,19 +111,15 @@ fn handlers_catch<N: Names>(
 
 /// Each handler catches all, or a class below throwable.
 #[tactic(auto, using(crate::proofs::Behind::least_handlers))]
-pub fn handlers_fit<N: Names>(
-    packages: &Packages<'_, '_>,
-    names: &N,
-    classes: &Classes,
-) -> Result<(), LinkFault>
-    requires same { N.named_in names.now ≡ packages.now }
-    requires many { length packages.now ≤ 16 }
-    requires count { length classes.now.records ≡ length (numbered_classes packages.now) }
+pub fn handlers_fit(names: &Names<'_, '_, '_>, classes: &Classes) -> Result<(), LinkFault>
+    requires many { length names.now.packages ≤ 16 }
+    requires count { length classes.now.records ≡ length names.now.classes }
     requires throwable { IsClass classes.now (throwable classes.now) }
-    ensures { result ≡ refused (least_of place_of (catch_fault packages.now classes.now) (handler_places packages.now)) }
+    ensures { result ≡ refused (least_of place_of (catch_fault names.now.packages classes.now) (handler_places names.now.packages)) }
 {
+    let _numbered = names.classes();
     let mut least = None;
-    'packages: for (k, package) in packages.as_slice().iter().enumerate() {
+    'packages: for (k, package) in names.packages().as_slice().iter().enumerate() {
         let handlers = package.methods().handlers();
         least = handlers_catch(names, classes, k as u16, &package.pool(), handlers, least);
     }

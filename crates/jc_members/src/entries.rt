@@ -7,26 +7,29 @@ ghost use Rattle.jc_members.specs.Sites.{all_entered};
 ghost use Rattle.jc_members.specs.Entries.{class_in, exported_field, exported_method, own_place, field_place, method_place};
 ghost use Rattle.jc_members.specs.Members.{class_member, proper_in, virtual_member, may_name, super_of, super_member, static_sites, static_at, static_member, call_member};
 
-use crate::names::Names;
 use crate::sites::{Sites, Spot};
 use cap_package::Packages;
 use cap_pool::PoolEntry;
 use jc_base::{Classes, Dispatch, Member, Statics};
-use jc_names::Place;
+use jc_names::{Names, Place};
 
 /// The class or interface that the first two bytes of an entry name.
 #[tactic(auto, unfolding(crate::specs::Entries::class_in))]
-pub(crate) fn class_in<N: Names>(names: &N, package: u16, entry: PoolEntry) -> Option<u16>
-    ensures is { result ≡ class_in (N.named_in names.now) «package» (entry_seen entry) }
-    ensures below { IfSome result (λ c. c < length (numbered_classes (N.named_in names.now))) }
+pub(crate) fn class_in(names: &Names<'_, '_, '_>, package: u16, entry: PoolEntry) -> Option<u16>
+    ensures is { result ≡ class_in names.now.packages «package» (entry_seen entry) }
+    ensures below { IfSome result (λ c. c < length (numbered_classes names.now.packages)) }
 {
     names.class_named(package, entry.bytes[0] as u16 * 256 + entry.bytes[1] as u16)
 }
 
 /// The class or interface that a Classref names.
 #[tactic(auto, unfolding(crate::specs::Members::class_member))]
-pub(crate) fn class_member<N: Names>(names: &N, package: u16, entry: PoolEntry) -> Option<Member>
-    ensures { result ≡ class_member (N.named_in names.now) «package» (entry_seen entry) }
+pub(crate) fn class_member(
+    names: &Names<'_, '_, '_>,
+    package: u16,
+    entry: PoolEntry,
+) -> Option<Member>
+    ensures { result ≡ class_member names.now.packages «package» (entry_seen entry) }
 {
     let class = class_in(names, package, entry)?;
     Some(Member::ClassOf { class })
@@ -34,14 +37,14 @@ pub(crate) fn class_member<N: Names>(names: &N, package: u16, entry: PoolEntry) 
 
 /// The class that an entry names, if it is no interface.
 #[tactic(auto, unfolding(crate::specs::Members::proper_in))]
-pub(crate) fn proper_in<N: Names>(
-    names: &N,
+pub(crate) fn proper_in(
+    names: &Names<'_, '_, '_>,
     classes: &Classes,
     package: u16,
     entry: PoolEntry,
 ) -> Option<u16>
-    requires { length classes.now.records ≡ length (numbered_classes (N.named_in names.now)) }
-    ensures is { result ≡ proper_in (N.named_in names.now) classes.now «package» (entry_seen entry) }
+    requires { length classes.now.records ≡ length (numbered_classes names.now.packages) }
+    ensures is { result ≡ proper_in names.now.packages classes.now «package» (entry_seen entry) }
     ensures class { IfSome result (IsClass classes.now) }
 {
     let class = class_in(names, package, entry)?;
@@ -73,14 +76,14 @@ fn entry_at(classes: &Classes, class: u16, token: u8) -> Option<u16>
 
 /// The token of a class that a VirtualMethodref names.
 #[tactic(auto, unfolding(crate::specs::Members::virtual_member, crate::specs::Members::virtual_by))]
-pub(crate) fn virtual_member<N: Names>(
-    names: &N,
+pub(crate) fn virtual_member(
+    names: &Names<'_, '_, '_>,
     classes: &Classes,
     package: u16,
     entry: PoolEntry,
 ) -> Option<Member>
-    requires { length classes.now.records ≡ length (numbered_classes (N.named_in names.now)) }
-    ensures { result ≡ virtual_member (N.named_in names.now) classes.now «package» (entry_seen entry) }
+    requires { length classes.now.records ≡ length (numbered_classes names.now.packages) }
+    ensures { result ≡ virtual_member names.now.packages classes.now «package» (entry_seen entry) }
 {
     let class = proper_in(names, classes, package, entry)?;
     let token = entry.bytes[2];
@@ -121,14 +124,14 @@ fn super_of(classes: &Classes, class: u16, token: u8) -> Option<Member>
 
 /// The method of a superclass that a SuperMethodref names.
 #[tactic(auto, unfolding(crate::specs::Members::super_member))]
-pub(crate) fn super_member<N: Names>(
-    names: &N,
+pub(crate) fn super_member(
+    names: &Names<'_, '_, '_>,
     classes: &Classes,
     package: u16,
     entry: PoolEntry,
 ) -> Option<Member>
-    requires { length classes.now.records ≡ length (numbered_classes (N.named_in names.now)) }
-    ensures { result ≡ super_member (N.named_in names.now) classes.now «package» (entry_seen entry) }
+    requires { length classes.now.records ≡ length (numbered_classes names.now.packages) }
+    ensures { result ≡ super_member names.now.packages classes.now «package» (entry_seen entry) }
 {
     let class = proper_in(names, classes, package, entry)?;
     super_of(classes, class, entry.bytes[2])
@@ -166,20 +169,14 @@ fn own_place(package: u16, entry: PoolEntry) -> Place
 
 /// Where the static field stands that an entry names.
 #[tactic(auto, unfolding(crate::specs::Entries::field_place))]
-fn field_place<N: Names>(
-    packages: &Packages<'_, '_>,
-    names: &N,
-    package: u16,
-    entry: PoolEntry,
-) -> Option<Place>
-    requires { N.named_in names.now ≡ packages.now }
-    ensures { result ≡ field_place packages.now «package» (entry_seen entry) }
+fn field_place(names: &Names<'_, '_, '_>, package: u16, entry: PoolEntry) -> Option<Place>
+    ensures { result ≡ field_place names.now.packages «package» (entry_seen entry) }
 {
     if entry.bytes[0] < 128 {
         return Some(own_place(package, entry));
     }
-    let home = names.met_by(package, entry.bytes[0] - 128)?;
-    let offset = exported_field(packages, home, entry.bytes[1], entry.bytes[2])?;
+    let home = names.import_met(package, entry.bytes[0] - 128)?;
+    let offset = exported_field(names.packages(), home, entry.bytes[1], entry.bytes[2])?;
     Some(Place {
         package: home,
         offset,
@@ -188,20 +185,14 @@ fn field_place<N: Names>(
 
 /// Where the method stands that an entry names.
 #[tactic(auto, unfolding(crate::specs::Entries::method_place))]
-fn method_place<N: Names>(
-    packages: &Packages<'_, '_>,
-    names: &N,
-    package: u16,
-    entry: PoolEntry,
-) -> Option<Place>
-    requires { N.named_in names.now ≡ packages.now }
-    ensures { result ≡ method_place packages.now «package» (entry_seen entry) }
+fn method_place(names: &Names<'_, '_, '_>, package: u16, entry: PoolEntry) -> Option<Place>
+    ensures { result ≡ method_place names.now.packages «package» (entry_seen entry) }
 {
     if entry.bytes[0] < 128 {
         return Some(own_place(package, entry));
     }
-    let home = names.met_by(package, entry.bytes[0] - 128)?;
-    let offset = exported_method(packages, home, entry.bytes[1], entry.bytes[2])?;
+    let home = names.import_met(package, entry.bytes[0] - 128)?;
+    let offset = exported_method(names.packages(), home, entry.bytes[1], entry.bytes[2])?;
     Some(Place {
         package: home,
         offset,
@@ -222,34 +213,30 @@ fn static_at(statics: &Statics, sites: &Sites, place: Place) -> Option<Member>
 
 /// The static field that a StaticFieldref names, where the static fields are known by their places.
 #[tactic(auto, unfolding(crate::specs::Members::static_member))]
-pub(crate) fn static_member<N: Names>(
-    packages: &Packages<'_, '_>,
-    names: &N,
+pub(crate) fn static_member(
+    names: &Names<'_, '_, '_>,
     statics: &Statics,
     sites: &Sites,
     package: u16,
     entry: PoolEntry,
 ) -> Option<Member>
-    requires same { N.named_in names.now ≡ packages.now }
-    requires sites { sites.now ≡ all_entered [] (static_sites statics.now) }
-    ensures { result ≡ static_member packages.now statics.now «package» (entry_seen entry) }
+    requires { sites.now ≡ all_entered [] (static_sites statics.now) }
+    ensures { result ≡ static_member names.now.packages statics.now «package» (entry_seen entry) }
 {
-    let place = field_place(packages, names, package, entry)?;
+    let place = field_place(names, package, entry)?;
     static_at(statics, sites, place)
 }
 
 /// The method that a StaticMethodref names.
 #[tactic(auto, unfolding(crate::specs::Members::call_member))]
-pub(crate) fn call_member<N: Names>(
-    packages: &Packages<'_, '_>,
-    names: &N,
+pub(crate) fn call_member(
+    names: &Names<'_, '_, '_>,
     package: u16,
     entry: PoolEntry,
 ) -> Option<Member>
-    requires { N.named_in names.now ≡ packages.now }
-    ensures { result ≡ call_member packages.now «package» (entry_seen entry) }
+    ensures { result ≡ call_member names.now.packages «package» (entry_seen entry) }
 {
-    let place = method_place(packages, names, package, entry)?;
-    let method = names.method_at(place)?;
+    let place = method_place(names, package, entry)?;
+    let method = names.method_at(place.package, place.offset)?;
     Some(Member::StaticCall { method })
 }

@@ -1,7 +1,7 @@
-ghost use Rattle.std.specs.Prelude.{◌≡◌, ◌+◌, ◌≤◌, ◌<◌, [], IfOk, IfSome, OnOk, length};
+ghost use Rattle.std.specs.Prelude.{◌≡◌, ◌+◌, ◌≤◌, ◌<◌, [], IfOk, IfSome, OnOk, length, slice_index};
 ghost use Rattle.cap_class.specs.ClassPart.{classes_left};
 ghost use Rattle.cap_pool.specs.Pool.{entry_seen};
-ghost use Rattle.jc_base.specs.Class.{IsClass, parent_of};
+ghost use Rattle.jc_base.specs.Class.{IsClass, object, parent_of};
 ghost use Rattle.jc_base.specs.Linked.{cells_above};
 ghost use Rattle.jc_names.specs.Counts.{class_total};
 ghost use Rattle.jc_names.specs.Numbering.{numbered_classes};
@@ -10,12 +10,12 @@ ghost use Rattle.jc_members.specs.Sites.{all_entered};
 ghost use Rattle.jc_members.specs.Members.{as_of, kept_holder, kept_field, field_member};
 
 use crate::entries::proper_in;
-use crate::names::Names;
 use crate::own_field::{OwnField, cells_before, own_fields};
 use crate::sites::{Sites, Spot};
-use cap_package::{Package, Packages};
+use cap_package::Package;
 use cap_pool::PoolEntry;
 use jc_base::{Classes, Member};
+use jc_names::Names;
 use std::alloc::{AllocError, Global};
 
 /// How many cells the superclass of a class has.
@@ -62,24 +62,24 @@ fn enter_class(
 
 /// Keeps the fields of the classes of a package, the first of which has a number.
 #[tactic(auto, using(crate::proofs::Rooms::entered_both))]
-fn enter_package<N: Names>(
+fn enter_package(
     alloc: Global,
     sites: &mut Sites,
-    names: &N,
+    names: &Names<'_, '_, '_>,
     classes: &Classes,
     number: u16,
     package: &Package<'_, '_>,
     first: u16,
 ) -> Result<(), AllocError>
+    requires object { object classes.now ≡ slice_index names.now.roles 0 }
     requires few { length classes.now.records ≤ 4096 }
     requires known { first + length «package».now.classes ≤ length classes.now.records }
-    requires room { HaveRoomIn (N.named_in names.now) classes.now number «package».now first «package».now.classes }
-    ensures { OnOk result (sites.new ≡ all_entered sites.old (sites_of_classes (N.named_in names.now) classes.now number «package».now first «package».now.classes)) }
+    requires room { HaveRoomIn names.now.packages classes.now number «package».now first «package».now.classes }
+    ensures { OnOk result (sites.new ≡ all_entered sites.old (sites_of_classes names.now.packages classes.now number «package».now first «package».now.classes)) }
 {
-    let object = classes.role(0);
     let mut c = first;
     'classes: for class in package.classes().iter() {
-        let own = own_fields(alloc, names, object, number, package, class)?;
+        let own = own_fields(alloc, names, number, package, class)?;
         enter_class(sites, classes, c, &own)?;
         c += 1;
     }
@@ -88,22 +88,21 @@ fn enter_package<N: Names>(
 
 /// The instance fields of all classes by class and token.
 #[tactic(auto, using(crate::proofs::Rooms::entered_both))]
-pub(crate) fn field_sites<N: Names>(
+pub(crate) fn field_sites(
     alloc: Global,
-    packages: &Packages<'_, '_>,
-    names: &N,
+    names: &Names<'_, '_, '_>,
     classes: &Classes,
 ) -> Result<Sites, AllocError>
-    requires same { N.named_in names.now ≡ packages.now }
-    requires many { length packages.now ≤ 16 }
+    requires object { object classes.now ≡ slice_index names.now.roles 0 }
+    requires many { length names.now.packages ≤ 16 }
     requires few { length classes.now.records ≤ 4096 }
-    requires count { length classes.now.records ≡ class_total packages.now }
-    requires room { HaveRoom packages.now classes.now }
-    ensures { IfOk result (λ sites. sites ≡ all_entered [] (field_sites packages.now classes.now)) }
+    requires count { length classes.now.records ≡ class_total names.now.packages }
+    requires room { HaveRoom names.now.packages classes.now }
+    ensures { IfOk result (λ sites. sites ≡ all_entered [] (field_sites names.now.packages classes.now)) }
 {
     let mut sites = Sites::new(alloc);
     let mut first: u16 = 0;
-    'packages: for (k, package) in packages.as_slice().iter().enumerate() {
+    'packages: for (k, package) in names.packages().as_slice().iter().enumerate() {
         enter_package(alloc, &mut sites, names, classes, k as u16, package, first)?;
         first += package.classes().count();
     }
@@ -162,16 +161,16 @@ fn field_of(classes: &Classes, sites: &Sites, class: u16, token: u8) -> Option<M
 
 /// The field that an InstanceFieldref names, where the fields are known by class and token.
 #[tactic(auto, unfolding(crate::specs::Members::field_member), using(crate::proofs::Holders::field_kept))]
-pub(crate) fn field_member<N: Names>(
-    names: &N,
+pub(crate) fn field_member(
+    names: &Names<'_, '_, '_>,
     classes: &Classes,
     sites: &Sites,
     package: u16,
     entry: PoolEntry,
 ) -> Option<Member>
-    requires count { length classes.now.records ≡ length (numbered_classes (N.named_in names.now)) }
-    requires sites { sites.now ≡ all_entered [] (field_sites (N.named_in names.now) classes.now) }
-    ensures { result ≡ field_member (N.named_in names.now) classes.now «package» (entry_seen entry) }
+    requires count { length classes.now.records ≡ length (numbered_classes names.now.packages) }
+    requires sites { sites.now ≡ all_entered [] (field_sites names.now.packages classes.now) }
+    ensures { result ≡ field_member names.now.packages classes.now «package» (entry_seen entry) }
 {
     let class = proper_in(names, classes, package, entry)?;
     field_of(classes, sites, class, entry.bytes[2])

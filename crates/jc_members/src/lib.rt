@@ -7,13 +7,11 @@
 mod catches;
 mod entries;
 mod fields;
-mod names;
 mod own_field;
 mod pools;
 mod roles;
 mod sites;
 
 pub use catches::handlers_fit;
-pub use names::Names;
 pub use pools::members;
 pub use roles::roles_fit;

@@ -1,4 +1,4 @@
-ghost use Rattle.std.specs.Prelude.{◌≡◌, ◌+◌, ◌≤◌, ◌<◌, ◌++◌, IfOk, OnOk, map, filter_map, flat_map, length};
+ghost use Rattle.std.specs.Prelude.{◌≡◌, ◌+◌, ◌≤◌, ◌<◌, ◌++◌, IfOk, OnOk, map, filter_map, flat_map, length, slice_index};
 ghost use Rattle.cap_class.specs.ClassPart.{class_seen as record_seen};
 ghost use Rattle.cap_desc.specs.ClassRecords.{class_seen, classes_left};
 ghost use Rattle.cap_desc.specs.MemberLists.{fields_left};
@@ -7,11 +7,11 @@ ghost use Rattle.cap_package.specs.Descriptions.{description};
 ghost use Rattle.jc_base.specs.Cell.{width};
 ghost use Rattle.jc_members.specs.Fields.{kind_of, own_field, fields_in, own_fields, cells_before};
 
-use crate::names::Names;
 use cap_class::ClassInfo;
 use cap_desc::{DescClass, DescFields, DescPart, FieldInfo, TypeItem};
 use cap_package::{Package, field_type};
 use jc_base::{Kind, Ty};
+use jc_names::Names;
 use std::alloc::{AllocError, Global};
 
 /// An instance field that a class has of its own.
@@ -46,16 +46,15 @@ fn width(kind: Kind) -> u32
     }
 }
 
-/// An instance field, by its description in a package; `object` is the number of class object.
+/// An instance field, by its description in a package.
 #[tactic(auto, unfolding(crate::specs::Fields::own_field))]
-fn own_field<N: Names>(
-    names: &N,
-    object: u16,
+fn own_field(
+    names: &Names<'_, '_, '_>,
     package: u16,
     descriptor: &DescPart<'_>,
     field: FieldInfo,
 ) -> Option<OwnField>
-    ensures { result ≡ own_field (N.named_in names.now) object «package» (description descriptor.now) (field_seen field) }
+    ensures { result ≡ own_field names.now.packages (slice_index names.now.roles 0) «package» (description descriptor.now) (field_seen field) }
 {
     if field.flags.is_static() {
         return None;
@@ -64,23 +63,22 @@ fn own_field<N: Names>(
     Some(OwnField {
         token: field.bytes[2],
         kind: kind_of(ty),
-        ty: names.type_of(object, package, ty),
+        ty: names.type_of(package, ty),
     })
 }
 
 /// Appends the instance fields among described fields.
-fn push_fields<N: Names>(
+fn push_fields(
     own: &mut Vec<OwnField>,
-    names: &N,
-    object: u16,
+    names: &Names<'_, '_, '_>,
     package: u16,
     descriptor: &DescPart<'_>,
     fields: DescFields<'_>,
 ) -> Result<(), AllocError>
-    ensures { OnOk result (own.new.items ≡ own.old.items ++ filter_map (own_field (N.named_in names.now) object «package» (description descriptor.now)) (fields_left fields.entry)) }
+    ensures { OnOk result (own.new.items ≡ own.old.items ++ filter_map (own_field names.now.packages (slice_index names.now.roles 0) «package» (description descriptor.now)) (fields_left fields.entry)) }
 {
     'fields: for field in fields {
-        if let Some(field) = own_field(names, object, package, descriptor, field) {
+        if let Some(field) = own_field(names, package, descriptor, field) {
             own.push(field)?;
         }
     }
@@ -88,34 +86,32 @@ fn push_fields<N: Names>(
 }
 
 /// Appends those that a record of the Descriptor has of the class at an offset.
-fn push_record<N: Names>(
+fn push_record(
     own: &mut Vec<OwnField>,
-    names: &N,
-    object: u16,
+    names: &Names<'_, '_, '_>,
     package: u16,
     descriptor: &DescPart<'_>,
     offset: u16,
     described: DescClass<'_>,
 ) -> Result<(), AllocError>
-    ensures { OnOk result (own.new.items ≡ own.old.items ++ fields_in (N.named_in names.now) object «package» (description descriptor.now) offset (class_seen described.entry)) }
+    ensures { OnOk result (own.new.items ≡ own.old.items ++ fields_in names.now.packages (slice_index names.now.roles 0) «package» (description descriptor.now) offset (class_seen described.entry)) }
 {
     if offset < 0x8000 && described.class_ref() == offset {
-        return push_fields(own, names, object, package, descriptor, described.fields());
+        return push_fields(own, names, package, descriptor, described.fields());
     }
     Ok(())
 }
 
 /// The fields that a class has of its own; an interface has none.
 #[tactic(auto, unfolding(crate::specs::Fields::own_fields))]
-pub(crate) fn own_fields<N: Names>(
+pub(crate) fn own_fields(
     alloc: Global,
-    names: &N,
-    object: u16,
+    names: &Names<'_, '_, '_>,
     number: u16,
     package: &Package<'_, '_>,
     class: ClassInfo<'_>,
 ) -> Result<Vec<OwnField>, AllocError>
-    ensures { IfOk result (λ own. own.items ≡ own_fields (N.named_in names.now) object number «package».now (record_seen class.entry)) }
+    ensures { IfOk result (λ own. own.items ≡ own_fields names.now.packages (slice_index names.now.roles 0) number «package».now (record_seen class.entry)) }
 {
     let mut own = Vec::new(alloc);
     if class.flags().is_interface() {
@@ -126,7 +122,6 @@ pub(crate) fn own_fields<N: Names>(
         push_record(
             &mut own,
             names,
-            object,
             number,
             &descriptor,
             class.offset(),

@@ -1,22 +1,22 @@
-ghost use Rattle.std.specs.Prelude.{◌≡◌, ◌≤◌, [], ◌++◌, IfOk, Some, None, is_none, filter_map, if◌then◌else◌, length};
+ghost use Rattle.std.specs.Prelude.{◌≡◌, ◌+◌, ◌≤◌, [], ◌++◌, All, IfOk, Some, None, is_none, filter_map, if◌then◌else◌, length, slice_index};
 ghost use Rattle.cap_pool.specs.Pool.{entries, entry_seen};
 ghost use Rattle.jc_names.specs.Counts.{class_total};
 ghost use Rattle.jc_names.specs.declared.fault.LinkFault.TheVariants.{NoMember};
 ghost use Rattle.jc_names.specs.Fault.{place_of};
 ghost use Rattle.jc_names.specs.FirstFault.{least_from, least_of};
-ghost use Rattle.jc_members.specs.Fields.{HaveRoom, field_sites};
+ghost use Rattle.jc_base.specs.Class.{object};
+ghost use Rattle.jc_base.specs.Linked.{AreLinkedClasses};
+ghost use Rattle.jc_members.specs.Fields.{HasCellsOf, HaveRoom, field_sites};
 ghost use Rattle.jc_members.specs.Sites.{all_entered};
 ghost use Rattle.jc_members.specs.Members.{static_sites, member_of};
 ghost use Rattle.jc_members.specs.Pools.{places_from, pool_places, member_fault, pools, pools_of, IsDue, Tells};
 
 use crate::entries::{call_member, class_member, static_member, super_member, virtual_member};
 use crate::fields::{field_member, field_sites};
-use crate::names::Names;
 use crate::sites::{Sites, static_sites};
-use cap_package::Packages;
 use cap_pool::{Pool, PoolEntry};
 use jc_base::{Classes, Items, Member, Pools, Statics};
-use jc_names::{LinkEnd, LinkFault, lesser, refuse};
+use jc_names::{LinkEnd, LinkFault, Names, lesser, refuse};
 use std::alloc::{AllocError, Global};
 
 /// Members by where they are described.
@@ -28,28 +28,26 @@ struct Tables {
 
 /// The member that an entry of a package names.
 #[tactic(auto, unfolding(crate::specs::Members::member_of), using(crate::proofs::Known::counted))]
-fn member_of<N: Names>(
-    packages: &Packages<'_, '_>,
-    names: &N,
+fn member_of(
+    names: &Names<'_, '_, '_>,
     classes: &Classes,
     statics: &Statics,
     tables: &Tables,
     package: u16,
     entry: PoolEntry,
 ) -> Option<Member>
-    requires same { N.named_in names.now ≡ packages.now }
-    requires count { length classes.now.records ≡ class_total packages.now }
+    requires count { length classes.now.records ≡ class_total names.now.packages }
     requires statics { tables.now.statics ≡ all_entered [] (static_sites statics.now) }
-    requires fields { tables.now.fields ≡ all_entered [] (field_sites packages.now classes.now) }
-    ensures { result ≡ member_of packages.now classes.now statics.now «package» (entry_seen entry) }
+    requires fields { tables.now.fields ≡ all_entered [] (field_sites names.now.packages classes.now) }
+    ensures { result ≡ member_of names.now.packages classes.now statics.now «package» (entry_seen entry) }
 {
     match entry.tag {
         1 => class_member(names, package, entry),
         2 => field_member(names, classes, &tables.fields, package, entry),
         3 => virtual_member(names, classes, package, entry),
         4 => super_member(names, classes, package, entry),
-        5 => static_member(packages, names, statics, &tables.statics, package, entry),
-        _ => call_member(packages, names, package, entry),
+        5 => static_member(names, statics, &tables.statics, package, entry),
+        _ => call_member(names, package, entry),
     }
 }
 
@@ -66,10 +64,9 @@ fn missing(package: u16, number: u16, member: Option<Member>) -> Option<LinkFaul
 /// Appends what the entries of a package's pool name, and gives the least fault so far: an entry that has
 /// not exactly one member.
 #[tactic(auto, unfolding(crate::specs::Pools::member_fault))]
-fn push_members<N: Names>(
+fn push_members(
     members: &mut Vec<Member>,
-    packages: &Packages<'_, '_>,
-    names: &N,
+    names: &Names<'_, '_, '_>,
     classes: &Classes,
     statics: &Statics,
     tables: &Tables,
@@ -77,18 +74,18 @@ fn push_members<N: Names>(
     pool: &Pool<'_>,
     least: Option<LinkFault>,
 ) -> Result<Option<LinkFault>, AllocError>
-    requires same { N.named_in names.now ≡ packages.now }
-    requires count { length classes.now.records ≡ class_total packages.now }
+    requires count { length classes.now.records ≡ class_total names.now.packages }
     requires statics { tables.now.statics ≡ all_entered [] (static_sites statics.now) }
-    requires fields { tables.now.fields ≡ all_entered [] (field_sites packages.now classes.now) }
-    ensures fault { IfOk result (λ least_then. least_then ≡ least_from place_of least (member_fault packages.now classes.now statics.now) (places_from «package» 0 (entries pool.now))) }
-    ensures members { IfOk result (λ _. members.new.items ≡ members.old.items ++ filter_map (member_of packages.now classes.now statics.now «package») (entries pool.now)) }
+    requires fields { tables.now.fields ≡ all_entered [] (field_sites names.now.packages classes.now) }
+    ensures fault { IfOk result (λ least_then. least_then ≡ least_from place_of least (member_fault names.now.packages classes.now statics.now) (places_from «package» 0 (entries pool.now))) }
+    ensures few { IfOk result (λ _. length members.new.items ≤ length members.old.items + length (entries pool.now)) }
+    ensures members { IfOk result (λ _. members.new.items ≡ members.old.items ++ filter_map (member_of names.now.packages classes.now statics.now «package») (entries pool.now)) }
 {
     let _count = pool.count();
     let mut least = least;
     let mut number: u16 = 0;
     'entries: for entry in pool.iter() {
-        let member = member_of(packages, names, classes, statics, tables, package, entry);
+        let member = member_of(names, classes, statics, tables, package, entry);
         least = lesser(least, missing(package, number, member));
         if let Some(member) = member {
             members.push(member)?;
@@ -100,30 +97,28 @@ fn push_members<N: Names>(
 
 /// What the entries of all pools name, and the least entry that has not exactly one member.
 #[tactic(auto, using(crate::proofs::Behind::least_entries))]
-fn named<N: Names>(
+fn named(
     alloc: Global,
-    packages: &Packages<'_, '_>,
-    names: &N,
+    names: &Names<'_, '_, '_>,
     classes: &Classes,
     statics: &Statics,
     tables: &Tables,
 ) -> Result<(Pools, Option<LinkFault>), AllocError>
-    requires same { N.named_in names.now ≡ packages.now }
-    requires many { length packages.now ≤ 16 }
-    requires count { length classes.now.records ≡ class_total packages.now }
+    requires many { length names.now.packages ≤ 16 }
+    requires count { length classes.now.records ≡ class_total names.now.packages }
     requires statics { tables.now.statics ≡ all_entered [] (static_sites statics.now) }
-    requires fields { tables.now.fields ≡ all_entered [] (field_sites packages.now classes.now) }
-    ensures pools { IfOk result (λ r. r.0 ≡ pools packages.now classes.now statics.now) }
-    ensures fault { IfOk result (λ r. r.1 ≡ least_of place_of (member_fault packages.now classes.now statics.now) (pool_places packages.now)) }
+    requires fields { tables.now.fields ≡ all_entered [] (field_sites names.now.packages classes.now) }
+    ensures few { IfOk result (λ r. All (λ pool. length pool ≤ 65535) r.0) }
+    ensures pools { IfOk result (λ r. r.0 ≡ pools names.now.packages classes.now statics.now) }
+    ensures fault { IfOk result (λ r. r.1 ≡ least_of place_of (member_fault names.now.packages classes.now statics.now) (pool_places names.now.packages)) }
 {
-    let mut pools = Vec::with_capacity(alloc, packages.len())?;
+    let mut pools = Vec::with_capacity(alloc, names.packages().len())?;
     let mut least = None;
-    'packages: for (k, package) in packages.as_slice().iter().enumerate() {
+    'packages: for (k, package) in names.packages().as_slice().iter().enumerate() {
         let pool = package.pool();
         let mut members = Vec::with_capacity(alloc, pool.count() as usize)?;
         least = push_members(
             &mut members,
-            packages,
             names,
             classes,
             statics,
@@ -139,45 +134,48 @@ fn named<N: Names>(
 
 /// What the entries of the packages' constant pools name, by package and pool number.
 #[tactic(auto, unfolding(crate::specs::Pools::pools_of))]
-fn pools_of<N: Names>(
+fn pools_of(
     alloc: Global,
-    packages: &Packages<'_, '_>,
-    names: &N,
+    names: &Names<'_, '_, '_>,
     classes: &Classes,
     statics: &Statics,
 ) -> Result<Pools, LinkEnd>
-    requires same { N.named_in names.now ≡ packages.now }
-    requires many { length packages.now ≤ 16 }
+    requires object { object classes.now ≡ slice_index names.now.roles 0 }
+    requires many { length names.now.packages ≤ 16 }
     requires few { length classes.now.records ≤ 4096 }
-    requires count { length classes.now.records ≡ class_total packages.now }
-    requires room { HaveRoom packages.now classes.now }
-    ensures { IsDue (pools_of packages.now classes.now statics.now) result }
+    requires count { length classes.now.records ≡ class_total names.now.packages }
+    requires room { HaveRoom names.now.packages classes.now }
+    ensures value { IsDue (pools_of names.now.packages classes.now statics.now) result }
+    ensures few { IfOk result (λ pools. All (λ pool. length pool ≤ 65535) pools) }
 {
     let tables = Tables {
         statics: static_sites(alloc, statics)?,
-        fields: field_sites(alloc, packages, names, classes)?,
+        fields: field_sites(alloc, names, classes)?,
     };
-    let (pools, least) = named(alloc, packages, names, classes, statics, &tables)?;
+    let (pools, least) = named(alloc, names, classes, statics, &tables)?;
     refuse(least)?;
     Ok(pools)
 }
 
 /// What the entries of the packages' constant pools name, by package and pool number.
-pub fn members<N: Names>(
+pub fn members(
     alloc: Global,
-    packages: &Packages<'_, '_>,
-    names: &N,
+    names: &Names<'_, '_, '_>,
     classes: &Classes,
     statics: &Statics,
 ) -> Result<Pools, LinkEnd>
-    requires same { N.named_in names.now ≡ packages.now }
-    requires many { length packages.now ≤ 16 }
-    requires few { length classes.now.records ≤ 4096 }
-    requires count { length classes.now.records ≡ class_total packages.now }
-    requires room { HaveRoom packages.now classes.now }
-    ensures value { IsDue (pools_of packages.now classes.now statics.now) result }
+    requires many { length names.now.packages ≤ 16 }
+    requires few { length names.now.classes ≤ 4096 }
+    requires cells { HasCellsOf names.now.classes (slice_index names.now.roles 0) classes.now }
+    requires linked { AreLinkedClasses (length names.now.packages) classes.now names.now.methods }
+    requires room { HaveRoom names.now.packages classes.now }
+    ensures value { IsDue (pools_of names.now.packages classes.now statics.now) result }
     // The pools exactly where each entry has one member; else the least entry that has not.
-    ensures tells { Tells packages.now classes.now statics.now result }
+    ensures tells { Tells names.now.packages classes.now statics.now result }
+    // As many as there are packages, each with as many members as a pool can have.
+    ensures each { IfOk result (λ pools. length pools ≡ length names.now.packages) }
+    ensures few { IfOk result (λ pools. All (λ pool. length pool ≤ 65535) pools) }
 {
-    pools_of(alloc, packages, names, classes, statics)
+    let _numbered = names.classes();
+    pools_of(alloc, names, classes, statics)
 }

@@ -95,11 +95,12 @@ even_place s p le h =
 at_reference : (n : ℕ) → n % 2 ≡ 0 → n ≡ 2 * (n / 2)
 at_reference n h = omega arith
 
-filled_reference : (told : ℕ → TypeItem → Ty) → AreTold told → (n : ℕ) (arrays : List ArrayRec) (t : ClassTable) (s : Site) → IsSite n arrays s → (a : Array) → slice_get s.statics.arrays (s.place.offset / 2) ≡ Some a → s.place.offset % 2 ≡ 0
+filled_reference : (told : ℕ → TypeItem → Ty) → AreTold told → (n : ℕ) (arrays : List ArrayRec) (t : ClassTable) (s : Site) → length arrays ≤ 4096 → IsSite n arrays s → (a : Array) → slice_get s.statics.arrays (s.place.offset / 2) ≡ Some a → s.place.offset % 2 ≡ 0
     → IsInitialHandle t arrays (type_at told s) (get_or (references s.first s.statics) (s.place.offset / 2) 0)
-filled_reference told are n arrays t s known a there even =
+filled_reference told are n arrays t s few known a there even =
     let k = s.place.offset / 2 in
     let within = slice_get_within s.statics.arrays k a there in
+    let below = slice_get_within arrays (known.before + k) (array_record a) (known.handles k a there) in
     let h : get_or (references s.first s.statics) k 0 ≡ suc (known.before + k) = omega (arith, handle_in s.first s.statics k within, known.first) in
     let primitive : IsPrimitive a.kind = All-slice_get (λ (b : Array). IsPrimitive b.kind) s.statics.arrays k a known.kinds there in
     let ty : type_at told s ≡ array_type a.kind =
@@ -110,31 +111,31 @@ filled_reference told are n arrays t s known a there even =
 null_reference : (arrays : List ArrayRec) (t : ClassTable) (s : Site) (ty : Ty) → length s.statics.arrays ≤ s.place.offset / 2 → IsInitialHandle t arrays ty (get_or (references s.first s.statics) (s.place.offset / 2) 0)
 null_reference arrays t s ty past = rw (handle_past s.first s.statics (s.place.offset / 2) past) tt
 
-reference_words : (told : ℕ → TypeItem → Ty) → AreTold told → (n : ℕ) (arrays : List ArrayRec) (t : ClassTable) (s : Site) → IsSite n arrays s → kind_of s.place.ty ≡ kinds.Ref
+reference_words : (told : ℕ → TypeItem → Ty) → AreTold told → (n : ℕ) (arrays : List ArrayRec) (t : ClassTable) (s : Site) → length arrays ≤ 4096 → IsSite n arrays s → kind_of s.place.ty ≡ kinds.Ref
     → IsInitialHandle t arrays (type_at told s) (get_or (references s.first s.statics) (s.place.offset / 2) 0)
-reference_words told are n arrays t s known kind =
+reference_words told are n arrays t s few known kind =
     let le = reference_type s.place.ty.nibble s.place.ty.class_ref kind known.place.typed known.place.no_void in
     let even = even_place s.statics s.place le known.place.inside in
     elim (slice_get_cases s.statics.arrays (s.place.offset / 2)).1 [
-      | inl there ↦ filled_reference told are n arrays t s known there.0 there.2 even
+      | inl there ↦ filled_reference told are n arrays t s few known there.0 there.2 even
       | inr past ↦ null_reference arrays t s (type_at told s) past.0
     ]
 
-words_by : (told : ℕ → TypeItem → Ty) → AreTold told → (n : ℕ) (arrays : List ArrayRec) (t : ClassTable) (s : Site) → IsSite n arrays s → (k : Kind) → kind_of s.place.ty ≡ k
+words_by : (told : ℕ → TypeItem → Ty) → AreTold told → (n : ℕ) (arrays : List ArrayRec) (t : ClassTable) (s : Site) → length arrays ≤ 4096 → IsSite n arrays s → (k : Kind) → kind_of s.place.ty ≡ k
     → AreWordsOf t arrays k (type_at told s) (words_at s.first s.statics k s.place.offset)
-words_by told are n arrays t s known kinds.Ref e = reference_words told are n arrays t s known e
-words_by told are n arrays t s known kinds.Byte e = signed_is (get_or (image s.statics) s.place.offset 0)
-words_by told are n arrays t s known kinds.Short e = tt
-words_by told are n arrays t s known kinds.Int e = tt
+words_by told are n arrays t s few known kinds.Ref e = reference_words told are n arrays t s few known e
+words_by told are n arrays t s few known kinds.Byte e = signed_is (get_or (image s.statics) s.place.offset 0)
+words_by told are n arrays t s few known kinds.Short e = tt
+words_by told are n arrays t s few known kinds.Int e = tt
 
 -- ---- fields
 
 abbrev AreDeclared : ClassTable → List StaticRec → Type 0
 AreDeclared t = All (λ (f : StaticRec). IsDeclared t f.ty)
 
-fields_known : (told : ℕ → TypeItem → Ty) → AreTold told → (n : ℕ) (arrays : List ArrayRec) (t : ClassTable) (slot : ℕ) (ss : List Site) → All (IsSite n arrays) ss → AreDeclared t (records_from told slot ss) → All (IsStatic n t arrays) (records_from told slot ss)
-fields_known told are n arrays t slot [] known declared = All-nil (IsStatic n t arrays)
-fields_known told are n arrays t slot (s ∷ ss) known declared =
+fields_known : (told : ℕ → TypeItem → Ty) → AreTold told → (n : ℕ) (arrays : List ArrayRec) (t : ClassTable) → length arrays ≤ 4096 → (slot : ℕ) (ss : List Site) → All (IsSite n arrays) ss → AreDeclared t (records_from told slot ss) → All (IsStatic n t arrays) (records_from told slot ss)
+fields_known told are n arrays t few slot [] known declared = All-nil (IsStatic n t arrays)
+fields_known told are n arrays t few slot (s ∷ ss) known declared =
     let f = static_record slot s (type_at told s) in
     let others = records_from told (slot + cells_at s.place) ss in
     let site = All-head (IsSite n arrays) s ss known in
@@ -143,12 +144,12 @@ fields_known told are n arrays t slot (s ∷ ss) known declared =
       home = site.home;
       ty = All-head (λ (g : StaticRec). IsDeclared t g.ty) f others declared;
       kind = (are s.home s.place.ty site.place.typed site.place.no_void).kind;
-      words = words_by told are n arrays t s site (kind_of s.place.ty) refl;
+      words = words_by told are n arrays t s few site (kind_of s.place.ty) refl;
     })
-    (fields_known told are n arrays t (slot + cells_at s.place) ss (All-tail (IsSite n arrays) s ss known) (All-tail (λ (g : StaticRec). IsDeclared t g.ty) f others declared))
+    (fields_known told are n arrays t few (slot + cells_at s.place) ss (All-tail (IsSite n arrays) s ss known) (All-tail (λ (g : StaticRec). IsDeclared t g.ty) f others declared))
 
 pub statics_typed : (told : ℕ → TypeItem → Ty) → AreTold told → (ps : List PackageRecord) → All AreStaticsKnown ps → (fields : List StaticRec) → fields ≡ static_records told ps
-    → (t : ClassTable) → AreDeclared t fields → All (IsStatic (length ps) t (array_records ps)) fields
-statics_typed told are ps known fields e t declared =
+    → length (array_records ps) ≤ 4096 → (t : ClassTable) → AreDeclared t fields → All (IsStatic (length ps) t (array_records ps)) fields
+statics_typed told are ps known fields e few t declared =
     subst (λ fs. All (IsStatic (length ps) t (array_records ps)) fs) (sym e)
-    (fields_known told are (length ps) (array_records ps) t 0 (sites ps) (sites_known (length ps) (array_records ps) ps 0 1 [] refl refl (omega arith) known) (subst (AreDeclared t) e declared))
+    (fields_known told are (length ps) (array_records ps) t few 0 (sites ps) (sites_known (length ps) (array_records ps) ps 0 1 [] refl refl (omega arith) known) (subst (AreDeclared t) e declared))

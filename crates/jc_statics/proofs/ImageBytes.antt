@@ -1,5 +1,5 @@
 -- Bytes and references of the image by their places.
-use Rattle.std.proofs.Common.{◌≡◌, ℕ, zero, suc, ◌+◌, ◌-◌, ◌*◌, ◌≤◌, ◌<◌, List, [], ◌∷◌, ◌++◌, length, get_or, replicate, refl, arith}
+use Rattle.std.proofs.Common.{◌≡◌, ℕ, zero, suc, ◌+◌, ◌-◌, ◌*◌, ◌≤◌, ◌<◌, min, List, [], ◌∷◌, ◌++◌, length, get_or, replicate, refl, arith}
 use Rattle.cap_method.specs.StaticFormat.{Array, Statics}
 use Rattle.jc_statics.specs.Image.{image, handles, references}
 
@@ -24,7 +24,7 @@ byte_in_zeros s offset h = zero_before (2 * s.reference_count + s.default_value_
 pub byte_in_values : (s : Statics) (offset : ℕ) → 2 * s.reference_count + s.default_value_count ≤ offset → get_or (image s) offset 0 ≡ get_or s.values (offset - (2 * s.reference_count + s.default_value_count)) 0
 byte_in_values s offset h = value_behind (2 * s.reference_count + s.default_value_count) offset s.values h
 
-handle_at : (first : ℕ) (arrays : List Array) (m k : ℕ) → k < length arrays → get_or (handles first arrays ++ replicate m 0) k 0 ≡ first + k
+handle_at : (first : ℕ) (arrays : List Array) (m k : ℕ) → k < length arrays → get_or (handles first arrays ++ replicate m 0) k 0 ≡ min (first + k) 65535
 handle_at first [] m k h = absurd (omega arith)
 handle_at first (a ∷ others) m zero h = omega arith
 handle_at first (a ∷ others) m (suc k) h = omega (arith, handle_at (first + 1) others m k (omega arith))
@@ -34,7 +34,7 @@ no_handle first [] m k h = null_at m k
 no_handle first (a ∷ others) m zero h = absurd (omega arith)
 no_handle first (a ∷ others) m (suc k) h = no_handle (first + 1) others m k (omega arith)
 
-pub handle_in : (first : ℕ) (s : Statics) (k : ℕ) → k < length s.arrays → get_or (references first s) k 0 ≡ first + k
+pub handle_in : (first : ℕ) (s : Statics) (k : ℕ) → k < length s.arrays → get_or (references first s) k 0 ≡ min (first + k) 65535
 handle_in first s k h = handle_at first s.arrays (s.reference_count - length s.arrays) k h
 
 pub handle_past : (first : ℕ) (s : Statics) (k : ℕ) → length s.arrays ≤ k → get_or (references first s) k 0 ≡ 0

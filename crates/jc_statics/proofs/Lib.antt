@@ -6,5 +6,4 @@ pub mod Counts
 pub mod FieldLists
 pub mod FieldFacts
 pub mod TypeFacts
-pub mod NoPackages
 pub mod FieldsApart

@@ -1,4 +1,4 @@
-ghost use Rattle.std.specs.Prelude.{◌≡◌, ◌+◌, ◌/◌, ◌≤◌, ◌∷◌, [], length, IfOk, slice_index};
+ghost use Rattle.std.specs.Prelude.{◌≡◌, ◌/◌, ◌≤◌, ◌∷◌, [], IfOk, slice_index};
 ghost use Rattle.jc_base.specs.Cell.{width};
 ghost use Rattle.cap_method.specs.StaticPart.{statics_seen};
 ghost use Rattle.jc_statics.specs.Image.{image, references, word_at, words_at};
@@ -9,6 +9,9 @@ use cap_desc::TypeItem;
 use cap_method::StaticPart;
 use jc_base::{Initial, Kind};
 use std::alloc::{AllocError, Global};
+
+/// A handle is a word.
+const MOST_HANDLE: u32 = 65535;
 
 /// How a field keeps a value of a type.
 pub(crate) fn kind_of(ty: TypeItem) -> Kind
@@ -60,13 +63,12 @@ fn word_at(statics: &StaticPart<'_>, offset: u32) -> u16
 
 /// The handle in the reference at an offset of the image, and 0 where it is null.
 #[tactic(auto, using(crate::proofs::ImageBytes::handle_in, crate::proofs::ImageBytes::handle_past))]
-fn reference_at(statics: &StaticPart<'_>, first: u16, offset: u16) -> u16
-    requires { first + length (statics_seen statics.now).arrays ≤ 65535 }
+fn reference_at(statics: &StaticPart<'_>, first: u32, offset: u16) -> u16
     ensures { result ≡ slice_index (references first (statics_seen statics.now)) (offset / 2) }
 {
     let number = offset / 2;
     if number < statics.array_init_count() {
-        first + number
+        first.saturating_add(number as u32).min(MOST_HANDLE) as u16
     } else {
         0
     }
@@ -83,11 +85,10 @@ fn one_word(alloc: Global, word: u16) -> Result<Initial, AllocError>
 pub(crate) fn words_at(
     alloc: Global,
     statics: &StaticPart<'_>,
-    first: u16,
+    first: u32,
     kind: Kind,
     offset: u16,
 ) -> Result<Initial, AllocError>
-    requires { first + length (statics_seen statics.now).arrays ≤ 65535 }
     ensures { IfOk result (λ ws. ws ≡ words_at first (statics_seen statics.now) kind offset) }
 {
     let place = offset as u32;

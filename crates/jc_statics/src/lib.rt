@@ -4,14 +4,12 @@
 
 #![tactic(auto)]
 
-mod field_types;
 mod image;
 mod initial_arrays;
 mod room;
 mod static_fields;
 mod words;
 
-pub use field_types::FieldTypes;
 pub use initial_arrays::arrays;
 pub use room::{arrays_fit, statics_fit};
 pub use static_fields::statics;

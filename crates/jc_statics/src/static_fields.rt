@@ -1,4 +1,4 @@
-ghost use Rattle.std.specs.Prelude.{◌≡◌, ◌+◌, ◌≤◌, ◌++◌, length, map, sum_by, All, IfOk};
+ghost use Rattle.std.specs.Prelude.{◌≡◌, ◌+◌, ◌≤◌, ◌++◌, length, map, slice_index, sum_by, All, IfOk};
 ghost use Rattle.jc_base.specs.Class.{ClassTable};
 ghost use Rattle.jc_base.specs.Cell.{IsDeclared, width};
 ghost use Rattle.jc_base.specs.Linked.{AreSlots, IsStatic};
@@ -10,18 +10,18 @@ ghost use Rattle.jc_names.specs.WorldTypes.{type_of};
 ghost use Rattle.jc_statics.specs.Known.{AreStaticsKnown, StandApart};
 ghost use Rattle.jc_statics.specs.Statics.{cells_at, site, static_cells, static_record, records_from, static_records};
 
-use crate::field_types::FieldTypes;
 use crate::image::{kind_of, width, words_at};
 use cap_method::StaticPart;
 use cap_package::{Package, Packages, StaticPlace};
-use jc_base::{StaticRec, Statics, Ty, Tys};
+use jc_base::{StaticRec, Statics, Ty};
+use jc_names::Names;
 use std::alloc::{AllocError, Global};
 
 /// A package among all: its number, and the handle of its first initial array.
 #[derive(Clone, Copy)]
 struct Home {
     package: u16,
-    first: u16,
+    first: u32,
 }
 
 /// The static field at a place, whose first cell is the slot.
@@ -33,7 +33,6 @@ fn static_record(
     place: StaticPlace,
     ty: Ty,
 ) -> Result<StaticRec, AllocError>
-    requires { home.first + length (statics_seen statics.now).arrays ≤ 65535 }
     ensures { IfOk result (λ r. r ≡ static_record slot (site home.«package» home.first (statics_seen statics.now) (place_seen place)) ty) }
 {
     let kind = kind_of(place.ty);
@@ -48,24 +47,23 @@ fn static_record(
 }
 
 /// Appends the static fields of a package, whose cells begin at a slot, and gives the slot behind them.
-fn push_statics<T: FieldTypes>(
+fn push_statics(
     alloc: Global,
     records: &mut Vec<StaticRec>,
     package: &Package<'_, '_>,
     home: Home,
     slot: u32,
-    types: &T,
+    names: &Names<'_, '_, '_>,
 ) -> Result<u32, AllocError>
-    requires arrays { home.first + length «package».now.statics.arrays ≤ 65535 }
-    requires cells { slot + sum_by cells_at (static_places «package».now) ≤ 32768 }
-    ensures is { IfOk result (λ _. records.new.items ≡ records.old.items ++ records_from (type_of (T.named types.now) (T.object types.now)) slot (map (site home.«package» home.first «package».now.statics) (static_places «package».now))) }
+    requires { slot + sum_by cells_at (static_places «package».now) ≤ 32768 }
+    ensures is { IfOk result (λ _. records.new.items ≡ records.old.items ++ records_from (type_of names.now.packages (slice_index names.now.roles 0)) slot (map (site home.«package» home.first «package».now.statics) (static_places «package».now))) }
     ensures next { IfOk result (λ next. next ≡ slot + sum_by cells_at (static_places «package».now)) }
     ensures known { IfOk result (λ _. AreStaticsKnown «package».now) }
 {
     let statics = package.statics();
     let mut slot = slot;
     'places: for place in package.static_places() {
-        let ty = types.type_of(home.package, place.ty);
+        let ty = names.type_of(home.package, place.ty);
         records.push(static_record(alloc, home, slot as u16, &statics, place, ty)?)?;
         slot += width(kind_of(place.ty));
     }
@@ -73,19 +71,18 @@ fn push_statics<T: FieldTypes>(
 }
 
 /// The static fields of all packages.
-fn all_statics<T: FieldTypes>(
+fn all_statics(
     alloc: Global,
     packages: &Packages<'_, '_>,
-    types: &T,
+    names: &Names<'_, '_, '_>,
 ) -> Result<Statics, AllocError>
     requires count { length packages.now ≤ 16 }
-    requires arrays { length (array_records packages.now) ≤ 4096 }
     requires cells { static_cells packages.now ≤ 32768 }
-    ensures is { IfOk result (λ fields. fields ≡ static_records (type_of (T.named types.now) (T.object types.now)) packages.now) }
+    ensures is { IfOk result (λ fields. fields ≡ static_records (type_of names.now.packages (slice_index names.now.roles 0)) packages.now) }
     ensures known { IfOk result (λ _. All AreStaticsKnown packages.now) }
 {
     let mut records = Vec::new(alloc);
-    let mut first: u16 = 1;
+    let mut first: u32 = 1;
     let mut slot: u32 = 0;
     'packages: for n in 0..packages.len() {
         let package = packages.at(n);
@@ -93,31 +90,27 @@ fn all_statics<T: FieldTypes>(
             package: n as u16,
             first,
         };
-        slot = push_statics(alloc, &mut records, package, home, slot, types)?;
-        first += package.statics().array_init_count();
+        slot = push_statics(alloc, &mut records, package, home, slot, names)?;
+        first += package.statics().array_init_count() as u32;
     }
     Ok(Statics::of(records))
 }
 
 /// The static fields of all packages, by number.
 #[tactic(auto, using(crate::proofs::FieldLists::slots_of, crate::proofs::FieldLists::cells_of_records))]
-pub fn statics<T: FieldTypes>(
-    alloc: Global,
-    packages: &Packages<'_, '_>,
-    types: &T,
-) -> Result<Statics, AllocError>
-    requires count { length packages.now ≤ 16 }
-    requires arrays { length (array_records packages.now) ≤ 4096 }
-    requires cells { static_cells packages.now ≤ 32768 }
-    ensures is { IfOk result (λ fields. fields ≡ static_records (type_of (T.named types.now) (T.object types.now)) packages.now) }
+pub fn statics(alloc: Global, names: &Names<'_, '_, '_>) -> Result<Statics, AllocError>
+    requires count { length names.now.packages ≤ 16 }
+    requires cells { static_cells names.now.packages ≤ 32768 }
+    ensures is { IfOk result (λ fields. fields ≡ static_records (type_of names.now.packages (slice_index names.now.roles 0)) names.now.packages) }
     // Their cells are 0, 1 and so on without a gap.
     ensures slots { IfOk result (AreSlots 0) }
     ensures cells { IfOk result (λ fields. sum_by (λ f. width f.kind) fields ≤ 32768) }
     // No two stand at one place of one package.
     ensures apart { IfOk result StandApart }
-    // Each has its type and its words, in any class table that has the classes of their types.
-    ensures fields { IfOk result (λ fields. (t : ClassTable) → All (λ f. IsDeclared t f.ty) fields → All (IsStatic (length packages.now) t (array_records packages.now)) fields) }
+    // Each has its type and its words, in any class table that has the classes of their types, where there
+    // are no more initial arrays than a world has.
+    ensures fields { IfOk result (λ fields. length (array_records names.now.packages) ≤ 4096 → (t : ClassTable) → All (λ f. IsDeclared t f.ty) fields → All (IsStatic (length names.now.packages) t (array_records names.now.packages)) fields) }
 {
-    let fields = all_statics(alloc, packages, types)?;
+    let fields = all_statics(alloc, names.packages(), names)?;
     Ok(fields)
 }

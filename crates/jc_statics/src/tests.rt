@@ -1,12 +1,11 @@
 ghost use Rattle.std.specs.Prelude.{◌≤◌, length};
-ghost use Rattle.jc_statics.specs.Arrays.{array_records};
 ghost use Rattle.jc_statics.specs.Statics.{static_cells};
 
-use crate::{FieldTypes, arrays, arrays_fit, statics, statics_fit};
+use crate::{arrays, arrays_fit, statics, statics_fit};
 use cap_bytes::Part;
-use cap_desc::TypeItem;
 use cap_package::{OwnedParts, Packages, Parts, package};
 use jc_base::{Kind, Ty};
+use jc_names::{Names, names};
 use std::alloc::{AllocError, Global};
 use std::process::Abort;
 
@@ -73,6 +72,8 @@ const PACKAGE: [(u8, &'static [u8]); 9] = [
     (11, &PART_11),
 ];
 
+const ROLES: [u8; 8] = [0, 1, 2, 3, 4, 5, 6, 7];
+
 fn add(alloc: Global, parts: &mut OwnedParts, tag: u8, bytes: &[u8]) -> Result<(), AllocError> {
     if parts.get(Part(tag)).is_some() {
         return Ok(());
@@ -120,43 +121,16 @@ fn kind_number(kind: Kind) -> u16 {
     }
 }
 
-/// Types that name no class.
-#[derive(Drop)]
-struct NoClasses;
-
-impl FieldTypes for NoClasses {
-    ghost use Rattle.std.specs.Prelude.{[]};
-
-    ghost named = { λ x. [] };
-
-    ghost object = { λ x. 0 };
-
-    #[tactic(auto, using(crate::proofs::NoPackages::object_alone), unfolding(jc_names::specs::WorldTypes::type_of))]
-    fn type_of(&self, _package: u16, item: TypeItem) -> Ty {
-        match item.nibble {
-            5 => Ty::IntHigh,
-            6 => Ty::Class(0),
-            10 => Ty::ArrBool,
-            11 => Ty::ArrByte,
-            12 => Ty::ArrShort,
-            13 => Ty::ArrInt,
-            14 => Ty::ArrRef(0),
-            _ => Ty::Short,
-        }
-    }
-}
-
 /// Package, offset, kind, type, slot and initial words of each static field.
 fn push_fields(
     alloc: Global,
-    packages: &Packages<'_, '_>,
+    names: &Names<'_, '_, '_>,
     told: &mut Vec<u16>,
 ) -> Result<(), AllocError>
-    requires count { length packages.now ≤ 16 }
-    requires arrays { length (array_records packages.now) ≤ 4096 }
-    requires cells { static_cells packages.now ≤ 32768 }
+    requires count { length names.now.packages ≤ 16 }
+    requires cells { static_cells names.now.packages ≤ 32768 }
 {
-    for field in statics(alloc, packages, &NoClasses)?.as_slice() {
+    for field in statics(alloc, names)?.as_slice() {
         told.push(field.package)?;
         told.push(field.offset)?;
         told.push(kind_number(field.kind))?;
@@ -169,26 +143,35 @@ fn push_fields(
     Ok(())
 }
 
-fn answer(alloc: Global) -> Result<Vec<u16>, AllocError> {
-    let owned = owned(alloc)?;
-    let parts = owned.lend(alloc)?;
-    let packages = twice(alloc, &parts)?;
+/// How many packages there are, their initial arrays, and their static fields.
+fn told(alloc: Global, names: &Names<'_, '_, '_>) -> Result<Vec<u16>, AllocError> {
+    let packages = names.packages();
     let mut told = Vec::new(alloc);
     if packages.len() > 16 {
         return Ok(told);
     }
     told.push(packages.len() as u16)?;
-    if statics_fit(&packages).is_err() || arrays_fit(&packages).is_err() {
+    if statics_fit(packages).is_err() || arrays_fit(packages).is_err() {
         return Ok(told);
     }
-    for array in arrays(alloc, &packages)?.as_slice() {
+    for array in arrays(alloc, packages)?.as_slice() {
         told.push(number_of(array.kind))?;
         for word in array.initial.as_slice() {
             told.push(*word)?;
         }
     }
-    push_fields(alloc, &packages, &mut told)?;
+    push_fields(alloc, names, &mut told)?;
     Ok(told)
+}
+
+fn answer(alloc: Global) -> Result<Vec<u16>, AllocError> {
+    let owned = owned(alloc)?;
+    let parts = owned.lend(alloc)?;
+    let packages = twice(alloc, &parts)?;
+    match names(alloc, &packages, ROLES) {
+        Ok(names) => told(alloc, &names),
+        Err(_) => Ok(Vec::new(alloc)),
+    }
 }
 
 #[test]

@@ -7,8 +7,8 @@ use Rattle.jc_members.specs.Catches.{handlers_from, catch_fault}
 use Rattle.jc_members.proofs.catches.handlers_catch.Given as goal
 
 abbrev pub invariant-handlers : goal.invariant-handlers
-invariant-handlers g l = record {
-  fault : least_from place_of l.least (catch_fault (g.N.Names.named_in l.names) l.classes) (handlers_from l.«package» (entries l.pool) l.number (handlers_left l.handler-iterator))
-      ≡ least_from place_of l.initial.least (catch_fault (g.N.Names.named_in l.names) l.classes) (handlers_from l.«package» (entries l.pool) 0 (handlers_left l.fn.handlers));
+invariant-handlers l = record {
+  fault : least_from place_of l.least (catch_fault l.names.packages l.classes) (handlers_from l.«package» (entries l.pool) l.number (handlers_left l.handler-iterator))
+      ≡ least_from place_of l.initial.least (catch_fault l.names.packages l.classes) (handlers_from l.«package» (entries l.pool) 0 (handlers_left l.fn.handlers));
   count : l.number + length (handlers_left l.handler-iterator) ≤ 255;
 }

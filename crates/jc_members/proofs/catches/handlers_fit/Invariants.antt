@@ -5,5 +5,5 @@ use Rattle.jc_members.specs.Catches.{handlers_behind, handler_places, catch_faul
 use Rattle.jc_members.proofs.catches.handlers_fit.Given as goal
 
 abbrev pub invariant-packages : goal.invariant-packages
-invariant-packages g l =
-    least_from place_of l.least (catch_fault l.packages l.classes) (handlers_behind l.k (drop l.k l.packages)) ≡ least_of place_of (catch_fault l.packages l.classes) (handler_places l.packages)
+invariant-packages l =
+    least_from place_of l.least (catch_fault l.names.packages l.classes) (handlers_behind l.k (drop l.k l.names.packages)) ≡ least_of place_of (catch_fault l.names.packages l.classes) (handler_places l.names.packages)

@@ -5,9 +5,9 @@ use Rattle.jc_members.specs.Fields.{sites_of_classes, HaveRoomIn}
 use Rattle.jc_members.proofs.fields.enter_package.Given as goal
 
 abbrev pub invariant-classes : goal.invariant-classes
-invariant-classes g l = record {
-  entered : all_entered l.sites (sites_of_classes (g.N.Names.named_in l.names) l.classes l.number l.«package» l.c (classes_left l.class-iterator))
-      ≡ all_entered l.initial.sites (sites_of_classes (g.N.Names.named_in l.names) l.classes l.number l.«package» l.first l.«package».classes);
+invariant-classes l = record {
+  entered : all_entered l.sites (sites_of_classes l.names.packages l.classes l.number l.«package» l.c (classes_left l.class-iterator))
+      ≡ all_entered l.initial.sites (sites_of_classes l.names.packages l.classes l.number l.«package» l.first l.«package».classes);
   known : l.c + length (classes_left l.class-iterator) ≤ length l.classes.records;
-  room : HaveRoomIn (g.N.Names.named_in l.names) l.classes l.number l.«package» l.c (classes_left l.class-iterator);
+  room : HaveRoomIn l.names.packages l.classes l.number l.«package» l.c (classes_left l.class-iterator);
 }

@@ -5,8 +5,8 @@ use Rattle.jc_members.specs.Fields.{sites_behind, field_sites, HaveRoomBehind}
 use Rattle.jc_members.proofs.fields.field_sites.Given as goal
 
 abbrev pub invariant-packages : goal.invariant-packages
-invariant-packages g l = record {
-  entered : all_entered l.sites (sites_behind l.packages l.classes l.first l.k (drop l.k l.packages)) ≡ all_entered [] (field_sites l.packages l.classes);
-  known : l.first + class_total (drop l.k l.packages) ≡ class_total l.packages;
-  room : HaveRoomBehind l.packages l.classes l.first l.k (drop l.k l.packages);
+invariant-packages l = record {
+  entered : all_entered l.sites (sites_behind l.names.packages l.classes l.first l.k (drop l.k l.names.packages)) ≡ all_entered [] (field_sites l.names.packages l.classes);
+  known : l.first + class_total (drop l.k l.names.packages) ≡ class_total l.names.packages;
+  room : HaveRoomBehind l.names.packages l.classes l.first l.k (drop l.k l.names.packages);
 }

@@ -1,4 +1,6 @@
-use Rattle.std.proofs.Common.{◌≡◌, ◌++◌, drop}
+use Rattle.std.proofs.Common.{◌≡◌, ◌≤◌, ◌++◌, List, drop, length}
+use Rattle.std.specs.Prelude.{All}
+use Rattle.jc_base.specs.declared.record.Member.{Member}
 use Rattle.jc_names.specs.Fault.{place_of}
 use Rattle.jc_names.specs.FirstFault.{least_from, least_of}
 use Rattle.jc_members.specs.Members.{member_of}
@@ -6,8 +8,9 @@ use Rattle.jc_members.specs.Pools.{places_behind, pool_places, member_fault, poo
 use Rattle.jc_members.proofs.pools.named.Given as goal
 
 abbrev pub invariant-packages : goal.invariant-packages
-invariant-packages g l = record {
-  fault : least_from place_of l.least (member_fault l.packages l.classes l.statics) (places_behind l.k (drop l.k l.packages))
-      ≡ least_of place_of (member_fault l.packages l.classes l.statics) (pool_places l.packages);
-  pools : l.pools.items ++ pools_behind (member_of l.packages l.classes l.statics) l.k (drop l.k l.packages) ≡ pools l.packages l.classes l.statics;
+invariant-packages l = record {
+  fault : least_from place_of l.least (member_fault l.names.packages l.classes l.statics) (places_behind l.k (drop l.k l.names.packages))
+      ≡ least_of place_of (member_fault l.names.packages l.classes l.statics) (pool_places l.names.packages);
+  few : All (λ (pool : List Member). length pool ≤ 65535) l.pools.items;
+  pools : l.pools.items ++ pools_behind (member_of l.names.packages l.classes l.statics) l.k (drop l.k l.names.packages) ≡ pools l.names.packages l.classes l.statics;
 }

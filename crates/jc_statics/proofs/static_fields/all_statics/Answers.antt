@@ -1,40 +1,31 @@
 use Rattle.std.proofs.Common.{◌≡◌, ◌+◌, length, take_all, subst, ap, ◌∙◌, arith}
-use Rattle.std.specs.Prelude.{All}
+use Rattle.std.specs.Prelude.{All, slice_index}
 use Rattle.cap_method.specs.StaticFormat.{Statics}
 use Rattle.jc_names.specs.WorldTypes.{type_of}
 use Rattle.jc_statics.specs.Known.{AreStaticsKnown}
 use Rattle.jc_statics.specs.Statics.{static_records}
 use Rattle.jc_statics.proofs.Steps.{taken_more}
-use Rattle.jc_statics.proofs.Counts.{static_cells_more, array_count_more}
+use Rattle.jc_statics.proofs.Counts.{static_cells_more}
 use Rattle.jc_statics.proofs.FieldLists.{statics_more}
 use Rattle.jc_statics.proofs.static_fields.all_statics.Goals as goal
 
-pub push_statics-requires-clause-arrays : goal.push_statics-requires-clause-arrays
-push_statics-requires-clause-arrays g c = omega (arith, array_count_more c.args.packages.now c.packages.n c.at-package.result.now c.at-package.ensures)
-
-pub push_statics-requires-clause-cells : goal.push_statics-requires-clause-cells
-push_statics-requires-clause-cells g c = omega (arith, static_cells_more c.args.packages.now c.packages.n c.at-package.result.now c.at-package.ensures)
-
-pub overflow_add-first : goal.overflow_add-first
-overflow_add-first g c =
-    let more = array_count_more c.args.packages.now c.packages.n c.at-package.result.now c.at-package.ensures in
-    let count = c.array_init_count-first.ensures ∙ ap (λ (s : Statics). length s.arrays) c.statics.ensures in
-    omega (arith, more, count)
+pub push_statics-requires : goal.push_statics-requires
+push_statics-requires c = omega (arith, static_cells_more c.args.packages.now c.packages.n c.at-package.result.now c.at-package.ensures)
 
 pub packages-preserved : goal.packages-preserved
-packages-preserved g c =
-    let more = array_count_more c.args.packages.now c.packages.n c.at-package.result.now c.at-package.ensures in
+packages-preserved c =
     let cells = static_cells_more c.args.packages.now c.packages.n c.at-package.result.now c.at-package.ensures in
-    let count = c.array_init_count-first.ensures ∙ ap (λ (s : Statics). length s.arrays) c.statics.ensures in
-    let last : c.packages.first + c.array_init_count-first.result ≡ c.packages.first + length c.at-package.result.now.statics.arrays = omega (arith, count) in
+    let count = c.array_init_count.ensures ∙ ap (λ (s : Statics). length s.arrays) c.statics.ensures in
+    let last : c.packages.first + c.array_init_count.result ≡ c.packages.first + length c.at-package.result.now.statics.arrays = omega (arith, count) in
+    let told = type_of c.args.names.now.packages (slice_index c.args.names.now.roles 0) in
     record {
       all =
-          statics_more (type_of (g.T.FieldTypes.named c.args.types.now) (g.T.FieldTypes.object c.args.types.now)) c.packages.records.items c.push_statics.new.records.items (static_records (type_of (g.T.FieldTypes.named c.args.types.now) (g.T.FieldTypes.object c.args.types.now)) c.args.packages.now) c.args.packages.now c.packages.n c.packages.first c.packages.slot c.in_ok-slot.slot (c.packages.first + c.array_init_count-first.result) c.at-package.result.now
+          statics_more told c.packages.records.items c.push_statics.new.records.items (static_records told c.args.packages.now) c.args.packages.now c.packages.n c.packages.first c.packages.slot c.in_ok-slot.slot (c.packages.first + c.array_init_count.result) c.at-package.result.now
           c.at-package.ensures c.packages.invariant.all c.in_ok-slot.ensures.is c.in_ok-slot.ensures.next last;
       cells = omega (arith, cells, c.in_ok-slot.ensures.next);
-      arrays = omega (arith, more, count);
+      arrays = omega arith;
       known = taken_more AreStaticsKnown c.args.packages.now c.packages.n c.at-package.result.now c.at-package.ensures c.packages.invariant.known c.in_ok-slot.ensures.known;
     }
 
 pub returns-clause-known : goal.returns-clause-known
-returns-clause-known g c = subst (λ ps. All AreStaticsKnown ps) (take_all c.packages.n c.args.packages.now (omega arith)) c.packages.invariant.known
+returns-clause-known c = subst (λ ps. All AreStaticsKnown ps) (take_all c.packages.n c.args.packages.now (omega arith)) c.packages.invariant.known

@@ -1,16 +1,15 @@
-use Rattle.std.specs.Prelude.{◌≡◌, ◌+◌, ◌++◌, All, drop, length, take}
+use Rattle.std.specs.Prelude.{◌≡◌, ◌+◌, ◌*◌, ◌≤◌, ◌++◌, All, drop, slice_index, take}
 use Rattle.jc_names.specs.WorldTypes.{type_of}
-use Rattle.jc_statics.specs.Arrays.{array_records}
 use Rattle.jc_statics.specs.Known.{AreStaticsKnown}
 use Rattle.jc_statics.specs.Statics.{sites_behind, static_cells, records_from, static_records}
 use Rattle.jc_statics.proofs.static_fields.all_statics.Given as goal
 
 abbrev pub invariant-packages : goal.invariant-packages
-invariant-packages g l = record {
+invariant-packages l = record {
   all :
-      l.records.items ++ records_from (type_of (g.T.FieldTypes.named l.types) (g.T.FieldTypes.object l.types)) l.slot (sites_behind l.n l.first (drop l.n l.packages))
-      ≡ static_records (type_of (g.T.FieldTypes.named l.types) (g.T.FieldTypes.object l.types)) l.packages;
+      l.records.items ++ records_from (type_of l.names.packages (slice_index l.names.roles 0)) l.slot (sites_behind l.n l.first (drop l.n l.packages))
+      ≡ static_records (type_of l.names.packages (slice_index l.names.roles 0)) l.packages;
   cells : l.slot + static_cells (drop l.n l.packages) ≡ static_cells l.packages;
-  arrays : l.first + length (array_records (drop l.n l.packages)) ≡ 1 + length (array_records l.packages);
+  arrays : l.first ≤ 1 + l.n * 65535;
   known : All AreStaticsKnown (take l.n l.packages);
 }

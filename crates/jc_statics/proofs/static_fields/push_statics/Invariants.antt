@@ -1,13 +1,13 @@
-use Rattle.std.specs.Prelude.{◌≡◌, ◌+◌, ◌++◌, map, sum_by}
+use Rattle.std.specs.Prelude.{◌≡◌, ◌+◌, ◌++◌, map, slice_index, sum_by}
 use Rattle.cap_package.specs.StaticPlaces.{static_places, places_left}
 use Rattle.jc_names.specs.WorldTypes.{type_of}
 use Rattle.jc_statics.specs.Statics.{cells_at, site, records_from}
 use Rattle.jc_statics.proofs.static_fields.push_statics.Given as goal
 
 abbrev pub invariant-places : goal.invariant-places
-invariant-places g l = record {
+invariant-places l = record {
   all :
-      l.records.items ++ records_from (type_of (g.T.FieldTypes.named l.types) (g.T.FieldTypes.object l.types)) l.slot (map (site l.home.«package» l.home.first l.«package».statics) (places_left l.place-iterator))
-      ≡ l.fn.records.items ++ records_from (type_of (g.T.FieldTypes.named l.types) (g.T.FieldTypes.object l.types)) l.fn.slot (map (site l.home.«package» l.home.first l.«package».statics) (static_places l.«package»));
+      l.records.items ++ records_from (type_of l.names.packages (slice_index l.names.roles 0)) l.slot (map (site l.home.«package» l.home.first l.«package».statics) (places_left l.place-iterator))
+      ≡ l.fn.records.items ++ records_from (type_of l.names.packages (slice_index l.names.roles 0)) l.fn.slot (map (site l.home.«package» l.home.first l.«package».statics) (static_places l.«package»));
   cells : l.slot + sum_by cells_at (places_left l.place-iterator) ≡ l.fn.slot + sum_by cells_at (static_places l.«package»);
 }
