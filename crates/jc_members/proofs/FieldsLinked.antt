@@ -1,5 +1,5 @@
 -- The field that a class has with a token stands among the cells of its instances.
-use Rattle.std.proofs.Common.{◌≡◌, ℕ, zero, suc, ◌+◌, ◌<◌, Bool, true, false, cond, eqb, List, [], ◌∷◌, ◌++◌, length, append_assoc, Option, Some, None, slice_get, find, option_map, option_and_then, IfSome, All, refl, sym, ap, ap₂, subst, ◌∙◌, arith, filter, filter_map, flat_map}
+use Rattle.std.proofs.Common.{◌≡◌, ℕ, ◌+◌, ◌<◌, Bool, true, false, cond, List, [], ◌∷◌, ◌++◌, length, append_assoc, Option, Some, None, slice_get, find, option_map, option_and_then, IfSome, All, refl, sym, ap, ap₂, subst, ◌∙◌, arith, filter_map, flat_map}
 use Rattle.std.specs.Prelude.{◌==◌, ◌||◌}
 use Rattle.std.specs.List.{list_any, cons_option}
 use Rattle.std.proofs.lemmas.Bool.{eqb-true, eq-eqb}
@@ -16,8 +16,6 @@ use Rattle.jc_base.specs.declared.ty.Ty.TheVariants.{IntLow}
 use Rattle.jc_base.specs.declared.ty.Kind.{Kind}
 use Rattle.jc_base.specs.declared.ty.Kind.TheVariants.{Ref, Byte, Short, Int}
 use Rattle.jc_base.specs.declared.record.Member.{Member}
-use Rattle.jc_base.specs.declared.record.Member.TheVariants.{Field}
-use Rattle.jc_base.specs.declared.record.ClassRec.{ClassRec}
 use Rattle.jc_base.specs.declared.record.MethodRec.{MethodRec}
 use Rattle.jc_base.specs.declared.record.StaticRec.{StaticRec}
 use Rattle.jc_base.specs.Class.{ClassTable, AreClasses, IsClass, parent_of, chain, object}
@@ -28,7 +26,7 @@ use Rattle.jc_base.specs.Linked.{AreLinkedClasses, cells_above, HasLowHalf, IsFi
 use Rattle.jc_base.proofs.Lists.{slice_get-behind}
 use Rattle.jc_base.proofs.Instances.{cells-own, cells-on_chain}
 use Rattle.jc_names.specs.Numbering.{NumberedClass, numbered_classes}
-use Rattle.jc_names.specs.NamedClasses.{instance_fields, fields_described, named_classes}
+use Rattle.jc_names.specs.NamedClasses.{fields_described, named_classes}
 use Rattle.jc_members.specs.declared.own_field.OwnField.{OwnField}
 use Rattle.jc_members.specs.Sites.{is_there, only, standing}
 use Rattle.jc_members.specs.Fields.{cells_before, fields_in, own_fields, field_sites, HasCellsOf}

@@ -1,6 +1,7 @@
 -- What the entries of constant pools name is there.
-use Rattle.std.proofs.Common.{◌≡◌, ℕ, ◌<◌, Bool, true, false, cond, eqb, List, [], ◌∷◌, ◌++◌, length, Option, Some, None, slice_get, option_map, option_and_then, is_some, IfSome, refl, sym, ap, subst, ◌∙◌, arith}
+use Rattle.std.proofs.Common.{◌≡◌, ℕ, ◌<◌, Bool, true, false, cond, eqb, List, ◌++◌, length, Option, Some, None, slice_index, option_map, option_and_then, is_some, IfSome, refl, sym, ap, subst, ◌∙◌}
 use Rattle.std.specs.Prelude.{IsSomeAnd, Contains}
+use Rattle.std.proofs.lemmas.List.{length-map}
 use Rattle.cap_pool.specs.PoolFormat.{Entry}
 use Rattle.cap_package.specs.PackageRecord.{PackageRecord}
 use Rattle.jc_base.specs.declared.record.Member.{Member}
@@ -11,9 +12,11 @@ use Rattle.jc_base.specs.Class.{ClassTable, AreClasses, IsClass, is_interface, p
 use Rattle.jc_base.specs.Dispatch.{entry_at, public_of, visible_of}
 use Rattle.jc_base.specs.Linked.{AreLinkedClasses, IsMember}
 use Rattle.jc_names.specs.declared.place.Place.{Place}
-use Rattle.jc_names.specs.Numbering.{numbered_classes, numbered_methods, method_at}
+use Rattle.jc_names.specs.Numbering.{numbered_methods, method_at}
 use Rattle.jc_names.specs.References.{class_named}
-use Rattle.jc_names.specs.NamedMethods.{reference_in}
+use Rattle.jc_names.specs.declared.named.NamedClass.{NamedClass}
+use Rattle.jc_names.specs.Names.{NamesRecord}
+use Rattle.jc_names.specs.NamedMethods.{reference_in, named_method, named_methods}
 use Rattle.jc_names.specs.NamedClasses.{named_classes}
 use Rattle.jc_members.specs.Fields.{field_sites, HasCellsOf}
 use Rattle.jc_members.specs.Entries.{class_in, token_in, field_place, method_place}
@@ -119,3 +122,12 @@ module _ (ps : List PackageRecord) (object packages : ℕ) (t : ClassTable) (met
       by false false false true f = super_linked k e
       by false false false false true = static_linked k e
       by false false false false false = call_linked k e
+
+-- the same of the names of packages
+pub member_there : (n : NamesRecord) (t : ClassTable) (statics : List StaticRec) (k : ℕ) (e : Entry) (o : Option Member) → n.classes ≡ named_classes n.packages (slice_index n.roles 0) → n.methods ≡ named_methods n.packages n.roles
+    → AreClasses t → AreLinkedClasses (length n.packages) t n.methods → HasCellsOf n.classes (slice_index n.roles 0) t → token_in e < 256 → o ≡ member_of n.packages t statics k e → IfSome o (IsMember t n.methods statics)
+unfolding named_methods
+member_there n t statics k e o classes methods are linked cells lt is =
+    let many : length n.methods ≡ length (numbered_methods n.packages) = ap length methods ∙ length-map (numbered_methods n.packages) (named_method n.packages n.roles) in
+    let own : HasCellsOf (named_classes n.packages (slice_index n.roles 0)) (slice_index n.roles 0) t = subst (λ (cs : List NamedClass). HasCellsOf cs (slice_index n.roles 0) t) classes cells in
+    subst (λ (m : Option Member). IfSome m (IsMember t n.methods statics)) (sym is) (member_linked n.packages (slice_index n.roles 0) (length n.packages) t n.methods statics are linked own many k e lt)

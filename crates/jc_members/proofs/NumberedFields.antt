@@ -1,6 +1,5 @@
 -- The fields of all classes, class by class in the order of the classes' numbers.
-use Rattle.std.proofs.Common.{◌≡◌, ℕ, zero, suc, ◌+◌, ◌<◌, Bool, true, false, cond, eqb, ◌&&◌, List, [], ◌∷◌, ◌++◌, length, map, append_assoc, Option, Some, None, slice_get, refl, sym, ap, ap₂, subst, ◌∙◌, arith, filter}
-use Rattle.std.specs.Prelude.{◌==◌}
+use Rattle.std.proofs.Common.{◌≡◌, ℕ, zero, suc, ◌+◌, ◌<◌, Bool, true, false, cond, eqb, List, [], ◌∷◌, ◌++◌, length, map, append_assoc, Option, Some, None, slice_get, refl, sym, ap, ap₂, ◌∙◌, arith}
 use Rattle.std.proofs.lemmas.Bool.Decides.{nat_tests}
 use Rattle.std.proofs.lemmas.List.{append-nil, length-map}
 use Rattle.cap_class.specs.ClassFormat.{Class}
@@ -133,5 +132,5 @@ module _ (ps : List PackageRecord) (t : ClassTable) where
   stands_in h token m found =
       let e : h ≡ 0 + h = omega arith in
       let are : standing (field_sites ps t) (token_of_class h token) ≡ members_at h token (slice_get (numbered_classes ps) h) =
-          ap (λ (sites : List Site). standing sites (token_of_class h token)) (of_packages 0 0 ps) ∙ located (numbered_classes ps) 0 h h token e in
+      ap (λ (sites : List Site). standing sites (token_of_class h token)) (of_packages 0 0 ps) ∙ located (numbered_classes ps) 0 h h token e in
       found_in h token m (slice_get (numbered_classes ps) h) refl (sym (ap only are) ∙ found)

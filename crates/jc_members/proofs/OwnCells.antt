@@ -1,9 +1,8 @@
 -- The own cells of a named class are those of its fields in the order of their tokens.
-use Rattle.std.proofs.Common.{◌≡◌, ℕ, zero, suc, Bool, true, false, cond, eqb, not, List, [], ◌∷◌, ◌++◌, Option, Some, None, refl, sym, ap, ap₂, subst, ◌∙◌, arith, filter, filter_map, flat_map, option_map}
+use Rattle.std.proofs.Common.{◌≡◌, ℕ, Bool, true, false, cond, eqb, not, List, [], ◌∷◌, ◌++◌, Option, Some, None, refl, sym, ap, ap₂, ◌∙◌, filter, filter_map, flat_map, option_map}
 use Rattle.std.specs.Prelude.{◌==◌, ◌||◌}
 use Rattle.std.specs.List.{range_with_len, cons_option}
 use Rattle.std.proofs.lemmas.Bool.{eqb-true}
-use Rattle.std.proofs.lemmas.List.Concat.{flat_map-append}
 use Rattle.std.proofs.lemmas.List.Elements.{filter_map-append}
 use Rattle.cap_class.specs.ClassFormat.{is_interface}
 use Rattle.cap_desc.specs.declared.type_item.TypeItem.{TypeItem}
@@ -15,11 +14,11 @@ use Rattle.cap_package.specs.PackageRecord.{PackageRecord}
 use Rattle.jc_base.specs.declared.ty.Ty.{Ty}
 use Rattle.jc_base.specs.declared.ty.Kind.TheVariants.{Ref, Byte, Short, Int}
 use Rattle.jc_names.specs.Numbering.{NumberedClass}
-use Rattle.jc_names.specs.NamedClasses.{describes, is_instance, fields_described, instance_fields, token_of, has_token, with_token, by_token, cells_by, cells_of_field, cells_of_fields, named_interface, named_proper, named_class}
+use Rattle.jc_names.specs.NamedClasses.{describes, is_instance, fields_described, instance_fields, token_of, has_token, with_token, by_token, cells_of_field, cells_of_fields, named_interface, named_proper, named_class}
 use Rattle.jc_names.specs.WorldTypes.{type_of, cells_of_type}
 use Rattle.jc_members.specs.declared.own_field.OwnField.{OwnField}
 use Rattle.jc_members.specs.Fields.{kind_of, field_with, own_field, fields_in, own_fields}
-use Rattle.jc_members.proofs.TokenCells.{cells_by as cells_by_kind, cells_of_own, has, with, cells_over, none_over}
+use Rattle.jc_members.proofs.TokenCells.{cells_by as cells_by_kind, cells_of_own, with, cells_over, none_over}
 
 -- what is no int has one cell
 one_cell : (a b : Bool) (ty : Ty) → cells_by_kind (cond a Byte (cond b Short (cond false Int Ref))) ty ≡ ty ∷ []

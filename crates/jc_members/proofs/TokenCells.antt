@@ -1,11 +1,11 @@
 -- The cells of the fields of a class in the order of the fields' tokens.
-use Rattle.std.proofs.Common.{◌≡◌, ℕ, zero, suc, ◌+◌, ◌-◌, ◌<◌, ◌≤◌, Bool, true, false, cond, List, [], ◌∷◌, ◌++◌, length, append_assoc, refl, sym, ap, ap₂, subst, ◌∙◌, arith, nat_lt, filter, flat_map, sum_by}
+use Rattle.std.proofs.Common.{◌≡◌, ℕ, zero, suc, ◌+◌, ◌-◌, ◌<◌, Bool, true, false, cond, List, [], ◌∷◌, ◌++◌, length, append_assoc, refl, sym, ap, ap₂, ◌∙◌, arith, nat_lt, filter, flat_map}
 use Rattle.std.specs.Prelude.{◌==◌}
 use Rattle.std.specs.List.{range_with_len}
 use Rattle.std.proofs.lemmas.Bool.Decides.{nat_tests}
 use Rattle.std.proofs.lemmas.List.{append-nil, length-append}
 use Rattle.std.proofs.lemmas.List.Sums.{sum_by-cons}
-use Rattle.std.proofs.lemmas.List.Concat.{flat_map-append, flat_map-cons, length-flat_map}
+use Rattle.std.proofs.lemmas.List.Concat.{flat_map-append}
 use Rattle.jc_base.specs.declared.ty.Ty.{Ty}
 use Rattle.jc_base.specs.declared.ty.Ty.TheVariants.{IntLow}
 use Rattle.jc_base.specs.declared.ty.Kind.{Kind}
@@ -81,9 +81,9 @@ pub cells_many : (own : List OwnField) (n a : ℕ) → cells_before own a + leng
 cells_many own zero a = let e : a ≡ a + 0 = omega arith in rw (← e) (omega arith)
 cells_many own (suc n) a =
     let split : length (cells_over own a (suc n)) ≡ cells_taken (with own a) + length (cells_over own (a + 1) n) =
-        ap length (flat_map-append cells_of_own (with own a) (flat_map (with own) (range_with_len (a + 1) n)))
-        ∙ length-append (flat_map cells_of_own (with own a)) (cells_over own (a + 1) n)
-        ∙ ap (λ k. k + length (cells_over own (a + 1) n)) (taken (with own a)) in
+    ap length (flat_map-append cells_of_own (with own a) (flat_map (with own) (range_with_len (a + 1) n)))
+    ∙ length-append (flat_map cells_of_own (with own a)) (cells_over own (a + 1) n)
+    ∙ ap (λ k. k + length (cells_over own (a + 1) n)) (taken (with own a)) in
     let same : a + suc n ≡ (a + 1) + n = omega arith in
     let others = cells_many own n (a + 1) in
     rw same (omega (arith, split, others, before_next own a))
