@@ -14,9 +14,10 @@ use Rattle.jc_names.specs.declared.fault.LinkFault.{LinkFault}
 use Rattle.jc_names.specs.declared.fault.LinkFault.TheVariants.{InstanceLong}
 use Rattle.jc_names.specs.declared.named.Table.{Table}
 use Rattle.jc_names.specs.declared.named.NamedClass.{NamedClass}
+use Rattle.jc_names.specs.Named.{IsByteTable, IsSized}
 use Rattle.jc_names.specs.Fault.{place_of}
 use Rattle.jc_names.specs.FirstFault.{least_from, least_of, lesser}
-use Rattle.jc_classes.specs.Known.{AreKnown, IsByteTable, IsSized}
+use Rattle.jc_classes.specs.Known.{AreKnown}
 use Rattle.jc_classes.specs.declared.layout.Layout.{Layout}
 use Rattle.jc_classes.specs.Entries.{reach, reach_from, reach_of}
 use Rattle.jc_classes.specs.Layout.{above_or_nothing, at_home, no_table, of_class, public_table, visible_table, home_run, public_entries, visible_entries, instance_cells, layout_of, layouts}

@@ -2,19 +2,8 @@
 use Rattle.std.specs.Prelude.{◌≡◌, ◌≤◌, ◌<◌, List, length, All}
 use Rattle.jc_base.specs.declared.record.Iface.{Iface}
 use Rattle.jc_base.specs.Class.{ClassTable}
-use Rattle.jc_names.specs.declared.named.Table.{Table}
 use Rattle.jc_names.specs.declared.named.NamedClass.{NamedClass}
-
--- a table whose numbers are bytes
-pub record IsByteTable (table : Table) : Type 0 where
-  pub base : table.base ≤ 255
-  pub count : length table.entries ≤ 255
-
--- the tables and the own cells of a class are no more than the Class and Descriptor components can count
-pub record IsSized (k : NamedClass) : Type 0 where
-  pub public : IsByteTable k.public
-  pub visible : IsByteTable k.visible
-  pub own : length k.own ≤ 131070
+use Rattle.jc_names.specs.Named.{IsSized}
 
 -- classes by number, of which the table has the superclasses
 pub record AreKnown (t : ClassTable) (classes : List NamedClass) : Type 0 where

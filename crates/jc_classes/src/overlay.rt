@@ -1,7 +1,7 @@
 ghost use Rattle.std.specs.Prelude.{◌≡◌, ◌≤◌, ◌<◌, ◌^◌, length, max, map, IfOk, slice_get};
 ghost use Rattle.std.specs.Option.{option_or, option_flatten};
 ghost use Rattle.std.specs.List.{range_with_len};
-ghost use Rattle.jc_classes.specs.Known.{IsByteTable};
+ghost use Rattle.jc_names.specs.Named.{IsByteTable};
 ghost use Rattle.jc_classes.specs.Entries.{reach, named_by, overlaid_at, overlaid};
 
 use crate::layout::Entries;

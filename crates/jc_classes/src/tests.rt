@@ -1,9 +1,9 @@
 ghost use Rattle.std.specs.Prelude.{◌≡◌, ◌≤◌, ◌<◌, length, IfSome, IsTrue, All};
 ghost use Rattle.jc_base.specs.declared.record.Iface.{Iface};
 ghost use Rattle.jc_base.specs.declared.record.MethodRec.{MethodRec};
-ghost use Rattle.jc_names.specs.Named.{package_of};
+ghost use Rattle.jc_names.specs.Named.{package_of, IsByteTable, IsSized};
 ghost use Rattle.jc_lineage.specs.Known.{HasKnownLine};
-ghost use Rattle.jc_classes.specs.Known.{AreInRange, IsByteTable, IsSized};
+ghost use Rattle.jc_classes.specs.Known.{AreInRange};
 
 use crate::tables;
 use jc_base::{Classes, Iface, Ifaces, Items, MethodRec, Methods, Sig, Ty};

@@ -112,7 +112,6 @@ fn handlers_catch(
 /// Each handler catches all, or a class below throwable.
 #[tactic(auto, using(crate::proofs::Behind::least_handlers))]
 pub fn handlers_fit(names: &Names<'_, '_, '_>, classes: &Classes) -> Result<(), LinkFault>
-    requires many { length names.now.packages ≤ 16 }
     requires count { length classes.now.records ≡ length names.now.classes }
     requires throwable { IsClass classes.now (throwable classes.now) }
     ensures { result ≡ refused (least_of place_of (catch_fault names.now.packages classes.now) (handler_places names.now.packages)) }

@@ -1,7 +1,6 @@
 -- Instance fields and their cells, field by field.
-use Rattle.std.proofs.Common.{◌≡◌, ℕ, suc, ◌+◌, ◌-◌, ◌<◌, Bool, true, false, List, [], ◌∷◌, ◌++◌, map, filter, flat_map, ap, sym, refl, ◌∙◌, append_assoc, arith}
+use Rattle.std.proofs.Common.{◌≡◌, ℕ, suc, ◌+◌, ◌-◌, ◌<◌, Bool, true, false, List, [], ◌∷◌, ◌++◌, filter, flat_map, ap, sym, refl, ◌∙◌, append_assoc, arith}
 use Rattle.std.specs.List.{range_with_len}
-use Rattle.std.proofs.lemmas.List.{map-append}
 use Rattle.std.proofs.lemmas.Grind.{flat_map-append}
 
 pub field_kept : {X : Type 0} (t : X → Bool) (ys : List X) (x : X) (xs : List X) → t x ≡ true → ys ++ filter t (x ∷ xs) ≡ (ys ++ x ∷ []) ++ filter t xs

@@ -1,14 +1,14 @@
 -- The answer tells the first condition that is broken.
-use Rattle.std.proofs.Common.{◌≡◌, ℕ, List, [], ◌∷◌, Option, Some, None, Result, Ok, Err, refl, sym, ap, ◌∙◌}
+use Rattle.std.proofs.Common.{◌≡◌, ℕ, List, Result, Ok, Err, refl, sym, ap, ◌∙◌}
 use Rattle.cap_package.specs.PackageRecord.{PackageRecord}
 use Rattle.jc_names.specs.declared.fault.LinkFault.{LinkFault}
 use Rattle.jc_names.specs.declared.fault.LinkEnd.{LinkEnd}
 use Rattle.jc_names.specs.declared.fault.LinkEnd.TheVariants.{Fault, Memory}
 use Rattle.jc_names.specs.Fault.{place_of}
-use Rattle.jc_names.specs.FirstFault.{◌>>=◌, IsFirst, AllEmpty}
+use Rattle.jc_names.specs.FirstFault.{◌>>=◌}
 use Rattle.jc_names.specs.Conditions.{packages_fault, classes_fault, methods_fault, no_package_fault, no_class_fault, named_in, import_tokens, class_references, conditions}
 use Rattle.jc_names.specs.Names.{NamesRecord, named, checked, names_of, Answers, Tells}
-use Rattle.jc_names.proofs.FirstTold.{IsTold, first_refused, things-told, one-told, step, last, refused-first, accepted-empty}
+use Rattle.jc_names.proofs.FirstTold.{IsTold, things-told, one-told, step, last, refused-first, accepted-empty}
 
 checked-told : (ps : List PackageRecord) → IsTold place_of (checked ps) (conditions ps)
 unfolding checked

@@ -1,5 +1,5 @@
 -- The numbers that the tables keep are the positions of classes and methods.
-use Rattle.std.proofs.Common.{◌≡◌, ℕ, zero, suc, ◌+◌, ◌≤◌, ◌<◌, Bool, true, false, cond, eqb, ◌&&◌, List, [], ◌∷◌, ◌++◌, length, map, Option, Some, None, position, slice_get, option_map, IfSome, is_some, refl, sym, ap, ap₂, subst, ◌∙◌, arith, if◌then◌else◌, get_or}
+use Rattle.std.proofs.Common.{◌≡◌, ℕ, suc, ◌+◌, ◌<◌, Bool, true, false, cond, eqb, ◌&&◌, List, [], ◌∷◌, ◌++◌, length, map, Option, Some, None, position, slice_get, option_map, IfSome, is_some, refl, sym, ap, ap₂, subst, ◌∙◌, arith, if◌then◌else◌, get_or}
 use Rattle.std.specs.List.{position_from}
 use Rattle.std.specs.Map.{lookup}
 use Rattle.std.proofs.lemmas.Bool.{eqb-true}
@@ -22,7 +22,7 @@ both true true h = (refl, refl)
 both true false h = absurd cc
 both false y h = absurd cc
 
-same-equal : (a b : Place) → same_place a b ≡ true → a ≡ b
+pub same-equal : (a b : Place) → same_place a b ≡ true → a ≡ b
 same-equal a b h =
     let p = both (eqb a.package b.package) (eqb a.offset b.offset) h in
     let e = eqb-true a.package b.package p.0 in

@@ -1,9 +1,9 @@
 -- What a class reference names by cases is what is computed, and at most one class is named.
-use Rattle.std.proofs.Common.{◌≡◌, ℕ, ◌+◌, ◌<◌, ◌≤◌, Bool, true, false, ltb, List, Option, Some, None, option_map, option_and_then, if◌then◌else◌, refl, sym, ap, ◌∙◌, arith}
+use Rattle.std.proofs.Common.{◌≡◌, ℕ, ◌<◌, ◌≤◌, Bool, true, false, ltb, List, Option, Some, None, option_map, option_and_then, if◌then◌else◌, refl, sym, ◌∙◌, arith}
 use Rattle.std.proofs.lemmas.Bool.{ltb-true, ltb-false}
 use Rattle.cap_package.specs.PackageRecord.{PackageRecord}
 use Rattle.jc_names.specs.Numbering.{class_at}
-use Rattle.jc_names.specs.References.{met_by, exported_offset, exported_place, place_named, class_named, import_token, class_token, Refers, internal, imported}
+use Rattle.jc_names.specs.References.{met_by, exported_offset, exported_place, class_named, import_token, class_token, Refers, internal, imported}
 
 module _ (ps : List PackageRecord) (k reference c : ℕ) where
   exported_by : (j : ℕ) (o : Option ℕ) → 0x8000 ≤ reference → met_by ps k (import_token reference) ≡ Some j → exported_offset ps j (class_token reference) ≡ o

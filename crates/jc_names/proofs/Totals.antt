@@ -5,6 +5,7 @@ use Rattle.std.proofs.lemmas.List.Sums.{sum_by-cons}
 use Rattle.cap_desc.specs.DescriptorFormat as described
 use Rattle.cap_package.specs.PackageRecord.{PackageRecord}
 use Rattle.jc_names.specs.Numbering.{classes_of, classes_behind, numbered_classes, methods_of_class, methods_of_classes, methods_behind, numbered_methods}
+use Rattle.jc_names.specs.NamedMethods.{named_method, named_methods}
 use Rattle.jc_names.specs.Counts.{class_total, method_count, method_total}
 
 pub length_classes : (k : ℕ) (ps : List PackageRecord) → length (classes_behind k ps) ≡ class_total ps
@@ -37,3 +38,7 @@ length_methods k (p ∷ ps) =
 
 pub methods_total : (ps : List PackageRecord) → length (numbered_methods ps) ≡ method_total ps
 methods_total ps = length_methods 0 ps
+
+pub named_methods_many : (ps : List PackageRecord) (roles : List ℕ) → length (named_methods ps roles) ≡ length (numbered_methods ps)
+unfolding named_methods
+named_methods_many ps roles = length-map (numbered_methods ps) (named_method ps roles)

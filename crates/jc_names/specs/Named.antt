@@ -1,5 +1,7 @@
 -- What holds of named classes and methods (JCVM 2.2, chapter 6).
-use Rattle.std.specs.Prelude.{◌≡◌, ℕ, ◌+◌, ◌≤◌, ◌<◌, ◌⊎◌, Bool, true, false, ◌||◌, List, [], length, Option, Some, None, All, IfSome, MatchBool, slice_get, ⊤}
+use Rattle.std.specs.Prelude.{◌≡◌, ℕ, ◌+◌, ◌≤◌, ◌<◌, ◌⊎◌, Bool, true, false, ◌||◌, List, [], length, map, Option, Some, None, All, IfSome, MatchBool, slice_get, ⊤}
+use Rattle.cap_package.specs.PackageRecord.{PackageRecord}
+use Rattle.cap_package.specs.StandsFor.{StandsFor}
 use Rattle.jc_base.specs.declared.ty.Ty.{Ty}
 use Rattle.jc_base.specs.declared.ty.Ty.TheVariants.{Bottom, Short, IntHigh, IntLow, Null, Class, ArrBool, ArrByte, ArrShort, ArrInt, ArrRef, Fresh, Top}
 use Rattle.jc_base.specs.declared.record.Handler.{Handler}
@@ -8,6 +10,16 @@ use Rattle.jc_base.specs.declared.record.MethodRec.{MethodRec}
 use Rattle.jc_base.specs.Linked.{receiver_words, list_at, IsCodeLength}
 use Rattle.jc_names.specs.declared.named.NamedClass.{NamedClass}
 use Rattle.jc_names.specs.declared.named.Table.{Table}
+
+-- ---- packages
+
+-- the Method info of each package
+abbrev pub infos_of : List PackageRecord → List (List ℕ)
+infos_of = map (λ (p : PackageRecord). p.methods.info)
+
+-- the parts of a package stand for it
+abbrev pub IsAgreed : PackageRecord → Type 0
+IsAgreed p = StandsFor p.parts p
 
 -- ---- classes by number
 
@@ -55,6 +67,17 @@ IsDeclared classes object Top = ⊥
 abbrev pub AreEntries : ℕ → Table → Type 0
 AreEntries methods table = All (λ entry. IfSome entry (λ n. n < methods)) table.entries
 
+-- a table whose numbers are bytes
+pub record IsByteTable (table : Table) : Type 0 where
+  pub base : table.base ≤ 255
+  pub count : length table.entries ≤ 255
+
+-- the tables and the own cells of a class are no more than the Class and Descriptor components can count
+pub record IsSized (c : NamedClass) : Type 0 where
+  pub public : IsByteTable c.public
+  pub visible : IsByteTable c.visible
+  pub own : length c.own ≤ 131070
+
 -- an interface has interfaces alone
 pub record HasNoMembers (c : NamedClass) : Type 0 where
   pub parent : c.parent ≡ None
@@ -73,6 +96,7 @@ pub record IsNamedClass (packages methods : ℕ) (classes : List NamedClass) (ob
   pub visible : AreEntries methods c.visible
   pub own : All (IsDeclared classes object) c.own
   pub interface : c.interface ≡ true → HasNoMembers c
+  pub sized : IsSized c
 
 -- ---- methods
 
@@ -99,6 +123,8 @@ pub record IsNamedMethod (infos : List (List ℕ)) (classes : List NamedClass) (
   -- its code lies in the Method info of its package
   pub inside : m.code_at + m.code_len ≤ length (list_at infos m.package)
   pub handlers : All (IsHandlerIn m.code_len) m.handlers
+  -- the handler table counts its entries in one byte
+  pub few_handlers : length m.handlers ≤ 255
 
 -- ---- all
 

@@ -1,5 +1,5 @@
 -- Methods with each class that their records name by number (JCVM 2.2, sections 6.9 and 6.13).
-use Rattle.std.specs.Prelude.{ℕ, ◌+◌, ◌-◌, ◌*◌, Bool, true, false, not, List, [], length, map, min, Option, Some, None, unwrap_or, slice_get, slice_index, ◌==◌, ◌&&◌, if◌then◌else◌}
+use Rattle.std.specs.Prelude.{ℕ, ◌+◌, ◌-◌, ◌*◌, ◌≤◌, Bool, true, false, not, List, [], length, map, min, Option, Some, None, unwrap_or, slice_get, slice_index, ◌==◌, ◌&&◌, if◌then◌else◌}
 use Rattle.std.specs.Int.RustNames.{bit_and}
 use Rattle.cap_pool.specs.PoolFormat.{Entry}
 use Rattle.cap_method.specs.declared.handler.HandlerInfo.{HandlerInfo}
@@ -17,6 +17,10 @@ use Rattle.jc_names.specs.References.{class_named}
 use Rattle.jc_names.specs.WorldTypes.{signature_of}
 
 -- ---- handlers
+
+-- the handler table of a package counts its entries in one byte
+abbrev pub HasFewHandlers : PackageRecord → Type 0
+HasFewHandlers p = length p.methods.handlers ≤ 255
 
 -- the class reference in the first two of three bytes
 abbrev pub reference_in : List ℕ → ℕ

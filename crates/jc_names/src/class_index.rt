@@ -113,6 +113,8 @@ impl<'n, 'p, 'a> Index<'n, 'p, 'a> {
     pub(crate) fn packages(&self) -> &'n Packages<'p, 'a>
         ensures is { result.now ≡ self.now }
         ensures few { length self.now ≤ 16 }
+        ensures few_classes { length (numbered_classes self.now) ≤ 4096 }
+        ensures few_methods { length (numbered_methods self.now) ≤ 32768 }
     {
         self.packages
     }

@@ -1,10 +1,11 @@
-ghost use Rattle.std.specs.Prelude.{◌≡◌, ◌≤◌, ◌++◌, length, map, filter, flat_map, IfOk, OnOk};
+ghost use Rattle.std.specs.Prelude.{◌≡◌, ◌≤◌, ◌++◌, length, map, filter, flat_map, All, IfOk, OnOk};
 ghost use Rattle.cap_bytes.specs.Table.{numbers};
 ghost use Rattle.cap_class.specs.ClassPart.{class_seen, classes_left};
 ghost use Rattle.cap_class.specs.Lists.{interfaces_left};
 ghost use Rattle.cap_desc.specs.MemberLists.{fields_left};
 ghost use Rattle.cap_desc.specs.MemberRecords.{field_seen};
 ghost use Rattle.cap_package.specs.Descriptions.{description};
+ghost use Rattle.jc_names.specs.Named.{IsByteTable, IsSized};
 ghost use Rattle.jc_names.specs.NamedClasses.{is_instance, instance_fields, with_token, cells_of_field, cells_of_fields, entry_of, table_of, no_table, interfaces_named, named_interface, named_proper, named_class};
 ghost use Rattle.jc_names.specs.Numbering.{numbered_class, numbered_classes, classes_of};
 
@@ -40,7 +41,9 @@ fn table_of(
     base: u8,
     offsets: cap_bytes::Table<'_>,
 ) -> Result<Table, AllocError>
-    ensures { IfOk result (λ t. t ≡ table_of index.now «package» base (numbers offsets.entry)) }
+    requires { length (numbers offsets) ≤ 255 }
+    ensures is { IfOk result (λ t. t ≡ table_of index.now «package» base (numbers offsets.entry)) }
+    ensures sized { IfOk result IsByteTable }
 {
     let mut entries = Vec::new(alloc);
     'entries: for offset in offsets {
@@ -180,7 +183,8 @@ fn named_interface(
     package: &Package<'_, '_>,
     class: ClassInfo<'_>,
 ) -> Result<NamedClass, AllocError>
-    ensures { IfOk result (λ c. c ≡ named_interface index.now (numbered_class number «package».now (class_seen class.entry))) }
+    ensures is { IfOk result (λ c. c ≡ named_interface index.now (numbered_class number «package».now (class_seen class.entry))) }
+    ensures sized { IfOk result IsSized }
 {
     let _home = package;
     let interfaces = interfaces_named(alloc, index, number, class.interfaces())?;
@@ -204,7 +208,8 @@ fn named_proper(
     package: &Package<'_, '_>,
     class: ClassInfo<'_>,
 ) -> Result<NamedClass, AllocError>
-    ensures { IfOk result (λ c. c ≡ named_proper index.now object (numbered_class number «package».now (class_seen class.entry))) }
+    ensures is { IfOk result (λ c. c ≡ named_proper index.now object (numbered_class number «package».now (class_seen class.entry))) }
+    ensures sized { IfOk result IsSized }
 {
     let descriptor = package.descriptor();
     let interfaces = interfaces_named(alloc, index, number, class.interfaces())?;
@@ -239,7 +244,8 @@ fn named_class(
     package: &Package<'_, '_>,
     class: ClassInfo<'_>,
 ) -> Result<NamedClass, AllocError>
-    ensures { IfOk result (λ c. c ≡ named_class index.now object (numbered_class number «package».now (class_seen class.entry))) }
+    ensures is { IfOk result (λ c. c ≡ named_class index.now object (numbered_class number «package».now (class_seen class.entry))) }
+    ensures sized { IfOk result IsSized }
 {
     if class.flags().is_interface() {
         named_interface(alloc, index, number, package, class)
@@ -257,7 +263,9 @@ fn push_classes(
     number: u16,
     package: &Package<'_, '_>,
 ) -> Result<(), AllocError>
-    ensures { OnOk result (named.new.items ≡ named.old.items ++ map (named_class index.now object) (classes_of number «package».now)) }
+    requires { All IsSized named.old.items }
+    ensures is { OnOk result (named.new.items ≡ named.old.items ++ map (named_class index.now object) (classes_of number «package».now)) }
+    ensures sized { OnOk result (All IsSized named.new.items) }
 {
     'classes: for class in package.classes().iter() {
         named.push(named_class(alloc, index, object, number, package, class)?)?;
@@ -274,7 +282,8 @@ pub(crate) fn class_records(
     object: u16,
 ) -> Result<Vec<NamedClass>, AllocError>
     requires { length packages.now ≤ 16 }
-    ensures { IfOk result (λ v. v.items ≡ map (named_class index.now object) (numbered_classes packages.now)) }
+    ensures is { IfOk result (λ v. v.items ≡ map (named_class index.now object) (numbered_classes packages.now)) }
+    ensures sized { IfOk result (λ v. All IsSized v.items) }
 {
     let mut named = Vec::new(alloc);
     'packages: for (k, package) in packages.as_slice().iter().enumerate() {

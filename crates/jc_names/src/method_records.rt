@@ -1,4 +1,4 @@
-ghost use Rattle.std.specs.Prelude.{◌≡◌, ◌+◌, ◌≤◌, ◌++◌, length, map, take, drop, IfOk, OnOk};
+ghost use Rattle.std.specs.Prelude.{◌≡◌, ◌+◌, ◌≤◌, ◌++◌, length, map, take, drop, All, IfOk, OnOk};
 ghost use Rattle.cap_class.specs.ClassPart.{records};
 ghost use Rattle.cap_desc.specs.ClassRecords.{class_seen, classes_left};
 ghost use Rattle.cap_desc.specs.MemberLists.{methods_left};
@@ -6,7 +6,8 @@ ghost use Rattle.cap_desc.specs.MemberRecords.{method_seen};
 ghost use Rattle.cap_method.specs.MethodPart.{handlers_left, header_seen};
 ghost use Rattle.cap_package.specs.PackageRecord.{PackageRecord};
 ghost use Rattle.cap_pool.specs.Pool.{entries};
-ghost use Rattle.jc_names.specs.NamedMethods.{caught, handler_named, offset_in_info, no_body, body_behind, body_of, class_described, have_headers, is_init, named_method};
+ghost use Rattle.jc_names.specs.Named.{IsAgreed};
+ghost use Rattle.jc_names.specs.NamedMethods.{HasFewHandlers, caught, handler_named, offset_in_info, no_body, body_behind, body_of, class_described, have_headers, is_init, named_method};
 ghost use Rattle.jc_names.specs.Numbering.{numbered, numbered_methods, methods_of_class, methods_of_classes};
 
 use crate::class_index::Index;
@@ -330,8 +331,13 @@ fn push_package(
     number: u16,
     package: &Package<'_, '_>,
 ) -> Result<(), AllocError>
-    ensures { OnOk result (methods.new.items ≡ methods.old.items ++ map (named_method index.now roles) (methods_of_classes number «package».now 0 «package».now.description.items.classes)) }
+    ensures named { OnOk result (methods.new.items ≡ methods.old.items ++ map (named_method index.now roles) (methods_of_classes number «package».now 0 «package».now.description.items.classes)) }
+    ensures agreed { IsAgreed «package».now }
+    ensures few { HasFewHandlers «package».now }
 {
+    // Its parts stand for it, and the number of its handlers is one that `handler_count` can answer.
+    let _parts = package.parts();
+    let _handlers = package.methods().handlers();
     let descriptor = package.descriptor();
     // Their number is one that `class_count` can answer.
     let _count = descriptor.class_count();
@@ -354,7 +360,9 @@ pub(crate) fn methods_behind(
     roles: [u8; 8],
 ) -> Result<Vec<MethodRec>, AllocError>
     requires { length packages.now ≤ 16 }
-    ensures { IfOk result (λ v. v.items ≡ map (named_method index.now roles) (numbered_methods packages.now)) }
+    ensures named { IfOk result (λ v. v.items ≡ map (named_method index.now roles) (numbered_methods packages.now)) }
+    ensures agreed { IfOk result (λ _. All IsAgreed packages.now) }
+    ensures few { IfOk result (λ _. All HasFewHandlers packages.now) }
 {
     let mut methods = Vec::new(alloc);
     'packages: for (k, package) in packages.as_slice().iter().enumerate() {

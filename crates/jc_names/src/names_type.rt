@@ -1,4 +1,4 @@
-ghost use Rattle.std.specs.Prelude.{◌≡◌, ◌<◌, length, slice_index, IfSome};
+ghost use Rattle.std.specs.Prelude.{◌≡◌, ◌<◌, ◌≤◌, length, slice_index, IfSome};
 ghost use Rattle.jc_names.specs.NamedClasses.{named_classes};
 ghost use Rattle.jc_names.specs.NamedMethods.{named_methods};
 ghost use Rattle.jc_names.specs.Numbering.{numbered_classes, numbered_methods, method_at};
@@ -39,7 +39,8 @@ impl<'n, 'p, 'a> Model for Names<'n, 'p, 'a> {
 impl<'n, 'p, 'a> Names<'n, 'p, 'a> {
     /// The packages that were named.
     pub fn packages(&self) -> &'n Packages<'p, 'a>
-        ensures { result.now ≡ self.now.packages }
+        ensures is { result.now ≡ self.now.packages }
+        ensures few { length result.now ≤ 16 }
     {
         self.index.packages()
     }
@@ -48,7 +49,9 @@ impl<'n, 'p, 'a> Names<'n, 'p, 'a> {
     pub fn classes(&self) -> &NamedClasses
         ensures is { result.now ≡ self.now.classes }
         ensures named { result.now ≡ named_classes self.now.packages (slice_index self.now.roles 0) }
+        ensures few { length result.now ≤ 4096 }
     {
+        let _ = self.index.packages();
         &self.classes
     }
 
@@ -56,8 +59,17 @@ impl<'n, 'p, 'a> Names<'n, 'p, 'a> {
     pub fn methods(&self) -> &Methods
         ensures is { result.now ≡ self.now.methods }
         ensures named { result.now ≡ named_methods self.now.packages self.now.roles }
+        ensures few { length result.now ≤ 32768 }
     {
+        let _ = self.index.packages();
         &self.methods
+    }
+
+    /// The methods, by number, where nothing else is asked.
+    pub fn into_methods(self) -> Methods
+        ensures { result ≡ self.entry.methods }
+    {
+        self.methods
     }
 
     /// The class that a reference in a package names.

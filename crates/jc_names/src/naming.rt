@@ -1,3 +1,6 @@
+ghost use Rattle.std.specs.Prelude.{All, IfOk, slice_index};
+ghost use Rattle.jc_names.specs.Named.{AreNamed, IsAgreed, IsSized, infos_of};
+ghost use Rattle.jc_names.specs.NamedMethods.{HasFewHandlers};
 ghost use Rattle.jc_names.specs.Names.{Checks, Answers, Tells, names_of};
 
 use crate::class_index::{Index, index_packages};
@@ -36,7 +39,10 @@ fn names_or_fault<'n, 'p, 'a>(
     packages: &'n Packages<'p, 'a>,
     roles: [u8; 8],
 ) -> Result<Names<'n, 'p, 'a>, LinkEnd>
-    ensures { Answers (names_of packages.now roles) result }
+    ensures value { Answers (names_of packages.now roles) result }
+    ensures sized { IfOk result (λ n. All IsSized n.classes) }
+    ensures agreed { IfOk result (λ _. All IsAgreed packages.now) }
+    ensures few { IfOk result (λ _. All HasFewHandlers packages.now) }
 {
     let index = checked(alloc, packages)?;
     let methods = methods_behind(alloc, &index, packages, roles)?;
@@ -60,6 +66,8 @@ pub fn names<'n, 'p, 'a>(
     // Names exactly where nothing is at fault; else the first condition by number that is broken, at its
     // least thing.
     ensures tells { Tells packages.now result }
+    // Everything that they name is a class or a method of theirs, and is as large as its component can tell.
+    ensures named { IfOk result (λ n. AreNamed (infos_of packages.now) (slice_index roles 0) n.classes n.methods) }
 {
     names_or_fault(alloc, packages, roles)
 }

@@ -99,8 +99,7 @@ fn all_statics(
 /// The static fields of all packages, by number.
 #[tactic(auto, using(crate::proofs::FieldLists::slots_of, crate::proofs::FieldLists::cells_of_records))]
 pub fn statics(alloc: Global, names: &Names<'_, '_, '_>) -> Result<Statics, AllocError>
-    requires count { length names.now.packages ≤ 16 }
-    requires cells { static_cells names.now.packages ≤ 32768 }
+    requires { static_cells names.now.packages ≤ 32768 }
     ensures is { IfOk result (λ fields. fields ≡ static_records (type_of names.now.packages (slice_index names.now.roles 0)) names.now.packages) }
     // Their cells are 0, 1 and so on without a gap.
     ensures slots { IfOk result (AreSlots 0) }

@@ -1,4 +1,4 @@
-ghost use Rattle.std.specs.Prelude.{◌≤◌, length};
+ghost use Rattle.std.specs.Prelude.{◌≤◌};
 ghost use Rattle.jc_statics.specs.Statics.{static_cells};
 
 use crate::{arrays, arrays_fit, statics, statics_fit};
@@ -127,8 +127,7 @@ fn push_fields(
     names: &Names<'_, '_, '_>,
     told: &mut Vec<u16>,
 ) -> Result<(), AllocError>
-    requires count { length names.now.packages ≤ 16 }
-    requires cells { static_cells names.now.packages ≤ 32768 }
+    requires { static_cells names.now.packages ≤ 32768 }
 {
     for field in statics(alloc, names)?.as_slice() {
         told.push(field.package)?;
@@ -147,9 +146,6 @@ fn push_fields(
 fn told(alloc: Global, names: &Names<'_, '_, '_>) -> Result<Vec<u16>, AllocError> {
     let packages = names.packages();
     let mut told = Vec::new(alloc);
-    if packages.len() > 16 {
-        return Ok(told);
-    }
     told.push(packages.len() as u16)?;
     if statics_fit(packages).is_err() || arrays_fit(packages).is_err() {
         return Ok(told);

@@ -1,4 +1,4 @@
-use Rattle.std.proofs.Common.{◌≡◌, ◌∙◌, ◌++◌, ◌∷◌, [], ◌+◌, ◌-◌, map, take, ap, sym}
+use Rattle.std.proofs.Common.{◌∙◌, ◌++◌, ◌∷◌, [], ◌+◌, ◌-◌, map, take, ap, sym}
 use Rattle.cap_method.specs.MethodPart.{handlers_left}
 use Rattle.cap_pool.specs.Pool.{entries}
 use Rattle.jc_names.specs.NamedMethods.{handler_named}

@@ -1,4 +1,4 @@
-use Rattle.std.proofs.Common.{subst, ap, ◌∙◌}
+use Rattle.std.proofs.Common.{◌≡◌, subst, ap, ◌∙◌}
 use Rattle.std.specs.Prelude.{All, slice_index}
 use Rattle.jc_names.specs.WorldTypes.{type_of}
 use Rattle.jc_statics.specs.Known.{AreStaticsKnown}
@@ -11,8 +11,9 @@ use Rattle.jc_statics.proofs.static_fields.statics.Goals as goal
 pub returns-clause-fields : goal.returns-clause-fields
 returns-clause-fields c =
     let names = c.args.names.now in
+    let same : c.packages.result.now ≡ names.packages = cc in
     let told = type_of names.packages (slice_index names.roles 0) in
-    statics_typed told (types_told names.packages (slice_index names.roles 0)) names.packages (subst (λ ps. All AreStaticsKnown ps) c.packages.ensures c.in_ok-fields.ensures.known) c.in_ok-fields.fields (c.in_ok-fields.ensures.is ∙ ap (static_records told) c.packages.ensures)
+    statics_typed told (types_told names.packages (slice_index names.roles 0)) names.packages (subst (λ ps. All AreStaticsKnown ps) same c.in_ok-fields.ensures.known) c.in_ok-fields.fields (c.in_ok-fields.ensures.is ∙ ap (static_records told) same)
 
 pub returns-clause-apart : goal.returns-clause-apart
 returns-clause-apart c = statics_stand_apart _ c.packages.result.now c.in_ok-fields.ensures.known c.in_ok-fields.fields c.in_ok-fields.ensures.is

@@ -1,4 +1,4 @@
-use Rattle.std.proofs.Common.{◌≡◌, ◌∙◌, ◌<◌, ◌≤◌, length, sym, ap, subst, arith, get_or}
+use Rattle.std.proofs.Common.{◌≡◌, ◌∙◌, ◌<◌, length, ap, subst, arith, get_or}
 use Rattle.jc_names.specs.Numbering.{numbered_classes, is_interface_number}
 use Rattle.jc_names.proofs.NumberLaws.{flag_read, flags_many}
 use Rattle.jc_names.proofs.class_index.Index.is_interface.Goals as goal
