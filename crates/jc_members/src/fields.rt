@@ -94,7 +94,6 @@ pub(crate) fn field_sites(
     classes: &Classes,
 ) -> Result<Sites, AllocError>
     requires object { object classes.now ≡ slice_index names.now.roles 0 }
-    requires many { length names.now.packages ≤ 16 }
     requires few { length classes.now.records ≤ 4096 }
     requires count { length classes.now.records ≡ class_total names.now.packages }
     requires room { HaveRoom names.now.packages classes.now }

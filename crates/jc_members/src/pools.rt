@@ -69,6 +69,7 @@ fn member_of(
     ensures is { result ≡ member_of names.now.packages classes.now statics.now «package» (entry_seen entry) }
     ensures linked { IfSome result (IsMember classes.now names.now.methods statics.now) }
 {
+    // These are read for what is known of them: a token, for one, is a byte.
     let _classes = names.classes();
     let _methods = names.methods();
     let _records = classes.records();
@@ -139,7 +140,6 @@ fn named(
     statics: &Statics,
     tables: &Tables,
 ) -> Result<(Pools, Option<LinkFault>), AllocError>
-    requires many { length names.now.packages ≤ 16 }
     requires cells { HasCellsOf names.now.classes (slice_index names.now.roles 0) classes.now }
     requires linked { AreLinkedClasses (length names.now.packages) classes.now names.now.methods }
     requires statics { tables.now.statics ≡ all_entered [] (static_sites statics.now) }
@@ -170,8 +170,6 @@ fn pools_of(
     classes: &Classes,
     statics: &Statics,
 ) -> Result<Pools, LinkEnd>
-    requires many { length names.now.packages ≤ 16 }
-    requires few { length names.now.classes ≤ 4096 }
     requires cells { HasCellsOf names.now.classes (slice_index names.now.roles 0) classes.now }
     requires linked { AreLinkedClasses (length names.now.packages) classes.now names.now.methods }
     ensures value { IsDue (pools_of names.now.packages classes.now statics.now) result }
@@ -195,8 +193,6 @@ pub fn members(
     classes: &Classes,
     statics: &Statics,
 ) -> Result<Pools, LinkEnd>
-    requires many { length names.now.packages ≤ 16 }
-    requires few { length names.now.classes ≤ 4096 }
     requires cells { HasCellsOf names.now.classes (slice_index names.now.roles 0) classes.now }
     requires linked { AreLinkedClasses (length names.now.packages) classes.now names.now.methods }
     ensures value { IsDue (pools_of names.now.packages classes.now statics.now) result }
