@@ -18,7 +18,7 @@ use Rattle.jc_base.proofs.Climbs.{climb, chain-front, on_alone, on_next}
 
 -- ---- the cells of an instance
 
-cells-alone : (t : ClassTable) (c : ℕ) → chain t c ≡ c ∷ [] → cells_of t c ≡ own_cells t c
+pub cells-alone : (t : ClassTable) (c : ℕ) → chain t c ≡ c ∷ [] → cells_of t c ≡ own_cells t c
 unfolding cells_of
 cells-alone t c alone =
     ap (λ (xs : List ℕ). flat_map (own_cells t) (reverse xs)) alone ∙ flat_map-cons (own_cells t) c [] ∙ append-nil (own_cells t c)

@@ -7,3 +7,4 @@ pub mod Joins
 pub mod Dispatches
 pub mod Bodies
 pub mod Samples
+pub mod Instances

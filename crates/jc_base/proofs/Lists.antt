@@ -1,5 +1,5 @@
 -- Reading what holds of the elements of a list at one of them.
-use Rattle.std.proofs.Common.{◌≡◌, ℕ, zero, suc, ◌<◌, ◌≤◌, List, [], ◌∷◌, length, Option, Some, None, subst, arith}
+use Rattle.std.proofs.Common.{◌≡◌, ℕ, zero, suc, ◌+◌, ◌<◌, ◌≤◌, List, [], ◌∷◌, ◌++◌, length, Option, Some, None, ap, subst, arith}
 use Rattle.std.specs.Prelude.{All, IfSome, slice_get, sum_by}
 use Rattle.jc_base.specs.declared.ty.Kind.{Kind}
 use Rattle.jc_base.specs.declared.ty.Kind.TheVariants.{Ref, Byte, Short, Int}
@@ -32,6 +32,21 @@ pub slice_get-below : {X : Type 0} (xs : List X) (n : ℕ) (x : X) → slice_get
 slice_get-below [] n x e = absurd cc
 slice_get-below (y ∷ ys) zero x e = omega arith
 slice_get-below (y ∷ ys) (suc n) x e = omega (arith, slice_get-below ys n x e)
+
+-- what stands in the first of two lists, and behind it
+pub slice_get-front : {X : Type 0} (xs ys : List X) (n : ℕ) (x : X) → slice_get xs n ≡ Some x → slice_get (xs ++ ys) n ≡ Some x
+slice_get-front [] ys n x e = absurd cc
+slice_get-front (y ∷ xs) ys zero x e = e
+slice_get-front (y ∷ xs) ys (suc n) x e = slice_get-front xs ys n x e
+
+pub slice_get-behind : {X : Type 0} (xs ys : List X) (k n : ℕ) → n ≡ length xs + k → slice_get (xs ++ ys) n ≡ slice_get ys k
+slice_get-behind [] ys k n e =
+    let same : n ≡ k = omega arith in
+    ap (slice_get ys) same
+slice_get-behind (x ∷ xs) ys k zero e = absurd (omega arith)
+slice_get-behind (x ∷ xs) ys k (suc n) e =
+    let less : n ≡ length xs + k = omega arith in
+    slice_get-behind xs ys k n less
 
 one_at_least : (k : Kind) → 1 ≤ width k
 one_at_least Ref = omega arith

@@ -1,10 +1,11 @@
 -- What entries name is there.
-use Rattle.std.proofs.Common.{◌≡◌, ℕ, zero, suc, ◌<◌, ◌≤◌, ◌-◌, Bool, true, false, cond, List, [], ◌∷◌, ◌++◌, length, Option, Some, None, refl, sym, subst, ◌∙◌, option_and_then, slice_get, nat_lt, IfSome, Contains, arith}
-use Rattle.std.proofs.lemmas.List.{length-map}
+use Rattle.std.proofs.Common.{◌≡◌, ℕ, zero, suc, ◌<◌, ◌≤◌, ◌-◌, Bool, true, false, cond, List, [], ◌∷◌, ◌++◌, length, Option, Some, None, refl, sym, subst, ◌∙◌, option_and_then, slice_get, nat_lt, IfSome, Contains, All, arith}
+use Rattle.std.specs.Option.{option_to_list}
+use Rattle.std.proofs.lemmas.List.{append-nil, length-map}
 use Rattle.std.proofs.lemmas.Bool.Decides.{nat_tests}
 use Rattle.std.proofs.lemmas.Option.{slice_get-get_or}
 use Rattle.jc_base.proofs.Lists.{slice_get-below}
-use Rattle.std.proofs.lemmas.List.Elements.{Contains-append_left, Contains-append_right}
+use Rattle.std.proofs.lemmas.List.Elements.{All-push, Contains-append_left, Contains-append_right}
 use Rattle.cap_package.specs.PackageRecord.{PackageRecord}
 use Rattle.jc_base.specs.declared.record.Member.{Member}
 use Rattle.jc_base.specs.declared.record.MethodRec.{MethodRec}
@@ -40,6 +41,11 @@ method_there ps place (Some n) e = subst (λ len. n < len) (length-map (numbered
 
 pub counted : (ps : List PackageRecord) (n : ℕ) → n ≡ class_total ps → n ≡ length (numbered_classes ps)
 counted ps n e = e ∙ sym (classes_total ps)
+
+-- one more member, if there is one
+pub All_kept : (P : Member → Type 0) (ms ns : List Member) (o : Option Member) → ns ≡ ms ++ option_to_list o → All P ms → IfSome o P → All P ns
+All_kept P ms ns None e all h = subst (λ (xs : List Member). All P xs) (sym (e ∙ append-nil ms)) all
+All_kept P ms ns (Some m) e all h = subst (λ (xs : List Member). All P xs) (sym e) (All-push P ms m all h)
 
 -- ---- dispatch lists
 

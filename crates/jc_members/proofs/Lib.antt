@@ -6,3 +6,10 @@ pub mod Counted
 pub mod Told
 pub mod Behind
 pub mod Concretes
+pub mod TokenCells
+pub mod OwnCells
+pub mod NumberedFields
+pub mod OwnRecords
+pub mod FieldTypes
+pub mod FieldsLinked
+pub mod MembersLinked

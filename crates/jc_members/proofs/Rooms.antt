@@ -1,6 +1,7 @@
 -- The cells of fields, and tables of the fields of several classes.
-use Rattle.std.proofs.Common.{◌≡◌, ℕ, ◌+◌, ◌≤◌, Bool, true, false, cond, List, [], ◌∷◌, ◌++◌, Option, Some, None, slice_get, nat_lt, filter, refl, ap, arith, if◌then◌else◌}
+use Rattle.std.proofs.Common.{◌≡◌, ℕ, ◌+◌, ◌≤◌, ◌<◌, Bool, true, false, cond, List, [], ◌∷◌, ◌++◌, Option, Some, None, slice_get, nat_lt, filter, refl, ap, arith, if◌then◌else◌}
 use Rattle.std.proofs.lemmas.List.Sums.{sum_by-cons, fold-append}
+use Rattle.std.proofs.lemmas.Bool.Decides.{nat_tests}
 use Rattle.jc_base.specs.declared.record.Member.{Member}
 use Rattle.jc_base.specs.declared.record.ClassRec.{ClassRec}
 use Rattle.jc_base.specs.Class.{ClassTable, is_interface, is_interface_record, parent_of, parent_in_record}
@@ -18,16 +19,16 @@ counted false f fs = omega arith
 pub taken_before : (f : OwnField) (fs : List OwnField) (token : ℕ) → cells_before (f ∷ fs) token ≡ (if nat_lt f.token token then width f.kind else 0) + cells_before fs token
 taken_before f fs token = counted (nat_lt f.token token) f (filter (λ (g : OwnField). nat_lt g.token token) fs)
 
-at_most : (b : Bool) (n : ℕ) → cond b n 0 ≤ n
-at_most true n = omega arith
-at_most false n = omega arith
+further : (w n token : ℕ) → token < 256 → cond (nat_lt n token) w 0 ≤ cond (nat_lt n 256) w 0
+further w n token lt = grind (arith, nat_tests)
 
-pub before_most : (fs : List OwnField) (token : ℕ) → cells_before fs token ≤ cells_taken fs
-before_most [] token = omega arith
-before_most (f ∷ fs) token =
-    let here = at_most (nat_lt f.token token) (width f.kind) in
-    let others = before_most fs token in
-    omega (arith, here, others, taken_before f fs token, sum_by-cons (λ (g : OwnField). width g.kind) f fs)
+-- the fields whose tokens are bytes have the most cells
+pub before_most : (fs : List OwnField) (token : ℕ) → token < 256 → cells_before fs token ≤ cells_before fs 256
+before_most [] token lt = omega arith
+before_most (f ∷ fs) token lt =
+    let here = further (width f.kind) f.token token lt in
+    let others = before_most fs token lt in
+    omega (arith, here, others, taken_before f fs token, taken_before f fs 256)
 
 pub entered_both : (xs ys : List Site) (es : List (Spot × Option Member)) → all_entered es (xs ++ ys) ≡ all_entered (all_entered es xs) ys
 entered_both xs ys es = fold-append entered es xs ys

@@ -71,8 +71,9 @@ field_sites ps t = sites_behind ps t 0 0 ps
 
 -- ---- an instance of each class has room for its fields
 
+-- its fields are those whose tokens are bytes, below 256
 abbrev pub HasRoom : ClassTable → ℕ → List OwnField → Type 0
-HasRoom t c fields = cells_above t (parent_of t c) + cells_taken fields ≤ 32767
+HasRoom t c fields = cells_above t (parent_of t c) + cells_before fields 256 ≤ 32767
 
 abbrev pub HaveRoomIn : List PackageRecord → ClassTable → ℕ → PackageRecord → ℕ → List Class → Type 0
 HaveRoomIn ps t k p c [] = Unit {0}

@@ -4,7 +4,7 @@ ghost use Rattle.jc_base.specs.Class.{IsClass};
 ghost use Rattle.jc_base.specs.Dispatch.{entry_at, package_of};
 ghost use Rattle.jc_names.specs.Numbering.{numbered_classes};
 ghost use Rattle.jc_members.specs.Sites.{all_entered};
-ghost use Rattle.jc_members.specs.Entries.{class_in, exported_field, exported_method, own_place, field_place, method_place};
+ghost use Rattle.jc_members.specs.Entries.{class_in, token_in, exported_field, exported_method, own_place, field_place, method_place};
 ghost use Rattle.jc_members.specs.Members.{class_member, proper_in, virtual_member, may_name, super_of, super_member, static_sites, static_at, static_member, call_member};
 
 use crate::sites::{Sites, Spot};
@@ -20,6 +20,13 @@ pub(crate) fn class_in(names: &Names<'_, '_, '_>, package: u16, entry: PoolEntry
     ensures below { IfSome result (λ c. c < length (numbered_classes names.now.packages)) }
 {
     names.class_named(package, entry.bytes[0] as u16 * 256 + entry.bytes[1] as u16)
+}
+
+/// The token of an instance field or of a method with dispatch.
+pub(crate) fn token_in(entry: PoolEntry) -> u8
+    ensures { result ≡ token_in (entry_seen entry) }
+{
+    entry.bytes[2]
 }
 
 /// The class or interface that a Classref names.
@@ -86,7 +93,7 @@ pub(crate) fn virtual_member(
     ensures { result ≡ virtual_member names.now.packages classes.now «package» (entry_seen entry) }
 {
     let class = proper_in(names, classes, package, entry)?;
-    let token = entry.bytes[2];
+    let token = token_in(entry);
     let _method = entry_at(classes, class, token)?;
     Some(Member::Virtual { class, token })
 }
@@ -134,7 +141,7 @@ pub(crate) fn super_member(
     ensures { result ≡ super_member names.now.packages classes.now «package» (entry_seen entry) }
 {
     let class = proper_in(names, classes, package, entry)?;
-    super_of(classes, class, entry.bytes[2])
+    super_of(classes, class, token_in(entry))
 }
 
 /// The offset of a static field that a package exports, by its class's token and its own.

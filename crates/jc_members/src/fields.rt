@@ -9,7 +9,7 @@ ghost use Rattle.jc_members.specs.Fields.{HasRoom, HaveRoomIn, HaveRoom, class_s
 ghost use Rattle.jc_members.specs.Sites.{all_entered};
 ghost use Rattle.jc_members.specs.Members.{as_of, kept_holder, kept_field, field_member};
 
-use crate::entries::proper_in;
+use crate::entries::{proper_in, token_in};
 use crate::own_field::{OwnField, cells_before, own_fields};
 use crate::sites::{Sites, Spot};
 use cap_package::Package;
@@ -94,7 +94,6 @@ pub(crate) fn field_sites(
     classes: &Classes,
 ) -> Result<Sites, AllocError>
     requires object { object classes.now ≡ slice_index names.now.roles 0 }
-    requires many { length names.now.packages ≤ 16 }
     requires few { length classes.now.records ≤ 4096 }
     requires count { length classes.now.records ≡ class_total names.now.packages }
     requires room { HaveRoom names.now.packages classes.now }
@@ -173,5 +172,5 @@ pub(crate) fn field_member(
     ensures { result ≡ field_member names.now.packages classes.now «package» (entry_seen entry) }
 {
     let class = proper_in(names, classes, package, entry)?;
-    field_of(classes, sites, class, entry.bytes[2])
+    field_of(classes, sites, class, token_in(entry))
 }

@@ -5,7 +5,7 @@ ghost use Rattle.cap_desc.specs.MemberLists.{fields_left};
 ghost use Rattle.cap_desc.specs.MemberRecords.{field_seen};
 ghost use Rattle.cap_package.specs.Descriptions.{description};
 ghost use Rattle.jc_base.specs.Cell.{width};
-ghost use Rattle.jc_members.specs.Fields.{kind_of, own_field, fields_in, own_fields, cells_taken, cells_before};
+ghost use Rattle.jc_members.specs.Fields.{kind_of, own_field, fields_in, own_fields, cells_before};
 
 use cap_class::ClassInfo;
 use cap_desc::{DescClass, DescFields, DescPart, FieldInfo, TypeItem};
@@ -134,9 +134,9 @@ pub(crate) fn own_fields(
 /// The cells of the fields of lesser tokens.
 #[tactic(auto, using(crate::proofs::Rooms::taken_before, crate::proofs::Rooms::before_most))]
 pub(crate) fn cells_before(fields: &Vec<OwnField>, token: u8) -> u32
-    requires { cells_taken fields.now.items ≤ 32767 }
+    requires { cells_before fields.now.items 256 ≤ 32767 }
     ensures is { result ≡ cells_before fields.now.items token }
-    ensures most { result ≤ cells_taken fields.now.items }
+    ensures most { result ≤ cells_before fields.now.items 256 }
 {
     let mut cells: u32 = 0;
     'fields: for field in fields.as_slice() {

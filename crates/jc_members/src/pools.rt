@@ -1,17 +1,19 @@
-ghost use Rattle.std.specs.Prelude.{◌≡◌, ◌+◌, ◌≤◌, [], ◌++◌, All, IfOk, Some, None, is_none, filter_map, if◌then◌else◌, length, slice_index};
+ghost use Rattle.std.specs.Prelude.{◌≡◌, ◌≤◌, [], ◌++◌, All, IfOk, IfSome, OnOk, Some, None, is_none, filter_map, if◌then◌else◌, length, slice_index};
+ghost use Rattle.std.specs.Option.{option_to_list};
 ghost use Rattle.cap_pool.specs.Pool.{entries, entry_seen};
+ghost use Rattle.jc_base.specs.Linked.{AreLinkedClasses, IsMember};
 ghost use Rattle.jc_names.specs.Counts.{class_total};
 ghost use Rattle.jc_names.specs.declared.fault.LinkFault.TheVariants.{NoMember};
 ghost use Rattle.jc_names.specs.Fault.{place_of};
 ghost use Rattle.jc_names.specs.FirstFault.{least_from, least_of};
-ghost use Rattle.jc_base.specs.Class.{object};
-ghost use Rattle.jc_base.specs.Linked.{AreLinkedClasses};
-ghost use Rattle.jc_members.specs.Fields.{HasCellsOf, HaveRoom, field_sites};
+ghost use Rattle.jc_members.specs.Fields.{HasCellsOf, field_sites};
 ghost use Rattle.jc_members.specs.Sites.{all_entered};
 ghost use Rattle.jc_members.specs.Members.{static_sites, member_of};
 ghost use Rattle.jc_members.specs.Pools.{places_from, pool_places, member_fault, pools, pools_of, IsDue, Tells};
 
-use crate::entries::{call_member, class_member, static_member, super_member, virtual_member};
+use crate::entries::{
+    call_member, class_member, static_member, super_member, token_in, virtual_member,
+};
 use crate::fields::{field_member, field_sites};
 use crate::sites::{Sites, static_sites};
 use cap_pool::{Pool, PoolEntry};
@@ -26,9 +28,9 @@ struct Tables {
     fields: Sites,
 }
 
-/// The member that an entry of a package names.
+/// The member that an entry of a package names, by its tag.
 #[tactic(auto, unfolding(crate::specs::Members::member_of), using(crate::proofs::Known::counted))]
-fn member_of(
+fn member_by_tag(
     names: &Names<'_, '_, '_>,
     classes: &Classes,
     statics: &Statics,
@@ -51,6 +53,30 @@ fn member_of(
     }
 }
 
+/// The member that an entry of a package names: it is there.
+fn member_of(
+    names: &Names<'_, '_, '_>,
+    classes: &Classes,
+    statics: &Statics,
+    tables: &Tables,
+    package: u16,
+    entry: PoolEntry,
+) -> Option<Member>
+    requires cells { HasCellsOf names.now.classes (slice_index names.now.roles 0) classes.now }
+    requires linked { AreLinkedClasses (length names.now.packages) classes.now names.now.methods }
+    requires statics { tables.now.statics ≡ all_entered [] (static_sites statics.now) }
+    requires fields { tables.now.fields ≡ all_entered [] (field_sites names.now.packages classes.now) }
+    ensures is { result ≡ member_of names.now.packages classes.now statics.now «package» (entry_seen entry) }
+    ensures linked { IfSome result (IsMember classes.now names.now.methods statics.now) }
+{
+    // These are read for what is known of them: a token, for one, is a byte.
+    let _classes = names.classes();
+    let _methods = names.methods();
+    let _records = classes.records();
+    let _token = token_in(entry);
+    member_by_tag(names, classes, statics, tables, package, entry)
+}
+
 /// What is wrong with an entry, where it has no member.
 fn missing(package: u16, number: u16, member: Option<Member>) -> Option<LinkFault>
     ensures { result ≡ if is_none member then Some (NoMember «package» number) else None }
@@ -61,11 +87,21 @@ fn missing(package: u16, number: u16, member: Option<Member>) -> Option<LinkFaul
     }
 }
 
-/// Appends what the entries of a package's pool name, and gives the least fault so far: an entry that has
-/// not exactly one member.
-#[tactic(auto, unfolding(crate::specs::Pools::member_fault))]
-fn push_members(
-    members: &mut Vec<Member>,
+/// Keeps what an entry names.
+fn keep(members: &mut Vec<Member>, member: Option<Member>) -> Result<(), AllocError>
+    ensures { OnOk result (members.new.items ≡ members.old.items ++ option_to_list member) }
+{
+    if let Some(member) = member {
+        members.push(member)?;
+    }
+    Ok(())
+}
+
+/// What the entries of a package's pool name, and the least fault so far: an entry that has not exactly one
+/// member.
+#[tactic(auto, unfolding(crate::specs::Pools::member_fault), using(crate::proofs::Known::All_kept))]
+fn pool_members(
+    alloc: Global,
     names: &Names<'_, '_, '_>,
     classes: &Classes,
     statics: &Statics,
@@ -73,26 +109,26 @@ fn push_members(
     package: u16,
     pool: &Pool<'_>,
     least: Option<LinkFault>,
-) -> Result<Option<LinkFault>, AllocError>
-    requires count { length classes.now.records ≡ class_total names.now.packages }
+) -> Result<(Vec<Member>, Option<LinkFault>), AllocError>
+    requires cells { HasCellsOf names.now.classes (slice_index names.now.roles 0) classes.now }
+    requires linked { AreLinkedClasses (length names.now.packages) classes.now names.now.methods }
     requires statics { tables.now.statics ≡ all_entered [] (static_sites statics.now) }
     requires fields { tables.now.fields ≡ all_entered [] (field_sites names.now.packages classes.now) }
-    ensures fault { IfOk result (λ least_then. least_then ≡ least_from place_of least (member_fault names.now.packages classes.now statics.now) (places_from «package» 0 (entries pool.now))) }
-    ensures few { IfOk result (λ _. length members.new.items ≤ length members.old.items + length (entries pool.now)) }
-    ensures members { IfOk result (λ _. members.new.items ≡ members.old.items ++ filter_map (member_of names.now.packages classes.now statics.now «package») (entries pool.now)) }
+    ensures fault { IfOk result (λ r. r.1 ≡ least_from place_of least (member_fault names.now.packages classes.now statics.now) (places_from «package» 0 (entries pool.now))) }
+    ensures members { IfOk result (λ r. r.0.items ≡ filter_map (member_of names.now.packages classes.now statics.now «package») (entries pool.now)) }
+    ensures linked { IfOk result (λ r. All (IsMember classes.now names.now.methods statics.now) r.0.items) }
+    ensures few { IfOk result (λ r. length r.0.items ≤ 65535) }
 {
-    let _count = pool.count();
+    let mut members = Vec::with_capacity(alloc, pool.count() as usize)?;
     let mut least = least;
     let mut number: u16 = 0;
     'entries: for entry in pool.iter() {
         let member = member_of(names, classes, statics, tables, package, entry);
         least = lesser(least, missing(package, number, member));
-        if let Some(member) = member {
-            members.push(member)?;
-        }
+        keep(&mut members, member)?;
         number += 1;
     }
-    Ok(least)
+    Ok((members, least))
 }
 
 /// What the entries of all pools name, and the least entry that has not exactly one member.
@@ -104,29 +140,23 @@ fn named(
     statics: &Statics,
     tables: &Tables,
 ) -> Result<(Pools, Option<LinkFault>), AllocError>
-    requires many { length names.now.packages ≤ 16 }
-    requires count { length classes.now.records ≡ class_total names.now.packages }
+    requires cells { HasCellsOf names.now.classes (slice_index names.now.roles 0) classes.now }
+    requires linked { AreLinkedClasses (length names.now.packages) classes.now names.now.methods }
     requires statics { tables.now.statics ≡ all_entered [] (static_sites statics.now) }
     requires fields { tables.now.fields ≡ all_entered [] (field_sites names.now.packages classes.now) }
-    ensures few { IfOk result (λ r. All (λ pool. length pool ≤ 65535) r.0) }
     ensures pools { IfOk result (λ r. r.0 ≡ pools names.now.packages classes.now statics.now) }
     ensures fault { IfOk result (λ r. r.1 ≡ least_of place_of (member_fault names.now.packages classes.now statics.now) (pool_places names.now.packages)) }
+    ensures linked { IfOk result (λ r. All (All (IsMember classes.now names.now.methods statics.now)) r.0) }
+    ensures few { IfOk result (λ r. All (λ pool. length pool ≤ 65535) r.0) }
 {
     let mut pools = Vec::with_capacity(alloc, names.packages().len())?;
     let mut least = None;
     'packages: for (k, package) in names.packages().as_slice().iter().enumerate() {
         let pool = package.pool();
-        let mut members = Vec::with_capacity(alloc, pool.count() as usize)?;
-        least = push_members(
-            &mut members,
-            names,
-            classes,
-            statics,
-            tables,
-            k as u16,
-            &pool,
-            least,
+        let (members, least_then) = pool_members(
+            alloc, names, classes, statics, tables, k as u16, &pool, least,
         )?;
+        least = least_then;
         pools.push(Items::of(members))?;
     }
     Ok((Items::of(pools), least))
@@ -140,14 +170,13 @@ fn pools_of(
     classes: &Classes,
     statics: &Statics,
 ) -> Result<Pools, LinkEnd>
-    requires object { object classes.now ≡ slice_index names.now.roles 0 }
-    requires many { length names.now.packages ≤ 16 }
-    requires few { length classes.now.records ≤ 4096 }
-    requires count { length classes.now.records ≡ class_total names.now.packages }
-    requires room { HaveRoom names.now.packages classes.now }
+    requires cells { HasCellsOf names.now.classes (slice_index names.now.roles 0) classes.now }
+    requires linked { AreLinkedClasses (length names.now.packages) classes.now names.now.methods }
     ensures value { IsDue (pools_of names.now.packages classes.now statics.now) result }
+    ensures linked { IfOk result (λ pools. All (All (IsMember classes.now names.now.methods statics.now)) pools) }
     ensures few { IfOk result (λ pools. All (λ pool. length pool ≤ 65535) pools) }
 {
+    let _classes = names.classes();
     let tables = Tables {
         statics: static_sites(alloc, statics)?,
         fields: field_sites(alloc, names, classes)?,
@@ -164,18 +193,15 @@ pub fn members(
     classes: &Classes,
     statics: &Statics,
 ) -> Result<Pools, LinkEnd>
-    requires many { length names.now.packages ≤ 16 }
-    requires few { length names.now.classes ≤ 4096 }
     requires cells { HasCellsOf names.now.classes (slice_index names.now.roles 0) classes.now }
     requires linked { AreLinkedClasses (length names.now.packages) classes.now names.now.methods }
-    requires room { HaveRoom names.now.packages classes.now }
     ensures value { IsDue (pools_of names.now.packages classes.now statics.now) result }
     // The pools exactly where each entry has one member; else the least entry that has not.
     ensures tells { Tells names.now.packages classes.now statics.now result }
-    // As many as there are packages, each with as many members as a pool can have.
+    // What is named is there.
+    ensures linked { IfOk result (λ pools. All (All (IsMember classes.now names.now.methods statics.now)) pools) }
     ensures each { IfOk result (λ pools. length pools ≡ length names.now.packages) }
     ensures few { IfOk result (λ pools. All (λ pool. length pool ≤ 65535) pools) }
 {
-    let _numbered = names.classes();
     pools_of(alloc, names, classes, statics)
 }

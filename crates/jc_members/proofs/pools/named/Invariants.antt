@@ -1,6 +1,5 @@
-use Rattle.std.proofs.Common.{◌≡◌, ◌≤◌, ◌++◌, List, drop, length}
-use Rattle.std.specs.Prelude.{All}
-use Rattle.jc_base.specs.declared.record.Member.{Member}
+use Rattle.std.proofs.Common.{◌≡◌, ◌≤◌, ◌++◌, All, drop, length}
+use Rattle.jc_base.specs.Linked.{IsMember}
 use Rattle.jc_names.specs.Fault.{place_of}
 use Rattle.jc_names.specs.FirstFault.{least_from, least_of}
 use Rattle.jc_members.specs.Members.{member_of}
@@ -11,6 +10,7 @@ abbrev pub invariant-packages : goal.invariant-packages
 invariant-packages l = record {
   fault : least_from place_of l.least (member_fault l.names.packages l.classes l.statics) (places_behind l.k (drop l.k l.names.packages))
       ≡ least_of place_of (member_fault l.names.packages l.classes l.statics) (pool_places l.names.packages);
-  few : All (λ (pool : List Member). length pool ≤ 65535) l.pools.items;
   pools : l.pools.items ++ pools_behind (member_of l.names.packages l.classes l.statics) l.k (drop l.k l.names.packages) ≡ pools l.names.packages l.classes l.statics;
+  linked : All (All (IsMember l.classes l.names.methods l.statics)) l.pools.items;
+  few : All (λ pool. length pool ≤ 65535) l.pools.items;
 }
