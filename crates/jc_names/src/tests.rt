@@ -165,31 +165,36 @@ fn told_of_one(alloc: Global, first: &OwnedParts) -> (u32, usize, usize) {
 }
 
 /// What the readers of names tell of the second of two packages.
-fn looked_up(answer: Result<Names<'_, '_, '_>, LinkEnd>) -> (usize, u16, u16, u16) {
+fn looked_up(answer: Result<Names<'_, '_, '_>, LinkEnd>) -> (usize, u16, u16, u16, usize) {
     match answer {
         Ok(names) => (
             names.packages().len(),
             names.import_met(1, 0).unwrap_or(99),
             names.class_named(1, 12).unwrap_or(99),
             names.method_at(1, 7).unwrap_or(99),
+            names.into_methods().len(),
         ),
-        Err(_) => (0, 0, 0, 0),
+        Err(_) => (0, 0, 0, 0, 0),
     }
 }
 
 /// The same of two packages.
-fn looked_up_in(alloc: Global, first: &OwnedParts, second: &OwnedParts) -> (usize, u16, u16, u16) {
+fn looked_up_in(
+    alloc: Global,
+    first: &OwnedParts,
+    second: &OwnedParts,
+) -> (usize, u16, u16, u16, usize) {
     let one = match first.lend(alloc) {
         Ok(parts) => parts,
-        Err(_) => return (0, 0, 0, 6),
+        Err(_) => return (0, 0, 0, 6, 0),
     };
     let other = match second.lend(alloc) {
         Ok(parts) => parts,
-        Err(_) => return (0, 0, 0, 6),
+        Err(_) => return (0, 0, 0, 6, 0),
     };
     let mut packages = Packages::new(alloc);
     if !push(&mut packages, &one) || !push(&mut packages, &other) {
-        return (0, 0, 0, 6);
+        return (0, 0, 0, 6, 0);
     }
     looked_up(names(alloc, &packages, ROLES))
 }
@@ -204,5 +209,5 @@ fn the_names_of_one_package_and_of_one_that_imports_it(rt: HostRuntime) {
     assert_eq!(rt; told_of_one(alloc, &first), (0, 8, 2));
     assert_eq!(rt; told_of_two(alloc, &first, &second), (0, 16, 4));
     assert_eq!(rt; told_of_two(alloc, &second, &first), (43, 0, 0));
-    assert_eq!(rt; looked_up_in(alloc, &first, &second), (2, 0, 9, 3));
+    assert_eq!(rt; looked_up_in(alloc, &first, &second), (2, 0, 9, 3, 4));
 }
