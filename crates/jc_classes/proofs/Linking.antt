@@ -141,7 +141,7 @@ overlaid_longer k inherited own e =
 
 -- ---- types of own cells
 
-interface_is : (t : ClassTable) (classes : List NamedClass) (c : ℕ) → IsOutline t classes → is_interface t c ≡ named.is_interface classes c
+pub interface_is : (t : ClassTable) (classes : List NamedClass) (c : ℕ) → IsOutline t classes → is_interface t c ≡ named.is_interface classes c
 unfolding is_interface named.is_interface
 interface_is t classes c o = ap is_interface_record (outline_at t classes c o) ∙ by (slice_get classes c) where
   by : (k : Option NamedClass) → is_interface_record (option_map (λ x. outlined x) k) ≡ named.interface_by k
@@ -154,7 +154,7 @@ type_class t classes c o are known (inr h) =
     let number : c < length t.records = omega (arith, known.count, h.0) in
     class-alike t (class_tables t classes) (tables-alike t classes o) c (record { number = number; class = interface_is t classes c o ∙ h.1 })
 
-declared_by : (t : ClassTable) (classes : List NamedClass) → IsOutline t classes → AreClasses t → AreKnown t classes → (ty : Ty) → named.IsDeclared classes (object t) ty → IsDeclared (class_tables t classes) ty
+pub declared_by : (t : ClassTable) (classes : List NamedClass) → IsOutline t classes → AreClasses t → AreKnown t classes → (ty : Ty) → named.IsDeclared classes (object t) ty → IsDeclared (class_tables t classes) ty
 declared_by t classes o are known Bottom h = h
 declared_by t classes o are known Short h = h
 declared_by t classes o are known IntHigh h = h

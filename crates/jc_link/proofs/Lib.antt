@@ -1,0 +1,9 @@
+pub mod Tables
+pub mod Steps
+pub mod Asked
+pub mod Faultless
+pub mod Handlers
+pub mod Methods
+pub mod Fields
+pub mod Roles
+pub mod Worlds

@@ -1,5 +1,5 @@
 -- The world that packages and the roles of classes make (JCVM 2.2, chapters 4 and 6): each class reference, import and pool entry replaced by the one class, package or member that it names, where none of the conditions on linking is broken.
-use Rattle.std.specs.Prelude.{◌≡◌, ℕ, List, [], ◌∷◌, ◌++◌, length, map, Result, Ok, Err, slice_index}
+use Rattle.std.specs.Prelude.{◌≡◌, ℕ, List, [], ◌∷◌, ◌++◌, length, Result, Ok, Err, slice_index}
 use Rattle.std.specs.Option.{option_to_list}
 use Rattle.cap_package.specs.PackageRecord.{PackageRecord}
 use Rattle.jc_base.specs.declared.record.MethodRec.{MethodRec}
@@ -15,6 +15,7 @@ use Rattle.jc_names.specs.FirstFault.{IsFirst, AllEmpty}
 use Rattle.jc_names.specs.NamedClasses.{named_classes}
 use Rattle.jc_names.specs.NamedMethods.{named_methods}
 use Rattle.jc_names.specs.WorldTypes.{type_of}
+use Rattle.jc_names.specs.Named.{infos_of}
 use Rattle.jc_names.specs.Conditions as names
 use Rattle.jc_lineage.specs.Conditions as lineage
 use Rattle.jc_lineage.specs.Outline.{outline}
@@ -45,10 +46,6 @@ methods_of = named_methods
 abbrev pub statics_of : List PackageRecord → List ℕ → List StaticRec
 statics_of ps roles = static_records (type_of ps (slice_index roles 0)) ps
 
--- the Method info of each package
-abbrev pub infos_of : List PackageRecord → List (List ℕ)
-infos_of = map (λ (p : PackageRecord). p.methods.info)
-
 -- a world is that of packages and roles
 pub record AreListsOf (ps : List PackageRecord) (roles : List ℕ) (w : Linked) : Type 0 where
   pub infos : w.infos ≡ infos_of ps
@@ -66,16 +63,25 @@ abbrev pub first_classes : List PackageRecord → ℕ
 first_classes [] = 0
 first_classes (p ∷ ps) = length p.classes
 
-abbrev pub conditions : List PackageRecord → List ℕ → List (List LinkFault)
-conditions ps roles =
+-- those on classes, which a table of classes meets
+abbrev pub class_conditions : List PackageRecord → List ℕ → List (List LinkFault)
+class_conditions ps roles =
+    -- superclasses, roles and interfaces
+    lineage.conditions (classes_of ps roles) (first_classes ps) roles
+    -- dispatch lists and instances
+    ++ classes.conditions (lineage_of ps roles) (classes_of ps roles) (methods_of ps roles)
+
+abbrev pub table_conditions : List PackageRecord → List ℕ → List (List LinkFault)
+table_conditions ps roles =
     -- numbers, imports and class references
     names.conditions ps
-    -- superclasses, roles and interfaces
-    ++ (lineage.conditions (classes_of ps roles) (first_classes ps) roles
-    -- dispatch lists and instances
-    ++ (classes.conditions (lineage_of ps roles) (classes_of ps roles) (methods_of ps roles)
+    ++ class_conditions ps roles
+
+-- those on what stands on the classes
+abbrev pub member_conditions : List PackageRecord → List ℕ → List (List LinkFault)
+member_conditions ps roles =
     -- static cells
-    ++ (option_to_list (statics_fault ps)
+    option_to_list (statics_fault ps)
     -- pool entries that have not exactly one member
     ∷ missing_members ps (table_of ps roles) (statics_of ps roles)
     -- handlers that catch no class below throwable
@@ -84,9 +90,24 @@ conditions ps roles =
     ∷ option_to_list (arrays_fault ps)
     -- roles whose class is abstract
     ∷ abstract_roles (table_of ps roles) (methods_of ps roles)
-    ∷ [])))
+    ∷ []
+
+abbrev pub conditions : List PackageRecord → List ℕ → List (List LinkFault)
+conditions ps roles = table_conditions ps roles ++ member_conditions ps roles
+
+-- an answer where nothing of these conditions is at fault; else the first condition by number that is broken, at its least thing
+abbrev pub TellsFirst : {A : Type 0} → List (List LinkFault) → Result A LinkEnd → Type 0
+TellsFirst lists (Ok x) = AllEmpty lists
+TellsFirst lists (Err (Fault fault)) = IsFirst place_of lists fault
+TellsFirst lists (Err Memory) = Unit {0}
 
 -- ---- the definition
+
+-- the table of the classes exactly where nothing is at fault with classes; else the first condition by number that is broken, at its least thing
+abbrev pub TableTells : List PackageRecord → List ℕ → Result ClassTable LinkEnd → Type 0
+TableTells ps roles (Ok t) = (t ≡ table_of ps roles) × AllEmpty (table_conditions ps roles)
+TableTells ps roles (Err (Fault fault)) = IsFirst place_of (table_conditions ps roles) fault
+TableTells ps roles (Err Memory) = Unit {0}
 
 -- packages and roles make this world
 pub record IsLinked (ps : List PackageRecord) (roles : List ℕ) (w : Linked) : Type 0 where

@@ -1,17 +1,19 @@
-ghost use Rattle.std.specs.Prelude.{◌≡◌, IfOk};
-ghost use Rattle.jc_link.specs.World.{infos_of};
+ghost use Rattle.std.specs.Prelude.{◌≡◌, ◌≤◌, length, IfOk, All};
+ghost use Rattle.jc_names.specs.Named.{infos_of};
 
 use cap_package::Packages;
 use jc_base::Infos;
 use std::alloc::{AllocError, Global};
 
 /// The infos of the packages' Method components, in order, borrowed from the packages.
-pub fn infos<'a>(alloc: Global, packages: &Packages<'_, 'a>) -> Result<Infos<'a>, AllocError>
-    ensures { IfOk result (λ infos. infos ≡ infos_of packages.now) }
+pub(crate) fn infos<'a>(alloc: Global, packages: &Packages<'_, 'a>) -> Result<Infos<'a>, AllocError>
+    ensures are { IfOk result (λ infos. infos ≡ infos_of packages.now) }
+    ensures few { IfOk result (All (λ info. length info ≤ 65535)) }
 {
     let mut infos = Infos::new(alloc);
     'packages: for package in packages.as_slice() {
-        infos.push(package.methods().info().bytes)?;
+        let methods = package.methods();
+        infos.push(methods.info().bytes)?;
     }
     Ok(infos)
 }

@@ -60,9 +60,9 @@ module _ (t : ClassTable) (methods : List MethodRec) (c : ℕ) where
   not-false true e = absurd (true≢false (sym e))
   not-false false e = refl
 
-  from : c < length t.records → is_concrete t methods c ≡ true → IsConcrete t methods c
+  pub concrete-from : c < length t.records → is_concrete t methods c ≡ true → IsConcrete t methods c
   unfolding is_concrete
-  from known h =
+  concrete-from known h =
       let first = both (not (is_interface t c)) (list_all (has_body methods) (public_of t c) && list_all (visible_bodies t methods c) (chain t c)) h in
       let second = both (list_all (has_body methods) (public_of t c)) (list_all (visible_bodies t methods c) (chain t c)) first.1 in
       record {
@@ -81,4 +81,4 @@ same-tests false true f g = g refl
 same-tests false false f g = refl
 
 pub concrete_told : (t : ClassTable) (methods : List MethodRec) (c : ℕ) (b : Bool) → c < length t.records → IsTrue b ↔ IsConcrete t methods c → b ≡ is_concrete t methods c
-concrete_told t methods c b known h = same-tests b (is_concrete t methods c) (λ e. to t methods c (h.0 e)) (λ e. h.1 (from t methods c known e))
+concrete_told t methods c b known h = same-tests b (is_concrete t methods c) (λ e. to t methods c (h.0 e)) (λ e. h.1 (concrete-from t methods c known e))

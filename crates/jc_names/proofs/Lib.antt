@@ -1,6 +1,7 @@
 pub mod LeastFaults
 pub mod FirstTold
 pub mod Totals
+pub mod ConditionLists
 pub mod NumberLaws
 pub mod NamedFaults
 pub mod Parts

@@ -1,6 +1,7 @@
-use Rattle.std.proofs.Common.{◌≡◌, take}
-use Rattle.jc_link.specs.World.{infos_of}
+use Rattle.std.proofs.Common.{◌≡◌, ◌≤◌, take, length}
+use Rattle.std.specs.Prelude.{All}
+use Rattle.jc_names.specs.Named.{infos_of}
 use Rattle.jc_link.proofs.method_infos.infos.Given as goal
 
 abbrev pub invariant-packages : goal.invariant-packages
-invariant-packages l = l.infos ≡ infos_of (take l.package-index l.packages)
+invariant-packages l = record { are : l.infos ≡ infos_of (take l.package-index l.packages); few : All (λ info. length info ≤ 65535) l.infos }

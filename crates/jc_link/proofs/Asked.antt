@@ -1,0 +1,87 @@
+-- The conditions on what stands on the classes, asked one after the other.
+use Rattle.std.proofs.Common.{◌≡◌, ℕ, List, [], Ok, Err, sym, ap, subst, ◌∙◌, inl, inr}
+use Rattle.std.specs.Prelude.{All}
+use Rattle.std.specs.Option.{option_to_list}
+use Rattle.cap_package.specs.PackageRecord.{PackageRecord}
+use Rattle.jc_base.specs.declared.record.Member.{Member}
+use Rattle.jc_base.specs.declared.record.MethodRec.{MethodRec}
+use Rattle.jc_base.specs.declared.record.StaticRec.{StaticRec}
+use Rattle.jc_base.specs.Class.{ClassTable}
+use Rattle.jc_base.specs.Linked.{IsMember}
+use Rattle.jc_names.specs.declared.fault.LinkFault.{LinkFault}
+use Rattle.jc_names.specs.Fault.{place_of}
+use Rattle.jc_names.specs.Names.{NamesRecord}
+use Rattle.jc_names.specs.FirstFault.{least_of, refused, IsLeast, IsFirst, AllEmpty}
+use Rattle.jc_names.proofs.ConditionLists.{things-refused, things-none, one-refused, one-none}
+use Rattle.jc_statics.specs.Room.{statics_fault, arrays_fault}
+use Rattle.jc_members.specs.Pools.{pools, missing_members}
+use Rattle.jc_members.specs.Catches.{catch_fault, handler_places, bad_catches}
+use Rattle.jc_members.specs.Roles.{role_fault, thrown_roles, abstract_roles}
+use Rattle.jc_link.specs.World.{table_of, methods_of, statics_of, member_conditions}
+use Rattle.jc_link.specs.Known.{AreNamesOf, IsTableOf}
+use Rattle.jc_link.proofs.Steps.{methods-are}
+
+-- what is asked, and of what
+pub record AreAsked (ps : List PackageRecord) (roles : List ℕ) (qs : List PackageRecord) (t : ClassTable) (methods : List MethodRec) : Type 0 where
+  pub packages : qs ≡ ps
+  pub table : IsTableOf ps roles t
+  pub methods_are : methods ≡ methods_of ps roles
+
+pub asked : (n : NamesRecord) (qs : List PackageRecord) (t : ClassTable) (methods : List MethodRec) → AreNamesOf n.packages n.roles n → IsTableOf n.packages n.roles t → qs ≡ n.packages → methods ≡ n.methods → AreAsked n.packages n.roles qs t methods
+asked n qs t methods of is e m = record { packages = e; table = is; methods_are = m ∙ methods-are n.packages n.roles n of }
+
+module _ (ps : List PackageRecord) (roles : List ℕ) (qs : List PackageRecord) (t : ClassTable) (methods : List MethodRec) (a : AreAsked ps roles qs t methods) where
+  -- the static fields have room
+  abbrev pub HasStatics : Type 0
+  HasStatics = option_to_list (statics_fault ps) ≡ []
+
+  pub statics_first : (f : LinkFault) → Err f ≡ refused (statics_fault qs) → IsFirst place_of (member_conditions ps roles) f
+  statics_first f h = inl (one-refused place_of (statics_fault ps) f (h ∙ ap (λ (xs : List PackageRecord). refused (statics_fault xs)) a.packages))
+
+  pub statics_none : (x : Unit {0}) → Ok x ≡ refused (statics_fault qs) → HasStatics
+  statics_none x h = one-none place_of (statics_fault ps) x (h ∙ ap (λ (xs : List PackageRecord). refused (statics_fault xs)) a.packages)
+
+  pub arrays_none : (x : Unit {0}) → Ok x ≡ refused (arrays_fault qs) → option_to_list (arrays_fault ps) ≡ []
+  arrays_none x h = one-none place_of (arrays_fault ps) x (h ∙ ap (λ (xs : List PackageRecord). refused (arrays_fault xs)) a.packages)
+
+  pub catches_none : (x : Unit {0}) → Ok x ≡ refused (least_of place_of (catch_fault ps t) (handler_places ps)) → bad_catches ps t ≡ []
+  catches_none x h = things-none place_of (catch_fault ps t) (handler_places ps) x h
+
+  module _ (statics : List StaticRec) (s : statics ≡ statics_of ps roles) where
+    missing_same : missing_members ps t statics ≡ missing_members ps (table_of ps roles) (statics_of ps roles)
+    missing_same = ap (λ (u : ClassTable). missing_members ps u statics) a.table.is ∙ ap (λ (xs : List StaticRec). missing_members ps (table_of ps roles) xs) s
+
+    catches_same : bad_catches ps t ≡ bad_catches ps (table_of ps roles)
+    catches_same = ap (λ (u : ClassTable). bad_catches ps u) a.table.is
+
+    roles_same : abstract_roles t methods ≡ abstract_roles (table_of ps roles) (methods_of ps roles)
+    roles_same = ap (λ (u : ClassTable). abstract_roles u methods) a.table.is ∙ ap (λ (ms : List MethodRec). abstract_roles (table_of ps roles) ms) a.methods_are
+
+    pub members_first : (f : LinkFault) → HasStatics → IsLeast place_of (missing_members ps t statics) f → IsFirst place_of (member_conditions ps roles) f
+    members_first f none h = inr (none, inl (subst (λ (fs : List LinkFault). IsLeast place_of fs f) missing_same h))
+
+    pub catches_first : (f : LinkFault) → HasStatics → missing_members ps t statics ≡ [] → Err f ≡ refused (least_of place_of (catch_fault ps t) (handler_places ps)) → IsFirst place_of (member_conditions ps roles) f
+    catches_first f none members h =
+        inr (none, inr (sym missing_same ∙ members, inl (subst (λ (fs : List LinkFault). IsLeast place_of fs f) catches_same (things-refused place_of (catch_fault ps t) (handler_places ps) f h))))
+
+    pub arrays_first : (f : LinkFault) → HasStatics → missing_members ps t statics ≡ [] → bad_catches ps t ≡ [] → Err f ≡ refused (arrays_fault qs) → IsFirst place_of (member_conditions ps roles) f
+    arrays_first f none members caught h =
+        inr (none, inr (sym missing_same ∙ members, inr (sym catches_same ∙ caught, inl (one-refused place_of (arrays_fault ps) f (h ∙ ap (λ (xs : List PackageRecord). refused (arrays_fault xs)) a.packages)))))
+
+    pub roles_first : (f : LinkFault) → HasStatics → missing_members ps t statics ≡ [] → bad_catches ps t ≡ [] → option_to_list (arrays_fault ps) ≡ [] → Err f ≡ refused (least_of place_of (role_fault t methods) thrown_roles) → IsFirst place_of (member_conditions ps roles) f
+    roles_first f none members caught arrays h =
+        inr (none, inr (sym missing_same ∙ members, inr (sym catches_same ∙ caught, inr (arrays, inl (subst (λ (fs : List LinkFault). IsLeast place_of fs f) roles_same (things-refused place_of (role_fault t methods) thrown_roles f h))))))
+
+    pub members_empty : (x : Unit {0}) → HasStatics → missing_members ps t statics ≡ [] → bad_catches ps t ≡ [] → option_to_list (arrays_fault ps) ≡ [] → Ok x ≡ refused (least_of place_of (role_fault t methods) thrown_roles) → AllEmpty (member_conditions ps roles)
+    members_empty x none members caught arrays h =
+        (none, (sym missing_same ∙ members, (sym catches_same ∙ caught, (arrays, (sym roles_same ∙ things-none place_of (role_fault t methods) thrown_roles x h, tt {0})))))
+
+    -- ---- what is found
+
+    pub pools_same : (found : List (List Member)) → found ≡ pools ps t statics → found ≡ pools ps (table_of ps roles) (statics_of ps roles)
+    pools_same found e = e ∙ ap (λ (u : ClassTable). pools ps u statics) a.table.is ∙ ap (λ (xs : List StaticRec). pools ps (table_of ps roles) xs) s
+
+    pub members_same : (found : List (List Member)) → All (All (IsMember t methods statics)) found → All (All (IsMember (table_of ps roles) (methods_of ps roles) statics)) found
+    members_same found all =
+        subst (λ (ms : List MethodRec). All (All (IsMember (table_of ps roles) ms statics)) found) a.methods_are
+        (subst (λ (u : ClassTable). All (All (IsMember u methods statics)) found) a.table.is all)

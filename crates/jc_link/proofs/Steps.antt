@@ -1,0 +1,233 @@
+-- From names to classes, and to what stands on them: what each step is given and what it tells.
+use Rattle.std.proofs.Common.{◌≡◌, ℕ, ◌<◌, ◌≤◌, List, length, Result, Ok, Err, sym, ap, subst, ◌∙◌, arith}
+use Rattle.std.specs.Prelude.{All, IfOk, slice_index}
+use Rattle.std.proofs.lemmas.List.{length-map}
+use Rattle.cap_package.specs.PackageRecord.{PackageRecord}
+use Rattle.jc_base.specs.declared.record.MethodRec.{MethodRec}
+use Rattle.jc_base.specs.Class.{ClassTable, IsClass, AreClasses, throwable}
+use Rattle.jc_base.specs.Linked.{AreLinkedClasses}
+use Rattle.jc_names.specs.declared.fault.LinkFault.{LinkFault}
+use Rattle.jc_names.specs.declared.fault.LinkEnd.{LinkEnd}
+use Rattle.jc_names.specs.declared.fault.LinkEnd.TheVariants.{Fault, Memory}
+use Rattle.jc_names.specs.declared.named.NamedClass.{NamedClass}
+use Rattle.jc_names.specs.Fault.{place_of}
+use Rattle.jc_names.specs.FirstFault.{◌>>=◌, IsFirst, AllEmpty}
+use Rattle.jc_names.specs.Named.{AreNamed, IsSized, infos_of}
+use Rattle.jc_names.specs.Conditions as names
+use Rattle.jc_names.specs.Names.{NamesRecord, named, checked, names_of, Answers, Tells}
+use Rattle.jc_names.proofs.ConditionLists.{AllEmpty-append, IsFirst-append_left, IsFirst-append_right}
+use Rattle.jc_lineage.specs.Conditions as lineage
+use Rattle.jc_lineage.specs.Known.{HasKnownLine}
+use Rattle.jc_lineage.specs.Lines as lines
+use Rattle.jc_lineage.specs.Lines.{HaveLines}
+use Rattle.jc_lineage.specs.Outline.{outline}
+use Rattle.jc_lineage.proofs.Naming.{named-known}
+use Rattle.jc_classes.specs.Conditions as classes
+use Rattle.jc_classes.specs.Known.{AreKnown, AreInRange}
+use Rattle.jc_classes.specs.Tables.{class_tables, Links, TellsEnd}
+use Rattle.jc_members.specs.Fields.{HasCellsOf}
+use Rattle.jc_link.specs.World.{classes_of, lineage_of, table_of, methods_of, first_classes, class_conditions, table_conditions, member_conditions, conditions, TellsFirst, TableTells, LinkTells}
+use Rattle.jc_link.specs.declared.linking.Resolved.{Resolved}
+use Rattle.jc_link.specs.Known.{AreNamesOf, IsTableOf}
+use Rattle.jc_link.proofs.Tables.{sized, in_range, methods_in, linked-more, has-cells, counted, role-class}
+
+-- ---- names
+
+named-by : (ps : List PackageRecord) (roles : List ℕ) (n : NamesRecord) (r : Result (Unit {0}) LinkFault) → (r >>= λ done. Ok (named ps roles)) ≡ Ok n → n ≡ named ps roles
+named-by ps roles n (Ok x) e = cc
+named-by ps roles n (Err f) e = absurd cc
+
+pub names_known : (ps : List PackageRecord) (roles : List ℕ) (n : NamesRecord) → names_of ps roles ≡ Ok n → AreNamed (infos_of ps) (slice_index roles 0) n.classes n.methods → AreNamesOf ps roles n
+unfolding names_of
+names_known ps roles n e known =
+    let are : n ≡ named ps roles = named-by ps roles n (checked ps) e in
+    record { are = are; known = subst (λ (m : NamesRecord). AreNamed (infos_of ps) (slice_index roles 0) m.classes m.methods) are known }
+
+pub names_first : (ps : List PackageRecord) (r : Result NamesRecord LinkEnd) → Tells ps r → TellsFirst (names.conditions ps) r
+names_first ps (Ok n) h = h
+names_first ps (Err (Fault f)) h = h
+names_first ps (Err Memory) h = tt {0}
+
+pub names_answered : (ps : List PackageRecord) (roles : List ℕ) (r : Result NamesRecord LinkEnd) → Answers (names_of ps roles) r → IfOk r (λ n. AreNamed (infos_of ps) (slice_index roles 0) n.classes n.methods) → IfOk r (AreNamesOf ps roles)
+names_answered ps roles (Ok n) e known = names_known ps roles n e known
+names_answered ps roles (Err end) e known = tt
+
+-- ---- classes
+
+module _ (ps : List PackageRecord) (roles : List ℕ) (n : NamesRecord) (of : AreNamesOf ps roles n) where
+  pub classes-are : n.classes ≡ classes_of ps roles
+  classes-are = ap (λ (m : NamesRecord). m.classes) of.are
+
+  pub methods-are : n.methods ≡ methods_of ps roles
+  methods-are = ap (λ (m : NamesRecord). m.methods) of.are
+
+  pub packages-are : n.packages ≡ ps
+  packages-are = ap (λ (m : NamesRecord). m.packages) of.are
+
+  pub roles-are : n.roles ≡ roles
+  roles-are = ap (λ (m : NamesRecord). m.roles) of.are
+
+  -- what holds of the packages and the roles of names holds of these, and the other way
+  pub along : (P : List PackageRecord → List ℕ → Type 0) → P n.packages n.roles → P ps roles
+  along P h = subst (λ (xs : List PackageRecord). P xs roles) packages-are (subst (λ (rs : List ℕ). P n.packages rs) roles-are h)
+
+  pub back : (P : List PackageRecord → List ℕ → Type 0) → P ps roles → P n.packages n.roles
+  back P h = subst (λ (rs : List ℕ). P n.packages rs) (sym roles-are) (subst (λ (xs : List PackageRecord). P xs roles) (sym packages-are) h)
+
+  pub lines_known : (cs : List NamedClass) → cs ≡ n.classes → All (HasKnownLine cs) cs
+  lines_known cs e = subst (λ (xs : List NamedClass). All (HasKnownLine xs) xs) (sym (e ∙ classes-are)) (named-known (length (infos_of ps)) (length (methods_of ps roles)) (slice_index roles 0) (classes_of ps roles) of.known.classes)
+
+  pub range_known : (cs : List NamedClass) → cs ≡ n.classes → AreInRange cs
+  range_known cs e = subst AreInRange (sym (e ∙ classes-are)) (in_range (length (infos_of ps)) (length (methods_of ps roles)) (slice_index roles 0) (classes_of ps roles) of.known.classes)
+
+  pub methods_known : (cs : List NamedClass) (ms : List MethodRec) → cs ≡ n.classes → ms ≡ n.methods → All (λ (m : MethodRec). m.class < length cs) ms
+  methods_known cs ms e f =
+      subst (λ (xs : List MethodRec). All (λ (m : MethodRec). m.class < length cs) xs) (sym (f ∙ methods-are))
+      (subst (λ (xs : List NamedClass). All (λ (m : MethodRec). m.class < length xs) (methods_of ps roles)) (sym (e ∙ classes-are)) (methods_in (infos_of ps) (slice_index roles 0) (classes_of ps roles) (methods_of ps roles) of.known.methods))
+
+  pub classes_known : (cs : List NamedClass) (t : ClassTable) → cs ≡ n.classes → length cs ≤ 4096 → HaveLines cs t → AreKnown t cs
+  classes_known cs t e few have = record {
+    count = have.count;
+    few = few;
+    sized = subst (All IsSized) (sym (e ∙ classes-are)) (sized (length (infos_of ps)) (length (methods_of ps roles)) (slice_index roles 0) (classes_of ps roles) of.known.classes);
+  }
+
+  -- the first fault of superclasses, roles and interfaces
+  pub line_first : (cs : List NamedClass) (first : ℕ) (f : LinkFault) → cs ≡ n.classes → first ≡ first_classes ps → IsFirst place_of (lineage.conditions cs first roles) f → IsFirst place_of (class_conditions ps roles) f
+  line_first cs first f e g h =
+      IsFirst-append_left place_of (lineage.conditions (classes_of ps roles) (first_classes ps) roles) (classes.conditions (lineage_of ps roles) (classes_of ps roles) (methods_of ps roles)) f
+      (subst (λ (k : ℕ). IsFirst place_of (lineage.conditions (classes_of ps roles) k roles) f) g (subst (λ (xs : List NamedClass). IsFirst place_of (lineage.conditions xs first roles) f) (e ∙ classes-are) h))
+
+  line_empty : (cs : List NamedClass) (first : ℕ) → cs ≡ n.classes → first ≡ first_classes ps → AllEmpty (lineage.conditions cs first roles) → AllEmpty (lineage.conditions (classes_of ps roles) (first_classes ps) roles)
+  line_empty cs first e g h = subst (λ (k : ℕ). AllEmpty (lineage.conditions (classes_of ps roles) k roles)) g (subst (λ (xs : List NamedClass). AllEmpty (lineage.conditions xs first roles)) (e ∙ classes-are) h)
+
+  lineage_same : (cs : List NamedClass) (t : ClassTable) → cs ≡ n.classes → t ≡ outline cs roles → t ≡ lineage_of ps roles
+  lineage_same cs t e o = o ∙ ap (λ (xs : List NamedClass). outline xs roles) (e ∙ classes-are)
+
+  conditions_same : (cs : List NamedClass) (ms : List MethodRec) (t : ClassTable) → cs ≡ n.classes → ms ≡ n.methods → t ≡ outline cs roles
+      → classes.conditions t cs ms ≡ classes.conditions (lineage_of ps roles) (classes_of ps roles) (methods_of ps roles)
+  conditions_same cs ms t e m o =
+      ap (λ (u : ClassTable). classes.conditions u cs ms) (lineage_same cs t e o)
+      ∙ ap (λ (xs : List NamedClass). classes.conditions (lineage_of ps roles) xs ms) (e ∙ classes-are)
+      ∙ ap (λ (xs : List MethodRec). classes.conditions (lineage_of ps roles) (classes_of ps roles) xs) (m ∙ methods-are)
+
+  -- the first fault of dispatch lists and instances
+  pub class_first : (cs : List NamedClass) (ms : List MethodRec) (first : ℕ) (t : ClassTable) (f : LinkFault) → cs ≡ n.classes → ms ≡ n.methods → first ≡ first_classes ps → t ≡ outline cs roles
+      → AllEmpty (lineage.conditions cs first roles) → IsFirst place_of (classes.conditions t cs ms) f → IsFirst place_of (class_conditions ps roles) f
+  class_first cs ms first t f e m g o none h =
+      IsFirst-append_right place_of (lineage.conditions (classes_of ps roles) (first_classes ps) roles) (classes.conditions (lineage_of ps roles) (classes_of ps roles) (methods_of ps roles)) f
+      (line_empty cs first e g none)
+      (subst (λ (lists : List (List LinkFault)). IsFirst place_of lists f) (conditions_same cs ms t e m o) h)
+
+  -- the same of what linking ends with
+  pub line_told : (cs : List NamedClass) (first : ℕ) (end : LinkEnd) → cs ≡ n.classes → first ≡ first_classes ps → lines.Tells cs first roles (Err end) → TellsFirst {A = ClassTable} (class_conditions ps roles) (Err end)
+  line_told cs first (Fault f) e g h = line_first cs first f e g h
+  line_told cs first Memory e g h = tt {0}
+
+  pub class_told : (cs : List NamedClass) (ms : List MethodRec) (first : ℕ) (t : ClassTable) (end : LinkEnd) → cs ≡ n.classes → ms ≡ n.methods → first ≡ first_classes ps → t ≡ outline cs roles
+      → AllEmpty (lineage.conditions cs first roles) → TellsEnd t cs ms (Err end) → TellsFirst {A = ClassTable} (class_conditions ps roles) (Err end)
+  class_told cs ms first t (Fault f) e m g o none h = class_first cs ms first t f e m g o none h
+  class_told cs ms first t Memory e m g o none h = tt {0}
+
+  pub class_empty : (cs : List NamedClass) (ms : List MethodRec) (first : ℕ) (t : ClassTable) → cs ≡ n.classes → ms ≡ n.methods → first ≡ first_classes ps → t ≡ outline cs roles
+      → AllEmpty (lineage.conditions cs first roles) → AllEmpty (classes.conditions t cs ms) → AllEmpty (class_conditions ps roles)
+  class_empty cs ms first t e m g o none h =
+      AllEmpty-append (lineage.conditions (classes_of ps roles) (first_classes ps) roles) (classes.conditions (lineage_of ps roles) (classes_of ps roles) (methods_of ps roles))
+      (line_empty cs first e g none)
+      (subst AllEmpty (conditions_same cs ms t e m o) h)
+
+  -- the table that is made
+  pub table_known : (cs : List NamedClass) (ms : List MethodRec) (t u : ClassTable) → cs ≡ n.classes → ms ≡ n.methods → length cs ≤ 4096 → length roles ≡ 8 → t ≡ outline cs roles → AreClasses t → HaveLines cs t → u ≡ class_tables t cs → Links t cs ms u
+      → IsTableOf ps roles u
+  table_known cs ms t u e m few eight o are have made links =
+      let same_classes : cs ≡ classes_of ps roles = e ∙ classes-are in
+      let same_methods : ms ≡ methods_of ps roles = m ∙ methods-are in
+      let same_lineage : t ≡ lineage_of ps roles = lineage_same cs t e o in
+      let same_table : u ≡ table_of ps roles = made ∙ ap (λ (x : ClassTable). class_tables x cs) same_lineage ∙ ap (λ (xs : List NamedClass). class_tables (lineage_of ps roles) xs) same_classes in
+      let in_lineage : HaveLines (classes_of ps roles) (lineage_of ps roles) = subst (HaveLines (classes_of ps roles)) same_lineage (subst (λ (xs : List NamedClass). HaveLines xs t) same_classes have) in
+      let links_of : Links (lineage_of ps roles) (classes_of ps roles) (methods_of ps roles) (table_of ps roles) =
+      subst (Links (lineage_of ps roles) (classes_of ps roles) (methods_of ps roles)) same_table
+      (subst (λ (xs : List MethodRec). Links (lineage_of ps roles) (classes_of ps roles) xs u) same_methods
+      (subst (λ (xs : List NamedClass). Links (lineage_of ps roles) xs ms u) same_classes
+      (subst (λ (x : ClassTable). Links x cs ms u) same_lineage links))) in
+      record {
+        is = same_table;
+        lines = in_lineage;
+        chains = subst AreClasses same_lineage are;
+        linked = subst (λ (k : ℕ). AreLinkedClasses k (table_of ps roles) (methods_of ps roles)) (length-map ps _) (links_of (length (infos_of ps)) of.known.classes);
+        few = subst (λ (xs : List NamedClass). length xs ≤ 4096) same_classes few;
+        eight = eight;
+      }
+
+  -- ---- what stands on the classes is asked of names and a table
+
+  pub cells_known : (t : ClassTable) → IsTableOf ps roles t → HasCellsOf n.classes (slice_index n.roles 0) t
+  cells_known t is =
+      subst (HasCellsOf n.classes (slice_index n.roles 0)) (sym is.is)
+      (subst (λ (xs : List ℕ). HasCellsOf n.classes (slice_index xs 0) (table_of ps roles)) (sym roles-are)
+      (subst (λ (xs : List NamedClass). HasCellsOf xs (slice_index roles 0) (table_of ps roles)) (sym classes-are) (has-cells ps roles)))
+
+  pub linked_known : (t : ClassTable) → IsTableOf ps roles t → AreLinkedClasses (length n.packages) t n.methods
+  linked_known t is =
+      subst (λ (xs : List PackageRecord). AreLinkedClasses (length xs) t n.methods) (sym packages-are)
+      (subst (λ (xs : List MethodRec). AreLinkedClasses (length ps) t xs) (sym methods-are)
+      (subst (λ (u : ClassTable). AreLinkedClasses (length ps) u (methods_of ps roles)) (sym is.is) is.linked))
+
+  pub linked_few : (t : ClassTable) → IsTableOf ps roles t → length n.packages ≤ 16 → AreLinkedClasses 16 t n.methods
+  linked_few t is few = linked-more (length n.packages) 16 t n.methods few (linked_known t is)
+
+  pub count_known : (t : ClassTable) → IsTableOf ps roles t → length t.records ≡ length n.classes
+  count_known t is = ap (λ (u : ClassTable). length u.records) is.is ∙ counted ps roles ∙ ap length (sym classes-are)
+
+  role_known : (t : ClassTable) → IsTableOf ps roles t → (k : ℕ) → k < 8 → IsClass t (slice_index t.roles k)
+  role_known t is k lt = subst (λ (u : ClassTable). IsClass u (slice_index u.roles k)) (sym is.is) (role-class ps roles t is k lt)
+
+  pub throwable_known : (t : ClassTable) → IsTableOf ps roles t → IsClass t (throwable t)
+  throwable_known t is = role_known t is 1 (omega arith)
+
+  pub roles_known : (t : ClassTable) → IsTableOf ps roles t → (k : ℕ) → k < 8 → slice_index t.roles k < length t.records
+  roles_known t is k lt = (role_known t is k lt).number
+
+pub outline_roles : (cs : List NamedClass) (roles : List ℕ) (t : ClassTable) → t ≡ outline cs roles → t ≡ outline cs t.roles
+outline_roles cs roles t e = e ∙ ap (outline cs) (sym (ap (λ (u : ClassTable). u.roles) e))
+
+-- ---- the conditions one behind the other
+
+module _ (ps : List PackageRecord) (roles : List ℕ) (f : LinkFault) where
+  pub names_table : IsFirst place_of (names.conditions ps) f → IsFirst place_of (table_conditions ps roles) f
+  names_table h = IsFirst-append_left place_of (names.conditions ps) (class_conditions ps roles) f h
+
+  pub classes_table : AllEmpty (names.conditions ps) → IsFirst place_of (class_conditions ps roles) f → IsFirst place_of (table_conditions ps roles) f
+  classes_table none h = IsFirst-append_right place_of (names.conditions ps) (class_conditions ps roles) f none h
+
+  pub table_all : IsFirst place_of (table_conditions ps roles) f → IsFirst place_of (conditions ps roles) f
+  table_all h = IsFirst-append_left place_of (table_conditions ps roles) (member_conditions ps roles) f h
+
+  pub members_all : AllEmpty (table_conditions ps roles) → IsFirst place_of (member_conditions ps roles) f → IsFirst place_of (conditions ps roles) f
+  members_all none h = IsFirst-append_right place_of (table_conditions ps roles) (member_conditions ps roles) f none h
+
+module _ (ps : List PackageRecord) (roles : List ℕ) where
+  pub table_empty : AllEmpty (names.conditions ps) → AllEmpty (class_conditions ps roles) → AllEmpty (table_conditions ps roles)
+  table_empty none others = AllEmpty-append (names.conditions ps) (class_conditions ps roles) none others
+
+  pub all_empty : AllEmpty (table_conditions ps roles) → AllEmpty (member_conditions ps roles) → AllEmpty (conditions ps roles)
+  all_empty none others = AllEmpty-append (table_conditions ps roles) (member_conditions ps roles) none others
+
+-- ---- what each step tells of the whole
+
+module _ (ps : List PackageRecord) (roles : List ℕ) where
+  pub names_tell : (end : LinkEnd) → TellsFirst {A = NamesRecord} (names.conditions ps) (Err end) → TableTells ps roles (Err end)
+  names_tell (Fault f) h = names_table ps roles f h
+  names_tell Memory h = tt {0}
+
+  pub classes_tell : (end : LinkEnd) → AllEmpty (names.conditions ps) → TellsFirst {A = ClassTable} (class_conditions ps roles) (Err end) → TableTells ps roles (Err end)
+  classes_tell (Fault f) none h = classes_table ps roles f none h
+  classes_tell Memory none h = tt {0}
+
+  pub table_tells : (end : LinkEnd) → TableTells ps roles (Err end) → LinkTells ps roles (Err end)
+  table_tells (Fault f) h = table_all ps roles f h
+  table_tells Memory h = tt {0}
+
+  pub members_tell : (end : LinkEnd) → AllEmpty (table_conditions ps roles) → TellsFirst {A = Resolved} (member_conditions ps roles) (Err end) → LinkTells ps roles (Err end)
+  members_tell (Fault f) none h = members_all ps roles f none h
+  members_tell Memory none h = tt {0}

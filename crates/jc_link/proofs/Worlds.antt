@@ -1,0 +1,136 @@
+-- The lists that packages and roles make are those of a world.
+use Rattle.std.proofs.Common.{◌≡◌, ℕ, ◌≤◌, List, length, sym, ap, subst, ◌∙◌}
+use Rattle.std.specs.Prelude.{All, slice_index, sum_by}
+use Rattle.std.proofs.lemmas.List.{length-map}
+use Rattle.cap_package.specs.PackageRecord.{PackageRecord}
+use Rattle.jc_base.specs.declared.record.Member.{Member}
+use Rattle.jc_base.specs.declared.record.MethodRec.{MethodRec}
+use Rattle.jc_base.specs.declared.record.StaticRec.{StaticRec}
+use Rattle.jc_base.specs.declared.record.ArrayRec.{ArrayRec}
+use Rattle.jc_base.specs.Class.{ClassTable}
+use Rattle.jc_base.specs.Cell.{IsDeclared, width, AreElementsOf}
+use Rattle.jc_base.specs.Linked.{IsMember, IsStatic, AreSlots}
+use Rattle.jc_base.specs.World.{Linked, IsWorld}
+use Rattle.jc_names.specs.Named.{AreNamed, infos_of}
+use Rattle.jc_names.specs.FirstFault.{AllEmpty}
+use Rattle.jc_names.specs.Names.{NamesRecord}
+use Rattle.jc_statics.specs.Arrays.{array_records, cells_of}
+use Rattle.jc_members.specs.Pools.{pools}
+use Rattle.jc_link.specs.declared.linking.Resolved.{Resolved}
+use Rattle.jc_link.specs.World.{classes_of, table_of, methods_of, statics_of, AreListsOf, table_conditions, member_conditions, IsLinked}
+use Rattle.jc_link.specs.Known.{AreNamesOf, IsTableOf, AreResolved}
+use Rattle.jc_link.proofs.Tables.{counted, table-chains}
+use Rattle.jc_link.proofs.Steps.{methods-are, along, all_empty}
+use Rattle.jc_link.proofs.Methods.{methods-linked}
+use Rattle.jc_link.proofs.Fields.{statics-declared}
+use Rattle.jc_link.proofs.Roles.{are-roles}
+
+-- what is known of the lists beside what they are
+pub record AreKnownLists (ps : List PackageRecord) (w : Linked) : Type 0 where
+  pub packages : length ps ≤ 16
+  pub bytes : All (λ info. length info ≤ 65535) w.infos
+  pub entries : All (λ pool. length pool ≤ 65535) w.pools
+  pub each : length w.pools ≡ length ps
+  pub members : All (All (IsMember w.classes w.methods w.statics)) w.pools
+  pub methods : length w.methods ≤ 32768
+  pub cells : sum_by (λ f. width f.kind) w.statics ≤ 32768
+  pub slots : AreSlots 0 w.statics
+  pub fields : length (array_records ps) ≤ 4096 → (t : ClassTable) → All (λ f. IsDeclared t f.ty) w.statics → All (IsStatic (length ps) t (array_records ps)) w.statics
+  pub arrays : length w.arrays ≤ 4096
+  pub array_cells : sum_by (λ a. length a.initial) w.arrays ≤ 32768
+  pub elements : All (λ a. AreElementsOf a.kind a.initial) w.arrays
+
+module _ (ps : List PackageRecord) (roles : List ℕ) where
+  abbrev world_of : Linked
+  world_of = record { infos = infos_of ps; pools = pools ps (table_of ps roles) (statics_of ps roles); classes = table_of ps roles; methods = methods_of ps roles; statics = statics_of ps roles; arrays = array_records ps }
+
+  infos_count : length (infos_of ps) ≡ length ps
+  infos_count = length-map ps _
+
+  made : (t : ClassTable) → IsTableOf ps roles t → AreNamed (infos_of ps) (slice_index roles 0) (classes_of ps roles) (methods_of ps roles) → AllEmpty (member_conditions ps roles) → AreKnownLists ps world_of → IsWorld world_of
+  made t is known none lists = record {
+    limits = record {
+      packages = rw infos_count lists.packages;
+      bytes = lists.bytes;
+      entries = lists.entries;
+      classes = rw (counted ps roles) is.few;
+      methods = lists.methods;
+      static_cells = lists.cells;
+      arrays = lists.arrays;
+      array_cells = lists.array_cells;
+    };
+    one_pool_each = lists.each ∙ sym infos_count;
+    members = lists.members;
+    chains = table-chains ps roles t is;
+    classes = rw infos_count is.linked;
+    methods = methods-linked ps roles t is none.1.0 none.1.1.0 known;
+    statics = rw infos_count (lists.fields lists.arrays (table_of ps roles) (statics-declared ps roles t is known));
+    slots = lists.slots;
+    arrays = lists.elements;
+    roles = are-roles ps roles t is none.1.1.1.1.0;
+  }
+
+  same_world : (w : Linked) → AreListsOf ps roles w → world_of ≡ w
+  same_world w l =
+      ap (λ (x : List (List ℕ)). record { infos = x; pools = pools ps (table_of ps roles) (statics_of ps roles); classes = table_of ps roles; methods = methods_of ps roles; statics = statics_of ps roles; arrays = array_records ps }) (sym l.infos)
+      ∙ ap (λ (x : List (List Member)). record { infos = w.infos; pools = x; classes = table_of ps roles; methods = methods_of ps roles; statics = statics_of ps roles; arrays = array_records ps }) (sym l.pools)
+      ∙ ap (λ (x : ClassTable). record { infos = w.infos; pools = w.pools; classes = x; methods = methods_of ps roles; statics = statics_of ps roles; arrays = array_records ps }) (sym l.classes)
+      ∙ ap (λ (x : List MethodRec). record { infos = w.infos; pools = w.pools; classes = w.classes; methods = x; statics = statics_of ps roles; arrays = array_records ps }) (sym l.methods)
+      ∙ ap (λ (x : List StaticRec). record { infos = w.infos; pools = w.pools; classes = w.classes; methods = w.methods; statics = x; arrays = array_records ps }) (sym l.statics)
+      ∙ ap (λ (x : List ArrayRec). record { infos = w.infos; pools = w.pools; classes = w.classes; methods = w.methods; statics = w.statics; arrays = x }) (sym l.arrays)
+
+  -- the lists of packages and roles, of which nothing is at fault, are a world
+  pub are-world : (t : ClassTable) (w : Linked) → IsTableOf ps roles t → AreNamed (infos_of ps) (slice_index roles 0) (classes_of ps roles) (methods_of ps roles) → AllEmpty (member_conditions ps roles) → AreListsOf ps roles w → AreKnownLists ps w → IsWorld w
+  are-world t w is known none l lists =
+      let e : world_of ≡ w = same_world w l in
+      subst IsWorld e (made t is known none (subst (AreKnownLists ps) (sym e) lists))
+
+-- ---- the lists that are made
+
+module _ (ps : List PackageRecord) (roles : List ℕ) (n : NamesRecord) (of : AreNamesOf ps roles n) (t : ClassTable) (is : IsTableOf ps roles t) (x : Resolved) (r : AreResolved n.packages n.roles x)
+    (infos : List (List ℕ)) (i : infos ≡ infos_of ps) (methods : List MethodRec) (m : methods ≡ n.methods) (arrays : List ArrayRec) (a : arrays ≡ array_records ps) where
+  abbrev made_of : Linked
+  made_of = record { infos = infos; pools = x.pools; classes = t; methods = methods; statics = x.statics; arrays = arrays }
+
+  resolved : AreResolved ps roles x
+  resolved = along ps roles n of (λ (xs : List PackageRecord) (rs : List ℕ). AreResolved xs rs x) r
+
+  methods_same : methods ≡ methods_of ps roles
+  methods_same = m ∙ methods-are ps roles n of
+
+  pub lists-are : AreListsOf ps roles (record { infos = infos; pools = x.pools; classes = t; methods = methods; statics = x.statics; arrays = arrays })
+  lists-are = record {
+    infos = i;
+    pools = resolved.pools_are;
+    classes = is.is;
+    methods = methods_same;
+    statics = resolved.statics_are;
+    arrays = a;
+  }
+
+  known_lists : All (λ info. length info ≤ 65535) infos → All (λ (b : ArrayRec). AreElementsOf b.kind b.initial) arrays → AreKnownLists ps made_of
+  known_lists bytes elements = record {
+    packages = resolved.packages;
+    bytes = bytes;
+    entries = resolved.entries;
+    each = resolved.each;
+    members = subst (λ (ms : List MethodRec). All (All (IsMember t ms x.statics)) x.pools) (sym methods_same) (subst (λ (u : ClassTable). All (All (IsMember u (methods_of ps roles) x.statics)) x.pools) (sym is.is) resolved.members);
+    methods = subst (λ (ms : List MethodRec). length ms ≤ 32768) (sym methods_same) resolved.methods;
+    cells = resolved.cells;
+    slots = resolved.slots;
+    fields = resolved.fields;
+    arrays = subst (λ (bs : List ArrayRec). length bs ≤ 4096) (sym a) resolved.arrays;
+    array_cells = subst (λ (bs : List ArrayRec). cells_of bs ≤ 32768) (sym a) resolved.array_cells;
+    elements = elements;
+  }
+
+  pub world-made : AllEmpty (member_conditions n.packages n.roles) → All (λ info. length info ≤ 65535) infos → All (λ (b : ArrayRec). AreElementsOf b.kind b.initial) arrays
+      → IsWorld (record { infos = infos; pools = x.pools; classes = t; methods = methods; statics = x.statics; arrays = arrays })
+  world-made none bytes elements =
+      are-world ps roles t made_of is of.known (along ps roles n of (λ (xs : List PackageRecord) (rs : List ℕ). AllEmpty (member_conditions xs rs)) none) lists-are (known_lists bytes elements)
+
+  pub linked-made : (w : Linked) → w ≡ record { infos = infos; pools = x.pools; classes = t; methods = methods; statics = x.statics; arrays = arrays } → AllEmpty (table_conditions ps roles) → AllEmpty (member_conditions n.packages n.roles) → IsLinked ps roles w
+  linked-made w e none others = record {
+    faultless = all_empty ps roles none (along ps roles n of (λ (xs : List PackageRecord) (rs : List ℕ). AllEmpty (member_conditions xs rs)) others);
+    lists = subst (AreListsOf ps roles) (sym e) lists-are;
+  }

@@ -1,0 +1,55 @@
+ghost use Rattle.std.specs.Prelude.{◌≡◌, length, IfOk};
+ghost use Rattle.jc_link.specs.World.{TellsFirst, TableTells, class_conditions};
+ghost use Rattle.jc_link.specs.Known.{AreNamesOf, IsTableOf};
+
+use crate::naming::{first_classes, named};
+use cap_package::Packages;
+use jc_base::Classes;
+use jc_classes::tables;
+use jc_lineage::lineage;
+use jc_names::{LinkEnd, Names};
+use std::alloc::Global;
+
+/// There are eight roles.
+fn eight(roles: &[u8; 8])
+    ensures { length roles.now ≡ 8 }
+{
+    let _ = roles;
+}
+
+/// The table of the classes of packages that are named.
+pub(crate) fn table(
+    alloc: Global,
+    packages: &Packages<'_, '_>,
+    names: &Names<'_, '_, '_>,
+    roles: [u8; 8],
+) -> Result<Classes, LinkEnd>
+    requires { AreNamesOf packages.now roles names.now }
+    ensures first { TellsFirst (class_conditions packages.now roles) result }
+    ensures known { IfOk result (IsTableOf packages.now roles) }
+{
+    eight(&roles);
+    let classes = names.classes();
+    let methods = names.methods();
+    let first = first_classes(packages);
+    let lineage = lineage(alloc, classes, first, roles)?;
+    let _ = lineage.records();
+    let table = tables(alloc, &lineage, classes, methods)?;
+    Ok(table)
+}
+
+/// The classes and interfaces of all packages with their dispatch lists and their cells, where class object
+/// and the classes that the machine throws have roles: numbers of classes of the first package.
+pub fn class_table(
+    alloc: Global,
+    packages: &Packages<'_, '_>,
+    roles: [u8; 8],
+) -> Result<Classes, LinkEnd>
+    // The table exactly where nothing is at fault with classes; else the first condition by number that is
+    // broken, at its least thing.
+    ensures tells { TableTells packages.now roles result }
+{
+    let names = named(alloc, packages, roles)?;
+    let table = table(alloc, packages, &names, roles)?;
+    Ok(table)
+}
