@@ -5,6 +5,8 @@
 
 #![tactic(auto)]
 
+mod linking;
 mod method_infos;
 
+pub use linking::link;
 pub use method_infos::infos;
