@@ -1,6 +1,6 @@
 -- Where what a command needs is there and no device failed, no other verdict than Done and Memory has its cause.
 use Rattle.std.proofs.Common.{◌≡◌, ◌⊎◌, List, ℕ, ℤ, ◌<◌, length, map, subst, ◌∙◌, inl, inr, refl, arith, rules, suc, zero, [], ◌∷◌, All, FitsSigned, w16}
-use Rattle.std.specs.Prelude.{Err, None, IfSome, IsSomeAnd, string_bytes, slice_get}
+use Rattle.std.specs.Prelude.{None, IfSome, IsSomeAnd, string_bytes, slice_get}
 use Rattle.std.specs.FinMap as map
 use Rattle.cap_files.specs.Folder.{Holds}
 use Rattle.cap_bare.specs.Typing.{CardTyping}
@@ -10,7 +10,7 @@ use Rattle.cap_text.specs.declared.start.StartFault.{StartFault}
 use Rattle.cap_text.specs.declared.start.StartFault.TheVariants.{NoEntry, NotStatic, ArgCount, ArgKind}
 use Rattle.cap_text.specs.Probe.{ProbeRequest}
 use Rattle.cap_text.specs.Show.{ShowRequest}
-use Rattle.cap_text.specs.Request.{Request, probe, show}
+use Rattle.cap_text.specs.Request.{Request, probe, show, check}
 use Rattle.capcheck_core.specs.declared.verdict.Verdict.{Verdict}
 use Rattle.capcheck_core.specs.declared.verdict.Verdict.TheVariants.{Done, Refused, Limit, Malformed, Usage, ReadFault, StoreFault, Memory}
 use Rattle.capcheck_core.specs.Verdict.{status_of}
@@ -24,12 +24,8 @@ use Rattle.capcheck_core.specs.Shorts.{IsShort, AreShorts, RefusesStart}
 use Rattle.capcheck_core.specs.Show.{Shows, OfParts, IsUnshown}
 use Rattle.capcheck_core.proofs.MethodFiles.{same_method, no_breach}
 use Rattle.capcheck_core.proofs.Loads.{one_list, none_long}
-use Rattle.cap_package.specs.PackageRecord.{PackageRecord}
-use Rattle.cap_package.specs.Parts.{Lent}
+use Rattle.capcheck_core.proofs.CheckComplete.{no_fault, can_check}
 use Rattle.cap_package.specs.StandsFor.{StandsFor}
-use Rattle.cap_package.specs.FirstFault.{Tells}
-use Rattle.cap_package.proofs.OneRecord.{stands_told}
-use Rattle.cap_package.specs.declared.fault.PackFault.{PackFault}
 
 -- the file that was read is the one that is held
 same_file : (p : ProbeRequest) (before : Folders) (can : CanProbe p before) (file : List ℕ) → IsThere before (method_key p) file → can.file ≡ file
@@ -96,10 +92,6 @@ can_probe p before after sink put Usage can calm probes = absurd probes
 can_probe p before after sink put StoreFault can calm probes = absurd probes
 can_probe p before after sink put (Limit text) can calm probes = absurd probes
 
--- nothing is told against parts that stand for a package
-no_fault : (parts : List Lent) (p : PackageRecord) (fault : PackFault) → StandsFor parts p → Tells parts (Err fault) → ⊥
-no_fault parts p fault stands told = let same = stands_told parts p (Err fault) stands told in absurd (cc)
-
 shown : (s : ShowRequest) (before : Folders) → CanShow s before → (text : List ℕ) → OfParts s before (λ parts. IsUnshown parts text) → ⊥
 shown s before can text of =
     let same = one_list before can.held s.dir 256 can.parts of.parts can.told can.loaded of.loaded in
@@ -121,6 +113,7 @@ can_do : (r : Request) (before after : Folders) (old new : Card) (sink put : See
     → Answers r before after old new verdict → (status_of verdict ≡ 0) ⊎ (status_of verdict ≡ 6)
 can_do (probe p) before after old new sink put verdict can calm answers = can_probe p before after sink put verdict can calm answers.0
 can_do (show s) before after old new sink put verdict can calm answers = can_show s before after sink put verdict can calm answers.0
+can_do (check c) before after old new sink put verdict can calm answers = can_check c before after sink put verdict can calm answers.0
 
 reported : (verdict : Verdict) (before after : Folders) (sink put : Seen) (status : ℕ) → NoFault before after sink put → IsReported verdict sink put status
     → (status_of verdict ≡ 0) ⊎ (status_of verdict ≡ 6) → (status ≡ 0) ⊎ (status ≡ 6)

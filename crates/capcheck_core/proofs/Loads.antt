@@ -51,7 +51,7 @@ pub has_read : (before : Folders) (dir to : List ℕ) (tag : ℕ) (r : Result Bo
 has_read before dir to tag r there is known loads =
     let read : Loads before.held (tag ∷ dir) to (Ok true) = subst (λ x. Loads before.held (tag ∷ dir) to x) (is ∙ ap Ok known) loads in (read.1, read.0)
 
-had : (before now : Folders) (dir : List ℕ) (tag : ℕ) (file : Option (List ℕ)) → now.held ≡ before.held → Has now dir tag file → Has before dir tag file
+pub had : (before now : Folders) (dir : List ℕ) (tag : ℕ) (file : Option (List ℕ)) → now.held ≡ before.held → Has now dir tag file → Has before dir tag file
 had before now dir tag None same has = subst (λ held. IfSome held (λ parts. map.get parts (tag ∷ dir) ≡ None)) same has
 had before now dir tag (Some bytes) same has = (subst (λ held. IfSome held (λ parts. Holds parts (tag ∷ dir) bytes)) same has.0, has.1)
 

@@ -1,11 +1,12 @@
 -- What each command may answer, and what it leaves as it was.
 use Rattle.std.specs.Prelude.{◌≡◌, ℕ, List}
-use Rattle.cap_text.specs.Request.{Request, probe, show, IsRequest, IsUsage}
+use Rattle.cap_text.specs.Request.{Request, probe, show, check, IsRequest, IsUsage}
 use Rattle.capcheck_core.specs.declared.verdict.Verdict.{Verdict}
 use Rattle.capcheck_core.specs.declared.verdict.Verdict.TheVariants.{Usage, Memory}
 use Rattle.capcheck_core.specs.Outside.{Folders, StoresNothing, Card}
 use Rattle.capcheck_core.specs.Probe.{Probes}
 use Rattle.capcheck_core.specs.Show.{Shows}
+use Rattle.capcheck_core.specs.Check.{Checks}
 
 -- nothing was stored, and the card's memory is as before
 pub record Untouched (before after : Folders) (old new : Card) : Type 0 where
@@ -16,6 +17,7 @@ pub record Untouched (before after : Folders) (old new : Card) : Type 0 where
 abbrev pub Answers : Request → Folders → Folders → Card → Card → Verdict → Type 0
 Answers (probe p) before after old new verdict = Probes p before after verdict × Untouched before after old new
 Answers (show s) before after old new verdict = Shows s before after verdict × Untouched before after old new
+Answers (check c) before after old new verdict = Checks c before after verdict × Untouched before after old new
 
 -- the verdicts where the words ask for nothing
 abbrev pub SaysUsage : Verdict → Type 0

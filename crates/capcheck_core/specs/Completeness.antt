@@ -6,16 +6,21 @@ use Rattle.cap_bare.specs.declared.bare.Bare.{Bare}
 use Rattle.cap_bare.specs.Typing.{CardTyping}
 use Rattle.cap_text.specs.Probe.{ProbeRequest}
 use Rattle.cap_text.specs.Show.{ShowRequest}
-use Rattle.cap_text.specs.Request.{Request, probe, show, IsRequest}
+use Rattle.cap_text.specs.Check.{CheckRequest}
+use Rattle.cap_text.specs.Request.{Request, probe, show, check, IsRequest}
 use Rattle.cap_package.specs.Parts.{Lent}
 use Rattle.cap_package.specs.PackageRecord.{PackageRecord}
 use Rattle.cap_package.specs.StandsFor.{StandsFor}
+use Rattle.jc_base.specs.World.{Linked}
+use Rattle.jc_link.specs.World.{IsLinked}
 use Rattle.capcheck_core.specs.MethodFile.{IsMethodFile}
 use Rattle.capcheck_core.specs.Loads.{AreParts}
 use Rattle.capcheck_core.specs.Outside.{Folders}
+use Rattle.capcheck_core.specs.Packages.{ArePackages, AreRoles}
 use Rattle.capcheck_core.specs.Probe.{method_key}
 use Rattle.capcheck_core.specs.Report.{Seen}
 use Rattle.capcheck_core.specs.Shorts.{AreShorts}
+use Rattle.capcheck_core.specs.Typed.{AreTyped}
 
 -- no load, store or put failed
 pub record NoFault (before after : Folders) (sink put : Seen) : Type 0 where
@@ -46,10 +51,24 @@ pub record CanShow (s : ShowRequest) (before : Folders) : Type 0 where
   pub shown : PackageRecord
   pub stands : StandsFor parts shown
 
+-- the parts of each folder stand for a package, the packages make a world with the roles beside the first, and every method with code of
+-- the last package has a typing
+pub record CanCheck (c : CheckRequest) (before : Folders) : Type 0 where
+  pub held : Parts
+  pub told : before.held ≡ Some held
+  pub packages : List PackageRecord
+  pub packages_are : ArePackages before c.dirs packages
+  pub roles : List ℕ
+  pub roles_are : AreRoles before c.dirs roles
+  pub world : Linked
+  pub linked : IsLinked packages roles world
+  pub typed : AreTyped world
+
 -- what a command needs is there
 abbrev pub CanDo : Request → Folders → Type 0
 CanDo (probe p) before = CanProbe p before
 CanDo (show s) before = CanShow s before
+CanDo (check c) before = CanCheck c before
 
 -- where the words ask for something, what it needs is there and no device failed, the work is done or memory is wanting
 abbrev pub Completes : List (List ℕ) → Folders → Folders → Seen → Seen → ℕ → Type 0

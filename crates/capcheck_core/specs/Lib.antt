@@ -7,5 +7,11 @@ pub mod Probe
 pub mod Loads
 pub mod LoadEnds
 pub mod Show
+pub mod Roles
+pub mod Packages
+pub mod PackageEnds
+pub mod Typed
+pub mod Check
+pub mod CheckEnds
 pub mod Answers
 pub mod Completeness

@@ -6,6 +6,7 @@ ghost use Rattle.capcheck_core.specs.Outside.{folders, card};
 ghost use Rattle.capcheck_core.specs.Report.{IsReported, seen};
 ghost use Rattle.capcheck_core.specs.declared.verdict.Verdict.{Verdict};
 
+use crate::check::check;
 use crate::probe::probe;
 use crate::report::report;
 use crate::show::show;
@@ -82,5 +83,6 @@ fn perform<F: Folder>(
     match command {
         Command::Probe(operands) => probe(alloc, folder, operands),
         Command::Show(operands) => show(alloc, folder, operands),
+        Command::Check(operands) => check(alloc, folder, operands),
     }
 }

@@ -4,19 +4,24 @@
 #![tactic(auto)]
 
 mod call;
+mod check;
 mod load;
 mod method_file;
+mod packages;
 mod probe;
 mod report;
 mod shorts;
 mod show;
 mod sure;
+mod typing;
 mod verdict;
 
 pub use call::capcheck;
 pub use sure::sure_forms_never_fail;
 pub use verdict::Verdict;
 
+#[cfg(test)]
+mod check_tests;
 #[cfg(test)]
 mod show_tests;
 #[cfg(test)]

@@ -41,6 +41,7 @@ pub fn load_parts<F: Folder>(
     ensures stores { StoresNothing
         (folders (F.held folder.old) (F.load_faults folder.old) (F.store_faults folder.old))
         (folders (F.held folder.new) (F.load_faults folder.new) (F.store_faults folder.new)) }
+    ensures counts { F.load_faults folder.old ≤ F.load_faults folder.new }
 {
     let mut parts = OwnedParts::new(alloc);
     'tags: for tag in 1..256u16 {

@@ -7,3 +7,4 @@ pub mod Methods
 pub mod Fields
 pub mod Roles
 pub mod Worlds
+pub mod OneWorld

@@ -1,0 +1,169 @@
+-- The methods with code of the last package, one after the other.
+use Rattle.std.proofs.Common.{zero, suc, [], ◌∷◌, get_or, count_by, ◌≡◌, ◌⊎◌, ℕ, ◌+◌, ◌<◌, ◌≤◌, Bool, true, false, List, length, take, drop, Option, Some, None, option_map, slice_get, refl, sym, ap, subst, ◌∙◌, inl, inr, arith, true≢false}
+use Rattle.std.specs.Prelude.{IsSomeAnd, ◌&&◌, ◌==◌, nat_lt}
+use Rattle.std.proofs.lemmas.Bool.{eq-eqb, eqb-true, lt-ltb, ltb-true}
+use Rattle.std.proofs.lemmas.List.{length-take, take_all}
+use Rattle.std.proofs.lemmas.List.Sums.{count_by_more_yes, count_by_more_no}
+use Rattle.std.specs.Int.{from_bool}
+use Rattle.jc_base.proofs.Lists.{slice_get-below}
+use Rattle.std.proofs.Math.Nat.{eq-or-lt_of_le}
+use Rattle.jc_base.specs.declared.ty.Ty.TheVariants.{Top}
+use Rattle.jc_base.specs.declared.record.MethodRec.{MethodRec}
+use Rattle.jc_base.specs.World.{Linked, code_of}
+use Rattle.jc_base.specs.Linked.{list_at}
+use Rattle.jc_rules.specs.Demand.{Frame}
+use Rattle.jc_rules.specs.Flow.{Method, IsMethodOf, IsLeastTyping, HasFlowTyping}
+use Rattle.jc_rules.specs.Typing.{state_at}
+use Rattle.jc_places.specs.MethodIn.{method_with, method_in}
+use Rattle.jc_flow.specs.declared.end.FlowEnd.{FlowEnd}
+use Rattle.jc_flow.specs.declared.end.FlowEnd.TheVariants.{NoTyping, Code, BadTarget, FallsOff, BadHandler, Memory}
+use Rattle.jc_flow.specs.Infer.{TellsEnd, HasNone}
+use Rattle.cap_text.specs.declared.line.MethodNumber.{MethodNumber}
+use Rattle.cap_text.specs.Line.{typed_line, refused_flow_line}
+use Rattle.capcheck_core.specs.Typed.{IsOfLast, is_of_last, AreTypedBelow, count_of_last, number_of, IsTyped, IsUntyped}
+use Rattle.capcheck_core.specs.CheckEnds.{IsTypedAt, FailsAt}
+
+-- ---- a method by its number
+
+-- a method of the world is the one of its number
+in_world : (w : Linked) (m : Method) → IsMethodOf w m → method_in w m.number ≡ Some m
+in_world w m is =
+    let code = sym is.code in
+    let same : method_with w m.number m.rec ≡ m = λ i. record { number = m.number; rec = m.rec; code = code i } in
+    ap (option_map (method_with w m.number)) is.rec ∙ ap Some same
+
+-- what is known of the method of a number holds of it
+known : (w : Linked) (n : ℕ) (P : Method → Type 0) → IsSomeAnd (method_in w n) P → (m : Method) → IsMethodOf w m → m.number ≡ n → P m
+known w n P some m is e =
+    let at : IsSomeAnd (method_in w m.number) P = subst (λ k. IsSomeAnd (method_in w k) P) (sym e) some in
+    subst (λ o. IsSomeAnd o P) (in_world w m is) at
+
+pub typed_at : (w : Linked) (n : ℕ) (t : List (Option Frame)) → IsSomeAnd (method_in w n) (λ m. IsLeastTyping w m Top (state_at t)) → IsTypedAt w n
+typed_at w n t least = λ m of_last e.
+    let l = known w n (λ m. IsLeastTyping w m Top (state_at t)) least m of_last.method e in
+    record { frames = state_at t; typing = l.typing }
+
+-- ---- the test of the last package
+
+both : (a b : Bool) → (a && b) ≡ true → (a ≡ true) × (b ≡ true)
+both true b e = (refl, e)
+both false b e = absurd cc
+
+-- code of no bytes has no byte
+has_code : (infos : List (List ℕ)) (rec : MethodRec) → 0 < length (code_of infos rec) → 0 < rec.code_len
+has_code infos rec filled =
+    let few = length-take rec.code_len (drop rec.code_at (list_at infos rec.package)) in omega (arith, few, filled)
+
+passes : (packages : ℕ) (rec : MethodRec) → rec.package + 1 ≡ packages → 0 < rec.code_len → is_of_last packages rec ≡ true
+passes packages rec last code = let a = eq-eqb (rec.package + 1) packages last in let b = lt-ltb 0 rec.code_len code in rw (a, b) refl
+
+of_last_passes : (w : Linked) (m : Method) → IsOfLast w m → is_of_last (length w.infos) m.rec ≡ true
+of_last_passes w m is =
+    passes (length w.infos) m.rec is.last (has_code w.infos m.rec (subst (λ c. 0 < length c) is.method.code is.method.filled))
+
+-- a method that fails the test is none of the last package with code
+pub none_at : (w : Linked) (n : ℕ) → option_map (is_of_last (length w.infos)) (slice_get w.methods n) ≡ Some false → IsTypedAt w n
+none_at w n fails = λ m of_last e.
+    let at : slice_get w.methods n ≡ Some m.rec = subst (λ k. slice_get w.methods k ≡ Some m.rec) e of_last.method.rec in
+    let test : Some (is_of_last (length w.infos) m.rec) ≡ Some false = sym (ap (option_map (is_of_last (length w.infos))) at) ∙ fails in
+    absurd (true≢false (sym (of_last_passes w m of_last) ∙ (cc)))
+
+-- one that passes it has code
+pub some_code : (packages : ℕ) (o : Option MethodRec) → option_map (is_of_last packages) o ≡ Some true → IsSomeAnd o (λ m. 0 < m.code_len)
+some_code packages None e = absurd cc
+some_code packages (Some rec) e =
+    let test : is_of_last packages rec ≡ true = cc in
+    ltb-true 0 rec.code_len (both (rec.package + 1 == packages) (nat_lt 0 rec.code_len) test).1
+
+failed : (w : Linked) (n : ℕ) (end : FlowEnd) (o : Option MethodRec) → slice_get w.methods n ≡ o → option_map (is_of_last (length w.infos)) o ≡ Some true
+    → IsSomeAnd (option_map (method_with w n) o) (IsMethodOf w) → IsSomeAnd (option_map (method_with w n) o) (λ m. HasNone w m end)
+    → IsSomeAnd (option_map (method_with w n) o) (λ m. TellsEnd w m end) → FailsAt w n end
+failed w n end None at e is none tells = absurd is
+failed w n end (Some rec) at e is none tells =
+    let test : is_of_last (length w.infos) rec ≡ true = cc in
+    record {
+      method = method_with w n rec;
+      number = refl;
+      of_last = record { method = is; last = eqb-true (rec.package + 1) (length w.infos) (both (rec.package + 1 == length w.infos) (nat_lt 0 rec.code_len) test).0 };
+      none = none;
+      tells = tells;
+    }
+
+-- the end says why no typing of the method of a number was found
+pub fails_at : (w : Linked) (n : ℕ) (end : FlowEnd) → option_map (is_of_last (length w.infos)) (slice_get w.methods n) ≡ Some true
+    → IsSomeAnd (method_in w n) (IsMethodOf w) → IsSomeAnd (method_in w n) (λ m. HasNone w m end) → IsSomeAnd (method_in w n) (λ m. TellsEnd w m end) → FailsAt w n end
+fails_at w n end e is none tells = failed w n end (slice_get w.methods n) refl e is none tells
+
+-- ---- all of them
+
+split : (m n : ℕ) → m < n + 1 → (m ≡ n) ⊎ (m < n)
+split m n below = eq-or-lt_of_le (omega (arith, below))
+
+pub one_more : (w : Linked) (n : ℕ) → AreTypedBelow w n → IsTypedAt w n → AreTypedBelow w (n + 1)
+one_more w n typed at = λ m of_last below.
+    elim (split m.number n below) [ inl e ↦ at m of_last e | inr less ↦ typed m of_last less ]
+
+pub none_below : (w : Linked) → AreTypedBelow w 0
+none_below w = λ m of_last below. absurd (omega (arith, below))
+
+-- ---- the count of them
+
+at_get : {X : Type 0} (xs : List X) (n : ℕ) (x d : X) → slice_get xs n ≡ Some x → get_or xs n d ≡ x
+at_get [] n x d e = absurd cc
+at_get (y ∷ ys) zero x d e = cc
+at_get (y ∷ ys) (suc n) x d e = at_get ys n x d e
+
+counted : (p : MethodRec → Bool) (xs : List MethodRec) (n : ℕ) (o : Option MethodRec) (asked : Bool) → slice_get xs n ≡ o → option_map p o ≡ Some asked
+    → count_by p (take (n + 1) xs) ≡ count_by p (take n xs) + from_bool asked
+counted p xs n None asked at e = absurd cc
+counted p xs n (Some x) true at e =
+    let test : p x ≡ true = cc in
+    count_by_more_yes p xs n x (slice_get-below xs n x at) (ap p (at_get xs n x x at) ∙ test)
+counted p xs n (Some x) false at e =
+    let test : p x ≡ false = cc in
+    let same = count_by_more_no p xs n x (slice_get-below xs n x at) (ap p (at_get xs n x x at) ∙ test) in
+    same ∙ omega arith
+
+pub one_counted : (w : Linked) (n count one : ℕ) (asked : Bool) → option_map (is_of_last (length w.infos)) (slice_get w.methods n) ≡ Some asked → one ≡ from_bool asked
+    → count ≡ count_by (is_of_last (length w.infos)) (take n w.methods) → count + one ≡ count_by (is_of_last (length w.infos)) (take (n + 1) w.methods)
+one_counted w n count one asked e is before =
+    let step = counted (is_of_last (length w.infos)) w.methods n (slice_get w.methods n) asked refl e in
+    omega (arith, step, is, before)
+
+-- ---- the verdicts
+
+no_typing : (w : Linked) (m : Method) (end : FlowEnd) → (end ≡ Memory → ⊥) → HasNone w m end → HasFlowTyping w m Top → ⊥
+no_typing w m Memory known none = absurd (known refl)
+no_typing w m (NoTyping p fault) known none = none
+no_typing w m (FallsOff p) known none = none
+no_typing w m (Code p end) known none = none
+no_typing w m (BadTarget p target) known none = none
+no_typing w m (BadHandler entry number) known none = none
+
+-- the method that was not typed is the first
+pub first_untyped : (w : Linked) (n : ℕ) (end : FlowEnd) (number : MethodNumber) (text : List ℕ) → AreTypedBelow w n → FailsAt w n end → (end ≡ Memory → ⊥)
+    → option_map number_of (slice_get w.methods n) ≡ Some number → text ≡ refused_flow_line number end → IsUntyped w text
+first_untyped w n end number text earlier f known named prints =
+    let at : slice_get w.methods n ≡ Some f.method.rec = subst (λ k. slice_get w.methods k ≡ Some f.method.rec) f.number f.of_last.method.rec in
+    let same : Some (number_of f.method.rec) ≡ Some number = sym (ap (option_map number_of) at) ∙ named in
+    let numbers : number ≡ number_of f.method.rec = cc in
+    record {
+      method = f.method;
+      of_last = f.of_last;
+      earlier = subst (AreTypedBelow w) (sym f.number) earlier;
+      untyped = no_typing w f.method end known f.none;
+      end = end;
+      known = known;
+      tells = f.tells;
+      prints = prints ∙ ap (λ k. refused_flow_line k end) numbers;
+    }
+
+-- all of them are typed
+pub all_typed : (w : Linked) (n count : ℕ) (text : List ℕ) → AreTypedBelow w n → length w.methods ≤ n → count ≡ count_by (is_of_last (length w.infos)) (take n w.methods)
+    → text ≡ typed_line count → IsTyped w text
+all_typed w n count text typed past counts prints =
+    let whole : count ≡ count_of_last w = counts ∙ ap (count_by (is_of_last (length w.infos))) (take_all n w.methods past) in
+    record {
+      typed = λ m of_last. let below = slice_get-below w.methods m.number m.rec of_last.method.rec in typed m of_last (omega (arith, below, past));
+      prints = prints ∙ ap typed_line whole;
+    }

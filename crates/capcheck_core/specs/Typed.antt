@@ -1,0 +1,52 @@
+-- Which methods of a world a command types, and that they have dataflow typings (JCVM 2.2, section 7.5; Leroy 2002, section 2.3).
+use Rattle.std.specs.Prelude.{◌≡◌, ◌≢◌, ℕ, ◌+◌, ◌<◌, Bool, ◌&&◌, ◌==◌, nat_lt, List, length, count_by}
+use Rattle.jc_base.specs.declared.ty.Ty.TheVariants.{Top}
+use Rattle.jc_base.specs.declared.record.MethodRec.{MethodRec}
+use Rattle.jc_base.specs.World.{Linked}
+use Rattle.jc_rules.specs.Flow.{Method, IsMethodOf, HasFlowTyping}
+use Rattle.jc_flow.specs.declared.end.FlowEnd.{FlowEnd}
+use Rattle.jc_flow.specs.declared.end.FlowEnd.TheVariants.{Memory}
+use Rattle.jc_flow.specs.Infer.{TellsEnd}
+use Rattle.cap_text.specs.declared.line.MethodNumber.{MethodNumber}
+use Rattle.cap_text.specs.Line.{typed_line, refused_flow_line}
+
+-- a method with code, of the last package
+pub record IsOfLast (w : Linked) (m : Method) : Type 0 where
+  pub method : IsMethodOf w m
+  pub last : m.rec.package + 1 ≡ length w.infos
+
+-- the same as a test of a record, where there are so many packages
+abbrev pub is_of_last : ℕ → MethodRec → Bool
+is_of_last packages rec = rec.package + 1 == packages && nat_lt 0 rec.code_len
+
+-- every method with code of the last package has a typing, in which each register that is no argument starts as Top
+abbrev pub AreTyped : Linked → Type 0
+AreTyped w = (m : Method) → IsOfLast w m → HasFlowTyping w m Top
+
+-- the same of those that are numbered below this
+abbrev pub AreTypedBelow : Linked → ℕ → Type 0
+AreTypedBelow w n = (m : Method) → IsOfLast w m → m.number < n → HasFlowTyping w m Top
+
+-- how many methods with code the last package has
+abbrev pub count_of_last : Linked → ℕ
+count_of_last w = count_by (is_of_last (length w.infos)) w.methods
+
+-- each of them has a typing, and the text says how many they are
+pub record IsTyped (w : Linked) (text : List ℕ) : Type 0 where
+  pub typed : AreTyped w
+  pub prints : text ≡ typed_line (count_of_last w)
+
+-- a method by the numbers of its Descriptor
+abbrev pub number_of : MethodRec → MethodNumber
+number_of rec = record { «package» = rec.package; class_no = rec.class_no; method_no = rec.method_no }
+
+-- one of them has no typing, all before it have one, and the text names it, with a place and a reason that hold
+pub record IsUntyped (w : Linked) (text : List ℕ) : Type 0 where
+  pub method : Method
+  pub of_last : IsOfLast w method
+  pub earlier : AreTypedBelow w method.number
+  pub untyped : HasFlowTyping w method Top → ⊥
+  pub end : FlowEnd
+  pub known : end ≢ Memory
+  pub tells : TellsEnd w method end
+  pub prints : text ≡ refused_flow_line (number_of method.rec) end

@@ -1,0 +1,74 @@
+ghost use Rattle.std.specs.Prelude.{◌≡◌, ◌<◌, length, Some, option_map, slice_get};
+ghost use Rattle.capcheck_core.specs.Typed.{is_of_last, number_of, AreTypedBelow};
+ghost use Rattle.capcheck_core.specs.CheckEnds.{TypesAt, FailsAt};
+ghost use Rattle.capcheck_core.specs.Check.{ChecksWorld};
+
+use crate::verdict::Verdict;
+use cap_text::{MethodNumber, refused_flow, typed};
+use jc_base::World;
+use jc_flow::{FlowEnd, infer};
+use std::alloc::Global;
+
+/// Types each method with code of the last package of a world.
+pub fn type_methods(alloc: Global, world: &World<'_>) -> Verdict
+    ensures { ChecksWorld world.now result }
+{
+    let mut count = 0u16;
+    'methods: for number in 0..world.method_count() {
+        match type_method(alloc, world, number) {
+            Ok(asked) => count += u16::from(asked),
+            Err(end) => return untyped(alloc, world, number, end),
+        }
+    }
+    Verdict::done(typed(alloc, count))
+}
+
+// Types a method, where it is one of the last package with code, and tells whether it is one.
+fn type_method(alloc: Global, world: &World<'_>, number: u16) -> Result<bool, FlowEnd>
+    requires { number < length world.now.methods }
+    ensures { TypesAt world.now number result }
+{
+    if !is_of_last(world, number) {
+        return Ok(false);
+    }
+    match infer(alloc, world, number) {
+        Ok(_) => Ok(true),
+        Err(end) => Err(end),
+    }
+}
+
+// Whether a method is one of the last package with code.
+fn is_of_last(world: &World<'_>, number: u16) -> bool
+    requires { number < length world.now.methods }
+    ensures { option_map (is_of_last (length world.now.infos)) (slice_get world.now.methods number) ≡ Some result }
+{
+    let rec = world.method(number);
+    let packages = world.package_count();
+    rec.package + 1 == packages && rec.code_len > 0
+}
+
+// The verdict for the first method of which no typing was found.
+fn untyped(alloc: Global, world: &World<'_>, number: u16, end: FlowEnd) -> Verdict
+    requires known { number < length world.now.methods }
+    requires earlier { AreTypedBelow world.now number }
+    requires fails { FailsAt world.now number end }
+    ensures { ChecksWorld world.now result }
+{
+    match end {
+        FlowEnd::Memory => Verdict::Memory,
+        _ => Verdict::refused(refused_flow(alloc, number_of(world, number), end)),
+    }
+}
+
+// A method by the numbers of its Descriptor.
+fn number_of(world: &World<'_>, number: u16) -> MethodNumber
+    requires { number < length world.now.methods }
+    ensures { option_map number_of (slice_get world.now.methods number) ≡ Some result }
+{
+    let rec = world.method(number);
+    MethodNumber {
+        package: rec.package,
+        class_no: rec.class_no,
+        method_no: rec.method_no,
+    }
+}
