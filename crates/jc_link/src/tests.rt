@@ -14,6 +14,20 @@ const ROLES: [u8; 8] = [0, 1, 2, 3, 4, 5, 6, 7];
 /// The same in the library, whose interface has number 0.
 const LIBRARY_ROLES: [u8; 8] = [1, 2, 2, 2, 2, 2, 2, 2];
 
+/// What the entries of the user's pool name.
+const MEMBERS: [Told; 10] = [
+    (1, 2, 0),
+    (3, 3, 0),
+    (3, 3, 1),
+    (3, 3, 128),
+    (4, 3, 1),
+    (5, 0, 0),
+    (6, 3, 0),
+    (2, 3, 0),
+    (1, 3, 0),
+    (1, 2, 0),
+];
+
 /// A part's tag, an offset in its file, and the byte that stands there instead.
 type Change = (u8, usize, u8);
 
@@ -96,16 +110,21 @@ fn plain(alloc: Global, changes: &[Change], roles: [u8; 8]) -> Result<Told, Link
     Ok(told(link(alloc, &packages, roles)))
 }
 
+/// What linking two packages ends with.
+fn told_of_two(alloc: Global, first: &OwnedParts, second: &OwnedParts) -> Result<Told, LinkEnd> {
+    let one = first.lend(alloc)?;
+    let other = second.lend(alloc)?;
+    let mut packages = Packages::new(alloc);
+    push(&mut packages, &one)?;
+    push(&mut packages, &other)?;
+    Ok(told(link(alloc, &packages, LIBRARY_ROLES)))
+}
+
 /// What linking the library and its user ends with, when some bytes of each are changed.
 fn both(alloc: Global, library: &[Change], user: &[Change]) -> Result<Told, LinkEnd> {
     let first = owned(alloc, &LIBRARY, library)?;
     let second = owned(alloc, &USER, user)?;
-    let first_parts = first.lend(alloc)?;
-    let second_parts = second.lend(alloc)?;
-    let mut packages = Packages::new(alloc);
-    push(&mut packages, &first_parts)?;
-    push(&mut packages, &second_parts)?;
-    Ok(told(link(alloc, &packages, LIBRARY_ROLES)))
+    told_of_two(alloc, &first, &second)
 }
 
 /// The kind of a member, and what it names.
@@ -157,39 +176,42 @@ fn is_user(rt: &impl Abort, world: &World<'_>) {
     assert_eq!(rt; handlers[0].class, 2);
 }
 
+/// The world of the library and its user, and the table of its classes.
+fn are_linked(rt: &impl Abort, alloc: Global, packages: &Packages<'_, '_>) {
+    match link(alloc, packages, LIBRARY_ROLES) {
+        Ok(world) => {
+            are_members(rt, &world, &MEMBERS);
+            is_user(rt, &world);
+        }
+        Err(_) => assert!(rt; false),
+    }
+    match class_table(alloc, packages, LIBRARY_ROLES) {
+        Ok(table) => assert_eq!(rt; table.len(), 4),
+        Err(_) => assert!(rt; false),
+    }
+}
+
+fn are_linked_parts(
+    rt: &impl Abort,
+    alloc: Global,
+    first: &OwnedParts,
+    second: &OwnedParts,
+) -> Result<(), LinkEnd> {
+    let one = first.lend(alloc)?;
+    let other = second.lend(alloc)?;
+    let mut packages = Packages::new(alloc);
+    push(&mut packages, &one)?;
+    push(&mut packages, &other)?;
+    are_linked(rt, alloc, &packages);
+    Ok(())
+}
+
 #[test]
 fn a_package_and_its_user(rt: HostRuntime) -> Result<(), Fail> {
     let alloc = rt.alloc();
     let first = owned(alloc, &LIBRARY, &[])?;
     let second = owned(alloc, &USER, &[])?;
-    let first_parts = first.lend(alloc)?;
-    let second_parts = second.lend(alloc)?;
-    let mut packages = Packages::new(alloc);
-    assert!(rt; push(&mut packages, &first_parts).is_ok());
-    assert!(rt; push(&mut packages, &second_parts).is_ok());
-    let members = [
-        (1, 2, 0),
-        (3, 3, 0),
-        (3, 3, 1),
-        (3, 3, 128),
-        (4, 3, 1),
-        (5, 0, 0),
-        (6, 3, 0),
-        (2, 3, 0),
-        (1, 3, 0),
-        (1, 2, 0),
-    ];
-    match link(alloc, &packages, LIBRARY_ROLES) {
-        Ok(world) => {
-            are_members(&rt, &world, &members);
-            is_user(&rt, &world);
-        }
-        Err(_) => assert!(rt; false),
-    }
-    match class_table(alloc, &packages, LIBRARY_ROLES) {
-        Ok(table) => assert_eq!(rt; table.len(), 4),
-        Err(_) => assert!(rt; false),
-    }
+    assert!(rt; are_linked_parts(&rt, alloc, &first, &second).is_ok());
     Ok(())
 }
 
