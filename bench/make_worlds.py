@@ -9,9 +9,10 @@ their order; the file of roles stands in the first. With CAPCHECK, the path of t
 
 The worlds have 16 packages (half: 8), with all the classes that 16 packages can have: 4,080 and not 4,096,
 since a Descriptor counts the classes of its package in one byte. The methods are of 32,767 bytes (half:
-16,383), but for two shapes. The time of `waves` grows with the third power of its length: it has 2,048
-bytes (half: 1,024). Each place of `deep_handlers` takes as many steps as there are handlers, registers and
-superclasses, multiplied: it has 16 such places (half: 8).
+16,383), but for three shapes. The time of `climbing` grows with the square of its length, or more: it has
+8,192 bytes (half: 4,096). That of `waves` grows with the third power: it has 2,048 bytes (half: 1,024).
+Each place of `deep_handlers` takes as many steps as there are handlers, registers and superclasses,
+multiplied: it has 16 such places (half: 8).
 """
 import os
 import subprocess
@@ -228,7 +229,7 @@ def back_branches(count, head, at):
 def climbing(full):
     """Half of the code is straight, and behind it stand branches back to its beginning. Each raises register 0 by
     one class along a chain, so that all the straight code is gone over again for each."""
-    size = 32767 if full else 16383
+    size = 8192 if full else 4096
     code = bytes([ACONST_NULL, ASTORE_0])
     head = len(code)
     code += bytes(size // 2)
