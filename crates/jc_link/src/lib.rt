@@ -14,6 +14,8 @@ pub use linking::link;
 pub use tabling::class_table;
 
 #[cfg(test)]
+mod limit_tests;
+#[cfg(test)]
 mod sample;
 #[cfg(test)]
 mod tests;

@@ -2,14 +2,14 @@ use crate::sample::{LIBRARY, PLAIN, USER};
 use crate::{class_table, link};
 use cap_bytes::Part;
 use cap_package::{OwnedParts, Packages, Parts, package};
-use jc_base::{Member, World};
+use jc_base::{Kind, Member, World};
 use jc_names::{LinkEnd, LinkFault};
 use std::alloc::{AllocError, Global};
 use std::process::Abort;
 use std::test::Fail;
 
 /// Object, throwable, and the six classes of the first package that the machine throws.
-const ROLES: [u8; 8] = [0, 1, 2, 3, 4, 5, 6, 7];
+pub(crate) const ROLES: [u8; 8] = [0, 1, 2, 3, 4, 5, 6, 7];
 
 /// The same in the library, whose interface has number 0.
 const LIBRARY_ROLES: [u8; 8] = [1, 2, 2, 2, 2, 2, 2, 2];
@@ -29,10 +29,10 @@ const MEMBERS: [Told; 10] = [
 ];
 
 /// A part's tag, an offset in its file, and the byte that stands there instead.
-type Change = (u8, usize, u8);
+pub(crate) type Change = (u8, usize, u8);
 
 /// The number of a condition, and what its fault names.
-type Told = (u8, u32, u16);
+pub(crate) type Told = (u8, u32, u16);
 
 /// The bytes of a part with some of them changed.
 fn changed(alloc: Global, part: (u8, &[u8]), changes: &[Change]) -> Result<Vec<u8>, AllocError> {
@@ -46,7 +46,7 @@ fn changed(alloc: Global, part: (u8, &[u8]), changes: &[Change]) -> Result<Vec<u
 }
 
 /// A package with some bytes changed.
-fn owned(
+pub(crate) fn owned(
     alloc: Global,
     parts: &[(u8, &[u8])],
     changes: &[Change],
@@ -60,7 +60,10 @@ fn owned(
     Ok(owned)
 }
 
-fn push<'p, 'a>(packages: &mut Packages<'p, 'a>, parts: &'p Parts<'a>) -> Result<(), LinkEnd> {
+pub(crate) fn push<'p, 'a>(
+    packages: &mut Packages<'p, 'a>,
+    parts: &'p Parts<'a>,
+) -> Result<(), LinkEnd> {
     match package(parts) {
         Ok(package) => Ok(packages.push(package)?),
         Err(_) => Err(LinkEnd::Memory),
@@ -93,7 +96,7 @@ fn numbers_of(fault: LinkFault) -> Told {
 }
 
 /// What linking ends with: 0 and the numbers of classes and methods, or the fault; 99 where there is none.
-fn told(answer: Result<World<'_>, LinkEnd>) -> Told {
+pub(crate) fn told(answer: Result<World<'_>, LinkEnd>) -> Told {
     match answer {
         Ok(world) => (0, world.class_count() as u32, world.method_count()),
         Err(LinkEnd::Fault(fault)) => numbers_of(fault),
@@ -212,6 +215,37 @@ fn a_package_and_its_user(rt: HostRuntime) -> Result<(), Fail> {
     let first = owned(alloc, &LIBRARY, &[])?;
     let second = owned(alloc, &USER, &[])?;
     assert!(rt; are_linked_parts(&rt, alloc, &first, &second).is_ok());
+    Ok(())
+}
+
+/// The world of the plain package: eight classes, two methods and one static cell, that of a short.
+fn is_plain(rt: &impl Abort, world: &World<'_>) {
+    assert_eq!(rt; world.class_count(), 8);
+    assert_eq!(rt; world.method_count(), 2);
+    assert_eq!(rt; world.static_count(), 1);
+    let field = world.static_field(0);
+    assert!(rt; matches!(field.kind, Kind::Short));
+    assert_eq!(rt; field.slot, 0);
+    let words: [u16; 1] = [7];
+    assert!(rt; field.initial.as_slice() == words.as_slice());
+}
+
+fn is_plain_linked(rt: &impl Abort, alloc: Global, plain: &OwnedParts) -> Result<(), LinkEnd> {
+    let parts = plain.lend(alloc)?;
+    let mut packages = Packages::new(alloc);
+    push(&mut packages, &parts)?;
+    match link(alloc, &packages, ROLES) {
+        Ok(world) => is_plain(rt, &world),
+        Err(_) => assert!(rt; false),
+    }
+    Ok(())
+}
+
+#[test]
+fn a_plain_package(rt: HostRuntime) -> Result<(), Fail> {
+    let alloc = rt.alloc();
+    let plain = owned(alloc, &PLAIN, &[])?;
+    assert!(rt; is_plain_linked(&rt, alloc, &plain).is_ok());
     Ok(())
 }
 
