@@ -1,5 +1,5 @@
 -- Records up to the end of the component: each takes a byte or more, and is one that may stand anywhere.
-use Rattle.std.proofs.Common.{◌≡◌, ℕ, ◌+◌, ◌-◌, ◌≤◌, ◌<◌, Bool, true, false, List, [], ◌∷◌, length, Result, Ok, Err, Option, Some, None, refl, arith, subst, cond}
+use Rattle.std.proofs.Common.{◌≡◌, ℕ, ◌≤◌, ◌<◌, Bool, true, false, List, [], ◌∷◌, length, Some, None, refl, arith, subst, cond}
 use Rattle.std.specs.Prelude.{◌&&◌}
 use Rattle.cap_bytes.specs.declared.fault.FormKind.TheVariants.{BadValue, Remote}
 use Rattle.cap_bytes.specs.declared.fault.FormFault.{FormFault}

@@ -1,4 +1,5 @@
--- The format of the Class component (JCVM 2.2, section 6.8): the signature pool, which is carried unread, then the interfaces, then the classes.
+-- The format of the Class component (JCVM 2.2, section 6.8): the signature pool, which is carried unread,
+-- then the interfaces, then the classes.
 use Rattle.std.specs.Prelude.{ℕ, ◌/◌, ◌%◌, Bool, true, false, not, ◌||◌, ◌&&◌, ◌==◌, if◌then◌else◌, List, [], Option, Some, None}
 use Rattle.std.specs.Int.RustNames.{bit_and}
 use Rattle.cap_bytes.specs.declared.fault.FormKind.{FormKind}
@@ -10,7 +11,8 @@ pub record Interface : Type 0 where
   pub class_ref : ℕ
   pub tokens : List ℕ
 
--- class_info, at its offset; an interface has no superclass, no fields, no tables, and the interfaces that it extends
+-- class_info, at its offset; an interface has no superclass, no fields, no tables, and the interfaces that it
+-- extends
 pub record Class : Type 0 where
   pub offset : ℕ
   pub flags : ℕ

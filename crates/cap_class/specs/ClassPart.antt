@@ -1,8 +1,7 @@
 -- The Class component and its records as values of the program.
-use Rattle.std.specs.Prelude.{ℕ, List, []}
+use Rattle.std.specs.Prelude.{ℕ, false, List, [], Result, Ok, Err}
 use Rattle.cap_bytes.specs.Grammar.{repeat, until_end}
 use Rattle.cap_bytes.specs.Table.{numbers}
-use Rattle.std.specs.Prelude.{false, Result, Ok, Err}
 use Rattle.cap_bytes.specs.declared.fault.FormFault.{FormFault}
 use Rattle.cap_bytes.specs.declared.items.Items.{Items}
 use Rattle.cap_bytes.specs.Taking.{Taken, Fails, given}
@@ -44,7 +43,8 @@ classes_left x = given [] (repeat x.left any_record) x.items
 abbrev pub records : ClassPart → List format.Class
 records x = classes_left x.classes
 
--- the records up to the end are passed, which are so many that may stand anywhere; or the first item that breaks the format gives the fault
+-- the records up to the end are passed, which are so many that may stand anywhere; or the first item that
+-- breaks the format gives the fault
 abbrev pub PassesRecords : Items → Result ℕ FormFault → Items → Type 0
 PassesRecords before (Ok count) after = (xs : List format.Class) × Taken (until_end record_info is_behind false) before xs after × Taken (repeat count any_record) before xs after
 PassesRecords before (Err fault) after = Fails (until_end record_info is_behind false) before fault

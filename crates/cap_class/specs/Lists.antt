@@ -1,5 +1,5 @@
 -- The lists of a record as values of the program.
-use Rattle.std.specs.Prelude.{ℕ, List, []}
+use Rattle.std.specs.Prelude.{List, []}
 use Rattle.cap_bytes.specs.Grammar.{repeat}
 use Rattle.cap_bytes.specs.Taking.{given}
 use Rattle.cap_class.specs.declared.implemented.Implemented.{Implemented}

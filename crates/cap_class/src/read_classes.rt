@@ -78,6 +78,7 @@ impl<'a> Iterator for Classes<'a> {
     }
 }
 
+/// The items of the component.
 #[tactic(auto, unfolding(cap_bytes::specs::Reading::reading))]
 fn read(info: View<'_>) -> Result<ClassPart<'_>, FormFault>
     requires { length info.bytes.now ≤ 65535 }
@@ -162,6 +163,7 @@ impl<'a> ClassInfo<'a> {
         self.offset
     }
 
+    /// Whether it is an interface, and a shareable one.
     pub fn flags(&self) -> ClassFlags
         ensures { result.0 ≡ (class_seen self.now).flags }
     {
@@ -211,6 +213,7 @@ impl<'a> ClassInfo<'a> {
         self.tables.public_base
     }
 
+    /// The entries of the public dispatch table.
     pub fn public_count(&self) -> u8
         ensures { result ≡ length (class_seen self.now).public }
     {
@@ -224,6 +227,7 @@ impl<'a> ClassInfo<'a> {
         self.tables.package_base
     }
 
+    /// The entries of the package-visible dispatch table.
     pub fn package_count(&self) -> u8
         ensures { result ≡ length (class_seen self.now).visible }
     {

@@ -13,6 +13,7 @@ use crate::implemented::Implemented;
 use crate::interfaces::Interfaces;
 use cap_bytes::{FormFault, FormKind, Items, Table};
 
+/// The next interface of a record: one that an interface extends, or one that a class implements.
 fn interface<'a>(items: &mut Items<'a>, extended: bool) -> Result<Implemented<'a>, FormFault>
     ensures { Takes interface_seen (interface_info extended) items.old result items.new }
 {
@@ -28,6 +29,7 @@ fn interface<'a>(items: &mut Items<'a>, extended: bool) -> Result<Implemented<'a
     Ok(Implemented { class_ref, tokens })
 }
 
+/// Passes over so many interfaces.
 #[tactic(auto, using(cap_bytes::proofs::Loops::passing))]
 fn pass_interfaces(items: &mut Items<'_>, count: u8, extended: bool) -> Result<(), FormFault>
     ensures { Passes (repeat count (interface_info extended)) items.old result items.new }
@@ -38,6 +40,7 @@ fn pass_interfaces(items: &mut Items<'_>, count: u8, extended: bool) -> Result<(
     Ok(())
 }
 
+/// The next so many interfaces.
 #[tactic(auto, using(cap_bytes::proofs::Loops::yielding))]
 fn interfaces<'a>(
     items: &mut Items<'a>,
@@ -55,6 +58,7 @@ fn interfaces<'a>(
     })
 }
 
+/// The superclass, and what an instance has of its own.
 fn instance(items: &mut Items<'_>) -> Result<Instance, FormFault>
     ensures { Takes instance_seen instance_info items.old result items.new }
 {
@@ -78,6 +82,7 @@ fn dispatch<'a>(items: &mut Items<'a>, count: u8) -> Result<Table<'a>, FormFault
     items.table(u16::from(count))
 }
 
+/// Both dispatch tables.
 fn tables<'a>(items: &mut Items<'a>) -> Result<Tables<'a>, FormFault>
     ensures { Takes tables_seen tables_info items.old result items.new }
 {

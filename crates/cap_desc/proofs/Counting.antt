@@ -6,6 +6,7 @@ use Rattle.std.proofs.lemmas.Bool.{lt-ltb, le-ltb}
 use Rattle.cap_bytes.specs.Grammar.{Grammar, give, ◌>>=◌, repeat, at_most, when}
 use Rattle.cap_bytes.specs.Spelling.{info_of}
 use Rattle.cap_bytes.specs.Reading.{Reading, and_then, read, is_read, value_or}
+use Rattle.cap_bytes.proofs.Laws.{then_ok}
 
 -- a reading of nibbles
 abbrev pub at_place : {X : Type 0} → Grammar X → List ℕ → ℕ → Reading X
@@ -30,11 +31,11 @@ fronts : {X : Type 0} (xs ys : List X) (r : Reading (List X)) → with_front xs 
 fronts xs ys (Ok x) = ap (λ zs. Ok (zs, x.1)) (sym (append_assoc xs ys x.0))
 fronts xs ys (Err e) = refl
 
-most-more : {X : Type 0} (g : Grammar X) (ns : List ℕ) (n at after : ℕ) (x : X) → at < length ns → at_place g ns at ≡ Ok (x, after) → most g (suc n) ns at ≡ with_front (x ∷ []) (most g n ns after)
+pub most-more : {X : Type 0} (g : Grammar X) (ns : List ℕ) (n at after : ℕ) (x : X) → at < length ns → at_place g ns at ≡ Ok (x, after) → most g (suc n) ns at ≡ with_front (x ∷ []) (most g n ns after)
 most-more g ns n at after x lt k =
     subst (λ t. at_place (when t [] (first_of_most g n)) ns at ≡ with_front (x ∷ []) (most g n ns after)) (sym (lt-ltb 0 (length ns - at) (omega arith))) (rw k refl)
 
-most-fails : {X : Type 0} (g : Grammar X) (ns : List ℕ) (n at : ℕ) → at < length ns → result_ok (at_place g ns at) ≡ None → result_ok (most g (suc n) ns at) ≡ None
+pub most-fails : {X : Type 0} (g : Grammar X) (ns : List ℕ) (n at : ℕ) → at < length ns → result_ok (at_place g ns at) ≡ None → result_ok (most g (suc n) ns at) ≡ None
 most-fails {X = X} g ns n at lt k =
     subst (λ t. result_ok (at_place (when t [] (first_of_most g n)) ns at) ≡ None) (sym (lt-ltb 0 (length ns - at) (omega arith))) (no_first (at_place g ns at) k)
   where
@@ -42,15 +43,11 @@ most-fails {X = X} g ns n at lt k =
     no_first (Ok x) h = absurd cc
     no_first (Err e) h = refl
 
-most-ends : {X : Type 0} (g : Grammar X) (ns : List ℕ) (n at : ℕ) → length ns ≤ at → most g n ns at ≡ Ok ([], at)
+pub most-ends : {X : Type 0} (g : Grammar X) (ns : List ℕ) (n at : ℕ) → length ns ≤ at → most g n ns at ≡ Ok ([], at)
 most-ends g ns zero at le = refl
 most-ends {X = X} g ns (suc n) at le =
     let none : List X = [] in
     subst (λ t. at_place (when t none (first_of_most g n)) ns at ≡ Ok (none, at)) (sym (le-ltb 0 (length ns - at) (omega arith))) refl
-
-split : {X Y : Type 0} (r : Reading X) (next : X → ℕ → Reading Y) (y : Y) (after : ℕ) → and_then r next ≡ Ok (y, after) → (x : X) × (middle : ℕ) × (r ≡ Ok (x, middle)) × (next x middle ≡ Ok (y, after))
-split (Ok x) next y after h = (x.0, x.1, refl, h)
-split (Err e) next y after h = absurd cc
 
 abbrev front_ok : {X : Type 0} → X → List X → ℕ → Reading (List X)
 front_ok y ys p = Ok (y ∷ ys, p)
@@ -72,8 +69,8 @@ repeat-more {X = X} g ns zero start at after xs x h k =
     let same : start ≡ at = ap (λ (p : List X × ℕ). p.1) e in
     rw (← xs_none, same, k) refl
 repeat-more {X = X} g ns (suc n) start at after xs x h k =
-    let first = split (at_place g ns start) (λ y middle. and_then (at_place (repeat n g) ns middle) (λ ys p. Ok (y ∷ ys, p))) xs at h in
-    let others = split (at_place (repeat n g) ns first.1) (λ ys p. Ok (first.0 ∷ ys, p)) xs at first.3 in
+    let first = then_ok (at_place g ns start) (λ y middle. and_then (at_place (repeat n g) ns middle) (λ ys p. Ok (y ∷ ys, p))) xs at h in
+    let others = then_ok (at_place (repeat n g) ns first.1) (λ ys p. Ok (first.0 ∷ ys, p)) xs at first.3 in
     let same = same_front first.0 others.0 xs others.1 at others.3 in
     let more = repeat-more g ns n first.1 at after others.0 x (others.2 ∙ ap (ok_with others.0) same.1) k in
     let f : Reading (List X) → Reading (List X) = λ r. and_then r (λ ys p. Ok (first.0 ∷ ys, p)) in

@@ -3,5 +3,5 @@ pub mod MemberWidths
 pub mod NibbleLemmas
 pub mod Counting
 pub mod TypesCounted
-pub mod TakenLength
 pub mod OneType
+pub mod TypesThere

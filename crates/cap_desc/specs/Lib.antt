@@ -1,5 +1,6 @@
 pub mod DescriptorFormat
 pub mod TypeFormat
+pub mod TypeDescriptor
 pub mod MemberRecords
 pub mod MemberLists
 pub mod ClassRecords

@@ -66,6 +66,10 @@ one_type_in ns = option_map (λ p. p.0) (result_ok (nibbles_read (type_item >>= 
 abbrev pub nibbles_at : List ℕ → ℕ → ℕ → Option (List ℕ)
 nibbles_at bytes at count = if nat_le (at + (count + 1) / 2) (length bytes) then Some (take count (nibbles (take ((count + 1) / 2) (drop at bytes)))) else None
 
+-- the nibbles of the type descriptor at a place, where the bytes reach
+abbrev pub descriptor_nibbles : List ℕ → ℕ → Option (List ℕ)
+descriptor_nibbles bytes at = option_and_then (λ count. nibbles_at bytes (at + 1) count) (number_at 1 at bytes)
+
 -- the types of the well-formed type descriptor at a place, if one stands there
 abbrev pub types_at : List ℕ → ℕ → Option (List TypeItem)
 types_at bytes at = option_and_then (λ count. option_and_then types_in (nibbles_at bytes (at + 1) count)) (number_at 1 at bytes)

@@ -8,16 +8,21 @@ use bitflags::{Flag, Flags};
 pub struct AccessFlags(pub u8);
 
 impl AccessFlags {
+    /// Every class can name it.
     pub const PUBLIC: AccessFlags = AccessFlags(0x01);
 
+    /// Its own class alone can name it.
     pub const PRIVATE: AccessFlags = AccessFlags(0x02);
 
+    /// Its package and its subclasses can name it.
     pub const PROTECTED: AccessFlags = AccessFlags(0x04);
 
+    /// It belongs to its class, and not to an instance.
     pub const STATIC: AccessFlags = AccessFlags(0x08);
 
+    /// It is not changed or overridden.
     pub const FINAL: AccessFlags = AccessFlags(0x10);
-    /// Of methods alone.
+    /// Of methods alone: it has no code.
     pub const ABSTRACT: AccessFlags = AccessFlags(0x40);
     /// Of methods alone: a constructor.
     pub const INIT: AccessFlags = AccessFlags(0x80);

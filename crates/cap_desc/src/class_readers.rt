@@ -9,6 +9,7 @@ use crate::lists::{DescFields, DescMethods};
 use cap_bytes::Table;
 
 impl<'a> DescClass<'a> {
+    /// The class's token.
     pub fn token(&self) -> u8
         ensures { result ≡ (class_seen self.now).token }
     {
@@ -22,12 +23,14 @@ impl<'a> DescClass<'a> {
         self.class_ref
     }
 
+    /// How many interfaces it tells.
     pub fn interface_count(&self) -> u8
         ensures { result ≡ length (class_seen self.now).interfaces }
     {
         self.interface_count
     }
 
+    /// How many fields it has.
     #[tactic(auto, using(cap_bytes::proofs::Loops::yielding))]
     pub fn field_count(&self) -> u16
         ensures { result ≡ length (class_seen self.now).fields }
@@ -35,6 +38,7 @@ impl<'a> DescClass<'a> {
         self.fields.left
     }
 
+    /// How many methods it has.
     #[tactic(auto, using(cap_bytes::proofs::Loops::yielding))]
     pub fn method_count(&self) -> u16
         ensures { result ≡ length (class_seen self.now).methods }
@@ -56,12 +60,14 @@ impl<'a> DescClass<'a> {
         self.interfaces
     }
 
+    /// The fields, in the order of the component.
     pub fn fields(&self) -> DescFields<'a>
         ensures { fields_left result ≡ (class_seen self.now).fields }
     {
         self.fields
     }
 
+    /// The methods, in the order of the component.
     pub fn methods(&self) -> DescMethods<'a>
         ensures { methods_left result ≡ (class_seen self.now).methods }
     {

@@ -1,12 +1,13 @@
-ghost use Rattle.std.specs.Prelude.{◌≡◌, ◌+◌, length, option_map};
+ghost use Rattle.std.specs.Prelude.{◌≡◌, ◌+◌, List, [], ◌∷◌, length, option_map, IfSome, IfNone};
 ghost use Rattle.std.specs.List.{slice_get};
-ghost use Rattle.cap_desc.specs.TypeFormat.{types_at, type_at};
+ghost use Rattle.cap_desc.specs.TypeFormat.{types_at, type_at, descriptor_nibbles};
+ghost use Rattle.cap_desc.specs.Nibbles.{nibbles_in};
 ghost use Rattle.cap_bytes.specs.Table.{numbers};
 ghost use Rattle.cap_desc.specs.ClassRecords.{classes_left};
 ghost use Rattle.cap_desc.specs.TypeLists.{types_left};
 ghost use Rattle.cap_desc.specs.Members.{methods_from, fields_of};
 ghost use Rattle.cap_desc.specs.MembersLeft.{methods_from_left, fields_of_left};
-ghost use Rattle.cap_desc.specs.Descriptors.{descriptor_seen};
+ghost use Rattle.cap_desc.specs.Descriptors.{descriptor_seen, HasTypes};
 
 use crate::desc_part::DescPart;
 use crate::lists::{DescClasses, DescFields, DescMethods};
@@ -92,30 +93,56 @@ impl<'a> DescPart<'a> {
     /// The type of the type descriptor at an offset from the item `constant_pool_count`, where a
     /// well-formed one of one type stands there.
     pub fn type_at(&self, offset: u16) -> Option<TypeItem>
-        ensures { result ≡ type_at self.now.info.bytes.now ((descriptor_seen self.now).types_start + offset) }
+        ensures value { result ≡ type_at self.now.info.bytes.now ((descriptor_seen self.now).types_start + offset) }
+        ensures found { IfSome result (λ t. HasTypes self.now offset (t ∷ [])) }
+        ensures none { IfNone result ((t : TypeItem) → HasTypes self.now offset (t ∷ []) → ⊥) }
     {
-        let start = self.types_start + offset as u32;
-        let count = self.info.u1(start)?;
-        let bytes = self.info.part(start + 1, (count as u32 + 1) / 2)?;
-        let nibbles = Nibbles { bytes, count };
-        nibbles.one_type()
+        self.read_type(offset)
     }
 
     /// The types of the type descriptor at an offset from the item `constant_pool_count`, where a
     /// well-formed one stands there.
     pub fn types_at(&self, offset: u16) -> Option<Types<'a>>
+        ensures value { option_map types_left result
+            ≡ types_at self.now.info.bytes.now ((descriptor_seen self.now).types_start + offset) }
+        ensures found { IfSome result (λ types. HasTypes self.now offset (types_left types)) }
+        ensures none { IfNone result ((ts : List TypeItem) → HasTypes self.now offset ts → ⊥) }
+        ensures exact { (ts us : List TypeItem) → HasTypes self.now offset ts → HasTypes self.now offset us → ts ≡ us }
+    {
+        self.read_types(offset)
+    }
+
+    /// What `type_at` answers, read from the nibbles.
+    #[tactic(auto, using(crate::proofs::TypesThere::chained))]
+    fn read_type(&self, offset: u16) -> Option<TypeItem>
+        ensures { result ≡ type_at self.now.info.bytes.now ((descriptor_seen self.now).types_start + offset) }
+    {
+        self.nibbles_at(offset)?.one_type()
+    }
+
+    /// What `types_at` answers, read from the nibbles.
+    #[tactic(auto, using(crate::proofs::TypesThere::chained))]
+    fn read_types(&self, offset: u16) -> Option<Types<'a>>
         ensures { option_map types_left result
             ≡ types_at self.now.info.bytes.now ((descriptor_seen self.now).types_start + offset) }
     {
-        let start = self.types_start + offset as u32;
-        let count = self.info.u1(start)?;
-        let bytes = self.info.part(start + 1, (count as u32 + 1) / 2)?;
-        let nibbles = Nibbles { bytes, count };
+        let nibbles = self.nibbles_at(offset)?;
         let left = nibbles.type_count()?;
         Some(Types {
             nibbles,
             at: 0,
             left,
         })
+    }
+
+    /// The nibbles of the type descriptor at an offset, where the bytes reach.
+    fn nibbles_at(&self, offset: u16) -> Option<Nibbles<'a>>
+        ensures { option_map nibbles_in result
+            ≡ descriptor_nibbles self.now.info.bytes.now ((descriptor_seen self.now).types_start + offset) }
+    {
+        let start = self.types_start + offset as u32;
+        let count = self.info.u1(start)?;
+        let bytes = self.info.part(start + 1, (count as u32 + 1) / 2)?;
+        Some(Nibbles { bytes, count })
     }
 }

@@ -17,12 +17,12 @@ pub(crate) fn field_info(items: &mut Items<'_>) -> Result<FieldInfo, FormFault>
 {
     let token = items.u1()?;
     let flags = items.u1()?;
-    let bytes = items.piece(3)?;
+    let bytes = items.triple()?;
     let ty = items.u2()?;
     Ok(FieldInfo {
         token,
         flags: AccessFlags::of_field(flags),
-        bytes: [bytes[0], bytes[1], bytes[2]],
+        bytes,
         ty,
     })
 }

@@ -22,12 +22,17 @@ pub record DirectoryItems : Type 0 where
 abbrev pub is_new_tag : (ℕ → Bool) → ℕ → Bool
 is_new_tag named tag = nat_le 128 tag && not (named tag)
 
-abbrev pub custom_info : (ℕ → Bool) → Grammar Custom
-custom_info named = do
-  tag ← number 1 (that (is_new_tag named))
+-- a custom component behind its tag
+abbrev pub behind_tag : ℕ → Grammar Custom
+behind_tag tag = do
   size ← u2
   identifier ← aid
   give (record { tag = tag; size = size; aid = identifier })
+
+abbrev pub custom_info : (ℕ → Bool) → Grammar Custom
+custom_info named = do
+  tag ← number 1 (that (is_new_tag named))
+  behind_tag tag
 
 -- no tag
 abbrev pub none : ℕ → Bool

@@ -9,6 +9,9 @@ use crate::applet_record::{AppletInfo, Applets};
 use crate::lists::AppletInfos;
 use cap_bytes::{FormFault, Items, View};
 
+/// The tag of the component.
+const APPLET: u8 = 3;
+
 /// Reads the info of an Applet component.
 #[tactic(auto, using(cap_bytes::proofs::Laws::whole))]
 pub fn applets(info: View<'_>) -> Result<Applets<'_>, FormFault>
@@ -21,13 +24,14 @@ pub fn applets(info: View<'_>) -> Result<Applets<'_>, FormFault>
     read(info)
 }
 
+/// The items of the component.
 #[tactic(auto, using(cap_bytes::proofs::Loops::yielding), unfolding(cap_bytes::specs::Reading::reading))]
 fn read(info: View<'_>) -> Result<Applets<'_>, FormFault>
     requires { length info.bytes.now ≤ 65535 }
     ensures value { Reads applets_of (info_of 3) applets_info info.entry.bytes.now result }
     ensures info { IfOk result (λ x. x.info ≡ info.entry) }
 {
-    let mut items = Items::of(info, 3);
+    let mut items = Items::of(info, APPLET);
     let left = items.u1()?;
     let applets = AppletInfos { items, left };
     pass_applets(&mut items, left)?;
@@ -35,6 +39,7 @@ fn read(info: View<'_>) -> Result<Applets<'_>, FormFault>
     Ok(Applets { info, applets })
 }
 
+/// Passes over so many applets.
 #[tactic(auto, using(cap_bytes::proofs::Loops::passing))]
 fn pass_applets(items: &mut Items<'_>, count: u8) -> Result<(), FormFault>
     ensures { Passes (repeat count applet_info) items.old result items.new }
@@ -45,6 +50,7 @@ fn pass_applets(items: &mut Items<'_>, count: u8) -> Result<(), FormFault>
     Ok(())
 }
 
+/// The next applet.
 pub(crate) fn applet_info<'a>(items: &mut Items<'a>) -> Result<AppletInfo<'a>, FormFault>
     ensures { Takes applet_seen applet_info items.old result items.new }
 {

@@ -28,6 +28,7 @@ impl<'a> Applets<'a> {
         self.info
     }
 
+    /// How many applets there are.
     #[tactic(auto, using(cap_bytes::proofs::Loops::yielding))]
     pub fn count(&self) -> u8
         ensures { result ≡ length (applets_of self.now) }
@@ -35,6 +36,7 @@ impl<'a> Applets<'a> {
         self.applets.left
     }
 
+    /// The n-th applet, counted from 0.
     pub fn at(&self, n: u8) -> Option<AppletInfo<'a>>
         ensures { option_map applet_seen result ≡ slice_get (applets_of self.now) n }
     {

@@ -3,12 +3,15 @@ ghost use Rattle.cap_bytes.specs.Grammar.{each};
 ghost use Rattle.cap_bytes.specs.Spelling.{info_of, Stands, Breaks, IsExact};
 ghost use Rattle.cap_bytes.specs.Taking.{Takes, Passes, Reads};
 ghost use Rattle.cap_frame.specs.Directory.{custom_seen, customs_left, directory_items};
-ghost use Rattle.cap_frame.specs.DirectoryFormat.{custom_info, customs_info, and_that_of, none, directory_info};
+ghost use Rattle.cap_frame.specs.DirectoryFormat.{custom_info, behind_tag, customs_info, and_that_of, none, directory_info};
 ghost use Rattle.cap_frame.specs.Tags.{named_in};
 
 use crate::directory_record::{CustomEntry, Directory};
 use crate::lists::CustomEntries;
 use cap_bytes::{FormFault, FormKind, Items, View};
+
+/// The tag of the component.
+const DIRECTORY: u8 = 2;
 
 /// Reads the info of a Directory component.
 #[tactic(auto, using(cap_bytes::proofs::Laws::whole))]
@@ -22,13 +25,14 @@ pub fn directory(info: View<'_>) -> Result<Directory<'_>, FormFault>
     read(info)
 }
 
+/// The items of the component.
 #[tactic(auto, using(cap_bytes::proofs::Loops::yielding), unfolding(cap_bytes::specs::Reading::reading))]
 fn read(info: View<'_>) -> Result<Directory<'_>, FormFault>
     requires { length info.bytes.now ≤ 65535 }
     ensures value { Reads directory_items (info_of 2) directory_info info.entry.bytes.now result }
     ensures info { IfOk result (λ x. x.info ≡ info.entry) }
 {
-    let mut items = Items::of(info, 2);
+    let mut items = Items::of(info, DIRECTORY);
     let sizes = items.table(12)?;
     let image_size = items.u2()?;
     let array_init_count = items.u2()?;
@@ -49,6 +53,7 @@ fn read(info: View<'_>) -> Result<Directory<'_>, FormFault>
     })
 }
 
+/// The custom components behind the byte that counts them.
 #[tactic(auto, using(cap_bytes::proofs::Loops::yielding, crate::proofs::Customs::customs_known))]
 fn customs<'a>(items: &mut Items<'a>) -> Result<CustomEntries<'a>, FormFault>
     ensures { Takes customs_left customs_info items.old result items.new }
@@ -59,6 +64,7 @@ fn customs<'a>(items: &mut Items<'a>) -> Result<CustomEntries<'a>, FormFault>
     Ok(CustomEntries { items: first, left })
 }
 
+/// Passes over so many custom components, no two of one tag.
 #[tactic(auto, using(crate::proofs::Customs::naming))]
 fn pass_customs(items: &mut Items<'_>, count: u8) -> Result<(), FormFault>
     ensures { Passes (each count custom_info and_that_of none) items.old result items.new }
@@ -80,9 +86,7 @@ fn new_custom<'a>(items: &mut Items<'a>, named: &[bool; 256]) -> Result<CustomEn
     if tag < 128 || named[tag as usize] {
         return Err(place.fault(FormKind::BadValue));
     }
-    let size = items.u2()?;
-    let aid = items.aid()?;
-    Ok(CustomEntry { tag, size, aid })
+    behind_tag(items, tag)
 }
 
 /// The next custom component, where nothing is asked of its tag but that it is from 128.
@@ -94,6 +98,13 @@ pub(crate) fn custom_info<'a>(items: &mut Items<'a>) -> Result<CustomEntry<'a>, 
     if tag < 128 {
         return Err(place.fault(FormKind::BadValue));
     }
+    behind_tag(items, tag)
+}
+
+/// What stands behind a custom component's tag.
+fn behind_tag<'a>(items: &mut Items<'a>, tag: u8) -> Result<CustomEntry<'a>, FormFault>
+    ensures { Takes custom_seen (behind_tag tag) items.old result items.new }
+{
     let size = items.u2()?;
     let aid = items.aid()?;
     Ok(CustomEntry { tag, size, aid })

@@ -48,6 +48,7 @@ impl<'a> Directory<'a> {
         }
     }
 
+    /// The size of the custom component with this tag.
     fn custom_size(&self, tag: u8) -> Option<u16>
         ensures { result ≡ custom_size_in (customs_left self.now.customs) tag }
     {
@@ -80,18 +81,21 @@ impl<'a> Directory<'a> {
         self.array_init_size
     }
 
+    /// How many packages are imported.
     pub fn import_count(&self) -> u8
         ensures { result ≡ (directory_items self.now).import_count }
     {
         self.import_count
     }
 
+    /// How many applets there are.
     pub fn applet_count(&self) -> u8
         ensures { result ≡ (directory_items self.now).applet_count }
     {
         self.applet_count
     }
 
+    /// How many custom components there are.
     #[tactic(auto, using(cap_bytes::proofs::Loops::yielding))]
     pub fn custom_count(&self) -> u8
         ensures { result ≡ length (directory_items self.now).customs }
@@ -99,6 +103,7 @@ impl<'a> Directory<'a> {
         self.customs.left
     }
 
+    /// The n-th custom component, counted from 0.
     pub fn custom(&self, n: u8) -> Option<CustomEntry<'a>>
         ensures { option_map custom_seen result ≡ slice_get (directory_items self.now).customs n }
     {

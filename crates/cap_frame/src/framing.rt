@@ -1,7 +1,6 @@
 ghost use Rattle.std.specs.Prelude.{◌≡◌, ◌≤◌, length, IfOk, IfErr};
-ghost use Rattle.cap_bytes.specs.Spelling.{file_of, Stands, Breaks, IsExact};
+ghost use Rattle.cap_bytes.specs.Spelling.{file_of, fault_at, Stands, Breaks, IsExact};
 ghost use Rattle.cap_bytes.specs.Taking.{Reads};
-ghost use Rattle.cap_bytes.specs.Spelling.{fault_at};
 ghost use Rattle.cap_frame.specs.Frame.{component};
 ghost use Rattle.cap_frame.specs.Framed.{info_bytes};
 
@@ -19,6 +18,7 @@ pub fn frame(bytes: &[u8], part: Part) -> Result<View<'_>, FormFault>
     framed(bytes, part)
 }
 
+/// The bytes behind the tag and the size, as many as the size tells.
 #[tactic(auto, unfolding(cap_bytes::specs::Reading::reading))]
 fn framed(bytes: &[u8], part: Part) -> Result<View<'_>, FormFault>
     ensures value { Reads info_bytes (file_of part.0) (component part.0) bytes.entry.now result }
@@ -39,6 +39,7 @@ fn framed(bytes: &[u8], part: Part) -> Result<View<'_>, FormFault>
     }
 }
 
+/// A fault of this part's file.
 fn fault(part: Part, at: u32, kind: FormKind) -> FormFault
     ensures { result ≡ fault_at (file_of part.0) at kind }
 {

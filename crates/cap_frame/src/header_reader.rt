@@ -10,6 +10,9 @@ use crate::header_record::Header;
 use crate::package_items::package_info;
 use cap_bytes::{FormFault, FormKind, Items, View};
 
+/// The tag of the component.
+const HEADER: u8 = 1;
+
 /// Reads the info of a Header component.
 #[tactic(auto, using(cap_bytes::proofs::Laws::whole))]
 pub fn header(info: View<'_>) -> Result<Header<'_>, FormFault>
@@ -22,13 +25,14 @@ pub fn header(info: View<'_>) -> Result<Header<'_>, FormFault>
     read(info)
 }
 
+/// The items of the component.
 #[tactic(auto, unfolding(cap_bytes::specs::Reading::reading))]
 fn read(info: View<'_>) -> Result<Header<'_>, FormFault>
     requires { length info.bytes.now ≤ 65535 }
     ensures value { Reads header_items (info_of 1) header_info info.entry.bytes.now result }
     ensures info { IfOk result (λ x. x.info ≡ info.entry) }
 {
-    let mut items = Items::of(info, 1);
+    let mut items = Items::of(info, HEADER);
     let magic_place = items;
     if items.u4()? != 0xDECA_FFED {
         return Err(magic_place.fault(FormKind::BadMagic));

@@ -23,18 +23,21 @@ impl<'a> Header<'a> {
         self.info
     }
 
+    /// What the package has or needs.
     pub fn flags(&self) -> HeaderFlags
         ensures { result.0 ≡ (header_items self.now).flags }
     {
         self.flags
     }
 
+    /// Its version and application identifier.
     pub fn package(&self) -> PackageInfo<'a>
         ensures { package_seen result ≡ (header_items self.now).package_of }
     {
         self.package
     }
 
+    /// The bytes of its name, none where it has no name.
     pub fn name(&self) -> &'a [u8]
         ensures { result.now ≡ (header_items self.now).name }
     {

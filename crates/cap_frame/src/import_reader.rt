@@ -9,6 +9,9 @@ use crate::lists::PackageInfos;
 use crate::package_items::pass_packages;
 use cap_bytes::{FormFault, Items, View};
 
+/// The tag of the component.
+const IMPORT: u8 = 4;
+
 /// Reads the info of an Import component.
 #[tactic(auto, using(cap_bytes::proofs::Laws::whole))]
 pub fn imports(info: View<'_>) -> Result<Imports<'_>, FormFault>
@@ -21,13 +24,14 @@ pub fn imports(info: View<'_>) -> Result<Imports<'_>, FormFault>
     read(info)
 }
 
+/// The items of the component.
 #[tactic(auto, using(cap_bytes::proofs::Loops::yielding), unfolding(cap_bytes::specs::Reading::reading))]
 fn read(info: View<'_>) -> Result<Imports<'_>, FormFault>
     requires { length info.bytes.now ≤ 65535 }
     ensures value { Reads packages (info_of 4) imports_info info.entry.bytes.now result }
     ensures info { IfOk result (λ x. x.info ≡ info.entry) }
 {
-    let mut items = Items::of(info, 4);
+    let mut items = Items::of(info, IMPORT);
     let left = items.u1()?;
     let packages = PackageInfos { items, left };
     pass_packages(&mut items, left)?;

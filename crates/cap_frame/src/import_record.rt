@@ -21,6 +21,7 @@ impl<'a> Imports<'a> {
         self.info
     }
 
+    /// How many packages are imported.
     #[tactic(auto, using(cap_bytes::proofs::Loops::yielding))]
     pub fn count(&self) -> u8
         ensures { result ≡ length (packages self.now) }

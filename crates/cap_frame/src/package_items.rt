@@ -8,6 +8,7 @@ use crate::lists::PackageInfos;
 use crate::package_info::PackageInfo;
 use cap_bytes::{FormFault, Items};
 
+/// The next package.
 pub(crate) fn package_info<'a>(items: &mut Items<'a>) -> Result<PackageInfo<'a>, FormFault>
     ensures { Takes package_seen package_info items.old result items.new }
 {
@@ -17,6 +18,7 @@ pub(crate) fn package_info<'a>(items: &mut Items<'a>) -> Result<PackageInfo<'a>,
     Ok(PackageInfo { minor, major, aid })
 }
 
+/// Passes over so many packages.
 #[tactic(auto, using(cap_bytes::proofs::Loops::passing))]
 pub(crate) fn pass_packages(items: &mut Items<'_>, count: u8) -> Result<(), FormFault>
     ensures { Passes (repeat count package_info) items.old result items.new }

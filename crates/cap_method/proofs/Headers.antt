@@ -1,15 +1,14 @@
 -- What stands at an offset, from what taking it there answered.
-use Rattle.std.proofs.Common.{◌≡◌, ℕ, ◌+◌, ◌≤◌, ◌<◌, List, length, drop, Option, Some, None, Result, Ok, Err, Bool, true, false, cond, leb, arith, refl}
+use Rattle.std.proofs.Common.{◌≡◌, ℕ, ◌+◌, ◌≤◌, ◌<◌, List, length, drop, Some, None, Result, Ok, Err, Bool, true, false, cond, leb, arith, refl, sym}
 use Rattle.std.proofs.lemmas.Bool.{leb-true}
 use Rattle.std.specs.Prelude.{IfSome, IfNone}
 use Rattle.std.specs.Result.{result_ok}
 use Rattle.byteorder.specs.Endian.{big_number}
 use Rattle.cap_bytes.specs.declared.fault.FormFault.{FormFault}
 use Rattle.cap_bytes.specs.declared.items.Items.{Items}
-use Rattle.cap_bytes.specs.Number.{number_at}
 use Rattle.cap_bytes.specs.Spelling.{Spells, info_of}
 use Rattle.cap_bytes.specs.Taking.{Takes}
-use Rattle.cap_bytes.proofs.Laws.{spelled-read, read-spells}
+use Rattle.cap_bytes.proofs.Laws.{spelled-read, read-spells, Spells-one}
 use Rattle.cap_method.specs.declared.header.MethodHeader.{MethodHeader}
 use Rattle.cap_method.specs.MethodFormat.{Header, header_info}
 use Rattle.cap_method.specs.MethodPart.{header_seen, HeaderAt}
@@ -30,3 +29,7 @@ reaches false w at n bytes e h = absurd cc
 pub header_within : (bytes : List ℕ) (offset : ℕ) (h : Header) → HeaderAt bytes offset h → length bytes < offset → ⊥
 unfolding Spells
 header_within bytes offset h there past = let first = reaches _ 1 offset there.1.0 bytes refl there.1.2.0 in absurd (omega arith)
+
+-- and one at most stands there
+pub header_one : (bytes : List ℕ) (offset : ℕ) (g h : Header) → HeaderAt bytes offset g → HeaderAt bytes offset h → g ≡ h
+header_one bytes offset g h p q = sym (Spells-one header_info bytes offset g h p.0 q.0 p.1 q.1).0

@@ -1,5 +1,5 @@
 -- The Method component as a value of the program.
-use Rattle.std.specs.Prelude.{◌≡◌, ℕ, List, []}
+use Rattle.std.specs.Prelude.{ℕ, List, []}
 use Rattle.cap_bytes.specs.Grammar.{repeat}
 use Rattle.cap_bytes.specs.Taking.{given}
 use Rattle.cap_bytes.specs.Spelling.{Spells}

@@ -7,7 +7,8 @@ pub record Array : Type 0 where
   pub kind : ℕ
   pub values : List ℕ
 
--- the component: the references come first in the image, of which the first name the arrays; then zeros, then the values
+-- the component: the references come first in the image, of which the first name the arrays; then zeros, then
+-- the values
 pub record Statics : Type 0 where
   pub image_size : ℕ
   pub reference_count : ℕ

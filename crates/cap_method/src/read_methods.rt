@@ -16,6 +16,7 @@ use cap_bytes::{FormFault, Items, View};
 /// The tag of the component.
 const METHOD: u8 = 7;
 
+/// The next handler.
 fn handler(items: &mut Items<'_>) -> Result<HandlerInfo, FormFault>
     ensures { Takes same handler_info items.old result items.new }
 {
@@ -32,6 +33,7 @@ fn handler(items: &mut Items<'_>) -> Result<HandlerInfo, FormFault>
     })
 }
 
+/// Passes over so many handlers.
 #[tactic(auto, using(cap_bytes::proofs::Loops::passing))]
 fn pass_handlers(items: &mut Items<'_>, count: u8) -> Result<(), FormFault>
     ensures { Passes (repeat count handler_info) items.old result items.new }
@@ -42,6 +44,7 @@ fn pass_handlers(items: &mut Items<'_>, count: u8) -> Result<(), FormFault>
     Ok(())
 }
 
+/// The items of the component.
 #[tactic(auto, using(cap_bytes::proofs::Loops::yielding), unfolding(cap_bytes::specs::Reading::reading))]
 fn read(info: View<'_>) -> Result<MethodPart<'_>, FormFault>
     requires { length info.bytes.now ≤ 65535 }
@@ -94,6 +97,7 @@ impl<'a> Iterator for Handlers<'a> {
     }
 }
 
+/// The next header.
 fn header(items: &mut Items<'_>) -> Result<MethodHeader, FormFault>
     ensures { Takes header_seen header_info items.old result items.new }
 {
@@ -130,6 +134,7 @@ impl<'a> MethodPart<'a> {
         self.info
     }
 
+    /// How many entries the handler table has.
     #[tactic(auto, using(cap_bytes::proofs::Loops::yielding))]
     pub fn handler_count(&self) -> u8
         ensures { result ≡ length (handlers self.now) }
@@ -158,6 +163,7 @@ impl<'a> MethodPart<'a> {
     pub fn header(&self, offset: u16) -> Option<MethodHeader>
         ensures found { IfSome result (λ h. HeaderAt self.now.info.bytes.now offset (header_seen h)) }
         ensures none { IfNone result ((h : Header) → HeaderAt self.now.info.bytes.now offset h → ⊥) }
+        ensures exact { (g h : Header) → HeaderAt self.now.info.bytes.now offset g → HeaderAt self.now.info.bytes.now offset h → g ≡ h }
     {
         let at = u32::from(offset);
         if at > self.info.bytes.len() as u32 {

@@ -25,6 +25,7 @@ fn whole(kind: u8, count: u16) -> bool
     }
 }
 
+/// The next initial array.
 fn array_init<'a>(items: &mut Items<'a>) -> Result<ArrayInit<'a>, FormFault>
     ensures { Takes array_seen array_init_info items.old result items.new }
 {
@@ -42,6 +43,7 @@ fn array_init<'a>(items: &mut Items<'a>) -> Result<ArrayInit<'a>, FormFault>
     Ok(ArrayInit { kind, values })
 }
 
+/// Passes over so many initial arrays.
 #[tactic(auto, using(cap_bytes::proofs::Loops::passing))]
 fn pass_arrays(items: &mut Items<'_>, count: u16) -> Result<(), FormFault>
     ensures { Passes (repeat count array_init_info) items.old result items.new }
@@ -76,6 +78,7 @@ fn non_default_values<'a>(items: &mut Items<'a>) -> Result<&'a [u8], FormFault>
     items.piece(u32::from(count))
 }
 
+/// The items of the component.
 #[tactic(auto, unfolding(cap_bytes::specs::Reading::reading))]
 fn read(info: View<'_>) -> Result<StaticPart<'_>, FormFault>
     requires { length info.bytes.now ≤ 65535 }

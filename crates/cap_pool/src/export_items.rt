@@ -7,6 +7,7 @@ ghost use Rattle.cap_pool.specs.ExportFormat.{class_info};
 use crate::lists::{ExportClass, ExportedClass, ExportedClasses};
 use cap_bytes::{FormFault, Items};
 
+/// The next class.
 pub(crate) fn class<'a>(items: &mut Items<'a>) -> Result<ExportedClass<'a>, FormFault>
     ensures { Takes class_seen class_info items.old result items.new }
 {
@@ -26,6 +27,7 @@ pub(crate) fn class<'a>(items: &mut Items<'a>) -> Result<ExportedClass<'a>, Form
     })
 }
 
+/// Passes over so many classes.
 #[tactic(auto, using(cap_bytes::proofs::Loops::passing))]
 pub(crate) fn pass_classes(items: &mut Items<'_>, count: u8) -> Result<(), FormFault>
     ensures { Passes (repeat count class_info) items.old result items.new }

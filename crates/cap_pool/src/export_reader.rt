@@ -9,6 +9,9 @@ use crate::export_record::Export;
 use crate::lists::ExportedClasses;
 use cap_bytes::{FormFault, Items, View};
 
+/// The tag of the component.
+const EXPORT: u8 = 10;
+
 /// Reads the info of an Export component.
 #[tactic(auto, using(cap_bytes::proofs::Laws::whole))]
 pub fn export(info: View<'_>) -> Result<Export<'_>, FormFault>
@@ -21,13 +24,14 @@ pub fn export(info: View<'_>) -> Result<Export<'_>, FormFault>
     read(info)
 }
 
+/// The items of the component.
 #[tactic(auto, using(cap_bytes::proofs::Loops::yielding), unfolding(cap_bytes::specs::Reading::reading))]
 fn read(info: View<'_>) -> Result<Export<'_>, FormFault>
     requires { length info.bytes.now ≤ 65535 }
     ensures value { Reads classes (info_of 10) export_info info.entry.bytes.now result }
     ensures info { IfOk result (λ x. x.info ≡ info.entry) }
 {
-    let mut items = Items::of(info, 10);
+    let mut items = Items::of(info, EXPORT);
     let left = items.u1()?;
     let classes = ExportedClasses { items, left };
     pass_classes(&mut items, left)?;

@@ -19,6 +19,7 @@ impl<'a> Export<'a> {
         self.info
     }
 
+    /// How many classes are exported.
     #[tactic(auto, using(cap_bytes::proofs::Loops::yielding))]
     pub fn count(&self) -> u8
         ensures { result ≡ length (classes self.now) }

@@ -7,6 +7,9 @@ ghost use Rattle.cap_pool.specs.Locations.{location_items};
 use crate::location_record::Locations;
 use cap_bytes::{FormFault, Items, View};
 
+/// The tag of the component.
+const REFERENCE_LOCATION: u8 = 9;
+
 /// Reads the info of a ReferenceLocation component: its shape alone, not where the distances lead.
 #[tactic(auto, using(cap_bytes::proofs::Laws::whole))]
 pub fn locations(info: View<'_>) -> Result<Locations<'_>, FormFault>
@@ -19,13 +22,14 @@ pub fn locations(info: View<'_>) -> Result<Locations<'_>, FormFault>
     read(info)
 }
 
+/// The items of the component.
 #[tactic(auto, unfolding(cap_bytes::specs::Reading::reading))]
 fn read(info: View<'_>) -> Result<Locations<'_>, FormFault>
     requires { length info.bytes.now ≤ 65535 }
     ensures value { Reads location_items (info_of 9) locations_info info.entry.bytes.now result }
     ensures info { IfOk result (λ x. x.info ≡ info.entry) }
 {
-    let mut items = Items::of(info, 9);
+    let mut items = Items::of(info, REFERENCE_LOCATION);
     let byte_count = items.u2()?;
     let byte = items.piece(byte_count as u32)?;
     let byte2_count = items.u2()?;

@@ -19,6 +19,7 @@ impl<'a> Locations<'a> {
         self.byte_count
     }
 
+    /// The n-th of these bytes, counted from 0.
     pub fn byte(&self, n: u16) -> Option<u8>
         ensures { result ≡ slice_get (location_items self.now).byte n }
     {
@@ -32,6 +33,7 @@ impl<'a> Locations<'a> {
         self.byte2_count
     }
 
+    /// The n-th of these bytes, counted from 0.
     pub fn byte2(&self, n: u16) -> Option<u8>
         ensures { result ≡ slice_get (location_items self.now).byte2 n }
     {

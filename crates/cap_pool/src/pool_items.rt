@@ -8,6 +8,7 @@ use crate::lists::PoolEntries;
 use crate::pool_record::PoolEntry;
 use cap_bytes::{FormFault, FormKind, Items};
 
+/// The next entry.
 pub(crate) fn entry(items: &mut Items<'_>) -> Result<PoolEntry, FormFault>
     ensures { Takes entry_seen entry_info items.old result items.new }
 {
@@ -20,6 +21,7 @@ pub(crate) fn entry(items: &mut Items<'_>) -> Result<PoolEntry, FormFault>
     Ok(PoolEntry { tag, bytes })
 }
 
+/// Passes over so many entries.
 #[tactic(auto, using(cap_bytes::proofs::Loops::passing))]
 pub(crate) fn pass_entries(items: &mut Items<'_>, count: u16) -> Result<(), FormFault>
     ensures { Passes (repeat count entry_info) items.old result items.new }

@@ -9,6 +9,9 @@ use crate::pool_items::pass_entries;
 use crate::pool_record::Pool;
 use cap_bytes::{FormFault, Items, View};
 
+/// The tag of the component.
+const CONSTANT_POOL: u8 = 5;
+
 /// Reads the info of a ConstantPool component.
 #[tactic(auto, using(cap_bytes::proofs::Laws::whole))]
 pub fn pool(info: View<'_>) -> Result<Pool<'_>, FormFault>
@@ -21,13 +24,14 @@ pub fn pool(info: View<'_>) -> Result<Pool<'_>, FormFault>
     read(info)
 }
 
+/// The items of the component.
 #[tactic(auto, using(cap_bytes::proofs::Loops::yielding), unfolding(cap_bytes::specs::Reading::reading))]
 fn read(info: View<'_>) -> Result<Pool<'_>, FormFault>
     requires { length info.bytes.now ≤ 65535 }
     ensures value { Reads entries (info_of 5) pool_info info.entry.bytes.now result }
     ensures info { IfOk result (λ x. x.info ≡ info.entry) }
 {
-    let mut items = Items::of(info, 5);
+    let mut items = Items::of(info, CONSTANT_POOL);
     let left = items.u2()?;
     let entries = PoolEntries { items, left };
     pass_entries(&mut items, left)?;

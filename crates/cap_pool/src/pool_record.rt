@@ -29,6 +29,7 @@ impl<'a> Pool<'a> {
         self.info
     }
 
+    /// How many entries there are.
     #[tactic(auto, using(cap_bytes::proofs::Loops::yielding))]
     pub fn count(&self) -> u16
         ensures { result ≡ length (entries self.now) }

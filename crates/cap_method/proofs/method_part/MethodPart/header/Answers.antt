@@ -1,5 +1,5 @@
-use Rattle.std.proofs.Common.{◌<◌, ◌≡◌, length, subst, arith, ℕ}
-use Rattle.cap_method.proofs.Headers.{header_found, header_none, header_within}
+use Rattle.std.proofs.Common.{◌<◌, length, arith}
+use Rattle.cap_method.proofs.Headers.{header_found, header_none, header_within, header_one}
 use Rattle.cap_method.proofs.method_part.MethodPart.header.Goals as goal
 
 pub returns-then-at-self-clause-none : goal.returns-then-at-self-clause-none
@@ -12,3 +12,9 @@ returns-clause-found c = rw (c.ok.ensures.value, ← c.from-at.ensures) (header_
 
 pub returns-clause-none : goal.returns-clause-none
 returns-clause-none c = rw (c.ok.ensures.value, ← c.from-at.ensures) (header_none _ _ _ c.header.ensures)
+
+pub returns-then-at-self-clause-exact : goal.returns-then-at-self-clause-exact
+returns-then-at-self-clause-exact c = header_one _ _
+
+pub returns-clause-exact : goal.returns-clause-exact
+returns-clause-exact c = header_one _ _
