@@ -378,3 +378,17 @@ IsJoin-monotone t {a} {b} {c} {d} {j} {k} p q low high = low.least k (joined p h
 -- there is one join
 pub IsJoin-unique : (t : ClassTable) → AreClasses t → {a b j k : Ty} → IsJoin t a b j → IsJoin t a b k → j ≡ k
 IsJoin-unique t are {a} {b} {j} {k} one other = Below-antisym t are (one.least k other.left other.right) (other.least j one.left one.right)
+
+pub IsJoin-known : (t : ClassTable) → AreClasses t → {a b j : Ty} → IsKnown t a → IsKnown t b → IsJoin t a b j → IsKnown t j
+IsJoin-known t are {a} {b} {j} ka kb is = subst (IsKnown t) (IsJoin-unique t are (join_of-is t are a b ka kb) is) (join_of-known t are a b ka kb)
+
+-- a type that is above another is their join
+pub IsJoin-above : (t : ClassTable) {a b : Ty} → Below t b a → IsJoin t a b a
+IsJoin-above t h = record { left = same; right = h; least = λ u p q. p }
+
+-- a join with what is not below has fewer rises left
+pub IsJoin-rises : (t : ClassTable) → AreClasses t → {a b j : Ty} → IsJoin t a b j → ¬ (Below t b a) → rises_left t j < rises_left t a
+IsJoin-rises t are {a} {b} {j} is n = by (rises-falls t are is.left) where
+  by : (a ≡ j) ⊎ (rises_left t j < rises_left t a) → rises_left t j < rises_left t a
+  by (inl e) = absurd (n (subst (Below t b) (sym e) is.right))
+  by (inr lt) = lt

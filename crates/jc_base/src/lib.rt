@@ -20,7 +20,7 @@ pub use list::{
     Arrays, ClassRecs, Dispatch, Handlers, Ifaces, Initial, Items, Members, Methods, Pools,
     Statics, Tokens, Tys,
 };
-pub use order::{below, join};
+pub use order::{below, is_reference, join};
 pub use record::{ArrayRec, ClassRec, Handler, Iface, Member, MethodRec, Sig, StaticRec};
 pub use ty::{Kind, Ty};
 pub use world::World;

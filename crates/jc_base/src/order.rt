@@ -83,7 +83,8 @@ fn is_above_arrays(classes: &Classes, b: Ty) -> bool
     }
 }
 
-fn is_reference(a: Ty) -> bool
+/// Whether a type is a class or an array.
+pub fn is_reference(a: Ty) -> bool
     ensures { result ≡ is_reference a }
 {
     match a {

@@ -13,8 +13,9 @@ use Rattle.jc_rules.specs.Flow.{Method, IsMethodOf, Stands, IsReached, IsNotFres
 use Rattle.jc_rules.specs.Typing.{Clashes, depths, cells}
 use Rattle.jc_rules.specs.Laws.{Keeps}
 use Rattle.jc_rules.proofs.Keeps.{rule-keeps}
-use Rattle.jc_states.proofs.Frames.{IsReady, cells-length, cells-fall, join-least, topless-falls, ready-falls}
-use Rattle.jc_states.proofs.Decides.{applies-not-refuses}
+use Rattle.jc_states.proofs.Frames.{IsReady, cells-fall, join-least, topless-falls, ready-falls}
+use Rattle.jc_rules.proofs.Decides.{applies-not-refuses}
+use Rattle.jc_rules.proofs.CellLists.{cells-length}
 use Rattle.jc_states.proofs.Derived.{derived-fine, derived-under, followed-below, step-below, some_to, some_at, Follows}
 use Rattle.jc_flow.specs.Fails.{Fails, fails_rule, fails_jump, fails_leader, fails_merge, fails_caught, fails_handler, FailsAt, FallsPast}
 
@@ -67,7 +68,7 @@ module _ (w : Linked) (is : IsWorld w) (m : Method) (mo : IsMethodOf w m) (frame
   pub fails-never : (p : ℕ) (f : Frame) (fault : RuleFault) → IsDerived w m Top p f → Fails w m p f fault → ⊥
   fails-never p f fault d (fails_rule i st e r) =
       let s = follow i f (at-instruction i p f e d) st in
-      applies-not-refuses w (site_of m i.place) i.insn f s.fallen.applies (subst (λ q. Refuses w (site_of m q) i.insn f fault) (sym e) r)
+      applies-not-refuses w (site_of m i.place) i.insn Flow f s.fallen.applies (subst (λ q. Refuses w (site_of m q) i.insn f fault) (sym e) r)
   fails-never p f fault d (fails_jump i g st e steps j n) =
       let here = at-instruction i p f e d in
       let s = follow i f here st in

@@ -1,5 +1,5 @@
 -- What a linked world says of the entries of a constant pool.
-use Rattle.std.proofs.Common.{◌≡◌, ℕ, ◌+◌, ◌-◌, ◌<◌, ◌≤◌, true, false, nat_lt, List, [], ◌∷◌, ◌++◌, length, refl, sym, ap, subst, arith, All, Option, Some, None, IfSome, IsSomeAnd, slice_get, cond, Contains, flat_map, reverse, get_or}
+use Rattle.std.proofs.Common.{◌≡◌, ℕ, ◌+◌, ◌-◌, ◌<◌, ◌≤◌, true, false, nat_lt, List, [], ◌∷◌, ◌++◌, length, refl, subst, arith, All, Option, Some, None, IfSome, IsSomeAnd, slice_get, cond, Contains, flat_map, reverse, get_or}
 use Rattle.std.proofs.lemmas.List.Elements.{All-contains, All-append}
 use Rattle.std.proofs.lemmas.Bool.Decides.{nat_tests}
 use Rattle.jc_base.proofs.Lists.{All-slice_get, slice_get-below}
@@ -10,7 +10,7 @@ use Rattle.jc_base.specs.declared.record.Member.TheVariants.{ClassOf, Field, Sta
 use Rattle.jc_base.specs.declared.record.ClassRec.{ClassRec}
 use Rattle.jc_base.specs.declared.record.MethodRec.{MethodRec}
 use Rattle.jc_base.specs.declared.record.StaticRec.{StaticRec}
-use Rattle.jc_base.specs.Class.{ClassTable, parent_of, chain, is_interface, is_interface_record}
+use Rattle.jc_base.specs.Class.{ClassTable, parent_of, chain}
 use Rattle.jc_base.specs.Order.{IsKnown}
 use Rattle.jc_base.specs.Cell.{IsDeclared}
 use Rattle.jc_base.specs.Dispatch.{of_record, public_of, visible_of, entry_at, cells_of, own_cells}
@@ -142,7 +142,3 @@ entry-public t c token r e lt = rw (lt_true token 128 lt, e) refl
 pub entry-visible : (t : ClassTable) (c token : ℕ) (r : ClassRec) → slice_get t.records c ≡ Some r → 128 ≤ token → slice_get r.visible (token - 128) ≡ entry_at t c token
 unfolding entry_at visible_of
 entry-visible t c token r e ge = rw (lt_false token 128 ge, e) refl
-
-pub interface-read : (t : ClassTable) (c : ℕ) (r : ClassRec) → slice_get t.records c ≡ Some r → r.interface ≡ is_interface t c
-unfolding is_interface
-interface-read t c r e = sym (ap is_interface_record e)

@@ -1,5 +1,5 @@
 ghost use Rattle.std.specs.Prelude.{◌≡◌, ◌<◌, ◌+◌, ◌≤◌, length, IfOk, IfSome, Some, None, slice_get};
-ghost use Rattle.jc_base.specs.Class.{IsClass, is_interface};
+ghost use Rattle.jc_base.specs.Class.{IsClass};
 ghost use Rattle.jc_base.specs.declared.record.Member.TheVariants.{Super, StaticCall};
 ghost use Rattle.jc_base.specs.Dispatch.{entry_at};
 ghost use Rattle.jc_base.specs.Linked.{lacks_code};
@@ -7,7 +7,7 @@ ghost use Rattle.jc_base.specs.World.{member_at};
 ghost use Rattle.jc_rows.specs.Named.{byte_of, short_of, virtual_named, entry_named, special_named, static_call_named, interface_named, described_named, is_described, only, described, call_named, own_receiver, TakesReceiver, IsNamed};
 
 use crate::fault::RuleFault;
-use crate::named::{Named, byte_of, is_interface, member, short_of};
+use crate::named::{Named, byte_of, member, short_of};
 use crate::row::Call;
 use crate::want::Want;
 use jc_base::{Dispatch, Member, MethodRec, Ty, World};
@@ -77,7 +77,7 @@ fn lacks_code(world: &World<'_>, method: &MethodRec) -> bool
     requires { method.now.class < length world.now.classes.records }
     ensures { result ≡ lacks_code world.now.classes method.now }
 {
-    method.is_abstract || is_interface(world, method.class)
+    method.is_abstract || world.classes().is_interface(method.class)
 }
 
 fn super_named(world: &World<'_>, pool: u16, class: u16, number: u16) -> Result<Named, RuleFault>
@@ -219,7 +219,7 @@ fn interface_named(
     ensures known { IfOk result (IsNamed world.now) }
 {
     match member(world, package, pool) {
-        Some(Member::ClassOf { class }) if is_interface(world, class) => {
+        Some(Member::ClassOf { class }) if world.classes().is_interface(class) => {
             described_named(world, pool, nargs, only_described(world, class, token))
         }
         _ => Err(RuleFault::BadMember(pool)),

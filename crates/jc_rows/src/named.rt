@@ -1,14 +1,14 @@
 ghost use Rattle.std.specs.Prelude.{◌≡◌, ◌<◌, length, IfOk, IfSome};
-ghost use Rattle.jc_base.specs.Class.{ClassTable, IsClass, is_interface};
+ghost use Rattle.jc_base.specs.Class.{ClassTable, IsClass};
 ghost use Rattle.jc_base.specs.declared.ty.Ty.TheVariants.{Class, ArrRef};
-ghost use Rattle.jc_base.specs.Order.{IsKnown, is_reference};
+ghost use Rattle.jc_base.specs.Order.{IsKnown};
 ghost use Rattle.jc_base.specs.World.{member_at};
 ghost use Rattle.jc_rows.specs.Named.{byte_of, short_of, same_kind, static_named, field_named, standing, class_named, array_of, tested, returns, returned, return_named, IsKnownMember, IsNamed};
 
 use crate::fault::RuleFault;
 use crate::row::Sort;
 use crate::want::Want;
-use jc_base::{Kind, Member, Ty, World};
+use jc_base::{Kind, Member, Ty, World, is_reference};
 
 /// What the operands of an instruction name in the world.
 #[derive(Clone, Copy)]
@@ -107,21 +107,13 @@ pub(crate) fn field_named(
     }
 }
 
-/// Whether a class number names an interface.
-pub(crate) fn is_interface(world: &World<'_>, class: u16) -> bool
-    requires { class < length world.now.classes.records }
-    ensures { result ≡ is_interface world.now.classes class }
-{
-    world.class(class).interface
-}
-
 /// The class that stands for a class or an interface in types: object for an interface.
 fn standing(world: &World<'_>, class: u16) -> u16
     requires { class < length world.now.classes.records }
     ensures is { result ≡ standing world.now.classes class }
     ensures known { IsClass world.now.classes result }
 {
-    if is_interface(world, class) {
+    if world.classes().is_interface(class) {
         world.role(0)
     } else {
         class
@@ -181,15 +173,6 @@ pub(crate) fn tested(
         14 => array_named(world, package, pool),
         _ => Ok(Named::Type(array_of(atype))),
     }
-}
-
-fn is_reference(ty: Ty) -> bool
-    ensures { result ≡ is_reference ty }
-{
-    matches!(
-        ty,
-        Ty::Class(_) | Ty::ArrBool | Ty::ArrByte | Ty::ArrShort | Ty::ArrInt | Ty::ArrRef(_)
-    )
 }
 
 /// Whether a result of this type is returned by the instruction.

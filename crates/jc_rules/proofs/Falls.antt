@@ -1,5 +1,5 @@
--- The rule is monotone in the dataflow.
-use Rattle.std.proofs.Common.{◌≡◌, ℕ, zero, suc, ◌+◌, ◌-◌, ◌≤◌, true, false, inl, inr, List, [], ◌∷◌, ◌++◌, length, take, drop, map, reverse, get_or, set, Option, Some, None, IsSomeAnd, IfSome, slice_get, All, refl, sym, ◌∙◌, ap, subst, arith}
+-- A rule that applies to a frame applies in the dataflow to each lesser one, with a lesser result.
+use Rattle.std.proofs.Common.{◌≡◌, ℕ, zero, suc, ◌+◌, ◌-◌, ◌≤◌, true, false, inl, inr, List, [], ◌∷◌, ◌++◌, length, drop, map, reverse, get_or, set, Option, Some, None, IsSomeAnd, IfSome, slice_get, All, refl, sym, ◌∙◌, ap, subst}
 use Rattle.std.specs.Bool.{⊤}
 use Rattle.jc_base.specs.declared.ty.Ty.{Ty}
 use Rattle.jc_base.specs.declared.ty.Ty.TheVariants.{Bottom, Short, IntHigh, IntLow, Null, Class, ArrBool, ArrByte, ArrShort, ArrInt, ArrRef, Fresh, Top}
@@ -26,12 +26,18 @@ use Rattle.jc_rules.specs.declared.effect.Cells.TheVariants as given
 use Rattle.jc_rules.specs.declared.effect.Change.{Change}
 use Rattle.jc_rules.specs.declared.effect.Change.TheVariants.{Replace, CopyUnder, Exchange, MakeReady}
 use Rattle.jc_rules.specs.declared.effect.Effect.{Effect}
-use Rattle.jc_rules.specs.declared.effect.Mode.TheVariants.{Flow}
-use Rattle.jc_rules.specs.Effect.{listed, ready, changed, stored, reg}
+use Rattle.jc_rules.specs.declared.effect.Store.{Store}
+use Rattle.jc_rules.specs.declared.effect.Mode.{Mode}
+use Rattle.jc_rules.specs.declared.effect.Mode.TheVariants.{Card, Flow}
+use Rattle.jc_rules.specs.declared.rule.Site.{Site}
+use Rattle.jc_rules.specs.declared.rule.Outcome.{Outcome}
+use Rattle.jc_rules.specs.Effect.{listed, ready, changed, reg, IsStored, Writes, WritesCells, Stores}
 use Rattle.jc_rules.specs.Demand.{Frame, IsArrayOrNull, IsHalf, IsFreshOf, Meets, Holds, AllHold}
 use Rattle.jc_rules.specs.Rule.{cell, or_null, element, ready_with, call_demands, call_effect, cells_wanted, args_at, result_at, result_given, local_of, load_demands, load_effect, store_effect, array_read_demands, array_read_effect, method_demands, method_effect, falls_from, ends_at, wrote, demands, effect}
-use Rattle.jc_rules.specs.Flow.{CellsBelow, no_cells, more_cells, IsNotTop, IsNotFresh}
-use Rattle.jc_rules.specs.Laws.{IsNotBottom, RuleFalls}
+use Rattle.jc_rules.specs.Flow.{CellsBelow, no_cells, more_cells, FrameBelow, IsNotTop, IsNotFresh}
+use Rattle.jc_rules.specs.Laws.{IsNotBottom, RuleFalls, FallsTo}
+use Rattle.jc_rules.specs.Apply.{Applies}
+use Rattle.jc_rules.proofs.CellLists.{Each, each-from_All, each-at, PairAt, cells-at, cells-or, cells-length, cells-same, cells-append, cells-take, cells-drop, cells-set}
 use Rattle.jc_rules.proofs.Demands.{AllHold-rest}
 
 -- ---- what lies below and above
@@ -320,69 +326,6 @@ module _ (t : ClassTable) where
   unfolding FreshUp
   fresh_not_below_bottom p c x = fresh-up t p c x (refl, refl)
 
--- ---- lists of cells
-
--- each element, by recursion
-Each : (Ty → Type 0) → List Ty → Type 0
-Each P [] = ⊤
-Each P (x ∷ xs) = P x × Each P xs
-
-each-from_All : (P : Ty → Type 0) (xs : List Ty) → All P xs → Each P xs
-unfolding Each
-each-from_All P [] h = tt
-each-from_All P (x ∷ xs) h = (h 0 x (omega arith), each-from_All P xs (λ k d lt. h (suc k) d (omega arith)))
-
-each-at : (P : Ty → Type 0) (xs : List Ty) (n : ℕ) → Each P xs → IfSome (slice_get xs n) P
-unfolding Each
-each-at P [] n h = tt
-each-at P (x ∷ xs) zero h = h.0
-each-at P (x ∷ xs) (suc n) h = each-at P xs n h.1
-
--- two reads of lists of which one is below the other
-PairAt : ClassTable → Option Ty → Option Ty → Type 0
-PairAt t None None = ⊤
-PairAt t (Some a) (Some b) = Below t a b
-PairAt t _ _ = ⊥
-
-module _ (t : ClassTable) where
-  cells-at : {xs ys : List Ty} (n : ℕ) → CellsBelow t xs ys → PairAt t (slice_get xs n) (slice_get ys n)
-  unfolding PairAt
-  cells-at n no_cells = tt
-  cells-at zero (more_cells p ps) = p
-  cells-at (suc n) (more_cells p ps) = cells-at n ps
-
-  cells-or : {xs ys : List Ty} (n : ℕ) → CellsBelow t xs ys → Below t (get_or xs n Top) (get_or ys n Top)
-  cells-or n no_cells = same
-  cells-or zero (more_cells p ps) = p
-  cells-or (suc n) (more_cells p ps) = cells-or n ps
-
-  cells-length : {xs ys : List Ty} → CellsBelow t xs ys → length xs ≡ length ys
-  cells-length no_cells = refl
-  cells-length (more_cells p ps) = ap suc (cells-length ps)
-
-  cells-same : (xs : List Ty) → CellsBelow t xs xs
-  cells-same [] = no_cells
-  cells-same (x ∷ xs) = more_cells same (cells-same xs)
-
-  cells-append : {xs ys us vs : List Ty} → CellsBelow t xs ys → CellsBelow t us vs → CellsBelow t (xs ++ us) (ys ++ vs)
-  cells-append no_cells q = q
-  cells-append (more_cells p ps) q = more_cells p (cells-append ps q)
-
-  cells-take : {xs ys : List Ty} (n : ℕ) → CellsBelow t xs ys → CellsBelow t (take n xs) (take n ys)
-  cells-take zero ps = no_cells
-  cells-take (suc n) no_cells = no_cells
-  cells-take (suc n) (more_cells p ps) = more_cells p (cells-take n ps)
-
-  cells-drop : {xs ys : List Ty} (n : ℕ) → CellsBelow t xs ys → CellsBelow t (drop n xs) (drop n ys)
-  cells-drop zero ps = ps
-  cells-drop (suc n) no_cells = no_cells
-  cells-drop (suc n) (more_cells p ps) = cells-drop n ps
-
-  cells-set : {xs ys : List Ty} {a b : Ty} (n : ℕ) → Below t a b → CellsBelow t xs ys → CellsBelow t (set xs n a) (set ys n b)
-  cells-set n q no_cells = no_cells
-  cells-set zero q (more_cells p ps) = more_cells q ps
-  cells-set (suc n) q (more_cells p ps) = more_cells p (cells-set n q ps)
-
 -- ---- demands
 
 module _ (t : ClassTable) where
@@ -431,21 +374,27 @@ module _ (t : ClassTable) where
 -- ---- effects
 
 -- what is given is lesser
-GivenBelow : ClassTable → Cells → Cells → Type 0
+unfoldable pub GivenBelow : ClassTable → Cells → Cells → Type 0
 GivenBelow t given.Nothing given.Nothing = ⊤
 GivenBelow t (given.One a) (given.One b) = Below t a b
 GivenBelow t given.Int given.Int = ⊤
 GivenBelow t _ _ = ⊥
 
 -- the lesser effect makes the same change with lesser cells
-ChangeBelow : ClassTable → Change → Change → Type 0
+pub ChangeBelow : ClassTable → Change → Change → Type 0
 ChangeBelow t (Replace m cells) (Replace n others) = (m ≡ n) × GivenBelow t cells others
 ChangeBelow t c d = c ≡ d
 
-record EffectBelow (t : ClassTable) (d e : Effect) : Type 0 where
-  change : ChangeBelow t d.change e.change
-  register : d.store.register ≡ e.store.register
-  cells : GivenBelow t d.store.cells e.store.cells
+pub record EffectBelow (t : ClassTable) (d e : Effect) : Type 0 where
+  pub change : ChangeBelow t d.change e.change
+  pub register : d.store.register ≡ e.store.register
+  pub cells : GivenBelow t d.store.cells e.store.cells
+
+-- a store into lesser registers, whose result is lesser
+pub record StoresBelow (t : ClassTable) (mode : Mode) (s : Store) (before after : List Ty) : Type 0 where
+  pub below : List Ty
+  pub stores : Stores t mode s before below
+  pub lower : CellsBelow t below after
 
 module _ (t : ClassTable) (are : AreClasses t) where
   given-same : (cells : Cells) → GivenBelow t cells cells
@@ -548,20 +497,38 @@ module _ (t : ClassTable) (are : AreClasses t) where
   changed-falls (Exchange m n) d {xs = xs} {ys = ys} h ps = subst (λ e. CellsBelow t (changed (Exchange m n) xs) (changed e ys)) h (changed-same (Exchange m n) ps)
   changed-falls (MakeReady m p c cells) d {xs = xs} {ys = ys} h ps = subst (λ e. CellsBelow t (changed (MakeReady m p c cells) xs) (changed e ys)) h (changed-same (MakeReady m p c cells) ps)
 
-  stored-at : {xs ys : List Ty} → CellsBelow t xs ys → (x y : ℕ) (c k : Cells) → x ≡ y → GivenBelow t c k → CellsBelow t (stored t Flow (record { register = x; cells = c }) xs) (stored t Flow (record { register = y; cells = k }) ys)
-  unfolding GivenBelow
-  stored-at ps x y given.Nothing given.Nothing q g = ps
-  stored-at {xs = xs} {ys = ys} ps x y (given.One a) (given.One b) q g = subst (λ n. CellsBelow t (set xs x a) (set ys n b)) q (cells-set t x g ps)
-  stored-at {xs = xs} {ys = ys} ps x y given.Int given.Int q g = subst (λ n. CellsBelow t (set (set xs x IntHigh) (x + 1) IntLow) (set (set ys n IntHigh) (n + 1) IntLow)) q (cells-set t (x + 1) same (cells-set t x same ps))
-  stored-at ps x y given.Nothing (given.One b) q g = absurd g
-  stored-at ps x y given.Nothing given.Int q g = absurd g
-  stored-at ps x y (given.One a) given.Nothing q g = absurd g
-  stored-at ps x y (given.One a) given.Int q g = absurd g
-  stored-at ps x y given.Int given.Nothing q g = absurd g
-  stored-at ps x y given.Int (given.One b) q g = absurd g
+  -- what is stored is below what the register holds then
+  stored-below : (mode : Mode) (held ty now : Ty) → IsStored t mode held ty now → Below t ty now
+  stored-below Flow held ty now e = subst (Below t ty) (sym e) same
+  stored-below Card held ty now is = is.right
 
-  stored-falls : (d e : Effect) {xs ys : List Ty} → EffectBelow t d e → CellsBelow t xs ys → CellsBelow t (stored t Flow d.store xs) (stored t Flow e.store ys)
-  stored-falls d e h ps = stored-at ps d.store.register e.store.register d.store.cells e.store.cells h.register h.cells
+  write-flow : (mode : Mode) {xs ys zs : List Ty} (x y : ℕ) (a b : Ty) → x ≡ y → Below t a b → CellsBelow t xs ys → Writes t mode y b ys zs → CellsBelow t (set xs x a) zs
+  write-flow mode {xs = xs} {ys = ys} x y a b e le ps u =
+      subst (CellsBelow t (set xs x a)) (ap (λ n. set ys n u.value) e ∙ sym u.after_is) (cells-set t x (joined le (stored-below mode (reg ys y) b u.value u.stored)) ps)
+
+  store-flow : (mode : Mode) (xs ys zs : List Ty) (x y : ℕ) (c d : Cells) → x ≡ y → GivenBelow t c d → CellsBelow t xs ys → WritesCells t mode y d ys zs → StoresBelow t Flow (record { register = x; cells = c }) xs zs
+  unfolding GivenBelow
+  store-flow mode xs ys zs x y given.Nothing given.Nothing e g ps u = record { below = xs; stores = refl; lower = subst (CellsBelow t xs) (sym u) ps }
+  store-flow mode xs ys zs x y (given.One a) (given.One b) e g ps u = record {
+    below = set xs x a;
+    stores = record { value = a; stored = refl; after_is = refl };
+    lower = write-flow mode x y a b e g ps u;
+  }
+  store-flow mode xs ys zs x y given.Int given.Int e g ps u = record {
+    below = set (set xs x IntHigh) (x + 1) IntLow;
+    stores = record {
+      between = set xs x IntHigh;
+      high = record { value = IntHigh; stored = refl; after_is = refl };
+      low = record { value = IntLow; stored = refl; after_is = refl };
+    };
+    lower = write-flow mode (x + 1) (y + 1) IntLow IntLow (ap (λ n. n + 1) e) same (write-flow mode x y IntHigh IntHigh e same ps u.high) u.low;
+  }
+  store-flow mode xs ys zs x y given.Nothing (given.One b) e g ps u = absurd g
+  store-flow mode xs ys zs x y given.Nothing given.Int e g ps u = absurd g
+  store-flow mode xs ys zs x y (given.One a) given.Nothing e g ps u = absurd g
+  store-flow mode xs ys zs x y (given.One a) given.Int e g ps u = absurd g
+  store-flow mode xs ys zs x y given.Int given.Nothing e g ps u = absurd g
+  store-flow mode xs ys zs x y given.Int (given.One b) e g ps u = absurd g
 
   -- ---- the cells that are found
 
@@ -756,40 +723,48 @@ module _ (w : Linked) (are : AreClasses w.classes) (f g : Frame) (regs : CellsBe
   effect-falls i n (rows.Return s) h = effect-same w.classes are (effect w i n (rows.Return s) g)
   effect-falls i n rows.Reserved h = effect-same w.classes are (effect w i n rows.Reserved g)
 
+-- a rule applies to a frame, and here is a lesser one
+module _ (w : Linked) (are : AreClasses w.classes) (site : Site) (i : Insn) (mode : Mode) (greater lesser after : Frame) (o : Outcome) (below : FrameBelow w.classes lesser greater)
+    (no_top : All IsNotTop greater.stack) (no_bottom : All IsNotBottom lesser.stack) (a : Applies w site i mode greater after o) where
+  -- what is asked is met
+  pub asked-falls : AllHold w.classes lesser (demands w i a.named (row_at i.op))
+  asked-falls = all-falls w.classes lesser greater below.regs below.stack (each-from_All IsNotTop greater.stack no_top) (each-from_All IsNotBottom lesser.stack no_bottom) (demands w i a.named (row_at i.op)) a.asked
+
+  -- what is done is lesser
+  pub doing-falls : EffectBelow w.classes (effect w i a.named (row_at i.op) lesser) (effect w i a.named (row_at i.op) greater)
+  doing-falls = effect-falls w are lesser greater below.regs below.stack (each-from_All IsNotBottom lesser.stack no_bottom) i a.named (row_at i.op) a.asked
+
+  -- where the store can be made, the rule applies
+  pub applies-falls : (target : Mode) → StoresBelow w.classes target (effect w i a.named (row_at i.op) lesser).store lesser.regs after.regs → FallsTo w site i target lesser after
+  applies-falls target s =
+      let row = row_at i.op in
+      let e = effect w i a.named row lesser in
+      let stack : CellsBelow w.classes (changed e.change lesser.stack) after.stack =
+      subst (CellsBelow w.classes (changed e.change lesser.stack)) (sym a.stack) (changed-falls w.classes are e.change (effect w i a.named row greater).change doing-falls.change below.stack) in
+      record {
+        below = record { regs = s.below; stack = changed e.change lesser.stack };
+        outcome = record { falls = falls_from row; ends = ends_at row; depth = length (changed e.change lesser.stack); wrote = wrote e.store.register e.store.cells };
+        applies = record {
+          method = a.method;
+          is_method = a.is_method;
+          named = a.named;
+          names = a.names;
+          asked = asked-falls;
+          regs = s.stores;
+          stack = refl;
+          room = subst (λ n. n ≤ a.method.max_stack) (sym (cells-length w.classes stack)) a.room;
+          falls = refl;
+          ends = refl;
+          depth = refl;
+          wrote_is = refl;
+        };
+        lower = record { regs = s.lower; stack = stack };
+      }
+
 pub rule-falls : (w : Linked) → AreClasses w.classes → RuleFalls w
-rule-falls w are site i greater lesser after o below no_top no_bottom a =
-    let t = w.classes in
-    let row = row_at i.op in
-    let none : Each IsNotBottom lesser.stack = each-from_All IsNotBottom lesser.stack no_bottom in
-    let asked : AllHold t lesser (demands w i a.named row) =
-    all-falls t lesser greater below.regs below.stack (each-from_All IsNotTop greater.stack no_top) none (demands w i a.named row) a.asked in
-    let falls_to : EffectBelow t (effect w i a.named row lesser) (effect w i a.named row greater) =
-    effect-falls w are lesser greater below.regs below.stack none i a.named row a.asked in
-    let regs : CellsBelow t (stored t Flow (effect w i a.named row lesser).store lesser.regs) after.regs =
-    subst (CellsBelow t (stored t Flow (effect w i a.named row lesser).store lesser.regs)) (sym a.regs) (stored-falls t are (effect w i a.named row lesser) (effect w i a.named row greater) falls_to below.regs) in
-    let stack : CellsBelow t (changed (effect w i a.named row lesser).change lesser.stack) after.stack =
-    subst (CellsBelow t (changed (effect w i a.named row lesser).change lesser.stack)) (sym a.stack) (changed-falls t are (effect w i a.named row lesser).change (effect w i a.named row greater).change falls_to.change below.stack) in
-    record {
-      below = record { regs = stored t Flow (effect w i a.named row lesser).store lesser.regs; stack = changed (effect w i a.named row lesser).change lesser.stack };
-      outcome = record {
-        falls = falls_from row;
-        ends = ends_at row;
-        depth = length (changed (effect w i a.named row lesser).change lesser.stack);
-        wrote = wrote (effect w i a.named row lesser).store.register (effect w i a.named row lesser).store.cells;
-      };
-      applies = record {
-        method = a.method;
-        is_method = a.is_method;
-        named = a.named;
-        names = a.names;
-        asked = asked;
-        regs = refl;
-        stack = refl;
-        room = subst (λ n. n ≤ a.method.max_stack) (sym (cells-length t stack)) a.room;
-        falls = refl;
-        ends = refl;
-        depth = refl;
-        wrote_is = refl;
-      };
-      lower = record { regs = regs; stack = stack };
-    }
+rule-falls w are site i mode greater lesser after o below no_top no_bottom a =
+    let d = effect w i a.named (row_at i.op) lesser in
+    let e = effect w i a.named (row_at i.op) greater in
+    let less : EffectBelow w.classes d e = doing-falls w are site i mode greater lesser after o below no_top no_bottom a in
+    applies-falls w are site i mode greater lesser after o below no_top no_bottom a Flow
+    (store-flow w.classes are mode lesser.regs greater.regs after.regs d.store.register e.store.register d.store.cells e.store.cells less.register less.cells below.regs a.regs)

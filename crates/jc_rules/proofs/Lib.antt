@@ -1,7 +1,10 @@
 pub mod Demands
 pub mod Stacks
+pub mod CellLists
 pub mod Falls
 pub mod Effects
 pub mod Plans
 pub mod Keeps
 pub mod Raising
+pub mod Cards
+pub mod Decides

@@ -17,7 +17,7 @@ use Rattle.jc_rules.specs.declared.effect.Mode.{Mode}
 use Rattle.jc_rules.specs.declared.rule.Site.{Site}
 use Rattle.jc_rules.specs.declared.rule.Outcome.{Outcome}
 use Rattle.jc_rules.specs.Stack.{cells}
-use Rattle.jc_rules.specs.Effect.{changed, depth_after, stored}
+use Rattle.jc_rules.specs.Effect.{changed, depth_after, Stores}
 use Rattle.jc_rules.specs.Demand.{Frame, AllHold, AreKnown}
 use Rattle.jc_rules.specs.Rule.{demands, effect, falls_from, ends_at, wrote}
 use Rattle.jc_rules.specs.Apply.{frame_of, HasRoom, IsPlan, Applies}
@@ -62,7 +62,7 @@ plan-room w is f k site i e m p at = let same : p.method ≡ m = cc (p.is_method
 
 -- the plan is carried out
 pub plan-applies : (w : Linked) (is : IsWorld w) (site : Site) (i : Insn) (mode : Mode) (before after : Frame) (e : Effect) (o : Outcome) (k : AreKnown w.classes before) → IsPlan w site i before e →
-    after.regs ≡ stored w.classes mode e.store before.regs → after.stack ≡ changed e.change before.stack →
+    Stores w.classes mode e.store before.regs after.regs → after.stack ≡ changed e.change before.stack →
     o.falls ≡ falls_from (row_at i.op) → o.ends ≡ ends_at (row_at i.op) → o.depth ≡ length after.stack → o.wrote ≡ wrote e.store.register e.store.cells →
     Applies w site i mode before after o
 plan-applies w is site i mode before after e o k p regs stack falls ends depth wrote_is = record {
@@ -71,7 +71,7 @@ plan-applies w is site i mode before after e o k p regs stack falls ends depth w
   named = p.named;
   names = p.names;
   asked = p.asked;
-  regs = subst (λ x. after.regs ≡ stored w.classes mode x.store before.regs) p.effect_is regs;
+  regs = subst (λ x. Stores w.classes mode x.store before.regs after.regs) p.effect_is regs;
   stack = subst (λ x. after.stack ≡ changed x.change before.stack) p.effect_is stack;
   room = subst (λ d. d ≤ p.method.max_stack) (sym (ap length stack ∙ length-changed e.change before.stack (plan-suits w is before k site i e p).there)) p.room;
   falls = falls;

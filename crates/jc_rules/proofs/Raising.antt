@@ -6,9 +6,8 @@ use Rattle.std.proofs.lemmas.List.Sorted.{IsPermutation-reverse, sum_by-IsPermut
 use Rattle.std.proofs.lemmas.List.Sums.{sum_by-set}
 use Rattle.jc_base.specs.declared.ty.Ty.{Ty}
 use Rattle.jc_base.specs.declared.ty.Ty.TheVariants.{Top}
-use Rattle.jc_base.specs.Class.{ClassTable, AreClasses}
-use Rattle.jc_base.proofs.Joins.{rises-falls}
-use Rattle.jc_base.specs.Order.{Below, IsJoin, IsKnown, same, rises_left}
+use Rattle.jc_base.specs.Class.{ClassTable}
+use Rattle.jc_base.specs.Order.{IsJoin, IsKnown, rises_left}
 use Rattle.jc_rules.specs.declared.state.Merged.TheVariants.{Same, Risen}
 use Rattle.jc_rules.specs.Flow.{CellsJoin, none_joined, more_joined, IsNotTop}
 use Rattle.jc_rules.specs.Typing.{Clashes, depths, cells, IsMerged}
@@ -32,18 +31,6 @@ CellsJoin-by_index t [] (y ∷ ys) js e d h = absurd (omega arith)
 CellsJoin-by_index t (x ∷ xs) [] js e d h = absurd (omega arith)
 CellsJoin-by_index t (x ∷ xs) (y ∷ ys) [] e d h = absurd (omega arith)
 CellsJoin-by_index t (x ∷ xs) (y ∷ ys) (j ∷ js) e d h = more_joined (h 0 (omega arith)) (CellsJoin-by_index t xs ys js (omega arith) (omega arith) (λ k lt. h (suc k) (omega arith)))
-
--- what is above the other already is their join
-pub join_held : (t : ClassTable) {a b : Ty} → Below t b a → IsJoin t a b a
-join_held t h = record { left = same; right = h; least = λ u p q. p }
-
-join_rises_by : (t : ClassTable) {a b j : Ty} → IsJoin t a b j → ¬ (Below t b a) → (a ≡ j) ⊎ (rises_left t j < rises_left t a) → rises_left t j < rises_left t a
-join_rises_by t {a} {b} is n (inl e) = absurd (n (subst (Below t b) (sym e) is.right))
-join_rises_by t is n (inr lt) = lt
-
--- a join with what is not below has risen
-pub join_rises : (t : ClassTable) → AreClasses t → {a b j : Ty} → IsJoin t a b j → ¬ (Below t b a) → rises_left t j < rises_left t a
-join_rises t are is n = join_rises_by t is n (rises-falls t are is.left)
 
 split_last : (k n : ℕ) → k < n + 1 → (k < n) ⊎ (k ≡ n)
 split_last zero zero h = inr refl

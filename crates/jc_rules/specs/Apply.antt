@@ -15,7 +15,7 @@ use Rattle.jc_rules.specs.declared.effect.Mode.{Mode}
 use Rattle.jc_rules.specs.declared.rule.Site.{Site}
 use Rattle.jc_rules.specs.declared.rule.Outcome.{Outcome}
 use Rattle.jc_rules.specs.Stack.{cells}
-use Rattle.jc_rules.specs.Effect.{changed, stored, depth_after}
+use Rattle.jc_rules.specs.Effect.{changed, Stores, depth_after}
 use Rattle.jc_rules.specs.Demand.{Frame, AllHold, Breaks}
 use Rattle.jc_rules.specs.Rule.{demands, effect, falls_from, ends_at, wrote}
 
@@ -36,7 +36,7 @@ pub record Applies (w : Linked) (site : Site) (i : Insn) (mode : Mode) (before a
   pub named : Named
   pub names : Names w method site.place i (row_at i.op) (Ok named)
   pub asked : AllHold w.classes before (demands w i named (row_at i.op))
-  pub regs : after.regs ≡ stored w.classes mode (effect w i named (row_at i.op) before).store before.regs
+  pub regs : Stores w.classes mode (effect w i named (row_at i.op) before).store before.regs after.regs
   pub stack : after.stack ≡ changed (effect w i named (row_at i.op) before).change before.stack
   pub room : length after.stack ≤ method.max_stack
   pub falls : o.falls ≡ falls_from (row_at i.op)

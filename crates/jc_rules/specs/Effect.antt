@@ -1,11 +1,11 @@
 -- What an instruction does to the stack and to the registers.
-use Rattle.std.specs.Prelude.{ℕ, ◌+◌, ◌-◌, ◌==◌, if◌then◌else◌, max, List, [], ◌∷◌, ◌++◌, length, map, take, drop, slice_index_or, slice_set}
+use Rattle.std.specs.Prelude.{◌≡◌, ℕ, ◌+◌, ◌-◌, ◌==◌, if◌then◌else◌, max, List, [], ◌∷◌, ◌++◌, length, map, take, drop, slice_index_or, slice_set}
 use Rattle.jc_base.specs.declared.ty.Ty.{Ty}
 use Rattle.jc_base.specs.declared.ty.Ty.TheVariants.{IntHigh, IntLow, Class, Fresh, Top}
 use Rattle.jc_rules.specs.declared.effect.Cells.{Cells}
 use Rattle.jc_rules.specs.declared.effect.Cells.TheVariants.{Nothing, One, Int}
 use Rattle.jc_base.specs.Class.{ClassTable}
-use Rattle.jc_base.specs.Order.{join_of}
+use Rattle.jc_base.specs.Order.{IsJoin}
 use Rattle.jc_rules.specs.declared.effect.Mode.{Mode}
 use Rattle.jc_rules.specs.declared.effect.Mode.TheVariants.{Card, Flow}
 use Rattle.jc_rules.specs.declared.effect.Store.{Store}
@@ -48,20 +48,28 @@ depth_after (MakeReady taken place class given) d = d - taken + length (listed g
 abbrev pub reg : List Ty → ℕ → Ty
 reg regs x = slice_index_or regs x Top
 
--- what a register holds after a store: on the card it is raised to the join, in the dataflow it is replaced
-abbrev pub over : ClassTable → Mode → Ty → Ty → Ty
-over t Flow held ty = ty
-over t Card held ty = join_of t held ty
+-- what a register holds once a type is stored over another: on the card the least type above both, in the dataflow what is stored
+abbrev pub IsStored : ClassTable → Mode → Ty → Ty → Ty → Type 0
+IsStored t Flow held ty now = now ≡ ty
+IsStored t Card held ty now = IsJoin t held ty now
 
--- the registers once one is written
-abbrev pub written : ClassTable → Mode → ℕ → Ty → List Ty → List Ty
-written t mode x ty regs = slice_set regs x (over t mode (reg regs x) ty)
+-- one register is written, and no other
+pub record Writes (t : ClassTable) (mode : Mode) (x : ℕ) (ty : Ty) (before after : List Ty) : Type 0 where
+  pub value : Ty
+  pub stored : IsStored t mode (reg before x) ty value
+  pub after_is : after ≡ slice_set before x value
 
-abbrev pub stored_cells : ClassTable → Mode → ℕ → Cells → List Ty → List Ty
-stored_cells t mode x Nothing regs = regs
-stored_cells t mode x (One ty) regs = written t mode x ty regs
-stored_cells t mode x Int regs = written t mode (x + 1) IntLow (written t mode x IntHigh regs)
+-- two registers are written for an int: the first has its high half
+pub record WritesInt (t : ClassTable) (mode : Mode) (x : ℕ) (before after : List Ty) : Type 0 where
+  pub between : List Ty
+  pub high : Writes t mode x IntHigh before between
+  pub low : Writes t mode (x + 1) IntLow between after
 
--- the registers afterwards: an int takes two, its high half first
-abbrev pub stored : ClassTable → Mode → Store → List Ty → List Ty
-stored t mode s regs = stored_cells t mode s.register s.cells regs
+abbrev pub WritesCells : ClassTable → Mode → ℕ → Cells → List Ty → List Ty → Type 0
+WritesCells t mode x Nothing before after = after ≡ before
+WritesCells t mode x (One ty) before after = Writes t mode x ty before after
+WritesCells t mode x Int before after = WritesInt t mode x before after
+
+-- the registers before and after a store
+abbrev pub Stores : ClassTable → Mode → Store → List Ty → List Ty → Type 0
+Stores t mode s before after = WritesCells t mode s.register s.cells before after

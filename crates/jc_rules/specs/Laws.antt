@@ -1,33 +1,55 @@
--- Laws of the rule: it keeps frames well formed, and in the dataflow it is monotone (Leroy 2002, section 2.3: the transfer
--- functions of a dataflow analysis are monotone, so that least solutions exist).
+-- Laws of the rule: it has one result, it keeps frames well formed, and it is monotone (Leroy 2002, section 2.3: the transfer
+-- functions of a dataflow analysis are monotone, so that least solutions exist). On the card it raises one list of registers
+-- (Leroy 2002, section 3).
 use Rattle.std.specs.Prelude.{◌≡◌, ⊤, length, All}
 use Rattle.jc_base.specs.declared.ty.Ty.{Ty}
 use Rattle.jc_base.specs.declared.ty.Ty.TheVariants.{Bottom}
 use Rattle.jc_base.specs.World.{Linked}
 use Rattle.jc_decode.specs.declared.insn.Insn.{Insn}
+use Rattle.jc_rows.specs.declared.fault.RuleFault.{RuleFault}
 use Rattle.jc_rules.specs.declared.effect.Mode.{Mode}
-use Rattle.jc_rules.specs.declared.effect.Mode.TheVariants.{Flow}
+use Rattle.jc_rules.specs.declared.effect.Mode.TheVariants.{Card, Flow}
 use Rattle.jc_rules.specs.declared.rule.Site.{Site}
 use Rattle.jc_rules.specs.declared.rule.Outcome.{Outcome}
 use Rattle.jc_rules.specs.Demand.{Frame, AreKnown}
-use Rattle.jc_rules.specs.Apply.{Applies}
-use Rattle.jc_rules.specs.Flow.{FrameBelow, IsNotTop, IsNotFresh}
+use Rattle.jc_rules.specs.Apply.{Applies, Refuses}
+use Rattle.jc_rules.specs.Flow.{CellsBelow, FrameBelow, IsNotTop, IsNotFresh}
 
 abbrev pub IsNotBottom : Ty → Type 0
 IsNotBottom Bottom = ⊥
 IsNotBottom _ = ⊤
 
 -- what a rule gives for a lesser frame: it applies, and its result is lesser
-pub record FallsTo (w : Linked) (site : Site) (i : Insn) (lesser after : Frame) : Type 0 where
+pub record FallsTo (w : Linked) (site : Site) (i : Insn) (mode : Mode) (lesser after : Frame) : Type 0 where
   pub below : Frame
   pub outcome : Outcome
-  pub applies : Applies w site i Flow lesser below outcome
+  pub applies : Applies w site i mode lesser below outcome
   pub lower : FrameBelow w.classes below after
 
--- in the dataflow a rule that applies to a frame applies to each lesser one, with a lesser result. The greater stack has no
--- Top and the lesser no Bottom: a cut below Top splits no int, and a constructor called on Bottom makes nothing ready
+-- a rule that applies to a frame, in either mode, applies in the dataflow to each lesser one, with a lesser result. The greater
+-- stack has no Top and the lesser no Bottom: a cut below Top splits no int, and a constructor called on Bottom makes nothing ready
 abbrev pub RuleFalls : Linked → Type 0
-RuleFalls w = (site : Site) (i : Insn) (greater lesser after : Frame) (o : Outcome) → FrameBelow w.classes lesser greater → All IsNotTop greater.stack → All IsNotBottom lesser.stack → Applies w site i Flow greater after o → FallsTo w site i lesser after
+RuleFalls w = (site : Site) (i : Insn) (mode : Mode) (greater lesser after : Frame) (o : Outcome) → FrameBelow w.classes lesser greater → All IsNotTop greater.stack → All IsNotBottom lesser.stack → Applies w site i mode greater after o → FallsTo w site i Flow lesser after
+
+-- on the card too a rule that applies to a frame applies to each lesser one, with a lesser result
+abbrev pub RuleFallsOnCard : Linked → Type 0
+RuleFallsOnCard w = (site : Site) (i : Insn) (greater lesser after : Frame) (o : Outcome) → AreKnown w.classes lesser → FrameBelow w.classes lesser greater → All IsNotTop greater.stack → All IsNotBottom lesser.stack → Applies w site i Card greater after o → FallsTo w site i Card lesser after
+
+-- on the card no register falls
+abbrev pub RuleRaises : Linked → Type 0
+RuleRaises w = (site : Site) (i : Insn) (before after : Frame) (o : Outcome) → Applies w site i Card before after o → CellsBelow w.classes before.regs after.regs
+
+-- registers that are above all that a rule stores stay as they are on the card
+abbrev pub RuleStays : Linked → Type 0
+RuleStays w = (site : Site) (i : Insn) (before after : Frame) (o : Outcome) → Applies w site i Flow before after o → CellsBelow w.classes after.regs before.regs → Applies w site i Card before (record { regs = before.regs; stack = after.stack }) o
+
+-- a rule has one result, and none where it refuses
+pub record IsDecided (w : Linked) (site : Site) (i : Insn) (mode : Mode) (before : Frame) : Type 0 where
+  pub one : {f g : Frame} {o p : Outcome} → Applies w site i mode before f o → Applies w site i mode before g p → f ≡ g
+  pub never_both : {f : Frame} {o : Outcome} {fault : RuleFault} → Applies w site i mode before f o → ¬ (Refuses w site i before fault)
+
+abbrev pub RuleDecides : Linked → Type 0
+RuleDecides w = (site : Site) (i : Insn) (mode : Mode) (before : Frame) → IsDecided w site i mode before
 
 -- what a rule keeps of a frame
 pub record Keeps (w : Linked) (before after : Frame) : Type 0 where

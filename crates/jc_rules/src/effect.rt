@@ -1,7 +1,7 @@
 ghost use Rattle.std.specs.Prelude.{◌≡◌, ◌+◌, ◌<◌, ◌≤◌, ◌∷◌, ◌++◌, length, map, max, All};
 ghost use Rattle.jc_base.specs.Order.{IsKnown};
 ghost use Rattle.jc_rules.specs.Stack.{cells};
-ghost use Rattle.jc_rules.specs.Effect.{changed, ready, listed, needed, depth_after, written, stored, over};
+ghost use Rattle.jc_rules.specs.Effect.{changed, ready, listed, needed, depth_after, reg, IsStored, Writes, Stores};
 
 use jc_base::{Classes, Ty, join};
 
@@ -200,7 +200,7 @@ pub fn change_regs(classes: &Classes, regs: &mut [Ty], store: Store, mode: Mode)
     requires small { length regs.old ≤ 255 }
     requires regs_known { All (IsKnown classes.now) regs.old }
     requires stored_known { All (IsKnown classes.now) (listed store.cells) }
-    ensures value { regs.new ≡ stored classes.now mode store regs.old }
+    ensures value { Stores classes.now mode store regs.old regs.new }
     ensures known { All (IsKnown classes.now) regs.new }
 {
     match store.cells {
@@ -217,7 +217,7 @@ fn write(classes: &Classes, regs: &mut [Ty], x: u8, ty: Ty, mode: Mode)
     requires inside { x < length regs.old }
     requires regs_known { All (IsKnown classes.now) regs.old }
     requires ty_known { IsKnown classes.now ty }
-    ensures value { regs.new ≡ written classes.now mode x ty regs.old }
+    ensures value { Writes classes.now mode x ty regs.old regs.new }
     ensures regs_known { All (IsKnown classes.now) regs.new }
 {
     let x = x as usize;
@@ -228,7 +228,7 @@ fn write(classes: &Classes, regs: &mut [Ty], x: u8, ty: Ty, mode: Mode)
 fn over(classes: &Classes, held: Ty, ty: Ty, mode: Mode) -> Ty
     requires held_known { IsKnown classes.now held }
     requires ty_known { IsKnown classes.now ty }
-    ensures value { result ≡ over classes.now mode held ty }
+    ensures value { IsStored classes.now mode held ty result }
     ensures known { IsKnown classes.now result }
 {
     match mode {

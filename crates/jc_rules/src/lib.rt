@@ -20,7 +20,7 @@ mod values;
 
 pub use demand::{Before, Demand};
 pub use effect::{Cells, Change, Effect, Mode, Store};
-pub use laws::{rule_falls, rule_keeps};
+pub use laws::{rule_decides, rule_falls, rule_keeps, rule_raises};
 pub use rule::{Outcome, Site, apply};
 pub use state::{Merged, State};
 pub use typing::Typing;

@@ -10,15 +10,9 @@ ghost use Rattle.jc_rules.specs.Rule.{a_reference, element, array_wanted, array_
 
 use crate::demand::{Before, Demand};
 use crate::effect::{Cells, Effect};
-use crate::values::size;
+use crate::values::{INT_HIGH, INT_LOW, SHORT, size};
 use jc_base::{Kind, Ty};
 use jc_rows::{Branch, Holder, Make, RuleFault, TypeTest, Want, Width};
-
-const SHORT: Want = Want::Value(Ty::Short);
-
-const INT_LOW: Want = Want::Value(Ty::IntLow);
-
-const INT_HIGH: Want = Want::Value(Ty::IntHigh);
 
 /// The type of an element of an array of references.
 fn element(array: Ty) -> Ty

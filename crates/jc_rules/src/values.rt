@@ -9,11 +9,11 @@ use crate::effect::{Cells, Change, Effect, Store};
 use jc_base::Ty;
 use jc_rows::{Arithmetic, Constant, Move, RuleFault, Sort, Want, Width};
 
-const SHORT: Want = Want::Value(Ty::Short);
+pub(crate) const SHORT: Want = Want::Value(Ty::Short);
 
-const INT_LOW: Want = Want::Value(Ty::IntLow);
+pub(crate) const INT_LOW: Want = Want::Value(Ty::IntLow);
 
-const INT_HIGH: Want = Want::Value(Ty::IntHigh);
+pub(crate) const INT_HIGH: Want = Want::Value(Ty::IntHigh);
 
 impl Effect {
     /// The top cells give place to others.
@@ -212,28 +212,41 @@ impl Before<'_> {
                     under: 0,
                 }))
             }
-            Move::CopyUnder => {
-                self.check(&[
-                    Demand::Depth(m),
-                    Demand::Cut(m),
-                    Demand::Depth(n),
-                    Demand::Cut(n),
-                ])?;
-                Ok(Effect::on_stack(Change::CopyUnder {
-                    copied: m,
-                    under: n,
-                }))
-            }
-            Move::Exchange => {
-                self.check(&[
-                    Demand::Depth(m),
-                    Demand::Cut(m),
-                    Demand::Depth(m + n),
-                    Demand::Cut(m + n),
-                ])?;
-                Ok(Effect::on_stack(Change::Exchange { top: m, under: n }))
-            }
+            Move::CopyUnder => self.copied_under(m, n),
+            Move::Exchange => self.exchanged(m, n),
         }
+    }
+
+    /// A copy of the top `m` cells goes under the first `n`.
+    fn copied_under(&self, m: u8, n: u8) -> Result<Effect, RuleFault>
+        requires { AreKnown self.now.world.now.classes (frame self.now) }
+        ensures { IsJudged self.now.world.now.classes (frame self.now) (move_demands Move.CopyUnder m n) (move_effect Move.CopyUnder m n) result }
+    {
+        self.check(&[
+            Demand::Depth(m),
+            Demand::Cut(m),
+            Demand::Depth(n),
+            Demand::Cut(n),
+        ])?;
+        Ok(Effect::on_stack(Change::CopyUnder {
+            copied: m,
+            under: n,
+        }))
+    }
+
+    /// The top `m` cells change places with the `n` under them.
+    fn exchanged(&self, m: u8, n: u8) -> Result<Effect, RuleFault>
+        requires frame { AreKnown self.now.world.now.classes (frame self.now) }
+        requires small { m + n ≤ 255 }
+        ensures { IsJudged self.now.world.now.classes (frame self.now) (move_demands Move.Exchange m n) (move_effect Move.Exchange m n) result }
+    {
+        self.check(&[
+            Demand::Depth(m),
+            Demand::Cut(m),
+            Demand::Depth(m + n),
+            Demand::Cut(m + n),
+        ])?;
+        Ok(Effect::on_stack(Change::Exchange { top: m, under: n }))
     }
 
     /// Checks that a number is on top of the stack.

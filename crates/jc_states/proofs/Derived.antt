@@ -12,16 +12,18 @@ use Rattle.jc_base.specs.Order.{IsKnown}
 use Rattle.jc_base.specs.Linked.{IsMethod, IsHandler, IsCodeLength, list_at, lacks_code, receiver_words}
 use Rattle.jc_base.specs.World.{Linked, IsWorld}
 use Rattle.jc_base.proofs.Lists.{All-slice_get}
+use Rattle.jc_base.proofs.Joins.{IsJoin-known}
 use Rattle.jc_decode.specs.declared.insn.Placed.{Placed}
 use Rattle.jc_rows.proofs.Members.{declared-known}
 use Rattle.jc_rules.specs.declared.effect.Mode.TheVariants.{Flow}
 use Rattle.jc_rules.specs.Demand.{Frame, AreKnown}
 use Rattle.jc_rules.specs.Flow.{Method, IsMethodOf, Stands, IsFit, FrameBelow, At, Merges, Steps, site_of, start_frame, caught_frame, receiver_of, IsNotFresh, IsReached, begins, follows, caught, IsDerived, derived_start, derived_caught, derived_next, derived_joined, FlowTyping, IsFollowed}
 use Rattle.jc_rules.specs.Laws.{IsNotBottom, Keeps, FallsTo}
+use Rattle.jc_rules.proofs.CellLists.{cells-same}
 use Rattle.jc_rules.proofs.Falls.{rule-falls}
 use Rattle.jc_rules.proofs.Keeps.{rule-keeps, join-not_fresh}
-use Rattle.jc_states.proofs.Frames.{all_none, all_more, all_same, cells-same, frame-trans, join-least, join-length, join-all, known-join, full-join}
-use Rattle.jc_states.proofs.Decides.{applies-unique}
+use Rattle.jc_rules.proofs.Decides.{applies-unique}
+use Rattle.jc_states.proofs.Frames.{all_none, all_more, all_same, frame-trans, join-least, join-length, join-all, full-join}
 
 -- ---- elements
 
@@ -156,8 +158,8 @@ module _ (w : Linked) (is : IsWorld w) (m : Method) (mo : IsMethodOf w m) where
   joined-fine f g j a b merges = record {
     known = record {
       few = omega (arith, join-length w.classes merges.regs, a.known.few);
-      regs = join-all w.classes (IsKnown w.classes) (known-join w.classes is.chains) merges.regs a.known.regs b.known.regs;
-      stack = join-all w.classes (IsKnown w.classes) (known-join w.classes is.chains) merges.stack a.known.stack b.known.stack;
+      regs = join-all w.classes (IsKnown w.classes) (λ a b j known others join. IsJoin-known w.classes is.chains known others join) merges.regs a.known.regs b.known.regs;
+      stack = join-all w.classes (IsKnown w.classes) (λ a b j known others join. IsJoin-known w.classes is.chains known others join) merges.stack a.known.stack b.known.stack;
       object = a.known.object;
     };
     count = join-length w.classes merges.regs ∙ a.count;
@@ -180,7 +182,7 @@ module _ (w : Linked) (is : IsWorld w) (m : Method) (mo : IsMethodOf w m) where
       pub above : FrameBelow w.classes f greater
       pub there : frames i.place ≡ Some greater
       pub followed : IsFollowed w m frames i greater
-      pub fallen : FallsTo w (site_of m i.place) i.insn f followed.after
+      pub fallen : FallsTo w (site_of m i.place) i.insn Flow f followed.after
 
     pub followed-below : (i : Placed) (f : Frame) → IsFine f → IsReached m i.place → Stands m.code i → At frames i.place (FrameBelow w.classes f) → Follows i f
     followed-below i f fine reached st below =
@@ -193,12 +195,12 @@ module _ (w : Linked) (is : IsWorld w) (m : Method) (mo : IsMethodOf w m) where
           above = le;
           there = there;
           followed = followed;
-          fallen = rule-falls w is.chains (site_of m i.place) i.insn g f followed.after followed.steps.0 le fit.no_top fine.no_bottom followed.steps.1;
+          fallen = rule-falls w is.chains (site_of m i.place) i.insn Flow g f followed.after followed.steps.0 le fit.no_top fine.no_bottom followed.steps.1;
         }) below
 
     -- what the rule gives for the lesser frame is below what it gives for the greater one
     pub step-below : (i : Placed) (f g : Frame) → (s : Follows i f) → Steps w m i f g → FrameBelow w.classes g s.followed.after
-    step-below i f g s steps = subst (λ x. FrameBelow w.classes x s.followed.after) (applies-unique w (site_of m i.place) i.insn f s.fallen.applies steps.1) s.fallen.lower
+    step-below i f g s steps = subst (λ x. FrameBelow w.classes x s.followed.after) (applies-unique w (site_of m i.place) i.insn Flow f is.chains s.fallen.applies steps.1) s.fallen.lower
 
     pub record IsUnder (p : ℕ) (f : Frame) : Type 0 where
       pub reached : IsReached m p

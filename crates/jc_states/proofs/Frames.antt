@@ -1,14 +1,14 @@
 -- Frames are ordered cell by cell, and joined cell by cell.
-use Rattle.std.proofs.Common.{◌≡◌, ℕ, zero, suc, true, List, [], ◌∷◌, length, replicate, All, refl, sym, ap, subst, arith}
+use Rattle.std.proofs.Common.{◌≡◌, ℕ, zero, suc, true, List, [], ◌∷◌, length, replicate, All, sym, arith}
 use Rattle.jc_base.specs.declared.ty.Ty.{Ty}
 use Rattle.jc_base.specs.declared.ty.Ty.TheVariants.{Bottom, Short, IntHigh, IntLow, Null, Class, ArrBool, ArrByte, ArrShort, ArrInt, ArrRef, Fresh, Top}
 use Rattle.jc_base.specs.Class.{ClassTable, AreClasses}
-use Rattle.jc_base.specs.Order.{Below, IsJoin, IsKnown, same, joined, is_below}
+use Rattle.jc_base.specs.Order.{Below, IsJoin, is_below}
 use Rattle.jc_base.proofs.Subtypes.{is_below-from_Below}
-use Rattle.jc_base.proofs.Joins.{IsJoin-unique, join_of-is, join_of-known}
 use Rattle.jc_rules.specs.Demand.{Frame}
 use Rattle.jc_rules.specs.Flow.{CellsBelow, no_cells, more_cells, FrameBelow, CellsJoin, none_joined, more_joined, IsNotFresh, IsNotTop}
 use Rattle.jc_rules.specs.Laws.{IsNotBottom}
+use Rattle.jc_rules.proofs.CellLists.{cells-same, cells-trans, cells-length}
 
 -- ---- all cells of a list
 
@@ -37,23 +37,11 @@ IsReady ty = IsNotFresh ty × IsNotTop ty
 -- ---- the order
 
 module _ (t : ClassTable) where
-  pub cells-same : (xs : List Ty) → CellsBelow t xs xs
-  cells-same [] = no_cells
-  cells-same (x ∷ xs) = more_cells same (cells-same xs)
-
   pub frame-same : (f : Frame) → FrameBelow t f f
-  frame-same f = record { regs = cells-same f.regs; stack = cells-same f.stack }
-
-  pub cells-trans : {xs ys zs : List Ty} → CellsBelow t xs ys → CellsBelow t ys zs → CellsBelow t xs zs
-  cells-trans no_cells q = q
-  cells-trans (more_cells h p) (more_cells k q) = more_cells (joined h k) (cells-trans p q)
+  frame-same f = record { regs = cells-same t f.regs; stack = cells-same t f.stack }
 
   pub frame-trans : {f g h : Frame} → FrameBelow t f g → FrameBelow t g h → FrameBelow t f h
-  frame-trans p q = record { regs = cells-trans p.regs q.regs; stack = cells-trans p.stack q.stack }
-
-  pub cells-length : {xs ys : List Ty} → CellsBelow t xs ys → length xs ≡ length ys
-  cells-length no_cells = refl
-  cells-length (more_cells h p) = ap suc (cells-length p)
+  frame-trans p q = record { regs = cells-trans t p.regs q.regs; stack = cells-trans t p.stack q.stack }
 
   -- what holds of what is below something of which it holds
   module _ (P Q : Ty → Type 0) (falls : (a b : Ty) → Below t a b → Q b → P a) where
@@ -76,7 +64,7 @@ module _ (t : ClassTable) where
   join-least (more_joined h j) (more_cells p ps) (more_cells q qs) = more_cells (h.least _ p q) (join-least j ps qs)
 
   pub join-length : {xs ys js : List Ty} → CellsJoin t xs ys js → length js ≡ length xs
-  join-length j = sym (cells-length (join-left j))
+  join-length j = sym (cells-length t (join-left j))
 
   -- what holds of a join of types of which it holds
   module _ (P : Ty → Type 0) (joins : (a b j : Ty) → P a → P b → IsJoin t a b j → P j) where
@@ -86,9 +74,6 @@ module _ (t : ClassTable) where
         all_more P j js (joins a b j (all_first P a xs p) (all_first P b ys q) h) (join-all rest (all_rest P a xs p) (all_rest P b ys q))
 
   module _ (are : AreClasses t) where
-    pub known-join : (a b j : Ty) → IsKnown t a → IsKnown t b → IsJoin t a b j → IsKnown t j
-    known-join a b j p q is = subst (IsKnown t) (IsJoin-unique t are (join_of-is t are a b p q) is) (join_of-known t are a b p q)
-
     -- ---- Bottom, Top and uninitialised objects
 
     under_bottom : (a : Ty) → is_below t a Bottom ≡ true → IsNotBottom a → ⊥

@@ -1,6 +1,5 @@
 pub mod Frames
 pub mod Landing
-pub mod Decides
 pub mod Derived
 pub mod Growth
 pub mod Settled

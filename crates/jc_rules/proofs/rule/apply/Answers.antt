@@ -2,7 +2,7 @@ use Rattle.std.proofs.Common.{◌≡◌, ◌≤◌, length, All, subst, sym, ◌
 use Rattle.std.proofs.lemmas.Result.{err_from_is_err_and}
 use Rattle.jc_base.specs.Order.{IsKnown}
 use Rattle.jc_rules.specs.Stack.{cells}
-use Rattle.jc_rules.specs.Effect.{needed, listed, depth_after, stored}
+use Rattle.jc_rules.specs.Effect.{needed, listed, depth_after, Stores}
 use Rattle.jc_rules.specs.Demand.{Frame}
 use Rattle.jc_rules.specs.Rule.{falls_from, ends_at}
 use Rattle.jc_rules.specs.Apply.{frame_of, HasRoom}
@@ -67,7 +67,7 @@ returns-clause-applies c =
     ∙ sym c.change_stack-depth.ensures.depth in
     plan-applies w c.classes-classes.ensures.links c.args.site c.args.insn c.args.mode before
     (frame_of c.change_regs.new.regs c.change_stack-depth.new.stack c.change_stack-depth.result) e _ k c.in_ok-effect.ensures
-    (subst (λ t. c.change_regs.new.regs ≡ stored t c.args.mode e.store c.args.regs.now) c.classes-classes.ensures.is c.change_regs.ensures.value)
+    (subst (λ t. Stores t c.args.mode e.store c.args.regs.now c.change_regs.new.regs) c.classes-classes.ensures.is c.change_regs.ensures.value)
     c.change_stack-depth.ensures.stack
     (c.falls.ensures ∙ ap falls_from c.of-row.ensures)
     (c.ends.ensures ∙ ap ends_at c.of-row.ensures)

@@ -1,10 +1,11 @@
 -- The rule of an instruction has one outcome: it applies with one result, or it refuses.
-use Rattle.std.proofs.Common.{◌≡◌, ℕ, ◌≤◌, List, length, Option, Some, None, Result, Ok, Err, slice_get, sym, ◌∙◌, ap, subst, arith}
+use Rattle.std.proofs.Common.{◌≡◌, ℕ, ◌≤◌, List, length, Option, Some, None, Result, Ok, Err, slice_get, slice_set, refl, sym, ◌∙◌, ap, subst, arith}
 use Rattle.jc_base.specs.declared.record.MethodRec.{MethodRec}
 use Rattle.jc_base.specs.declared.record.Member.{Member}
 use Rattle.jc_base.specs.declared.record.Member.TheVariants.{ClassOf, Field, Static, Virtual, Super, StaticCall}
 use Rattle.jc_base.specs.declared.ty.Ty.{Ty}
-use Rattle.jc_base.specs.Class.{ClassTable}
+use Rattle.jc_base.specs.Class.{ClassTable, AreClasses}
+use Rattle.jc_base.proofs.Joins.{IsJoin-unique}
 use Rattle.jc_base.specs.World.{Linked, member_at}
 use Rattle.jc_decode.specs.declared.insn.Insn.{Insn}
 use Rattle.jc_rows.specs.declared.fault.RuleFault.{RuleFault}
@@ -17,11 +18,15 @@ use Rattle.jc_rows.specs.Named.{Names, NamesObject, short_of}
 use Rattle.jc_rules.specs.declared.demand.Demand.{Demand}
 use Rattle.jc_rules.specs.declared.rule.Site.{Site}
 use Rattle.jc_rules.specs.declared.rule.Outcome.{Outcome}
-use Rattle.jc_rules.specs.Effect.{changed, stored}
+use Rattle.jc_rules.specs.Effect.{changed, reg, IsStored, Writes, WritesCells, Stores}
 use Rattle.jc_rules.specs.Demand.{Frame, AllHold, Breaks, here, later}
 use Rattle.jc_rules.specs.Rule.{demands, effect}
 use Rattle.jc_rules.specs.Apply.{Applies, Refuses, unnamed, unmet, full}
-use Rattle.jc_rules.specs.declared.effect.Mode.TheVariants.{Flow}
+use Rattle.jc_rules.specs.declared.effect.Mode.{Mode}
+use Rattle.jc_rules.specs.declared.effect.Mode.TheVariants.{Card, Flow}
+use Rattle.jc_rules.specs.declared.effect.Cells.{Cells}
+use Rattle.jc_rules.specs.declared.effect.Cells.TheVariants as given
+use Rattle.jc_rules.specs.Laws.{RuleDecides}
 
 object-unique : (w : Linked) (place pool : ℕ) (o : Option Member) (r s : Result Named RuleFault) → NamesObject w place pool o r → NamesObject w place pool o s → r ≡ s
 object-unique w place pool (Some (ClassOf c)) (Ok n) (Ok k) h g = ap Ok (h.1 ∙ sym g.1)
@@ -71,9 +76,26 @@ some-same e f = cc
 ok-same : {n k : Named} → ◌≡◌ {A = Result Named RuleFault} (Ok n) (Ok k) → n ≡ k
 ok-same e = cc
 
-module _ (w : Linked) (site : Site) (i : Insn) (before : Frame) where
+-- ---- what is stored
+
+module _ (t : ClassTable) (are : AreClasses t) (mode : Mode) where
+  stored-unique : (mode : Mode) (held ty a b : Ty) → IsStored t mode held ty a → IsStored t mode held ty b → a ≡ b
+  stored-unique Flow held ty a b e f = e ∙ sym f
+  stored-unique Card held ty a b j k = IsJoin-unique t are j k
+
+  writes-unique : {x : ℕ} {ty : Ty} {regs others f g : List Ty} → regs ≡ others → Writes t mode x ty regs f → Writes t mode x ty others g → f ≡ g
+  writes-unique {x} {ty} {regs} {others} {f} {g} e u v =
+      let value : u.value ≡ v.value = stored-unique mode (reg regs x) ty u.value v.value u.stored (subst (λ rs. IsStored t mode (reg rs x) ty v.value) (sym e) v.stored) in
+      u.after_is ∙ ap (slice_set regs x) value ∙ ap (λ rs. slice_set rs x v.value) e ∙ sym v.after_is
+
+  cells-unique : (x : ℕ) (cells : Cells) (regs f g : List Ty) → WritesCells t mode x cells regs f → WritesCells t mode x cells regs g → f ≡ g
+  cells-unique x given.Nothing regs f g u v = u ∙ sym v
+  cells-unique x (given.One ty) regs f g u v = writes-unique refl u v
+  cells-unique x given.Int regs f g u v = writes-unique (writes-unique refl u.high v.high) u.low v.low
+
+module _ (w : Linked) (site : Site) (i : Insn) (mode : Mode) (before : Frame) where
   -- what is named where the rule applies
-  named-same : (m : MethodRec) (r : Result Named RuleFault) {after : Frame} {o : Outcome} → (a : Applies w site i Flow before after o) → slice_get w.methods site.method ≡ Some m → Names w m site.place i (row_at i.op) r → r ≡ Ok a.named
+  named-same : (m : MethodRec) (r : Result Named RuleFault) {after : Frame} {o : Outcome} → (a : Applies w site i mode before after o) → slice_get w.methods site.method ≡ Some m → Names w m site.place i (row_at i.op) r → r ≡ Ok a.named
   named-same m r a e h =
       names-unique w a.method site.place i (row_at i.op) r (Ok a.named) (subst (λ x. Names w x site.place i (row_at i.op) r) (some-same e a.is_method) h) a.names
 
@@ -81,15 +103,16 @@ module _ (w : Linked) (site : Site) (i : Insn) (before : Frame) where
   frame-eta f regs stack e h = ap (λ x. record { regs = x; stack = f.stack }) e ∙ ap (λ x. record { regs = regs; stack = x }) h
 
   -- the rule applies with one result
-  pub applies-unique : {f g : Frame} {o p : Outcome} → Applies w site i Flow before f o → Applies w site i Flow before g p → f ≡ g
-  applies-unique {f} {g} a b =
+  pub applies-unique : AreClasses w.classes → {f g : Frame} {o p : Outcome} → Applies w site i mode before f o → Applies w site i mode before g p → f ≡ g
+  applies-unique are {f} {g} a b =
       let n : a.named ≡ b.named = ok-same (named-same a.method (Ok a.named) b a.is_method a.names) in
-      let regs : f.regs ≡ g.regs = a.regs ∙ ap (λ x. stored w.classes Flow (effect w i x (row_at i.op) before).store before.regs) n ∙ sym b.regs in
+      let e = (effect w i b.named (row_at i.op) before).store in
+      let regs : f.regs ≡ g.regs = cells-unique w.classes are mode e.register e.cells before.regs f.regs g.regs (subst (λ x. Stores w.classes mode (effect w i x (row_at i.op) before).store before.regs f.regs) n a.regs) b.regs in
       let stack : f.stack ≡ g.stack = a.stack ∙ ap (λ x. changed (effect w i x (row_at i.op) before).change before.stack) n ∙ sym b.stack in
       frame-eta f g.regs g.stack regs stack
 
   -- a rule that applies does not refuse
-  pub applies-not-refuses : {after : Frame} {o : Outcome} {fault : RuleFault} → Applies w site i Flow before after o → Refuses w site i before fault → ⊥
+  pub applies-not-refuses : {after : Frame} {o : Outcome} {fault : RuleFault} → Applies w site i mode before after o → Refuses w site i before fault → ⊥
   applies-not-refuses a (unnamed {m} {fault} e h) = let same : ◌≡◌ {A = Result Named RuleFault} (Err fault) (Ok a.named) = named-same m (Err fault) a e h in absurd (cc)
   applies-not-refuses a (unmet {m} n e h b) =
       breaks-not w.classes before b (subst (λ x. AllHold w.classes before (demands w i x (row_at i.op))) (sym (ok-same (named-same m (Ok n) a e h))) a.asked)
@@ -98,3 +121,9 @@ module _ (w : Linked) (site : Site) (i : Insn) (before : Frame) where
       let size : length after.stack ≡ length (changed (effect w i n (row_at i.op) before).change before.stack) = ap length (a.stack ∙ ap (λ x. changed (effect w i x (row_at i.op) before).change before.stack) (sym same)) in
       let room : length after.stack ≤ m.max_stack = subst (λ x. length after.stack ≤ x.max_stack) (some-same a.is_method e) a.room in
       absurd (omega arith)
+
+pub rule-decides : (w : Linked) → AreClasses w.classes → RuleDecides w
+rule-decides w are site i mode before = record {
+  one = λ {f} {g} {o} {p} a b. applies-unique w site i mode before are a b;
+  never_both = λ {f} {o} {fault} a r. applies-not-refuses w site i mode before a r;
+}
