@@ -1,10 +1,9 @@
 -- The list of the code's instructions, one step at a time.
 use Rattle.std.specs.List.{list_any}
-use Rattle.std.proofs.Common.{◌≡◌, ◌∙◌, sym, ap, subst, Bool, true, ℕ, zero, suc, ◌+◌, ◌<◌, ◌≤◌, Option, Some, None, Result, Ok, Err, List, [], ◌∷◌, length, refl, arith}
+use Rattle.std.proofs.Common.{◌≡◌, subst, Bool, true, ℕ, zero, suc, ◌+◌, ◌<◌, ◌≤◌, Option, Some, None, Result, Ok, Err, List, [], ◌∷◌, length, refl, arith}
 use Rattle.cap_bytes.specs.Number.{number_at}
 use Rattle.jc_decode.specs.declared.insn.Insn.{Insn}
 use Rattle.jc_decode.specs.declared.insn.CodeEnd.{CodeEnd}
-use Rattle.jc_decode.specs.declared.insn.CodeEnd.TheVariants.{Cut, OutOfScope}
 use Rattle.jc_decode.specs.Decoding.{decoded}
 use Rattle.jc_decode.proofs.Decoded.{IsWithin-decoded}
 use Rattle.cap_bare.specs.declared.code.Placed.{Placed}

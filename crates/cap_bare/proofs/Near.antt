@@ -1,5 +1,5 @@
 -- A branch leads at most 128 bytes back and 127 bytes on.
-use Rattle.std.proofs.Common.{◌≡◌, ◌∙◌, sym, ap, subst, ℕ, ◌+◌, ◌<◌, ◌≤◌, ◌⊎◌, inl, inr, Bool, true, false, Option, Some, None, Result, Ok, Err, List, length, refl, arith}
+use Rattle.std.proofs.Common.{◌≡◌, ◌∙◌, sym, ap, subst, ℕ, ◌+◌, ◌<◌, ◌≤◌, inl, inr, true, Option, Some, None, Result, Ok, Err, List, refl, arith}
 use Rattle.std.proofs.lemmas.Int.{ints}
 use Rattle.std.specs.Prelude.{ℤ, pos, negsuc, ◌+ℤ◌, FitsSigned, not, is_some}
 use Rattle.std.specs.Int.{w8}
@@ -16,7 +16,7 @@ use Rattle.cap_bare.specs.declared.format.Format.{Format}
 use Rattle.cap_bare.specs.declared.format.Format.TheVariants.{Implied, Constant, Loads, Stores, Increments, Tests, Compares, Goes}
 use Rattle.cap_bare.specs.Effects.{target_of, is_branch}
 use Rattle.cap_bare.specs.Format.{format_of, resolved, FitsFormat}
-use Rattle.cap_bare.specs.Code.{fetched, of_opcode, of_format, placed_from, placed, IsReached, Stands, IsTarget}
+use Rattle.cap_bare.specs.Code.{fetched, of_opcode, of_format, placed_from, placed, Stands, IsTarget}
 use Rattle.cap_bare.specs.Window.{IsTrailing, IsFromOn}
 use Rattle.cap_bare.proofs.Operands.{format-fits, plain-at}
 

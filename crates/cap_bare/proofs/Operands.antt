@@ -1,5 +1,5 @@
 -- The operands that the formats read are those of their opcodes.
-use Rattle.std.proofs.Common.{◌≡◌, ◌∙◌, sym, subst, ℕ, ℤ, pos, negsuc, ◌+◌, ◌^◌, ◌<◌, ◌≤◌, Bool, true, false, Option, Some, None, Result, Ok, Err, List, length, refl, ap, arith, get_or}
+use Rattle.std.proofs.Common.{◌≡◌, ◌∙◌, sym, subst, ℕ, ℤ, pos, negsuc, ◌<◌, Bool, true, false, Option, Some, None, Result, Ok, Err, List, refl, ap, arith, get_or}
 use Rattle.std.specs.Prelude.{map, not, FitsSigned, ◌&&◌}
 use Rattle.std.specs.Int.{w8, w16}
 use Rattle.std.specs.List.{range_with_len}

@@ -1,19 +1,18 @@
 -- What it means that nothing is wrong, or something is, at an instruction over a stack of shorts.
-use Rattle.std.proofs.Common.{◌≡◌, ◌≢◌, ◌∙◌, sym, ap, subst, ℕ, zero, suc, ◌+◌, ◌-◌, ◌<◌, ◌≤◌, Bool, true, false, Option, Some, None, Result, Ok, Err, List, [], ◌∷◌, ◌++◌, length, refl, arith, ◌==◌, eq-eqb}
-use Rattle.std.proofs.lemmas.Bool.{eqb-true, ltb-true, lt-ltb}
+use Rattle.std.proofs.Common.{◌≡◌, ◌≢◌, ◌∙◌, sym, ap, subst, ℕ, Bool, true, false, Result, Ok, Err, List, [], length, refl, arith, ◌==◌, eq-eqb}
+use Rattle.std.proofs.lemmas.Bool.{eqb-true, ltb-true}
 use Rattle.std.proofs.lemmas.Bool.Decides.{nat_tests}
-use Rattle.std.specs.Prelude.{if◌then◌else◌, ◌&&◌, nat_lt, IsTrue, MatchBool}
+use Rattle.std.specs.Prelude.{if◌then◌else◌, ◌&&◌, nat_lt}
 use Rattle.cap_bare.specs.declared.bare.Bare.{Bare}
 use Rattle.cap_bare.specs.declared.code.Placed.{Placed}
 use Rattle.cap_bare.specs.declared.fault.BareKind.{BareKind}
 use Rattle.cap_bare.specs.declared.fault.BareKind.TheVariants.{StackAtTarget, StackAtBranch, FallsOff}
 use Rattle.cap_bare.specs.Effects.{is_branch, falls_through}
-use Rattle.cap_bare.specs.Code.{IsTarget, Stands}
-use Rattle.cap_bare.specs.Typing.{Kind, short, shorts, register_count, Applies}
-use Rattle.cap_bare.specs.Met.{IsWrong, wrong_target, wrong_rule, wrong_branch, wrong_end, LandsEmpty, Passes}
+use Rattle.cap_bare.specs.Typing.{Kind, shorts, register_count}
+use Rattle.cap_bare.specs.Met.{IsWrong, wrong_target, wrong_rule, wrong_branch, wrong_end, LandsEmpty}
 use Rattle.cap_bare.specs.Walk.{is_target, applied, left, passed}
 use Rattle.cap_bare.proofs.Places.{target-true, target-from}
-use Rattle.cap_bare.proofs.Rule.{Applied, applied-ok, applied-is, applied-err, applies, shorts-none, shorts-length}
+use Rattle.cap_bare.proofs.Rule.{Applied, applied-ok, applied-is, applied-err, applies, shorts-none}
 
 -- where an instruction that falls through, or doesn't, leads from a stack of so many shorts
 abbrev pub Leaves : List ℕ → Placed → ℕ → ℕ → Bool → Type 0

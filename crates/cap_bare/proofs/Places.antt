@@ -1,15 +1,14 @@
 -- The instructions that stand in the code are those of the list, and its places lie in order.
-use Rattle.std.proofs.Common.{◌≡◌, ◌≢◌, ◌∙◌, sym, ap, subst, ℕ, ◌+◌, ◌<◌, ◌≤◌, Bool, true, false, Option, Some, None, Result, Ok, Err, List, [], ◌∷◌, ◌++◌, length, refl, arith, append_assoc, inl, inr, ◌⊎◌, ◌==◌, eq-eqb}
-use Rattle.std.specs.Prelude.{ℤ, pos, negsuc, cond, ◌||◌}
+use Rattle.std.proofs.Common.{◌≡◌, ◌∙◌, sym, ap, subst, ℕ, ◌<◌, ◌≤◌, Bool, true, false, Option, Some, None, Ok, Err, List, [], ◌∷◌, ◌++◌, refl, arith, append_assoc, inl, inr, ◌⊎◌, ◌==◌, eq-eqb}
+use Rattle.std.specs.Prelude.{ℤ, pos, negsuc, ◌||◌}
 use Rattle.std.proofs.lemmas.Bool.{eqb-true}
 use Rattle.std.specs.List.{list_any, AllByRecursion}
 use Rattle.jc_decode.specs.declared.insn.CodeEnd.{CodeEnd}
 use Rattle.cap_bare.specs.declared.code.Placed.{Placed}
-use Rattle.cap_bare.specs.declared.instruction.Instruction.{Instruction}
 use Rattle.cap_bare.specs.Effects.{target_of}
-use Rattle.cap_bare.specs.Code.{fetched, IsReached, reached_first, reached_next, Stands, IsPlace, IsTargetPlace, IsTarget}
-use Rattle.cap_bare.specs.Walk.{instructions, instructions_from, has_place, is_place, is_at, is_target}
-use Rattle.cap_bare.proofs.Instructions.{IsInside, fetched-inside, Lists, lists-instructions, instructions-found}
+use Rattle.cap_bare.specs.Code.{fetched, IsReached, reached_first, reached_next, Stands, IsTargetPlace, IsTarget}
+use Rattle.cap_bare.specs.Walk.{instructions, instructions_from, is_place, is_at, is_target}
+use Rattle.cap_bare.proofs.Instructions.{fetched-inside, Lists, lists-instructions, instructions-found}
 
 module _ (code : List ℕ) where
   pub stands-at : (at : ℕ) (i : Placed) → IsReached code at → fetched code at ≡ Ok i → Stands code i

@@ -1,21 +1,18 @@
 -- An instruction's rule over a stack of shorts, told by the number of its cells.
-use Rattle.std.proofs.Common.{◌≡◌, ◌≢◌, ◌∙◌, sym, ap, subst, ℕ, zero, suc, ◌+◌, ◌-◌, ◌<◌, ◌≤◌, Bool, true, false, Option, Some, None, Result, Ok, Err, List, [], ◌∷◌, ◌++◌, length, replicate, refl, arith, ◌==◌, eq-eqb}
-use Rattle.std.proofs.lemmas.Bool.{eqb-true, ltb-true, lt-ltb}
+use Rattle.std.proofs.Common.{◌≡◌, ◌∙◌, sym, ap, subst, ℕ, zero, suc, ◌+◌, ◌-◌, ◌<◌, ◌≤◌, Bool, true, false, Option, Some, None, Result, Ok, Err, List, [], ◌∷◌, ◌++◌, length, refl, arith}
+use Rattle.std.proofs.lemmas.Bool.{ltb-true, lt-ltb}
 use Rattle.std.proofs.lemmas.Bool.Decides.{nat_tests}
 use Rattle.std.proofs.lemmas.List.{replicate-append-replicate, length-replicate, append_cancel_left, length-append}
-use Rattle.std.specs.Prelude.{if◌then◌else◌, ◌&&◌, nat_lt, IfSome, IsSomeAnd, slice_get, IsTrue}
+use Rattle.std.specs.Prelude.{if◌then◌else◌, nat_lt, IfSome, IsSomeAnd, slice_get}
 use Rattle.cap_bare.specs.declared.bare.Bare.{Bare}
-use Rattle.cap_bare.specs.declared.code.Placed.{Placed}
 use Rattle.cap_bare.specs.declared.instruction.Instruction.{Instruction}
 use Rattle.cap_bare.specs.declared.instruction.Instruction.TheVariants.{Nop, Push, Load, Store, Increment, Pop, Duplicate, Unary, Binary, Test, Compare, Goto, Return}
 use Rattle.cap_bare.specs.declared.fault.BareKind.{BareKind}
-use Rattle.cap_bare.specs.declared.fault.BareKind.TheVariants.{NoLocal, Underflow, Overflow, StackAtTarget, StackAtBranch, FallsOff}
-use Rattle.cap_bare.specs.Effects.{register_of, register_read, register_written, cells_taken, cells_given, is_branch, falls_through}
-use Rattle.cap_bare.specs.Code.{IsTarget, Stands}
+use Rattle.cap_bare.specs.declared.fault.BareKind.TheVariants.{NoLocal, Underflow, Overflow}
+use Rattle.cap_bare.specs.Effects.{register_of, register_read, register_written, cells_taken, cells_given}
 use Rattle.cap_bare.specs.Typing.{Kind, bottom, short, IsBelow, below_itself, below_short, shorts, register_count, Applies}
-use Rattle.cap_bare.specs.Met.{Fails, fails_local, fails_cells, fails_room, IsWrong, wrong_target, wrong_rule, wrong_branch, wrong_end}
-use Rattle.cap_bare.specs.Walk.{is_target, within, applied, left, passed}
-use Rattle.cap_bare.proofs.Places.{target-true, target-from}
+use Rattle.cap_bare.specs.Met.{Fails, fails_local, fails_cells, fails_room}
+use Rattle.cap_bare.specs.Walk.{within, applied}
 
 -- lists of shorts
 pub shorts-split : (d n : ℕ) → n ≤ d → shorts d ≡ shorts n ++ shorts (d - n)

@@ -1,22 +1,22 @@
 -- Code with a card typing never meets a fault.
-use Rattle.std.proofs.Common.{◌≡◌, ◌≢◌, ◌∙◌, sym, ap, subst, ℕ, zero, suc, ◌+◌, ◌-◌, ◌<◌, ◌≤◌, Bool, true, false, Option, Some, None, Result, Ok, Err, List, [], ◌∷◌, ◌++◌, length, drop, replicate, refl, arith, inl, inr, ◌⊎◌}
+use Rattle.std.proofs.Common.{◌≡◌, ◌∙◌, sym, ap, subst, ℕ, zero, suc, ◌+◌, ◌-◌, ◌<◌, ◌≤◌, Bool, true, false, Option, Some, None, Result, Ok, Err, List, [], length, drop, replicate, refl, arith, inl, inr, ◌⊎◌}
 use Rattle.std.proofs.lemmas.Bool.{ltb-true, lt-ltb}
 use Rattle.std.proofs.lemmas.Bool.Decides.{nat_tests}
 use Rattle.std.proofs.lemmas.List.{length-replicate, length-append, length-drop}
 use Rattle.std.proofs.Math.ListN.{length-set}
-use Rattle.std.specs.Prelude.{if◌then◌else◌, ℤ, pos, negsuc, IfSome, IsTrue, MatchBool, nat_lt, is_some, slice_set, slice_index_or}
+use Rattle.std.specs.Prelude.{if◌then◌else◌, ℤ, pos, negsuc, IfSome, MatchBool, nat_lt, is_some}
 use Rattle.jc_decode.specs.declared.insn.CodeEnd.{CodeEnd}
 use Rattle.cap_bare.specs.declared.bare.Bare.{Bare}
 use Rattle.cap_bare.specs.declared.code.Placed.{Placed}
 use Rattle.cap_bare.specs.declared.instruction.Instruction.{Instruction}
 use Rattle.cap_bare.specs.declared.instruction.Instruction.TheVariants.{Nop, Push, Load, Store, Increment, Pop, Duplicate, Unary, Binary, Test, Compare, Goto, Return}
 use Rattle.cap_bare.specs.Arithmetic.{holds}
-use Rattle.cap_bare.specs.Effects.{register_of, cells_taken, cells_given, target_of, is_branch, falls_through}
-use Rattle.cap_bare.specs.Code.{fetched, IsReached, reached_first, Stands, IsPlace, IsTargetPlace, IsTarget, IsWellFormed}
-use Rattle.cap_bare.specs.Typing.{Kind, shorts, register_count, Applies, IsTyped, CardTyping}
+use Rattle.cap_bare.specs.Effects.{register_of, cells_taken, cells_given, target_of, falls_through}
+use Rattle.cap_bare.specs.Code.{fetched, IsReached, reached_first, Stands, IsPlace, IsTargetPlace}
+use Rattle.cap_bare.specs.Typing.{Kind, shorts, register_count, IsTyped, CardTyping}
 use Rattle.cap_bare.specs.Walk.{is_place}
-use Rattle.cap_bare.specs.Machine.{Frame, State, Fault, Outcome, running, returned, faulted, jump_fault, local_fault, stack_fault, Lead, leads, gives, frame, top, second, acted, has_register, at_place, settled, performed, step, go_on, after, entered, IsFault, IsSafe, IsFaultFree}
-use Rattle.cap_bare.proofs.Instructions.{IsInside, fetched-inside}
+use Rattle.cap_bare.specs.Machine.{Frame, State, Outcome, running, returned, faulted, jump_fault, local_fault, stack_fault, Lead, leads, gives, frame, top, second, acted, has_register, at_place, settled, performed, step, go_on, after, entered, IsFault, IsSafe, IsFaultFree}
+use Rattle.cap_bare.proofs.Instructions.{fetched-inside}
 use Rattle.cap_bare.proofs.Places.{stands-at, reached-behind, ends-once, place-true}
 use Rattle.cap_bare.proofs.WellFormed.{none-at-end}
 use Rattle.cap_bare.proofs.Rule.{shorts-length}

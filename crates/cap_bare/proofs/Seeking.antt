@@ -1,5 +1,5 @@
 -- A search along the code from an instruction on finds what stands in the code.
-use Rattle.std.proofs.Common.{◌≡◌, ◌≢◌, ◌∙◌, sym, ap, subst, ℕ, ◌+◌, ◌<◌, ◌≤◌, ◌⊎◌, inl, inr, Bool, true, false, Some, Result, Ok, Err, List, length, refl, arith, ◌==◌, eq-eqb, true≢false}
+use Rattle.std.proofs.Common.{◌≡◌, ◌≢◌, ◌∙◌, sym, subst, ℕ, ◌+◌, ◌<◌, ◌≤◌, ◌⊎◌, inl, inr, Bool, true, false, Result, Ok, Err, List, refl, arith, ◌==◌, eq-eqb, true≢false}
 use Rattle.std.proofs.lemmas.Bool.{eqb-true}
 use Rattle.std.specs.Prelude.{ℤ, pos, is_ok, IsTrue, ◌↔◌}
 use Rattle.jc_decode.specs.declared.insn.CodeEnd.{CodeEnd}

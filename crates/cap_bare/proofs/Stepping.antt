@@ -1,5 +1,5 @@
 -- What the machine's code does in a run that meets no fault.
-use Rattle.std.proofs.Common.{◌≡◌, ◌∙◌, sym, ap, subst, ℕ, ◌+◌, ◌-◌, ◌<◌, ◌≤◌, true, Option, Result, Ok, Err, List, length, refl, arith}
+use Rattle.std.proofs.Common.{◌≡◌, ◌∙◌, sym, ap, subst, ℕ, ◌+◌, ◌-◌, ◌<◌, ◌≤◌, Ok, Err, List, length, refl, arith}
 use Rattle.std.proofs.lemmas.Int.{ints}
 use Rattle.std.specs.Prelude.{ℤ, pos, negsuc, ◌^◌, nat_abs, IfSome, T}
 use Rattle.std.specs.Int.{w16, w32}
@@ -8,15 +8,14 @@ use mir.Val.{Fits, to_z, of_z}
 use Rattle.jc_decode.specs.declared.insn.CodeEnd.{CodeEnd}
 use Rattle.cap_bare.specs.declared.bare.Bare.{Bare}
 use Rattle.cap_bare.specs.declared.code.Placed.{Placed}
-use Rattle.cap_bare.specs.declared.instruction.Instruction.{Instruction}
 use Rattle.cap_bare.specs.Effects.{register_of, cells_taken, cells_given}
 use Rattle.cap_bare.specs.Code.{fetched, IsTargetPlace}
 use Rattle.cap_bare.specs.Typing.{register_count}
-use Rattle.cap_bare.specs.Machine.{Frame, State, Outcome, running, returned, Lead, leads, gives, frame, acted, at_place, settled, step, IsFault, IsSafe}
+use Rattle.cap_bare.specs.Machine.{Frame, State, running, returned, Lead, leads, gives, frame, acted, at_place, settled, step, IsFault, IsSafe}
 use Rattle.cap_bare.specs.Leading.{CanAct, state_at}
-use Rattle.cap_bare.proofs.Instructions.{IsInside, fetched-inside}
+use Rattle.cap_bare.proofs.Instructions.{fetched-inside}
 use Rattle.cap_bare.proofs.Places.{place-from}
-use Rattle.cap_bare.proofs.Running.{IsActed, acts_on, acts_out, acted-is, Sound, sound, Settled, settled-from, safe-step}
+use Rattle.cap_bare.proofs.Running.{IsActed, acts_on, acts_out, acted-is, Sound, sound, settled-from, safe-step}
 
 module _ (code : List ℕ) (bare : Bare) (s : State) (safe : IsSafe code bare s) where
   pub never-none : (end : CodeEnd) → fetched code s.place ≡ Err end → ⊥

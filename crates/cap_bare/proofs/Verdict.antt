@@ -1,10 +1,9 @@
 -- What the two walks find, in the words of the contract.
-use Rattle.std.proofs.Common.{◌≡◌, ◌∙◌, sym, ap, subst, ℕ, ◌≤◌, Result, Ok, Err, List, length, refl}
+use Rattle.std.proofs.Common.{◌≡◌, ◌∙◌, sym, subst, ℕ, ◌≤◌, Result, Ok, Err, List, length, refl}
 use Rattle.std.specs.Prelude.{IsOk, OnOk, IfErr, ◌↔◌}
 use Rattle.cap_bare.specs.declared.bare.Bare.{Bare}
 use Rattle.cap_bare.specs.declared.fault.BareFault.{BareFault}
 use Rattle.cap_bare.specs.declared.fault.BareKind.{BareKind}
-use Rattle.cap_bare.specs.declared.fault.BareKind.TheVariants.{Code, BadTarget}
 use Rattle.cap_bare.specs.declared.instruction.Instruction.{Instruction}
 use Rattle.cap_bare.specs.declared.code.Placed.{Placed}
 use Rattle.cap_bare.specs.Code.{IsFirstFlaw, IsFlawKind, IsWellFormed}

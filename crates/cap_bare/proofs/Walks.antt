@@ -1,24 +1,22 @@
 -- The second walk accepts exactly what has a card typing, and refuses at a met state.
-use Rattle.std.proofs.Common.{◌≡◌, ◌≢◌, ◌∙◌, sym, ap, subst, ℕ, zero, suc, ◌+◌, ◌-◌, ◌<◌, ◌≤◌, Bool, true, false, Option, Some, None, Result, Ok, Err, List, [], ◌∷◌, ◌++◌, length, replicate, refl, arith, ◌==◌, eq-eqb}
+use Rattle.std.proofs.Common.{◌≡◌, ◌≢◌, ◌∙◌, sym, ap, subst, ℕ, zero, suc, ◌+◌, ◌-◌, ◌<◌, ◌≤◌, Bool, true, false, Option, Some, None, Result, Ok, Err, List, [], ◌∷◌, length, replicate, refl, arith, ◌==◌, eq-eqb}
 use Rattle.std.proofs.lemmas.Bool.{eqb-true}
 use Rattle.std.proofs.lemmas.List.{length-replicate, length-append}
 use Rattle.std.proofs.Math.ListN.{length-set}
-use Rattle.std.specs.Prelude.{if◌then◌else◌, ℤ, pos, negsuc, IfSome, IsSomeAnd, IsTrue, MatchBool, slice_get, slice_set}
+use Rattle.std.specs.Prelude.{if◌then◌else◌, pos, IfSome, IsSomeAnd, MatchBool, slice_get}
 use Rattle.std.specs.List.{AllByRecursion}
-use Rattle.jc_decode.specs.declared.insn.CodeEnd.{CodeEnd}
 use Rattle.cap_bare.specs.declared.bare.Bare.{Bare}
 use Rattle.cap_bare.specs.declared.code.Placed.{Placed}
-use Rattle.cap_bare.specs.declared.instruction.Instruction.{Instruction}
 use Rattle.cap_bare.specs.declared.fault.BareFault.{BareFault}
 use Rattle.cap_bare.specs.declared.fault.BareKind.{BareKind}
-use Rattle.cap_bare.specs.Effects.{register_of, register_written, cells_taken, cells_given, is_branch, falls_through}
+use Rattle.cap_bare.specs.Effects.{register_written, cells_taken, cells_given, is_branch, falls_through}
 use Rattle.cap_bare.specs.Code.{fetched, IsReached, reached_first, Stands, IsPlace, IsTarget, IsWellFormed, fault}
 use Rattle.cap_bare.specs.Typing.{Kind, bottom, short, IsBelow, below_itself, shorts, register_count, Applies, IsTyped, CardTyping}
-use Rattle.cap_bare.specs.Met.{declared, raised, raised_at, Passes, IsMet, met_entry, met_next, IsWrong, IsRefused, refused_state}
-use Rattle.cap_bare.specs.Walk.{instructions, instructions_from, is_target, passed, then_on, first_wrong}
+use Rattle.cap_bare.specs.Met.{declared, raised, raised_at, Passes, IsMet, met_entry, met_next, IsRefused, refused_state}
+use Rattle.cap_bare.specs.Walk.{instructions, instructions_from, passed, then_on, first_wrong}
 use Rattle.cap_bare.proofs.Instructions.{IsInside, fetched-inside, Lists, lists-instructions, lists-one, instructions-past}
-use Rattle.cap_bare.proofs.Places.{stands-at, reached-after, instructions-stand, all-stand, all-of, ends-once, target-true, target-from}
-use Rattle.cap_bare.proofs.Rule.{Applied, applied-from, applies, shorts-none, shorts-length, shorts-one, written-named}
+use Rattle.cap_bare.proofs.Places.{stands-at, reached-after, all-of, ends-once, target-true, target-from}
+use Rattle.cap_bare.proofs.Rule.{Applied, applied-from, applies, shorts-none, shorts-length, written-named}
 use Rattle.cap_bare.proofs.Passing.{Passing, Leaves, passed-ok, passed-is, passed-err}
 use Rattle.cap_bare.proofs.WellFormed.{none-at-end}
 

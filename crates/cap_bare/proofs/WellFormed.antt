@@ -1,19 +1,18 @@
 -- The first walk finds the first flaw, and none exactly in well-formed code.
-use Rattle.std.proofs.Common.{◌≡◌, ◌≢◌, ◌∙◌, sym, ap, subst, ℕ, ◌+◌, ◌<◌, ◌≤◌, Bool, true, false, Option, Some, None, Result, Ok, Err, List, [], ◌∷◌, ◌++◌, length, refl, arith, inl, inr, ◌⊎◌, ◌==◌, eq-eqb}
-use Rattle.std.specs.Prelude.{ℤ, pos, negsuc, if◌then◌else◌, ◌↔◌, IfErr}
+use Rattle.std.proofs.Common.{◌≡◌, ◌≢◌, ◌∙◌, sym, ap, subst, ℕ, ◌≤◌, Bool, true, false, Option, Some, None, Result, Ok, Err, List, [], ◌∷◌, length, refl, arith, ◌==◌, eq-eqb}
+use Rattle.std.specs.Prelude.{ℤ, if◌then◌else◌}
 use Rattle.std.proofs.lemmas.Bool.{eqb-true}
 use Rattle.std.specs.List.{AllByRecursion}
 use Rattle.jc_decode.specs.declared.insn.CodeEnd.{CodeEnd}
 use Rattle.cap_bare.specs.declared.code.Placed.{Placed}
-use Rattle.cap_bare.specs.declared.instruction.Instruction.{Instruction}
 use Rattle.cap_bare.specs.declared.fault.BareFault.{BareFault}
 use Rattle.cap_bare.specs.declared.fault.BareKind.{BareKind}
 use Rattle.cap_bare.specs.declared.fault.BareKind.TheVariants.{Code, BadTarget}
 use Rattle.cap_bare.specs.Effects.{target_of}
 use Rattle.cap_bare.specs.Code.{fetched, IsReached, reached_first, reached_next, Stands, IsTargetPlace, IsWellFormed, IsFlaw, flaw_end, flaw_target, IsFirstFlaw, IsFlawKind, fault}
-use Rattle.cap_bare.specs.Walk.{instructions, instructions_from, is_place, led, then_on, ended, first_flaw}
-use Rattle.cap_bare.proofs.Instructions.{IsInside, fetched-inside, Lists, lists-instructions, instructions-past}
-use Rattle.cap_bare.proofs.Places.{stands-at, reached-after, reached-behind, all-of, place-true, place-from, apart, ends-once}
+use Rattle.cap_bare.specs.Walk.{instructions, is_place, led, then_on, ended, first_flaw}
+use Rattle.cap_bare.proofs.Instructions.{fetched-inside, Lists, lists-instructions}
+use Rattle.cap_bare.proofs.Places.{stands-at, reached-after, all-of, place-true, place-from, apart, ends-once}
 
 true≢false : (b : Bool) → b ≡ true → b ≡ false → ⊥
 true≢false b e f = cc

@@ -1,5 +1,5 @@
 -- The arithmetic of shorts (JCVM 2.2, chapter 7): results wrap to 16 bits.
-use Rattle.std.specs.Prelude.{ℕ, ◌%◌, ◌/◌, ◌^◌, ℤ, pos, Bool, not, ◌==◌, int_lt, int_le}
+use Rattle.std.specs.Prelude.{ℕ, ◌%◌, ◌/◌, ◌^◌, ℤ, Bool, not, ◌==◌, int_lt, int_le}
 use Rattle.std.specs.Int.{w8, w16, w32, cast_signed, cast_unsigned, int_wrapping_add, int_wrapping_sub, int_wrapping_mul, int_wrapping_neg, int_bit_and, int_bit_or, int_bit_xor, int_shl, int_shr}
 use Rattle.cap_bare.specs.declared.arithmetic.Condition.{Condition}
 use Rattle.cap_bare.specs.declared.arithmetic.Condition.TheVariants.{Equal, NotEqual, Less, GreaterOrEqual, Greater, LessOrEqual}

@@ -1,5 +1,5 @@
 -- What the record of a bare method says of its file.
-use Rattle.std.specs.Prelude.{ℕ, ◌≤◌, length}
+use Rattle.std.specs.Prelude.{◌≤◌, length}
 use Rattle.cap_bare.specs.declared.method.BareMethod.{BareMethod}
 use Rattle.cap_bare.specs.Typing.{IsCompact}
 use Rattle.cap_bare.specs.MethodFile.{MethodFile}

@@ -5,7 +5,6 @@ use Rattle.jc_decode.specs.declared.Insn.{Insn}
 use Rattle.jc_decode.specs.declared.CodeEnd.{CodeEnd}
 use Rattle.jc_decode.specs.declared.CodeEnd.TheVariants.{Cut, OutOfScope}
 use Rattle.jc_decode.specs.Decoding.{decoded}
-use Rattle.cap_bare.specs.declared.instruction.Instruction.{Instruction}
 use Rattle.cap_bare.specs.declared.format.Format.{Format}
 use Rattle.cap_bare.specs.declared.code.Placed.{Placed}
 use Rattle.cap_bare.specs.declared.fault.BareFault.{BareFault}

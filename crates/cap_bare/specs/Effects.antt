@@ -1,7 +1,7 @@
 -- What each instruction names, takes and gives (JCVM 2.2, chapter 7).
 use Rattle.std.specs.Prelude.{ℕ, ℤ, Bool, true, false, Option, Some, None, is_some}
 use Rattle.cap_bare.specs.declared.instruction.Instruction.{Instruction}
-use Rattle.cap_bare.specs.declared.instruction.Instruction.TheVariants.{Nop, Push, Load, Store, Increment, Pop, Duplicate, Unary, Binary, Test, Compare, Goto, Return}
+use Rattle.cap_bare.specs.declared.instruction.Instruction.TheVariants.{Push, Load, Store, Increment, Pop, Duplicate, Unary, Binary, Test, Compare, Goto, Return}
 
 -- the register that it names
 abbrev pub register_of : Instruction → Option ℕ

@@ -1,5 +1,5 @@
 -- What the code's answers say in the machine's terms.
-use Rattle.std.specs.Prelude.{ℕ, ◌+◌, ◌-◌, ◌<◌, ◌≤◌, List, length, IfSome}
+use Rattle.std.specs.Prelude.{ℕ, ◌+◌, ◌-◌, ◌<◌, ◌≤◌, length, IfSome}
 use Rattle.cap_bare.specs.declared.frame.Lead.{Lead as RunLead}
 use Rattle.cap_bare.specs.declared.frame.Lead.TheVariants.{To, Gives}
 use Rattle.cap_bare.specs.declared.run.Progress.{Progress}

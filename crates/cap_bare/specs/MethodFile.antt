@@ -1,6 +1,5 @@
 -- The info of a bare method's file: a Method component with no handler and one method (JCVM 2.2, section 6.9).
 use Rattle.std.specs.Prelude.{ℕ, ◌/◌, ◌%◌, ◌<◌, ◌≡◌, ◌⊎◌, ◌==◌, List, length}
-use Rattle.cap_bytes.specs.declared.fault.FormFault.{FormFault}
 use Rattle.cap_bytes.specs.Grammar.{Grammar, give, number, u1, rest, that, ◌>>=◌}
 use Rattle.cap_bytes.specs.Spelling.{Stands, Breaks, info_of}
 use Rattle.cap_package.specs.declared.fault.PackFault.{PackFault}

@@ -14,8 +14,8 @@ pub struct Placed {
     pub next: u16,
 }
 
-#[tactic(auto, unfolding(crate::specs::Code::fetched))]
 /// The instruction that begins at a place, of those that bare methods have.
+#[tactic(auto, unfolding(crate::specs::Code::fetched))]
 pub fn fetch(code: View<'_>, place: u16) -> Result<Placed, CodeEnd>
     requires { length code.bytes.now ≤ 32767 }
     ensures value { result ≡ fetched code.entry.bytes.now place }

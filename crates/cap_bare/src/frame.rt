@@ -1,6 +1,8 @@
-ghost use Rattle.std.specs.Prelude.{◌≡◌, ◌<◌, ◌≤◌, ◌+◌, ℤ, pos, [], ◌∷◌, ◌++◌, length, replicate, slice_index_or, slice_set};
-ghost use Rattle.cap_bare.specs.Machine.{acted, top};
+ghost use Rattle.std.specs.Prelude.{◌≡◌, ◌<◌, ◌≤◌, ◌+◌, ℤ, pos, [], ◌∷◌, ◌++◌, length, drop, replicate, slice_index_or, slice_set, if◌then◌else◌};
+ghost use Rattle.cap_bare.specs.Arithmetic.{holds};
+ghost use Rattle.cap_bare.specs.Machine.{acted, frame, leads, top, second};
 
+use crate::arithmetic::Condition;
 use crate::bare::Bare;
 use crate::instruction::Instruction;
 use arrayvec::ArrayVec;
@@ -93,6 +95,49 @@ impl Frame {
         self.registers[usize::from(x)] = value;
     }
 
+    fn give(&mut self, value: i16, next: i32) -> Lead
+        requires { length self.old.stack < 15 }
+        ensures { leading result self.new ≡ leads next (frame self.old.registers (value ∷ self.old.stack)) }
+    {
+        self.push(value);
+        Lead::To(next)
+    }
+
+    fn duplicate(&mut self, next: i32) -> Lead
+        requires cells { 0 < length self.old.stack }
+        requires room { length self.old.stack < 15 }
+        ensures { leading result self.new ≡ leads next (frame self.old.registers (top self.old.stack ∷ self.old.stack)) }
+    {
+        let value = self.pop();
+        self.push(value);
+        self.give(value, next)
+    }
+
+    fn test(&mut self, condition: Condition, target: i32, next: i32) -> Lead
+        requires { 0 < length self.old.stack }
+        ensures { leading result self.new ≡ leads (if holds condition (top self.old.stack) (pos 0) then target else next) (frame self.old.registers (drop 1 self.old.stack)) }
+    {
+        let value = self.pop();
+        Lead::To(if condition.holds(value, 0) {
+            target
+        } else {
+            next
+        })
+    }
+
+    fn compare(&mut self, condition: Condition, target: i32, next: i32) -> Lead
+        requires { 1 < length self.old.stack }
+        ensures { leading result self.new ≡ leads (if holds condition (second self.old.stack) (top self.old.stack) then target else next) (frame self.old.registers (drop 2 self.old.stack)) }
+    {
+        let second = self.pop();
+        let first = self.pop();
+        Lead::To(if condition.holds(first, second) {
+            target
+        } else {
+            next
+        })
+    }
+
     /// Does what an instruction says, before the instruction at `next`.
     pub fn act(&mut self, instruction: Instruction, next: u16) -> Lead
         requires { CanAct instruction self.old }
@@ -101,14 +146,8 @@ impl Frame {
         let next = i32::from(next);
         match instruction {
             Instruction::Nop => Lead::To(next),
-            Instruction::Push(value) => {
-                self.push(value);
-                Lead::To(next)
-            }
-            Instruction::Load(x) => {
-                self.push(self.register(x));
-                Lead::To(next)
-            }
+            Instruction::Push(value) => self.give(value, next),
+            Instruction::Load(x) => self.give(self.register(x), next),
             Instruction::Store(x) => {
                 let value = self.pop();
                 self.set_register(x, value);
@@ -122,40 +161,18 @@ impl Frame {
                 self.pop();
                 Lead::To(next)
             }
-            Instruction::Duplicate => {
-                let value = self.pop();
-                self.push(value);
-                self.push(value);
-                Lead::To(next)
-            }
+            Instruction::Duplicate => self.duplicate(next),
             Instruction::Unary(operator) => {
                 let value = self.pop();
-                self.push(operator.of(value));
-                Lead::To(next)
+                self.give(operator.of(value), next)
             }
             Instruction::Binary(operator) => {
                 let second = self.pop();
                 let first = self.pop();
-                self.push(operator.of(first, second));
-                Lead::To(next)
+                self.give(operator.of(first, second), next)
             }
-            Instruction::Test(condition, target) => {
-                let value = self.pop();
-                Lead::To(if condition.holds(value, 0) {
-                    target
-                } else {
-                    next
-                })
-            }
-            Instruction::Compare(condition, target) => {
-                let second = self.pop();
-                let first = self.pop();
-                Lead::To(if condition.holds(first, second) {
-                    target
-                } else {
-                    next
-                })
-            }
+            Instruction::Test(condition, target) => self.test(condition, target, next),
+            Instruction::Compare(condition, target) => self.compare(condition, target, next),
             Instruction::Goto(target) => Lead::To(target),
             Instruction::Return => Lead::Gives(self.pop()),
         }

@@ -19,11 +19,11 @@ pub struct BareMethod<'a> {
     pub code: View<'a>,
 }
 
-#[tactic(auto, using(cap_bytes::proofs::Laws::whole))]
 /// The bare method of a Method component's info, with at most 65,535 bytes.
 ///
 /// A fault is `Form`, of the first item that breaks the format, or `MethodLength` where the code has no bytes or
 /// more than 32,767.
+#[tactic(auto, using(cap_bytes::proofs::Laws::whole))]
 pub fn bare_method(info: View<'_>) -> Result<BareMethod<'_>, PackFault>
     requires { length info.bytes.now ≤ 65535 }
     ensures found { IfOk result (λ m. Stands method_info info.entry.bytes.now (file m)) }

@@ -1,6 +1,6 @@
 ghost use Rattle.std.specs.Prelude.{◌≤◌, length};
 
-use crate::{Bare, BareEnd, BareFault, BareKind, bare_method, bare_run, bare_verify};
+use crate::{BareEnd, BareKind, bare_method, bare_run, bare_verify};
 use cap_bytes::{FormKind, View};
 use cap_package::PackFault;
 use jc_decode::CodeEnd;
@@ -23,13 +23,17 @@ fn end_of(info: &[u8], args: &[i16], budget: u64) -> Option<BareEnd>
     }
 }
 
-/// The refusal of an info's method.
-fn refusal_of(info: &[u8]) -> Option<BareFault>
+/// The place and kind of the refusal of an info's method.
+fn refusal_of(info: &[u8]) -> Option<(u16, BareKind)>
     requires { length info.now ≤ 65535 }
 {
-    match bare_method(View::of(info)) {
-        Ok(method) => bare_verify(method.code, method.bare).err(),
-        Err(_) => None,
+    let method = match bare_method(View::of(info)) {
+        Ok(method) => method,
+        Err(_) => return None,
+    };
+    match bare_verify(method.code, method.bare) {
+        Ok(()) => None,
+        Err(fault) => Some((fault.place, fault.kind)),
     }
 }
 
@@ -141,53 +145,18 @@ fn registers_and_loops(rt: HostRuntime) {
 #[test]
 fn flaws_are_named_at_the_least_place(rt: HostRuntime) {
     let inside = refusal_of(&[0, 2, 0x00, 0x11, 0x00, 0x05, 0x70, 0xFE, 0x78]);
-    assert!(rt;
-        matches!(
-            inside,
-            Some(BareFault {
-                place: 3,
-                kind: BareKind::BadTarget(1)
-            })
-        )
-    );
+    assert!(rt; matches!(inside, Some((3, BareKind::BadTarget(1)))));
     let before = refusal_of(&[0, 1, 0x00, 0x70, 0xFF, 0x11]);
-    assert!(rt;
-        matches!(
-            before,
-            Some(BareFault {
-                place: 0,
-                kind: BareKind::BadTarget(-1)
-            })
-        )
-    );
+    assert!(rt; matches!(before, Some((0, BareKind::BadTarget(-1)))));
     let cut = refusal_of(&[0, 1, 0x00, 0x04, 0x11, 0x00]);
-    assert!(rt;
-        matches!(
-            cut,
-            Some(BareFault {
-                place: 1,
-                kind: BareKind::Code(CodeEnd::Cut)
-            })
-        )
-    );
+    assert!(rt; matches!(cut, Some((1, BareKind::Code(CodeEnd::Cut)))));
     let reference = refusal_of(&[0, 1, 0x00, 0x04, 0x01, 0x70, 0x09]);
-    assert!(rt;
-        matches!(
-            reference,
-            Some(BareFault {
-                place: 1,
-                kind: BareKind::Code(CodeEnd::OutOfScope(1))
-            })
-        )
-    );
+    assert!(rt; matches!(reference, Some((1, BareKind::Code(CodeEnd::OutOfScope(1))))));
     let unknown = refusal_of(&[0, 1, 0x00, 0xC8]);
     assert!(rt;
         matches!(
             unknown,
-            Some(BareFault {
-                place: 0,
-                kind: BareKind::Code(CodeEnd::OutOfScope(0xC8))
-            })
+            Some((0, BareKind::Code(CodeEnd::OutOfScope(0xC8))))
         )
     );
 }
@@ -195,75 +164,19 @@ fn flaws_are_named_at_the_least_place(rt: HostRuntime) {
 #[test]
 fn states_are_refused_where_they_are_met(rt: HostRuntime) {
     let falls = refusal_of(&[0, 2, 0x00, 0x04, 0x04, 0x41]);
-    assert!(rt;
-        matches!(
-            falls,
-            Some(BareFault {
-                place: 2,
-                kind: BareKind::FallsOff
-            })
-        )
-    );
+    assert!(rt; matches!(falls, Some((2, BareKind::FallsOff))));
     let backward = refusal_of(&[0, 2, 0x00, 0x04, 0x04, 0x41, 0x3B, 0x70, 0xFD]);
-    assert!(rt;
-        matches!(
-            backward,
-            Some(BareFault {
-                place: 1,
-                kind: BareKind::StackAtTarget
-            })
-        )
-    );
+    assert!(rt; matches!(backward, Some((1, BareKind::StackAtTarget))));
     let forward = refusal_of(&[0, 2, 0x00, 0x03, 0x60, 0x03, 0x04, 0x04, 0x78]);
-    assert!(rt;
-        matches!(
-            forward,
-            Some(BareFault {
-                place: 4,
-                kind: BareKind::StackAtTarget
-            })
-        )
-    );
+    assert!(rt; matches!(forward, Some((4, BareKind::StackAtTarget))));
     let under = refusal_of(&[0, 1, 0x01, 0x3B, 0x78]);
-    assert!(rt;
-        matches!(
-            under,
-            Some(BareFault {
-                place: 0,
-                kind: BareKind::Underflow
-            })
-        )
-    );
+    assert!(rt; matches!(under, Some((0, BareKind::Underflow))));
     let over = refusal_of(&[0, 1, 0x00, 0x04, 0x04, 0x78]);
-    assert!(rt;
-        matches!(
-            over,
-            Some(BareFault {
-                place: 1,
-                kind: BareKind::Overflow
-            })
-        )
-    );
+    assert!(rt; matches!(over, Some((1, BareKind::Overflow))));
     let local = refusal_of(&[0, 1, 0x10, 0x1D, 0x78]);
-    assert!(rt;
-        matches!(
-            local,
-            Some(BareFault {
-                place: 0,
-                kind: BareKind::NoLocal(1)
-            })
-        )
-    );
+    assert!(rt; matches!(local, Some((0, BareKind::NoLocal(1)))));
     let branch = refusal_of(&[0, 1, 0x00, 0x04, 0x70, 0x02, 0x78]);
-    assert!(rt;
-        matches!(
-            branch,
-            Some(BareFault {
-                place: 1,
-                kind: BareKind::StackAtBranch
-            })
-        )
-    );
+    assert!(rt; matches!(branch, Some((1, BareKind::StackAtBranch))));
 }
 
 /// The kind and place of the fault of an info that breaks its format.

@@ -1,6 +1,6 @@
 -- What is known of an output after each piece that it takes.
-use Rattle.std.proofs.Common.{◌≡◌, ℕ, ◌+◌, List, [], ◌++◌, length, take, drop, Option, Some, None, IfSome, IsSomeAnd, sym, ap, ◌∙◌, append_assoc}
-use Rattle.std.proofs.Math.Seq.{take-append-add, take-append_seam}
+use Rattle.std.proofs.Common.{◌≡◌, ℕ, List, [], ◌++◌, length, take, drop, Option, Some, None, IfSome, IsSomeAnd, sym, ap, ◌∙◌, append_assoc}
+use Rattle.std.proofs.Math.Seq.{take-append_seam}
 use Rattle.std.proofs.lemmas.List.{take-append-drop, append-nil}
 use Rattle.cap_files.specs.Sink.{Taken}
 
@@ -26,11 +26,6 @@ pub taken_first : (a c : Option (List ℕ)) (piece first : List ℕ) (n : ℕ) �
 taken_first a None piece first n begins now = tt
 taken_first None (Some z) piece first n begins now = absurd now
 taken_first (Some x) (Some z) piece first n begins now = (n, now ∙ ap (λ t. x ++ t) begins)
-
-pub taken_last : (a b c : Option (List ℕ)) (piece left given : List ℕ) (k : ℕ) → piece ≡ given ++ left → Taken a given b → Taken b (take k left) c → TakenFirst a piece c
-taken_last a b c piece left given k whole before now =
-    taken_first a c piece (given ++ take k left) (length given + k) (sym (ap (take (length given + k)) whole ∙ take-append-add given left k))
-    (taken_then a b c given (take k left) before now)
 
 pub taken_no_more : (a b c : Option (List ℕ)) (piece left given : List ℕ) → piece ≡ given ++ left → Taken a given b → Taken b [] c → TakenFirst a piece c
 taken_no_more a b c piece left given whole before now =

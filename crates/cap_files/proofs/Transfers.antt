@@ -1,16 +1,12 @@
 -- What is known of a file after each read and write.
-use Rattle.std.proofs.Common.{◌≡◌, ℕ, ◌+◌, List, ◌++◌, length, take, drop, Option, Err, sym, subst, ap, ◌∙◌, append_assoc}
-use Rattle.std.proofs.Math.Seq.{take-append-add, take-append_seam}
+use Rattle.std.proofs.Common.{◌≡◌, ℕ, List, ◌++◌, length, take, drop, Option, Err, sym, subst, ap, ◌∙◌, append_assoc}
+use Rattle.std.proofs.Math.Seq.{take-append_seam}
 use Rattle.std.proofs.lemmas.List.{take-append-drop}
 use Rattle.std.proofs.KnownBytes.{Appends-trans, Appends-kept}
 use Rattle.std.specs.Io.KnownBytes.{Appends, Keeps}
 use Rattle.cap_files.specs.declared.folder.LoadEnd.{LoadEnd}
 use Rattle.cap_files.specs.declared.folder.LoadEnd.TheVariants.{Failed, TooLong, Memory}
 use Rattle.cap_files.specs.Transfer.{TakesMore, TakesAll}
-
-pub written_last : (a b c : Option (List ℕ)) (bytes left given : List ℕ) (k : ℕ) → bytes ≡ given ++ left → Appends a b given → Appends b c (take k left) → (n : ℕ) × Appends a c (take n bytes)
-written_last a b c bytes left given k whole before now =
-    (length given + k, subst (Appends a c) (sym (ap (take (length given + k)) whole ∙ take-append-add given left k)) (Appends-trans a b c given (take k left) before now))
 
 pub written_no_more : (a b c : Option (List ℕ)) (bytes left given : List ℕ) → bytes ≡ given ++ left → Appends a b given → Keeps b c → (n : ℕ) × Appends a c (take n bytes)
 written_no_more a b c bytes left given whole before now =

@@ -1,11 +1,8 @@
 -- Which calls to a device in memory fail.
-use Rattle.std.specs.Prelude.{ℕ, ◌+◌, ◌-◌, ◌^◌, ◌==◌, min, List, [], ◌∷◌, ◌++◌, Option, option_map, find}
+use Rattle.std.specs.Prelude.{ℕ, ◌==◌, List, [], ◌∷◌, ◌++◌, Option, option_map, find}
 use Rattle.cap_files.specs.declared.calls.Failure.{Failure}
 use Rattle.cap_files.specs.CallCounts.{Counted}
-
--- one more, where a count of 64 bits stands still at its end
-abbrev pub one_more : ℕ → ℕ
-one_more n = min (n + 1) (2 ^ 64 - 1)
+use Rattle.cap_files.specs.Counts.{one_more}
 
 -- no call was made, and none is to fail
 abbrev pub no_calls : Counted

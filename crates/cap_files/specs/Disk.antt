@@ -1,5 +1,5 @@
 -- The files in which folders keep their parts: what a disk holds when a file was opened, made or closed.
-use Rattle.std.specs.Prelude.{◌≡◌, ℕ, Bool, true, false, List, [], Option, Some, None, IfSome, IsSomeAnd, Result, Ok, Err, ◌⊎◌}
+use Rattle.std.specs.Prelude.{◌≡◌, ℕ, ◌≤◌, Bool, true, false, List, [], length, Option, Some, None, IfSome, IsSomeAnd, Result, Ok, Err, ◌⊎◌}
 use Rattle.std.specs.FinMap as map
 use Rattle.cap_files.specs.declared.disk.DiskFailed.{DiskFailed}
 use Rattle.cap_files.specs.Folder.{Parts, Holds}
@@ -19,3 +19,24 @@ Creates before key after written (Err _) = IfSome after (λ now. IsSomeAnd befor
 -- the bytes that were written are held at the part, and all else as before
 abbrev pub Closes : Option Parts → List ℕ → Option (List ℕ) → Option Parts → Type 0
 Closes before key written after = IfSome after (λ now. IsSomeAnd before (λ parts. IsSomeAnd written (λ bytes. now ≡ map.insert parts key bytes)))
+
+-- the path of the file that is open after a call that opens it to be read: none where it is absent, and none after a failure
+abbrev pub path_found : List ℕ → Result Bool DiskFailed → Option (List ℕ)
+path_found path (Ok true) = Some path
+path_found path (Ok false) = None
+path_found path (Err _) = None
+
+-- the same after a call that makes it
+abbrev pub path_made : List ℕ → Result (Unit {0}) DiskFailed → Option (List ℕ)
+path_made path (Ok _) = Some path
+path_made path (Err _) = None
+
+-- a call took some of the bytes, none only where there are none
+abbrev pub TakesAny : {E : Type 0} → List ℕ → Result ℕ E → Type 0
+TakesAny bytes (Ok count) = (count ≤ length bytes) × (count ≡ 0 → length bytes ≡ 0)
+TakesAny bytes (Err _) = Unit {0}
+
+-- what an open file's handle tells
+abbrev pub of_open : {F : Type 0} → (F → Option (List ℕ)) → Option F → Option (List ℕ)
+of_open told None = None
+of_open told (Some file) = told file

@@ -6,9 +6,9 @@ use Rattle.cap_files.specs.declared.sink.SinkFailed.{SinkFailed}
 abbrev pub Taken : Option (List ℕ) → List ℕ → Option (List ℕ) → Type 0
 Taken before bytes after = IfSome after (λ now. IsSomeAnd before (λ text. now ≡ text ++ bytes))
 
--- some of the bytes were taken, the first ones, or after a failure none
+-- some of the bytes were taken, the first ones, and none only where there are none; or after a failure none
 abbrev pub TakesSome : Option (List ℕ) → List ℕ → Option (List ℕ) → Result ℕ SinkFailed → Type 0
-TakesSome before bytes after (Ok count) = (count ≤ length bytes) × Taken before (take count bytes) after
+TakesSome before bytes after (Ok count) = (count ≤ length bytes) × (count ≡ 0 → length bytes ≡ 0) × Taken before (take count bytes) after
 TakesSome before bytes after (Err _) = Taken before [] after
 
 -- what was received after a put, by its answer: the piece behind what was there, and after a failure the first bytes of the piece. A

@@ -4,6 +4,7 @@ use Rattle.std.specs.Io.KnownBytes.{Appends, Consumes, IsAtEnd}
 use Rattle.cap_files.specs.declared.folder.LoadEnd.{LoadEnd}
 use Rattle.cap_files.specs.declared.folder.LoadEnd.TheVariants.{Failed, TooLong, Memory}
 use Rattle.cap_files.specs.declared.folder.StoreFailed.{StoreFailed}
+use Rattle.cap_files.specs.Counts.{Rose}
 
 -- all that a file has left was read, at most the bytes that a part can have; or as TooLong its first bytes
 abbrev pub TakesAll : Option (List ℕ) → List ℕ → Result (Unit {0}) LoadEnd → Type 0
@@ -23,3 +24,10 @@ TakesMore left rest to after (Err Memory) = Unit {0}
 abbrev pub GivesAll : Option (List ℕ) → Option (List ℕ) → List ℕ → Result (Unit {0}) StoreFailed → Type 0
 GivesAll before after bytes (Ok _) = Appends before after bytes
 GivesAll before after bytes (Err _) = (n : ℕ) × Appends before after (take n bytes)
+
+-- a read of the disk raised the count where it failed, and else left it
+abbrev pub CountsRead : {A : Type 0} → ℕ → ℕ → Result A LoadEnd → Type 0
+CountsRead before now (Ok x) = now ≡ before
+CountsRead before now (Err Failed) = (before ≤ now) × Rose before now
+CountsRead before now (Err TooLong) = now ≡ before
+CountsRead before now (Err Memory) = now ≡ before

@@ -1,6 +1,7 @@
 ghost use Rattle.std.specs.Prelude.{◌≡◌, ◌≤◌, ◌++◌, ◌∷◌, [], length, nat_lt, IfOk, if◌then◌else◌};
 ghost use Rattle.cap_files.specs.Calls.{no_calls, next_keep, counted, faulted, listed, keep_at};
 
+use crate::count::raise;
 use std::alloc::{AllocError, Global};
 use std::marker::Model;
 
@@ -63,7 +64,7 @@ impl Calls {
         ensures keep { result ≡ next_keep self.old }
         ensures after { self.new ≡ counted self.old }
     {
-        self.made = self.made.saturating_add(1);
+        raise(&mut self.made);
         keep_of(&self.failures, self.made)
     }
 
@@ -72,7 +73,7 @@ impl Calls {
         ensures after { self.new ≡ faulted self.old }
         ensures rises { self.old.faults ≤ self.new.faults }
     {
-        self.faults = self.faults.saturating_add(1);
+        raise(&mut self.faults);
     }
 }
 

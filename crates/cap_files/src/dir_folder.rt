@@ -1,5 +1,7 @@
-ghost use Rattle.std.specs.Prelude.{◌≡◌, IfOk};
+ghost use Rattle.std.specs.Prelude.{◌≡◌, None, IfOk};
+ghost use Rattle.cap_files.specs.Counts.{CountsFault};
 ghost use Rattle.cap_files.specs.Folder.{Loads, Stores, key_of};
+ghost use Rattle.cap_files.specs.Transfer.{CountsRead};
 
 use crate::disk::Disk;
 use crate::file_system::FileSystem;
@@ -9,12 +11,11 @@ use cap_bytes::Part;
 use std::alloc::{AllocError, Global};
 use std::rt::Files;
 
-/// Folders whose parts are the files of a disk. They tell what the disk tells.
+/// Folders whose parts are the files of a disk. They tell what the disk tells, and a load or a store
+/// fails where a call of the disk does.
 #[derive(Drop)]
 pub struct DirFolder<D: Disk> {
     disk: D,
-    load_faults: u64,
-    store_faults: u64,
 }
 
 impl<'a, R: Files> DirFolder<FileSystem<'a, R>> {
@@ -26,13 +27,11 @@ impl<'a, R: Files> DirFolder<FileSystem<'a, R>> {
         longest: u32,
     ) -> Result<DirFolder<FileSystem<'a, R>>, AllocError>
         ensures room { IfOk result (λ d. d.disk.path.longest ≡ longest) }
-        ensures load_faults { IfOk result (λ d. d.load_faults ≡ 0) }
-        ensures store_faults { IfOk result (λ d. d.store_faults ≡ 0) }
+        ensures load_faults { IfOk result (λ d. d.disk.read_faults ≡ 0) }
+        ensures store_faults { IfOk result (λ d. d.disk.write_faults ≡ 0) }
     {
         Ok(DirFolder {
             disk: FileSystem::new(files, alloc, longest)?,
-            load_faults: 0,
-            store_faults: 0,
         })
     }
 }
@@ -40,9 +39,9 @@ impl<'a, R: Files> DirFolder<FileSystem<'a, R>> {
 impl<D: Disk> Folder for DirFolder<D> {
     ghost held = { λ d. D.held d.disk };
 
-    ghost load_faults = { λ d. d.load_faults };
+    ghost load_faults = { λ d. D.read_faults d.disk };
 
-    ghost store_faults = { λ d. d.store_faults };
+    ghost store_faults = { λ d. D.write_faults d.disk };
 
     fn load(
         &mut self,
@@ -51,19 +50,11 @@ impl<D: Disk> Folder for DirFolder<D> {
         part: Part,
         to: &mut Vec<u8>,
     ) -> Result<bool, LoadEnd> {
-        let loaded = read(&mut self.disk, dir, part, to);
-        if let Err(LoadEnd::Failed) = loaded {
-            self.load_faults = self.load_faults.saturating_add(1);
-        }
-        loaded
+        read(&mut self.disk, dir, part, to)
     }
 
     fn store(&mut self, dir: &str, part: Part, bytes: &[u8]) -> Result<(), StoreFailed> {
-        let stored = write(&mut self.disk, dir, part, bytes);
-        if stored.is_err() {
-            self.store_faults = self.store_faults.saturating_add(1);
-        }
-        stored
+        write(&mut self.disk, dir, part, bytes)
     }
 }
 
@@ -71,6 +62,8 @@ impl<D: Disk> Folder for DirFolder<D> {
 fn read<D: Disk>(disk: &mut D, dir: &str, part: Part, to: &mut Vec<u8>) -> Result<bool, LoadEnd>
     ensures bytes { Loads (D.held disk.old) (key_of part dir.now) to.new.items result }
     ensures held { D.held disk.new ≡ D.held disk.old }
+    ensures read_faults { CountsRead (D.read_faults disk.old) (D.read_faults disk.new) result }
+    ensures write_faults { D.write_faults disk.new ≡ D.write_faults disk.old }
 {
     to.clear();
     match disk.open(dir, part) {
@@ -94,10 +87,14 @@ fn read<D: Disk>(disk: &mut D, dir: &str, part: Part, to: &mut Vec<u8>) -> Resul
 
 // Writes the file of a part, and closes it also where a write failed.
 fn write<D: Disk>(disk: &mut D, dir: &str, part: Part, bytes: &[u8]) -> Result<(), StoreFailed>
-    ensures { Stores (D.held disk.old) (key_of part dir.now) bytes.now (D.held disk.new) result }
+    ensures bytes { Stores (D.held disk.old) (key_of part dir.now) bytes.now (D.held disk.new) result }
+    ensures closed { D.opened disk.new ≡ None }
+    ensures write_faults { CountsFault (D.write_faults disk.old) (D.write_faults disk.new) result }
+    ensures read_faults { D.read_faults disk.new ≡ D.read_faults disk.old }
 {
-    if disk.create(dir, part).is_err() {
-        return Err(StoreFailed);
+    match disk.create(dir, part) {
+        Ok(()) => {}
+        Err(_) => return Err(StoreFailed),
     }
     let stored = write_part(disk, bytes);
     disk.close(dir, part);

@@ -1,10 +1,11 @@
 //! What stands outside a verifier: folders of components (Java Card 2.2 VM Specification, section
 //! 4.1.2, names their files), a place for text, and the words of a command. Each device is a trait
 //! with its failures counted, a form in memory and an adapter of the machine's own. It stands on
-//! `cap_bytes`.
+//! `cap_bytes` and `itoa`.
 #![tactic(auto)]
 
 mod calls;
+mod count;
 mod dir_folder;
 mod disk;
 mod file_system;

@@ -1,24 +1,25 @@
-ghost use Rattle.std.specs.Prelude.{◌≡◌, None};
+ghost use Rattle.std.specs.Prelude.{◌≡◌};
+ghost use Rattle.cap_files.specs.Counts.{CountsFault};
 ghost use Rattle.cap_files.specs.Sink.{Puts};
 
 use crate::output::{Output, StandardOutput};
 use crate::sink::{Sink, SinkFailed};
+use std::io::Write;
 
-/// A sink that hands its text to an output, and tells what that tells.
+/// A sink that hands its text to an output. It tells what that tells, and fails where that does.
 #[derive(Drop)]
 pub struct OutSink<O: Output> {
     output: O,
-    faults: u64,
 }
 
-impl<'a, R: Print> OutSink<StandardOutput<'a, R>> {
-    /// The standard output.
-    pub fn new(output: &'a R) -> OutSink<StandardOutput<'a, R>>
-        ensures { result.faults ≡ 0 }
+impl<W: Write> OutSink<StandardOutput<W>> {
+    /// The sink of a writer of the machine, as of its standard output.
+    pub fn new(writer: W) -> OutSink<StandardOutput<W>>
+        ensures writer { result.output.writer ≡ writer }
+        ensures faults { result.output.faults ≡ 0 }
     {
         OutSink {
-            output: StandardOutput::new(output),
-            faults: 0,
+            output: StandardOutput::new(writer),
         }
     }
 }
@@ -26,25 +27,21 @@ impl<'a, R: Print> OutSink<StandardOutput<'a, R>> {
 impl<O: Output> Sink for OutSink<O> {
     ghost received = { λ s. O.taken s.output };
 
-    ghost faults = { λ s. s.faults };
+    ghost faults = { λ s. O.faults s.output };
 
     fn put(&mut self, piece: &[u8]) -> Result<(), SinkFailed> {
-        let put = write_all(&mut self.output, piece);
-        if put.is_err() {
-            self.faults = self.faults.saturating_add(1);
-        }
-        put
+        write_all(&mut self.output, piece)
     }
 }
 
-// Writes all bytes to the output. A write that takes none of them is a failure.
+// Writes all bytes to the output.
 fn write_all<O: Output>(output: &mut O, piece: &[u8]) -> Result<(), SinkFailed>
-    ensures { Puts (O.taken output.old) piece.now (O.taken output.new) result }
+    ensures bytes { Puts (O.taken output.old) piece.now (O.taken output.new) result }
+    ensures faults { CountsFault (O.faults output.old) (O.faults output.new) result }
 {
     let mut left = piece;
     'pieces: while !left.is_empty() {
         match output.take(left) {
-            Ok(0) => return Err(SinkFailed),
             Ok(taken) => left = &left[taken..],
             Err(end) => return Err(end),
         }

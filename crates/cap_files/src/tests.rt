@@ -65,7 +65,7 @@ fn a_part_is_written_and_read_in_a_folder(rt: HostRuntime) -> Result<(), Fail> {
 
 #[test]
 fn text_goes_to_the_output(rt: HostRuntime) {
-    let mut out = OutSink::new(&rt);
+    let mut out = OutSink::new(rt.stdout());
     assert!(rt; out.put(b"").is_ok());
     assert!(rt; out.put(b"put\n").is_ok());
 }

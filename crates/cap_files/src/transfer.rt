@@ -1,5 +1,6 @@
 ghost use Rattle.std.specs.Prelude.{◌≡◌, ◌≤◌, ◌<◌, ◌+◌, [], vec_len, IfOk, MatchBool};
-ghost use Rattle.cap_files.specs.Transfer.{TakesMore, TakesAll, GivesAll};
+ghost use Rattle.cap_files.specs.Counts.{CountsFault};
+ghost use Rattle.cap_files.specs.Transfer.{TakesMore, TakesAll, GivesAll, CountsRead};
 
 use crate::disk::Disk;
 use crate::folder::{LoadEnd, StoreFailed};
@@ -14,6 +15,8 @@ pub(crate) fn read_part<D: Disk>(disk: &mut D, to: &mut Vec<u8>) -> Result<(), L
     requires { to.old.items ≡ [] }
     ensures bytes { TakesAll (D.left disk.old) to.new.items result }
     ensures held { D.held disk.new ≡ D.held disk.old }
+    ensures read_faults { CountsRead (D.read_faults disk.old) (D.read_faults disk.new) result }
+    ensures write_faults { D.write_faults disk.new ≡ D.write_faults disk.old }
 {
     'chunks: while to.len() <= LONGEST_PART {
         match read_more(disk, to) {
@@ -31,6 +34,8 @@ fn read_more<D: Disk>(disk: &mut D, to: &mut Vec<u8>) -> Result<bool, LoadEnd>
     ensures bytes { TakesMore (D.left disk.old) (D.left disk.new) to.old.items to.new.items result }
     ensures most { vec_len to.new ≤ 65539 }
     ensures held { D.held disk.new ≡ D.held disk.old }
+    ensures read_faults { CountsRead (D.read_faults disk.old) (D.read_faults disk.new) result }
+    ensures write_faults { D.write_faults disk.new ≡ D.write_faults disk.old }
     ensures more { IfOk result (λ more. MatchBool more (vec_len to.old < vec_len to.new) (to.new.items ≡ to.old.items)) }
 {
     let mut chunk = [0u8; CHUNK];
@@ -44,15 +49,16 @@ fn read_more<D: Disk>(disk: &mut D, to: &mut Vec<u8>) -> Result<bool, LoadEnd>
     }
 }
 
-/// Writes all bytes to the open file. A write that takes none of them is a failure.
+/// Writes all bytes to the open file.
 pub(crate) fn write_part<D: Disk>(disk: &mut D, bytes: &[u8]) -> Result<(), StoreFailed>
     ensures bytes { GivesAll (D.written disk.old) (D.written disk.new) bytes.now result }
     ensures held { D.held disk.new ≡ D.held disk.old }
+    ensures write_faults { CountsFault (D.write_faults disk.old) (D.write_faults disk.new) result }
+    ensures read_faults { D.read_faults disk.new ≡ D.read_faults disk.old }
 {
     let mut left = bytes;
     'pieces: while !left.is_empty() {
         match disk.write(left) {
-            Ok(0) => return Err(StoreFailed),
             Ok(taken) => left = &left[taken..],
             Err(_) => return Err(StoreFailed),
         }

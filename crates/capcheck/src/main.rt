@@ -62,7 +62,7 @@ fn run(rt: &HostRuntime) -> Result<u8, NoStart> {
     let alloc = rt.alloc();
     let words = words(rt)?;
     let mut folder = DirFolder::new(rt, alloc, longest(&words))?;
-    let mut out = OutSink::new(rt);
+    let mut out = OutSink::new(rt.stdout());
     let mut ram = vec![in alloc; 0u16; RAM]?;
     let mut heap = vec![in alloc; 0u16; HEAP]?;
     let mut statics = vec![in alloc; 0u16; STATICS]?;

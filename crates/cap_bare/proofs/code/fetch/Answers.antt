@@ -1,5 +1,4 @@
-use Rattle.std.proofs.Common.{◌≡◌, ◌<◌, ◌∙◌, sym, ap, subst, ℕ, Some, Option, Result, Ok, refl, arith, rules, ◌^◌}
-use Rattle.jc_decode.specs.declared.insn.Insn.{Insn}
+use Rattle.std.proofs.Common.{◌≡◌, ◌<◌, sym, subst, ℕ, refl, arith, rules, ◌^◌}
 use Rattle.jc_decode.specs.Layout.{layout_of}
 use Rattle.jc_decode.specs.Decoding.{FitsLayout}
 use Rattle.jc_decode.proofs.Decoded.{Begins-decoded}

@@ -2,8 +2,8 @@ use Rattle.std.proofs.Common.{◌≡◌, ◌+◌, ◌-◌, ◌++◌, ◌∙◌, 
 use Rattle.std.proofs.lemmas.List.{length-append, length-replicate}
 use Rattle.std.proofs.lemmas.Int.{to_z-of_z}
 use Rattle.std.specs.Int.{w16}
-use mir.Val.{to_z, of_z, SFits}
-use Rattle.cap_bare.specs.Machine.{State, after, entered, returned, running, IsSafe}
+use mir.Val.{SFits}
+use Rattle.cap_bare.specs.Machine.{State, after, entered, returned, IsSafe}
 use Rattle.cap_bare.specs.Leading.{state_at}
 use Rattle.cap_bare.proofs.Running.{fault-free, safe-next, after-next, after-end, after-none}
 use Rattle.cap_bare.proofs.Stepping.{frame-is, registers-kept}

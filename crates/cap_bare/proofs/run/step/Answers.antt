@@ -1,8 +1,8 @@
-use Rattle.std.proofs.Common.{◌≡◌, ◌<◌, ◌^◌, ◌∙◌, sym, ap, arith, rules}
+use Rattle.std.proofs.Common.{◌<◌, ◌^◌, ◌∙◌, sym, ap, arith, rules}
 use Rattle.std.proofs.lemmas.Int.{to_z-of_z}
 use Rattle.std.specs.Int.{w16}
-use Rattle.std.specs.Prelude.{nat_abs, FitsSigned}
-use mir.Val.{to_z, of_z, SFits}
+use Rattle.std.specs.Prelude.{nat_abs}
+use mir.Val.{SFits}
 use Rattle.cap_bare.specs.Machine.{running, returned}
 use Rattle.cap_bare.specs.Leading.{state_at}
 use Rattle.cap_bare.proofs.Stepping.{never-none, can-act, step-to, step-out, word-is, place-fits}

@@ -1,4 +1,4 @@
-use Rattle.std.proofs.Common.{◌≤◌, ◌+◌, ◌∙◌, sym, true, false, arith, rules}
+use Rattle.std.proofs.Common.{◌∙◌, sym, true, false, arith}
 use Rattle.cap_bare.proofs.Places.{reached-after, stands-at}
 use Rattle.cap_bare.proofs.Near.{target-near, target-trails}
 use Rattle.cap_bare.proofs.Seeking.{target-not, target-found, target-ahead, target-none, target-means}

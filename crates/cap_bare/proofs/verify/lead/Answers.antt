@@ -1,8 +1,7 @@
-use Rattle.std.proofs.Common.{◌≡◌, sym, subst, Some, rules}
+use Rattle.std.proofs.Common.{sym, subst, rules}
 use Rattle.std.proofs.lemmas.Int.{to_z-of_z}
-use Rattle.std.specs.Prelude.{ℤ}
 use Rattle.std.specs.Int.{w32}
-use mir.Val.{to_z, of_z, SFits}
+use mir.Val.{SFits}
 use Rattle.cap_bare.specs.Window.{IsFromOn}
 use Rattle.cap_bare.proofs.Near.{leads-from-on}
 use Rattle.cap_bare.proofs.verify.lead.Goals as goal

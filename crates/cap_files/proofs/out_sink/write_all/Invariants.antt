@@ -3,7 +3,10 @@ use Rattle.cap_files.specs.Sink.{Taken}
 use Rattle.cap_files.proofs.out_sink.write_all.Given as goal
 
 abbrev pub invariant-pieces : goal.invariant-pieces
-invariant-pieces g l = (given : List ℕ) × (l.piece ≡ given ++ l.left) × Taken (g.O.Output.taken l.initial.output) given (g.O.Output.taken l.output)
+invariant-pieces g l = record {
+  bytes : (given : List ℕ) × (l.piece ≡ given ++ l.left) × Taken (g.O.Output.taken l.initial.output) given (g.O.Output.taken l.output);
+  faults : g.O.Output.faults l.output ≡ g.O.Output.faults l.initial.output;
+}
 
 abbrev pub decreases-pieces : goal.decreases-pieces
 decreases-pieces g l = length l.left

@@ -1,14 +1,7 @@
-use Rattle.std.proofs.Common.{arith}
+use Rattle.std.proofs.Common.{◌∙◌, arith}
 use Rattle.std.proofs.lemmas.Grind.{common_steps}
-use Rattle.cap_files.proofs.Transfers.{written_last, written_no_more, written_on}
+use Rattle.cap_files.proofs.Transfers.{written_no_more, written_on}
 use Rattle.cap_files.proofs.transfer.write_part.Goals as goal
-
-pub returns-in-Ok-eq0-clause-bytes : goal.returns-in-Ok-eq0-clause-bytes
-returns-in-Ok-eq0-clause-bytes g c =
-    let known = g.D.Disk.written in
-    let so_far = c.pieces.invariant.bytes in
-    written_last (known c.args.disk.now) (known c.pieces.disk) (known c.write.new.self) c.args.bytes.now c.pieces.left.now so_far.0 c.in-Ok-eq0.field-0
-    so_far.1 so_far.2 c.in-Ok-eq0.ensures.bytes
 
 pub returns-in-Err-clause-bytes : goal.returns-in-Err-clause-bytes
 returns-in-Err-clause-bytes g c =
@@ -26,4 +19,6 @@ pieces-preserved g c =
           written_on (known c.args.disk.now) (known c.pieces.disk) (known c.write.new.self) c.args.bytes.now c.pieces.left.now so_far.0 _ c.in-Ok.taken
           so_far.1 so_far.2 c.in-Ok.ensures.bytes (grind (arith, common_steps));
       held = cc;
+      write_faults = c.in-Ok.ensures.write_faults ∙ c.pieces.invariant.write_faults;
+      read_faults = cc;
     }
