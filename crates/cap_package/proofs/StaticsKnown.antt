@@ -1,19 +1,20 @@
 -- What holds of the static fields of a package, since its parts agree.
-use Rattle.std.proofs.Common.{◌≡◌, ℕ, zero, suc, ◌+◌, ◌*◌, ◌≤◌, Bool, true, false, ◌||◌, ltb, eqb, cond, min, max, List, [], ◌∷◌, ◌++◌, map, Option, Some, None, refl, sym, ap, subst, ◌∙◌, arith}
+use Rattle.std.proofs.Common.{◌≡◌, ℕ, ◌+◌, ◌*◌, ◌/◌, ◌%◌, ◌≤◌, Bool, true, false, ◌||◌, ltb, eqb, cond, min, max, List, [], ◌∷◌, ◌++◌, map, Option, Some, None, refl, sym, subst, ◌∙◌, arith}
 use Rattle.std.specs.Prelude.{All, slice_get}
 use Rattle.std.specs.List.{filter_map, cons_option}
-use Rattle.std.proofs.lemmas.Bool.{ltb-false, eq-eqb, eqb-true}
+use Rattle.std.proofs.lemmas.Bool.{ltb-false, eqb-true}
+use Rattle.std.proofs.lemmas.Option.{slice_get-map}
 use Rattle.std.proofs.lemmas.List.Elements.{All-nil, All-cons}
 use Rattle.cap_method.specs.StaticFormat.{Array, Statics}
 use Rattle.cap_desc.specs.declared.type_item.TypeItem.{TypeItem}
 use Rattle.cap_desc.specs.DescriptorFormat.{Field}
-use Rattle.cap_package.specs.declared.fault.PackFault.{PackFault}
-use Rattle.cap_package.specs.declared.fault.PackFault.TheVariants.{StaticOutside, StaticOverlaps}
-use Rattle.cap_package.specs.Descriptions.{Description, field_type}
+use Rattle.cap_parts.specs.declared.fault.PackFault.{PackFault}
+use Rattle.cap_parts.specs.declared.fault.PackFault.TheVariants.{StaticOutside, StaticOverlaps}
+use Rattle.cap_parts.specs.Descriptions.{Description, field_type}
 use Rattle.cap_package.specs.HeaderChecks.{is_static}
-use Rattle.cap_package.specs.StaticChecks.{Place, image_offset, place_by, place_in, is_in_image, image_fault, array_by, array_fault, array_fields, array_field_fault, width_of, share_by, share_fault, share_pair}
+use Rattle.cap_package.specs.StaticChecks.{Place, image_offset, place_by, place_in, is_in_image, image_fault, array_kinds, kind_at, filled_by, filled_fault, width_of, share_by, share_fault, share_pair}
 use Rattle.cap_package.specs.Pairs.{pairs}
-use Rattle.cap_package.specs.PackageRecord.{PackageRecord, fields}
+use Rattle.cap_parts.specs.PackageRecord.{PackageRecord, fields}
 use Rattle.cap_package.specs.Agreement.{IsPackage}
 use Rattle.cap_package.specs.StaticPlaces.{static_places, IsStaticPlace, AreApart}
 use Rattle.cap_package.proofs.FieldTypes.{IsFieldType, field_typed}
@@ -49,18 +50,6 @@ none_map : {W X Y : Type 0} (f : X → Option Y) (g : W → X) (ws : List W) →
 none_map f g [] h = tt {0}
 none_map f g (w ∷ ws) h = (h.0, none_map f g ws h.1)
 
--- no field is of another type than an initial array there
-array_fields_none : (d : Description) (number : ℕ) (arrays : List Array) (fs : List Field) → NoneOf (array_field_fault d) (array_fields number arrays fs) → (k : ℕ) (a : Array) → slice_get arrays k ≡ Some a → NoneOf (array_fault d (number + k) a.kind) fs
-array_fields_none d number [] fs h k a e = absurd cc
-array_fields_none d number (b ∷ others) fs h zero a e =
-    let same : b ≡ a = cc in
-    let n : number + 0 ≡ number = omega arith in
-    let all = none_map (array_field_fault d) (λ f. (number, b.kind, f)) fs (none_front (array_field_fault d) (map (λ f. (number, b.kind, f)) fs) (array_fields (number + 1) others fs) h) in
-    rw (n, ← same) all
-array_fields_none d number (b ∷ others) fs h (suc k) a e =
-    let n : number + suc k ≡ (number + 1) + k = omega arith in
-    rw n (array_fields_none d (number + 1) others fs (none_behind (array_field_fault d) (map (λ f. (number, b.kind, f)) fs) (array_fields (number + 1) others fs) h) k a e)
-
 -- ---- the place of a field
 
 record IsPlaceOf (f : Field) (t : TypeItem) (p : Place) : Type 0 where
@@ -87,20 +76,26 @@ inside_by : (s : Statics) (p : Place) (fault : PackFault) (b : Bool) → is_in_i
 inside_by s p fault true e h = e
 inside_by s p fault false e h = absurd cc
 
-filled_by : (kind : ℕ) (p : Place) (fault : PackFault) (b : Bool) → eqb p.ty.nibble (kind + 8) ≡ b → cond b None (Some fault) ≡ None → p.ty.nibble ≡ kind + 8
-filled_by kind p fault true e h = eqb-true _ _ e
-filled_by kind p fault false e h = absurd cc
+filled_by_kind : (kind : ℕ) (p : Place) (fault : PackFault) (b : Bool) → eqb p.ty.nibble (kind + 8) ≡ b → cond b None (Some fault) ≡ None → p.ty.nibble ≡ kind + 8
+filled_by_kind kind p fault true e h = eqb-true _ _ e
+filled_by_kind kind p fault false e h = absurd cc
 
-filled_at : (d : Description) (f : Field) (p : Place) (number kind : ℕ) → place_in d f ≡ Some p → image_offset f ≡ 2 * number → array_fault d number kind f ≡ None → p.ty.nibble ≡ kind + 8
-unfolding array_fault
-filled_at d f p number kind e at h =
-    let g : array_by kind (place_in d f) ≡ None = rw (eq-eqb (image_offset f) (2 * number) at) at h in
-    filled_by kind p (StaticOutside p.offset) (eqb p.ty.nibble (kind + 8)) refl (rw e at g)
+-- the initial array with a number fills the reference at twice that number
+fills_at : (arrays : List Array) (k : ℕ) (a : Array) → slice_get arrays k ≡ Some a → kind_at (array_kinds arrays) (2 * k) ≡ Some a.kind
+unfolding kind_at
+fills_at arrays k a e =
+    let even : (2 * k) % 2 ≡ 0 = omega arith in
+    let half : (2 * k) / 2 ≡ k = omega arith in
+    rw (even, half, slice_get-map (λ (x : Array). x.kind) arrays k, e) refl
 
-abbrev FillsRight : Statics → Description → Field → Type 0
-FillsRight s d f = (k : ℕ) (a : Array) → slice_get s.arrays k ≡ Some a → array_fault d (0 + k) a.kind f ≡ None
+filled_at : (arrays : List Array) (d : Description) (f : Field) (p : Place) (k : ℕ) (a : Array) → place_in d f ≡ Some p → image_offset f ≡ 2 * k → slice_get arrays k ≡ Some a → filled_fault (array_kinds arrays) d f ≡ None → p.ty.nibble ≡ a.kind + 8
+unfolding filled_fault
+filled_at arrays d f p k a e at there h =
+    let g : filled_by (kind_at (array_kinds arrays) (2 * k)) (place_in d f) ≡ None = subst (λ n. filled_by (kind_at (array_kinds arrays) n) (place_in d f) ≡ None) at h in
+    let i : filled_by (Some a.kind) (Some p) ≡ None = rw (fills_at arrays k a there, e) at g in
+    filled_by_kind a.kind p (StaticOutside p.offset) (eqb p.ty.nibble (a.kind + 8)) refl i
 
-place_known : (s : Statics) (d : Description) (f : Field) (p : Place) → place_in d f ≡ Some p → image_fault s d f ≡ None → FillsRight s d f → IsStaticPlace s p
+place_known : (s : Statics) (d : Description) (f : Field) (p : Place) → place_in d f ≡ Some p → image_fault s d f ≡ None → filled_fault (array_kinds s.arrays) d f ≡ None → IsStaticPlace s p
 unfolding place_in image_fault
 place_known s d f p e image fills =
     let from = place_from d f p (field_type d f.ty) refl e in
@@ -108,27 +103,24 @@ place_known s d f p e image fills =
       typed = from.typed.typed;
       no_void = from.typed.no_void;
       inside = inside_by s p (StaticOutside p.offset) (is_in_image s p) refl (rw e at image);
-      filled = λ k a there at. filled_at d f p k a.kind e (sym from.offset ∙ at) (let n : 0 + k ≡ k = omega arith in rw n at (fills k a there));
+      filled = λ k a there at. filled_at s.arrays d f p k a e (sym from.offset ∙ at) there fills;
     }
 
-place_first : (s : Statics) (d : Description) (f : Field) (fs : List Field) (o : Option Place) → place_in d f ≡ o → image_fault s d f ≡ None → FillsRight s d f → All (IsStaticPlace s) (filter_map (place_in d) fs) → All (IsStaticPlace s) (cons_option o (filter_map (place_in d) fs))
+place_first : (s : Statics) (d : Description) (f : Field) (fs : List Field) (o : Option Place) → place_in d f ≡ o → image_fault s d f ≡ None → filled_fault (array_kinds s.arrays) d f ≡ None → All (IsStaticPlace s) (filter_map (place_in d) fs) → All (IsStaticPlace s) (cons_option o (filter_map (place_in d) fs))
 place_first s d f fs None e image fills others = others
 place_first s d f fs (Some p) e image fills others = All-cons (IsStaticPlace s) p (filter_map (place_in d) fs) (place_known s d f p e image fills) others
 
-places_known : (s : Statics) (d : Description) (fs : List Field) → NoneOf (image_fault s d) fs → ((k : ℕ) (a : Array) → slice_get s.arrays k ≡ Some a → NoneOf (array_fault d (0 + k) a.kind) fs) → All (IsStaticPlace s) (filter_map (place_in d) fs)
+places_known : (s : Statics) (d : Description) (fs : List Field) → NoneOf (image_fault s d) fs → NoneOf (filled_fault (array_kinds s.arrays) d) fs → All (IsStaticPlace s) (filter_map (place_in d) fs)
 places_known s d [] images fills = All-nil (IsStaticPlace s)
-places_known s d (f ∷ fs) images fills =
-    place_first s d f fs (place_in d f) refl images.0 (λ k a e. (fills k a e).0)
-    (places_known s d fs images.1 (λ k a e. (fills k a e).1))
+places_known s d (f ∷ fs) images fills = place_first s d f fs (place_in d f) refl images.0 fills.0 (places_known s d fs images.1 fills.1)
 
 -- the static fields of a package lie where they must
 pub statics_known : (p : PackageRecord) → IsPackage p → All (IsStaticPlace p.statics) (static_places p)
 statics_known p h =
     let agree = (answer_is p.parts p h).agree in
     let none = agree.1.1.1.1.1.1.1.1.1.1.1.1.1.1.1.1.1.1.1.1.0 in
-    let both = both_empty (filter_map (image_fault p.statics p.description) (fields p)) (filter_map (array_field_fault p.description) (array_fields 0 p.statics.arrays (fields p))) none in
-    places_known p.statics p.description (fields p) (none_of (image_fault p.statics p.description) (fields p) both.0)
-    (array_fields_none p.description 0 p.statics.arrays (fields p) (none_of (array_field_fault p.description) (array_fields 0 p.statics.arrays (fields p)) both.1))
+    let both = both_empty (filter_map (image_fault p.statics p.description) (fields p)) (filter_map (filled_fault (array_kinds p.statics.arrays) p.description) (fields p)) none in
+    places_known p.statics p.description (fields p) (none_of (image_fault p.statics p.description) (fields p) both.0) (none_of (filled_fault (array_kinds p.statics.arrays) p.description) (fields p) both.1)
 
 -- ---- fields that share no byte stand apart
 
