@@ -1,7 +1,7 @@
 -- The initial arrays lie in the component, so they are short.
-use Rattle.std.proofs.Common.{◌≡◌, ℕ, zero, suc, ◌+◌, ◌-◌, ◌≤◌, List, [], ◌∷◌, length, take, drop, Ok, Err, IsTrue, refl, sym, ap, ◌∙◌, arith, length-take-le, length-drop}
+use Rattle.std.proofs.Common.{◌≡◌, ℕ, zero, suc, ◌+◌, ◌≤◌, List, [], ◌∷◌, length, drop, Ok, Err, IsTrue, refl, ap, ◌∙◌, arith, length-take-le, length-drop}
 use Rattle.std.proofs.lemmas.List.Sums.{sum_by-cons}
-use Rattle.cap_bytes.specs.Grammar.{give, number, piece, ◌>>=◌, repeat}
+use Rattle.cap_bytes.specs.Grammar.{give, ◌>>=◌, repeat}
 use Rattle.cap_bytes.specs.Spelling.{Origin, info_of, Spells}
 use Rattle.cap_bytes.specs.Reading.{Reading, read, is_read, value_or}
 use Rattle.cap_bytes.specs.Taking.{next, gives, given}

@@ -1,12 +1,13 @@
 -- Conditions that are asked one after the other tell the first that is broken.
-use Rattle.std.proofs.Common.{◌≡◌, ◌⊎◌, List, [], ◌∷◌, ◌++◌, length, map, Option, Some, None, Result, Ok, Err, refl, sym, ap, subst, ◌∙◌, inl, inr}
+use Rattle.std.proofs.Common.{◌≡◌, List, [], ◌∷◌, ◌++◌, length, map, Option, Some, None, Result, Ok, Err, refl, sym, ap, subst, ◌∙◌, inl, inr}
 use Rattle.cap_frame.specs.DirectoryFormat.{DirectoryItems, directory_info}
-use Rattle.cap_package.specs.declared.fault.PackFault.{PackFault}
-use Rattle.cap_package.specs.Parts.{Lent}
-use Rattle.cap_package.specs.Order.{refused, least_of, least_from}
-use Rattle.cap_package.specs.Components.{◌>>=◌, read_part}
-use Rattle.cap_package.specs.PackageRecord.{PackageRecord}
-use Rattle.cap_package.specs.ReadPackage.{read_package}
+use Rattle.cap_parts.specs.declared.fault.PackFault.{PackFault}
+use Rattle.cap_parts.specs.Parts.{Lent}
+use Rattle.cap_parts.specs.Order.{refused, least_of, least_from}
+use Rattle.cap_parts.specs.Components.{◌>>=◌, read_part}
+use Rattle.cap_parts.specs.PackageRecord.{PackageRecord}
+use Rattle.cap_parts.specs.ReadPackage.{read_package}
+use Rattle.cap_parts.proofs.Saying.{read-said, read-fails}
 use Rattle.std.specs.List.{filter_map}
 use Rattle.std.specs.Option.{option_to_list}
 use Rattle.cap_frame.specs.AppletFormat.{Applet}
@@ -14,18 +15,18 @@ use Rattle.cap_pool.specs.ExportFormat.{Exported}
 use Rattle.cap_desc.specs.DescriptorFormat as described
 use Rattle.cap_desc.specs.Members.{methods_from}
 use Rattle.cap_package.specs.Pairs.{pairs}
-use Rattle.cap_package.specs.PackageRecord.{classes_from, described, fields}
-use Rattle.cap_package.specs.PartChecks.{missing, form_fault, custom_tags, size_fault, components, absent_fault, sized_fault, required, optional}
+use Rattle.cap_parts.specs.PackageRecord.{classes_from, described, fields}
+use Rattle.cap_parts.specs.PartChecks.{missing, form_fault, custom_tags, size_fault, components, absent_fault, sized_fault, required, optional}
 use Rattle.cap_package.specs.MethodChecks.{overlap_pair, outside_fault}
 use Rattle.cap_package.specs.HeaderChecks.{registers_fault, length_fault, arguments_fault, abstract_fault}
 use Rattle.cap_package.specs.HandlerChecks.{numbered, numbered_fault, claim_fault}
-use Rattle.cap_package.specs.StaticChecks.{share_pair, image_fault, array_field_fault, array_fields, no_static_fault}
-use Rattle.cap_package.specs.NameChecks.{no_method_fault, no_entry_fault, table_entries, exported_methods, exported_fields, undescribed_fault, no_class_fault}
+use Rattle.cap_package.specs.StaticChecks.{share_pair, image_fault, array_kinds, filled_fault, is_static_at, no_static_fault}
+use Rattle.cap_package.specs.NameChecks.{is_method_at, no_method_fault, no_entry_fault, table_entries, exported_methods, exported_fields, undescribed_fault, no_class_fault}
 use Rattle.cap_package.specs.TypeChecks.{field_type_fault, method_type_fault, interface_methods}
 use Rattle.cap_package.specs.CountChecks.{differ, array_bytes, image_bytes, instance_fault, count_if}
 use Rattle.cap_package.specs.Agreement.{or_none}
 use Rattle.cap_package.specs.Agreement.{places_agree, counts_agree, members_agree, package_of}
-use Rattle.cap_package.specs.FirstFault.{IsFirst, IsLeast, AllEmpty, place_lists, count_lists, member_lists, conditions, conditions_of, missing_parts, Tells}
+use Rattle.cap_package.specs.FirstFault.{IsFirst, AllEmpty, place_lists, count_lists, member_lists, conditions, conditions_of, missing_parts, Tells}
 use Rattle.cap_package.proofs.LeastFaults.{least_in, least-at_fault, least-both, least-three, least-one, least-found, least-none}
 
 -- the first list that is not empty refuses
@@ -107,13 +108,13 @@ unfolding members_agree
 members-told p =
     step (two_kinds (numbered_fault p.methods.info (described p)) (numbered 0 p.methods.handlers) (claim_fault (length p.methods.handlers)) (described p))
     (step (one_kind (share_pair p.description) (pairs (fields p)))
-    (step (three_kinds (no_entry_fault (described p)) (table_entries p.classes) (no_method_fault (described p)) (exported_methods (or_none p.export)) (no_method_fault (described p)) (map (λ (a : Applet). a.install) (or_none p.applets)))
+    (step (three_kinds (no_entry_fault (is_method_at (described p))) (table_entries p.classes) (no_method_fault (is_method_at (described p))) (exported_methods (or_none p.export)) (no_method_fault (is_method_at (described p))) (map (λ (a : Applet). a.install) (or_none p.applets)))
     (step (three_kinds (undescribed_fault p.description.items.classes) p.classes (no_class_fault p.classes) (map (λ (d : described.Class). d.class_ref) p.description.items.classes) (no_class_fault p.classes) (map (λ (c : Exported). c.class_offset) (or_none p.export)))
     (step (one_kind (registers_fault p.methods.info) (described p))
     (step (three_kinds (field_type_fault p.description) (fields p) (method_type_fault p.description 510) (methods_from 0 p.description.items.classes) (method_type_fault p.description 254) (interface_methods (classes_from p.classes) p.description.items.classes))
-    (step (two_kinds (image_fault p.statics p.description) (fields p) (array_field_fault p.description) (array_fields 0 p.statics.arrays (fields p)))
+    (step (two_kinds (image_fault p.statics p.description) (fields p) (filled_fault (array_kinds p.statics.arrays) p.description) (fields p))
     (step (one_kind (length_fault p.methods.info) (described p))
-    (last (one_kind (no_static_fault (fields p)) (exported_fields (or_none p.export)))))))))))
+    (last (one_kind (no_static_fault (is_static_at (fields p))) (exported_fields (or_none p.export)))))))))))
 
 all-told : (p : PackageRecord) → (places_agree p >>= λ _. (counts_agree p >>= λ _. members_agree p)) ≡ first_refused (conditions p)
 all-told p =
@@ -162,11 +163,11 @@ missing-told parts (Err fault) = least-at_fault (absent_fault parts) required No
 missing-told parts (Ok d) = least-three (absent_fault parts) required (sized_fault parts d) optional (sized_fault parts d) (custom_tags d)
 
 agreement_tells : (parts : List Lent) (p : PackageRecord) (s : Result (Unit {0}) PackFault) → first_refused (conditions_of parts p) ≡ s → missing_parts parts (read_part directory_info 2 parts) ≡ [] → read_package parts ≡ Ok p → Tells parts (s >>= λ _. Ok p)
-agreement_tells parts p (Ok x) e none read = (none, read, accepted-empty (conditions_of parts p) e)
-agreement_tells parts p (Err f) e none read = inr (none, inr (p, read, refused-first (conditions_of parts p) f e))
+agreement_tells parts p (Ok x) e none read = (none, read-said parts p read, accepted-empty (conditions_of parts p) e)
+agreement_tells parts p (Err f) e none read = inr (none, inr (p, read-said parts p read, refused-first (conditions_of parts p) f e))
 
 reading_tells : (parts : List Lent) (r : Result PackageRecord PackFault) → read_package parts ≡ r → missing_parts parts (read_part directory_info 2 parts) ≡ [] → Tells parts (r >>= λ p. then_agree parts p)
-reading_tells parts (Err f) e none = inr (none, inl e)
+reading_tells parts (Err f) e none = inr (none, inl (read-fails parts f e))
 reading_tells parts (Ok p) e none = subst (Tells parts) (sym (agree-told parts p)) (agreement_tells parts p (first_refused (conditions_of parts p)) refl none e)
 
 missing_tells : (parts : List Lent) (m : Option PackFault) → least_in None (missing_parts parts (read_part directory_info 2 parts)) ≡ m → Tells parts (refused m >>= λ _. (read_package parts >>= λ p. then_agree parts p))

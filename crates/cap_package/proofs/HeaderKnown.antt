@@ -1,8 +1,8 @@
 -- The header that stands at an offset is the one that is read there.
-use Rattle.std.proofs.Common.{◌≡◌, ℕ, List, Option, Some, None, Ok, Err, IfSome, IfNone, refl, sym, ap}
+use Rattle.std.proofs.Common.{◌≡◌, ℕ, List, Option, Some, None, Ok, Err, IfSome, IfNone, refl}
 use Rattle.std.specs.Result.{result_ok}
 use Rattle.std.specs.Option.{option_map}
-use Rattle.cap_bytes.specs.Spelling.{info_of, Spells}
+use Rattle.cap_bytes.specs.Spelling.{info_of}
 use Rattle.cap_bytes.specs.Reading.{Reading, read}
 use Rattle.cap_bytes.proofs.Laws.{spelled-read, read-spells}
 use Rattle.cap_method.specs.declared.header.MethodHeader.{MethodHeader}

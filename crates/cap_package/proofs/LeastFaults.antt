@@ -1,12 +1,12 @@
 -- The least fault of things is the least of the list of those at fault.
-use Rattle.std.proofs.Common.{◌≡◌, ℕ, ◌≤◌, ◌<◌, ◌⊎◌, List, [], ◌∷◌, ◌++◌, Option, Some, None, Result, Ok, Err, Bool, true, false, ltb, cond, fold, refl, sym, ap, subst, ◌∙◌, arith, inl, inr}
+use Rattle.std.proofs.Common.{◌≡◌, ◌≤◌, ◌<◌, List, [], ◌∷◌, ◌++◌, Option, Some, None, Bool, true, false, ltb, refl, sym, ap, ◌∙◌, arith, inl, inr}
 use Rattle.std.specs.List.{filter_map, cons_option}
 use Rattle.std.specs.Option.{option_to_list}
 use Rattle.std.proofs.lemmas.List.Sums.{fold-append}
 use Rattle.std.proofs.lemmas.Bool.{ltb-true, ltb-false}
-use Rattle.cap_package.specs.declared.fault.PackFault.{PackFault}
-use Rattle.cap_package.specs.Order.{place_of, lesser, least_of, least_from, refused}
-use Rattle.cap_package.specs.FirstFault.{ComesFirst, IsLeast, IsFirst, AllEmpty}
+use Rattle.cap_parts.specs.declared.fault.PackFault.{PackFault}
+use Rattle.cap_parts.specs.Order.{place_of, lesser, least_of, least_from}
+use Rattle.cap_package.specs.FirstFault.{IsLeast}
 
 -- the least of a list of faults, beside one that was seen before
 abbrev pub least_in : Option PackFault → List PackFault → Option PackFault

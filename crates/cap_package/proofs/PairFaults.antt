@@ -1,8 +1,8 @@
 -- The least fault of pairs, thing by thing.
-use Rattle.std.proofs.Common.{◌≡◌, List, [], ◌∷◌, ◌++◌, Option, map, fold, refl, ◌∙◌, ap}
+use Rattle.std.proofs.Common.{◌≡◌, List, [], ◌∷◌, Option, map, refl, ◌∙◌, ap}
 use Rattle.std.proofs.lemmas.List.Sums.{fold-append}
-use Rattle.cap_package.specs.declared.fault.PackFault.{PackFault}
-use Rattle.cap_package.specs.Order.{lesser, least_from}
+use Rattle.cap_parts.specs.declared.fault.PackFault.{PackFault}
+use Rattle.cap_parts.specs.Order.{lesser, least_from}
 use Rattle.cap_package.specs.Pairs.{pairs}
 
 least_map : {X : Type 0} (fault : X × X → Option PackFault) (x : X) (ys : List X) (before : Option PackFault) → least_from before fault (map (λ y. (x, y)) ys) ≡ least_from before (λ y. fault (x, y)) ys

@@ -1,28 +1,23 @@
 -- What holds of the static fields of a package, since its parts agree.
-use Rattle.std.proofs.Common.{◌≡◌, ℕ, zero, suc, ◌+◌, ◌-◌, ◌*◌, ◌≤◌, Bool, true, false, ◌&&◌, ◌||◌, leb, ltb, eqb, cond, min, max, List, [], ◌∷◌, ◌++◌, map, Option, Some, None, Ok, Err, refl, sym, ap, subst, ◌∙◌, arith}
-use Rattle.std.specs.Prelude.{All, slice_get, option_and_then, option_map}
+use Rattle.std.proofs.Common.{◌≡◌, ℕ, ◌+◌, ◌*◌, ◌/◌, ◌%◌, ◌≤◌, Bool, true, false, ◌||◌, ltb, eqb, cond, min, max, List, [], ◌∷◌, ◌++◌, map, Option, Some, None, refl, sym, subst, ◌∙◌, arith}
+use Rattle.std.specs.Prelude.{All, slice_get}
 use Rattle.std.specs.List.{filter_map, cons_option}
-use Rattle.std.specs.Result.{result_ok}
-use Rattle.std.proofs.lemmas.Bool.{leb-true, le-leb, ltb-false, ne_eqb, eq-eqb, eqb-true}
+use Rattle.std.proofs.lemmas.Bool.{ltb-false, eqb-true}
+use Rattle.std.proofs.lemmas.Option.{slice_get-map}
 use Rattle.std.proofs.lemmas.List.Elements.{All-nil, All-cons}
-use Rattle.cap_bytes.specs.Grammar.{that, give, finish, ◌>>=◌}
-use Rattle.cap_bytes.specs.Spelling.{Spells, info_of}
-use Rattle.cap_bytes.specs.Reading.{Reading}
-use Rattle.cap_bytes.proofs.Laws.{read-spells}
 use Rattle.cap_method.specs.StaticFormat.{Array, Statics}
 use Rattle.cap_desc.specs.declared.type_item.TypeItem.{TypeItem}
 use Rattle.cap_desc.specs.DescriptorFormat.{Field}
-use Rattle.cap_desc.specs.TypeFormat.{is_type, type_item, one_type_in, nibbles_read, nibbles_at, type_at}
-use Rattle.cap_bytes.specs.Number.{number_at}
-use Rattle.cap_package.specs.declared.fault.PackFault.{PackFault}
-use Rattle.cap_package.specs.declared.fault.PackFault.TheVariants.{StaticOutside, StaticOverlaps}
-use Rattle.cap_package.specs.Descriptions.{Description, no_void, field_type}
+use Rattle.cap_parts.specs.declared.fault.PackFault.{PackFault}
+use Rattle.cap_parts.specs.declared.fault.PackFault.TheVariants.{StaticOutside, StaticOverlaps}
+use Rattle.cap_parts.specs.Descriptions.{Description, field_type}
 use Rattle.cap_package.specs.HeaderChecks.{is_static}
-use Rattle.cap_package.specs.StaticChecks.{Place, image_offset, place_by, place_in, is_in_image, image_fault, array_by, array_fault, array_fields, array_field_fault, width_of, share_by, share_fault, share_pair}
+use Rattle.cap_package.specs.StaticChecks.{Place, image_offset, place_by, place_in, is_in_image, image_fault, array_kinds, kind_at, filled_by, filled_fault, width_of, share_by, share_fault, share_pair}
 use Rattle.cap_package.specs.Pairs.{pairs}
-use Rattle.cap_package.specs.PackageRecord.{PackageRecord, fields}
+use Rattle.cap_parts.specs.PackageRecord.{PackageRecord, fields}
 use Rattle.cap_package.specs.Agreement.{IsPackage}
 use Rattle.cap_package.specs.StaticPlaces.{static_places, IsStaticPlace, AreApart}
+use Rattle.cap_package.proofs.FieldTypes.{IsFieldType, field_typed}
 use Rattle.cap_package.proofs.OneRecord.{answer_is}
 
 -- ---- where nothing is at fault, each thing is right
@@ -55,89 +50,6 @@ none_map : {W X Y : Type 0} (f : X → Option Y) (g : W → X) (ws : List W) →
 none_map f g [] h = tt {0}
 none_map f g (w ∷ ws) h = (h.0, none_map f g ws h.1)
 
--- no field is of another type than an initial array there
-array_fields_none : (d : Description) (number : ℕ) (arrays : List Array) (fs : List Field) → NoneOf (array_field_fault d) (array_fields number arrays fs) → (k : ℕ) (a : Array) → slice_get arrays k ≡ Some a → NoneOf (array_fault d (number + k) a.kind) fs
-array_fields_none d number [] fs h k a e = absurd cc
-array_fields_none d number (b ∷ others) fs h zero a e =
-    let same : b ≡ a = cc in
-    let n : number + 0 ≡ number = omega arith in
-    let all = none_map (array_field_fault d) (λ f. (number, b.kind, f)) fs (none_front (array_field_fault d) (map (λ f. (number, b.kind, f)) fs) (array_fields (number + 1) others fs) h) in
-    rw (n, ← same) all
-array_fields_none d number (b ∷ others) fs h (suc k) a e =
-    let n : number + suc k ≡ (number + 1) + k = omega arith in
-    rw n (array_fields_none d (number + 1) others fs (none_behind (array_field_fault d) (map (λ f. (number, b.kind, f)) fs) (array_fields (number + 1) others fs) h) k a e)
-
--- ---- the type of a field
-
-if_some : {X Y : Type 0} (f : X → Option Y) (o : Option X) (y : Y) → option_and_then f o ≡ Some y → (x : X) × (f x ≡ Some y)
-if_some f None y h = absurd cc
-if_some f (Some x) y h = (x, h)
-
-read_some : (r : Reading TypeItem) (t : TypeItem) → option_map (λ p. p.0) (result_ok r) ≡ Some t → (after : ℕ) × (r ≡ Ok (t, after))
-read_some (Ok x) t h = let e : x.0 ≡ t = cc in (x.1, rw (← e) refl)
-read_some (Err e) t h = absurd cc
-
-test_passed : (test : ℕ → Bool) (n : ℕ) (b : Bool) → test n ≡ b → that (λ m. b) n ≡ None → test n ≡ true
-test_passed test n true e h = e
-test_passed test n false e h = absurd cc
-
-spelled_type : (ns : List ℕ) (at : ℕ) (t : TypeItem) (after : ℕ) → Spells type_item ns at t after → is_type t.nibble ≡ true
-unfolding Spells
-spelled_type ns at t after h =
-    let same : t.nibble ≡ h.0 = ap (λ (x : TypeItem). x.nibble) h.3.3.0 in
-    subst (λ n. is_type n ≡ true) (sym same) (test_passed is_type h.0 (is_type h.0) refl h.2.1)
-
-one_typed : (ns : List ℕ) (t : TypeItem) → one_type_in ns ≡ Some t → is_type t.nibble ≡ true
-unfolding one_type_in Spells
-one_typed ns t h =
-    let r = read_some (nibbles_read (type_item >>= λ x. finish >>= λ end. give x) ns 0) t h in
-    let s = read-spells (info_of 11) (type_item >>= λ x. finish >>= λ end. give x) ns 0 t r.0 r.1 in
-    subst (λ (u : TypeItem). is_type u.nibble ≡ true) (sym s.3.3.0) (spelled_type ns 0 s.0 s.1 s.2)
-
-type_typed : (bytes : List ℕ) (at : ℕ) (t : TypeItem) → type_at bytes at ≡ Some t → is_type t.nibble ≡ true
-type_typed bytes at t h =
-    let count = if_some (λ n. option_and_then one_type_in (nibbles_at bytes (at + 1) n)) (number_at 1 at bytes) t h in
-    let ns = if_some one_type_in (nibbles_at bytes (at + 1) count.0) t count.1 in
-    one_typed ns.0 t ns.1
-
-record IsFieldType (t : TypeItem) : Type 0 where
-  typed : is_type t.nibble ≡ true
-  no_void : eqb t.nibble 1 ≡ false
-
-void_by : (u t : TypeItem) (b : Bool) → eqb u.nibble 1 ≡ b → cond b None (Some u) ≡ Some t → is_type u.nibble ≡ true → IsFieldType t
-void_by u t true e h typed = absurd cc
-void_by u t false e h typed =
-    let same : u ≡ t = cc in
-    subst IsFieldType same (record { typed = typed; no_void = e })
-
-by_descriptor : (o : Option TypeItem) (t : TypeItem) → ((u : TypeItem) → o ≡ Some u → is_type u.nibble ≡ true) → option_and_then no_void o ≡ Some t → IsFieldType t
-by_descriptor None t known h = absurd cc
-by_descriptor (Some u) t known h = void_by u t (eqb u.nibble 1) refl h (known u refl)
-
-small_typed : (n : ℕ) → 2 ≤ n → n ≤ 5 → is_type n ≡ true
-small_typed n low high =
-    let a : 1 ≤ n = omega arith in
-    let b : n ≤ 6 = omega arith in
-    rw (le-leb 1 n a, le-leb n 6 b) refl
-
-by_number : (n : ℕ) (t : TypeItem) → 2 ≤ n → n ≤ 5 → Some (record { nibble = n; class_ref = 0 }) ≡ Some t → IsFieldType t
-by_number n t low high h =
-    let same : record { nibble = n; class_ref = 0 } ≡ t = cc in
-    subst IsFieldType same (record { typed = small_typed n low high; no_void = ne_eqb n 1 (λ e. omega (arith, e)) })
-
-named_type : (d : Description) (ty : ℕ) (t : TypeItem) (a b : Bool) → leb 0x8002 ty ≡ a → leb ty 0x8005 ≡ b
-    → cond (a && b) (Some (record { nibble = ty - 0x8000; class_ref = 0 })) (option_and_then no_void (type_at d.info (d.items.types_start + ty))) ≡ Some t → IsFieldType t
-named_type d ty t true true e f h =
-    let low = leb-true 0x8002 ty e in
-    let high = leb-true ty 0x8005 f in
-    by_number (ty - 0x8000) t (omega arith) (omega arith) h
-named_type d ty t true false e f h = by_descriptor _ t (λ u k. type_typed d.info (d.items.types_start + ty) u k) h
-named_type d ty t false b e f h = by_descriptor _ t (λ u k. type_typed d.info (d.items.types_start + ty) u k) h
-
-field_typed : (d : Description) (ty : ℕ) (t : TypeItem) → field_type d ty ≡ Some t → IsFieldType t
-unfolding field_type
-field_typed d ty t h = named_type d ty t (leb 0x8002 ty) (leb ty 0x8005) refl refl h
-
 -- ---- the place of a field
 
 record IsPlaceOf (f : Field) (t : TypeItem) (p : Place) : Type 0 where
@@ -164,20 +76,26 @@ inside_by : (s : Statics) (p : Place) (fault : PackFault) (b : Bool) → is_in_i
 inside_by s p fault true e h = e
 inside_by s p fault false e h = absurd cc
 
-filled_by : (kind : ℕ) (p : Place) (fault : PackFault) (b : Bool) → eqb p.ty.nibble (kind + 8) ≡ b → cond b None (Some fault) ≡ None → p.ty.nibble ≡ kind + 8
-filled_by kind p fault true e h = eqb-true _ _ e
-filled_by kind p fault false e h = absurd cc
+filled_by_kind : (kind : ℕ) (p : Place) (fault : PackFault) (b : Bool) → eqb p.ty.nibble (kind + 8) ≡ b → cond b None (Some fault) ≡ None → p.ty.nibble ≡ kind + 8
+filled_by_kind kind p fault true e h = eqb-true _ _ e
+filled_by_kind kind p fault false e h = absurd cc
 
-filled_at : (d : Description) (f : Field) (p : Place) (number kind : ℕ) → place_in d f ≡ Some p → image_offset f ≡ 2 * number → array_fault d number kind f ≡ None → p.ty.nibble ≡ kind + 8
-unfolding array_fault
-filled_at d f p number kind e at h =
-    let g : array_by kind (place_in d f) ≡ None = rw (eq-eqb (image_offset f) (2 * number) at) at h in
-    filled_by kind p (StaticOutside p.offset) (eqb p.ty.nibble (kind + 8)) refl (rw e at g)
+-- the initial array with a number fills the reference at twice that number
+fills_at : (arrays : List Array) (k : ℕ) (a : Array) → slice_get arrays k ≡ Some a → kind_at (array_kinds arrays) (2 * k) ≡ Some a.kind
+unfolding kind_at
+fills_at arrays k a e =
+    let even : (2 * k) % 2 ≡ 0 = omega arith in
+    let half : (2 * k) / 2 ≡ k = omega arith in
+    rw (even, half, slice_get-map (λ (x : Array). x.kind) arrays k, e) refl
 
-abbrev FillsRight : Statics → Description → Field → Type 0
-FillsRight s d f = (k : ℕ) (a : Array) → slice_get s.arrays k ≡ Some a → array_fault d (0 + k) a.kind f ≡ None
+filled_at : (arrays : List Array) (d : Description) (f : Field) (p : Place) (k : ℕ) (a : Array) → place_in d f ≡ Some p → image_offset f ≡ 2 * k → slice_get arrays k ≡ Some a → filled_fault (array_kinds arrays) d f ≡ None → p.ty.nibble ≡ a.kind + 8
+unfolding filled_fault
+filled_at arrays d f p k a e at there h =
+    let g : filled_by (kind_at (array_kinds arrays) (2 * k)) (place_in d f) ≡ None = subst (λ n. filled_by (kind_at (array_kinds arrays) n) (place_in d f) ≡ None) at h in
+    let i : filled_by (Some a.kind) (Some p) ≡ None = rw (fills_at arrays k a there, e) at g in
+    filled_by_kind a.kind p (StaticOutside p.offset) (eqb p.ty.nibble (a.kind + 8)) refl i
 
-place_known : (s : Statics) (d : Description) (f : Field) (p : Place) → place_in d f ≡ Some p → image_fault s d f ≡ None → FillsRight s d f → IsStaticPlace s p
+place_known : (s : Statics) (d : Description) (f : Field) (p : Place) → place_in d f ≡ Some p → image_fault s d f ≡ None → filled_fault (array_kinds s.arrays) d f ≡ None → IsStaticPlace s p
 unfolding place_in image_fault
 place_known s d f p e image fills =
     let from = place_from d f p (field_type d f.ty) refl e in
@@ -185,27 +103,24 @@ place_known s d f p e image fills =
       typed = from.typed.typed;
       no_void = from.typed.no_void;
       inside = inside_by s p (StaticOutside p.offset) (is_in_image s p) refl (rw e at image);
-      filled = λ k a there at. filled_at d f p k a.kind e (sym from.offset ∙ at) (let n : 0 + k ≡ k = omega arith in rw n at (fills k a there));
+      filled = λ k a there at. filled_at s.arrays d f p k a e (sym from.offset ∙ at) there fills;
     }
 
-place_first : (s : Statics) (d : Description) (f : Field) (fs : List Field) (o : Option Place) → place_in d f ≡ o → image_fault s d f ≡ None → FillsRight s d f → All (IsStaticPlace s) (filter_map (place_in d) fs) → All (IsStaticPlace s) (cons_option o (filter_map (place_in d) fs))
+place_first : (s : Statics) (d : Description) (f : Field) (fs : List Field) (o : Option Place) → place_in d f ≡ o → image_fault s d f ≡ None → filled_fault (array_kinds s.arrays) d f ≡ None → All (IsStaticPlace s) (filter_map (place_in d) fs) → All (IsStaticPlace s) (cons_option o (filter_map (place_in d) fs))
 place_first s d f fs None e image fills others = others
 place_first s d f fs (Some p) e image fills others = All-cons (IsStaticPlace s) p (filter_map (place_in d) fs) (place_known s d f p e image fills) others
 
-places_known : (s : Statics) (d : Description) (fs : List Field) → NoneOf (image_fault s d) fs → ((k : ℕ) (a : Array) → slice_get s.arrays k ≡ Some a → NoneOf (array_fault d (0 + k) a.kind) fs) → All (IsStaticPlace s) (filter_map (place_in d) fs)
+places_known : (s : Statics) (d : Description) (fs : List Field) → NoneOf (image_fault s d) fs → NoneOf (filled_fault (array_kinds s.arrays) d) fs → All (IsStaticPlace s) (filter_map (place_in d) fs)
 places_known s d [] images fills = All-nil (IsStaticPlace s)
-places_known s d (f ∷ fs) images fills =
-    place_first s d f fs (place_in d f) refl images.0 (λ k a e. (fills k a e).0)
-    (places_known s d fs images.1 (λ k a e. (fills k a e).1))
+places_known s d (f ∷ fs) images fills = place_first s d f fs (place_in d f) refl images.0 fills.0 (places_known s d fs images.1 fills.1)
 
 -- the static fields of a package lie where they must
 pub statics_known : (p : PackageRecord) → IsPackage p → All (IsStaticPlace p.statics) (static_places p)
 statics_known p h =
     let agree = (answer_is p.parts p h).agree in
     let none = agree.1.1.1.1.1.1.1.1.1.1.1.1.1.1.1.1.1.1.1.1.0 in
-    let both = both_empty (filter_map (image_fault p.statics p.description) (fields p)) (filter_map (array_field_fault p.description) (array_fields 0 p.statics.arrays (fields p))) none in
-    places_known p.statics p.description (fields p) (none_of (image_fault p.statics p.description) (fields p) both.0)
-    (array_fields_none p.description 0 p.statics.arrays (fields p) (none_of (array_field_fault p.description) (array_fields 0 p.statics.arrays (fields p)) both.1))
+    let both = both_empty (filter_map (image_fault p.statics p.description) (fields p)) (filter_map (filled_fault (array_kinds p.statics.arrays) p.description) (fields p)) none in
+    places_known p.statics p.description (fields p) (none_of (image_fault p.statics p.description) (fields p) both.0) (none_of (filled_fault (array_kinds p.statics.arrays) p.description) (fields p) both.1)
 
 -- ---- fields that share no byte stand apart
 

@@ -1,24 +1,24 @@
 -- The conditions under which the components of a package agree, in the order in which they are asked. Each is the least
 -- fault of the things that it speaks of.
-use Rattle.std.specs.Prelude.{◌≡◌, ℕ, ◌+◌, ◌*◌, List, [], length, Option, Some, None, Result, Ok, Err, map}
+use Rattle.std.specs.Prelude.{◌≡◌, List, [], length, Option, Some, None, Result, Ok, map}
 use Rattle.cap_frame.specs.AppletFormat.{Applet}
 use Rattle.cap_frame.specs.DirectoryFormat.{directory_info}
 use Rattle.cap_pool.specs.ExportFormat.{Exported}
 use Rattle.cap_desc.specs.DescriptorFormat as described
 use Rattle.cap_desc.specs.Members.{methods_from}
-use Rattle.cap_package.specs.declared.fault.PackFault.{PackFault}
-use Rattle.cap_package.specs.Parts.{Lent}
-use Rattle.cap_package.specs.Order.{least_of, least_from, refused}
+use Rattle.cap_parts.specs.declared.fault.PackFault.{PackFault}
+use Rattle.cap_parts.specs.Parts.{Lent}
+use Rattle.cap_parts.specs.Order.{least_of, least_from, refused}
 use Rattle.cap_package.specs.Pairs.{pairs}
-use Rattle.cap_package.specs.Components.{◌>>=◌, read_part}
-use Rattle.cap_package.specs.PackageRecord.{PackageRecord, classes_from, described, fields}
-use Rattle.cap_package.specs.ReadPackage.{read_package}
-use Rattle.cap_package.specs.PartChecks.{missing, form_fault, size_fault, components, custom_tags}
+use Rattle.cap_parts.specs.Components.{◌>>=◌, read_part}
+use Rattle.cap_parts.specs.PackageRecord.{PackageRecord, classes_from, described, fields}
+use Rattle.cap_parts.specs.ReadPackage.{read_package}
+use Rattle.cap_parts.specs.PartChecks.{missing, form_fault, size_fault, components, custom_tags}
 use Rattle.cap_package.specs.MethodChecks.{overlap_pair, outside_fault}
 use Rattle.cap_package.specs.HeaderChecks.{registers_fault, length_fault, arguments_fault, abstract_fault}
 use Rattle.cap_package.specs.HandlerChecks.{numbered, numbered_fault, claim_fault}
-use Rattle.cap_package.specs.StaticChecks.{share_pair, image_fault, array_field_fault, array_fields, no_static_fault}
-use Rattle.cap_package.specs.NameChecks.{no_method_fault, no_entry_fault, table_entries, exported_methods, exported_fields, undescribed_fault, no_class_fault}
+use Rattle.cap_package.specs.StaticChecks.{share_pair, image_fault, array_kinds, filled_fault, is_static_at, no_static_fault}
+use Rattle.cap_package.specs.NameChecks.{is_method_at, no_method_fault, no_entry_fault, table_entries, exported_methods, exported_fields, undescribed_fault, no_class_fault}
 use Rattle.cap_package.specs.TypeChecks.{field_type_fault, method_type_fault, interface_methods}
 use Rattle.cap_package.specs.CountChecks.{differ, array_bytes, image_bytes, instance_fault, count_if}
 
@@ -60,8 +60,8 @@ static_condition p = least_of (share_pair p.description) (pairs (fields p))
 abbrev pub named_condition : PackageRecord → Option PackFault
 named_condition p =
     least_from
-    (least_from (least_of (no_entry_fault (described p)) (table_entries p.classes)) (no_method_fault (described p)) (exported_methods (or_none p.export)))
-    (no_method_fault (described p)) (map (λ (a : Applet). a.install) (or_none p.applets))
+    (least_from (least_of (no_entry_fault (is_method_at (described p))) (table_entries p.classes)) (no_method_fault (is_method_at (described p))) (exported_methods (or_none p.export)))
+    (no_method_fault (is_method_at (described p))) (map (λ (a : Applet). a.install) (or_none p.applets))
 
 abbrev pub class_condition : PackageRecord → Option PackFault
 class_condition p =
@@ -79,13 +79,13 @@ type_condition p =
     (method_type_fault p.description 254) (interface_methods (classes_from p.classes) p.description.items.classes)
 
 abbrev pub image_condition : PackageRecord → Option PackFault
-image_condition p = least_from (least_of (image_fault p.statics p.description) (fields p)) (array_field_fault p.description) (array_fields 0 p.statics.arrays (fields p))
+image_condition p = least_from (least_of (image_fault p.statics p.description) (fields p)) (filled_fault (array_kinds p.statics.arrays) p.description) (fields p)
 
 abbrev pub length_condition : PackageRecord → Option PackFault
 length_condition p = least_of (length_fault p.methods.info) (described p)
 
 abbrev pub export_condition : PackageRecord → Option PackFault
-export_condition p = least_of (no_static_fault (fields p)) (exported_fields (or_none p.export))
+export_condition p = least_of (no_static_fault (is_static_at (fields p))) (exported_fields (or_none p.export))
 
 -- ---- all
 

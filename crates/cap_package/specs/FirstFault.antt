@@ -1,6 +1,6 @@
 -- Which fault is named, in the subject's words: the conditions stand in the order of their numbers, each with the list
 -- of the things that break it; the first list that is not empty tells the fault, and the least thing in it is named.
-use Rattle.std.specs.Prelude.{◌≡◌, ℕ, ◌+◌, ◌≤◌, ◌<◌, ◌⊎◌, List, [], ◌∷◌, ◌++◌, length, Option, Some, None, Result, Ok, Err, map}
+use Rattle.std.specs.Prelude.{◌≡◌, ℕ, ◌≤◌, ◌<◌, ◌⊎◌, List, [], ◌∷◌, ◌++◌, length, Option, Result, Ok, Err, map}
 use Rattle.std.specs.List.{filter_map}
 use Rattle.std.specs.Option.{option_to_list}
 use Rattle.cap_frame.specs.AppletFormat.{Applet}
@@ -8,19 +8,19 @@ use Rattle.cap_frame.specs.DirectoryFormat.{DirectoryItems, directory_info}
 use Rattle.cap_pool.specs.ExportFormat.{Exported}
 use Rattle.cap_desc.specs.DescriptorFormat as described
 use Rattle.cap_desc.specs.Members.{methods_from}
-use Rattle.cap_package.specs.declared.fault.PackFault.{PackFault}
-use Rattle.cap_package.specs.Parts.{Lent}
-use Rattle.cap_package.specs.Order.{place_of}
+use Rattle.cap_parts.specs.declared.fault.PackFault.{PackFault}
+use Rattle.cap_parts.specs.Parts.{Lent}
+use Rattle.cap_parts.specs.Order.{place_of}
 use Rattle.cap_package.specs.Pairs.{pairs}
-use Rattle.cap_package.specs.Components.{read_part}
-use Rattle.cap_package.specs.PackageRecord.{PackageRecord, classes_from, described, fields}
-use Rattle.cap_package.specs.ReadPackage.{read_package}
-use Rattle.cap_package.specs.PartChecks.{required, optional, absent_fault, sized_fault, form_fault, size_fault, components, custom_tags}
+use Rattle.cap_parts.specs.Components.{read_part}
+use Rattle.cap_parts.specs.PackageRecord.{PackageRecord, classes_from, described, fields}
+use Rattle.cap_parts.specs.Saying.{AreSaid, IsFirstFailing}
+use Rattle.cap_parts.specs.PartChecks.{required, optional, absent_fault, sized_fault, form_fault, size_fault, components, custom_tags}
 use Rattle.cap_package.specs.MethodChecks.{overlap_pair, outside_fault}
 use Rattle.cap_package.specs.HeaderChecks.{registers_fault, length_fault, arguments_fault, abstract_fault}
 use Rattle.cap_package.specs.HandlerChecks.{numbered, numbered_fault, claim_fault}
-use Rattle.cap_package.specs.StaticChecks.{share_pair, image_fault, array_field_fault, array_fields, no_static_fault}
-use Rattle.cap_package.specs.NameChecks.{no_method_fault, no_entry_fault, table_entries, exported_methods, exported_fields, undescribed_fault, no_class_fault}
+use Rattle.cap_package.specs.StaticChecks.{share_pair, image_fault, array_kinds, filled_fault, is_static_at, no_static_fault}
+use Rattle.cap_package.specs.NameChecks.{is_method_at, no_method_fault, no_entry_fault, table_entries, exported_methods, exported_fields, undescribed_fault, no_class_fault}
 use Rattle.cap_package.specs.TypeChecks.{field_type_fault, method_type_fault, interface_methods}
 use Rattle.cap_package.specs.CountChecks.{differ, array_bytes, image_bytes, instance_fault, count_if}
 use Rattle.cap_package.specs.Agreement.{or_none}
@@ -69,8 +69,8 @@ member_lists p =
     -- static fields that share a byte
     ∷ at_fault (share_pair p.description) (pairs (fields p))
     -- dispatch entries, exports and applets that name no method
-    ∷ ((at_fault (no_entry_fault (described p)) (table_entries p.classes) ++ at_fault (no_method_fault (described p)) (exported_methods (or_none p.export)))
-    ++ at_fault (no_method_fault (described p)) (map (λ (a : Applet). a.install) (or_none p.applets)))
+    ∷ ((at_fault (no_entry_fault (is_method_at (described p))) (table_entries p.classes) ++ at_fault (no_method_fault (is_method_at (described p))) (exported_methods (or_none p.export)))
+    ++ at_fault (no_method_fault (is_method_at (described p))) (map (λ (a : Applet). a.install) (or_none p.applets)))
     -- classes that are not described once, and names of none
     ∷ ((at_fault (undescribed_fault p.description.items.classes) p.classes ++ at_fault (no_class_fault p.classes) (map (λ (d : described.Class). d.class_ref) p.description.items.classes))
     ++ at_fault (no_class_fault p.classes) (map (λ (c : Exported). c.class_offset) (or_none p.export)))
@@ -80,11 +80,11 @@ member_lists p =
     ∷ ((at_fault (field_type_fault p.description) (fields p) ++ at_fault (method_type_fault p.description 510) (methods_from 0 p.description.items.classes))
     ++ at_fault (method_type_fault p.description 254) (interface_methods (classes_from p.classes) p.description.items.classes))
     -- static fields in the image
-    ∷ (at_fault (image_fault p.statics p.description) (fields p) ++ at_fault (array_field_fault p.description) (array_fields 0 p.statics.arrays (fields p)))
+    ∷ (at_fault (image_fault p.statics p.description) (fields p) ++ at_fault (filled_fault (array_kinds p.statics.arrays) p.description) (fields p))
     -- lengths of code
     ∷ at_fault (length_fault p.methods.info) (described p)
     -- exports that name no static field
-    ∷ at_fault (no_static_fault (fields p)) (exported_fields (or_none p.export))
+    ∷ at_fault (no_static_fault (is_static_at (fields p))) (exported_fields (or_none p.export))
     ∷ []
 
 abbrev pub conditions : PackageRecord → List (List PackFault)
@@ -115,10 +115,11 @@ AllEmpty (faults ∷ others) = (faults ≡ []) × AllEmpty others
 abbrev pub conditions_of : List Lent → PackageRecord → List (List PackFault)
 conditions_of parts p = at_fault (form_fault parts) (custom_tags p.directory) ∷ conditions p
 
--- a package exactly where nothing is at fault; else the first condition by number that is broken, at its least thing
+-- a package exactly where nothing is at fault; else the first that is: a part that is missing, the first component by tag
+-- that breaks its format, or the first condition by number that is broken, at its least thing
 abbrev pub Tells : List Lent → Result PackageRecord PackFault → Type 0
-Tells parts (Ok p) = (missing_parts parts (read_part directory_info 2 parts) ≡ []) × (read_package parts ≡ Ok p) × AllEmpty (conditions_of parts p)
+Tells parts (Ok p) = (missing_parts parts (read_part directory_info 2 parts) ≡ []) × AreSaid parts p × AllEmpty (conditions_of parts p)
 Tells parts (Err fault) =
     IsLeast (missing_parts parts (read_part directory_info 2 parts)) fault
     ⊎ ((missing_parts parts (read_part directory_info 2 parts) ≡ [])
-    × ((read_package parts ≡ Err fault) ⊎ ((p : PackageRecord) × (read_package parts ≡ Ok p) × IsFirst (conditions_of parts p) fault)))
+    × (IsFirstFailing parts fault ⊎ ((p : PackageRecord) × AreSaid parts p × IsFirst (conditions_of parts p) fault)))

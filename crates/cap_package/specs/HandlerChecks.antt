@@ -1,10 +1,10 @@
 -- The entries of the handler table and the methods that own them (JCVM 2.2, section 6.9.1).
-use Rattle.std.specs.Prelude.{ℕ, suc, ◌+◌, Bool, false, List, [], ◌∷◌, Option, Some, None, filter, max, nat_lt, nat_le, ◌==◌, ◌||◌, ◌&&◌, not, if◌then◌else◌}
+use Rattle.std.specs.Prelude.{ℕ, ◌+◌, Bool, false, List, [], ◌∷◌, Option, Some, None, filter, max, nat_lt, nat_le, ◌==◌, ◌&&◌, not, if◌then◌else◌}
 use Rattle.cap_method.specs.declared.handler.HandlerInfo.{HandlerInfo}
 use Rattle.cap_desc.specs.DescriptorFormat.{Method}
 use Rattle.cap_package.specs.MethodChecks.{code_start, code_end}
-use Rattle.cap_package.specs.declared.fault.PackFault.{PackFault}
-use Rattle.cap_package.specs.declared.fault.PackFault.TheVariants.{HandlerOutside}
+use Rattle.cap_parts.specs.declared.fault.PackFault.{PackFault}
+use Rattle.cap_parts.specs.declared.fault.PackFault.TheVariants.{HandlerOutside}
 
 -- a method claims so many entries from its index on
 abbrev pub claims : ℕ → Method → Bool

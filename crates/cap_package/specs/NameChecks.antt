@@ -1,21 +1,24 @@
 -- What dispatch tables, exports and applets name (JCVM 2.2, sections 6.5, 6.8 and 6.12).
-use Rattle.std.specs.Prelude.{ℕ, List, [], ◌∷◌, ◌++◌, Option, Some, None, map, count_by, ◌==◌, if◌then◌else◌}
+use Rattle.std.specs.Prelude.{ℕ, Bool, List, [], ◌∷◌, ◌++◌, Option, Some, None, count_by, ◌==◌, if◌then◌else◌}
 use Rattle.std.specs.List.{list_any}
-use Rattle.cap_frame.specs.AppletFormat.{Applet}
 use Rattle.cap_pool.specs.ExportFormat.{Exported}
 use Rattle.cap_class.specs.ClassFormat.{Class}
 use Rattle.cap_desc.specs.DescriptorFormat as described
 use Rattle.cap_desc.specs.DescriptorFormat.{Method}
-use Rattle.cap_package.specs.declared.fault.PackFault.{PackFault}
-use Rattle.cap_package.specs.declared.fault.PackFault.TheVariants.{NoMethodAt, ClassUndescribed}
+use Rattle.cap_parts.specs.declared.fault.PackFault.{PackFault}
+use Rattle.cap_parts.specs.declared.fault.PackFault.TheVariants.{NoMethodAt, ClassUndescribed}
 
--- no described method stands at an offset
-unfoldable pub no_method_fault : List Method → ℕ → Option PackFault
-no_method_fault methods offset = if list_any (λ (m : Method). m.method_offset == offset) methods then None else Some (NoMethodAt offset)
+-- one of the methods stands at an offset
+abbrev pub is_method_at : List Method → ℕ → Bool
+is_method_at methods offset = list_any (λ (m : Method). m.method_offset == offset) methods
+
+-- an offset at which no method stands
+unfoldable pub no_method_fault : (ℕ → Bool) → ℕ → Option PackFault
+no_method_fault is_method offset = if is_method offset then None else Some (NoMethodAt offset)
 
 -- 0xFFFF in a dispatch table keeps the superclass's entry
-unfoldable pub no_entry_fault : List Method → ℕ → Option PackFault
-no_entry_fault methods offset = if offset == 0xFFFF then None else no_method_fault methods offset
+unfoldable pub no_entry_fault : (ℕ → Bool) → ℕ → Option PackFault
+no_entry_fault is_method offset = if offset == 0xFFFF then None else no_method_fault is_method offset
 
 -- the entries of the dispatch tables
 abbrev pub table_entries : List Class → List ℕ

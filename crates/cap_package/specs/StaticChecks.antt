@@ -1,14 +1,14 @@
 -- The static fields in the image (JCVM 2.2, section 6.10): the references first, two bytes each, of which the first
 -- name the initial arrays; then the primitive values.
-use Rattle.std.specs.Prelude.{ℕ, ◌+◌, ◌*◌, ◌/◌, ◌%◌, Bool, List, [], ◌∷◌, ◌++◌, Option, Some, None, map, min, max, nat_lt, nat_le, slice_index, ◌==◌, ◌||◌, ◌&&◌, not, if◌then◌else◌}
+use Rattle.std.specs.Prelude.{ℕ, ◌+◌, ◌*◌, ◌/◌, ◌%◌, Bool, List, Option, Some, None, map, min, max, nat_lt, nat_le, slice_get, slice_index, ◌==◌, ◌||◌, ◌&&◌, if◌then◌else◌}
 use Rattle.std.specs.List.{list_any}
 use Rattle.cap_method.specs.StaticFormat.{Array, Statics}
 use Rattle.cap_desc.specs.declared.type_item.TypeItem.{TypeItem}
 use Rattle.cap_desc.specs.DescriptorFormat.{Field}
-use Rattle.cap_package.specs.Descriptions.{Description, field_type}
+use Rattle.cap_parts.specs.Descriptions.{Description, field_type}
 use Rattle.cap_package.specs.HeaderChecks.{is_static}
-use Rattle.cap_package.specs.declared.fault.PackFault.{PackFault}
-use Rattle.cap_package.specs.declared.fault.PackFault.TheVariants.{StaticOverlaps, StaticOutside, NoStaticAt}
+use Rattle.cap_parts.specs.declared.fault.PackFault.{PackFault}
+use Rattle.cap_parts.specs.declared.fault.PackFault.TheVariants.{StaticOverlaps, StaticOutside, NoStaticAt}
 
 -- the offset of a static field in the image
 abbrev pub image_offset : Field → ℕ
@@ -60,26 +60,31 @@ image_by s (Some p) = if is_in_image s p then None else Some (StaticOutside p.of
 unfoldable pub image_fault : Statics → Description → Field → Option PackFault
 image_fault s d f = image_by s (place_in d f)
 
--- the reference with this number is initialised by an array of this kind, and the field there is of another type
-abbrev pub array_by : ℕ → Option Place → Option PackFault
-array_by kind None = None
-array_by kind (Some p) = if p.ty.nibble == kind + 8 then None else Some (StaticOutside p.offset)
+-- the types of the initial arrays, in the order in which they fill the references
+abbrev pub array_kinds : List Array → List ℕ
+array_kinds = map (λ (a : Array). a.kind)
 
-unfoldable pub array_fault : Description → ℕ → ℕ → Field → Option PackFault
-array_fault d number kind f = if image_offset f == 2 * number then array_by kind (place_in d f) else None
+-- the type of the initial array that fills the reference at an offset, if one does
+unfoldable pub kind_at : List ℕ → ℕ → Option ℕ
+kind_at kinds offset = if offset % 2 == 0 then slice_get kinds (offset / 2) else None
 
--- each array with its number and each field
-abbrev pub array_fields : ℕ → List Array → List Field → List (ℕ × ℕ × Field)
-array_fields number [] fields = []
-array_fields number (a ∷ others) fields = map (λ f. (number, a.kind, f)) fields ++ array_fields (number + 1) others fields
+-- a field of another type than the initial array that fills its reference
+abbrev pub filled_by : Option ℕ → Option Place → Option PackFault
+filled_by None p = None
+filled_by (Some kind) None = None
+filled_by (Some kind) (Some p) = if p.ty.nibble == kind + 8 then None else Some (StaticOutside p.offset)
 
-abbrev pub array_field_fault : Description → ℕ × ℕ × Field → Option PackFault
-array_field_fault d p = array_fault d p.0 p.1 p.2
+unfoldable pub filled_fault : List ℕ → Description → Field → Option PackFault
+filled_fault kinds d f = filled_by (kind_at kinds (image_offset f)) (place_in d f)
 
 -- a field stands at an offset of the image
 abbrev pub stands_at : ℕ → Field → Bool
 stands_at offset f = is_static f.flags && image_offset f == offset
 
--- an exported offset names no static field
-unfoldable pub no_static_fault : List Field → ℕ → Option PackFault
-no_static_fault fields offset = if list_any (stands_at offset) fields then None else Some (NoStaticAt offset)
+-- one of the fields is static and stands at an offset of the image
+abbrev pub is_static_at : List Field → ℕ → Bool
+is_static_at fields offset = list_any (stands_at offset) fields
+
+-- an exported offset at which no static field stands
+unfoldable pub no_static_fault : (ℕ → Bool) → ℕ → Option PackFault
+no_static_fault is_static offset = if is_static offset then None else Some (NoStaticAt offset)

@@ -1,24 +1,20 @@
 ghost use Rattle.std.specs.Prelude.{◌≡◌};
-ghost use Rattle.cap_desc.specs.MembersLeft.{methods_from_left};
 ghost use Rattle.cap_package.specs.NameChecks.{no_method_fault, exported_methods};
+ghost use Rattle.cap_package.specs.OffsetSets.{stands};
 ghost use Rattle.cap_package.specs.Agreement.{or_none, places_agree, counts_agree, members_agree, named_condition, class_condition, export_condition};
-ghost use Rattle.cap_package.specs.ComponentsSeen.{components_seen};
-ghost use Rattle.cap_package.specs.Order.{least_from, refused};
+ghost use Rattle.cap_parts.specs.ComponentsSeen.{components_seen};
+ghost use Rattle.cap_parts.specs.Order.{least_from, refused};
 
 use crate::class_checks::{classes_described, descriptors_named, exports_are_classes};
-use crate::components::Components;
 use crate::count_checks::{agree, array_bytes, instances_agree};
-use crate::fault::PackFault;
 use crate::handler_checks::handlers_at_home;
 use crate::header_checks::{abstract_without_code, arguments_agree, lengths_fit, registers_few};
-use crate::lesser::refuse;
 use crate::method_checks::{methods_apart, methods_inside};
 use crate::name_checks::{entries_named, exports_named, installs_named, statics_named};
-use crate::part_checks::sizes_agree;
-use crate::read_package::classes_from;
+use crate::offsets::{Offsets, method_offsets, static_offsets};
 use crate::static_checks::{statics_apart, statics_in_image};
 use crate::type_checks::types_fit;
-use cap_desc::MethodsFrom;
+use cap_parts::{Components, PackFault, classes_from, refuse, sizes_agree};
 
 /// The sizes of the parts and the places of the methods agree.
 #[tactic(auto, unfolding(crate::specs::Agreement::places_agree))]
@@ -77,10 +73,10 @@ pub(crate) fn counts_agree(all: &Components<'_, '_>) -> Result<(), PackFault>
 /// The least fault so far, when the methods that the package exports were looked up, if it does.
 fn export_names(
     all: &Components<'_, '_>,
-    described: MethodsFrom<'_>,
+    described: &Offsets,
     least: Option<PackFault>,
 ) -> Option<PackFault>
-    ensures { result ≡ least_from least (no_method_fault (methods_from_left described.entry)) (exported_methods (or_none (components_seen all.now).export)) }
+    ensures { result ≡ least_from least (no_method_fault (stands described.now)) (exported_methods (or_none (components_seen all.now).export)) }
 {
     match &all.export {
         Some(export) => exports_named(described, export, least),
@@ -92,11 +88,11 @@ fn export_names(
 fn names_agree(all: &Components<'_, '_>) -> Result<(), PackFault>
     ensures { result ≡ refused (named_condition (components_seen all.now)) }
 {
-    let described = all.descriptor.methods_from(classes_from(&all.classes));
-    let entries = entries_named(described, &all.classes);
-    let exports = export_names(all, described, entries);
+    let described = method_offsets(all.descriptor.methods_from(classes_from(&all.classes)));
+    let entries = entries_named(&described, &all.classes);
+    let exports = export_names(all, &described, entries);
     match &all.applets {
-        Some(applets) => refuse(installs_named(described, applets, exports)),
+        Some(applets) => refuse(installs_named(&described, applets, exports)),
         None => refuse(exports),
     }
 }
@@ -119,7 +115,7 @@ fn exports_agree(all: &Components<'_, '_>) -> Result<(), PackFault>
     ensures { result ≡ refused (export_condition (components_seen all.now)) }
 {
     match &all.export {
-        Some(export) => refuse(statics_named(all.descriptor.fields(), export)),
+        Some(export) => refuse(statics_named(&static_offsets(all.descriptor.fields()), export)),
         None => Ok(()),
     }
 }

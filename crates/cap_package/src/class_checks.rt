@@ -6,13 +6,12 @@ ghost use Rattle.cap_class.specs.ClassFormat.{Class};
 ghost use Rattle.cap_class.specs.ClassPart.{class_seen, records, classes_left};
 ghost use Rattle.cap_desc.specs.DescriptorFormat as desc;
 ghost use Rattle.cap_desc.specs.ClassRecords.{classes_left as described_left};
-ghost use Rattle.cap_package.specs.Order.{least_of, least_from, refused};
+ghost use Rattle.cap_parts.specs.Order.{least_of, least_from, refused};
 ghost use Rattle.cap_package.specs.NameChecks.{undescribed_fault, no_class_fault};
 
-use crate::fault::PackFault;
-use crate::lesser::lesser;
 use cap_class::{ClassInfo, ClassPart};
 use cap_desc::DescClasses;
+use cap_parts::{PackFault, lesser};
 use cap_pool::Export;
 
 /// Whether exactly one descriptor is of the class record at an offset.

@@ -2,15 +2,13 @@ ghost use Rattle.std.specs.Prelude.{◌≡◌, ◌≤◌, ◌∷◌, [], length,
 ghost use Rattle.cap_method.specs.MethodPart.{handlers_left, handlers};
 ghost use Rattle.cap_desc.specs.MemberRecords.{method_seen};
 ghost use Rattle.cap_desc.specs.MembersLeft.{methods_from_left};
-ghost use Rattle.cap_package.specs.Order.{least_of, least_from, refused};
+ghost use Rattle.cap_parts.specs.Order.{least_of, least_from, refused};
 ghost use Rattle.cap_package.specs.HandlerChecks.{claims, is_within, has_home, owners, entry_fault, claim_fault, numbered, numbered_fault};
 
-use crate::fault::PackFault;
-use crate::lesser::{lesser, refuse};
-use crate::method_checks::{code_end, code_start};
 use cap_bytes::View;
 use cap_desc::{MethodInfo, MethodsFrom};
 use cap_method::{HandlerInfo, MethodPart};
+use cap_parts::{PackFault, code_end, code_start, lesser, refuse};
 
 /// Whether a method claims an entry of the handler table.
 fn claims(number: u32, method: &MethodInfo) -> bool

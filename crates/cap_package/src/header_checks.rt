@@ -1,21 +1,22 @@
-ghost use Rattle.std.specs.Prelude.{◌≡◌, option_map};
-ghost use Rattle.cap_method.specs.MethodPart.{header_seen};
+ghost use Rattle.std.specs.Prelude.{◌≡◌, IfSome, IfNone, option_map};
+ghost use Rattle.cap_method.specs.MethodFormat.{Header};
+ghost use Rattle.cap_method.specs.MethodPart.{header_seen, HeaderAt};
 ghost use Rattle.cap_desc.specs.MemberRecords.{method_seen};
 ghost use Rattle.cap_desc.specs.MembersLeft.{methods_from_left};
-ghost use Rattle.cap_package.specs.Order.{least_of, refused};
-ghost use Rattle.cap_package.specs.Descriptions.{description};
+ghost use Rattle.cap_parts.specs.Order.{least_of, refused};
+ghost use Rattle.cap_parts.specs.Descriptions.{description};
 ghost use Rattle.cap_package.specs.HeaderChecks.{header_in, registers_fault, length_fault, arguments_fault, abstract_fault};
 
-use crate::description::argument_words;
-use crate::fault::PackFault;
-use crate::lesser::{lesser, refuse};
 use cap_desc::{DescPart, MethodInfo, MethodsFrom};
 use cap_method::{MethodHeader, MethodPart};
+use cap_parts::{PackFault, argument_words, lesser, refuse};
 
 /// The header of a method, where its bytes reach.
 #[tactic(auto, using(crate::proofs::HeaderKnown::header_known))]
 pub fn header(methods: &MethodPart<'_>, offset: u16) -> Option<MethodHeader>
-    ensures { option_map header_seen result ≡ header_in methods.now.info.bytes.now offset }
+    ensures value { option_map header_seen result ≡ header_in methods.now.info.bytes.now offset }
+    ensures found { IfSome result (λ h. HeaderAt methods.now.info.bytes.now offset (header_seen h)) }
+    ensures none { IfNone result ((h : Header) → HeaderAt methods.now.info.bytes.now offset h → ⊥) }
 {
     methods.header(offset)
 }

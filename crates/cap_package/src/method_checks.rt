@@ -1,36 +1,13 @@
-ghost use Rattle.std.specs.Prelude.{◌≡◌, ◌≤◌, ◌<◌, ◌^◌, length};
-ghost use Rattle.cap_bytes.specs.Number.{number_at};
+ghost use Rattle.std.specs.Prelude.{◌≡◌, ◌≤◌, length};
 ghost use Rattle.cap_desc.specs.MemberRecords.{method_seen};
 ghost use Rattle.cap_desc.specs.MembersLeft.{methods_from_left};
-ghost use Rattle.cap_package.specs.Order.{least_of, least_from, refused};
+ghost use Rattle.cap_parts.specs.Order.{least_of, least_from, refused};
 ghost use Rattle.cap_package.specs.Pairs.{pairs};
-ghost use Rattle.cap_package.specs.MethodChecks.{size_by, code_start, code_end, overlap_fault, overlap_pair, outside_fault};
+ghost use Rattle.cap_package.specs.MethodChecks.{overlap_fault, overlap_pair, outside_fault};
 
-use crate::fault::PackFault;
-use crate::lesser::{lesser, refuse};
 use cap_bytes::View;
 use cap_desc::{MethodInfo, MethodsFrom};
-
-/// The offset behind a method's header.
-#[tactic(auto, unfolding(crate::specs::MethodChecks::code_start))]
-pub(crate) fn code_start(info: View<'_>, method: &MethodInfo) -> u32
-    ensures value { result ≡ code_start info.entry.bytes.now (method_seen method.now) }
-    ensures near { result ≤ 65539 }
-{
-    let size = match info.u1(method.method_offset as u32) {
-        Some(first) if first >= 0x80 => 4,
-        _ => 2,
-    };
-    method.method_offset as u32 + size
-}
-
-/// The offset behind a method's code.
-#[tactic(auto, unfolding(crate::specs::MethodChecks::code_end))]
-pub(crate) fn code_end(info: View<'_>, method: &MethodInfo) -> u32
-    ensures { result ≡ code_end info.entry.bytes.now (method_seen method.now) }
-{
-    code_start(info, method) + method.bytecode_count as u32
-}
+use cap_parts::{PackFault, code_end, lesser, refuse};
 
 /// Whether two methods share a byte of the info.
 #[tactic(auto, unfolding(crate::specs::MethodChecks::overlap_fault))]

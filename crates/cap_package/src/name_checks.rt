@@ -1,42 +1,26 @@
-ghost use Rattle.std.specs.Prelude.{◌≡◌, ◌==◌, map};
-ghost use Rattle.std.specs.List.{list_any};
+ghost use Rattle.std.specs.Prelude.{◌≡◌, map};
 ghost use Rattle.cap_bytes.specs.Table.{numbers};
 ghost use Rattle.cap_frame.specs.AppletFormat.{Applet};
 ghost use Rattle.cap_frame.specs.Applets.{applets_of, applets_left};
 ghost use Rattle.cap_pool.specs.Export.{classes as exported, classes_left as exported_left};
 ghost use Rattle.cap_class.specs.ClassPart.{records, classes_left};
-ghost use Rattle.cap_desc.specs.DescriptorFormat.{Method, Field};
-ghost use Rattle.cap_desc.specs.MembersLeft.{methods_from_left, fields_of_left};
-ghost use Rattle.cap_package.specs.Order.{least_of, least_from, refused};
+ghost use Rattle.cap_parts.specs.Order.{least_of, least_from, refused};
 ghost use Rattle.cap_package.specs.NameChecks.{no_method_fault, no_entry_fault, table_entries, exported_methods, exported_fields};
-ghost use Rattle.cap_package.specs.StaticChecks.{stands_at, no_static_fault};
+ghost use Rattle.cap_package.specs.StaticChecks.{no_static_fault};
+ghost use Rattle.cap_package.specs.OffsetSets.{stands};
 
-use crate::fault::PackFault;
-use crate::lesser::lesser;
-use crate::static_checks::image_offset;
+use crate::offsets::Offsets;
 use cap_bytes::Table;
 use cap_class::ClassPart;
-use cap_desc::{FieldsOf, MethodsFrom};
 use cap_frame::Applets;
+use cap_parts::{PackFault, lesser};
 use cap_pool::Export;
 
-/// Whether a described method stands at an offset.
-fn is_described(offset: u16, described: MethodsFrom<'_>) -> bool
-    ensures { result ≡ list_any (λ (m : Method). m.method_offset == offset) (methods_from_left described.entry) }
-{
-    'methods: for method in described {
-        if method.method_offset == offset {
-            return true;
-        }
-    }
-    false
-}
-
 #[tactic(auto, unfolding(crate::specs::NameChecks::no_method_fault))]
-fn no_method_fault(described: MethodsFrom<'_>, offset: u16) -> Option<PackFault>
-    ensures { result ≡ no_method_fault (methods_from_left described.entry) offset }
+fn no_method_fault(described: &Offsets, offset: u16) -> Option<PackFault>
+    ensures { result ≡ no_method_fault (stands described.now) offset }
 {
-    if is_described(offset, described) {
+    if described.has(offset) {
         None
     } else {
         Some(PackFault::NoMethodAt(offset))
@@ -44,8 +28,8 @@ fn no_method_fault(described: MethodsFrom<'_>, offset: u16) -> Option<PackFault>
 }
 
 #[tactic(auto, unfolding(crate::specs::NameChecks::no_entry_fault))]
-fn no_entry_fault(described: MethodsFrom<'_>, offset: u16) -> Option<PackFault>
-    ensures { result ≡ no_entry_fault (methods_from_left described.entry) offset }
+fn no_entry_fault(described: &Offsets, offset: u16) -> Option<PackFault>
+    ensures { result ≡ no_entry_fault (stands described.now) offset }
 {
     if offset == 0xFFFF {
         return None;
@@ -55,11 +39,11 @@ fn no_entry_fault(described: MethodsFrom<'_>, offset: u16) -> Option<PackFault>
 
 /// The least fault so far, when the entries of a dispatch table were looked up.
 fn entries_of_table(
-    described: MethodsFrom<'_>,
+    described: &Offsets,
     table: Table<'_>,
     least: Option<PackFault>,
 ) -> Option<PackFault>
-    ensures { result ≡ least_from least (no_entry_fault (methods_from_left described.entry)) (numbers table.entry) }
+    ensures { result ≡ least_from least (no_entry_fault (stands described.now)) (numbers table.entry) }
 {
     let mut least = least;
     'entries: for offset in table {
@@ -70,11 +54,11 @@ fn entries_of_table(
 
 /// The least fault so far, when offsets of methods were looked up.
 fn methods_of_table(
-    described: MethodsFrom<'_>,
+    described: &Offsets,
     table: Table<'_>,
     least: Option<PackFault>,
 ) -> Option<PackFault>
-    ensures { result ≡ least_from least (no_method_fault (methods_from_left described.entry)) (numbers table.entry) }
+    ensures { result ≡ least_from least (no_method_fault (stands described.now)) (numbers table.entry) }
 {
     let mut least = least;
     'entries: for offset in table {
@@ -85,11 +69,8 @@ fn methods_of_table(
 
 /// The least fault of the dispatch tables.
 #[tactic(auto, using(crate::proofs::TableFaults::least_entries))]
-pub(crate) fn entries_named(
-    described: MethodsFrom<'_>,
-    classes: &ClassPart<'_>,
-) -> Option<PackFault>
-    ensures { result ≡ least_of (no_entry_fault (methods_from_left described.entry)) (table_entries (records classes.now)) }
+pub(crate) fn entries_named(described: &Offsets, classes: &ClassPart<'_>) -> Option<PackFault>
+    ensures { result ≡ least_of (no_entry_fault (stands described.now)) (table_entries (records classes.now)) }
 {
     let mut least = None;
     'classes: for class in classes.iter() {
@@ -102,11 +83,11 @@ pub(crate) fn entries_named(
 /// The least fault so far, when the exported methods were looked up.
 #[tactic(auto, using(crate::proofs::TableFaults::least_exported_methods))]
 pub(crate) fn exports_named(
-    described: MethodsFrom<'_>,
+    described: &Offsets,
     export: &Export<'_>,
     least: Option<PackFault>,
 ) -> Option<PackFault>
-    ensures { result ≡ least_from least (no_method_fault (methods_from_left described.entry)) (exported_methods (exported export.now)) }
+    ensures { result ≡ least_from least (no_method_fault (stands described.now)) (exported_methods (exported export.now)) }
 {
     let mut least = least;
     'classes: for class in export.iter() {
@@ -117,11 +98,11 @@ pub(crate) fn exports_named(
 
 /// The least fault so far, when the applets' install methods were looked up.
 pub(crate) fn installs_named(
-    described: MethodsFrom<'_>,
+    described: &Offsets,
     applets: &Applets<'_>,
     least: Option<PackFault>,
 ) -> Option<PackFault>
-    ensures { result ≡ least_from least (no_method_fault (methods_from_left described.entry)) (map (λ (a : Applet). a.install) (applets_of applets.now)) }
+    ensures { result ≡ least_from least (no_method_fault (stands described.now)) (map (λ (a : Applet). a.install) (applets_of applets.now)) }
 {
     let mut least = least;
     'applets: for applet in applets.iter() {
@@ -130,23 +111,11 @@ pub(crate) fn installs_named(
     least
 }
 
-/// Whether a static field stands at an offset of the image.
-fn is_static_at(offset: u16, fields: FieldsOf<'_>) -> bool
-    ensures { result ≡ list_any (stands_at offset) (fields_of_left fields.entry) }
-{
-    'fields: for field in fields {
-        if field.flags.is_static() && image_offset(&field) == offset {
-            return true;
-        }
-    }
-    false
-}
-
 #[tactic(auto, unfolding(crate::specs::StaticChecks::no_static_fault))]
-fn no_static_fault(fields: FieldsOf<'_>, offset: u16) -> Option<PackFault>
-    ensures { result ≡ no_static_fault (fields_of_left fields.entry) offset }
+fn no_static_fault(fields: &Offsets, offset: u16) -> Option<PackFault>
+    ensures { result ≡ no_static_fault (stands fields.now) offset }
 {
-    if is_static_at(offset, fields) {
+    if fields.has(offset) {
         None
     } else {
         Some(PackFault::NoStaticAt(offset))
@@ -155,11 +124,11 @@ fn no_static_fault(fields: FieldsOf<'_>, offset: u16) -> Option<PackFault>
 
 /// The least fault so far, when offsets of static fields were looked up.
 fn statics_of_table(
-    fields: FieldsOf<'_>,
+    fields: &Offsets,
     table: Table<'_>,
     least: Option<PackFault>,
 ) -> Option<PackFault>
-    ensures { result ≡ least_from least (no_static_fault (fields_of_left fields.entry)) (numbers table.entry) }
+    ensures { result ≡ least_from least (no_static_fault (stands fields.now)) (numbers table.entry) }
 {
     let mut least = least;
     'entries: for offset in table {
@@ -170,8 +139,8 @@ fn statics_of_table(
 
 /// The least fault of the exported static fields.
 #[tactic(auto, using(crate::proofs::TableFaults::least_exported_fields))]
-pub(crate) fn statics_named(fields: FieldsOf<'_>, export: &Export<'_>) -> Option<PackFault>
-    ensures { result ≡ least_of (no_static_fault (fields_of_left fields.entry)) (exported_fields (exported export.now)) }
+pub(crate) fn statics_named(fields: &Offsets, export: &Export<'_>) -> Option<PackFault>
+    ensures { result ≡ least_of (no_static_fault (stands fields.now)) (exported_fields (exported export.now)) }
 {
     let mut least = None;
     'classes: for class in export.iter() {

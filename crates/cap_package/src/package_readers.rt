@@ -1,5 +1,14 @@
-ghost use Rattle.std.specs.Prelude.{◌≡◌, All, Ok, option_map};
+ghost use Rattle.std.specs.Prelude.{◌≡◌, All, Ok, IfSome, option_map};
 ghost use Rattle.cap_frame.specs.Header.{header_items};
+ghost use Rattle.cap_frame.specs.HeaderFormat.{header_info};
+ghost use Rattle.cap_frame.specs.DirectoryFormat.{directory_info};
+ghost use Rattle.cap_frame.specs.ImportFormat.{imports_info};
+ghost use Rattle.cap_frame.specs.AppletFormat.{applets_info};
+ghost use Rattle.cap_pool.specs.PoolFormat.{pool_info};
+ghost use Rattle.cap_pool.specs.ExportFormat.{export_info};
+ghost use Rattle.cap_pool.specs.LocationFormat.{locations_info};
+ghost use Rattle.cap_class.specs.ClassFormat.{classes_info};
+ghost use Rattle.cap_method.specs.StaticFormat.{statics_info};
 ghost use Rattle.cap_frame.specs.Directory.{directory_items};
 ghost use Rattle.cap_frame.specs.Imports.{packages};
 ghost use Rattle.cap_frame.specs.Applets.{applets_of};
@@ -8,27 +17,26 @@ ghost use Rattle.cap_pool.specs.Export.{classes as exported};
 ghost use Rattle.cap_pool.specs.Locations.{location_items};
 ghost use Rattle.cap_class.specs.ClassPart.{records};
 ghost use Rattle.cap_method.specs.StaticPart.{statics_seen};
-ghost use Rattle.cap_package.specs.Components.{info_in};
-ghost use Rattle.cap_package.specs.ComponentsSeen.{components_seen};
+ghost use Rattle.cap_parts.specs.Components.{info_in};
+ghost use Rattle.cap_parts.specs.ComponentsSeen.{components_seen};
+ghost use Rattle.cap_parts.specs.Saying.{Holds};
 ghost use Rattle.cap_package.specs.Customs.{custom_in, info_or_none};
 ghost use Rattle.cap_package.specs.CustomSeen.{custom_items};
-ghost use Rattle.cap_package.specs.Descriptions.{description};
-ghost use Rattle.cap_package.specs.MethodsSeen.{methods_seen};
+ghost use Rattle.cap_parts.specs.Descriptions.{description};
+ghost use Rattle.cap_parts.specs.MethodsSeen.{methods_seen};
 ghost use Rattle.cap_package.specs.StandsFor.{StandsFor};
 ghost use Rattle.cap_package.specs.Agreement.{package_of};
 ghost use Rattle.cap_package.specs.StaticPlaces.{places_left, static_places, AreApart, IsStaticPlace};
 
-use crate::components::Components;
 use crate::custom::Custom;
 use crate::package_type::Package;
-use crate::parts::Parts;
 use crate::places::StaticPlaces;
-use crate::read::info_in;
 use cap_bytes::View;
 use cap_class::ClassPart;
 use cap_desc::DescPart;
 use cap_frame::{Applets, Directory, Header, Imports};
 use cap_method::{MethodPart, StaticPart};
+use cap_parts::{Components, Parts, info_in};
 use cap_pool::{Export, Locations, Pool};
 
 impl<'p, 'a> Package<'p, 'a> {
@@ -43,35 +51,40 @@ impl<'p, 'a> Package<'p, 'a> {
 
     /// The Header component.
     pub fn header(&self) -> Header<'a>
-        ensures { header_items result ≡ self.now.header }
+        ensures items { header_items result ≡ self.now.header }
+        ensures info { Holds self.now.parts 1 header_info result.info.bytes.now self.now.header }
     {
         self.all.header
     }
 
     /// The Directory component.
     pub fn directory(&self) -> Directory<'a>
-        ensures { directory_items result ≡ self.now.directory }
+        ensures items { directory_items result ≡ self.now.directory }
+        ensures info { Holds self.now.parts 2 directory_info result.info.bytes.now self.now.directory }
     {
         self.all.directory
     }
 
     /// The Import component.
     pub fn imports(&self) -> Imports<'a>
-        ensures { packages result ≡ self.now.imports }
+        ensures items { packages result ≡ self.now.imports }
+        ensures info { Holds self.now.parts 4 imports_info result.info.bytes.now self.now.imports }
     {
         self.all.imports
     }
 
     /// The ConstantPool component.
     pub fn pool(&self) -> Pool<'a>
-        ensures { entries result ≡ self.now.pool }
+        ensures items { entries result ≡ self.now.pool }
+        ensures info { Holds self.now.parts 5 pool_info result.info.bytes.now self.now.pool }
     {
         self.all.pool
     }
 
     /// The Class component.
     pub fn classes(&self) -> ClassPart<'a>
-        ensures { records result ≡ self.now.classes }
+        ensures items { records result ≡ self.now.classes }
+        ensures info { Holds self.now.parts 6 classes_info result.info.bytes.now self.now.classes }
     {
         self.all.classes
     }
@@ -85,7 +98,8 @@ impl<'p, 'a> Package<'p, 'a> {
 
     /// The StaticField component.
     pub fn statics(&self) -> StaticPart<'a>
-        ensures { statics_seen result ≡ self.now.statics }
+        ensures items { statics_seen result ≡ self.now.statics }
+        ensures info { Holds self.now.parts 8 statics_info result.info.bytes.now self.now.statics }
     {
         self.all.statics
     }
@@ -104,7 +118,8 @@ impl<'p, 'a> Package<'p, 'a> {
 
     /// The ReferenceLocation component.
     pub fn locations(&self) -> Locations<'a>
-        ensures { location_items result ≡ self.now.locations }
+        ensures items { location_items result ≡ self.now.locations }
+        ensures info { Holds self.now.parts 9 locations_info result.info.bytes.now self.now.locations }
     {
         self.all.locations
     }
@@ -118,14 +133,16 @@ impl<'p, 'a> Package<'p, 'a> {
 
     /// The Applet component, where it is there.
     pub fn applets(&self) -> Option<Applets<'a>>
-        ensures { option_map applets_of result ≡ self.now.applets }
+        ensures items { option_map applets_of result ≡ self.now.applets }
+        ensures info { IfSome result (λ x. Holds self.now.parts 3 applets_info x.info.bytes.now (applets_of x)) }
     {
         self.all.applets
     }
 
     /// The Export component, where it is there.
     pub fn export(&self) -> Option<Export<'a>>
-        ensures { option_map exported result ≡ self.now.export }
+        ensures items { option_map exported result ≡ self.now.export }
+        ensures info { IfSome result (λ x. Holds self.now.parts 10 export_info x.info.bytes.now (exported x)) }
     {
         self.all.export
     }

@@ -1,24 +1,22 @@
 ghost use Rattle.std.specs.Prelude.{◌≡◌, IfOk, Ok};
-ghost use Rattle.cap_package.specs.Components.{Answers};
-ghost use Rattle.cap_package.specs.ComponentsSeen.{components_seen};
+ghost use Rattle.cap_parts.specs.Components.{Answers};
+ghost use Rattle.cap_parts.specs.ComponentsSeen.{components_seen};
 ghost use Rattle.cap_package.specs.Agreement.{package_of};
 ghost use Rattle.cap_package.specs.FirstFault.{Tells};
-ghost use Rattle.cap_package.specs.StandsFor.{StandsFor};
-ghost use Rattle.cap_package.specs.PackageRecord.{PackageRecord};
+ghost use Rattle.cap_package.specs.StandsFor.{StandsFor, HavePackage};
+ghost use Rattle.cap_parts.specs.Infos.{HaveInfos};
+ghost use Rattle.cap_parts.specs.PackageRecord.{PackageRecord};
 
 use crate::agreement::{counts_agree, members_agree, places_agree};
-use crate::components::Components;
-use crate::fault::PackFault;
 use crate::package_type::Package;
-use crate::part_checks::{customs_formed, none_missing};
-use crate::parts::Parts;
-use crate::read_package::read_package;
+use cap_parts::{Components, PackFault, Parts, customs_formed, none_missing, read_package};
 
 /// The components of the package that the parts stand for.
 #[tactic(auto, unfolding(crate::specs::Agreement::package_of))]
 fn agreeing<'p, 'a>(parts: &'p Parts<'a>) -> Result<Components<'p, 'a>, PackFault>
     ensures value { Answers components_seen result (package_of parts.now) }
     ensures parts { IfOk result (λ all. all.parts.now ≡ parts.now) }
+    ensures infos { IfOk result (λ all. HaveInfos all) }
 {
     none_missing(parts)?;
     let all = read_package(parts)?;
@@ -43,5 +41,17 @@ pub fn package<'p, 'a>(parts: &'p Parts<'a>) -> Result<Package<'p, 'a>, PackFaul
     match agreeing(parts) {
         Ok(all) => Ok(Package { all }),
         Err(fault) => Err(fault),
+    }
+}
+
+/// The package of parts that are known to stand for one: what the components say is read, and whether they agree is
+/// not asked again.
+pub fn agreed_package<'p, 'a>(parts: &'p Parts<'a>) -> Package<'p, 'a>
+    requires { HavePackage parts.now }
+    ensures { StandsFor parts.now result }
+{
+    match read_package(parts) {
+        Ok(all) => Package { all },
+        Err(_) => unreachable!(),
     }
 }

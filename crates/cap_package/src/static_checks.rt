@@ -1,20 +1,21 @@
-ghost use Rattle.std.specs.Prelude.{◌≡◌, ◌<◌, ◌==◌, ◌*◌, ◌+◌, option_map, length};
-ghost use Rattle.std.specs.List.{list_any};
-ghost use Rattle.cap_method.specs.StaticPart.{statics_seen, arrays_left};
+ghost use Rattle.std.specs.Prelude.{◌≡◌, option_map};
+ghost use Rattle.cap_method.specs.StaticPart.{statics_seen};
 ghost use Rattle.cap_desc.specs.MemberRecords.{field_seen};
 ghost use Rattle.cap_desc.specs.MembersLeft.{fields_of_left};
-ghost use Rattle.cap_package.specs.Order.{least_of, least_from, refused};
+ghost use Rattle.cap_parts.specs.Order.{least_of, least_from, refused};
 ghost use Rattle.cap_package.specs.Pairs.{pairs};
-ghost use Rattle.cap_package.specs.Descriptions.{description};
-ghost use Rattle.cap_package.specs.StaticChecks.{image_offset, width_of, is_reference, place_in, share_fault, share_pair, is_in_image, image_fault, array_fault, array_fields, array_field_fault, stands_at};
+ghost use Rattle.cap_parts.specs.Descriptions.{description};
+ghost use Rattle.cap_package.specs.StaticChecks.{image_offset, width_of, is_reference, place_in, share_fault, share_pair, is_in_image, image_fault, array_kinds, kind_at, filled_fault};
 ghost use Rattle.cap_package.specs.Places.{place_seen};
 
-use crate::description::field_type;
-use crate::fault::PackFault;
-use crate::lesser::{lesser, refuse};
 use crate::static_place::StaticPlace;
+use arrayvec::ArrayVec;
 use cap_desc::{DescPart, FieldInfo, FieldsOf, TypeItem};
 use cap_method::StaticPart;
+use cap_parts::{PackFault, field_type, lesser, refuse};
+
+/// The most initial arrays that two bytes can count.
+const MOST_ARRAYS: usize = 65535;
 
 /// The offset of a static field in the image.
 pub(crate) fn image_offset(field: &FieldInfo) -> u16
@@ -132,20 +133,40 @@ fn image_fault(
     }
 }
 
-#[tactic(auto, unfolding(crate::specs::StaticChecks::array_fault))]
-fn array_fault(
+/// The types of the initial arrays, in the order in which they fill the references.
+fn array_kinds(statics: &StaticPart<'_>) -> ArrayVec<u8, MOST_ARRAYS>
+    ensures { result.items ≡ array_kinds (statics_seen statics.now).arrays }
+{
+    let count = statics.array_init_count();
+    let mut kinds = ArrayVec::new();
+    'arrays: for array in statics.arrays() {
+        kinds.push(array.kind);
+    }
+    let _count = count;
+    kinds
+}
+
+/// The type of the initial array that fills the reference at an offset, if one does.
+#[tactic(auto, unfolding(crate::specs::StaticChecks::kind_at))]
+fn kind_at(kinds: &ArrayVec<u8, MOST_ARRAYS>, offset: u16) -> Option<u8>
+    ensures { result ≡ kind_at kinds.now.items offset }
+{
+    if offset % 2 == 0 {
+        kinds.as_slice().get(offset as usize / 2).copied()
+    } else {
+        None
+    }
+}
+
+#[tactic(auto, unfolding(crate::specs::StaticChecks::filled_fault))]
+fn filled_fault(
+    kinds: &ArrayVec<u8, MOST_ARRAYS>,
     descriptor: &DescPart<'_>,
-    number: u32,
-    kind: u8,
     field: &FieldInfo,
 ) -> Option<PackFault>
-    requires { number < 65536 }
-    ensures { result ≡ array_fault (description descriptor.now) number kind (field_seen field.now) }
+    ensures { result ≡ filled_fault kinds.now.items (description descriptor.now) (field_seen field.now) }
 {
-    // Most fields stand elsewhere, and their types are not looked at.
-    if image_offset(field) as u32 != 2 * number {
-        return None;
-    }
+    let kind = kind_at(kinds, image_offset(field))?;
     let place = place_in(descriptor, field)?;
     if place.ty.nibble as u16 == kind as u16 + 8 {
         return None;
@@ -153,20 +174,18 @@ fn array_fault(
     Some(PackFault::StaticOutside(place.offset))
 }
 
-/// The least fault so far, when the fields were compared with an initial array.
-fn array_faults(
+/// The least fault so far, when the fields were compared with the initial arrays that fill their references.
+fn filled_faults(
+    kinds: &ArrayVec<u8, MOST_ARRAYS>,
     descriptor: &DescPart<'_>,
-    number: u32,
-    kind: u8,
     fields: FieldsOf<'_>,
     least: Option<PackFault>,
 ) -> Option<PackFault>
-    requires { number < 65536 }
-    ensures { result ≡ least_from least (array_fault (description descriptor.now) number kind) (fields_of_left fields.entry) }
+    ensures { result ≡ least_from least (filled_fault kinds.now.items (description descriptor.now)) (fields_of_left fields.entry) }
 {
     let mut least = least;
     'fields: for field in fields {
-        least = lesser(least, array_fault(descriptor, number, kind, &field));
+        least = lesser(least, filled_fault(kinds, descriptor, &field));
     }
     least
 }
@@ -187,7 +206,6 @@ fn image_faults(
 }
 
 /// Each static field lies in the part of the image for its kind, and is of the type of its initial array.
-#[tactic(auto, using(crate::proofs::ArrayFaults::least_arrays))]
 pub(crate) fn statics_in_image(
     statics: &StaticPart<'_>,
     descriptor: &DescPart<'_>,
@@ -195,15 +213,8 @@ pub(crate) fn statics_in_image(
 ) -> Result<(), PackFault>
     ensures { result ≡ refused (least_from
         (least_of (image_fault (statics_seen statics.now) (description descriptor.now)) (fields_of_left fields.entry))
-        (array_field_fault (description descriptor.now)) (array_fields 0 (statics_seen statics.now).arrays (fields_of_left fields.entry))) }
+        (filled_fault (array_kinds (statics_seen statics.now).arrays) (description descriptor.now)) (fields_of_left fields.entry)) }
 {
-    let count = statics.array_init_count();
-    let mut least = image_faults(statics, descriptor, fields);
-    let mut number: u32 = 0;
-    'arrays: for array in statics.arrays() {
-        least = array_faults(descriptor, number, array.kind, fields, least);
-        number += 1;
-    }
-    let _count = count;
-    refuse(least)
+    let least = image_faults(statics, descriptor, fields);
+    refuse(filled_faults(&array_kinds(statics), descriptor, fields, least))
 }

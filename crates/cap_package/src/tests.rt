@@ -1,9 +1,8 @@
-use crate::fault::PackFault;
 use crate::package_type::Package;
 use crate::packages::Packages;
 use crate::packaging::package;
-use crate::parts::{OwnedParts, Parts};
 use cap_bytes::{FormKind, Part};
+use cap_parts::{OwnedParts, PackFault, Parts};
 use std::alloc::{AllocError, Global};
 use std::process::Abort;
 

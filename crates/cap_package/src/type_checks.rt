@@ -4,14 +4,12 @@ ghost use Rattle.cap_desc.specs.MemberLists.{methods_left};
 ghost use Rattle.cap_desc.specs.MemberRecords.{field_seen, method_seen};
 ghost use Rattle.cap_desc.specs.Members.{methods_from, fields_of};
 ghost use Rattle.cap_desc.specs.MembersLeft.{methods_from_left, fields_of_left};
-ghost use Rattle.cap_package.specs.Order.{least_of, least_from, refused};
-ghost use Rattle.cap_package.specs.Descriptions.{description};
+ghost use Rattle.cap_parts.specs.Order.{least_of, least_from, refused};
+ghost use Rattle.cap_parts.specs.Descriptions.{description};
 ghost use Rattle.cap_package.specs.TypeChecks.{field_type_fault, method_type_fault, interface_methods};
 
-use crate::description::{argument_words, field_type};
-use crate::fault::PackFault;
-use crate::lesser::{lesser, refuse};
 use cap_desc::{DescMethods, DescPart, FieldInfo, MethodInfo};
+use cap_parts::{PackFault, argument_words, field_type, lesser, refuse};
 
 /// The argument words that a type descriptor can tell at all.
 const ANY_WORDS: u16 = 510;

@@ -1,7 +1,7 @@
 -- The lines that capcheck prints for its answers. Each ends with a line feed.
 use Rattle.std.specs.Prelude.{ℕ, List, [], ◌∷◌, codes, decimal}
 use Rattle.std.specs.List.{concat}
-use Rattle.cap_package.specs.declared.fault.PackFault.{PackFault}
+use Rattle.cap_parts.specs.declared.fault.PackFault.{PackFault}
 use Rattle.cap_text.specs.declared.start.StartFault.{StartFault}
 use Rattle.cap_bare.specs.declared.fault.BareFault.{BareFault}
 use Rattle.cap_bare.specs.declared.run.BareEnd.{BareEnd}

@@ -2,7 +2,7 @@
 use Rattle.std.specs.Prelude.{◌≡◌, negsuc, codes, refl}
 use Rattle.std.specs.Fmt.{digits}
 use Rattle.cap_bytes.specs.declared.fault.FormKind.TheVariants.{Cut}
-use Rattle.cap_package.specs.declared.fault.PackFault.TheVariants.{Form, MethodLength}
+use Rattle.cap_parts.specs.declared.fault.PackFault.TheVariants.{Form, MethodLength}
 use Rattle.cap_bare.specs.declared.fault.BareKind.TheVariants.{BadTarget}
 use Rattle.cap_bare.specs.declared.run.BareEnd.TheVariants.{Returned}
 use Rattle.cap_text.specs.declared.start.StartFault.TheVariants.{ArgCount}

@@ -5,17 +5,17 @@ use Rattle.std.specs.List.{AllZip}
 use Rattle.std.proofs.lemmas.List.{take_more}
 use Rattle.std.proofs.lemmas.List.Elements.{All-push, All-nil, All-cons, All-head, All-tail}
 use Rattle.std.proofs.lemmas.Slice.Zip.{all_zipped_more}
-use Rattle.cap_package.specs.declared.fault.PackFault.{PackFault}
+use Rattle.cap_parts.specs.declared.fault.PackFault.{PackFault}
 use Rattle.cap_files.specs.Counts.{Rose}
 use Rattle.cap_package.specs.Parts.{Lent}
 use Rattle.cap_package.specs.PackageRecord.{PackageRecord}
-use Rattle.cap_package.specs.StandsFor.{StandsFor}
+use Rattle.cap_package.specs.StandsFor.{StandsFor, HavePackage}
 use Rattle.capcheck_core.specs.declared.packages.Loaded.{Loaded}
 use Rattle.capcheck_core.specs.declared.packages.PackagesStop.{PackagesStop}
 use Rattle.capcheck_core.specs.declared.packages.PackagesStop.TheVariants.{TooMany, Malformed, Failed, Memory}
 use Rattle.capcheck_core.specs.Outside.{Folders}
 use Rattle.capcheck_core.specs.Loads.{AreParts}
-use Rattle.capcheck_core.specs.Packages.{HavePackage, HasPackage, LacksPackage, IsFirstLack}
+use Rattle.capcheck_core.specs.Packages.{HasPackage, LacksPackage, IsFirstLack}
 use Rattle.capcheck_core.specs.Roles.{AreRolesIn}
 use Rattle.capcheck_core.specs.PackageEnds.{IsWhole, AreAdded, AreLoaded, LoadsPackage, LoadsOthers, LoadsPackages}
 use Rattle.capcheck_core.proofs.SameHeld.{same_parts, same_all, same_lack, same_first_lack}

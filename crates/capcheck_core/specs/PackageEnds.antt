@@ -2,8 +2,8 @@
 use Rattle.std.specs.Prelude.{◌≡◌, ℕ, ◌≤◌, ◌<◌, ◌⊎◌, List, ◌++◌, length, min, All, Result, Ok, Err, string_bytes}
 use Rattle.std.specs.List.{AllZip}
 use Rattle.cap_files.specs.Counts.{Rose}
-use Rattle.cap_package.specs.declared.fault.PackFault.{PackFault}
-use Rattle.cap_package.specs.declared.fault.PackFault.TheVariants.{Form}
+use Rattle.cap_parts.specs.declared.fault.PackFault.{PackFault}
+use Rattle.cap_parts.specs.declared.fault.PackFault.TheVariants.{Form}
 use Rattle.cap_package.specs.Parts.{Lent}
 use Rattle.cap_package.specs.FirstFault.{Tells}
 use Rattle.cap_text.specs.Line.{malformed_line, not_linked_line}
@@ -16,7 +16,8 @@ use Rattle.capcheck_core.specs.declared.verdict.Verdict.TheVariants as verdicts
 use Rattle.capcheck_core.specs.Outside.{Folders}
 use Rattle.capcheck_core.specs.Loads.{AreParts}
 use Rattle.capcheck_core.specs.Roles.{AreRolesIn, LacksRoles, IsNoRoles}
-use Rattle.capcheck_core.specs.Packages.{HavePackage, AreRoles, LacksPackage, IsFirstLack, IsFirstFault}
+use Rattle.cap_package.specs.StandsFor.{HavePackage}
+use Rattle.capcheck_core.specs.Packages.{AreRoles, LacksPackage, IsFirstLack, IsFirstFault}
 
 -- ---- the roles
 

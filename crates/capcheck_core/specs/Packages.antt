@@ -2,22 +2,17 @@
 -- folder, its roles, and then the parts of each other folder in turn.
 use Rattle.std.specs.Prelude.{◌≡◌, ℕ, suc, ◌≤◌, ◌⊎◌, List, [], ◌∷◌, length, Err}
 use Rattle.std.specs.List.{AllZip}
-use Rattle.cap_package.specs.declared.fault.PackFault.{PackFault}
-use Rattle.cap_package.specs.declared.fault.PackFault.TheVariants.{PartTooLong}
+use Rattle.cap_parts.specs.declared.fault.PackFault.{PackFault}
+use Rattle.cap_parts.specs.declared.fault.PackFault.TheVariants.{PartTooLong}
 use Rattle.cap_package.specs.Parts.{Lent}
 use Rattle.cap_package.specs.PackageRecord.{PackageRecord}
-use Rattle.cap_package.specs.StandsFor.{StandsFor}
+use Rattle.cap_package.specs.StandsFor.{StandsFor, HavePackage}
 use Rattle.cap_package.specs.FirstFault.{Tells}
 use Rattle.capcheck_core.specs.Outside.{Folders}
 use Rattle.capcheck_core.specs.Loads.{AreParts, IsFirstLong}
 use Rattle.capcheck_core.specs.Roles.{AreRolesIn, LacksRoles}
 
 -- ---- packages
-
--- parts that stand for a package
-pub record HavePackage (parts : List Lent) : Type 0 where
-  pub made : PackageRecord
-  pub stands : StandsFor parts made
 
 -- the parts of a folder stand for a package
 pub record HasPackage (before : Folders) (dir : List ℕ) : Type 0 where

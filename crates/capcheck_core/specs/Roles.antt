@@ -3,8 +3,8 @@ use Rattle.std.specs.Prelude.{◌≡◌, ℕ, ◌<◌, ◌≤◌, List, ◌∷�
 use Rattle.cap_bytes.specs.declared.fault.FormFault.{FormFault}
 use Rattle.cap_bytes.specs.declared.fault.FormKind.{FormKind}
 use Rattle.cap_bytes.specs.declared.fault.FormKind.TheVariants.{Cut, Trailing}
-use Rattle.cap_package.specs.declared.fault.PackFault.{PackFault}
-use Rattle.cap_package.specs.declared.fault.PackFault.TheVariants.{Form, MissingPart, PartTooLong}
+use Rattle.cap_parts.specs.declared.fault.PackFault.{PackFault}
+use Rattle.cap_parts.specs.declared.fault.PackFault.TheVariants.{Form, MissingPart, PartTooLong}
 use Rattle.capcheck_core.specs.Outside.{Folders, IsThere, IsAbsent, IsTooLong}
 
 -- the roles' file is part 0

@@ -1,9 +1,8 @@
 ghost use Rattle.std.specs.Prelude.{◌≡◌, ◌<◌, length, All, IfOk};
 ghost use Rattle.std.specs.List.{AllZip};
-ghost use Rattle.cap_package.specs.StandsFor.{StandsFor};
+ghost use Rattle.cap_package.specs.StandsFor.{StandsFor, HavePackage};
 ghost use Rattle.cap_text.specs.Check.{check_request};
 ghost use Rattle.capcheck_core.specs.Outside.{folders, StoresNothing};
-ghost use Rattle.capcheck_core.specs.Packages.{HavePackage};
 ghost use Rattle.capcheck_core.specs.Check.{ChecksWorld, ChecksPackages, ChecksParts, Checks};
 
 use crate::packages::{Loaded, lend_all, load_packages, packages_of};

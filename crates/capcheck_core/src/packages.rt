@@ -1,17 +1,16 @@
 ghost use Rattle.std.specs.Prelude.{◌≡◌, ◌≢◌, ◌+◌, ◌∷◌, ◌≤◌, length, min, vec_len, All, IfOk};
 ghost use Rattle.std.specs.List.{AllZip};
-ghost use Rattle.cap_package.specs.StandsFor.{StandsFor};
+ghost use Rattle.cap_package.specs.StandsFor.{StandsFor, HavePackage};
 ghost use Rattle.cap_files.specs.WordsLeft.{words_left};
 ghost use Rattle.capcheck_core.specs.Outside.{folders, StoresNothing};
 ghost use Rattle.capcheck_core.specs.Roles.{IsNoRoles};
-ghost use Rattle.capcheck_core.specs.Packages.{HavePackage};
 ghost use Rattle.capcheck_core.specs.PackageEnds.{ReadsRoles, LoadsRoles, Agrees, LoadsPackage, LoadsOthers, LoadsPackages, IsStop};
 
 use crate::load::{LoadStop, load_parts};
 use crate::verdict::Verdict;
 use cap_bytes::{FormFault, FormKind, Part};
 use cap_files::{Folder, LoadEnd, WordsIter};
-use cap_package::{OwnedParts, PackFault, Package, Packages, Parts, package};
+use cap_package::{OwnedParts, PackFault, Packages, Parts, agreed_package, package};
 use cap_text::{malformed, not_linked};
 use jc_names::LinkFault;
 use std::alloc::{AllocError, Global};
@@ -281,18 +280,7 @@ pub fn packages_of<'p, 'a>(
 {
     let mut packages = Packages::new(alloc);
     'parts: for lent in parts {
-        packages.push(package_of(lent))?;
+        packages.push(agreed_package(lent))?;
     }
     Ok(packages)
-}
-
-// The package that the parts stand for.
-fn package_of<'p, 'a>(parts: &'p Parts<'a>) -> Package<'p, 'a>
-    requires { HavePackage parts.now }
-    ensures { StandsFor parts.now result }
-{
-    match package(parts) {
-        Ok(package) => package,
-        Err(_) => unreachable!(),
-    }
 }

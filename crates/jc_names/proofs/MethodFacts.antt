@@ -6,8 +6,8 @@ use Rattle.std.proofs.lemmas.Bool.{ltb-false, eqb-true, eqb-false}
 use Rattle.cap_method.specs.MethodFormat.{Header}
 use Rattle.cap_desc.specs.DescriptorFormat.{Method}
 use Rattle.cap_desc.specs.Members.{methods_from}
-use Rattle.cap_package.specs.declared.fault.PackFault.{PackFault}
-use Rattle.cap_package.specs.declared.fault.PackFault.TheVariants.{TooManyRegisters, MethodLength, CountDisagrees, BadType}
+use Rattle.cap_parts.specs.declared.fault.PackFault.{PackFault}
+use Rattle.cap_parts.specs.declared.fault.PackFault.TheVariants.{TooManyRegisters, MethodLength, CountDisagrees, BadType}
 use Rattle.cap_package.specs.Descriptions.{Description, argument_words}
 use Rattle.cap_package.specs.HandlerChecks.{claim_fault, numbered, numbered_fault}
 use Rattle.cap_package.specs.HeaderChecks.{header_in, is_abstract, registers_fault, length_fault, this_words, arguments_fault, abstract_fault}
@@ -138,7 +138,7 @@ module _ (p : PackageRecord) (agreed : StandsFor p.parts p) where
         there = h.there;
         begins = begins_at info m h;
         ends = ends;
-        short = info-short 7 agreed.methods.file info agreed.methods.framed;
+        short = info-short 7 agreed.said.methods.file info agreed.said.methods.framed;
         words = words.words;
         told = words.told;
         nargs = nargs_of info p.description m h.header words.words h.there words.told arguments;

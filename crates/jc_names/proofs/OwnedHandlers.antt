@@ -6,8 +6,8 @@ use Rattle.std.proofs.lemmas.Bool.{false≢true, ltb-true, leb-true, lt-ltb, le-
 use Rattle.std.proofs.lemmas.List.Elements.{All-nil, All-cons}
 use Rattle.cap_method.specs.declared.handler.HandlerInfo.{HandlerInfo}
 use Rattle.cap_desc.specs.DescriptorFormat.{Method}
-use Rattle.cap_package.specs.declared.fault.PackFault.{PackFault}
-use Rattle.cap_package.specs.declared.fault.PackFault.TheVariants.{HandlerOutside}
+use Rattle.cap_parts.specs.declared.fault.PackFault.{PackFault}
+use Rattle.cap_parts.specs.declared.fault.PackFault.TheVariants.{HandlerOutside}
 use Rattle.cap_package.specs.MethodChecks.{code_start, code_end}
 use Rattle.cap_package.specs.HandlerChecks.{claims, owners, is_within, has_home, entry_fault, numbered, numbered_fault}
 use Rattle.jc_names.specs.FirstFault.{IsOneOf}

@@ -4,4 +4,4 @@ use Rattle.capcheck_core.proofs.PackageLoads.{one_stands}
 use Rattle.capcheck_core.proofs.packages.packages_of.Goals as goal
 
 pub parts-preserved : goal.parts-preserved
-parts-preserved c = one_stands c.args.parts.now.items c.parts.lent-index c.lent-item.result c.parts.packages c.push.new.self c.package_of.result (search rules) (search rules) c.parts.invariant c.package_of.ensures c.in_ok-push.ensures.ok
+parts-preserved c = one_stands c.args.parts.now.items c.parts.lent-index c.lent-item.result c.parts.packages c.push.new.self c.agreed_package.result (search rules) (search rules) c.parts.invariant c.agreed_package.ensures c.in_ok-push.ensures.ok

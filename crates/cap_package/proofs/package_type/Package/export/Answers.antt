@@ -1,0 +1,14 @@
+-- The info among the parts is the one that was read.
+use Rattle.std.proofs.Common.{IfSome, subst}
+use Rattle.cap_pool.specs.ExportFormat.{export_info}
+use Rattle.cap_pool.specs.Export.{classes as exported}
+use Rattle.cap_parts.specs.PackageRecord.{PackageRecord}
+use Rattle.cap_parts.specs.Saying.{Holds}
+use Rattle.cap_package.proofs.OneRecord.{answer_is, holds-if}
+use Rattle.cap_package.proofs.package_type.Package.export.Goals as goal
+
+pub returns-clause-info : goal.returns-clause-info
+returns-clause-info c =
+    let all = c.self.inside.all in
+    let P : PackageRecord → Type 0 = λ p. IfSome all.export (λ x. Holds p.parts 10 export_info x.info.bytes.now (exported x)) in
+    subst P c.self.view_is (holds-if exported (λ x. x.info.bytes.now) _ 10 export_info _ (answer_is _ _ c.self.invariant.0).said.export c.self.invariant.1.export)

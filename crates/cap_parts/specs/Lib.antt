@@ -1,0 +1,14 @@
+pub mod Parts
+pub mod Inside
+pub mod Order
+pub mod Descriptions
+pub mod MethodPlaces
+pub mod Components
+pub mod MethodsSeen
+pub mod IfThere
+pub mod PackageRecord
+pub mod ComponentsSeen
+pub mod ReadPackage
+pub mod PartChecks
+pub mod Saying
+pub mod Infos

@@ -1,0 +1,24 @@
+//! The files of a package, what each of its components says, and the first of the parts that is absent,
+//! breaks its format or has another size than the Directory tells (Java Card 2.2 VM Specification,
+//! chapter 6). It stands on the readers of the components, and takes no memory but for lists of parts.
+#![tactic(auto)]
+
+mod components;
+mod description;
+mod fault;
+mod least;
+mod method_places;
+mod part_checks;
+mod parts;
+mod read;
+mod reading;
+
+pub use components::Components;
+pub use description::{argument_words, field_type, words_of};
+pub use fault::PackFault;
+pub use least::{lesser, refuse};
+pub use method_places::{code_end, code_start};
+pub use part_checks::{customs_formed, none_missing, sizes_agree};
+pub use parts::{OwnedParts, Parts};
+pub use read::info_in;
+pub use reading::{classes_from, read_package};
