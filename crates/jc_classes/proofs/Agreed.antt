@@ -1,7 +1,7 @@
 -- The class table of classes of which nothing is at fault.
-use Rattle.std.proofs.Common.{◌≡◌, ℕ, zero, suc, ◌+◌, ◌<◌, ◌≤◌, Bool, true, false, take, get_or, List, [], ◌∷◌, length, flat_map, Option, Some, None, Ok, Err, refl, sym, ap, subst, ◌∙◌, arith}
-use Rattle.std.specs.Prelude.{filter_map, slice_get, nat_lt}
-use Rattle.std.specs.List.{range_with_len, cons_option}
+use Rattle.std.proofs.Common.{◌≡◌, ℕ, zero, suc, ◌+◌, ◌<◌, ◌≤◌, Bool, true, false, take, get_or, List, [], length, flat_map, Some, None, Ok, Err, refl, sym, ap, subst, ◌∙◌, arith}
+use Rattle.std.specs.Prelude.{slice_get, nat_lt}
+use Rattle.std.specs.List.{range_with_len}
 use Rattle.std.proofs.lemmas.Bool.{ltb-false}
 use Rattle.std.proofs.lemmas.List.{take_all}
 use Rattle.jc_base.specs.declared.record.MethodRec.{MethodRec}
@@ -12,6 +12,7 @@ use Rattle.jc_names.specs.declared.fault.LinkFault.TheVariants.{InstanceLong}
 use Rattle.jc_names.specs.declared.named.NamedClass.{NamedClass}
 use Rattle.jc_names.specs.Fault.{place_of}
 use Rattle.jc_names.specs.FirstFault.{IsFirst, AllEmpty}
+use Rattle.jc_names.proofs.Faultless.{faultless_at}
 use Rattle.jc_names.proofs.FirstTold.{IsTold, things-told, step, last, refused-first, accepted-empty}
 use Rattle.jc_classes.specs.declared.layout.Layout.{Layout}
 use Rattle.jc_lineage.specs.Outline.{outline}
@@ -20,19 +21,6 @@ use Rattle.jc_classes.specs.Conditions.{hole_fault, entries_in, override_fault, 
 use Rattle.jc_classes.specs.Tables.{records_from, classes_agree}
 use Rattle.jc_classes.proofs.Folds.{cells_are, layout_at, layouts_count}
 use Rattle.jc_classes.proofs.Lines.{IsOutline, tables-classes, records-length}
-
--- ---- nothing of a list is at fault
-
-pub none_first : {Y : Type 0} (o : Option Y) (ys : List Y) → cons_option o ys ≡ [] → (o ≡ None) × (ys ≡ [])
-none_first None ys e = (refl, e)
-none_first (Some y) ys e = absurd cc
-
-pub faultless_at : {X Y : Type 0} (f : X → Option Y) (xs : List X) (i : ℕ) (x : X) → filter_map f xs ≡ [] → slice_get xs i ≡ Some x → f x ≡ None
-faultless_at f [] i x e at = absurd cc
-faultless_at f (y ∷ ys) zero x e at =
-    let same : y ≡ x = cc in
-    ap f (sym same) ∙ (none_first (f y) (filter_map f ys) e).0
-faultless_at f (y ∷ ys) (suc i) x e at = faultless_at f ys i x (none_first (f y) (filter_map f ys) e).1 at
 
 -- ---- no instance is too long
 

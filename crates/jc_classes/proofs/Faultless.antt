@@ -1,40 +1,27 @@
 -- What holds of dispatch lists where no condition names a fault.
-use Rattle.std.proofs.Common.{◌≡◌, ℕ, zero, suc, ◌+◌, ◌<◌, Bool, true, false, List, [], ◌∷◌, ◌++◌, length, map, flat_map, Option, Some, None, refl, sym, ap, ◌∙◌, arith}
+use Rattle.std.proofs.Common.{◌≡◌, ℕ, zero, suc, ◌+◌, ◌<◌, Bool, true, false, List, [], ◌∷◌, length, map, flat_map, Option, Some, None, refl, sym, ap, ◌∙◌, arith}
 use Rattle.std.specs.Prelude.{All, filter_map, slice_get, option_and_then}
 use Rattle.std.specs.List.{range_with_len}
 use Rattle.std.specs.Option.{option_flatten}
 use Rattle.std.proofs.lemmas.Bool.{false≢true}
-use Rattle.std.proofs.lemmas.List.Elements.{filter_map-append, All-nil, All-cons}
+use Rattle.std.proofs.lemmas.List.Elements.{All-nil, All-cons}
 use Rattle.jc_base.specs.declared.record.Iface.{Iface}
 use Rattle.jc_base.specs.declared.record.MethodRec.{MethodRec}
 use Rattle.jc_base.specs.Class.{ClassTable}
 use Rattle.jc_base.specs.Dispatch.{signature_of, signature_at}
 use Rattle.jc_names.specs.declared.fault.LinkFault.TheVariants.{Hole, OverrideType, InterfaceType}
 use Rattle.jc_names.specs.declared.named.NamedClass.{NamedClass}
+use Rattle.jc_names.proofs.Faultless.{faultless_first, both_faultless, flat_faultless}
 use Rattle.jc_classes.specs.Layout.{public_entries, visible_entries}
 use Rattle.jc_classes.specs.Signatures.{method_in, signature_in, same_signature}
 use Rattle.jc_classes.specs.Conditions.{Entry, entries_from, entries_in, may_stand, hole_fault, holes, Replacement, replacements_from, replacements_in, override_fault, overrides, layout_above, visible_above, Implementation, implemented_by, implementations_in, interface_fault, serves_all, unserved}
 use Rattle.jc_classes.specs.Tables.{methods_listed}
 use Rattle.jc_classes.proofs.SameTypes.{same_signature-equal}
-use Rattle.jc_classes.proofs.Agreed.{slice_get-numbers, none_first}
-
-none_in_both : {Y : Type 0} (xs ys : List Y) → xs ++ ys ≡ [] → (xs ≡ []) × (ys ≡ [])
-none_in_both [] ys e = (refl, e)
-none_in_both (x ∷ xs) ys e = absurd cc
-
-both_faultless : {X Y : Type 0} (f : X → Option Y) (xs ys : List X) → filter_map f (xs ++ ys) ≡ [] → (filter_map f xs ≡ []) × (filter_map f ys ≡ [])
-both_faultless f xs ys e = none_in_both (filter_map f xs) (filter_map f ys) (sym (filter_map-append f xs ys) ∙ e)
-
-each_faultless : {X Y : Type 0} (f : X → Option Y) (things : ℕ → List X) (cs : List ℕ) (i c : ℕ) → filter_map f (flat_map things cs) ≡ [] → slice_get cs i ≡ Some c → filter_map f (things c) ≡ []
-each_faultless f things [] i c e at = absurd cc
-each_faultless f things (d ∷ ds) zero c e at =
-    let same : d ≡ c = cc in
-    ap (λ (k : ℕ). filter_map f (things k)) (sym same) ∙ (both_faultless f (things d) (flat_map things ds) e).0
-each_faultless f things (d ∷ ds) (suc i) c e at = each_faultless f things ds i c (both_faultless f (things d) (flat_map things ds) e).1 at
+use Rattle.jc_classes.proofs.Agreed.{slice_get-numbers}
 
 -- nothing of a class is at fault
 pub class_faultless : {X Y : Type 0} (f : X → Option Y) (things : ℕ → List X) (n c : ℕ) → filter_map f (flat_map things (range_with_len 0 n)) ≡ [] → c < n → filter_map f (things c) ≡ []
-class_faultless f things n c e h = each_faultless f things (range_with_len 0 n) c c e (slice_get-numbers 0 n c h ∙ ap Some (omega arith))
+class_faultless f things n c e h = flat_faultless f things (range_with_len 0 n) c c e (slice_get-numbers 0 n c h ∙ ap Some (omega arith))
 
 -- ---- entries with methods
 
@@ -55,7 +42,7 @@ all_stand : (t : ClassTable) (methods : List MethodRec) (c token : ℕ) (list : 
 all_stand t methods c token [] e = tt {0}
 all_stand t methods c token (m ∷ ms) e =
     let entry : Entry = record { class = c; token = token; method = m } in
-    let both = none_first (hole_fault t methods entry) (filter_map (hole_fault t methods) (entries_from c (token + 1) ms)) e in
+    let both = faultless_first (hole_fault t methods entry) (filter_map (hole_fault t methods) (entries_from c (token + 1) ms)) e in
     (stands_by t methods entry (may_stand t c (method_in methods m)) refl both.0, all_stand t methods c (token + 1) ms both.1)
 
 pub public_stand : (t : ClassTable) (classes : List NamedClass) (methods : List MethodRec) (c : ℕ) → holes t classes methods ≡ [] → c < length classes → AllStand t c methods (public_entries t classes c)
@@ -115,11 +102,11 @@ all_agree methods c token [] list i e h k = absurd (omega arith)
 all_agree methods c token (x ∷ xs) [] i e h k = absurd (omega arith)
 all_agree methods c token (x ∷ xs) (m ∷ ms) zero e h k =
     let r : Replacement = record { class = c; token = token; inherited = x; method = m } in
-    let none = (none_first (override_fault methods r) (filter_map (override_fault methods) (replacements_from c (token + 1) xs ms)) e).0 in
+    let none = (faultless_first (override_fault methods r) (filter_map (override_fault methods) (replacements_from c (token + 1) xs ms)) e).0 in
     same_signature-equal (signature_in methods m) (signature_in methods x) (same_by methods r (same_signature (signature_in methods m) (signature_in methods x)) refl none)
 all_agree methods c token (x ∷ xs) (m ∷ ms) (suc i) e h k =
     let r : Replacement = record { class = c; token = token; inherited = x; method = m } in
-    all_agree methods c (token + 1) xs ms i (none_first (override_fault methods r) (filter_map (override_fault methods) (replacements_from c (token + 1) xs ms)) e).1 (omega arith) (omega arith)
+    all_agree methods c (token + 1) xs ms i (faultless_first (override_fault methods r) (filter_map (override_fault methods) (replacements_from c (token + 1) xs ms)) e).1 (omega arith) (omega arith)
 
 -- the entries of a list have the signatures of the inherited list
 pub record Agrees (methods : List MethodRec) (inherited list : List (Option ℕ)) : Type 0 where
@@ -154,7 +141,7 @@ all_served : (methods : List MethodRec) (c : ℕ) (public : List (Option ℕ)) (
 all_served methods c public [] e = All-nil (λ (i : Iface). serves_all methods public i ≡ true)
 all_served methods c public (i ∷ is) e =
     let x : Implementation = record { class = c; public = public; iface = i } in
-    let both = none_first (interface_fault methods x) (filter_map (interface_fault methods) (map (λ (i : Iface). record { class = c; public = public; iface = i }) is)) e in
+    let both = faultless_first (interface_fault methods x) (filter_map (interface_fault methods) (map (λ (i : Iface). record { class = c; public = public; iface = i }) is)) e in
     All-cons (λ (i : Iface). serves_all methods public i ≡ true) i is (served_by methods x (serves_all methods public i) refl both.0) (all_served methods c public is both.1)
 
 pub interfaces_met : (t : ClassTable) (classes : List NamedClass) (methods : List MethodRec) (c : ℕ) → unserved t classes methods ≡ [] → c < length classes → AllServed methods (public_entries t classes c) (implemented_by (slice_get classes c))

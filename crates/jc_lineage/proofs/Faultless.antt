@@ -1,15 +1,16 @@
 -- What is known where no class, no interface and no role is at fault.
-use Rattle.std.proofs.Common.{◌≡◌, ℕ, zero, suc, ◌+◌, Bool, true, false, cond, List, [], ◌∷◌, ◌++◌, map, Option, Some, None, refl, sym, subst, ◌∙◌, arith}
-use Rattle.std.specs.Prelude.{◌==◌, All, is_some, is_none, slice_get, slice_index, flat_map}
-use Rattle.std.specs.List.{enumerate_from, filter_map, cons_option}
+use Rattle.std.proofs.Common.{◌≡◌, ℕ, zero, suc, ◌+◌, Bool, true, false, cond, List, [], ◌∷◌, map, Option, Some, None, refl, sym, arith}
+use Rattle.std.specs.Prelude.{◌==◌, All, is_some, is_none, slice_get, slice_index}
+use Rattle.std.specs.List.{enumerate_from, filter_map}
 use Rattle.std.proofs.lemmas.Bool.{false≢true, eq-eqb, eqb-true}
-use Rattle.std.proofs.lemmas.List.Elements.{filter_map-append, All-nil, All-cons, All-weaker}
+use Rattle.std.proofs.lemmas.List.Elements.{All-nil, All-cons, All-weaker}
 use Rattle.jc_base.specs.declared.record.Iface.{Iface}
 use Rattle.jc_names.specs.declared.fault.LinkFault.{LinkFault}
 use Rattle.jc_names.specs.declared.fault.LinkFault.TheVariants.{SuperIsInterface, Cycle, NoRole, NoSuper, NotInterface}
 use Rattle.jc_names.specs.declared.named.NamedClass.{NamedClass}
 use Rattle.jc_names.specs.Named.{is_interface}
 use Rattle.jc_names.specs.FirstFault.{AllEmpty}
+use Rattle.jc_names.proofs.Faultless.{faultless_first, faultless_at, flat_faultless}
 use Rattle.jc_lineage.specs.Ancestor.{is_above}
 use Rattle.jc_lineage.specs.Conditions.{numbered, names_class, super_fault, cycle_fault, fits_role, role_fault, root_fault, named_interfaces, interface_fault, conditions}
 
@@ -17,21 +18,6 @@ use Rattle.jc_lineage.specs.Conditions.{numbered, names_class, super_fault, cycl
 
 abbrev Faults : Type 0 → Type 0
 Faults X = X → Option LinkFault
-
-first-none : {X : Type 0} (o : Option X) (xs : List X) → cons_option o xs ≡ [] → o ≡ None
-first-none None xs e = refl
-first-none (Some x) xs e = absurd cc
-
-rest-none : {X : Type 0} (o : Option X) (xs : List X) → cons_option o xs ≡ [] → xs ≡ []
-rest-none None xs e = e
-rest-none (Some x) xs e = absurd cc
-
-none-at : {X : Type 0} (f : Faults X) (xs : List X) (i : ℕ) (x : X) → filter_map f xs ≡ [] → slice_get xs i ≡ Some x → f x ≡ None
-none-at f [] i x e at = absurd cc
-none-at f (y ∷ ys) zero x e at =
-    let same : y ≡ x = cc in
-    subst (λ z. f z ≡ None) same (first-none (f y) (filter_map f ys) e)
-none-at f (y ∷ ys) (suc i) x e at = none-at f ys i x (rest-none (f y) (filter_map f ys) e) at
 
 numbered-at : {X : Type 0} (n : ℕ) (xs : List X) (i m : ℕ) (x : X) → n + i ≡ m → slice_get xs i ≡ Some x → slice_get (enumerate_from n xs) i ≡ Some (m, x)
 numbered-at n [] i m x e at = absurd cc
@@ -42,28 +28,12 @@ numbered-at n (y ∷ ys) zero m x e at =
 numbered-at n (y ∷ ys) (suc i) m x e at = numbered-at (n + 1) ys i m x (omega arith) at
 
 none-numbered : {X : Type 0} (f : Faults (ℕ × X)) (xs : List X) (c : ℕ) (x : X) → filter_map f (numbered xs) ≡ [] → slice_get xs c ≡ Some x → f (c, x) ≡ None
-none-numbered f xs c x e at = none-at f (numbered xs) c (c, x) e (numbered-at 0 xs c c x (omega arith) at)
-
-left-none : {X : Type 0} (xs ys : List X) → xs ++ ys ≡ [] → xs ≡ []
-left-none [] ys e = refl
-left-none (x ∷ xs) ys e = absurd cc
-
-right-none : {X : Type 0} (xs ys : List X) → xs ++ ys ≡ [] → ys ≡ []
-right-none [] ys e = e
-right-none (x ∷ xs) ys e = absurd cc
-
-none-flat : {X Y : Type 0} (f : Faults Y) (g : X → List Y) (xs : List X) (i : ℕ) (x : X) → filter_map f (flat_map g xs) ≡ [] → slice_get xs i ≡ Some x → filter_map f (g x) ≡ []
-none-flat f g [] i x e at = absurd cc
-none-flat f g (y ∷ ys) zero x e at =
-    let same : y ≡ x = cc in
-    subst (λ z. filter_map f (g z) ≡ []) same (left-none (filter_map f (g y)) (filter_map f (flat_map g ys)) (sym (filter_map-append f (g y) (flat_map g ys)) ∙ e))
-none-flat f g (y ∷ ys) (suc i) x e at =
-    none-flat f g ys i x (right-none (filter_map f (g y)) (filter_map f (flat_map g ys)) (sym (filter_map-append f (g y) (flat_map g ys)) ∙ e)) at
+none-numbered f xs c x e at = faultless_at f (numbered xs) c (c, x) e (numbered-at 0 xs c c x (omega arith) at)
 
 none-all : {X Y : Type 0} (f : Faults Y) (h : X → Y) (xs : List X) → filter_map f (map h xs) ≡ [] → All (λ x. f (h x) ≡ None) xs
 none-all f h [] e = All-nil (λ x. f (h x) ≡ None)
 none-all f h (x ∷ xs) e =
-    All-cons (λ y. f (h y) ≡ None) x xs (first-none (f (h x)) (filter_map f (map h xs)) e) (none-all f h xs (rest-none (f (h x)) (filter_map f (map h xs)) e))
+    All-cons (λ y. f (h y) ≡ None) x xs (faultless_first (f (h x)) (filter_map f (map h xs)) e).0 (none-all f h xs (faultless_first (f (h x)) (filter_map f (map h xs)) e).1)
 
 refused-not : (b : Bool) (f : LinkFault) → (cond b (Some f) None) ≡ None → b ≡ false
 refused-not true f e = absurd cc
@@ -122,7 +92,7 @@ interface-none cs c i e = refused-not (names_class cs i.class) (NotInterface c i
 interfaces-none : (cs : List NamedClass) (c : ℕ) (r : NamedClass) → filter_map (interface_fault cs) (named_interfaces cs) ≡ [] → slice_get cs c ≡ Some r
     → All (λ (i : Iface). names_class cs i.class ≡ false) r.interfaces
 interfaces-none cs c r e at =
-    let own = none-flat (interface_fault cs) (λ (p : ℕ × NamedClass). map (λ (i : Iface). (p.0, i)) p.1.interfaces) (numbered cs) c (c, r) e (numbered-at 0 cs c c r (omega arith) at) in
+    let own = flat_faultless (interface_fault cs) (λ (p : ℕ × NamedClass). map (λ (i : Iface). (p.0, i)) p.1.interfaces) (numbered cs) c (c, r) e (numbered-at 0 cs c c r (omega arith) at) in
     All-weaker (λ (i : Iface). interface_fault cs (c, i) ≡ None) (λ (i : Iface). names_class cs i.class ≡ false) (λ i h. interface-none cs c i h) r.interfaces
     (none-all (interface_fault cs) (λ (i : Iface). (c, i)) r.interfaces own)
 

@@ -17,10 +17,11 @@ use Rattle.jc_names.specs.Fault.{place_of}
 use Rattle.jc_names.specs.FirstFault.{◌>>=◌, AllEmpty}
 use Rattle.jc_names.specs.Named.{package_of, package_by}
 use Rattle.jc_names.proofs.FirstTold.{IsTold, things-told, step, last, refused-first, accepted-empty}
+use Rattle.jc_names.specs.Due.{IsDue}
 use Rattle.jc_lineage.specs.Known.{HasKnownLine}
 use Rattle.jc_lineage.specs.Conditions.{numbered, names_class, class_in, super_fault, cycle_fault, role_fault, root_fault, named_interfaces, interface_fault, conditions}
 use Rattle.jc_lineage.specs.Outline.{outlined, outline}
-use Rattle.jc_lineage.specs.Lines.{lines_agree, lineage_of, IsDue, Tells, HaveLines}
+use Rattle.jc_lineage.specs.Lines.{lines_agree, lineage_of, Tells, HaveLines}
 use Rattle.jc_lineage.proofs.Kinship.{chain-ancestors, acyclic}
 use Rattle.jc_lineage.proofs.Faultless.{NoFault, no_fault}
 use Rattle.jc_lineage.proofs.Descent.{class-made, parent-class, parent-made, parent-plain, role-plain, role-thrown, are-classes}

@@ -30,12 +30,6 @@ lineage_of cs first roles = do
   agreed ← lines_agree cs first roles
   Ok (outline cs roles)
 
--- an answer is the one that is due, or tells want of memory
-abbrev pub IsDue : {A : Type 0} → Result A LinkFault → Result A LinkEnd → Type 0
-IsDue due (Ok x) = due ≡ Ok x
-IsDue due (Err (Fault fault)) = due ≡ Err fault
-IsDue due (Err Memory) = Unit {0}
-
 -- the table exactly where nothing is at fault; else the first condition that is broken, at its least thing
 abbrev pub Tells : List NamedClass → ℕ → List ℕ → Result ClassTable LinkEnd → Type 0
 Tells cs first roles (Ok t) = (t ≡ outline cs roles) × AllEmpty (conditions cs first roles)

@@ -1,8 +1,9 @@
 ghost use Rattle.std.specs.Prelude.{◌≡◌, ◌≤◌, length, IfOk, All};
 ghost use Rattle.jc_base.specs.Class.{AreClasses};
+ghost use Rattle.jc_names.specs.Due.{IsDue};
 ghost use Rattle.jc_lineage.specs.Known.{HasKnownLine};
 ghost use Rattle.jc_lineage.specs.Ancestor.{TellsAbove};
-ghost use Rattle.jc_lineage.specs.Lines.{lines_agree, lineage_of, IsDue, Tells, HaveLines};
+ghost use Rattle.jc_lineage.specs.Lines.{lines_agree, lineage_of, Tells, HaveLines};
 
 use crate::cycle_checks::least_cycle;
 use crate::named_checks::{classes_have_supers, named_are_interfaces, supers_are_classes};
@@ -52,6 +53,7 @@ fn outlined(
     requires known { All (HasKnownLine classes.now) classes.now }
     ensures value { IsDue (lineage_of classes.now first roles) result }
     ensures chains { IfOk result AreClasses }
+    ensures eight { IfOk result (λ t. length t.roles ≡ 8) }
 {
     lines_agree(alloc, classes, first, &roles)?;
     let records = outline(alloc, classes)?;
@@ -73,6 +75,7 @@ pub fn lineage(
     // its least thing.
     ensures tells { Tells classes.now first roles result }
     ensures lines { IfOk result (HaveLines classes.now) }
+    ensures eight { IfOk result (λ t. length t.roles ≡ 8) }
     // Ancestors and superinterfaces are what superclasses and extended interfaces lead to.
     ensures above { TellsAbove classes.now }
 {

@@ -1,5 +1,5 @@
 -- The first condition that is broken, of lists of conditions one behind the other, and of a condition that is asked alone.
-use Rattle.std.proofs.Common.{◌≡◌, ℕ, List, [], ◌∷◌, ◌++◌, Option, Some, None, Result, Ok, Err, sym, ap, ◌∙◌, inl, inr}
+use Rattle.std.proofs.Common.{◌≡◌, ℕ, List, [], ◌∷◌, ◌++◌, Option, Some, None, Ok, Err, sym, ap, ◌∙◌, inl, inr}
 use Rattle.std.specs.List.{filter_map}
 use Rattle.std.specs.Option.{option_to_list}
 use Rattle.jc_names.specs.FirstFault.{least_of, refused, IsLeast, IsFirst, AllEmpty}

@@ -5,12 +5,14 @@ use Rattle.std.proofs.lemmas.List.Sums.{sum_by-cons}
 use Rattle.cap_bytes.specs.Grammar.{Grammar, u1, u2, table, repeat, give, ◌>>=◌}
 use Rattle.cap_bytes.specs.Spelling.{Spells}
 use Rattle.cap_desc.specs.declared.lists.DescClasses.{DescClasses}
+use Rattle.cap_desc.specs.declared.lists.DescFields.{DescFields}
 use Rattle.cap_desc.specs.ClassRecords.{classes_left}
+use Rattle.cap_desc.specs.MemberLists.{fields_left}
 use Rattle.cap_desc.specs.DescriptorFormat.{Class, Field, field_info, method_info, class_info}
 use Rattle.cap_desc.specs.Members.{fields_of}
 use Rattle.jc_names.proofs.Repeats.{TakesEach, goes_on, spelled_within, given_within}
 
-pub one_each : {X : Type 0} (xs : List X) → sum_by (λ x. 1) xs ≡ length xs
+one_each : {X : Type 0} (xs : List X) → sum_by (λ x. 1) xs ≡ length xs
 one_each [] = refl
 one_each (x ∷ xs) = omega (arith, sum_by-cons (λ y. 1) x xs, one_each xs)
 
@@ -34,7 +36,7 @@ byte_takes bytes at n after le h =
     let a = goes_on u1 bytes at n after le h in
     record { room = omega (arith, h.2); reach = a.reach }
 
-pub field_takes : TakesEach (λ (f : Field). 1) field_info
+field_takes : TakesEach (λ (f : Field). 1) field_info
 field_takes = first_takes 1 u1 _ byte_takes
 
 fields_then : (count methods token class_ref : ℕ) (interfaces : List ℕ)
@@ -57,5 +59,9 @@ all_fields : (cs : List Class) → length (fields_of cs) ≡ sum_by (λ (c : Cla
 all_fields [] = refl
 all_fields (c ∷ cs) = omega (arith, length-append c.fields (fields_of cs), sum_by-cons (λ (d : Class). length d.fields) c cs, all_fields cs)
 
-pub classes_few : (x : DescClasses) → length (fields_of (classes_left x)) ≤ 65535
-classes_few x = omega (arith, all_fields (classes_left x), given_within (λ (c : Class). length c.fields) class_info class_takes x.left x.items, x.items.few)
+-- the fields of several classes, and those of one
+pub fields_of-few : (x : DescClasses) → length (fields_of (classes_left x)) ≤ 65535
+fields_of-few x = omega (arith, all_fields (classes_left x), given_within (λ (c : Class). length c.fields) class_info class_takes x.left x.items, x.items.few)
+
+pub fields_left-few : (x : DescFields) → length (fields_left x) ≤ 65535
+fields_left-few x = omega (arith, one_each (fields_left x), given_within (λ (f : Field). 1) field_info field_takes x.left x.items, x.items.few)

@@ -16,7 +16,7 @@ use Rattle.cap_package.specs.PackageRecord.{PackageRecord}
 use Rattle.jc_names.specs.WorldTypes.{type_of}
 use Rattle.jc_names.specs.NamedClasses.{describes, is_instance, fields_described, instance_fields, token_of, with_token, by_token, cells_by, cells_of_field, cells_of_fields}
 use Rattle.jc_names.proofs.DeclaredTypes.{either}
-use Rattle.jc_names.proofs.DescribedFields.{classes_few}
+use Rattle.jc_names.proofs.DescribedFields.{fields_of-few}
 
 -- ---- things by a number of theirs: each is taken once at most
 
@@ -104,4 +104,4 @@ instance_few (c ∷ classes) offset =
 pub own_sized : (ps : List PackageRecord) (object k : ℕ) (x : DescPart) (offset : ℕ) (fields : List FieldInfo) (cells : List Ty) → map field_seen fields ≡ instance_fields (description x).items.classes offset
     → cells ≡ cells_of_fields ps object k (description x) (map field_seen fields) → length cells ≤ 131070
 own_sized ps object k x offset fields cells e f =
-    omega (arith, ap length f, own_few ps object k (description x) (map field_seen fields), ap length e, instance_few (classes_left x.classes) offset, classes_few x.classes)
+    omega (arith, ap length f, own_few ps object k (description x) (map field_seen fields), ap length e, instance_few (classes_left x.classes) offset, fields_of-few x.classes)

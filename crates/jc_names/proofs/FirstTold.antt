@@ -2,7 +2,7 @@
 use Rattle.std.proofs.Common.{◌≡◌, ℕ, List, [], ◌∷◌, Option, Some, None, Result, Ok, Err, refl, sym, ap, subst, ◌∙◌, inl, inr}
 use Rattle.std.specs.List.{filter_map}
 use Rattle.std.specs.Option.{option_to_list}
-use Rattle.jc_names.specs.FirstFault.{least_of, refused, ◌>>=◌, IsFirst, AllEmpty}
+use Rattle.jc_names.specs.FirstFault.{least_of, refused, ◌>>=◌, IsLeast, IsFirst, AllEmpty}
 use Rattle.jc_names.proofs.LeastFaults.{least_in, least-at_fault, least-one, least-found, least-none}
 
 module _ {F : Type 0} (place : F → ℕ) where
@@ -56,3 +56,9 @@ module _ {F : Type 0} (place : F → ℕ) where
   pub accepted-empty : (lists : List (List F)) → first_refused lists ≡ Ok (tt {0}) → AllEmpty lists
   accepted-empty [] h = tt {0}
   accepted-empty (faults ∷ others) h = empty_of faults others (least_in place None faults) refl (λ k. accepted-empty others k) h
+
+  -- where nothing is at fault no fault is the first
+  pub none_first : (lists : List (List F)) (f : F) → AllEmpty lists → IsFirst place lists f → ⊥
+  none_first [] f empty first = first
+  none_first (faults ∷ others) f empty (inl l) = subst (λ fs. IsLeast place fs f → ⊥) (sym empty.0) (λ k. k.one) l
+  none_first (faults ∷ others) f empty (inr h) = none_first others f empty.1 h.1

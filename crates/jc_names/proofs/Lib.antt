@@ -12,6 +12,7 @@ pub mod ReferenceLaws
 pub mod DeclaredTypes
 pub mod Faultless
 pub mod WordLaws
+pub mod ItemKinds
 pub mod HeaderLaws
 pub mod OwnedHandlers
 pub mod InfoLaws

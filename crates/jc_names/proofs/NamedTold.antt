@@ -10,7 +10,8 @@ use Rattle.jc_names.specs.FirstFault.{◌>>=◌, AllEmpty}
 use Rattle.jc_names.specs.Named.{IsAgreed, IsSized, IsNamedClass, AreNamed, infos_of}
 use Rattle.jc_names.specs.NamedClasses.{named_classes}
 use Rattle.jc_names.specs.NamedMethods.{HasFewHandlers, named_methods}
-use Rattle.jc_names.specs.Names.{NamesRecord, named, checked, names_of, Answers}
+use Rattle.jc_names.specs.Due.{IsDue}
+use Rattle.jc_names.specs.Names.{NamesRecord, named, checked, names_of}
 use Rattle.jc_names.proofs.ClassFacts.{classes-named}
 use Rattle.jc_names.proofs.NamedMethodLaws.{methods-named}
 use Rattle.jc_names.proofs.NamesTold.{names_told}
@@ -40,7 +41,7 @@ unfolding names_of
 answer_named ps roles n h = answer_by (checked ps) (named ps roles) n h
 
 -- the names that are answered, where the parts of the packages agree, are right
-pub answer_right : (ps : List PackageRecord) (roles : List ℕ) (answer : Result NamesRecord LinkEnd) → Answers (names_of ps roles) answer → IfOk answer (λ n. All IsSized n.classes) → IfOk answer (λ n. All IsAgreed ps) → IfOk answer (λ n. All HasFewHandlers ps)
+pub answer_right : (ps : List PackageRecord) (roles : List ℕ) (answer : Result NamesRecord LinkEnd) → IsDue (names_of ps roles) answer → IfOk answer (λ n. All IsSized n.classes) → IfOk answer (λ n. All IsAgreed ps) → IfOk answer (λ n. All HasFewHandlers ps)
     → IfOk answer (λ n. AreNamed (infos_of ps) (slice_index roles 0) n.classes n.methods)
 answer_right ps roles (Ok n) h sized agreed few =
     let e = answer_named ps roles n h in

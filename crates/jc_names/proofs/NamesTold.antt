@@ -7,7 +7,8 @@ use Rattle.jc_names.specs.declared.fault.LinkEnd.TheVariants.{Fault, Memory}
 use Rattle.jc_names.specs.Fault.{place_of}
 use Rattle.jc_names.specs.FirstFault.{◌>>=◌}
 use Rattle.jc_names.specs.Conditions.{packages_fault, classes_fault, methods_fault, no_package_fault, no_class_fault, named_in, import_tokens, class_references, conditions}
-use Rattle.jc_names.specs.Names.{NamesRecord, named, checked, names_of, Answers, Tells}
+use Rattle.jc_names.specs.Due.{IsDue}
+use Rattle.jc_names.specs.Names.{NamesRecord, named, checked, names_of, Tells}
 use Rattle.jc_names.proofs.FirstTold.{IsTold, things-told, one-told, step, last, refused-first, accepted-empty}
 
 checked-told : (ps : List PackageRecord) → IsTold place_of (checked ps) (conditions ps)
@@ -27,7 +28,7 @@ refused_by : (r : Result (Unit {0}) LinkFault) (n : NamesRecord) (f : LinkFault)
 refused_by (Ok x) n f h = absurd cc
 refused_by (Err g) n f h = let k : g ≡ f = cc in ap Err k
 
-pub names_told : (ps : List PackageRecord) (roles : List ℕ) (answer : Result NamesRecord LinkEnd) → Answers (names_of ps roles) answer → Tells ps answer
+pub names_told : (ps : List PackageRecord) (roles : List ℕ) (answer : Result NamesRecord LinkEnd) → IsDue (names_of ps roles) answer → Tells ps answer
 unfolding names_of
 names_told ps roles (Ok m) h = accepted-empty place_of (conditions ps) (sym (checked-told ps).same ∙ accepted_by (checked ps) (named ps roles) m h)
 names_told ps roles (Err (Fault f)) h = refused-first place_of (conditions ps) f (sym (checked-told ps).same ∙ refused_by (checked ps) (named ps roles) f h)

@@ -1,5 +1,6 @@
 pub mod FirstFault
 pub mod Fault
+pub mod Due
 pub mod Numbering
 pub mod References
 pub mod WorldTypes

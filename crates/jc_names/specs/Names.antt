@@ -47,12 +47,6 @@ Checks ps (Ok qs) = (checked ps ≡ Ok (tt {0})) × (qs ≡ ps)
 Checks ps (Err (Fault fault)) = checked ps ≡ Err fault
 Checks ps (Err Memory) = ⊤
 
--- an answer is the names, or the fault, or want of memory
-abbrev pub Answers : Result NamesRecord LinkFault → Result NamesRecord LinkEnd → Type 0
-Answers answer (Ok names) = answer ≡ Ok names
-Answers answer (Err (Fault fault)) = answer ≡ Err fault
-Answers answer (Err Memory) = ⊤
-
 -- names exactly where nothing is at fault; else the first condition by number that is broken, at its least thing
 abbrev pub Tells : List PackageRecord → Result NamesRecord LinkEnd → Type 0
 Tells ps (Ok names) = AllEmpty (conditions ps)

@@ -1,5 +1,5 @@
 -- The types of a world that type descriptors stand for (JCVM 2.2, sections 2.2 and 6.13.4): boolean, byte and short are Short, an interface is class object, and an array of an interface an array of object.
-use Rattle.std.specs.Prelude.{ℕ, ◌+◌, List, [], ◌∷◌, ◌++◌, Option, Some, None, ◌==◌, if◌then◌else◌}
+use Rattle.std.specs.Prelude.{ℕ, ◌+◌, List, [], ◌∷◌, ◌++◌, Option, Some, None, ◌==◌, ◌||◌, if◌then◌else◌}
 use Rattle.cap_desc.specs.declared.type_item.TypeItem.{TypeItem}
 use Rattle.cap_desc.specs.TypeFormat.{types_at}
 use Rattle.cap_package.specs.Descriptions.{Description}
@@ -7,6 +7,8 @@ use Rattle.cap_package.specs.Agreement.{or_none}
 use Rattle.cap_package.specs.PackageRecord.{PackageRecord}
 use Rattle.jc_base.specs.declared.ty.Ty.{Ty}
 use Rattle.jc_base.specs.declared.ty.Ty.TheVariants.{Short, IntHigh, IntLow, Class, ArrBool, ArrByte, ArrShort, ArrInt, ArrRef}
+use Rattle.jc_base.specs.declared.ty.Kind.{Kind}
+use Rattle.jc_base.specs.declared.ty.Kind.TheVariants as kinds
 use Rattle.jc_base.specs.declared.record.Sig.{Sig}
 use Rattle.jc_names.specs.Numbering.{is_interface_number}
 use Rattle.jc_names.specs.References.{class_named}
@@ -34,6 +36,14 @@ type_of ps object k t =
 -- the types of the cells that a value takes: an int has two
 abbrev pub cells_of_type : List PackageRecord → ℕ → ℕ → TypeItem → List Ty
 cells_of_type ps object k t = if t.nibble == 5 then IntHigh ∷ IntLow ∷ [] else type_of ps object k t ∷ []
+
+-- how a field keeps a value of a type: boolean and byte as a byte
+unfoldable pub kind_of : TypeItem → Kind
+kind_of t =
+    if t.nibble == 2 || t.nibble == 3 then kinds.Byte
+    else (if t.nibble == 4 then kinds.Short
+    else (if t.nibble == 5 then kinds.Int
+    else kinds.Ref))
 
 -- ---- signatures
 

@@ -1,7 +1,8 @@
 ghost use Rattle.std.specs.Prelude.{All, IfOk, slice_index};
 ghost use Rattle.jc_names.specs.Named.{AreNamed, IsAgreed, IsSized, infos_of};
 ghost use Rattle.jc_names.specs.NamedMethods.{HasFewHandlers};
-ghost use Rattle.jc_names.specs.Names.{Checks, Answers, Tells, names_of};
+ghost use Rattle.jc_names.specs.Due.{IsDue};
+ghost use Rattle.jc_names.specs.Names.{Checks, Tells, names_of};
 
 use crate::class_index::{Index, index_packages};
 use crate::class_records::class_records;
@@ -39,7 +40,7 @@ fn names_or_fault<'n, 'p, 'a>(
     packages: &'n Packages<'p, 'a>,
     roles: [u8; 8],
 ) -> Result<Names<'n, 'p, 'a>, LinkEnd>
-    ensures value { Answers (names_of packages.now roles) result }
+    ensures value { IsDue (names_of packages.now roles) result }
     ensures sized { IfOk result (λ n. All IsSized n.classes) }
     ensures agreed { IfOk result (λ _. All IsAgreed packages.now) }
     ensures few { IfOk result (λ _. All HasFewHandlers packages.now) }
@@ -62,7 +63,7 @@ pub fn names<'n, 'p, 'a>(
     roles: [u8; 8],
 ) -> Result<Names<'n, 'p, 'a>, LinkEnd>
     // The names of the packages, or the fault that is named; memory may want at any time.
-    ensures value { Answers (names_of packages.now roles) result }
+    ensures value { IsDue (names_of packages.now roles) result }
     // Names exactly where nothing is at fault; else the first condition by number that is broken, at its
     // least thing.
     ensures tells { Tells packages.now result }

@@ -1,11 +1,12 @@
 ghost use Rattle.std.specs.Prelude.{◌≡◌, ◌++◌, IfOk, OnOk};
 ghost use Rattle.cap_desc.specs.TypeLists.{types_left};
 ghost use Rattle.cap_package.specs.Descriptions.{description};
-ghost use Rattle.jc_names.specs.WorldTypes.{type_class, type_of, cells_of_type, signature_in, signature_of};
+ghost use Rattle.jc_base.specs.Cell.{width};
+ghost use Rattle.jc_names.specs.WorldTypes.{type_class, type_of, cells_of_type, kind_of, signature_in, signature_of};
 
 use crate::class_index::Index;
 use cap_desc::{DescPart, TypeItem, Types};
-use jc_base::{Items, Sig, Ty};
+use jc_base::{Items, Kind, Sig, Ty};
 use std::alloc::{AllocError, Global};
 
 /// The nibbles of a type descriptor.
@@ -46,6 +47,29 @@ pub(crate) fn type_of(index: &Index<'_, '_, '_>, object: u16, package: u16, item
     }
 }
 
+/// How a field keeps a value of a type.
+#[tactic(auto, unfolding(crate::specs::WorldTypes::kind_of))]
+pub fn kind_of(item: TypeItem) -> Kind
+    ensures { result ≡ kind_of item }
+{
+    match item.nibble {
+        2 | 3 => Kind::Byte,
+        4 => Kind::Short,
+        INT => Kind::Int,
+        _ => Kind::Ref,
+    }
+}
+
+/// The cells of a field of a kind.
+pub fn width(kind: Kind) -> u32
+    ensures { result ≡ width kind }
+{
+    match kind {
+        Kind::Int => 2,
+        _ => 1,
+    }
+}
+
 /// Appends the types of the cells that a value takes.
 pub(crate) fn push_cells(
     cells: &mut Vec<Ty>,
@@ -66,7 +90,6 @@ pub(crate) fn push_cells(
 }
 
 /// The signature that types tell: the last is the result, and those before it the arguments.
-
 fn signature_in(
     alloc: Global,
     index: &Index<'_, '_, '_>,
