@@ -6,7 +6,7 @@ use Rattle.jc_base.specs.declared.record.MethodRec.{MethodRec}
 use Rattle.jc_base.specs.Class.{ClassTable, IsClass}
 use Rattle.jc_base.specs.World.{AreRoles}
 use Rattle.jc_names.specs.declared.fault.LinkFault.TheVariants.{RoleAbstract}
-use Rattle.jc_classes.proofs.Agreed.{none_first}
+use Rattle.jc_names.proofs.Faultless.{faultless_first}
 use Rattle.jc_members.specs.Roles.{is_concrete, role_fault, abstract_roles}
 use Rattle.jc_members.proofs.Concretes.{concrete-from}
 use Rattle.jc_link.specs.World.{table_of, methods_of}
@@ -32,12 +32,12 @@ module _ (t : ClassTable) (methods : List MethodRec) where
   roles_concrete : abstract_roles t methods ≡ [] → (k : ℕ) → 2 ≤ k → k < 8 → is_concrete t methods (slice_index t.roles k) ≡ true
   unfolding IsSound
   roles_concrete none k two lt =
-      let of_2 = none_first (role_fault t methods 2) _ none in
-      let of_3 = none_first (role_fault t methods 3) _ of_2.1 in
-      let of_4 = none_first (role_fault t methods 4) _ of_3.1 in
-      let of_5 = none_first (role_fault t methods 5) _ of_4.1 in
-      let of_6 = none_first (role_fault t methods 6) _ of_5.1 in
-      let of_7 = none_first (role_fault t methods 7) _ of_6.1 in
+      let of_2 = faultless_first (role_fault t methods 2) _ none in
+      let of_3 = faultless_first (role_fault t methods 3) _ of_2.1 in
+      let of_4 = faultless_first (role_fault t methods 4) _ of_3.1 in
+      let of_5 = faultless_first (role_fault t methods 5) _ of_4.1 in
+      let of_6 = faultless_first (role_fault t methods 6) _ of_5.1 in
+      let of_7 = faultless_first (role_fault t methods 7) _ of_6.1 in
       by k two lt (sound_at 2 of_2.0) (sound_at 3 of_3.0) (sound_at 4 of_4.0) (sound_at 5 of_5.0) (sound_at 6 of_6.0) (sound_at 7 of_7.0)
     where
       by : (k : ℕ) → 2 ≤ k → k < 8 → IsSound 2 → IsSound 3 → IsSound 4 → IsSound 5 → IsSound 6 → IsSound 7 → IsSound k
