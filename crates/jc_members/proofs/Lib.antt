@@ -10,5 +10,6 @@ pub mod TokenCells
 pub mod OwnCells
 pub mod NumberedFields
 pub mod OwnRecords
+pub mod FieldTypes
 pub mod FieldsLinked
 pub mod MembersLinked
