@@ -3,7 +3,7 @@ use Rattle.std.proofs.Common.{◌≡◌, ℕ, zero, suc, ◌+◌, Bool, true, fa
 use Rattle.std.specs.Prelude.{All, filter_map, slice_get, option_and_then, is_none}
 use Rattle.std.specs.List.{cons_option}
 use Rattle.std.proofs.lemmas.Bool.{false≢true}
-use Rattle.std.proofs.lemmas.List.Elements.{filter_map-append, All-nil, All-cons}
+use Rattle.std.proofs.lemmas.List.Elements.{All-nil, All-cons}
 use Rattle.cap_pool.specs.PoolFormat.{Entry}
 use Rattle.cap_method.specs.declared.handler.HandlerInfo.{HandlerInfo}
 use Rattle.cap_package.specs.PackageRecord.{PackageRecord}
@@ -12,14 +12,10 @@ use Rattle.jc_base.specs.declared.record.StaticRec.{StaticRec}
 use Rattle.jc_base.specs.Class.{ClassTable}
 use Rattle.jc_base.specs.Linked.{list_at}
 use Rattle.jc_names.specs.declared.fault.LinkFault.TheVariants.{NoMember, BadCatch}
-use Rattle.jc_names.proofs.Faultless.{both_empty}
-use Rattle.jc_classes.proofs.Agreed.{none_first}
+use Rattle.jc_names.proofs.Faultless.{faultless_first, both_faultless}
 use Rattle.jc_members.specs.Members.{member_of}
 use Rattle.jc_members.specs.Pools.{PoolPlace, places_from, places_behind, member_fault, pools_behind}
 use Rattle.jc_members.specs.Catches.{HandlerPlace, handlers_from, handlers_behind, catches, catch_fault}
-
-both_faultless : {X Y : Type 0} (f : X → Option Y) (xs ys : List X) → filter_map f (xs ++ ys) ≡ [] → (filter_map f xs ≡ []) × (filter_map f ys ≡ [])
-both_faultless f xs ys e = both_empty (filter_map f xs) (filter_map f ys) (sym (filter_map-append f xs ys) ∙ e)
 
 -- ---- pool entries
 
@@ -54,7 +50,7 @@ module _ (all : List PackageRecord) (t : ClassTable) (statics : List StaticRec) 
   pool-members k n [] e = have_none (member_of all t statics k)
   pool-members k n (x ∷ xs) e =
       let place : PoolPlace = record { home = k; number = n; entry = x } in
-      let both = none_first (member_fault all t statics place) (filter_map (member_fault all t statics) (places_from k (n + 1) xs)) e in
+      let both = faultless_first (member_fault all t statics place) (filter_map (member_fault all t statics) (places_from k (n + 1) xs)) e in
       have_more (member_of all t statics k) x xs (member_of all t statics k x) refl (there_by place (is_none (member_of all t statics k x)) refl both.0) (pool-members k (n + 1) xs both.1)
 
   -- the members of a pool
@@ -90,7 +86,7 @@ module _ (all : List PackageRecord) (t : ClassTable) where
   table-catches k n pool [] e = All-nil (IsCatching k pool)
   table-catches k n pool (h ∷ hs) e =
       let place : HandlerPlace = record { home = k; pool = pool; number = n; handler = h } in
-      let both = none_first (catch_fault all t place) (filter_map (catch_fault all t) (handlers_from k pool (n + 1) hs)) e in
+      let both = faultless_first (catch_fault all t place) (filter_map (catch_fault all t) (handlers_from k pool (n + 1) hs)) e in
       All-cons (IsCatching k pool) h hs (catches_by place (catches all t k pool h.index) refl both.0) (table-catches k (n + 1) pool hs both.1)
 
   pub handlers-at : (k : ℕ) (ps : List PackageRecord) (n : ℕ) (p : PackageRecord) → filter_map (catch_fault all t) (handlers_behind k ps) ≡ [] → slice_get ps n ≡ Some p → All (IsCatching (k + n) p.pool) p.methods.handlers

@@ -1,5 +1,5 @@
 -- Packages and roles make one world at most, and where they make one no condition is broken.
-use Rattle.std.proofs.Common.{◌≡◌, ℕ, ◌≤◌, Bool, true, false, List, [], ◌∷◌, length, Some, None, refl, sym, subst, ◌∙◌, inl, inr, arith}
+use Rattle.std.proofs.Common.{◌≡◌, ℕ, ◌≤◌, Bool, true, false, List, [], ◌∷◌, length, Some, None, refl, sym, ◌∙◌, arith}
 use Rattle.std.specs.Prelude.{◌||◌, ◌==◌, nat_lt, if◌then◌else◌, min}
 use Rattle.std.specs.Option.{option_to_list}
 use Rattle.std.proofs.lemmas.Bool.{ltb-false}
@@ -8,15 +8,9 @@ use Rattle.jc_base.specs.World.{Linked}
 use Rattle.jc_names.specs.declared.fault.LinkFault.{LinkFault}
 use Rattle.jc_names.specs.declared.fault.LinkFault.TheVariants.{TooManyPackages}
 use Rattle.jc_names.specs.Fault.{place_of}
-use Rattle.jc_names.specs.FirstFault.{IsLeast, IsFirst, AllEmpty}
+use Rattle.jc_names.specs.FirstFault.{IsFirst}
+use Rattle.jc_names.proofs.FirstTold.{none_first}
 use Rattle.jc_link.specs.World.{conditions, IsLinked}
-
--- where nothing is at fault no fault is the first
-module _ {F : Type 0} (place : F → ℕ) where
-  pub none_first : (lists : List (List F)) (f : F) → AllEmpty lists → IsFirst place lists f → ⊥
-  none_first [] f empty first = first
-  none_first (faults ∷ others) f empty (inl l) = subst (λ fs. IsLeast place fs f → ⊥) (sym empty.0) (λ k. k.one) l
-  none_first (faults ∷ others) f empty (inr h) = none_first others f empty.1 h.1
 
 pub linked_faultless : (ps : List PackageRecord) (roles : List ℕ) (w : Linked) (f : LinkFault) → IsLinked ps roles w → IsFirst place_of (conditions ps roles) f → ⊥
 linked_faultless ps roles w f l first = none_first place_of (conditions ps roles) f l.faultless first

@@ -1,13 +1,14 @@
 -- The classes of the roles are those of a world.
-use Rattle.std.proofs.Common.{◌≡◌, ℕ, zero, suc, ◌<◌, ◌≤◌, Bool, true, false, List, [], Some, None, refl, sym, ◌∙◌, arith}
+use Rattle.std.proofs.Common.{◌≡◌, ℕ, zero, suc, ◌<◌, ◌≤◌, Bool, true, false, List, [], Some, None, refl, sym, ◌∙◌, inl, inr, arith}
 use Rattle.std.specs.Prelude.{slice_index}
 use Rattle.cap_package.specs.PackageRecord.{PackageRecord}
 use Rattle.jc_base.specs.declared.record.MethodRec.{MethodRec}
 use Rattle.jc_base.specs.Class.{ClassTable, IsClass}
 use Rattle.jc_base.specs.World.{AreRoles}
 use Rattle.jc_names.specs.declared.fault.LinkFault.TheVariants.{RoleAbstract}
-use Rattle.jc_classes.proofs.Agreed.{none_first}
-use Rattle.jc_members.specs.Roles.{is_concrete, role_fault, abstract_roles}
+use Rattle.jc_names.specs.FirstFault.{IsOneOf}
+use Rattle.jc_names.proofs.Faultless.{faultless}
+use Rattle.jc_members.specs.Roles.{is_concrete, role_fault, thrown_roles, abstract_roles}
 use Rattle.jc_members.proofs.Concretes.{concrete-from}
 use Rattle.jc_link.specs.World.{table_of, methods_of}
 use Rattle.jc_link.specs.Known.{IsTableOf}
@@ -22,34 +23,19 @@ module _ (t : ClassTable) (methods : List MethodRec) where
       let no : Some (RoleAbstract k) ≡ None = sym some ∙ none in
       absurd cc
 
-  IsSound : ℕ → Type 0
-  IsSound k = is_concrete t methods (slice_index t.roles k) ≡ true
-
-  sound_at : (k : ℕ) → role_fault t methods k ≡ None → IsSound k
-  unfolding IsSound
-  sound_at k none = concrete_by k (is_concrete t methods (slice_index t.roles k)) refl none
+  thrown_is : (k : ℕ) → 2 ≤ k → k < 8 → IsOneOf thrown_roles k
+  thrown_is zero two lt = absurd (omega arith)
+  thrown_is (suc zero) two lt = absurd (omega arith)
+  thrown_is (suc (suc zero)) two lt = inl refl
+  thrown_is (suc (suc (suc zero))) two lt = inr (inl refl)
+  thrown_is (suc (suc (suc (suc zero)))) two lt = inr (inr (inl refl))
+  thrown_is (suc (suc (suc (suc (suc zero))))) two lt = inr (inr (inr (inl refl)))
+  thrown_is (suc (suc (suc (suc (suc (suc zero)))))) two lt = inr (inr (inr (inr (inl refl))))
+  thrown_is (suc (suc (suc (suc (suc (suc (suc zero))))))) two lt = inr (inr (inr (inr (inr (inl refl)))))
+  thrown_is (suc (suc (suc (suc (suc (suc (suc (suc n)))))))) two lt = absurd (omega arith)
 
   roles_concrete : abstract_roles t methods ≡ [] → (k : ℕ) → 2 ≤ k → k < 8 → is_concrete t methods (slice_index t.roles k) ≡ true
-  unfolding IsSound
-  roles_concrete none k two lt =
-      let of_2 = none_first (role_fault t methods 2) _ none in
-      let of_3 = none_first (role_fault t methods 3) _ of_2.1 in
-      let of_4 = none_first (role_fault t methods 4) _ of_3.1 in
-      let of_5 = none_first (role_fault t methods 5) _ of_4.1 in
-      let of_6 = none_first (role_fault t methods 6) _ of_5.1 in
-      let of_7 = none_first (role_fault t methods 7) _ of_6.1 in
-      by k two lt (sound_at 2 of_2.0) (sound_at 3 of_3.0) (sound_at 4 of_4.0) (sound_at 5 of_5.0) (sound_at 6 of_6.0) (sound_at 7 of_7.0)
-    where
-      by : (k : ℕ) → 2 ≤ k → k < 8 → IsSound 2 → IsSound 3 → IsSound 4 → IsSound 5 → IsSound 6 → IsSound 7 → IsSound k
-      by zero two lt a b c d e f = absurd (omega arith)
-      by (suc zero) two lt a b c d e f = absurd (omega arith)
-      by (suc (suc zero)) two lt a b c d e f = a
-      by (suc (suc (suc zero))) two lt a b c d e f = b
-      by (suc (suc (suc (suc zero)))) two lt a b c d e f = c
-      by (suc (suc (suc (suc (suc zero))))) two lt a b c d e f = d
-      by (suc (suc (suc (suc (suc (suc zero)))))) two lt a b c d e f = e
-      by (suc (suc (suc (suc (suc (suc (suc zero))))))) two lt a b c d e f = f
-      by (suc (suc (suc (suc (suc (suc (suc (suc n)))))))) two lt a b c d e f = absurd (omega arith)
+  roles_concrete none k two lt = concrete_by k (is_concrete t methods (slice_index t.roles k)) refl (faultless (role_fault t methods) thrown_roles k none (thrown_is k two lt))
 
 pub are-roles : (ps : List PackageRecord) (roles : List ℕ) (t : ClassTable) → IsTableOf ps roles t → abstract_roles (table_of ps roles) (methods_of ps roles) ≡ [] → AreRoles (table_of ps roles) (methods_of ps roles)
 are-roles ps roles t is none = record {

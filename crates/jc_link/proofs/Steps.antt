@@ -14,7 +14,8 @@ use Rattle.jc_names.specs.Fault.{place_of}
 use Rattle.jc_names.specs.FirstFault.{◌>>=◌, IsFirst, AllEmpty}
 use Rattle.jc_names.specs.Named.{AreNamed, IsSized, infos_of}
 use Rattle.jc_names.specs.Conditions as names
-use Rattle.jc_names.specs.Names.{NamesRecord, named, checked, names_of, Answers, Tells}
+use Rattle.jc_names.specs.Due.{IsDue}
+use Rattle.jc_names.specs.Names.{NamesRecord, named, checked, names_of, Tells}
 use Rattle.jc_names.proofs.ConditionLists.{AllEmpty-append, IsFirst-append_left, IsFirst-append_right}
 use Rattle.jc_lineage.specs.Conditions as lineage
 use Rattle.jc_lineage.specs.Known.{HasKnownLine}
@@ -48,7 +49,7 @@ names_first ps (Ok n) h = h
 names_first ps (Err (Fault f)) h = h
 names_first ps (Err Memory) h = tt {0}
 
-pub names_answered : (ps : List PackageRecord) (roles : List ℕ) (r : Result NamesRecord LinkEnd) → Answers (names_of ps roles) r → IfOk r (λ n. AreNamed (infos_of ps) (slice_index roles 0) n.classes n.methods) → IfOk r (AreNamesOf ps roles)
+pub names_answered : (ps : List PackageRecord) (roles : List ℕ) (r : Result NamesRecord LinkEnd) → IsDue (names_of ps roles) r → IfOk r (λ n. AreNamed (infos_of ps) (slice_index roles 0) n.classes n.methods) → IfOk r (AreNamesOf ps roles)
 names_answered ps roles (Ok n) e known = names_known ps roles n e known
 names_answered ps roles (Err end) e known = tt
 
@@ -137,7 +138,7 @@ module _ (ps : List PackageRecord) (roles : List ℕ) (n : NamesRecord) (of : Ar
       (subst AllEmpty (conditions_same cs ms t e m o) h)
 
   -- the table that is made
-  pub table_known : (cs : List NamedClass) (ms : List MethodRec) (t u : ClassTable) → cs ≡ n.classes → ms ≡ n.methods → length cs ≤ 4096 → length roles ≡ 8 → t ≡ outline cs roles → AreClasses t → HaveLines cs t → u ≡ class_tables t cs → Links t cs ms u
+  pub table_known : (cs : List NamedClass) (ms : List MethodRec) (t u : ClassTable) → cs ≡ n.classes → ms ≡ n.methods → length cs ≤ 4096 → length t.roles ≡ 8 → t ≡ outline cs roles → AreClasses t → HaveLines cs t → u ≡ class_tables t cs → Links t cs ms u
       → IsTableOf ps roles u
   table_known cs ms t u e m few eight o are have made links =
       let same_classes : cs ≡ classes_of ps roles = e ∙ classes-are in
@@ -156,7 +157,7 @@ module _ (ps : List PackageRecord) (roles : List ℕ) (n : NamesRecord) (of : Ar
         chains = subst AreClasses same_lineage are;
         linked = subst (λ (k : ℕ). AreLinkedClasses k (table_of ps roles) (methods_of ps roles)) (length-map ps _) (links_of (length (infos_of ps)) of.known.classes);
         few = subst (λ (xs : List NamedClass). length xs ≤ 4096) same_classes few;
-        eight = eight;
+        eight = subst (λ (rs : List ℕ). length rs ≡ 8) (ap (λ (x : ClassTable). x.roles) o) eight;
       }
 
   -- ---- what stands on the classes is asked of names and a table

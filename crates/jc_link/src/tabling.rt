@@ -1,4 +1,4 @@
-ghost use Rattle.std.specs.Prelude.{◌≡◌, length, IfOk};
+ghost use Rattle.std.specs.Prelude.{IfOk};
 ghost use Rattle.jc_link.specs.World.{TellsFirst, TableTells, class_conditions};
 ghost use Rattle.jc_link.specs.Known.{AreNamesOf, IsTableOf};
 
@@ -9,13 +9,6 @@ use jc_classes::tables;
 use jc_lineage::lineage;
 use jc_names::{LinkEnd, Names};
 use std::alloc::Global;
-
-/// There are eight roles.
-fn eight(roles: &[u8; 8])
-    ensures { length roles.now ≡ 8 }
-{
-    let _ = roles;
-}
 
 /// The table of the classes of packages that are named.
 pub(crate) fn table(
@@ -28,7 +21,6 @@ pub(crate) fn table(
     ensures first { TellsFirst (class_conditions packages.now roles) result }
     ensures known { IfOk result (IsTableOf packages.now roles) }
 {
-    eight(&roles);
     let classes = names.classes();
     let methods = names.methods();
     let first = first_classes(packages);

@@ -1,4 +1,4 @@
--- The type of an instance field is of the field's kind.
+-- The type that a field names is one of a field.
 use Rattle.std.proofs.Common.{◌≡◌, ℕ, zero, suc, ◌+◌, ◌-◌, ◌≤◌, Bool, true, false, ◌&&◌, ◌||◌, leb, eqb, cond, List, Option, Some, None, Ok, Err, refl, ap, sym, subst, arith}
 use Rattle.std.specs.Prelude.{option_and_then, option_map}
 use Rattle.std.specs.Result.{result_ok}
@@ -11,10 +11,6 @@ use Rattle.cap_bytes.proofs.Laws.{read-spells}
 use Rattle.cap_desc.specs.declared.type_item.TypeItem.{TypeItem}
 use Rattle.cap_desc.specs.TypeFormat.{is_type, type_item, one_type_in, nibbles_read, nibbles_at, type_at}
 use Rattle.cap_package.specs.Descriptions.{Description, no_void, field_type}
-use Rattle.cap_package.specs.PackageRecord.{PackageRecord}
-use Rattle.jc_base.specs.Cell.{IsOfKind}
-use Rattle.jc_names.specs.WorldTypes.{type_of}
-use Rattle.jc_members.specs.Fields.{kind_of}
 
 if_some : {X Y : Type 0} (f : X → Option Y) (o : Option X) (y : Y) → option_and_then f o ≡ Some y → (x : X) × (f x ≡ Some y)
 if_some f None y h = absurd cc
@@ -84,40 +80,3 @@ named_type d ty t false b e f h = by_descriptor _ t (λ u k. type_typed d.info (
 pub field_typed : (d : Description) (ty : ℕ) (t : TypeItem) → field_type d ty ≡ Some t → IsFieldType t
 unfolding field_type
 field_typed d ty t h = named_type d ty t (leb 0x8002 ty) (leb ty 0x8005) refl refl h
-
-two_ranges : (n : ℕ) (a b c d : Bool) → leb n 6 ≡ b → leb n 14 ≡ d → ((a && b) || (c && d)) ≡ true → n ≤ 14
-two_ranges n true true c d e f h = omega (arith, leb-true n 6 e)
-two_ranges n true false true true e f h = leb-true n 14 f
-two_ranges n true false true false e f h = absurd cc
-two_ranges n true false false d e f h = absurd cc
-two_ranges n false b true true e f h = leb-true n 14 f
-two_ranges n false b true false e f h = absurd cc
-two_ranges n false b false d e f h = absurd cc
-
-type_small : (n : ℕ) → is_type n ≡ true → n ≤ 14
-type_small n h = two_ranges n (leb 1 n) (leb n 6) (leb 10 n) (leb n 14) refl refl h
-
-kind_right : (ps : List PackageRecord) (object k n r : ℕ) → is_type n ≡ true → eqb n 1 ≡ false → IsOfKind (kind_of (record { nibble = n; class_ref = r })) (type_of ps object k (record { nibble = n; class_ref = r }))
-unfolding kind_of type_of
-kind_right ps object k zero r typed void = absurd cc
-kind_right ps object k (suc zero) r typed void = absurd cc
-kind_right ps object k (suc (suc zero)) r typed void = refl
-kind_right ps object k (suc (suc (suc zero))) r typed void = refl
-kind_right ps object k (suc (suc (suc (suc zero)))) r typed void = refl
-kind_right ps object k (suc (suc (suc (suc (suc zero))))) r typed void = refl
-kind_right ps object k (suc (suc (suc (suc (suc (suc zero)))))) r typed void = tt
-kind_right ps object k (suc (suc (suc (suc (suc (suc (suc zero))))))) r typed void = absurd cc
-kind_right ps object k (suc (suc (suc (suc (suc (suc (suc (suc zero)))))))) r typed void = absurd cc
-kind_right ps object k (suc (suc (suc (suc (suc (suc (suc (suc (suc zero))))))))) r typed void = absurd cc
-kind_right ps object k (suc (suc (suc (suc (suc (suc (suc (suc (suc (suc zero)))))))))) r typed void = tt
-kind_right ps object k (suc (suc (suc (suc (suc (suc (suc (suc (suc (suc (suc zero))))))))))) r typed void = tt
-kind_right ps object k (suc (suc (suc (suc (suc (suc (suc (suc (suc (suc (suc (suc zero)))))))))))) r typed void = tt
-kind_right ps object k (suc (suc (suc (suc (suc (suc (suc (suc (suc (suc (suc (suc (suc zero))))))))))))) r typed void = tt
-kind_right ps object k (suc (suc (suc (suc (suc (suc (suc (suc (suc (suc (suc (suc (suc (suc zero)))))))))))))) r typed void = tt
-kind_right ps object k (suc (suc (suc (suc (suc (suc (suc (suc (suc (suc (suc (suc (suc (suc (suc n))))))))))))))) r typed void =
-    absurd (let small = type_small (suc (suc (suc (suc (suc (suc (suc (suc (suc (suc (suc (suc (suc (suc (suc n))))))))))))))) typed in omega arith)
-
-pub kind_of_type : (ps : List PackageRecord) (object k : ℕ) (d : Description) (ty : ℕ) (t : TypeItem) → field_type d ty ≡ Some t → IsOfKind (kind_of t) (type_of ps object k t)
-kind_of_type ps object k d ty t h =
-    let is = field_typed d ty t h in
-    kind_right ps object k t.nibble t.class_ref is.typed is.no_void

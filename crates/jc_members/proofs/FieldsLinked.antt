@@ -27,6 +27,7 @@ use Rattle.jc_base.proofs.Lists.{slice_get-behind}
 use Rattle.jc_base.proofs.Instances.{cells-own, cells-on_chain}
 use Rattle.jc_names.specs.Numbering.{NumberedClass, numbered_classes}
 use Rattle.jc_names.specs.NamedClasses.{fields_described, named_classes}
+use Rattle.jc_names.proofs.ItemKinds.{kind_right}
 use Rattle.jc_members.specs.declared.own_field.OwnField.{OwnField}
 use Rattle.jc_members.specs.Sites.{is_there, only, standing}
 use Rattle.jc_members.specs.Fields.{cells_before, fields_in, own_fields, field_sites, HasCellsOf}
@@ -35,7 +36,7 @@ use Rattle.jc_members.proofs.TokenCells.{cells_by, cells_of_own, has, with, cell
 use Rattle.jc_members.proofs.OwnCells.{own_of, typed, of_records}
 use Rattle.jc_members.proofs.OwnRecords.{has_own}
 use Rattle.jc_members.proofs.NumberedFields.{StandsIn, stands_in}
-use Rattle.jc_members.proofs.FieldTypes.{kind_of_type}
+use Rattle.jc_members.proofs.FieldTypes.{field_typed}
 
 -- ---- the type of a field is of its kind
 
@@ -46,7 +47,9 @@ module _ (ps : List PackageRecord) (object_is : ℕ) where
   kindly_typed : (k : ℕ) (d : Description) (f : described.Field) (own : List OwnField) (o : Option TypeItem) → field_type d f.ty ≡ o → All IsKindly own → All IsKindly (cons_option (typed ps object_is k d f) own)
   unfolding typed
   kindly_typed k d f own None e others = rw e others
-  kindly_typed k d f own (Some t) e others = rw e (All-cons IsKindly _ own (kind_of_type ps object_is k d f.ty t e) others)
+  kindly_typed k d f own (Some t) e others =
+      let is = field_typed d f.ty t e in
+      rw e (All-cons IsKindly _ own (kind_right ps object_is k t is.typed is.no_void) others)
 
   all_kindly : (k : ℕ) (d : Description) (fs : List described.Field) → All IsKindly (filter_map (typed ps object_is k d) fs)
   all_kindly k d [] = All-nil IsKindly

@@ -10,10 +10,11 @@ use Rattle.jc_names.specs.declared.fault.LinkFault.{LinkFault}
 use Rattle.jc_names.specs.declared.fault.LinkEnd.{LinkEnd}
 use Rattle.jc_names.specs.declared.fault.LinkEnd.TheVariants.{Fault, Memory}
 use Rattle.jc_names.specs.Fault.{place_of}
+use Rattle.jc_names.specs.Due.{IsDue}
 use Rattle.jc_names.specs.FirstFault.{◌>>=◌, least_of, refused}
 use Rattle.jc_names.proofs.LeastFaults.{least-at_fault, least-found, least-none}
 use Rattle.jc_members.specs.Members.{member_of}
-use Rattle.jc_members.specs.Pools.{pool_places, member_fault, missing_members, pools_behind, pools, pools_of, IsDue, Tells}
+use Rattle.jc_members.specs.Pools.{pool_places, member_fault, missing_members, pools_behind, pools, pools_of, Tells}
 
 -- there are as many pools as packages
 pools-each : (named : ℕ → Entry → Option Member) (k : ℕ) (ps : List PackageRecord) → length (pools_behind named k ps) ≡ length ps

@@ -1,13 +1,11 @@
 -- The instance fields of classes as packages describe them (JCVM 2.2, sections 6.8 and 6.13.2).
-use Rattle.std.specs.Prelude.{◌≡◌, ℕ, ◌+◌, ◌≤◌, List, [], ◌∷◌, ◌++◌, length, map, Option, None, option_map, filter, filter_map, flat_map, sum_by, nat_lt, ◌==◌, ◌||◌, if◌then◌else◌}
+use Rattle.std.specs.Prelude.{◌≡◌, ℕ, ◌+◌, ◌≤◌, List, [], ◌∷◌, ◌++◌, length, map, Option, None, option_map, filter, filter_map, flat_map, sum_by, nat_lt, if◌then◌else◌}
 use Rattle.cap_class.specs.ClassFormat.{Class, is_interface}
 use Rattle.cap_desc.specs.declared.type_item.TypeItem.{TypeItem}
 use Rattle.cap_desc.specs.DescriptorFormat as described
 use Rattle.cap_package.specs.Descriptions.{Description, field_type}
 use Rattle.cap_package.specs.HeaderChecks.{is_static}
 use Rattle.cap_package.specs.PackageRecord.{PackageRecord}
-use Rattle.jc_base.specs.declared.ty.Kind.{Kind}
-use Rattle.jc_base.specs.declared.ty.Kind.TheVariants.{Ref, Byte, Short, Int}
 use Rattle.jc_base.specs.declared.record.Member.TheVariants.{Field}
 use Rattle.jc_base.specs.declared.record.ClassRec.{ClassRec}
 use Rattle.jc_base.specs.Cell.{width}
@@ -15,13 +13,9 @@ use Rattle.jc_base.specs.Class.{ClassTable, parent_of, object}
 use Rattle.jc_base.specs.Linked.{cells_above}
 use Rattle.jc_names.specs.declared.named.NamedClass.{NamedClass}
 use Rattle.jc_names.specs.NamedClasses.{describes, token_of}
-use Rattle.jc_names.specs.WorldTypes.{type_of}
+use Rattle.jc_names.specs.WorldTypes.{type_of, kind_of}
 use Rattle.jc_members.specs.declared.own_field.OwnField.{OwnField}
 use Rattle.jc_members.specs.Sites.{Site}
-
--- how a field keeps a value of a type
-unfoldable pub kind_of : TypeItem → Kind
-kind_of t = if t.nibble == 2 || t.nibble == 3 then Byte else (if t.nibble == 4 then Short else (if t.nibble == 5 then Int else Ref))
 
 -- ---- the fields of a class
 

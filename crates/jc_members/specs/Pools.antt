@@ -52,12 +52,6 @@ pools_of ps t statics = do
   named ← refused (least_of place_of (member_fault ps t statics) (pool_places ps))
   Ok (pools ps t statics)
 
--- an answer is the one that is due, or tells want of memory
-abbrev pub IsDue : {A : Type 0} → Result A LinkFault → Result A LinkEnd → Type 0
-IsDue due (Ok x) = due ≡ Ok x
-IsDue due (Err (Fault fault)) = due ≡ Err fault
-IsDue due (Err Memory) = Unit {0}
-
 -- the members exactly where no entry lacks its one member; else the least entry that lacks it
 abbrev pub Tells : List PackageRecord → ClassTable → List StaticRec → Result (List (List Member)) LinkEnd → Type 0
 Tells ps t statics (Ok found) = (found ≡ pools ps t statics) × (missing_members ps t statics ≡ [])

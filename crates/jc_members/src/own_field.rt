@@ -4,14 +4,13 @@ ghost use Rattle.cap_desc.specs.ClassRecords.{class_seen, classes_left};
 ghost use Rattle.cap_desc.specs.MemberLists.{fields_left};
 ghost use Rattle.cap_desc.specs.MemberRecords.{field_seen};
 ghost use Rattle.cap_package.specs.Descriptions.{description};
-ghost use Rattle.jc_base.specs.Cell.{width};
-ghost use Rattle.jc_members.specs.Fields.{kind_of, own_field, fields_in, own_fields, cells_before};
+ghost use Rattle.jc_members.specs.Fields.{own_field, fields_in, own_fields, cells_before};
 
 use cap_class::ClassInfo;
-use cap_desc::{DescClass, DescFields, DescPart, FieldInfo, TypeItem};
+use cap_desc::{DescClass, DescFields, DescPart, FieldInfo};
 use cap_package::{Package, field_type};
 use jc_base::{Kind, Ty};
-use jc_names::Names;
+use jc_names::{Names, kind_of, width};
 use std::alloc::{AllocError, Global};
 
 /// An instance field that a class has of its own.
@@ -21,29 +20,6 @@ pub(crate) struct OwnField {
     pub(crate) kind: Kind,
     /// The type of its first cell.
     pub(crate) ty: Ty,
-}
-
-/// How a field keeps a value of a type.
-#[tactic(auto, unfolding(crate::specs::Fields::kind_of))]
-fn kind_of(ty: TypeItem) -> Kind
-    ensures { result ≡ kind_of ty }
-{
-    match ty.nibble {
-        2 | 3 => Kind::Byte,
-        4 => Kind::Short,
-        5 => Kind::Int,
-        _ => Kind::Ref,
-    }
-}
-
-/// The cells of a field of a kind.
-fn width(kind: Kind) -> u32
-    ensures { result ≡ width kind }
-{
-    match kind {
-        Kind::Int => 2,
-        _ => 1,
-    }
 }
 
 /// An instance field, by its description in a package.

@@ -3,13 +3,14 @@ ghost use Rattle.std.specs.Option.{option_to_list};
 ghost use Rattle.cap_pool.specs.Pool.{entries, entry_seen};
 ghost use Rattle.jc_base.specs.Linked.{AreLinkedClasses, IsMember};
 ghost use Rattle.jc_names.specs.Counts.{class_total};
+ghost use Rattle.jc_names.specs.Due.{IsDue};
 ghost use Rattle.jc_names.specs.declared.fault.LinkFault.TheVariants.{NoMember};
 ghost use Rattle.jc_names.specs.Fault.{place_of};
 ghost use Rattle.jc_names.specs.FirstFault.{least_from, least_of};
 ghost use Rattle.jc_members.specs.Fields.{HasCellsOf, field_sites};
 ghost use Rattle.jc_members.specs.Sites.{all_entered};
 ghost use Rattle.jc_members.specs.Members.{static_sites, member_of};
-ghost use Rattle.jc_members.specs.Pools.{places_from, pool_places, member_fault, pools, pools_of, IsDue, Tells};
+ghost use Rattle.jc_members.specs.Pools.{places_from, pool_places, member_fault, pools, pools_of, Tells};
 
 use crate::entries::{
     call_member, class_member, static_member, super_member, token_in, virtual_member,

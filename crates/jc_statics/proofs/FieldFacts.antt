@@ -12,7 +12,7 @@ use Rattle.jc_base.specs.declared.record.ArrayRec.{ArrayRec}
 use Rattle.jc_base.specs.declared.record.StaticRec.{StaticRec}
 use Rattle.jc_base.specs.Class.{ClassTable}
 use Rattle.jc_base.specs.Order.{Below, same}
-use Rattle.jc_base.proofs.Lists.{All-slice_get}
+use Rattle.jc_base.proofs.Lists.{All-slice_get, slice_get-front, slice_get-behind}
 use Rattle.jc_base.specs.Cell.{IsDeclared, IsInitialHandle, AreWordsOf}
 use Rattle.jc_base.specs.Linked.{IsStatic}
 use Rattle.cap_method.specs.StaticFormat.{Array, Statics}
@@ -21,23 +21,15 @@ use Rattle.cap_desc.specs.TypeFormat.{is_type}
 use Rattle.cap_package.specs.StaticChecks.{Place, is_in_image}
 use Rattle.cap_package.specs.PackageRecord.{PackageRecord}
 use Rattle.cap_package.specs.StaticPlaces.{static_places, IsStaticPlace}
+use Rattle.jc_names.specs.WorldTypes.{kind_of}
 use Rattle.jc_statics.specs.Arrays.{array_type, array_record, array_records}
 use Rattle.jc_statics.specs.Image.{image, references, words_at}
-use Rattle.jc_statics.specs.Statics.{Site, site, sites, sites_behind, cells_at, kind_of, static_record, type_at, records_from, static_records}
+use Rattle.jc_statics.specs.Statics.{Site, site, sites, sites_behind, cells_at, static_record, type_at, records_from, static_records}
 use Rattle.jc_statics.specs.Known.{IsPrimitive, AreTold, AreStaticsKnown}
 use Rattle.jc_statics.proofs.ArrayLists.{one_package, signed_is}
 use Rattle.jc_statics.proofs.ImageBytes.{handle_in, handle_past}
 
 -- ---- which array has a handle
-
-get_behind : {X : Type 0} (xs ys : List X) (k : ℕ) → slice_get (xs ++ ys) (length xs + k) ≡ slice_get ys k
-get_behind [] ys k = let e : 0 + k ≡ k = omega arith in rw e refl
-get_behind (x ∷ xs) ys k = let e : suc (length xs) + k ≡ suc (length xs + k) = omega arith in rw e (get_behind xs ys k)
-
-get_front : {X : Type 0} (xs ys : List X) (k : ℕ) (x : X) → slice_get xs k ≡ Some x → slice_get (xs ++ ys) k ≡ Some x
-get_front [] ys k x e = absurd cc
-get_front (y ∷ xs) ys zero x e = e
-get_front (y ∷ xs) ys (suc k) x e = get_front xs ys k x e
 
 -- a field of a world of so many packages and these arrays, so many of which stand before those of its package
 record IsSite (n : ℕ) (arrays : List ArrayRec) (s : Site) : Type 0 where
@@ -50,8 +42,8 @@ record IsSite (n : ℕ) (arrays : List ArrayRec) (s : Site) : Type 0 where
 
 handle_of : (before : List ArrayRec) (arrays : List Array) (rest : List ArrayRec) (k : ℕ) (a : Array) → slice_get arrays k ≡ Some a → slice_get (before ++ (map array_record arrays ++ rest)) (length before + k) ≡ Some (array_record a)
 handle_of before arrays rest k a e =
-    get_behind before (map array_record arrays ++ rest) k
-    ∙ get_front (map array_record arrays) rest k (array_record a) (slice_get-map array_record arrays k ∙ ap (λ (o : Option Array). option_map array_record o) e)
+    slice_get-behind before (map array_record arrays ++ rest) k (length before + k) refl
+    ∙ slice_get-front (map array_record arrays) rest k (array_record a) (slice_get-map array_record arrays k ∙ ap (λ (o : Option Array). option_map array_record o) e)
 
 sites_known : (n : ℕ) (arrays : List ArrayRec) (qs : List PackageRecord) (home first : ℕ) (before : List ArrayRec) → arrays ≡ before ++ array_records qs → first ≡ suc (length before) → home + length qs ≤ n → All AreStaticsKnown qs → All (IsSite n arrays) (sites_behind home first qs)
 sites_known n arrays [] home first before e f le known = All-nil (IsSite n arrays)
@@ -79,6 +71,7 @@ and_first true b h = refl
 and_first false b h = absurd cc
 
 reference_type : (n r : ℕ) → kind_of (record { nibble = n; class_ref = r }) ≡ kinds.Ref → is_type n ≡ true → eqb n 1 ≡ false → 6 ≤ n
+unfolding kind_of
 reference_type zero r k typed void = absurd cc
 reference_type (suc zero) r k typed void = absurd cc
 reference_type (suc (suc zero)) r k typed void = absurd cc

@@ -1,5 +1,4 @@
 pub mod Steps
-pub mod Repeats
 pub mod ArrayLists
 pub mod ImageBytes
 pub mod Counts

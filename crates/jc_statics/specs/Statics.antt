@@ -1,8 +1,6 @@
 -- The static fields of packages, by package and then in the order of the Descriptor, which is the order of their numbers (JCVM 2.2, sections 6.10 and 6.13).
-use Rattle.std.specs.Prelude.{ℕ, ◌+◌, List, [], ◌∷◌, ◌++◌, length, map, flat_map, sum_by, ◌==◌, ◌||◌, if◌then◌else◌}
+use Rattle.std.specs.Prelude.{ℕ, ◌+◌, List, [], ◌∷◌, ◌++◌, length, map, flat_map, sum_by}
 use Rattle.jc_base.specs.declared.ty.Ty.{Ty}
-use Rattle.jc_base.specs.declared.ty.Kind.{Kind}
-use Rattle.jc_base.specs.declared.ty.Kind.TheVariants.{Ref, Byte, Short, Int}
 use Rattle.jc_base.specs.declared.record.StaticRec.{StaticRec}
 use Rattle.jc_base.specs.Cell.{width}
 use Rattle.cap_method.specs.StaticFormat.{Statics}
@@ -10,11 +8,8 @@ use Rattle.cap_desc.specs.declared.type_item.TypeItem.{TypeItem}
 use Rattle.cap_package.specs.StaticChecks.{Place}
 use Rattle.cap_package.specs.PackageRecord.{PackageRecord}
 use Rattle.cap_package.specs.StaticPlaces.{static_places}
+use Rattle.jc_names.specs.WorldTypes.{kind_of}
 use Rattle.jc_statics.specs.Image.{words_at}
-
--- how a field keeps a value of a type
-abbrev pub kind_of : TypeItem → Kind
-kind_of t = if t.nibble == 2 || t.nibble == 3 then Byte else (if t.nibble == 4 then Short else (if t.nibble == 5 then Int else Ref))
 
 -- the cells of the field at a place
 abbrev pub cells_at : Place → ℕ

@@ -1,39 +1,14 @@
 ghost use Rattle.std.specs.Prelude.{◌≡◌, ◌/◌, ◌≤◌, ◌∷◌, [], IfOk, slice_index};
-ghost use Rattle.jc_base.specs.Cell.{width};
 ghost use Rattle.cap_method.specs.StaticPart.{statics_seen};
 ghost use Rattle.jc_statics.specs.Image.{image, references, word_at, words_at};
-ghost use Rattle.jc_statics.specs.Statics.{kind_of};
 
 use crate::words::signed;
-use cap_desc::TypeItem;
 use cap_method::StaticPart;
 use jc_base::{Initial, Kind};
 use std::alloc::{AllocError, Global};
 
 /// A handle is a word.
 const MOST_HANDLE: u32 = 65535;
-
-/// How a field keeps a value of a type.
-pub(crate) fn kind_of(ty: TypeItem) -> Kind
-    ensures { result ≡ kind_of ty }
-{
-    match ty.nibble {
-        2 | 3 => Kind::Byte,
-        4 => Kind::Short,
-        5 => Kind::Int,
-        _ => Kind::Ref,
-    }
-}
-
-/// The cells of a field of a kind.
-pub(crate) fn width(kind: Kind) -> u32
-    ensures { result ≡ width kind }
-{
-    match kind {
-        Kind::Int => 2,
-        _ => 1,
-    }
-}
 
 /// The byte of the image at an offset.
 #[tactic(auto, using(crate::proofs::ImageBytes::byte_in_zeros, crate::proofs::ImageBytes::byte_in_values))]

@@ -7,10 +7,9 @@ ghost use Rattle.jc_statics.specs.Arrays.{array_record, array_records, cells_of}
 ghost use Rattle.jc_statics.specs.Statics.{cells_at, static_cells};
 ghost use Rattle.jc_statics.specs.Room.{statics_fault, arrays_fault};
 
-use crate::image::{kind_of, width};
 use cap_method::{ArrayInit, StaticPart};
 use cap_package::{Package, Packages};
-use jc_names::LinkFault;
+use jc_names::{LinkFault, kind_of, width};
 
 /// The type of elements that take one byte each, boolean being the other one.
 const BYTE: u8 = 3;

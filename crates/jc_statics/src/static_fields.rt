@@ -10,11 +10,11 @@ ghost use Rattle.jc_names.specs.WorldTypes.{type_of};
 ghost use Rattle.jc_statics.specs.Known.{AreStaticsKnown, StandApart};
 ghost use Rattle.jc_statics.specs.Statics.{cells_at, site, static_cells, static_record, records_from, static_records};
 
-use crate::image::{kind_of, width, words_at};
+use crate::image::words_at;
 use cap_method::StaticPart;
 use cap_package::{Package, Packages, StaticPlace};
 use jc_base::{StaticRec, Statics, Ty};
-use jc_names::Names;
+use jc_names::{Names, kind_of, width};
 use std::alloc::{AllocError, Global};
 
 /// A package among all: its number, and the handle of its first initial array.
