@@ -38,6 +38,3 @@ pub use packaging::package;
 pub use parts::{OwnedParts, Parts};
 pub use places::StaticPlaces;
 pub use static_place::StaticPlace;
-
-#[cfg(test)]
-mod tests;
