@@ -1,16 +1,15 @@
 #!/usr/bin/env python3
 """Makes the longest bare methods of each shape, and methods of half the length, and times `probe` on them.
 
-    bench/make_methods.py FOLDER [CAPCHECK]
+    bench/make_methods.py FOLDER [CAPCHECK [PERCENT]]
 
 Each shape becomes the folders FOLDER/SHAPE-full and FOLDER/SHAPE-half with a Method.cap each. With
 CAPCHECK, the path of the program or of the script `capcheck`, the time of `probe` on both is printed side
-by side, with its first line. A method has at most 32,767 bytes of code; the budget of steps is as many.
+by side, with its first line. A method has at most 32,767 bytes of code, of which PERCENT, or else all, are
+made; the budget of steps is as many.
 """
-import os
-import subprocess
-import sys
-import time
+from packages import write_component
+from timing import run
 
 RETURN_ZERO = bytes([0x03, 0x78])
 
@@ -35,28 +34,10 @@ def conditionals(size):
 SHAPES = [straight, branches, conditionals]
 
 
-def probe(capcheck, folder, budget):
-    begin = time.monotonic()
-    done = subprocess.run([capcheck, "probe", folder, str(budget)], capture_output=True, text=True)
-    first = done.stdout.split("\n", 1)[0]
-    return time.monotonic() - begin, done.returncode, first
+def make(shape, share, folder):
+    size = int(32767 * share)
+    write_component(folder, 7, bytes([0, 0x02, 0x00]) + shape(size))
+    return [folder, str(size)]
 
 
-def main(words):
-    if not 2 <= len(words) <= 3:
-        sys.exit(__doc__)
-    for shape in SHAPES:
-        row = []
-        for name, size in (("full", 32767), ("half", 16383)):
-            folder = os.path.join(words[1], shape.__name__ + "-" + name)
-            os.makedirs(folder, exist_ok=True)
-            info = bytes([0, 0x02, 0x00]) + shape(size)
-            with open(os.path.join(folder, "Method.cap"), "wb") as file:
-                file.write(bytes([7]) + len(info).to_bytes(2, "big") + info)
-            if len(words) == 3:
-                seconds, status, first = probe(words[2], os.path.abspath(folder), size)
-                row.append("%s %6.2f s status %d %s" % (name, seconds, status, first))
-        print("%-13s %s" % (shape.__name__, "   ".join(row)), flush=True)
-
-
-main(sys.argv)
+run(__doc__, "probe", SHAPES, make)

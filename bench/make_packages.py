@@ -1,19 +1,16 @@
 #!/usr/bin/env python3
 """Makes the largest packages of each shape, and packages of half the size, and times `show` on them.
 
-    bench/make_packages.py FOLDER [CAPCHECK]
+    bench/make_packages.py FOLDER [CAPCHECK [PERCENT]]
 
 Each shape becomes the folders FOLDER/SHAPE-full and FOLDER/SHAPE-half. With CAPCHECK, the path of the
 program or of the script `capcheck`, the time of `show` on both is printed side by side, with its first
-line. A component has at most 65,535 bytes of info; each shape fills one or two of them with as many
-records as fit, so that the conditions on the agreement of the parts compare as many pairs as they can.
+line. A component has at most 65,535 bytes of info, of which each shape fills PERCENT, or else all, in one or
+two components with as many records as fit, so that the conditions on the agreement of the parts compare as
+many pairs as they can.
 """
-import os
-import subprocess
-import sys
-import time
-
 from packages import BOOLEAN, Package, class_record, method, static_field, u2
+from timing import run
 
 
 def code(count, start):
@@ -99,25 +96,9 @@ def arrays(size):
 SHAPES = [methods_only, statics_only, dispatch, exports, handlers, interfaces, arrays]
 
 
-def show(capcheck, folder):
-    begin = time.monotonic()
-    done = subprocess.run([capcheck, "show", folder], capture_output=True, text=True)
-    first = done.stdout.split("\n", 1)[0]
-    return time.monotonic() - begin, done.returncode, first
+def make(shape, share, folder):
+    shape(int(65535 * share)).write(folder)
+    return [folder]
 
 
-def main(words):
-    if not 2 <= len(words) <= 3:
-        sys.exit(__doc__)
-    for shape in SHAPES:
-        row = []
-        for name, size in (("full", 65535), ("half", 32767)):
-            folder = os.path.join(words[1], shape.__name__ + "-" + name)
-            shape(size).write(folder)
-            if len(words) == 3:
-                seconds, status, first = show(words[2], os.path.abspath(folder))
-                row.append("%s %6.2f s status %d %s" % (name, seconds, status, first))
-        print("%-13s %s" % (shape.__name__, "   ".join(row)), flush=True)
-
-
-main(sys.argv)
+run(__doc__, "show", SHAPES, make)

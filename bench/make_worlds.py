@@ -1,11 +1,12 @@
 #!/usr/bin/env python3
 """Makes the largest worlds and the methods that take longest to type, and each of half the size, and times `check` on them.
 
-    bench/make_worlds.py FOLDER [CAPCHECK]
+    bench/make_worlds.py FOLDER [CAPCHECK [PERCENT]]
 
 Each shape becomes the folders FOLDER/SHAPE-full/NN and FOLDER/SHAPE-half/NN, one for each package, in
 their order; the file of roles stands in the first. With CAPCHECK, the path of the program or of the script
-`capcheck`, the time of `check` on both is printed side by side, with its first line.
+`capcheck`, the time of `check` on both is printed side by side, with its first line. With PERCENT, the
+shapes have this much of the sizes below.
 
 The worlds have 16 packages (half: 8), with all the classes that 16 packages can have: 4,080 and not 4,096,
 since a Descriptor counts the classes of its package in one byte. The methods are of 32,767 bytes (half:
@@ -15,11 +16,9 @@ Each place of `deep_handlers` takes as many steps as there are handlers, registe
 multiplied: it has 16 such places (half: 8).
 """
 import os
-import subprocess
-import sys
-import time
 
 from packages import NO_SUPERCLASS, SHORT, Package, class_record, instance_field, method, static_field, u2
+from timing import run
 
 CLASSES = 255       # of a package
 ROLES = 8
@@ -40,6 +39,10 @@ def external(package, token):
 
 def exported(offset, fields=(), methods=()):
     return u2(offset) + bytes([len(fields), len(methods)]) + b"".join(map(u2, fields)) + b"".join(map(u2, methods))
+
+
+def part(share, most):
+    return max(int(share * most), 1)
 
 
 # ---- worlds with as many classes and methods as there can be
@@ -111,14 +114,14 @@ def full_package(number, above):
     return package
 
 
-def chain(full):
+def chain(share):
     """All classes are one chain; instances have up to 32,640 cells, and static fields as many."""
-    return with_roles([full_package(n, above_in_chain) for n in range(16 if full else 8)])
+    return with_roles([full_package(n, above_in_chain) for n in range(part(share, 16))])
 
 
-def tree(full):
+def tree(share):
     """The same, but all classes stand below object."""
-    return with_roles([full_package(n, above_in_tree) for n in range(16 if full else 8)])
+    return with_roles([full_package(n, above_in_tree) for n in range(part(share, 16))])
 
 
 def with_roles(packages):
@@ -177,12 +180,12 @@ def branch(opcode, distance):
 
 def padded(code, size):
     """The code with as many instructions that do nothing before its last one as fill it up."""
-    return code + bytes(size - len(code) - 1) + RETURN
+    return code + bytes(max(size - len(code) - 1, 0)) + RETURN
 
 
-def straight(full):
+def straight(share):
     """The common shape: long straight code over 255 registers, with a branch ahead in every fifth instruction."""
-    size = 32767 if full else 16383
+    size = part(share, 32767)
     code = b"".join(bytes([SCONST_0, SSTORE, x]) for x in range(255))
     unit = 0
     while len(code) + 12 <= size:
@@ -192,9 +195,9 @@ def straight(full):
     return with_method(padded(code, size), 2, 1)
 
 
-def covered(full):
+def covered(share):
     """Straight code under 255 handlers: each of its places leads to each of them."""
-    size = 32767 if full else 16383
+    size = part(share, 32767)
     code = b"".join(bytes([SCONST_0, SSTORE, x]) for x in range(255))
     return with_method(padded(code, size - 1) + RETURN, 1, 1, [(0, size - 1, size - 1)] * 255)
 
@@ -205,10 +208,10 @@ def all_registers(index):
     return first + b"".join(bytes([ALOAD_0, ASTORE, x]) for x in range(1, 255))
 
 
-def deep_handlers(full):
+def deep_handlers(share):
     """Places under 255 handlers at one entry, where all registers have class throwable by another way; at the
     places they have the lowest class of a chain of 3,825. So each merge climbs the chain for each register."""
-    places, classes = 16 if full else 8, 15 * CLASSES
+    places, classes = part(share, 16), 15 * CLASSES
     before = all_registers(classes - 2) + bytes([ACONST_NULL, SCONST_0])
     behind = bytes([POP]) + all_registers(0)
     start = len(before) + 3 + len(behind)
@@ -226,10 +229,10 @@ def back_branches(count, head, at):
     return code
 
 
-def climbing(full):
+def climbing(share):
     """Half of the code is straight, and behind it stand branches back to its beginning. Each raises register 0 by
     one class along a chain, so that all the straight code is gone over again for each."""
-    size = 8192 if full else 4096
+    size = part(share, 8192)
     code = bytes([ACONST_NULL, ASTORE_0])
     head = len(code)
     code += bytes(size // 2)
@@ -237,10 +240,10 @@ def climbing(full):
     return with_method(padded(code + back_branches(count, head, len(code)), size), 1, count)
 
 
-def waves(full):
+def waves(share):
     """The same, but the straight code moves each register to the next: each class that comes to register 0 goes
     over all of them, one in each round. So every register rises through all classes, one at a time, at every place."""
-    size, registers = (2048, 128) if full else (1024, 64)
+    size, registers = part(share, 2048), part(share, 128)
     code = b"".join(bytes([ACONST_NULL, ASTORE, x]) for x in range(registers))
     head = len(code)
     code += b"".join(bytes([ALOAD, x - 1, ASTORE, x]) for x in range(registers - 1, 0, -1))
@@ -251,32 +254,12 @@ def waves(full):
 SHAPES = [tree, chain, straight, covered, deep_handlers, climbing, waves]
 
 
-def write(packages, folder):
+def make(shape, share, folder):
     dirs = []
-    for number, package in enumerate(packages):
+    for number, package in enumerate(shape(share)):
         dirs.append(os.path.join(folder, "%02d" % number))
         package.write(dirs[-1])
     return dirs
 
 
-def check(capcheck, dirs):
-    begin = time.monotonic()
-    done = subprocess.run([capcheck, "check", *dirs], capture_output=True, text=True)
-    first = done.stdout.split("\n", 1)[0]
-    return time.monotonic() - begin, done.returncode, first
-
-
-def main(words):
-    if not 2 <= len(words) <= 3:
-        sys.exit(__doc__)
-    for shape in SHAPES:
-        row = []
-        for name, full in (("full", True), ("half", False)):
-            dirs = write(shape(full), os.path.abspath(os.path.join(words[1], shape.__name__ + "-" + name)))
-            if len(words) == 3:
-                seconds, status, first = check(words[2], dirs)
-                row.append("%s %6.2f s status %d %s" % (name, seconds, status, first))
-        print("%-13s %s" % (shape.__name__, "   ".join(row)), flush=True)
-
-
-main(sys.argv)
+run(__doc__, "check", SHAPES, make)

@@ -13,6 +13,14 @@ def u2(n):
     return n.to_bytes(2, "big")
 
 
+def write_component(folder, tag, info):
+    """Writes a component's file into a folder, which is made where it is missing."""
+    assert len(info) <= MOST, (folder, tag, len(info))
+    os.makedirs(folder, exist_ok=True)
+    with open(os.path.join(folder, NAMES[tag] + ".cap"), "wb") as file:
+        file.write(bytes([tag]) + u2(len(info)) + info)
+
+
 def class_record(public=(), visible=(), above=NO_SUPERCLASS, cells=0):
     """A class with full tables from token 0 on, its superclass's reference, and so many cells of its own."""
     head = bytes([0]) + u2(above) + bytes([cells, 0xFF, 0, 0, len(public), 0, len(visible)])
@@ -117,11 +125,8 @@ class Package:
         return infos
 
     def write(self, folder):
-        os.makedirs(folder, exist_ok=True)
         for tag, info in self.infos().items():
-            assert len(info) <= MOST, (folder, tag, len(info))
-            with open(os.path.join(folder, NAMES[tag] + ".cap"), "wb") as file:
-                file.write(bytes([tag]) + u2(len(info)) + info)
+            write_component(folder, tag, info)
         if self.roles is not None:
             with open(os.path.join(folder, "Roles.cap"), "wb") as file:
                 file.write(self.roles)

@@ -19,6 +19,3 @@ pub use class_part::ClassPart;
 pub use implemented::Implemented;
 pub use interfaces::Interfaces;
 pub use read_classes::classes;
-
-#[cfg(test)]
-mod tests;

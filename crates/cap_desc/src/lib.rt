@@ -30,6 +30,3 @@ pub use read::descriptor;
 pub use records::{FieldInfo, MethodInfo};
 pub use type_item::TypeItem;
 pub use types::Types;
-
-#[cfg(test)]
-mod tests;

@@ -32,6 +32,3 @@ pub use import_reader::imports;
 pub use import_record::Imports;
 pub use lists::{AppletInfos, CustomEntries, PackageInfos};
 pub use package_info::PackageInfo;
-
-#[cfg(test)]
-mod tests;

@@ -24,6 +24,3 @@ pub use method_part::MethodPart;
 pub use read_methods::methods;
 pub use read_statics::statics;
 pub use static_part::StaticPart;
-
-#[cfg(test)]
-mod tests;

@@ -30,6 +30,3 @@ pub use packages::Packages;
 pub use packaging::{agreed_package, package};
 pub use places::StaticPlaces;
 pub use static_place::StaticPlace;
-
-#[cfg(test)]
-mod tests;

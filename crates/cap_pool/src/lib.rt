@@ -22,6 +22,3 @@ pub use location_reader::locations;
 pub use location_record::Locations;
 pub use pool_reader::pool;
 pub use pool_record::{Pool, PoolEntry};
-
-#[cfg(test)]
-mod tests;

@@ -1,0 +1,28 @@
+"""Times a command on each shape of input, at its full size and at half of it, side by side."""
+import os
+import subprocess
+import sys
+import time
+
+
+def timed(words):
+    """The seconds that a command takes, its status and the first line that it prints."""
+    begin = time.monotonic()
+    done = subprocess.run(words, capture_output=True, text=True)
+    return "%6.2f s status %d %s" % (time.monotonic() - begin, done.returncode, done.stdout.split("\n", 1)[0])
+
+
+def run(usage, command, shapes, make):
+    """Runs a maker on its own words, FOLDER [CAPCHECK [PERCENT]]. `make(shape, share, folder)` makes a shape of
+    this share of its full size in the folder, and gives the words that stand behind the command's name."""
+    words = sys.argv[1:]
+    if not 1 <= len(words) <= 3:
+        sys.exit(usage)
+    share = int(words[2]) / 100 if len(words) == 3 else 1
+    for shape in shapes:
+        row = []
+        for name, size in (("full", share), ("half", share / 2)):
+            behind = make(shape, size, os.path.abspath(os.path.join(words[0], shape.__name__ + "-" + name)))
+            if len(words) > 1:
+                row.append(name + " " + timed([words[1], command, *behind]))
+        print("%-13s %s" % (shape.__name__, "   ".join(row)), flush=True)

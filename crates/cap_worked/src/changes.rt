@@ -1,0 +1,174 @@
+use crate::components::DIRECTORY;
+use cap_bytes::Part;
+use cap_package::OwnedParts;
+use std::alloc::{AllocError, Global};
+
+/// A component and its file, with tag and size.
+pub type File<'a> = (Part, &'a [u8]);
+
+/// What is changed in a package.
+#[derive(Clone, Copy)]
+pub enum Change<'a> {
+    /// Another byte at this offset of the component's file.
+    Byte(Part, usize, u8),
+    /// Other bytes between two offsets of the component's file; its size follows, in the file and in the
+    /// Directory.
+    Splice(Part, usize, usize, &'a [u8]),
+    /// Another file for the component; its size in the Directory stays.
+    File(Part, &'a [u8]),
+    /// Another file for the component; its size in the Directory follows.
+    Sized(Part, &'a [u8]),
+    /// Another size of the component in the Directory.
+    Size(Part, u16),
+    /// No such component; its size in the Directory stays.
+    Without(Part),
+}
+
+fn set_byte(bytes: &mut Vec<u8>, at: usize, byte: u8) {
+    if at < bytes.len() {
+        bytes[at] = byte;
+    }
+}
+
+fn set_number(bytes: &mut Vec<u8>, at: usize, number: u16) {
+    let [high, low] = number.to_be_bytes();
+    set_byte(bytes, at, high);
+    set_byte(bytes, at.wrapping_add(1), low);
+}
+
+/// Sets the size of a component in a Directory's file, where the size of tag 1 stands at offset 3.
+fn set_size(directory: &mut Vec<u8>, part: Part, size: u16) {
+    set_number(directory, 2 * part.0 as usize + 1, size);
+}
+
+/// The size of the info in a file.
+fn info_size(file: &[u8]) -> u16 {
+    u16::try_from(file.len().saturating_sub(3)).unwrap_or(0)
+}
+
+fn spliced(
+    alloc: Global,
+    file: &[u8],
+    from: usize,
+    to: usize,
+    piece: &[u8],
+) -> Result<Vec<u8>, AllocError> {
+    if from > to || to > file.len() {
+        return Vec::from_slice(alloc, file);
+    }
+    let mut whole = Vec::new(alloc);
+    whole.extend_from_slice(&file[..from])?;
+    whole.extend_from_slice(piece)?;
+    whole.extend_from_slice(&file[to..])?;
+    let size = info_size(&whole);
+    set_number(&mut whole, 1, size);
+    Ok(whole)
+}
+
+/// The file of a component after the changes in it.
+fn changed_file(
+    alloc: Global,
+    file: File<'_>,
+    changes: &[Change<'_>],
+) -> Result<Vec<u8>, AllocError> {
+    let (part, bytes) = file;
+    let mut own = Vec::from_slice(alloc, bytes)?;
+    for change in changes {
+        match change {
+            Change::Byte(of, at, byte) => {
+                if of.0 == part.0 {
+                    set_byte(&mut own, *at, *byte);
+                }
+            }
+            Change::Splice(of, from, to, piece) => {
+                if of.0 == part.0 {
+                    own = spliced(alloc, &own, *from, *to, piece)?;
+                }
+            }
+            _ => {}
+        }
+    }
+    Ok(own)
+}
+
+/// Sets the sizes that changes in the parts make another in a Directory's file.
+fn set_sizes(directory: &mut Vec<u8>, parts: &OwnedParts, changes: &[Change<'_>]) {
+    for change in changes {
+        match change {
+            Change::Size(of, size) => set_size(directory, *of, *size),
+            Change::Sized(of, _) | Change::Splice(of, _, _, _) => {
+                let size = match parts.get(*of) {
+                    Some(file) => info_size(file),
+                    None => info_size(directory),
+                };
+                set_size(directory, *of, size);
+            }
+            _ => {}
+        }
+    }
+}
+
+fn is_without(changes: &[Change<'_>], part: Part) -> bool {
+    let mut without = false;
+    for change in changes {
+        if let Change::Without(of) = change {
+            without = without || of.0 == part.0;
+        }
+    }
+    without
+}
+
+/// Puts a component's file after the changes, where the component is not there and not to be left out.
+fn put(
+    alloc: Global,
+    parts: &mut OwnedParts,
+    file: File<'_>,
+    changes: &[Change<'_>],
+) -> Result<(), AllocError> {
+    let mut own = changed_file(alloc, file, changes)?;
+    if is_without(changes, file.0) {
+        return Ok(());
+    }
+    if file.0.0 == DIRECTORY.0 {
+        set_sizes(&mut own, parts, changes);
+    }
+    if parts.get(file.0).is_some() {
+        return Ok(());
+    }
+    parts.put(file.0, own)
+}
+
+/// Puts the Directory, or all other components.
+fn put_all(
+    alloc: Global,
+    parts: &mut OwnedParts,
+    files: &[File<'_>],
+    changes: &[Change<'_>],
+    directory: bool,
+) -> Result<(), AllocError> {
+    for change in changes {
+        if let Change::File(part, bytes) | Change::Sized(part, bytes) = change {
+            if (part.0 == DIRECTORY.0) == directory {
+                put(alloc, parts, (*part, bytes), changes)?;
+            }
+        }
+    }
+    for (part, bytes) in files {
+        if (part.0 == DIRECTORY.0) == directory {
+            put(alloc, parts, (*part, bytes), changes)?;
+        }
+    }
+    Ok(())
+}
+
+/// The parts of a package after the changes, made in their order. The Directory is the last part.
+pub fn changed(
+    alloc: Global,
+    files: &[File<'_>],
+    changes: &[Change<'_>],
+) -> Result<OwnedParts, AllocError> {
+    let mut parts = OwnedParts::new(alloc);
+    put_all(alloc, &mut parts, files, changes, false)?;
+    put_all(alloc, &mut parts, files, changes, true)?;
+    Ok(parts)
+}

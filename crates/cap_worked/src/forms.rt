@@ -1,0 +1,117 @@
+ghost use Rattle.std.specs.Prelude.{◌≤◌, length};
+
+use cap_bytes::{FormFault, FormKind, Part, View};
+use cap_class::classes;
+use cap_desc::descriptor;
+use cap_frame::{applets, directory, frame, header, imports};
+use cap_method::{methods, statics};
+use cap_pool::{export, locations, pool};
+use std::process::Abort;
+
+/// The component, the offset and the kind of a fault, or `READ`.
+pub(crate) type Told = (u8, u32, &'static str);
+
+/// No fault.
+pub(crate) const READ: Told = (0, 0, "read");
+
+fn kind_name(kind: FormKind) -> &'static str {
+    match kind {
+        FormKind::Cut => "Cut",
+        FormKind::WrongTag => "WrongTag",
+        FormKind::BadMagic => "BadMagic",
+        FormKind::BadVersion => "BadVersion",
+        FormKind::Trailing => "Trailing",
+        FormKind::BadValue => "BadValue",
+        FormKind::Remote => "Remote",
+    }
+}
+
+pub(crate) fn named(fault: FormFault) -> Told {
+    (fault.part, fault.at, kind_name(fault.kind))
+}
+
+/// The first fault in the info of a component.
+pub(crate) fn info_fault(part: Part, info: View<'_>) -> Told
+    requires { length info.bytes.now ≤ 65535 }
+{
+    let fault = match part.0 {
+        1 => header(info).err(),
+        2 => directory(info).err(),
+        3 => applets(info).err(),
+        4 => imports(info).err(),
+        5 => pool(info).err(),
+        6 => classes(info).err(),
+        7 => methods(info).err(),
+        8 => statics(info).err(),
+        9 => locations(info).err(),
+        10 => export(info).err(),
+        _ => descriptor(info).err(),
+    };
+    match fault {
+        Some(fault) => named(fault),
+        None => READ,
+    }
+}
+
+/// The first fault in the file of a component.
+pub(crate) fn file_fault(part: Part, file: &[u8]) -> Told {
+    match frame(file, part) {
+        Ok(info) => info_fault(part, info),
+        Err(fault) => named(fault),
+    }
+}
+
+/// The fault of a file with one byte changed.
+pub(crate) fn changed_fault(part: Part, file: &[u8], at: usize, byte: u8) -> Told {
+    let mut copy = [0u8; 100];
+    if file.len() > 100 || at >= file.len() {
+        return (0, 0, "no such byte");
+    }
+    copy[..file.len()].copy_from_slice(file);
+    copy[at] = byte;
+    file_fault(part, &copy[..file.len()])
+}
+
+/// A file with one byte more.
+pub(crate) fn longer(file: &[u8]) -> [u8; 101]
+    requires { length file.now ≤ 100 }
+{
+    let mut longer = [0u8; 101];
+    longer[..file.len()].copy_from_slice(file);
+    longer
+}
+
+/// The info of a component ends too early at each length before its own, but for some.
+pub(crate) fn ends_early(rt: &impl Abort, part: Part, info: &[u8], whole: &[usize]) {
+    assert!(rt; info.len() <= 100);
+    for n in 0..info.len() {
+        let found = info_fault(part, View::of(&info[..n]));
+        if whole.contains(&n) {
+            assert_eq!(rt; found, READ, "part {} with info {n}", part.0);
+        } else {
+            let cut = (part.0, 3 + n as u32, "Cut");
+            assert_eq!(rt; found, cut, "part {} with info {n}", part.0);
+        }
+    }
+}
+
+/// The file of a component is read whole, and neither cut nor with one byte more.
+pub(crate) fn is_exact(rt: &impl Abort, part: Part, file: &[u8]) {
+    assert!(rt; file.len() >= 3 && file.len() <= 100);
+    assert_eq!(rt; file_fault(part, file), READ, "part {}", part.0);
+    for n in 0..file.len() {
+        let cut = (part.0, n as u32, "Cut");
+        assert_eq!(rt;
+            file_fault(part, &file[..n]),
+            cut,
+            "part {} cut at {n}",
+            part.0
+        );
+    }
+    ends_early(rt, part, &file[3..], &[]);
+    let longer = longer(file);
+    let end = file.len() + 1;
+    let trailing = (part.0, file.len() as u32, "Trailing");
+    assert_eq!(rt; file_fault(part, &longer[..end]), trailing);
+    assert_eq!(rt; info_fault(part, View::of(&longer[3..end])), trailing);
+}

@@ -1,0 +1,40 @@
+//! Worked components and packages. Package T, a small package of eight classes and two methods, stands
+//! here once, with changes of a package by name. The tests read worked components with each reader
+//! (`cap_frame`, `cap_pool`, `cap_class`, `cap_method`, `cap_desc`), and changed packages with
+//! `cap_package`.
+#![tactic(auto)]
+
+mod changes;
+mod components;
+mod plain_package;
+mod whole_package;
+
+pub use changes::{Change, File, changed};
+pub use components::{
+    APPLET, CLASS, CONSTANT_POOL, DEBUG, DESCRIPTOR, DIRECTORY, EXPORT, HEADER, IMPORT, METHOD,
+    REF_LOCATION, STATIC_FIELD,
+};
+pub use plain_package::{
+    PLAIN, PLAIN_CLASS, PLAIN_CONSTANT_POOL, PLAIN_DESCRIPTOR, PLAIN_DIRECTORY, PLAIN_HEADER,
+    PLAIN_IMPORT, PLAIN_METHOD, PLAIN_REF_LOCATION, PLAIN_ROLES, PLAIN_STATIC_FIELD,
+};
+pub use whole_package::WHOLE;
+
+#[cfg(test)]
+mod class_tests;
+#[cfg(test)]
+mod descriptor_tests;
+#[cfg(test)]
+mod form_tests;
+#[cfg(test)]
+mod forms;
+#[cfg(test)]
+mod frame_tests;
+#[cfg(test)]
+mod method_tests;
+#[cfg(test)]
+mod package_tests;
+#[cfg(test)]
+mod pool_tests;
+#[cfg(test)]
+mod samples;
