@@ -11,3 +11,4 @@ pub mod ReadBack
 pub mod Written
 pub mod OwnBytes
 pub mod Rising
+pub mod Refusals

@@ -3,4 +3,5 @@ pub mod Decoding
 pub mod Cases
 pub mod Listing
 pub mod Instructions
+pub mod Refusal
 pub mod Encoding

@@ -2,6 +2,8 @@ use Rattle.std.proofs.Common.{ap, ◌∙◌}
 use Rattle.jc_decode.specs.Decoding.{decoded}
 use Rattle.jc_decode.proofs.Ranges.{begins-answer, fits-answer, allowed-answer, within-answer}
 use Rattle.jc_decode.proofs.Rising.{rising-answer, order-answer}
+use Rattle.jc_decode.proofs.Decoded.{decoded-Begins}
+use Rattle.jc_decode.proofs.Refusals.{Refuses-decoded, refused-answer}
 use Rattle.jc_decode.proofs.decoding.decode.Goals as goal
 
 pub returns-clause-operands : goal.returns-clause-operands
@@ -27,3 +29,15 @@ returns-clause-order c =
 pub returns-clause-rising : goal.returns-clause-rising
 returns-clause-rising c =
     rising-answer c.args.code.bytes.now c.args.at c.insn_at.result (c.insn_at.ensures ∙ ap (decoded c.args.code.bytes.now) c.from.ensures)
+
+pub returns-clause-given : goal.returns-clause-given
+returns-clause-given c =
+    λ i begins. (c.insn_at.ensures ∙ ap (decoded c.args.code.bytes.now) c.from.ensures) ∙ decoded-Begins c.args.code.bytes.now c.args.at i begins
+
+pub returns-clause-refused : goal.returns-clause-refused
+returns-clause-refused c =
+    refused-answer c.args.code.bytes.now c.args.at c.insn_at.result c.are_bytes.ensures (c.insn_at.ensures ∙ ap (decoded c.args.code.bytes.now) c.from.ensures)
+
+pub returns-clause-told : goal.returns-clause-told
+returns-clause-told c =
+    λ e refuses. (c.insn_at.ensures ∙ ap (decoded c.args.code.bytes.now) c.from.ensures) ∙ Refuses-decoded c.args.code.bytes.now c.args.at e refuses

@@ -1,0 +1,464 @@
+-- A code's end is told exactly where no instruction begins for that reason.
+use Rattle.std.proofs.Common.{inl, inr, subst, ◌≡◌, ◌<◌, ◌≤◌, ◌+◌, ◌*◌, ◌-◌, ℕ, zero, suc, Bool, true, false, cond, nat_le, get_or, Option, Some, None, Result, Ok, Err, List, length, drop, refl, sym, ap, ◌∙◌, arith, rules}
+use Rattle.std.specs.Prelude.{ℤ, ◌<ℤ◌, ◌≤ℤ◌, ◌&&◌, int_lt, unsigned_abs, map, not, replicate, IsTrue, IfErr}
+use Rattle.std.specs.List.{find, range_with_len}
+use Rattle.std.proofs.lemmas.Int.{ints}
+use Rattle.std.proofs.lemmas.Bool.{cases_lt}
+use Rattle.std.proofs.lemmas.List.{get_or-replicate}
+use Rattle.std.proofs.lemmas.List.FromFn.{get_or-map-range_with_len}
+use Rattle.std.proofs.Math.Nat.{mul-le-mul_left}
+use Rattle.byteorder.specs.Endian.{big_number}
+use Rattle.cap_bytes.specs.Number.{number_at}
+use Rattle.jc_decode.specs.declared.layout.Operand.{Operand}
+use Rattle.jc_decode.specs.declared.layout.Operand.TheVariants.{Absent, U1, U2, S1, S2, S4, DupWords, SwapWords, ArrayType, TestedType}
+use Rattle.jc_decode.specs.declared.layout.Cases.{Cases}
+use Rattle.jc_decode.specs.declared.layout.Cases.TheVariants.{Range, Pairs}
+use Rattle.jc_decode.specs.declared.layout.Cases.TheVariants.{Absent as NoCases}
+use Rattle.jc_decode.specs.declared.layout.Layout.{Layout}
+use Rattle.jc_decode.specs.declared.layout.Opcode.{Opcode}
+use Rattle.jc_decode.specs.declared.layout.Opcode.TheVariants.{Instruction, Reserved, Unused}
+use Rattle.jc_decode.specs.declared.insn.CodeEnd.{CodeEnd}
+use Rattle.jc_decode.specs.declared.insn.CodeEnd.TheVariants.{Cut, BadOperand, NoOpcode, OutOfScope}
+use Rattle.jc_decode.specs.declared.insn.Insn.{Insn}
+use Rattle.jc_decode.specs.Layout.{Span, width, total_width, layout_of, layout_from, opcode, holds, spans, is_out_of_scope, instruction_of}
+use Rattle.jc_decode.specs.Decoding.{◌>>=◌, or_cut, reached, bad_byte, bad_operand, number_of, value, allows, operand_at, key_at, rises, keys_rise, pair_width, pairs_end, range_end, range_count, end_of_cases, table_end, decoded, AreBytes}
+use Rattle.jc_decode.specs.Refusal.{IsBegun, HasOperands, IsFirstFall, Refuses, nothing_there, left_out, unused, operands_cut, forbidden, bounds_turned, range_cut, pairs_cut, key_falls}
+use Rattle.jc_decode.proofs.Decoded.{reached-ok, reached-within, or_cut-ok}
+use Rattle.jc_decode.proofs.Ranges.{number_of-fits}
+
+-- ---- steps that fail
+
+err-same : {A : Type 0} (d e : CodeEnd) (r : Result A CodeEnd) → r ≡ Err d → r ≡ Err e → d ≡ e
+err-same d e r h k = cc
+
+-- a chain fails at its first step, or behind it
+from_failed : {A B C : Type 0} (r : Result A CodeEnd) (f : A → Result B CodeEnd) (e : CodeEnd)
+    → (r >>= f) ≡ Err e → (r ≡ Err e → C) → ((x : A) → r ≡ Ok x → f x ≡ Err e → C) → C
+from_failed (Ok x) f e h first behind = behind x refl h
+from_failed (Err d) f e h first behind = first (ap Err (err-same d e _ refl h))
+
+or_cut-failed : {A : Type 0} (o : Option A) (e : CodeEnd) → or_cut o ≡ Err e → (o ≡ None) × (Cut ≡ e)
+or_cut-failed None e h = (refl, cc)
+or_cut-failed (Some x) e h = absurd (cc)
+
+nat_le-false : (a b : ℕ) → nat_le a b ≡ false → b < a
+nat_le-false a b h = grind arith
+
+nat_le-true : (a b : ℕ) → nat_le a b ≡ true → a ≤ b
+nat_le-true a b h = grind arith
+
+at_most : (a b : ℕ) → a ≤ b → nat_le a b ≡ true
+at_most a b h = grind arith
+
+above : (a b : ℕ) → b < a → nat_le a b ≡ false
+above a b h = grind arith
+
+reached-failed : (xs : List ℕ) (end : ℕ) (e : CodeEnd) → reached xs end ≡ Err e → (length xs < end) × (Cut ≡ e)
+reached-failed xs end e h = by_test (nat_le end (length xs)) refl h
+  where
+    by_test : (b : Bool) → nat_le end (length xs) ≡ b → cond b (Ok end) (Err Cut) ≡ Err e → (length xs < end) × (Cut ≡ e)
+    by_test true is h = absurd (cc)
+    by_test false is h = (nat_le-false end (length xs) is, cc)
+
+reached-past : (xs : List ℕ) (end : ℕ) → length xs < end → reached xs end ≡ Err Cut
+reached-past xs end h = rw (above end (length xs) h) refl
+
+-- ---- bytes that are there
+
+number_at-there : (w at : ℕ) (xs : List ℕ) → at + w ≤ length xs → number_at w at xs ≡ Some (big_number w (drop at xs))
+number_at-there w at xs h = rw (at_most (at + w) (length xs) h) refl
+
+number_at-past : (w at : ℕ) (xs : List ℕ) → length xs < at + w → number_at w at xs ≡ None
+number_at-past w at xs h = rw (above (at + w) (length xs) h) refl
+
+-- where no number is the bytes end before it
+number_at-none : (w at : ℕ) (xs : List ℕ) → number_at w at xs ≡ None → length xs < at + w
+number_at-none w at xs h = by_test (nat_le (at + w) (length xs)) refl h
+  where
+    by_test : (b : Bool) → nat_le (at + w) (length xs) ≡ b → cond b (Some (big_number w (drop at xs))) None ≡ None → length xs < at + w
+    by_test true is h = absurd (cc)
+    by_test false is h = nat_le-false (at + w) (length xs) is
+
+-- ---- opcodes
+
+-- of all opcodes: those from 185 to 253 alone are unused, and behind the first operand nothing is forbidden
+abbrev is_unused : Opcode → Bool
+is_unused (Instruction l) = false
+is_unused Reserved = false
+is_unused Unused = true
+
+abbrev allows_all : Operand → Bool
+allows_all DupWords = false
+allows_all SwapWords = false
+allows_all ArrayType = false
+allows_all TestedType = false
+allows_all _ = true
+
+-- high stands where a table of offsets begins
+abbrev has_high : Cases → Operand → Bool
+has_high Range z = nat_le 1 (width z)
+has_high _ z = true
+
+abbrev is_plain : Result Layout CodeEnd → Bool
+is_plain (Ok l) = allows_all l.y && (allows_all l.z && has_high l.cases l.z)
+is_plain (Err e) = true
+
+unused-all : map (λ op. is_unused (opcode op)) (range_with_len 0 256) ≡ map (λ op. nat_le 185 op && nat_le op 253) (range_with_len 0 256)
+unfolding opcode
+unused-all = refl
+
+plain-all : map (λ op. is_plain (layout_of op)) (range_with_len 0 256) ≡ replicate 256 true
+unfolding layout_of opcode
+plain-all = refl
+
+unused-at : (op : ℕ) → op < 256 → is_unused (opcode op) ≡ (nat_le 185 op && nat_le op 253)
+unused-at op h =
+    sym (get_or-map-range_with_len (λ (n : ℕ). is_unused (opcode n)) 0 256 op op false h (omega arith))
+    ∙ ap (λ (bs : List Bool). get_or bs op false) unused-all
+    ∙ get_or-map-range_with_len (λ (n : ℕ). nat_le 185 n && nat_le n 253) 0 256 op op false h (omega arith)
+
+plain-at : (op : ℕ) → op < 256 → is_plain (layout_of op) ≡ true
+plain-at op h =
+    sym (get_or-map-range_with_len (λ (n : ℕ). is_plain (layout_of n)) 0 256 op op false h (omega arith))
+    ∙ ap (λ (bs : List Bool). get_or bs op false) plain-all ∙ get_or-replicate 256 op true false h
+
+both : (a b : Bool) → (a && b) ≡ true → (a ≡ true) × (b ≡ true)
+both true b h = (refl, h)
+both false b h = absurd (cc)
+
+-- an opcode that stands in the code is a byte
+op-fits : (xs : List ℕ) (at op : ℕ) → AreBytes xs → number_at 1 at xs ≡ Some op → op < 256
+op-fits xs at op bytes h = number_of-fits U1 xs at op bytes h
+
+is-unused : (o : Opcode) → is_unused o ≡ true → o ≡ Unused
+is-unused (Instruction l) h = absurd (cc)
+is-unused Reserved h = absurd (cc)
+is-unused Unused h = refl
+
+layout_of-unused : (op : ℕ) → 185 ≤ op → op ≤ 253 → layout_of op ≡ Err (NoOpcode op)
+unfolding layout_of
+layout_of-unused op low high =
+    let inside : (nat_le 185 op && nat_le op 253) ≡ true = rw (at_most 185 op low, at_most op 253 high) refl in
+    ap (layout_from op) (is-unused (opcode op) (unused-at op (omega arith) ∙ inside))
+
+layout_of-left_out : (op : ℕ) → is_out_of_scope op ≡ true → layout_of op ≡ Err (OutOfScope op)
+unfolding layout_of opcode
+layout_of-left_out op h = rw h refl
+
+never-reserved : (o : Option Span) → instruction_of o ≡ Reserved → ⊥
+never-reserved None h = absurd (cc)
+never-reserved (Some s) h = absurd (cc)
+
+reserved-left_out : (op : ℕ) → opcode op ≡ Reserved → is_out_of_scope op ≡ true
+unfolding opcode
+reserved-left_out op h = by_test (is_out_of_scope op) h
+  where
+    by_test : (b : Bool) → cond b Reserved (instruction_of (find (holds op) spans)) ≡ Reserved → b ≡ true
+    by_test true h = refl
+    by_test false h = absurd (never-reserved _ h)
+
+-- an opcode that has no operands is left out or unused
+no-layout : (xs : List ℕ) (at op : ℕ) (e : CodeEnd) → AreBytes xs → number_at 1 at xs ≡ Some op → layout_of op ≡ Err e → Refuses xs at e
+unfolding layout_of
+no-layout xs at op e bytes there h = by_opcode (opcode op) refl h
+  where
+    by_opcode : (o : Opcode) → opcode op ≡ o → layout_from op o ≡ Err e → Refuses xs at e
+    by_opcode (Instruction l) is h = absurd (cc)
+    by_opcode Reserved is h =
+        let out : IsTrue (is_out_of_scope op) = rw (reserved-left_out op is) refl in
+        subst (Refuses xs at) (err-same (OutOfScope op) e _ refl h) (left_out op there out)
+    by_opcode Unused is h =
+        let inside = both (nat_le 185 op) (nat_le op 253) (sym (unused-at op (op-fits xs at op bytes there)) ∙ ap is_unused is) in
+        subst (Refuses xs at) (err-same (NoOpcode op) e _ refl h) (unused op there (nat_le-true 185 op inside.0) (nat_le-true op 253 inside.1))
+
+-- ---- operands
+
+number_of-none : (o : Operand) (xs : List ℕ) (at : ℕ) → at + width o ≤ length xs → number_of o xs at ≡ None → ⊥
+number_of-none Absent xs at h none = absurd (cc)
+number_of-none U1 xs at h none = absurd (omega (arith, number_at-none 1 at xs none))
+number_of-none U2 xs at h none = absurd (omega (arith, number_at-none 2 at xs none))
+number_of-none S1 xs at h none = absurd (omega (arith, number_at-none 1 at xs none))
+number_of-none S2 xs at h none = absurd (omega (arith, number_at-none 2 at xs none))
+number_of-none S4 xs at h none = absurd (omega (arith, number_at-none 4 at xs none))
+number_of-none DupWords xs at h none = absurd (omega (arith, number_at-none 1 at xs none))
+number_of-none SwapWords xs at h none = absurd (omega (arith, number_at-none 1 at xs none))
+number_of-none ArrayType xs at h none = absurd (omega (arith, number_at-none 1 at xs none))
+number_of-none TestedType xs at h none = absurd (omega (arith, number_at-none 1 at xs none))
+
+-- what may be forbidden is one byte
+forbidden-byte : (o : Operand) (xs : List ℕ) (at n : ℕ) → number_of o xs at ≡ Some n → allows o n ≡ false → number_at 1 at xs ≡ Some n
+forbidden-byte Absent xs at n h refused = absurd (cc)
+forbidden-byte U1 xs at n h refused = absurd (cc)
+forbidden-byte U2 xs at n h refused = absurd (cc)
+forbidden-byte S1 xs at n h refused = absurd (cc)
+forbidden-byte S2 xs at n h refused = absurd (cc)
+forbidden-byte S4 xs at n h refused = absurd (cc)
+forbidden-byte DupWords xs at n h refused = h
+forbidden-byte SwapWords xs at n h refused = h
+forbidden-byte ArrayType xs at n h refused = h
+forbidden-byte TestedType xs at n h refused = h
+
+byte-forbidden : (o : Operand) (xs : List ℕ) (at n : ℕ) → number_at 1 at xs ≡ Some n → allows o n ≡ false → number_of o xs at ≡ Some n
+byte-forbidden Absent xs at n h refused = absurd (cc)
+byte-forbidden U1 xs at n h refused = absurd (cc)
+byte-forbidden U2 xs at n h refused = absurd (cc)
+byte-forbidden S1 xs at n h refused = absurd (cc)
+byte-forbidden S2 xs at n h refused = absurd (cc)
+byte-forbidden S4 xs at n h refused = absurd (cc)
+byte-forbidden DupWords xs at n h refused = h
+byte-forbidden SwapWords xs at n h refused = h
+byte-forbidden ArrayType xs at n h refused = h
+byte-forbidden TestedType xs at n h refused = h
+
+-- an operand whose bytes are there fails where it is forbidden
+record Forbidden (o : Operand) (xs : List ℕ) (at : ℕ) (e : CodeEnd) : Type 0 where
+  byte : ℕ
+  there : number_of o xs at ≡ Some byte
+  not_allowed : allows o byte ≡ false
+  is : BadOperand byte ≡ e
+
+operand_at-failed : (o : Operand) (xs : List ℕ) (at : ℕ) (e : CodeEnd) → at + width o ≤ length xs → operand_at o xs at ≡ Err e → Forbidden o xs at e
+operand_at-failed o xs at e inside h = by_number (number_of o xs at) refl h
+  where
+    by_test : (n : ℕ) (b : Bool) → number_of o xs at ≡ Some n → allows o n ≡ b → cond b (Ok (value o n)) (Err (BadOperand n)) ≡ Err e → Forbidden o xs at e
+    by_test n true there is h = absurd (cc)
+    by_test n false there is h = record { byte = n; there = there; not_allowed = is; is = cc }
+
+    by_number : (m : Option ℕ) → number_of o xs at ≡ m → (or_cut m >>= (λ n. cond (allows o n) (Ok (value o n)) (Err (BadOperand n)))) ≡ Err e → Forbidden o xs at e
+    by_number None none h = absurd (number_of-none o xs at inside none)
+    by_number (Some n) there h = by_test n (allows o n) there refl h
+
+allows_all-allows : (o : Operand) (n : ℕ) → allows_all o ≡ true → allows o n ≡ false → ⊥
+allows_all-allows Absent n all refused = absurd (cc)
+allows_all-allows U1 n all refused = absurd (cc)
+allows_all-allows U2 n all refused = absurd (cc)
+allows_all-allows S1 n all refused = absurd (cc)
+allows_all-allows S2 n all refused = absurd (cc)
+allows_all-allows S4 n all refused = absurd (cc)
+allows_all-allows DupWords n all refused = absurd (cc)
+allows_all-allows SwapWords n all refused = absurd (cc)
+allows_all-allows ArrayType n all refused = absurd (cc)
+allows_all-allows TestedType n all refused = absurd (cc)
+
+never-failed : (o : Operand) (xs : List ℕ) (at : ℕ) (e : CodeEnd) → at + width o ≤ length xs → allows_all o ≡ true → operand_at o xs at ≡ Err e → ⊥
+never-failed o xs at e inside all h = let f = operand_at-failed o xs at e inside h in allows_all-allows o f.byte all f.not_allowed
+
+-- ---- tables
+
+byte-there : (xs : List ℕ) (at : ℕ) → at + 1 ≤ length xs → (b : ℕ) × (number_at 1 at xs ≡ Some b) × (bad_operand xs at ≡ BadOperand b)
+byte-there xs at h = let e = number_at-there 1 at xs h in (big_number 1 (drop at xs), e, ap bad_byte e)
+
+less-test : (a b : ℤ) → a <ℤ b → int_lt a b ≡ true
+less-test a b h = grind (arith, ints)
+
+most-test : (a b : ℤ) → a ≤ℤ b → int_lt b a ≡ false
+most-test a b h = grind (arith, ints)
+
+test-less : (a b : ℤ) → int_lt a b ≡ true → a <ℤ b
+test-less a b h = record { lt = search (rules, h) }
+
+test-most : (a b : ℤ) → int_lt b a ≡ false → a ≤ℤ b
+test-most a b h = grind (arith, ints)
+
+not-true : (b : Bool) → not b ≡ true → b ≡ false
+not-true true h = absurd (cc)
+not-true false h = refl
+
+not-false : (b : Bool) → not b ≡ false → b ≡ true
+not-false true h = refl
+not-false false h = absurd (cc)
+
+-- what is found first in a range of numbers
+record IsFound (p : ℕ → Bool) (from count n : ℕ) : Type 0 where
+  low : from ≤ n
+  high : n < from + count
+  here : p n ≡ true
+  before : (k : ℕ) → from ≤ k → k < n → p k ≡ false
+
+find-found : (p : ℕ → Bool) (from count n : ℕ) → find p (range_with_len from count) ≡ Some n → IsFound p from count n
+find-found p from zero n h = absurd (cc)
+find-found p from (suc count) n h = by_first (p from) refl h (find-found p (from + 1) count n)
+  where
+    by_place : p from ≡ false → IsFound p (from + 1) count n → (k : ℕ) → from ≤ k → k < n → p k ≡ false
+    by_place e f k low high = elim (cases_lt from k) [
+      | inl later ↦ f.before k (omega arith) high
+      | inr here ↦ let same : k ≡ from = omega arith in rw same e
+    ]
+
+    by_first : (b : Bool) → p from ≡ b → cond b (Some from) (find p (range_with_len (from + 1) count)) ≡ Some n
+        → (find p (range_with_len (from + 1) count) ≡ Some n → IsFound p (from + 1) count n) → IsFound p from (suc count) n
+    by_first true e h rest =
+        let same : from ≡ n = cc in
+        record { low = omega (arith, same); high = omega (arith, same); here = ap p (sym same) ∙ e; before = λ k low high. absurd (omega (arith, same)) }
+    by_first false e h rest =
+        let f = rest h in
+        record { low = omega (arith, f.low); high = omega (arith, f.high); here = f.here; before = by_place e f }
+
+found-find : (p : ℕ → Bool) (from count n : ℕ) → IsFound p from count n → find p (range_with_len from count) ≡ Some n
+found-find p from zero n f = absurd (omega (arith, f.low, f.high))
+found-find p from (suc count) n f = elim (cases_lt from n) [
+  | inl later ↦
+      let passed : p from ≡ false = f.before from (omega arith) later in
+      let rest = found-find p (from + 1) count n (record { low = omega arith; high = omega (arith, f.high); here = f.here; before = λ k low high. f.before k (omega arith) high }) in
+      rw (passed, rest) refl
+  | inr here ↦ let same : n ≡ from = omega (arith, f.low) in let yes : p from ≡ true = ap p (sym same) ∙ f.here in rw yes (ap Some (sym same))
+]
+
+-- the first key that falls is the one that is found
+FirstFall-found : (key : Operand) (xs : List ℕ) (t count n : ℕ) → find (λ k. not (rises key xs t k)) (range_with_len 1 (count - 1)) ≡ Some n → IsFirstFall key xs t count n
+FirstFall-found key xs t count n h =
+    let f = find-found (λ k. not (rises key xs t k)) 1 (count - 1) n h in
+    record {
+      after = f.low;
+      inside = omega (arith, f.low, f.high);
+      falls = test-most (key_at key xs t n) (key_at key xs t (n - 1)) (not-true (rises key xs t n) f.here);
+      rises = λ k low high. test-less (key_at key xs t (k - 1)) (key_at key xs t k) (not-false (rises key xs t k) (f.before k low high));
+    }
+
+found-FirstFall : (key : Operand) (xs : List ℕ) (t count n : ℕ) → IsFirstFall key xs t count n → find (λ k. not (rises key xs t k)) (range_with_len 1 (count - 1)) ≡ Some n
+found-FirstFall key xs t count n f =
+    found-find (λ k. not (rises key xs t k)) 1 (count - 1) n (record {
+      low = f.after;
+      high = omega (arith, f.after, f.inside);
+      here = ap not (most-test (key_at key xs t n) (key_at key xs t (n - 1)) f.falls);
+      before = λ k low high. ap not (less-test (key_at key xs t (k - 1)) (key_at key xs t k) (f.rises k low high));
+    })
+
+pair-there : (xs : List ℕ) (key : Operand) (t count n : ℕ) → n < count → t + pair_width key * count ≤ length xs → t + pair_width key * n + 1 ≤ length xs
+pair-there xs key t count n h inside =
+    let step : pair_width key * (n + 1) ≤ pair_width key * count = mul-le-mul_left (pair_width key) (omega arith) in
+    omega (arith, step, inside)
+
+-- ---- the whole
+
+-- behind the operands an instruction fails as its table does
+range-failed : (xs : List ℕ) (at t : ℕ) (l : Layout) (y z : ℤ) (e : CodeEnd) → HasOperands xs at l y z → l.cases ≡ Range → nat_le 1 (width l.z) ≡ true
+    → t ≡ at + 1 + total_width l → range_end l.z xs t y z ≡ Err e → Refuses xs at e
+range-failed xs at t l y z e has is high t_is h = by_order (int_lt z y) refl h
+  where
+    by_order : (b : Bool) → int_lt z y ≡ b → cond b (Err (bad_operand xs (t - width l.z))) (reached xs (t + 2 * range_count y z)) ≡ Err e → Refuses xs at e
+    by_order true turned h =
+        let place : t - width l.z ≡ at + 1 + width l.x + width l.y = omega (arith, t_is) in
+        let there = byte-there xs (at + 1 + width l.x + width l.y) (omega (arith, has.reaches, nat_le-true 1 (width l.z) high)) in
+        let named : BadOperand there.0 ≡ e = sym there.2 ∙ (ap (bad_operand xs) (sym place) ∙ err-same _ e _ refl h) in
+        subst (Refuses xs at) named (bounds_turned l y z there.0 has is (test-less z y turned) there.1)
+    by_order false order h =
+        let cut = reached-failed xs (t + 2 * range_count y z) e h in
+        subst (Refuses xs at) cut.1 (range_cut l y z has is (test-most y z order) (omega (arith, t_is, cut.0)))
+
+pairs-failed : (xs : List ℕ) (at : ℕ) (l : Layout) (key : Operand) (y z : ℤ) (e : CodeEnd) → HasOperands xs at l y z → l.cases ≡ Pairs key
+    → pairs_end key xs (at + 1 + total_width l) (unsigned_abs y) ≡ Err e → Refuses xs at e
+pairs-failed xs at l key y z e has is h =
+    from_failed (reached xs (at + 1 + total_width l + pair_width key * unsigned_abs y)) _ e h
+    (λ far. let cut = reached-failed xs _ e far in subst (Refuses xs at) cut.1 (pairs_cut l key y z has is cut.0))
+    (λ end end_is h1.
+    let far = reached-ok xs _ end end_is in
+    by_find end (omega (arith, far.0, far.1)) (find (λ n. not (rises key xs (at + 1 + total_width l) n)) (range_with_len 1 (unsigned_abs y - 1))) refl h1)
+  where
+    by_find : (end : ℕ) → at + 1 + total_width l + pair_width key * unsigned_abs y ≤ length xs → (o : Option ℕ)
+        → find (λ n. not (rises key xs (at + 1 + total_width l) n)) (range_with_len 1 (unsigned_abs y - 1)) ≡ o → keys_rise key xs (at + 1 + total_width l) end o ≡ Err e → Refuses xs at e
+    by_find end inside None is_none h = absurd (cc)
+    by_find end inside (Some n) is_found h =
+        let fall = FirstFall-found key xs (at + 1 + total_width l) (unsigned_abs y) n is_found in
+        let there = byte-there xs (at + 1 + total_width l + pair_width key * n) (pair-there xs key (at + 1 + total_width l) (unsigned_abs y) n fall.inside inside) in
+        let named : BadOperand there.0 ≡ e = sym there.2 ∙ err-same _ e _ refl h in
+        subst (Refuses xs at) named (key_falls l key y z n there.0 has is inside fall there.1)
+
+table-failed : (xs : List ℕ) (at : ℕ) (l : Layout) (c : Cases) (y z : ℤ) (e : CodeEnd) → HasOperands xs at l y z → l.cases ≡ c → has_high c l.z ≡ true
+    → end_of_cases c l.z xs (at + 1 + total_width l) y z ≡ Err e → Refuses xs at e
+table-failed xs at l NoCases y z e has is high h = absurd (cc)
+table-failed xs at l Range y z e has is high h = range-failed xs at _ l y z e has is high refl h
+table-failed xs at l (Pairs key) y z e has is high h = pairs-failed xs at l key y z e has is h
+
+-- a length in place of an end is no failure
+from_end : {A B : Type 0} (r : Result A CodeEnd) (f : A → B) (e : CodeEnd) → (r >>= (λ x. Ok (f x))) ≡ Err e → r ≡ Err e
+from_end (Ok x) f e h = absurd (cc)
+from_end (Err d) f e h = ap Err (err-same d e _ refl h)
+
+-- where none is decoded it is refused so
+pub decoded-Refuses : (xs : List ℕ) (at : ℕ) (e : CodeEnd) → AreBytes xs → decoded xs at ≡ Err e → Refuses xs at e
+unfolding decoded
+decoded-Refuses xs at e bytes h =
+    from_failed (or_cut (number_at 1 at xs)) _ e h
+    (λ none.
+    let cut = or_cut-failed (number_at 1 at xs) e none in
+    let past = number_at-none 1 at xs cut.0 in
+    subst (Refuses xs at) cut.1 (nothing_there (omega (arith, past))))
+    (λ op op_is h1.
+    let there = or_cut-ok _ op op_is in
+    from_failed (layout_of op) _ e h1
+    (λ none. no-layout xs at op e bytes there none)
+    (λ l l_is h2.
+    let begun : IsBegun xs at l = record { op = op; opcode = there; layout = l_is } in
+    from_failed (reached xs (at + 1 + total_width l)) _ e h2
+    (λ far. let cut = reached-failed xs _ e far in subst (Refuses xs at) cut.1 (operands_cut l begun cut.0))
+    (λ table table_is h3.
+    let place = reached-ok xs _ table table_is in
+    let inside : at + 1 + total_width l ≤ length xs = omega (arith, place.0, place.1) in
+    let plain : is_plain (Ok l) ≡ true = ap is_plain (sym l_is) ∙ plain-at op (op-fits xs at op bytes there) in
+    let second = both (allows_all l.y) (allows_all l.z && has_high l.cases l.z) plain in
+    let third = both (allows_all l.z) (has_high l.cases l.z) second.1 in
+    from_failed (operand_at l.x xs (at + 1)) _ e h3
+    (λ bad.
+    let f = operand_at-failed l.x xs (at + 1) e (omega (arith, inside)) bad in
+    subst (Refuses xs at) f.is (forbidden l f.byte begun inside (forbidden-byte l.x xs (at + 1) f.byte f.there f.not_allowed) f.not_allowed))
+    (λ x x_is h4. from_failed (operand_at l.y xs (at + 1 + width l.x)) _ e h4
+    (λ bad. absurd (never-failed l.y xs _ e (omega (arith, inside)) second.0 bad))
+    (λ y y_is h5. from_failed (operand_at l.z xs (at + 1 + width l.x + width l.y)) _ e h5
+    (λ bad. absurd (never-failed l.z xs _ e (omega (arith, inside)) third.0 bad))
+    (λ z z_is h6.
+    let at_table : table_end l xs (at + 1 + total_width l) y z ≡ Err e = ap (λ (t : ℕ). table_end l xs t y z) (sym place.0) ∙ from_end (table_end l xs table y z) _ e h6 in
+    table-failed xs at l l.cases y z e (record { begun = begun; reaches = inside; first = x; first_is = x_is; second_is = y_is; third_is = z_is }) refl third.1 at_table))))))
+
+-- ---- the other way round
+
+-- behind the operands nothing but the table is asked
+decoded-table : (xs : List ℕ) (at : ℕ) (l : Layout) (y z : ℤ) (e : CodeEnd) → HasOperands xs at l y z → table_end l xs (at + 1 + total_width l) y z ≡ Err e → decoded xs at ≡ Err e
+unfolding decoded
+decoded-table xs at l y z e has h =
+    let reach = reached-within xs (at + 1 + total_width l) has.reaches in
+    rw (has.begun.opcode, has.begun.layout, reach, has.first_is, has.second_is, has.third_is, h) refl
+
+bad-byte-is : (xs : List ℕ) (at b : ℕ) → number_at 1 at xs ≡ Some b → bad_operand xs at ≡ BadOperand b
+bad-byte-is xs at b h = ap bad_byte h
+
+range-end-turned : (bound : Operand) (xs : List ℕ) (t : ℕ) (low high : ℤ) (b : ℕ) → high <ℤ low → number_at 1 (t - width bound) xs ≡ Some b → range_end bound xs t low high ≡ Err (BadOperand b)
+range-end-turned bound xs t low high b turned there =
+    let e = less-test high low turned in rw e (ap Err (bad-byte-is xs (t - width bound) b there))
+
+range-end-cut : (bound : Operand) (xs : List ℕ) (t : ℕ) (low high : ℤ) → low ≤ℤ high → length xs < t + 2 * range_count low high → range_end bound xs t low high ≡ Err Cut
+range-end-cut bound xs t low high order far = let e = most-test low high order in rw e (reached-past xs _ far)
+
+pairs-end-cut : (key : Operand) (xs : List ℕ) (t count : ℕ) → length xs < t + pair_width key * count → pairs_end key xs t count ≡ Err Cut
+pairs-end-cut key xs t count far = rw (reached-past xs (t + pair_width key * count) far) refl
+
+pairs-end-falls : (key : Operand) (xs : List ℕ) (t count n b : ℕ) → t + pair_width key * count ≤ length xs → IsFirstFall key xs t count n
+    → number_at 1 (t + pair_width key * n) xs ≡ Some b → pairs_end key xs t count ≡ Err (BadOperand b)
+pairs-end-falls key xs t count n b inside fall there =
+    rw (reached-within xs (t + pair_width key * count) inside, found-FirstFall key xs t count n fall) (ap Err (bad-byte-is xs (t + pair_width key * n) b there))
+
+-- what is refused so is not decoded, for that reason
+pub Refuses-decoded : (xs : List ℕ) (at : ℕ) (e : CodeEnd) → Refuses xs at e → decoded xs at ≡ Err e
+unfolding decoded
+Refuses-decoded xs at _ (nothing_there past) = rw (number_at-past 1 at xs (omega (arith, past))) refl
+Refuses-decoded xs at _ (left_out op there out) =
+    let yes : is_out_of_scope op ≡ true = search (rules, out) in
+    rw (there, layout_of-left_out op yes) refl
+Refuses-decoded xs at _ (unused op there low high) = rw (there, layout_of-unused op low high) refl
+Refuses-decoded xs at _ (operands_cut l begun far) = rw (begun.opcode, begun.layout, reached-past xs (at + 1 + total_width l) far) refl
+Refuses-decoded xs at _ (forbidden l b begun inside there refused) =
+    rw (begun.opcode, begun.layout, reached-within xs (at + 1 + total_width l) inside, byte-forbidden l.x xs (at + 1) b there refused, refused) refl
+Refuses-decoded xs at _ (bounds_turned l low high b has is turned there) =
+    let place : at + 1 + width l.x + width l.y ≡ at + 1 + total_width l - width l.z = omega arith in
+    let named : number_at 1 (at + 1 + total_width l - width l.z) xs ≡ Some b = ap (λ (p : ℕ). number_at 1 p xs) (sym place) ∙ there in
+    decoded-table xs at l low high (BadOperand b) has (rw is (range-end-turned l.z xs (at + 1 + total_width l) low high b turned named))
+Refuses-decoded xs at _ (range_cut l low high has is order far) =
+    decoded-table xs at l low high Cut has (rw is (range-end-cut l.z xs (at + 1 + total_width l) low high order far))
+Refuses-decoded xs at _ (pairs_cut l key count z has is far) =
+    decoded-table xs at l count z Cut has (rw is (pairs-end-cut key xs (at + 1 + total_width l) (unsigned_abs count) far))
+Refuses-decoded xs at _ (key_falls l key count z n b has is inside fall there) =
+    decoded-table xs at l count z (BadOperand b) has (rw is (pairs-end-falls key xs (at + 1 + total_width l) (unsigned_abs count) n b inside fall there))
+
+pub refused-answer : (xs : List ℕ) (at : ℕ) (r : Result Insn CodeEnd) → AreBytes xs → r ≡ decoded xs at → IfErr r (Refuses xs at)
+refused-answer xs at (Ok i) bytes h = search rules
+refused-answer xs at (Err e) bytes h = decoded-Refuses xs at e bytes (sym h)
