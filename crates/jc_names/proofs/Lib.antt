@@ -13,9 +13,7 @@ pub mod DeclaredTypes
 pub mod Faultless
 pub mod WordLaws
 pub mod ItemKinds
-pub mod HeaderLaws
 pub mod OwnedHandlers
-pub mod InfoLaws
 pub mod MethodFacts
 pub mod NumberedLaws
 pub mod NamedClassLaws

@@ -15,11 +15,11 @@ use Rattle.cap_package.specs.MethodChecks.{code_start, code_end, outside_fault}
 use Rattle.cap_package.specs.TypeChecks.{method_type_by, method_type_fault, interface_methods, field_type_fault}
 use Rattle.cap_package.specs.PackageRecord.{PackageRecord, classes_from, described as described_methods, handlers_of, fields}
 use Rattle.cap_package.specs.StandsFor.{StandsFor}
+use Rattle.cap_package.proofs.HeaderLaws.{HasHeader, has-header, ends-within}
+use Rattle.cap_package.proofs.InfoLaws.{info-short}
 use Rattle.jc_base.specs.Linked.{IsCodeLength}
 use Rattle.jc_names.specs.FirstFault.{IsOneOf}
 use Rattle.jc_names.proofs.Faultless.{faultless, both_empty}
-use Rattle.jc_names.proofs.HeaderLaws.{HasHeader, has-header, ends-within}
-use Rattle.jc_names.proofs.InfoLaws.{info-short}
 use Rattle.jc_names.proofs.OwnedHandlers.{LiesIn, handlers-lie}
 
 -- ---- tests of one method

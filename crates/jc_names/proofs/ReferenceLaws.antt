@@ -1,5 +1,6 @@
 -- What a class reference names by cases is what is computed, and at most one class is named.
 use Rattle.std.proofs.Common.{◌≡◌, ℕ, ◌<◌, ◌≤◌, Bool, true, false, ltb, List, Option, Some, None, option_map, option_and_then, if◌then◌else◌, refl, sym, ◌∙◌, arith}
+use Rattle.std.specs.Prelude.{◌↔◌}
 use Rattle.std.proofs.lemmas.Bool.{ltb-true, ltb-false}
 use Rattle.cap_package.specs.PackageRecord.{PackageRecord}
 use Rattle.jc_names.specs.Numbering.{class_at}
@@ -46,3 +47,7 @@ pub refers-only : (ps : List PackageRecord) (k reference c d : ℕ) → Refers p
 refers-only ps k reference c d h l =
     let e : Some c ≡ Some d = sym (refers-named ps k reference c h) ∙ refers-named ps k reference d l in
     cc
+
+-- an answer is the one class to which a reference refers
+pub answer-refers : (ps : List PackageRecord) (k reference : ℕ) (answer : Option ℕ) → answer ≡ class_named ps k reference → (c : ℕ) → (answer ≡ Some c) ↔ Refers ps k reference c
+answer-refers ps k reference answer e c = (λ h. named-refers ps k reference c (sym e ∙ h), λ h. e ∙ refers-named ps k reference c h)

@@ -1,7 +1,7 @@
 -- Classes and interfaces with each class and method that their records name by number (JCVM 2.2, section 6.8).
 use Rattle.std.specs.Prelude.{ℕ, Bool, true, false, not, List, [], map, filter, filter_map, flat_map, Option, Some, None, option_map, slice_index, ◌==◌, ◌&&◌, if◌then◌else◌}
 use Rattle.std.specs.List.{range_with_len}
-use Rattle.cap_class.specs.ClassFormat.{Interface, is_interface}
+use Rattle.cap_class.specs.ClassFormat.{Class, Interface, is_interface}
 use Rattle.cap_desc.specs.declared.type_item.TypeItem.{TypeItem}
 use Rattle.cap_desc.specs.DescriptorFormat as described
 use Rattle.cap_desc.specs.DescriptorFormat.{Field}
@@ -81,17 +81,20 @@ interfaces_named ps k = filter_map (interface_named ps k)
 abbrev pub parent_named : List PackageRecord → ℕ → ℕ → Option ℕ
 parent_named ps k reference = if reference == 0xFFFF then None else class_named ps k reference
 
--- an interface has interfaces alone
-abbrev pub named_interface : List PackageRecord → NumberedClass → NamedClass
-named_interface ps c = record {
-  «package» = c.home;
+-- an interface of the package k has interfaces alone
+abbrev pub interface_in : List PackageRecord → ℕ → Class → NamedClass
+interface_in ps k r = record {
+  «package» = k;
   interface = true;
   parent = None;
-  interfaces = interfaces_named ps c.home c.record_of.interfaces;
+  interfaces = interfaces_named ps k r.interfaces;
   public = no_table;
   visible = no_table;
   own = [];
 }
+
+abbrev pub named_interface : List PackageRecord → NumberedClass → NamedClass
+named_interface ps c = interface_in ps c.home c.record_of
 
 abbrev pub named_proper : List PackageRecord → ℕ → NumberedClass → NamedClass
 named_proper ps object c = record {

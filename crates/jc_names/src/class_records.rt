@@ -6,7 +6,7 @@ ghost use Rattle.cap_desc.specs.MemberLists.{fields_left};
 ghost use Rattle.cap_desc.specs.MemberRecords.{field_seen};
 ghost use Rattle.cap_package.specs.Descriptions.{description};
 ghost use Rattle.jc_names.specs.Named.{IsByteTable, IsSized};
-ghost use Rattle.jc_names.specs.NamedClasses.{is_instance, instance_fields, with_token, cells_of_field, cells_of_fields, entry_of, table_of, no_table, interfaces_named, named_interface, named_proper, named_class};
+ghost use Rattle.jc_names.specs.NamedClasses.{is_instance, instance_fields, with_token, cells_of_field, cells_of_fields, entry_of, table_of, no_table, interfaces_named, interface_in, named_proper, named_class};
 ghost use Rattle.jc_names.specs.Numbering.{numbered_class, numbered_classes, classes_of};
 
 use crate::class_index::Index;
@@ -176,20 +176,18 @@ fn no_table(alloc: Global) -> Table
 }
 
 /// An interface with the interfaces that it extends.
-fn named_interface(
+fn interface_in(
     alloc: Global,
     index: &Index<'_, '_, '_>,
-    number: u16,
-    package: &Package<'_, '_>,
+    package: u16,
     class: ClassInfo<'_>,
 ) -> Result<NamedClass, AllocError>
-    ensures is { IfOk result (λ c. c ≡ named_interface index.now (numbered_class number «package».now (class_seen class.entry))) }
+    ensures is { IfOk result (λ c. c ≡ interface_in index.now «package» (class_seen class.entry)) }
     ensures sized { IfOk result IsSized }
 {
-    let _home = package;
-    let interfaces = interfaces_named(alloc, index, number, class.interfaces())?;
+    let interfaces = interfaces_named(alloc, index, package, class.interfaces())?;
     Ok(NamedClass {
-        package: number,
+        package,
         interface: true,
         parent: None,
         interfaces: Items::of(interfaces),
@@ -248,7 +246,7 @@ fn named_class(
     ensures sized { IfOk result IsSized }
 {
     if class.flags().is_interface() {
-        named_interface(alloc, index, number, package, class)
+        interface_in(alloc, index, number, class)
     } else {
         named_proper(alloc, index, object, number, package, class)
     }

@@ -1,8 +1,8 @@
-ghost use Rattle.std.specs.Prelude.{◌≡◌, ◌<◌, ◌≤◌, length, slice_index, IfSome};
+ghost use Rattle.std.specs.Prelude.{◌≡◌, ℕ, ◌<◌, ◌≤◌, ◌↔◌, length, slice_index, Some, IfSome};
 ghost use Rattle.jc_names.specs.NamedClasses.{named_classes};
 ghost use Rattle.jc_names.specs.NamedMethods.{named_methods};
 ghost use Rattle.jc_names.specs.Numbering.{numbered_classes, numbered_methods, method_at};
-ghost use Rattle.jc_names.specs.References.{met_by, class_named};
+ghost use Rattle.jc_names.specs.References.{met_by, class_named, Refers};
 ghost use Rattle.jc_names.specs.WorldTypes.{type_of};
 
 use crate::class_index::Index;
@@ -51,6 +51,7 @@ impl<'n, 'p, 'a> Names<'n, 'p, 'a> {
         ensures named { result.now ≡ named_classes self.now.packages (slice_index self.now.roles 0) }
         ensures few { length result.now ≤ 4096 }
     {
+        // What is indexed is few.
         let _ = self.index.packages();
         &self.classes
     }
@@ -61,6 +62,7 @@ impl<'n, 'p, 'a> Names<'n, 'p, 'a> {
         ensures named { result.now ≡ named_methods self.now.packages self.now.roles }
         ensures few { length result.now ≤ 32768 }
     {
+        // What is indexed is few.
         let _ = self.index.packages();
         &self.methods
     }
@@ -75,6 +77,8 @@ impl<'n, 'p, 'a> Names<'n, 'p, 'a> {
     /// The class that a reference in a package names.
     pub fn class_named(&self, package: u16, reference: u16) -> Option<u16>
         ensures is { result ≡ class_named self.now.packages «package» reference }
+        // The one class to which it refers, by its offset in the package itself or by the tokens of an import.
+        ensures refers { (c : ℕ) → (result ≡ Some c) ↔ Refers self.now.packages «package» reference c }
         ensures below { IfSome result (λ c. c < length (numbered_classes self.now.packages)) }
     {
         self.index.class_named(package, reference)
