@@ -27,6 +27,3 @@ pub use named::{NamedClass, NamedClasses, Table};
 pub use names_type::Names;
 pub use naming::names;
 pub use place::Place;
-
-#[cfg(test)]
-mod tests;
