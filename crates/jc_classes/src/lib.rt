@@ -16,6 +16,3 @@ mod slots;
 mod tabling;
 
 pub use tabling::tables;
-
-#[cfg(test)]
-mod tests;

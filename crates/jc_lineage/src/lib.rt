@@ -12,6 +12,3 @@ mod outlining;
 mod role_checks;
 
 pub use lines::lineage;
-
-#[cfg(test)]
-mod tests;

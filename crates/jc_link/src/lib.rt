@@ -12,10 +12,3 @@ mod tabling;
 
 pub use linking::link;
 pub use tabling::class_table;
-
-#[cfg(test)]
-mod limit_tests;
-#[cfg(test)]
-mod sample;
-#[cfg(test)]
-mod tests;

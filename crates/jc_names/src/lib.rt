@@ -28,6 +28,3 @@ pub use names_type::Names;
 pub use naming::names;
 pub use place::Place;
 pub use world_types::{kind_of, width};
-
-#[cfg(test)]
-mod tests;

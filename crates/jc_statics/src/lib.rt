@@ -13,6 +13,3 @@ mod words;
 pub use initial_arrays::arrays;
 pub use room::{arrays_fit, statics_fit};
 pub use static_fields::statics;
-
-#[cfg(test)]
-mod tests;

@@ -1,0 +1,23 @@
+//! Worked worlds: packages that `jc_names`, `jc_statics` and `jc_link` number, lay out and link, or refuse
+//! by name. Two packages stand here beside package T of `cap_worked`: a library and its user, which have
+//! a member of each kind.
+#![tactic(auto)]
+
+mod library_and_user;
+mod reading;
+
+pub use library_and_user::{LIBRARY, LIBRARY_ROLES, USER};
+pub use reading::{lent, read};
+
+#[cfg(test)]
+mod interface_package;
+#[cfg(test)]
+mod limit_tests;
+#[cfg(test)]
+mod link_tests;
+#[cfg(test)]
+mod names_tests;
+#[cfg(test)]
+mod statics_tests;
+#[cfg(test)]
+mod world_tests;
