@@ -49,6 +49,10 @@ classes_agree t classes methods =
     (refused (least_of place_of (interface_fault methods) (flat_map (implementations_in t classes) (class_numbers classes))) >>= λ _.
     refused (least_of place_of (long_fault t classes) (class_numbers classes))))
 
+-- the table, where they hold
+unfoldable pub tables_of : ClassTable → List NamedClass → List MethodRec → Result ClassTable LinkFault
+tables_of t classes methods = classes_agree t classes methods >>= λ _. Ok (class_tables t classes)
+
 -- the table exactly where nothing is at fault; else the first condition by number that is broken, at its least thing
 abbrev pub Tells : ClassTable → List NamedClass → List MethodRec → Result ClassTable LinkFault → Type 0
 Tells t classes methods (Ok table) = (table ≡ class_tables t classes) × AllEmpty (conditions t classes methods)
@@ -59,12 +63,6 @@ abbrev pub TellsEnd : ClassTable → List NamedClass → List MethodRec → Resu
 TellsEnd t classes methods (Ok table) = Tells t classes methods (Ok table)
 TellsEnd t classes methods (Err (Fault fault)) = Tells t classes methods (Err fault)
 TellsEnd t classes methods (Err Memory) = Unit {0}
-
--- what linking ends with is what the conditions, asked one after the other, answer
-abbrev pub Answers : ClassTable → List NamedClass → List MethodRec → Result ClassTable LinkEnd → Type 0
-Answers t classes methods (Ok table) = (table ≡ class_tables t classes) × (classes_agree t classes methods ≡ Ok (tt {0}))
-Answers t classes methods (Err (Fault fault)) = classes_agree t classes methods ≡ Err fault
-Answers t classes methods (Err Memory) = Unit {0}
 
 -- in a world of so many packages, in which everything is a number, the table is what a world needs of its classes
 abbrev pub Links : ClassTable → List NamedClass → List MethodRec → ClassTable → Type 0

@@ -1,12 +1,12 @@
 ghost use Rattle.std.specs.Prelude.{◌≡◌, ◌<◌, All, IfOk, [], length, false};
-ghost use Rattle.jc_names.specs.Fault.{place_of};
+ghost use Rattle.jc_names.specs.Due.{IsDue};
 ghost use Rattle.jc_lineage.specs.Outline.{outline};
 ghost use Rattle.jc_lineage.specs.Lines.{HaveLines};
 ghost use Rattle.jc_classes.specs.Known.{AreInRange, AreKnown};
 ghost use Rattle.jc_classes.specs.Layout.{layouts};
 ghost use Rattle.jc_classes.specs.Groups.{AreGroups};
 ghost use Rattle.jc_classes.specs.Conditions.{long_instances};
-ghost use Rattle.jc_classes.specs.Tables.{class_tables, classes_agree, Answers, Links, TellsEnd};
+ghost use Rattle.jc_classes.specs.Tables.{class_tables, classes_agree, tables_of, Links, TellsEnd};
 
 use crate::building::record_from;
 use crate::groups::{Group, groups};
@@ -75,7 +75,7 @@ fn no_marks(alloc: Global, count: usize) -> Result<Vec<bool>, AllocError>
 
 /// The dispatch lists, the cells and the interfaces of classes whose superclasses are known: their class
 /// table.
-#[tactic(auto, using(crate::proofs::Agreed::telling))]
+#[tactic(auto, using(crate::proofs::Agreed::telling), unfolding(crate::specs::Tables::tables_of))]
 pub fn tables(
     alloc: Global,
     lineage: &Classes,
@@ -87,7 +87,7 @@ pub fn tables(
     requires interfaces { AreInRange classes.now }
     requires methods { All (λ m. m.class < length classes.now) methods.now }
     requires lines { HaveLines classes.now lineage.now }
-    ensures value { Answers lineage.now classes.now methods.now result }
+    ensures value { IsDue (tables_of lineage.now classes.now methods.now) result }
     // The table exactly where nothing is at fault; else the first condition by number that is broken, at
     // its least thing.
     ensures tells { TellsEnd lineage.now classes.now methods.now result }
@@ -98,17 +98,14 @@ pub fn tables(
     let all = layouts(alloc, lineage, classes)?;
     let groups = groups(alloc, methods, classes.len())?;
     let mut marks = no_marks(alloc, classes.len())?;
-    match agree(
+    agree(
         lineage,
         classes,
         methods,
         all.as_slice(),
         groups.as_slice(),
         marks.as_mut_slice(),
-    ) {
-        Ok(()) => {}
-        Err(fault) => return Err(LinkEnd::Fault(fault)),
-    }
+    )?;
     let table = build(alloc, lineage, classes, all.as_slice())?;
     Ok(table)
 }
