@@ -1,4 +1,4 @@
-ghost use Rattle.std.specs.Prelude.{◌≡◌, ◌+◌, ◌≤◌, ◌++◌, length, map, take, drop, All, IfOk, OnOk};
+ghost use Rattle.std.specs.Prelude.{◌≡◌, ◌+◌, ◌≤◌, ◌++◌, length, map, take, drop, slice_index, All, IfOk, OnOk};
 ghost use Rattle.cap_class.specs.ClassPart.{records};
 ghost use Rattle.cap_desc.specs.ClassRecords.{class_seen, classes_left};
 ghost use Rattle.cap_desc.specs.MemberLists.{methods_left};
@@ -25,6 +25,15 @@ use std::alloc::{AllocError, Global};
 const CLASSREF: u8 = 1;
 /// The flag of a constructor.
 const INIT: u8 = 0x80;
+
+/// A package with its number, among those that are indexed, and the roles of classes.
+#[derive(Clone, Copy)]
+struct Home<'x, 'n, 'p, 'a> {
+    index: &'x Index<'n, 'p, 'a>,
+    roles: [u8; 8],
+    number: u16,
+    package: &'x Package<'p, 'a>,
+}
 
 /// The class that a handler catches, by its catch_type_index.
 fn caught(
@@ -155,23 +164,20 @@ fn no_body(alloc: Global, flags: AccessFlags, sig: &Sig) -> Body
 /// What the header of a method tells.
 fn body_behind(
     alloc: Global,
-    index: &Index<'_, '_, '_>,
-    throwable: u16,
-    number: u16,
-    package: &Package<'_, '_>,
+    home: Home<'_, '_, '_, '_>,
     method: &MethodInfo,
     header: MethodHeader,
 ) -> Result<Body, AllocError>
-    ensures { IfOk result (λ b. b ≡ body_behind index.now throwable number «package».now (method_seen method.now) (header_seen header) (offset_in_info (method.now.method_offset + header.size))) }
+    ensures { IfOk result (λ b. b ≡ body_behind home.entry.index.now (slice_index home.entry.roles 1) home.entry.number home.entry.package.now (method_seen method.now) (header_seen header) (offset_in_info (method.now.method_offset + header.size))) }
 {
     let code_at = method.method_offset.saturating_add(header.size as u16);
-    let behind = handlers_behind(package.methods().handlers(), method.handler_index);
-    let pool = package.pool();
+    let behind = handlers_behind(home.package.methods().handlers(), method.handler_index);
+    let pool = home.package.pool();
     let handlers = handlers_named(
         alloc,
-        index,
-        throwable,
-        number,
+        home.index,
+        home.roles[1] as u16,
+        home.number,
         &pool,
         code_at,
         behind,
@@ -192,21 +198,18 @@ fn body_behind(
 #[tactic(auto, unfolding(crate::specs::NamedMethods::body_of))]
 fn body_of(
     alloc: Global,
-    index: &Index<'_, '_, '_>,
-    throwable: u16,
-    number: u16,
-    package: &Package<'_, '_>,
+    home: Home<'_, '_, '_, '_>,
     method: &MethodInfo,
     sig: &Sig,
     has_header: bool,
 ) -> Result<Body, AllocError>
-    ensures { IfOk result (λ b. b ≡ body_of index.now throwable number «package».now (method_seen method.now) sig.now has_header) }
+    ensures { IfOk result (λ b. b ≡ body_of home.entry.index.now (slice_index home.entry.roles 1) home.entry.number home.entry.package.now (method_seen method.now) sig.now has_header) }
 {
     if !has_header {
         return Ok(no_body(alloc, method.flags, sig));
     }
-    match header(&package.methods(), method.method_offset) {
-        Some(header) => body_behind(alloc, index, throwable, number, package, method, header),
+    match header(&home.package.methods(), method.method_offset) {
+        Some(header) => body_behind(alloc, home, method, header),
         None => Ok(no_body(alloc, method.flags, sig)),
     }
 }
@@ -221,19 +224,14 @@ fn class_described(index: &Index<'_, '_, '_>, package: u16, class: DescClass<'_>
 
 /// Whether the methods of a record of the Descriptor have headers.
 #[tactic(auto, unfolding(crate::specs::NamedMethods::have_headers))]
-fn have_headers(
-    index: &Index<'_, '_, '_>,
-    number: u16,
-    package: &Package<'_, '_>,
-    class: DescClass<'_>,
-) -> bool
-    ensures { result ≡ have_headers index.now number «package».now (class_seen class.entry) }
+fn have_headers(home: Home<'_, '_, '_, '_>, class: DescClass<'_>) -> bool
+    ensures { result ≡ have_headers home.entry.index.now home.entry.number home.entry.package.now (class_seen class.entry) }
 {
-    if class.class_ref() < classes_from(&package.classes()) {
+    if class.class_ref() < classes_from(&home.package.classes()) {
         return false;
     }
-    match index.class_named(number, class.class_ref()) {
-        Some(class) => !index.is_interface(class),
+    match home.index.class_named(home.number, class.class_ref()) {
+        Some(class) => !home.index.is_interface(class),
         None => false,
     }
 }
@@ -249,36 +247,28 @@ fn is_init(flags: AccessFlags) -> bool
 #[tactic(auto, unfolding(crate::specs::NamedMethods::named_method))]
 fn method_record(
     alloc: Global,
-    index: &Index<'_, '_, '_>,
-    roles: [u8; 8],
-    number: u16,
-    package: &Package<'_, '_>,
+    home: Home<'_, '_, '_, '_>,
     class_no: u16,
     class: DescClass<'_>,
     has_header: bool,
     method_no: u16,
     method: MethodInfo,
 ) -> Result<MethodRec, AllocError>
-    requires { has_header ≡ have_headers index.now number «package».now (class_seen class) }
-    ensures { IfOk result (λ m. m ≡ named_method index.now roles (numbered number «package».now class_no (class_seen class.entry) method_no (method_seen method))) }
+    requires { has_header ≡ have_headers home.index.now home.number home.package.now (class_seen class) }
+    ensures { IfOk result (λ m. m ≡ named_method home.entry.index.now home.entry.roles (numbered home.entry.number home.entry.package.now class_no (class_seen class.entry) method_no (method_seen method))) }
 {
-    let descriptor = package.descriptor();
-    let object = roles[0] as u16;
-    let throwable = roles[1] as u16;
     let sig = signature_of(
         alloc,
-        index,
-        object,
-        number,
-        &descriptor,
+        home.index,
+        home.roles[0] as u16,
+        home.number,
+        &home.package.descriptor(),
         method.type_offset,
     )?;
-    let body = body_of(
-        alloc, index, throwable, number, package, &method, &sig, has_header,
-    )?;
+    let body = body_of(alloc, home, &method, &sig, has_header)?;
     Ok(MethodRec {
-        package: number,
-        class: class_described(index, number, class),
+        package: home.number,
+        class: class_described(home.index, home.number, class),
         token: method.token,
         class_no,
         method_no,
@@ -299,23 +289,18 @@ fn method_record(
 fn push_class(
     methods: &mut Vec<MethodRec>,
     alloc: Global,
-    index: &Index<'_, '_, '_>,
-    roles: [u8; 8],
-    number: u16,
-    package: &Package<'_, '_>,
+    home: Home<'_, '_, '_, '_>,
     class_no: u16,
     class: DescClass<'_>,
 ) -> Result<(), AllocError>
-    ensures { OnOk result (methods.new.items ≡ methods.old.items ++ map (named_method index.now roles) (methods_of_class number «package».now class_no (class_seen class.entry) 0 (class_seen class.entry).methods)) }
+    ensures { OnOk result (methods.new.items ≡ methods.old.items ++ map (named_method home.entry.index.now home.entry.roles) (methods_of_class home.entry.number home.entry.package.now class_no (class_seen class.entry) 0 (class_seen class.entry).methods)) }
 {
-    let has_header = have_headers(index, number, package, class);
+    let has_header = have_headers(home, class);
     // Their number is one that `method_count` can answer.
     let _count = class.method_count();
     let mut method_no: u16 = 0;
     'methods: for method in class.methods() {
-        methods.push(method_record(
-            alloc, index, roles, number, package, class_no, class, has_header, method_no, method,
-        )?)?;
+        methods.push(method_record(alloc, home, class_no, class, has_header, method_no, method)?)?;
         method_no += 1;
     }
     Ok(())
@@ -326,26 +311,21 @@ fn push_class(
 fn push_package(
     methods: &mut Vec<MethodRec>,
     alloc: Global,
-    index: &Index<'_, '_, '_>,
-    roles: [u8; 8],
-    number: u16,
-    package: &Package<'_, '_>,
+    home: Home<'_, '_, '_, '_>,
 ) -> Result<(), AllocError>
-    ensures named { OnOk result (methods.new.items ≡ methods.old.items ++ map (named_method index.now roles) (methods_of_classes number «package».now 0 «package».now.description.items.classes)) }
-    ensures agreed { IsAgreed «package».now }
-    ensures few { HasFewHandlers «package».now }
+    ensures named { OnOk result (methods.new.items ≡ methods.old.items ++ map (named_method home.entry.index.now home.entry.roles) (methods_of_classes home.entry.number home.entry.package.now 0 home.entry.package.now.description.items.classes)) }
+    ensures agreed { IsAgreed home.entry.package.now }
+    ensures few { HasFewHandlers home.entry.package.now }
 {
     // Its parts stand for it, and the number of its handlers is one that `handler_count` can answer.
-    let _parts = package.parts();
-    let _handlers = package.methods().handlers();
-    let descriptor = package.descriptor();
+    let _parts = home.package.parts();
+    let _handlers = home.package.methods().handlers();
+    let descriptor = home.package.descriptor();
     // Their number is one that `class_count` can answer.
     let _count = descriptor.class_count();
     let mut class_no: u16 = 0;
     'classes: for class in descriptor.classes() {
-        push_class(
-            methods, alloc, index, roles, number, package, class_no, class,
-        )?;
+        push_class(methods, alloc, home, class_no, class)?;
         class_no += 1;
     }
     Ok(())
@@ -353,10 +333,10 @@ fn push_package(
 
 /// The methods of packages.
 #[tactic(auto, using(crate::proofs::Steps::methods_step))]
-pub(crate) fn methods_behind(
+pub(crate) fn methods_behind<'x, 'n, 'p, 'a>(
     alloc: Global,
-    index: &Index<'_, '_, '_>,
-    packages: &Packages<'_, '_>,
+    index: &'x Index<'n, 'p, 'a>,
+    packages: &'x Packages<'p, 'a>,
     roles: [u8; 8],
 ) -> Result<Vec<MethodRec>, AllocError>
     requires { length packages.now ≤ 16 }
@@ -366,7 +346,13 @@ pub(crate) fn methods_behind(
 {
     let mut methods = Vec::new(alloc);
     'packages: for (k, package) in packages.as_slice().iter().enumerate() {
-        push_package(&mut methods, alloc, index, roles, k as u16, package)?;
+        let home = Home {
+            index,
+            roles,
+            number: k as u16,
+            package,
+        };
+        push_package(&mut methods, alloc, home)?;
     }
     Ok(methods)
 }

@@ -46,7 +46,7 @@ fn names_or_fault<'n, 'p, 'a>(
     ensures few { IfOk result (λ _. All HasFewHandlers packages.now) }
 {
     let index = checked(alloc, packages)?;
-    let methods = methods_behind(alloc, &index, packages, roles)?;
+    let methods = methods_behind(alloc, &index, &*packages, roles)?;
     let classes = class_records(alloc, &index, packages, roles[0] as u16)?;
     Ok(Names {
         index,
