@@ -11,12 +11,13 @@ ghost use Rattle.jc_names.specs.NamedMethods.{HasFewHandlers, caught, handler_na
 ghost use Rattle.jc_names.specs.Numbering.{numbered, numbered_methods, methods_of_class, methods_of_classes};
 
 use crate::class_index::Index;
+use crate::home::Home;
 use crate::method_index::classes_from;
 use crate::reference_checks::reference_in;
 use crate::world_types::signature_of;
 use cap_desc::{AccessFlags, DescClass, MethodInfo};
 use cap_method::{HandlerInfo, Handlers, MethodHeader};
-use cap_package::{Package, Packages, header};
+use cap_package::{Packages, header};
 use cap_pool::Pool;
 use jc_base::{Handler, Items, MethodRec, Sig};
 use std::alloc::{AllocError, Global};
@@ -25,15 +26,6 @@ use std::alloc::{AllocError, Global};
 const CLASSREF: u8 = 1;
 /// The flag of a constructor.
 const INIT: u8 = 0x80;
-
-/// A package with its number, among those that are indexed, and the roles of classes.
-#[derive(Clone, Copy)]
-struct Home<'x, 'n, 'p, 'a> {
-    index: &'x Index<'n, 'p, 'a>,
-    roles: [u8; 8],
-    number: u16,
-    package: &'x Package<'p, 'a>,
-}
 
 /// The class that a handler catches, by its catch_type_index.
 fn caught(
@@ -168,11 +160,11 @@ fn body_behind(
     method: &MethodInfo,
     header: MethodHeader,
 ) -> Result<Body, AllocError>
-    ensures { IfOk result (λ b. b ≡ body_behind home.entry.index.now (slice_index home.entry.roles 1) home.entry.number home.entry.package.now (method_seen method.now) (header_seen header) (offset_in_info (method.now.method_offset + header.size))) }
+    ensures { IfOk result (λ b. b ≡ body_behind home.entry.index.now (slice_index home.entry.roles 1) home.entry.number home.entry.of_package.now (method_seen method.now) (header_seen header) (offset_in_info (method.now.method_offset + header.size))) }
 {
     let code_at = method.method_offset.saturating_add(header.size as u16);
-    let behind = handlers_behind(home.package.methods().handlers(), method.handler_index);
-    let pool = home.package.pool();
+    let behind = handlers_behind(home.of_package.methods().handlers(), method.handler_index);
+    let pool = home.of_package.pool();
     let handlers = handlers_named(
         alloc,
         home.index,
@@ -203,12 +195,12 @@ fn body_of(
     sig: &Sig,
     has_header: bool,
 ) -> Result<Body, AllocError>
-    ensures { IfOk result (λ b. b ≡ body_of home.entry.index.now (slice_index home.entry.roles 1) home.entry.number home.entry.package.now (method_seen method.now) sig.now has_header) }
+    ensures { IfOk result (λ b. b ≡ body_of home.entry.index.now (slice_index home.entry.roles 1) home.entry.number home.entry.of_package.now (method_seen method.now) sig.now has_header) }
 {
     if !has_header {
         return Ok(no_body(alloc, method.flags, sig));
     }
-    match header(&home.package.methods(), method.method_offset) {
+    match header(&home.of_package.methods(), method.method_offset) {
         Some(header) => body_behind(alloc, home, method, header),
         None => Ok(no_body(alloc, method.flags, sig)),
     }
@@ -225,9 +217,9 @@ fn class_described(index: &Index<'_, '_, '_>, package: u16, class: DescClass<'_>
 /// Whether the methods of a record of the Descriptor have headers.
 #[tactic(auto, unfolding(crate::specs::NamedMethods::have_headers))]
 fn have_headers(home: Home<'_, '_, '_, '_>, class: DescClass<'_>) -> bool
-    ensures { result ≡ have_headers home.entry.index.now home.entry.number home.entry.package.now (class_seen class.entry) }
+    ensures { result ≡ have_headers home.entry.index.now home.entry.number home.entry.of_package.now (class_seen class.entry) }
 {
-    if class.class_ref() < classes_from(&home.package.classes()) {
+    if class.class_ref() < classes_from(&home.of_package.classes()) {
         return false;
     }
     match home.index.class_named(home.number, class.class_ref()) {
@@ -254,15 +246,15 @@ fn method_record(
     method_no: u16,
     method: MethodInfo,
 ) -> Result<MethodRec, AllocError>
-    requires { has_header ≡ have_headers home.index.now home.number home.package.now (class_seen class) }
-    ensures { IfOk result (λ m. m ≡ named_method home.entry.index.now home.entry.roles (numbered home.entry.number home.entry.package.now class_no (class_seen class.entry) method_no (method_seen method))) }
+    requires { has_header ≡ have_headers home.index.now home.number home.of_package.now (class_seen class) }
+    ensures { IfOk result (λ m. m ≡ named_method home.entry.index.now home.entry.roles (numbered home.entry.number home.entry.of_package.now class_no (class_seen class.entry) method_no (method_seen method))) }
 {
     let sig = signature_of(
         alloc,
         home.index,
         home.roles[0] as u16,
         home.number,
-        &home.package.descriptor(),
+        &home.of_package.descriptor(),
         method.type_offset,
     )?;
     let body = body_of(alloc, home, &method, &sig, has_header)?;
@@ -293,7 +285,7 @@ fn push_class(
     class_no: u16,
     class: DescClass<'_>,
 ) -> Result<(), AllocError>
-    ensures { OnOk result (methods.new.items ≡ methods.old.items ++ map (named_method home.entry.index.now home.entry.roles) (methods_of_class home.entry.number home.entry.package.now class_no (class_seen class.entry) 0 (class_seen class.entry).methods)) }
+    ensures { OnOk result (methods.new.items ≡ methods.old.items ++ map (named_method home.entry.index.now home.entry.roles) (methods_of_class home.entry.number home.entry.of_package.now class_no (class_seen class.entry) 0 (class_seen class.entry).methods)) }
 {
     let has_header = have_headers(home, class);
     // Their number is one that `method_count` can answer.
@@ -313,14 +305,14 @@ fn push_package(
     alloc: Global,
     home: Home<'_, '_, '_, '_>,
 ) -> Result<(), AllocError>
-    ensures named { OnOk result (methods.new.items ≡ methods.old.items ++ map (named_method home.entry.index.now home.entry.roles) (methods_of_classes home.entry.number home.entry.package.now 0 home.entry.package.now.description.items.classes)) }
-    ensures agreed { IsAgreed home.entry.package.now }
-    ensures few { HasFewHandlers home.entry.package.now }
+    ensures named { OnOk result (methods.new.items ≡ methods.old.items ++ map (named_method home.entry.index.now home.entry.roles) (methods_of_classes home.entry.number home.entry.of_package.now 0 home.entry.of_package.now.description.items.classes)) }
+    ensures agreed { IsAgreed home.entry.of_package.now }
+    ensures few { HasFewHandlers home.entry.of_package.now }
 {
     // Its parts stand for it, and the number of its handlers is one that `handler_count` can answer.
-    let _parts = home.package.parts();
-    let _handlers = home.package.methods().handlers();
-    let descriptor = home.package.descriptor();
+    let _parts = home.of_package.parts();
+    let _handlers = home.of_package.methods().handlers();
+    let descriptor = home.of_package.descriptor();
     // Their number is one that `class_count` can answer.
     let _count = descriptor.class_count();
     let mut class_no: u16 = 0;
@@ -350,7 +342,7 @@ pub(crate) fn methods_behind<'x, 'n, 'p, 'a>(
             index,
             roles,
             number: k as u16,
-            package,
+            of_package: package,
         };
         push_package(&mut methods, alloc, home)?;
     }

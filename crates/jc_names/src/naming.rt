@@ -47,7 +47,7 @@ fn names_or_fault<'n, 'p, 'a>(
 {
     let index = checked(alloc, packages)?;
     let methods = methods_behind(alloc, &index, &*packages, roles)?;
-    let classes = class_records(alloc, &index, packages, roles[0] as u16)?;
+    let classes = class_records(alloc, &index, &*packages, roles)?;
     Ok(Names {
         index,
         roles,
