@@ -28,23 +28,17 @@ const CLASSREF: u8 = 1;
 const INIT: u8 = 0x80;
 
 /// The class that a handler catches, by its catch_type_index.
-fn caught(
-    index: &Index<'_, '_, '_>,
-    throwable: u16,
-    package: u16,
-    pool: &Pool<'_>,
-    catch_type: u16,
-) -> u16
-    ensures { result ≡ caught index.now throwable «package» (entries pool.now) catch_type }
+fn caught(home: Home<'_, '_, '_, '_>, pool: &Pool<'_>, catch_type: u16) -> u16
+    ensures { result ≡ caught home.entry.index.now (slice_index home.entry.roles 1) home.entry.number (entries pool.now) catch_type }
 {
     if catch_type == 0 {
-        return throwable;
+        return home.roles[1] as u16;
     }
     match pool.at(catch_type) {
         Some(entry) => {
             if entry.tag == CLASSREF {
-                index
-                    .class_named(package, reference_in(entry.bytes))
+                home.index
+                    .class_named(home.number, reference_in(entry.bytes))
                     .unwrap_or(0)
             } else {
                 0
@@ -57,14 +51,12 @@ fn caught(
 /// A handler with its places counted from the start of its method's code.
 #[tactic(auto, unfolding(crate::specs::NamedMethods::handler_named))]
 fn handler_named(
-    index: &Index<'_, '_, '_>,
-    throwable: u16,
-    package: u16,
+    home: Home<'_, '_, '_, '_>,
     pool: &Pool<'_>,
     code_at: u16,
     handler: HandlerInfo,
 ) -> Handler
-    ensures { result ≡ handler_named index.now throwable «package» (entries pool.now) code_at handler }
+    ensures { result ≡ handler_named home.entry.index.now (slice_index home.entry.roles 1) home.entry.number (entries pool.now) code_at handler }
 {
     Handler {
         start: handler.start.saturating_sub(code_at),
@@ -74,7 +66,7 @@ fn handler_named(
             .saturating_sub(code_at),
         entry: handler.entry.saturating_sub(code_at),
         index: handler.index,
-        class: caught(index, throwable, package, pool, handler.index),
+        class: caught(home, pool, handler.index),
     }
 }
 
@@ -97,22 +89,20 @@ fn handlers_behind<'a>(handlers: Handlers<'a>, count: u16) -> Handlers<'a>
 #[tactic(auto, using(crate::proofs::Parts::take_step))]
 fn handlers_named(
     alloc: Global,
-    index: &Index<'_, '_, '_>,
-    throwable: u16,
-    package: u16,
+    home: Home<'_, '_, '_, '_>,
     pool: &Pool<'_>,
     code_at: u16,
     handlers: Handlers<'_>,
     count: u16,
 ) -> Result<Vec<Handler>, AllocError>
-    ensures { IfOk result (λ v. v.items ≡ map (handler_named index.now throwable «package» (entries pool.now) code_at) (take count (handlers_left handlers.entry))) }
+    ensures { IfOk result (λ v. v.items ≡ map (handler_named home.entry.index.now (slice_index home.entry.roles 1) home.entry.number (entries pool.now) code_at) (take count (handlers_left handlers.entry))) }
 {
     let mut named = Vec::new(alloc);
     let mut rest = handlers;
     'handlers: for _ in 0..count {
         match rest.next() {
             Some(handler) => {
-                named.push(handler_named(index, throwable, package, pool, code_at, handler))?;
+                named.push(handler_named(home, pool, code_at, handler))?;
             }
             None => return Ok(named),
         }
@@ -165,16 +155,7 @@ fn body_behind(
     let code_at = method.method_offset.saturating_add(header.size as u16);
     let behind = handlers_behind(home.of_package.methods().handlers(), method.handler_index);
     let pool = home.of_package.pool();
-    let handlers = handlers_named(
-        alloc,
-        home.index,
-        home.roles[1] as u16,
-        home.number,
-        &pool,
-        code_at,
-        behind,
-        method.handler_count,
-    )?;
+    let handlers = handlers_named(alloc, home, &pool, code_at, behind, method.handler_count)?;
     Ok(Body {
         is_abstract: header.flags.is_abstract(),
         nargs: header.nargs,
