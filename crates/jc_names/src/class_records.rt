@@ -1,4 +1,4 @@
-ghost use Rattle.std.specs.Prelude.{◌≡◌, ◌≤◌, ◌++◌, length, map, filter, flat_map, All, IfOk, OnOk};
+ghost use Rattle.std.specs.Prelude.{◌≡◌, ◌≤◌, ◌++◌, length, map, filter, flat_map, slice_index, All, IfOk, OnOk};
 ghost use Rattle.cap_bytes.specs.Table.{numbers};
 ghost use Rattle.cap_class.specs.ClassPart.{class_seen, classes_left};
 ghost use Rattle.cap_class.specs.Lists.{interfaces_left};
@@ -10,12 +10,13 @@ ghost use Rattle.jc_names.specs.NamedClasses.{is_instance, instance_fields, with
 ghost use Rattle.jc_names.specs.Numbering.{numbered_class, numbered_classes, classes_of};
 
 use crate::class_index::Index;
+use crate::home::Home;
 use crate::named::{NamedClass, Table};
 use crate::place::Place;
 use crate::world_types::push_cells;
 use cap_class::{ClassInfo, Interfaces};
 use cap_desc::{DescFields, DescPart, FieldInfo};
-use cap_package::{Package, Packages, field_type};
+use cap_package::{Packages, field_type};
 use jc_base::{Iface, Items, Ty};
 use std::alloc::{AllocError, Global};
 
@@ -200,16 +201,16 @@ fn interface_in(
 /// A class with each class and method that its record names.
 fn named_proper(
     alloc: Global,
-    index: &Index<'_, '_, '_>,
-    object: u16,
-    number: u16,
-    package: &Package<'_, '_>,
+    home: Home<'_, '_, '_, '_>,
     class: ClassInfo<'_>,
 ) -> Result<NamedClass, AllocError>
-    ensures is { IfOk result (λ c. c ≡ named_proper index.now object (numbered_class number «package».now (class_seen class.entry))) }
+    ensures is { IfOk result (λ c. c ≡ named_proper home.entry.index.now (slice_index home.entry.roles 0) (numbered_class home.entry.number home.entry.of_package.now (class_seen class.entry))) }
     ensures sized { IfOk result IsSized }
 {
-    let descriptor = package.descriptor();
+    let index = home.index;
+    let number = home.number;
+    let object = home.roles[0] as u16;
+    let descriptor = home.of_package.descriptor();
     let interfaces = interfaces_named(alloc, index, number, class.interfaces())?;
     let public = table_of(alloc, index, number, class.public_base(), class.publics())?;
     let visible = table_of(alloc, index, number, class.package_base(), class.packages())?;
@@ -236,19 +237,16 @@ fn named_proper(
 #[tactic(auto, unfolding(crate::specs::NamedClasses::named_class))]
 fn named_class(
     alloc: Global,
-    index: &Index<'_, '_, '_>,
-    object: u16,
-    number: u16,
-    package: &Package<'_, '_>,
+    home: Home<'_, '_, '_, '_>,
     class: ClassInfo<'_>,
 ) -> Result<NamedClass, AllocError>
-    ensures is { IfOk result (λ c. c ≡ named_class index.now object (numbered_class number «package».now (class_seen class.entry))) }
+    ensures is { IfOk result (λ c. c ≡ named_class home.entry.index.now (slice_index home.entry.roles 0) (numbered_class home.entry.number home.entry.of_package.now (class_seen class.entry))) }
     ensures sized { IfOk result IsSized }
 {
     if class.flags().is_interface() {
-        interface_in(alloc, index, number, class)
+        interface_in(alloc, home.index, home.number, class)
     } else {
-        named_proper(alloc, index, object, number, package, class)
+        named_proper(alloc, home, class)
     }
 }
 
@@ -256,36 +254,39 @@ fn named_class(
 fn push_classes(
     named: &mut Vec<NamedClass>,
     alloc: Global,
-    index: &Index<'_, '_, '_>,
-    object: u16,
-    number: u16,
-    package: &Package<'_, '_>,
+    home: Home<'_, '_, '_, '_>,
 ) -> Result<(), AllocError>
     requires { All IsSized named.old.items }
-    ensures is { OnOk result (named.new.items ≡ named.old.items ++ map (named_class index.now object) (classes_of number «package».now)) }
+    ensures is { OnOk result (named.new.items ≡ named.old.items ++ map (named_class home.entry.index.now (slice_index home.entry.roles 0)) (classes_of home.entry.number home.entry.of_package.now)) }
     ensures sized { OnOk result (All IsSized named.new.items) }
 {
-    'classes: for class in package.classes().iter() {
-        named.push(named_class(alloc, index, object, number, package, class)?)?;
+    'classes: for class in home.of_package.classes().iter() {
+        named.push(named_class(alloc, home, class)?)?;
     }
     Ok(())
 }
 
 /// The classes of packages.
 #[tactic(auto, using(crate::proofs::Steps::packages_step))]
-pub(crate) fn class_records(
+pub(crate) fn class_records<'x, 'n, 'p, 'a>(
     alloc: Global,
-    index: &Index<'_, '_, '_>,
-    packages: &Packages<'_, '_>,
-    object: u16,
+    index: &'x Index<'n, 'p, 'a>,
+    packages: &'x Packages<'p, 'a>,
+    roles: [u8; 8],
 ) -> Result<Vec<NamedClass>, AllocError>
     requires { length packages.now ≤ 16 }
-    ensures is { IfOk result (λ v. v.items ≡ map (named_class index.now object) (numbered_classes packages.now)) }
+    ensures is { IfOk result (λ v. v.items ≡ map (named_class index.now (slice_index roles 0)) (numbered_classes packages.now)) }
     ensures sized { IfOk result (λ v. All IsSized v.items) }
 {
     let mut named = Vec::new(alloc);
     'packages: for (k, package) in packages.as_slice().iter().enumerate() {
-        push_classes(&mut named, alloc, index, object, k as u16, package)?;
+        let home = Home {
+            index,
+            roles,
+            number: k as u16,
+            of_package: package,
+        };
+        push_classes(&mut named, alloc, home)?;
     }
     Ok(named)
 }

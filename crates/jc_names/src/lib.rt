@@ -8,6 +8,7 @@ mod class_index;
 mod class_records;
 mod counts;
 mod fault;
+mod home;
 mod import_checks;
 mod imports;
 mod least;

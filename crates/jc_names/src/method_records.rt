@@ -1,4 +1,4 @@
-ghost use Rattle.std.specs.Prelude.{◌≡◌, ◌+◌, ◌≤◌, ◌++◌, length, map, take, drop, All, IfOk, OnOk};
+ghost use Rattle.std.specs.Prelude.{◌≡◌, ◌+◌, ◌≤◌, ◌++◌, length, map, take, drop, slice_index, All, IfOk, OnOk};
 ghost use Rattle.cap_class.specs.ClassPart.{records};
 ghost use Rattle.cap_desc.specs.ClassRecords.{class_seen, classes_left};
 ghost use Rattle.cap_desc.specs.MemberLists.{methods_left};
@@ -11,12 +11,13 @@ ghost use Rattle.jc_names.specs.NamedMethods.{HasFewHandlers, caught, handler_na
 ghost use Rattle.jc_names.specs.Numbering.{numbered, numbered_methods, methods_of_class, methods_of_classes};
 
 use crate::class_index::Index;
+use crate::home::Home;
 use crate::method_index::classes_from;
 use crate::reference_checks::reference_in;
 use crate::world_types::signature_of;
 use cap_desc::{AccessFlags, DescClass, MethodInfo};
 use cap_method::{HandlerInfo, Handlers, MethodHeader};
-use cap_package::{Package, Packages, header};
+use cap_package::{Packages, header};
 use cap_pool::Pool;
 use jc_base::{Handler, Items, MethodRec, Sig};
 use std::alloc::{AllocError, Global};
@@ -27,23 +28,17 @@ const CLASSREF: u8 = 1;
 const INIT: u8 = 0x80;
 
 /// The class that a handler catches, by its catch_type_index.
-fn caught(
-    index: &Index<'_, '_, '_>,
-    throwable: u16,
-    package: u16,
-    pool: &Pool<'_>,
-    catch_type: u16,
-) -> u16
-    ensures { result ≡ caught index.now throwable «package» (entries pool.now) catch_type }
+fn caught(home: Home<'_, '_, '_, '_>, pool: &Pool<'_>, catch_type: u16) -> u16
+    ensures { result ≡ caught home.entry.index.now (slice_index home.entry.roles 1) home.entry.number (entries pool.now) catch_type }
 {
     if catch_type == 0 {
-        return throwable;
+        return home.roles[1] as u16;
     }
     match pool.at(catch_type) {
         Some(entry) => {
             if entry.tag == CLASSREF {
-                index
-                    .class_named(package, reference_in(entry.bytes))
+                home.index
+                    .class_named(home.number, reference_in(entry.bytes))
                     .unwrap_or(0)
             } else {
                 0
@@ -56,14 +51,12 @@ fn caught(
 /// A handler with its places counted from the start of its method's code.
 #[tactic(auto, unfolding(crate::specs::NamedMethods::handler_named))]
 fn handler_named(
-    index: &Index<'_, '_, '_>,
-    throwable: u16,
-    package: u16,
+    home: Home<'_, '_, '_, '_>,
     pool: &Pool<'_>,
     code_at: u16,
     handler: HandlerInfo,
 ) -> Handler
-    ensures { result ≡ handler_named index.now throwable «package» (entries pool.now) code_at handler }
+    ensures { result ≡ handler_named home.entry.index.now (slice_index home.entry.roles 1) home.entry.number (entries pool.now) code_at handler }
 {
     Handler {
         start: handler.start.saturating_sub(code_at),
@@ -73,7 +66,7 @@ fn handler_named(
             .saturating_sub(code_at),
         entry: handler.entry.saturating_sub(code_at),
         index: handler.index,
-        class: caught(index, throwable, package, pool, handler.index),
+        class: caught(home, pool, handler.index),
     }
 }
 
@@ -96,22 +89,20 @@ fn handlers_behind<'a>(handlers: Handlers<'a>, count: u16) -> Handlers<'a>
 #[tactic(auto, using(crate::proofs::Parts::take_step))]
 fn handlers_named(
     alloc: Global,
-    index: &Index<'_, '_, '_>,
-    throwable: u16,
-    package: u16,
+    home: Home<'_, '_, '_, '_>,
     pool: &Pool<'_>,
     code_at: u16,
     handlers: Handlers<'_>,
     count: u16,
 ) -> Result<Vec<Handler>, AllocError>
-    ensures { IfOk result (λ v. v.items ≡ map (handler_named index.now throwable «package» (entries pool.now) code_at) (take count (handlers_left handlers.entry))) }
+    ensures { IfOk result (λ v. v.items ≡ map (handler_named home.entry.index.now (slice_index home.entry.roles 1) home.entry.number (entries pool.now) code_at) (take count (handlers_left handlers.entry))) }
 {
     let mut named = Vec::new(alloc);
     let mut rest = handlers;
     'handlers: for _ in 0..count {
         match rest.next() {
             Some(handler) => {
-                named.push(handler_named(index, throwable, package, pool, code_at, handler))?;
+                named.push(handler_named(home, pool, code_at, handler))?;
             }
             None => return Ok(named),
         }
@@ -155,28 +146,16 @@ fn no_body(alloc: Global, flags: AccessFlags, sig: &Sig) -> Body
 /// What the header of a method tells.
 fn body_behind(
     alloc: Global,
-    index: &Index<'_, '_, '_>,
-    throwable: u16,
-    number: u16,
-    package: &Package<'_, '_>,
+    home: Home<'_, '_, '_, '_>,
     method: &MethodInfo,
     header: MethodHeader,
 ) -> Result<Body, AllocError>
-    ensures { IfOk result (λ b. b ≡ body_behind index.now throwable number «package».now (method_seen method.now) (header_seen header) (offset_in_info (method.now.method_offset + header.size))) }
+    ensures { IfOk result (λ b. b ≡ body_behind home.entry.index.now (slice_index home.entry.roles 1) home.entry.number home.entry.of_package.now (method_seen method.now) (header_seen header) (offset_in_info (method.now.method_offset + header.size))) }
 {
     let code_at = method.method_offset.saturating_add(header.size as u16);
-    let behind = handlers_behind(package.methods().handlers(), method.handler_index);
-    let pool = package.pool();
-    let handlers = handlers_named(
-        alloc,
-        index,
-        throwable,
-        number,
-        &pool,
-        code_at,
-        behind,
-        method.handler_count,
-    )?;
+    let behind = handlers_behind(home.of_package.methods().handlers(), method.handler_index);
+    let pool = home.of_package.pool();
+    let handlers = handlers_named(alloc, home, &pool, code_at, behind, method.handler_count)?;
     Ok(Body {
         is_abstract: header.flags.is_abstract(),
         nargs: header.nargs,
@@ -192,21 +171,18 @@ fn body_behind(
 #[tactic(auto, unfolding(crate::specs::NamedMethods::body_of))]
 fn body_of(
     alloc: Global,
-    index: &Index<'_, '_, '_>,
-    throwable: u16,
-    number: u16,
-    package: &Package<'_, '_>,
+    home: Home<'_, '_, '_, '_>,
     method: &MethodInfo,
     sig: &Sig,
     has_header: bool,
 ) -> Result<Body, AllocError>
-    ensures { IfOk result (λ b. b ≡ body_of index.now throwable number «package».now (method_seen method.now) sig.now has_header) }
+    ensures { IfOk result (λ b. b ≡ body_of home.entry.index.now (slice_index home.entry.roles 1) home.entry.number home.entry.of_package.now (method_seen method.now) sig.now has_header) }
 {
     if !has_header {
         return Ok(no_body(alloc, method.flags, sig));
     }
-    match header(&package.methods(), method.method_offset) {
-        Some(header) => body_behind(alloc, index, throwable, number, package, method, header),
+    match header(&home.of_package.methods(), method.method_offset) {
+        Some(header) => body_behind(alloc, home, method, header),
         None => Ok(no_body(alloc, method.flags, sig)),
     }
 }
@@ -221,19 +197,14 @@ fn class_described(index: &Index<'_, '_, '_>, package: u16, class: DescClass<'_>
 
 /// Whether the methods of a record of the Descriptor have headers.
 #[tactic(auto, unfolding(crate::specs::NamedMethods::have_headers))]
-fn have_headers(
-    index: &Index<'_, '_, '_>,
-    number: u16,
-    package: &Package<'_, '_>,
-    class: DescClass<'_>,
-) -> bool
-    ensures { result ≡ have_headers index.now number «package».now (class_seen class.entry) }
+fn have_headers(home: Home<'_, '_, '_, '_>, class: DescClass<'_>) -> bool
+    ensures { result ≡ have_headers home.entry.index.now home.entry.number home.entry.of_package.now (class_seen class.entry) }
 {
-    if class.class_ref() < classes_from(&package.classes()) {
+    if class.class_ref() < classes_from(&home.of_package.classes()) {
         return false;
     }
-    match index.class_named(number, class.class_ref()) {
-        Some(class) => !index.is_interface(class),
+    match home.index.class_named(home.number, class.class_ref()) {
+        Some(class) => !home.index.is_interface(class),
         None => false,
     }
 }
@@ -249,36 +220,28 @@ fn is_init(flags: AccessFlags) -> bool
 #[tactic(auto, unfolding(crate::specs::NamedMethods::named_method))]
 fn method_record(
     alloc: Global,
-    index: &Index<'_, '_, '_>,
-    roles: [u8; 8],
-    number: u16,
-    package: &Package<'_, '_>,
+    home: Home<'_, '_, '_, '_>,
     class_no: u16,
     class: DescClass<'_>,
     has_header: bool,
     method_no: u16,
     method: MethodInfo,
 ) -> Result<MethodRec, AllocError>
-    requires { has_header ≡ have_headers index.now number «package».now (class_seen class) }
-    ensures { IfOk result (λ m. m ≡ named_method index.now roles (numbered number «package».now class_no (class_seen class.entry) method_no (method_seen method))) }
+    requires { has_header ≡ have_headers home.index.now home.number home.of_package.now (class_seen class) }
+    ensures { IfOk result (λ m. m ≡ named_method home.entry.index.now home.entry.roles (numbered home.entry.number home.entry.of_package.now class_no (class_seen class.entry) method_no (method_seen method))) }
 {
-    let descriptor = package.descriptor();
-    let object = roles[0] as u16;
-    let throwable = roles[1] as u16;
     let sig = signature_of(
         alloc,
-        index,
-        object,
-        number,
-        &descriptor,
+        home.index,
+        home.roles[0] as u16,
+        home.number,
+        &home.of_package.descriptor(),
         method.type_offset,
     )?;
-    let body = body_of(
-        alloc, index, throwable, number, package, &method, &sig, has_header,
-    )?;
+    let body = body_of(alloc, home, &method, &sig, has_header)?;
     Ok(MethodRec {
-        package: number,
-        class: class_described(index, number, class),
+        package: home.number,
+        class: class_described(home.index, home.number, class),
         token: method.token,
         class_no,
         method_no,
@@ -299,23 +262,18 @@ fn method_record(
 fn push_class(
     methods: &mut Vec<MethodRec>,
     alloc: Global,
-    index: &Index<'_, '_, '_>,
-    roles: [u8; 8],
-    number: u16,
-    package: &Package<'_, '_>,
+    home: Home<'_, '_, '_, '_>,
     class_no: u16,
     class: DescClass<'_>,
 ) -> Result<(), AllocError>
-    ensures { OnOk result (methods.new.items ≡ methods.old.items ++ map (named_method index.now roles) (methods_of_class number «package».now class_no (class_seen class.entry) 0 (class_seen class.entry).methods)) }
+    ensures { OnOk result (methods.new.items ≡ methods.old.items ++ map (named_method home.entry.index.now home.entry.roles) (methods_of_class home.entry.number home.entry.of_package.now class_no (class_seen class.entry) 0 (class_seen class.entry).methods)) }
 {
-    let has_header = have_headers(index, number, package, class);
+    let has_header = have_headers(home, class);
     // Their number is one that `method_count` can answer.
     let _count = class.method_count();
     let mut method_no: u16 = 0;
     'methods: for method in class.methods() {
-        methods.push(method_record(
-            alloc, index, roles, number, package, class_no, class, has_header, method_no, method,
-        )?)?;
+        methods.push(method_record(alloc, home, class_no, class, has_header, method_no, method)?)?;
         method_no += 1;
     }
     Ok(())
@@ -326,26 +284,21 @@ fn push_class(
 fn push_package(
     methods: &mut Vec<MethodRec>,
     alloc: Global,
-    index: &Index<'_, '_, '_>,
-    roles: [u8; 8],
-    number: u16,
-    package: &Package<'_, '_>,
+    home: Home<'_, '_, '_, '_>,
 ) -> Result<(), AllocError>
-    ensures named { OnOk result (methods.new.items ≡ methods.old.items ++ map (named_method index.now roles) (methods_of_classes number «package».now 0 «package».now.description.items.classes)) }
-    ensures agreed { IsAgreed «package».now }
-    ensures few { HasFewHandlers «package».now }
+    ensures named { OnOk result (methods.new.items ≡ methods.old.items ++ map (named_method home.entry.index.now home.entry.roles) (methods_of_classes home.entry.number home.entry.of_package.now 0 home.entry.of_package.now.description.items.classes)) }
+    ensures agreed { IsAgreed home.entry.of_package.now }
+    ensures few { HasFewHandlers home.entry.of_package.now }
 {
     // Its parts stand for it, and the number of its handlers is one that `handler_count` can answer.
-    let _parts = package.parts();
-    let _handlers = package.methods().handlers();
-    let descriptor = package.descriptor();
+    let _parts = home.of_package.parts();
+    let _handlers = home.of_package.methods().handlers();
+    let descriptor = home.of_package.descriptor();
     // Their number is one that `class_count` can answer.
     let _count = descriptor.class_count();
     let mut class_no: u16 = 0;
     'classes: for class in descriptor.classes() {
-        push_class(
-            methods, alloc, index, roles, number, package, class_no, class,
-        )?;
+        push_class(methods, alloc, home, class_no, class)?;
         class_no += 1;
     }
     Ok(())
@@ -353,10 +306,10 @@ fn push_package(
 
 /// The methods of packages.
 #[tactic(auto, using(crate::proofs::Steps::methods_step))]
-pub(crate) fn methods_behind(
+pub(crate) fn methods_behind<'x, 'n, 'p, 'a>(
     alloc: Global,
-    index: &Index<'_, '_, '_>,
-    packages: &Packages<'_, '_>,
+    index: &'x Index<'n, 'p, 'a>,
+    packages: &'x Packages<'p, 'a>,
     roles: [u8; 8],
 ) -> Result<Vec<MethodRec>, AllocError>
     requires { length packages.now ≤ 16 }
@@ -366,7 +319,13 @@ pub(crate) fn methods_behind(
 {
     let mut methods = Vec::new(alloc);
     'packages: for (k, package) in packages.as_slice().iter().enumerate() {
-        push_package(&mut methods, alloc, index, roles, k as u16, package)?;
+        let home = Home {
+            index,
+            roles,
+            number: k as u16,
+            of_package: package,
+        };
+        push_package(&mut methods, alloc, home)?;
     }
     Ok(methods)
 }

@@ -46,8 +46,8 @@ fn names_or_fault<'n, 'p, 'a>(
     ensures few { IfOk result (λ _. All HasFewHandlers packages.now) }
 {
     let index = checked(alloc, packages)?;
-    let methods = methods_behind(alloc, &index, packages, roles)?;
-    let classes = class_records(alloc, &index, packages, roles[0] as u16)?;
+    let methods = methods_behind(alloc, &index, &*packages, roles)?;
+    let classes = class_records(alloc, &index, &*packages, roles)?;
     Ok(Names {
         index,
         roles,

@@ -1,4 +1,5 @@
 use Rattle.std.proofs.Common.{◌≡◌, ◌++◌, All, drop, map}
+use Rattle.std.specs.Prelude.{slice_index}
 use Rattle.jc_names.specs.Named.{IsSized}
 use Rattle.jc_names.specs.NamedClasses.{named_class}
 use Rattle.jc_names.specs.Numbering.{classes_behind, numbered_classes}
@@ -6,5 +7,5 @@ use Rattle.jc_names.proofs.class_records.class_records.Given as goal
 
 abbrev pub invariant-packages : goal.invariant-packages
 invariant-packages l =
-    (l.named.items ++ map (named_class l.index l.object) (classes_behind l.k (drop l.k l.packages)) ≡ map (named_class l.index l.object) (numbered_classes l.packages))
+    (l.named.items ++ map (named_class l.index (slice_index l.roles 0)) (classes_behind l.k (drop l.k l.packages)) ≡ map (named_class l.index (slice_index l.roles 0)) (numbered_classes l.packages))
     × All IsSized l.named.items

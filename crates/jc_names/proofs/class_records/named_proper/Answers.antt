@@ -1,4 +1,5 @@
 use Rattle.std.proofs.Common.{map, ap, ◌∙◌}
+use Rattle.std.specs.Prelude.{slice_index}
 use Rattle.cap_desc.specs.MemberRecords.{field_seen}
 use Rattle.jc_names.proofs.FieldCounts.{own_sized}
 use Rattle.jc_names.proofs.class_records.named_proper.Goals as goal
@@ -8,6 +9,6 @@ returns-clause-sized c = record {
   public = c.in_ok-public.ensures.sized;
   visible = c.in_ok-visible.ensures.sized;
   own =
-      own_sized c.args.index.now c.args.object c.args.number c.descriptor-descriptor.result c.offset.result c.as_slice.result.now c.of-2.result
+      own_sized c.args.home.index.now (slice_index c.args.home.roles 0) c.args.home.number c.descriptor-descriptor.result c.offset.result c.as_slice.result.now c.of-2.result
       (ap (map field_seen) c.as_slice.ensures.value ∙ c.in_ok-fields.ensures) (c.of-2.ensures ∙ c.in_ok-own.ensures);
 }

@@ -7,6 +7,6 @@ use Rattle.jc_names.proofs.method_records.push_class.Given as goal
 
 abbrev pub invariant-methods : goal.invariant-methods
 invariant-methods l =
-    (l.methods.items ++ map (named_method l.index l.roles) (methods_of_class l.number l.«package» l.class_no (class_seen l.class) l.method_no (methods_left l.method-iterator))
-    ≡ l.initial.methods.items ++ map (named_method l.index l.roles) (methods_of_class l.number l.«package» l.class_no (class_seen l.class) 0 (class_seen l.class).methods))
+    (l.methods.items ++ map (named_method l.home.index.now l.home.roles) (methods_of_class l.home.number l.home.of_package.now l.class_no (class_seen l.class) l.method_no (methods_left l.method-iterator))
+    ≡ l.initial.methods.items ++ map (named_method l.home.index.now l.home.roles) (methods_of_class l.home.number l.home.of_package.now l.class_no (class_seen l.class) 0 (class_seen l.class).methods))
     × (l.method_no + length (methods_left l.method-iterator) ≡ length (class_seen l.class).methods)

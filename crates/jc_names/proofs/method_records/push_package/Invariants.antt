@@ -6,6 +6,6 @@ use Rattle.jc_names.proofs.method_records.push_package.Given as goal
 
 abbrev pub invariant-classes : goal.invariant-classes
 invariant-classes l =
-    (l.methods.items ++ map (named_method l.index l.roles) (methods_of_classes l.number l.«package» l.class_no (classes_left l.class-iterator))
-    ≡ l.initial.methods.items ++ map (named_method l.index l.roles) (methods_of_classes l.number l.«package» 0 l.«package».description.items.classes))
-    × (l.class_no + length (classes_left l.class-iterator) ≡ length l.«package».description.items.classes)
+    (l.methods.items ++ map (named_method l.home.index.now l.home.roles) (methods_of_classes l.home.number l.home.of_package.now l.class_no (classes_left l.class-iterator))
+    ≡ l.initial.methods.items ++ map (named_method l.home.index.now l.home.roles) (methods_of_classes l.home.number l.home.of_package.now 0 l.home.of_package.now.description.items.classes))
+    × (l.class_no + length (classes_left l.class-iterator) ≡ length l.home.of_package.now.description.items.classes)
