@@ -20,6 +20,3 @@ pub use flaw::{Flaw, SurveyEnd};
 pub use laws::{first_flaw_is_one, flaws_decide};
 pub use surveyed::Survey;
 pub use targets::Targets;
-
-#[cfg(test)]
-mod tests;

@@ -24,6 +24,3 @@ pub use laws::{rule_falls, rule_keeps};
 pub use rule::{Outcome, Site, apply};
 pub use state::{Merged, State};
 pub use typing::Typing;
-
-#[cfg(test)]
-mod tests;
