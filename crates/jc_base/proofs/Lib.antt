@@ -6,5 +6,4 @@ pub mod Subtypes
 pub mod Joins
 pub mod Dispatches
 pub mod Bodies
-pub mod Samples
 pub mod Instances

@@ -4,4 +4,3 @@ pub mod Cell
 pub mod Dispatch
 pub mod Linked
 pub mod World
-pub mod Sample

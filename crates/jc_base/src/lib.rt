@@ -24,6 +24,3 @@ pub use order::{below, is_reference, join};
 pub use record::{ArrayRec, ClassRec, Handler, Iface, Member, MethodRec, Sig, StaticRec};
 pub use ty::{Kind, Ty};
 pub use world::World;
-
-#[cfg(test)]
-mod tests;

@@ -25,6 +25,7 @@ use Rattle.jc_decode.specs.Decoding.{◌>>=◌, or_cut, reached, bad_byte, bad_o
 use Rattle.jc_decode.specs.Refusal.{IsBegun, HasOperands, IsFirstFall, Refuses, nothing_there, left_out, unused, operands_cut, forbidden, bounds_turned, range_cut, pairs_cut, key_falls}
 use Rattle.jc_decode.proofs.Decoded.{reached-ok, reached-within, or_cut-ok}
 use Rattle.jc_decode.proofs.Ranges.{number_of-fits}
+use Rattle.jc_decode.proofs.Rising.{not-false}
 
 -- ---- steps that fail
 
@@ -263,10 +264,6 @@ test-most a b h = grind (arith, ints)
 not-true : (b : Bool) → not b ≡ true → b ≡ false
 not-true true h = absurd (cc)
 not-true false h = refl
-
-not-false : (b : Bool) → not b ≡ false → b ≡ true
-not-false true h = refl
-not-false false h = absurd (cc)
 
 -- what is found first in a range of numbers
 record IsFound (p : ℕ → Bool) (from count n : ℕ) : Type 0 where

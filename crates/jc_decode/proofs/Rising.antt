@@ -51,7 +51,7 @@ keys_rise-none : (key : Operand) (xs : List ℕ) (t end : ℕ) (o : Option ℕ) 
 keys_rise-none key xs t end None e h = refl
 keys_rise-none key xs t end (Some n) e h = absurd (cc)
 
-not-false : (b : Bool) → not b ≡ false → b ≡ true
+pub not-false : (b : Bool) → not b ≡ false → b ≡ true
 not-false true h = refl
 not-false false h = absurd (cc)
 

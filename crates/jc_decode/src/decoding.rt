@@ -217,8 +217,8 @@ fn end_of_table(layout: Layout, code: View, table: u32, y: i32, z: i32) -> Resul
     }
 }
 
-#[tactic(auto, using(crate::proofs::Pairs::pairs_facts))]
 /// The place behind this many pairs, the first of which begins at `table`.
+#[tactic(auto, using(crate::proofs::Pairs::pairs_facts))]
 fn end_of_pairs(key: Operand, code: View, table: u32, count: u32) -> Result<u32, CodeEnd>
     requires { length code.bytes.now ≤ 65535 }
     ensures value { result ≡ pairs_end key code.entry.bytes.now table count }

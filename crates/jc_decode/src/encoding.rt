@@ -31,8 +31,8 @@ pub fn encode(insn: Insn, code: View, at: u16, to: &mut Vec<u8>) -> Result<(), A
     result
 }
 
-#[tactic(auto, using(crate::proofs::Appending::steps), unfolding(crate::specs::Encoding::encoding))]
 /// Appends an instruction's bytes, or some of them where memory is wanting.
+#[tactic(auto, using(crate::proofs::Appending::steps), unfolding(crate::specs::Encoding::encoding))]
 fn append(insn: Insn, code: View, at: u16, to: &mut Vec<u8>) -> Result<(), AllocError>
     requires short { length code.bytes.now ≤ 65535 }
     requires operands { IsAllowed insn }
@@ -48,8 +48,8 @@ fn append(insn: Insn, code: View, at: u16, to: &mut Vec<u8>) -> Result<(), Alloc
     append_table(layout, insn, code, at, to)
 }
 
-#[tactic(auto, using(crate::proofs::Appending::steps))]
 /// Appends the opcode and the operands, or some of them where memory is wanting.
+#[tactic(auto, using(crate::proofs::Appending::steps))]
 fn append_head(layout: Layout, insn: Insn, to: &mut Vec<u8>) -> Result<(), AllocError>
     requires { AllowsBy insn (Ok layout) }
     ensures appended { OnOk result (to.new.items ≡ to.old.items ++ head_bytes layout insn) }

@@ -20,6 +20,3 @@ pub use instructions::{Instructions, code_end};
 pub use layout::{Cases, Layout, Operand};
 pub use setting::set_case;
 pub use symbols::{Handler, Item, Labels, Laid, Range, Sequence, Symbols};
-
-#[cfg(test)]
-mod tests;

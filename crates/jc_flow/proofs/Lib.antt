@@ -8,4 +8,3 @@ pub mod Settling
 pub mod Never
 pub mod Beginning
 pub mod Answered
-pub mod SampleWorld

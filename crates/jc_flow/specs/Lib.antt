@@ -1,5 +1,4 @@
 pub mod Fails
 pub mod Infer
-pub mod Sample
 pub mod Scratch
 pub mod Visit

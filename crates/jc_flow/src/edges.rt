@@ -1,6 +1,6 @@
-ghost use Rattle.std.specs.Prelude.{◌≡◌, ◌+◌, ◌<◌, ◌≤◌, length, reverse, All, Contains, IfOk, IfErr, OnOk, IsTrue, MatchBool, pos, ◌≤ℤ◌, ◌<ℤ◌};
+ghost use Rattle.std.specs.Prelude.{◌≡◌, ◌+◌, ◌<◌, ◌≤◌, length, reverse, All, Contains, IfOk, IfErr, OnOk};
 ghost use Rattle.jc_decode.specs.Listing.{targets};
-ghost use Rattle.jc_rules.specs.Flow.{Covers, At, FrameBelow};
+ghost use Rattle.jc_rules.specs.Flow.{At, FrameBelow};
 ghost use Rattle.jc_rules.specs.Typing.{state_at};
 ghost use Rattle.jc_states.specs.Progress.{AreHeld};
 ghost use Rattle.jc_flow.specs.Fails.{IsFailure};
@@ -11,7 +11,7 @@ use crate::scratch::Scratch;
 use crate::search::Search;
 use jc_base::{Handler, Ty};
 use jc_decode::{Insn, Placed};
-use jc_places::Targets;
+use jc_places::{Targets, covers, place_of};
 use jc_rows::RuleFault;
 use jc_states::{PutEnd, Table};
 use std::alloc::Global;
@@ -23,20 +23,6 @@ pub struct Step<'a> {
     pub insn: Insn,
     pub before: &'a Scratch,
     pub after: &'a Scratch,
-}
-
-fn covers(handler: Handler, place: u16) -> bool
-    ensures { MatchBool result (Covers handler place) (¬ (Covers handler place)) }
-{
-    handler.start <= place && place < handler.end
-}
-
-/// The place of a target that lies in the code.
-fn place_of(target: i32) -> u16
-    requires { (pos 0 ≤ℤ target) × (target <ℤ pos 65536) }
-    ensures { target ≡ pos result }
-{
-    target as u16
 }
 
 /// Why the edge from a place breaks.
@@ -128,9 +114,7 @@ impl Search<'_> {
             Err(end) => Err(broken(step.place, end)),
         }
     }
-}
 
-impl Search<'_> {
     /// Leads to the entries of the handlers that cover the place.
     pub fn raise_handlers(
         &self,

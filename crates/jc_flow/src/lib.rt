@@ -13,6 +13,3 @@ mod visit;
 
 pub use end::FlowEnd;
 pub use inference::infer;
-
-#[cfg(test)]
-mod tests;

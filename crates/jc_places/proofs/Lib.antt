@@ -6,4 +6,3 @@ pub mod FirstFound
 pub mod FlawLaws
 pub mod Growing
 pub mod Closing
-pub mod SampleWorld

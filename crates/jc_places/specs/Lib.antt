@@ -9,4 +9,3 @@ pub mod FirstFailing
 pub mod Scan
 pub mod Targets
 pub mod Search
-pub mod Sample

@@ -6,6 +6,7 @@
 #![tactic(auto)]
 
 mod control;
+mod edge;
 mod flags;
 mod flaw;
 mod laws;
@@ -16,10 +17,8 @@ mod surveyed;
 mod targets;
 
 pub use control::survey;
+pub use edge::{covers, place_of};
 pub use flaw::{Flaw, SurveyEnd};
 pub use laws::{first_flaw_is_one, flaws_decide};
 pub use surveyed::Survey;
 pub use targets::Targets;
-
-#[cfg(test)]
-mod tests;

@@ -1,4 +1,4 @@
-ghost use Rattle.std.specs.Prelude.{◌≡◌, ◌<◌, ◌≤ℤ◌, ◌<ℤ◌, ◌+◌, pos, length, replicate, slice_set, true, false, [], All, Contains, IsTrue, IfOk, IfSome, IfNone, OnOk};
+ghost use Rattle.std.specs.Prelude.{◌≡◌, ◌<◌, ◌+◌, length, replicate, slice_set, true, false, [], All, Contains, IsTrue, IfOk, IfSome, IfNone, OnOk};
 ghost use Rattle.jc_decode.specs.Listing.{falls, targets};
 ghost use Rattle.jc_rules.specs.Flow.{Stands, IsTargetPlace, IsHandlerOf, IsWellFormed, IsReached};
 ghost use Rattle.jc_places.specs.Flags.{IsFlagged};
@@ -6,6 +6,7 @@ ghost use Rattle.jc_places.specs.Subject.{method};
 ghost use Rattle.jc_places.specs.Search.{Reaches, Takes, Grows, IsSound, IsLed, IsLedTo, IsCaught, IsClosedAt, IsDone, found};
 ghost use Rattle.jc_places.specs.Survey.{IsSurvey};
 
+use crate::edge::{covers, place_of};
 use crate::flags::Flags;
 use crate::subject::Subject;
 use crate::targets::Targets;
@@ -167,7 +168,7 @@ impl Search {
         ensures grows { OnOk result (Grows self.old self.new) }
         ensures caught { OnOk result (IsCaught self.new place handler) }
     {
-        if place < handler.start || place >= handler.end {
+        if !covers(handler, place) {
             return Ok(());
         }
         self.lead(handler.entry)
@@ -191,13 +192,4 @@ impl Search {
         self.jump(subject, placed)?;
         self.catch(subject, place)
     }
-}
-
-/// The place of a target within the code.
-fn place_of(target: i32) -> u16
-    requires low { pos 0 ≤ℤ target }
-    requires high { target <ℤ pos 65536 }
-    ensures { pos result ≡ target }
-{
-    target as u16
 }

@@ -24,6 +24,3 @@ pub use laws::{rule_decides, rule_falls, rule_keeps, rule_raises};
 pub use rule::{Outcome, Site, apply};
 pub use state::{Merged, State};
 pub use typing::Typing;
-
-#[cfg(test)]
-mod tests;

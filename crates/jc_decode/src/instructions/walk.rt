@@ -10,8 +10,8 @@ use crate::insn::{CodeEnd, Placed};
 use cap_bytes::View;
 
 impl<'a> Instructions<'a> {
-    #[tactic(auto, using(crate::proofs::Listing::listing_facts))]
     /// The instructions of a method's code of at most 65,535 bytes.
+    #[tactic(auto, using(crate::proofs::Listing::listing_facts))]
     pub fn of(code: View<'a>) -> Instructions<'a>
         requires { length code.bytes.now ≤ 65535 }
         ensures instructions { rest_of result ≡ listing code.entry.bytes.now }

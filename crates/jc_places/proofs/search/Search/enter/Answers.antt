@@ -20,7 +20,7 @@ pub returns-clause-sound : goal.returns-clause-sound
 returns-clause-sound c =
     let m = method c.args.subject in
     let inside = place-inside m.code c.args.handler.entry c.requires.formed.entry in
-    let covers : Covers c.args.handler c.args.place = record { from = omega arith; before = omega arith } in
+    let covers : Covers c.args.handler c.args.place = c.if-not-covers.ensures in
     on-ok (Reaches c.args.handler.entry c.args.self.now c.lead.new.self) (IsSound m c.lead.new.self) c.lead.result
     (λ r. led-sound m c.args.handler.entry c.args.self.now c.lead.new.self c.requires.sound (omega arith) c.lead.ensures.leaders r
     (caught c.requires.reached c.requires.stands covers) (entered c.requires.reached c.requires.stands covers)) c.lead.ensures.reached
