@@ -309,14 +309,19 @@ fn is_fault(gives: Gives, fault: RuleFault) -> bool {
     }
 }
 
+fn all_hold(world: &World<'_>, cases: &[Case], mode: Mode) -> bool {
+    for case in cases {
+        if !holds(world, *case, mode) {
+            return false;
+        }
+    }
+    true
+}
+
 #[test]
 fn each_instruction_by_the_table(rt: HostRuntime) -> Result<(), Fail> {
     let world = world(rt.alloc())?;
-    for case in CASES.iter() {
-        assert!(rt; holds(&world, *case, Mode::Flow));
-    }
-    for case in CARD_CASES.iter() {
-        assert!(rt; holds(&world, *case, Mode::Card));
-    }
+    assert!(rt; all_hold(&world, &CASES, Mode::Flow));
+    assert!(rt; all_hold(&world, &CARD_CASES, Mode::Card));
     Ok(())
 }
