@@ -1,3 +1,6 @@
+ghost use Rattle.std.specs.Prelude.{All, IfOk, IsTrue};
+ghost use Rattle.cap_worked.specs.Changes.{Keeps, AreKept};
+
 use crate::components::DIRECTORY;
 use cap_bytes::Part;
 use cap_package::OwnedParts;
@@ -108,34 +111,79 @@ fn set_sizes(directory: &mut Vec<u8>, parts: &OwnedParts, changes: &[Change<'_>]
     }
 }
 
-fn is_without(changes: &[Change<'_>], part: Part) -> bool {
-    let mut without = false;
-    for change in changes {
+fn is_kept(changes: &[Change<'_>], part: Part) -> bool
+    ensures { IsTrue result → All (Keeps part.0) changes.now }
+{
+    'changes: for change in changes {
         if let Change::Without(of) = change {
-            without = without || of.0 == part.0;
+            if of.0 == part.0 {
+                return false;
+            }
         }
     }
-    without
+    true
 }
 
-/// Puts a component's file after the changes, where the component is not there and not to be left out.
+/// Puts a file, where the component is not there and changes keep it.
+#[tactic(auto, using(crate::proofs::Kept::kept_behind))]
+fn put_kept(
+    parts: &mut OwnedParts,
+    part: Part,
+    file: Vec<u8>,
+    changes: &[Change<'_>],
+) -> Result<(), AllocError>
+    requires { AreKept changes.now parts.old }
+    ensures { IfOk result (λ _. AreKept changes.now parts.new) }
+{
+    if !is_kept(changes, part) {
+        return Ok(());
+    }
+    if parts.get(part).is_some() {
+        return Ok(());
+    }
+    parts.put(part, file)
+}
+
+/// Puts a component's file after the changes, where the component is not there and changes keep it:
+/// the Directory, or another component.
 fn put(
     alloc: Global,
     parts: &mut OwnedParts,
     file: File<'_>,
     changes: &[Change<'_>],
-) -> Result<(), AllocError> {
-    let mut own = changed_file(alloc, file, changes)?;
-    if is_without(changes, file.0) {
+    directory: bool,
+) -> Result<(), AllocError>
+    requires { AreKept changes.now parts.old }
+    ensures { IfOk result (λ _. AreKept changes.now parts.new) }
+{
+    let (part, _) = file;
+    if (part.0 == DIRECTORY.0) != directory {
         return Ok(());
     }
-    if file.0.0 == DIRECTORY.0 {
+    let mut own = changed_file(alloc, file, changes)?;
+    if directory {
         set_sizes(&mut own, parts, changes);
     }
-    if parts.get(file.0).is_some() {
-        return Ok(());
+    put_kept(parts, part, own, changes)
+}
+
+/// Puts the file that a change gives for a component.
+fn put_given(
+    alloc: Global,
+    parts: &mut OwnedParts,
+    change: Change<'_>,
+    changes: &[Change<'_>],
+    directory: bool,
+) -> Result<(), AllocError>
+    requires { AreKept changes.now parts.old }
+    ensures { IfOk result (λ _. AreKept changes.now parts.new) }
+{
+    match change {
+        Change::File(part, bytes) | Change::Sized(part, bytes) => {
+            put(alloc, parts, (part, bytes), changes, directory)
+        }
+        _ => Ok(()),
     }
-    parts.put(file.0, own)
 }
 
 /// Puts the Directory, or all other components.
@@ -145,18 +193,15 @@ fn put_all(
     files: &[File<'_>],
     changes: &[Change<'_>],
     directory: bool,
-) -> Result<(), AllocError> {
-    for change in changes {
-        if let Change::File(part, bytes) | Change::Sized(part, bytes) = change {
-            if (part.0 == DIRECTORY.0) == directory {
-                put(alloc, parts, (*part, bytes), changes)?;
-            }
-        }
+) -> Result<(), AllocError>
+    requires { AreKept changes.now parts.old }
+    ensures { IfOk result (λ _. AreKept changes.now parts.new) }
+{
+    'changes: for change in changes {
+        put_given(alloc, parts, *change, changes, directory)?;
     }
-    for (part, bytes) in files {
-        if (part.0 == DIRECTORY.0) == directory {
-            put(alloc, parts, (*part, bytes), changes)?;
-        }
+    'files: for file in files {
+        put(alloc, parts, *file, changes, directory)?;
     }
     Ok(())
 }
@@ -166,7 +211,9 @@ pub fn changed(
     alloc: Global,
     files: &[File<'_>],
     changes: &[Change<'_>],
-) -> Result<OwnedParts, AllocError> {
+) -> Result<OwnedParts, AllocError>
+    ensures { IfOk result (λ parts. AreKept changes.now parts) }
+{
     let mut parts = OwnedParts::new(alloc);
     put_all(alloc, &mut parts, files, changes, false)?;
     put_all(alloc, &mut parts, files, changes, true)?;

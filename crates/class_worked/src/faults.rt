@@ -1,9 +1,14 @@
+ghost use Rattle.class_worked.specs.Told.{numbers_of, HasNumbers, TellsNumbers};
+
 use jc_names::{LinkEnd, LinkFault};
 
 /// A fault's name and what it names.
 pub type Told = (&'static str, u32, u32);
 
-fn named_fault(fault: LinkFault) -> Told {
+#[tactic(auto, unfolding(crate::specs::Told::numbers_of))]
+fn named_fault(fault: LinkFault) -> Told
+    ensures { HasNumbers (numbers_of fault) result }
+{
     match fault {
         LinkFault::TooManyPackages(n) => ("TooManyPackages", n, 0),
         LinkFault::TooManyClasses(n) => ("TooManyClasses", n, 0),
@@ -28,7 +33,9 @@ fn named_fault(fault: LinkFault) -> Told {
 }
 
 /// Why packages were not linked: the fault's name and what it names.
-pub fn named(end: LinkEnd) -> Told {
+pub fn named(end: LinkEnd) -> Told
+    ensures { TellsNumbers end result }
+{
     match end {
         LinkEnd::Fault(fault) => named_fault(fault),
         LinkEnd::Memory => ("Memory", 0, 0),
