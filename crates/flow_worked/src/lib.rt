@@ -4,6 +4,10 @@
 //! It stands on `jc_places` and `jc_flow`, whose tests these are.
 #![tactic(auto)]
 
+mod caught;
+
+pub use caught::{Range, handler};
+
 #[cfg(test)]
 mod one_method;
 #[cfg(test)]

@@ -2,6 +2,7 @@ ghost use Rattle.std.specs.Prelude.{◌≡◌, ◌<◌, ◌≤◌, ◌∷◌, []
 ghost use Rattle.jc_base.specs.Linked.{IsHandler};
 ghost use Rattle.flow_worked.specs.OneMethod.{classes, only_method};
 
+use crate::caught::{Range, handler};
 use jc_base::*;
 use std::alloc::{AllocError, Global};
 
@@ -15,24 +16,6 @@ fn empty<T>(alloc: Global) -> Items<T>
     ensures { result ≡ [] }
 {
     Items::of(Vec::new(alloc))
-}
-
-/// A range and an entry, where they lie in the code.
-pub(crate) type Range = (u16, u16, u16);
-
-/// A handler for all that is thrown.
-fn handler(range: Range, len: u16) -> Handler
-    requires { 0 < len }
-    ensures { IsHandler classes (Member.ClassOf 1 ∷ []) len result }
-{
-    let end = range.1.min(len);
-    Handler {
-        start: range.0.min(end),
-        end,
-        entry: range.2.min(len - 1),
-        index: 0,
-        class: 1,
-    }
 }
 
 fn handlers(alloc: Global, ranges: &[Range], len: u16) -> Result<Handlers, AllocError>

@@ -1,4 +1,5 @@
-use crate::one_method::{Range, world};
+use crate::caught::Range;
+use crate::one_method::world;
 use jc_decode::CodeEnd;
 use jc_places::{Flaw, Survey, SurveyEnd, survey};
 use std::alloc::Global;

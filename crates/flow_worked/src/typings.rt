@@ -1,4 +1,5 @@
-use crate::one_method::{Range, world};
+use crate::caught::Range;
+use crate::one_method::world;
 use jc_base::Ty;
 use jc_flow::{FlowEnd, infer};
 use jc_rows::RuleFault;
