@@ -7,5 +7,5 @@ use Rattle.jc_statics.proofs.room.array_cells.Goals as goal
 pub packages-preserved : goal.packages-preserved
 packages-preserved c =
     let more = array_cells_more c.args.packages.now c.packages.n c.at.result.now c.at.ensures in
-    let cells = c.array_cells_of_package-total.ensures.is ∙ ap (λ (s : Statics). cells_of (map array_record s.arrays)) c.statics.ensures in
+    let cells = c.array_cells_of_package-total.ensures.is ∙ ap (λ (s : Statics). cells_of (map array_record s.arrays)) c.statics.ensures.items in
     (omega (arith, more, cells), omega arith)

@@ -15,7 +15,7 @@ push_statics-requires c = omega (arith, static_cells_more c.args.packages.now c.
 pub packages-preserved : goal.packages-preserved
 packages-preserved c =
     let cells = static_cells_more c.args.packages.now c.packages.n c.at-package.result.now c.at-package.ensures in
-    let count = c.array_init_count.ensures ∙ ap (λ (s : Statics). length s.arrays) c.statics.ensures in
+    let count = c.array_init_count.ensures ∙ ap (λ (s : Statics). length s.arrays) c.statics.ensures.items in
     let last : c.packages.first + c.array_init_count.result ≡ c.packages.first + length c.at-package.result.now.statics.arrays = omega (arith, count) in
     let told = type_of c.args.names.now.packages (slice_index c.args.names.now.roles 0) in
     record {
