@@ -19,10 +19,3 @@ mod verdict;
 pub use call::capcheck;
 pub use sure::sure_forms_never_fail;
 pub use verdict::Verdict;
-
-#[cfg(test)]
-mod check_tests;
-#[cfg(test)]
-mod show_tests;
-#[cfg(test)]
-mod tests;

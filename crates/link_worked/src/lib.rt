@@ -4,10 +4,8 @@
 #![tactic(auto)]
 
 mod library_and_user;
-mod reading;
 
 pub use library_and_user::{LIBRARY, LIBRARY_ROLES, USER};
-pub use reading::{lent, read};
 
 #[cfg(test)]
 mod interface_package;
@@ -17,6 +15,8 @@ mod limit_tests;
 mod link_tests;
 #[cfg(test)]
 mod names_tests;
+#[cfg(test)]
+mod reading;
 #[cfg(test)]
 mod statics_tests;
 #[cfg(test)]

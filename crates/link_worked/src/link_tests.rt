@@ -1,4 +1,5 @@
-use crate::{LIBRARY, LIBRARY_ROLES, USER, lent, read};
+use crate::reading::{lent, read};
+use crate::{LIBRARY, LIBRARY_ROLES, USER};
 use cap_package::OwnedParts;
 use cap_worked::{
     CLASS, CONSTANT_POOL, Change, DESCRIPTOR, IMPORT, METHOD, PLAIN, PLAIN_ROLES, changed,

@@ -1,4 +1,4 @@
-use crate::{lent, read};
+use crate::reading::{lent, read};
 use cap_package::{OwnedParts, Packages};
 use cap_worked::{Change, DIRECTORY, HEADER, IMPORT, PLAIN, PLAIN_ROLES, changed};
 use class_worked::{Told, named};

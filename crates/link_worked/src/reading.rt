@@ -2,7 +2,10 @@ use cap_package::{OwnedParts, Packages, Parts, package};
 use std::alloc::{AllocError, Global};
 
 /// The parts of packages, borrowed.
-pub fn lent<'a>(alloc: Global, packages: &'a [OwnedParts]) -> Result<Vec<Parts<'a>>, AllocError> {
+pub(crate) fn lent<'a>(
+    alloc: Global,
+    packages: &'a [OwnedParts],
+) -> Result<Vec<Parts<'a>>, AllocError> {
     let mut lent = Vec::new(alloc);
     for parts in packages {
         lent.push(parts.lend(alloc)?)?;
@@ -11,7 +14,10 @@ pub fn lent<'a>(alloc: Global, packages: &'a [OwnedParts]) -> Result<Vec<Parts<'
 }
 
 /// The packages that the parts stand for; parts that stand for none give none.
-pub fn read<'p, 'a>(alloc: Global, all: &'p [Parts<'a>]) -> Result<Packages<'p, 'a>, AllocError> {
+pub(crate) fn read<'p, 'a>(
+    alloc: Global,
+    all: &'p [Parts<'a>],
+) -> Result<Packages<'p, 'a>, AllocError> {
     let mut packages = Packages::new(alloc);
     for parts in all {
         if let Ok(package) = package(parts) {

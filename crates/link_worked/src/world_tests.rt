@@ -1,4 +1,5 @@
-use crate::{LIBRARY, LIBRARY_ROLES, USER, lent, read};
+use crate::reading::{lent, read};
+use crate::{LIBRARY, LIBRARY_ROLES, USER};
 use cap_package::Packages;
 use cap_worked::{PLAIN, PLAIN_ROLES, changed};
 use class_worked::named;

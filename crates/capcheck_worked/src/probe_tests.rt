@@ -1,44 +1,10 @@
-ghost use Rattle.std.specs.Prelude.{◌≡◌, IfOk, vec_len};
-
-use crate::capcheck;
-use cap_bytes::Part;
-use cap_files::{Folder, MemFolder, MemSink, Sink, SureFolder, SureSink, Words};
+use crate::run::run;
+use cap_files::{MemFolder, MemSink, SureFolder, SureSink};
+use cap_worked::METHOD;
 use std::alloc::{AllocError, Global};
 
 /// Gives its argument and one: `sload_0`, `sconst_1`, `sadd`, `sreturn`.
 const NEXT: &[u8] = b"\x07\x00\x07\x00\x02\x10\x1c\x04\x41\x78";
-
-/// A memory of the card, of so many words.
-fn memory(alloc: Global, words: usize) -> Result<Vec<u16>, AllocError>
-    ensures { IfOk result (λ v. vec_len v ≡ words) }
-{
-    vec![in alloc; 0u16; words]
-}
-
-/// Runs a command, its words parted by single spaces.
-pub(crate) fn run<F: Folder, K: Sink>(
-    alloc: Global,
-    line: &str,
-    folder: &mut F,
-    out: &mut K,
-) -> Result<u8, AllocError> {
-    let mut words = Words::new(alloc);
-    for word in line.split(' ') {
-        words.push(word)?;
-    }
-    let mut ram = memory(alloc, 32_832)?;
-    let mut heap = memory(alloc, 45_056)?;
-    let mut statics = memory(alloc, 32_768)?;
-    Ok(capcheck(
-        alloc,
-        &words,
-        folder,
-        out,
-        &mut ram,
-        &mut heap,
-        &mut statics,
-    ))
-}
 
 /// Whether a command over the folder `P` with this Method part gives this text and this status.
 fn gives(
@@ -49,14 +15,14 @@ fn gives(
     status: u8,
 ) -> Result<bool, AllocError> {
     let mut folder = SureFolder::new(alloc, 1, 70_000)?;
-    let fits = folder.set("P", Part(7), file);
+    let fits = folder.set("P", METHOD, file);
     let mut out = SureSink::new(alloc, 100)?;
     let answer = run(alloc, line, &mut folder, &mut out)?;
     Ok(fits && answer == status && out.received() == text.as_bytes())
 }
 
 #[test]
-fn runs_an_accepted_method(rt: HostRuntime) -> Result<(), AllocError> {
+fn probe_runs_an_accepted_method(rt: HostRuntime) -> Result<(), AllocError> {
     let alloc = rt.alloc();
     let cases = [
         ("probe P 10 41", "returned short 42\n", 0),
@@ -85,7 +51,7 @@ fn runs_an_accepted_method(rt: HostRuntime) -> Result<(), AllocError> {
 }
 
 #[test]
-fn answers_usage_outside_the_grammar(rt: HostRuntime) -> Result<(), AllocError> {
+fn words_outside_the_grammar_are_answered_by_usage(rt: HostRuntime) -> Result<(), AllocError> {
     let alloc = rt.alloc();
     let lines = [
         "probe P 04 41",
@@ -111,7 +77,7 @@ fn answers_usage_outside_the_grammar(rt: HostRuntime) -> Result<(), AllocError> 
 }
 
 #[test]
-fn names_what_is_wrong_with_the_method(rt: HostRuntime) -> Result<(), AllocError> {
+fn probe_names_what_is_wrong_with_the_method(rt: HostRuntime) -> Result<(), AllocError> {
     let alloc = rt.alloc();
     let cases: [(&[u8], &str, u8); 13] = [
         // a goto into the middle of sspush
@@ -196,7 +162,7 @@ fn names_what_is_wrong_with_the_method(rt: HostRuntime) -> Result<(), AllocError
 }
 
 #[test]
-fn names_the_device_that_fails(rt: HostRuntime) -> Result<(), AllocError> {
+fn probe_names_the_device_that_fails(rt: HostRuntime) -> Result<(), AllocError> {
     let alloc = rt.alloc();
     // which load fails, which put, and after how many bytes; the text that is received and the status
     let cases = [
@@ -208,7 +174,7 @@ fn names_the_device_that_fails(rt: HostRuntime) -> Result<(), AllocError> {
     ];
     for (load, put, keep, text, status) in cases {
         let mut folder = MemFolder::new(alloc, 1, 100)?;
-        assert!(rt; folder.set("P", Part(7), NEXT));
+        assert!(rt; folder.set("P", METHOD, NEXT));
         assert!(rt; folder.fail_load(load));
         let mut out = MemSink::new(alloc, 100)?;
         assert!(rt; out.fail_put(put, keep));
