@@ -2,8 +2,10 @@
 //! with package T of `cap_worked` and two more small packages, and where a device fails.
 #![tactic(auto)]
 
+mod memory_of;
 mod small_packages;
 
+pub use memory_of::memory;
 pub use small_packages::{BELOW, OVERRIDING};
 
 #[cfg(test)]

@@ -1,15 +1,7 @@
-ghost use Rattle.std.specs.Prelude.{◌≡◌, IfOk, vec_len};
-
+use crate::memory_of::memory;
 use cap_files::{Folder, Sink, Words};
 use capcheck_core::capcheck;
 use std::alloc::{AllocError, Global};
-
-/// A memory of the card, of so many words.
-fn memory(alloc: Global, words: usize) -> Result<Vec<u16>, AllocError>
-    ensures { IfOk result (λ v. vec_len v ≡ words) }
-{
-    vec![in alloc; 0u16; words]
-}
 
 /// Runs a command, its words parted by single spaces.
 pub(crate) fn run<F: Folder, K: Sink>(

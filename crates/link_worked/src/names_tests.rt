@@ -1,4 +1,5 @@
-use crate::reading::{lent, read};
+use crate::lending::lent;
+use crate::reading::read;
 use cap_package::{OwnedParts, Packages};
 use cap_worked::{Change, DIRECTORY, HEADER, IMPORT, PLAIN, PLAIN_ROLES, changed};
 use class_worked::{Told, named};

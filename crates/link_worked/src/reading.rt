@@ -1,17 +1,6 @@
-use cap_package::{OwnedParts, Packages, Parts, package};
+use cap_package::{Packages, Parts, package};
 use std::alloc::{AllocError, Global};
 
-/// The parts of packages, borrowed.
-pub(crate) fn lent<'a>(
-    alloc: Global,
-    packages: &'a [OwnedParts],
-) -> Result<Vec<Parts<'a>>, AllocError> {
-    let mut lent = Vec::new(alloc);
-    for parts in packages {
-        lent.push(parts.lend(alloc)?)?;
-    }
-    Ok(lent)
-}
 
 /// The packages that the parts stand for; parts that stand for none give none.
 pub(crate) fn read<'p, 'a>(

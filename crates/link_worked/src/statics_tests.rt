@@ -1,7 +1,8 @@
 ghost use Rattle.std.specs.Prelude.{◌≤◌};
 ghost use Rattle.jc_statics.specs.Statics.{static_cells};
 
-use crate::reading::{lent, read};
+use crate::lending::lent;
+use crate::reading::read;
 use cap_worked::{Change, DESCRIPTOR, DIRECTORY, PLAIN, PLAIN_ROLES, STATIC_FIELD, changed};
 use jc_base::{Kind, Ty};
 use jc_names::{Names, names};

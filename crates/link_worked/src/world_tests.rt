@@ -1,4 +1,5 @@
-use crate::reading::{lent, read};
+use crate::lending::lent;
+use crate::reading::read;
 use crate::{LIBRARY, LIBRARY_ROLES, USER};
 use cap_package::Packages;
 use cap_worked::{PLAIN, PLAIN_ROLES, changed};
