@@ -1,7 +1,6 @@
 use cap_package::{Packages, Parts, package};
 use std::alloc::{AllocError, Global};
 
-
 /// The packages that the parts stand for; parts that stand for none give none.
 pub(crate) fn read<'p, 'a>(
     alloc: Global,
