@@ -11,6 +11,7 @@ use Rattle.cap_desc.specs.declared.type_item.TypeItem.{TypeItem}
 use Rattle.cap_desc.specs.DescriptorFormat as described
 use Rattle.cap_package.specs.Descriptions.{Description, field_type}
 use Rattle.cap_package.specs.PackageRecord.{PackageRecord}
+use Rattle.cap_package.proofs.FieldTypes.{field_typed}
 use Rattle.jc_base.specs.declared.ty.Ty.{Ty}
 use Rattle.jc_base.specs.declared.ty.Ty.TheVariants.{IntLow}
 use Rattle.jc_base.specs.declared.ty.Kind.{Kind}
@@ -36,7 +37,6 @@ use Rattle.jc_members.proofs.TokenCells.{cells_by, cells_of_own, has, with, cell
 use Rattle.jc_members.proofs.OwnCells.{own_of, typed, of_records}
 use Rattle.jc_members.proofs.OwnRecords.{has_own}
 use Rattle.jc_members.proofs.NumberedFields.{StandsIn, stands_in}
-use Rattle.jc_members.proofs.FieldTypes.{field_typed}
 
 -- ---- the type of a field is of its kind
 

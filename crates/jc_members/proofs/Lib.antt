@@ -10,6 +10,5 @@ pub mod TokenCells
 pub mod OwnCells
 pub mod NumberedFields
 pub mod OwnRecords
-pub mod FieldTypes
 pub mod FieldsLinked
 pub mod MembersLinked
