@@ -7,7 +7,7 @@ use Rattle.cap_bare.specs.declared.format.TheConstants.{FORMATS}
 use Rattle.cap_bare.specs.declared.format.Format.{Format}
 use Rattle.cap_bare.specs.Format.{format_of}
 
--- what stands at a place of the table, or nothing behind its end
+-- what stands at a place of the table, or nothing after its end
 abbrev pub entry_at : ℕ → Option Format
 entry_at opcode = get_or FORMATS opcode None
 

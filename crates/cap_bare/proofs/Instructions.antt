@@ -38,7 +38,7 @@ pub fetched-inside : (code : List ℕ) (at : ℕ) (i : Placed) → fetched code 
 unfolding fetched
 fetched-inside code at i h = inside-opcode code at (number_at 1 at code) i h
 
--- the list has the instructions from a place on, one behind the other, to where none is
+-- the list has the instructions from a place on, one after the other, to where none is
 abbrev pub Lists : List ℕ → ℕ → List Placed → Type 0
 Lists code at [] = (end : CodeEnd) × (fetched code at ≡ Err end)
 Lists code at (i ∷ is) = (fetched code at ≡ Ok i) × Lists code i.next is
@@ -83,7 +83,7 @@ pub instructions-none : (code : List ℕ) (at : ℕ) (end : CodeEnd) → fetched
 instructions-none code at end h =
     lists-one code at (instructions_from code at) [] (lists-instructions code at) (end, h)
 
--- as is behind the last byte
+-- as is after the last byte
 pub instructions-past : (code : List ℕ) (at : ℕ) → length code ≤ at → instructions_from code at ≡ []
 instructions-past code at h =
     lists-one code at (instructions_from code at) [] (lists-instructions code at) (none-behind code at (fetched code at) refl h)

@@ -148,7 +148,7 @@ module _ (code : List ℕ) where
       by_case (inl k) = inl (from_next j k f)
       by_case (inr k) = back (from-step j.place p j k f)
 
-  -- a reached place behind an instruction's place is not inside it
+  -- a reached place after an instruction's place is not inside it
   pub apart : (i : Placed) (q : ℕ) → Stands code i → IsReached code q → i.place < q → i.next ≤ q
   apart i q s r h = by_case (ordered i.place q s.reached r)
     where
@@ -172,7 +172,7 @@ module _ (code : List ℕ) where
       by_case (inl k) = sym (stuck p q e k g)
       by_case (inr k) = stuck q p f k h
 
-  -- behind the place where the code ends no instruction stands
+  -- after the place where the code ends no instruction stands
   pub stops : (at place : ℕ) (i : Placed) (end : CodeEnd) → IsReached code at → IsReached code place → fetched code at ≡ Err end → fetched code place ≡ Ok i
       → at ≤ place → ⊥
   stops at place i end r s f g le = by_case (ordered at place r s)

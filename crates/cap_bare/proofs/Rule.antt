@@ -31,7 +31,7 @@ shorts-one m n e = sym (shorts-length m) ∙ ap length e ∙ shorts-length n
 pub shorts-none : (n : ℕ) → shorts n ≡ [] → n ≡ 0
 shorts-none n e = shorts-one n 0 e
 
--- what so many shorts end with, behind so many of them
+-- what so many shorts end with, after so many of them
 pub shorts-rest : (d n : ℕ) (rest : List Kind) → shorts d ≡ shorts n ++ rest → (n ≤ d) × (rest ≡ shorts (d - n))
 shorts-rest d n rest e =
     let lengths : length (shorts d) ≡ length (shorts n ++ rest) = ap length e in

@@ -91,7 +91,7 @@ module _ (code : List ℕ) (bare : Bare) where
       by_test true e = let same = eqb-true i.place p e in absurd (omega arith)
       by_test false e = refl
 
-  -- behind an instruction stands the next one, or nothing
+  -- after an instruction stands the next one, or nothing
   depth-next : (is : List Placed) (at depth : ℕ) → Lists code at is → (is ≡ [] → depth ≡ 0) → depth_at depth is at ≡ depth
   depth-next [] at depth l h = sym (h refl)
   depth-next (j ∷ js) at depth l h = depth-here depth j js at (fetched-inside code at j l.0).place

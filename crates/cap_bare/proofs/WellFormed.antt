@@ -75,7 +75,7 @@ module _ (code : List ℕ) where
   flaw-reached _ (flaw_end p end r ne e) = r
   flaw-reached _ (flaw_target j t k e astray) = k.reached
 
-  -- so a flaw from such a place on is behind the instruction
+  -- so a flaw from such a place on is after the instruction
   flaw-behind : (f : BareFault) (i : Placed) → IsFlaw code f → Stands code i → led code (target_of i.instruction) ≡ Ok tt → i.place ≤ f.place → i.next ≤ f.place
   flaw-behind f i flaw s h le = by_order (f.place == i.place) refl
     where

@@ -53,7 +53,7 @@ target_of _ = None
 abbrev pub is_branch : Instruction → Bool
 is_branch i = is_some (target_of i)
 
--- whether the instruction behind it may come next
+-- whether the instruction after it may come next
 abbrev pub falls_through : Instruction → Bool
 falls_through (Goto target) = false
 falls_through Return = false

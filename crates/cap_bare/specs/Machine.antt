@@ -76,7 +76,7 @@ abbrev pub at_place : ℤ → ℕ
 at_place (pos place) = place
 at_place _ = 0
 
--- the tests behind an instruction: room on the stack, and a place to go on at
+-- the tests after an instruction: room on the stack, and a place to go on at
 abbrev pub settled : List ℕ → Bare → Lead → Outcome
 settled code bare (gives n) = returned n
 settled code bare (leads to f) =

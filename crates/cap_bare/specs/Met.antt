@@ -32,7 +32,7 @@ pub record Passes (code : List ℕ) (bare : Bare) (i : Placed) (registers stack 
   pub goes_on : IsTrue (falls_through i.instruction) → i.next < length code
 
 -- The states that are met: the one of the method's entry, and what follows a met state at which nothing is wrong.
--- Behind the last instruction another pass begins at place 0.
+-- After the last instruction another pass begins at place 0.
 pub data IsMet (code : List ℕ) (bare : Bare) : ℕ → List Kind → List Kind → Type 0 where
   met_entry : IsMet code bare 0 (declared bare) []
   met_next : (i : Placed) (registers stack after : List Kind) → IsMet code bare i.place registers stack
@@ -62,7 +62,12 @@ LeavesEmpty i after = IsTrue (is_branch i.instruction) → after ≡ []
 pub data IsWrong (code : List ℕ) (bare : Bare) (i : Placed) (registers stack : List Kind) : BareKind → Type 0 where
   wrong_target : IsTarget code i.place → stack ≢ [] → IsWrong code bare i registers stack StackAtTarget
   wrong_rule : (kind : BareKind) → LandsEmpty code i stack → Fails bare i.instruction stack kind → IsWrong code bare i registers stack kind
-  wrong_branch : (after : List Kind) → LandsEmpty code i stack → Applies bare i.instruction registers stack after → IsTrue (is_branch i.instruction) → after ≢ []
+  wrong_branch :
+      (after : List Kind)
+      → LandsEmpty code i stack
+      → Applies bare i.instruction registers stack after
+      → IsTrue (is_branch i.instruction)
+      → after ≢ []
       → IsWrong code bare i registers stack StackAtBranch
   wrong_end : (after : List Kind) → LandsEmpty code i stack → Applies bare i.instruction registers stack after → LeavesEmpty i after
       → IsTrue (falls_through i.instruction) → i.next ≡ length code → IsWrong code bare i registers stack FallsOff

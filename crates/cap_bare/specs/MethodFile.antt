@@ -2,8 +2,8 @@
 use Rattle.std.specs.Prelude.{ℕ, ◌/◌, ◌%◌, ◌<◌, ◌≡◌, ◌⊎◌, ◌==◌, List, length}
 use Rattle.cap_bytes.specs.Grammar.{Grammar, give, number, u1, rest, that, ◌>>=◌}
 use Rattle.cap_bytes.specs.Spelling.{Stands, Breaks, info_of}
-use Rattle.cap_parts.specs.declared.fault.PackFault.{PackFault}
-use Rattle.cap_parts.specs.declared.fault.PackFault.TheVariants.{Form, MethodLength}
+use Rattle.cap_components.specs.declared.fault.PackFault.{PackFault}
+use Rattle.cap_components.specs.declared.fault.PackFault.TheVariants.{Form, MethodLength}
 use Rattle.cap_bare.specs.declared.bare.Bare.{Bare}
 
 -- a header, and the bytes of the code

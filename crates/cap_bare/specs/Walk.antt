@@ -13,7 +13,7 @@ use Rattle.cap_bare.specs.Effects.{register_of, cells_taken, cells_given, target
 use Rattle.cap_bare.specs.Code.{fetched, fault}
 use Rattle.cap_bare.specs.Typing.{register_count}
 
--- the instruction at a place and those behind it, if there is one
+-- the instruction at a place and those after it, if there is one
 abbrev pub ahead : Result Placed CodeEnd → (ℕ → List Placed) → List Placed
 ahead (Ok i) rest = i ∷ rest i.next
 ahead (Err end) rest = []

@@ -115,7 +115,10 @@ impl Frame {
 
     fn test(&mut self, condition: Condition, target: i32, next: i32) -> Lead
         requires { 0 < length self.old.stack }
-        ensures { leading result self.new ≡ leads (if holds condition (top self.old.stack) (pos 0) then target else next) (frame self.old.registers (drop 1 self.old.stack)) }
+        ensures { leading result self.new
+            ≡ leads
+            (if holds condition (top self.old.stack) (pos 0) then target else next)
+            (frame self.old.registers (drop 1 self.old.stack)) }
     {
         let value = self.pop();
         Lead::To(if condition.holds(value, 0) {
@@ -127,7 +130,10 @@ impl Frame {
 
     fn compare(&mut self, condition: Condition, target: i32, next: i32) -> Lead
         requires { 1 < length self.old.stack }
-        ensures { leading result self.new ≡ leads (if holds condition (second self.old.stack) (top self.old.stack) then target else next) (frame self.old.registers (drop 2 self.old.stack)) }
+        ensures { leading result self.new
+            ≡ leads
+            (if holds condition (second self.old.stack) (top self.old.stack) then target else next)
+            (frame self.old.registers (drop 2 self.old.stack)) }
     {
         let second = self.pop();
         let first = self.pop();

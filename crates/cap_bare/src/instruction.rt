@@ -80,7 +80,7 @@ impl Instruction {
         }
     }
 
-    /// Whether the instruction behind it may come next.
+    /// Whether the instruction after it may come next.
     pub fn falls_through(self) -> bool
         ensures { result ≡ falls_through self }
     {

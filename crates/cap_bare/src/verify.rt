@@ -107,7 +107,7 @@ fn trailed(code: View<'_>, from: u16, at: u16) -> u16
 }
 
 /// Whether an instruction of the code begins at this place, which may lie before the code; it is sought from an
-/// instruction on that is not behind it.
+/// instruction on that is not after it.
 fn is_place(code: View<'_>, from: u16, place: i32) -> bool
     requires short { length code.bytes.now ≤ 32767 }
     requires reached { IsReached code.bytes.now from }
@@ -121,7 +121,7 @@ fn is_place(code: View<'_>, from: u16, place: i32) -> bool
     }
 }
 
-/// Whether an instruction of the code begins at this place, sought from an instruction on that is not behind it.
+/// Whether an instruction of the code begins at this place, sought from an instruction on that is not after it.
 fn begins(code: View<'_>, from: u16, place: u32) -> bool
     requires short { length code.bytes.now ≤ 32767 }
     requires reached { IsReached code.bytes.now from }
@@ -139,7 +139,7 @@ fn begins(code: View<'_>, from: u16, place: u32) -> bool
 }
 
 /// Whether an instruction of the code branches to this place; those that may stand in the 128 bytes before it and
-/// behind it, and are sought from an instruction on that trails it.
+/// after it, and are sought from an instruction on that trails it.
 fn is_target(code: View<'_>, behind: u16, place: u16) -> bool
     requires short { length code.bytes.now ≤ 32767 }
     requires trailing { IsTrailing code.bytes.now behind place }
@@ -177,7 +177,7 @@ fn branches_to(instruction: Instruction, place: u16) -> bool
     }
 }
 
-/// The number of cells behind an instruction, over a stack of so many shorts.
+/// The number of cells after an instruction, over a stack of so many shorts.
 fn applied(bare: Bare, instruction: Instruction, depth: usize) -> Result<usize, BareKind>
     requires { depth ≤ 30 }
     ensures value { result ≡ applied bare instruction depth }

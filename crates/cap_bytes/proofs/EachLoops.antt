@@ -11,7 +11,7 @@ use Rattle.cap_bytes.specs.Taking.{next, Taken, Fails}
 use Rattle.cap_bytes.proofs.Laws.{then_ok, read_ok}
 use Rattle.cap_bytes.proofs.Loops.{end_of, err_of, ok_of, forget}
 
--- i of so many items from `start` on are passed, which changed the state from `first` to `s`, and `now` is behind them
+-- i of so many items from `start` on are passed, which changed the state from `first` to `s`, and `now` is after them
 pub record HasPassedEach {X S : Type 0} (g : S → Grammar X) (step : S → X → S) (count : ℕ) (start : Items) (first : S) (i : ℕ) (now : Items) (s : S) : Type 0 where
   pub goes_on : end_of (next (each (count - i) g step s) now) ≡ end_of (next (each count g step first) start)
   pub info : now.info ≡ start.info

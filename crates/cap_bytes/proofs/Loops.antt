@@ -9,7 +9,7 @@ use Rattle.cap_bytes.specs.Reading.{Reading, and_then, read, is_read, value_or}
 use Rattle.cap_bytes.proofs.Laws.{then_ok, pair_ok, read_ok}
 use Rattle.cap_bytes.specs.Taking.{next, Taken, Fails, gives, Gives, given}
 
--- the place behind the items of a reading, without their value
+-- the place after the items of a reading, without their value
 abbrev pub end_of : {X : Type 0} → Reading X → Result ℕ FormFault
 end_of (Ok x) = Ok x.1
 end_of (Err fault) = Err fault
@@ -22,7 +22,7 @@ pub ok_of : {X : Type 0} (r : Reading X) (at : ℕ) → end_of r ≡ Ok at → (
 ok_of (Ok x) at h = let e : x.1 ≡ at = cc in (x.0, rw (← e) refl)
 ok_of (Err e) at h = absurd cc
 
--- i of so many items from `start` on are passed, and `now` is behind them
+-- i of so many items from `start` on are passed, and `now` is after them
 pub record HasPassed {X : Type 0} (g : Grammar X) (count : ℕ) (start : Items) (i : ℕ) (now : Items) : Type 0 where
   pub goes_on : end_of (next (repeat (count - i) g) now) ≡ end_of (next (repeat count g) start)
   pub info : now.info ≡ start.info

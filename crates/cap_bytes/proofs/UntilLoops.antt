@@ -11,7 +11,7 @@ use Rattle.cap_bytes.specs.Taking.{next, Taken, Fails}
 use Rattle.cap_bytes.proofs.Laws.{then_ok, pair_ok, read_ok, read-spells}
 use Rattle.cap_bytes.proofs.EachLoops.{ReadsAll}
 
--- how many items a reading has, and the place behind them
+-- how many items a reading has, and the place after them
 abbrev pub size_of : {X : Type 0} → Reading (List X) → Result (ℕ × ℕ) FormFault
 size_of (Ok x) = Ok (length x.0, x.1)
 size_of (Err fault) = Err fault
@@ -39,7 +39,7 @@ plus_one : {X : Type 0} (i : ℕ) (x : X) (r : Reading (List X)) → plus i (siz
 plus_one i x (Ok y) = let e : i + suc (length y.0) ≡ i + 1 + length y.0 = omega arith in rw e refl
 plus_one i x (Err e) = refl
 
--- i items from `start` on are passed, which changed the state from `first` to `s`, and `now` is behind them
+-- i items from `start` on are passed, which changed the state from `first` to `s`, and `now` is after them
 pub record HasPassedUntil {X S : Type 0} (g : S → Grammar X) (step : S → X → S) (start : Items) (first : S) (i : ℕ) (now : Items) (s : S) : Type 0 where
   pub fuel : ℕ
   pub enough : length now.info.bytes.now - now.at ≤ fuel

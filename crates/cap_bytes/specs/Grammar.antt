@@ -50,7 +50,7 @@ u4 = number 4 any
 abbrev pub is_aid_length : ℕ → Bool
 is_aid_length n = if nat_le 5 n then nat_le n 16 else false
 
--- an application identifier behind the byte that counts its bytes
+-- an application identifier after the byte that counts its bytes
 abbrev pub aid : Grammar (List ℕ)
 aid = number 1 (that is_aid_length) >>= piece
 

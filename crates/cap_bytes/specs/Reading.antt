@@ -1,4 +1,4 @@
--- What reading bytes by a grammar answers: the value and the place behind its items, or the fault of
+-- What reading bytes by a grammar answers: the value and the place after its items, or the fault of
 -- the first item that breaks it.
 use Rattle.std.specs.Prelude.{ℕ, ◌+◌, ◌-◌, List, length, take, drop, Option, Some, None, Result, Ok, Err, Bool, true, false, nat_le, if◌then◌else◌}
 use Rattle.cap_bytes.specs.declared.fault.FormFault.{FormFault}
@@ -8,7 +8,7 @@ use Rattle.cap_bytes.specs.Number.{number_at}
 use Rattle.cap_bytes.specs.Grammar.{Grammar, give, number, piece, remaining, place, finish, ◌>>=◌}
 use Rattle.cap_bytes.specs.Spelling.{Origin, fault_at, cut}
 
--- a value with the place behind it, or a fault
+-- a value with the place after it, or a fault
 abbrev pub Reading : Type 0 → Type 0
 Reading X = Result (X × ℕ) FormFault
 

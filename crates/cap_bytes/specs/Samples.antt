@@ -1,4 +1,4 @@
--- Worked cases of a grammar: digits behind a byte that counts them, in bytes that spell them and in
+-- Worked cases of a grammar: digits after a byte that counts them, in bytes that spell them and in
 -- bytes that don't, with the offsets of a file that has three bytes before.
 use Rattle.std.specs.Prelude.{◌≡◌, ℕ, List, [], ◌∷◌, Ok, Err, nat_le, refl}
 use Rattle.cap_bytes.specs.declared.fault.FormKind.TheVariants.{BadValue, Cut, Trailing}
@@ -26,7 +26,7 @@ no_digit : reading (info_of 4) digits (2 ∷ 11 ∷ []) ≡ Err (record { part =
 unfolding reading
 no_digit = refl
 
--- a byte behind the last digit
+-- a byte after the last digit
 one_more : reading (info_of 4) digits (1 ∷ 7 ∷ 0 ∷ []) ≡ Err (record { part = 4; at = 5; kind = Trailing })
 unfolding reading
 one_more = refl

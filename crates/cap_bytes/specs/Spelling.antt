@@ -7,7 +7,7 @@ use Rattle.cap_bytes.specs.declared.fault.FormKind.TheVariants.{Cut, Trailing}
 use Rattle.cap_bytes.specs.Number.{number_at}
 use Rattle.cap_bytes.specs.Grammar.{Grammar, give, number, piece, remaining, place, finish, ◌>>=◌}
 
--- the bytes from a place on spell the value, up to the place behind its last item
+-- the bytes from a place on spell the value, up to the place after its last item
 unfoldable pub Spells : {X : Type 0} → Grammar X → List ℕ → ℕ → X → ℕ → Type 0
 Spells (give y) bytes at x after = (x ≡ y) × (after ≡ at)
 Spells (number w wrong) bytes at n after = (number_at w at bytes ≡ Some n) × (wrong n ≡ None) × (after ≡ at + w)
@@ -26,7 +26,7 @@ pub record Origin : Type 0 where
   pub part : ℕ
   pub offset : ℕ
 
--- the info of the component with this tag, which stands behind the tag and the size
+-- the info of the component with this tag, which stands after the tag and the size
 abbrev pub info_of : ℕ → Origin
 info_of tag = record { part = tag; offset = 3 }
 

@@ -24,7 +24,7 @@ nothing x = tt {0}
 abbrev pub next : {X : Type 0} → Grammar X → Items → Reading X
 next g items = read (info_of items.part) g items.info.bytes.now items.at
 
--- the items of the grammar were next, with this value, and what is left begins behind them
+-- the items of the grammar were next, with this value, and what is left begins after them
 pub record Taken {X : Type 0} (g : Grammar X) (before : Items) (x : X) (after : Items) : Type 0 where
   pub value : next g before ≡ Ok (x, after.at)
   pub info : after.info ≡ before.info

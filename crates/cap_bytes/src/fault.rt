@@ -9,7 +9,7 @@ pub enum FormKind {
     BadMagic,
     /// The format's version is not 2.2.
     BadVersion,
-    /// Bytes remain behind the last item.
+    /// Bytes remain after the last item.
     Trailing,
     /// The item has a value that the format does not allow.
     BadValue,

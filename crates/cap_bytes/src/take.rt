@@ -142,7 +142,7 @@ impl<'a> Items<'a> {
         }
     }
 
-    /// An application identifier behind the byte that counts its bytes.
+    /// An application identifier after the byte that counts its bytes.
     pub fn aid(&mut self) -> Result<&'a [u8], FormFault>
         ensures { Takes bytes aid self.old result self.new }
     {

@@ -38,7 +38,7 @@ is_interface flags = bit_and flags 8 == 8
 abbrev pub is_remote : ℕ → Bool
 is_remote flags = bit_and flags 2 == 2
 
--- no interface stands behind a class, and none is remote
+-- no interface stands after a class, and none is remote
 abbrev pub wrong_record : Bool → ℕ → Option FormKind
 wrong_record behind_class first =
     if behind_class && is_interface (class_flags first) then Some BadValue else (if is_remote (class_flags first) then Some Remote else None)
@@ -120,7 +120,7 @@ of_class offset first i t interfaces = record {
   interfaces = interfaces;
 }
 
--- what stands behind the first byte of an interface, and of a class
+-- what stands after the first byte of an interface, and of a class
 abbrev pub behind_first : Bool → ℕ → ℕ → Grammar Class
 behind_first true offset first = do
   interfaces ← repeat (first % 16) (interface_info true)
@@ -131,7 +131,7 @@ behind_first false offset first = do
   interfaces ← repeat (first % 16) (interface_info false)
   give (of_class offset first i t interfaces)
 
--- a record, behind a class or not
+-- a record, after a class or not
 unfoldable pub record_info : Bool → Grammar Class
 record_info behind_class = do
   offset ← place

@@ -124,7 +124,7 @@ fn no_tables<'a>(items: &Items<'a>) -> Tables<'a>
     }
 }
 
-/// A record behind its first byte, which stands at this offset.
+/// A record after its first byte, which stands at this offset.
 fn behind_first<'a>(
     items: &mut Items<'a>,
     offset: u16,
@@ -162,7 +162,7 @@ fn behind_first<'a>(
     }
 }
 
-/// The next record, which stands behind a class or not.
+/// The next record, which stands after a class or not.
 #[tactic(auto, unfolding(crate::specs::ClassFormat::record_info))]
 pub(crate) fn record<'a>(
     items: &mut Items<'a>,

@@ -61,7 +61,7 @@ ok_with xs p = Ok (xs, p)
 chain : {X Y : Type 0} (r : Reading X) (next : X → ℕ → Reading Y) (x : X) (middle : ℕ) (out : Reading Y) → r ≡ Ok (x, middle) → next x middle ≡ out → and_then r next ≡ out
 chain r next x middle out e k = rw (e, k) refl
 
--- one more item, behind those that were read
+-- one more item, after those that were read
 pub repeat-more : {X : Type 0} (g : Grammar X) (ns : List ℕ) (n start at after : ℕ) (xs : List X) (x : X) → at_place (repeat n g) ns start ≡ Ok (xs, at) → at_place g ns at ≡ Ok (x, after) → at_place (repeat (suc n) g) ns start ≡ Ok (xs ++ x ∷ [], after)
 repeat-more {X = X} g ns zero start at after xs x h k =
     let e : ([], start) ≡ (xs, at) = cc in

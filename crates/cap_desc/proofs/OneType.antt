@@ -1,4 +1,4 @@
--- A descriptor of one type: the type stands first, and the nibbles end behind it.
+-- A descriptor of one type: the type stands first, and the nibbles end after it.
 use Rattle.std.proofs.Common.{◌≡◌, ℕ, ◌≤◌, ◌<◌, List, length, Option, Some, None, Ok, Err, refl, sym}
 use Rattle.std.specs.Result.{result_ok}
 use Rattle.std.specs.Option.{option_map}

@@ -1,5 +1,5 @@
 -- Items of one width: so many of them are read where so many times as many bytes reach, and the n-th
--- stands n widths behind the first.
+-- stands n widths after the first.
 use Rattle.std.proofs.Common.{◌≡◌, ℕ, zero, suc, ◌+◌, ◌*◌, ◌≤◌, ◌<◌, List, [], ◌∷◌, Ok, Err, Bool, true, false, leb, length, take, drop, refl, subst, arith}
 use Rattle.std.proofs.lemmas.Bool.{le-leb, lt-leb, leb-true, leb-false}
 use Rattle.byteorder.specs.Endian.{big_number}

@@ -85,7 +85,7 @@ class_info = do
   methods ← repeat method_count method_info
   give (record { token = token; class_ref = class_ref; interfaces = interfaces; fields = fields; methods = methods })
 
--- The type descriptors behind the pool types are read where an offset names one, and not in order.
+-- The type descriptors after the pool types are read where an offset names one, and not in order.
 abbrev pub descriptor_info : Grammar Descriptor
 descriptor_info = do
   classes ← counted class_info

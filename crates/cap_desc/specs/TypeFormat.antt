@@ -1,5 +1,5 @@
 -- Type descriptors (JCVM 2.2, section 6.13.4): a count of nibbles, and the nibbles, two in each byte, the
--- high one first. Each type is one nibble, and behind a reference and an array of references stand the
+-- high one first. Each type is one nibble, and after a reference and an array of references stand the
 -- four nibbles of a class reference.
 use Rattle.std.specs.Prelude.{ℕ, ◌+◌, ◌*◌, ◌/◌, ◌%◌, Bool, List, [], ◌∷◌, length, take, drop, Option, Some, None, ◌==◌, ◌||◌, ◌&&◌, nat_le, if◌then◌else◌, option_and_then, option_map}
 use Rattle.std.specs.Result.{result_ok}

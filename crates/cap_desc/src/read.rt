@@ -60,7 +60,7 @@ fn read(info: View<'_>) -> Result<DescPart<'_>, FormFault>
 }
 
 /// The Descriptor component that the info is, or the first item that breaks its format. The type
-/// descriptors behind the pool's types are not read.
+/// descriptors after the pool's types are not read.
 #[tactic(auto, using(cap_bytes::proofs::Laws::whole))]
 pub fn descriptor(info: View<'_>) -> Result<DescPart<'_>, FormFault>
     requires { length info.bytes.now ≤ 65535 }

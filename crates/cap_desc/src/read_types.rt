@@ -42,7 +42,7 @@ impl Nibbles<'_> {
         ))
     }
 
-    /// The type at a place, and the place behind it.
+    /// The type at a place, and the place after it.
     pub(crate) fn type_item(&self, at: u16) -> Option<(TypeItem, u16)>
         requires { at ≤ 255 }
         ensures value { result ≡ result_ok (nibbles_read type_item (nibbles_in self.now) at) }
@@ -100,7 +100,7 @@ fn is_type(nibble: u8) -> bool
     matches!(nibble, 1..=6 | 10..=14)
 }
 
-/// Whether a class reference stands behind a type's nibble.
+/// Whether a class reference stands after a type's nibble.
 fn names_class(nibble: u8) -> bool
     ensures { result ≡ names_class nibble }
 {

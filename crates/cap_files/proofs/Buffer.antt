@@ -1,4 +1,4 @@
--- The texts at spans of a buffer, where a text is put behind what stands there.
+-- The texts at spans of a buffer, where a text is put after what stands there.
 use Rattle.std.proofs.Common.{◌≡◌, ℕ, zero, suc, ◌-◌, ◌<◌, ◌≤◌, List, [], ◌∷◌, ◌++◌, length, drop, slice_index_or, refl, sym, subst, arith, length-append, length-drop, inl, inr}
 use Rattle.std.proofs.Math.Nat.{eq-or-lt_of_le}
 use Rattle.std.proofs.Math.ListN.{get_or-append}
@@ -44,7 +44,7 @@ texts_before xs ys (s ∷ spans) all =
 pub are_texts_before : (xs ys : List ℕ) (spans : List Span) → IsUtf8 ys → AreTexts xs spans → AreTexts (xs ++ ys) spans
 are_texts_before xs ys spans text all k d l = is_text_before xs ys _ text (all k d l)
 
--- a span behind what stood there
+-- a span after what stood there
 pub behind : List ℕ → List ℕ → Span
 behind xs ys = record { start = length xs; end = length (xs ++ ys) }
 

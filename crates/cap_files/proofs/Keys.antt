@@ -208,7 +208,7 @@ held_is (r ∷ rs) apart =
     map.len-insert nat_list_cmp_total m r.0 r.1 ∙ ap (λ (o : Option (List ℕ)). cond (is_some o) (map.len m) (map.len m + 1)) (missing_entry r.0 rs apart.0)
     ∙ ap (λ n. n + 1) (held_is rs apart.1) ∙ omega arith
 
--- ---- a part put in the place of another, or behind all
+-- ---- a part put in the place of another, or after all
 pub rest_is : (k : List ℕ) (rs : List Held) → without (position (has_key k) rs) rs ≡ dropped k rs
 rest_is k rs = ap (λ o. without o rs) (position_is (has_key k) rs) ∙ without_place k rs
 

@@ -1,4 +1,4 @@
--- Pieces of a buffer, one behind another.
+-- Pieces of a buffer, one after another.
 use Rattle.std.proofs.Common.{◌≡◌, ℕ, zero, suc, ◌+◌, ◌<◌, ◌≤◌, List, [], ◌∷◌, ◌++◌, length, take, drop, remove, slice_index_or, refl, ap, sym, subst, ◌∙◌, arith, length-append, length-drop, zero-add, add_assoc, sum_by, append_assoc}
 use Rattle.std.proofs.lemmas.List.{take-append-le, drop-append-le, take-append-drop, length-take-le, drop-drop}
 use Rattle.std.proofs.lemmas.List.Sums.{sum_by-cons}
@@ -30,7 +30,7 @@ sizes (e ∷ es) bs laid =
     let whole = sum_by-cons size_of (record_of e (take e.size bs)) (records es (drop e.size bs)) in
     omega (arith, laid.1, length-drop e.size bs)
 
--- pieces behind pieces
+-- pieces after pieces
 pub records-append : (es fs : List Entry) (xs ys : List ℕ) → IsLaid es xs → records (es ++ fs) (xs ++ ys) ≡ records es xs ++ records fs ys
 records-append [] fs [] ys laid = refl
 records-append [] fs (x ∷ xs) ys laid = absurd (omega arith)

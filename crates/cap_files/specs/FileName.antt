@@ -17,7 +17,7 @@ part_name part = if nat_lt part 13 then slice_index_or standard_names part [] el
 abbrev pub path_of : List ℕ → ℕ → List ℕ
 path_of dir part = concat (dir ∷ codes "/" ∷ part_name part ∷ codes ".cap" ∷ [])
 
--- the text of a file's name: a stem, and behind it a number if there is one
+-- the text of a file's name: a stem, and after it a number if there is one
 abbrev pub number_text : Option ℕ → List ℕ
 number_text None = []
 number_text (Some n) = decimal n

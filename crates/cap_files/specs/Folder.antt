@@ -34,7 +34,7 @@ Loads held key to (Err TooLong) = (length to ≡ 65539) × IfSome held (λ parts
 Loads held key to (Err Failed) = to ≡ []
 Loads held key to (Err Memory) = to ≡ []
 
--- a load that failed raised the count; for want of memory and length it need not
+-- a load that failed raised the count; without memory, and where it is too long, it need not
 abbrev pub FailsRisen : ℕ → ℕ → Result Bool LoadEnd → Type 0
 FailsRisen before now (Err Failed) = Rose before now
 FailsRisen before now (Err TooLong) = Unit {0}

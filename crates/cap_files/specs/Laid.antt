@@ -6,7 +6,7 @@ use Rattle.cap_files.specs.declared.records.Entry.{Entry}
 abbrev pub record_of : Entry → List ℕ → List ℕ × List ℕ
 record_of entry piece = (entry.part.0 ∷ take entry.word piece, drop entry.word piece)
 
--- the records of the entries, whose pieces stand one behind another
+-- the records of the entries, whose pieces stand one after another
 abbrev pub records : List Entry → List ℕ → List (List ℕ × List ℕ)
 records [] bytes = []
 records (e ∷ es) bytes = record_of e (take e.size bytes) ∷ records es (drop e.size bytes)

@@ -2,7 +2,7 @@
 use Rattle.std.specs.Prelude.{◌≡◌, ℕ, ◌≤◌, List, [], ◌++◌, length, take, Option, IfSome, IsSomeAnd, Result, Ok, Err}
 use Rattle.cap_files.specs.declared.sink.SinkFailed.{SinkFailed}
 
--- the bytes were taken behind those that were there. A device may cease to tell what it took, and never begins to
+-- the bytes were taken after those that were there. A device may cease to tell what it took, and never begins to
 abbrev pub Taken : Option (List ℕ) → List ℕ → Option (List ℕ) → Type 0
 Taken before bytes after = IfSome after (λ now. IsSomeAnd before (λ text. now ≡ text ++ bytes))
 
@@ -11,7 +11,7 @@ abbrev pub TakesSome : Option (List ℕ) → List ℕ → Option (List ℕ) → 
 TakesSome before bytes after (Ok count) = (count ≤ length bytes) × (count ≡ 0 → length bytes ≡ 0) × Taken before (take count bytes) after
 TakesSome before bytes after (Err _) = Taken before [] after
 
--- what was received after a put, by its answer: the piece behind what was there, and after a failure the first bytes of the piece. A
+-- what was received after a put, by its answer: the piece after what was there, and after a failure the first bytes of the piece. A
 -- device may cease to tell what it received, and never begins to
 abbrev pub Puts : Option (List ℕ) → List ℕ → Option (List ℕ) → Result (Unit {0}) SinkFailed → Type 0
 Puts before piece after (Ok _) = IfSome after (λ now. IsSomeAnd before (λ text. now ≡ text ++ piece))

@@ -14,6 +14,6 @@ empty_tape most = record { bytes = []; most = most }
 abbrev pub has_room : Taped → List ℕ → Bool
 has_room tape piece = nat_le (length tape.bytes + length piece) tape.most
 
--- the piece behind the bytes where the room suffices, and else nothing more
+-- the piece after the bytes where the room suffices, and else nothing more
 abbrev pub appended : Taped → List ℕ → Taped
 appended tape piece = if has_room tape piece then record tape { bytes = tape.bytes ++ piece } else tape

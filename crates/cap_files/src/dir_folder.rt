@@ -58,7 +58,7 @@ impl<D: Disk> Folder for DirFolder<D> {
     }
 }
 
-// Reads the file of a part, if it is there. After a failure, and for want of memory, `to` is empty.
+// Reads the file of a part, if it is there. After a failure, and out of memory, `to` is empty.
 fn read<D: Disk>(disk: &mut D, dir: &str, part: Part, to: &mut Vec<u8>) -> Result<bool, LoadEnd>
     ensures bytes { Loads (D.held disk.old) (key_of part dir.now) to.new.items result }
     ensures held { D.held disk.new ≡ D.held disk.old }

@@ -57,7 +57,7 @@ pub trait Disk {
         ensures write_faults { CountsFault (write_faults self.old) (write_faults self.new) result }
         ensures read_faults { read_faults self.new ≡ read_faults self.old };
 
-    /// Writes the first of the bytes behind those of the file, and answers how many. There are none
+    /// Writes the first of the bytes after those of the file, and answers how many. There are none
     /// only where there are none to write.
     fn write(&mut self, bytes: &[u8]) -> Result<usize, DiskFailed>
         ensures some { TakesAny bytes.now result }

@@ -7,7 +7,7 @@ use itoa::Buffer;
 use std::alloc::{AllocError, Global};
 use std::marker::Model;
 
-// What a path has behind its folder's word at most, as `/ConstantPool.cap`.
+// What a path has after its folder's word at most, as `/ConstantPool.cap`.
 const LONGEST_NAME: usize = 17;
 
 /// The room for a path, taken when it is made: for folders' words of at most `longest` bytes.

@@ -126,7 +126,7 @@ impl Pile {
         cut_out(&mut self.buffer, start, entry.size);
     }
 
-    /// Puts a part behind the others.
+    /// Puts a part after the others.
     pub(crate) fn push(&mut self, dir: &str, part: Part, bytes: &[u8])
         requires parts { length self.old.records < self.old.most_parts }
         requires bytes { sum_by size_of self.old.records + length dir.now + length bytes.now ≤ self.old.most_bytes }
@@ -151,7 +151,7 @@ fn end_of(entries: &Vec<Entry>, n: usize) -> usize
     entries[..n].iter().map(|entry| entry.size).sum()
 }
 
-// Takes `size` bytes out, and moves what stands behind them down.
+// Takes `size` bytes out, and moves what stands after them down.
 fn cut_out(buffer: &mut Vec<u8>, start: usize, size: usize)
     requires { start + size ≤ vec_len buffer.old }
     ensures items { buffer.new.items ≡ take start buffer.old.items ++ drop (start + size) buffer.old.items }

@@ -5,7 +5,7 @@ ghost use Rattle.cap_files.specs.WordsLeft.{words_left};
 use std::alloc::{AllocError, Global};
 use std::marker::Model;
 
-// Where a word stands in the buffer, from its first byte to the one behind its last.
+// Where a word stands in the buffer, from its first byte to the one after its last.
 #[derive(Clone, Copy)]
 struct Span {
     start: usize,
@@ -42,7 +42,7 @@ impl Words {
         }
     }
 
-    /// Appends a word. For want of memory the list is as before.
+    /// Appends a word. Out of memory, the list is as before.
     pub fn push(&mut self, word: &str) -> Result<(), AllocError>
         ensures pushed { OnOk result (self.new ≡ self.old ++ word.now ∷ []) }
         ensures kept { OnErr result (self.new ≡ self.old) }

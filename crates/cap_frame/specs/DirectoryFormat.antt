@@ -22,7 +22,7 @@ pub record DirectoryItems : Type 0 where
 abbrev pub is_new_tag : (ℕ → Bool) → ℕ → Bool
 is_new_tag named tag = nat_le 128 tag && not (named tag)
 
--- a custom component behind its tag
+-- a custom component after its tag
 abbrev pub behind_tag : ℕ → Grammar Custom
 behind_tag tag = do
   size ← u2

@@ -53,7 +53,7 @@ fn read(info: View<'_>) -> Result<Directory<'_>, FormFault>
     })
 }
 
-/// The custom components behind the byte that counts them.
+/// The custom components after the byte that counts them.
 #[tactic(auto, using(cap_bytes::proofs::Loops::yielding, crate::proofs::Customs::customs_known))]
 fn customs<'a>(items: &mut Items<'a>) -> Result<CustomEntries<'a>, FormFault>
     ensures { Takes customs_left customs_info items.old result items.new }
@@ -101,7 +101,7 @@ pub(crate) fn custom_info<'a>(items: &mut Items<'a>) -> Result<CustomEntry<'a>, 
     behind_tag(items, tag)
 }
 
-/// What stands behind a custom component's tag.
+/// What stands after a custom component's tag.
 fn behind_tag<'a>(items: &mut Items<'a>, tag: u8) -> Result<CustomEntry<'a>, FormFault>
     ensures { Takes custom_seen (behind_tag tag) items.old result items.new }
 {

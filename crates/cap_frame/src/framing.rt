@@ -7,7 +7,7 @@ ghost use Rattle.cap_frame.specs.Framed.{info_bytes};
 use byteorder::{BigEndian, ByteOrder};
 use cap_bytes::{FormFault, FormKind, Part, View};
 
-/// The info of a component's file (section 6.1): the bytes behind its tag and its size.
+/// The info of a component's file (section 6.1): the bytes after its tag and its size.
 #[tactic(auto, using(cap_bytes::proofs::Laws::whole))]
 pub fn frame(bytes: &[u8], part: Part) -> Result<View<'_>, FormFault>
     ensures found { IfOk result (λ info. Stands (component part.0) bytes.entry.now info.bytes.now) }
@@ -18,7 +18,7 @@ pub fn frame(bytes: &[u8], part: Part) -> Result<View<'_>, FormFault>
     framed(bytes, part)
 }
 
-/// The bytes behind the tag and the size, as many as the size tells.
+/// The bytes after the tag and the size, as many as the size tells.
 #[tactic(auto, unfolding(cap_bytes::specs::Reading::reading))]
 fn framed(bytes: &[u8], part: Part) -> Result<View<'_>, FormFault>
     ensures value { Reads info_bytes (file_of part.0) (component part.0) bytes.entry.now result }

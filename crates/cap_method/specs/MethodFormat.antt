@@ -1,5 +1,5 @@
 -- The format of the Method component (JCVM 2.2, section 6.9): the exception handlers, and the methods
--- behind them.
+-- after them.
 use Rattle.std.specs.Prelude.{ℕ, ◌/◌, ◌%◌, ◌^◌, Bool, true, false, List, nat_le}
 use Rattle.std.specs.Int.RustNames.{bit_and}
 use Rattle.cap_bytes.specs.Grammar.{Grammar, u1, u2, counted, rest, give, ◌>>=◌}

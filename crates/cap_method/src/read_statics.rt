@@ -54,7 +54,7 @@ fn pass_arrays(items: &mut Items<'_>, count: u16) -> Result<(), FormFault>
     Ok(())
 }
 
-/// The initial arrays behind their count, which no more than the references can be.
+/// The initial arrays after their count, which no more than the references can be.
 #[tactic(auto, using(cap_bytes::proofs::Loops::yielding))]
 fn array_inits<'a>(items: &mut Items<'a>, reference_count: u16) -> Result<ArrayInits<'a>, FormFault>
     ensures { Takes arrays_left (array_inits reference_count) items.old result items.new }
@@ -69,7 +69,7 @@ fn array_inits<'a>(items: &mut Items<'a>, reference_count: u16) -> Result<ArrayI
     Ok(ArrayInits { items: first, left })
 }
 
-/// The values behind their count.
+/// The values after their count.
 fn non_default_values<'a>(items: &mut Items<'a>) -> Result<&'a [u8], FormFault>
     ensures values { Takes bytes non_default_values items.old result items.new }
     ensures few { IfOk result (λ v. length v.now ≤ 65535) }
@@ -170,14 +170,14 @@ impl<'a> StaticPart<'a> {
         self.arrays.left
     }
 
-    /// The bytes of zeros behind the references.
+    /// The bytes of zeros after the references.
     pub fn default_value_count(&self) -> u16
         ensures { result ≡ (statics_seen self.now).default_value_count }
     {
         self.default_value_count
     }
 
-    /// The bytes of values behind the zeros.
+    /// The bytes of values after the zeros.
     pub fn non_default_value_count(&self) -> u16
         ensures { result ≡ length (statics_seen self.now).values }
     {
@@ -201,7 +201,7 @@ impl<'a> StaticPart<'a> {
         self.arrays().nth(n as usize)
     }
 
-    /// The values behind the zeros.
+    /// The values after the zeros.
     pub fn values(&self) -> &'a [u8]
         ensures { result.now ≡ (statics_seen self.now).values }
     {

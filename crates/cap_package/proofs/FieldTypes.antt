@@ -10,7 +10,7 @@ use Rattle.cap_bytes.specs.Spelling.{Spells, info_of}
 use Rattle.cap_bytes.proofs.Laws.{read-spells}
 use Rattle.cap_desc.specs.declared.type_item.TypeItem.{TypeItem}
 use Rattle.cap_desc.specs.TypeFormat.{is_type, type_item, one_type_in, nibbles_read, nibbles_at, type_at}
-use Rattle.cap_parts.specs.Descriptions.{Description, no_void, field_type}
+use Rattle.cap_components.specs.Descriptions.{Description, no_void, field_type}
 
 if_some : {X Y : Type 0} (f : X → Option Y) (o : Option X) (y : Y) → option_and_then f o ≡ Some y → (x : X) × (f x ≡ Some y)
 if_some f None y h = absurd cc

@@ -1,13 +1,13 @@
 -- Conditions that are asked one after the other tell the first that is broken.
 use Rattle.std.proofs.Common.{◌≡◌, List, [], ◌∷◌, ◌++◌, length, map, Option, Some, None, Result, Ok, Err, refl, sym, ap, subst, ◌∙◌, inl, inr}
 use Rattle.cap_frame.specs.DirectoryFormat.{DirectoryItems, directory_info}
-use Rattle.cap_parts.specs.declared.fault.PackFault.{PackFault}
-use Rattle.cap_parts.specs.Parts.{Lent}
-use Rattle.cap_parts.specs.Order.{refused, least_of, least_from}
-use Rattle.cap_parts.specs.Components.{◌>>=◌, read_part}
-use Rattle.cap_parts.specs.PackageRecord.{PackageRecord}
-use Rattle.cap_parts.specs.ReadPackage.{read_package}
-use Rattle.cap_parts.proofs.Saying.{read-said, read-fails}
+use Rattle.cap_components.specs.declared.fault.PackFault.{PackFault}
+use Rattle.cap_components.specs.Parts.{Lent}
+use Rattle.cap_components.specs.Order.{refused, least_of, least_from}
+use Rattle.cap_components.specs.Components.{◌>>=◌, read_part}
+use Rattle.cap_components.specs.PackageRecord.{PackageRecord}
+use Rattle.cap_components.specs.ReadPackage.{read_package}
+use Rattle.cap_components.proofs.Saying.{read-said, read-fails}
 use Rattle.std.specs.List.{filter_map}
 use Rattle.std.specs.Option.{option_to_list}
 use Rattle.cap_frame.specs.AppletFormat.{Applet}
@@ -15,8 +15,8 @@ use Rattle.cap_pool.specs.ExportFormat.{Exported}
 use Rattle.cap_desc.specs.DescriptorFormat as described
 use Rattle.cap_desc.specs.Members.{methods_from}
 use Rattle.cap_package.specs.Pairs.{pairs}
-use Rattle.cap_parts.specs.PackageRecord.{classes_from, described, fields}
-use Rattle.cap_parts.specs.PartChecks.{missing, form_fault, custom_tags, size_fault, components, absent_fault, sized_fault, required, optional}
+use Rattle.cap_components.specs.PackageRecord.{classes_from, described, fields}
+use Rattle.cap_components.specs.PartChecks.{missing, form_fault, custom_tags, size_fault, components, absent_fault, sized_fault, required, optional}
 use Rattle.cap_package.specs.MethodChecks.{overlap_pair, outside_fault}
 use Rattle.cap_package.specs.HeaderChecks.{registers_fault, length_fault, arguments_fault, abstract_fault}
 use Rattle.cap_package.specs.HandlerChecks.{numbered, numbered_fault, claim_fault}

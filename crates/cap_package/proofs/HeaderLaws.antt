@@ -6,7 +6,7 @@ use Rattle.cap_bytes.specs.Spelling.{Spells, info_of}
 use Rattle.cap_bytes.proofs.Laws.{spelled-read}
 use Rattle.cap_method.specs.MethodFormat.{Header, method_flags, header_behind, header_info}
 use Rattle.cap_desc.specs.DescriptorFormat.{Method}
-use Rattle.cap_parts.specs.declared.fault.PackFault.TheVariants.{MethodOutside}
+use Rattle.cap_components.specs.declared.fault.PackFault.TheVariants.{MethodOutside}
 use Rattle.cap_package.specs.HeaderChecks.{header_in}
 use Rattle.cap_package.specs.MethodChecks.{size_by, code_start, code_end, outside_fault}
 

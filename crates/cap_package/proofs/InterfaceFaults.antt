@@ -3,8 +3,8 @@ use Rattle.std.proofs.Common.{◌≡◌, ℕ, ◌≤◌, ◌<◌, List, ◌∷�
 use Rattle.std.proofs.lemmas.List.Sums.{fold-append}
 use Rattle.std.proofs.lemmas.Bool.{le-leb, lt-leb}
 use Rattle.cap_desc.specs.DescriptorFormat.{Class, Method}
-use Rattle.cap_parts.specs.declared.fault.PackFault.{PackFault}
-use Rattle.cap_parts.specs.Order.{least_from}
+use Rattle.cap_components.specs.declared.fault.PackFault.{PackFault}
+use Rattle.cap_components.specs.Order.{least_from}
 use Rattle.cap_package.specs.TypeChecks.{interface_methods}
 
 pub least_interface : (fault : Method → Option PackFault) (start : ℕ) (c : Class) (cs : List Class) (before : Option PackFault) → c.class_ref < start → least_from before fault (interface_methods start (c ∷ cs)) ≡ least_from (least_from before fault c.methods) fault (interface_methods start cs)

@@ -4,8 +4,8 @@ use Rattle.std.specs.List.{filter_map, cons_option}
 use Rattle.std.specs.Option.{option_to_list}
 use Rattle.std.proofs.lemmas.List.Sums.{fold-append}
 use Rattle.std.proofs.lemmas.Bool.{ltb-true, ltb-false}
-use Rattle.cap_parts.specs.declared.fault.PackFault.{PackFault}
-use Rattle.cap_parts.specs.Order.{place_of, lesser, least_of, least_from}
+use Rattle.cap_components.specs.declared.fault.PackFault.{PackFault}
+use Rattle.cap_components.specs.Order.{place_of, lesser, least_of, least_from}
 use Rattle.cap_package.specs.FirstFault.{IsLeast}
 
 -- the least of a list of faults, beside one that was seen before

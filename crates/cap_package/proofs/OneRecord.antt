@@ -2,13 +2,13 @@
 use Rattle.std.proofs.Common.{◌≡◌, ℕ, Option, Some, None, IfSome, List, [], ◌∷◌, Result, Ok, Err, sym, ap, subst, inl, inr}
 use Rattle.std.specs.Option.{option_map}
 use Rattle.cap_bytes.specs.Grammar.{Grammar}
-use Rattle.cap_parts.specs.declared.fault.PackFault.{PackFault}
-use Rattle.cap_parts.specs.Parts.{Lent}
-use Rattle.cap_parts.specs.PackageRecord.{PackageRecord}
-use Rattle.cap_parts.specs.ReadPackage.{read_package}
-use Rattle.cap_parts.specs.Components.{info_in}
-use Rattle.cap_parts.specs.Saying.{Holds, Says, SaysIf}
-use Rattle.cap_parts.proofs.Saying.{info-read, said-read, fails-read}
+use Rattle.cap_components.specs.declared.fault.PackFault.{PackFault}
+use Rattle.cap_components.specs.Parts.{Lent}
+use Rattle.cap_components.specs.PackageRecord.{PackageRecord}
+use Rattle.cap_components.specs.ReadPackage.{read_package}
+use Rattle.cap_components.specs.Components.{info_in}
+use Rattle.cap_components.specs.Saying.{Holds, Says, SaysIf}
+use Rattle.cap_components.proofs.Saying.{info-read, said-read, fails-read}
 use Rattle.cap_package.specs.Agreement.{package_of}
 use Rattle.cap_package.specs.FirstFault.{IsFirst, IsLeast, AllEmpty, conditions_of, Tells}
 use Rattle.cap_package.specs.StandsFor.{StandsFor, HavePackage}

@@ -8,13 +8,13 @@ use Rattle.std.proofs.lemmas.List.Elements.{All-nil, All-cons}
 use Rattle.cap_method.specs.StaticFormat.{Array, Statics}
 use Rattle.cap_desc.specs.declared.type_item.TypeItem.{TypeItem}
 use Rattle.cap_desc.specs.DescriptorFormat.{Field}
-use Rattle.cap_parts.specs.declared.fault.PackFault.{PackFault}
-use Rattle.cap_parts.specs.declared.fault.PackFault.TheVariants.{StaticOutside, StaticOverlaps}
-use Rattle.cap_parts.specs.Descriptions.{Description, field_type}
+use Rattle.cap_components.specs.declared.fault.PackFault.{PackFault}
+use Rattle.cap_components.specs.declared.fault.PackFault.TheVariants.{StaticOutside, StaticOverlaps}
+use Rattle.cap_components.specs.Descriptions.{Description, field_type}
 use Rattle.cap_package.specs.HeaderChecks.{is_static}
 use Rattle.cap_package.specs.StaticChecks.{Place, image_offset, place_by, place_in, is_in_image, image_fault, array_kinds, kind_at, filled_by, filled_fault, width_of, share_by, share_fault, share_pair}
 use Rattle.cap_package.specs.Pairs.{pairs}
-use Rattle.cap_parts.specs.PackageRecord.{PackageRecord, fields}
+use Rattle.cap_components.specs.PackageRecord.{PackageRecord, fields}
 use Rattle.cap_package.specs.Agreement.{IsPackage}
 use Rattle.cap_package.specs.StaticPlaces.{static_places, IsStaticPlace, AreApart}
 use Rattle.cap_package.proofs.FieldTypes.{IsFieldType, field_typed}

@@ -3,8 +3,8 @@ use Rattle.std.proofs.Common.{◌≡◌, ℕ, List, ◌∷◌, ◌++◌, Option,
 use Rattle.std.proofs.lemmas.List.Sums.{fold-append}
 use Rattle.cap_pool.specs.ExportFormat.{Exported}
 use Rattle.cap_class.specs.ClassFormat.{Class}
-use Rattle.cap_parts.specs.declared.fault.PackFault.{PackFault}
-use Rattle.cap_parts.specs.Order.{least_from}
+use Rattle.cap_components.specs.declared.fault.PackFault.{PackFault}
+use Rattle.cap_components.specs.Order.{least_from}
 use Rattle.cap_package.specs.NameChecks.{table_entries, exported_methods, exported_fields}
 
 pub least_entries : (fault : ℕ → Option PackFault) (c : Class) (cs : List Class) (before : Option PackFault) → least_from before fault (table_entries (c ∷ cs)) ≡ least_from (least_from (least_from before fault c.public) fault c.visible) fault (table_entries cs)

@@ -6,14 +6,14 @@ use Rattle.cap_frame.specs.DirectoryFormat.{directory_info}
 use Rattle.cap_pool.specs.ExportFormat.{Exported}
 use Rattle.cap_desc.specs.DescriptorFormat as described
 use Rattle.cap_desc.specs.Members.{methods_from}
-use Rattle.cap_parts.specs.declared.fault.PackFault.{PackFault}
-use Rattle.cap_parts.specs.Parts.{Lent}
-use Rattle.cap_parts.specs.Order.{least_of, least_from, refused}
+use Rattle.cap_components.specs.declared.fault.PackFault.{PackFault}
+use Rattle.cap_components.specs.Parts.{Lent}
+use Rattle.cap_components.specs.Order.{least_of, least_from, refused}
 use Rattle.cap_package.specs.Pairs.{pairs}
-use Rattle.cap_parts.specs.Components.{◌>>=◌, read_part}
-use Rattle.cap_parts.specs.PackageRecord.{PackageRecord, classes_from, described, fields}
-use Rattle.cap_parts.specs.ReadPackage.{read_package}
-use Rattle.cap_parts.specs.PartChecks.{missing, form_fault, size_fault, components, custom_tags}
+use Rattle.cap_components.specs.Components.{◌>>=◌, read_part}
+use Rattle.cap_components.specs.PackageRecord.{PackageRecord, classes_from, described, fields}
+use Rattle.cap_components.specs.ReadPackage.{read_package}
+use Rattle.cap_components.specs.PartChecks.{missing, form_fault, size_fault, components, custom_tags}
 use Rattle.cap_package.specs.MethodChecks.{overlap_pair, outside_fault}
 use Rattle.cap_package.specs.HeaderChecks.{registers_fault, length_fault, arguments_fault, abstract_fault}
 use Rattle.cap_package.specs.HandlerChecks.{numbered, numbered_fault, claim_fault}

@@ -5,10 +5,10 @@ use Rattle.cap_method.specs.StaticFormat.{Array, Statics}
 use Rattle.cap_desc.specs.declared.type_item.TypeItem.{TypeItem}
 use Rattle.cap_desc.specs.DescriptorFormat as described
 use Rattle.cap_desc.specs.DescriptorFormat.{Field}
-use Rattle.cap_parts.specs.Descriptions.{Description, field_type, words_of}
+use Rattle.cap_components.specs.Descriptions.{Description, field_type, words_of}
 use Rattle.cap_package.specs.HeaderChecks.{is_static}
-use Rattle.cap_parts.specs.declared.fault.PackFault.{PackFault}
-use Rattle.cap_parts.specs.declared.fault.PackFault.TheVariants.{CountDisagrees}
+use Rattle.cap_components.specs.declared.fault.PackFault.{PackFault}
+use Rattle.cap_components.specs.declared.fault.PackFault.TheVariants.{CountDisagrees}
 
 -- two numbers of one thing differ
 unfoldable pub differ : ℕ → ℕ → ℕ → Option PackFault

@@ -1,9 +1,9 @@
 -- Custom components (JCVM 2.2, section 6.1.2): the Directory names them, and their infos are carried unread.
 use Rattle.std.specs.Prelude.{ℕ, List, [], Option, Result, Ok, Err, find, option_map, ◌==◌}
 use Rattle.cap_frame.specs.DirectoryFormat as directory
-use Rattle.cap_parts.specs.declared.fault.PackFault.{PackFault}
-use Rattle.cap_parts.specs.Components.{info_in}
-use Rattle.cap_parts.specs.PackageRecord.{PackageRecord}
+use Rattle.cap_components.specs.declared.fault.PackFault.{PackFault}
+use Rattle.cap_components.specs.Components.{info_in}
+use Rattle.cap_components.specs.PackageRecord.{PackageRecord}
 
 pub record CustomItems : Type 0 where
   pub aid : List ℕ

@@ -8,14 +8,14 @@ use Rattle.cap_frame.specs.DirectoryFormat.{DirectoryItems, directory_info}
 use Rattle.cap_pool.specs.ExportFormat.{Exported}
 use Rattle.cap_desc.specs.DescriptorFormat as described
 use Rattle.cap_desc.specs.Members.{methods_from}
-use Rattle.cap_parts.specs.declared.fault.PackFault.{PackFault}
-use Rattle.cap_parts.specs.Parts.{Lent}
-use Rattle.cap_parts.specs.Order.{place_of}
+use Rattle.cap_components.specs.declared.fault.PackFault.{PackFault}
+use Rattle.cap_components.specs.Parts.{Lent}
+use Rattle.cap_components.specs.Order.{place_of}
 use Rattle.cap_package.specs.Pairs.{pairs}
-use Rattle.cap_parts.specs.Components.{read_part}
-use Rattle.cap_parts.specs.PackageRecord.{PackageRecord, classes_from, described, fields}
-use Rattle.cap_parts.specs.Saying.{AreSaid, IsFirstFailing}
-use Rattle.cap_parts.specs.PartChecks.{required, optional, absent_fault, sized_fault, form_fault, size_fault, components, custom_tags}
+use Rattle.cap_components.specs.Components.{read_part}
+use Rattle.cap_components.specs.PackageRecord.{PackageRecord, classes_from, described, fields}
+use Rattle.cap_components.specs.Saying.{AreSaid, IsFirstFailing}
+use Rattle.cap_components.specs.PartChecks.{required, optional, absent_fault, sized_fault, form_fault, size_fault, components, custom_tags}
 use Rattle.cap_package.specs.MethodChecks.{overlap_pair, outside_fault}
 use Rattle.cap_package.specs.HeaderChecks.{registers_fault, length_fault, arguments_fault, abstract_fault}
 use Rattle.cap_package.specs.HandlerChecks.{numbered, numbered_fault, claim_fault}

@@ -3,8 +3,8 @@ use Rattle.std.specs.Prelude.{ℕ, ◌+◌, Bool, false, List, [], ◌∷◌, Op
 use Rattle.cap_method.specs.declared.handler.HandlerInfo.{HandlerInfo}
 use Rattle.cap_desc.specs.DescriptorFormat.{Method}
 use Rattle.cap_package.specs.MethodChecks.{code_start, code_end}
-use Rattle.cap_parts.specs.declared.fault.PackFault.{PackFault}
-use Rattle.cap_parts.specs.declared.fault.PackFault.TheVariants.{HandlerOutside}
+use Rattle.cap_components.specs.declared.fault.PackFault.{PackFault}
+use Rattle.cap_components.specs.declared.fault.PackFault.TheVariants.{HandlerOutside}
 
 -- a method claims so many entries from its index on
 abbrev pub claims : ℕ → Method → Bool
@@ -29,7 +29,7 @@ has_home info h (m ∷ n ∷ ms) = false
 unfoldable pub entry_fault : List ℕ → List Method → ℕ → HandlerInfo → Option PackFault
 entry_fault info methods number h = if has_home info h (owners number methods) then None else Some (HandlerOutside number)
 
--- a method claims an entry behind a table of so many: the least such number
+-- a method claims an entry after a table of so many: the least such number
 unfoldable pub claim_fault : ℕ → Method → Option PackFault
 claim_fault count m = if not (m.handler_count == 0) && nat_lt count (m.handler_index + m.handler_count) then Some (HandlerOutside (max m.handler_index count)) else None
 

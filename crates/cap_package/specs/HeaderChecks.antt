@@ -6,9 +6,9 @@ use Rattle.cap_bytes.specs.Spelling.{info_of}
 use Rattle.cap_bytes.specs.Reading.{read}
 use Rattle.cap_method.specs.MethodFormat.{Header, header_info}
 use Rattle.cap_desc.specs.DescriptorFormat.{Method}
-use Rattle.cap_parts.specs.Descriptions.{Description, argument_words}
-use Rattle.cap_parts.specs.declared.fault.PackFault.{PackFault}
-use Rattle.cap_parts.specs.declared.fault.PackFault.TheVariants.{TooManyRegisters, MethodLength, CountDisagrees}
+use Rattle.cap_components.specs.Descriptions.{Description, argument_words}
+use Rattle.cap_components.specs.declared.fault.PackFault.{PackFault}
+use Rattle.cap_components.specs.declared.fault.PackFault.TheVariants.{TooManyRegisters, MethodLength, CountDisagrees}
 
 -- the header that stands at an offset of the info of the Method component, where its bytes reach
 unfoldable pub header_in : List ℕ → ℕ → Option Header

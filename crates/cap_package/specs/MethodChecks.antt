@@ -1,10 +1,10 @@
 -- Where described methods stand in the Method component (JCVM 2.2, section 6.9).
 use Rattle.std.specs.Prelude.{ℕ, ◌+◌, ◌*◌, Bool, List, length, Option, Some, None, min, max, nat_lt, ◌||◌, if◌then◌else◌}
 use Rattle.cap_desc.specs.DescriptorFormat.{Method}
-pub use Rattle.cap_parts.specs.MethodPlaces.{size_by}
-unfoldable pub use Rattle.cap_parts.specs.MethodPlaces.{code_start, code_end}
-use Rattle.cap_parts.specs.declared.fault.PackFault.{PackFault}
-use Rattle.cap_parts.specs.declared.fault.PackFault.TheVariants.{MethodOverlaps, MethodOutside}
+pub use Rattle.cap_components.specs.MethodPlaces.{size_by}
+unfoldable pub use Rattle.cap_components.specs.MethodPlaces.{code_start, code_end}
+use Rattle.cap_components.specs.declared.fault.PackFault.{PackFault}
+use Rattle.cap_components.specs.declared.fault.PackFault.TheVariants.{MethodOverlaps, MethodOutside}
 
 -- two methods share a byte of the info
 abbrev pub share_byte : List ℕ → Method → Method → Bool

@@ -2,10 +2,10 @@
 -- nothing is at fault.
 use Rattle.std.specs.Prelude.{◌≡◌, List, []}
 use Rattle.cap_frame.specs.DirectoryFormat.{directory_info}
-use Rattle.cap_parts.specs.Parts.{Lent}
-use Rattle.cap_parts.specs.Components.{read_part}
-use Rattle.cap_parts.specs.PackageRecord.{PackageRecord}
-use Rattle.cap_parts.specs.Saying.{AreSaid}
+use Rattle.cap_components.specs.Parts.{Lent}
+use Rattle.cap_components.specs.Components.{read_part}
+use Rattle.cap_components.specs.PackageRecord.{PackageRecord}
+use Rattle.cap_components.specs.Saying.{AreSaid}
 use Rattle.cap_package.specs.FirstFault.{AllEmpty, conditions_of, missing_parts}
 
 -- the parts stand for the package

@@ -5,10 +5,10 @@ use Rattle.std.specs.List.{list_any}
 use Rattle.cap_method.specs.StaticFormat.{Array, Statics}
 use Rattle.cap_desc.specs.declared.type_item.TypeItem.{TypeItem}
 use Rattle.cap_desc.specs.DescriptorFormat.{Field}
-use Rattle.cap_parts.specs.Descriptions.{Description, field_type}
+use Rattle.cap_components.specs.Descriptions.{Description, field_type}
 use Rattle.cap_package.specs.HeaderChecks.{is_static}
-use Rattle.cap_parts.specs.declared.fault.PackFault.{PackFault}
-use Rattle.cap_parts.specs.declared.fault.PackFault.TheVariants.{StaticOverlaps, StaticOutside, NoStaticAt}
+use Rattle.cap_components.specs.declared.fault.PackFault.{PackFault}
+use Rattle.cap_components.specs.declared.fault.PackFault.TheVariants.{StaticOverlaps, StaticOutside, NoStaticAt}
 
 -- the offset of a static field in the image
 abbrev pub image_offset : Field → ℕ

@@ -5,9 +5,9 @@ use Rattle.cap_method.specs.StaticFormat.{Array, Statics}
 use Rattle.cap_desc.specs.TypeFormat.{is_type}
 use Rattle.cap_desc.specs.MembersLeft.{fields_of_left}
 use Rattle.cap_package.specs.declared.places.StaticPlaces.{StaticPlaces}
-use Rattle.cap_parts.specs.Descriptions.{description}
+use Rattle.cap_components.specs.Descriptions.{description}
 use Rattle.cap_package.specs.StaticChecks.{Place, place_in, is_in_image}
-use Rattle.cap_parts.specs.PackageRecord.{PackageRecord, fields}
+use Rattle.cap_components.specs.PackageRecord.{PackageRecord, fields}
 
 -- the places of the static fields, in the order of the Descriptor
 abbrev pub static_places : PackageRecord → List Place

@@ -2,9 +2,9 @@
 use Rattle.std.specs.Prelude.{ℕ, List, [], ◌∷◌, ◌++◌, Option, Some, None, nat_le, nat_lt, if◌then◌else◌}
 use Rattle.cap_desc.specs.declared.type_item.TypeItem.{TypeItem}
 use Rattle.cap_desc.specs.DescriptorFormat.{Class, Method, Field}
-use Rattle.cap_parts.specs.Descriptions.{Description, field_type, argument_words}
-use Rattle.cap_parts.specs.declared.fault.PackFault.{PackFault}
-use Rattle.cap_parts.specs.declared.fault.PackFault.TheVariants.{BadType}
+use Rattle.cap_components.specs.Descriptions.{Description, field_type, argument_words}
+use Rattle.cap_components.specs.declared.fault.PackFault.{PackFault}
+use Rattle.cap_components.specs.declared.fault.PackFault.TheVariants.{BadType}
 
 -- a field's type is none of a field
 abbrev pub field_type_by : ℕ → Option TypeItem → Option PackFault

@@ -2,8 +2,8 @@ ghost use Rattle.std.specs.Prelude.{◌≡◌};
 ghost use Rattle.cap_package.specs.NameChecks.{no_method_fault, exported_methods};
 ghost use Rattle.cap_package.specs.OffsetSets.{stands};
 ghost use Rattle.cap_package.specs.Agreement.{or_none, places_agree, counts_agree, members_agree, named_condition, class_condition, export_condition};
-ghost use Rattle.cap_parts.specs.ComponentsSeen.{components_seen};
-ghost use Rattle.cap_parts.specs.Order.{least_from, refused};
+ghost use Rattle.cap_components.specs.ComponentsSeen.{components_seen};
+ghost use Rattle.cap_components.specs.Order.{least_from, refused};
 
 use crate::class_checks::{classes_described, descriptors_named, exports_are_classes};
 use crate::count_checks::{agree, array_bytes, instances_agree};
@@ -14,7 +14,7 @@ use crate::name_checks::{entries_named, exports_named, installs_named, statics_n
 use crate::offsets::{Offsets, method_offsets, static_offsets};
 use crate::static_checks::{statics_apart, statics_in_image};
 use crate::type_checks::types_fit;
-use cap_parts::{Components, PackFault, classes_from, refuse, sizes_agree};
+use cap_components::{Components, PackFault, classes_from, refuse, sizes_agree};
 
 /// The sizes of the parts and the places of the methods agree.
 #[tactic(auto, unfolding(crate::specs::Agreement::places_agree))]
@@ -76,7 +76,10 @@ fn export_names(
     described: &Offsets,
     least: Option<PackFault>,
 ) -> Option<PackFault>
-    ensures { result ≡ least_from least (no_method_fault (stands described.now)) (exported_methods (or_none (components_seen all.now).export)) }
+    ensures { result
+        ≡ least_from least
+        (no_method_fault (stands described.now))
+        (exported_methods (or_none (components_seen all.now).export)) }
 {
     match &all.export {
         Some(export) => exports_named(described, export, least),

@@ -6,12 +6,12 @@ ghost use Rattle.cap_class.specs.ClassFormat.{Class};
 ghost use Rattle.cap_class.specs.ClassPart.{class_seen, records, classes_left};
 ghost use Rattle.cap_desc.specs.DescriptorFormat as desc;
 ghost use Rattle.cap_desc.specs.ClassRecords.{classes_left as described_left};
-ghost use Rattle.cap_parts.specs.Order.{least_of, least_from, refused};
+ghost use Rattle.cap_components.specs.Order.{least_of, least_from, refused};
 ghost use Rattle.cap_package.specs.NameChecks.{undescribed_fault, no_class_fault};
 
 use cap_class::{ClassInfo, ClassPart};
+use cap_components::{PackFault, lesser};
 use cap_desc::DescClasses;
-use cap_parts::{PackFault, lesser};
 use cap_pool::Export;
 
 /// Whether exactly one descriptor is of the class record at an offset.
@@ -85,7 +85,10 @@ pub(crate) fn descriptors_named(
     descriptors: DescClasses<'_>,
     least: Option<PackFault>,
 ) -> Option<PackFault>
-    ensures { result ≡ least_from least (no_class_fault (records classes.now)) (map (λ (d : desc.Class). d.class_ref) (described_left descriptors.entry)) }
+    ensures { result
+        ≡ least_from least
+        (no_class_fault (records classes.now))
+        (map (λ (d : desc.Class). d.class_ref) (described_left descriptors.entry)) }
 {
     let mut least = least;
     'classes: for class in descriptors {
@@ -100,7 +103,10 @@ pub(crate) fn exports_are_classes(
     export: &Export<'_>,
     least: Option<PackFault>,
 ) -> Option<PackFault>
-    ensures { result ≡ least_from least (no_class_fault (records classes.now)) (map (λ (c : Exported). c.class_offset) (exported export.now)) }
+    ensures { result
+        ≡ least_from least
+        (no_class_fault (records classes.now))
+        (map (λ (c : Exported). c.class_offset) (exported export.now)) }
 {
     let mut least = least;
     'classes: for class in export.iter() {

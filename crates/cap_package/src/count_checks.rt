@@ -4,14 +4,14 @@ ghost use Rattle.cap_method.specs.StaticPart.{statics_seen, arrays_left};
 ghost use Rattle.cap_desc.specs.ClassRecords.{class_seen, classes_left};
 ghost use Rattle.cap_desc.specs.MemberRecords.{field_seen};
 ghost use Rattle.cap_desc.specs.MemberLists.{fields_left};
-ghost use Rattle.cap_parts.specs.Order.{least_of, least_from, refused};
-ghost use Rattle.cap_parts.specs.Descriptions.{description};
+ghost use Rattle.cap_components.specs.Order.{least_of, least_from, refused};
+ghost use Rattle.cap_components.specs.Descriptions.{description};
 ghost use Rattle.cap_package.specs.CountChecks.{differ, array_bytes, cells_of, instance_cells, instance_fault};
 
 use cap_class::ClassPart;
+use cap_components::{PackFault, field_type, lesser, refuse, words_of};
 use cap_desc::{DescClass, DescPart, FieldInfo};
 use cap_method::StaticPart;
-use cap_parts::{PackFault, field_type, lesser, refuse, words_of};
 
 /// Whether two numbers of one thing differ.
 #[tactic(auto, unfolding(crate::specs::CountChecks::differ))]
@@ -96,7 +96,11 @@ pub(crate) fn instances_agree(
     classes: &ClassPart<'_>,
     descriptor: &DescPart<'_>,
 ) -> Result<(), PackFault>
-    ensures { result ≡ refused (least_of (instance_fault (records classes.now) (description descriptor.now)) (description descriptor.now).items.classes) }
+    ensures { result
+        ≡ refused
+        (least_of
+        (instance_fault (records classes.now) (description descriptor.now))
+        (description descriptor.now).items.classes) }
 {
     let mut least = None;
     'classes: for class in descriptor.classes() {

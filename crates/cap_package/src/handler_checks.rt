@@ -2,13 +2,13 @@ ghost use Rattle.std.specs.Prelude.{◌≡◌, ◌≤◌, ◌∷◌, [], length,
 ghost use Rattle.cap_method.specs.MethodPart.{handlers_left, handlers};
 ghost use Rattle.cap_desc.specs.MemberRecords.{method_seen};
 ghost use Rattle.cap_desc.specs.MembersLeft.{methods_from_left};
-ghost use Rattle.cap_parts.specs.Order.{least_of, least_from, refused};
+ghost use Rattle.cap_components.specs.Order.{least_of, least_from, refused};
 ghost use Rattle.cap_package.specs.HandlerChecks.{claims, is_within, has_home, owners, entry_fault, claim_fault, numbered, numbered_fault};
 
 use cap_bytes::View;
+use cap_components::{PackFault, code_end, code_start, lesser, refuse};
 use cap_desc::{MethodInfo, MethodsFrom};
 use cap_method::{HandlerInfo, MethodPart};
-use cap_parts::{PackFault, code_end, code_start, lesser, refuse};
 
 /// Whether a method claims an entry of the handler table.
 fn claims(number: u32, method: &MethodInfo) -> bool
@@ -87,7 +87,10 @@ fn claim_fault(count: u8, method: &MethodInfo) -> Option<PackFault>
 
 /// The least fault of the entries of the table.
 fn entry_faults(methods: &MethodPart<'_>, described: MethodsFrom<'_>) -> Option<PackFault>
-    ensures { result ≡ least_of (numbered_fault methods.now.info.bytes.now (methods_from_left described.entry)) (numbered 0 (handlers methods.now)) }
+    ensures { result
+        ≡ least_of
+        (numbered_fault methods.now.info.bytes.now (methods_from_left described.entry))
+        (numbered 0 (handlers methods.now)) }
 {
     let count = methods.handler_count();
     let mut least = None;
@@ -104,7 +107,7 @@ fn entry_faults(methods: &MethodPart<'_>, described: MethodsFrom<'_>) -> Option<
 }
 
 /// Exactly one method owns each entry of the handler table, in whose code it lies, and no method claims an
-/// entry behind the table.
+/// entry after the table.
 pub(crate) fn handlers_at_home(
     methods: &MethodPart<'_>,
     described: MethodsFrom<'_>,

@@ -3,13 +3,13 @@ ghost use Rattle.cap_method.specs.MethodFormat.{Header};
 ghost use Rattle.cap_method.specs.MethodPart.{header_seen, HeaderAt};
 ghost use Rattle.cap_desc.specs.MemberRecords.{method_seen};
 ghost use Rattle.cap_desc.specs.MembersLeft.{methods_from_left};
-ghost use Rattle.cap_parts.specs.Order.{least_of, refused};
-ghost use Rattle.cap_parts.specs.Descriptions.{description};
+ghost use Rattle.cap_components.specs.Order.{least_of, refused};
+ghost use Rattle.cap_components.specs.Descriptions.{description};
 ghost use Rattle.cap_package.specs.HeaderChecks.{header_in, registers_fault, length_fault, arguments_fault, abstract_fault};
 
+use cap_components::{PackFault, argument_words, lesser, refuse};
 use cap_desc::{DescPart, MethodInfo, MethodsFrom};
 use cap_method::{MethodHeader, MethodPart};
-use cap_parts::{PackFault, argument_words, lesser, refuse};
 
 /// The header of a method, where its bytes reach.
 #[tactic(auto, using(crate::proofs::HeaderKnown::header_known))]
@@ -97,7 +97,11 @@ pub(crate) fn arguments_agree(
     descriptor: &DescPart<'_>,
     described: MethodsFrom<'_>,
 ) -> Result<(), PackFault>
-    ensures { result ≡ refused (least_of (arguments_fault methods.now.info.bytes.now (description descriptor.now)) (methods_from_left described.entry)) }
+    ensures { result
+        ≡ refused
+        (least_of
+        (arguments_fault methods.now.info.bytes.now (description descriptor.now))
+        (methods_from_left described.entry)) }
 {
     let mut least = None;
     'methods: for method in described {

@@ -1,5 +1,5 @@
 //! A package as the agreement of its parts (Java Card 2.2 VM Specification, chapter 6), and why a list
-//! of parts is none. It stands on `cap_parts`, which reads the components, and takes no memory but for
+//! of parts is none. It stands on `cap_components`, which reads the components, and takes no memory but for
 //! lists of packages.
 #![tactic(auto)]
 
@@ -22,7 +22,7 @@ mod static_place;
 mod static_places;
 mod type_checks;
 
-pub use cap_parts::{OwnedParts, PackFault, Parts, field_type};
+pub use cap_components::{OwnedParts, PackFault, Parts, field_type};
 pub use custom::Custom;
 pub use header_checks::header;
 pub use package_type::Package;

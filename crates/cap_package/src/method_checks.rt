@@ -1,13 +1,13 @@
 ghost use Rattle.std.specs.Prelude.{◌≡◌, ◌≤◌, length};
 ghost use Rattle.cap_desc.specs.MemberRecords.{method_seen};
 ghost use Rattle.cap_desc.specs.MembersLeft.{methods_from_left};
-ghost use Rattle.cap_parts.specs.Order.{least_of, least_from, refused};
+ghost use Rattle.cap_components.specs.Order.{least_of, least_from, refused};
 ghost use Rattle.cap_package.specs.Pairs.{pairs};
 ghost use Rattle.cap_package.specs.MethodChecks.{overlap_fault, overlap_pair, outside_fault};
 
 use cap_bytes::View;
+use cap_components::{PackFault, code_end, lesser, refuse};
 use cap_desc::{MethodInfo, MethodsFrom};
-use cap_parts::{PackFault, code_end, lesser, refuse};
 
 /// Whether two methods share a byte of the info.
 #[tactic(auto, unfolding(crate::specs::MethodChecks::overlap_fault))]
@@ -27,7 +27,7 @@ fn overlap_fault(info: View<'_>, a: &MethodInfo, b: &MethodInfo) -> Option<PackF
     }
 }
 
-/// The least fault so far, when a method was compared with those behind it.
+/// The least fault so far, when a method was compared with those after it.
 fn overlaps_with(
     info: View<'_>,
     method: &MethodInfo,

@@ -4,7 +4,7 @@ ghost use Rattle.cap_frame.specs.AppletFormat.{Applet};
 ghost use Rattle.cap_frame.specs.Applets.{applets_of, applets_left};
 ghost use Rattle.cap_pool.specs.Export.{classes as exported, classes_left as exported_left};
 ghost use Rattle.cap_class.specs.ClassPart.{records, classes_left};
-ghost use Rattle.cap_parts.specs.Order.{least_of, least_from, refused};
+ghost use Rattle.cap_components.specs.Order.{least_of, least_from, refused};
 ghost use Rattle.cap_package.specs.NameChecks.{no_method_fault, no_entry_fault, table_entries, exported_methods, exported_fields};
 ghost use Rattle.cap_package.specs.StaticChecks.{no_static_fault};
 ghost use Rattle.cap_package.specs.OffsetSets.{stands};
@@ -12,8 +12,8 @@ ghost use Rattle.cap_package.specs.OffsetSets.{stands};
 use crate::offsets::Offsets;
 use cap_bytes::Table;
 use cap_class::ClassPart;
+use cap_components::{PackFault, lesser};
 use cap_frame::Applets;
-use cap_parts::{PackFault, lesser};
 use cap_pool::Export;
 
 #[tactic(auto, unfolding(crate::specs::NameChecks::no_method_fault))]
@@ -102,7 +102,10 @@ pub(crate) fn installs_named(
     applets: &Applets<'_>,
     least: Option<PackFault>,
 ) -> Option<PackFault>
-    ensures { result ≡ least_from least (no_method_fault (stands described.now)) (map (λ (a : Applet). a.install) (applets_of applets.now)) }
+    ensures { result
+        ≡ least_from least
+        (no_method_fault (stands described.now))
+        (map (λ (a : Applet). a.install) (applets_of applets.now)) }
 {
     let mut least = least;
     'applets: for applet in applets.iter() {

@@ -1,4 +1,4 @@
-use cap_parts::Components;
+use cap_components::Components;
 use std::marker::Model;
 
 /// A package whose parts agree (chapter 6 of the specification). It borrows its parts.
@@ -8,12 +8,12 @@ pub struct Package<'p, 'a> {
 }
 
 impl<'p, 'a> Model for Package<'p, 'a> {
-    ghost use Rattle.cap_parts.specs.PackageRecord.{PackageRecord};
+    ghost use Rattle.cap_components.specs.PackageRecord.{PackageRecord};
 
     ghost Value = { PackageRecord };
 
-    ghost use Rattle.cap_parts.specs.ComponentsSeen.{components_seen};
-    ghost use Rattle.cap_parts.specs.Infos.{HaveInfos};
+    ghost use Rattle.cap_components.specs.ComponentsSeen.{components_seen};
+    ghost use Rattle.cap_components.specs.Infos.{HaveInfos};
     ghost use Rattle.cap_package.specs.Agreement.{IsPackage};
 
     ghost view = { λ p. components_seen p.all };

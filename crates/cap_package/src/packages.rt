@@ -12,7 +12,7 @@ pub struct Packages<'p, 'a> {
 
 impl<'p, 'a> Model for Packages<'p, 'a> {
     ghost use Rattle.std.specs.Prelude.{List};
-    ghost use Rattle.cap_parts.specs.PackageRecord.{PackageRecord};
+    ghost use Rattle.cap_components.specs.PackageRecord.{PackageRecord};
 
     ghost Value = { List PackageRecord };
 

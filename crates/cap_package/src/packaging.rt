@@ -1,15 +1,15 @@
 ghost use Rattle.std.specs.Prelude.{◌≡◌, IfOk, Ok};
-ghost use Rattle.cap_parts.specs.Components.{Answers};
-ghost use Rattle.cap_parts.specs.ComponentsSeen.{components_seen};
+ghost use Rattle.cap_components.specs.Components.{Answers};
+ghost use Rattle.cap_components.specs.ComponentsSeen.{components_seen};
 ghost use Rattle.cap_package.specs.Agreement.{package_of};
 ghost use Rattle.cap_package.specs.FirstFault.{Tells};
 ghost use Rattle.cap_package.specs.StandsFor.{StandsFor, HavePackage};
-ghost use Rattle.cap_parts.specs.Infos.{HaveInfos};
-ghost use Rattle.cap_parts.specs.PackageRecord.{PackageRecord};
+ghost use Rattle.cap_components.specs.Infos.{HaveInfos};
+ghost use Rattle.cap_components.specs.PackageRecord.{PackageRecord};
 
 use crate::agreement::{counts_agree, members_agree, places_agree};
 use crate::package_type::Package;
-use cap_parts::{Components, PackFault, Parts, customs_formed, none_missing, read_package};
+use cap_components::{Components, PackFault, Parts, customs_formed, none_missing, read_package};
 
 /// The components of the package that the parts stand for.
 #[tactic(auto, unfolding(crate::specs::Agreement::package_of))]

@@ -2,17 +2,17 @@ ghost use Rattle.std.specs.Prelude.{◌≡◌, option_map};
 ghost use Rattle.cap_method.specs.StaticPart.{statics_seen};
 ghost use Rattle.cap_desc.specs.MemberRecords.{field_seen};
 ghost use Rattle.cap_desc.specs.MembersLeft.{fields_of_left};
-ghost use Rattle.cap_parts.specs.Order.{least_of, least_from, refused};
+ghost use Rattle.cap_components.specs.Order.{least_of, least_from, refused};
 ghost use Rattle.cap_package.specs.Pairs.{pairs};
-ghost use Rattle.cap_parts.specs.Descriptions.{description};
+ghost use Rattle.cap_components.specs.Descriptions.{description};
 ghost use Rattle.cap_package.specs.StaticChecks.{image_offset, width_of, is_reference, place_in, share_fault, share_pair, is_in_image, image_fault, array_kinds, kind_at, filled_fault};
 ghost use Rattle.cap_package.specs.Places.{place_seen};
 
 use crate::static_place::StaticPlace;
 use arrayvec::ArrayVec;
+use cap_components::{PackFault, field_type, lesser, refuse};
 use cap_desc::{DescPart, FieldInfo, FieldsOf, TypeItem};
 use cap_method::StaticPart;
-use cap_parts::{PackFault, field_type, lesser, refuse};
 
 /// The most initial arrays that two bytes can count.
 const MOST_ARRAYS: usize = 65535;
@@ -71,14 +71,17 @@ fn share_fault(
     }
 }
 
-/// The least fault so far, when a place was compared with the fields behind it.
+/// The least fault so far, when a place was compared with the fields after it.
 fn shares_with(
     descriptor: &DescPart<'_>,
     place: Option<StaticPlace>,
     behind: FieldsOf<'_>,
     least: Option<PackFault>,
 ) -> Option<PackFault>
-    ensures { result ≡ least_from least (share_fault (description descriptor.now) (option_map place_seen place)) (fields_of_left behind.entry) }
+    ensures { result
+        ≡ least_from least
+        (share_fault (description descriptor.now) (option_map place_seen place))
+        (fields_of_left behind.entry) }
 {
     let mut least = least;
     'fields: for other in behind {

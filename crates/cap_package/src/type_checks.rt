@@ -4,12 +4,12 @@ ghost use Rattle.cap_desc.specs.MemberLists.{methods_left};
 ghost use Rattle.cap_desc.specs.MemberRecords.{field_seen, method_seen};
 ghost use Rattle.cap_desc.specs.Members.{methods_from, fields_of};
 ghost use Rattle.cap_desc.specs.MembersLeft.{methods_from_left, fields_of_left};
-ghost use Rattle.cap_parts.specs.Order.{least_of, least_from, refused};
-ghost use Rattle.cap_parts.specs.Descriptions.{description};
+ghost use Rattle.cap_components.specs.Order.{least_of, least_from, refused};
+ghost use Rattle.cap_components.specs.Descriptions.{description};
 ghost use Rattle.cap_package.specs.TypeChecks.{field_type_fault, method_type_fault, interface_methods};
 
+use cap_components::{PackFault, argument_words, field_type, lesser, refuse};
 use cap_desc::{DescMethods, DescPart, FieldInfo, MethodInfo};
-use cap_parts::{PackFault, argument_words, field_type, lesser, refuse};
 
 /// The argument words that a type descriptor can tell at all.
 const ANY_WORDS: u16 = 510;
@@ -49,7 +49,10 @@ fn field_types(descriptor: &DescPart<'_>) -> Option<PackFault>
 
 /// The least fault so far, when the types of all methods were looked at.
 fn method_types(descriptor: &DescPart<'_>, least: Option<PackFault>) -> Option<PackFault>
-    ensures { result ≡ least_from least (method_type_fault (description descriptor.now) 510) (methods_from 0 (description descriptor.now).items.classes) }
+    ensures { result
+        ≡ least_from least
+        (method_type_fault (description descriptor.now) 510)
+        (methods_from 0 (description descriptor.now).items.classes) }
 {
     let mut least = least;
     'methods: for method in descriptor.methods_from(0) {
@@ -83,7 +86,10 @@ fn interface_types(
     start: u16,
     least: Option<PackFault>,
 ) -> Option<PackFault>
-    ensures { result ≡ least_from least (method_type_fault (description descriptor.now) 254) (interface_methods start (description descriptor.now).items.classes) }
+    ensures { result
+        ≡ least_from least
+        (method_type_fault (description descriptor.now) 254)
+        (interface_methods start (description descriptor.now).items.classes) }
 {
     let mut least = least;
     'classes: for class in descriptor.classes() {

@@ -8,7 +8,7 @@ use Rattle.cap_text.specs.Word.{AreFolderWords}
 pub record CheckRequest : Type 0 where
   pub dirs : List (List ℕ)
 
--- the words behind the command's name ask for this
+-- the words after the command's name ask for this
 abbrev pub IsCheck : List (List ℕ) → CheckRequest → Type 0
 IsCheck words c = (c.dirs ≡ words) × AreFolderWords words
 

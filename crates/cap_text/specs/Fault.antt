@@ -5,8 +5,8 @@ use Rattle.std.specs.List.{concat}
 use Rattle.cap_bytes.specs.declared.fault.FormKind.{FormKind}
 use Rattle.cap_bytes.specs.declared.fault.FormKind.TheVariants.{Cut, WrongTag, BadMagic, BadVersion, Trailing, BadValue, Remote}
 use Rattle.cap_bytes.specs.declared.fault.FormFault.{FormFault}
-use Rattle.cap_parts.specs.declared.fault.PackFault.{PackFault}
-use Rattle.cap_parts.specs.declared.fault.PackFault.TheVariants.{Form, MissingPart, SizeDisagrees, MethodOverlaps, MethodOutside, CountDisagrees, HandlerOutside, StaticOverlaps, NoMethodAt, ClassUndescribed, TooManyRegisters, BadType, StaticOutside, MethodLength, NoStaticAt, PartTooLong}
+use Rattle.cap_components.specs.declared.fault.PackFault.{PackFault}
+use Rattle.cap_components.specs.declared.fault.PackFault.TheVariants.{Form, MissingPart, SizeDisagrees, MethodOverlaps, MethodOutside, CountDisagrees, HandlerOutside, StaticOverlaps, NoMethodAt, ClassUndescribed, TooManyRegisters, BadType, StaticOutside, MethodLength, NoStaticAt, PartTooLong}
 
 -- a name and one, two or three numbers
 abbrev pub name_1 : List ℕ → ℕ → List ℕ

@@ -1,7 +1,7 @@
 -- The lines that capcheck prints for its answers. Each ends with a line feed.
 use Rattle.std.specs.Prelude.{ℕ, List, [], ◌∷◌, codes, decimal}
 use Rattle.std.specs.List.{concat}
-use Rattle.cap_parts.specs.declared.fault.PackFault.{PackFault}
+use Rattle.cap_components.specs.declared.fault.PackFault.{PackFault}
 use Rattle.cap_text.specs.declared.start.StartFault.{StartFault}
 use Rattle.cap_bare.specs.declared.fault.BareFault.{BareFault}
 use Rattle.cap_bare.specs.declared.run.BareEnd.{BareEnd}
@@ -11,7 +11,7 @@ use Rattle.cap_text.specs.Fault.{pack_fault_text}
 use Rattle.cap_text.specs.Bare.{bare_kind_text}
 use Rattle.cap_text.specs.Start.{start_fault_text}
 use Rattle.cap_text.specs.Linked.{link_fault_text}
-use Rattle.jc_names.specs.declared.fault.LinkFault.{LinkFault}
+use Rattle.jc_resolve.specs.declared.fault.LinkFault.{LinkFault}
 use Rattle.cap_text.specs.declared.line.MethodNumber.{MethodNumber}
 use Rattle.cap_text.specs.Flow.{flow_end_text}
 use Rattle.jc_flow.specs.declared.end.FlowEnd.{FlowEnd}
@@ -54,7 +54,7 @@ typed_line count = concat (codes "typed " ∷ decimal count ∷ codes " methods\
 abbrev pub method_text : MethodNumber → List ℕ
 method_text m = concat (codes "package " ∷ decimal m.package ∷ codes " method " ∷ decimal m.class_no ∷ codes "." ∷ decimal m.method_no ∷ [])
 
--- the method has no dataflow typing; for want of memory nothing is known of it, and there is no line
+-- the method has no dataflow typing; out of memory, nothing is known of it, and there is no line
 abbrev pub refused_flow_line : MethodNumber → FlowEnd → List ℕ
 refused_flow_line method Memory = []
 refused_flow_line method end = concat (codes "refused " ∷ method_text method ∷ codes " " ∷ flow_end_text end ∷ codes "\n" ∷ [])

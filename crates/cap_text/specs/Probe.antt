@@ -10,7 +10,7 @@ pub record ProbeRequest : Type 0 where
   pub budget : ℕ
   pub args : List Arg
 
--- the words behind the command's name ask for this
+-- the words after the command's name ask for this
 abbrev pub IsProbe : List (List ℕ) → ProbeRequest → Type 0
 IsProbe (dir ∷ budget ∷ args) p = (p.dir ≡ dir) × IsFolderWord dir × IsNumberWord budget p.budget × AreArgWords args p.args
 IsProbe _ p = ⊥

@@ -4,8 +4,8 @@ use Rattle.std.specs.List.{concat}
 use Rattle.cap_text.specs.Fault.{name_1}
 use Rattle.jc_base.specs.declared.ty.Ty.{Ty}
 use Rattle.jc_base.specs.declared.ty.Ty.TheVariants.{Bottom, Short, IntHigh, IntLow, Null, Class, ArrBool, ArrByte, ArrShort, ArrInt, ArrRef, Fresh, Top}
-use Rattle.jc_rows.specs.declared.fault.RuleFault.{RuleFault}
-use Rattle.jc_rows.specs.declared.fault.RuleFault.TheVariants.{Underflow, Overflow, Mismatch, NoLocal, SplitInt, FreshKept, BadMember, NotConcrete, StackMerge}
+use Rattle.jc_ops.specs.declared.fault.RuleFault.{RuleFault}
+use Rattle.jc_ops.specs.declared.fault.RuleFault.TheVariants.{Underflow, Overflow, Mismatch, NoLocal, SplitInt, FreshKept, BadMember, NotConcrete, StackMerge}
 
 abbrev pub type_text : Ty → List ℕ
 type_text Bottom = codes "bottom"

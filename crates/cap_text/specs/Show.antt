@@ -7,7 +7,7 @@ use Rattle.cap_text.specs.Word.{IsFolderWord}
 pub record ShowRequest : Type 0 where
   pub dir : List ℕ
 
--- the words behind the command's name ask for this
+-- the words after the command's name ask for this
 abbrev pub IsShow : List (List ℕ) → ShowRequest → Type 0
 IsShow (dir ∷ []) s = (s.dir ≡ dir) × IsFolderWord dir
 IsShow _ s = ⊥

@@ -2,7 +2,7 @@
 use Rattle.std.specs.Prelude.{◌≡◌, negsuc, codes, refl}
 use Rattle.std.specs.Fmt.{digits}
 use Rattle.cap_bytes.specs.declared.fault.FormKind.TheVariants.{Cut}
-use Rattle.cap_parts.specs.declared.fault.PackFault.TheVariants.{Form, MethodLength}
+use Rattle.cap_components.specs.declared.fault.PackFault.TheVariants.{Form, MethodLength}
 use Rattle.cap_bare.specs.declared.fault.BareKind.TheVariants.{BadTarget}
 use Rattle.cap_bare.specs.declared.run.BareEnd.TheVariants.{Returned}
 use Rattle.cap_text.specs.declared.start.StartFault.TheVariants.{ArgCount}
@@ -12,8 +12,8 @@ use Rattle.cap_text.specs.Rule.{rule_fault_text}
 use Rattle.jc_base.specs.declared.ty.Ty.TheVariants.{Short, Class, Top}
 use Rattle.jc_decode.specs.declared.insn.CodeEnd.TheVariants.{NoOpcode}
 use Rattle.jc_flow.specs.declared.end.FlowEnd.TheVariants as flow
-use Rattle.jc_names.specs.declared.fault.LinkFault.TheVariants.{Hole}
-use Rattle.jc_rows.specs.declared.fault.RuleFault.TheVariants.{Mismatch}
+use Rattle.jc_resolve.specs.declared.fault.LinkFault.TheVariants.{Hole}
+use Rattle.jc_ops.specs.declared.fault.RuleFault.TheVariants.{Mismatch}
 
 malformed : malformed_line 0 (Form (record { part = 7; at = 21; kind = Cut })) ≡ codes "malformed package 0 Form 7 21 Cut\n"
 unfolding digits

@@ -12,7 +12,7 @@ pub struct Check<'a> {
 }
 
 impl<'a> Check<'a> {
-    /// Reads the words behind the command's name.
+    /// Reads the words after the command's name.
     pub fn read(operands: WordsIter<'a>) -> Option<Check<'a>>
         ensures found { IfSome result (λ c. IsCheck (words_left operands.entry) (check_request c)) }
         ensures none { IfNone result ((c : CheckRequest) → IsCheck (words_left operands.entry) c → ⊥) }

@@ -2,7 +2,7 @@ ghost use Rattle.std.specs.Prelude.{Some};
 ghost use Rattle.cap_text.specs.Linked.{link_fault_text};
 
 use crate::fault::Shown;
-use jc_names::LinkFault;
+use jc_resolve::LinkFault;
 use std::fmt;
 
 impl fmt::Display for Shown<LinkFault> {

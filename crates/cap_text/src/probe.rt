@@ -19,7 +19,7 @@ pub struct Probe<'a> {
 }
 
 impl<'a> Probe<'a> {
-    /// Reads the words behind the command's name.
+    /// Reads the words after the command's name.
     pub fn read(alloc: Global, mut operands: WordsIter<'a>) -> Result<Option<Probe<'a>>, AllocError>
         ensures found { IfOk result (λ o. IfSome o (λ p. IsProbe (words_left operands.entry) (probe_request p))) }
         ensures none { IfOk result (λ o. IfNone o ((p : ProbeRequest) → IsProbe (words_left operands.entry) p → ⊥)) }

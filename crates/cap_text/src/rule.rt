@@ -3,7 +3,7 @@ ghost use Rattle.cap_text.specs.Rule.{type_text, rule_fault_text};
 
 use crate::fault::Shown;
 use jc_base::Ty;
-use jc_rows::RuleFault;
+use jc_ops::RuleFault;
 use std::fmt;
 
 impl fmt::Display for Shown<Ty> {

@@ -12,7 +12,7 @@ pub struct Show<'a> {
 }
 
 impl<'a> Show<'a> {
-    /// Reads the words behind the command's name.
+    /// Reads the words after the command's name.
     pub fn read(mut operands: WordsIter<'a>) -> Option<Show<'a>>
         ensures found { IfSome result (λ s. IsShow (words_left operands.entry) (show_request s)) }
         ensures none { IfNone result ((s : ShowRequest) → IsShow (words_left operands.entry) s → ⊥) }

@@ -82,7 +82,7 @@ fn words(rt: &HostRuntime) -> Result<Words, NoStart> {
     Ok(behind_name(rt.alloc(), arguments)?)
 }
 
-/// The words behind the program's name, which comes first.
+/// The words after the program's name, which comes first.
 fn behind_name(alloc: Global, arguments: Args) -> Result<Words, AllocError>
     ensures { IfOk result (λ w. w ≡ map string_bytes (drop 1 (into_iter_items arguments))) }
 {

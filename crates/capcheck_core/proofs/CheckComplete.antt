@@ -8,8 +8,8 @@ use Rattle.std.proofs.lemmas.Slice.Zip.{AllZip-long}
 use Rattle.cap_bytes.specs.declared.fault.FormKind.{FormKind}
 use Rattle.cap_bytes.specs.declared.fault.FormKind.TheVariants.{Cut, Trailing}
 use Rattle.cap_files.specs.Folder.{Parts, Holds}
-use Rattle.cap_parts.specs.declared.fault.PackFault.{PackFault}
-use Rattle.cap_parts.specs.declared.fault.PackFault.TheVariants as faults
+use Rattle.cap_components.specs.declared.fault.PackFault.{PackFault}
+use Rattle.cap_components.specs.declared.fault.PackFault.TheVariants as faults
 use Rattle.cap_package.specs.Parts.{Lent}
 use Rattle.cap_package.specs.PackageRecord.{PackageRecord}
 use Rattle.cap_package.specs.StandsFor.{StandsFor}

@@ -7,7 +7,7 @@ use Rattle.std.proofs.Math.Nat.{eq-or-lt_of_le}
 use Rattle.cap_files.specs.Folder.{Parts, Holds, Loads}
 use Rattle.cap_files.specs.declared.folder.LoadEnd.{LoadEnd}
 use Rattle.cap_package.specs.Parts.{Lent, held}
-use Rattle.cap_parts.proofs.PartsLemmas.{held-other}
+use Rattle.cap_components.proofs.PartsLemmas.{held-other}
 use Rattle.capcheck_core.specs.Outside.{Folders, IsTooLong}
 use Rattle.capcheck_core.specs.Loads.{is_asked, Has, with_file, AreLoaded, loaded_none, loaded_unasked, loaded_asked, IsFirstLong}
 use Rattle.capcheck_core.specs.LoadEnds.{LoadsNext}

@@ -3,8 +3,8 @@ use Rattle.std.proofs.Common.{◌≡◌, ◌≤◌, List, ℕ, length, subst, ap
 use Rattle.cap_bytes.specs.Spelling.{Stands, file_of, info_of}
 use Rattle.cap_bytes.proofs.Laws.{is_exact}
 use Rattle.cap_frame.specs.Frame.{component}
-use Rattle.cap_parts.specs.declared.fault.PackFault.{PackFault}
-use Rattle.cap_parts.specs.declared.fault.PackFault.TheVariants.{Form, MethodLength}
+use Rattle.cap_components.specs.declared.fault.PackFault.{PackFault}
+use Rattle.cap_components.specs.declared.fault.PackFault.TheVariants.{Form, MethodLength}
 use Rattle.cap_bare.specs.declared.bare.Bare.{Bare}
 use Rattle.cap_bare.specs.MethodFile.{MethodFile, method_info, IsFileFault}
 use Rattle.capcheck_core.specs.MethodFile.{method_tag, IsMethodFile, RefusesFile}

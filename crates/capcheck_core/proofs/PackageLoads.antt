@@ -1,11 +1,11 @@
--- The packages of folders, loaded one behind the other.
+-- The packages of folders, loaded one after the other.
 use Rattle.std.proofs.Common.{◌≡◌, ◌≤◌, ◌<◌, ◌+◌, ℕ, suc, List, [], ◌∷◌, ◌++◌, length, append_assoc, length-append, get_or, take, sym, ap, subst, ◌∙◌, inl, inr, arith, rules, All}
 use Rattle.std.specs.Prelude.{Err}
 use Rattle.std.specs.List.{AllZip}
 use Rattle.std.proofs.lemmas.List.{take_more}
 use Rattle.std.proofs.lemmas.List.Elements.{All-push, All-nil, All-cons, All-head, All-tail}
 use Rattle.std.proofs.lemmas.Slice.Zip.{all_zipped_more}
-use Rattle.cap_parts.specs.declared.fault.PackFault.{PackFault}
+use Rattle.cap_components.specs.declared.fault.PackFault.{PackFault}
 use Rattle.cap_files.specs.Counts.{Rose}
 use Rattle.cap_package.specs.Parts.{Lent}
 use Rattle.cap_package.specs.PackageRecord.{PackageRecord}
@@ -35,7 +35,7 @@ module _ (before : Folders) where
     whole = All-push HavePackage a.more parts a.whole w.whole;
   }
 
-  -- behind folders that have packages, one without is the first
+  -- after folders that have packages, one without is the first
   pub first_lack : (from : ℕ) (dirs : List (List ℕ)) (more : List (List Lent)) (dir : List ℕ) (rest : List (List ℕ)) (fault : PackFault)
       → AllZip (AreParts before) dirs more → All HavePackage more → LacksPackage before dir fault
       → IsFirstLack before from (dirs ++ dir ∷ rest) (from + length more) fault
@@ -54,7 +54,7 @@ module _ (before : Folders) where
 rose : (before now after : Folders) → before.load_faults ≤ now.load_faults → Rose now.load_faults after.load_faults → Rose before.load_faults after.load_faults
 rose before now after fewer risen = omega (arith, fewer, risen)
 
--- behind packages that were added the next one stops the loads
+-- after packages that were added the next one stops the loads
 pub stopped_at : (before now after : Folders) (dirs : List (List ℕ)) (dir : List ℕ) (rest whole : List (List ℕ)) (old items new : List (List Lent)) (number : ℕ) (stop : PackagesStop)
     → now.held ≡ before.held → before.load_faults ≤ now.load_faults → AreAdded before dirs old items → number ≡ length items → dirs ++ dir ∷ rest ≡ whole
     → LoadsPackage now after dir number (Err stop) → LoadsOthers before after whole old new (Err stop)
@@ -66,7 +66,7 @@ stopped_at before now after dirs dir rest whole old items new number Failed same
 stopped_at before now after dirs dir rest whole old items new number Memory same fewer added counts is loads = tt {0}
 stopped_at before now after dirs dir rest whole old items new number (TooMany count) same fewer added counts is loads = loads
 
--- behind the first package and its roles the others stop the loads
+-- after the first package and its roles the others stop the loads
 pub stopped_behind : (before now after : Folders) (dir : List ℕ) (dirs : List (List ℕ)) (parts : List Lent) (roles : List ℕ) (old new : List (List Lent)) (stop : PackagesStop)
     → now.held ≡ before.held → before.load_faults ≤ now.load_faults → length dirs ≤ 15 → IsWhole before dir parts → AreRolesIn before dir roles → old ≡ parts ∷ []
     → LoadsOthers now after dirs old new (Err stop) → LoadsPackages before after (dir ∷ dirs) (Err stop)

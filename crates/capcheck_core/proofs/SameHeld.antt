@@ -4,8 +4,8 @@ use Rattle.std.specs.Prelude.{IfSome, IsSomeAnd, None}
 use Rattle.std.specs.FinMap as map
 use Rattle.std.specs.List.{AllZip}
 use Rattle.cap_files.specs.Folder.{Holds}
-use Rattle.cap_parts.specs.declared.fault.PackFault.{PackFault}
-use Rattle.cap_parts.specs.declared.fault.PackFault.TheVariants as faults
+use Rattle.cap_components.specs.declared.fault.PackFault.{PackFault}
+use Rattle.cap_components.specs.declared.fault.PackFault.TheVariants as faults
 use Rattle.cap_package.specs.Parts.{Lent}
 use Rattle.capcheck_core.specs.Outside.{Folders, IsThere, IsAbsent, IsTooLong}
 use Rattle.capcheck_core.specs.Loads.{AreLoaded, loaded_none, loaded_unasked, loaded_asked, AreParts, IsFirstLong}

@@ -14,7 +14,7 @@ use Rattle.jc_base.specs.Linked.{list_at}
 use Rattle.jc_rules.specs.Demand.{Frame}
 use Rattle.jc_rules.specs.Flow.{Method, IsMethodOf, IsLeastTyping, HasFlowTyping}
 use Rattle.jc_rules.specs.Typing.{state_at}
-use Rattle.jc_places.specs.MethodIn.{method_with, method_in}
+use Rattle.jc_control.specs.MethodIn.{method_with, method_in}
 use Rattle.jc_flow.specs.declared.end.FlowEnd.{FlowEnd}
 use Rattle.jc_flow.specs.declared.end.FlowEnd.TheVariants.{NoTyping, Code, BadTarget, FallsOff, BadHandler, Memory}
 use Rattle.jc_flow.specs.Infer.{TellsEnd, HasNone}

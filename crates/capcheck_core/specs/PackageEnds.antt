@@ -2,12 +2,12 @@
 use Rattle.std.specs.Prelude.{◌≡◌, ℕ, ◌≤◌, ◌<◌, ◌⊎◌, List, ◌++◌, length, min, All, Result, Ok, Err, string_bytes}
 use Rattle.std.specs.List.{AllZip}
 use Rattle.cap_files.specs.Counts.{Rose}
-use Rattle.cap_parts.specs.declared.fault.PackFault.{PackFault}
-use Rattle.cap_parts.specs.declared.fault.PackFault.TheVariants.{Form}
+use Rattle.cap_components.specs.declared.fault.PackFault.{PackFault}
+use Rattle.cap_components.specs.declared.fault.PackFault.TheVariants.{Form}
 use Rattle.cap_package.specs.Parts.{Lent}
 use Rattle.cap_package.specs.FirstFault.{Tells}
 use Rattle.cap_text.specs.Line.{malformed_line, not_linked_line}
-use Rattle.jc_names.specs.declared.fault.LinkFault.TheVariants.{TooManyPackages}
+use Rattle.jc_resolve.specs.declared.fault.LinkFault.TheVariants.{TooManyPackages}
 use Rattle.capcheck_core.specs.declared.packages.Loaded.{Loaded}
 use Rattle.capcheck_core.specs.declared.packages.PackagesStop.{PackagesStop}
 use Rattle.capcheck_core.specs.declared.packages.PackagesStop.TheVariants.{TooMany, Malformed, Failed, Memory}
@@ -57,14 +57,14 @@ LoadsPackage before after dir number (Err Failed) = Rose before.load_faults afte
 LoadsPackage before after dir number (Err Memory) = Unit {0}
 LoadsPackage before after dir number (Err (TooMany count)) = ⊥
 
--- the packages of folders were loaded behind others
+-- the packages of folders were loaded after others
 pub record AreAdded (before : Folders) (dirs : List (List ℕ)) (old new : List (List Lent)) : Type 0 where
   pub more : List (List Lent)
   pub adds : new ≡ old ++ more
   pub loaded : AllZip (AreParts before) dirs more
   pub whole : All HavePackage more
 
--- the loads of the packages of folders behind others, by their answer
+-- the loads of the packages of folders after others, by their answer
 abbrev pub LoadsOthers : Folders → Folders → List (List ℕ) → List (List Lent) → List (List Lent) → Result (Unit {0}) PackagesStop → Type 0
 LoadsOthers before after dirs old new (Ok done) = AreAdded before dirs old new
 LoadsOthers before after dirs old new (Err (Malformed number fault)) = IsFirstLack before (length old) dirs number fault

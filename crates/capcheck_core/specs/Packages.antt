@@ -2,8 +2,8 @@
 -- folder, its roles, and then the parts of each other folder in turn.
 use Rattle.std.specs.Prelude.{◌≡◌, ℕ, suc, ◌≤◌, ◌⊎◌, List, [], ◌∷◌, length, Err}
 use Rattle.std.specs.List.{AllZip}
-use Rattle.cap_parts.specs.declared.fault.PackFault.{PackFault}
-use Rattle.cap_parts.specs.declared.fault.PackFault.TheVariants.{PartTooLong}
+use Rattle.cap_components.specs.declared.fault.PackFault.{PackFault}
+use Rattle.cap_components.specs.declared.fault.PackFault.TheVariants.{PartTooLong}
 use Rattle.cap_package.specs.Parts.{Lent}
 use Rattle.cap_package.specs.PackageRecord.{PackageRecord}
 use Rattle.cap_package.specs.StandsFor.{StandsFor, HavePackage}

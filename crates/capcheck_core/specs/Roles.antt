@@ -3,8 +3,8 @@ use Rattle.std.specs.Prelude.{◌≡◌, ℕ, ◌<◌, ◌≤◌, List, ◌∷�
 use Rattle.cap_bytes.specs.declared.fault.FormFault.{FormFault}
 use Rattle.cap_bytes.specs.declared.fault.FormKind.{FormKind}
 use Rattle.cap_bytes.specs.declared.fault.FormKind.TheVariants.{Cut, Trailing}
-use Rattle.cap_parts.specs.declared.fault.PackFault.{PackFault}
-use Rattle.cap_parts.specs.declared.fault.PackFault.TheVariants.{Form, MissingPart, PartTooLong}
+use Rattle.cap_components.specs.declared.fault.PackFault.{PackFault}
+use Rattle.cap_components.specs.declared.fault.PackFault.TheVariants.{Form, MissingPart, PartTooLong}
 use Rattle.capcheck_core.specs.Outside.{Folders, IsThere, IsAbsent, IsTooLong}
 
 -- the roles' file is part 0
@@ -20,7 +20,7 @@ pub record AreRolesIn (before : Folders) (dir : List ℕ) (roles : List ℕ) : T
   pub there : IsThere before (roles_key dir) roles
   pub eight : length roles ≡ 8
 
--- where a file of another length breaks: a shorter one at its end, a longer one behind the eighth byte
+-- where a file of another length breaks: a shorter one at its end, a longer one after the eighth byte
 abbrev pub BreaksRoles : List ℕ → ℕ → FormKind → Type 0
 BreaksRoles file at Cut = (length file < 8) × (at ≡ length file)
 BreaksRoles file at Trailing = (8 < length file) × (at ≡ 8)

@@ -1,8 +1,8 @@
 -- What `show` may answer, by the parts in its folder.
 use Rattle.std.specs.Prelude.{◌≡◌, ℕ, List, string_bytes, Err, ◌⊎◌}
 use Rattle.cap_files.specs.Counts.{Rose}
-use Rattle.cap_parts.specs.declared.fault.PackFault.{PackFault}
-use Rattle.cap_parts.specs.declared.fault.PackFault.TheVariants.{PartTooLong}
+use Rattle.cap_components.specs.declared.fault.PackFault.{PackFault}
+use Rattle.cap_components.specs.declared.fault.PackFault.TheVariants.{PartTooLong}
 use Rattle.cap_package.specs.Parts.{Lent}
 use Rattle.cap_package.specs.PackageRecord.{PackageRecord}
 use Rattle.cap_package.specs.StandsFor.{StandsFor}

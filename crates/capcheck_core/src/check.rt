@@ -12,7 +12,7 @@ use cap_files::Folder;
 use cap_package::{Packages, Parts};
 use cap_text::{Check, not_linked};
 use jc_link::link;
-use jc_names::LinkEnd;
+use jc_resolve::LinkEnd;
 use std::alloc::Global;
 
 /// Types each method with code of the last of the packages in the folders.

@@ -130,7 +130,7 @@ fn is_optional(tag: u8) -> bool
 }
 
 // Whether the Directory gives the component a size that is not 0.
-#[tactic(auto, using(cap_bytes::proofs::Laws::reading_where, cap_bytes::proofs::Laws::refused_where), unfolding(cap_parts::specs::Components::info_in, cap_parts::specs::Components::read_part))]
+#[tactic(auto, using(cap_bytes::proofs::Laws::reading_where, cap_bytes::proofs::Laws::refused_where), unfolding(cap_components::specs::Components::info_in, cap_components::specs::Components::read_part))]
 fn gives_size(parts: &OwnedParts, tag: u8) -> bool
     ensures { result ≡ is_sized (read_part directory_info 2 parts.now) tag }
 {

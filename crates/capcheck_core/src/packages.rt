@@ -12,7 +12,7 @@ use cap_bytes::{FormFault, FormKind, Part};
 use cap_files::{Folder, LoadEnd, WordsIter};
 use cap_package::{OwnedParts, PackFault, Packages, Parts, agreed_package, package};
 use cap_text::{malformed, not_linked};
-use jc_names::LinkFault;
+use jc_resolve::LinkFault;
 use std::alloc::{AllocError, Global};
 
 /// The file of the roles.
@@ -72,7 +72,7 @@ impl PackagesStop {
 }
 
 /// The packages in the folders, and the roles beside the first: for each folder in turn its parts
-/// are loaded and must stand for a package, and the roles are loaded behind the first. More than 16
+/// are loaded and must stand for a package, and the roles are loaded after the first. More than 16
 /// folders are not loaded.
 pub fn load_packages<F: Folder>(
     alloc: Global,

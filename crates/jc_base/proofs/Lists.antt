@@ -33,7 +33,7 @@ slice_get-below [] n x e = absurd cc
 slice_get-below (y ∷ ys) zero x e = omega arith
 slice_get-below (y ∷ ys) (suc n) x e = omega (arith, slice_get-below ys n x e)
 
--- what stands in the first of two lists, and behind it
+-- what stands in the first of two lists, and after it
 pub slice_get-front : {X : Type 0} (xs ys : List X) (n : ℕ) (x : X) → slice_get xs n ≡ Some x → slice_get (xs ++ ys) n ≡ Some x
 slice_get-front [] ys n x e = absurd cc
 slice_get-front (y ∷ xs) ys zero x e = e

@@ -2,7 +2,8 @@
 use Rattle.std.specs.Prelude.{◌≡◌, ℕ, zero, suc, ◌<◌, max, Bool, false, if◌then◌else◌, List, [], ◌∷◌, length, Option, Some, None, All, slice_get, slice_index}
 use Rattle.jc_base.specs.declared.record.ClassRec.{ClassRec}
 
--- the records of all classes and interfaces by number, and by role the class of the machine's own objects: role 0 is class object, role 1 class throwable
+-- the records of all classes and interfaces by number, and by role the class of the machine's own
+-- objects: role 0 is class object, role 1 class throwable
 pub record ClassTable : Type 0 where
   pub records : List ClassRec
   pub roles : List ℕ

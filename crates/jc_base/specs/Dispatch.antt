@@ -44,7 +44,9 @@ nearest_of t home c = find (λ a. package_of t a == home) (chain t c)
 unfoldable pub visible_in : ClassTable → ℕ → ℕ → List ℕ
 visible_in t home c = list_of (visible_of t) (nearest_of t home c)
 
--- the method that an object of class r runs for a token of class c: a public token is looked up in the public list of r, a package-visible one in the list of the nearest class of the package of c among r and its superclasses
+-- the method that an object of class r runs for a token of class c: a public token is looked up in
+-- the public list of r, a package-visible one in the list of the nearest class of the package of c
+-- among r and its superclasses
 unfoldable pub dispatched : ClassTable → ℕ → ℕ → ℕ → Option ℕ
 dispatched t c token r = if nat_lt token 128 then slice_get (public_of t r) token else slice_get (visible_in t (package_of t c) r) (token - 128)
 
@@ -52,7 +54,9 @@ dispatched t c token r = if nat_lt token 128 then slice_get (public_of t r) toke
 abbrev pub HasBody : List MethodRec → ℕ → Type 0
 HasBody methods n = IsSomeAnd (slice_get methods n) (λ m. m.is_abstract ≡ false)
 
--- a class of which objects can be made: no entry of its dispatch lists is abstract, which are its public list and, for each package that has the class or a superclass of it, the package-visible list of the nearest such class
+-- a class of which objects can be made: no entry of its dispatch lists is abstract, which are its
+-- public list and, for each package that has the class or a superclass of it, the package-visible
+-- list of the nearest such class
 pub record IsConcrete (t : ClassTable) (methods : List MethodRec) (c : ℕ) : Type 0 where
   pub class : IsClass t c
   pub public : All (HasBody methods) (public_of t c)

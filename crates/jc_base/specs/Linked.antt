@@ -55,7 +55,7 @@ pub record IsCodeLength (len : ℕ) : Type 0 where
 pub record IsMethod (infos : List (List ℕ)) (pools : List (List Member)) (t : ClassTable) (m : MethodRec) : Type 0 where
   pub home : m.package < length infos
   pub class : m.class < length t.records
-  -- its argument words are those of its signature, behind the receiver where it is not static
+  -- its argument words are those of its signature, after the receiver where it is not static
   pub words : m.nargs ≡ length m.sig.args + receiver_words m.is_static
   pub registers : m.nargs + m.max_locals ≤ 255
   pub arguments : All (IsDeclared t) m.sig.args
@@ -89,7 +89,12 @@ visible_from t home p = if package_of t p == home then visible_of t p else []
 pub record IsImplemented (t : ClassTable) (methods : List MethodRec) (public : List ℕ) (i : Iface) : Type 0 where
   pub number : i.class < length t.records
   pub interface : is_interface t i.class ≡ true
-  pub serves : All (λ m. m.class ≡ i.class → option_and_then (signature_at methods public) (slice_get i.tokens m.token) ≡ Some m.sig) methods
+  pub serves :
+      All
+      (λ m.
+      m.class ≡ i.class
+      → option_and_then (signature_at methods public) (slice_get i.tokens m.token)
+      ≡ Some m.sig) methods
 
 -- an interface that an interface extends: it serves no method, so it lists no token
 pub record IsExtended (t : ClassTable) (i : Iface) : Type 0 where
@@ -122,7 +127,8 @@ pub record IsLinkedClass (packages : ℕ) (t : ClassTable) (methods : List Metho
 abbrev pub AreLinkedClasses : ℕ → ClassTable → List MethodRec → Type 0
 AreLinkedClasses packages t methods = (c : ℕ) → IfSome (slice_get t.records c) (IsLinkedClass packages t methods c)
 
--- the method that an object of class r runs for a token of class c, whose own entry there is n: it is there, has the signature of n, and may stand in a list of r
+-- the method that an object of class r runs for a token of class c, whose own entry there is n: it
+-- is there, has the signature of n, and may stand in a list of r
 pub record Dispatches (t : ClassTable) (methods : List MethodRec) (c token r n : ℕ) : Type 0 where
   pub method : ℕ
   pub found : dispatched t c token r ≡ Some method

@@ -11,7 +11,8 @@ use Rattle.jc_base.specs.Cell.{width, AreElementsOf}
 use Rattle.jc_base.specs.Dispatch.{IsConcrete}
 use Rattle.jc_base.specs.Linked.{IsMember, AreLinkedClasses, IsMethod, IsStatic, AreSlots, list_at}
 
--- the lists as which a world is seen: by package the Method info and the members by pool number; the classes with the roles, the methods, the static fields and the initial arrays of all packages
+-- the lists as which a world is seen: by package the Method info and the members by pool number;
+-- the classes with the roles, the methods, the static fields and the initial arrays of all packages
 pub record Linked : Type 0 where
   pub infos : List (List ℕ)
   pub pools : List (List Member)

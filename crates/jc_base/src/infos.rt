@@ -27,7 +27,7 @@ impl<'a> Infos<'a> {
         }
     }
 
-    /// Appends the info of the next package. After want of memory the list is as before.
+    /// Appends the info of the next package. Out of memory, the list is as before.
     pub fn push(&mut self, info: &'a [u8]) -> Result<(), AllocError>
         ensures ok { OnOk result (self.new ≡ self.old ++ info.now ∷ []) }
         ensures err { OnErr result (self.new ≡ self.old) }

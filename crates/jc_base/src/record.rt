@@ -76,7 +76,7 @@ pub struct MethodRec {
     pub sig: Sig,
     /// The argument words, with the receiver.
     pub nargs: u8,
-    /// The registers behind the arguments.
+    /// The registers after the arguments.
     pub max_locals: u8,
     pub max_stack: u8,
     /// The offset of its code in the Method info of its package.

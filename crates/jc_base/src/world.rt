@@ -45,8 +45,12 @@ impl<'a> World<'a> {
         statics: Statics,
         arrays: Arrays,
     ) -> World<'a>
-        requires { IsWorld (record { infos = infos; pools = pools; classes = classes; methods = methods; statics = statics; arrays = arrays }) }
-        ensures { result ≡ record { infos = infos.entry; pools = pools; classes = classes; methods = methods; statics = statics; arrays = arrays } }
+        requires { IsWorld
+            (record
+            { infos = infos; pools = pools; classes = classes; methods = methods; statics = statics; arrays = arrays }) }
+        ensures { result
+            ≡ record
+            { infos = infos.entry; pools = pools; classes = classes; methods = methods; statics = statics; arrays = arrays } }
     {
         World {
             infos,

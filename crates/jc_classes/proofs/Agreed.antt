@@ -7,15 +7,15 @@ use Rattle.std.proofs.lemmas.List.{take_all}
 use Rattle.jc_base.specs.declared.record.MethodRec.{MethodRec}
 use Rattle.jc_base.specs.declared.record.ClassRec.{ClassRec}
 use Rattle.jc_base.specs.Class.{ClassTable, AreClasses}
-use Rattle.jc_names.specs.declared.fault.LinkFault.{LinkFault}
-use Rattle.jc_names.specs.declared.fault.LinkFault.TheVariants.{InstanceLong}
-use Rattle.jc_names.specs.declared.named.NamedClass.{NamedClass}
-use Rattle.jc_names.specs.Fault.{place_of}
-use Rattle.jc_names.specs.FirstFault.{IsFirst, AllEmpty}
-use Rattle.jc_names.proofs.Faultless.{faultless_at}
-use Rattle.jc_names.proofs.FirstTold.{IsTold, things-told, step, last, refused-first, accepted-empty}
+use Rattle.jc_resolve.specs.declared.fault.LinkFault.{LinkFault}
+use Rattle.jc_resolve.specs.declared.fault.LinkFault.TheVariants.{InstanceLong}
+use Rattle.jc_resolve.specs.declared.named.NamedClass.{NamedClass}
+use Rattle.jc_resolve.specs.Fault.{place_of}
+use Rattle.jc_resolve.specs.FirstFault.{IsFirst, AllEmpty}
+use Rattle.jc_resolve.proofs.Faultless.{faultless_at}
+use Rattle.jc_resolve.proofs.FirstTold.{IsTold, things-told, step, last, refused-first, accepted-empty}
 use Rattle.jc_classes.specs.declared.layout.Layout.{Layout}
-use Rattle.jc_lineage.specs.Outline.{outline}
+use Rattle.jc_hierarchy.specs.Outline.{outline}
 use Rattle.jc_classes.specs.Layout.{instance_cells, layouts}
 use Rattle.jc_classes.specs.Conditions.{hole_fault, entries_in, override_fault, replacements_in, interface_fault, implementations_in, long_fault, class_numbers, long_instances, conditions}
 use Rattle.jc_classes.specs.Tables.{records_from, classes_agree}

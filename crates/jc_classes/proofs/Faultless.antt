@@ -9,9 +9,9 @@ use Rattle.jc_base.specs.declared.record.Iface.{Iface}
 use Rattle.jc_base.specs.declared.record.MethodRec.{MethodRec}
 use Rattle.jc_base.specs.Class.{ClassTable}
 use Rattle.jc_base.specs.Dispatch.{signature_of, signature_at}
-use Rattle.jc_names.specs.declared.fault.LinkFault.TheVariants.{Hole, OverrideType, InterfaceType}
-use Rattle.jc_names.specs.declared.named.NamedClass.{NamedClass}
-use Rattle.jc_names.proofs.Faultless.{faultless_first, both_faultless, flat_faultless}
+use Rattle.jc_resolve.specs.declared.fault.LinkFault.TheVariants.{Hole, OverrideType, InterfaceType}
+use Rattle.jc_resolve.specs.declared.named.NamedClass.{NamedClass}
+use Rattle.jc_resolve.proofs.Faultless.{faultless_first, both_faultless, flat_faultless}
 use Rattle.jc_classes.specs.Layout.{public_entries, visible_entries}
 use Rattle.jc_classes.specs.Signatures.{method_in, signature_in, same_signature}
 use Rattle.jc_classes.specs.Conditions.{Entry, entries_from, entries_in, may_stand, hole_fault, holes, Replacement, replacements_from, replacements_in, override_fault, overrides, layout_above, visible_above, Implementation, implemented_by, implementations_in, interface_fault, serves_all, unserved}

@@ -12,8 +12,8 @@ use Rattle.jc_base.proofs.Chains.{next_on_chain}
 use Rattle.jc_base.proofs.Climbs.{chain-length, chain-front, parent_of-class}
 use Rattle.jc_classes.specs.Known.{AreKnown}
 use Rattle.jc_classes.proofs.Climbs.{chain_from, chain_step, climbed_whole, head_same, tail_same, no_end}
-use Rattle.jc_names.specs.declared.named.NamedClass.{NamedClass}
-use Rattle.jc_names.specs.Named.{IsSized}
+use Rattle.jc_resolve.specs.declared.named.NamedClass.{NamedClass}
+use Rattle.jc_resolve.specs.Named.{IsSized}
 use Rattle.jc_classes.specs.declared.layout.Layout.{Layout}
 use Rattle.jc_classes.specs.Layout.{layouts, of_class, own_of, instance_cells, layout_of, layout_from, above_or_nothing, at_home}
 use Rattle.jc_classes.specs.Slots.{slot_at, IsFilled, AreSlots, IsMade, Keeps, IsClimb}

@@ -8,11 +8,11 @@ use Rattle.jc_base.proofs.Lists.{IfSome-is}
 use Rattle.jc_base.specs.declared.record.Iface.{Iface}
 use Rattle.jc_base.specs.declared.record.MethodRec.{MethodRec}
 use Rattle.jc_base.specs.Class.{ClassTable}
-use Rattle.jc_names.specs.declared.fault.LinkFault.{LinkFault}
-use Rattle.jc_names.specs.declared.fault.LinkFault.TheVariants.{InterfaceType}
-use Rattle.jc_names.specs.declared.named.NamedClass.{NamedClass}
-use Rattle.jc_names.specs.Fault.{place_of}
-use Rattle.jc_names.specs.FirstFault.{least_from, lesser}
+use Rattle.jc_resolve.specs.declared.fault.LinkFault.{LinkFault}
+use Rattle.jc_resolve.specs.declared.fault.LinkFault.TheVariants.{InterfaceType}
+use Rattle.jc_resolve.specs.declared.named.NamedClass.{NamedClass}
+use Rattle.jc_resolve.specs.Fault.{place_of}
+use Rattle.jc_resolve.specs.FirstFault.{least_from, lesser}
 use Rattle.jc_classes.specs.Layout.{public_entries}
 use Rattle.jc_classes.specs.Conditions.{Implementation, serves, serves_all, interface_fault, implemented_by, implementations_in}
 use Rattle.jc_classes.specs.Groups.{AreGroups, methods_of}

@@ -8,9 +8,9 @@ use Rattle.jc_base.specs.declared.record.ClassRec.{ClassRec}
 use Rattle.jc_base.specs.Class.{ClassTable, IsClass, AreClasses, EndsWithObject, chain, chain_over, list_of, last, object, parent_of, parent_in_record, is_interface, is_interface_record}
 use Rattle.jc_base.specs.Order.{is_on_chain}
 use Rattle.jc_base.specs.Dispatch.{package_of, of_record}
-use Rattle.jc_names.specs.declared.named.NamedClass.{NamedClass}
+use Rattle.jc_resolve.specs.declared.named.NamedClass.{NamedClass}
 use Rattle.jc_classes.specs.declared.layout.Layout.{Layout}
-use Rattle.jc_lineage.specs.Outline.{outline, outlined}
+use Rattle.jc_hierarchy.specs.Outline.{outline, outlined}
 use Rattle.jc_classes.specs.Layout.{layout_of}
 use Rattle.jc_classes.specs.Tables.{record_from, records_from, class_tables}
 

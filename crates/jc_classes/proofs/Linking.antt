@@ -21,11 +21,11 @@ use Rattle.jc_base.proofs.Chains.{next_on_chain}
 use Rattle.jc_base.proofs.Climbs.{parent_of-class}
 use Rattle.jc_base.proofs.Subtypes.{Below-from_is_below}
 use Rattle.jc_base.proofs.Lists.{All-slice_get, IfSome-is, slice_get-below}
-use Rattle.jc_names.specs.declared.named.NamedClass.{NamedClass}
-use Rattle.jc_names.specs.Named as named
-use Rattle.jc_names.specs.FirstFault.{AllEmpty}
-use Rattle.jc_lineage.specs.Lines.{HaveLines}
-use Rattle.jc_lineage.specs.Outline.{outline, outlined}
+use Rattle.jc_resolve.specs.declared.named.NamedClass.{NamedClass}
+use Rattle.jc_resolve.specs.Named as named
+use Rattle.jc_resolve.specs.FirstFault.{AllEmpty}
+use Rattle.jc_hierarchy.specs.Lines.{HaveLines}
+use Rattle.jc_hierarchy.specs.Outline.{outline, outlined}
 use Rattle.jc_classes.specs.Known.{AreKnown}
 use Rattle.jc_classes.specs.declared.layout.Layout.{Layout}
 use Rattle.jc_classes.specs.Entries.{overlaid, overlaid_at, reach}

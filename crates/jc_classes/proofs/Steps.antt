@@ -8,8 +8,8 @@ use Rattle.std.proofs.lemmas.Bool.{eq-eqb}
 use Rattle.jc_base.specs.Class.{ClassTable, chain, list_of}
 use Rattle.jc_base.specs.Dispatch.{package_of}
 use Rattle.jc_base.proofs.Climbs.{chain-front}
-use Rattle.jc_names.specs.declared.named.NamedClass.{NamedClass}
-use Rattle.jc_names.specs.declared.named.Table.{Table}
+use Rattle.jc_resolve.specs.declared.named.NamedClass.{NamedClass}
+use Rattle.jc_resolve.specs.declared.named.Table.{Table}
 use Rattle.jc_classes.specs.declared.layout.Layout.{Layout}
 use Rattle.jc_classes.specs.Entries.{entries_of, overlaid}
 use Rattle.jc_classes.specs.Layout.{public_table, visible_table, own_of, home_run, public_entries, visible_entries, instance_cells, layout_of, layout_from, above_or_nothing, at_home}

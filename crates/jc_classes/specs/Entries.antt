@@ -2,9 +2,9 @@
 use Rattle.std.specs.Prelude.{ℕ, ◌+◌, ◌-◌, max, nat_lt, if◌then◌else◌, List, [], ◌∷◌, length, map, Option, None, slice_get}
 use Rattle.std.specs.Option.{option_or, option_flatten}
 use Rattle.std.specs.List.{range_with_len}
-use Rattle.jc_names.specs.declared.named.Table.{Table}
+use Rattle.jc_resolve.specs.declared.named.Table.{Table}
 
--- the token behind the last entry of a table; a table without entries reaches none
+-- the token after the last entry of a table; a table without entries reaches none
 abbrev pub reach_from : ℕ → List (Option ℕ) → ℕ
 reach_from base [] = 0
 reach_from base (entry ∷ entries) = base + length (entry ∷ entries)
@@ -16,7 +16,7 @@ reach table = reach_from table.base table.entries
 unfoldable pub named_by : Table → ℕ → Option ℕ
 named_by table token = if nat_lt token table.base then None else option_flatten (slice_get table.entries (token - table.base))
 
--- the token behind the last one that any of the tables covers
+-- the token after the last one that any of the tables covers
 abbrev pub reach_of : List Table → ℕ
 reach_of [] = 0
 reach_of (table ∷ tables) = max (reach_of tables) (reach table)
@@ -26,7 +26,9 @@ abbrev pub method_named : List Table → ℕ → Option ℕ
 method_named [] token = None
 method_named (table ∷ tables) token = option_or (named_by table token) (method_named tables token)
 
--- the dispatch list of a class by the tables of the class itself, of its superclass, of the superclass of that one and so on: for each token the method of the nearest class whose table names one; an entry is open where none does
+-- the dispatch list of a class by the tables of the class itself, of its superclass, of the
+-- superclass of that one and so on: for each token the method of the nearest class whose table
+-- names one; an entry is open where none does
 unfoldable pub entries_of : List Table → List (Option ℕ)
 entries_of tables = map (method_named tables) (range_with_len 0 (reach_of tables))
 

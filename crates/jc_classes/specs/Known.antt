@@ -2,8 +2,8 @@
 use Rattle.std.specs.Prelude.{◌≡◌, ◌≤◌, ◌<◌, List, length, All}
 use Rattle.jc_base.specs.declared.record.Iface.{Iface}
 use Rattle.jc_base.specs.Class.{ClassTable}
-use Rattle.jc_names.specs.declared.named.NamedClass.{NamedClass}
-use Rattle.jc_names.specs.Named.{IsSized}
+use Rattle.jc_resolve.specs.declared.named.NamedClass.{NamedClass}
+use Rattle.jc_resolve.specs.Named.{IsSized}
 
 -- classes by number, of which the table has the superclasses
 pub record AreKnown (t : ClassTable) (classes : List NamedClass) : Type 0 where

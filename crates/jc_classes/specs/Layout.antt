@@ -4,8 +4,8 @@ use Rattle.std.specs.List.{range_with_len, take_while}
 use Rattle.jc_base.specs.declared.ty.Ty.{Ty}
 use Rattle.jc_base.specs.Class.{ClassTable, chain}
 use Rattle.jc_base.specs.Dispatch.{package_of}
-use Rattle.jc_names.specs.declared.named.Table.{Table}
-use Rattle.jc_names.specs.declared.named.NamedClass.{NamedClass}
+use Rattle.jc_resolve.specs.declared.named.Table.{Table}
+use Rattle.jc_resolve.specs.declared.named.NamedClass.{NamedClass}
 use Rattle.jc_classes.specs.declared.layout.Layout.{Layout}
 use Rattle.jc_classes.specs.Entries.{entries_of, overlaid}
 

@@ -2,7 +2,7 @@
 use Rattle.std.specs.Prelude.{◌≡◌, ℕ, ◌≤◌, ◌<◌, ◌++◌, List, length, Option, Some, IfSome, IsSome, slice_get}
 use Rattle.std.specs.Option.{option_flatten}
 use Rattle.jc_base.specs.Class.{ClassTable, chain, list_of}
-use Rattle.jc_names.specs.declared.named.NamedClass.{NamedClass}
+use Rattle.jc_resolve.specs.declared.named.NamedClass.{NamedClass}
 use Rattle.jc_classes.specs.declared.layout.Layout.{Layout}
 use Rattle.jc_classes.specs.Layout.{layout_of}
 

@@ -1,16 +1,17 @@
--- The class table of packages: each class with its dispatch lists, its cells and the interfaces that it implements, each interface with those that it extends (JCVM 2.2, section 6.8).
+-- The class table of packages: each class with its dispatch lists, its cells and the interfaces
+-- that it implements, each interface with those that it extends (JCVM 2.2, section 6.8).
 use Rattle.std.specs.Prelude.{◌≡◌, ℕ, ◌+◌, List, [], ◌∷◌, All, length, filter_map, flat_map, Option, Result, Ok, Err}
 use Rattle.jc_base.specs.declared.record.ClassRec.{ClassRec}
 use Rattle.jc_base.specs.declared.record.MethodRec.{MethodRec}
 use Rattle.jc_base.specs.Class.{ClassTable, object}
 use Rattle.jc_base.specs.Linked.{AreLinkedClasses}
-use Rattle.jc_names.specs.Named.{IsNamedClass}
-use Rattle.jc_names.specs.declared.fault.LinkFault.{LinkFault}
-use Rattle.jc_names.specs.declared.fault.LinkEnd.{LinkEnd}
-use Rattle.jc_names.specs.declared.fault.LinkEnd.TheVariants.{Fault, Memory}
-use Rattle.jc_names.specs.declared.named.NamedClass.{NamedClass}
-use Rattle.jc_names.specs.Fault.{place_of}
-use Rattle.jc_names.specs.FirstFault.{◌>>=◌, least_of, refused, IsFirst, AllEmpty}
+use Rattle.jc_resolve.specs.Named.{IsNamedClass}
+use Rattle.jc_resolve.specs.declared.fault.LinkFault.{LinkFault}
+use Rattle.jc_resolve.specs.declared.fault.LinkEnd.{LinkEnd}
+use Rattle.jc_resolve.specs.declared.fault.LinkEnd.TheVariants.{Fault, Memory}
+use Rattle.jc_resolve.specs.declared.named.NamedClass.{NamedClass}
+use Rattle.jc_resolve.specs.Fault.{place_of}
+use Rattle.jc_resolve.specs.FirstFault.{◌>>=◌, least_of, refused, IsFirst, AllEmpty}
 use Rattle.jc_classes.specs.declared.layout.Layout.{Layout}
 use Rattle.jc_classes.specs.Layout.{layout_of}
 use Rattle.jc_classes.specs.Conditions.{hole_fault, entries_in, override_fault, replacements_in, interface_fault, implementations_in, long_fault, class_numbers, conditions}
@@ -58,7 +59,7 @@ abbrev pub Tells : ClassTable → List NamedClass → List MethodRec → Result 
 Tells t classes methods (Ok table) = (table ≡ class_tables t classes) × AllEmpty (conditions t classes methods)
 Tells t classes methods (Err fault) = IsFirst place_of (conditions t classes methods) fault
 
--- the same of what linking ends with; want of memory tells nothing
+-- the same of what linking ends with; out of memory tells nothing
 abbrev pub TellsEnd : ClassTable → List NamedClass → List MethodRec → Result ClassTable LinkEnd → Type 0
 TellsEnd t classes methods (Ok table) = Tells t classes methods (Ok table)
 TellsEnd t classes methods (Err (Fault fault)) = Tells t classes methods (Err fault)

@@ -3,7 +3,7 @@ ghost use Rattle.jc_classes.specs.Tables.{methods_listed, record_from};
 
 use crate::layout::{Entries, Layout};
 use jc_base::{ClassRec, Dispatch, Iface, Ifaces, Items};
-use jc_names::NamedClass;
+use jc_resolve::NamedClass;
 use std::alloc::{AllocError, Global};
 
 /// The methods of a dispatch list without open entries.

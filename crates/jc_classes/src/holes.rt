@@ -2,8 +2,8 @@ ghost use Rattle.std.specs.Prelude.{ℕ, false, slice_index_or, ◌≡◌, ◌�
 ghost use Rattle.std.specs.List.{range_with_len};
 ghost use Rattle.jc_base.specs.Class.{chain, list_of};
 ghost use Rattle.jc_base.specs.Order.{is_on_chain};
-ghost use Rattle.jc_names.specs.Fault.{place_of};
-ghost use Rattle.jc_names.specs.FirstFault.{least_of, least_from, refused};
+ghost use Rattle.jc_resolve.specs.Fault.{place_of};
+ghost use Rattle.jc_resolve.specs.FirstFault.{least_of, least_from, refused};
 ghost use Rattle.jc_classes.specs.Known.{AreKnown};
 ghost use Rattle.jc_classes.specs.Layout.{layout_of, layouts};
 ghost use Rattle.jc_classes.specs.Signatures.{method_in};
@@ -14,7 +14,7 @@ use crate::layout::Layout;
 use crate::signatures::method_in;
 use crate::slots::parent;
 use jc_base::{Classes, MethodRec, Methods};
-use jc_names::{LinkFault, NamedClasses, lesser, refuse};
+use jc_resolve::{LinkFault, NamedClasses, lesser, refuse};
 
 /// A class with a mark for each class that is one of its superclasses or the class itself.
 #[derive(Clone, Copy)]
@@ -76,7 +76,9 @@ impl<'a> Line<'a> {
     #[tactic(auto, using(crate::proofs::Folds::class_known), unfolding(crate::specs::Conditions::hole_fault))]
     fn hole_fault(self, methods: &Methods, token: u16, entry: Option<u16>) -> Option<LinkFault>
         requires known { All (λ m. m.class < length self.lineage.now.records) methods.now }
-        ensures { result ≡ hole_fault self.entry.lineage.now methods.now (record { class = self.entry.class; token = token; method = entry }) }
+        ensures { result
+            ≡ hole_fault self.entry.lineage.now methods.now
+            (record { class = self.entry.class; token = token; method = entry }) }
     {
         let stands = match method_in(methods, entry) {
             Some(method) => self.may_hold(method),
@@ -100,7 +102,10 @@ impl<'a> Line<'a> {
     ) -> Option<LinkFault>
         requires known { All (λ m. m.class < length self.lineage.now.records) methods.now }
         requires few { first + length list.now ≤ 65535 }
-        ensures { result ≡ least_from place_of least (hole_fault self.entry.lineage.now methods.now) (entries_from self.entry.class first list.now) }
+        ensures { result
+            ≡ least_from place_of least
+            (hole_fault self.entry.lineage.now methods.now)
+            (entries_from self.entry.class first list.now) }
     {
         let mut least = least;
         let mut token = first;
@@ -127,7 +132,10 @@ fn holes_of(
     requires known { All (λ m. m.class < length lineage.now.records) methods.now }
     requires few { IsShort layout.now }
     ensures room { length marks.new ≡ length lineage.now.records }
-    ensures is { result ≡ least_from place_of least (hole_fault lineage.now methods.now) (entries_from c 0 layout.now.public ++ entries_from c 128 layout.now.visible) }
+    ensures is { result
+        ≡ least_from place_of least
+        (hole_fault lineage.now methods.now)
+        (entries_from c 0 layout.now.public ++ entries_from c 128 layout.now.visible) }
 {
     mark(lineage, c, marks);
     let line = Line {
@@ -153,7 +161,11 @@ pub(crate) fn no_holes(
     requires layouts { all.now ≡ layouts lineage.now classes.now }
     requires methods { All (λ m. m.class < length lineage.now.records) methods.now }
     requires room { length marks.now ≡ length lineage.now.records }
-    ensures { result ≡ refused (least_of place_of (hole_fault lineage.now methods.now) (flat_map (entries_in lineage.now classes.now) (class_numbers classes.now))) }
+    ensures { result
+        ≡ refused
+        (least_of place_of
+        (hole_fault lineage.now methods.now)
+        (flat_map (entries_in lineage.now classes.now) (class_numbers classes.now))) }
 {
     let mut least = None;
     'classes: for c in 0..classes.len() {

@@ -1,14 +1,14 @@
 ghost use Rattle.std.specs.Prelude.{◌≡◌, nat_lt, if◌then◌else◌, Some, None};
-ghost use Rattle.jc_names.specs.declared.fault.LinkFault.TheVariants.{InstanceLong};
-ghost use Rattle.jc_names.specs.Fault.{place_of};
-ghost use Rattle.jc_names.specs.FirstFault.{least_of, refused};
+ghost use Rattle.jc_resolve.specs.declared.fault.LinkFault.TheVariants.{InstanceLong};
+ghost use Rattle.jc_resolve.specs.Fault.{place_of};
+ghost use Rattle.jc_resolve.specs.FirstFault.{least_of, refused};
 ghost use Rattle.jc_classes.specs.Known.{AreKnown};
 ghost use Rattle.jc_classes.specs.Layout.{layouts};
 ghost use Rattle.jc_classes.specs.Conditions.{long_fault, class_numbers};
 
 use crate::layout::Layout;
 use jc_base::Classes;
-use jc_names::{LinkFault, NamedClasses, lesser, refuse};
+use jc_resolve::{LinkFault, NamedClasses, lesser, refuse};
 
 /// What is wrong with an instance of so many cells.
 fn long_fault(c: u16, cells: u32) -> Option<LinkFault>

@@ -1,8 +1,8 @@
 ghost use Rattle.std.specs.Prelude.{◌≡◌, ◌≤◌, ◌<◌, ◌+◌, ◌==◌, All, Some, length, map, flat_map};
 ghost use Rattle.std.specs.List.{list_all};
 ghost use Rattle.jc_base.specs.declared.record.Iface.{Iface};
-ghost use Rattle.jc_names.specs.Fault.{place_of};
-ghost use Rattle.jc_names.specs.FirstFault.{least_of, least_from, refused};
+ghost use Rattle.jc_resolve.specs.Fault.{place_of};
+ghost use Rattle.jc_resolve.specs.FirstFault.{least_of, least_from, refused};
 ghost use Rattle.jc_classes.specs.Known.{AreInRange, AreKnown};
 ghost use Rattle.jc_classes.specs.Layout.{layouts};
 ghost use Rattle.jc_classes.specs.Conditions.{Implementation, serves, interface_fault, implemented_by, implementations_in, class_numbers};
@@ -13,7 +13,7 @@ use crate::layout::Layout;
 use crate::overlay::entry_at;
 use crate::signatures::{method_in, same_sig};
 use jc_base::{Classes, Iface, MethodRec, Methods};
-use jc_names::{LinkFault, NamedClass, NamedClasses, lesser, refuse};
+use jc_resolve::{LinkFault, NamedClass, NamedClasses, lesser, refuse};
 
 /// Whether a class has a public method of its signature at the token that serves a method of an interface.
 fn serves(methods: &Methods, public: &[Option<u16>], iface: &Iface, method: &MethodRec) -> bool
@@ -76,7 +76,11 @@ fn unserved_in(
 ) -> Option<LinkFault>
     requires grouped { AreGroups (length groups.now) methods.now groups.now }
     requires known { All (λ (i : Iface). i.class < length groups.now) interfaces.now }
-    ensures { result ≡ least_from place_of least (interface_fault methods.now) (map (λ (i : Iface). record { class = c; public = public.now; iface = i }) interfaces.now) }
+    ensures { result
+        ≡ least_from place_of least (interface_fault methods.now)
+        (map
+        (λ (i : Iface). record { class = c; public = public.now; iface = i })
+        interfaces.now) }
 {
     let mut least = least;
     'interfaces: for iface in interfaces {
@@ -96,7 +100,11 @@ fn unserved_by(
 ) -> Option<LinkFault>
     requires grouped { AreGroups (length groups.now) methods.now groups.now }
     requires known { All (λ (i : Iface). i.class < length groups.now) class.now.interfaces }
-    ensures { result ≡ least_from place_of least (interface_fault methods.now) (map (λ (i : Iface). record { class = c; public = public.now; iface = i }) (implemented_by (Some class.now))) }
+    ensures { result
+        ≡ least_from place_of least (interface_fault methods.now)
+        (map
+        (λ (i : Iface). record { class = c; public = public.now; iface = i })
+        (implemented_by (Some class.now))) }
 {
     if class.interface {
         least
@@ -125,7 +133,10 @@ pub(crate) fn interfaces_served(
     requires layouts { all.now ≡ layouts lineage.now classes.now }
     requires grouped { AreGroups (length classes.now) methods.now groups.now }
     requires interfaces { AreInRange classes.now }
-    ensures { result ≡ refused (least_of place_of (interface_fault methods.now) (flat_map (implementations_in lineage.now classes.now) (class_numbers classes.now))) }
+    ensures { result
+        ≡ refused
+        (least_of place_of (interface_fault methods.now)
+        (flat_map (implementations_in lineage.now classes.now) (class_numbers classes.now))) }
 {
     let mut least = None;
     'classes: for c in 0..classes.len() {

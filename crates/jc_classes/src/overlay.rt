@@ -1,15 +1,15 @@
 ghost use Rattle.std.specs.Prelude.{◌≡◌, ◌≤◌, ◌<◌, ◌^◌, length, max, map, IfOk, slice_get};
 ghost use Rattle.std.specs.Option.{option_or, option_flatten};
 ghost use Rattle.std.specs.List.{range_with_len};
-ghost use Rattle.jc_names.specs.Named.{IsByteTable};
+ghost use Rattle.jc_resolve.specs.Named.{IsByteTable};
 ghost use Rattle.jc_classes.specs.Entries.{reach, named_by, overlaid_at, overlaid};
 
 use crate::layout::Entries;
 use jc_base::Items;
-use jc_names::Table;
+use jc_resolve::Table;
 use std::alloc::{AllocError, Global};
 
-/// The token behind the last entry of a table, and 0 where it has none.
+/// The token after the last entry of a table, and 0 where it has none.
 #[tactic(auto, unfolding(crate::specs::Entries::reach))]
 fn reach(table: &Table) -> usize
     requires few { length table.now.entries ≤ 255 }

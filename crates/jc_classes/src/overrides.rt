@@ -1,7 +1,7 @@
 ghost use Rattle.std.specs.Prelude.{◌≡◌, ◌≤◌, ◌<◌, ◌+◌, ◌++◌, length, flat_map, option_map};
 ghost use Rattle.jc_base.specs.Class.{parent_of};
-ghost use Rattle.jc_names.specs.Fault.{place_of};
-ghost use Rattle.jc_names.specs.FirstFault.{least_of, least_from, refused};
+ghost use Rattle.jc_resolve.specs.Fault.{place_of};
+ghost use Rattle.jc_resolve.specs.FirstFault.{least_of, least_from, refused};
 ghost use Rattle.jc_classes.specs.Known.{AreKnown};
 ghost use Rattle.jc_classes.specs.Layout.{layout_of, layouts};
 ghost use Rattle.jc_classes.specs.Conditions.{Replacement, override_fault, replacements_from, replacements_in, class_numbers};
@@ -10,7 +10,7 @@ use crate::layout::Layout;
 use crate::signatures::same_signature;
 use crate::slots::{at_home, parent, public_above, visible_above};
 use jc_base::{Classes, Methods};
-use jc_names::{LinkFault, NamedClasses, lesser, refuse};
+use jc_resolve::{LinkFault, NamedClasses, lesser, refuse};
 
 /// What is wrong with an entry that replaces an inherited one.
 #[tactic(auto, unfolding(crate::specs::Conditions::override_fault))]
@@ -107,7 +107,10 @@ pub(crate) fn overrides_agree(
 ) -> Result<(), LinkFault>
     requires known { AreKnown lineage.now classes.now }
     requires layouts { all.now ≡ layouts lineage.now classes.now }
-    ensures { result ≡ refused (least_of place_of (override_fault methods.now) (flat_map (replacements_in lineage.now classes.now) (class_numbers classes.now))) }
+    ensures { result
+        ≡ refused
+        (least_of place_of (override_fault methods.now)
+        (flat_map (replacements_in lineage.now classes.now) (class_numbers classes.now))) }
 {
     let mut least = None;
     'classes: for c in 0..classes.len() {

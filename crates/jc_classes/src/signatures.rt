@@ -103,7 +103,10 @@ fn is_same_entry(a: Option<u16>, b: Option<u16>) -> bool
 }
 
 fn are_alike(a: Option<&MethodRec>, b: Option<&MethodRec>) -> bool
-    ensures { result ≡ same_signature (option_map (λ m. m.sig) (option_map (λ m. m.now) a.entry)) (option_map (λ m. m.sig) (option_map (λ m. m.now) b.entry)) }
+    ensures { result
+        ≡ same_signature
+        (option_map (λ m. m.sig) (option_map (λ m. m.now) a.entry))
+        (option_map (λ m. m.sig) (option_map (λ m. m.now) b.entry)) }
 {
     match a {
         Some(m) => match b {

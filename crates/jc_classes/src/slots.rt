@@ -2,7 +2,7 @@ ghost use Rattle.std.specs.Prelude.{◌≡◌, ◌≤◌, ◌<◌, ◌∷◌, �
 ghost use Rattle.std.specs.Option.{option_map, option_and_then};
 ghost use Rattle.jc_base.specs.Class.{chain, list_of, parent_of};
 ghost use Rattle.jc_base.specs.Dispatch.{package_of};
-ghost use Rattle.jc_names.specs.Named.{IsSized};
+ghost use Rattle.jc_resolve.specs.Named.{IsSized};
 ghost use Rattle.jc_classes.specs.Known.{AreKnown};
 ghost use Rattle.jc_classes.specs.Layout.{layout_of, layouts, layout_from, above_or_nothing, at_home};
 ghost use Rattle.jc_classes.specs.Slots.{IsFilled, AreSlots, IsMade, IsClimb, slot_at};
@@ -10,7 +10,7 @@ ghost use Rattle.jc_classes.specs.Slots.{IsFilled, AreSlots, IsMade, IsClimb, sl
 use crate::layout::Layout;
 use crate::overlay::overlay;
 use jc_base::Classes;
-use jc_names::{NamedClass, NamedClasses};
+use jc_resolve::{NamedClass, NamedClasses};
 use std::alloc::{AllocError, Global};
 
 /// The classes from one upwards whose lists are not yet made, the lowest first, and the class above them.

@@ -1,7 +1,7 @@
 ghost use Rattle.std.specs.Prelude.{◌≡◌, ◌<◌, All, IfOk, [], length, false};
-ghost use Rattle.jc_names.specs.Due.{IsDue};
-ghost use Rattle.jc_lineage.specs.Outline.{outline};
-ghost use Rattle.jc_lineage.specs.Lines.{HaveLines};
+ghost use Rattle.jc_resolve.specs.Due.{IsDue};
+ghost use Rattle.jc_hierarchy.specs.Outline.{outline};
+ghost use Rattle.jc_hierarchy.specs.Lines.{HaveLines};
 ghost use Rattle.jc_classes.specs.Known.{AreInRange, AreKnown};
 ghost use Rattle.jc_classes.specs.Layout.{layouts};
 ghost use Rattle.jc_classes.specs.Groups.{AreGroups};
@@ -17,7 +17,7 @@ use crate::layout::Layout;
 use crate::overrides::overrides_agree;
 use crate::slots::layouts;
 use jc_base::{Classes, Items, Methods};
-use jc_names::{LinkEnd, LinkFault, NamedClasses};
+use jc_resolve::{LinkEnd, LinkFault, NamedClasses};
 use std::alloc::{AllocError, Global};
 
 /// Asks the conditions on classes in the order of their numbers. `marks` is room for a mark a class.

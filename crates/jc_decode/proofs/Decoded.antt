@@ -29,7 +29,7 @@ reached-ok xs end e h = grind arith
 pub reached-within : (xs : List ℕ) (end : ℕ) → end ≤ length xs → reached xs end ≡ Ok end
 reached-within xs end h = grind arith
 
--- a table ends behind its beginning, and within the bytes
+-- a table ends after its beginning, and within the bytes
 pub keys_rise-ok : (key : Operand) (xs : List ℕ) (table end : ℕ) (o : Option ℕ) (e : ℕ) → keys_rise key xs table end o ≡ Ok e → e ≡ end
 keys_rise-ok key xs table end None e h = cc
 keys_rise-ok key xs table end (Some n) e h = absurd (cc)

@@ -30,7 +30,7 @@ at_most-enough (suc n) code at h =
     listed-same at (decoded code at) (at_most (suc n) code) (at_most n code)
     (λ i e. let w = IsWithin-decoded code at i e in at_most-enough n code (at + i.len) (omega (arith, w.one)))
 
--- an instruction comes first where one is decoded, then those behind it
+-- an instruction comes first where one is decoded, then those after it
 pub listing_from-more : (code : List ℕ) (at : ℕ) (i : Insn) → decoded code at ≡ Ok i
     → listing_from code at ≡ record { place = at; insn = i } ∷ listing_from code (at + i.len)
 unfolding listing_from at_most

@@ -126,7 +126,7 @@ opcode-byte xs at op h = by_reach (nat_le (at + 1) (length xs)) refl h
         rw first (ap (λ (b : ℕ). b ∷ []) (sym one ∙ sym (ap (big_number 1) first) ∙ same))
     by_reach false reach h = absurd (cc)
 
--- the bytes of the table are those behind the operands
+-- the bytes of the table are those after the operands
 table-own : (xs : List ℕ) (at : ℕ) (i : Insn) (b : Begins xs at i) → table_bytes b.layout xs at i ≡ take (i.len - (1 + total_width b.layout)) (drop (at + 1 + total_width b.layout) xs)
 table-own xs at i b = by_table b.layout.cases refl
   where

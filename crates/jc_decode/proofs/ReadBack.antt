@@ -242,7 +242,7 @@ length-head l i before =
     let z = length-bytes_high_first (width l.z) (bits l.z i.z) in
     (omega (arith, a), omega (arith, a, b, x), omega (arith, a, b, d, x, y), omega (arith, a, b, d, e, x, y, z))
 
--- what is known of the table of an instruction in another list: it ends behind m bytes, has their length and their cases
+-- what is known of the table of an instruction in another list: it ends after m bytes, has their length and their cases
 record TableBack (l : Layout) (xs : List ℕ) (at : ℕ) (i : Insn) (ys : List ℕ) (u : ℕ) : Type 0 where
   ends : table_end l ys u i.y i.z ≡ Ok (u + length (table_bytes l xs at i))
   cases : (j : Insn) → i.y ≡ j.y → i.z ≡ j.z → cases_in l.cases xs (at + 1 + total_width l) i ≡ cases_in l.cases ys u j

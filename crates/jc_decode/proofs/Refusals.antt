@@ -32,7 +32,7 @@ use Rattle.jc_decode.proofs.Rising.{not-false}
 err-same : {A : Type 0} (d e : CodeEnd) (r : Result A CodeEnd) → r ≡ Err d → r ≡ Err e → d ≡ e
 err-same d e r h k = cc
 
--- a chain fails at its first step, or behind it
+-- a chain fails at its first step, or after it
 from_failed : {A B C : Type 0} (r : Result A CodeEnd) (f : A → Result B CodeEnd) (e : CodeEnd)
     → (r >>= f) ≡ Err e → (r ≡ Err e → C) → ((x : A) → r ≡ Ok x → f x ≡ Err e → C) → C
 from_failed (Ok x) f e h first behind = behind x refl h
@@ -82,7 +82,7 @@ number_at-none w at xs h = by_test (nat_le (at + w) (length xs)) refl h
 
 -- ---- opcodes
 
--- of all opcodes: those from 185 to 253 alone are unused, and behind the first operand nothing is forbidden
+-- of all opcodes: those from 185 to 253 alone are unused, and after the first operand nothing is forbidden
 abbrev is_unused : Opcode → Bool
 is_unused (Instruction l) = false
 is_unused Reserved = false
@@ -328,7 +328,7 @@ pair-there xs key t count n h inside =
 
 -- ---- the whole
 
--- behind the operands an instruction fails as its table does
+-- after the operands an instruction fails as its table does
 range-failed : (xs : List ℕ) (at t : ℕ) (l : Layout) (y z : ℤ) (e : CodeEnd) → HasOperands xs at l y z → l.cases ≡ Range → nat_le 1 (width l.z) ≡ true
     → t ≡ at + 1 + total_width l → range_end l.z xs t y z ≡ Err e → Refuses xs at e
 range-failed xs at t l y z e has is high t_is h = by_order (int_lt z y) refl h
@@ -409,7 +409,7 @@ decoded-Refuses xs at e bytes h =
 
 -- ---- the other way round
 
--- behind the operands nothing but the table is asked
+-- after the operands nothing but the table is asked
 decoded-table : (xs : List ℕ) (at : ℕ) (l : Layout) (y z : ℤ) (e : CodeEnd) → HasOperands xs at l y z → table_end l xs (at + 1 + total_width l) y z ≡ Err e → decoded xs at ≡ Err e
 unfolding decoded
 decoded-table xs at l y z e has h =

@@ -103,13 +103,13 @@ abbrev pub keys_rise : Operand → List ℕ → ℕ → ℕ → Option ℕ → R
 keys_rise key xs table end None = Ok end
 keys_rise key xs table end (Some n) = Err (bad_operand xs (table + pair_width key * n))
 
--- the place behind a table of so many pairs, if the bytes reach and each key is above the one before it
+-- the place after a table of so many pairs, if the bytes reach and each key is above the one before it
 abbrev pub pairs_end : Operand → List ℕ → ℕ → ℕ → Result ℕ CodeEnd
 pairs_end key xs table count = do
   end ← reached xs (table + pair_width key * count)
   keys_rise key xs table end (find (λ n. not (rises key xs table n)) (range_with_len 1 (count - 1)))
 
--- the place behind an offset for each number from low to high, whose bytes end where the table begins
+-- the place after an offset for each number from low to high, whose bytes end where the table begins
 abbrev pub range_end : Operand → List ℕ → ℕ → ℤ → ℤ → Result ℕ CodeEnd
 range_end bound xs table low high =
     if int_lt high low then Err (bad_operand xs (table - width bound)) else reached xs (table + 2 * range_count low high)
@@ -119,7 +119,7 @@ end_of_cases NoCases bound xs table y z = Ok table
 end_of_cases Range bound xs table y z = range_end bound xs table y z
 end_of_cases (Pairs key) bound xs table y z = pairs_end key xs table (unsigned_abs y)
 
--- the place behind a switch's table, which begins at this place; y and z are the operands before it
+-- the place after a switch's table, which begins at this place; y and z are the operands before it
 abbrev pub table_end : Layout → List ℕ → ℕ → ℤ → ℤ → Result ℕ CodeEnd
 table_end l xs table y z = end_of_cases l.cases l.z xs table y z
 

@@ -32,7 +32,7 @@ abbrev pub Lists : List ℕ → ℕ → List Placed → Type 0
 Lists code at [] = IsErr (decoded code at)
 Lists code at (p ∷ ps) = (p.place ≡ at) × (decoded code at ≡ Ok p.insn) × Lists code (at + p.insn.len) ps
 
--- the place behind the last instruction of a list that begins at a place
+-- the place after the last instruction of a list that begins at a place
 abbrev pub end_from : ℕ → List Placed → ℕ
 end_from at [] = at
 end_from at (p ∷ ps) = end_from (at + p.insn.len) ps
@@ -45,7 +45,7 @@ listing_end code = end_from 0 (listing code)
 abbrev pub is_branch : ℕ → Bool
 is_branch op = (nat_le 96 op && nat_le op 112) || (nat_le 152 op && nat_le op 168)
 
--- whether the instruction behind may come next: not behind goto, a switch, a return, athrow and goto_w
+-- whether the instruction after may come next: not after goto, a switch, a return, athrow and goto_w
 abbrev pub falls : ℕ → Bool
 falls op = not (op == 112 || (nat_le 115 op && nat_le op 122) || op == 147 || op == 168)
 

@@ -1,5 +1,5 @@
 -- Why no instruction begins at a place of a method's code (JCVM 2.2, chapter 7). It is asked in this order: the opcode, whether
--- the bytes reach behind the operands, the first operand, and of a switch the bounds or the bytes of the table, and then its keys.
+-- the bytes reach after the operands, the first operand, and of a switch the bounds or the bytes of the table, and then its keys.
 use Rattle.std.specs.Prelude.{◌≡◌, ◌<◌, ◌≤◌, ◌<ℤ◌, ◌≤ℤ◌, ◌+◌, ◌-◌, ◌*◌, ℕ, ℤ, List, length, Some, Ok, false, IsTrue, unsigned_abs}
 use Rattle.cap_bytes.specs.Number.{number_at}
 use Rattle.jc_decode.specs.declared.layout.Operand.{Operand}
@@ -38,7 +38,12 @@ pub data Refuses (xs : List ℕ) (at : ℕ) : CodeEnd → Type 0 where
   left_out : (op : ℕ) → number_at 1 at xs ≡ Some op → IsTrue (is_out_of_scope op) → Refuses xs at (OutOfScope op)
   unused : (op : ℕ) → number_at 1 at xs ≡ Some op → 185 ≤ op → op ≤ 253 → Refuses xs at (NoOpcode op)
   operands_cut : (l : Layout) → IsBegun xs at l → length xs < at + 1 + total_width l → Refuses xs at Cut
-  forbidden : (l : Layout) (b : ℕ) → IsBegun xs at l → at + 1 + total_width l ≤ length xs → number_at 1 (at + 1) xs ≡ Some b → allows l.x b ≡ false
+  forbidden :
+      (l : Layout) (b : ℕ)
+      → IsBegun xs at l
+      → at + 1 + total_width l ≤ length xs
+      → number_at 1 (at + 1) xs ≡ Some b
+      → allows l.x b ≡ false
       → Refuses xs at (BadOperand b)
   bounds_turned : (l : Layout) (low high : ℤ) (b : ℕ) → HasOperands xs at l low high → l.cases ≡ Range → high <ℤ low
       → number_at 1 (at + 1 + width l.x + width l.y) xs ≡ Some b → Refuses xs at (BadOperand b)

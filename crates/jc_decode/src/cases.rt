@@ -36,7 +36,7 @@ impl Insn {
         self.is_branch() || self.is_switch()
     }
 
-    /// Whether the instruction behind may come next: not behind goto, a switch, a return or athrow.
+    /// Whether the instruction after may come next: not after goto, a switch, a return or athrow.
     pub fn falls(self) -> bool
         ensures { result ≡ falls self.op }
     {

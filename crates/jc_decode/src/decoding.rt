@@ -196,7 +196,7 @@ impl Operand {
     }
 }
 
-/// The place behind a switch's table, which begins at this place.
+/// The place after a switch's table, which begins at this place.
 fn end_of_table(layout: Layout, code: View, table: u32, y: i32, z: i32) -> Result<u32, CodeEnd>
     requires short { length code.bytes.now ≤ 65535 }
     requires inside { table ≤ length code.bytes.now }
@@ -217,7 +217,7 @@ fn end_of_table(layout: Layout, code: View, table: u32, y: i32, z: i32) -> Resul
     }
 }
 
-/// The place behind this many pairs, the first of which begins at `table`.
+/// The place after this many pairs, the first of which begins at `table`.
 #[tactic(auto, using(crate::proofs::Pairs::pairs_facts))]
 fn end_of_pairs(key: Operand, code: View, table: u32, count: u32) -> Result<u32, CodeEnd>
     requires { length code.bytes.now ≤ 65535 }

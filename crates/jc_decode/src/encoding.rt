@@ -19,7 +19,8 @@ pub fn encode(insn: Insn, code: View, at: u16, to: &mut Vec<u8>) -> Result<(), A
     requires table { HasTable code.bytes.now at insn }
     ensures appended { OnOk result (to.new.items ≡ to.old.items ++ encoding code.entry.bytes.now at insn) }
     ensures read_back { ReadsBack code.entry.bytes.now at insn (encoding code.entry.bytes.now at insn) }
-    ensures same_bytes { decoded code.entry.bytes.now at ≡ Ok insn → encoding code.entry.bytes.now at insn ≡ take insn.len (drop at code.entry.bytes.now) }
+    ensures same_bytes { decoded code.entry.bytes.now at ≡ Ok insn
+        → encoding code.entry.bytes.now at insn ≡ take insn.len (drop at code.entry.bytes.now) }
     ensures unchanged { OnErr result (to.new.items ≡ to.old.items) }
 {
     are_bytes(code.bytes);

@@ -30,7 +30,7 @@ pub enum Operand {
     TestedType,
 }
 
-/// The table behind the operands of a switch.
+/// The table after the operands of a switch.
 #[derive(Clone, Copy)]
 pub enum Cases {
     /// No table: the instruction is no switch.
@@ -42,7 +42,7 @@ pub enum Cases {
     Pairs(Operand),
 }
 
-/// The operands of an instruction, in their order, and the table behind them.
+/// The operands of an instruction, in their order, and the table after them.
 #[derive(Clone, Copy)]
 pub struct Layout {
     pub x: Operand,

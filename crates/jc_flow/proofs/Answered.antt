@@ -6,15 +6,15 @@ use Rattle.jc_base.specs.Linked.{IsCodeLength, lacks_code}
 use Rattle.jc_base.specs.World.{Linked, IsWorld, code_of}
 use Rattle.jc_base.proofs.Lists.{slice_get-below}
 use Rattle.jc_rules.specs.Flow.{Method, IsMethodOf, HasFlowTyping}
-use Rattle.jc_places.specs.declared.flaw.Flaw.{Flaw}
-use Rattle.jc_places.specs.declared.flaw.Flaw.TheVariants as flaws
-use Rattle.jc_places.specs.declared.flaw.SurveyEnd.{SurveyEnd}
-use Rattle.jc_places.specs.declared.flaw.SurveyEnd.TheVariants.{Flawed}
-use Rattle.jc_places.specs.declared.flaw.SurveyEnd.TheVariants.{Memory as NotSurveyed}
-use Rattle.jc_places.specs.Flaw.{IsFirstFlaw}
-use Rattle.jc_places.specs.MethodIn.{method_in, method_with}
-use Rattle.jc_places.specs.Survey.{TellsFlaw}
-use Rattle.jc_places.proofs.FlawLaws.{first-flaw-refuses}
+use Rattle.jc_control.specs.declared.flaw.Flaw.{Flaw}
+use Rattle.jc_control.specs.declared.flaw.Flaw.TheVariants as flaws
+use Rattle.jc_control.specs.declared.flaw.SurveyEnd.{SurveyEnd}
+use Rattle.jc_control.specs.declared.flaw.SurveyEnd.TheVariants.{Flawed}
+use Rattle.jc_control.specs.declared.flaw.SurveyEnd.TheVariants.{Memory as NotSurveyed}
+use Rattle.jc_control.specs.Flaw.{IsFirstFlaw}
+use Rattle.jc_control.specs.MethodIn.{method_in, method_with}
+use Rattle.jc_control.specs.Survey.{TellsFlaw}
+use Rattle.jc_control.proofs.FlawLaws.{first-flaw-refuses}
 use Rattle.jc_states.proofs.Derived.{some_to, some_at, at_some, some_map, of_world}
 use Rattle.jc_flow.specs.declared.end.FlowEnd.{FlowEnd}
 use Rattle.jc_flow.specs.declared.end.FlowEnd.TheVariants.{NoTyping, Code, BadTarget, FallsOff, BadHandler, Memory}

@@ -1,14 +1,14 @@
--- The instruction behind another, and the first.
+-- The instruction after another, and the first.
 use Rattle.std.proofs.Common.{◌≡◌, ℕ, ◌+◌, ◌<◌, ◌⊎◌, inl, inr, ⊎_elim, List, [], ◌∷◌, length, refl, sym, subst, arith}
 use Rattle.std.specs.List.{Contains}
 use Rattle.jc_decode.specs.declared.insn.Placed.{Placed}
 use Rattle.jc_decode.specs.Listing.{listing, listing_end, end_from, Lists}
 use Rattle.jc_decode.proofs.Listing.{Lists-listing_from, listing_from-start}
 use Rattle.jc_rules.specs.Flow.{Stands, IsPlace}
-use Rattle.jc_places.proofs.Elements.{nothing-in, Contains-either, Contains-first, Contains-later}
+use Rattle.jc_control.proofs.Elements.{nothing-in, Contains-either, Contains-first, Contains-later}
 
 module _ (code : List ℕ) where
-  -- one that stands behind
+  -- one that stands after
   record Next (ps : List Placed) (p : ℕ) : Type 0 where
     next : Placed
     listed : Contains ps next
@@ -33,7 +33,7 @@ module _ (code : List ℕ) where
   all-listed : Lists code 0 (listing code)
   all-listed = subst (Lists code 0) (listing_from-start code) (Lists-listing_from code 0)
 
-  -- where the code goes on, an instruction begins behind each
+  -- where the code goes on, an instruction begins after each
   pub place-behind : listing_end code ≡ length code → (i : Placed) → Stands code i → i.place + i.insn.len < length code → IsPlace code (i.place + i.insn.len)
   place-behind ends i s lt = by (behind-in 0 (listing code) all-listed i s)
     where

@@ -10,12 +10,12 @@ use Rattle.jc_decode.specs.declared.insn.Insn.{Insn}
 use Rattle.jc_decode.specs.declared.insn.Placed.{Placed}
 use Rattle.jc_decode.specs.Cases.{cases}
 use Rattle.jc_decode.specs.Listing.{falls, jumps, target, targets}
-use Rattle.jc_rows.specs.declared.fault.RuleFault.TheVariants.{FreshKept, StackMerge, Overflow}
+use Rattle.jc_ops.specs.declared.fault.RuleFault.TheVariants.{FreshKept, StackMerge, Overflow}
 use Rattle.jc_rules.specs.Demand.{Frame}
 use Rattle.jc_rules.specs.Flow.{Method, IsMethodOf, IsWellFormed, Stands, IsPlace, IsTargetPlace, IsHandlerOf, IsSuccessor, behind, jumped, IsLeader, Covers, IsNotFresh, IsNotTop, caught_frame, derived_next, derived_caught}
 use Rattle.jc_rules.specs.Typing.{state_at, Clashes}
-use Rattle.jc_places.proofs.Elements.{nothing-in}
-use Rattle.jc_places.proofs.Listed.{target-range}
+use Rattle.jc_control.proofs.Elements.{nothing-in}
+use Rattle.jc_control.proofs.Listed.{target-range}
 use Rattle.jc_states.specs.declared.table.PutEnd.{PutEnd}
 use Rattle.jc_states.specs.declared.table.PutEnd.TheVariants.{Clash, Memory}
 use Rattle.jc_states.specs.Found.{Found, Prevents}

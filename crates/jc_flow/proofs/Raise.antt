@@ -5,7 +5,7 @@ use Rattle.jc_base.specs.World.{Linked, IsWorld}
 use Rattle.jc_rules.specs.Demand.{Frame}
 use Rattle.jc_rules.specs.Flow.{Method, IsMethodOf}
 use Rattle.jc_rules.specs.Typing.{state_at}
-use Rattle.jc_places.proofs.Listed.{place-inside}
+use Rattle.jc_control.proofs.Listed.{place-inside}
 use Rattle.jc_states.specs.declared.table.PutEnd.{PutEnd}
 use Rattle.jc_states.specs.Found.{Found, HasKnown, Lands, Prevents}
 use Rattle.jc_base.specs.Class.{ClassTable}

@@ -6,13 +6,13 @@ use Rattle.jc_decode.specs.declared.insn.Insn.{Insn}
 use Rattle.jc_decode.specs.declared.insn.CodeEnd.{CodeEnd}
 use Rattle.jc_decode.specs.Decoding.{decoded}
 use Rattle.jc_decode.specs.Listing.{falls, jumps}
-use Rattle.jc_rows.specs.declared.fault.RuleFault.{RuleFault}
-use Rattle.jc_rows.specs.declared.fault.RuleFault.TheVariants.{FreshKept}
+use Rattle.jc_ops.specs.declared.fault.RuleFault.{RuleFault}
+use Rattle.jc_ops.specs.declared.fault.RuleFault.TheVariants.{FreshKept}
 use Rattle.jc_rules.specs.Demand.{Frame}
 use Rattle.jc_rules.specs.Apply.{Refuses}
 use Rattle.jc_rules.specs.Flow.{Method, Stands, IsPlace, IsNotFresh, Steps, site_of}
 use Rattle.jc_rules.proofs.Raising.{All-turned, All-reverse}
-use Rattle.jc_places.proofs.Listed.{decoded-Stands}
+use Rattle.jc_control.proofs.Listed.{decoded-Stands}
 use Rattle.jc_states.specs.Progress.{IsHeld}
 use Rattle.jc_flow.specs.Fails.{FailsAt, FallsPast, fails_rule, fails_jump}
 

@@ -11,7 +11,7 @@ use Rattle.jc_decode.specs.Listing.{falls, targets}
 use Rattle.jc_rules.specs.Demand.{Frame}
 use Rattle.jc_rules.specs.Flow.{Method, IsMethodOf, Stands, IsSuccessor, behind, jumped, At, FrameBelow, IsFollowed, caught_frame}
 use Rattle.jc_rules.specs.Typing.{state_at}
-use Rattle.jc_places.proofs.Listed.{one-at}
+use Rattle.jc_control.proofs.Listed.{one-at}
 use Rattle.jc_states.specs.Found.{Found}
 use Rattle.jc_states.specs.Progress.{IsHeld, IsClosed, most_rises}
 use Rattle.jc_states.proofs.Derived.{derived-fine, all_contained}

@@ -5,8 +5,8 @@ use Rattle.jc_base.specs.declared.record.Handler.{Handler}
 use Rattle.jc_base.specs.World.{Linked}
 use Rattle.jc_decode.specs.declared.insn.Placed.{Placed}
 use Rattle.jc_decode.specs.Listing.{falls, jumps}
-use Rattle.jc_rows.specs.declared.fault.RuleFault.{RuleFault}
-use Rattle.jc_rows.specs.declared.fault.RuleFault.TheVariants.{Overflow, FreshKept, StackMerge}
+use Rattle.jc_ops.specs.declared.fault.RuleFault.{RuleFault}
+use Rattle.jc_ops.specs.declared.fault.RuleFault.TheVariants.{Overflow, FreshKept, StackMerge}
 use Rattle.jc_rules.specs.Demand.{Frame}
 use Rattle.jc_rules.specs.Apply.{Refuses}
 use Rattle.jc_rules.specs.Flow.{Method, Stands, IsSuccessor, IsLeader, Covers, IsNotFresh, Steps, site_of, caught_frame, IsDerived}
@@ -18,11 +18,45 @@ use Rattle.jc_flow.specs.declared.end.FlowEnd.TheVariants.{NoTyping, Code, BadTa
 -- switch, or goes to a leader; the stack that the rule gives, or a handler's, does not merge with the frame of another way to the same
 -- place; or a handler covers the place, and the method has no room for the caught object
 pub data Fails (w : Linked) (m : Method) (p : ℕ) (f : Frame) : RuleFault → Type 0 where
-  fails_rule : {fault : RuleFault} (i : Placed) → Stands m.code i → i.place ≡ p → Refuses w (site_of m p) i.insn f fault → Fails w m p f fault
-  fails_jump : (i : Placed) (g : Frame) → Stands m.code i → i.place ≡ p → Steps w m i f g → IsTrue (jumps i.insn.op) → ¬ (All IsNotFresh g.stack) → Fails w m p f FreshKept
-  fails_leader : (i : Placed) (g : Frame) (q : ℕ) → Stands m.code i → i.place ≡ p → Steps w m i f g → IsSuccessor m.code i q → IsLeader m q → ¬ (All IsNotFresh g.stack) → Fails w m p f FreshKept
-  fails_merge : (i : Placed) (g other : Frame) (q : ℕ) → Stands m.code i → i.place ≡ p → Steps w m i f g → IsSuccessor m.code i q → IsDerived w m Top q other → Clashes w.classes other g → Fails w m p f StackMerge
-  fails_caught : (h : Handler) (other : Frame) → Contains m.rec.handlers h → Covers h p → IsDerived w m Top h.entry other → Clashes w.classes other (caught_frame h f) → Fails w m p f StackMerge
+  fails_rule :
+      {fault : RuleFault} (i : Placed)
+      → Stands m.code i
+      → i.place ≡ p
+      → Refuses w (site_of m p) i.insn f fault
+      → Fails w m p f fault
+  fails_jump :
+      (i : Placed) (g : Frame)
+      → Stands m.code i
+      → i.place ≡ p
+      → Steps w m i f g
+      → IsTrue (jumps i.insn.op)
+      → ¬ (All IsNotFresh g.stack)
+      → Fails w m p f FreshKept
+  fails_leader :
+      (i : Placed) (g : Frame) (q : ℕ)
+      → Stands m.code i
+      → i.place ≡ p
+      → Steps w m i f g
+      → IsSuccessor m.code i q
+      → IsLeader m q
+      → ¬ (All IsNotFresh g.stack)
+      → Fails w m p f FreshKept
+  fails_merge :
+      (i : Placed) (g other : Frame) (q : ℕ)
+      → Stands m.code i
+      → i.place ≡ p
+      → Steps w m i f g
+      → IsSuccessor m.code i q
+      → IsDerived w m Top q other
+      → Clashes w.classes other g
+      → Fails w m p f StackMerge
+  fails_caught :
+      (h : Handler) (other : Frame)
+      → Contains m.rec.handlers h
+      → Covers h p
+      → IsDerived w m Top h.entry other
+      → Clashes w.classes other (caught_frame h f)
+      → Fails w m p f StackMerge
   fails_handler : (h : Handler) → Contains m.rec.handlers h → Covers h p → m.rec.max_stack ≡ 0 → Fails w m p f Overflow
 
 -- a derived frame at the place fails so
@@ -31,7 +65,7 @@ pub record FailsAt (w : Linked) (m : Method) (p : ℕ) (fault : RuleFault) : Typ
   pub derived : IsDerived w m Top p frame
   pub fails : Fails w m p frame fault
 
--- a derived frame stands at the place, and behind the instruction there the code ends
+-- a derived frame stands at the place, and after the instruction there the code ends
 pub record FallsPast (w : Linked) (m : Method) (p : ℕ) : Type 0 where
   pub frame : Frame
   pub derived : IsDerived w m Top p frame

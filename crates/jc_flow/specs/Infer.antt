@@ -5,11 +5,11 @@ use Rattle.jc_base.specs.World.{Linked}
 use Rattle.jc_rules.specs.Demand.{Frame}
 use Rattle.jc_rules.specs.Flow.{Method, IsWellFormed, IsReached, HasFlowTyping}
 use Rattle.jc_rules.specs.Typing.{state_at}
-use Rattle.jc_places.specs.Flaw.{IsFirstFlaw}
-use Rattle.jc_places.specs.declared.flaw.Flaw.TheVariants as flaws
-use Rattle.jc_places.specs.declared.flaw.SurveyEnd.{SurveyEnd}
-use Rattle.jc_places.specs.declared.flaw.SurveyEnd.TheVariants.{Flawed}
-use Rattle.jc_places.specs.declared.flaw.SurveyEnd.TheVariants.{Memory as NotSurveyed}
+use Rattle.jc_control.specs.Flaw.{IsFirstFlaw}
+use Rattle.jc_control.specs.declared.flaw.Flaw.TheVariants as flaws
+use Rattle.jc_control.specs.declared.flaw.SurveyEnd.{SurveyEnd}
+use Rattle.jc_control.specs.declared.flaw.SurveyEnd.TheVariants.{Flawed}
+use Rattle.jc_control.specs.declared.flaw.SurveyEnd.TheVariants.{Memory as NotSurveyed}
 use Rattle.jc_flow.specs.declared.end.FlowEnd.{FlowEnd}
 use Rattle.jc_flow.specs.declared.end.FlowEnd.TheVariants.{NoTyping, Code, BadTarget, FallsOff, BadHandler, Memory}
 use Rattle.jc_flow.specs.Fails.{FailsAt, FallsPast}
@@ -31,7 +31,7 @@ TellsEnd w m (BadTarget p target) = IsFirstFlaw m (flaws.BadTarget p target)
 TellsEnd w m (BadHandler entry number) = IsFirstFlaw m (flaws.BadHandler entry number)
 TellsEnd w m Memory = ⊤
 
--- but for want of memory no typing exists
+-- but for one out of memory, no typing exists
 abbrev pub HasNone : Linked → Method → FlowEnd → Type 0
 HasNone w m Memory = ⊤
 HasNone w m (NoTyping p fault) = ¬ (HasFlowTyping w m Top)

@@ -3,7 +3,7 @@ use Rattle.std.specs.Prelude.{◌≡◌, ℕ, ◌+◌, ◌≤◌, length, Result
 use Rattle.jc_base.specs.declared.record.MethodRec.{MethodRec}
 use Rattle.jc_base.specs.World.{Linked}
 use Rattle.jc_decode.specs.declared.insn.Insn.{Insn}
-use Rattle.jc_rows.specs.declared.fault.RuleFault.{RuleFault}
+use Rattle.jc_ops.specs.declared.fault.RuleFault.{RuleFault}
 use Rattle.jc_rules.specs.declared.effect.Mode.TheVariants.{Flow}
 use Rattle.jc_rules.specs.declared.rule.Site.{Site}
 use Rattle.jc_rules.specs.declared.rule.Outcome.{Outcome}

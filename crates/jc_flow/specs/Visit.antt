@@ -10,10 +10,10 @@ use Rattle.jc_rules.specs.Flow.{Method, IsMethodOf, Covers, IsNotFresh, Steps, A
 use Rattle.jc_rules.specs.Typing.{state_at}
 use Rattle.jc_states.specs.Found.{Found}
 use Rattle.jc_states.specs.Progress.{IsHeld, AreHeld, IsClosed, Grown, most_rises}
-use Rattle.jc_places.specs.Survey.{IsSurvey}
+use Rattle.jc_control.specs.Survey.{IsSurvey}
 use Rattle.jc_flow.specs.declared.search.Search.{Search}
 use Rattle.jc_flow.specs.declared.edges.Step.{Step}
-use Rattle.jc_rows.specs.declared.fault.RuleFault.TheVariants.{StackMerge}
+use Rattle.jc_ops.specs.declared.fault.RuleFault.TheVariants.{StackMerge}
 use Rattle.jc_states.specs.declared.table.PutEnd.{PutEnd}
 use Rattle.jc_states.specs.declared.table.PutEnd.TheVariants.{Clash, Memory}
 use Rattle.jc_flow.specs.declared.end.FlowEnd.{FlowEnd}
@@ -65,7 +65,7 @@ pub record IsStep (w : Linked) (m : Method) (s : Step) : Type 0 where
   pub here : IsHeld w m s.place s.before.now.frame
   pub stepped : HasStepped w m s.place s.before.now.frame s.after.now.frame s.insn
 
--- what the step leads to behind the instruction
+-- what the step leads to after the instruction
 abbrev pub IsBehind : Linked → Step → Found → Type 0
 IsBehind w s found = IsTrue (falls s.insn.op) → At (state_at found.states) (s.place + s.insn.len) (FrameBelow w.classes s.after.now.frame)
 

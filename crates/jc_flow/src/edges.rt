@@ -10,9 +10,9 @@ use crate::end::FlowEnd;
 use crate::scratch::Scratch;
 use crate::search::Search;
 use jc_base::{Handler, Ty};
+use jc_control::{Targets, covers, place_of};
 use jc_decode::{Insn, Placed};
-use jc_places::{Targets, covers, place_of};
-use jc_rows::RuleFault;
+use jc_ops::RuleFault;
 use jc_states::{PutEnd, Table};
 use std::alloc::Global;
 
@@ -65,7 +65,7 @@ impl Search<'_> {
         }
     }
 
-    /// Leads to the instruction behind, if the one at the place falls through.
+    /// Leads to the instruction after, if the one at the place falls through.
     pub fn raise_behind(
         &self,
         alloc: Global,
@@ -126,7 +126,10 @@ impl Search<'_> {
         requires held { AreHeld (world_of self.now) (searched self.now) table.old }
         requires step { IsStep (world_of self.now) (searched self.now) step }
         ensures goes { OnOk result (Goes (world_of self.now) (searched self.now) table.old table.new) }
-        ensures caught { OnOk result (All (IsCaught (world_of self.now) step.entry.place step.entry.before.now.frame table.new) self.now.rec.now.handlers) }
+        ensures caught { OnOk result
+            (All
+            (IsCaught (world_of self.now) step.entry.place step.entry.before.now.frame
+            table.new) self.now.rec.now.handlers) }
         ensures failed { IfErr result (IsFailure (world_of self.now) (searched self.now)) }
     {
         'handlers: for handler in self.rec.handlers.as_slice() {
@@ -148,7 +151,11 @@ impl Search<'_> {
         requires held { AreHeld (world_of self.now) (searched self.now) table.old }
         requires step { IsStep (world_of self.now) (searched self.now) step }
         ensures goes { OnOk result (Goes (world_of self.now) (searched self.now) table.old table.new) }
-        ensures reached { OnOk result (All (IsAtTarget (world_of self.now) step.entry.after.now.frame table.new) (targets self.now.code.bytes.now (record { place = step.entry.place; insn = step.entry.insn }))) }
+        ensures reached { OnOk result
+            (All
+            (IsAtTarget (world_of self.now) step.entry.after.now.frame table.new)
+            (targets self.now.code.bytes.now
+            (record { place = step.entry.place; insn = step.entry.insn }))) }
         ensures failed { IfErr result (IsFailure (world_of self.now) (searched self.now)) }
     {
         let placed = Placed {

@@ -1,7 +1,7 @@
 ghost use Rattle.std.specs.Prelude.{◌≡◌};
 
 use jc_decode::CodeEnd;
-use jc_rows::RuleFault;
+use jc_ops::RuleFault;
 use std::alloc::AllocError;
 
 /// Why no typing of a method was found. Places are offsets in its code.
@@ -13,7 +13,7 @@ pub enum FlowEnd {
     Code(u16, CodeEnd),
     /// The place of a branch or switch, and a target of it where no instruction begins.
     BadTarget(u16, i32),
-    /// Control falls past the end of the code behind the instruction at the place.
+    /// Control falls past the end of the code after the instruction at the place.
     FallsOff(u16),
     /// The entry of a handler that is not well formed, and its number in the method's table.
     BadHandler(u16, u16),

@@ -3,7 +3,7 @@ ghost use Rattle.jc_base.specs.declared.ty.Ty.TheVariants.{Top};
 ghost use Rattle.jc_rules.specs.Flow.{IsMethodOf, IsLeastTyping, At, FrameBelow, start_frame, receiver_of};
 ghost use Rattle.jc_rules.specs.Typing.{state_at};
 ghost use Rattle.jc_states.specs.Progress.{AreHeld, AreClosed};
-ghost use Rattle.jc_places.specs.MethodIn.{method_in};
+ghost use Rattle.jc_control.specs.MethodIn.{method_in};
 ghost use Rattle.jc_flow.specs.Fails.{IsFailure};
 ghost use Rattle.jc_flow.specs.Infer.{AreReached, HaveRegisters, TellsEnd, HasNone, unsurveyed_as};
 ghost use Rattle.jc_flow.specs.Visit.{searched, world_of, IsSearch};
@@ -14,7 +14,7 @@ use crate::scratch::Scratch;
 use crate::search::Search;
 use cap_bytes::View;
 use jc_base::{MethodRec, Ty, World};
-use jc_places::{Flaw, SurveyEnd, survey};
+use jc_control::{Flaw, SurveyEnd, survey};
 use jc_rules::Typing;
 use jc_states::Table;
 use std::alloc::{AllocError, Global};
@@ -23,7 +23,7 @@ use std::alloc::{AllocError, Global};
 ///
 /// First the method's code, targets and handlers are tried, and then the places in the order in which they wait,
 /// the least first. At one place come the rule, an uninitialised object under the operands of a branch or switch,
-/// the end of the code, and then the edges: the covering handlers in table order, the instruction behind, and the
+/// the end of the code, and then the edges: the covering handlers in table order, the instruction after, and the
 /// targets in order, the default first.
 pub fn infer(alloc: Global, world: &World<'_>, method: u16) -> Result<Typing, FlowEnd>
     requires { IsSomeAnd (slice_get world.now.methods method) (λ m. 0 < m.code_len) }
@@ -32,7 +32,7 @@ pub fn infer(alloc: Global, world: &World<'_>, method: u16) -> Result<Typing, Fl
     // A place has a state exactly where control reaches it.
     ensures states { IsSomeAnd (method_in world.now method) (λ m. IfOk result (λ t. AreReached m t)) }
     ensures registers { IsSomeAnd (method_in world.now method) (λ m. IfOk result (HaveRegisters m)) }
-    // But for want of memory an end says that there is no typing, and why.
+    // But for one out of memory, an end says that there is no typing, and why.
     ensures none { IsSomeAnd (method_in world.now method) (λ m. IfErr result (HasNone world.now m)) }
     ensures end { IsSomeAnd (method_in world.now method) (λ m. IfErr result (TellsEnd world.now m)) }
 {
@@ -95,10 +95,14 @@ impl Search<'_> {
     /// Puts the frame of the method's start at place 0 of an empty table.
     fn begin(&self, alloc: Global, table: &mut Table) -> Result<(), FlowEnd>
         requires search { IsSearch self.now }
-        requires empty { table.old ≡ record { states = replicate (length self.now.code.bytes.now) None; pending = replicate (length self.now.code.bytes.now) false } }
+        requires empty { table.old
+            ≡ record
+            { states = replicate (length self.now.code.bytes.now) None; pending = replicate (length self.now.code.bytes.now) false } }
         ensures held { OnOk result (AreHeld (world_of self.now) (searched self.now) table.new) }
         ensures closed { OnOk result (AreClosed (world_of self.now) (searched self.now) table.new) }
-        ensures start { OnOk result (At (state_at table.new.states) 0 (FrameBelow self.now.world.now.classes (start_frame self.now.rec.now Top))) }
+        ensures start { OnOk result
+            (At (state_at table.new.states) 0
+            (FrameBelow self.now.world.now.classes (start_frame self.now.rec.now Top))) }
         ensures failed { IfErr result (IsFailure (world_of self.now) (searched self.now)) }
     {
         let regs = match start_regs(alloc, self.rec) {

@@ -4,7 +4,7 @@ ghost use Rattle.jc_flow.specs.Scratch.{Scratched, SuitsMethod, IsStepped};
 
 use jc_base::{Ty, World};
 use jc_decode::Insn;
-use jc_rows::RuleFault;
+use jc_ops::RuleFault;
 use jc_rules::{Mode, Site, State, apply};
 use std::alloc::{AllocError, Global};
 use std::marker::Model;

@@ -11,9 +11,9 @@ use crate::end::FlowEnd;
 use crate::scratch::Scratch;
 use cap_bytes::View;
 use jc_base::{MethodRec, Ty, World};
+use jc_control::Survey;
 use jc_decode::{Insn, decode};
-use jc_places::Survey;
-use jc_rows::RuleFault;
+use jc_ops::RuleFault;
 use jc_rules::Site;
 use jc_states::{PutEnd, Table};
 use std::alloc::Global;
@@ -42,7 +42,12 @@ impl Search<'_> {
         requires few { length stack.now ≤ 255 }
         requires held { AreHeld (world_of self.now) (searched self.now) table.old }
         requires frame { IsHeld (world_of self.now) (searched self.now) to (record { regs = regs.now; stack = reverse stack.now }) }
-        ensures { MatchResult result (λ _. Raised (world_of self.now) (searched self.now) table.old table.new to (record { regs = regs.now; stack = reverse stack.now })) (Prevents self.now.world.now.classes table.old to (record { regs = regs.now; stack = reverse stack.now })) }
+        ensures { MatchResult result
+            (λ _.
+            Raised (world_of self.now) (searched self.now) table.old table.new to
+            (record { regs = regs.now; stack = reverse stack.now }))
+            (Prevents self.now.world.now.classes table.old to
+            (record { regs = regs.now; stack = reverse stack.now })) }
     {
         table.put(alloc, self.world.classes(), to, regs, stack)
     }
@@ -50,7 +55,9 @@ impl Search<'_> {
     /// Whether an uninitialised object on the stack would come to a leader.
     pub fn keeps_fresh(&self, to: u16, stack: &[Ty]) -> bool
         requires { IsSearch self.now }
-        ensures { MatchBool result (IsLeader (searched self.now) to × ¬ (All IsNotFresh stack.now)) (IsLeader (searched self.now) to → All IsNotFresh stack.now) }
+        ensures { MatchBool result
+            (IsLeader (searched self.now) to × ¬ (All IsNotFresh stack.now))
+            (IsLeader (searched self.now) to → All IsNotFresh stack.now) }
     {
         self.survey.is_leader(to) && has_fresh(stack)
     }
@@ -84,9 +91,11 @@ impl Search<'_> {
         Ok(insn)
     }
 
-    /// Whether control falls past the end of the code behind the instruction.
+    /// Whether control falls past the end of the code after the instruction.
     fn falls_off(&self, place: u16, insn: Insn) -> bool
-        ensures { MatchBool result (IsTrue (falls insn.op) × (length self.now.code.bytes.now ≤ place + insn.len)) (IsTrue (falls insn.op) → place + insn.len < length self.now.code.bytes.now) }
+        ensures { MatchBool result
+            (IsTrue (falls insn.op) × (length self.now.code.bytes.now ≤ place + insn.len))
+            (IsTrue (falls insn.op) → place + insn.len < length self.now.code.bytes.now) }
     {
         insn.falls() && self.code.bytes.len() as u64 <= u64::from(place) + u64::from(insn.len)
     }

@@ -8,11 +8,11 @@ use Rattle.jc_base.specs.declared.record.MethodRec.{MethodRec}
 use Rattle.jc_base.specs.declared.record.StaticRec.{StaticRec}
 use Rattle.jc_base.specs.Class.{ClassTable}
 use Rattle.jc_base.specs.Linked.{IsMember}
-use Rattle.jc_names.specs.declared.fault.LinkFault.{LinkFault}
-use Rattle.jc_names.specs.Fault.{place_of}
-use Rattle.jc_names.specs.Names.{NamesRecord}
-use Rattle.jc_names.specs.FirstFault.{least_of, refused, IsLeast, IsFirst, AllEmpty}
-use Rattle.jc_names.proofs.ConditionLists.{things-refused, things-none, one-refused, one-none}
+use Rattle.jc_resolve.specs.declared.fault.LinkFault.{LinkFault}
+use Rattle.jc_resolve.specs.Fault.{place_of}
+use Rattle.jc_resolve.specs.Names.{NamesRecord}
+use Rattle.jc_resolve.specs.FirstFault.{least_of, refused, IsLeast, IsFirst, AllEmpty}
+use Rattle.jc_resolve.proofs.ConditionLists.{things-refused, things-none, one-refused, one-none}
 use Rattle.jc_statics.specs.Room.{statics_fault, arrays_fault}
 use Rattle.jc_members.specs.Pools.{pools, missing_members}
 use Rattle.jc_members.specs.Catches.{catch_fault, handler_places, bad_catches}

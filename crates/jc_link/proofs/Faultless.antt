@@ -11,8 +11,8 @@ use Rattle.jc_base.specs.declared.record.Member.{Member}
 use Rattle.jc_base.specs.declared.record.StaticRec.{StaticRec}
 use Rattle.jc_base.specs.Class.{ClassTable}
 use Rattle.jc_base.specs.Linked.{list_at}
-use Rattle.jc_names.specs.declared.fault.LinkFault.TheVariants.{NoMember, BadCatch}
-use Rattle.jc_names.proofs.Faultless.{faultless_first, both_faultless}
+use Rattle.jc_resolve.specs.declared.fault.LinkFault.TheVariants.{NoMember, BadCatch}
+use Rattle.jc_resolve.proofs.Faultless.{faultless_first, both_faultless}
 use Rattle.jc_members.specs.Members.{member_of}
 use Rattle.jc_members.specs.Pools.{PoolPlace, places_from, places_behind, member_fault, pools_behind}
 use Rattle.jc_members.specs.Catches.{HandlerPlace, handlers_from, handlers_behind, catches, catch_fault}

@@ -8,9 +8,9 @@ use Rattle.jc_base.specs.declared.ty.Ty.{Ty}
 use Rattle.jc_base.specs.declared.record.StaticRec.{StaticRec}
 use Rattle.jc_base.specs.Class.{ClassTable}
 use Rattle.jc_base.specs.Cell.{IsDeclared}
-use Rattle.jc_names.specs.Named.{AreNamed, infos_of}
-use Rattle.jc_names.specs.WorldTypes.{type_of}
-use Rattle.jc_names.proofs.DeclaredTypes.{type_declared}
+use Rattle.jc_resolve.specs.Named.{AreNamed, infos_of}
+use Rattle.jc_resolve.specs.WorldTypes.{type_of}
+use Rattle.jc_resolve.proofs.DeclaredTypes.{type_declared}
 use Rattle.jc_statics.specs.Statics.{Site, static_record, type_at, cells_at, records_from, sites}
 use Rattle.jc_link.specs.World.{classes_of, table_of, methods_of, statics_of}
 use Rattle.jc_link.specs.Known.{IsTableOf}

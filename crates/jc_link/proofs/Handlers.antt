@@ -20,9 +20,9 @@ use Rattle.jc_base.specs.Order.{Below, same, is_below}
 use Rattle.jc_base.specs.Linked.{Catches}
 use Rattle.jc_base.proofs.Lists.{IfSome-is}
 use Rattle.jc_base.proofs.Subtypes.{Below-from_is_below}
-use Rattle.jc_names.specs.Numbering.{numbered_classes}
-use Rattle.jc_names.specs.References.{class_named}
-use Rattle.jc_names.specs.NamedMethods.{reference_in, class_in_entry, caught, handler_named, body_by, body_of, offset_in_info}
+use Rattle.jc_resolve.specs.Numbering.{numbered_classes}
+use Rattle.jc_resolve.specs.References.{class_named}
+use Rattle.jc_resolve.specs.NamedMethods.{reference_in, class_in_entry, caught, handler_named, body_by, body_of, offset_in_info}
 use Rattle.jc_members.specs.Entries.{class_in}
 use Rattle.jc_members.specs.Members.{class_member, member_of}
 use Rattle.jc_members.specs.Catches.{caught_by, thrown_by, catches}

@@ -10,13 +10,13 @@ use Rattle.jc_base.specs.declared.record.MethodRec.{MethodRec}
 use Rattle.jc_base.specs.Class.{ClassTable}
 use Rattle.jc_base.specs.Cell.{IsDeclared}
 use Rattle.jc_base.specs.Linked.{IsMethod, IsCodeLength, lacks_code, list_at}
-use Rattle.jc_names.specs.Named as named
-use Rattle.jc_names.specs.Named.{AreNamed, IsNamedMethod, IsHandlerIn, infos_of}
-use Rattle.jc_names.specs.NamedClasses.{named_classes}
-use Rattle.jc_names.specs.NamedMethods.{named_method, named_methods, have_headers}
-use Rattle.jc_names.specs.Numbering.{NumberedMethod, numbered_classes, numbered_methods}
-use Rattle.jc_names.specs.WorldTypes.{signature_of}
-use Rattle.jc_names.proofs.NumberedLaws.{IsDescribed, all-described}
+use Rattle.jc_resolve.specs.Named as named
+use Rattle.jc_resolve.specs.Named.{AreNamed, IsNamedMethod, IsHandlerIn, infos_of}
+use Rattle.jc_resolve.specs.NamedClasses.{named_classes}
+use Rattle.jc_resolve.specs.NamedMethods.{named_method, named_methods, have_headers}
+use Rattle.jc_resolve.specs.Numbering.{NumberedMethod, numbered_classes, numbered_methods}
+use Rattle.jc_resolve.specs.WorldTypes.{signature_of}
+use Rattle.jc_resolve.proofs.NumberedLaws.{IsDescribed, all-described}
 use Rattle.jc_members.specs.Members.{member_of}
 use Rattle.jc_members.specs.Pools.{pools, missing_members}
 use Rattle.jc_members.specs.Catches.{bad_catches}

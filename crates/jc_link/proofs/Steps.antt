@@ -6,23 +6,23 @@ use Rattle.cap_package.specs.PackageRecord.{PackageRecord}
 use Rattle.jc_base.specs.declared.record.MethodRec.{MethodRec}
 use Rattle.jc_base.specs.Class.{ClassTable, IsClass, AreClasses, throwable}
 use Rattle.jc_base.specs.Linked.{AreLinkedClasses}
-use Rattle.jc_names.specs.declared.fault.LinkFault.{LinkFault}
-use Rattle.jc_names.specs.declared.fault.LinkEnd.{LinkEnd}
-use Rattle.jc_names.specs.declared.fault.LinkEnd.TheVariants.{Fault, Memory}
-use Rattle.jc_names.specs.declared.named.NamedClass.{NamedClass}
-use Rattle.jc_names.specs.Fault.{place_of}
-use Rattle.jc_names.specs.FirstFault.{◌>>=◌, IsFirst, AllEmpty}
-use Rattle.jc_names.specs.Named.{AreNamed, IsSized, infos_of}
-use Rattle.jc_names.specs.Conditions as names
-use Rattle.jc_names.specs.Due.{IsDue}
-use Rattle.jc_names.specs.Names.{NamesRecord, named, checked, names_of, Tells}
-use Rattle.jc_names.proofs.ConditionLists.{AllEmpty-append, IsFirst-append_left, IsFirst-append_right}
-use Rattle.jc_lineage.specs.Conditions as lineage
-use Rattle.jc_lineage.specs.Known.{HasKnownLine}
-use Rattle.jc_lineage.specs.Lines as lines
-use Rattle.jc_lineage.specs.Lines.{HaveLines}
-use Rattle.jc_lineage.specs.Outline.{outline}
-use Rattle.jc_lineage.proofs.Naming.{named-known}
+use Rattle.jc_resolve.specs.declared.fault.LinkFault.{LinkFault}
+use Rattle.jc_resolve.specs.declared.fault.LinkEnd.{LinkEnd}
+use Rattle.jc_resolve.specs.declared.fault.LinkEnd.TheVariants.{Fault, Memory}
+use Rattle.jc_resolve.specs.declared.named.NamedClass.{NamedClass}
+use Rattle.jc_resolve.specs.Fault.{place_of}
+use Rattle.jc_resolve.specs.FirstFault.{◌>>=◌, IsFirst, AllEmpty}
+use Rattle.jc_resolve.specs.Named.{AreNamed, IsSized, infos_of}
+use Rattle.jc_resolve.specs.Conditions as names
+use Rattle.jc_resolve.specs.Due.{IsDue}
+use Rattle.jc_resolve.specs.Names.{NamesRecord, named, checked, names_of, Tells}
+use Rattle.jc_resolve.proofs.ConditionLists.{AllEmpty-append, IsFirst-append_left, IsFirst-append_right}
+use Rattle.jc_hierarchy.specs.Conditions as lineage
+use Rattle.jc_hierarchy.specs.Known.{HasKnownLine}
+use Rattle.jc_hierarchy.specs.Lines as lines
+use Rattle.jc_hierarchy.specs.Lines.{HaveLines}
+use Rattle.jc_hierarchy.specs.Outline.{outline}
+use Rattle.jc_hierarchy.proofs.Naming.{named-known}
 use Rattle.jc_classes.specs.Conditions as classes
 use Rattle.jc_classes.specs.Known.{AreKnown, AreInRange}
 use Rattle.jc_classes.specs.Tables.{class_tables, Links, TellsEnd}
@@ -192,7 +192,7 @@ module _ (ps : List PackageRecord) (roles : List ℕ) (n : NamesRecord) (of : Ar
 pub outline_roles : (cs : List NamedClass) (roles : List ℕ) (t : ClassTable) → t ≡ outline cs roles → t ≡ outline cs t.roles
 outline_roles cs roles t e = e ∙ ap (outline cs) (sym (ap (λ (u : ClassTable). u.roles) e))
 
--- ---- the conditions one behind the other
+-- ---- the conditions one after the other
 
 module _ (ps : List PackageRecord) (roles : List ℕ) (f : LinkFault) where
   pub names_table : IsFirst place_of (names.conditions ps) f → IsFirst place_of (table_conditions ps roles) f

@@ -14,9 +14,9 @@ use Rattle.jc_base.specs.Order.{Below, is_below}
 use Rattle.jc_base.specs.Cell.{IsDeclared}
 use Rattle.jc_base.specs.Linked.{AreLinkedClasses, IsLinkedClass}
 use Rattle.jc_base.proofs.Subtypes.{Below-from_is_below, is_below-from_Below}
-use Rattle.jc_names.specs.declared.named.NamedClass.{NamedClass}
-use Rattle.jc_names.specs.Named as named
-use Rattle.jc_names.specs.Named.{AreNamed, IsNamedClass, IsNamedMethod, IsSized, infos_of}
+use Rattle.jc_resolve.specs.declared.named.NamedClass.{NamedClass}
+use Rattle.jc_resolve.specs.Named as named
+use Rattle.jc_resolve.specs.Named.{AreNamed, IsNamedClass, IsNamedMethod, IsSized, infos_of}
 use Rattle.jc_classes.specs.Known.{AreInRange}
 use Rattle.jc_classes.specs.Tables.{record_from, records_from}
 use Rattle.jc_classes.proofs.Lines.{AreAlike, IsOutline, tables-alike, tables-classes, class-alike, on_chain-alike}

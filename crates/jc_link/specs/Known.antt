@@ -4,9 +4,9 @@ use Rattle.cap_package.specs.PackageRecord.{PackageRecord}
 use Rattle.jc_base.specs.Class.{ClassTable, AreClasses}
 use Rattle.jc_base.specs.Cell.{IsDeclared, width}
 use Rattle.jc_base.specs.Linked.{AreLinkedClasses, AreSlots, IsMember, IsStatic}
-use Rattle.jc_names.specs.Named.{AreNamed, infos_of}
-use Rattle.jc_names.specs.Names.{NamesRecord, named}
-use Rattle.jc_lineage.specs.Lines.{HaveLines}
+use Rattle.jc_resolve.specs.Named.{AreNamed, infos_of}
+use Rattle.jc_resolve.specs.Names.{NamesRecord, named}
+use Rattle.jc_hierarchy.specs.Lines.{HaveLines}
 use Rattle.jc_statics.specs.Arrays.{array_records, cells_of}
 use Rattle.jc_members.specs.Pools.{pools}
 use Rattle.jc_link.specs.declared.linking.Resolved.{Resolved}
@@ -34,7 +34,11 @@ pub record AreResolved (ps : List PackageRecord) (roles : List ℕ) (x : Resolve
   pub pools_are : x.pools ≡ pools ps (table_of ps roles) (statics_of ps roles)
   pub cells : sum_by (λ f. width f.kind) x.statics ≤ 32768
   pub slots : AreSlots 0 x.statics
-  pub fields : length (array_records ps) ≤ 4096 → (t : ClassTable) → All (λ f. IsDeclared t f.ty) x.statics → All (IsStatic (length ps) t (array_records ps)) x.statics
+  pub fields :
+      length (array_records ps) ≤ 4096
+      → (t : ClassTable)
+      → All (λ f. IsDeclared t f.ty) x.statics
+      → All (IsStatic (length ps) t (array_records ps)) x.statics
   pub each : length x.pools ≡ length ps
   pub entries : All (λ pool. length pool ≤ 65535) x.pools
   pub members : All (All (IsMember (table_of ps roles) (methods_of ps roles) x.statics)) x.pools

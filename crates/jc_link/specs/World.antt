@@ -1,4 +1,6 @@
--- The world that packages and the roles of classes make (JCVM 2.2, chapters 4 and 6): each class reference, import and pool entry replaced by the one class, package or member that it names, where none of the conditions on linking is broken.
+-- The world that packages and the roles of classes make (JCVM 2.2, chapters 4 and 6): each class
+-- reference, import and pool entry replaced by the one class, package or member that it names,
+-- where none of the conditions on linking is broken.
 use Rattle.std.specs.Prelude.{◌≡◌, ℕ, List, [], ◌∷◌, ◌++◌, length, Result, Ok, Err, slice_index}
 use Rattle.std.specs.Option.{option_to_list}
 use Rattle.cap_package.specs.PackageRecord.{PackageRecord}
@@ -6,19 +8,19 @@ use Rattle.jc_base.specs.declared.record.MethodRec.{MethodRec}
 use Rattle.jc_base.specs.declared.record.StaticRec.{StaticRec}
 use Rattle.jc_base.specs.Class.{ClassTable}
 use Rattle.jc_base.specs.World.{Linked}
-use Rattle.jc_names.specs.declared.fault.LinkFault.{LinkFault}
-use Rattle.jc_names.specs.declared.fault.LinkEnd.{LinkEnd}
-use Rattle.jc_names.specs.declared.fault.LinkEnd.TheVariants.{Fault, Memory}
-use Rattle.jc_names.specs.declared.named.NamedClass.{NamedClass}
-use Rattle.jc_names.specs.Fault.{place_of}
-use Rattle.jc_names.specs.FirstFault.{IsFirst, AllEmpty}
-use Rattle.jc_names.specs.NamedClasses.{named_classes}
-use Rattle.jc_names.specs.NamedMethods.{named_methods}
-use Rattle.jc_names.specs.WorldTypes.{type_of}
-use Rattle.jc_names.specs.Named.{infos_of}
-use Rattle.jc_names.specs.Conditions as names
-use Rattle.jc_lineage.specs.Conditions as lineage
-use Rattle.jc_lineage.specs.Outline.{outline}
+use Rattle.jc_resolve.specs.declared.fault.LinkFault.{LinkFault}
+use Rattle.jc_resolve.specs.declared.fault.LinkEnd.{LinkEnd}
+use Rattle.jc_resolve.specs.declared.fault.LinkEnd.TheVariants.{Fault, Memory}
+use Rattle.jc_resolve.specs.declared.named.NamedClass.{NamedClass}
+use Rattle.jc_resolve.specs.Fault.{place_of}
+use Rattle.jc_resolve.specs.FirstFault.{IsFirst, AllEmpty}
+use Rattle.jc_resolve.specs.NamedClasses.{named_classes}
+use Rattle.jc_resolve.specs.NamedMethods.{named_methods}
+use Rattle.jc_resolve.specs.WorldTypes.{type_of}
+use Rattle.jc_resolve.specs.Named.{infos_of}
+use Rattle.jc_resolve.specs.Conditions as names
+use Rattle.jc_hierarchy.specs.Conditions as lineage
+use Rattle.jc_hierarchy.specs.Outline.{outline}
 use Rattle.jc_classes.specs.Conditions as classes
 use Rattle.jc_classes.specs.Tables.{class_tables}
 use Rattle.jc_statics.specs.Arrays.{array_records}
@@ -103,7 +105,8 @@ TellsFirst lists (Err Memory) = Unit {0}
 
 -- ---- the definition
 
--- the table of the classes exactly where nothing is at fault with classes; else the first condition by number that is broken, at its least thing
+-- the table of the classes exactly where nothing is at fault with classes; else the first condition
+-- by number that is broken, at its least thing
 abbrev pub TableTells : List PackageRecord → List ℕ → Result ClassTable LinkEnd → Type 0
 TableTells ps roles (Ok t) = (t ≡ table_of ps roles) × AllEmpty (table_conditions ps roles)
 TableTells ps roles (Err (Fault fault)) = IsFirst place_of (table_conditions ps roles) fault

@@ -8,7 +8,7 @@ use crate::tabling::table;
 use cap_package::Packages;
 use jc_base::{Classes, Pools, Statics, World};
 use jc_members::{handlers_fit, members, roles_fit};
-use jc_names::{LinkEnd, Names};
+use jc_resolve::{LinkEnd, Names};
 use jc_statics::{arrays, arrays_fit, statics, statics_fit};
 use std::alloc::Global;
 

@@ -1,5 +1,5 @@
 ghost use Rattle.std.specs.Prelude.{◌≡◌, ◌≤◌, length, IfOk, All};
-ghost use Rattle.jc_names.specs.Named.{infos_of};
+ghost use Rattle.jc_resolve.specs.Named.{infos_of};
 
 use cap_package::Packages;
 use jc_base::Infos;

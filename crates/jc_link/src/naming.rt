@@ -1,10 +1,10 @@
 ghost use Rattle.std.specs.Prelude.{◌≡◌, IfOk};
-ghost use Rattle.jc_names.specs.Conditions.{conditions};
+ghost use Rattle.jc_resolve.specs.Conditions.{conditions};
 ghost use Rattle.jc_link.specs.World.{TellsFirst, first_classes};
 ghost use Rattle.jc_link.specs.Known.{AreNamesOf};
 
 use cap_package::Packages;
-use jc_names::{LinkEnd, Names, names};
+use jc_resolve::{LinkEnd, Names, names};
 use std::alloc::Global;
 
 /// The classes and methods of packages by number.

@@ -6,8 +6,8 @@ use crate::naming::{first_classes, named};
 use cap_package::Packages;
 use jc_base::Classes;
 use jc_classes::tables;
-use jc_lineage::lineage;
-use jc_names::{LinkEnd, Names};
+use jc_hierarchy::lineage;
+use jc_resolve::{LinkEnd, Names};
 use std::alloc::Global;
 
 /// The table of the classes of packages that are named.

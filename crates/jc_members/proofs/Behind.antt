@@ -4,9 +4,9 @@ use Rattle.std.proofs.lemmas.List.Sums.{fold-append}
 use Rattle.cap_package.specs.PackageRecord.{PackageRecord}
 use Rattle.jc_base.specs.declared.record.StaticRec.{StaticRec}
 use Rattle.jc_base.specs.Class.{ClassTable}
-use Rattle.jc_names.specs.declared.fault.LinkFault.{LinkFault}
-use Rattle.jc_names.specs.Fault.{place_of}
-use Rattle.jc_names.specs.FirstFault.{least_from}
+use Rattle.jc_resolve.specs.declared.fault.LinkFault.{LinkFault}
+use Rattle.jc_resolve.specs.Fault.{place_of}
+use Rattle.jc_resolve.specs.FirstFault.{least_from}
 use Rattle.jc_members.specs.Pools.{places_from, places_behind, member_fault}
 use Rattle.jc_members.specs.Catches.{handlers_from, handlers_behind, catch_fault}
 

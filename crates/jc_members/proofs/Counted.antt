@@ -4,10 +4,10 @@ use Rattle.std.specs.Prelude.{slice_index}
 use Rattle.std.proofs.lemmas.List.{length-map}
 use Rattle.jc_base.specs.declared.record.ClassRec.{ClassRec}
 use Rattle.jc_base.specs.Class.{ClassTable}
-use Rattle.jc_names.specs.declared.named.NamedClass.{NamedClass}
-use Rattle.jc_names.specs.Numbering.{numbered_classes}
-use Rattle.jc_names.specs.NamedClasses.{named_classes, named_class}
-use Rattle.jc_names.specs.Names.{NamesRecord}
+use Rattle.jc_resolve.specs.declared.named.NamedClass.{NamedClass}
+use Rattle.jc_resolve.specs.Numbering.{numbered_classes}
+use Rattle.jc_resolve.specs.NamedClasses.{named_classes, named_class}
+use Rattle.jc_resolve.specs.Names.{NamesRecord}
 use Rattle.jc_members.specs.Fields.{HasCellsOf}
 
 pub records_counted : (classes : List NamedClass) (object_is : ℕ) (t : ClassTable) → HasCellsOf classes object_is t → length t.records ≡ length classes

@@ -26,9 +26,9 @@ use Rattle.jc_base.specs.Dispatch.{own_cells, cells_of}
 use Rattle.jc_base.specs.Linked.{AreLinkedClasses, cells_above, HasLowHalf, IsField, IsMember}
 use Rattle.jc_base.proofs.Lists.{slice_get-behind}
 use Rattle.jc_base.proofs.Instances.{cells-own, cells-on_chain}
-use Rattle.jc_names.specs.Numbering.{NumberedClass, numbered_classes}
-use Rattle.jc_names.specs.NamedClasses.{fields_described, named_classes}
-use Rattle.jc_names.proofs.ItemKinds.{kind_right}
+use Rattle.jc_resolve.specs.Numbering.{NumberedClass, numbered_classes}
+use Rattle.jc_resolve.specs.NamedClasses.{fields_described, named_classes}
+use Rattle.jc_resolve.proofs.ItemKinds.{kind_right}
 use Rattle.jc_members.specs.declared.own_field.OwnField.{OwnField}
 use Rattle.jc_members.specs.Sites.{is_there, only, standing}
 use Rattle.jc_members.specs.Fields.{cells_before, fields_in, own_fields, field_sites, HasCellsOf}

@@ -14,12 +14,12 @@ use Rattle.jc_base.specs.declared.record.StaticRec.{StaticRec}
 use Rattle.jc_base.specs.Class.{ClassTable}
 use Rattle.jc_base.specs.Dispatch.{public_of, visible_of, entry_at}
 use Rattle.jc_base.specs.Linked.{IsMember}
-use Rattle.jc_names.specs.declared.place.Place.{Place}
-use Rattle.jc_names.specs.Counts.{class_total}
-use Rattle.jc_names.proofs.Totals.{classes_total}
-use Rattle.jc_names.specs.Numbering.{numbered_classes, numbered_methods, class_at, method_at, is_at, method_places}
-use Rattle.jc_names.specs.References.{class_named, place_named}
-use Rattle.jc_names.proofs.NumberLaws.{class_below, position_below}
+use Rattle.jc_resolve.specs.declared.place.Place.{Place}
+use Rattle.jc_resolve.specs.Counts.{class_total}
+use Rattle.jc_resolve.proofs.Totals.{classes_total}
+use Rattle.jc_resolve.specs.Numbering.{numbered_classes, numbered_methods, class_at, method_at, is_at, method_places}
+use Rattle.jc_resolve.specs.References.{class_named, place_named}
+use Rattle.jc_resolve.proofs.NumberLaws.{class_below, position_below}
 use Rattle.jc_members.specs.declared.sites.Spot.{Spot}
 use Rattle.jc_members.specs.Sites.{only, standing, same_spot}
 use Rattle.jc_members.specs.Members.{static_site, static_sites, static_at}

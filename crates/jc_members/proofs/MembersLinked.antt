@@ -11,13 +11,13 @@ use Rattle.jc_base.specs.declared.record.StaticRec.{StaticRec}
 use Rattle.jc_base.specs.Class.{ClassTable, AreClasses, IsClass, is_interface, parent_of}
 use Rattle.jc_base.specs.Dispatch.{entry_at, public_of, visible_of}
 use Rattle.jc_base.specs.Linked.{AreLinkedClasses, IsMember}
-use Rattle.jc_names.specs.declared.place.Place.{Place}
-use Rattle.jc_names.specs.Numbering.{numbered_methods, method_at}
-use Rattle.jc_names.specs.References.{class_named}
-use Rattle.jc_names.specs.declared.named.NamedClass.{NamedClass}
-use Rattle.jc_names.specs.Names.{NamesRecord}
-use Rattle.jc_names.specs.NamedMethods.{reference_in, named_method, named_methods}
-use Rattle.jc_names.specs.NamedClasses.{named_classes}
+use Rattle.jc_resolve.specs.declared.place.Place.{Place}
+use Rattle.jc_resolve.specs.Numbering.{numbered_methods, method_at}
+use Rattle.jc_resolve.specs.References.{class_named}
+use Rattle.jc_resolve.specs.declared.named.NamedClass.{NamedClass}
+use Rattle.jc_resolve.specs.Names.{NamesRecord}
+use Rattle.jc_resolve.specs.NamedMethods.{reference_in, named_method, named_methods}
+use Rattle.jc_resolve.specs.NamedClasses.{named_classes}
 use Rattle.jc_members.specs.Fields.{field_sites, HasCellsOf}
 use Rattle.jc_members.specs.Entries.{class_in, token_in, field_place, method_place}
 use Rattle.jc_members.specs.Members.{class_member, proper_by, proper_in, virtual_by, virtual_member, may_name, super_by, super_of, super_member, static_at, static_member, call_member, field_of, field_member, member_of}

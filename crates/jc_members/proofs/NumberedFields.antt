@@ -8,7 +8,7 @@ use Rattle.jc_base.specs.declared.record.Member.{Member}
 use Rattle.jc_base.specs.declared.record.Member.TheVariants.{Field}
 use Rattle.jc_base.specs.Class.{ClassTable, parent_of, object}
 use Rattle.jc_base.specs.Linked.{cells_above}
-use Rattle.jc_names.specs.Numbering.{NumberedClass, numbered_class, classes_of, classes_behind, numbered_classes}
+use Rattle.jc_resolve.specs.Numbering.{NumberedClass, numbered_class, classes_of, classes_behind, numbered_classes}
 use Rattle.jc_members.specs.declared.own_field.OwnField.{OwnField}
 use Rattle.jc_members.specs.declared.sites.Spot.{Spot}
 use Rattle.jc_members.specs.Sites.{Site, only, standing, same_spot}

@@ -13,9 +13,9 @@ use Rattle.cap_package.specs.HeaderChecks.{is_static}
 use Rattle.cap_package.specs.PackageRecord.{PackageRecord}
 use Rattle.jc_base.specs.declared.ty.Ty.{Ty}
 use Rattle.jc_base.specs.declared.ty.Kind.TheVariants.{Ref, Byte, Short, Int}
-use Rattle.jc_names.specs.Numbering.{NumberedClass}
-use Rattle.jc_names.specs.NamedClasses.{describes, is_instance, fields_described, instance_fields, token_of, has_token, with_token, by_token, cells_of_field, cells_of_fields, named_interface, named_proper, named_class}
-use Rattle.jc_names.specs.WorldTypes.{type_of, kind_of, cells_of_type}
+use Rattle.jc_resolve.specs.Numbering.{NumberedClass}
+use Rattle.jc_resolve.specs.NamedClasses.{describes, is_instance, fields_described, instance_fields, token_of, has_token, with_token, by_token, cells_of_field, cells_of_fields, named_interface, named_proper, named_class}
+use Rattle.jc_resolve.specs.WorldTypes.{type_of, kind_of, cells_of_type}
 use Rattle.jc_members.specs.declared.own_field.OwnField.{OwnField}
 use Rattle.jc_members.specs.Fields.{field_with, own_field, fields_in, own_fields}
 use Rattle.jc_members.proofs.TokenCells.{cells_by as cells_by_kind, cells_of_own, with, cells_over, none_over}

@@ -11,10 +11,10 @@ use Rattle.jc_base.specs.declared.record.MethodRec.{MethodRec}
 use Rattle.jc_base.specs.Class.{ClassTable, parent_of, object}
 use Rattle.jc_base.specs.Linked.{AreLinkedClasses, IsLinkedClass, cells_above}
 use Rattle.jc_base.proofs.Lists.{IfSome-is, slice_get-front, slice_get-behind}
-use Rattle.jc_names.specs.declared.named.NamedClass.{NamedClass}
-use Rattle.jc_names.specs.Numbering.{NumberedClass, numbered_class, classes_of, classes_behind, numbered_classes}
-use Rattle.jc_names.specs.Names.{NamesRecord}
-use Rattle.jc_names.specs.NamedClasses.{named_class, named_classes}
+use Rattle.jc_resolve.specs.declared.named.NamedClass.{NamedClass}
+use Rattle.jc_resolve.specs.Numbering.{NumberedClass, numbered_class, classes_of, classes_behind, numbered_classes}
+use Rattle.jc_resolve.specs.Names.{NamesRecord}
+use Rattle.jc_resolve.specs.NamedClasses.{named_class, named_classes}
 use Rattle.jc_members.specs.Fields.{cells_before, HasRoom, HaveRoomIn, HaveRoomBehind, HaveRoom, HasCellsOf}
 use Rattle.jc_members.proofs.Counted.{records_counted}
 use Rattle.jc_members.proofs.TokenCells.{cells_over, cells_first}

@@ -128,7 +128,7 @@ pub record Stands (cells : List Ty) (at : ℕ) (f : OwnField) : Type 0 where
 alone : (own : List OwnField) (token : ℕ) (f : OwnField) → with own token ≡ f ∷ [] → flat_map cells_of_own (with own token) ≡ cells_of_own f
 alone own token f one = ap (λ (fs : List OwnField). flat_map cells_of_own fs) one ∙ append-nil (cells_of_own f)
 
--- the cells of the only field with a token stand behind those of the fields of lesser tokens
+-- the cells of the only field with a token stand after those of the fields of lesser tokens
 pub only_stands : (own : List OwnField) (n token : ℕ) (f : OwnField) → token < n → with own token ≡ f ∷ [] → Stands (cells_over own 0 n) (cells_before own token) f
 only_stands own n token f lt one =
     let rest : n ≡ token + suc (n - (token + 1)) = omega arith in

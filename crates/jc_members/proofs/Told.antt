@@ -6,13 +6,13 @@ use Rattle.cap_package.specs.PackageRecord.{PackageRecord}
 use Rattle.jc_base.specs.declared.record.Member.{Member}
 use Rattle.jc_base.specs.declared.record.StaticRec.{StaticRec}
 use Rattle.jc_base.specs.Class.{ClassTable}
-use Rattle.jc_names.specs.declared.fault.LinkFault.{LinkFault}
-use Rattle.jc_names.specs.declared.fault.LinkEnd.{LinkEnd}
-use Rattle.jc_names.specs.declared.fault.LinkEnd.TheVariants.{Fault, Memory}
-use Rattle.jc_names.specs.Fault.{place_of}
-use Rattle.jc_names.specs.Due.{IsDue}
-use Rattle.jc_names.specs.FirstFault.{◌>>=◌, least_of, refused}
-use Rattle.jc_names.proofs.LeastFaults.{least-at_fault, least-found, least-none}
+use Rattle.jc_resolve.specs.declared.fault.LinkFault.{LinkFault}
+use Rattle.jc_resolve.specs.declared.fault.LinkEnd.{LinkEnd}
+use Rattle.jc_resolve.specs.declared.fault.LinkEnd.TheVariants.{Fault, Memory}
+use Rattle.jc_resolve.specs.Fault.{place_of}
+use Rattle.jc_resolve.specs.Due.{IsDue}
+use Rattle.jc_resolve.specs.FirstFault.{◌>>=◌, least_of, refused}
+use Rattle.jc_resolve.proofs.LeastFaults.{least-at_fault, least-found, least-none}
 use Rattle.jc_members.specs.Members.{member_of}
 use Rattle.jc_members.specs.Pools.{pool_places, member_fault, missing_members, pools_behind, pools, pools_of, Tells}
 

@@ -6,9 +6,9 @@ use Rattle.cap_package.specs.PackageRecord.{PackageRecord}
 use Rattle.jc_base.specs.declared.ty.Ty.TheVariants.{Class}
 use Rattle.jc_base.specs.Class.{ClassTable, is_interface, throwable}
 use Rattle.jc_base.specs.Order.{is_below}
-use Rattle.jc_names.specs.declared.fault.LinkFault.{LinkFault}
-use Rattle.jc_names.specs.declared.fault.LinkFault.TheVariants.{BadCatch}
-use Rattle.jc_names.specs.FirstFault.{at_fault}
+use Rattle.jc_resolve.specs.declared.fault.LinkFault.{LinkFault}
+use Rattle.jc_resolve.specs.declared.fault.LinkFault.TheVariants.{BadCatch}
+use Rattle.jc_resolve.specs.FirstFault.{at_fault}
 use Rattle.jc_members.specs.Entries.{class_in}
 
 -- the class or interface that an entry names, if it is a Classref

@@ -4,9 +4,9 @@ use Rattle.cap_pool.specs.PoolFormat.{Entry}
 use Rattle.cap_pool.specs.Export.{field_in, method_in}
 use Rattle.cap_package.specs.Agreement.{or_none}
 use Rattle.cap_package.specs.PackageRecord.{PackageRecord}
-use Rattle.jc_names.specs.declared.place.Place.{Place}
-use Rattle.jc_names.specs.NamedMethods.{reference_in}
-use Rattle.jc_names.specs.References.{class_named, met_by}
+use Rattle.jc_resolve.specs.declared.place.Place.{Place}
+use Rattle.jc_resolve.specs.NamedMethods.{reference_in}
+use Rattle.jc_resolve.specs.References.{class_named, met_by}
 
 -- the class or interface that the first two bytes of an entry name
 unfoldable pub class_in : List PackageRecord → ℕ → Entry → Option ℕ
@@ -16,7 +16,8 @@ class_in ps k e = class_named ps k (reference_in e.bytes)
 abbrev pub token_in : Entry → ℕ
 token_in e = slice_index e.bytes 2
 
--- ---- static fields and methods without dispatch: of the own package by a padding byte and an offset, of another one by an import, a class token and a member token
+-- ---- static fields and methods without dispatch: of the own package by a padding byte and an
+-- offset, of another one by an import, a class token and a member token
 
 -- the offset of the static field or method that a package exports, by its class's token and its own
 abbrev pub exported_field : List PackageRecord → ℕ → ℕ → ℕ → Option ℕ
@@ -34,7 +35,8 @@ abbrev pub exported_place : List PackageRecord → (ℕ → ℕ → ℕ → Opti
 exported_place ps exported k e =
     option_and_then (λ j. option_map (λ offset. record { «package» = j; offset = offset }) (exported j (slice_index e.bytes 1) (slice_index e.bytes 2))) (met_by ps k (slice_index e.bytes 0 - 128))
 
--- where the static field or the method stands that an entry of a package names: the high bit of its first byte tells that it is of another package
+-- where the static field or the method stands that an entry of a package names: the high bit of its
+-- first byte tells that it is of another package
 unfoldable pub field_place : List PackageRecord → ℕ → Entry → Option Place
 field_place ps k e = if nat_lt (slice_index e.bytes 0) 128 then Some (own_place k e) else exported_place ps (exported_field ps) k e
 

@@ -11,9 +11,9 @@ use Rattle.jc_base.specs.declared.record.ClassRec.{ClassRec}
 use Rattle.jc_base.specs.Cell.{width}
 use Rattle.jc_base.specs.Class.{ClassTable, parent_of, object}
 use Rattle.jc_base.specs.Linked.{cells_above}
-use Rattle.jc_names.specs.declared.named.NamedClass.{NamedClass}
-use Rattle.jc_names.specs.NamedClasses.{describes, token_of}
-use Rattle.jc_names.specs.WorldTypes.{type_of, kind_of}
+use Rattle.jc_resolve.specs.declared.named.NamedClass.{NamedClass}
+use Rattle.jc_resolve.specs.NamedClasses.{describes, token_of}
+use Rattle.jc_resolve.specs.WorldTypes.{type_of, kind_of}
 use Rattle.jc_members.specs.declared.own_field.OwnField.{OwnField}
 use Rattle.jc_members.specs.Sites.{Site}
 
@@ -43,7 +43,8 @@ cells_before fields token = cells_taken (filter (λ (f : OwnField). nat_lt f.tok
 
 -- ---- the fields of all classes
 
--- a field of the class c, whose superclass has so many cells: its first cell lies behind those of the superclass and of the fields of lesser tokens
+-- a field of the class c, whose superclass has so many cells: its first cell lies after those of
+-- the superclass and of the fields of lesser tokens
 abbrev pub field_site : ℕ → ℕ → List OwnField → OwnField → Site
 field_site above c fields f = record { spot = record { owner = c; number = f.token }; member = Field c (above + cells_before fields f.token) f.kind f.ty }
 

@@ -8,8 +8,8 @@ use Rattle.jc_base.specs.declared.record.Member.TheVariants.{ClassOf, Field, Sta
 use Rattle.jc_base.specs.declared.record.StaticRec.{StaticRec}
 use Rattle.jc_base.specs.Class.{ClassTable, is_interface, parent_of, chain}
 use Rattle.jc_base.specs.Dispatch.{entry_at, package_of}
-use Rattle.jc_names.specs.declared.place.Place.{Place}
-use Rattle.jc_names.specs.Numbering.{method_at}
+use Rattle.jc_resolve.specs.declared.place.Place.{Place}
+use Rattle.jc_resolve.specs.Numbering.{method_at}
 use Rattle.jc_members.specs.declared.sites.Spot.{Spot}
 use Rattle.jc_members.specs.Sites.{Site, only, is_there, standing, kept_at}
 use Rattle.jc_members.specs.Fields.{field_sites}

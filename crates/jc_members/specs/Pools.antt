@@ -5,12 +5,12 @@ use Rattle.cap_package.specs.PackageRecord.{PackageRecord}
 use Rattle.jc_base.specs.declared.record.Member.{Member}
 use Rattle.jc_base.specs.declared.record.StaticRec.{StaticRec}
 use Rattle.jc_base.specs.Class.{ClassTable}
-use Rattle.jc_names.specs.declared.fault.LinkFault.{LinkFault}
-use Rattle.jc_names.specs.declared.fault.LinkFault.TheVariants.{NoMember}
-use Rattle.jc_names.specs.declared.fault.LinkEnd.{LinkEnd}
-use Rattle.jc_names.specs.declared.fault.LinkEnd.TheVariants.{Fault, Memory}
-use Rattle.jc_names.specs.Fault.{place_of}
-use Rattle.jc_names.specs.FirstFault.{◌>>=◌, least_of, refused, at_fault, IsLeast}
+use Rattle.jc_resolve.specs.declared.fault.LinkFault.{LinkFault}
+use Rattle.jc_resolve.specs.declared.fault.LinkFault.TheVariants.{NoMember}
+use Rattle.jc_resolve.specs.declared.fault.LinkEnd.{LinkEnd}
+use Rattle.jc_resolve.specs.declared.fault.LinkEnd.TheVariants.{Fault, Memory}
+use Rattle.jc_resolve.specs.Fault.{place_of}
+use Rattle.jc_resolve.specs.FirstFault.{◌>>=◌, least_of, refused, at_fault, IsLeast}
 use Rattle.jc_members.specs.Members.{member_of}
 
 -- an entry with the numbers of its package and of itself

@@ -4,9 +4,9 @@ use Rattle.std.specs.List.{list_all}
 use Rattle.jc_base.specs.declared.record.MethodRec.{MethodRec}
 use Rattle.jc_base.specs.Class.{ClassTable, is_interface, chain}
 use Rattle.jc_base.specs.Dispatch.{package_of, public_of, visible_in}
-use Rattle.jc_names.specs.declared.fault.LinkFault.{LinkFault}
-use Rattle.jc_names.specs.declared.fault.LinkFault.TheVariants.{RoleAbstract}
-use Rattle.jc_names.specs.FirstFault.{at_fault}
+use Rattle.jc_resolve.specs.declared.fault.LinkFault.{LinkFault}
+use Rattle.jc_resolve.specs.declared.fault.LinkFault.TheVariants.{RoleAbstract}
+use Rattle.jc_resolve.specs.FirstFault.{at_fault}
 
 abbrev pub has_body_by : Option MethodRec → Bool
 has_body_by None = false
@@ -20,7 +20,9 @@ has_body methods n = has_body_by (slice_get methods n)
 abbrev pub visible_bodies : ClassTable → List MethodRec → ℕ → ℕ → Bool
 visible_bodies t methods c a = list_all (has_body methods) (visible_in t (package_of t a) c)
 
--- whether objects can be made of a class: it is no interface, and no entry of its dispatch lists is abstract, which are its public list and, for each package that has the class or a superclass of it, the package-visible list of the nearest such class
+-- whether objects can be made of a class: it is no interface, and no entry of its dispatch lists is
+-- abstract, which are its public list and, for each package that has the class or a superclass of
+-- it, the package-visible list of the nearest such class
 unfoldable pub is_concrete : ClassTable → List MethodRec → ℕ → Bool
 is_concrete t methods c = not (is_interface t c) && (list_all (has_body methods) (public_of t c) && list_all (visible_bodies t methods c) (chain t c))
 

@@ -2,16 +2,16 @@ ghost use Rattle.std.specs.Prelude.{◌≡◌, ◌≤◌, ◌<◌, IfSome, Some,
 ghost use Rattle.cap_method.specs.MethodPart.{handlers_left};
 ghost use Rattle.cap_pool.specs.Pool.{entries};
 ghost use Rattle.jc_base.specs.Class.{IsClass, throwable};
-ghost use Rattle.jc_names.specs.Numbering.{numbered_classes};
-ghost use Rattle.jc_names.specs.Fault.{place_of};
-ghost use Rattle.jc_names.specs.FirstFault.{least_from, least_of, refused};
+ghost use Rattle.jc_resolve.specs.Numbering.{numbered_classes};
+ghost use Rattle.jc_resolve.specs.Fault.{place_of};
+ghost use Rattle.jc_resolve.specs.FirstFault.{least_from, least_of, refused};
 ghost use Rattle.jc_members.specs.Catches.{caught_by, thrown_by, catches, handlers_from, handler_places, catch_fault};
 
 use crate::entries::class_in;
 use cap_method::{HandlerInfo, Handlers};
 use cap_pool::Pool;
 use jc_base::{Classes, Ty, below};
-use jc_names::{LinkFault, Names, lesser, refuse};
+use jc_resolve::{LinkFault, Names, lesser, refuse};
 
 /// The tag of a Classref.
 const CLASSREF: u8 = 1;
@@ -76,7 +76,10 @@ fn catch_fault(
 ) -> Option<LinkFault>
     requires count { length classes.now.records ≡ length (numbered_classes names.now.packages) }
     requires throwable { IsClass classes.now (throwable classes.now) }
-    ensures { result ≡ catch_fault names.now.packages classes.now (record { home = «package»; pool = entries pool.now; number = number; handler = handler }) }
+    ensures { result
+        ≡ catch_fault names.now.packages classes.now
+        (record
+        { home = «package»; pool = entries pool.now; number = number; handler = handler }) }
 {
     if catches(names, classes, package, pool, handler.index) {
         None
@@ -97,7 +100,10 @@ fn handlers_catch(
     requires count { length classes.now.records ≡ length (numbered_classes names.now.packages) }
     requires throwable { IsClass classes.now (throwable classes.now) }
     requires few { length (handlers_left handlers) ≤ 255 }
-    ensures { result ≡ least_from place_of least (catch_fault names.now.packages classes.now) (handlers_from «package» (entries pool.now) 0 (handlers_left handlers.entry)) }
+    ensures { result
+        ≡ least_from place_of least
+        (catch_fault names.now.packages classes.now)
+        (handlers_from «package» (entries pool.now) 0 (handlers_left handlers.entry)) }
 {
     let mut least = least;
     let mut number: u16 = 0;

@@ -2,7 +2,7 @@ ghost use Rattle.std.specs.Prelude.{◌≡◌, ◌<◌, [], IfSome, length, slic
 ghost use Rattle.cap_pool.specs.Pool.{entry_seen};
 ghost use Rattle.jc_base.specs.Class.{IsClass};
 ghost use Rattle.jc_base.specs.Dispatch.{entry_at, package_of};
-ghost use Rattle.jc_names.specs.Numbering.{numbered_classes};
+ghost use Rattle.jc_resolve.specs.Numbering.{numbered_classes};
 ghost use Rattle.jc_members.specs.Sites.{all_entered};
 ghost use Rattle.jc_members.specs.Entries.{class_in, token_in, exported_field, exported_method, own_place, field_place, method_place};
 ghost use Rattle.jc_members.specs.Members.{class_member, proper_in, virtual_member, may_name, super_of, super_member, static_sites, static_at, static_member, call_member};
@@ -11,7 +11,7 @@ use crate::sites::{Sites, Spot};
 use cap_package::Packages;
 use cap_pool::PoolEntry;
 use jc_base::{Classes, Dispatch, Member, Statics};
-use jc_names::{Names, Place};
+use jc_resolve::{Names, Place};
 
 /// The class or interface that the first two bytes of an entry name.
 #[tactic(auto, unfolding(crate::specs::Entries::class_in))]

@@ -3,8 +3,8 @@ ghost use Rattle.cap_class.specs.ClassPart.{classes_left};
 ghost use Rattle.cap_pool.specs.Pool.{entry_seen};
 ghost use Rattle.jc_base.specs.Class.{IsClass, object, parent_of};
 ghost use Rattle.jc_base.specs.Linked.{cells_above};
-ghost use Rattle.jc_names.specs.Counts.{class_total};
-ghost use Rattle.jc_names.specs.Numbering.{numbered_classes};
+ghost use Rattle.jc_resolve.specs.Counts.{class_total};
+ghost use Rattle.jc_resolve.specs.Numbering.{numbered_classes};
 ghost use Rattle.jc_members.specs.Fields.{HasRoom, HaveRoomIn, HaveRoom, class_sites, sites_of_classes, field_sites};
 ghost use Rattle.jc_members.specs.Sites.{all_entered};
 ghost use Rattle.jc_members.specs.Members.{as_of, kept_holder, kept_field, field_member};
@@ -15,7 +15,7 @@ use crate::sites::{Sites, Spot};
 use cap_package::Package;
 use cap_pool::PoolEntry;
 use jc_base::{Classes, Member};
-use jc_names::Names;
+use jc_resolve::Names;
 use std::alloc::{AllocError, Global};
 
 /// How many cells the superclass of a class has.
@@ -75,7 +75,11 @@ fn enter_package(
     requires few { length classes.now.records ≤ 4096 }
     requires known { first + length «package».now.classes ≤ length classes.now.records }
     requires room { HaveRoomIn names.now.packages classes.now number «package».now first «package».now.classes }
-    ensures { OnOk result (sites.new ≡ all_entered sites.old (sites_of_classes names.now.packages classes.now number «package».now first «package».now.classes)) }
+    ensures { OnOk result
+        (sites.new
+        ≡ all_entered sites.old
+        (sites_of_classes names.now.packages classes.now number «package».now first
+        «package».now.classes)) }
 {
     let mut c = first;
     'classes: for class in package.classes().iter() {

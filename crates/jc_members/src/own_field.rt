@@ -10,7 +10,7 @@ use cap_class::ClassInfo;
 use cap_desc::{DescClass, DescFields, DescPart, FieldInfo};
 use cap_package::{Package, field_type};
 use jc_base::{Kind, Ty};
-use jc_names::{Names, kind_of, width};
+use jc_resolve::{Names, kind_of, width};
 use std::alloc::{AllocError, Global};
 
 /// An instance field that a class has of its own.
@@ -30,7 +30,10 @@ fn own_field(
     descriptor: &DescPart<'_>,
     field: FieldInfo,
 ) -> Option<OwnField>
-    ensures { result ≡ own_field names.now.packages (slice_index names.now.roles 0) «package» (description descriptor.now) (field_seen field) }
+    ensures { result
+        ≡ own_field names.now.packages
+        (slice_index names.now.roles 0) «package» (description descriptor.now)
+        (field_seen field) }
 {
     if field.flags.is_static() {
         return None;
@@ -51,7 +54,9 @@ fn push_fields(
     descriptor: &DescPart<'_>,
     fields: DescFields<'_>,
 ) -> Result<(), AllocError>
-    ensures { OnOk result (own.new.items ≡ own.old.items ++ filter_map (own_field names.now.packages (slice_index names.now.roles 0) «package» (description descriptor.now)) (fields_left fields.entry)) }
+    ensures { OnOk result
+        (own.new.items
+        ≡ own.old.items ++ filter_map (own_field names.now.packages (slice_index names.now.roles 0) «package» (description descriptor.now)) (fields_left fields.entry)) }
 {
     'fields: for field in fields {
         if let Some(field) = own_field(names, package, descriptor, field) {
@@ -70,7 +75,9 @@ fn push_record(
     offset: u16,
     described: DescClass<'_>,
 ) -> Result<(), AllocError>
-    ensures { OnOk result (own.new.items ≡ own.old.items ++ fields_in names.now.packages (slice_index names.now.roles 0) «package» (description descriptor.now) offset (class_seen described.entry)) }
+    ensures { OnOk result
+        (own.new.items
+        ≡ own.old.items ++ fields_in names.now.packages (slice_index names.now.roles 0) «package» (description descriptor.now) offset (class_seen described.entry)) }
 {
     if offset < 0x8000 && described.class_ref() == offset {
         return push_fields(own, names, package, descriptor, described.fields());
@@ -87,7 +94,11 @@ pub(crate) fn own_fields(
     package: &Package<'_, '_>,
     class: ClassInfo<'_>,
 ) -> Result<Vec<OwnField>, AllocError>
-    ensures { IfOk result (λ own. own.items ≡ own_fields names.now.packages (slice_index names.now.roles 0) number «package».now (record_seen class.entry)) }
+    ensures { IfOk result
+        (λ own.
+        own.items
+        ≡ own_fields names.now.packages
+        (slice_index names.now.roles 0) number «package».now (record_seen class.entry)) }
 {
     let mut own = Vec::new(alloc);
     if class.flags().is_interface() {

@@ -2,11 +2,11 @@ ghost use Rattle.std.specs.Prelude.{◌≡◌, ◌≤◌, [], ◌++◌, All, IfO
 ghost use Rattle.std.specs.Option.{option_to_list};
 ghost use Rattle.cap_pool.specs.Pool.{entries, entry_seen};
 ghost use Rattle.jc_base.specs.Linked.{AreLinkedClasses, IsMember};
-ghost use Rattle.jc_names.specs.Counts.{class_total};
-ghost use Rattle.jc_names.specs.Due.{IsDue};
-ghost use Rattle.jc_names.specs.declared.fault.LinkFault.TheVariants.{NoMember};
-ghost use Rattle.jc_names.specs.Fault.{place_of};
-ghost use Rattle.jc_names.specs.FirstFault.{least_from, least_of};
+ghost use Rattle.jc_resolve.specs.Counts.{class_total};
+ghost use Rattle.jc_resolve.specs.Due.{IsDue};
+ghost use Rattle.jc_resolve.specs.declared.fault.LinkFault.TheVariants.{NoMember};
+ghost use Rattle.jc_resolve.specs.Fault.{place_of};
+ghost use Rattle.jc_resolve.specs.FirstFault.{least_from, least_of};
 ghost use Rattle.jc_members.specs.Fields.{HasCellsOf, field_sites};
 ghost use Rattle.jc_members.specs.Sites.{all_entered};
 ghost use Rattle.jc_members.specs.Members.{static_sites, member_of};
@@ -19,7 +19,7 @@ use crate::fields::{field_member, field_sites};
 use crate::sites::{Sites, static_sites};
 use cap_pool::{Pool, PoolEntry};
 use jc_base::{Classes, Items, Member, Pools, Statics};
-use jc_names::{LinkEnd, LinkFault, Names, lesser, refuse};
+use jc_resolve::{LinkEnd, LinkFault, Names, lesser, refuse};
 use std::alloc::{AllocError, Global};
 
 /// Members by where they are described.
@@ -115,8 +115,18 @@ fn pool_members(
     requires linked { AreLinkedClasses (length names.now.packages) classes.now names.now.methods }
     requires statics { tables.now.statics ≡ all_entered [] (static_sites statics.now) }
     requires fields { tables.now.fields ≡ all_entered [] (field_sites names.now.packages classes.now) }
-    ensures fault { IfOk result (λ r. r.1 ≡ least_from place_of least (member_fault names.now.packages classes.now statics.now) (places_from «package» 0 (entries pool.now))) }
-    ensures members { IfOk result (λ r. r.0.items ≡ filter_map (member_of names.now.packages classes.now statics.now «package») (entries pool.now)) }
+    ensures fault { IfOk result
+        (λ r.
+        r.1
+        ≡ least_from place_of least
+        (member_fault names.now.packages classes.now statics.now)
+        (places_from «package» 0 (entries pool.now))) }
+    ensures members { IfOk result
+        (λ r.
+        r.0.items
+        ≡ filter_map
+        (member_of names.now.packages classes.now statics.now «package»)
+        (entries pool.now)) }
     ensures linked { IfOk result (λ r. All (IsMember classes.now names.now.methods statics.now) r.0.items) }
     ensures few { IfOk result (λ r. length r.0.items ≤ 65535) }
 {
@@ -146,7 +156,12 @@ fn named(
     requires statics { tables.now.statics ≡ all_entered [] (static_sites statics.now) }
     requires fields { tables.now.fields ≡ all_entered [] (field_sites names.now.packages classes.now) }
     ensures pools { IfOk result (λ r. r.0 ≡ pools names.now.packages classes.now statics.now) }
-    ensures fault { IfOk result (λ r. r.1 ≡ least_of place_of (member_fault names.now.packages classes.now statics.now) (pool_places names.now.packages)) }
+    ensures fault { IfOk result
+        (λ r.
+        r.1
+        ≡ least_of place_of
+        (member_fault names.now.packages classes.now statics.now)
+        (pool_places names.now.packages)) }
     ensures linked { IfOk result (λ r. All (All (IsMember classes.now names.now.methods statics.now)) r.0) }
     ensures few { IfOk result (λ r. All (λ pool. length pool ≤ 65535) r.0) }
 {

@@ -1,11 +1,11 @@
 ghost use Rattle.std.specs.Prelude.{◌≡◌, ◌<◌, ℕ, length, slice_index};
 ghost use Rattle.jc_base.specs.Linked.{AreLinkedClasses};
-ghost use Rattle.jc_names.specs.Fault.{place_of};
-ghost use Rattle.jc_names.specs.FirstFault.{least_of, refused};
+ghost use Rattle.jc_resolve.specs.Fault.{place_of};
+ghost use Rattle.jc_resolve.specs.FirstFault.{least_of, refused};
 ghost use Rattle.jc_members.specs.Roles.{is_concrete, role_fault, thrown_roles};
 
 use jc_base::{Classes, Methods};
-use jc_names::{LinkFault, lesser, refuse};
+use jc_resolve::{LinkFault, lesser, refuse};
 
 /// Whether objects can be made of a class.
 fn is_concrete(classes: &Classes, methods: &Methods, class: u16) -> bool

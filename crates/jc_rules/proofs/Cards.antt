@@ -9,8 +9,8 @@ use Rattle.jc_base.specs.World.{Linked, IsWorld}
 use Rattle.jc_base.proofs.Lists.{All-slice_get}
 use Rattle.jc_base.proofs.Joins.{join_of-is, IsJoin-known, IsJoin-monotone, IsJoin-above}
 use Rattle.std.proofs.lemmas.List.Elements.{All-set}
-use Rattle.jc_rows.specs.Row.{row_at}
-use Rattle.jc_rows.proofs.Naming.{names-are-sound}
+use Rattle.jc_ops.specs.Row.{row_at}
+use Rattle.jc_ops.proofs.Naming.{names-are-sound}
 use Rattle.jc_rules.specs.declared.effect.Cells.{Cells}
 use Rattle.jc_rules.specs.declared.effect.Cells.TheVariants as given
 use Rattle.jc_rules.specs.declared.effect.Mode.TheVariants.{Card, Flow}

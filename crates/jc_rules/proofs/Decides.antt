@@ -8,13 +8,13 @@ use Rattle.jc_base.specs.Class.{ClassTable, AreClasses}
 use Rattle.jc_base.proofs.Joins.{IsJoin-unique}
 use Rattle.jc_base.specs.World.{Linked, member_at}
 use Rattle.jc_decode.specs.declared.insn.Insn.{Insn}
-use Rattle.jc_rows.specs.declared.fault.RuleFault.{RuleFault}
-use Rattle.jc_rows.specs.declared.named.Named.{Named}
-use Rattle.jc_rows.specs.declared.row.Make.TheVariants as makes
-use Rattle.jc_rows.specs.declared.row.Row.{Row}
-use Rattle.jc_rows.specs.declared.row.Row.TheVariants as rows
-use Rattle.jc_rows.specs.Row.{row_at}
-use Rattle.jc_rows.specs.Named.{Names, NamesObject, short_of}
+use Rattle.jc_ops.specs.declared.fault.RuleFault.{RuleFault}
+use Rattle.jc_ops.specs.declared.named.Named.{Named}
+use Rattle.jc_ops.specs.declared.row.Make.TheVariants as makes
+use Rattle.jc_ops.specs.declared.row.Row.{Row}
+use Rattle.jc_ops.specs.declared.row.Row.TheVariants as rows
+use Rattle.jc_ops.specs.Row.{row_at}
+use Rattle.jc_ops.specs.Named.{Names, NamesObject, short_of}
 use Rattle.jc_rules.specs.declared.demand.Demand.{Demand}
 use Rattle.jc_rules.specs.declared.rule.Site.{Site}
 use Rattle.jc_rules.specs.declared.rule.Outcome.{Outcome}

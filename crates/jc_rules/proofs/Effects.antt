@@ -15,31 +15,31 @@ use Rattle.jc_base.specs.Linked.{IsMethod}
 use Rattle.jc_base.specs.World.{Linked, IsWorld}
 use Rattle.jc_base.proofs.Lists.{All-slice_get, slice_get-below}
 use Rattle.jc_decode.specs.declared.insn.Insn.{Insn}
-use Rattle.jc_rows.specs.declared.row.Sort.{Sort}
-use Rattle.jc_rows.specs.declared.row.Sort.TheVariants as sorts
-use Rattle.jc_rows.specs.declared.row.Width.{Width}
-use Rattle.jc_rows.specs.declared.row.Width.TheVariants as widths
-use Rattle.jc_rows.specs.declared.row.Constant.{Constant}
-use Rattle.jc_rows.specs.declared.row.Constant.TheVariants as constants
-use Rattle.jc_rows.specs.declared.row.Move.{Move}
-use Rattle.jc_rows.specs.declared.row.Move.TheVariants as moves
-use Rattle.jc_rows.specs.declared.row.Arithmetic.{Arithmetic}
-use Rattle.jc_rows.specs.declared.row.Arithmetic.TheVariants as arithmetic
-use Rattle.jc_rows.specs.declared.row.Branch.{Branch}
-use Rattle.jc_rows.specs.declared.row.Branch.TheVariants as branches
-use Rattle.jc_rows.specs.declared.row.Holder.{Holder}
-use Rattle.jc_rows.specs.declared.row.Holder.TheVariants as holders
-use Rattle.jc_rows.specs.declared.row.Make.{Make}
-use Rattle.jc_rows.specs.declared.row.Make.TheVariants as makes
-use Rattle.jc_rows.specs.declared.row.TypeTest.{TypeTest}
-use Rattle.jc_rows.specs.declared.row.TypeTest.TheVariants as tests
-use Rattle.jc_rows.specs.declared.row.Row.{Row}
-use Rattle.jc_rows.specs.declared.row.Row.TheVariants as rows
-use Rattle.jc_rows.specs.declared.want.Want.{Want}
-use Rattle.jc_rows.specs.declared.want.Want.TheVariants.{Value, Storable, ByteArray, AnyArray, Whole, Receiver}
-use Rattle.jc_rows.specs.declared.named.Named.{Named}
-use Rattle.jc_rows.specs.declared.named.Named.TheVariants as names
-use Rattle.jc_rows.specs.Named.{IsGiven, IsSound, IsKnownWant, byte_of}
+use Rattle.jc_ops.specs.declared.row.Sort.{Sort}
+use Rattle.jc_ops.specs.declared.row.Sort.TheVariants as sorts
+use Rattle.jc_ops.specs.declared.row.Width.{Width}
+use Rattle.jc_ops.specs.declared.row.Width.TheVariants as widths
+use Rattle.jc_ops.specs.declared.row.Constant.{Constant}
+use Rattle.jc_ops.specs.declared.row.Constant.TheVariants as constants
+use Rattle.jc_ops.specs.declared.row.Move.{Move}
+use Rattle.jc_ops.specs.declared.row.Move.TheVariants as moves
+use Rattle.jc_ops.specs.declared.row.Arithmetic.{Arithmetic}
+use Rattle.jc_ops.specs.declared.row.Arithmetic.TheVariants as arithmetic
+use Rattle.jc_ops.specs.declared.row.Branch.{Branch}
+use Rattle.jc_ops.specs.declared.row.Branch.TheVariants as branches
+use Rattle.jc_ops.specs.declared.row.Holder.{Holder}
+use Rattle.jc_ops.specs.declared.row.Holder.TheVariants as holders
+use Rattle.jc_ops.specs.declared.row.Make.{Make}
+use Rattle.jc_ops.specs.declared.row.Make.TheVariants as makes
+use Rattle.jc_ops.specs.declared.row.TypeTest.{TypeTest}
+use Rattle.jc_ops.specs.declared.row.TypeTest.TheVariants as tests
+use Rattle.jc_ops.specs.declared.row.Row.{Row}
+use Rattle.jc_ops.specs.declared.row.Row.TheVariants as rows
+use Rattle.jc_ops.specs.declared.want.Want.{Want}
+use Rattle.jc_ops.specs.declared.want.Want.TheVariants.{Value, Storable, ByteArray, AnyArray, Whole, Receiver}
+use Rattle.jc_ops.specs.declared.named.Named.{Named}
+use Rattle.jc_ops.specs.declared.named.Named.TheVariants as names
+use Rattle.jc_ops.specs.Named.{IsGiven, IsSound, IsKnownWant, byte_of}
 use Rattle.jc_rules.specs.declared.demand.Demand.{Demand}
 use Rattle.jc_rules.specs.declared.demand.Demand.TheVariants.{Cell, Held}
 use Rattle.jc_rules.specs.declared.effect.Cells.{Cells}

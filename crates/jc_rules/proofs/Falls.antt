@@ -10,15 +10,15 @@ use Rattle.jc_base.specs.Order.{Below, same, joined, nothing, anything, null_obj
 use Rattle.jc_base.proofs.Subtypes.{is_below-from_Below, Below-from_is_below}
 use Rattle.jc_base.specs.World.{Linked}
 use Rattle.jc_decode.specs.declared.insn.Insn.{Insn}
-use Rattle.jc_rows.specs.declared.row.Sort.{Sort}
-use Rattle.jc_rows.specs.declared.row.Sort.TheVariants as sorts
-use Rattle.jc_rows.specs.declared.row.Row.{Row}
-use Rattle.jc_rows.specs.declared.row.Row.TheVariants as rows
-use Rattle.jc_rows.specs.declared.want.Want.{Want}
-use Rattle.jc_rows.specs.declared.want.Want.TheVariants.{Value, Storable, ByteArray, AnyArray, Whole, Receiver}
-use Rattle.jc_rows.specs.declared.named.Named.{Named}
-use Rattle.jc_rows.specs.declared.named.Named.TheVariants as names
-use Rattle.jc_rows.specs.Row.{row_at}
+use Rattle.jc_ops.specs.declared.row.Sort.{Sort}
+use Rattle.jc_ops.specs.declared.row.Sort.TheVariants as sorts
+use Rattle.jc_ops.specs.declared.row.Row.{Row}
+use Rattle.jc_ops.specs.declared.row.Row.TheVariants as rows
+use Rattle.jc_ops.specs.declared.want.Want.{Want}
+use Rattle.jc_ops.specs.declared.want.Want.TheVariants.{Value, Storable, ByteArray, AnyArray, Whole, Receiver}
+use Rattle.jc_ops.specs.declared.named.Named.{Named}
+use Rattle.jc_ops.specs.declared.named.Named.TheVariants as names
+use Rattle.jc_ops.specs.Row.{row_at}
 use Rattle.jc_rules.specs.declared.demand.Demand.{Demand}
 use Rattle.jc_rules.specs.declared.demand.Demand.TheVariants.{Registers, Depth, Cell, Cut, Held}
 use Rattle.jc_rules.specs.declared.effect.Cells.{Cells}

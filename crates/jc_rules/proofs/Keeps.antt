@@ -10,9 +10,9 @@ use Rattle.jc_base.specs.Class.{ClassTable, AreClasses}
 use Rattle.jc_base.specs.Order.{Below, IsJoin, IsKnown, nothing}
 use Rattle.jc_base.specs.Linked.{IsMethod}
 use Rattle.jc_base.specs.World.{Linked, IsWorld}
-use Rattle.jc_rows.specs.Row.{row_at}
-use Rattle.jc_rows.specs.Named.{IsSound}
-use Rattle.jc_rows.proofs.Naming.{names-are-sound}
+use Rattle.jc_ops.specs.Row.{row_at}
+use Rattle.jc_ops.specs.Named.{IsSound}
+use Rattle.jc_ops.proofs.Naming.{names-are-sound}
 use Rattle.jc_rules.specs.declared.effect.Cells.{Cells}
 use Rattle.jc_rules.specs.declared.effect.Cells.TheVariants as given
 use Rattle.jc_rules.specs.declared.effect.Mode.{Mode}

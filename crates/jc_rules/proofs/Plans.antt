@@ -7,11 +7,11 @@ use Rattle.jc_base.specs.Order.{IsKnown}
 use Rattle.jc_base.specs.Linked.{IsMethod}
 use Rattle.jc_base.specs.World.{Linked, IsWorld}
 use Rattle.jc_decode.specs.declared.insn.Insn.{Insn}
-use Rattle.jc_rows.specs.declared.row.Row.{Row}
-use Rattle.jc_rows.specs.declared.named.Named.{Named}
-use Rattle.jc_rows.specs.Row.{row_at}
-use Rattle.jc_rows.specs.Named.{IsSound}
-use Rattle.jc_rows.proofs.Naming.{names-are-sound}
+use Rattle.jc_ops.specs.declared.row.Row.{Row}
+use Rattle.jc_ops.specs.declared.named.Named.{Named}
+use Rattle.jc_ops.specs.Row.{row_at}
+use Rattle.jc_ops.specs.Named.{IsSound}
+use Rattle.jc_ops.proofs.Naming.{names-are-sound}
 use Rattle.jc_rules.specs.declared.effect.Effect.{Effect}
 use Rattle.jc_rules.specs.declared.effect.Mode.{Mode}
 use Rattle.jc_rules.specs.declared.rule.Site.{Site}

@@ -16,7 +16,7 @@ use Rattle.jc_rules.specs.Typing.{Clashes, depths, cells, IsMerged}
 abbrev pub RoseTo : ClassTable → List Ty → List Ty → Bool → Type 0
 RoseTo t old now b = MatchBool b (sum_by (rises_left t) now < sum_by (rises_left t) old) (now ≡ old)
 
--- the first n cells are joined, and those behind are as they were
+-- the first n cells are joined, and those after are as they were
 pub record RaisedTo (t : ClassTable) (old others : List Ty) (n : ℕ) (now : List Ty) (rises : Bool) : Type 0 where
   pub count : length now ≡ length old
   pub known : All (IsKnown t) now

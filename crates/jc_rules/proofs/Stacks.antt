@@ -15,7 +15,7 @@ module _ {X : Type 0} where
   drop_first : (k : ℕ) (xs ys : List X) → length xs ≡ k → drop k (xs ++ ys) ≡ ys
   drop_first k xs ys e = subst (λ n. drop n (xs ++ ys) ≡ ys) e (drop-append_seam xs ys)
 
-  -- a list whose last k elements are b, from behind
+  -- a list whose last k elements are b, from after
   reverse-parts : (k : ℕ) (a b : List X) → length b ≡ k → (take k (reverse (a ++ b)) ≡ reverse b) × (drop k (reverse (a ++ b)) ≡ reverse a)
   reverse-parts k a b e = (
     ap (take k) (reverse-append a b) ∙ take_first k (reverse b) (reverse a) (length-reverse b ∙ e),

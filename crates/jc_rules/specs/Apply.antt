@@ -5,11 +5,11 @@ use Rattle.jc_base.specs.declared.ty.Ty.{Ty}
 use Rattle.jc_base.specs.declared.record.MethodRec.{MethodRec}
 use Rattle.jc_base.specs.World.{Linked}
 use Rattle.jc_decode.specs.declared.insn.Insn.{Insn}
-use Rattle.jc_rows.specs.declared.fault.RuleFault.{RuleFault}
-use Rattle.jc_rows.specs.declared.fault.RuleFault.TheVariants.{Overflow}
-use Rattle.jc_rows.specs.declared.named.Named.{Named}
-use Rattle.jc_rows.specs.Row.{row_at}
-use Rattle.jc_rows.specs.Named.{Names}
+use Rattle.jc_ops.specs.declared.fault.RuleFault.{RuleFault}
+use Rattle.jc_ops.specs.declared.fault.RuleFault.TheVariants.{Overflow}
+use Rattle.jc_ops.specs.declared.named.Named.{Named}
+use Rattle.jc_ops.specs.Row.{row_at}
+use Rattle.jc_ops.specs.Named.{Names}
 use Rattle.jc_rules.specs.declared.effect.Effect.{Effect}
 use Rattle.jc_rules.specs.declared.effect.Mode.{Mode}
 use Rattle.jc_rules.specs.declared.rule.Site.{Site}
@@ -29,7 +29,8 @@ pub record HasRoom (m : MethodRec) (regs slice : List Ty) (depth : ℕ) : Type 0
   pub cells : length slice ≡ m.max_stack
   pub within : depth ≤ m.max_stack
 
--- the instruction i at the site takes the frame before to the frame after: what it names is there, what it asks is met, and what it gives has room
+-- the instruction i at the site takes the frame before to the frame after: what it names is there,
+-- what it asks is met, and what it gives has room
 pub record Applies (w : Linked) (site : Site) (i : Insn) (mode : Mode) (before after : Frame) (o : Outcome) : Type 0 where
   pub method : MethodRec
   pub is_method : slice_get w.methods site.method ≡ Some method
@@ -46,9 +47,24 @@ pub record Applies (w : Linked) (site : Site) (i : Insn) (mode : Mode) (before a
 
 -- the instruction i at the site refuses the frame with its first fault: of what it names, then of what it asks in order, then of the room
 pub data Refuses (w : Linked) (site : Site) (i : Insn) (before : Frame) : RuleFault → Type 0 where
-  unnamed : {m : MethodRec} {fault : RuleFault} → slice_get w.methods site.method ≡ Some m → Names w m site.place i (row_at i.op) (Err fault) → Refuses w site i before fault
-  unmet : {m : MethodRec} (named : Named) {fault : RuleFault} → slice_get w.methods site.method ≡ Some m → Names w m site.place i (row_at i.op) (Ok named) → Breaks w.classes before (demands w i named (row_at i.op)) fault → Refuses w site i before fault
-  full : {m : MethodRec} (named : Named) → slice_get w.methods site.method ≡ Some m → Names w m site.place i (row_at i.op) (Ok named) → AllHold w.classes before (demands w i named (row_at i.op)) → m.max_stack < length (changed (effect w i named (row_at i.op) before).change before.stack) → Refuses w site i before Overflow
+  unnamed :
+      {m : MethodRec} {fault : RuleFault}
+      → slice_get w.methods site.method ≡ Some m
+      → Names w m site.place i (row_at i.op) (Err fault)
+      → Refuses w site i before fault
+  unmet :
+      {m : MethodRec} (named : Named) {fault : RuleFault}
+      → slice_get w.methods site.method ≡ Some m
+      → Names w m site.place i (row_at i.op) (Ok named)
+      → Breaks w.classes before (demands w i named (row_at i.op)) fault
+      → Refuses w site i before fault
+  full :
+      {m : MethodRec} (named : Named)
+      → slice_get w.methods site.method ≡ Some m
+      → Names w m site.place i (row_at i.op) (Ok named)
+      → AllHold w.classes before (demands w i named (row_at i.op))
+      → m.max_stack < length (changed (effect w i named (row_at i.op) before).change before.stack)
+      → Refuses w site i before Overflow
 
 -- what is planned before anything changes
 pub record IsPlan (w : Linked) (site : Site) (i : Insn) (before : Frame) (e : Effect) : Type 0 where

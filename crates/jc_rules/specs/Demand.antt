@@ -5,13 +5,13 @@ use Rattle.jc_base.specs.declared.ty.Ty.{Ty}
 use Rattle.jc_base.specs.declared.ty.Ty.TheVariants.{Bottom, IntHigh, IntLow, Null, Class, ArrBool, ArrByte, ArrShort, ArrInt, ArrRef, Fresh}
 use Rattle.jc_base.specs.Class.{ClassTable, IsClass, object}
 use Rattle.jc_base.specs.Order.{Below, IsKnown}
-use Rattle.jc_rows.specs.declared.fault.RuleFault.{RuleFault}
-use Rattle.jc_rows.specs.declared.fault.RuleFault.TheVariants.{Underflow, Mismatch, NoLocal, SplitInt, FreshKept}
+use Rattle.jc_ops.specs.declared.fault.RuleFault.{RuleFault}
+use Rattle.jc_ops.specs.declared.fault.RuleFault.TheVariants.{Underflow, Mismatch, NoLocal, SplitInt, FreshKept}
 use Rattle.jc_rules.specs.declared.demand.Before.{Before}
 use Rattle.jc_rules.specs.declared.effect.Effect.{Effect}
-use Rattle.jc_rows.specs.declared.want.Want.{Want}
-use Rattle.jc_rows.specs.declared.want.Want.TheVariants.{Value, Storable, ByteArray, AnyArray, Whole, Receiver}
-use Rattle.jc_rows.specs.Named.{IsKnownWant}
+use Rattle.jc_ops.specs.declared.want.Want.{Want}
+use Rattle.jc_ops.specs.declared.want.Want.TheVariants.{Value, Storable, ByteArray, AnyArray, Whole, Receiver}
+use Rattle.jc_ops.specs.Named.{IsKnownWant}
 use Rattle.jc_rules.specs.declared.demand.Demand.{Demand}
 use Rattle.jc_rules.specs.declared.demand.Demand.TheVariants.{Registers, Depth, Cell, Cut, Held}
 

@@ -61,7 +61,7 @@ pub record IsWellFormed (m : Method) : Type 0 where
 
 -- ---- where control goes
 
--- control may go from the instruction to this place: behind it, or to a target
+-- control may go from the instruction to this place: after it, or to a target
 pub data IsSuccessor (code : List ℕ) (i : Placed) : ℕ → Type 0 where
   behind : IsTrue (falls i.insn.op) → IsSuccessor code i (i.place + i.insn.len)
   jumped : {q : ℕ} → Contains (targets code i) (pos q) → IsSuccessor code i q
@@ -125,7 +125,8 @@ site_of m place = record { method = m.number; place = place }
 abbrev pub Steps : Linked → Method → Placed → Frame → Frame → Type 0
 Steps w m i before after = (o : Outcome) × Applies w (site_of m i.place) i.insn Flow before after o
 
--- the rule applies, its result is below the frame at each successor, and under the operands of a branch or switch no object is uninitialised
+-- the rule applies, its result is below the frame at each successor, and under the operands of a
+-- branch or switch no object is uninitialised
 pub record IsFollowed (w : Linked) (m : Method) (frames : ℕ → Option Frame) (i : Placed) (f : Frame) : Type 0 where
   pub after : Frame
   pub steps : Steps w m i f after
@@ -149,7 +150,12 @@ pub record FlowTyping (w : Linked) (m : Method) (unset : Ty) (frames : ℕ → O
   pub fit : (p : ℕ) → IsReached m p → At frames p (IsFit w m)
   pub rules : (i : Placed) → Stands m.code i → IsReached m i.place → At frames i.place (IsFollowed w m frames i)
   pub stays : (i : Placed) → Stands m.code i → IsReached m i.place → IsTrue (falls i.insn.op) → i.place + i.insn.len < length m.code
-  pub handlers : (p : ℕ) (h : Handler) → IsReached m p → Contains m.rec.handlers h → Covers h p → At frames p (λ f. At frames h.entry (FrameBelow w.classes (caught_frame h f)))
+  pub handlers :
+      (p : ℕ) (h : Handler)
+      → IsReached m p
+      → Contains m.rec.handlers h
+      → Covers h p
+      → At frames p (λ f. At frames h.entry (FrameBelow w.classes (caught_frame h f)))
   pub leaders : (q : ℕ) → IsLeader m q → At frames q (λ f. All IsNotFresh f.stack)
 
 -- a flow typing exists
@@ -160,7 +166,12 @@ pub record HasFlowTyping (w : Linked) (m : Method) (unset : Ty) : Type 0 where
 -- the least one: below every other at each reached place
 pub record IsLeastTyping (w : Linked) (m : Method) (unset : Ty) (frames : ℕ → Option Frame) : Type 0 where
   pub typing : FlowTyping w m unset frames
-  pub least : (others : ℕ → Option Frame) → FlowTyping w m unset others → (p : ℕ) → IsReached m p → At frames p (λ f. At others p (FrameBelow w.classes f))
+  pub least :
+      (others : ℕ → Option Frame)
+      → FlowTyping w m unset others
+      → (p : ℕ)
+      → IsReached m p
+      → At frames p (λ f. At others p (FrameBelow w.classes f))
 
 -- ---- derived states
 
@@ -178,6 +189,22 @@ pub record Merges (t : ClassTable) (f g joined : Frame) : Type 0 where
 -- the least set of places with frames that has the start, what handlers catch, what rules lead to, and the joins of its members that merge
 pub data IsDerived (w : Linked) (m : Method) (unset : Ty) : ℕ → Frame → Type 0 where
   derived_start : IsDerived w m unset 0 (start_frame m.rec unset)
-  derived_caught : {h : Handler} {p : ℕ} {f : Frame} → IsDerived w m unset p f → Contains m.rec.handlers h → Covers h p → IsDerived w m unset h.entry (caught_frame h f)
-  derived_next : {i : Placed} {q : ℕ} {f g : Frame} → IsDerived w m unset i.place f → Stands m.code i → Steps w m i f g → IsSuccessor m.code i q → IsDerived w m unset q g
-  derived_joined : {p : ℕ} {f g j : Frame} → IsDerived w m unset p f → IsDerived w m unset p g → Merges w.classes f g j → IsDerived w m unset p j
+  derived_caught :
+      {h : Handler} {p : ℕ} {f : Frame}
+      → IsDerived w m unset p f
+      → Contains m.rec.handlers h
+      → Covers h p
+      → IsDerived w m unset h.entry (caught_frame h f)
+  derived_next :
+      {i : Placed} {q : ℕ} {f g : Frame}
+      → IsDerived w m unset i.place f
+      → Stands m.code i
+      → Steps w m i f g
+      → IsSuccessor m.code i q
+      → IsDerived w m unset q g
+  derived_joined :
+      {p : ℕ} {f g j : Frame}
+      → IsDerived w m unset p f
+      → IsDerived w m unset p g
+      → Merges w.classes f g j
+      → IsDerived w m unset p j

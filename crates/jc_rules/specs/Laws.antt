@@ -6,7 +6,7 @@ use Rattle.jc_base.specs.declared.ty.Ty.{Ty}
 use Rattle.jc_base.specs.declared.ty.Ty.TheVariants.{Bottom}
 use Rattle.jc_base.specs.World.{Linked}
 use Rattle.jc_decode.specs.declared.insn.Insn.{Insn}
-use Rattle.jc_rows.specs.declared.fault.RuleFault.{RuleFault}
+use Rattle.jc_ops.specs.declared.fault.RuleFault.{RuleFault}
 use Rattle.jc_rules.specs.declared.effect.Mode.{Mode}
 use Rattle.jc_rules.specs.declared.effect.Mode.TheVariants.{Card, Flow}
 use Rattle.jc_rules.specs.declared.rule.Site.{Site}
@@ -59,6 +59,7 @@ pub record Keeps (w : Linked) (before after : Frame) : Type 0 where
   pub no_bottom : All IsNotBottom before.stack → All IsNotBottom after.stack
   pub no_top : All IsNotTop before.stack → All IsNotTop after.stack
 
--- a rule keeps the number of registers, names classes alone, gives no uninitialised object to a register, and neither Bottom nor Top to the stack
+-- a rule keeps the number of registers, names classes alone, gives no uninitialised object to a
+-- register, and neither Bottom nor Top to the stack
 abbrev pub RuleKeeps : Linked → Type 0
 RuleKeeps w = (site : Site) (i : Insn) (mode : Mode) (before after : Frame) (o : Outcome) → AreKnown w.classes before → Applies w site i mode before after o → Keeps w before after

@@ -9,30 +9,30 @@ use Rattle.jc_base.specs.declared.record.MethodRec.{MethodRec}
 use Rattle.jc_base.specs.Class.{ClassTable, object, throwable}
 use Rattle.jc_base.specs.World.{Linked}
 use Rattle.jc_decode.specs.declared.insn.Insn.{Insn}
-use Rattle.jc_rows.specs.declared.row.Sort.{Sort}
-use Rattle.jc_rows.specs.declared.row.Sort.TheVariants as sorts
-use Rattle.jc_rows.specs.declared.row.Width.{Width}
-use Rattle.jc_rows.specs.declared.row.Width.TheVariants as widths
-use Rattle.jc_rows.specs.declared.row.Local.{Local}
-use Rattle.jc_rows.specs.declared.row.Local.TheVariants as locals
-use Rattle.jc_rows.specs.declared.row.Constant.{Constant}
-use Rattle.jc_rows.specs.declared.row.Constant.TheVariants as constants
-use Rattle.jc_rows.specs.declared.row.Move.{Move}
-use Rattle.jc_rows.specs.declared.row.Move.TheVariants as moves
-use Rattle.jc_rows.specs.declared.row.Arithmetic.{Arithmetic}
-use Rattle.jc_rows.specs.declared.row.Arithmetic.TheVariants as arithmetic
-use Rattle.jc_rows.specs.declared.row.Branch.{Branch}
-use Rattle.jc_rows.specs.declared.row.Branch.TheVariants as branches
-use Rattle.jc_rows.specs.declared.row.Holder.{Holder}
-use Rattle.jc_rows.specs.declared.row.Holder.TheVariants as holders
-use Rattle.jc_rows.specs.declared.row.Make.{Make}
-use Rattle.jc_rows.specs.declared.row.Make.TheVariants as makes
-use Rattle.jc_rows.specs.declared.row.TypeTest.{TypeTest}
-use Rattle.jc_rows.specs.declared.row.TypeTest.TheVariants as tests
-use Rattle.jc_rows.specs.declared.row.Row.{Row}
-use Rattle.jc_rows.specs.declared.row.Row.TheVariants as rows
-use Rattle.jc_rows.specs.declared.want.Want.{Want}
-use Rattle.jc_rows.specs.declared.want.Want.TheVariants.{Value, Storable, ByteArray, AnyArray, Whole, Receiver}
+use Rattle.jc_ops.specs.declared.row.Sort.{Sort}
+use Rattle.jc_ops.specs.declared.row.Sort.TheVariants as sorts
+use Rattle.jc_ops.specs.declared.row.Width.{Width}
+use Rattle.jc_ops.specs.declared.row.Width.TheVariants as widths
+use Rattle.jc_ops.specs.declared.row.Local.{Local}
+use Rattle.jc_ops.specs.declared.row.Local.TheVariants as locals
+use Rattle.jc_ops.specs.declared.row.Constant.{Constant}
+use Rattle.jc_ops.specs.declared.row.Constant.TheVariants as constants
+use Rattle.jc_ops.specs.declared.row.Move.{Move}
+use Rattle.jc_ops.specs.declared.row.Move.TheVariants as moves
+use Rattle.jc_ops.specs.declared.row.Arithmetic.{Arithmetic}
+use Rattle.jc_ops.specs.declared.row.Arithmetic.TheVariants as arithmetic
+use Rattle.jc_ops.specs.declared.row.Branch.{Branch}
+use Rattle.jc_ops.specs.declared.row.Branch.TheVariants as branches
+use Rattle.jc_ops.specs.declared.row.Holder.{Holder}
+use Rattle.jc_ops.specs.declared.row.Holder.TheVariants as holders
+use Rattle.jc_ops.specs.declared.row.Make.{Make}
+use Rattle.jc_ops.specs.declared.row.Make.TheVariants as makes
+use Rattle.jc_ops.specs.declared.row.TypeTest.{TypeTest}
+use Rattle.jc_ops.specs.declared.row.TypeTest.TheVariants as tests
+use Rattle.jc_ops.specs.declared.row.Row.{Row}
+use Rattle.jc_ops.specs.declared.row.Row.TheVariants as rows
+use Rattle.jc_ops.specs.declared.want.Want.{Want}
+use Rattle.jc_ops.specs.declared.want.Want.TheVariants.{Value, Storable, ByteArray, AnyArray, Whole, Receiver}
 use Rattle.jc_rules.specs.declared.demand.Demand.{Demand}
 use Rattle.jc_rules.specs.declared.demand.Demand.TheVariants.{Registers, Depth, Cell, Cut, Held}
 use Rattle.jc_rules.specs.declared.effect.Cells.{Cells}
@@ -40,11 +40,11 @@ use Rattle.jc_rules.specs.declared.effect.Cells.TheVariants as given
 use Rattle.jc_rules.specs.declared.effect.Change.{Change}
 use Rattle.jc_rules.specs.declared.effect.Change.TheVariants.{Replace, CopyUnder, Exchange, MakeReady}
 use Rattle.jc_rules.specs.declared.effect.Effect.{Effect}
-use Rattle.jc_rows.specs.declared.named.Named.{Named}
-use Rattle.jc_rows.specs.declared.named.Named.TheVariants as names
+use Rattle.jc_ops.specs.declared.named.Named.{Named}
+use Rattle.jc_ops.specs.declared.named.Named.TheVariants as names
 use Rattle.jc_rules.specs.Effect.{reg}
 use Rattle.jc_rules.specs.Demand.{Frame}
-use Rattle.jc_rows.specs.Named.{byte_of}
+use Rattle.jc_ops.specs.Named.{byte_of}
 
 -- ---- words
 
@@ -407,7 +407,7 @@ effect w i n (rows.TypeTest test) f = type_test_effect test (type_named n)
 effect w i n (rows.Return s) f = return_effect n
 effect w i n rows.Reserved f = replacing 0 given.Nothing
 
--- whether the instruction behind may come next
+-- whether the instruction after may come next
 abbrev pub falls_from : Row → Bool
 falls_from (rows.Branch branches.Always) = false
 falls_from (rows.Switch width) = false

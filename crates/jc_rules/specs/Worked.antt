@@ -7,9 +7,9 @@ use Rattle.jc_base.specs.declared.ty.Ty.TheVariants.{IntHigh, IntLow, Class, Fre
 use Rattle.jc_base.specs.World.{Linked}
 use Rattle.jc_decode.specs.declared.insn.Insn.{Insn}
 use Rattle.jc_decode.specs.Listing.{falls}
-use Rattle.jc_rows.specs.declared.want.Want.TheVariants.{Value, Receiver}
-use Rattle.jc_rows.specs.declared.named.Named.TheVariants as names
-use Rattle.jc_rows.specs.Row.{rows, row_at, by_sort, by_width, by_kind, first_four, by_local, literals, binary, orders_all, branching}
+use Rattle.jc_ops.specs.declared.want.Want.TheVariants.{Value, Receiver}
+use Rattle.jc_ops.specs.declared.named.Named.TheVariants as names
+use Rattle.jc_ops.specs.Row.{rows, row_at, by_sort, by_width, by_kind, first_four, by_local, literals, binary, orders_all, branching}
 use Rattle.jc_rules.specs.declared.demand.Demand.TheVariants.{Registers, Cell}
 use Rattle.jc_rules.specs.declared.effect.Cells.TheVariants as given
 use Rattle.jc_rules.specs.declared.effect.Change.{Change}
@@ -28,7 +28,7 @@ counts (MakeReady taken place class cells) = (taken, length (listed cells))
 abbrev instruction : ℕ → ℤ → Insn
 instruction op x = record { op = op; x = x; y = pos 0; z = pos 0; len = 1 }
 
--- the instruction behind may come next as the listing of a method has it
+-- the instruction after may come next as the listing of a method has it
 falls_alike : map (λ op. falls_from (row_at op)) (range_with_len 0 256) ≡ map falls (range_with_len 0 256)
 unfolding row_at rows by_sort by_width by_kind first_four by_local literals binary orders_all branching
 falls_alike = refl
@@ -70,20 +70,35 @@ module _ (w : Linked) (f : Frame) where
   last_counts = refl
 
   -- istore_1 names two registers, and takes the low half first
-  istore_asks : demands w (instruction 52 (pos 0)) names.Nothing (row_at 52) ≡ Registers 1 2 ∷ Cell 0 (Value IntLow) ∷ Cell 1 (Value IntHigh) ∷ []
+  istore_asks :
+      demands w (instruction 52 (pos 0)) names.Nothing (row_at 52)
+      ≡ Registers 1 2 ∷ Cell 0 (Value IntLow) ∷ Cell 1 (Value IntHigh) ∷ []
   unfolding row_at rows by_sort by_width by_kind first_four by_local literals binary orders_all branching
   istore_asks = refl
 
   -- dup_x with m = 1 and n = 2 puts the top cell under the first two
-  under_two : (a b c : Ty) → changed (effect w (instruction 63 (pos 18)) names.Nothing (row_at 63) f).change (a ∷ b ∷ c ∷ []) ≡ a ∷ b ∷ a ∷ c ∷ []
+  under_two :
+      (a b c : Ty)
+      → changed
+      (effect w (instruction 63 (pos 18)) names.Nothing (row_at 63) f).change (a ∷ b ∷ c ∷ [])
+      ≡ a ∷ b ∷ a ∷ c ∷ []
   unfolding row_at rows by_sort by_width by_kind first_four by_local literals binary orders_all branching
   under_two a b c = refl
 
   -- swap_x with m = 1 and n = 2
-  exchange_two : (a b c d : Ty) → changed (effect w (instruction 64 (pos 18)) names.Nothing (row_at 64) f).change (a ∷ b ∷ c ∷ d ∷ []) ≡ b ∷ c ∷ a ∷ d ∷ []
+  exchange_two :
+      (a b c d : Ty)
+      → changed
+      (effect w (instruction 64 (pos 18)) names.Nothing (row_at 64) f).change
+      (a ∷ b ∷ c ∷ d ∷ [])
+      ≡ b ∷ c ∷ a ∷ d ∷ []
   unfolding row_at rows by_sort by_width by_kind first_four by_local literals binary orders_all branching
   exchange_two a b c d = refl
 
 -- a constructor readies both copies of the object that the `new` at place 3 made
-readies_copies : changed (ready_with 1 given.Nothing (Fresh 3 5) (Receiver 5)) (Fresh 3 5 ∷ Fresh 3 5 ∷ Fresh 4 5 ∷ []) ≡ Class 5 ∷ Fresh 4 5 ∷ []
+readies_copies :
+    changed
+    (ready_with 1 given.Nothing (Fresh 3 5) (Receiver 5))
+    (Fresh 3 5 ∷ Fresh 3 5 ∷ Fresh 4 5 ∷ [])
+    ≡ Class 5 ∷ Fresh 4 5 ∷ []
 readies_copies = refl

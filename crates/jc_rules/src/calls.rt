@@ -1,14 +1,14 @@
 ghost use Rattle.std.specs.Prelude.{◌≡◌, ◌+◌, ◌≤◌, length, reverse, MatchResult, IfSome, All};
 ghost use Rattle.jc_base.specs.Order.{IsKnown};
 ghost use Rattle.jc_rules.specs.Demand.{AreKnown, AllHold, Breaks, frame, IsJudged};
-ghost use Rattle.jc_rows.specs.Named.{IsKnownWant, receiver_count};
+ghost use Rattle.jc_ops.specs.Named.{IsKnownWant, receiver_count};
 ghost use Rattle.jc_rules.specs.Rule.{cells_wanted, call_demands, call_effect, ready_with, result_given};
 
 use crate::demand::{Before, Demand};
 use crate::effect::{Cells, Change, Effect};
 use crate::objects::value_given;
 use jc_base::{Sig, Ty};
-use jc_rows::{RuleFault, Want};
+use jc_ops::{RuleFault, Want};
 
 /// What becomes of the stack under a receiver: a constructor makes ready each object that was made with it.
 fn ready_with(taken: u8, given: Cells, found: Ty, want: Want) -> Change
@@ -43,7 +43,12 @@ impl Before<'_> {
         requires frame { AreKnown self.now.world.now.classes (frame self.now) }
         requires known { All (IsKnown self.now.world.now.classes) args.now }
         requires few { length args.now ≤ 255 }
-        ensures { MatchResult result (λ _. AllHold self.now.world.now.classes (frame self.now) (cells_wanted 0 (reverse args.now))) (Breaks self.now.world.now.classes (frame self.now) (cells_wanted 0 (reverse args.now))) }
+        ensures { MatchResult result
+            (λ _.
+            AllHold self.now.world.now.classes (frame self.now)
+            (cells_wanted 0 (reverse args.now)))
+            (Breaks self.now.world.now.classes (frame self.now)
+            (cells_wanted 0 (reverse args.now))) }
     {
         let count = args.len();
         'arguments: for n in 0..count {
@@ -61,7 +66,12 @@ impl Before<'_> {
         requires known { All (IsKnown self.now.world.now.classes) sig.now.args }
         requires receiver { IfSome receiver (IsKnownWant self.now.world.now.classes) }
         requires few { length sig.now.args + receiver_count receiver ≤ 255 }
-        ensures { MatchResult result (λ _. AllHold self.now.world.now.classes (frame self.now) (call_demands sig.now.args receiver)) (Breaks self.now.world.now.classes (frame self.now) (call_demands sig.now.args receiver)) }
+        ensures { MatchResult result
+            (λ _.
+            AllHold self.now.world.now.classes (frame self.now)
+            (call_demands sig.now.args receiver))
+            (Breaks self.now.world.now.classes (frame self.now)
+            (call_demands sig.now.args receiver)) }
     {
         self.check_arguments(sig.args.as_slice())?;
         match receiver {
@@ -75,7 +85,9 @@ impl Before<'_> {
         requires known { All (IsKnown self.now.world.now.classes) sig.now.args }
         requires receiver { IfSome receiver (IsKnownWant self.now.world.now.classes) }
         requires few { length sig.now.args + receiver_count receiver ≤ 255 }
-        ensures { IsJudged self.now.world.now.classes (frame self.now) (call_demands sig.now.args receiver) (call_effect sig.now.args sig.now.result receiver (frame self.now)) result }
+        ensures { IsJudged self.now.world.now.classes (frame self.now)
+            (call_demands sig.now.args receiver)
+            (call_effect sig.now.args sig.now.result receiver (frame self.now)) result }
     {
         self.check_call(sig, receiver)?;
         let count = sig.args.len() as u8;

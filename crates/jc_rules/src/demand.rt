@@ -2,11 +2,11 @@ ghost use Rattle.std.specs.Prelude.{◌≡◌, ◌↔◌, ◌≤◌, ◌<◌, le
 ghost use Rattle.jc_base.specs.Class.{IsClass, object};
 ghost use Rattle.jc_base.specs.Order.{IsKnown};
 ghost use Rattle.jc_base.specs.declared.ty.Ty.TheVariants.{IntLow, IntHigh};
-ghost use Rattle.jc_rows.specs.Named.{IsKnownWant};
+ghost use Rattle.jc_ops.specs.Named.{IsKnownWant};
 ghost use Rattle.jc_rules.specs.Demand.{AllHold, AreKnownDemands, AreKnown, frame, Meets, Holds, Breaks, refusal, refused, IsKnownDemand, IsArrayOrNull, IsHalf, IsFreshOf, Splits, refused_at};
 
 use jc_base::{Classes, Ty, World, below};
-use jc_rows::{RuleFault, Want};
+use jc_ops::{RuleFault, Want};
 
 /// One thing that an instruction asks before it changes anything. Cells are counted from the top of
 /// the stack, from 0.
@@ -37,7 +37,9 @@ impl Before<'_> {
     pub fn check(&self, demands: &[Demand]) -> Result<(), RuleFault>
         requires frame { AreKnown self.now.world.now.classes (frame self.now) }
         requires demands { AreKnownDemands self.now.world.now.classes demands.now }
-        ensures { MatchResult result (λ _. AllHold self.now.world.now.classes (frame self.now) demands.now) (Breaks self.now.world.now.classes (frame self.now) demands.now) }
+        ensures { MatchResult result
+            (λ _. AllHold self.now.world.now.classes (frame self.now) demands.now)
+            (Breaks self.now.world.now.classes (frame self.now) demands.now) }
     {
         'demands: for demand in demands {
             if let Some(fault) = self.broken(*demand) {
@@ -51,7 +53,11 @@ impl Before<'_> {
     pub(crate) fn broken(&self, demand: Demand) -> Option<RuleFault>
         requires frame { AreKnown self.now.world.now.classes (frame self.now) }
         requires demand { IsKnownDemand self.now.world.now.classes demand }
-        ensures { MatchOption result (Holds self.now.world.now.classes (frame self.now) demand) (λ fault. ¬ (Holds self.now.world.now.classes (frame self.now) demand) × (fault ≡ refused self.now.world.now.classes (frame self.now) demand)) }
+        ensures { MatchOption result
+            (Holds self.now.world.now.classes (frame self.now) demand)
+            (λ fault.
+            ¬ (Holds self.now.world.now.classes (frame self.now) demand)
+            × (fault ≡ refused self.now.world.now.classes (frame self.now) demand)) }
     {
         match demand {
             Demand::Registers(x, n) if x as usize + n as usize <= self.regs.len() => None,
@@ -121,7 +127,11 @@ fn judged(classes: &Classes, want: Want, found: Option<Ty>, absent: RuleFault) -
     requires want_known { IsKnownWant classes.now want }
     requires found_known { IfSome found (IsKnown classes.now) }
     requires object_known { IsClass classes.now (object classes.now) }
-    ensures { MatchOption result (IsSomeAnd found (Meets classes.now want)) (λ fault. ¬ (IsSomeAnd found (Meets classes.now want)) × (fault ≡ refused_at classes.now want absent found)) }
+    ensures { MatchOption result
+        (IsSomeAnd found (Meets classes.now want))
+        (λ fault.
+        ¬ (IsSomeAnd found (Meets classes.now want))
+        × (fault ≡ refused_at classes.now want absent found)) }
 {
     match found {
         None => Some(absent),

@@ -4,7 +4,7 @@
 //! refuses with the first thing that is missing.
 //! The definitions of dataflow typings, over which the verifiers are proved, stand here too, with the type that
 //! holds one.
-//! It stands on the rows of `jc_rows`, the types and worlds of `jc_base` and the instructions of `jc_decode`.
+//! It stands on the rows of `jc_ops`, the types and worlds of `jc_base` and the instructions of `jc_decode`.
 
 #![tactic(auto)]
 

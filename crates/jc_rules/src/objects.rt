@@ -2,17 +2,17 @@ ghost use Rattle.std.specs.Prelude.{◌≡◌, ◌+◌, ◌≤◌, ◌<◌, ◌+
 ghost use Rattle.jc_base.specs.Class.{IsClass, object, throwable};
 ghost use Rattle.jc_base.specs.declared.ty.Ty.TheVariants.{Class};
 ghost use Rattle.jc_base.specs.Order.{IsKnown};
-ghost use Rattle.jc_rows.specs.declared.want.Want.TheVariants.{Value};
+ghost use Rattle.jc_ops.specs.declared.want.Want.TheVariants.{Value};
 ghost use Rattle.jc_rules.specs.declared.demand.Demand.TheVariants.{Cell};
 ghost use Rattle.jc_rules.specs.Demand.{AreKnown, AllHold, Breaks, frame, IsJudged};
-ghost use Rattle.jc_rows.specs.Named.{IsKnownWant};
+ghost use Rattle.jc_ops.specs.Named.{IsKnownWant};
 ghost use Rattle.jc_rules.specs.Rule.{a_reference, element, array_wanted, array_read_demands, array_read_effect, array_write_demands, array_write_effect, branch_demands, branch_effect, value_given, value_wanted, value_size, field_read_demands, field_read_effect, field_write_demands, field_write_effect, make_demands, make_effect, type_test_effect, replacing, number, size};
 
 use crate::demand::{Before, Demand};
 use crate::effect::{Cells, Effect};
 use crate::values::{INT_HIGH, INT_LOW, SHORT, size};
 use jc_base::{Kind, Ty};
-use jc_rows::{Branch, Holder, Make, RuleFault, TypeTest, Want, Width};
+use jc_ops::{Branch, Holder, Make, RuleFault, TypeTest, Want, Width};
 
 /// The type of an element of an array of references.
 fn element(array: Ty) -> Ty
@@ -60,7 +60,9 @@ impl Before<'_> {
 
     pub(crate) fn array_read(&self, kind: Kind) -> Result<Effect, RuleFault>
         requires { AreKnown self.now.world.now.classes (frame self.now) }
-        ensures { IsJudged self.now.world.now.classes (frame self.now) (array_read_demands self.now.world.now.classes kind) (array_read_effect kind (frame self.now)) result }
+        ensures { IsJudged self.now.world.now.classes (frame self.now)
+            (array_read_demands self.now.world.now.classes kind)
+            (array_read_effect kind (frame self.now)) result }
     {
         self.check(&[
             Demand::Cell(0, SHORT),
@@ -76,7 +78,8 @@ impl Before<'_> {
 
     pub(crate) fn array_write(&self, kind: Kind) -> Result<Effect, RuleFault>
         requires { AreKnown self.now.world.now.classes (frame self.now) }
-        ensures { IsJudged self.now.world.now.classes (frame self.now) (array_write_demands self.now.world.now.classes kind) (array_write_effect kind) result }
+        ensures { IsJudged self.now.world.now.classes (frame self.now)
+            (array_write_demands self.now.world.now.classes kind) (array_write_effect kind) result }
     {
         let array = self.array_wanted(kind);
         match kind {
@@ -110,7 +113,8 @@ impl Before<'_> {
 
     pub(crate) fn array_length(&self) -> Result<Effect, RuleFault>
         requires { AreKnown self.now.world.now.classes (frame self.now) }
-        ensures { IsJudged self.now.world.now.classes (frame self.now) (Cell 0 Want.AnyArray ∷ []) (replacing 1 (Cells.One Ty.Short)) result }
+        ensures { IsJudged self.now.world.now.classes (frame self.now) (Cell 0 Want.AnyArray ∷ [])
+            (replacing 1 (Cells.One Ty.Short)) result }
     {
         self.check(&[Demand::Cell(0, Want::AnyArray)])?;
         Ok(Effect::replacing(1, Cells::One(Ty::Short)))
@@ -118,7 +122,8 @@ impl Before<'_> {
 
     pub(crate) fn branched(&self, branch: Branch) -> Result<Effect, RuleFault>
         requires { AreKnown self.now.world.now.classes (frame self.now) }
-        ensures { IsJudged self.now.world.now.classes (frame self.now) (branch_demands self.now.world.now.classes branch) (branch_effect branch) result }
+        ensures { IsJudged self.now.world.now.classes (frame self.now)
+            (branch_demands self.now.world.now.classes branch) (branch_effect branch) result }
     {
         let reference = self.a_reference();
         match branch {
@@ -166,7 +171,8 @@ impl Before<'_> {
     pub(crate) fn field_read(&self, holder: Holder, class: u16, ty: Ty) -> Result<Effect, RuleFault>
         requires frame { AreKnown self.now.world.now.classes (frame self.now) }
         requires class { IsClass self.now.world.now.classes class }
-        ensures { IsJudged self.now.world.now.classes (frame self.now) (field_read_demands holder class) (field_read_effect holder ty) result }
+        ensures { IsJudged self.now.world.now.classes (frame self.now)
+            (field_read_demands holder class) (field_read_effect holder ty) result }
     {
         let object = Want::Value(Ty::Class(class));
         match holder {
@@ -190,7 +196,8 @@ impl Before<'_> {
         requires frame { AreKnown self.now.world.now.classes (frame self.now) }
         requires class { IsClass self.now.world.now.classes class }
         requires ty { IsKnown self.now.world.now.classes ty }
-        ensures { IsJudged self.now.world.now.classes (frame self.now) (field_write_demands holder class ty) (field_write_effect holder ty) result }
+        ensures { IsJudged self.now.world.now.classes (frame self.now)
+            (field_write_demands holder class ty) (field_write_effect holder ty) result }
     {
         match holder {
             Holder::Stack => self.object_write(class, ty),
@@ -202,7 +209,9 @@ impl Before<'_> {
         requires frame { AreKnown self.now.world.now.classes (frame self.now) }
         requires class { IsClass self.now.world.now.classes class }
         requires ty { IsKnown self.now.world.now.classes ty }
-        ensures { IsJudged self.now.world.now.classes (frame self.now) (field_write_demands Holder.Stack class ty) (field_write_effect Holder.Stack ty) result }
+        ensures { IsJudged self.now.world.now.classes (frame self.now)
+            (field_write_demands Holder.Stack class ty)
+            (field_write_effect Holder.Stack ty) result }
     {
         let object = Want::Value(Ty::Class(class));
         match ty {
@@ -220,7 +229,9 @@ impl Before<'_> {
         requires frame { AreKnown self.now.world.now.classes (frame self.now) }
         requires class { IsClass self.now.world.now.classes class }
         requires ty { IsKnown self.now.world.now.classes ty }
-        ensures { IsJudged self.now.world.now.classes (frame self.now) (field_write_demands Holder.This class ty) (field_write_effect Holder.This ty) result }
+        ensures { IsJudged self.now.world.now.classes (frame self.now)
+            (field_write_demands Holder.This class ty)
+            (field_write_effect Holder.This ty) result }
     {
         let object = Demand::Held(0, Ty::Class(class));
         match ty {
@@ -254,7 +265,9 @@ impl Before<'_> {
 
     pub(crate) fn thrown(&self) -> Result<Effect, RuleFault>
         requires { AreKnown self.now.world.now.classes (frame self.now) }
-        ensures { IsJudged self.now.world.now.classes (frame self.now) (Cell 0 (Value (Class (throwable self.now.world.now.classes))) ∷ []) (replacing 1 Cells.Nothing) result }
+        ensures { IsJudged self.now.world.now.classes (frame self.now)
+            (Cell 0 (Value (Class (throwable self.now.world.now.classes))) ∷ [])
+            (replacing 1 Cells.Nothing) result }
     {
         self.check(&[Demand::Cell(0, Want::Value(Ty::Class(self.world.role(1))))])?;
         Ok(Effect::replacing(1, Cells::Nothing))
@@ -262,7 +275,9 @@ impl Before<'_> {
 
     pub(crate) fn tested(&self, test: TypeTest, ty: Ty) -> Result<Effect, RuleFault>
         requires { AreKnown self.now.world.now.classes (frame self.now) }
-        ensures { IsJudged self.now.world.now.classes (frame self.now) (Cell 0 (a_reference self.now.world.now.classes) ∷ []) (type_test_effect test ty) result }
+        ensures { IsJudged self.now.world.now.classes (frame self.now)
+            (Cell 0 (a_reference self.now.world.now.classes) ∷ []) (type_test_effect test ty)
+            result }
     {
         self.check(&[Demand::Cell(0, self.a_reference())])?;
         let given = match test {

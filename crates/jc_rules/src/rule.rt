@@ -1,8 +1,8 @@
 ghost use Rattle.std.specs.Prelude.{◌≡◌, ◌+◌, ◌<◌, ◌≤◌, length, reverse, All, Some, MatchResult, IfOk, IfErr, OnErr, IsSomeAnd, IfSome, slice_get};
 ghost use Rattle.jc_base.specs.Order.{IsKnown};
 ghost use Rattle.jc_base.specs.World.{IsWorld};
-ghost use Rattle.jc_rows.specs.Row.{row_at};
-ghost use Rattle.jc_rows.specs.Named.{IsNamed, IsKnownWant, receiver_count};
+ghost use Rattle.jc_ops.specs.Row.{row_at};
+ghost use Rattle.jc_ops.specs.Named.{IsNamed, IsKnownWant, receiver_count};
 ghost use Rattle.jc_rules.specs.declared.demand.Before.{Before};
 ghost use Rattle.jc_rules.specs.Stack.{cells};
 ghost use Rattle.jc_rules.specs.Effect.{depth_after};
@@ -16,7 +16,7 @@ use crate::objects::value_given;
 use crate::values::constant;
 use jc_base::{Ty, World};
 use jc_decode::Insn;
-use jc_rows::{Branch, Holder, Local, Named, Row, RuleFault, Want, byte_of, name};
+use jc_ops::{Branch, Holder, Local, Named, Row, RuleFault, Want, byte_of, name};
 
 /// Where an instruction stands: its method, and its offset in the method's code.
 #[derive(Clone, Copy)]
@@ -28,7 +28,7 @@ pub struct Site {
 /// What an instruction did.
 #[derive(Clone, Copy)]
 pub struct Outcome {
-    /// Whether the instruction behind may come next.
+    /// Whether the instruction after may come next.
     pub falls: bool,
     /// Whether the method ends here, or is left for a handler.
     pub ends: bool,
@@ -65,7 +65,9 @@ impl Before<'_> {
     fn rule(&self, insn: Insn, row: Row, named: Named) -> Result<Effect, RuleFault>
         requires frame { AreKnown self.now.world.now.classes (frame self.now) }
         requires named { IsNamed self.now.world.now named }
-        ensures { IsJudged self.now.world.now.classes (frame self.now) (demands self.now.world.now insn named row) (effect self.now.world.now insn named row (frame self.now)) result }
+        ensures { IsJudged self.now.world.now.classes (frame self.now)
+            (demands self.now.world.now insn named row)
+            (effect self.now.world.now insn named row (frame self.now)) result }
     {
         let ty = type_named(self.world, named);
         match row {
@@ -118,7 +120,9 @@ impl Before<'_> {
     fn call(&self, named: Named) -> Result<Effect, RuleFault>
         requires frame { AreKnown self.now.world.now.classes (frame self.now) }
         requires named { IsNamed self.now.world.now named }
-        ensures { IsJudged self.now.world.now.classes (frame self.now) (method_demands self.now.world.now named) (method_effect self.now.world.now named (frame self.now)) result }
+        ensures { IsJudged self.now.world.now.classes (frame self.now)
+            (method_demands self.now.world.now named)
+            (method_effect self.now.world.now named (frame self.now)) result }
     {
         match named {
             Named::Method { number, receiver } => self.method_called(number, receiver),
@@ -129,7 +133,10 @@ impl Before<'_> {
     fn method_called(&self, number: u16, receiver: Option<Want>) -> Result<Effect, RuleFault>
         requires frame { AreKnown self.now.world.now.classes (frame self.now) }
         requires named { IsNamed self.now.world.now (Named.Method number receiver) }
-        ensures { IsJudged self.now.world.now.classes (frame self.now) (method_demands self.now.world.now (Named.Method number receiver)) (method_effect self.now.world.now (Named.Method number receiver) (frame self.now)) result }
+        ensures { IsJudged self.now.world.now.classes (frame self.now)
+            (method_demands self.now.world.now (Named.Method number receiver))
+            (method_effect self.now.world.now (Named.Method number receiver) (frame self.now))
+            result }
     {
         self.called(&self.world.method(number).sig, receiver)
     }
@@ -171,7 +178,7 @@ fn plan(
     Ok(effect)
 }
 
-/// Whether the instruction behind may come next.
+/// Whether the instruction after may come next.
 fn falls(row: Row) -> bool
     ensures { result ≡ falls_from row }
 {
@@ -218,7 +225,11 @@ pub fn apply(
     requires room { IsSomeAnd (slice_get world.now.methods site.method) (λ m. HasRoom m regs.old stack.old depth) }
     requires regs_known { All (IsKnown world.now.classes) regs.old }
     requires stack_known { All (IsKnown world.now.classes) (cells stack.old depth) }
-    ensures applies { IfOk result (λ o. Applies world.now site insn mode (frame_of regs.old stack.old depth) (frame_of regs.new stack.new o.depth) o) }
+    ensures applies { IfOk result
+        (λ o.
+        Applies world.now site insn mode
+        (frame_of regs.old stack.old depth)
+        (frame_of regs.new stack.new o.depth) o) }
     ensures refuses { IfErr result (Refuses world.now site insn (frame_of regs.old stack.old depth)) }
     ensures as_before { OnErr result ((regs.new ≡ regs.old) × (stack.new ≡ stack.old)) }
     ensures regs_known { IfOk result (λ o. All (IsKnown world.now.classes) regs.new) }

@@ -114,7 +114,12 @@ fn has_top(cells: &[Ty]) -> bool
 fn raised(classes: &Classes, held: Ty, other: Ty) -> Option<Ty>
     requires held_known { IsKnown classes.now held }
     requires other_known { IsKnown classes.now other }
-    ensures { MatchOption result (IsJoin classes.now held other held) (λ j. IsJoin classes.now held other j × IsKnown classes.now j × (rises_left classes.now j < rises_left classes.now held)) }
+    ensures { MatchOption result
+        (IsJoin classes.now held other held)
+        (λ j.
+        IsJoin classes.now held other j
+        × IsKnown classes.now j
+        × (rises_left classes.now j < rises_left classes.now held)) }
 {
     let _chains = classes.records();
     if below(classes, other, held) {
@@ -131,7 +136,9 @@ fn raise(classes: &Classes, cells: &mut Vec<Ty>, others: &[Ty]) -> bool
     requires others_known { All (IsKnown classes.now) others.now }
     ensures len { length cells.new.items ≡ length cells.old.items }
     ensures joins { CellsJoin classes.now cells.old.items others.now cells.new.items }
-    ensures rises { MatchBool result (sum_by (rises_left classes.now) cells.new.items < sum_by (rises_left classes.now) cells.old.items) (cells.new.items ≡ cells.old.items) }
+    ensures rises { MatchBool result
+        (sum_by (rises_left classes.now) cells.new.items < sum_by (rises_left classes.now) cells.old.items)
+        (cells.new.items ≡ cells.old.items) }
 {
     let mut rises = false;
     'cells: for n in 0..others.len() {

@@ -1,5 +1,5 @@
 ghost use Rattle.std.specs.Prelude.{◌≡◌, ◌+◌, ◌≤◌, ◌<◌, length, reverse, MatchResult};
-ghost use Rattle.jc_rows.specs.declared.row.Sort.TheVariants as sorts;
+ghost use Rattle.jc_ops.specs.declared.row.Sort.TheVariants as sorts;
 ghost use Rattle.jc_rules.specs.Demand.{AreKnown, AllHold, Breaks, frame, IsJudged};
 ghost use Rattle.jc_rules.specs.Effect.{reg};
 ghost use Rattle.jc_rules.specs.Rule.{cell, or_null, number, number_given, size, value_given, value_wanted, value_size, replacing, constant_effect, load_demands, load_effect, store_demands, store_effect, increment_demands, increment_effect, move_demands, move_effect, arithmetic_demands, arithmetic_effect, on_stack, storing, a_reference, two_numbers};
@@ -7,7 +7,7 @@ ghost use Rattle.jc_rules.specs.Rule.{cell, or_null, number, number_given, size,
 use crate::demand::{Before, Demand};
 use crate::effect::{Cells, Change, Effect, Store};
 use jc_base::Ty;
-use jc_rows::{Arithmetic, Constant, Move, RuleFault, Sort, Want, Width};
+use jc_ops::{Arithmetic, Constant, Move, RuleFault, Sort, Want, Width};
 
 pub(crate) const SHORT: Want = Want::Value(Ty::Short);
 
@@ -114,7 +114,9 @@ impl Before<'_> {
 
     pub(crate) fn load(&self, sort: Sort, x: u8) -> Result<Effect, RuleFault>
         requires { AreKnown self.now.world.now.classes (frame self.now) }
-        ensures { IsJudged self.now.world.now.classes (frame self.now) (load_demands self.now.world.now.classes sort x) (load_effect sort x (frame self.now)) result }
+        ensures { IsJudged self.now.world.now.classes (frame self.now)
+            (load_demands self.now.world.now.classes sort x)
+            (load_effect sort x (frame self.now)) result }
     {
         match sort {
             Sort::Reference => {
@@ -135,10 +137,15 @@ impl Before<'_> {
         }
     }
 
-    /// Checks that an int stands in register `x` and the one behind it.
+    /// Checks that an int stands in register `x` and the one after it.
     fn check_int(&self, x: u8) -> Result<(), RuleFault>
         requires { AreKnown self.now.world.now.classes (frame self.now) }
-        ensures { MatchResult result (λ _. AllHold self.now.world.now.classes (frame self.now) (load_demands self.now.world.now.classes sorts.Int x)) (Breaks self.now.world.now.classes (frame self.now) (load_demands self.now.world.now.classes sorts.Int x)) }
+        ensures { MatchResult result
+            (λ _.
+            AllHold self.now.world.now.classes (frame self.now)
+            (load_demands self.now.world.now.classes sorts.Int x))
+            (Breaks self.now.world.now.classes (frame self.now)
+            (load_demands self.now.world.now.classes sorts.Int x)) }
     {
         if x as usize + 2 > self.regs.len() {
             return Err(RuleFault::NoLocal(x));
@@ -151,7 +158,8 @@ impl Before<'_> {
 
     pub(crate) fn store(&self, sort: Sort, x: u8) -> Result<Effect, RuleFault>
         requires { AreKnown self.now.world.now.classes (frame self.now) }
-        ensures { IsJudged self.now.world.now.classes (frame self.now) (store_demands sort x) (store_effect sort x (frame self.now)) result }
+        ensures { IsJudged self.now.world.now.classes (frame self.now) (store_demands sort x)
+            (store_effect sort x (frame self.now)) result }
     {
         match sort {
             Sort::Reference => {
@@ -220,7 +228,9 @@ impl Before<'_> {
     /// A copy of the top `m` cells goes under the first `n`.
     fn copied_under(&self, m: u8, n: u8) -> Result<Effect, RuleFault>
         requires { AreKnown self.now.world.now.classes (frame self.now) }
-        ensures { IsJudged self.now.world.now.classes (frame self.now) (move_demands Move.CopyUnder m n) (move_effect Move.CopyUnder m n) result }
+        ensures { IsJudged self.now.world.now.classes (frame self.now)
+            (move_demands Move.CopyUnder m n)
+            (move_effect Move.CopyUnder m n) result }
     {
         self.check(&[
             Demand::Depth(m),
@@ -238,7 +248,9 @@ impl Before<'_> {
     fn exchanged(&self, m: u8, n: u8) -> Result<Effect, RuleFault>
         requires frame { AreKnown self.now.world.now.classes (frame self.now) }
         requires small { m + n ≤ 255 }
-        ensures { IsJudged self.now.world.now.classes (frame self.now) (move_demands Move.Exchange m n) (move_effect Move.Exchange m n) result }
+        ensures { IsJudged self.now.world.now.classes (frame self.now)
+            (move_demands Move.Exchange m n)
+            (move_effect Move.Exchange m n) result }
     {
         self.check(&[
             Demand::Depth(m),
@@ -252,7 +264,9 @@ impl Before<'_> {
     /// Checks that a number is on top of the stack.
     pub(crate) fn check_number(&self, width: Width) -> Result<(), RuleFault>
         requires { AreKnown self.now.world.now.classes (frame self.now) }
-        ensures { MatchResult result (λ _. AllHold self.now.world.now.classes (frame self.now) (number width 0)) (Breaks self.now.world.now.classes (frame self.now) (number width 0)) }
+        ensures { MatchResult result
+            (λ _. AllHold self.now.world.now.classes (frame self.now) (number width 0))
+            (Breaks self.now.world.now.classes (frame self.now) (number width 0)) }
     {
         match width {
             Width::Short => self.check(&[Demand::Cell(0, SHORT)]),
@@ -263,7 +277,9 @@ impl Before<'_> {
     /// Checks that two numbers are on top of the stack.
     pub(crate) fn check_two_numbers(&self, width: Width) -> Result<(), RuleFault>
         requires { AreKnown self.now.world.now.classes (frame self.now) }
-        ensures { MatchResult result (λ _. AllHold self.now.world.now.classes (frame self.now) (two_numbers width)) (Breaks self.now.world.now.classes (frame self.now) (two_numbers width)) }
+        ensures { MatchResult result
+            (λ _. AllHold self.now.world.now.classes (frame self.now) (two_numbers width))
+            (Breaks self.now.world.now.classes (frame self.now) (two_numbers width)) }
     {
         match width {
             Width::Short => self.check(&[Demand::Cell(0, SHORT), Demand::Cell(1, SHORT)]),
@@ -278,7 +294,8 @@ impl Before<'_> {
 
     pub(crate) fn computed(&self, arithmetic: Arithmetic) -> Result<Effect, RuleFault>
         requires { AreKnown self.now.world.now.classes (frame self.now) }
-        ensures { IsJudged self.now.world.now.classes (frame self.now) (arithmetic_demands arithmetic) (arithmetic_effect arithmetic) result }
+        ensures { IsJudged self.now.world.now.classes (frame self.now)
+            (arithmetic_demands arithmetic) (arithmetic_effect arithmetic) result }
     {
         match arithmetic {
             Arithmetic::Binary(_, width) => {

@@ -14,7 +14,7 @@ use Rattle.jc_base.specs.World.{Linked, IsWorld}
 use Rattle.jc_base.proofs.Lists.{All-slice_get}
 use Rattle.jc_base.proofs.Joins.{IsJoin-known}
 use Rattle.jc_decode.specs.declared.insn.Placed.{Placed}
-use Rattle.jc_rows.proofs.Members.{declared-known}
+use Rattle.jc_ops.proofs.Members.{declared-known}
 use Rattle.jc_rules.specs.declared.effect.Mode.TheVariants.{Flow}
 use Rattle.jc_rules.specs.Demand.{Frame, AreKnown}
 use Rattle.jc_rules.specs.Flow.{Method, IsMethodOf, Stands, IsFit, FrameBelow, At, Merges, Steps, site_of, start_frame, caught_frame, receiver_of, IsNotFresh, IsReached, begins, follows, caught, IsDerived, derived_start, derived_caught, derived_next, derived_joined, FlowTyping, IsFollowed}

@@ -51,7 +51,13 @@ pub record HasKnown (t : ClassTable) (registers : ℕ) (f : Frame) : Type 0 wher
 pub data Lands (t : ClassTable) (old : Found) (place : ℕ) (f : Frame) (new : Found) : Type 0 where
   comes_first : state_at old.states place ≡ None → new ≡ with_state old place f → Lands t old place f new
   stays : (g : Frame) → state_at old.states place ≡ Some g → Merges t g f g → new ≡ old → Lands t old place f new
-  rises : (g j : Frame) → state_at old.states place ≡ Some g → Merges t g f j → rises_of t j < rises_of t g → new ≡ with_state old place j → Lands t old place f new
+  rises :
+      (g j : Frame)
+      → state_at old.states place ≡ Some g
+      → Merges t g f j
+      → rises_of t j < rises_of t g
+      → new ≡ with_state old place j
+      → Lands t old place f new
 
 -- what stands at a place does not merge with the frame
 abbrev pub Prevents : ClassTable → Found → ℕ → Frame → PutEnd → Type 0

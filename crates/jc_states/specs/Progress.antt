@@ -29,7 +29,11 @@ pub record AreHeld (w : Linked) (m : Method) (found : Found) : Type 0 where
 
 -- where the frame at a place leads, a greater frame is found already
 pub record IsClosed (w : Linked) (m : Method) (found : Found) (p : ℕ) (f : Frame) : Type 0 where
-  pub handlers : (h : Handler) → Contains m.rec.handlers h → Covers h p → At (state_at found.states) h.entry (FrameBelow w.classes (caught_frame h f))
+  pub handlers :
+      (h : Handler)
+      → Contains m.rec.handlers h
+      → Covers h p
+      → At (state_at found.states) h.entry (FrameBelow w.classes (caught_frame h f))
   pub rule : (i : Placed) → Stands m.code i → i.place ≡ p → IsFollowed w m (state_at found.states) i f
   pub stays : (i : Placed) → Stands m.code i → i.place ≡ p → IsTrue (falls i.insn.op) → i.place + i.insn.len < length m.code
 

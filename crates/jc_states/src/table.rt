@@ -80,7 +80,9 @@ impl Table {
 
     /// The least place that waits. It waits no more.
     pub fn take_least(&mut self) -> Option<u16>
-        ensures { MatchOption result (NonePending self.old × (self.new ≡ self.old)) (λ p. IsLeastPending self.old p × (self.new ≡ taken self.old p)) }
+        ensures { MatchOption result
+            (NonePending self.old × (self.new ≡ self.old))
+            (λ p. IsLeastPending self.old p × (self.new ≡ taken self.old p)) }
     {
         let place = next_set(self.pending.as_slice(), self.low);
         self.low = place;
@@ -106,7 +108,12 @@ impl Table {
         requires regs_known { All (IsKnown classes.now) regs.now }
         requires stack_known { All (IsKnown classes.now) stack.now }
         requires held_known { IfSome (state_at self.old.states place) (HasKnown classes.now (length regs.now)) }
-        ensures { MatchResult result (λ _. Lands classes.now self.old place (record { regs = regs.now; stack = reverse stack.now }) self.new) (Prevents classes.now self.old place (record { regs = regs.now; stack = reverse stack.now })) }
+        ensures { MatchResult result
+            (λ _.
+            Lands classes.now self.old place
+            (record { regs = regs.now; stack = reverse stack.now }) self.new)
+            (Prevents classes.now self.old place
+            (record { regs = regs.now; stack = reverse stack.now })) }
     {
         if self.state(place).is_none() {
             self.states[place as usize] = Some(copied(alloc, regs, stack)?);

@@ -17,7 +17,7 @@ use Rattle.jc_statics.specs.Words.{signed, words, element_words}
 use Rattle.jc_statics.specs.Arrays.{array_type, array_record, array_records}
 use Rattle.jc_statics.specs.Known.{IsPrimitive}
 use Rattle.jc_statics.proofs.Steps.{next_item}
-use Rattle.jc_names.proofs.Repeats.{given_all}
+use Rattle.jc_resolve.proofs.Repeats.{given_all}
 
 -- ---- package after package
 

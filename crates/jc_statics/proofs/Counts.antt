@@ -22,8 +22,8 @@ use Rattle.cap_package.specs.CountChecks.{array_bytes}
 use Rattle.cap_package.specs.PackageRecord.{PackageRecord}
 use Rattle.cap_package.specs.StaticPlaces.{static_places, places_left}
 use Rattle.cap_package.proofs.ArrayBytes.{arrays_short}
-use Rattle.jc_names.specs.WorldTypes.{kind_of}
-use Rattle.jc_names.proofs.DescribedFields.{fields_of-few, fields_left-few}
+use Rattle.jc_resolve.specs.WorldTypes.{kind_of}
+use Rattle.jc_resolve.proofs.DescribedFields.{fields_of-few, fields_left-few}
 use Rattle.jc_statics.specs.Words.{signed, words}
 use Rattle.jc_statics.specs.Arrays.{array_record, array_records, cells_of}
 use Rattle.jc_statics.specs.Statics.{cells_at, static_cells}

@@ -21,7 +21,7 @@ use Rattle.cap_desc.specs.TypeFormat.{is_type}
 use Rattle.cap_package.specs.StaticChecks.{Place, is_in_image}
 use Rattle.cap_package.specs.PackageRecord.{PackageRecord}
 use Rattle.cap_package.specs.StaticPlaces.{static_places, IsStaticPlace}
-use Rattle.jc_names.specs.WorldTypes.{kind_of}
+use Rattle.jc_resolve.specs.WorldTypes.{kind_of}
 use Rattle.jc_statics.specs.Arrays.{array_type, array_record, array_records}
 use Rattle.jc_statics.specs.Image.{image, references, words_at}
 use Rattle.jc_statics.specs.Statics.{Site, site, sites, sites_behind, cells_at, static_record, type_at, records_from, static_records}

@@ -3,8 +3,8 @@ use Rattle.std.proofs.Common.{◌≡◌, ℕ, zero, suc, ◌+◌, refl, arith}
 use Rattle.std.specs.Prelude.{List}
 use Rattle.cap_desc.specs.declared.type_item.TypeItem.{TypeItem}
 use Rattle.cap_package.specs.PackageRecord.{PackageRecord}
-use Rattle.jc_names.specs.WorldTypes.{type_of}
-use Rattle.jc_names.proofs.ItemKinds.{kind_right}
+use Rattle.jc_resolve.specs.WorldTypes.{type_of}
+use Rattle.jc_resolve.proofs.ItemKinds.{kind_right}
 use Rattle.jc_statics.specs.Arrays.{array_type}
 use Rattle.jc_statics.specs.Known.{IsPrimitive, AreTold}
 

@@ -1,4 +1,5 @@
--- The arrays that exist from the start, by package and then in the order of the StaticField component (JCVM 2.2, section 6.10). The first has handle 1.
+-- The arrays that exist from the start, by package and then in the order of the StaticField
+-- component (JCVM 2.2, section 6.10). The first has handle 1.
 use Rattle.std.specs.Prelude.{ℕ, List, map, sum_by, length, flat_map, ◌==◌, if◌then◌else◌}
 use Rattle.jc_base.specs.declared.ty.Ty.{Ty}
 use Rattle.jc_base.specs.declared.ty.Ty.TheVariants.{ArrBool, ArrByte, ArrShort, ArrInt}

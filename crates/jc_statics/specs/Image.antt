@@ -1,4 +1,5 @@
--- The image of a package's static fields at the start (JCVM 2.2, section 6.10): references of two bytes each, of which the first name the initial arrays, then zeros, then the given values.
+-- The image of a package's static fields at the start (JCVM 2.2, section 6.10): references of two
+-- bytes each, of which the first name the initial arrays, then zeros, then the given values.
 use Rattle.std.specs.Prelude.{ℕ, ◌+◌, ◌-◌, ◌*◌, ◌/◌, List, [], ◌∷◌, ◌++◌, length, min, replicate, slice_index}
 use Rattle.jc_base.specs.declared.ty.Kind.{Kind}
 use Rattle.jc_base.specs.declared.ty.Kind.TheVariants.{Ref, Byte, Short, Int}
@@ -9,7 +10,9 @@ use Rattle.jc_statics.specs.Words.{signed}
 abbrev pub image : Statics → List ℕ
 image s = replicate (2 * s.reference_count + s.default_value_count) 0 ++ s.values
 
--- the handles of arrays that are counted from a first one on. A handle is a word: where packages have more arrays than words can number, each further one has 65,535 (no world has so many arrays, but its static fields are looked up before they are counted)
+-- the handles of arrays that are counted from a first one on. A handle is a word: where packages
+-- have more arrays than words can number, each further one has 65,535 (no world has so many arrays,
+-- but its static fields are looked up before they are counted)
 abbrev pub handles : ℕ → List Array → List ℕ
 handles first [] = []
 handles first (a ∷ others) = min first 65535 ∷ handles (first + 1) others

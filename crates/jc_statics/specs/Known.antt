@@ -9,7 +9,7 @@ use Rattle.cap_desc.specs.TypeFormat.{is_type}
 use Rattle.cap_package.specs.PackageRecord.{PackageRecord}
 use Rattle.cap_package.specs.StaticPlaces.{static_places, AreApart, IsStaticPlace}
 use Rattle.jc_statics.specs.Arrays.{array_type}
-use Rattle.jc_names.specs.WorldTypes.{kind_of}
+use Rattle.jc_resolve.specs.WorldTypes.{kind_of}
 
 -- the number of a primitive type: boolean, byte, short or int
 pub record IsPrimitive (kind : ℕ) : Type 0 where

@@ -1,8 +1,8 @@
 -- How many static cells and initial arrays a world has room for.
 use Rattle.std.specs.Prelude.{List, length, Option, Some, None, nat_lt, if◌then◌else◌}
 use Rattle.cap_package.specs.PackageRecord.{PackageRecord}
-use Rattle.jc_names.specs.declared.fault.LinkFault.{LinkFault}
-use Rattle.jc_names.specs.declared.fault.LinkFault.TheVariants.{TooManyStatics, NoRoom}
+use Rattle.jc_resolve.specs.declared.fault.LinkFault.{LinkFault}
+use Rattle.jc_resolve.specs.declared.fault.LinkFault.TheVariants.{TooManyStatics, NoRoom}
 use Rattle.jc_statics.specs.Arrays.{array_records, cells_of}
 use Rattle.jc_statics.specs.Statics.{static_cells}
 

@@ -1,4 +1,5 @@
--- The static fields of packages, by package and then in the order of the Descriptor, which is the order of their numbers (JCVM 2.2, sections 6.10 and 6.13).
+-- The static fields of packages, by package and then in the order of the Descriptor, which is the
+-- order of their numbers (JCVM 2.2, sections 6.10 and 6.13).
 use Rattle.std.specs.Prelude.{ℕ, ◌+◌, List, [], ◌∷◌, ◌++◌, length, map, flat_map, sum_by}
 use Rattle.jc_base.specs.declared.ty.Ty.{Ty}
 use Rattle.jc_base.specs.declared.record.StaticRec.{StaticRec}
@@ -8,7 +9,7 @@ use Rattle.cap_desc.specs.declared.type_item.TypeItem.{TypeItem}
 use Rattle.cap_package.specs.StaticChecks.{Place}
 use Rattle.cap_package.specs.PackageRecord.{PackageRecord}
 use Rattle.cap_package.specs.StaticPlaces.{static_places}
-use Rattle.jc_names.specs.WorldTypes.{kind_of}
+use Rattle.jc_resolve.specs.WorldTypes.{kind_of}
 use Rattle.jc_statics.specs.Image.{words_at}
 
 -- the cells of the field at a place

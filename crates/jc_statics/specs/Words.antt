@@ -11,6 +11,7 @@ words [] = []
 words (high ∷ []) = []
 words (high ∷ low ∷ bytes) = (high * 256 + low) ∷ words bytes
 
--- the words of the elements of an array, by the number of their type: a boolean (2) or a byte (3) is one word, a short (4) one of two bytes, an int (5) two words, the high one first
+-- the words of the elements of an array, by the number of their type: a boolean (2) or a byte (3)
+-- is one word, a short (4) one of two bytes, an int (5) two words, the high one first
 abbrev pub element_words : ℕ → List ℕ → List ℕ
 element_words kind bytes = if nat_le kind 3 then map signed bytes else words bytes

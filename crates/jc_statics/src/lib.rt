@@ -1,5 +1,5 @@
 //! The static fields and the initial arrays of packages as records of a world (JCVM 2.2, section 6.10).
-//! It stands on `jc_names` for the types that fields name, on `cap_package` for what packages say and on
+//! It stands on `jc_resolve` for the types that fields name, on `cap_package` for what packages say and on
 //! `jc_base` for the records.
 
 #![tactic(auto)]

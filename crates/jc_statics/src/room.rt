@@ -1,7 +1,7 @@
 ghost use Rattle.std.specs.Prelude.{◌≡◌, ◌≤◌, length, map, sum_by, OnOk};
 ghost use Rattle.cap_method.specs.StaticPart.{array_seen, statics_seen};
 ghost use Rattle.cap_package.specs.StaticPlaces.{static_places};
-ghost use Rattle.jc_names.specs.FirstFault.{refused};
+ghost use Rattle.jc_resolve.specs.FirstFault.{refused};
 ghost use Rattle.jc_statics.specs.Words.{element_words};
 ghost use Rattle.jc_statics.specs.Arrays.{array_record, array_records, cells_of};
 ghost use Rattle.jc_statics.specs.Statics.{cells_at, static_cells};
@@ -9,7 +9,7 @@ ghost use Rattle.jc_statics.specs.Room.{statics_fault, arrays_fault};
 
 use cap_method::{ArrayInit, StaticPart};
 use cap_package::{Package, Packages};
-use jc_names::{LinkFault, kind_of, width};
+use jc_resolve::{LinkFault, kind_of, width};
 
 /// The type of elements that take one byte each, boolean being the other one.
 const BYTE: u8 = 3;

@@ -6,7 +6,7 @@ ghost use Rattle.cap_package.specs.Places.{place_seen};
 ghost use Rattle.cap_package.specs.StaticPlaces.{static_places};
 ghost use Rattle.cap_method.specs.StaticPart.{statics_seen};
 ghost use Rattle.jc_statics.specs.Arrays.{array_records};
-ghost use Rattle.jc_names.specs.WorldTypes.{type_of};
+ghost use Rattle.jc_resolve.specs.WorldTypes.{type_of};
 ghost use Rattle.jc_statics.specs.Known.{AreStaticsKnown, StandApart};
 ghost use Rattle.jc_statics.specs.Statics.{cells_at, site, static_cells, static_record, records_from, static_records};
 
@@ -14,7 +14,7 @@ use crate::image::words_at;
 use cap_method::StaticPart;
 use cap_package::{Package, Packages, StaticPlace};
 use jc_base::{StaticRec, Statics, Ty};
-use jc_names::{Names, kind_of, width};
+use jc_resolve::{Names, kind_of, width};
 use std::alloc::{AllocError, Global};
 
 /// A package among all: its number, and the handle of its first initial array.
@@ -46,7 +46,7 @@ fn static_record(
     })
 }
 
-/// Appends the static fields of a package, whose cells begin at a slot, and gives the slot behind them.
+/// Appends the static fields of a package, whose cells begin at a slot, and gives the slot after them.
 fn push_statics(
     alloc: Global,
     records: &mut Vec<StaticRec>,
@@ -56,7 +56,10 @@ fn push_statics(
     names: &Names<'_, '_, '_>,
 ) -> Result<u32, AllocError>
     requires { slot + sum_by cells_at (static_places «package».now) ≤ 32768 }
-    ensures is { IfOk result (λ _. records.new.items ≡ records.old.items ++ records_from (type_of names.now.packages (slice_index names.now.roles 0)) slot (map (site home.«package» home.first «package».now.statics) (static_places «package».now))) }
+    ensures is { IfOk result
+        (λ _.
+        records.new.items
+        ≡ records.old.items ++ records_from (type_of names.now.packages (slice_index names.now.roles 0)) slot (map (site home.«package» home.first «package».now.statics) (static_places «package».now))) }
     ensures next { IfOk result (λ next. next ≡ slot + sum_by cells_at (static_places «package».now)) }
     ensures known { IfOk result (λ _. AreStaticsKnown «package».now) }
 {
@@ -100,7 +103,11 @@ fn all_statics(
 #[tactic(auto, using(crate::proofs::FieldLists::slots_of, crate::proofs::FieldLists::cells_of_records))]
 pub fn statics(alloc: Global, names: &Names<'_, '_, '_>) -> Result<Statics, AllocError>
     requires { static_cells names.now.packages ≤ 32768 }
-    ensures is { IfOk result (λ fields. fields ≡ static_records (type_of names.now.packages (slice_index names.now.roles 0)) names.now.packages) }
+    ensures is { IfOk result
+        (λ fields.
+        fields
+        ≡ static_records
+        (type_of names.now.packages (slice_index names.now.roles 0)) names.now.packages) }
     // Their cells are 0, 1 and so on without a gap.
     ensures slots { IfOk result (AreSlots 0) }
     ensures cells { IfOk result (λ fields. sum_by (λ f. width f.kind) fields ≤ 32768) }
@@ -108,7 +115,14 @@ pub fn statics(alloc: Global, names: &Names<'_, '_, '_>) -> Result<Statics, Allo
     ensures apart { IfOk result StandApart }
     // Each has its type and its words, in any class table that has the classes of their types, where there
     // are no more initial arrays than a world has.
-    ensures fields { IfOk result (λ fields. length (array_records names.now.packages) ≤ 4096 → (t : ClassTable) → All (λ f. IsDeclared t f.ty) fields → All (IsStatic (length names.now.packages) t (array_records names.now.packages)) fields) }
+    ensures fields { IfOk result
+        (λ fields.
+        length (array_records names.now.packages) ≤ 4096
+        → (t : ClassTable)
+        → All (λ f. IsDeclared t f.ty) fields
+        → All
+        (IsStatic (length names.now.packages) t (array_records names.now.packages))
+        fields) }
 {
     let fields = all_statics(alloc, names.packages(), names)?;
     Ok(fields)

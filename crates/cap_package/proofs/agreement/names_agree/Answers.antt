@@ -1,7 +1,7 @@
 -- The flags are those of the methods that the Descriptor describes.
 use Rattle.std.proofs.Common.{◌≡◌, refl, rules}
-use Rattle.cap_parts.specs.ComponentsSeen.{components_seen}
-use Rattle.cap_parts.specs.PackageRecord.{described}
+use Rattle.cap_components.specs.ComponentsSeen.{components_seen}
+use Rattle.cap_components.specs.PackageRecord.{described}
 use Rattle.cap_package.specs.NameChecks.{is_method_at}
 use Rattle.cap_package.specs.OffsetSets.{stands}
 use Rattle.cap_package.proofs.agreement.names_agree.Goals as goal

@@ -1,7 +1,7 @@
 use Rattle.std.proofs.Common.{◌≡◌}
 use Rattle.cap_class.specs.ClassPart.{records, classes_left}
 use Rattle.cap_desc.specs.ClassRecords.{classes_left as described_left}
-use Rattle.cap_parts.specs.Order.{least_of, least_from}
+use Rattle.cap_components.specs.Order.{least_of, least_from}
 use Rattle.cap_package.specs.NameChecks.{undescribed_fault}
 use Rattle.cap_package.proofs.class_checks.classes_described.Given as goal
 

@@ -2,7 +2,7 @@ use Rattle.std.proofs.Common.{◌≡◌, map}
 use Rattle.cap_class.specs.ClassPart.{records}
 use Rattle.cap_desc.specs.DescriptorFormat as desc
 use Rattle.cap_desc.specs.ClassRecords.{classes_left as described_left}
-use Rattle.cap_parts.specs.Order.{least_from}
+use Rattle.cap_components.specs.Order.{least_from}
 use Rattle.cap_package.specs.NameChecks.{no_class_fault}
 use Rattle.cap_package.proofs.class_checks.descriptors_named.Given as goal
 

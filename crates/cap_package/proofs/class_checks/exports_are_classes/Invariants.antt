@@ -2,7 +2,7 @@ use Rattle.std.proofs.Common.{◌≡◌, map}
 use Rattle.cap_pool.specs.Export.{classes as exported, classes_left as exported_left}
 use Rattle.cap_pool.specs.ExportFormat.{Exported}
 use Rattle.cap_class.specs.ClassPart.{records}
-use Rattle.cap_parts.specs.Order.{least_from}
+use Rattle.cap_components.specs.Order.{least_from}
 use Rattle.cap_package.specs.NameChecks.{no_class_fault}
 use Rattle.cap_package.proofs.class_checks.exports_are_classes.Given as goal
 

@@ -1,7 +1,7 @@
 use Rattle.std.proofs.Common.{◌≡◌, ◌+◌, ◌*◌, ◌≤◌, length}
 use Rattle.cap_desc.specs.ClassRecords.{class_seen}
 use Rattle.cap_desc.specs.MemberLists.{fields_left}
-use Rattle.cap_parts.specs.Descriptions.{description}
+use Rattle.cap_components.specs.Descriptions.{description}
 use Rattle.cap_package.specs.CountChecks.{instance_cells}
 use Rattle.cap_package.proofs.count_checks.instance_cells.Given as goal
 

@@ -1,8 +1,8 @@
 use Rattle.std.proofs.Common.{◌≡◌}
 use Rattle.cap_class.specs.ClassPart.{records}
 use Rattle.cap_desc.specs.ClassRecords.{classes_left}
-use Rattle.cap_parts.specs.Order.{least_of, least_from}
-use Rattle.cap_parts.specs.Descriptions.{description}
+use Rattle.cap_components.specs.Order.{least_of, least_from}
+use Rattle.cap_components.specs.Descriptions.{description}
 use Rattle.cap_package.specs.CountChecks.{instance_fault}
 use Rattle.cap_package.proofs.count_checks.instances_agree.Given as goal
 

@@ -1,7 +1,7 @@
 use Rattle.std.proofs.Common.{◌≡◌, ◌+◌, length}
 use Rattle.cap_desc.specs.MembersLeft.{methods_from_left}
 use Rattle.cap_method.specs.MethodPart.{handlers_left, handlers}
-use Rattle.cap_parts.specs.Order.{least_of, least_from}
+use Rattle.cap_components.specs.Order.{least_of, least_from}
 use Rattle.cap_package.specs.HandlerChecks.{numbered, numbered_fault}
 use Rattle.cap_package.proofs.handler_checks.entry_faults.Given as goal
 

@@ -1,7 +1,7 @@
 use Rattle.std.proofs.Common.{◌≡◌}
 use Rattle.cap_desc.specs.MembersLeft.{methods_from_left}
-use Rattle.cap_parts.specs.Order.{least_of, least_from}
-use Rattle.cap_parts.specs.Descriptions.{description}
+use Rattle.cap_components.specs.Order.{least_of, least_from}
+use Rattle.cap_components.specs.Descriptions.{description}
 use Rattle.cap_package.specs.HeaderChecks.{arguments_fault}
 use Rattle.cap_package.proofs.header_checks.arguments_agree.Given as goal
 

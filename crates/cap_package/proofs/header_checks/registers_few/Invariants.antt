@@ -1,6 +1,6 @@
 use Rattle.std.proofs.Common.{◌≡◌}
 use Rattle.cap_desc.specs.MembersLeft.{methods_from_left}
-use Rattle.cap_parts.specs.Order.{least_of, least_from}
+use Rattle.cap_components.specs.Order.{least_of, least_from}
 use Rattle.cap_package.specs.HeaderChecks.{registers_fault}
 use Rattle.cap_package.proofs.header_checks.registers_few.Given as goal
 

@@ -1,6 +1,6 @@
 use Rattle.std.proofs.Common.{◌≡◌, length}
 use Rattle.cap_desc.specs.MembersLeft.{methods_from_left}
-use Rattle.cap_parts.specs.Order.{least_from, least_of}
+use Rattle.cap_components.specs.Order.{least_from, least_of}
 use Rattle.cap_package.specs.Pairs.{pairs}
 use Rattle.cap_package.specs.MethodChecks.{overlap_pair}
 use Rattle.cap_package.proofs.method_checks.methods_apart.Given as goal

@@ -1,7 +1,7 @@
 use Rattle.std.proofs.Common.{◌≡◌}
 use Rattle.cap_desc.specs.MemberRecords.{method_seen}
 use Rattle.cap_desc.specs.MembersLeft.{methods_from_left}
-use Rattle.cap_parts.specs.Order.{least_from}
+use Rattle.cap_components.specs.Order.{least_from}
 use Rattle.cap_package.specs.MethodChecks.{overlap_fault}
 use Rattle.cap_package.proofs.method_checks.overlaps_with.Given as goal
 

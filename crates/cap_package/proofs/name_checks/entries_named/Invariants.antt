@@ -1,6 +1,6 @@
 use Rattle.std.proofs.Common.{◌≡◌}
 use Rattle.cap_class.specs.ClassPart.{records, classes_left}
-use Rattle.cap_parts.specs.Order.{least_of, least_from}
+use Rattle.cap_components.specs.Order.{least_of, least_from}
 use Rattle.cap_package.specs.NameChecks.{no_entry_fault, table_entries}
 use Rattle.cap_package.specs.OffsetSets.{stands}
 use Rattle.cap_package.proofs.name_checks.entries_named.Given as goal

@@ -1,7 +1,7 @@
 use Rattle.std.proofs.Common.{◌≡◌, map}
 use Rattle.cap_frame.specs.AppletFormat.{Applet}
 use Rattle.cap_frame.specs.Applets.{applets_of, applets_left}
-use Rattle.cap_parts.specs.Order.{least_from}
+use Rattle.cap_components.specs.Order.{least_from}
 use Rattle.cap_package.specs.NameChecks.{no_method_fault}
 use Rattle.cap_package.specs.OffsetSets.{stands}
 use Rattle.cap_package.proofs.name_checks.installs_named.Given as goal

@@ -1,6 +1,6 @@
 use Rattle.std.proofs.Common.{◌≡◌}
 use Rattle.cap_bytes.specs.Table.{numbers}
-use Rattle.cap_parts.specs.Order.{least_from}
+use Rattle.cap_components.specs.Order.{least_from}
 use Rattle.cap_package.specs.StaticChecks.{no_static_fault}
 use Rattle.cap_package.specs.OffsetSets.{stands}
 use Rattle.cap_package.proofs.name_checks.statics_of_table.Given as goal

@@ -1,7 +1,7 @@
 use Rattle.std.proofs.Common.{◌≡◌}
 use Rattle.cap_desc.specs.MembersLeft.{fields_of_left}
-use Rattle.cap_parts.specs.Descriptions.{description}
-use Rattle.cap_parts.specs.Order.{least_from}
+use Rattle.cap_components.specs.Descriptions.{description}
+use Rattle.cap_components.specs.Order.{least_from}
 use Rattle.cap_package.specs.StaticChecks.{filled_fault}
 use Rattle.cap_package.proofs.static_checks.filled_faults.Given as goal
 

@@ -1,8 +1,8 @@
 use Rattle.std.proofs.Common.{◌≡◌}
 use Rattle.cap_method.specs.StaticPart.{statics_seen}
 use Rattle.cap_desc.specs.MembersLeft.{fields_of_left}
-use Rattle.cap_parts.specs.Order.{least_from, least_of}
-use Rattle.cap_parts.specs.Descriptions.{description}
+use Rattle.cap_components.specs.Order.{least_from, least_of}
+use Rattle.cap_components.specs.Descriptions.{description}
 use Rattle.cap_package.specs.StaticChecks.{image_fault}
 use Rattle.cap_package.proofs.static_checks.image_faults.Given as goal
 

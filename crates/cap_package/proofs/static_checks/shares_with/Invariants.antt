@@ -1,8 +1,8 @@
 use Rattle.std.proofs.Common.{◌≡◌}
 use Rattle.std.specs.Option.{option_map}
 use Rattle.cap_desc.specs.MembersLeft.{fields_of_left}
-use Rattle.cap_parts.specs.Order.{least_from}
-use Rattle.cap_parts.specs.Descriptions.{description}
+use Rattle.cap_components.specs.Order.{least_from}
+use Rattle.cap_components.specs.Descriptions.{description}
 use Rattle.cap_package.specs.StaticChecks.{share_fault}
 use Rattle.cap_package.specs.Places.{place_seen}
 use Rattle.cap_package.proofs.static_checks.shares_with.Given as goal

@@ -1,8 +1,8 @@
 use Rattle.std.proofs.Common.{◌≡◌, length}
 use Rattle.cap_desc.specs.MembersLeft.{fields_of_left}
-use Rattle.cap_parts.specs.Order.{least_from, least_of}
+use Rattle.cap_components.specs.Order.{least_from, least_of}
 use Rattle.cap_package.specs.Pairs.{pairs}
-use Rattle.cap_parts.specs.Descriptions.{description}
+use Rattle.cap_components.specs.Descriptions.{description}
 use Rattle.cap_package.specs.StaticChecks.{share_pair}
 use Rattle.cap_package.proofs.static_checks.statics_apart.Given as goal
 

@@ -1,8 +1,8 @@
 use Rattle.std.proofs.Common.{◌≡◌}
 use Rattle.cap_desc.specs.Members.{fields_of}
 use Rattle.cap_desc.specs.MembersLeft.{fields_of_left}
-use Rattle.cap_parts.specs.Order.{least_of, least_from}
-use Rattle.cap_parts.specs.Descriptions.{description}
+use Rattle.cap_components.specs.Order.{least_of, least_from}
+use Rattle.cap_components.specs.Descriptions.{description}
 use Rattle.cap_package.specs.TypeChecks.{field_type_fault}
 use Rattle.cap_package.proofs.type_checks.field_types.Given as goal
 

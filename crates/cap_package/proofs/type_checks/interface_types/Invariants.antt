@@ -1,7 +1,7 @@
 use Rattle.std.proofs.Common.{◌≡◌}
 use Rattle.cap_desc.specs.ClassRecords.{classes_left as described_left}
-use Rattle.cap_parts.specs.Order.{least_from}
-use Rattle.cap_parts.specs.Descriptions.{description}
+use Rattle.cap_components.specs.Order.{least_from}
+use Rattle.cap_components.specs.Descriptions.{description}
 use Rattle.cap_package.specs.TypeChecks.{method_type_fault, interface_methods}
 use Rattle.cap_package.proofs.type_checks.interface_types.Given as goal
 

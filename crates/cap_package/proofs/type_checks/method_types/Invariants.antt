@@ -1,8 +1,8 @@
 use Rattle.std.proofs.Common.{◌≡◌}
 use Rattle.cap_desc.specs.Members.{methods_from}
 use Rattle.cap_desc.specs.MembersLeft.{methods_from_left}
-use Rattle.cap_parts.specs.Order.{least_from}
-use Rattle.cap_parts.specs.Descriptions.{description}
+use Rattle.cap_components.specs.Order.{least_from}
+use Rattle.cap_components.specs.Descriptions.{description}
 use Rattle.cap_package.specs.TypeChecks.{method_type_fault}
 use Rattle.cap_package.proofs.type_checks.method_types.Given as goal
 

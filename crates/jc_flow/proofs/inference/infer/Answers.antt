@@ -1,8 +1,8 @@
 use Rattle.std.proofs.Common.{◌≡◌, ◌<◌, Some, option_map, slice_get}
 use Rattle.jc_base.specs.World.{code_of}
 use Rattle.jc_rules.specs.Flow.{IsMethodOf}
-use Rattle.jc_places.specs.MethodIn.{method_in}
-use Rattle.jc_places.specs.Survey.{IsSurvey}
+use Rattle.jc_control.specs.MethodIn.{method_in}
+use Rattle.jc_control.specs.Survey.{IsSurvey}
 use Rattle.jc_flow.specs.Infer.{HasNone}
 use Rattle.jc_flow.proofs.Answered.{number-below, of-method, to-method, code-short, none-unsurveyed, none-failed}
 use Rattle.jc_flow.proofs.inference.infer.Goals as goal

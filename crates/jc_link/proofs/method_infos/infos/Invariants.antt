@@ -1,6 +1,6 @@
 use Rattle.std.proofs.Common.{◌≡◌, ◌≤◌, take, length}
 use Rattle.std.specs.Prelude.{All}
-use Rattle.jc_names.specs.Named.{infos_of}
+use Rattle.jc_resolve.specs.Named.{infos_of}
 use Rattle.jc_link.proofs.method_infos.infos.Given as goal
 
 abbrev pub invariant-packages : goal.invariant-packages

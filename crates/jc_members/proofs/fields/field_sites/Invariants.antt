@@ -1,5 +1,5 @@
 use Rattle.std.proofs.Common.{◌≡◌, ◌+◌, [], drop}
-use Rattle.jc_names.specs.Counts.{class_total}
+use Rattle.jc_resolve.specs.Counts.{class_total}
 use Rattle.jc_members.specs.Sites.{all_entered}
 use Rattle.jc_members.specs.Fields.{sites_behind, field_sites, HaveRoomBehind}
 use Rattle.jc_members.proofs.fields.field_sites.Given as goal

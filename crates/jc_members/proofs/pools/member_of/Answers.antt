@@ -1,6 +1,6 @@
 use Rattle.std.proofs.Common.{◌<◌, arith, sym, ◌∙◌}
 use Rattle.cap_pool.specs.Pool.{entry_seen}
-use Rattle.jc_names.proofs.Totals.{classes_total}
+use Rattle.jc_resolve.proofs.Totals.{classes_total}
 use Rattle.jc_members.specs.Entries.{token_in}
 use Rattle.jc_members.proofs.Counted.{records_counted, named_counted}
 use Rattle.jc_members.proofs.MembersLinked.{member_there}

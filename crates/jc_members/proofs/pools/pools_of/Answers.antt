@@ -1,5 +1,5 @@
 use Rattle.std.proofs.Common.{length, arith, sym, ap, ◌∙◌}
-use Rattle.jc_names.proofs.Totals.{classes_total}
+use Rattle.jc_resolve.proofs.Totals.{classes_total}
 use Rattle.jc_members.proofs.Counted.{records_counted, named_counted}
 use Rattle.jc_members.proofs.OwnRecords.{room_there}
 use Rattle.jc_members.proofs.pools.pools_of.Goals as goal

@@ -1,9 +1,9 @@
 use Rattle.std.proofs.Common.{◌≡◌, ◌<◌, ◌≤◌, length, Err, Ok, subst, sym, reverse, arith}
 use Rattle.std.proofs.lemmas.List.{length-reverse}
 use Rattle.std.proofs.lemmas.Result.{err_from_is_err_and}
-use Rattle.jc_rows.specs.Row.{row_at}
-use Rattle.jc_rows.specs.Named.{Names}
-use Rattle.jc_rows.proofs.Naming.{names-are-sound}
+use Rattle.jc_ops.specs.Row.{row_at}
+use Rattle.jc_ops.specs.Named.{Names}
+use Rattle.jc_ops.proofs.Naming.{names-are-sound}
 use Rattle.jc_rules.specs.Effect.{depth_after}
 use Rattle.jc_rules.specs.Demand.{Frame, Breaks, AllHold}
 use Rattle.jc_rules.specs.Rule.{demands, effect}

@@ -1,7 +1,7 @@
 use Rattle.std.proofs.Common.{◌≡◌, ◌+◌, length, take_all, subst, ap, ◌∙◌, arith}
 use Rattle.std.specs.Prelude.{All, slice_index}
 use Rattle.cap_method.specs.StaticFormat.{Statics}
-use Rattle.jc_names.specs.WorldTypes.{type_of}
+use Rattle.jc_resolve.specs.WorldTypes.{type_of}
 use Rattle.jc_statics.specs.Known.{AreStaticsKnown}
 use Rattle.jc_statics.specs.Statics.{static_records}
 use Rattle.jc_statics.proofs.Steps.{taken_more}

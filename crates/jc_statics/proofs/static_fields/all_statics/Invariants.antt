@@ -1,5 +1,5 @@
 use Rattle.std.specs.Prelude.{◌≡◌, ◌+◌, ◌*◌, ◌≤◌, ◌++◌, All, drop, slice_index, take}
-use Rattle.jc_names.specs.WorldTypes.{type_of}
+use Rattle.jc_resolve.specs.WorldTypes.{type_of}
 use Rattle.jc_statics.specs.Known.{AreStaticsKnown}
 use Rattle.jc_statics.specs.Statics.{sites_behind, static_cells, records_from, static_records}
 use Rattle.jc_statics.proofs.static_fields.all_statics.Given as goal

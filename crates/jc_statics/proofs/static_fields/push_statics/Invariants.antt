@@ -1,6 +1,6 @@
 use Rattle.std.specs.Prelude.{◌≡◌, ◌+◌, ◌++◌, map, slice_index, sum_by}
 use Rattle.cap_package.specs.StaticPlaces.{static_places, places_left}
-use Rattle.jc_names.specs.WorldTypes.{type_of}
+use Rattle.jc_resolve.specs.WorldTypes.{type_of}
 use Rattle.jc_statics.specs.Statics.{cells_at, site, records_from}
 use Rattle.jc_statics.proofs.static_fields.push_statics.Given as goal
 

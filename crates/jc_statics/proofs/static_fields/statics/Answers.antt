@@ -1,6 +1,6 @@
 use Rattle.std.proofs.Common.{◌≡◌, subst, ap, ◌∙◌}
 use Rattle.std.specs.Prelude.{All, slice_index}
-use Rattle.jc_names.specs.WorldTypes.{type_of}
+use Rattle.jc_resolve.specs.WorldTypes.{type_of}
 use Rattle.jc_statics.specs.Known.{AreStaticsKnown}
 use Rattle.jc_statics.specs.Statics.{static_records}
 use Rattle.jc_statics.proofs.TypeFacts.{types_told}

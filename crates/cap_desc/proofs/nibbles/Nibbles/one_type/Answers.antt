@@ -1,4 +1,4 @@
--- The type stands first, and the nibbles end behind it or go on.
+-- The type stands first, and the nibbles end after it or go on.
 use Rattle.std.proofs.Common.{arith, sym, ◌∙◌}
 use Rattle.cap_desc.specs.Nibbles.{nibbles_in}
 use Rattle.cap_desc.proofs.NibbleLemmas.{length-some}

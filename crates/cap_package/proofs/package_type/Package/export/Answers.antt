@@ -2,8 +2,8 @@
 use Rattle.std.proofs.Common.{IfSome, subst}
 use Rattle.cap_pool.specs.ExportFormat.{export_info}
 use Rattle.cap_pool.specs.Export.{classes as exported}
-use Rattle.cap_parts.specs.PackageRecord.{PackageRecord}
-use Rattle.cap_parts.specs.Saying.{Holds}
+use Rattle.cap_components.specs.PackageRecord.{PackageRecord}
+use Rattle.cap_components.specs.Saying.{Holds}
 use Rattle.cap_package.proofs.OneRecord.{answer_is, holds-if}
 use Rattle.cap_package.proofs.package_type.Package.export.Goals as goal
 

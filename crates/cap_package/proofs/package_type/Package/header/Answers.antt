@@ -1,8 +1,8 @@
 -- The info among the parts is the one that was read.
 use Rattle.std.proofs.Common.{subst}
 use Rattle.cap_frame.specs.HeaderFormat.{header_info}
-use Rattle.cap_parts.specs.PackageRecord.{PackageRecord}
-use Rattle.cap_parts.specs.Saying.{Holds}
+use Rattle.cap_components.specs.PackageRecord.{PackageRecord}
+use Rattle.cap_components.specs.Saying.{Holds}
 use Rattle.cap_package.proofs.OneRecord.{answer_is, holds-info}
 use Rattle.cap_package.proofs.package_type.Package.header.Goals as goal
 

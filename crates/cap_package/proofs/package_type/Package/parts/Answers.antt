@@ -1,6 +1,6 @@
 -- A package is what its parts stand for.
 use Rattle.std.proofs.Common.{subst}
-use Rattle.cap_parts.specs.PackageRecord.{PackageRecord}
+use Rattle.cap_components.specs.PackageRecord.{PackageRecord}
 use Rattle.cap_package.specs.StandsFor.{StandsFor}
 use Rattle.cap_package.proofs.OneRecord.{answer_is}
 use Rattle.cap_package.proofs.package_type.Package.parts.Goals as goal

@@ -5,8 +5,8 @@ use Rattle.std.specs.List.{Contains}
 use Rattle.std.proofs.lemmas.Int.{to_z-of_z}
 use Rattle.std.proofs.lemmas.List.Elements.{All-push}
 use Rattle.jc_decode.specs.Listing.{targets}
-use Rattle.jc_places.specs.Targets.{rest_of}
-use Rattle.jc_places.proofs.Elements.{at-next, at-last, go-on, contained-in}
+use Rattle.jc_control.specs.Targets.{rest_of}
+use Rattle.jc_control.proofs.Elements.{at-next, at-last, go-on, contained-in}
 use Rattle.jc_flow.specs.Visit.{searched, IsAtTarget}
 use Rattle.jc_flow.proofs.Leading.{goes-same}
 use Rattle.jc_flow.proofs.Visits.{goes-on, targets-on}

@@ -1,6 +1,6 @@
 use Rattle.std.proofs.Common.{◌≡◌, ◌++◌, All}
 use Rattle.jc_decode.specs.Listing.{targets}
-use Rattle.jc_places.specs.Targets.{rest_of}
+use Rattle.jc_control.specs.Targets.{rest_of}
 use Rattle.jc_flow.specs.Visit.{searched, world_of, Goes, IsAtTarget}
 use Rattle.jc_flow.proofs.search.Search.raise_targets.Given as goal
 

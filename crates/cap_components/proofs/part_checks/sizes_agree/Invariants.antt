@@ -1,0 +1,11 @@
+use Rattle.std.proofs.Common.{◌≡◌, map}
+use Rattle.cap_frame.specs.Directory.{directory_items, customs_left}
+use Rattle.cap_frame.specs.DirectoryFormat.{Custom}
+use Rattle.cap_components.specs.Order.{least_from}
+use Rattle.cap_components.specs.PartChecks.{custom_tags, size_fault}
+use Rattle.cap_components.proofs.part_checks.sizes_agree.Given as goal
+
+abbrev pub invariant-customs : goal.invariant-customs
+invariant-customs l =
+    least_from l.least (size_fault l.parts (directory_items l.directory)) (map (λ (c : Custom). c.tag) (customs_left l.custom-iterator))
+    ≡ least_from l.initial.least (size_fault l.parts (directory_items l.directory)) (custom_tags (directory_items l.directory))

@@ -1,0 +1,63 @@
+ghost use Rattle.std.specs.Prelude.{◌≡◌, ◌≤◌, IfSome};
+ghost use Rattle.cap_desc.specs.TypeLists.{types_left};
+ghost use Rattle.cap_components.specs.Descriptions.{description, words_of, words_in, argument_words, field_type};
+
+use cap_desc::{DescPart, TypeItem, Types};
+
+/// The nibble of void in a type descriptor.
+const VOID: u8 = 1;
+/// The nibble of int in a type descriptor.
+const INT: u8 = 5;
+
+/// The words that a value of a type takes.
+pub fn words_of(item: TypeItem) -> u16
+    ensures { result ≡ words_of item }
+{
+    if item.nibble == INT { 2 } else { 1 }
+}
+
+/// The argument words that types tell, where they have the shape of a method's.
+fn words_in(types: Types<'_>) -> Option<u16>
+    ensures value { result ≡ words_in (types_left types.entry) }
+    ensures few { IfSome result (λ words. words ≤ 510) }
+{
+    let count = types.len();
+    let mut rest = types;
+    let mut last = rest.next()?;
+    let mut words: u16 = 0;
+    'types: while let Some(next) = rest.next() {
+        if last.nibble == VOID {
+            return None;
+        }
+        words += words_of(last);
+        last = next;
+    }
+    Some(words)
+}
+
+/// The argument words of the method whose type descriptor stands at an offset.
+#[tactic(auto, unfolding(crate::specs::Descriptions::argument_words))]
+pub fn argument_words(descriptor: &DescPart<'_>, offset: u16) -> Option<u16>
+    ensures value { result ≡ argument_words (description descriptor.now) offset }
+    ensures few { IfSome result (λ words. words ≤ 510) }
+{
+    words_in(descriptor.types_at(offset)?)
+}
+
+/// A field's type: that of its number, or of the type descriptor of one type at that offset.
+#[tactic(auto, unfolding(crate::specs::Descriptions::field_type))]
+pub fn field_type(descriptor: &DescPart<'_>, ty: u16) -> Option<TypeItem>
+    ensures { result ≡ field_type (description descriptor.now) ty }
+{
+    if ty >= 0x8002 && ty <= 0x8005 {
+        return Some(TypeItem {
+            nibble: (ty - 0x8000) as u8,
+            class_ref: 0,
+        });
+    }
+    let item = descriptor.type_at(ty)?;
+    if item.nibble == VOID {
+        return None;
+    }
+    Some(item)
+}

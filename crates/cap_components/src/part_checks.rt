@@ -1,0 +1,137 @@
+ghost use Rattle.std.specs.Prelude.{◌≡◌, map};
+ghost use Rattle.cap_frame.specs.Directory.{directory_items, customs_left};
+ghost use Rattle.cap_frame.specs.DirectoryFormat.{Custom, directory_info};
+ghost use Rattle.cap_components.specs.Components.{read_part};
+ghost use Rattle.cap_components.specs.Order.{least_of, least_from, refused};
+ghost use Rattle.cap_components.specs.PartChecks.{required, components, optional, custom_tags, absent_fault, sized_fault, missing, form_fault, size_fault};
+
+use crate::fault::PackFault;
+use crate::least::{lesser, refuse};
+use crate::parts::Parts;
+use crate::read::{directory_in, info_in};
+use cap_bytes::Part;
+use cap_frame::Directory;
+
+#[tactic(auto, unfolding(crate::specs::PartChecks::absent_fault))]
+fn absent_fault(parts: &Parts<'_>, tag: u8) -> Option<PackFault>
+    ensures { result ≡ absent_fault parts.now tag }
+{
+    if parts.get(Part(tag)).is_some() {
+        None
+    } else {
+        Some(PackFault::MissingPart(tag))
+    }
+}
+
+#[tactic(auto, unfolding(crate::specs::PartChecks::sized_fault))]
+fn sized_fault(parts: &Parts<'_>, directory: &Directory<'_>, tag: u8) -> Option<PackFault>
+    ensures { result ≡ sized_fault parts.now (directory_items directory.now) tag }
+{
+    let size = directory.size(tag)?;
+    if size == 0 {
+        return None;
+    }
+    absent_fault(parts, tag)
+}
+
+/// The least of some parts that is absent.
+fn absent_among(parts: &Parts<'_>, tags: &[u8]) -> Option<PackFault>
+    ensures { result ≡ least_of (absent_fault parts.now) tags.now }
+{
+    let mut least = None;
+    'tags: for tag in tags {
+        least = lesser(least, absent_fault(parts, *tag));
+    }
+    least
+}
+
+/// The least fault so far, when the parts were compared with the Directory's sizes.
+fn absent_sized(
+    parts: &Parts<'_>,
+    directory: &Directory<'_>,
+    least: Option<PackFault>,
+) -> Option<PackFault>
+    ensures { result ≡ least_from (least_from least (sized_fault parts.now (directory_items directory.now)) optional)
+        (sized_fault parts.now (directory_items directory.now)) (custom_tags (directory_items directory.now)) }
+{
+    let applet = lesser(least, sized_fault(parts, directory, 3));
+    let mut least = lesser(applet, sized_fault(parts, directory, 10));
+    'customs: for custom in directory.customs() {
+        least = lesser(least, sized_fault(parts, directory, custom.tag));
+    }
+    least
+}
+
+/// Every part that must be there is.
+pub fn none_missing(parts: &Parts<'_>) -> Result<(), PackFault>
+    ensures { result ≡ refused (missing parts.now (read_part directory_info 2 parts.now)) }
+{
+    let least = absent_among(parts, &[1, 2, 4, 5, 6, 7, 8, 9, 11]);
+    match directory_in(parts) {
+        Ok(directory) => refuse(absent_sized(parts, &directory, least)),
+        Err(_) => refuse(least),
+    }
+}
+
+#[tactic(auto, unfolding(crate::specs::PartChecks::form_fault))]
+fn form_fault(parts: &Parts<'_>, tag: u8) -> Option<PackFault>
+    ensures { result ≡ form_fault parts.now tag }
+{
+    if parts.get(Part(tag)).is_none() {
+        return None;
+    }
+    match info_in(parts, tag) {
+        Ok(_) => None,
+        Err(fault) => Some(fault),
+    }
+}
+
+/// Every custom component that is there has its format.
+pub fn customs_formed(parts: &Parts<'_>, directory: &Directory<'_>) -> Result<(), PackFault>
+    ensures { result ≡ refused (least_of (form_fault parts.now) (custom_tags (directory_items directory.now))) }
+{
+    let mut least = None;
+    'customs: for custom in directory.customs() {
+        least = lesser(least, form_fault(parts, custom.tag));
+    }
+    refuse(least)
+}
+
+#[tactic(auto, unfolding(crate::specs::PartChecks::size_fault))]
+fn size_fault(parts: &Parts<'_>, directory: &Directory<'_>, tag: u8) -> Option<PackFault>
+    ensures { result ≡ size_fault parts.now (directory_items directory.now) tag }
+{
+    let said = directory.size(tag)?;
+    let info = match info_in(parts, tag) {
+        Ok(info) => info,
+        Err(_) => return None,
+    };
+    let found = info.bytes.len() as u16;
+    if said == found {
+        return None;
+    }
+    Some(PackFault::SizeDisagrees(tag, said, found))
+}
+
+/// The Directory's size of every part is the part's own.
+pub fn sizes_agree(parts: &Parts<'_>, directory: &Directory<'_>) -> Result<(), PackFault>
+    ensures { result ≡ refused (least_from (least_of (size_fault parts.now (directory_items directory.now)) components)
+        (size_fault parts.now (directory_items directory.now)) (custom_tags (directory_items directory.now))) }
+{
+    let mut least = size_faults(parts, directory, &[1, 2, 3, 4, 5, 6, 7, 8, 9, 10, 11]);
+    'customs: for custom in directory.customs() {
+        least = lesser(least, size_fault(parts, directory, custom.tag));
+    }
+    refuse(least)
+}
+
+/// The least fault of the sizes of some parts.
+fn size_faults(parts: &Parts<'_>, directory: &Directory<'_>, tags: &[u8]) -> Option<PackFault>
+    ensures { result ≡ least_of (size_fault parts.now (directory_items directory.now)) tags.now }
+{
+    let mut least = None;
+    'tags: for tag in tags {
+        least = lesser(least, size_fault(parts, directory, *tag));
+    }
+    least
+}

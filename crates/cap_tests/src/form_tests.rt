@@ -1,0 +1,98 @@
+use crate::forms::{READ, Told, changed_fault, ends_early, info_fault, is_exact, longer};
+use crate::samples::{
+    ARRAYS, CUSTOM, HANDLED, IMAGE, LOCATIONS, MIXED, ONE_APPLET, ONE_IMPORT, POOL, TWO_EXPORTS,
+    TYPES,
+};
+use crate::*;
+use cap_bytes::{Part, View};
+
+#[test]
+fn a_component_is_read_whole_and_neither_cut_nor_lengthened(rt: HostRuntime) {
+    let files: [(Part, &[u8]); 14] = [
+        (HEADER, &PLAIN_HEADER),
+        (DIRECTORY, &PLAIN_DIRECTORY),
+        (DIRECTORY, &CUSTOM),
+        (APPLET, &ONE_APPLET),
+        (IMPORT, &PLAIN_IMPORT),
+        (IMPORT, &ONE_IMPORT),
+        (CONSTANT_POOL, &PLAIN_CONSTANT_POOL),
+        (CONSTANT_POOL, &POOL),
+        (STATIC_FIELD, &PLAIN_STATIC_FIELD),
+        (STATIC_FIELD, &IMAGE),
+        (STATIC_FIELD, &ARRAYS),
+        (REF_LOCATION, &PLAIN_REF_LOCATION),
+        (REF_LOCATION, &LOCATIONS),
+        (EXPORT, &TWO_EXPORTS),
+    ];
+    for (part, file) in files {
+        is_exact(&rt, part, file);
+    }
+}
+
+/// A Class component may end after each of its records, and where a method or a type descriptor ends is
+/// no matter of the component's own format.
+#[test]
+fn a_component_without_a_count_may_end_behind_its_records(rt: HostRuntime) {
+    let cases: [(Part, &[u8], &[usize]); 5] = [
+        (CLASS, &PLAIN_CLASS[3..], &[2, 12, 22, 32, 42, 52, 62, 72]),
+        (CLASS, &MIXED[3..], &[5, 8]),
+        (METHOD, &HANDLED[3..20], &[]),
+        (
+            METHOD,
+            &PLAIN_METHOD[3..],
+            &[
+                1, 2, 3, 4, 5, 6, 7, 8, 9, 10, 11, 12, 13, 14, 15, 16, 17, 18,
+            ],
+        ),
+        (DESCRIPTOR, &TYPES[3..47], &[]),
+    ];
+    for (part, info, whole) in cases {
+        ends_early(&rt, part, info, whole);
+    }
+    let class = longer(&PLAIN_CLASS);
+    assert_eq!(rt; info_fault(CLASS, View::of(&class[3..86])), (6, 86, "Cut"));
+    let class = longer(&MIXED);
+    assert_eq!(rt; info_fault(CLASS, View::of(&class[3..33])), (6, 33, "Cut"));
+    let method = longer(&PLAIN_METHOD);
+    assert_eq!(rt; info_fault(METHOD, View::of(&method[3..23])), READ);
+}
+
+/// A component's file, an offset, the byte that stands there instead, and what is told.
+const BAD: [(Part, &'static [u8], usize, u8, Told); 23] = [
+    (HEADER, &PLAIN_HEADER, 0, 2, (1, 0, "WrongTag")),
+    (HEADER, &PLAIN_HEADER, 6, 0, (1, 3, "BadMagic")),
+    (HEADER, &PLAIN_HEADER, 7, 1, (1, 7, "BadVersion")),
+    (HEADER, &PLAIN_HEADER, 8, 1, (1, 8, "BadVersion")),
+    // the length of an AID
+    (HEADER, &PLAIN_HEADER, 12, 4, (1, 12, "BadValue")),
+    (HEADER, &PLAIN_HEADER, 12, 17, (1, 12, "BadValue")),
+    (DIRECTORY, &CUSTOM, 48, 4, (2, 48, "BadValue")),
+    (APPLET, &ONE_APPLET, 4, 4, (3, 4, "BadValue")),
+    (IMPORT, &ONE_IMPORT, 6, 17, (4, 6, "BadValue")),
+    // a custom component's tag that is too small, and one that came before
+    (DIRECTORY, &CUSTOM, 36, 127, (2, 36, "BadValue")),
+    (DIRECTORY, &CUSTOM, 45, 128, (2, 45, "BadValue")),
+    // a pool entry's tag
+    (CONSTANT_POOL, &POOL, 9, 0, (5, 9, "BadValue")),
+    (CONSTANT_POOL, &POOL, 9, 7, (5, 9, "BadValue")),
+    (CONSTANT_POOL, &POOL, 9, 255, (5, 9, "BadValue")),
+    // a remote class, an interface after a class, and a remote interface after and before a class
+    (CLASS, &PLAIN_CLASS, 15, 0x20, (6, 15, "Remote")),
+    (CLASS, &PLAIN_CLASS, 15, 0x80, (6, 15, "BadValue")),
+    (CLASS, &PLAIN_CLASS, 15, 0xA0, (6, 15, "BadValue")),
+    (CLASS, &PLAIN_CLASS, 5, 0xA0, (6, 5, "Remote")),
+    // the type of an initial array, its length, and how many references the image has
+    (STATIC_FIELD, &IMAGE, 9, 1, (8, 9, "BadValue")),
+    (STATIC_FIELD, &IMAGE, 9, 6, (8, 9, "BadValue")),
+    (STATIC_FIELD, &IMAGE, 9, 5, READ),
+    (STATIC_FIELD, &IMAGE, 11, 3, (8, 10, "BadValue")),
+    (STATIC_FIELD, &IMAGE, 6, 0, (8, 7, "BadValue")),
+];
+
+#[test]
+fn a_bad_byte_is_named_by_its_item(rt: HostRuntime) {
+    for (part, file, at, byte, want) in BAD {
+        let found = changed_fault(part, file, at, byte);
+        assert_eq!(rt; found, want, "part {} at {at}: {byte}", part.0);
+    }
+}

@@ -1,0 +1,16 @@
+//! Worked examples of where control goes and of dataflow typings (JCVM 2.2, section 7.5), all of them tests: by tables,
+//! over a world of one method whose code is given.
+//!
+//! It stands on `jc_control` and `jc_flow`, whose tests these are.
+#![tactic(auto)]
+
+mod caught;
+
+pub use caught::{Range, handler};
+
+#[cfg(test)]
+mod one_method;
+#[cfg(test)]
+mod places;
+#[cfg(test)]
+mod typings;

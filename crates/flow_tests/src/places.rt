@@ -1,0 +1,117 @@
+use crate::caught::Range;
+use crate::one_method::world;
+use jc_control::{Flaw, Survey, SurveyEnd, survey};
+use jc_decode::CodeEnd;
+use std::alloc::Global;
+use std::test::*;
+
+/// The code of a method and its handlers; the places that control reaches, and the leaders among them.
+type Surveyed = (
+    &'static [u8],
+    &'static [Range],
+    &'static [u16],
+    &'static [u16],
+);
+
+static SURVEYED: [Surveyed; 5] = [
+    // `sconst_0`, `sreturn`
+    (&[3, 120], &[], &[0, 1], &[]),
+    // `sconst_0` alone: control falls past the end
+    (&[3], &[], &[0, 1], &[]),
+    // `sconst_0`, `ifeq` to 4, `return`, `goto` to 3; place 6 is dead
+    (&[3, 96, 3, 122, 112, 255, 122], &[], &[0, 1, 3, 4], &[3, 4]),
+    // `sconst_0`, a `slookupswitch` of one pair with its default at 12 and its case at 11, three `return`
+    (
+        &[3, 117, 0, 11, 0, 1, 0, 7, 0, 10, 122, 122, 122],
+        &[],
+        &[0, 1, 11, 12],
+        &[11, 12],
+    ),
+    // `goto` to 4, two dead `nop`, `return`, and handlers: at 5 one of dead code, at 6 one of place 4, at 7 one of place 6
+    (
+        &[112, 4, 0, 0, 122, 59, 59, 122],
+        &[(2, 4, 5), (4, 5, 6), (6, 7, 7)],
+        &[0, 4, 6, 7],
+        &[4, 6, 7],
+    ),
+];
+
+/// The code of a method and its handlers, and its first flaw.
+type Flawed = (&'static [u8], &'static [Range], Flaw);
+
+static FLAWED: [Flawed; 8] = [
+    (&[3, 185], &[], Flaw::Code(1, CodeEnd::NoOpcode(185))),
+    (&[17, 0], &[], Flaw::Code(0, CodeEnd::Cut)),
+    (&[17, 0, 0, 112, 254, 185], &[], Flaw::BadTarget(3, 1)),
+    (&[112, 255], &[], Flaw::BadTarget(0, -1)),
+    (
+        &[17, 0, 0, 122],
+        &[(0, 3, 3), (1, 3, 0)],
+        Flaw::BadHandler(0, 1),
+    ),
+    (&[17, 0, 0, 122], &[(0, 2, 3)], Flaw::BadHandler(3, 0)),
+    (&[17, 0, 0, 122], &[(3, 3, 3)], Flaw::BadHandler(3, 0)),
+    (&[17, 0, 0, 122], &[(0, 4, 1)], Flaw::BadHandler(1, 0)),
+];
+
+/// The survey of the method, where its code is that of a short example.
+fn surveyed(alloc: Global, code: &[u8], ranges: &[Range]) -> Option<Result<Survey, SurveyEnd>> {
+    if code.is_empty() || code.len() > 100 || ranges.len() > 10 {
+        return None;
+    }
+    match world(alloc, code, ranges) {
+        Ok(world) => Some(survey(alloc, &world, 0)),
+        Err(_) => None,
+    }
+}
+
+/// Whether these are the places that control reaches, and the leaders among them.
+fn finds(alloc: Global, (code, ranges, reached, leaders): Surveyed) -> bool {
+    match surveyed(alloc, code, ranges) {
+        Some(Ok(survey)) => (0..=100).all(|place| {
+            survey.is_reached(place) == reached.contains(&place)
+                && survey.is_leader(place) == leaders.contains(&place)
+        }),
+        _ => false,
+    }
+}
+
+fn is_same_end(a: CodeEnd, b: CodeEnd) -> bool {
+    match a {
+        CodeEnd::NoOpcode(op) => matches!(b, CodeEnd::NoOpcode(other) if op == other),
+        CodeEnd::Cut => matches!(b, CodeEnd::Cut),
+        _ => false,
+    }
+}
+
+fn is_same_flaw(a: Flaw, b: Flaw) -> bool {
+    match a {
+        Flaw::Code(place, end) => {
+            matches!(b, Flaw::Code(other, why) if place == other && is_same_end(end, why))
+        }
+        Flaw::BadTarget(place, target) => {
+            matches!(b, Flaw::BadTarget(other, to) if place == other && target == to)
+        }
+        Flaw::BadHandler(entry, number) => {
+            matches!(b, Flaw::BadHandler(other, n) if entry == other && number == n)
+        }
+    }
+}
+
+/// Whether this is the first flaw.
+fn is_flawed(alloc: Global, (code, ranges, expected): Flawed) -> bool {
+    match surveyed(alloc, code, ranges) {
+        Some(Err(SurveyEnd::Flawed(flaw))) => is_same_flaw(flaw, expected),
+        _ => false,
+    }
+}
+
+#[test]
+fn where_control_goes(rt: HostRuntime) {
+    for example in SURVEYED {
+        assert!(rt; finds(rt.alloc(), example));
+    }
+    for example in FLAWED {
+        assert!(rt; is_flawed(rt.alloc(), example));
+    }
+}

@@ -1,0 +1,144 @@
+-- What a search has found when nothing is pending is what control reaches.
+use Rattle.std.proofs.Common.{◌≡◌, ◌≤◌, ◌+◌, ◌⊎◌, inl, inr, ⊎_elim, ℕ, Bool, false, Ok, Err, List, [], ◌∷◌, length, refl, sym, ap, ◌∙◌, subst, arith, Contains, All, IsTrue}
+use Rattle.std.specs.Prelude.{pos, replicate}
+use Rattle.std.proofs.lemmas.Bool.{false≢true}
+use Rattle.std.proofs.lemmas.List.{length-replicate}
+use Rattle.std.proofs.lemmas.List.Elements.{All-contains}
+use Rattle.jc_base.specs.declared.record.Handler.{Handler}
+use Rattle.jc_decode.specs.declared.insn.Insn.{Insn}
+use Rattle.jc_decode.specs.declared.insn.Placed.{Placed}
+use Rattle.jc_decode.specs.declared.insn.CodeEnd.{CodeEnd}
+use Rattle.jc_decode.specs.Decoding.{decoded}
+use Rattle.jc_decode.specs.Listing.{listing, listing_end, end_from, falls, targets, Lists}
+use Rattle.jc_decode.proofs.Decoded.{IsWithin-decoded, ok-same}
+use Rattle.jc_rules.specs.Flow.{Method, Stands, IsPlace, IsTargetPlace, IsBoundary, IsHandlerOf, IsWellFormed, IsSuccessor, behind, jumped, Covers, IsReached, begins, follows, caught, IsLeader, led_to, entered}
+use Rattle.jc_control.specs.declared.search.Search.{Search}
+use Rattle.jc_control.specs.Flags.{IsFlagged}
+use Rattle.jc_control.specs.Places.{BeginsIn}
+use Rattle.jc_control.specs.Search.{Grows, IsSound, IsLedTo, IsCaught, IsClosedAt, IsClosed, IsDone, found}
+use Rattle.jc_control.specs.Survey.{IsSurvey}
+use Rattle.jc_control.proofs.Elements.{nothing-in, Contains-either, Contains-first, Contains-later}
+use Rattle.jc_control.proofs.Listed.{all-listed, decoded-Stands, one-at}
+use Rattle.jc_control.proofs.Marked.{flag-none}
+
+-- ---- control reaches instructions, and at most the end
+
+behind-in : (code : List ℕ) (at : ℕ) (ps : List Placed) (i : Placed) → Lists code at ps → Contains ps i → (i.place + i.insn.len ≡ end_from at ps) ⊎ BeginsIn ps (i.place + i.insn.len)
+behind-in code at [] i l c = absurd (nothing-in i c)
+behind-in code at (p ∷ ps) i l c =
+    ⊎_elim (λ here. this here ps l.2) (λ later. on (behind-in code (at + p.insn.len) ps i l.2 later)) (Contains-either p ps i c)
+  where
+    here-end : p ≡ i → i.place + i.insn.len ≡ at + p.insn.len
+    here-end here = let place = ap (λ (q : Placed). q.place) here in let len = ap (λ (q : Placed). q.insn.len) here in omega (arith, l.0)
+
+    this : p ≡ i → (qs : List Placed) → Lists code (at + p.insn.len) qs → (i.place + i.insn.len ≡ end_from (at + p.insn.len) qs) ⊎ BeginsIn (p ∷ qs) (i.place + i.insn.len)
+    this here [] rest = inl (here-end here)
+    this here (q ∷ qs) rest = inr (q, Contains-later p (q ∷ qs) q (Contains-first q qs), rest.0 ∙ sym (here-end here))
+
+    on : (i.place + i.insn.len ≡ end_from (at + p.insn.len) ps) ⊎ BeginsIn ps (i.place + i.insn.len) → (i.place + i.insn.len ≡ end_from (at + p.insn.len) ps) ⊎ BeginsIn (p ∷ ps) (i.place + i.insn.len)
+    on (inl end) = inl end
+    on (inr b) = inr (b.0, Contains-later p ps b.0 b.1, b.2)
+
+first-in : (code : List ℕ) (ps : List Placed) → Lists code 0 ps → (0 ≡ end_from 0 ps) ⊎ BeginsIn ps 0
+first-in code [] l = inl refl
+first-in code (p ∷ ps) l = inr (p, Contains-first p ps, l.0)
+
+module _ (m : Method) (w : IsWellFormed m) where
+  at-end : (p : ℕ) → (p ≡ listing_end m.code) ⊎ IsPlace m.code p → IsBoundary m.code p
+  at-end p (inl end) = inl (end ∙ w.ends)
+  at-end p (inr place) = inr place
+
+  target-boundary : (i : Placed) (q : ℕ) → Stands m.code i → IsSuccessor m.code i q → IsBoundary m.code q
+  target-boundary i _ there (behind goes) = at-end (i.place + i.insn.len) (behind-in m.code 0 (listing m.code) i (all-listed m.code) there)
+  target-boundary i q there (jumped among) = inr (All-contains (IsTargetPlace m.code) (targets m.code i) (pos q) (w.targets i there) among)
+
+  reached-boundary : (p : ℕ) → IsReached m p → IsBoundary m.code p
+  reached-boundary _ begins = at-end 0 (first-in m.code (listing m.code) (all-listed m.code))
+  reached-boundary _ (follows {i = i} {q = q} there r succ) = target-boundary i q there succ
+  reached-boundary _ (caught {h = h} r there covers) = inr ((All-contains (IsHandlerOf m.code) m.rec.handlers h w.handlers there).entry)
+
+  -- an instruction that is decoded at a reached place stands there
+  pub stands-reached : (i : Placed) → IsReached m i.place → decoded m.code i.place ≡ Ok i.insn → Stands m.code i
+  stands-reached i r d = ⊎_elim at_end at_place (reached-boundary i.place r)
+    where
+      at_end : i.place ≡ length m.code → Stands m.code i
+      at_end end = let within = IsWithin-decoded m.code i.place i.insn d in absurd (omega (arith, within.one, within.reaches))
+
+      at_place : IsPlace m.code i.place → Stands m.code i
+      at_place here =
+          let found : decoded m.code i.place ≡ Ok here.0.insn = ap (decoded m.code) (sym here.2) ∙ decoded-Stands m.code here.0 here.1 in
+          let insn : here.0.insn ≡ i.insn = ok-same here.0.insn i.insn (decoded m.code i.place) found d in
+          let same : here.0 ≡ i = ap (λ (p : ℕ). record { place = p; insn = here.0.insn }) here.2 ∙ ap (λ (n : Insn). record { place = i.place; insn = n }) insn in
+          subst (Stands m.code) same here.1
+
+  -- nothing follows the end
+  pub closed-at-end : (s : Search) (p : ℕ) (e : CodeEnd) → IsReached m p → decoded m.code p ≡ Err e → IsClosedAt m s p
+  closed-at-end s p e r d = record {
+    follows = λ i q there here succ. absurd (none i there here);
+    leads = λ i q there here target. absurd (none i there here);
+    catches = λ h there covers. absurd (uncovered h there covers);
+  }
+    where
+      none : (i : Placed) → Stands m.code i → i.place ≡ p → ⊥
+      none i there here = let found = decoded-Stands m.code i there in let other : decoded m.code i.place ≡ Err e = ap (decoded m.code) here ∙ d in cc
+
+      inside : (h : Handler) → IsHandlerOf m.code h → h.end ≤ length m.code
+      inside h f = ⊎_elim (λ end. omega arith) (λ place. let within = IsWithin-decoded m.code place.0.place place.0.insn (decoded-Stands m.code place.0 place.1) in omega (arith, within.one, within.reaches, place.2)) f.end
+
+      uncovered : (h : Handler) → Contains m.rec.handlers h → Covers h p → ⊥
+      uncovered h there covers =
+          let formed = All-contains (IsHandlerOf m.code) m.rec.handlers h w.handlers there in
+          ⊎_elim (λ end. let within = inside h formed in let before = covers.before in absurd (omega arith)) (λ place. none place.0 place.1 place.2) (reached-boundary p r)
+
+-- what the three steps from an instruction find is all that follows it
+pub closed-after : (m : Method) (a b c : Search) (i : Placed) → Grows a b → Grows b c → Stands m.code i
+    → (IsTrue (falls i.insn.op) → IsFlagged a.reached (i.place + i.insn.len)) → All (IsLedTo b) (targets m.code i) → All (IsCaught c i.place) m.rec.handlers → IsClosedAt m c i.place
+closed-after m a b c i g h stands fell led entries = record {
+  follows = λ j q there here succ. goes q (subst (λ (k : Placed). IsSuccessor m.code k q) (one-at m.code j i there stands here) succ);
+  leads = λ j q there here target.
+      h.leaders q ((All-contains (IsLedTo b) (targets m.code i) (pos q) led (subst (λ (k : Placed). Contains (targets m.code k) (pos q)) (one-at m.code j i there stands here) target)).1);
+  catches = λ k there covers. All-contains (IsCaught c i.place) m.rec.handlers k entries there covers;
+}
+  where
+    goes : (q : ℕ) → IsSuccessor m.code i q → IsFlagged c.reached q
+    goes _ (behind falls_on) = h.reached (i.place + i.insn.len) (g.reached (i.place + i.insn.len) (fell falls_on))
+    goes q (jumped among) = h.reached q ((All-contains (IsLedTo b) (targets m.code i) (pos q) led among).0)
+
+-- ---- nothing pending
+
+module _ (m : Method) (s t : Search) (sound : IsSound m s) (closed : IsClosed m s) (start : IsFlagged s.reached 0) (done : IsDone s t) where
+  closed-there : (p : ℕ) → IsFlagged s.reached p → IsClosedAt m s p
+  closed-there p f = ⊎_elim (λ waits. absurd (nothing-in p (subst (λ (ps : List ℕ). Contains ps p) done.before waits))) (λ c. c) (closed p f)
+
+  all-found : (p : ℕ) → IsReached m p → IsFlagged s.reached p
+  all-found _ begins = start
+  all-found _ (follows {i = i} {q = q} there r succ) = (closed-there i.place (all-found i.place r)).follows i q there refl succ
+  all-found _ (caught {h = h} {p = p} r there covers) = ((closed-there p (all-found p r)).catches h there covers).0
+
+  all-led : (p : ℕ) → IsLeader m p → IsFlagged s.leaders p
+  all-led _ (led_to {i = i} {q = q} there r among) = (closed-there i.place (all-found i.place r)).leads i q there refl among
+  all-led _ (entered {h = h} {p = p} r there covers) = ((closed-there p (all-found p r)).catches h there covers).1
+
+  pub searched : IsWellFormed m → IsSurvey m (found t)
+  searched w = record {
+    formed = w;
+    reached = λ p. (λ f. sound.reached p (subst (λ (fs : List Bool). IsFlagged fs p) done.reached f), λ r. subst (λ (fs : List Bool). IsFlagged fs p) (sym done.reached) (all-found p r));
+    leaders = λ p. (λ f. sound.leaders p (subst (λ (fs : List Bool). IsFlagged fs p) done.leaders f), λ r. subst (λ (fs : List Bool). IsFlagged fs p) (sym done.leaders) (all-led p r));
+  }
+
+-- ---- nothing found yet
+
+pub none-sound : (m : Method) (s : Search) (size : ℕ) → size ≡ length m.code + 1 → s.reached ≡ replicate size false → s.leaders ≡ replicate size false → s.pending.items ≡ [] → IsSound m s
+none-sound m s size fits reached leaders pending = record {
+  reached_size = ap length reached ∙ length-replicate size false ∙ fits;
+  leaders_size = ap length leaders ∙ length-replicate size false ∙ fits;
+  reached = λ p f. absurd (unflagged s.reached reached p f);
+  leaders = λ p f. absurd (unflagged s.leaders leaders p f);
+  pending = λ p waits. absurd (nothing-in p (subst (λ (ps : List ℕ). Contains ps p) pending waits));
+}
+  where
+    unflagged : (fs : List Bool) → fs ≡ replicate size false → (p : ℕ) → IsFlagged fs p → ⊥
+    unflagged fs e p f = false≢true (sym (flag-none size p) ∙ subst (λ (gs : List Bool). IsFlagged gs p) e f)
+
+pub none-closed : (m : Method) (s : Search) (size : ℕ) → s.reached ≡ replicate size false → (t : Search) → Grows s t → IsClosed m t
+none-closed m s size reached t g p f = ⊎_elim (λ before. absurd (false≢true (sym (flag-none size p) ∙ subst (λ (fs : List Bool). IsFlagged fs p) reached before))) (λ waits. inl waits) (g.fresh p f)

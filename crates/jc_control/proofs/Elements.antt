@@ -1,0 +1,85 @@
+-- Elements of lists by their numbers, and lists that are gone over from the front.
+use Rattle.std.proofs.Common.{◌≡◌, ◌<◌, ◌+◌, ◌⊎◌, inl, inr, ℕ, zero, suc, Some, None, List, [], ◌∷◌, ◌++◌, length, take, drop, refl, sym, ap, ◌∙◌, arith, append_assoc, Contains, All}
+use Rattle.std.specs.Prelude.{slice_get}
+use Rattle.std.proofs.lemmas.List.{append-nil}
+use Rattle.std.proofs.lemmas.Option.{slice_get_within, slice_get-get_or, get_or_from_slice_get}
+use Rattle.std.proofs.lemmas.List.Elements.{Contains-append_right, All-contains}
+use Rattle.jc_control.specs.FirstFailing.{IsFirstFailing}
+
+pub Contains-slice_get : {A : Type 0} (xs : List A) (n : ℕ) (x : A) → slice_get xs n ≡ Some x → Contains xs x
+Contains-slice_get xs n x h = (n, slice_get_within xs n x h, get_or_from_slice_get xs n x x h)
+
+pub slice_get-Contains : {A : Type 0} (xs : List A) (x : A) → Contains xs x → (n : ℕ) × (slice_get xs n ≡ Some x)
+slice_get-Contains xs x c = (c.0, slice_get-get_or xs c.0 x c.1 ∙ ap Some c.2)
+
+pub Contains-first : {A : Type 0} (x : A) (xs : List A) → Contains (x ∷ xs) x
+Contains-first x xs = Contains-slice_get (x ∷ xs) 0 x refl
+
+pub Contains-later : {A : Type 0} (y : A) (xs : List A) (x : A) → Contains xs x → Contains (y ∷ xs) x
+Contains-later y xs x c = Contains-append_right (y ∷ []) xs x c
+
+pub Contains-either : {A : Type 0} (y : A) (xs : List A) (x : A) → Contains (y ∷ xs) x → (y ≡ x) ⊎ Contains xs x
+Contains-either y xs x c = by_number c.0 (slice_get-Contains (y ∷ xs) x c)
+  where
+    by_number : (n : ℕ) → (k : ℕ) × (slice_get (y ∷ xs) k ≡ Some x) → (y ≡ x) ⊎ Contains xs x
+    by_number n (zero, h) = inl (cc)
+    by_number n (suc k, h) = inr (Contains-slice_get xs k x h)
+
+pub nothing-in : {A : Type 0} (x : A) → Contains [] x → ⊥
+nothing-in x c = absurd (omega (arith, c.1))
+
+-- after the first n elements comes the n-th
+pub drop-here : {A : Type 0} (xs : List A) (n : ℕ) (x : A) → slice_get xs n ≡ Some x → drop n xs ≡ x ∷ drop (n + 1) xs
+drop-here [] n x h = absurd (cc)
+drop-here (y ∷ ys) zero x h = ap (λ (z : _). z ∷ ys) (cc)
+drop-here (y ∷ ys) (suc n) x h = let e : suc n + 1 ≡ suc (n + 1) = omega arith in rw e (drop-here ys n x h)
+
+pub drop-past : {A : Type 0} (xs : List A) (n : ℕ) → slice_get xs n ≡ None → drop n xs ≡ []
+drop-past [] zero h = refl
+drop-past [] (suc n) h = refl
+drop-past (y ∷ ys) zero h = absurd (cc)
+drop-past (y ∷ ys) (suc n) h = drop-past ys n h
+
+-- where a list is gone over, the next element is the one of the number of those before it
+pub here-in : {A : Type 0} (before : List A) (x : A) (behind whole : List A) → before ++ x ∷ behind ≡ whole → slice_get whole (length before) ≡ Some x
+here-in [] x behind whole h = rw (← h) refl
+here-in (y ∷ ys) x behind whole h = rw (← h) (here-in ys x behind (ys ++ x ∷ behind) refl)
+
+pub before-in : {A : Type 0} (before behind whole : List A) → before ++ behind ≡ whole → take (length before) whole ≡ before
+before-in [] behind whole h = refl
+before-in (y ∷ ys) behind whole h = rw (← h) (ap (λ (zs : List _). y ∷ zs) (before-in ys behind (ys ++ behind) refl))
+
+pub contained-in : {A : Type 0} (before : List A) (x : A) (behind whole : List A) → before ++ x ∷ behind ≡ whole → Contains whole x
+contained-in before x behind whole h = Contains-slice_get whole (length before) x (here-in before x behind whole h)
+
+pub go-on : {A : Type 0} (before : List A) (x : A) (behind whole : List A) → before ++ x ∷ behind ≡ whole → (before ++ x ∷ []) ++ behind ≡ whole
+go-on before x behind whole h = append_assoc before (x ∷ []) behind ∙ h
+
+pub slice_get-in : {A : Type 0} (P : A → Type 0) (xs : List A) (n : ℕ) (x : A) → All P xs → slice_get xs n ≡ Some x → P x
+slice_get-in P xs n x all h = All-contains P xs x all (Contains-slice_get xs n x h)
+
+pub slice_get-take : {A : Type 0} (xs : List A) (k n : ℕ) (x : A) → k < n → slice_get xs k ≡ Some x → slice_get (take n xs) k ≡ Some x
+slice_get-take [] k n x h e = absurd (cc)
+slice_get-take (y ∷ ys) k zero x h e = absurd (omega arith)
+slice_get-take (y ∷ ys) zero (suc n) x h e = e
+slice_get-take (y ∷ ys) (suc k) (suc n) x h e = slice_get-take ys k n x (omega arith) e
+
+-- an element before the n-th is among the first n
+pub taken-in : {A : Type 0} (P : A → Type 0) (xs : List A) (k n : ℕ) (x : A) → All P (take n xs) → k < n → slice_get xs k ≡ Some x → P x
+taken-in P xs k n x all h e = slice_get-in P (take n xs) k x all (slice_get-take xs k n x h e)
+
+-- a step along a list
+pub at-next : {A : Type 0} (before rest : List A) (x : A) (behind whole : List A) → before ++ rest ≡ whole → rest ≡ x ∷ behind → before ++ x ∷ behind ≡ whole
+at-next before rest x behind whole h e = ap (λ (r : List _). before ++ r) (sym e) ∙ h
+
+pub at-last : {A : Type 0} (before rest whole : List A) → before ++ rest ≡ whole → rest ≡ [] → before ≡ whole
+at-last before rest whole h e = sym (append-nil before) ∙ ap (λ (r : List _). before ++ r) (sym e) ∙ h
+
+-- the next element fails where those before it do not
+pub first-failing : {A : Type 0} (P : A → Type 0) (before : List A) (x : A) (behind whole : List A) → before ++ x ∷ behind ≡ whole → All P before → ¬ P x
+    → IsFirstFailing P whole (length before) x
+first-failing P before x behind whole h all fails = record {
+  here = here-in before x behind whole h;
+  fails = fails;
+  before = rw (before-in before (x ∷ behind) whole h) all;
+}

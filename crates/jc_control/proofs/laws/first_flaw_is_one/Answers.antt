@@ -1,0 +1,5 @@
+use Rattle.jc_control.proofs.FlawLaws.{first-flaw-is-one}
+use Rattle.jc_control.proofs.laws.first_flaw_is_one.Goals as goal
+
+pub returns : goal.returns
+returns c = first-flaw-is-one

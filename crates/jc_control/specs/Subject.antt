@@ -1,0 +1,6 @@
+-- The method that is looked at.
+use Rattle.jc_rules.specs.Flow.{Method}
+use Rattle.jc_control.specs.declared.subject.Subject.{Subject}
+
+abbrev pub method : Subject → Method
+method s = record { number = s.number; rec = s.rec.now; code = s.code.bytes.now }

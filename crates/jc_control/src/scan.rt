@@ -1,0 +1,119 @@
+ghost use Rattle.std.specs.Prelude.{◌≡◌, ◌≤◌, ◌↔◌, ℕ, length, All, IsTrue, IfOk, IfErr, OnOk, IfSome, IfNone, Ok};
+ghost use Rattle.jc_decode.specs.Decoding.{decoded};
+ghost use Rattle.jc_decode.specs.Listing.{listing, listing_end, targets};
+ghost use Rattle.jc_rules.specs.Flow.{IsPlace, IsTargetPlace, IsHandlerOf, IsWellFormed};
+ghost use Rattle.jc_control.specs.Flags.{Marks};
+ghost use Rattle.jc_control.specs.Subject.{method};
+ghost use Rattle.jc_control.specs.Flaw.{IsFirstFlaw};
+ghost use Rattle.jc_control.specs.FirstFailing.{IsFirstFailing};
+ghost use Rattle.jc_control.specs.Scan.{LeadsToPlaces, IsFirstStray, IsStop, IsFirstBadHandler};
+
+use crate::flags::Flags;
+use crate::flaw::Flaw;
+use crate::subject::Subject;
+use crate::targets::Targets;
+use cap_bytes::View;
+use jc_base::{Handler, Handlers};
+use jc_decode::{Instructions, Placed, code_end};
+use std::alloc::{AllocError, Global};
+
+/// The places at which an instruction begins.
+pub fn instruction_places(alloc: Global, code: View<'_>) -> Result<Flags, AllocError>
+    requires short { length code.bytes.now ≤ 32767 }
+    ensures { IfOk result (λ f. Marks (IsPlace code.entry.bytes.now) f) }
+{
+    let mut places = Flags::new(alloc, code.bytes.len())?;
+    'walk: for placed in Instructions::of(code) {
+        places.set(placed.place);
+    }
+    Ok(places)
+}
+
+/// Whether a method is well formed, or else its first flaw.
+pub fn find_flaw(subject: Subject<'_>, places: &Flags) -> Result<(), Flaw>
+    requires marks { Marks (IsPlace subject.code.bytes.now) places.now }
+    requires few { length subject.rec.now.handlers ≤ 255 }
+    ensures formed { OnOk result (IsWellFormed (method subject.entry)) }
+    ensures flawed { IfErr result (λ flaw. IsFirstFlaw (method subject.entry) flaw) }
+{
+    check_targets(subject.code, places)?;
+    check_end(subject.code)?;
+    check_handlers(subject.code, &subject.rec.handlers, places)
+}
+
+/// Whether each target is the place of an instruction.
+fn check_targets(code: View<'_>, places: &Flags) -> Result<(), Flaw>
+    requires short { length code.bytes.now ≤ 32767 }
+    requires marks { Marks (IsPlace code.bytes.now) places.now }
+    ensures formed { OnOk result (All (LeadsToPlaces code.entry.bytes.now) (listing code.entry.bytes.now)) }
+    ensures flawed { IfErr result (λ flaw. IsFirstStray code.entry.bytes.now flaw) }
+{
+    'walk: for placed in Instructions::of(code) {
+        if let Some(target) = stray_target(code, placed, places) {
+            return Err(Flaw::BadTarget(placed.place, target));
+        }
+    }
+    Ok(())
+}
+
+/// The first target of an instruction that is no place of one.
+fn stray_target(code: View<'_>, placed: Placed, places: &Flags) -> Option<i32>
+    requires short { length code.bytes.now ≤ 32767 }
+    requires decoded { decoded code.bytes.now placed.place ≡ Ok placed.insn }
+    requires marks { Marks (IsPlace code.bytes.now) places.now }
+    ensures none { IfNone result (All (IsTargetPlace code.entry.bytes.now) (targets code.entry.bytes.now placed)) }
+    ensures some { IfSome result
+        (λ t.
+        (n : ℕ)
+        × IsFirstFailing
+        (IsTargetPlace code.entry.bytes.now)
+        (targets code.entry.bytes.now placed) n t) }
+{
+    'targets: for target in Targets::of(code, placed) {
+        if !places.has_target(target) {
+            return Some(target);
+        }
+    }
+    None
+}
+
+/// Whether instructions are decoded to the code's end.
+fn check_end(code: View<'_>) -> Result<(), Flaw>
+    requires short { length code.bytes.now ≤ 32767 }
+    ensures formed { OnOk result (listing_end code.entry.bytes.now ≡ length code.entry.bytes.now) }
+    ensures flawed { IfErr result (λ flaw. IsStop code.entry.bytes.now flaw) }
+{
+    let (place, end) = code_end(code);
+    if usize::from(place) == code.bytes.len() {
+        Ok(())
+    } else {
+        Err(Flaw::Code(place, end))
+    }
+}
+
+/// Whether each handler is well formed.
+fn check_handlers(code: View<'_>, handlers: &Handlers, places: &Flags) -> Result<(), Flaw>
+    requires marks { Marks (IsPlace code.bytes.now) places.now }
+    requires few { length handlers.now ≤ 255 }
+    ensures formed { OnOk result (All (IsHandlerOf code.entry.bytes.now) handlers.now) }
+    ensures flawed { IfErr result (λ flaw. IsFirstBadHandler code.entry.bytes.now handlers.now flaw) }
+{
+    'handlers: for (number, handler) in handlers.as_slice().iter().enumerate() {
+        if !is_formed(code, *handler, places) {
+            return Err(Flaw::BadHandler(handler.entry, number as u16));
+        }
+    }
+    Ok(())
+}
+
+/// Whether a handler's range is not empty and lies between instructions, and its entry is one.
+fn is_formed(code: View<'_>, handler: Handler, places: &Flags) -> bool
+    requires { Marks (IsPlace code.bytes.now) places.now }
+    ensures { IsTrue result ↔ IsHandlerOf code.entry.bytes.now handler }
+{
+    let end = u32::from(handler.end);
+    places.has(u32::from(handler.start))
+        && handler.start < handler.end
+        && (end as usize == code.bytes.len() || places.has(end))
+        && places.has(u32::from(handler.entry))
+}

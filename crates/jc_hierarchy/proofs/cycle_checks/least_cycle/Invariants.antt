@@ -1,0 +1,14 @@
+use Rattle.std.proofs.Common.{◌≡◌, length}
+use Rattle.jc_resolve.specs.Fault.{place_of}
+use Rattle.jc_resolve.specs.FirstFault.{least_of, least_from}
+use Rattle.jc_hierarchy.specs.Conditions.{numbered, cycle_fault}
+use Rattle.jc_hierarchy.proofs.Numbered.{numbered_from}
+use Rattle.jc_hierarchy.proofs.Settled.{AreSettled}
+use Rattle.jc_hierarchy.proofs.cycle_checks.least_cycle.Given as goal
+
+abbrev pub invariant-classes : goal.invariant-classes
+invariant-classes l = record {
+  so_far : least_from place_of l.least (cycle_fault l.classes) (numbered_from l.c l.classes) ≡ least_of place_of (cycle_fault l.classes) (numbered l.classes);
+  count : length l.settled.items ≡ l.c;
+  settled : AreSettled l.classes l.settled.items;
+}

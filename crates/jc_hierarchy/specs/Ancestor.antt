@@ -1,0 +1,56 @@
+-- What stands above a class or an interface: the superclass of a class and the superclass of that
+-- one, the interfaces that an interface extends and those that these extend (JCVM 2.2, sections
+-- 2.2.1 and 6.8).
+use Rattle.std.specs.Prelude.{ℕ, zero, suc, Bool, true, false, if◌then◌else◌, ◌==◌, ◌||◌, ◌&&◌, ◌↔◌, IsTrue, List, [], map, length, Option, Some, None, Contains, slice_get}
+use Rattle.std.specs.List.{list_any}
+use Rattle.std.specs.Option.{option_to_list}
+use Rattle.jc_resolve.specs.declared.named.NamedClass.{NamedClass}
+
+-- a number leads to another by one step or by more
+pub data Leads (next : ℕ → List ℕ) : ℕ → ℕ → Type 0 where
+  at_once : {a b : ℕ} → Contains (next a) b → Leads next a b
+  further : {a b c : ℕ} → Contains (next a) b → Leads next b c → Leads next a c
+
+abbrev pub superclass_in : Option NamedClass → List ℕ
+superclass_in None = []
+superclass_in (Some r) = if r.interface then [] else option_to_list r.parent
+
+-- the superclass of a class, where it has one; an interface has none
+unfoldable pub superclass : List NamedClass → ℕ → List ℕ
+superclass cs c = superclass_in (slice_get cs c)
+
+abbrev pub extended_in : Option NamedClass → List ℕ
+extended_in None = []
+extended_in (Some r) = if r.interface then map (λ i. i.class) r.interfaces else []
+
+-- the interfaces that an interface extends; a class extends none
+unfoldable pub extended : List NamedClass → ℕ → List ℕ
+extended cs c = extended_in (slice_get cs c)
+
+-- the class a is an ancestor of the class c
+abbrev pub IsAncestor : List NamedClass → ℕ → ℕ → Type 0
+IsAncestor cs a c = Leads (superclass cs) c a
+
+-- the interface s is a superinterface of the interface i
+abbrev pub IsSuperinterface : List NamedClass → ℕ → ℕ → Type 0
+IsSuperinterface cs s i = Leads (extended cs) i s
+
+-- what stands directly above, among interfaces or among classes
+abbrev pub above : List NamedClass → Bool → ℕ → List ℕ
+above cs true = extended cs
+above cs false = superclass cs
+
+-- ---- the same as it is computed
+
+-- whether a number leads to another by steps over numbers below n alone
+unfoldable pub leads_below : (ℕ → List ℕ) → ℕ → ℕ → ℕ → Bool
+leads_below next zero a b = list_any (λ x. x == b) (next a)
+leads_below next (suc n) a b = leads_below next n a b || (leads_below next n a n && leads_below next n n b)
+
+-- whether a number stands above another, among interfaces or among classes
+unfoldable pub is_above : List NamedClass → Bool → ℕ → ℕ → Bool
+is_above cs interfaces a c = leads_below (above cs interfaces) (length cs) c a
+
+-- that is: whether it is a superinterface, or an ancestor
+abbrev pub TellsAbove : List NamedClass → Type 0
+TellsAbove cs = (interfaces : Bool) (a c : ℕ) → IsTrue (is_above cs interfaces a c) ↔ Leads (above cs interfaces) c a

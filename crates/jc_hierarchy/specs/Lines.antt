@@ -1,0 +1,54 @@
+-- The classes in one tree of superclasses, or the first fault by the number of its condition, at the least thing at fault.
+use Rattle.std.specs.Prelude.{◌≡◌, ℕ, ◌≤◌, ◌<◌, ◌⊎◌, ◌↔◌, IsTrue, true, List, length, Some, Result, Ok, Err, IfSome, All, slice_get, slice_index}
+use Rattle.jc_base.specs.declared.ty.Ty.TheVariants.{Class}
+use Rattle.jc_base.specs.declared.record.Iface.{Iface}
+use Rattle.jc_base.specs.Class.{ClassTable, IsClass, is_interface, parent_of, throwable}
+use Rattle.jc_base.specs.Order.{Below, is_on_chain}
+use Rattle.jc_base.specs.Dispatch.{package_of}
+use Rattle.jc_resolve.specs.declared.fault.LinkFault.{LinkFault}
+use Rattle.jc_resolve.specs.declared.fault.LinkEnd.{LinkEnd}
+use Rattle.jc_resolve.specs.declared.fault.LinkEnd.TheVariants.{Fault, Memory}
+use Rattle.jc_resolve.specs.declared.named.NamedClass.{NamedClass}
+use Rattle.jc_resolve.specs.Fault.{place_of}
+use Rattle.jc_resolve.specs.FirstFault.{◌>>=◌, least_of, refused, IsFirst, AllEmpty}
+use Rattle.jc_hierarchy.specs.Ancestor.{IsAncestor, IsSuperinterface}
+use Rattle.jc_hierarchy.specs.Conditions.{numbered, super_fault, cycle_fault, role_fault, root_fault, named_interfaces, interface_fault, conditions}
+use Rattle.jc_hierarchy.specs.Outline.{outline}
+
+-- the conditions, one after the other
+unfoldable pub lines_agree : List NamedClass → ℕ → List ℕ → Result (Unit {0}) LinkFault
+lines_agree cs first roles = do
+  supers ← refused (least_of place_of (super_fault cs) (numbered cs))
+  cycles ← refused (least_of place_of (cycle_fault cs) (numbered cs))
+  fitting ← refused (least_of place_of (role_fault cs first (slice_index roles 1)) (numbered roles))
+  rooted ← refused (least_of place_of (root_fault (slice_index roles 0)) (numbered cs))
+  refused (least_of place_of (interface_fault cs) (named_interfaces cs))
+
+-- the table, where they hold
+unfoldable pub lineage_of : List NamedClass → ℕ → List ℕ → Result ClassTable LinkFault
+lineage_of cs first roles = do
+  agreed ← lines_agree cs first roles
+  Ok (outline cs roles)
+
+-- the table exactly where nothing is at fault; else the first condition that is broken, at its least thing
+abbrev pub Tells : List NamedClass → ℕ → List ℕ → Result ClassTable LinkEnd → Type 0
+Tells cs first roles (Ok t) = (t ≡ outline cs roles) × AllEmpty (conditions cs first roles)
+Tells cs first roles (Err (Fault fault)) = IsFirst place_of (conditions cs first roles) fault
+Tells cs first roles (Err Memory) = Unit {0}
+
+-- what is known of the classes where nothing is at fault
+pub record HaveLines (cs : List NamedClass) (t : ClassTable) : Type 0 where
+  pub count : length t.records ≡ length cs
+  -- each role is a class, from role 2 on throwable or a subclass of it
+  pub roles : (k : ℕ) → k < length t.roles → IsClass t (slice_index t.roles k)
+  pub thrown : (k : ℕ) → 2 ≤ k → k < length t.roles → Below t (Class (slice_index t.roles k)) (Class (throwable t))
+  -- no class is an ancestor of itself, and no interface a superinterface of itself
+  pub descent : (c : ℕ) → ¬ (IsAncestor cs c c)
+  pub extension : (c : ℕ) → ¬ (IsSuperinterface cs c c)
+  -- the chain of a class is the class and its ancestors
+  pub ancestors : (a c : ℕ) → IsTrue (is_on_chain t a c) ↔ ((a ≡ c) ⊎ IsAncestor cs a c)
+  -- a superclass is a class, of the same package or of an earlier one
+  pub supers : (c p : ℕ) → parent_of t c ≡ Some p → IsClass t p
+  pub earlier : (c p : ℕ) → parent_of t c ≡ Some p → package_of t p ≤ package_of t c
+  -- what a record names among its interfaces is an interface
+  pub interfaces : (c : ℕ) → IfSome (slice_get cs c) (λ r. All (λ (i : Iface). is_interface t i.class ≡ true) r.interfaces)

@@ -1,9 +1,0 @@
-use Rattle.std.proofs.Common.{◌≡◌}
-use Rattle.jc_names.specs.Fault.{place_of}
-use Rattle.jc_names.specs.FirstFault.{least_of, least_from}
-use Rattle.jc_lineage.specs.Conditions.{numbered, root_fault}
-use Rattle.jc_lineage.proofs.Numbered.{numbered_from}
-use Rattle.jc_lineage.proofs.named_checks.classes_have_supers.Given as goal
-
-abbrev pub invariant-classes : goal.invariant-classes
-invariant-classes l = least_from place_of l.least (root_fault l.object) (numbered_from l.c l.classes) ≡ least_of place_of (root_fault l.object) (numbered l.classes)

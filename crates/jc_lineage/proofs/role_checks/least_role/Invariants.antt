@@ -1,9 +1,0 @@
-use Rattle.std.proofs.Common.{◌≡◌}
-use Rattle.jc_names.specs.Fault.{place_of}
-use Rattle.jc_names.specs.FirstFault.{least_of, least_from}
-use Rattle.jc_lineage.specs.Conditions.{numbered, role_fault}
-use Rattle.jc_lineage.proofs.Numbered.{numbered_from}
-use Rattle.jc_lineage.proofs.role_checks.least_role.Given as goal
-
-abbrev pub invariant-roles : goal.invariant-roles
-invariant-roles l = least_from place_of l.least (role_fault l.classes l.first l.throwable) (numbered_from l.k l.roles) ≡ least_of place_of (role_fault l.classes l.first l.throwable) (numbered l.roles)

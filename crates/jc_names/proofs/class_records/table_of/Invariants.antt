@@ -1,7 +1,0 @@
-use Rattle.std.proofs.Common.{◌≡◌, ◌++◌, map}
-use Rattle.cap_bytes.specs.Table.{numbers}
-use Rattle.jc_names.specs.NamedClasses.{entry_of}
-use Rattle.jc_names.proofs.class_records.table_of.Given as goal
-
-abbrev pub invariant-entries : goal.invariant-entries
-invariant-entries l = l.entries.items ++ map (entry_of l.index l.«package») (numbers l.offset-iterator) ≡ map (entry_of l.index l.«package») (numbers l.fn.offsets)

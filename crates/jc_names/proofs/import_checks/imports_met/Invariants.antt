@@ -1,9 +1,0 @@
-use Rattle.std.proofs.Common.{◌≡◌, drop}
-use Rattle.jc_names.specs.Fault.{place_of}
-use Rattle.jc_names.specs.FirstFault.{least_from, least_of}
-use Rattle.jc_names.specs.Conditions.{no_package_fault, import_tokens, named_behind, named_in}
-use Rattle.jc_names.proofs.import_checks.imports_met.Given as goal
-
-abbrev pub invariant-packages : goal.invariant-packages
-invariant-packages l =
-    least_from place_of l.least (no_package_fault l.packages) (named_behind import_tokens l.k (drop l.k l.packages)) ≡ least_of place_of (no_package_fault l.packages) (named_in import_tokens l.packages)

@@ -1,6 +1,0 @@
--- The method that is looked at.
-use Rattle.jc_rules.specs.Flow.{Method}
-use Rattle.jc_places.specs.declared.subject.Subject.{Subject}
-
-abbrev pub method : Subject → Method
-method s = record { number = s.number; rec = s.rec.now; code = s.code.bytes.now }

@@ -1,0 +1,43 @@
+-- The first condition that is broken, of lists of conditions one after the other, and of a condition that is asked alone.
+use Rattle.std.proofs.Common.{◌≡◌, ℕ, List, [], ◌∷◌, ◌++◌, Option, Some, None, Ok, Err, sym, ap, ◌∙◌, inl, inr}
+use Rattle.std.specs.List.{filter_map}
+use Rattle.std.specs.Option.{option_to_list}
+use Rattle.jc_resolve.specs.FirstFault.{least_of, refused, IsLeast, IsFirst, AllEmpty}
+use Rattle.jc_resolve.proofs.LeastFaults.{least_in, least-at_fault, least-one, least-found, least-none}
+
+module _ {F : Type 0} where
+  pub AllEmpty-append : (xs ys : List (List F)) → AllEmpty xs → AllEmpty ys → AllEmpty (xs ++ ys)
+  AllEmpty-append [] ys none others = others
+  AllEmpty-append (x ∷ xs) ys none others = (none.0, AllEmpty-append xs ys none.1 others)
+
+  pub IsFirst-append_left : (place : F → ℕ) (xs ys : List (List F)) (f : F) → IsFirst place xs f → IsFirst place (xs ++ ys) f
+  IsFirst-append_left place [] ys f h = absurd h
+  IsFirst-append_left place (x ∷ xs) ys f (inl least) = inl least
+  IsFirst-append_left place (x ∷ xs) ys f (inr later) = inr (later.0, IsFirst-append_left place xs ys f later.1)
+
+  pub IsFirst-append_right : (place : F → ℕ) (xs ys : List (List F)) (f : F) → AllEmpty xs → IsFirst place ys f → IsFirst place (xs ++ ys) f
+  IsFirst-append_right place [] ys f none h = h
+  IsFirst-append_right place (x ∷ xs) ys f none h = inr (none.0, IsFirst-append_right place xs ys f none.1 h)
+
+-- ---- what one condition tells that is asked alone
+
+module _ {F : Type 0} (place : F → ℕ) where
+  least_refused : (faults : List F) (o : Option F) (f : F) → least_in place None faults ≡ o → Err f ≡ refused o → IsLeast place faults f
+  least_refused faults None f e h = absurd cc
+  least_refused faults (Some g) f e h = let same : g ≡ f = cc in least-found place faults f (e ∙ ap Some same)
+
+  none_refused : (faults : List F) (o : Option F) (x : Unit {0}) → least_in place None faults ≡ o → Ok x ≡ refused o → faults ≡ []
+  none_refused faults None x e h = least-none place faults e
+  none_refused faults (Some g) x e h = absurd cc
+
+  pub things-refused : {X : Type 0} (fault : X → Option F) (xs : List X) (f : F) → Err f ≡ refused (least_of place fault xs) → IsLeast place (filter_map fault xs) f
+  things-refused fault xs f h = least_refused (filter_map fault xs) (least_of place fault xs) f (sym (least-at_fault place fault xs None)) h
+
+  pub things-none : {X : Type 0} (fault : X → Option F) (xs : List X) (x : Unit {0}) → Ok x ≡ refused (least_of place fault xs) → filter_map fault xs ≡ []
+  things-none fault xs x h = none_refused (filter_map fault xs) (least_of place fault xs) x (sym (least-at_fault place fault xs None)) h
+
+  pub one-refused : (o : Option F) (f : F) → Err f ≡ refused o → IsLeast place (option_to_list o) f
+  one-refused o f h = least_refused (option_to_list o) o f (sym (least-one place o)) h
+
+  pub one-none : (o : Option F) (x : Unit {0}) → Ok x ≡ refused o → option_to_list o ≡ []
+  one-none o x h = none_refused (option_to_list o) o x (sym (least-one place o)) h

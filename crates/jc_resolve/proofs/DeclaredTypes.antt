@@ -1,0 +1,131 @@
+-- The types that packages tell are types of their named classes.
+use Rattle.std.proofs.Common.{◌≡◌, ℕ, ◌<◌, Bool, true, false, eqb, List, [], ◌∷◌, length, Option, Some, None, option_map, option_and_then, if◌then◌else◌, refl, sym, ap, subst, ◌∙◌, inl, inr}
+use Rattle.std.specs.Prelude.{All, IfSome, slice_get}
+use Rattle.std.proofs.lemmas.List.{length-map}
+use Rattle.std.proofs.lemmas.List.Elements.{All-nil, All-cons, All-append}
+use Rattle.std.proofs.lemmas.Option.{slice_get-map}
+use Rattle.jc_base.specs.declared.ty.Ty.{Ty}
+use Rattle.jc_base.specs.declared.ty.Ty.TheVariants.{Short, IntHigh, IntLow, Class, ArrBool, ArrByte, ArrShort, ArrInt, ArrRef}
+use Rattle.cap_class.specs.ClassFormat as format
+use Rattle.cap_desc.specs.declared.type_item.TypeItem.{TypeItem}
+use Rattle.cap_package.specs.Descriptions.{Description}
+use Rattle.cap_package.specs.PackageRecord.{PackageRecord}
+use Rattle.jc_resolve.specs.declared.named.NamedClass.{NamedClass}
+use Rattle.jc_resolve.specs.declared.place.Place.{Place}
+use Rattle.jc_resolve.specs.Numbering.{NumberedClass, numbered_classes, class_at, flagged_interface, is_interface_number}
+use Rattle.jc_resolve.specs.References.{place_named, class_named}
+use Rattle.jc_resolve.specs.WorldTypes.{class_or_object, type_class, type_of, cells_of_type, arguments_before, result_after, signature_in, types_named, signature_of}
+use Rattle.jc_resolve.specs.NamedClasses.{named_class, named_classes, named_interface, named_proper}
+use Rattle.jc_resolve.specs.Named.{interface_by, is_interface, IsTypeClass, IsDeclared}
+use Rattle.jc_resolve.proofs.NumberLaws.{class_below}
+
+-- of two things that a property holds of, it holds of the one that is chosen
+pub either : {X : Type 0} (P : X → Type 0) (b : Bool) (x y : X) → P x → P y → P (if b then x else y)
+either P true x y p q = p
+either P false x y p q = q
+
+-- ---- numbers of named classes
+
+pub named-length : (ps : List PackageRecord) (object : ℕ) → length (named_classes ps object) ≡ length (numbered_classes ps)
+unfolding named_classes
+named-length ps object = length-map (numbered_classes ps) (named_class ps object)
+
+flag_by : (b : Bool) (x y : NamedClass) → x.interface ≡ true → y.interface ≡ false → (if b then x else y).interface ≡ b
+flag_by true x y e f = e
+flag_by false x y e f = f
+
+pub flag_named : (ps : List PackageRecord) (object : ℕ) (c : NumberedClass) → (named_class ps object c).interface ≡ format.is_interface c.record_of.flags
+unfolding named_class
+flag_named ps object c = flag_by (format.is_interface c.record_of.flags) (named_interface ps c) (named_proper ps object c) refl refl
+
+interface_in : (ps : List PackageRecord) (object : ℕ) (o : Option NumberedClass) → interface_by (option_map (named_class ps object) o) ≡ flagged_interface o
+interface_in ps object None = refl
+interface_in ps object (Some c) = flag_named ps object c
+
+-- a named class is an interface where its record says so
+pub interface_numbered : (ps : List PackageRecord) (object c : ℕ) → is_interface (named_classes ps object) c ≡ is_interface_number ps c
+unfolding is_interface is_interface_number named_classes
+interface_numbered ps object c = ap interface_by (slice_get-map (named_class ps object) (numbered_classes ps) c) ∙ interface_in ps object (slice_get (numbered_classes ps) c)
+
+-- ---- what is named is a number
+
+named_at : (ps : List PackageRecord) (o : Option Place) → IfSome (option_and_then (class_at ps) o) (λ c. c < length (numbered_classes ps))
+named_at ps None = tt
+named_at ps (Some place) = class_below ps place (class_at ps place) refl
+
+pub named_below : (ps : List PackageRecord) (k reference : ℕ) → IfSome (class_named ps k reference) (λ c. c < length (numbered_classes ps))
+unfolding class_named
+named_below ps k reference = named_at ps (place_named ps k reference)
+
+-- ---- types
+
+module _ (ps : List PackageRecord) (object : ℕ) where
+  -- the types of the named classes
+  abbrev IsKnown : Ty → Type 0
+  IsKnown = IsDeclared (named_classes ps object) object
+
+  class_by : (c : ℕ) (b : Bool) → c < length (numbered_classes ps) → is_interface_number ps c ≡ b → IsTypeClass (named_classes ps object) object (if b then object else c)
+  class_by c true lt e = inl refl
+  class_by c false lt e = inr (subst (λ n. c < n) (sym (named-length ps object)) lt, interface_numbered ps object c ∙ e)
+
+  class_or : (o : Option ℕ) → IfSome o (λ c. c < length (numbered_classes ps)) → IsTypeClass (named_classes ps object) object (class_or_object ps object o)
+  class_or None h = inl refl
+  class_or (Some c) h = class_by c (is_interface_number ps c) h refl
+
+  pub class_declared : (k reference : ℕ) → IsTypeClass (named_classes ps object) object (type_class ps object k reference)
+  class_declared k reference = class_or (class_named ps k reference) (named_below ps k reference)
+
+  pub type_declared : (k : ℕ) (t : TypeItem) → IsDeclared (named_classes ps object) object (type_of ps object k t)
+  unfolding type_of
+  type_declared k t =
+      let n = t.nibble in
+      let c = type_class ps object k t.class_ref in
+      let known = class_declared k t.class_ref in
+      let from14 : Ty = if eqb n 14 then ArrRef c else Short in
+      let from13 : Ty = if eqb n 13 then ArrInt else from14 in
+      let from12 : Ty = if eqb n 12 then ArrShort else from13 in
+      let from11 : Ty = if eqb n 11 then ArrByte else from12 in
+      let from10 : Ty = if eqb n 10 then ArrBool else from11 in
+      let from6 : Ty = if eqb n 6 then Class c else from10 in
+      either IsKnown (eqb n 5) IntHigh from6 tt
+      (either IsKnown (eqb n 6) (Class c) from10 known
+      (either IsKnown (eqb n 10) ArrBool from11 tt
+      (either IsKnown (eqb n 11) ArrByte from12 tt
+      (either IsKnown (eqb n 12) ArrShort from13 tt
+      (either IsKnown (eqb n 13) ArrInt from14 tt
+      (either IsKnown (eqb n 14) (ArrRef c) Short known tt))))))
+
+  pub cells_declared : (k : ℕ) (t : TypeItem) → All (IsDeclared (named_classes ps object) object) (cells_of_type ps object k t)
+  cells_declared k t =
+      let low = All-cons IsKnown IntLow [] tt (All-nil IsKnown) in
+      either (All IsKnown) (eqb t.nibble 5) (IntHigh ∷ IntLow ∷ []) (type_of ps object k t ∷ [])
+      (All-cons IsKnown IntHigh (IntLow ∷ []) tt low)
+      (All-cons IsKnown (type_of ps object k t) [] (type_declared k t) (All-nil IsKnown))
+
+  -- ---- signatures
+
+  before_declared : (k : ℕ) (t : TypeItem) (us : List TypeItem) → All (IsDeclared (named_classes ps object) object) (arguments_before ps object k t us)
+  before_declared k t [] = All-nil IsKnown
+  before_declared k t (u ∷ us) = All-append IsKnown (cells_of_type ps object k t) (arguments_before ps object k u us) (cells_declared k t) (before_declared k u us)
+
+  after_declared : (k : ℕ) (t : TypeItem) (us : List TypeItem) → IfSome (result_after ps object k t us) (IsDeclared (named_classes ps object) object)
+  after_declared k t [] =
+      let P : Option Ty → Type 0 = λ o. IfSome o IsKnown in
+      either P (eqb t.nibble 1) None (Some (type_of ps object k t)) tt (type_declared k t)
+  after_declared k t (u ∷ us) = after_declared k u us
+
+  pub arguments_in : (k : ℕ) (ts : List TypeItem) → All (IsDeclared (named_classes ps object) object) (signature_in ps object k ts).args
+  arguments_in k [] = All-nil IsKnown
+  arguments_in k (t ∷ ts) = before_declared k t ts
+
+  pub result_in : (k : ℕ) (ts : List TypeItem) → IfSome (signature_in ps object k ts).result (IsDeclared (named_classes ps object) object)
+  result_in k [] = tt
+  result_in k (t ∷ ts) = after_declared k t ts
+
+  pub arguments_declared : (k : ℕ) (d : Description) (offset : ℕ) → All (IsDeclared (named_classes ps object) object) (signature_of ps object k d offset).args
+  unfolding signature_of
+  arguments_declared k d offset = arguments_in k (types_named d offset)
+
+  pub result_declared : (k : ℕ) (d : Description) (offset : ℕ) → IfSome (signature_of ps object k d offset).result (IsDeclared (named_classes ps object) object)
+  unfolding signature_of
+  result_declared k d offset = result_in k (types_named d offset)

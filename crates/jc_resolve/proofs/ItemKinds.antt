@@ -1,0 +1,45 @@
+-- The type of a world that an item stands for is of the item's kind.
+use Rattle.std.proofs.Common.{◌≡◌, ℕ, zero, suc, ◌≤◌, Bool, true, false, ◌&&◌, ◌||◌, eqb, leb, refl, arith}
+use Rattle.std.specs.Prelude.{List}
+use Rattle.std.proofs.lemmas.Bool.{leb-true}
+use Rattle.jc_base.specs.Cell.{IsOfKind}
+use Rattle.cap_desc.specs.declared.type_item.TypeItem.{TypeItem}
+use Rattle.cap_desc.specs.TypeFormat.{is_type}
+use Rattle.cap_package.specs.PackageRecord.{PackageRecord}
+use Rattle.jc_resolve.specs.WorldTypes.{type_of, kind_of}
+
+two_ranges : (n : ℕ) (a b c d : Bool) → leb n 6 ≡ b → leb n 14 ≡ d → ((a && b) || (c && d)) ≡ true → n ≤ 14
+two_ranges n true true c d e f h = omega (arith, leb-true n 6 e)
+two_ranges n true false true true e f h = leb-true n 14 f
+two_ranges n true false true false e f h = absurd cc
+two_ranges n true false false d e f h = absurd cc
+two_ranges n false b true true e f h = leb-true n 14 f
+two_ranges n false b true false e f h = absurd cc
+two_ranges n false b false d e f h = absurd cc
+
+type_small : (n : ℕ) → is_type n ≡ true → n ≤ 14
+type_small n h = two_ranges n (leb 1 n) (leb n 6) (leb 10 n) (leb n 14) refl refl h
+
+by_nibble : (ps : List PackageRecord) (object k n r : ℕ) → is_type n ≡ true → eqb n 1 ≡ false → IsOfKind (kind_of (record { nibble = n; class_ref = r })) (type_of ps object k (record { nibble = n; class_ref = r }))
+unfolding kind_of type_of
+by_nibble ps object k zero r typed void = absurd cc
+by_nibble ps object k (suc zero) r typed void = absurd cc
+by_nibble ps object k (suc (suc zero)) r typed void = refl
+by_nibble ps object k (suc (suc (suc zero))) r typed void = refl
+by_nibble ps object k (suc (suc (suc (suc zero)))) r typed void = refl
+by_nibble ps object k (suc (suc (suc (suc (suc zero))))) r typed void = refl
+by_nibble ps object k (suc (suc (suc (suc (suc (suc zero)))))) r typed void = tt
+by_nibble ps object k (suc (suc (suc (suc (suc (suc (suc zero))))))) r typed void = absurd cc
+by_nibble ps object k (suc (suc (suc (suc (suc (suc (suc (suc zero)))))))) r typed void = absurd cc
+by_nibble ps object k (suc (suc (suc (suc (suc (suc (suc (suc (suc zero))))))))) r typed void = absurd cc
+by_nibble ps object k (suc (suc (suc (suc (suc (suc (suc (suc (suc (suc zero)))))))))) r typed void = tt
+by_nibble ps object k (suc (suc (suc (suc (suc (suc (suc (suc (suc (suc (suc zero))))))))))) r typed void = tt
+by_nibble ps object k (suc (suc (suc (suc (suc (suc (suc (suc (suc (suc (suc (suc zero)))))))))))) r typed void = tt
+by_nibble ps object k (suc (suc (suc (suc (suc (suc (suc (suc (suc (suc (suc (suc (suc zero))))))))))))) r typed void = tt
+by_nibble ps object k (suc (suc (suc (suc (suc (suc (suc (suc (suc (suc (suc (suc (suc (suc zero)))))))))))))) r typed void = tt
+by_nibble ps object k (suc (suc (suc (suc (suc (suc (suc (suc (suc (suc (suc (suc (suc (suc (suc n))))))))))))))) r typed void =
+    absurd (let small = type_small (suc (suc (suc (suc (suc (suc (suc (suc (suc (suc (suc (suc (suc (suc (suc n))))))))))))))) typed in omega arith)
+
+-- an item that is a type, and not void
+pub kind_right : (ps : List PackageRecord) (object k : ℕ) (t : TypeItem) → is_type t.nibble ≡ true → eqb t.nibble 1 ≡ false → IsOfKind (kind_of t) (type_of ps object k t)
+kind_right ps object k t typed void = by_nibble ps object k t.nibble t.class_ref typed void

@@ -1,0 +1,148 @@
+-- What holds of the methods that the Descriptor of a package describes, since its parts agree.
+use Rattle.std.proofs.Common.{◌≡◌, ℕ, ◌+◌, ◌≤◌, Bool, true, false, not, ◌&&◌, ◌||◌, ltb, eqb, cond, List, [], ◌++◌, length, Option, Some, None, refl, sym, ap, arith}
+use Rattle.std.specs.Prelude.{All, MatchBool}
+use Rattle.std.specs.List.{filter_map}
+use Rattle.std.proofs.lemmas.Bool.{ltb-false, eqb-true, eqb-false}
+use Rattle.cap_method.specs.MethodFormat.{Header}
+use Rattle.cap_desc.specs.DescriptorFormat.{Method}
+use Rattle.cap_desc.specs.Members.{methods_from}
+use Rattle.cap_components.specs.declared.fault.PackFault.{PackFault}
+use Rattle.cap_components.specs.declared.fault.PackFault.TheVariants.{TooManyRegisters, MethodLength, CountDisagrees, BadType}
+use Rattle.cap_package.specs.Descriptions.{Description, argument_words}
+use Rattle.cap_package.specs.HandlerChecks.{claim_fault, numbered, numbered_fault}
+use Rattle.cap_package.specs.HeaderChecks.{header_in, is_abstract, registers_fault, length_fault, this_words, arguments_fault, abstract_fault}
+use Rattle.cap_package.specs.MethodChecks.{code_start, code_end, outside_fault}
+use Rattle.cap_package.specs.TypeChecks.{method_type_by, method_type_fault, interface_methods, field_type_fault}
+use Rattle.cap_package.specs.PackageRecord.{PackageRecord, classes_from, described as described_methods, handlers_of, fields}
+use Rattle.cap_package.specs.StandsFor.{StandsFor}
+use Rattle.cap_package.proofs.HeaderLaws.{HasHeader, has-header, ends-within}
+use Rattle.cap_package.proofs.InfoLaws.{info-short}
+use Rattle.jc_base.specs.Linked.{IsCodeLength}
+use Rattle.jc_resolve.specs.FirstFault.{IsOneOf}
+use Rattle.jc_resolve.proofs.Faultless.{faultless, both_empty}
+use Rattle.jc_resolve.proofs.OwnedHandlers.{LiesIn, handlers-lie}
+
+-- ---- tests of one method
+
+registers_most : (m : Method) (h : Header) (b : Bool) → ltb 255 (h.nargs + h.max_locals) ≡ b → cond b (Some (TooManyRegisters m.method_offset (h.nargs + h.max_locals))) None ≡ None → h.nargs + h.max_locals ≤ 255
+registers_most m h true e none = absurd cc
+registers_most m h false e none = ltb-false 255 (h.nargs + h.max_locals) e
+
+-- the number of a method's bytes, by whether it is abstract
+abbrev pub HasLength : Bool → ℕ → Type 0
+HasLength abstract count = MatchBool abstract (count ≡ 0) (IsCodeLength count)
+
+code_length : (n : ℕ) (f : PackFault) (a b : Bool) → eqb n 0 ≡ a → ltb 32767 n ≡ b → cond (a || b) (Some f) None ≡ None → IsCodeLength n
+code_length n f true b e g none = absurd cc
+code_length n f false true e g none = absurd cc
+code_length n f false false e g none = record { least = (let no = eqb-false n 0 e in omega (arith, no)); most = ltb-false 32767 n g }
+
+no_length : (n : ℕ) (f : PackFault) (b : Bool) → eqb n 0 ≡ b → cond (not b) (Some f) None ≡ None → n ≡ 0
+no_length n f true e none = eqb-true n 0 e
+no_length n f false e none = absurd cc
+
+has_length : (n : ℕ) (f g : PackFault) (abstract : Bool) → cond (abstract && not (eqb n 0)) (Some f) None ≡ None → cond (not abstract && (eqb n 0 || ltb 32767 n)) (Some g) None ≡ None → HasLength abstract n
+has_length n f g true none some = no_length n f (eqb n 0) refl none
+has_length n f g false none some = code_length n g (eqb n 0) (ltb 32767 n) refl refl some
+
+same_words : (h w : ℕ) (f : PackFault) (b : Bool) → eqb h w ≡ b → cond b None (Some f) ≡ None → h ≡ w
+same_words h w f true e none = eqb-true h w e
+same_words h w f false e none = absurd cc
+
+-- ---- words
+
+-- the argument words that a method's descriptor tells, and that they are no more than some
+pub record HasWords (d : Description) (m : Method) (most : ℕ) : Type 0 where
+  pub words : ℕ
+  pub told : argument_words d m.type_offset ≡ Some words
+  pub few : words ≤ most
+
+words_at_most : (f : PackFault) (most w : ℕ) (b : Bool) → ltb most w ≡ b → cond b (Some f) None ≡ None → w ≤ most
+words_at_most f most w true e none = absurd cc
+words_at_most f most w false e none = ltb-false most w e
+
+words_by : (d : Description) (m : Method) (most : ℕ) (o : Option ℕ) → argument_words d m.type_offset ≡ o → method_type_by most m.type_offset o ≡ None → HasWords d m most
+words_by d m most None e none = absurd cc
+words_by d m most (Some w) e none = record { words = w; told = e; few = words_at_most (BadType m.type_offset) most w (ltb most w) refl none }
+
+words_told : (d : Description) (m : Method) (most : ℕ) → method_type_fault d most m ≡ None → HasWords d m most
+unfolding method_type_fault
+words_told d m most none = words_by d m most (argument_words d m.type_offset) refl none
+
+-- ---- a method of a class
+
+-- a method that stands in the info
+pub record IsPlaced (p : PackageRecord) (m : Method) : Type 0 where
+  pub header : Header
+  pub there : header_in p.methods.info m.method_offset ≡ Some header
+  pub begins : code_start p.methods.info m ≡ m.method_offset + header.size
+  pub ends : code_end p.methods.info m ≤ length p.methods.info
+  pub short : length p.methods.info ≤ 65535
+  pub words : ℕ
+  pub told : argument_words p.description m.type_offset ≡ Some words
+  pub nargs : header.nargs ≡ words + this_words m
+  pub registers : header.nargs + header.max_locals ≤ 255
+  pub length : HasLength (is_abstract header) m.bytecode_count
+  pub handlers : All (LiesIn p.methods.info m) (handlers_of p m)
+
+registers_of : (info : List ℕ) (m : Method) (h : Header) → header_in info m.method_offset ≡ Some h → registers_fault info m ≡ None → h.nargs + h.max_locals ≤ 255
+unfolding registers_fault
+registers_of info m h at none = registers_most m h (ltb 255 (h.nargs + h.max_locals)) refl (rw at at none)
+
+length_of : (info : List ℕ) (m : Method) (h : Header) → header_in info m.method_offset ≡ Some h → abstract_fault info m ≡ None → length_fault info m ≡ None → HasLength (is_abstract h) m.bytecode_count
+unfolding abstract_fault length_fault
+length_of info m h at none some = has_length m.bytecode_count (CountDisagrees 10 m.bytecode_count 0) (MethodLength m.method_offset m.bytecode_count) (is_abstract h) (rw at at none) (rw at at some)
+
+nargs_of : (info : List ℕ) (d : Description) (m : Method) (h : Header) (words : ℕ) → header_in info m.method_offset ≡ Some h → argument_words d m.type_offset ≡ Some words → arguments_fault info d m ≡ None → h.nargs ≡ words + this_words m
+unfolding arguments_fault
+nargs_of info d m h words at told none = same_words h.nargs (words + this_words m) (CountDisagrees 7 h.nargs (words + this_words m)) (eqb h.nargs (words + this_words m)) refl (rw (at, told) at none)
+
+begins_at : (info : List ℕ) (m : Method) (x : HasHeader info m.method_offset) → code_start info m ≡ m.method_offset + x.header.size
+unfolding code_start
+begins_at info m x = ap (λ n. m.method_offset + n) (sym x.size)
+
+module _ (p : PackageRecord) (agreed : StandsFor p.parts p) where
+  -- the types of all methods have the shape of a method's
+  types : filter_map (method_type_fault p.description 510) (methods_from 0 p.description.items.classes) ≡ []
+  types =
+      let all = agreed.agree.1.1.1.1.1.1.1.1.1.1.1.1.1.1.1.1.1.1.1.0 in
+      let first = both_empty (filter_map (field_type_fault p.description) (fields p) ++ filter_map (method_type_fault p.description 510) (methods_from 0 p.description.items.classes)) (filter_map (method_type_fault p.description 254) (interface_methods (classes_from p.classes) p.description.items.classes)) all in
+      (both_empty (filter_map (field_type_fault p.description) (fields p)) (filter_map (method_type_fault p.description 510) (methods_from 0 p.description.items.classes)) first.0).1
+
+  interface_types : filter_map (method_type_fault p.description 254) (interface_methods (classes_from p.classes) p.description.items.classes) ≡ []
+  interface_types =
+      let all = agreed.agree.1.1.1.1.1.1.1.1.1.1.1.1.1.1.1.1.1.1.1.0 in
+      (both_empty (filter_map (field_type_fault p.description) (fields p) ++ filter_map (method_type_fault p.description 510) (methods_from 0 p.description.items.classes)) (filter_map (method_type_fault p.description 254) (interface_methods (classes_from p.classes) p.description.items.classes)) all).1
+
+  entries_owned : filter_map (numbered_fault p.methods.info (described_methods p)) (numbered 0 p.methods.handlers) ≡ []
+  entries_owned =
+      let all = agreed.agree.1.1.1.1.1.1.1.1.1.1.1.1.1.1.0 in
+      (both_empty (filter_map (numbered_fault p.methods.info (described_methods p)) (numbered 0 p.methods.handlers)) (filter_map (claim_fault (length p.methods.handlers)) (described_methods p)) all).0
+
+  pub interface-words : (m : Method) → IsOneOf (interface_methods (classes_from p.classes) p.description.items.classes) m → HasWords p.description m 254
+  interface-words m one = words_told p.description m 254 (faultless (method_type_fault p.description 254) _ m interface_types one)
+
+  pub is-placed : (m : Method) → IsOneOf (described_methods p) m → IsOneOf (methods_from 0 p.description.items.classes) m → IsPlaced p m
+  is-placed m one any =
+      let info = p.methods.info in
+      let outside = faultless (outside_fault info (length p.methods.handlers)) (described_methods p) m agreed.agree.1.1.1.0 one in
+      let arguments = faultless (arguments_fault info p.description) (described_methods p) m agreed.agree.1.1.1.1.1.1.1.1.1.1.0 one in
+      let abstract = faultless (abstract_fault info) (described_methods p) m agreed.agree.1.1.1.1.1.1.1.1.1.1.1.1.1.0 one in
+      let registers = faultless (registers_fault info) (described_methods p) m agreed.agree.1.1.1.1.1.1.1.1.1.1.1.1.1.1.1.1.1.1.0 one in
+      let lengths = faultless (length_fault info) (described_methods p) m agreed.agree.1.1.1.1.1.1.1.1.1.1.1.1.1.1.1.1.1.1.1.1.1.0 one in
+      let words = words_told p.description m 510 (faultless (method_type_fault p.description 510) (methods_from 0 p.description.items.classes) m types any) in
+      let ends = ends-within info (length p.methods.handlers) m outside in
+      let h = has-header info m ends in
+      record {
+        header = h.header;
+        there = h.there;
+        begins = begins_at info m h;
+        ends = ends;
+        short = info-short 7 agreed.said.methods.file info agreed.said.methods.framed;
+        words = words.words;
+        told = words.told;
+        nargs = nargs_of info p.description m h.header words.words h.there words.told arguments;
+        registers = registers_of info m h.header h.there registers;
+        length = length_of info m h.header h.there abstract lengths;
+        handlers = handlers-lie info (described_methods p) p.methods.handlers m entries_owned one;
+      }

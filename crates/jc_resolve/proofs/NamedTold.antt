@@ -1,0 +1,50 @@
+-- Names of packages name classes and methods of theirs alone.
+use Rattle.std.proofs.Common.{◌≡◌, ℕ, List, length, Result, Ok, Err, sym, subst}
+use Rattle.std.specs.Prelude.{All, IfOk, slice_index}
+use Rattle.std.proofs.lemmas.List.{length-map}
+use Rattle.cap_package.specs.PackageRecord.{PackageRecord}
+use Rattle.jc_resolve.specs.declared.fault.LinkFault.{LinkFault}
+use Rattle.jc_resolve.specs.declared.fault.LinkEnd.{LinkEnd}
+use Rattle.jc_resolve.specs.Conditions.{conditions}
+use Rattle.jc_resolve.specs.FirstFault.{◌>>=◌, AllEmpty}
+use Rattle.jc_resolve.specs.Named.{IsAgreed, IsSized, IsNamedClass, AreNamed, infos_of}
+use Rattle.jc_resolve.specs.NamedClasses.{named_classes}
+use Rattle.jc_resolve.specs.NamedMethods.{HasFewHandlers, named_methods}
+use Rattle.jc_resolve.specs.Due.{IsDue}
+use Rattle.jc_resolve.specs.Names.{NamesRecord, named, checked, names_of}
+use Rattle.jc_resolve.proofs.ClassFacts.{classes-named}
+use Rattle.jc_resolve.proofs.NamedMethodLaws.{methods-named}
+use Rattle.jc_resolve.proofs.NamesTold.{names_told}
+use Rattle.jc_resolve.proofs.Totals.{named_methods_many}
+
+infos_many : (ps : List PackageRecord) → length (infos_of ps) ≡ length ps
+infos_many ps = length-map ps (λ (p : PackageRecord). p.methods.info)
+
+names_right : (ps : List PackageRecord) (roles : List ℕ) → All IsAgreed ps → All HasFewHandlers ps → AllEmpty (conditions ps) → All IsSized (named_classes ps (slice_index roles 0))
+    → AreNamed (infos_of ps) (slice_index roles 0) (named_classes ps (slice_index roles 0)) (named_methods ps roles)
+names_right ps roles agreed few none sized =
+    let object = slice_index roles 0 in
+    let cs = named_classes ps object in
+    record {
+      classes =
+          subst (λ n. All (IsNamedClass n (length (named_methods ps roles)) cs object) cs) (sym (infos_many ps))
+          (subst (λ n. All (IsNamedClass (length ps) n cs object) cs) (sym (named_methods_many ps roles)) (classes-named ps object sized));
+      methods = methods-named ps roles agreed few none;
+    }
+
+answer_by : (r : Result (Unit {0}) LinkFault) (n m : NamesRecord) → (r >>= λ done. Ok n) ≡ Ok m → n ≡ m
+answer_by (Ok x) n m h = cc
+answer_by (Err f) n m h = absurd cc
+
+answer_named : (ps : List PackageRecord) (roles : List ℕ) (n : NamesRecord) → names_of ps roles ≡ Ok n → named ps roles ≡ n
+unfolding names_of
+answer_named ps roles n h = answer_by (checked ps) (named ps roles) n h
+
+-- the names that are answered, where the parts of the packages agree, are right
+pub answer_right : (ps : List PackageRecord) (roles : List ℕ) (answer : Result NamesRecord LinkEnd) → IsDue (names_of ps roles) answer → IfOk answer (λ n. All IsSized n.classes) → IfOk answer (λ n. All IsAgreed ps) → IfOk answer (λ n. All HasFewHandlers ps)
+    → IfOk answer (λ n. AreNamed (infos_of ps) (slice_index roles 0) n.classes n.methods)
+answer_right ps roles (Ok n) h sized agreed few =
+    let e = answer_named ps roles n h in
+    subst (λ (m : NamesRecord). AreNamed (infos_of ps) (slice_index roles 0) m.classes m.methods) e
+    (names_right ps roles agreed few (names_told ps roles (Ok n) h) (subst (λ (m : NamesRecord). All IsSized m.classes) (sym e) sized))
+answer_right ps roles (Err e) h sized agreed few = tt

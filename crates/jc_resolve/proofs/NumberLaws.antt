@@ -1,0 +1,185 @@
+-- The numbers that the tables keep are the positions of classes and methods.
+use Rattle.std.proofs.Common.{◌≡◌, ℕ, suc, ◌+◌, ◌<◌, Bool, true, false, cond, eqb, ◌&&◌, List, [], ◌∷◌, ◌++◌, length, map, Option, Some, None, position, slice_get, option_map, IfSome, is_some, refl, sym, ap, ap₂, subst, ◌∙◌, arith, if◌then◌else◌, get_or}
+use Rattle.std.specs.List.{position_from}
+use Rattle.std.specs.Map.{lookup}
+use Rattle.std.proofs.lemmas.Bool.{eqb-true}
+use Rattle.std.proofs.lemmas.List.{map-append, length-map}
+use Rattle.std.proofs.lemmas.Iterator.Adapters.{position_from-zero}
+use Rattle.std.proofs.lemmas.Option.{slice_get-map, slice_get-get_or}
+use Rattle.indexmap.specs.IndexMap.{insert_entry}
+use Rattle.indexmap.proofs.MapLemmas.{absent_from_lookup, insert_entry-absent}
+use Rattle.cap_class.specs.ClassFormat.{Class, is_interface}
+use Rattle.cap_desc.specs.DescriptorFormat as described
+use Rattle.cap_package.specs.PackageRecord.{PackageRecord, classes_from}
+use Rattle.jc_resolve.specs.declared.place.Place.{Place}
+use Rattle.jc_resolve.specs.Numbering.{NumberedClass, same_place, is_at, classes_of, classes_behind, numbered_classes, place_of_class, class_places, class_at, flagged_interface, is_interface_number, is_placed, methods_of_class, methods_of_classes, methods_behind, numbered_methods, place_of_method, method_places, method_at}
+use Rattle.jc_resolve.specs.Numbers.{Numbered, none_numbered, number_at, entered, with_next, with_all, spot_of_class, class_spots, class_flags, spot_of_method, spots_of_classes, method_spots, AreIndexed}
+
+-- ---- places
+
+both : (x y : Bool) → x && y ≡ true → (x ≡ true) × (y ≡ true)
+both true true h = (refl, refl)
+both true false h = absurd cc
+both false y h = absurd cc
+
+pub same-equal : (a b : Place) → same_place a b ≡ true → a ≡ b
+same-equal a b h =
+    let p = both (eqb a.package b.package) (eqb a.offset b.offset) h in
+    let e = eqb-true a.package b.package p.0 in
+    let f = eqb-true a.offset b.offset p.1 in
+    λ i. record { «package» = e i; offset = f i }
+
+-- ---- tables
+
+or_else : Option ℕ → Option ℕ → Option ℕ
+or_else None o = o
+or_else (Some x) o = Some x
+
+or_none : (o : Option ℕ) → o ≡ or_else o None
+unfolding or_else
+or_none None = refl
+or_none (Some x) = refl
+
+lookup_behind : (t : Place → Bool) (es : List (Place × ℕ)) (q : Place) (n : ℕ) → lookup t (es ++ (q, n) ∷ []) ≡ or_else (lookup t es) (cond (t q) (Some n) None)
+unfolding or_else
+lookup_behind t [] q n = refl
+lookup_behind t (e ∷ es) q n = by (t e.0) (lookup_behind t es q n)
+  where
+    by : (b : Bool) → lookup t (es ++ (q, n) ∷ []) ≡ or_else (lookup t es) (cond (t q) (Some n) None) → cond b (Some e.1) (lookup t (es ++ (q, n) ∷ [])) ≡ or_else (cond b (Some e.1) (lookup t es)) (cond (t q) (Some n) None)
+    by true h = refl
+    by false h = h
+
+joined : (o : Option ℕ) (b : Bool) (n : ℕ) (rest : Option ℕ) → or_else (or_else o (cond b (Some n) None)) rest ≡ or_else o (cond b (Some n) rest)
+unfolding or_else
+joined None true n rest = refl
+joined None false n rest = refl
+joined (Some x) b n rest = refl
+
+after : (es : List (Place × ℕ)) (q : Place) (n : ℕ) (place : Place) (rest o : Option ℕ) → number_at es q ≡ o → (b : Bool) → same_place place q ≡ b → or_else (number_at (entered es q n) place) rest ≡ or_else (number_at es place) (cond b (Some n) rest)
+unfolding entered or_else
+after es q n place rest (Some m) e false f = ap (λ (x : Option ℕ). or_else (number_at (if is_some x then es else insert_entry same_place es q n) place) rest) e
+after es q n place rest (Some m) e true f =
+    let same : number_at es place ≡ Some m = ap (number_at es) (same-equal place q f) ∙ e in
+    ap (λ (x : Option ℕ). or_else (number_at (if is_some x then es else insert_entry same_place es q n) place) rest) e
+    ∙ ap (λ (x : Option ℕ). or_else x rest) same
+    ∙ sym (ap (λ (x : Option ℕ). or_else x (Some n)) same)
+after es q n place rest None e b f =
+    ap (λ (x : Option ℕ). or_else (number_at (if is_some x then es else insert_entry same_place es q n) place) rest) e
+    ∙ ap (λ l. or_else (number_at l place) rest) (insert_entry-absent same_place q n es (absent_from_lookup (same_place q) es e))
+    ∙ ap (λ x. or_else x rest) (lookup_behind (same_place place) es q n)
+    ∙ joined (number_at es place) (same_place place q) n rest
+    ∙ ap (λ c. or_else (number_at es place) (cond c (Some n) rest)) f
+
+-- the number that is kept at a place is that of the first thing there
+numbered-all : (spots : List (Option Place)) (t : Numbered) (place : Place) → number_at (with_all t spots).entries place ≡ or_else (number_at t.entries place) (position_from (is_at place) t.next spots)
+unfolding with_next
+numbered-all [] t place = or_none (number_at t.entries place)
+numbered-all (None ∷ spots) t place = numbered-all spots (record { entries = t.entries; next = t.next + 1 }) place
+numbered-all (Some q ∷ spots) t place =
+    numbered-all spots (record { entries = entered t.entries q t.next; next = t.next + 1 }) place
+    ∙ after t.entries q t.next place (position_from (is_at place) (t.next + 1) spots) (number_at t.entries q) refl (same_place place q) refl
+
+pub numbered-first : (spots : List (Option Place)) (place : Place) → number_at (with_all none_numbered spots).entries place ≡ position (is_at place) spots
+unfolding or_else
+numbered-first spots place = numbered-all spots none_numbered place ∙ sym (position_from-zero (is_at place) spots)
+
+-- ---- classes
+
+spots-are : (k : ℕ) (ps : List PackageRecord) → class_spots k ps ≡ map (λ c. Some (place_of_class c)) (classes_behind k ps)
+spots-are k [] = refl
+spots-are k (p ∷ ps) =
+    ap₂ ◌++◌ (spots_of p.classes) (spots-are (k + 1) ps)
+    ∙ sym (map-append (λ c. Some (place_of_class c)) (classes_of k p) (classes_behind (k + 1) ps))
+  where
+    spots_of : (cs : List Class) → map (spot_of_class k) cs ≡ map (λ c. Some (place_of_class c)) (map (λ c. record { home = k; of_package = p; record_of = c }) cs)
+    spots_of [] = refl
+    spots_of (c ∷ cs) = ap (λ l. spot_of_class k c ∷ l) (spots_of cs)
+
+position_of : (place : Place) (n : ℕ) (cs : List NumberedClass) → position_from (is_at place) n (map (λ c. Some (place_of_class c)) cs) ≡ position_from (same_place place) n (map place_of_class cs)
+position_of place n [] = refl
+position_of place n (c ∷ cs) = ap (λ o. cond (same_place place (place_of_class c)) (Some n) o) (position_of place (n + 1) cs)
+
+pub class_numbered : (ps : List PackageRecord) (t : Numbered) (flags : List Bool) (m : Numbered) (place : Place) → AreIndexed ps t flags m → number_at t.entries place ≡ class_at ps place
+unfolding class_at
+class_numbered ps t flags m place h =
+    ap (λ (x : Numbered). number_at x.entries place) h.numbers
+    ∙ numbered-first (class_spots 0 ps) place
+    ∙ ap (position (is_at place)) (spots-are 0 ps)
+    ∙ position_from-zero (is_at place) (map (λ c. Some (place_of_class c)) (numbered_classes ps))
+    ∙ position_of place 0 (numbered_classes ps)
+    ∙ sym (position_from-zero (same_place place) (class_places ps))
+
+-- ---- numbers are below the number of classes
+
+within_by : (n : ℕ) (many i : ℕ) (rest : Option ℕ) (b : Bool) → (rest ≡ Some i → i < n + 1 + many) → cond b (Some n) rest ≡ Some i → i < n + suc many
+within_by n many i rest true known e = let k : n ≡ i = cc in omega arith
+within_by n many i rest false known e = let k = known e in omega arith
+
+position_within : {X : Type 0} (t : X → Bool) (n : ℕ) (xs : List X) (i : ℕ) → position_from t n xs ≡ Some i → i < n + length xs
+position_within t n [] i h = absurd cc
+position_within t n (x ∷ xs) i h = within_by n (length xs) i (position_from t (n + 1) xs) (t x) (λ e. position_within t (n + 1) xs i e) h
+
+pub position_below : {X : Type 0} (t : X → Bool) (xs : List X) (i : ℕ) → position t xs ≡ Some i → i < length xs
+position_below t xs i h = let k = position_within t 0 xs i (sym (position_from-zero t xs) ∙ h) in omega arith
+
+pub class_below : (ps : List PackageRecord) (place : Place) (o : Option ℕ) → o ≡ class_at ps place → IfSome o (λ c. c < length (numbered_classes ps))
+unfolding class_at
+class_below ps place None h = tt
+class_below ps place (Some c) h = subst (λ n. c < n) (length-map (numbered_classes ps) place_of_class) (position_below (same_place place) (class_places ps) c (sym h))
+
+-- ---- flags
+
+flags-are : (k : ℕ) (ps : List PackageRecord) → class_flags ps ≡ map (λ (c : NumberedClass). is_interface c.record_of.flags) (classes_behind k ps)
+flags-are k [] = refl
+flags-are k (p ∷ ps) =
+    ap₂ ◌++◌ (flags_of p.classes) (flags-are (k + 1) ps)
+    ∙ sym (map-append (λ (c : NumberedClass). is_interface c.record_of.flags) (classes_of k p) (classes_behind (k + 1) ps))
+  where
+    flags_of : (cs : List Class) → map (λ (c : Class). is_interface c.flags) cs ≡ map (λ (c : NumberedClass). is_interface c.record_of.flags) (map (λ c. record { home = k; of_package = p; record_of = c }) cs)
+    flags_of [] = refl
+    flags_of (c ∷ cs) = ap (λ l. is_interface c.flags ∷ l) (flags_of cs)
+
+pub flags_many : (ps : List PackageRecord) (t : Numbered) (flags : List Bool) (m : Numbered) → AreIndexed ps t flags m → length flags ≡ length (numbered_classes ps)
+flags_many ps t flags m h = ap length h.flags_are ∙ ap length (flags-are 0 ps) ∙ length-map (numbered_classes ps) _
+
+flag_by : (o : Option NumberedClass) (b : Bool) → option_map (λ (c : NumberedClass). is_interface c.record_of.flags) o ≡ Some b → b ≡ flagged_interface o
+flag_by None b h = absurd cc
+flag_by (Some c) b h = cc
+
+pub flag_numbered : (ps : List PackageRecord) (t : Numbered) (flags : List Bool) (m : Numbered) (c : ℕ) (b : Bool) → AreIndexed ps t flags m → slice_get flags c ≡ Some b → b ≡ is_interface_number ps c
+unfolding is_interface_number
+flag_numbered ps t flags m c b h at =
+    flag_by (slice_get (numbered_classes ps) c) b (sym (slice_get-map _ (numbered_classes ps) c) ∙ ap (λ l. slice_get l c) (sym (h.flags_are ∙ flags-are 0 ps)) ∙ at)
+
+pub flag_read : (ps : List PackageRecord) (t : Numbered) (flags : List Bool) (m : Numbered) (c : ℕ) (b : Bool) → AreIndexed ps t flags m → c < length flags → b ≡ get_or flags c b → b ≡ is_interface_number ps c
+flag_read ps t flags m c b h lt e = flag_numbered ps t flags m c b h (slice_get-get_or flags c b lt ∙ ap Some (sym e))
+
+-- ---- methods
+
+spots_in : (k : ℕ) (p : PackageRecord) (n : ℕ) (c : described.Class) (i : ℕ) (ms : List described.Method) → map (spot_of_method k (is_placed p c)) ms ≡ map place_of_method (methods_of_class k p n c i ms)
+spots_in k p n c i [] = refl
+spots_in k p n c i (m ∷ ms) = ap (λ l. spot_of_method k (is_placed p c) m ∷ l) (spots_in k p n c (i + 1) ms)
+
+spots_of : (k : ℕ) (p : PackageRecord) (n : ℕ) (cs : List described.Class) → spots_of_classes k (classes_from p.classes) cs ≡ map place_of_method (methods_of_classes k p n cs)
+spots_of k p n [] = refl
+spots_of k p n (c ∷ cs) =
+    ap₂ ◌++◌ (spots_in k p n c 0 c.methods) (spots_of k p (n + 1) cs)
+    ∙ sym (map-append place_of_method (methods_of_class k p n c 0 c.methods) (methods_of_classes k p (n + 1) cs))
+
+method_spots_are : (k : ℕ) (ps : List PackageRecord) → method_spots k ps ≡ map place_of_method (methods_behind k ps)
+method_spots_are k [] = refl
+method_spots_are k (p ∷ ps) =
+    ap₂ ◌++◌ (spots_of k p 0 p.description.items.classes) (method_spots_are (k + 1) ps)
+    ∙ sym (map-append place_of_method (methods_of_classes k p 0 p.description.items.classes) (methods_behind (k + 1) ps))
+
+pub method_numbered : (ps : List PackageRecord) (t : Numbered) (flags : List Bool) (m : Numbered) (place : Place) → AreIndexed ps t flags m → number_at m.entries place ≡ method_at ps place
+unfolding method_at
+method_numbered ps t flags m place h =
+    ap (λ (x : Numbered). number_at x.entries place) h.methods
+    ∙ numbered-first (method_spots 0 ps) place
+    ∙ ap (position (is_at place)) (method_spots_are 0 ps)
+
+pub method_below : (ps : List PackageRecord) (place : Place) (o : Option ℕ) → o ≡ method_at ps place → IfSome o (λ n. n < length (numbered_methods ps))
+unfolding method_at
+method_below ps place None h = tt
+method_below ps place (Some n) h = subst (λ i. n < i) (length-map (numbered_methods ps) place_of_method) (position_below (is_at place) (method_places ps) n (sym h))

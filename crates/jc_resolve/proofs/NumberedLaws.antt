@@ -1,0 +1,79 @@
+-- Each numbered method is one that the Descriptor of its package describes.
+use Rattle.std.proofs.Common.{◌≡◌, ℕ, suc, ◌+◌, Bool, true, false, leb, cond, List, [], ◌∷◌, ◌++◌, Some, refl, sym, ap, subst, ◌∙◌, inl, inr, arith}
+use Rattle.std.specs.Prelude.{All, slice_get}
+use Rattle.std.proofs.lemmas.Bool.{false≢true}
+use Rattle.std.proofs.lemmas.List.Elements.{All-nil, All-cons, All-append}
+use Rattle.cap_desc.specs.DescriptorFormat as described
+use Rattle.cap_desc.specs.DescriptorFormat.{Method}
+use Rattle.cap_desc.specs.Members.{methods_from}
+use Rattle.cap_package.specs.TypeChecks.{interface_methods}
+use Rattle.cap_package.specs.PackageRecord.{PackageRecord}
+use Rattle.jc_resolve.specs.FirstFault.{IsOneOf}
+use Rattle.jc_resolve.specs.Numbering.{NumberedMethod, numbered, methods_of_class, methods_of_classes, methods_behind, numbered_methods}
+use Rattle.jc_resolve.proofs.Faultless.{one_of_front, one_of_behind}
+
+-- ---- the methods of classes
+
+in_both : {X : Type 0} (b : Bool) (xs ys : List X) (x : X) → b ≡ true → IsOneOf xs x → IsOneOf (cond b (xs ++ ys) ys) x
+in_both true xs ys x e h = one_of_front xs ys x h
+in_both false xs ys x e h = absurd (false≢true e)
+
+in_rest : {X : Type 0} (b : Bool) (xs ys : List X) (x : X) → IsOneOf ys x → IsOneOf (cond b (xs ++ ys) ys) x
+in_rest true xs ys x h = one_of_behind xs ys x h
+in_rest false xs ys x h = h
+
+pub from-class : (start : ℕ) (cs : List described.Class) (c : described.Class) (m : Method) → IsOneOf cs c → leb start c.class_ref ≡ true → IsOneOf c.methods m → IsOneOf (methods_from start cs) m
+from-class start [] c m one e h = absurd one
+from-class start (d ∷ ds) c m (inl same) e h =
+    let ref = sym (ap (λ (x : described.Class). leb start x.class_ref) same) ∙ e in
+    in_both (leb start d.class_ref) d.methods (methods_from start ds) m ref (subst (λ (x : described.Class). IsOneOf x.methods m) same h)
+from-class start (d ∷ ds) c m (inr one) e h = in_rest (leb start d.class_ref) d.methods (methods_from start ds) m (from-class start ds c m one e h)
+
+in_else : {X : Type 0} (b : Bool) (xs ys : List X) (x : X) → b ≡ false → IsOneOf xs x → IsOneOf (cond b ys (xs ++ ys)) x
+in_else true xs ys x e h = absurd (false≢true (sym e))
+in_else false xs ys x e h = one_of_front xs ys x h
+
+in_later : {X : Type 0} (b : Bool) (xs ys : List X) (x : X) → IsOneOf ys x → IsOneOf (cond b ys (xs ++ ys)) x
+in_later true xs ys x h = h
+in_later false xs ys x h = one_of_behind xs ys x h
+
+pub from-interface : (start : ℕ) (cs : List described.Class) (c : described.Class) (m : Method) → IsOneOf cs c → leb start c.class_ref ≡ false → IsOneOf c.methods m → IsOneOf (interface_methods start cs) m
+from-interface start [] c m one e h = absurd one
+from-interface start (d ∷ ds) c m (inl same) e h =
+    let ref = sym (ap (λ (x : described.Class). leb start x.class_ref) same) ∙ e in
+    in_else (leb start d.class_ref) d.methods (interface_methods start ds) m ref (subst (λ (x : described.Class). IsOneOf x.methods m) same h)
+from-interface start (d ∷ ds) c m (inr one) e h = in_later (leb start d.class_ref) d.methods (interface_methods start ds) m (from-interface start ds c m one e h)
+
+-- ---- numbered methods
+
+-- a method of a class that its package describes
+pub record IsDescribed (ps : List PackageRecord) (m : NumberedMethod) : Type 0 where
+  pub «package» : slice_get ps m.home ≡ Some m.of_package
+  pub class : IsOneOf m.of_package.description.items.classes m.class
+  pub method : IsOneOf m.class.methods m.record_of
+
+module _ (ps : List PackageRecord) where
+  in_class : (k : ℕ) (p : PackageRecord) (n : ℕ) (c : described.Class) → slice_get ps k ≡ Some p → IsOneOf p.description.items.classes c → (i : ℕ) (ms : List Method) → ((m : Method) → IsOneOf ms m → IsOneOf c.methods m) → All (IsDescribed ps) (methods_of_class k p n c i ms)
+  in_class k p n c at one i [] all = All-nil (IsDescribed ps)
+  in_class k p n c at one i (m ∷ ms) all =
+      All-cons (IsDescribed ps) (numbered k p n c i m) (methods_of_class k p n c (i + 1) ms)
+      (record { «package» = at; class = one; method = all m (inl refl) })
+      (in_class k p n c at one (i + 1) ms (λ l h. all l (inr h)))
+
+  in_classes : (k : ℕ) (p : PackageRecord) → slice_get ps k ≡ Some p → (n : ℕ) (cs : List described.Class) → ((c : described.Class) → IsOneOf cs c → IsOneOf p.description.items.classes c) → All (IsDescribed ps) (methods_of_classes k p n cs)
+  in_classes k p at n [] all = All-nil (IsDescribed ps)
+  in_classes k p at n (c ∷ cs) all =
+      All-append (IsDescribed ps) (methods_of_class k p n c 0 c.methods) (methods_of_classes k p (n + 1) cs)
+      (in_class k p n c at (all c (inl refl)) 0 c.methods (λ m h. h))
+      (in_classes k p at (n + 1) cs (λ d h. all d (inr h)))
+
+  in_packages : (k : ℕ) (qs : List PackageRecord) → ((j : ℕ) (q : PackageRecord) → slice_get qs j ≡ Some q → slice_get ps (k + j) ≡ Some q) → All (IsDescribed ps) (methods_behind k qs)
+  in_packages k [] all = All-nil (IsDescribed ps)
+  in_packages k (q ∷ qs) all =
+      let here : k + 0 ≡ k = omega arith in
+      All-append (IsDescribed ps) (methods_of_classes k q 0 q.description.items.classes) (methods_behind (k + 1) qs)
+      (in_classes k q (rw here at (all 0 q refl)) 0 q.description.items.classes (λ c h. h))
+      (in_packages (k + 1) qs (λ j r e. let next : (k + 1) + j ≡ k + suc j = omega arith in rw next (all (suc j) r e)))
+
+  pub all-described : All (IsDescribed ps) (numbered_methods ps)
+  all-described = in_packages 0 ps (λ j q e. let same : 0 + j ≡ j = omega arith in rw same e)

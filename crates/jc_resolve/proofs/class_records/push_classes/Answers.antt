@@ -1,0 +1,20 @@
+use Rattle.std.proofs.Common.{[], ◌∷◌, ◌++◌, All, map, ap, sym, subst, append_assoc, ◌∙◌}
+use Rattle.std.specs.Prelude.{slice_index}
+use Rattle.std.proofs.lemmas.List.Elements.{All-push}
+use Rattle.cap_class.specs.ClassPart.{class_seen, classes_left}
+use Rattle.jc_resolve.specs.Named.{IsSized}
+use Rattle.jc_resolve.specs.NamedClasses.{named_class}
+use Rattle.jc_resolve.specs.Numbering.{numbered_class}
+use Rattle.jc_resolve.proofs.class_records.push_classes.Goals as goal
+
+pub classes-preserved : goal.classes-preserved
+classes-preserved c =
+    let f = named_class c.args.home.index.now (slice_index c.args.home.roles 0) in
+    let g = numbered_class c.args.home.number c.args.home.of_package.now in
+    let items = c.classes.named.items in (
+      ap (λ l. l ++ map f (map g (classes_left c.next.new.self))) (c.in_ok-push.ensures.items ∙ ap (λ k. items ++ k ∷ []) c.in_ok-named_class.ensures.is)
+          ∙ append_assoc items (f (g (class_seen c.in-Some.class)) ∷ []) (map f (map g (classes_left c.next.new.self)))
+          ∙ ap (λ l. items ++ map f (map g l)) (sym c.in-Some.ensures.steps)
+          ∙ c.classes.invariant.0,
+      subst (λ l. All IsSized l) (sym c.in_ok-push.ensures.items) (All-push IsSized items c.in_ok-named_class.field-0 c.classes.invariant.1 c.in_ok-named_class.ensures.sized),
+    )

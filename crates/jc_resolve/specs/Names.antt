@@ -1,0 +1,54 @@
+-- The names of packages: their classes and methods by number, or the first condition that is broken.
+use Rattle.std.specs.Prelude.{◌≡◌, ℕ, List, Result, Ok, Err, slice_index, ⊤}
+use Rattle.cap_package.specs.PackageRecord.{PackageRecord}
+use Rattle.jc_base.specs.declared.record.MethodRec.{MethodRec}
+use Rattle.jc_resolve.specs.declared.fault.LinkFault.{LinkFault}
+use Rattle.jc_resolve.specs.declared.fault.LinkEnd.{LinkEnd}
+use Rattle.jc_resolve.specs.declared.fault.LinkEnd.TheVariants.{Fault, Memory}
+use Rattle.jc_resolve.specs.declared.named.NamedClass.{NamedClass}
+use Rattle.jc_resolve.specs.Fault.{place_of}
+use Rattle.jc_resolve.specs.FirstFault.{◌>>=◌, refused, least_of, IsFirst, AllEmpty}
+use Rattle.jc_resolve.specs.NamedClasses.{named_classes}
+use Rattle.jc_resolve.specs.NamedMethods.{named_methods}
+use Rattle.jc_resolve.specs.Conditions.{packages_fault, classes_fault, methods_fault, no_package_fault, no_class_fault, named_in, import_tokens, class_references, conditions}
+
+-- packages and the roles of classes, with the classes and methods of all packages by number
+pub record NamesRecord : Type 0 where
+  pub packages : List PackageRecord
+  pub roles : List ℕ
+  pub classes : List NamedClass
+  pub methods : List MethodRec
+
+-- role 0 is the number of class object
+abbrev pub named : List PackageRecord → List ℕ → NamesRecord
+named ps roles = record { packages = ps; roles = roles; classes = named_classes ps (slice_index roles 0); methods = named_methods ps roles }
+
+-- names are those of their packages
+pub record AreNames (n : NamesRecord) : Type 0 where
+  pub classes_are : n.classes ≡ named_classes n.packages (slice_index n.roles 0)
+  pub methods_are : n.methods ≡ named_methods n.packages n.roles
+
+-- the conditions one after the other
+unfoldable pub checked : List PackageRecord → Result (Unit {0}) LinkFault
+checked ps = do
+  packages ← refused (packages_fault ps)
+  classes ← refused (classes_fault ps)
+  methods ← refused (methods_fault ps)
+  imports ← refused (least_of place_of (no_package_fault ps) (named_in import_tokens ps))
+  refused (least_of place_of (no_class_fault ps) (named_in class_references ps))
+
+-- the names of packages, or the fault that is named
+unfoldable pub names_of : List PackageRecord → List ℕ → Result NamesRecord LinkFault
+names_of ps roles = checked ps >>= λ done. Ok (named ps roles)
+
+-- the packages pass the conditions, or a fault of them is named, or memory wants
+abbrev pub Checks : List PackageRecord → Result (List PackageRecord) LinkEnd → Type 0
+Checks ps (Ok qs) = (checked ps ≡ Ok (tt {0})) × (qs ≡ ps)
+Checks ps (Err (Fault fault)) = checked ps ≡ Err fault
+Checks ps (Err Memory) = ⊤
+
+-- names exactly where nothing is at fault; else the first condition by number that is broken, at its least thing
+abbrev pub Tells : List PackageRecord → Result NamesRecord LinkEnd → Type 0
+Tells ps (Ok names) = AllEmpty (conditions ps)
+Tells ps (Err (Fault fault)) = IsFirst place_of (conditions ps) fault
+Tells ps (Err Memory) = ⊤

@@ -1,0 +1,173 @@
+ghost use Rattle.std.specs.Prelude.{◌≡◌, ◌+◌, ◌≤◌, ◌<◌, ◌++◌, length, map, IfOk, IfSome, OnOk};
+ghost use Rattle.cap_class.specs.ClassFormat.{Class, is_interface};
+ghost use Rattle.cap_class.specs.ClassPart.{classes_left};
+ghost use Rattle.jc_resolve.specs.Counts.{class_total, method_total};
+ghost use Rattle.jc_resolve.specs.Numbering.{numbered_classes, numbered_methods, class_at, method_at, is_interface_number};
+ghost use Rattle.jc_resolve.specs.Numbers.{spot_of_class, with_all, none_numbered, class_spots, class_flags};
+ghost use Rattle.jc_resolve.specs.References.{class_named};
+
+use crate::imports::{exported_offset, met_by};
+use crate::method_index::number_methods;
+use crate::numbers::Numbers;
+use crate::place::Place;
+use cap_class::Classes;
+use cap_package::Packages;
+use std::alloc::{AllocError, Global};
+use std::marker::Model;
+
+/// Packages with their classes and methods numbered.
+#[derive(Drop)]
+pub(crate) struct Index<'n, 'p, 'a> {
+    packages: &'n Packages<'p, 'a>,
+    numbers: Numbers,
+    /// By number whether it is an interface.
+    interfaces: Vec<bool>,
+    methods: Numbers,
+}
+
+impl<'n, 'p, 'a> Model for Index<'n, 'p, 'a> {
+    ghost use Rattle.std.specs.Prelude.{List};
+    ghost use Rattle.cap_package.specs.PackageRecord.{PackageRecord};
+
+    ghost Value = { List PackageRecord };
+
+    ghost use Rattle.jc_resolve.specs.Numbers.{AreIndexed};
+
+    ghost view = { λ x. x.packages.now };
+
+    ghost invariant = { λ x. AreIndexed x.packages.now x.numbers x.interfaces.items x.methods };
+}
+
+/// Numbers the classes of one package.
+fn number_package(
+    numbers: &mut Numbers,
+    interfaces: &mut Vec<bool>,
+    package: u16,
+    classes: Classes<'_>,
+) -> Result<(), AllocError>
+    requires { numbers.old.next + length (classes_left classes) < 65535 }
+    ensures numbers { OnOk result (numbers.new ≡ with_all numbers.old (map (spot_of_class «package») (classes_left classes.entry))) }
+    ensures flags { OnOk result
+        (interfaces.new.items
+        ≡ interfaces.old.items ++ map (λ (c : Class). is_interface c.flags) (classes_left classes.entry)) }
+    ensures next { OnOk result (numbers.new.next ≡ numbers.old.next + length (classes_left classes.entry)) }
+{
+    'classes: for class in classes {
+        numbers.push(Some(Place {
+            package,
+            offset: class.offset(),
+        }))?;
+        interfaces.push(class.flags().is_interface())?;
+    }
+    Ok(())
+}
+
+/// The numbers of classes, and by number whether it is an interface.
+#[derive(Drop)]
+struct ClassNumbers {
+    numbers: Numbers,
+    interfaces: Vec<bool>,
+}
+
+fn number_all(alloc: Global, packages: &Packages<'_, '_>) -> Result<ClassNumbers, AllocError>
+    requires many { length packages.now ≤ 16 }
+    requires few { class_total packages.now ≤ 4096 }
+    ensures numbers { IfOk result (λ x. x.numbers ≡ with_all none_numbered (class_spots 0 packages.now)) }
+    ensures flags { IfOk result (λ x. x.interfaces.items ≡ class_flags packages.now) }
+{
+    let mut numbers = Numbers::new(alloc);
+    let mut interfaces = Vec::new(alloc);
+    'packages: for (k, package) in packages.as_slice().iter().enumerate() {
+        number_package(
+            &mut numbers,
+            &mut interfaces,
+            k as u16,
+            package.classes().iter(),
+        )?;
+    }
+    Ok(ClassNumbers {
+        numbers,
+        interfaces,
+    })
+}
+
+/// Packages with their classes and methods numbered.
+pub(crate) fn index_packages<'n, 'p, 'a>(
+    alloc: Global,
+    packages: &'n Packages<'p, 'a>,
+) -> Result<Index<'n, 'p, 'a>, AllocError>
+    requires many { length packages.now ≤ 16 }
+    requires few { class_total packages.now ≤ 4096 }
+    requires few_methods { method_total packages.now ≤ 32768 }
+    ensures { IfOk result (λ x. x ≡ packages.now) }
+{
+    let classes = number_all(alloc, packages)?;
+    let methods = number_methods(alloc, packages)?;
+    Ok(Index {
+        packages,
+        numbers: classes.numbers,
+        interfaces: classes.interfaces,
+        methods,
+    })
+}
+
+impl<'n, 'p, 'a> Index<'n, 'p, 'a> {
+    pub(crate) fn packages(&self) -> &'n Packages<'p, 'a>
+        ensures is { result.now ≡ self.now }
+        ensures few { length self.now ≤ 16 }
+        ensures few_classes { length (numbered_classes self.now) ≤ 4096 }
+        ensures few_methods { length (numbered_methods self.now) ≤ 32768 }
+    {
+        self.packages
+    }
+
+    /// The number of the class at a place.
+    #[tactic(auto, using(crate::proofs::NumberLaws::class_numbered))]
+    fn class_at(&self, place: Place) -> Option<u16>
+        ensures is { result ≡ class_at self.now place }
+        ensures below { IfSome result (λ c. c < length (numbered_classes self.now)) }
+    {
+        self.numbers.at(place)
+    }
+
+    /// The class that a reference of a package names.
+    #[tactic(auto, unfolding(crate::specs::References::class_named))]
+    pub(crate) fn class_named(&self, package: u16, reference: u16) -> Option<u16>
+        ensures is { result ≡ class_named self.now «package» reference }
+        ensures below { IfSome result (λ c. c < length (numbered_classes self.now)) }
+    {
+        if reference < 0x8000 {
+            return self.class_at(Place {
+                package,
+                offset: reference,
+            });
+        }
+        let import = ((reference - 0x8000) / 256) as u8;
+        let home = met_by(self.packages, package, import)?;
+        let offset = exported_offset(self.packages, home, (reference % 256) as u8)?;
+        self.class_at(Place {
+            package: home,
+            offset,
+        })
+    }
+
+    /// The number of the method at a place.
+    #[tactic(auto, using(crate::proofs::NumberLaws::method_numbered))]
+    pub(crate) fn method_at(&self, place: Place) -> Option<u16>
+        ensures is { result ≡ method_at self.now place }
+        ensures below { IfSome result (λ n. n < length (numbered_methods self.now)) }
+    {
+        self.methods.at(place)
+    }
+
+    /// Whether a number is that of an interface.
+    pub(crate) fn is_interface(&self, class: u16) -> bool
+        requires { class < length (numbered_classes self.now) }
+        ensures { result ≡ is_interface_number self.now class }
+    {
+        match self.interfaces.get(class as usize) {
+            Some(interface) => *interface,
+            None => false,
+        }
+    }
+}

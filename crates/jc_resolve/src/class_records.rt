@@ -1,0 +1,316 @@
+ghost use Rattle.std.specs.Prelude.{◌≡◌, ◌≤◌, ◌++◌, length, map, filter, flat_map, slice_index, All, IfOk, OnOk};
+ghost use Rattle.cap_bytes.specs.Table.{numbers};
+ghost use Rattle.cap_class.specs.ClassPart.{class_seen, classes_left};
+ghost use Rattle.cap_class.specs.Lists.{interfaces_left};
+ghost use Rattle.cap_desc.specs.MemberLists.{fields_left};
+ghost use Rattle.cap_desc.specs.MemberRecords.{field_seen};
+ghost use Rattle.cap_package.specs.Descriptions.{description};
+ghost use Rattle.jc_resolve.specs.Named.{IsByteTable, IsSized};
+ghost use Rattle.jc_resolve.specs.NamedClasses.{is_instance, instance_fields, with_token, cells_of_field, cells_of_fields, entry_of, table_of, no_table, interfaces_named, interface_in, named_proper, named_class};
+ghost use Rattle.jc_resolve.specs.Numbering.{numbered_class, numbered_classes, classes_of};
+
+use crate::class_index::Index;
+use crate::home::Home;
+use crate::named::{NamedClass, Table};
+use crate::place::Place;
+use crate::world_types::push_cells;
+use cap_class::{ClassInfo, Interfaces};
+use cap_desc::{DescFields, DescPart, FieldInfo};
+use cap_package::{Packages, field_type};
+use jc_base::{Iface, Items, Ty};
+use std::alloc::{AllocError, Global};
+
+/// The tokens of fields are bytes.
+const TOKENS: u16 = 256;
+
+/// An entry of a dispatch table.
+#[tactic(auto, unfolding(crate::specs::NamedClasses::entry_of))]
+fn entry_of(index: &Index<'_, '_, '_>, package: u16, offset: u16) -> Option<u16>
+    ensures { result ≡ entry_of index.now «package» offset }
+{
+    if offset == 0xFFFF {
+        return None;
+    }
+    index.method_at(Place { package, offset })
+}
+
+/// A dispatch table of a class.
+fn table_of(
+    alloc: Global,
+    index: &Index<'_, '_, '_>,
+    package: u16,
+    base: u8,
+    offsets: cap_bytes::Table<'_>,
+) -> Result<Table, AllocError>
+    requires { length (numbers offsets) ≤ 255 }
+    ensures is { IfOk result (λ t. t ≡ table_of index.now «package» base (numbers offsets.entry)) }
+    ensures sized { IfOk result IsByteTable }
+{
+    let mut entries = Vec::new(alloc);
+    'entries: for offset in offsets {
+        entries.push(entry_of(index, package, offset))?;
+    }
+    Ok(Table {
+        base,
+        entries: Items::of(entries),
+    })
+}
+
+/// The interfaces of a record.
+#[tactic(auto, unfolding(crate::specs::NamedClasses::interface_named))]
+fn interfaces_named(
+    alloc: Global,
+    index: &Index<'_, '_, '_>,
+    package: u16,
+    interfaces: Interfaces<'_>,
+) -> Result<Vec<Iface>, AllocError>
+    ensures { IfOk result (λ v. v.items ≡ interfaces_named index.now «package» (interfaces_left interfaces.entry)) }
+{
+    let mut named = Vec::new(alloc);
+    'interfaces: for interface in interfaces {
+        if let Some(class) = index.class_named(package, interface.class_ref) {
+            let tokens = Items::of(Vec::from_slice(alloc, interface.tokens)?);
+            named.push(Iface { class, tokens })?;
+        }
+    }
+    Ok(named)
+}
+
+/// Appends the instance fields of a record of the Descriptor.
+#[tactic(auto, using(crate::proofs::FieldSteps::field_kept, crate::proofs::FieldSteps::field_passed))]
+fn push_fields(fields: &mut Vec<FieldInfo>, described: DescFields<'_>) -> Result<(), AllocError>
+    ensures { OnOk result
+        (map field_seen fields.new.items
+        ≡ map field_seen fields.old.items ++ filter is_instance (fields_left described.entry)) }
+{
+    'fields: for field in described {
+        if !field.flags.is_static() {
+            fields.push(field)?;
+        }
+    }
+    Ok(())
+}
+
+/// The instance fields that the Descriptor describes of the class at an offset.
+#[tactic(auto, unfolding(crate::specs::NamedClasses::instance_fields, crate::specs::NamedClasses::fields_described))]
+fn instance_fields(
+    alloc: Global,
+    descriptor: &DescPart<'_>,
+    offset: u16,
+) -> Result<Vec<FieldInfo>, AllocError>
+    ensures { IfOk result (λ v. map field_seen v.items ≡ instance_fields (description descriptor.now).items.classes offset) }
+{
+    let mut fields = Vec::new(alloc);
+    'classes: for class in descriptor.classes() {
+        if offset < 0x8000 && class.class_ref() == offset {
+            push_fields(&mut fields, class.fields())?;
+        }
+    }
+    Ok(fields)
+}
+
+/// Appends the types of a field's cells.
+#[tactic(auto, unfolding(crate::specs::NamedClasses::cells_of_field))]
+fn push_field(
+    cells: &mut Vec<Ty>,
+    index: &Index<'_, '_, '_>,
+    object: u16,
+    package: u16,
+    descriptor: &DescPart<'_>,
+    field: &FieldInfo,
+) -> Result<(), AllocError>
+    ensures { OnOk result
+        (cells.new.items
+        ≡ cells.old.items ++ cells_of_field index.now object «package» (description descriptor.now) (field_seen field.now)) }
+{
+    match field_type(descriptor, field.ty) {
+        Some(item) => push_cells(cells, index, object, package, item),
+        None => Ok(()),
+    }
+}
+
+/// Appends the types of the cells of the fields with a token.
+#[tactic(auto, unfolding(crate::specs::NamedClasses::with_token), using(crate::proofs::FieldSteps::cells_kept, crate::proofs::FieldSteps::cells_passed))]
+fn push_token(
+    cells: &mut Vec<Ty>,
+    index: &Index<'_, '_, '_>,
+    object: u16,
+    package: u16,
+    descriptor: &DescPart<'_>,
+    fields: &[FieldInfo],
+    token: u16,
+) -> Result<(), AllocError>
+    ensures { OnOk result
+        (cells.new.items
+        ≡ cells.old.items ++ flat_map (cells_of_field index.now object «package» (description descriptor.now)) (with_token (map field_seen fields.now) token)) }
+{
+    'fields: for field in fields {
+        if field.bytes[2] as u16 == token {
+            push_field(cells, index, object, package, descriptor, field)?;
+        }
+    }
+    Ok(())
+}
+
+/// The types of the cells of instance fields, in the order of the fields' tokens.
+#[tactic(auto, unfolding(crate::specs::NamedClasses::cells_of_fields), using(crate::proofs::FieldSteps::token_step))]
+fn cells_of_fields(
+    alloc: Global,
+    index: &Index<'_, '_, '_>,
+    object: u16,
+    package: u16,
+    descriptor: &DescPart<'_>,
+    fields: &[FieldInfo],
+) -> Result<Vec<Ty>, AllocError>
+    ensures { IfOk result
+        (λ v.
+        v.items
+        ≡ cells_of_fields index.now object «package» (description descriptor.now)
+        (map field_seen fields.now)) }
+{
+    let mut cells = Vec::new(alloc);
+    'tokens: for token in 0..TOKENS {
+        push_token(
+            &mut cells, index, object, package, descriptor, fields, token,
+        )?;
+    }
+    Ok(cells)
+}
+
+fn no_table(alloc: Global) -> Table
+    ensures { result ≡ no_table }
+{
+    Table {
+        base: 0,
+        entries: Items::of(Vec::new(alloc)),
+    }
+}
+
+/// An interface with the interfaces that it extends.
+fn interface_in(
+    alloc: Global,
+    index: &Index<'_, '_, '_>,
+    package: u16,
+    class: ClassInfo<'_>,
+) -> Result<NamedClass, AllocError>
+    ensures is { IfOk result (λ c. c ≡ interface_in index.now «package» (class_seen class.entry)) }
+    ensures sized { IfOk result IsSized }
+{
+    let interfaces = interfaces_named(alloc, index, package, class.interfaces())?;
+    Ok(NamedClass {
+        package,
+        interface: true,
+        parent: None,
+        interfaces: Items::of(interfaces),
+        public: no_table(alloc),
+        visible: no_table(alloc),
+        own: Items::of(Vec::new(alloc)),
+    })
+}
+
+/// A class with each class and method that its record names.
+fn named_proper(
+    alloc: Global,
+    home: Home<'_, '_, '_, '_>,
+    class: ClassInfo<'_>,
+) -> Result<NamedClass, AllocError>
+    ensures is { IfOk result
+        (λ c.
+        c
+        ≡ named_proper home.entry.index.now
+        (slice_index home.entry.roles 0)
+        (numbered_class home.entry.number home.entry.of_package.now
+        (class_seen class.entry))) }
+    ensures sized { IfOk result IsSized }
+{
+    let index = home.index;
+    let number = home.number;
+    let object = home.roles[0] as u16;
+    let descriptor = home.of_package.descriptor();
+    let interfaces = interfaces_named(alloc, index, number, class.interfaces())?;
+    let public = table_of(alloc, index, number, class.public_base(), class.publics())?;
+    let visible = table_of(alloc, index, number, class.package_base(), class.packages())?;
+    let fields = instance_fields(alloc, &descriptor, class.offset())?;
+    let own = cells_of_fields(alloc, index, object, number, &descriptor, fields.as_slice())?;
+    let super_ref = class.super_ref();
+    let parent = if super_ref == 0xFFFF {
+        None
+    } else {
+        index.class_named(number, super_ref)
+    };
+    Ok(NamedClass {
+        package: number,
+        interface: false,
+        parent,
+        interfaces: Items::of(interfaces),
+        public,
+        visible,
+        own: Items::of(own),
+    })
+}
+
+/// A class or an interface with all that its record names.
+#[tactic(auto, unfolding(crate::specs::NamedClasses::named_class))]
+fn named_class(
+    alloc: Global,
+    home: Home<'_, '_, '_, '_>,
+    class: ClassInfo<'_>,
+) -> Result<NamedClass, AllocError>
+    ensures is { IfOk result
+        (λ c.
+        c
+        ≡ named_class home.entry.index.now
+        (slice_index home.entry.roles 0)
+        (numbered_class home.entry.number home.entry.of_package.now
+        (class_seen class.entry))) }
+    ensures sized { IfOk result IsSized }
+{
+    if class.flags().is_interface() {
+        interface_in(alloc, home.index, home.number, class)
+    } else {
+        named_proper(alloc, home, class)
+    }
+}
+
+/// Appends the classes of a package.
+fn push_classes(
+    named: &mut Vec<NamedClass>,
+    alloc: Global,
+    home: Home<'_, '_, '_, '_>,
+) -> Result<(), AllocError>
+    requires { All IsSized named.old.items }
+    ensures is { OnOk result
+        (named.new.items
+        ≡ named.old.items ++ map (named_class home.entry.index.now (slice_index home.entry.roles 0)) (classes_of home.entry.number home.entry.of_package.now)) }
+    ensures sized { OnOk result (All IsSized named.new.items) }
+{
+    'classes: for class in home.of_package.classes().iter() {
+        named.push(named_class(alloc, home, class)?)?;
+    }
+    Ok(())
+}
+
+/// The classes of packages.
+#[tactic(auto, using(crate::proofs::Steps::packages_step))]
+pub(crate) fn class_records<'x, 'n, 'p, 'a>(
+    alloc: Global,
+    index: &'x Index<'n, 'p, 'a>,
+    packages: &'x Packages<'p, 'a>,
+    roles: [u8; 8],
+) -> Result<Vec<NamedClass>, AllocError>
+    requires { length packages.now ≤ 16 }
+    ensures is { IfOk result (λ v. v.items ≡ map (named_class index.now (slice_index roles 0)) (numbered_classes packages.now)) }
+    ensures sized { IfOk result (λ v. All IsSized v.items) }
+{
+    let mut named = Vec::new(alloc);
+    'packages: for (k, package) in packages.as_slice().iter().enumerate() {
+        let home = Home {
+            index,
+            roles,
+            number: k as u16,
+            of_package: package,
+        };
+        push_classes(&mut named, alloc, home)?;
+    }
+    Ok(named)
+}

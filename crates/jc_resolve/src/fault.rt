@@ -1,0 +1,75 @@
+use std::alloc::AllocError;
+
+/// Why packages and roles make no world: the first condition that is broken, at the least thing that
+/// breaks it. Classes and packages are named by their numbers.
+#[derive(Clone, Copy)]
+pub enum LinkFault {
+    /// So many packages: none, or more than 16.
+    TooManyPackages(u32),
+    /// So many classes, above 4,096.
+    TooManyClasses(u32),
+    /// So many methods, above 32,768.
+    TooManyMethods(u32),
+    /// The package, and the position of an import that no earlier package meets.
+    NoPackage(u16, u8),
+    /// The package, and a class reference in it that names no class.
+    NoClass(u16, u16),
+    /// The superclass of this class is an interface.
+    SuperIsInterface(u16),
+    /// A class that is its own ancestor, or an interface that is its own superinterface.
+    Cycle(u16),
+    /// The role of this number has no class that can have it.
+    NoRole(u8),
+    /// A class without superclass that is not object, or object with one.
+    NoSuper(u16),
+    /// The class, and a class that it names as an interface.
+    NotInterface(u16, u16),
+    /// The class, and the token of a dispatch entry without a method; of a package-visible entry 128 and
+    /// its position.
+    Hole(u16, u16),
+    /// The class, and the token of a dispatch entry whose signature is not the superclass's.
+    OverrideType(u16, u16),
+    /// The class, and an interface that it does not serve.
+    InterfaceType(u16, u16),
+    /// The class, and the number of its cells, above 32,767.
+    InstanceLong(u16, u32),
+    /// So many static cells, above 32,768.
+    TooManyStatics(u32),
+    /// The package, and the number of a pool entry that has not exactly one member.
+    NoMember(u16, u16),
+    /// The package, and the number of a handler that catches no class below throwable.
+    BadCatch(u16, u16),
+    /// The initial arrays do not fit: their number, or else their cells.
+    NoRoom(u32),
+    /// The class of this role is not concrete.
+    RoleAbstract(u8),
+}
+
+/// Why packages were not linked.
+#[derive(Clone, Copy)]
+pub enum LinkEnd {
+    Fault(LinkFault),
+    Memory,
+}
+
+impl From<AllocError> for LinkEnd {
+    ghost use Rattle.std.specs.Prelude.{◌≡◌};
+    ghost use Rattle.jc_resolve.specs.declared.fault.LinkEnd.TheVariants.{Memory};
+
+    ghost from_gives = { λ _ e. e ≡ Memory };
+
+    fn from(_error: AllocError) -> LinkEnd {
+        LinkEnd::Memory
+    }
+}
+
+impl From<LinkFault> for LinkEnd {
+    ghost use Rattle.std.specs.Prelude.{◌≡◌};
+    ghost use Rattle.jc_resolve.specs.declared.fault.LinkEnd.TheVariants.{Fault};
+
+    ghost from_gives = { λ f e. e ≡ Fault f };
+
+    fn from(fault: LinkFault) -> LinkEnd {
+        LinkEnd::Fault(fault)
+    }
+}

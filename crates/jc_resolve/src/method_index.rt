@@ -1,0 +1,98 @@
+ghost use Rattle.std.specs.Prelude.{◌≡◌, ◌+◌, ◌≤◌, ◌<◌, length, map, IfOk, OnOk};
+ghost use Rattle.cap_class.specs.ClassPart.{records};
+ghost use Rattle.cap_package.specs.PackageRecord.{classes_from};
+ghost use Rattle.cap_desc.specs.ClassRecords.{classes_left};
+ghost use Rattle.cap_desc.specs.MemberLists.{methods_left};
+ghost use Rattle.jc_resolve.specs.Counts.{method_count, method_total};
+ghost use Rattle.jc_resolve.specs.Numbers.{none_numbered, method_spots, spot_of_method, spots_of_classes, with_all};
+
+use crate::numbers::Numbers;
+use crate::place::Place;
+use cap_class::ClassPart;
+use cap_desc::{DescClasses, DescMethods};
+use cap_package::Packages;
+use std::alloc::{AllocError, Global};
+
+/// Where the classes begin in the Class component: interfaces stand before them.
+pub(crate) fn classes_from(classes: &ClassPart<'_>) -> u16
+    ensures { result ≡ classes_from (records classes.now) }
+{
+    'classes: for class in classes.iter() {
+        if !class.flags().is_interface() {
+            return class.offset();
+        }
+    }
+    0xFFFF
+}
+
+/// Numbers the methods of a class.
+fn number_class(
+    numbers: &mut Numbers,
+    package: u16,
+    placed: bool,
+    methods: DescMethods<'_>,
+) -> Result<(), AllocError>
+    requires { numbers.old.next + length (methods_left methods) < 65535 }
+    ensures numbers { OnOk result
+        (numbers.new
+        ≡ with_all numbers.old
+        (map (spot_of_method «package» placed) (methods_left methods.entry))) }
+    ensures next { OnOk result (numbers.new.next ≡ numbers.old.next + length (methods_left methods.entry)) }
+{
+    'methods: for method in methods {
+        let place = if placed {
+            Some(Place {
+                package,
+                offset: method.method_offset,
+            })
+        } else {
+            None
+        };
+        numbers.push(place)?;
+    }
+    Ok(())
+}
+
+/// Numbers the methods of the classes of one package, whose classes stand from an offset on.
+fn number_classes(
+    numbers: &mut Numbers,
+    package: u16,
+    start: u16,
+    classes: DescClasses<'_>,
+) -> Result<(), AllocError>
+    requires { numbers.old.next + method_count (classes_left classes) < 65535 }
+    ensures numbers { OnOk result (numbers.new ≡ with_all numbers.old (spots_of_classes «package» start (classes_left classes.entry))) }
+    ensures next { OnOk result (numbers.new.next ≡ numbers.old.next + method_count (classes_left classes.entry)) }
+{
+    'classes: for class in classes {
+        number_class(
+            numbers,
+            package,
+            class.class_ref() >= start,
+            class.methods(),
+        )?;
+    }
+    Ok(())
+}
+
+/// The numbers of the methods of packages.
+pub(crate) fn number_methods(
+    alloc: Global,
+    packages: &Packages<'_, '_>,
+) -> Result<Numbers, AllocError>
+    requires many { length packages.now ≤ 16 }
+    requires few { method_total packages.now ≤ 32768 }
+    ensures { IfOk result (λ t. t ≡ with_all none_numbered (method_spots 0 packages.now)) }
+{
+    let mut numbers = Numbers::new(alloc);
+    'packages: for (k, package) in packages.as_slice().iter().enumerate() {
+        let start = classes_from(&package.classes());
+        number_classes(
+            &mut numbers,
+            k as u16,
+            start,
+            package.descriptor().classes(),
+        )?;
+    }
+    Ok(numbers)
+}

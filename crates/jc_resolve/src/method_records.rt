@@ -1,0 +1,359 @@
+ghost use Rattle.std.specs.Prelude.{◌≡◌, ◌+◌, ◌≤◌, ◌++◌, length, map, take, drop, slice_index, All, IfOk, OnOk};
+ghost use Rattle.cap_class.specs.ClassPart.{records};
+ghost use Rattle.cap_desc.specs.ClassRecords.{class_seen, classes_left};
+ghost use Rattle.cap_desc.specs.MemberLists.{methods_left};
+ghost use Rattle.cap_desc.specs.MemberRecords.{method_seen};
+ghost use Rattle.cap_method.specs.MethodPart.{handlers_left, header_seen};
+ghost use Rattle.cap_package.specs.PackageRecord.{PackageRecord};
+ghost use Rattle.cap_pool.specs.Pool.{entries};
+ghost use Rattle.jc_resolve.specs.Named.{IsAgreed};
+ghost use Rattle.jc_resolve.specs.NamedMethods.{HasFewHandlers, caught, handler_named, offset_in_info, no_body, body_behind, body_of, class_described, have_headers, is_init, named_method};
+ghost use Rattle.jc_resolve.specs.Numbering.{numbered, numbered_methods, methods_of_class, methods_of_classes};
+
+use crate::class_index::Index;
+use crate::home::Home;
+use crate::method_index::classes_from;
+use crate::reference_checks::reference_in;
+use crate::world_types::signature_of;
+use cap_desc::{AccessFlags, DescClass, MethodInfo};
+use cap_method::{HandlerInfo, Handlers, MethodHeader};
+use cap_package::{Packages, header};
+use cap_pool::Pool;
+use jc_base::{Handler, Items, MethodRec, Sig};
+use std::alloc::{AllocError, Global};
+
+/// The tag of a Classref.
+const CLASSREF: u8 = 1;
+/// The flag of a constructor.
+const INIT: u8 = 0x80;
+
+/// The class that a handler catches, by its catch_type_index.
+fn caught(home: Home<'_, '_, '_, '_>, pool: &Pool<'_>, catch_type: u16) -> u16
+    ensures { result ≡ caught home.entry.index.now (slice_index home.entry.roles 1) home.entry.number (entries pool.now) catch_type }
+{
+    if catch_type == 0 {
+        return home.roles[1] as u16;
+    }
+    match pool.at(catch_type) {
+        Some(entry) => {
+            if entry.tag == CLASSREF {
+                home.index
+                    .class_named(home.number, reference_in(entry.bytes))
+                    .unwrap_or(0)
+            } else {
+                0
+            }
+        }
+        None => 0,
+    }
+}
+
+/// A handler with its places counted from the start of its method's code.
+#[tactic(auto, unfolding(crate::specs::NamedMethods::handler_named))]
+fn handler_named(
+    home: Home<'_, '_, '_, '_>,
+    pool: &Pool<'_>,
+    code_at: u16,
+    handler: HandlerInfo,
+) -> Handler
+    ensures { result
+        ≡ handler_named home.entry.index.now
+        (slice_index home.entry.roles 1) home.entry.number (entries pool.now) code_at handler }
+{
+    Handler {
+        start: handler.start.saturating_sub(code_at),
+        end: handler
+            .start
+            .saturating_add(handler.length)
+            .saturating_sub(code_at),
+        entry: handler.entry.saturating_sub(code_at),
+        index: handler.index,
+        class: caught(home, pool, handler.index),
+    }
+}
+
+/// The handlers after so many.
+#[tactic(auto, using(crate::proofs::Parts::drop_step))]
+fn handlers_behind<'a>(handlers: Handlers<'a>, count: u16) -> Handlers<'a>
+    ensures { handlers_left result ≡ drop count (handlers_left handlers.entry) }
+{
+    let mut rest = handlers;
+    'passed: for _ in 0..count {
+        match rest.next() {
+            Some(_) => {}
+            None => return rest,
+        }
+    }
+    rest
+}
+
+/// The first handlers, so many, as those of a method.
+#[tactic(auto, using(crate::proofs::Parts::take_step))]
+fn handlers_named(
+    alloc: Global,
+    home: Home<'_, '_, '_, '_>,
+    pool: &Pool<'_>,
+    code_at: u16,
+    handlers: Handlers<'_>,
+    count: u16,
+) -> Result<Vec<Handler>, AllocError>
+    ensures { IfOk result
+        (λ v.
+        v.items
+        ≡ map
+        (handler_named home.entry.index.now
+        (slice_index home.entry.roles 1) home.entry.number (entries pool.now) code_at)
+        (take count (handlers_left handlers.entry))) }
+{
+    let mut named = Vec::new(alloc);
+    let mut rest = handlers;
+    'handlers: for _ in 0..count {
+        match rest.next() {
+            Some(handler) => {
+                named.push(handler_named(home, pool, code_at, handler))?;
+            }
+            None => return Ok(named),
+        }
+    }
+    Ok(named)
+}
+
+/// What a method's header and its code tell.
+#[derive(Drop)]
+pub struct Body {
+    pub is_abstract: bool,
+    pub nargs: u8,
+    pub max_locals: u8,
+    pub max_stack: u8,
+    pub code_at: u16,
+    pub code_len: u16,
+    pub handlers: jc_base::Handlers,
+}
+
+/// What stands for the header of a method of an interface.
+fn no_body(alloc: Global, flags: AccessFlags, sig: &Sig) -> Body
+    ensures { result ≡ no_body flags.0 sig.now }
+{
+    let words = sig.args.len();
+    let receiver = if flags.is_static() { 0 } else { 1 };
+    Body {
+        is_abstract: true,
+        nargs: if words < 255 {
+            (words + receiver) as u8
+        } else {
+            255
+        },
+        max_locals: 0,
+        max_stack: 0,
+        code_at: 0,
+        code_len: 0,
+        handlers: Items::of(Vec::new(alloc)),
+    }
+}
+
+/// What the header of a method tells.
+fn body_behind(
+    alloc: Global,
+    home: Home<'_, '_, '_, '_>,
+    method: &MethodInfo,
+    header: MethodHeader,
+) -> Result<Body, AllocError>
+    ensures { IfOk result
+        (λ b.
+        b
+        ≡ body_behind home.entry.index.now
+        (slice_index home.entry.roles 1) home.entry.number home.entry.of_package.now
+        (method_seen method.now) (header_seen header)
+        (offset_in_info (method.now.method_offset + header.size))) }
+{
+    let code_at = method.method_offset.saturating_add(header.size as u16);
+    let behind = handlers_behind(home.of_package.methods().handlers(), method.handler_index);
+    let pool = home.of_package.pool();
+    let handlers = handlers_named(alloc, home, &pool, code_at, behind, method.handler_count)?;
+    Ok(Body {
+        is_abstract: header.flags.is_abstract(),
+        nargs: header.nargs,
+        max_locals: header.max_locals,
+        max_stack: header.max_stack,
+        code_at,
+        code_len: method.bytecode_count,
+        handlers: Items::of(handlers),
+    })
+}
+
+/// What the header of a method tells, where it has one.
+#[tactic(auto, unfolding(crate::specs::NamedMethods::body_of))]
+fn body_of(
+    alloc: Global,
+    home: Home<'_, '_, '_, '_>,
+    method: &MethodInfo,
+    sig: &Sig,
+    has_header: bool,
+) -> Result<Body, AllocError>
+    ensures { IfOk result
+        (λ b.
+        b
+        ≡ body_of home.entry.index.now
+        (slice_index home.entry.roles 1) home.entry.number home.entry.of_package.now
+        (method_seen method.now) sig.now has_header) }
+{
+    if !has_header {
+        return Ok(no_body(alloc, method.flags, sig));
+    }
+    match header(&home.of_package.methods(), method.method_offset) {
+        Some(header) => body_behind(alloc, home, method, header),
+        None => Ok(no_body(alloc, method.flags, sig)),
+    }
+}
+
+/// The class that a record of the Descriptor names.
+#[tactic(auto, unfolding(crate::specs::NamedMethods::class_described))]
+fn class_described(index: &Index<'_, '_, '_>, package: u16, class: DescClass<'_>) -> u16
+    ensures is { result ≡ class_described index.now «package» (class_seen class.entry) }
+{
+    index.class_named(package, class.class_ref()).unwrap_or(0)
+}
+
+/// Whether the methods of a record of the Descriptor have headers.
+#[tactic(auto, unfolding(crate::specs::NamedMethods::have_headers))]
+fn have_headers(home: Home<'_, '_, '_, '_>, class: DescClass<'_>) -> bool
+    ensures { result ≡ have_headers home.entry.index.now home.entry.number home.entry.of_package.now (class_seen class.entry) }
+{
+    if class.class_ref() < classes_from(&home.of_package.classes()) {
+        return false;
+    }
+    match home.index.class_named(home.number, class.class_ref()) {
+        Some(class) => !home.index.is_interface(class),
+        None => false,
+    }
+}
+
+/// Whether a method is a constructor.
+fn is_init(flags: AccessFlags) -> bool
+    ensures { result ≡ is_init flags.0 }
+{
+    flags.0 & INIT == INIT
+}
+
+/// A method with all that its records name.
+#[tactic(auto, unfolding(crate::specs::NamedMethods::named_method))]
+fn method_record(
+    alloc: Global,
+    home: Home<'_, '_, '_, '_>,
+    class_no: u16,
+    class: DescClass<'_>,
+    has_header: bool,
+    method_no: u16,
+    method: MethodInfo,
+) -> Result<MethodRec, AllocError>
+    requires { has_header ≡ have_headers home.index.now home.number home.of_package.now (class_seen class) }
+    ensures { IfOk result
+        (λ m.
+        m
+        ≡ named_method home.entry.index.now home.entry.roles
+        (numbered home.entry.number home.entry.of_package.now class_no
+        (class_seen class.entry) method_no (method_seen method))) }
+{
+    let sig = signature_of(
+        alloc,
+        home.index,
+        home.roles[0] as u16,
+        home.number,
+        &home.of_package.descriptor(),
+        method.type_offset,
+    )?;
+    let body = body_of(alloc, home, &method, &sig, has_header)?;
+    Ok(MethodRec {
+        package: home.number,
+        class: class_described(home.index, home.number, class),
+        token: method.token,
+        class_no,
+        method_no,
+        is_static: method.flags.is_static(),
+        is_init: is_init(method.flags),
+        is_abstract: body.is_abstract,
+        sig,
+        nargs: body.nargs,
+        max_locals: body.max_locals,
+        max_stack: body.max_stack,
+        code_at: body.code_at,
+        code_len: body.code_len,
+        handlers: body.handlers,
+    })
+}
+
+/// Appends the methods of a class.
+fn push_class(
+    methods: &mut Vec<MethodRec>,
+    alloc: Global,
+    home: Home<'_, '_, '_, '_>,
+    class_no: u16,
+    class: DescClass<'_>,
+) -> Result<(), AllocError>
+    ensures { OnOk result
+        (methods.new.items
+        ≡ methods.old.items ++ map (named_method home.entry.index.now home.entry.roles) (methods_of_class home.entry.number home.entry.of_package.now class_no (class_seen class.entry) 0 (class_seen class.entry).methods)) }
+{
+    let has_header = have_headers(home, class);
+    // Their number is one that `method_count` can answer.
+    let _count = class.method_count();
+    let mut method_no: u16 = 0;
+    'methods: for method in class.methods() {
+        methods.push(method_record(alloc, home, class_no, class, has_header, method_no, method)?)?;
+        method_no += 1;
+    }
+    Ok(())
+}
+
+/// Appends the methods of a package.
+#[tactic(auto, using(crate::proofs::Steps::classes_step))]
+fn push_package(
+    methods: &mut Vec<MethodRec>,
+    alloc: Global,
+    home: Home<'_, '_, '_, '_>,
+) -> Result<(), AllocError>
+    ensures named { OnOk result
+        (methods.new.items
+        ≡ methods.old.items ++ map (named_method home.entry.index.now home.entry.roles) (methods_of_classes home.entry.number home.entry.of_package.now 0 home.entry.of_package.now.description.items.classes)) }
+    ensures agreed { IsAgreed home.entry.of_package.now }
+    ensures few { HasFewHandlers home.entry.of_package.now }
+{
+    // Its parts stand for it, and the number of its handlers is one that `handler_count` can answer.
+    let _parts = home.of_package.parts();
+    let _handlers = home.of_package.methods().handlers();
+    let descriptor = home.of_package.descriptor();
+    // Their number is one that `class_count` can answer.
+    let _count = descriptor.class_count();
+    let mut class_no: u16 = 0;
+    'classes: for class in descriptor.classes() {
+        push_class(methods, alloc, home, class_no, class)?;
+        class_no += 1;
+    }
+    Ok(())
+}
+
+/// The methods of packages.
+#[tactic(auto, using(crate::proofs::Steps::methods_step))]
+pub(crate) fn methods_behind<'x, 'n, 'p, 'a>(
+    alloc: Global,
+    index: &'x Index<'n, 'p, 'a>,
+    packages: &'x Packages<'p, 'a>,
+    roles: [u8; 8],
+) -> Result<Vec<MethodRec>, AllocError>
+    requires { length packages.now ≤ 16 }
+    ensures named { IfOk result (λ v. v.items ≡ map (named_method index.now roles) (numbered_methods packages.now)) }
+    ensures agreed { IfOk result (λ _. All IsAgreed packages.now) }
+    ensures few { IfOk result (λ _. All HasFewHandlers packages.now) }
+{
+    let mut methods = Vec::new(alloc);
+    'packages: for (k, package) in packages.as_slice().iter().enumerate() {
+        let home = Home {
+            index,
+            roles,
+            number: k as u16,
+            of_package: package,
+        };
+        push_package(&mut methods, alloc, home)?;
+    }
+    Ok(methods)
+}

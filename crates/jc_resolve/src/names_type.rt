@@ -1,0 +1,109 @@
+ghost use Rattle.std.specs.Prelude.{◌≡◌, ℕ, ◌<◌, ◌≤◌, ◌↔◌, length, slice_index, Some, IfSome};
+ghost use Rattle.jc_resolve.specs.NamedClasses.{named_classes};
+ghost use Rattle.jc_resolve.specs.NamedMethods.{named_methods};
+ghost use Rattle.jc_resolve.specs.Numbering.{numbered_classes, numbered_methods, method_at};
+ghost use Rattle.jc_resolve.specs.References.{met_by, class_named, Refers};
+ghost use Rattle.jc_resolve.specs.WorldTypes.{type_of};
+
+use crate::class_index::Index;
+use crate::imports::met_by;
+use crate::named::NamedClasses;
+use crate::place::Place;
+use crate::world_types::type_of;
+use cap_desc::TypeItem;
+use cap_package::Packages;
+use jc_base::{Methods, Ty};
+use std::marker::Model;
+
+/// Every class and method of packages by number, with all that their records name resolved.
+#[derive(Drop)]
+pub struct Names<'n, 'p, 'a> {
+    pub(crate) index: Index<'n, 'p, 'a>,
+    pub(crate) roles: [u8; 8],
+    pub(crate) classes: NamedClasses,
+    pub(crate) methods: Methods,
+}
+
+impl<'n, 'p, 'a> Model for Names<'n, 'p, 'a> {
+    ghost use Rattle.jc_resolve.specs.Names.{NamesRecord};
+
+    ghost Value = { NamesRecord };
+
+    ghost use Rattle.jc_resolve.specs.Names.{AreNames};
+
+    ghost view = { λ x. record { packages = x.index; roles = x.roles; classes = x.classes; methods = x.methods } };
+
+    ghost invariant = { λ x. AreNames (record { packages = x.index; roles = x.roles; classes = x.classes; methods = x.methods }) };
+}
+
+impl<'n, 'p, 'a> Names<'n, 'p, 'a> {
+    /// The packages that were named.
+    pub fn packages(&self) -> &'n Packages<'p, 'a>
+        ensures is { result.now ≡ self.now.packages }
+        ensures few { length result.now ≤ 16 }
+    {
+        self.index.packages()
+    }
+
+    /// The classes and interfaces, by number.
+    pub fn classes(&self) -> &NamedClasses
+        ensures is { result.now ≡ self.now.classes }
+        ensures named { result.now ≡ named_classes self.now.packages (slice_index self.now.roles 0) }
+        ensures few { length result.now ≤ 4096 }
+    {
+        // What is indexed is few.
+        let _ = self.index.packages();
+        &self.classes
+    }
+
+    /// The methods, by number.
+    pub fn methods(&self) -> &Methods
+        ensures is { result.now ≡ self.now.methods }
+        ensures named { result.now ≡ named_methods self.now.packages self.now.roles }
+        ensures few { length result.now ≤ 32768 }
+    {
+        // What is indexed is few.
+        let _ = self.index.packages();
+        &self.methods
+    }
+
+    /// The methods, by number, where nothing else is asked.
+    pub fn into_methods(self) -> Methods
+        ensures { result ≡ self.entry.methods }
+    {
+        self.methods
+    }
+
+    /// The class that a reference in a package names.
+    pub fn class_named(&self, package: u16, reference: u16) -> Option<u16>
+        ensures is { result ≡ class_named self.now.packages «package» reference }
+        // The one class to which it refers, by its offset in the package itself or by the tokens of an import.
+        ensures refers { (c : ℕ) → (result ≡ Some c) ↔ Refers self.now.packages «package» reference c }
+        ensures below { IfSome result (λ c. c < length (numbered_classes self.now.packages)) }
+    {
+        self.index.class_named(package, reference)
+    }
+
+    /// The method whose header stands at an offset of a package's Method component.
+    pub fn method_at(&self, package: u16, offset: u16) -> Option<u16>
+        ensures is { result ≡ method_at self.now.packages (record { «package» = «package»; offset = offset }) }
+        ensures below { IfSome result (λ n. n < length (numbered_methods self.now.packages)) }
+    {
+        self.index.method_at(Place { package, offset })
+    }
+
+    /// The type of the world that an item of a type descriptor in a package stands for; void has none.
+    pub fn type_of(&self, package: u16, item: TypeItem) -> Ty
+        ensures { result ≡ type_of self.now.packages (slice_index self.now.roles 0) «package» item }
+    {
+        type_of(&self.index, self.roles[0] as u16, package, item)
+    }
+
+    /// The package that meets the import of a package with a token.
+    pub fn import_met(&self, package: u16, import: u8) -> Option<u16>
+        ensures is { result ≡ met_by self.now.packages «package» import }
+        ensures earlier { IfSome result (λ n. n < «package») }
+    {
+        met_by(self.index.packages(), package, import)
+    }
+}

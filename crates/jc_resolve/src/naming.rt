@@ -1,0 +1,74 @@
+ghost use Rattle.std.specs.Prelude.{All, IfOk, slice_index};
+ghost use Rattle.jc_resolve.specs.Named.{AreNamed, IsAgreed, IsSized, infos_of};
+ghost use Rattle.jc_resolve.specs.NamedMethods.{HasFewHandlers};
+ghost use Rattle.jc_resolve.specs.Due.{IsDue};
+ghost use Rattle.jc_resolve.specs.Names.{Checks, Tells, names_of};
+
+use crate::class_index::{Index, index_packages};
+use crate::class_records::class_records;
+use crate::counts::{classes_few, methods_few, packages_few};
+use crate::fault::LinkEnd;
+use crate::import_checks::imports_met;
+use crate::method_records::methods_behind;
+use crate::names_type::Names;
+use crate::reference_checks::classes_named;
+use cap_package::Packages;
+use jc_base::Items;
+use std::alloc::Global;
+
+/// The packages with their classes and methods numbered, where no condition is broken.
+#[tactic(auto, unfolding(crate::specs::Names::checked))]
+fn checked<'n, 'p, 'a>(
+    alloc: Global,
+    packages: &'n Packages<'p, 'a>,
+) -> Result<Index<'n, 'p, 'a>, LinkEnd>
+    ensures { Checks packages.now result }
+{
+    packages_few(packages)?;
+    classes_few(packages)?;
+    methods_few(packages)?;
+    imports_met(packages)?;
+    let index = index_packages(alloc, packages)?;
+    classes_named(&index, packages)?;
+    Ok(index)
+}
+
+/// The names of packages, or the fault that is named.
+#[tactic(auto, unfolding(crate::specs::Names::names_of, crate::specs::NamedClasses::named_classes, crate::specs::NamedMethods::named_methods))]
+fn names_or_fault<'n, 'p, 'a>(
+    alloc: Global,
+    packages: &'n Packages<'p, 'a>,
+    roles: [u8; 8],
+) -> Result<Names<'n, 'p, 'a>, LinkEnd>
+    ensures value { IsDue (names_of packages.now roles) result }
+    ensures sized { IfOk result (λ n. All IsSized n.classes) }
+    ensures agreed { IfOk result (λ _. All IsAgreed packages.now) }
+    ensures few { IfOk result (λ _. All HasFewHandlers packages.now) }
+{
+    let index = checked(alloc, packages)?;
+    let methods = methods_behind(alloc, &index, &*packages, roles)?;
+    let classes = class_records(alloc, &index, &*packages, roles)?;
+    Ok(Names {
+        index,
+        roles,
+        classes: Items::of(classes),
+        methods: Items::of(methods),
+    })
+}
+
+/// The classes and methods of packages by number, or the first condition that is broken.
+pub fn names<'n, 'p, 'a>(
+    alloc: Global,
+    packages: &'n Packages<'p, 'a>,
+    roles: [u8; 8],
+) -> Result<Names<'n, 'p, 'a>, LinkEnd>
+    // The names of the packages, or the fault that is named; memory may want at any time.
+    ensures value { IsDue (names_of packages.now roles) result }
+    // Names exactly where nothing is at fault; else the first condition by number that is broken, at its
+    // least thing.
+    ensures tells { Tells packages.now result }
+    // Everything that they name is a class or a method of theirs, and is as large as its component can tell.
+    ensures named { IfOk result (λ n. AreNamed (infos_of packages.now) (slice_index roles 0) n.classes n.methods) }
+{
+    names_or_fault(alloc, packages, roles)
+}

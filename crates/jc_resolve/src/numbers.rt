@@ -1,0 +1,67 @@
+ghost use Rattle.std.specs.Prelude.{◌≡◌, ◌+◌, ◌<◌, OnOk};
+ghost use Rattle.jc_resolve.specs.Numbers.{none_numbered, number_at, entered, with_next};
+
+use crate::place::Place;
+use indexmap::IndexMap;
+use std::alloc::{AllocError, Global};
+use std::marker::Model;
+
+/// The numbers of things by their places, in the order in which they were numbered.
+#[derive(Drop)]
+pub(crate) struct Numbers {
+    map: IndexMap<Place, u16>,
+    next: u16,
+}
+
+impl Model for Numbers {
+    ghost use Rattle.jc_resolve.specs.Numbers.{Numbered};
+
+    ghost Value = { Numbered };
+
+    ghost view = { λ n. record { entries = n.map.entries; next = n.next } };
+}
+
+impl Numbers {
+    /// Nothing is numbered.
+    pub(crate) fn new(alloc: Global) -> Numbers
+        ensures { result ≡ none_numbered }
+    {
+        Numbers {
+            map: IndexMap::new(alloc),
+            next: 0,
+        }
+    }
+
+    /// Keeps a number at a place where none is kept.
+    #[tactic(auto, unfolding(crate::specs::Numbers::entered))]
+    fn enter(&mut self, place: Place) -> Result<(), AllocError>
+        ensures { OnOk result (self.new ≡ record { entries = entered self.old.entries place self.old.next; next = self.old.next }) }
+    {
+        if self.map.contains_key(&place) {
+            return Ok(());
+        }
+        self.map.insert(place, self.next)?;
+        Ok(())
+    }
+
+    /// Numbers the next thing, which stands at a place or at none.
+    #[tactic(auto, unfolding(crate::specs::Numbers::with_next))]
+    pub(crate) fn push(&mut self, place: Option<Place>) -> Result<(), AllocError>
+        requires { self.old.next < 65535 }
+        ensures numbers { OnOk result (self.new ≡ with_next self.old place) }
+        ensures next { OnOk result (self.new.next ≡ self.old.next + 1) }
+    {
+        if let Some(place) = place {
+            self.enter(place)?;
+        }
+        self.next += 1;
+        Ok(())
+    }
+
+    /// The number of the first thing at a place.
+    pub(crate) fn at(&self, place: Place) -> Option<u16>
+        ensures { result ≡ number_at self.now.entries place }
+    {
+        self.map.get(&place).copied()
+    }
+}

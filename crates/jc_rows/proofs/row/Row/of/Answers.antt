@@ -1,5 +1,0 @@
-use Rattle.jc_rows.proofs.Rows.{ROWS-row_at}
-use Rattle.jc_rows.proofs.row.Row.of.Goals as goal
-
-pub returns : goal.returns
-returns c = ROWS-row_at c.args.op _ c.ranges.op.fits

@@ -1,0 +1,25 @@
+//! Worked worlds: packages that `jc_resolve`, `jc_statics` and `jc_link` number, lay out and link, or refuse
+//! by name. Two packages stand here beside package T of `cap_tests`: a library and its user, which have
+//! a member of each kind.
+#![tactic(auto)]
+
+mod lending;
+mod library_and_user;
+
+pub use lending::lent;
+pub use library_and_user::{LIBRARY, LIBRARY_ROLES, USER};
+
+#[cfg(test)]
+mod interface_package;
+#[cfg(test)]
+mod limit_tests;
+#[cfg(test)]
+mod link_tests;
+#[cfg(test)]
+mod names_tests;
+#[cfg(test)]
+mod reading;
+#[cfg(test)]
+mod statics_tests;
+#[cfg(test)]
+mod world_tests;
