@@ -1,4 +1,4 @@
 pub mod Rows
 pub mod Members
 pub mod Described
-pub mod Naming
+pub mod Soundness

@@ -1,2 +1,3 @@
 pub mod Row
-pub mod Named
+pub mod Resolve
+pub mod Sound

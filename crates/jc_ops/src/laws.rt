@@ -1,10 +1,10 @@
-ghost use Rattle.jc_ops.specs.Named.{NamesAreSound};
+ghost use Rattle.jc_ops.specs.Sound.{OperationsAreSound};
 
 use jc_base::World;
 
-/// What instructions name has declared types, or is an uninitialised object.
-pub fn names_are_sound(world: &World<'_>)
-    ensures { NamesAreSound world.now }
+/// What the operations of instructions speak of is in the world.
+pub fn operations_are_sound(world: &World<'_>)
+    ensures { OperationsAreSound world.now }
 {
     let _classes = world.classes();
 }
