@@ -2,3 +2,4 @@ pub mod Rows
 pub mod Members
 pub mod Described
 pub mod Soundness
+pub mod Deciding

@@ -369,7 +369,7 @@ module _ (w : Linked) (is : IsWorld w) where
     from_equal : {r s : Result Operation RuleFault} → r ≡ s → IfOk s (IsSound w m place) → IfOk r (IsSound w m place)
     from_equal e h = subst (λ x. IfOk x (IsSound w m place)) (sym e) h
 
-    row-sound : (i : Insn) (row : Row) (r : Result Operation RuleFault) → is_fine row ≡ true → IsMethod w.infos w.pools w.classes m → ResolvesRow w m place i row r → IfOk r (IsSound w m place)
+    row-sound : (i : Insn) (row : Row) (r : Result Operation RuleFault) → is_fine row ≡ true → IfSome m.sig.result (IsDeclared w.classes) → ResolvesRow w m place i row r → IfOk r (IsSound w m place)
     unfolding is_fine
     row-sound i (rows.Plain op) r fine q e = from_equal e (plain-sound op fine)
     row-sound i rows.PushShort r fine q e = from_equal e tt
@@ -400,10 +400,10 @@ module _ (w : Linked) (is : IsWorld w) where
     row-sound i (rows.TypeTest test) r fine q e =
         from_equal e (on-sound (IsSound w m place) (ops.TypeTest test) (tested_type (byte_of i.x) (short_of i.y) (member_at w m.package (short_of i.y)))
         (tested-sound (byte_of i.x) (short_of i.y) (member_at w m.package (short_of i.y)) (member-at m.package (short_of i.y))))
-    row-sound i (rows.Return s) r fine q e = from_equal e (on-sound (IsSound w m place) ops.Return (result_returned w.classes s m.sig.result) (return-sound s m.sig.result q.result))
+    row-sound i (rows.Return s) r fine q e = from_equal e (on-sound (IsSound w m place) ops.Return (result_returned w.classes s m.sig.result) (return-sound s m.sig.result q))
 
   -- what an instruction of a method is resolved to is sound
-  pub resolved-sound : (m : MethodRec) (place : ℕ) (i : Insn) (r : Result Operation RuleFault) → IsMethod w.infos w.pools w.classes m → Resolves w m place i r → IfOk r (IsSound w m place)
+  pub resolved-sound : (m : MethodRec) (place : ℕ) (i : Insn) (r : Result Operation RuleFault) → IfSome m.sig.result (IsDeclared w.classes) → Resolves w m place i r → IfOk r (IsSound w m place)
   resolved-sound m place i r q h = row-sound m place i (row_at i.op) r (row-fine i.op) q h
 
 pub operations-are-sound : (w : Linked) → IsWorld w → OperationsAreSound w

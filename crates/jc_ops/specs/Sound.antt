@@ -1,6 +1,6 @@
 -- What holds of a resolved operation: what it speaks of is in the world, so that nothing else of the constant pool
 -- and of the place is needed to run it (JCVM 2.2, sections 6.7 and 7.5).
-use Rattle.std.specs.Prelude.{◌≡◌, ℕ, ◌+◌, ◌<◌, ◌≤◌, true, false, List, length, Option, Some, None, IsSomeAnd, IfSome, Ok, Any, slice_get, ⊤}
+use Rattle.std.specs.Prelude.{◌≡◌, ℕ, ◌+◌, ◌<◌, ◌≤◌, true, false, List, length, Option, Some, None, IsSomeAnd, IfSome, Result, Ok, Any, slice_get, ⊤}
 use Rattle.jc_base.specs.declared.ty.Ty.{Ty}
 use Rattle.jc_base.specs.declared.ty.Ty.TheVariants.{Class, ArrBool, ArrByte, ArrShort, ArrInt, ArrRef}
 use Rattle.jc_base.specs.declared.record.Member.{Member}
@@ -10,9 +10,10 @@ use Rattle.jc_base.specs.Class.{ClassTable, IsClass, is_interface, object}
 use Rattle.jc_base.specs.Order.{Below, IsKnown, IsArray}
 use Rattle.jc_base.specs.Dispatch.{IsConcrete, entry_at}
 use Rattle.jc_base.specs.Cell.{IsDeclared, IsOfKind}
-use Rattle.jc_base.specs.Linked.{IsField, IsInherited, IsMethod, IsSlotOf, lacks_code}
+use Rattle.jc_base.specs.Linked.{IsField, IsInherited, IsSlotOf, lacks_code}
 use Rattle.jc_base.specs.World.{Linked}
 use Rattle.jc_decode.specs.declared.insn.Insn.{Insn}
+use Rattle.jc_ops.specs.declared.fault.RuleFault.{RuleFault}
 use Rattle.jc_ops.specs.declared.want.Want.{Want}
 use Rattle.jc_ops.specs.declared.want.Want.TheVariants.{Value, Receiver}
 use Rattle.jc_ops.specs.declared.operation.Move.{Move}
@@ -128,13 +129,21 @@ IsSound w m place (ops.TypeTest test ty) = IsNamedType w.classes ty
 IsSound w m place (ops.Return result) = (result ≡ m.sig.result) × IfSome result (IsDeclared w.classes)
 IsSound w m place _ = ⊤
 
--- each operation that an instruction of a method has in a world is sound
+-- each operation of an instruction is sound, in code of any method with a declared result, be it of the world or not
 abbrev pub OperationsAreSound : Linked → Type 0
 OperationsAreSound w =
     (m : MethodRec) (place : ℕ) (i : Insn) (op : Operation)
-    → IsMethod w.infos w.pools w.classes m
+    → IfSome m.sig.result (IsDeclared w.classes)
     → Resolves w m place i (Ok op)
     → IsSound w m place op
+
+-- an instruction of a method has one operation, or one fault
+abbrev pub OperationsAreDecided : Linked → Type 0
+OperationsAreDecided w =
+    (m : MethodRec) (place : ℕ) (i : Insn) (r s : Result Operation RuleFault)
+    → Resolves w m place i r
+    → Resolves w m place i s
+    → r ≡ s
 
 -- ---- what a linked world says of the entries of a constant pool
 

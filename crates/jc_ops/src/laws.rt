@@ -1,10 +1,11 @@
-ghost use Rattle.jc_ops.specs.Sound.{OperationsAreSound};
+ghost use Rattle.jc_ops.specs.Sound.{OperationsAreSound, OperationsAreDecided};
 
 use jc_base::World;
 
-/// What the operations of instructions speak of is in the world.
+/// What the operations of instructions speak of is in the world, and an instruction has one operation.
 pub fn operations_are_sound(world: &World<'_>)
-    ensures { OperationsAreSound world.now }
+    ensures sound { OperationsAreSound world.now }
+    ensures decided { OperationsAreDecided world.now }
 {
     let _classes = world.classes();
 }
