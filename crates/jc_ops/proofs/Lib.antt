@@ -3,3 +3,4 @@ pub mod Members
 pub mod Described
 pub mod Soundness
 pub mod Deciding
+pub mod Entries

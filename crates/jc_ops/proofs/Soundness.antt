@@ -176,21 +176,21 @@ module _ (w : Linked) (is : IsWorld w) where
   entry-sound pool c token None e h = tt
   entry-sound pool c token (Some n) e h =
       callee-by (λ m. not (c == object w.classes && m.is_abstract)) pool n (slice_get w.methods n) (λ m. Some (Value (Class c))) (choices.Virtual c token) (λ m q b.
-        let inherited : IsInherited w.classes c m =
-            of_some (IsInherited w.classes c) (slice_get w.methods n) m q (subst (λ x. IfSome x (λ n. IsSomeAnd (slice_get w.methods n) (IsInherited w.classes c))) e (entry-inherits w is c token)) in
-        record {
-          rec = m;
-          is_method = q;
-          chosen = record {
-            class = h;
-            entry = e;
-            receiver_is = refl;
-            inherited = inherited;
-            body = λ alike. has_body c (object w.classes) m.is_abstract alike (not_true (c == object w.classes && m.is_abstract) b);
-          };
-          known = h;
-          room = argument_room w.infos w.pools w.classes m (method-is n m q) inherited.dynamic;
-        })
+      let inherited : IsInherited w.classes c m =
+      of_some (IsInherited w.classes c) (slice_get w.methods n) m q (subst (λ x. IfSome x (λ n. IsSomeAnd (slice_get w.methods n) (IsInherited w.classes c))) e (entry-inherits w is c token)) in
+      record {
+        rec = m;
+        is_method = q;
+        chosen = record {
+          class = h;
+          entry = e;
+          receiver_is = refl;
+          inherited = inherited;
+          body = λ alike. has_body c (object w.classes) m.is_abstract alike (not_true (c == object w.classes && m.is_abstract) b);
+        };
+        known = h;
+        room = argument_room w.infos w.pools w.classes m (method-is n m q) inherited.dynamic;
+      })
     where
       has_body : (a b : ℕ) (abstract : Bool) → a ≡ b → (a == b && abstract) ≡ false → abstract ≡ false
       has_body a b true alike h = let e : (a == b) ≡ true = grind (arith, nat_tests) in absurd (cc)
@@ -204,18 +204,18 @@ module _ (w : Linked) (is : IsWorld w) where
   super-sound pool c n None e h k = absurd k
   super-sound pool c n (Some p) e h k =
       callee-by (λ m. not (lacks_code w.classes m)) pool n (slice_get w.methods n) (λ m. Some (Value (Class c))) choices.Special (λ m q b.
-        let inherited : IsInherited w.classes p m = of_some (IsInherited w.classes p) (slice_get w.methods n) m q (super-inherits w is p n k) in
-        record {
-          rec = m;
-          is_method = q;
-          chosen = record {
-            body = not_true (lacks_code w.classes m) b;
-            dynamic = inherited.dynamic;
-            receives = (inherited.no_constructor, h, joined (subclass e) inherited.class);
-          };
-          known = h;
-          room = argument_room w.infos w.pools w.classes m (method-is n m q) inherited.dynamic;
-        })
+      let inherited : IsInherited w.classes p m = of_some (IsInherited w.classes p) (slice_get w.methods n) m q (super-inherits w is p n k) in
+      record {
+        rec = m;
+        is_method = q;
+        chosen = record {
+          body = not_true (lacks_code w.classes m) b;
+          dynamic = inherited.dynamic;
+          receives = (inherited.no_constructor, h, joined (subclass e) inherited.class);
+        };
+        known = h;
+        room = argument_room w.infos w.pools w.classes m (method-is n m q) inherited.dynamic;
+      })
 
   own_class : (n : ℕ) (m : MethodRec) → slice_get w.methods n ≡ Some m → lacks_code w.classes m ≡ false → IsClass w.classes m.class
   own_class n m q body = record { number = (method-is n m q).class; class = either_false m.is_abstract (is_interface w.classes m.class) body }
@@ -231,17 +231,17 @@ module _ (w : Linked) (is : IsWorld w) where
   own-sound : (pool n : ℕ) → IfOk (special_callee w pool (Some (StaticCall n))) (IsCalleeOf w)
   own-sound pool n =
       callee-by (λ m. not m.is_static && not (lacks_code w.classes m)) pool n (slice_get w.methods n) (λ m. Some (own_receiver m)) choices.Special (λ m q b.
-        let parts = both_true (not m.is_static) (not (lacks_code w.classes m)) b in
-        let dynamic : m.is_static ≡ false = not_true m.is_static parts.0 in
-        let body : lacks_code w.classes m ≡ false = not_true (lacks_code w.classes m) parts.1 in
-        let class : IsClass w.classes m.class = own_class n m q body in
-        record {
-          rec = m;
-          is_method = q;
-          chosen = record { body = body; dynamic = dynamic; receives = own-receives m m.is_init refl class };
-          known = own-known m m.is_init class;
-          room = argument_room w.infos w.pools w.classes m (method-is n m q) dynamic;
-        })
+      let parts = both_true (not m.is_static) (not (lacks_code w.classes m)) b in
+      let dynamic : m.is_static ≡ false = not_true m.is_static parts.0 in
+      let body : lacks_code w.classes m ≡ false = not_true (lacks_code w.classes m) parts.1 in
+      let class : IsClass w.classes m.class = own_class n m q body in
+      record {
+        rec = m;
+        is_method = q;
+        chosen = record { body = body; dynamic = dynamic; receives = own-receives m m.is_init refl class };
+        known = own-known m m.is_init class;
+        room = argument_room w.infos w.pools w.classes m (method-is n m q) dynamic;
+      })
 
   special-sound : (pool : ℕ) (o : Option Member) → IfSome o (IsMember w.classes w.methods w.statics) → IfOk (special_callee w pool o) (IsCalleeOf w)
   special-sound pool (Some (Super c n)) h = super-sound pool c n (parent_of w.classes c) refl h.0 h.1
@@ -251,15 +251,15 @@ module _ (w : Linked) (is : IsWorld w) where
   static_call-sound : (pool : ℕ) (o : Option Member) → IfOk (static_callee w pool o) (IsCalleeOf w)
   static_call-sound pool (Some (StaticCall n)) =
       callee-by (λ m. m.is_static && not m.is_init && not (lacks_code w.classes m)) pool n (slice_get w.methods n) (λ m. None) choices.Static (λ m q b.
-        let parts = three_true m.is_static (not m.is_init) (not (lacks_code w.classes m)) b in
-        let declared : IsMethod w.infos w.pools w.classes m = method-is n m q in
-        record {
-          rec = m;
-          is_method = q;
-          chosen = record { body = not_true (lacks_code w.classes m) parts.2; static = parts.0; no_constructor = not_true m.is_init parts.1; receiver_is = refl };
-          known = tt;
-          room = omega (arith, declared.words, declared.registers);
-        })
+      let parts = three_true m.is_static (not m.is_init) (not (lacks_code w.classes m)) b in
+      let declared : IsMethod w.infos w.pools w.classes m = method-is n m q in
+      record {
+        rec = m;
+        is_method = q;
+        chosen = record { body = not_true (lacks_code w.classes m) parts.2; static = parts.0; no_constructor = not_true m.is_init parts.1; receiver_is = refl };
+        known = tt;
+        room = omega (arith, declared.words, declared.registers);
+      })
     where
       three_true : (a b c : Bool) → (a && b && c) ≡ true → (a ≡ true) × (b ≡ true) × (c ≡ true)
       three_true true true true h = (refl, refl, refl)
@@ -272,15 +272,15 @@ module _ (w : Linked) (is : IsWorld w) where
   described-sound pool nargs c token None few interface e = tt
   described-sound pool nargs c token (Some n) few interface e =
       callee-by (λ m. nargs == length m.sig.args + 1) pool n (slice_get w.methods n) (λ m. Some (Value (Class (object w.classes)))) (choices.Interface c token nargs) (λ m q b.
-        let names = described-is w.methods c token n m e q in
-        let words : nargs ≡ length m.sig.args + 1 = equal-true nargs (length m.sig.args + 1) b in
-        record {
-          rec = m;
-          is_method = q;
-          chosen = record { interface = interface; described_is = e; class = names.0; token_is = names.1; words_are = words; receiver_is = refl };
-          known = is.roles.objects;
-          room = omega (arith, words, few);
-        })
+      let names = described-is w.methods c token n m e q in
+      let words : nargs ≡ length m.sig.args + 1 = equal-true nargs (length m.sig.args + 1) b in
+      record {
+        rec = m;
+        is_method = q;
+        chosen = record { interface = interface; described_is = e; class = names.0; token_is = names.1; words_are = words; receiver_is = refl };
+        known = is.roles.objects;
+        room = omega (arith, words, few);
+      })
 
   interface-sound : (pool nargs token : ℕ) (o : Option Member) → nargs ≤ 255 → IfOk (interface_callee w pool nargs token o) (IsCalleeOf w)
   interface-sound pool nargs token (Some (ClassOf c)) few =
@@ -327,7 +327,7 @@ module _ (w : Linked) (is : IsWorld w) where
       if-sound (IsNamedType w.classes) (atype == 0) (class_type Class pool o) (if atype == 14 then class_type ArrRef pool o else Ok (array_of atype))
       (λ q. class-sound (IsNamedType w.classes) Class pool o (λ c lt. lt) h)
       (λ q. if-sound (IsNamedType w.classes) (atype == 14) (class_type ArrRef pool o) (Ok (array_of atype))
-        (λ r. class-sound (IsNamedType w.classes) ArrRef pool o (λ c lt. lt) h) (λ r. array-of (IsNamedType w.classes) tt tt tt tt atype))
+      (λ r. class-sound (IsNamedType w.classes) ArrRef pool o (λ c lt. lt) h) (λ r. array-of (IsNamedType w.classes) tt tt tt tt atype))
 
   return-sound : (sort : Option Sort) (result : Option Ty) → IfSome result (IsDeclared w.classes) → IfOk (result_returned w.classes sort result) (λ r. (r ≡ result) × IfSome r (IsDeclared w.classes))
   return-sound sort result h =

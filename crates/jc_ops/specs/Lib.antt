@@ -1,3 +1,5 @@
 pub mod Row
 pub mod Resolve
 pub mod Sound
+pub mod Entry
+pub mod Alike

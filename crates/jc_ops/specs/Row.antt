@@ -93,7 +93,7 @@ table =
     ++ binary (operators.ShiftLeft ∷ operators.ShiftRight ∷ operators.ShiftRightUnsigned ∷ operators.And ∷ operators.Or ∷ operators.ExclusiveOr ∷ [])
     ++ by_width rows.Increment
     ++ map (λ a. rows.Plain (ops.Arithmetic a))
-        (arithmetic.ShortToByte ∷ arithmetic.ShortToInt ∷ arithmetic.IntToByte ∷ arithmetic.IntToShort ∷ arithmetic.CompareInts ∷ [])
+    (arithmetic.ShortToByte ∷ arithmetic.ShortToInt ∷ arithmetic.IntToByte ∷ arithmetic.IntToShort ∷ arithmetic.CompareInts ∷ [])
     ++ branching
     ++ replicate 2 unused
     ++ by_width (λ w. rows.Plain (ops.Switch w))

@@ -82,12 +82,7 @@ fn lacks_code(world: &World<'_>, method: &MethodRec) -> bool
     method.is_abstract || world.classes().is_interface(method.class)
 }
 
-fn super_callee(
-    world: &World<'_>,
-    pool: u16,
-    class: u16,
-    method: u16,
-) -> Result<Callee, RuleFault>
+fn super_callee(world: &World<'_>, pool: u16, class: u16, method: u16) -> Result<Callee, RuleFault>
     requires { TakesReceiver world.now.methods method }
     ensures { result ≡ special_callee world.now pool (Some (Super class method)) }
 {

@@ -1,4 +1,5 @@
 ghost use Rattle.jc_ops.specs.Sound.{OperationsAreSound, OperationsAreDecided};
+ghost use Rattle.jc_ops.specs.Entry.{RestsOnEntry, FaultNamesEntry};
 
 use jc_base::World;
 
@@ -6,6 +7,14 @@ use jc_base::World;
 pub fn operations_are_sound(world: &World<'_>)
     ensures sound { OperationsAreSound world.now }
     ensures decided { OperationsAreDecided world.now }
+{
+    let _classes = world.classes();
+}
+
+/// Of the constant pool an operation rests on the entry alone that its instruction names.
+pub fn entries_are_named(world: &World<'_>)
+    ensures rests { RestsOnEntry world.now }
+    ensures faults { FaultNamesEntry world.now }
 {
     let _classes = world.classes();
 }

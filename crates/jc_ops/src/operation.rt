@@ -152,7 +152,11 @@ pub enum Operation {
     Load(Sort, u8),
     /// Into a register, or into it and the next.
     Store(Sort, u8),
-    Increment { width: Width, register: u8, amount: i32 },
+    Increment {
+        width: Width,
+        register: u8,
+        amount: i32,
+    },
     Move(Move),
     Arithmetic(Arithmetic),
     /// By the kind of the elements.
@@ -168,7 +172,10 @@ pub enum Operation {
     FieldWrite(InstanceField, Holder),
     Call(Callee),
     /// An object of the class, made at this place.
-    New { place: u16, class: u16 },
+    New {
+        place: u16,
+        class: u16,
+    },
     /// The type of the array; its elements may be of an interface, as itself.
     NewArray(Ty),
     Throw,

@@ -66,22 +66,26 @@ fn resolved(
             top: byte / 16,
             under: byte % 16,
         })),
-        Row::StaticRead(kind) => static_field(world, package, pool, kind)
-            .map(Operation::StaticRead),
-        Row::StaticWrite(kind) => static_field(world, package, pool, kind)
-            .map(Operation::StaticWrite),
-        Row::FieldRead(kind, holder) => instance_field(world, package, pool, kind)
-            .map(|field| Operation::FieldRead(field, holder)),
-        Row::FieldWrite(kind, holder) => instance_field(world, package, pool, kind)
-            .map(|field| Operation::FieldWrite(field, holder)),
+        Row::StaticRead(kind) => static_field(world, package, pool, kind).map(
+            Operation::StaticRead,
+        ),
+        Row::StaticWrite(kind) => static_field(world, package, pool, kind).map(
+            Operation::StaticWrite,
+        ),
+        Row::FieldRead(kind, holder) => instance_field(world, package, pool, kind).map(
+            |field| Operation::FieldRead(field, holder),
+        ),
+        Row::FieldWrite(kind, holder) => instance_field(world, package, pool, kind).map(
+            |field| Operation::FieldWrite(field, holder),
+        ),
         Row::Call(by) => callee(world, package, insn, by).map(Operation::Call),
         Row::New => new_object(world, package, place, pool),
         Row::NewNumbers => Ok(Operation::NewArray(array_of(byte))),
         Row::NewReferences => array_type(world, package, pool).map(Operation::NewArray),
-        Row::TypeTest(test) => tested_type(world, package, byte, short_of(insn.y))
-            .map(|ty| Operation::TypeTest(test, ty)),
-        Row::Return(sort) => result_returned(world, sort, method.sig.result)
-            .map(Operation::Return),
+        Row::TypeTest(test) => tested_type(world, package, byte, short_of(insn.y)).map(
+            |ty| Operation::TypeTest(test, ty),
+        ),
+        Row::Return(sort) => result_returned(world, sort, method.sig.result).map(Operation::Return),
     }
 }
 

@@ -149,7 +149,10 @@ static ROWS: [Row; 256] = [
     Row::Plain(Operation::Arithmetic(Arithmetic::Binary(Operator::ShiftRight, Width::Short))),
     Row::Plain(Operation::Arithmetic(Arithmetic::Binary(Operator::ShiftRight, Width::Int))),
     // sushr, iushr
-    Row::Plain(Operation::Arithmetic(Arithmetic::Binary(Operator::ShiftRightUnsigned, Width::Short))),
+    Row::Plain(Operation::Arithmetic(Arithmetic::Binary(
+        Operator::ShiftRightUnsigned,
+        Width::Short,
+    ))),
     Row::Plain(Operation::Arithmetic(Arithmetic::Binary(Operator::ShiftRightUnsigned, Width::Int))),
     // sand, iand
     Row::Plain(Operation::Arithmetic(Arithmetic::Binary(Operator::And, Width::Short))),

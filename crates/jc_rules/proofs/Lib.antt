@@ -8,3 +8,4 @@ pub mod Keeps
 pub mod Raising
 pub mod Cards
 pub mod Decides
+pub mod Footprints

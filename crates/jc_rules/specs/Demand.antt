@@ -11,7 +11,7 @@ use Rattle.jc_rules.specs.declared.demand.Before.{Before}
 use Rattle.jc_rules.specs.declared.effect.Effect.{Effect}
 use Rattle.jc_ops.specs.declared.want.Want.{Want}
 use Rattle.jc_ops.specs.declared.want.Want.TheVariants.{Value, Storable, ByteArray, AnyArray, Whole, Receiver}
-use Rattle.jc_ops.specs.Named.{IsKnownWant}
+use Rattle.jc_ops.specs.Sound.{IsKnownWant}
 use Rattle.jc_rules.specs.declared.demand.Demand.{Demand}
 use Rattle.jc_rules.specs.declared.demand.Demand.TheVariants.{Registers, Depth, Cell, Cut, Held}
 

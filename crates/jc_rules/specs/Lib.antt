@@ -2,8 +2,10 @@ pub mod Stack
 pub mod Effect
 pub mod Demand
 pub mod Rule
+pub mod Known
 pub mod Apply
 pub mod Flow
 pub mod Typing
 pub mod Laws
+pub mod Footprint
 pub mod Worked

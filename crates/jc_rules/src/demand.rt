@@ -2,7 +2,7 @@ ghost use Rattle.std.specs.Prelude.{◌≡◌, ◌↔◌, ◌≤◌, ◌<◌, le
 ghost use Rattle.jc_base.specs.Class.{IsClass, object};
 ghost use Rattle.jc_base.specs.Order.{IsKnown};
 ghost use Rattle.jc_base.specs.declared.ty.Ty.TheVariants.{IntLow, IntHigh};
-ghost use Rattle.jc_ops.specs.Named.{IsKnownWant};
+ghost use Rattle.jc_ops.specs.Sound.{IsKnownWant};
 ghost use Rattle.jc_rules.specs.Demand.{AllHold, AreKnownDemands, AreKnown, frame, Meets, Holds, Breaks, refusal, refused, IsKnownDemand, IsArrayOrNull, IsHalf, IsFreshOf, Splits, refused_at};
 
 use jc_base::{Classes, Ty, World, below};

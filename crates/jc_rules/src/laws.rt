@@ -1,11 +1,14 @@
-ghost use Rattle.jc_rules.specs.Laws.{RuleDecides, RuleKeeps, RuleFalls, RuleFallsOnCard, RuleRaises, RuleStays};
+ghost use Rattle.jc_rules.specs.Footprint.{MetIsThere, AskedIsThere, OperationReads, FootprintIsOne, OperationLeaves, OperationNamesNone};
+ghost use Rattle.jc_rules.specs.Laws.{OperationDecides, OperationKeeps, OperationFalls, OperationFallsOnCard, OperationRaises, OperationStays, RuleDecides, RuleKeeps, RuleFalls, RuleFallsOnCard, RuleRaises, RuleRises, RuleStays};
 
 use jc_base::World;
+use jc_ops::operations_are_sound;
 
-/// A rule of a world has one result, and none where it refuses.
+/// A rule of a world has one result, and none where it refuses; it refuses with one fault.
 pub fn rule_decides(world: &World<'_>)
     ensures { RuleDecides world.now }
 {
+    operations_are_sound(world);
     let _object = world.classes().at(world.role(0));
 }
 
@@ -13,6 +16,7 @@ pub fn rule_decides(world: &World<'_>)
 pub fn rule_keeps(world: &World<'_>)
     ensures { RuleKeeps world.now }
 {
+    operations_are_sound(world);
     let _object = world.classes().at(world.role(0));
 }
 
@@ -22,13 +26,40 @@ pub fn rule_falls(world: &World<'_>)
     ensures flow { RuleFalls world.now }
     ensures card { RuleFallsOnCard world.now }
 {
+    operations_are_sound(world);
     let _object = world.classes().at(world.role(0));
 }
 
-/// On the card the rules of a world raise registers, and those that are above all that is stored stay.
+/// On the card the rules of a world raise registers, as they tell, and those that are above all that is stored
+/// stay.
 pub fn rule_raises(world: &World<'_>)
     ensures raises { RuleRaises world.now }
+    ensures rises { RuleRises world.now }
     ensures stays { RuleStays world.now }
 {
     let _object = world.classes().at(world.role(0));
+}
+
+/// The same of operations, in any method.
+pub fn operation_laws(world: &World<'_>)
+    ensures decides { OperationDecides world.now }
+    ensures keeps { OperationKeeps world.now }
+    ensures falls { OperationFalls world.now }
+    ensures falls_on_card { OperationFallsOnCard world.now }
+    ensures raises { OperationRaises world.now }
+    ensures stays { OperationStays world.now }
+{
+    let _object = world.classes().at(world.role(0));
+}
+
+/// What operations ask and leave as numbers, whatever the types are.
+pub fn footprint_laws(world: &World<'_>)
+    ensures met { MetIsThere world.now }
+    ensures asked { AskedIsThere }
+    ensures reads { OperationReads world.now }
+    ensures one { FootprintIsOne world.now }
+    ensures leaves { OperationLeaves world.now }
+    ensures names_none { OperationNamesNone world.now }
+{
+    let _classes = world.classes();
 }
