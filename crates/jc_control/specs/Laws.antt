@@ -1,6 +1,7 @@
 -- Laws of flaws.
 use Rattle.std.specs.Prelude.{◌≡◌, ◌↔◌}
-use Rattle.jc_rules.specs.Flow.{Method, IsWellFormed}
+use Rattle.jc_control.specs.Method.{Method}
+use Rattle.jc_control.specs.WellFormed.{IsWellFormed}
 use Rattle.jc_control.specs.declared.flaw.Flaw.{Flaw}
 use Rattle.jc_control.specs.Flaw.{Spot, IsFlaw, IsFirstFlaw}
 

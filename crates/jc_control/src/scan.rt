@@ -1,7 +1,7 @@
 ghost use Rattle.std.specs.Prelude.{◌≡◌, ◌≤◌, ◌↔◌, ℕ, length, All, IsTrue, IfOk, IfErr, OnOk, IfSome, IfNone, Ok};
 ghost use Rattle.jc_decode.specs.Decoding.{decoded};
 ghost use Rattle.jc_decode.specs.Listing.{listing, listing_end, targets};
-ghost use Rattle.jc_rules.specs.Flow.{IsPlace, IsTargetPlace, IsHandlerOf, IsWellFormed};
+ghost use Rattle.jc_control.specs.WellFormed.{IsPlace, IsTargetPlace, IsHandlerOf, IsWellFormed};
 ghost use Rattle.jc_control.specs.Flags.{Marks};
 ghost use Rattle.jc_control.specs.Subject.{method};
 ghost use Rattle.jc_control.specs.Flaw.{IsFirstFlaw};

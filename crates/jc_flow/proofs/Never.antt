@@ -9,14 +9,17 @@ use Rattle.jc_ops.specs.declared.fault.RuleFault.{RuleFault}
 use Rattle.jc_rules.specs.declared.effect.Mode.TheVariants.{Flow}
 use Rattle.jc_rules.specs.Demand.{Frame}
 use Rattle.jc_rules.specs.Apply.{Refuses}
-use Rattle.jc_rules.specs.Flow.{Method, IsMethodOf, Stands, IsReached, IsNotFresh, IsNotTop, FrameBelow, IsFit, site_of, caught_frame, IsDerived, derived_next, derived_caught, FlowTyping, HasFlowTyping}
+use Rattle.jc_control.specs.Method.{Method, IsMethodOf}
+use Rattle.jc_control.specs.WellFormed.{Stands}
+use Rattle.jc_control.specs.Control.{IsReached}
+use Rattle.jc_rules.specs.Flow.{IsNotFresh, IsNotTop, FrameBelow, IsFit, site_of, caught_frame, IsDerived, derived_next, derived_caught, FlowTyping, HasFlowTyping}
 use Rattle.jc_rules.specs.Typing.{Clashes, depths, cells}
 use Rattle.jc_rules.specs.Laws.{Keeps}
 use Rattle.jc_rules.proofs.Keeps.{rule-keeps}
-use Rattle.jc_states.proofs.Frames.{IsReady, cells-fall, join-least, topless-falls, ready-falls}
+use Rattle.jc_flow.proofs.Frames.{IsReady, cells-fall, join-least, topless-falls, ready-falls}
 use Rattle.jc_rules.proofs.Decides.{applies-not-refuses}
 use Rattle.jc_rules.proofs.CellLists.{cells-length}
-use Rattle.jc_states.proofs.Derived.{derived-fine, derived-under, followed-below, step-below, some_to, some_at, Follows}
+use Rattle.jc_flow.proofs.Derived.{derived-fine, derived-under, followed-below, step-below, some_to, some_at, Follows}
 use Rattle.jc_flow.specs.Fails.{Fails, fails_rule, fails_jump, fails_leader, fails_merge, fails_caught, fails_handler, FailsAt, FallsPast}
 
 -- frames below one without Top do not clash

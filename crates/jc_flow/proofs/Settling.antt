@@ -1,15 +1,17 @@
--- The search from visit to visit, and its end.
+-- An analysis from visit to visit, and its end.
 use Rattle.std.proofs.Common.{◌≡◌, ℕ, ◌+◌, ◌<◌, Option, Some, None, IsSome, IfSome, length, refl, subst, sym, arith}
 use Rattle.jc_base.specs.declared.ty.Ty.TheVariants.{Top}
 use Rattle.jc_base.specs.World.{Linked, IsWorld}
 use Rattle.jc_rules.specs.Demand.{Frame}
-use Rattle.jc_rules.specs.Flow.{Method, IsMethodOf, IsWellFormed, At, FrameBelow, start_frame, IsLeastTyping}
+use Rattle.jc_control.specs.Method.{Method, IsMethodOf}
+use Rattle.jc_control.specs.WellFormed.{IsWellFormed}
+use Rattle.jc_rules.specs.Flow.{At, FrameBelow, start_frame, IsLeastTyping}
 use Rattle.jc_rules.specs.Typing.{state_at}
-use Rattle.jc_states.specs.Found.{Found, IsPending, NonePending, taken}
-use Rattle.jc_states.specs.Progress.{AreHeld, AreClosed, most_rises, work}
-use Rattle.jc_states.proofs.Derived.{derived-fine}
-use Rattle.jc_states.proofs.Growth.{visited, at-grown, taken-less}
-use Rattle.jc_states.proofs.Settled.{settled-least, reached-found, found-reached}
+use Rattle.jc_flow.specs.Found.{Found, IsPending, NonePending, taken}
+use Rattle.jc_flow.specs.Progress.{AreHeld, AreClosed, most_rises, work}
+use Rattle.jc_flow.proofs.Derived.{derived-fine}
+use Rattle.jc_flow.proofs.Growth.{visited, at-grown, taken-less}
+use Rattle.jc_flow.proofs.Settled.{settled-least, reached-found, found-reached}
 use Rattle.jc_flow.specs.Infer.{AreReached, HaveRegisters}
 use Rattle.jc_flow.specs.Visit.{IsVisited}
 

@@ -10,10 +10,12 @@ use Rattle.jc_ops.specs.declared.fault.RuleFault.{RuleFault}
 use Rattle.jc_ops.specs.declared.fault.RuleFault.TheVariants.{FreshKept}
 use Rattle.jc_rules.specs.Demand.{Frame}
 use Rattle.jc_rules.specs.Apply.{Refuses}
-use Rattle.jc_rules.specs.Flow.{Method, Stands, IsPlace, IsNotFresh, Steps, site_of}
+use Rattle.jc_control.specs.Method.{Method}
+use Rattle.jc_control.specs.WellFormed.{Stands, IsPlace}
+use Rattle.jc_rules.specs.Flow.{IsNotFresh, Steps, site_of}
 use Rattle.jc_rules.proofs.Raising.{All-turned, All-reverse}
 use Rattle.jc_control.proofs.Listed.{decoded-Stands}
-use Rattle.jc_states.specs.Progress.{IsHeld}
+use Rattle.jc_flow.specs.Progress.{IsHeld}
 use Rattle.jc_flow.specs.Fails.{FailsAt, FallsPast, fails_rule, fails_jump}
 
 ok-same : {i j : Insn} → ◌≡◌ {A = Result Insn CodeEnd} (Ok i) (Ok j) → i ≡ j

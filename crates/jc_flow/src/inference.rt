@@ -1,22 +1,22 @@
 ghost use Rattle.std.specs.Prelude.{◌≡◌, ◌<◌, ◌≤◌, None, false, length, replicate, IfOk, IfErr, OnOk, IsSomeAnd, slice_get};
 ghost use Rattle.jc_base.specs.declared.ty.Ty.TheVariants.{Top};
-ghost use Rattle.jc_rules.specs.Flow.{IsMethodOf, IsLeastTyping, At, FrameBelow, start_frame, receiver_of};
+ghost use Rattle.jc_control.specs.Method.{IsMethodOf, method_in};
+ghost use Rattle.jc_rules.specs.Flow.{IsLeastTyping, At, FrameBelow, start_frame, receiver_of};
 ghost use Rattle.jc_rules.specs.Typing.{state_at};
-ghost use Rattle.jc_states.specs.Progress.{AreHeld, AreClosed};
-ghost use Rattle.jc_control.specs.MethodIn.{method_in};
+ghost use Rattle.jc_flow.specs.Progress.{AreHeld, AreClosed};
 ghost use Rattle.jc_flow.specs.Fails.{IsFailure};
-ghost use Rattle.jc_flow.specs.Infer.{AreReached, HaveRegisters, TellsEnd, HasNone, unsurveyed_as};
-ghost use Rattle.jc_flow.specs.Visit.{searched, world_of, IsSearch};
+ghost use Rattle.jc_flow.specs.Infer.{AreReached, HaveRegisters, TellsEnd, HasNone, unformed_as};
+ghost use Rattle.jc_flow.specs.Visit.{analysed, world_of, IsAnalysis};
 
+use crate::analysis::Analysis;
 use crate::edges::broken;
 use crate::end::FlowEnd;
 use crate::scratch::Scratch;
-use crate::search::Search;
+use crate::table::Table;
 use cap_bytes::View;
 use jc_base::{MethodRec, Ty, World};
-use jc_control::{Flaw, SurveyEnd, survey};
+use jc_control::{ControlEnd, Flaw, control_flow};
 use jc_rules::Typing;
-use jc_states::Table;
 use std::alloc::{AllocError, Global};
 
 /// The least dataflow typing of a method with code, in which every register that is no argument starts as Top.
@@ -38,34 +38,34 @@ pub fn infer(alloc: Global, world: &World<'_>, method: u16) -> Result<Typing, Fl
 {
     // The facts that hold of each world.
     let _ = world.classes();
-    let survey = match survey(alloc, world, method) {
-        Ok(survey) => survey,
-        Err(end) => return Err(unsurveyed(end)),
+    let control = match control_flow(alloc, world, method) {
+        Ok(control) => control,
+        Err(end) => return Err(unformed(end)),
     };
-    let search = Search {
+    let analysis = Analysis {
         world,
         number: method,
         rec: world.method(method),
         code: View::of(world.code(method)),
-        survey: &survey,
+        control: &control,
     };
-    match search.settled(alloc) {
+    match analysis.settled(alloc) {
         Ok(table) => Ok(table.into_typing()),
         Err(end) => Err(end),
     }
 }
 
-/// Why a method was not surveyed.
-fn unsurveyed(end: SurveyEnd) -> FlowEnd
-    ensures { result ≡ unsurveyed_as end }
+/// Why it is not known where control goes in the method.
+fn unformed(end: ControlEnd) -> FlowEnd
+    ensures { result ≡ unformed_as end }
 {
     match end {
-        SurveyEnd::Flawed(flaw) => match flaw {
+        ControlEnd::Flawed(flaw) => match flaw {
             Flaw::Code(place, why) => FlowEnd::Code(place, why),
             Flaw::BadTarget(place, target) => FlowEnd::BadTarget(place, target),
             Flaw::BadHandler(entry, number) => FlowEnd::BadHandler(entry, number),
         },
-        SurveyEnd::Memory => FlowEnd::Memory,
+        ControlEnd::Memory => FlowEnd::Memory,
     }
 }
 
@@ -91,19 +91,19 @@ fn start_regs(alloc: Global, rec: &MethodRec) -> Result<Vec<Ty>, AllocError>
     Ok(regs)
 }
 
-impl Search<'_> {
+impl Analysis<'_> {
     /// Puts the frame of the method's start at place 0 of an empty table.
     fn begin(&self, alloc: Global, table: &mut Table) -> Result<(), FlowEnd>
-        requires search { IsSearch self.now }
+        requires analysis { IsAnalysis self.now }
         requires empty { table.old
             ≡ record
             { states = replicate (length self.now.code.bytes.now) None; pending = replicate (length self.now.code.bytes.now) false } }
-        ensures held { OnOk result (AreHeld (world_of self.now) (searched self.now) table.new) }
-        ensures closed { OnOk result (AreClosed (world_of self.now) (searched self.now) table.new) }
+        ensures held { OnOk result (AreHeld (world_of self.now) (analysed self.now) table.new) }
+        ensures closed { OnOk result (AreClosed (world_of self.now) (analysed self.now) table.new) }
         ensures start { OnOk result
             (At (state_at table.new.states) 0
             (FrameBelow self.now.world.now.classes (start_frame self.now.rec.now Top))) }
-        ensures failed { IfErr result (IsFailure (world_of self.now) (searched self.now)) }
+        ensures failed { IfErr result (IsFailure (world_of self.now) (analysed self.now)) }
     {
         let regs = match start_regs(alloc, self.rec) {
             Ok(regs) => regs,
@@ -117,11 +117,11 @@ impl Search<'_> {
 
     /// The table once no place waits.
     fn settled(&self, alloc: Global) -> Result<Table, FlowEnd>
-        requires { IsSearch self.now }
-        ensures typing { IfOk result (λ t. IsLeastTyping (world_of self.now) (searched self.now) Top (state_at t.states)) }
-        ensures reached { IfOk result (λ t. AreReached (searched self.now) t.states) }
-        ensures registers { IfOk result (λ t. HaveRegisters (searched self.now) t.states) }
-        ensures failed { IfErr result (IsFailure (world_of self.now) (searched self.now)) }
+        requires { IsAnalysis self.now }
+        ensures typing { IfOk result (λ t. IsLeastTyping (world_of self.now) (analysed self.now) Top (state_at t.states)) }
+        ensures reached { IfOk result (λ t. AreReached (analysed self.now) t.states) }
+        ensures registers { IfOk result (λ t. HaveRegisters (analysed self.now) t.states) }
+        ensures failed { IfErr result (IsFailure (world_of self.now) (analysed self.now)) }
     {
         let registers = self.rec.nargs + self.rec.max_locals;
         let mut table = Table::new(alloc, self.code.bytes.len())?;

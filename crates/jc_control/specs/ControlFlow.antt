@@ -1,0 +1,25 @@
+-- The places of a method that control can reach, and those among them where it comes together.
+use Rattle.std.specs.Prelude.{List, Bool, ⊤}
+use Rattle.jc_control.specs.Method.{Method}
+use Rattle.jc_control.specs.WellFormed.{IsWellFormed}
+use Rattle.jc_control.specs.Control.{IsReached, IsLeader}
+use Rattle.jc_control.specs.declared.flaw.ControlEnd.{ControlEnd}
+use Rattle.jc_control.specs.declared.flaw.ControlEnd.TheVariants.{Flawed, Memory}
+use Rattle.jc_control.specs.Flags.{Marks}
+use Rattle.jc_control.specs.Flaw.{IsFirstFlaw}
+
+-- by place whether it is reached, and whether it is a leader
+pub record Marked : Type 0 where
+  pub reached : List Bool
+  pub leaders : List Bool
+
+-- the method is well formed, and these are its reached places and its leaders
+pub record IsControlFlow (m : Method) (s : Marked) : Type 0 where
+  pub formed : IsWellFormed m
+  pub reached : Marks (IsReached m) s.reached
+  pub leaders : Marks (IsLeader m) s.leaders
+
+-- why it is not told where control goes: the first flaw of the method, or no memory
+abbrev pub TellsFlaw : Method → ControlEnd → Type 0
+TellsFlaw m (Flawed flaw) = IsFirstFlaw m flaw
+TellsFlaw m Memory = ⊤
