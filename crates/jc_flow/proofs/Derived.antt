@@ -15,6 +15,8 @@ use Rattle.jc_base.proofs.Lists.{All-slice_get}
 use Rattle.jc_base.proofs.Joins.{IsJoin-known}
 use Rattle.jc_decode.specs.declared.insn.Placed.{Placed}
 use Rattle.jc_ops.proofs.Members.{declared-known}
+use Rattle.jc_ops.proofs.Soundness.{operations-are-sound}
+use Rattle.jc_ops.proofs.Deciding.{operations-are-decided}
 use Rattle.jc_rules.specs.declared.effect.Mode.TheVariants.{Flow}
 use Rattle.jc_rules.specs.Demand.{Frame, AreKnown}
 use Rattle.jc_control.specs.Method.{Method, IsMethodOf}
@@ -25,7 +27,7 @@ use Rattle.jc_rules.specs.Laws.{IsNotBottom, Keeps, FallsTo}
 use Rattle.jc_rules.proofs.CellLists.{cells-same}
 use Rattle.jc_rules.proofs.Falls.{rule-falls}
 use Rattle.jc_rules.proofs.Keeps.{rule-keeps, join-not_fresh}
-use Rattle.jc_rules.proofs.Decides.{applies-unique}
+use Rattle.jc_rules.proofs.Decides.{rule-decides}
 use Rattle.jc_flow.proofs.Frames.{all_none, all_more, all_same, frame-trans, join-least, join-length, join-all, full-join}
 
 -- ---- elements
@@ -147,7 +149,7 @@ module _ (w : Linked) (is : IsWorld w) (m : Method) (mo : IsMethodOf w m) where
   }
 
   pub step-keeps : (i : Placed) (f g : Frame) → IsFine f → Steps w m i f g → Keeps w f g
-  step-keeps i f g fine s = rule-keeps w is is.chains (site_of m i.place) i.insn Flow f g s.0 fine.known s.1
+  step-keeps i f g fine s = rule-keeps w is is.chains (operations-are-sound w is) (site_of m i.place) i.insn Flow f g s.0 fine.known s.1
 
   pub step-fine : (i : Placed) (f g : Frame) → IsFine f → Steps w m i f g → IsFine g
   step-fine i f g fine s = let k = step-keeps i f g fine s in record {
@@ -203,7 +205,7 @@ module _ (w : Linked) (is : IsWorld w) (m : Method) (mo : IsMethodOf w m) where
 
     -- what the rule gives for the lesser frame is below what it gives for the greater one
     pub step-below : (i : Placed) (f g : Frame) → (s : Follows i f) → Steps w m i f g → FrameBelow w.classes g s.followed.after
-    step-below i f g s steps = subst (λ x. FrameBelow w.classes x s.followed.after) (applies-unique w (site_of m i.place) i.insn Flow f is.chains s.fallen.applies steps.1) s.fallen.lower
+    step-below i f g s steps = subst (λ x. FrameBelow w.classes x s.followed.after) ((rule-decides w is.chains (operations-are-decided w) (site_of m i.place) i.insn Flow f).one s.fallen.applies steps.1) s.fallen.lower
 
     pub record IsUnder (p : ℕ) (f : Frame) : Type 0 where
       pub reached : IsReached m p

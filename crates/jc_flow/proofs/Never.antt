@@ -15,9 +15,11 @@ use Rattle.jc_control.specs.Control.{IsReached}
 use Rattle.jc_rules.specs.Flow.{IsNotFresh, IsNotTop, FrameBelow, IsFit, site_of, caught_frame, IsDerived, derived_next, derived_caught, FlowTyping, HasFlowTyping}
 use Rattle.jc_rules.specs.Typing.{Clashes, depths, cells}
 use Rattle.jc_rules.specs.Laws.{Keeps}
+use Rattle.jc_ops.proofs.Soundness.{operations-are-sound}
+use Rattle.jc_ops.proofs.Deciding.{operations-are-decided}
 use Rattle.jc_rules.proofs.Keeps.{rule-keeps}
 use Rattle.jc_flow.proofs.Frames.{IsReady, cells-fall, join-least, topless-falls, ready-falls}
-use Rattle.jc_rules.proofs.Decides.{applies-not-refuses}
+use Rattle.jc_rules.proofs.Decides.{rule-decides}
 use Rattle.jc_rules.proofs.CellLists.{cells-length}
 use Rattle.jc_flow.proofs.Derived.{derived-fine, derived-under, followed-below, step-below, some_to, some_at, Follows}
 use Rattle.jc_flow.specs.Fails.{Fails, fails_rule, fails_jump, fails_leader, fails_merge, fails_caught, fails_handler, FailsAt, FallsPast}
@@ -60,7 +62,7 @@ module _ (w : Linked) (is : IsWorld w) (m : Method) (mo : IsMethodOf w m) (frame
       let fine = derived-fine w is m mo d in
       let fit : IsFit w m s.greater = some_at (IsFit w m) s.there (ty.fit i.place u.reached) in
       let keeps : Keeps w s.greater s.followed.after =
-      rule-keeps w is is.chains (site_of m i.place) i.insn Flow s.greater s.followed.after s.followed.steps.0
+      rule-keeps w is is.chains (operations-are-sound w is) (site_of m i.place) i.insn Flow s.greater s.followed.after s.followed.steps.0
       (record { few = omega (arith, cells-length w.classes s.above.regs, fine.known.few); regs = fit.known_regs; stack = fit.known_stack; object = fine.known.object })
       s.followed.steps.1 in
       keeps.no_top fit.no_top
@@ -71,7 +73,7 @@ module _ (w : Linked) (is : IsWorld w) (m : Method) (mo : IsMethodOf w m) (frame
   pub fails-never : (p : ℕ) (f : Frame) (fault : RuleFault) → IsDerived w m Top p f → Fails w m p f fault → ⊥
   fails-never p f fault d (fails_rule i st e r) =
       let s = follow i f (at-instruction i p f e d) st in
-      applies-not-refuses w (site_of m i.place) i.insn Flow f s.fallen.applies (subst (λ q. Refuses w (site_of m q) i.insn f fault) (sym e) r)
+      (rule-decides w is.chains (operations-are-decided w) (site_of m i.place) i.insn Flow f).never_both s.fallen.applies (subst (λ q. Refuses w (site_of m q) i.insn f fault) (sym e) r)
   fails-never p f fault d (fails_jump i g st e steps j n) =
       let here = at-instruction i p f e d in
       let s = follow i f here st in

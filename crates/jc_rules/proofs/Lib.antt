@@ -1,4 +1,5 @@
 pub mod Demands
+pub mod Decided
 pub mod Stacks
 pub mod CellLists
 pub mod Falls

@@ -1,3 +1,4 @@
+ghost use Rattle.jc_rules.specs.Demand.{AreDecided};
 ghost use Rattle.jc_rules.specs.Footprint.{MetIsThere, AskedIsThere, OperationReads, FootprintIsOne, OperationLeaves, OperationNamesNone};
 ghost use Rattle.jc_rules.specs.Laws.{OperationDecides, OperationKeeps, OperationFalls, OperationFallsOnCard, OperationRaises, OperationStays, RuleDecides, RuleKeeps, RuleFalls, RuleFallsOnCard, RuleRaises, RuleRises, RuleStays};
 
@@ -62,4 +63,11 @@ pub fn footprint_laws(world: &World<'_>)
     ensures names_none { OperationNamesNone world.now }
 {
     let _classes = world.classes();
+}
+
+/// Whether what is found is as wanted, and a demand is met, is decided by the computed order of types.
+pub fn demands_are_decided(world: &World<'_>)
+    ensures { AreDecided world.now.classes }
+{
+    let _object = world.classes().at(world.role(0));
 }
