@@ -4,3 +4,4 @@ pub mod Described
 pub mod Soundness
 pub mod Deciding
 pub mod Entries
+pub mod Going

@@ -3,7 +3,7 @@ use Rattle.std.proofs.Common.{◌≡◌, ℕ, ◌+◌, ◌/◌, ◌%◌, ◌<◌
 use Rattle.std.specs.List.{range_with_len}
 use Rattle.std.proofs.lemmas.Bool.Decides.{nat_tests}
 use Rattle.jc_base.specs.declared.ty.Ty.{Ty}
-use Rattle.jc_base.specs.declared.ty.Ty.TheVariants.{Class, ArrBool, ArrByte, ArrShort, ArrInt, ArrRef}
+use Rattle.jc_base.specs.declared.ty.Ty.TheVariants.{IntLow, Class, ArrBool, ArrByte, ArrShort, ArrInt, ArrRef}
 use Rattle.jc_base.specs.declared.ty.Kind.{Kind}
 use Rattle.jc_base.specs.declared.record.Member.{Member}
 use Rattle.jc_base.specs.declared.record.Member.TheVariants.{ClassOf, Field, Static, Virtual, Super, StaticCall}
@@ -21,6 +21,7 @@ use Rattle.jc_ops.specs.declared.fault.RuleFault.TheVariants.{BadMember, Mismatc
 use Rattle.jc_ops.specs.declared.want.Want.{Want}
 use Rattle.jc_ops.specs.declared.want.Want.TheVariants.{Value, Receiver}
 use Rattle.jc_ops.specs.declared.operation.Sort.{Sort}
+use Rattle.jc_ops.specs.declared.operation.Sort.TheVariants as sorts
 use Rattle.jc_ops.specs.declared.operation.Move.TheVariants as moves
 use Rattle.jc_ops.specs.declared.operation.Choice.{Choice}
 use Rattle.jc_ops.specs.declared.operation.Choice.TheVariants as choices
@@ -33,7 +34,7 @@ use Rattle.jc_ops.specs.declared.row.Row.{Row}
 use Rattle.jc_ops.specs.declared.row.Row.TheVariants as rows
 use Rattle.jc_ops.specs.Row.{table, row_at, unused, by_sort, by_width, by_kind, first_four, by_register, literals, binary, orders_all, branching}
 use Rattle.jc_ops.specs.Resolve.{byte_of, short_of, taken_if, on, same_kind, static_field, instance_field, callee_if, entry_callee, virtual_callee, own_receiver, special_callee, static_callee, is_described, passes, described, only, described_callee, interface_callee, callee, class_type, array_of, tested_type, returns, returned, result_type, result_returned, resolved, ResolvesNew, ResolvesRow, Resolves}
-use Rattle.jc_ops.specs.Sound.{IsKnownWant, receiver_count, IsStaticOf, IsFieldOf, IsVirtualCall, IsReceiverOf, IsSpecialCall, IsStaticCall, IsInterfaceCall, IsCalleeOf, IsNamedType, IsSound, OperationsAreSound}
+use Rattle.jc_ops.specs.Sound.{IsKnownWant, receiver_count, IsStaticOf, IsFieldOf, IsVirtualCall, IsReceiverOf, IsSpecialCall, IsStaticCall, IsInterfaceCall, IsCalleeOf, IsNamedType, IsResult, IsSound, OperationsAreSound}
 use Rattle.jc_ops.proofs.Members.{argument_room, entry-inherits, super-inherits, static-known, cells-declared}
 
 -- ---- rows whose opcode says all
@@ -329,10 +330,23 @@ module _ (w : Linked) (is : IsWorld w) where
       (λ q. if-sound (IsNamedType w.classes) (atype == 14) (class_type ArrRef pool o) (Ok (array_of atype))
       (λ r. class-sound (IsNamedType w.classes) ArrRef pool o (λ c lt. lt) h) (λ r. array-of (IsNamedType w.classes) tt tt tt tt atype))
 
-  return-sound : (sort : Option Sort) (result : Option Ty) → IfSome result (IsDeclared w.classes) → IfOk (result_returned w.classes sort result) (λ r. (r ≡ result) × IfSome r (IsDeclared w.classes))
+  low-unreturned : (sort : Option Sort) → returns sort (Some IntLow) ≡ false
+  low-unreturned None = refl
+  low-unreturned (Some sorts.Reference) = refl
+  low-unreturned (Some sorts.Short) = refl
+  low-unreturned (Some sorts.Int) = refl
+
+  result-is : (sort : Option Sort) (result : Option Ty) → IfSome result (IsDeclared w.classes) → returns sort result ≡ true → IfSome result (IsResult w.classes)
+  result-is sort None h q = tt
+  result-is sort (Some ty) h q = record {
+    declared = h;
+    no_low = λ e. let never : false ≡ true = sym (low-unreturned sort) ∙ subst (λ x. returns sort (Some x) ≡ true) e q in absurd (cc);
+  }
+
+  return-sound : (sort : Option Sort) (result : Option Ty) → IfSome result (IsDeclared w.classes) → IfOk (result_returned w.classes sort result) (λ r. (r ≡ result) × IfSome r (IsResult w.classes))
   return-sound sort result h =
-      if-sound (λ r. (r ≡ result) × IfSome r (IsDeclared w.classes)) (returns sort result) (Ok result) (Err (Mismatch (returned w.classes sort) (result_type result)))
-      (λ q. (refl, h)) (λ q. tt)
+      if-sound (λ r. (r ≡ result) × IfSome r (IsResult w.classes)) (returns sort result) (Ok result) (Err (Mismatch (returned w.classes sort) (result_type result)))
+      (λ q. (refl, result-is sort result h q)) (λ q. tt)
 
   -- ---- operations
 

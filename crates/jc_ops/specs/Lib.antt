@@ -3,3 +3,4 @@ pub mod Resolve
 pub mod Sound
 pub mod Entry
 pub mod Alike
+pub mod Next

@@ -2,7 +2,7 @@
 -- and of the place is needed to run it (JCVM 2.2, sections 6.7 and 7.5).
 use Rattle.std.specs.Prelude.{◌≡◌, ℕ, ◌+◌, ◌<◌, ◌≤◌, true, false, List, length, Option, Some, None, IsSomeAnd, IfSome, Result, Ok, Any, slice_get, ⊤}
 use Rattle.jc_base.specs.declared.ty.Ty.{Ty}
-use Rattle.jc_base.specs.declared.ty.Ty.TheVariants.{Class, ArrBool, ArrByte, ArrShort, ArrInt, ArrRef}
+use Rattle.jc_base.specs.declared.ty.Ty.TheVariants.{IntLow, Class, ArrBool, ArrByte, ArrShort, ArrInt, ArrRef}
 use Rattle.jc_base.specs.declared.record.Member.{Member}
 use Rattle.jc_base.specs.declared.record.Member.TheVariants.{ClassOf, Field, Static, Virtual, Super, StaticCall}
 use Rattle.jc_base.specs.declared.record.MethodRec.{MethodRec}
@@ -115,6 +115,11 @@ IsNamedType t ArrInt = ⊤
 IsNamedType t (ArrRef c) = c < length t.records
 IsNamedType t _ = ⊥
 
+-- a result has a declared type, which is no low half of an int
+pub record IsResult (t : ClassTable) (ty : Ty) : Type 0 where
+  pub declared : IsDeclared t ty
+  pub no_low : ¬ (ty ≡ IntLow)
+
 -- what the operation of an instruction at a place of a method's code speaks of is there
 abbrev pub IsSound : Linked → MethodRec → ℕ → Operation → Type 0
 IsSound w m place (ops.Move move) = IsMove move
@@ -126,7 +131,7 @@ IsSound w m place (ops.Call c) = IsCalleeOf w c
 IsSound w m place (ops.New p c) = (p ≡ place) × IsConcrete w.classes w.methods c
 IsSound w m place (ops.NewArray ty) = IsArray ty × IsNamedType w.classes ty
 IsSound w m place (ops.TypeTest test ty) = IsNamedType w.classes ty
-IsSound w m place (ops.Return result) = (result ≡ m.sig.result) × IfSome result (IsDeclared w.classes)
+IsSound w m place (ops.Return result) = (result ≡ m.sig.result) × IfSome result (IsResult w.classes)
 IsSound w m place _ = ⊤
 
 -- each operation of an instruction is sound, in code of any method with a declared result, be it of the world or not

@@ -1,4 +1,5 @@
 ghost use Rattle.jc_ops.specs.Sound.{OperationsAreSound, OperationsAreDecided};
+ghost use Rattle.jc_ops.specs.Next.{OperationsGoAlike};
 ghost use Rattle.jc_ops.specs.Entry.{RestsOnEntry, FaultNamesEntry};
 
 use jc_base::World;
@@ -15,6 +16,13 @@ pub fn operations_are_sound(world: &World<'_>)
 pub fn entries_are_named(world: &World<'_>)
     ensures rests { RestsOnEntry world.now }
     ensures faults { FaultNamesEntry world.now }
+{
+    let _classes = world.classes();
+}
+
+/// An operation falls and jumps as its instruction does in the listing of a method.
+pub fn operations_go_alike(world: &World<'_>)
+    ensures { OperationsGoAlike world.now }
 {
     let _classes = world.classes();
 }

@@ -19,7 +19,7 @@ mod site;
 mod want;
 
 pub use fault::RuleFault;
-pub use laws::{entries_are_named, operations_are_sound};
+pub use laws::{entries_are_named, operations_are_sound, operations_go_alike};
 pub use operation::{
     Arithmetic, Branch, Callee, Choice, Constant, Holder, InstanceField, Move, Operation, Operator,
     Order, Sameness, Sort, StaticField, TypeTest, Width,

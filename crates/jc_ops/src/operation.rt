@@ -1,3 +1,6 @@
+ghost use Rattle.std.specs.Prelude.{◌≡◌};
+ghost use Rattle.jc_ops.specs.Next.{falls_from, jumps_from, ends_at};
+
 use crate::want::Want;
 use jc_base::{Kind, Ty};
 
@@ -183,4 +186,33 @@ pub enum Operation {
     TypeTest(TypeTest, Ty),
     /// The result of the method's signature, where there is one.
     Return(Option<Ty>),
+}
+
+impl Operation {
+    /// Whether the instruction after may come next.
+    pub fn falls(self) -> bool
+        ensures { result ≡ falls_from self }
+    {
+        match self {
+            Operation::Branch(Branch::Always)
+            | Operation::Switch(_)
+            | Operation::Return(_)
+            | Operation::Throw => false,
+            _ => true,
+        }
+    }
+
+    /// Whether the instruction names places to go to.
+    pub fn jumps(self) -> bool
+        ensures { result ≡ jumps_from self }
+    {
+        matches!(self, Operation::Branch(_) | Operation::Switch(_))
+    }
+
+    /// Whether the method ends here, or is left for a handler.
+    pub fn ends(self) -> bool
+        ensures { result ≡ ends_at self }
+    {
+        matches!(self, Operation::Return(_) | Operation::Throw)
+    }
 }

@@ -35,7 +35,7 @@ use Rattle.jc_ops.specs.declared.operation.Operation.TheVariants as ops
 use Rattle.jc_ops.specs.declared.want.Want.{Want}
 use Rattle.jc_ops.specs.declared.want.Want.TheVariants.{Value, Storable, ByteArray, AnyArray, Whole, Receiver}
 use Rattle.jc_ops.specs.declared.operation.Callee.{Callee}
-use Rattle.jc_ops.specs.Sound.{IsKnownWant, IsMove, IsNamedType, IsCalleeOf, receiver_count, IsSound}
+use Rattle.jc_ops.specs.Sound.{IsKnownWant, IsMove, IsNamedType, IsCalleeOf, IsResult, receiver_count, IsSound}
 use Rattle.jc_rules.specs.declared.demand.Demand.{Demand}
 use Rattle.jc_rules.specs.declared.demand.Demand.TheVariants.{Cell, Held}
 use Rattle.jc_rules.specs.declared.effect.Cells.{Cells}
@@ -543,6 +543,10 @@ module _ (t : ClassTable) (objects : IsClass t (object t)) where
   seen-known (ArrRef c) h = (standing-class c h, tt)
   seen-known _ h = absurd h
 
+result-full : (t : ClassTable) (o : Option Ty) → IfSome o (IsResult t) → IfSome o (λ ty. IsKnown t ty × IsValue ty)
+result-full t None h = tt
+result-full t (Some ty) h = declared-full t ty h.declared
+
 -- what a sound operation speaks of is known
 callee-known : (w : Linked) (c : Callee) → IsCalleeOf w c → IsKnownCallee w c
 callee-known w c h = (subst (λ o. IsSomeAnd o (λ m. length m.sig.args + receiver_count c.receiver ≤ 255)) (sym h.is_method) h.room, h.known)
@@ -557,7 +561,7 @@ sound-known w m place (ops.Call c) h = callee-known w c h
 sound-known w m place (ops.New p c) h = h.1.class
 sound-known w m place (ops.NewArray ty) h = h.1
 sound-known w m place (ops.TypeTest test ty) h = h
-sound-known w m place (ops.Return result) h = IfSome-full w.classes result h.1
+sound-known w m place (ops.Return result) h = result-full w.classes result h.1
 sound-known w m place _ h = tt
 
 module _ (w : Linked) (is : IsWorld w) (f : Frame) (k : AreKnown w.classes f) where

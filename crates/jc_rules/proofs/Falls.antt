@@ -29,7 +29,8 @@ use Rattle.jc_ops.specs.declared.site.Site.{Site}
 use Rattle.jc_rules.specs.declared.rule.Outcome.{Outcome}
 use Rattle.jc_rules.specs.Effect.{listed, ready, changed, reg, IsStored, Writes, WritesCells, Stores, rises}
 use Rattle.jc_rules.specs.Demand.{Frame, IsArrayOrNull, IsHalf, IsFreshOf, Meets, Holds, AllHold}
-use Rattle.jc_rules.specs.Rule.{cell, or_null, element, ready_with, call_demands, call_effect, cells_wanted, args_at, result_at, result_given, load_demands, load_effect, store_effect, array_read_demands, array_read_effect, falls_from, ends_at, wrote, demands, effect}
+use Rattle.jc_ops.specs.Next.{falls_from, ends_at}
+use Rattle.jc_rules.specs.Rule.{cell, or_null, element, ready_with, call_demands, call_effect, cells_wanted, args_at, result_at, result_given, load_demands, load_effect, store_effect, array_read_demands, array_read_effect, wrote, demands, effect}
 use Rattle.jc_rules.specs.Flow.{CellsBelow, no_cells, more_cells, FrameBelow, IsNotTop, IsNotFresh}
 use Rattle.jc_rules.specs.Laws.{IsNotBottom, OperationFalls, OperationFallsTo, RuleFalls, FallsTo}
 use Rattle.jc_rules.specs.Apply.{OperationApplies, Applies}
@@ -39,7 +40,7 @@ use Rattle.jc_rules.proofs.Demands.{AllHold-rest}
 -- ---- what lies below and above
 
 -- IntLow and what is above it, IntHigh and what is above it
-LowUp : Ty → Type 0
+unfoldable pub LowUp : Ty → Type 0
 LowUp IntLow = ⊤
 LowUp Top = ⊤
 LowUp _ = ⊥
@@ -87,7 +88,7 @@ ReferencesDown (ArrRef c) = ⊤
 ReferencesDown _ = ⊥
 
 module _ (t : ClassTable) where
-  low-up : {a b : Ty} → Below t a b → LowUp a → LowUp b
+  pub low-up : {a b : Ty} → Below t a b → LowUp a → LowUp b
   unfolding LowUp
   low-up same h = h
   low-up (joined p q) h = low-up q (low-up p h)
@@ -264,7 +265,7 @@ module _ (t : ClassTable) where
   unfolding HighUp
   high_above {b = b} p n = high_is b (high-up t p tt) n
 
-  half-up : (a : Ty) {b : Ty} → Below t a b → IsNotTop b → IsHalf a → IsHalf b
+  pub half-up : (a : Ty) {b : Ty} → Below t a b → IsNotTop b → IsHalf a → IsHalf b
   half-up IntHigh p n h = subst IsHalf (sym (high_above p n)) tt
   half-up IntLow p n h = subst IsHalf (sym (low_above p n)) tt
   half-up _ p n h = absurd h

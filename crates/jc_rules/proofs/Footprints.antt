@@ -20,6 +20,7 @@ use Rattle.jc_ops.specs.declared.operation.Branch.TheVariants as branches
 use Rattle.jc_ops.specs.declared.operation.TypeTest.TheVariants as tests
 use Rattle.jc_ops.specs.declared.operation.Operation.{Operation}
 use Rattle.jc_ops.specs.declared.operation.Operation.TheVariants as ops
+use Rattle.jc_ops.specs.Alike.{IsAlike, equal, loads, stores, increments}
 use Rattle.jc_rules.specs.declared.demand.Demand.{Demand}
 use Rattle.jc_rules.specs.declared.demand.Demand.TheVariants.{Registers, Depth, Cell, Cut, Held}
 use Rattle.jc_rules.specs.declared.effect.Cells.{Cells}
@@ -33,7 +34,7 @@ use Rattle.jc_rules.specs.Effect.{listed, changed, needed, depth_after, reg, Wri
 use Rattle.jc_rules.specs.Demand.{Frame, Meets, Holds, AllHold}
 use Rattle.jc_rules.specs.Rule.{cell, on_stack, replacing, or_null, ready_with, call_effect, cells_wanted, receiver_wanted, call_demands, args_at, result_at, result_given, wrote, demands, effect}
 use Rattle.jc_rules.specs.Apply.{OperationApplies}
-use Rattle.jc_rules.specs.Footprint.{cells_asked, registers_asked, registers_read, IsThere, AreThere, Footprint, footprint_of, footprint, cells_taken, cells_given, MetIsThere, AskedIsThere, AgreeOn, OperationReads, written_by, OperationLeaves, FootprintIsOne, OperationNamesNone}
+use Rattle.jc_rules.specs.Footprint.{cells_asked, registers_asked, registers_read, IsThere, AreThere, Footprint, footprint_of, footprint, cells_taken, cells_given, MetIsThere, AskedIsThere, AgreeOn, OperationReads, written_by, OperationLeaves, FootprintIsOne, OperationNamesNone, LeavesAlike, AlikeLeaveAlike}
 use Rattle.jc_rules.proofs.Effects.{Suits, suits, sound-known, length-changed}
 
 -- ---- what is asked
@@ -301,3 +302,19 @@ operation-names-none w limit op before after o regs none a =
       wrote_is = a.wrote_is ∙ ap (λ e. wrote e.store.register e.store.cells) alike.done;
       rose_is = a.rose_is ∙ sym (ap (λ s. rises w.classes Card s regs) stored);
     }
+
+-- ---- operations that are equal but for registers
+
+leaves-self : (w : Linked) (op : Operation) → LeavesAlike w op op
+leaves-self w op = record { cells = refl; taken = refl; given = refl; written = refl; falls = refl; jumps = refl; ends = refl }
+
+pub alike-leave-alike : (w : Linked) → AlikeLeaveAlike w
+alike-leave-alike w _ _ (equal {op = op}) = leaves-self w op
+alike-leave-alike w _ _ (loads {s = sorts.Reference}) = record { cells = refl; taken = refl; given = refl; written = refl; falls = refl; jumps = refl; ends = refl }
+alike-leave-alike w _ _ (loads {s = sorts.Short}) = record { cells = refl; taken = refl; given = refl; written = refl; falls = refl; jumps = refl; ends = refl }
+alike-leave-alike w _ _ (loads {s = sorts.Int}) = record { cells = refl; taken = refl; given = refl; written = refl; falls = refl; jumps = refl; ends = refl }
+alike-leave-alike w _ _ (stores {s = sorts.Reference}) = record { cells = refl; taken = refl; given = refl; written = refl; falls = refl; jumps = refl; ends = refl }
+alike-leave-alike w _ _ (stores {s = sorts.Short}) = record { cells = refl; taken = refl; given = refl; written = refl; falls = refl; jumps = refl; ends = refl }
+alike-leave-alike w _ _ (stores {s = sorts.Int}) = record { cells = refl; taken = refl; given = refl; written = refl; falls = refl; jumps = refl; ends = refl }
+alike-leave-alike w _ _ (increments {width = widths.Short}) = record { cells = refl; taken = refl; given = refl; written = refl; falls = refl; jumps = refl; ends = refl }
+alike-leave-alike w _ _ (increments {width = widths.Int}) = record { cells = refl; taken = refl; given = refl; written = refl; falls = refl; jumps = refl; ends = refl }

@@ -10,3 +10,5 @@ pub mod Raising
 pub mod Cards
 pub mod Decides
 pub mod Footprints
+pub mod Flowing
+pub mod Wholes

@@ -15,7 +15,8 @@ use Rattle.jc_rules.specs.declared.rule.Outcome.{Outcome}
 use Rattle.jc_rules.specs.Stack.{cells}
 use Rattle.jc_rules.specs.Effect.{changed, depth_after, Stores, rises}
 use Rattle.jc_rules.specs.Demand.{Frame, AllHold, AreKnown}
-use Rattle.jc_rules.specs.Rule.{demands, effect, falls_from, ends_at, wrote}
+use Rattle.jc_ops.specs.Next.{falls_from, ends_at}
+use Rattle.jc_rules.specs.Rule.{demands, effect, wrote}
 use Rattle.jc_rules.specs.Known.{IsKnownOperation}
 use Rattle.jc_rules.specs.Apply.{frame_of, HasRoom, IsPlan, OperationApplies}
 use Rattle.jc_rules.proofs.Effects.{Suits, suits, sound-known, length-changed}

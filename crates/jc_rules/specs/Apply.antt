@@ -16,7 +16,8 @@ use Rattle.jc_rules.specs.declared.rule.Outcome.{Outcome}
 use Rattle.jc_rules.specs.Stack.{cells}
 use Rattle.jc_rules.specs.Effect.{changed, Stores, depth_after, rises}
 use Rattle.jc_rules.specs.Demand.{Frame, AllHold, Breaks}
-use Rattle.jc_rules.specs.Rule.{demands, effect, falls_from, ends_at, wrote}
+use Rattle.jc_ops.specs.Next.{falls_from, ends_at}
+use Rattle.jc_rules.specs.Rule.{demands, effect, wrote}
 
 -- the frame that registers, a slice and a depth hold
 abbrev pub frame_of : List Ty → List Ty → ℕ → Frame

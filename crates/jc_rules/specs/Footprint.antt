@@ -5,6 +5,8 @@ use Rattle.jc_base.specs.declared.record.MethodRec.{MethodRec}
 use Rattle.jc_base.specs.World.{Linked}
 use Rattle.jc_ops.specs.declared.operation.Operation.{Operation}
 use Rattle.jc_ops.specs.Sound.{IsSound}
+use Rattle.jc_ops.specs.Alike.{IsAlike}
+use Rattle.jc_ops.specs.Next.{falls_from, jumps_from, ends_at}
 use Rattle.jc_rules.specs.declared.demand.Demand.{Demand}
 use Rattle.jc_rules.specs.declared.demand.Demand.TheVariants.{Registers, Depth, Cell, Cut, Held}
 use Rattle.jc_rules.specs.declared.effect.Cells.{Cells}
@@ -154,3 +156,16 @@ OperationNamesNone w =
     → OperationApplies w limit op Card
     (record { regs = regs; stack = before.stack })
     (record { regs = regs; stack = after.stack }) o
+
+-- operations that are equal but for registers ask for as many cells, leave as many, and go on alike
+pub record LeavesAlike (w : Linked) (a b : Operation) : Type 0 where
+  pub cells : cells_asked (demands w a) ≡ cells_asked (demands w b)
+  pub taken : (footprint w a).taken ≡ (footprint w b).taken
+  pub given : (footprint w a).given ≡ (footprint w b).given
+  pub written : (footprint w a).written ≡ (footprint w b).written
+  pub falls : falls_from a ≡ falls_from b
+  pub jumps : jumps_from a ≡ jumps_from b
+  pub ends : ends_at a ≡ ends_at b
+
+abbrev pub AlikeLeaveAlike : Linked → Type 0
+AlikeLeaveAlike w = (a b : Operation) → IsAlike a b → LeavesAlike w a b

@@ -6,6 +6,8 @@ pub mod Known
 pub mod Apply
 pub mod Flow
 pub mod Typing
+pub mod Whole
 pub mod Laws
+pub mod FlowLaws
 pub mod Footprint
 pub mod Worked

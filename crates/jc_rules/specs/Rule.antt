@@ -357,26 +357,6 @@ effect w ops.Throw f = replacing 1 given.Nothing
 effect w (ops.TypeTest test ty) f = type_test_effect test (seen w.classes ty)
 effect w (ops.Return result) f = return_effect result
 
--- whether the instruction after may come next
-abbrev pub falls_from : Operation → Bool
-falls_from (ops.Branch branches.Always) = false
-falls_from (ops.Switch width) = false
-falls_from (ops.Return result) = false
-falls_from ops.Throw = false
-falls_from op = true
-
--- whether the instruction names places to go to
-abbrev pub jumps_from : Operation → Bool
-jumps_from (ops.Branch b) = true
-jumps_from (ops.Switch width) = true
-jumps_from op = false
-
--- whether the method ends here, or is left for a handler
-abbrev pub ends_at : Operation → Bool
-ends_at (ops.Return result) = true
-ends_at ops.Throw = true
-ends_at op = false
-
 -- the first register that is written and how many are
 abbrev pub wrote : ℕ → Cells → Option (ℕ × ℕ)
 wrote x given.Nothing = None

@@ -1,5 +1,7 @@
 ghost use Rattle.jc_rules.specs.Demand.{AreDecided};
-ghost use Rattle.jc_rules.specs.Footprint.{MetIsThere, AskedIsThere, OperationReads, FootprintIsOne, OperationLeaves, OperationNamesNone};
+ghost use Rattle.jc_rules.specs.FlowLaws.{IsOrderOfCells, JoinsStayReady, LeastIsOne, TopIsBottom};
+ghost use Rattle.jc_rules.specs.Footprint.{MetIsThere, AskedIsThere, OperationReads, FootprintIsOne, OperationLeaves, OperationNamesNone, AlikeLeaveAlike};
+ghost use Rattle.jc_rules.specs.Whole.{OperationKeepsWhole};
 ghost use Rattle.jc_rules.specs.Laws.{OperationDecides, OperationKeeps, OperationFalls, OperationFallsOnCard, OperationRaises, OperationStays, RuleDecides, RuleKeeps, RuleFalls, RuleFallsOnCard, RuleRaises, RuleRises, RuleStays};
 
 use jc_base::World;
@@ -45,6 +47,7 @@ pub fn rule_raises(world: &World<'_>)
 pub fn operation_laws(world: &World<'_>)
     ensures decides { OperationDecides world.now }
     ensures keeps { OperationKeeps world.now }
+    ensures keeps_whole { OperationKeepsWhole world.now }
     ensures falls { OperationFalls world.now }
     ensures falls_on_card { OperationFallsOnCard world.now }
     ensures raises { OperationRaises world.now }
@@ -61,6 +64,7 @@ pub fn footprint_laws(world: &World<'_>)
     ensures one { FootprintIsOne world.now }
     ensures leaves { OperationLeaves world.now }
     ensures names_none { OperationNamesNone world.now }
+    ensures alike { AlikeLeaveAlike world.now }
 {
     let _classes = world.classes();
 }
@@ -68,6 +72,16 @@ pub fn footprint_laws(world: &World<'_>)
 /// Whether what is found is as wanted, and a demand is met, is decided by the computed order of types.
 pub fn demands_are_decided(world: &World<'_>)
     ensures { AreDecided world.now.classes }
+{
+    let _object = world.classes().at(world.role(0));
+}
+
+/// The order of frames, and what dataflow typings have of it.
+pub fn typing_laws(world: &World<'_>)
+    ensures order { IsOrderOfCells world.now.classes }
+    ensures ready { JoinsStayReady world.now.classes }
+    ensures least { LeastIsOne world.now }
+    ensures unset { TopIsBottom world.now }
 {
     let _object = world.classes().at(world.role(0));
 }

@@ -6,7 +6,7 @@ ghost use Rattle.jc_rules.specs.declared.effect.Mode.TheVariants.{Card};
 ghost use Rattle.jc_rules.specs.Stack.{cells};
 ghost use Rattle.jc_rules.specs.Effect.{depth_after};
 ghost use Rattle.jc_rules.specs.Demand.{Frame, AreKnown, frame, IsJudged};
-ghost use Rattle.jc_rules.specs.Rule.{demands, effect, return_demands, return_effect, seen, standing, falls_from, ends_at, wrote};
+ghost use Rattle.jc_rules.specs.Rule.{demands, effect, return_demands, return_effect, seen, standing, wrote};
 ghost use Rattle.jc_rules.specs.Known.{IsKnownCallee, IsKnownOperation, IsValue};
 ghost use Rattle.jc_rules.specs.Apply.{frame_of, HasRoom, Applies, Refuses, IsPlanned};
 ghost use Rattle.jc_ops.specs.declared.operation.Operation.TheVariants.{Call};
@@ -18,7 +18,7 @@ use crate::objects::value_given;
 use crate::values::constant;
 use jc_base::{Ty, World};
 use jc_decode::Insn;
-use jc_ops::{Branch, Callee, Operation, RuleFault, Site, resolve};
+use jc_ops::{Callee, Operation, RuleFault, Site, resolve};
 
 /// What an instruction did.
 #[derive(Clone, Copy)]
@@ -145,28 +145,6 @@ fn plan(
     Ok(effect)
 }
 
-/// Whether the instruction after may come next.
-fn falls(operation: Operation) -> bool
-    ensures { result ≡ falls_from operation }
-{
-    match operation {
-        Operation::Branch(Branch::Always)
-        | Operation::Switch(_)
-        | Operation::Return(_)
-        | Operation::Throw => false,
-        _ => true,
-    }
-}
-
-fn ends(operation: Operation) -> bool
-    ensures { result ≡ ends_at operation }
-{
-    match operation {
-        Operation::Return(_) | Operation::Throw => true,
-        _ => false,
-    }
-}
-
 impl Store {
     /// The first register that is written, and how many are.
     fn wrote(self) -> Option<(u8, u8)>
@@ -219,8 +197,8 @@ pub fn apply(
     let depth = change_stack(stack, depth, effect.change);
     let rose = change_regs(classes, regs, effect.store, mode);
     Ok(Outcome {
-        falls: falls(operation),
-        ends: ends(operation),
+        falls: operation.falls(),
+        ends: operation.ends(),
         depth,
         wrote: effect.store.wrote(),
         rose,

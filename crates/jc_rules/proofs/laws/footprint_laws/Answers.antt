@@ -1,4 +1,4 @@
-use Rattle.jc_rules.proofs.Footprints.{met-is-there, asked-is-there, operation-reads, footprint-is-one, operation-leaves, operation-names-none}
+use Rattle.jc_rules.proofs.Footprints.{met-is-there, asked-is-there, operation-reads, footprint-is-one, operation-leaves, operation-names-none, alike-leave-alike}
 use Rattle.jc_rules.proofs.laws.footprint_laws.Goals as goal
 
 pub returns-clause-met : goal.returns-clause-met
@@ -18,3 +18,6 @@ returns-clause-leaves c = operation-leaves c.args.world.now c.classes-classes.en
 
 pub returns-clause-names_none : goal.returns-clause-names_none
 returns-clause-names_none c = operation-names-none c.args.world.now
+
+pub returns-clause-alike : goal.returns-clause-alike
+returns-clause-alike c = alike-leave-alike c.args.world.now

@@ -3,6 +3,7 @@ use Rattle.jc_base.specs.Class.{AreClasses}
 use Rattle.jc_rules.proofs.Decides.{operation-decides}
 use Rattle.jc_rules.proofs.Falls.{operation-falls}
 use Rattle.jc_rules.proofs.Keeps.{operation-keeps}
+use Rattle.jc_rules.proofs.Wholes.{operation-keeps-whole}
 use Rattle.jc_rules.proofs.Cards.{operation-falls-on-card, operation-raises, operation-stays}
 use Rattle.jc_rules.proofs.laws.operation_laws.Goals as goal
 
@@ -23,3 +24,6 @@ returns-clause-raises c = operation-raises c.args.world.now (subst AreClasses c.
 
 pub returns-clause-stays : goal.returns-clause-stays
 returns-clause-stays c = operation-stays c.args.world.now (subst AreClasses c.classes.ensures.is c.at-object.ensures.chains)
+
+pub returns-clause-keeps_whole : goal.returns-clause-keeps_whole
+returns-clause-keeps_whole c = operation-keeps-whole c.args.world.now c.classes.ensures.links
