@@ -1,5 +1,5 @@
 -- What a traversal has found when nothing is pending is what control reaches.
-use Rattle.std.proofs.Common.{◌≡◌, ◌≤◌, ◌+◌, ◌⊎◌, inl, inr, ⊎_elim, ℕ, Bool, false, Ok, Err, List, [], ◌∷◌, length, refl, sym, ap, ◌∙◌, subst, arith, Contains, All, IsTrue}
+use Rattle.std.proofs.Common.{◌≡◌, ◌<◌, ◌≤◌, ◌+◌, ◌⊎◌, inl, inr, ⊎_elim, ℕ, Bool, false, Ok, Err, List, [], ◌∷◌, length, refl, sym, ap, ◌∙◌, subst, arith, Contains, All, IsTrue}
 use Rattle.std.specs.Prelude.{pos, replicate}
 use Rattle.std.proofs.lemmas.Bool.{false≢true}
 use Rattle.std.proofs.lemmas.List.{length-replicate}
@@ -19,6 +19,7 @@ use Rattle.jc_control.specs.Flags.{IsFlagged}
 use Rattle.jc_control.specs.Places.{BeginsIn}
 use Rattle.jc_control.specs.Traversal.{Grows, IsSound, IsLedTo, IsCaught, IsClosedAt, IsClosed, IsDone, found}
 use Rattle.jc_control.specs.ControlFlow.{IsControlFlow}
+use Rattle.jc_control.specs.Laws.{InstructionsArePlaced}
 use Rattle.jc_control.proofs.Elements.{nothing-in, Contains-either, Contains-first, Contains-later}
 use Rattle.jc_control.proofs.Listed.{all-listed, decoded-Stands, one-at}
 use Rattle.jc_control.proofs.Marked.{flag-none}
@@ -53,6 +54,17 @@ module _ (m : Method) (w : IsWellFormed m) where
   target-boundary : (i : Placed) (q : ℕ) → Stands m.code i → IsSuccessor m.code i q → IsBoundary m.code q
   target-boundary i _ there (falls_through goes) = at-end (i.place + i.insn.len) (next-in m.code 0 (listing m.code) i (all-listed m.code) there)
   target-boundary i q there (jumped among) = inr (All-contains (IsTargetPlace m.code) (targets m.code i) (pos q) (w.targets i there) among)
+
+  next-boundary : (i : Placed) → Stands m.code i → IsBoundary m.code (i.place + i.insn.len)
+  next-boundary i there = at-end (i.place + i.insn.len) (next-in m.code 0 (listing m.code) i (all-listed m.code) there)
+
+  -- where the code goes on, an instruction begins after each
+  pub place-after : (i : Placed) → Stands m.code i → i.place + i.insn.len < length m.code → IsPlace m.code (i.place + i.insn.len)
+  place-after i there inside = ⊎_elim (λ end. absurd (omega (arith, end))) (λ place. place) (next-boundary i there)
+
+  -- and one begins at place 0
+  pub place-first : 0 < length m.code → IsPlace m.code 0
+  place-first filled = ⊎_elim (λ end. absurd (omega (arith, end))) (λ place. place) (at-end 0 (first-in m.code (listing m.code) (all-listed m.code)))
 
   reached-boundary : (p : ℕ) → IsReached m p → IsBoundary m.code p
   reached-boundary _ begins = at-end 0 (first-in m.code (listing m.code) (all-listed m.code))
@@ -107,6 +119,14 @@ closed-after m a b c i g h stands fell led entries = record {
     goes q (jumped among) = h.reached q ((All-contains (IsLedTo b) (targets m.code i) (pos q) led among).0)
 
 -- ---- nothing pending
+
+pub instructions-are-placed : InstructionsArePlaced
+instructions-are-placed = λ m w. record {
+  first = place-first m w;
+  next = next-boundary m w;
+  reached = reached-boundary m w;
+  decoded = stands-reached m w;
+}
 
 module _ (m : Method) (s t : Traversal) (sound : IsSound m s) (closed : IsClosed m s) (start : IsFlagged s.reached 0) (done : IsDone s t) where
   closed-there : (p : ℕ) → IsFlagged s.reached p → IsClosedAt m s p

@@ -22,6 +22,13 @@ pub data IsReached (m : Method) : ℕ → Type 0 where
   follows : {i : Placed} {q : ℕ} → Stands m.code i → IsReached m i.place → IsSuccessor m.code i q → IsReached m q
   caught : {h : Handler} {p : ℕ} → IsReached m p → Contains m.rec.handlers h → Covers h p → IsReached m h.entry
 
+-- a handler whose range has a reached place
+pub record IsLive (m : Method) (h : Handler) : Type 0 where
+  pub listed : Contains m.rec.handlers h
+  pub place : ℕ
+  pub reached : IsReached m place
+  pub covers : Covers h place
+
 -- a target of a reached branch or switch, or the entry of a handler that covers a reached place
 pub data IsLeader (m : Method) : ℕ → Type 0 where
   led_to : {i : Placed} {q : ℕ} → Stands m.code i → IsReached m i.place → Contains (targets m.code i) (pos q) → IsLeader m q

@@ -1,11 +1,12 @@
 -- The places of a method that control can reach, and those among them where it comes together.
-use Rattle.std.specs.Prelude.{List, Bool, ⊤}
+use Rattle.std.specs.Prelude.{ℕ, List, Bool, ⊤}
+use Rattle.jc_base.specs.declared.record.Handler.{Handler}
 use Rattle.jc_control.specs.Method.{Method}
 use Rattle.jc_control.specs.WellFormed.{IsWellFormed}
-use Rattle.jc_control.specs.Control.{IsReached, IsLeader}
+use Rattle.jc_control.specs.Control.{Covers, IsReached, IsLeader}
 use Rattle.jc_control.specs.declared.flaw.ControlEnd.{ControlEnd}
 use Rattle.jc_control.specs.declared.flaw.ControlEnd.TheVariants.{Flawed, Memory}
-use Rattle.jc_control.specs.Flags.{Marks}
+use Rattle.jc_control.specs.Flags.{IsFlagged, Marks}
 use Rattle.jc_control.specs.Flaw.{IsFirstFlaw}
 
 -- by place whether it is reached, and whether it is a leader
@@ -23,3 +24,9 @@ pub record IsControlFlow (m : Method) (s : Marked) : Type 0 where
 abbrev pub TellsFlaw : Method → ControlEnd → Type 0
 TellsFlaw m (Flawed flaw) = IsFirstFlaw m flaw
 TellsFlaw m Memory = ⊤
+
+-- a marked place is in the handler's range
+pub record IsMarkedLive (s : Marked) (h : Handler) : Type 0 where
+  pub place : ℕ
+  pub marked : IsFlagged s.reached place
+  pub covers : Covers h place

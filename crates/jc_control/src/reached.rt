@@ -1,9 +1,13 @@
-ghost use Rattle.std.specs.Prelude.{◌≡◌};
+ghost use Rattle.std.specs.Prelude.{◌≡◌, ◌↔◌, IsTrue, Contains};
+ghost use Rattle.jc_control.specs.Method.{Method};
+ghost use Rattle.jc_control.specs.Control.{IsLive};
+ghost use Rattle.jc_control.specs.ControlFlow.{IsControlFlow, IsMarkedLive};
 ghost use Rattle.jc_control.specs.Flags.{flag};
 ghost use Rattle.jc_control.specs.Traversal.{found};
 
 use crate::flags::Flags;
 use crate::traversal::Traversal;
+use jc_base::Handler;
 use std::marker::Model;
 
 /// The places of a well-formed method that control can reach, and those among them where it comes together.
@@ -46,5 +50,26 @@ impl ControlFlow {
         ensures { result ≡ flag self.now.leaders place }
     {
         self.leaders.has(u32::from(place))
+    }
+
+    /// Whether control reaches a place in the handler's range: of the handlers of the method, whether it is live.
+    pub fn is_live(&self, handler: Handler) -> bool
+        ensures marked { IsTrue result ↔ IsMarkedLive self.now handler }
+        ensures live { (m : Method) → IsControlFlow m self.now → Contains m.rec.handlers handler → IsTrue result ↔ IsLive m handler }
+    {
+        self.has_reached(handler)
+    }
+
+    fn has_reached(&self, handler: Handler) -> bool
+        ensures { IsTrue result ↔ IsMarkedLive self.now handler }
+    {
+        let mut place = handler.start;
+        'range: while place < handler.end {
+            if self.is_reached(place) {
+                return true;
+            }
+            place += 1;
+        }
+        false
     }
 }

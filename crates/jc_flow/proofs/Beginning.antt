@@ -15,7 +15,7 @@ use Rattle.jc_flow.specs.Progress.{IsHeld, AreHeld, IsClosed, AreClosed}
 use Rattle.jc_flow.proofs.Frames.{all_none}
 use Rattle.jc_flow.specs.Fails.{IsFailure}
 use Rattle.jc_flow.specs.Visit.{Goes, broken_at}
-use Rattle.jc_flow.proofs.NextPlaces.{place-first}
+use Rattle.jc_control.proofs.Closing.{place-first}
 
 abbrev pub empty : ℕ → Found
 empty n = record { states = replicate n None; pending = replicate n false }
@@ -41,7 +41,7 @@ module _ (w : Linked) (m : Method) where
   pub start-held : IsMethodOf w m → IsWellFormed m → IsHeld w m 0 (start_frame m.rec Top)
   start-held mo formed = record {
     derived = derived_start;
-    place = place-first m.code formed.ends mo.filled;
+    place = place-first m formed mo.filled;
     room = omega arith;
     no_top = all_none IsNotTop;
     ready = λ l. all_none IsNotFresh;

@@ -194,7 +194,7 @@ module _ (w : Linked) (is : IsWorld w) (m : Method) (mo : IsMethodOf w m) where
         some_to (FrameBelow w.classes f) (Follows i f) (frames i.place)
         (λ g there le.
         let followed : IsFollowed w m frames i g = some_at (IsFollowed w m frames i) there (ty.rules i st reached) in
-        let fit = some_at (IsFit w m) there (ty.fit i.place reached) in
+        let fit = some_at (IsFit m) there (ty.fit i.place reached) in
         record {
           greater = g;
           above = le;

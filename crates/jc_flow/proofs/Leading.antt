@@ -29,7 +29,7 @@ use Rattle.jc_flow.proofs.Growth.{grown-same}
 use Rattle.jc_flow.specs.Fails.{FailsAt, fails_leader, fails_merge, fails_caught, fails_handler, IsFailure}
 use Rattle.jc_flow.specs.Visit.{HasStepped, Goes, broken_at}
 use Rattle.jc_flow.proofs.Steps.{stands-here}
-use Rattle.jc_flow.proofs.NextPlaces.{place-after}
+use Rattle.jc_control.proofs.Closing.{place-after}
 
 pub frame-is : (regs stack : List Ty) (f : Frame) → regs ≡ f.regs → stack ≡ f.stack → ◌≡◌ {A = Frame} (record { regs = regs; stack = stack }) f
 frame-is regs stack f e h =
@@ -66,7 +66,7 @@ module _ (w : Linked) (is : IsWorld w) (m : Method) (mo : IsMethodOf w m) (forme
   }
 
   pub next-held : IsTrue (falls insn.op) → (IsLeader m (p + insn.len) → All IsNotFresh g.stack) → IsHeld w m (p + insn.len) g
-  next-held on ready = step-held (p + insn.len) (falls_through on) (place-after m.code formed.ends (record { place = p; insn = insn }) stands (st.stays on)) ready
+  next-held on ready = step-held (p + insn.len) (falls_through on) (place-after m formed (record { place = p; insn = insn }) stands (st.stays on)) ready
 
   pub target-there : (t : ℤ) → Contains (targets m.code (record { place = p; insn = insn })) t → IsTargetPlace m.code t
   target-there t c = all_contained (IsTargetPlace m.code) (targets m.code (record { place = p; insn = insn })) t (formed.targets (record { place = p; insn = insn }) stands) c

@@ -7,7 +7,6 @@ pub mod Measure
 pub mod Copies
 pub mod Raise
 pub mod Steps
-pub mod NextPlaces
 pub mod Leading
 pub mod Visits
 pub mod Settling

@@ -42,7 +42,7 @@ module _ (w : Linked) (is : IsWorld w) (m : Method) (mo : IsMethodOf w m) (found
     fit = λ p r. let here = reached-found r in
         let h : IsHeld w m p here.0 = held.held p here.0 here.1 in
         let fine = derived-fine w is m mo h.derived in
-        at_some (IsFit w m) here.1 (record { known_regs = fine.known.regs; known_stack = fine.known.stack; room = h.room; no_top = h.no_top; no_fresh = fine.no_fresh });
+        at_some (IsFit m) here.1 (record { room = h.room; no_top = h.no_top; no_fresh = fine.no_fresh });
     rules = λ i st r. let here = reached-found r in at_some (IsFollowed w m (state_at found.states) i) here.1 ((is_closed i.place here.0 here.1).rule i st refl);
     stays = λ i st r falls. let here = reached-found r in (is_closed i.place here.0 here.1).stays i st refl falls;
     handlers = λ p h r c cov. let here = reached-found r in

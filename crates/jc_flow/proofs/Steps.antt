@@ -47,5 +47,16 @@ module _ (w : Linked) (m : Method) (p : ℕ) (f : Frame) (h : IsHeld w m p f) (i
   pub fail-jump : (g : Frame) → Steps w m (record { place = p; insn = insn }) f g → IsTrue (jumps insn.op) → ¬ (All IsNotFresh g.stack) → FailsAt w m p FreshKept
   fail-jump g s j n = record { frame = f; derived = h.derived; fails = fails_jump (record { place = p; insn = insn }) g (stands-here m.code p h.place insn d) refl s j n }
 
-  pub fall-past : IsTrue (falls insn.op) → length m.code ≤ p + insn.len → FallsPast w m p
-  fall-past on past = record { frame = f; derived = h.derived; instruction = record { place = p; insn = insn }; stands = stands-here m.code p h.place insn d; at = refl; falls_on = on; past = past }
+  pub fall-past : (g : Frame) → Steps w m (record { place = p; insn = insn }) f g → (IsTrue (jumps insn.op) → All IsNotFresh g.stack) → IsTrue (falls insn.op) → length m.code ≤ p + insn.len → FallsPast w m p
+  fall-past g s ready on past = record {
+    frame = f;
+    derived = h.derived;
+    instruction = record { place = p; insn = insn };
+    stands = stands-here m.code p h.place insn d;
+    at = refl;
+    after = g;
+    steps = s;
+    ready = ready;
+    falls_on = on;
+    past = past;
+  }

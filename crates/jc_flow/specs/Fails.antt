@@ -68,13 +68,17 @@ pub record FailsAt (w : Linked) (m : Method) (p : ℕ) (fault : RuleFault) : Typ
   pub derived : IsDerived w m Top p frame
   pub fails : Fails w m p frame fault
 
--- a derived frame stands at the place, and after the instruction there the code ends
+-- a derived frame stands at the place; the rule of the instruction there gives a frame, with no uninitialised object under the operands of
+-- a branch or switch; and after it the code ends
 pub record FallsPast (w : Linked) (m : Method) (p : ℕ) : Type 0 where
   pub frame : Frame
   pub derived : IsDerived w m Top p frame
   pub instruction : Placed
   pub stands : Stands m.code instruction
   pub at : instruction.place ≡ p
+  pub after : Frame
+  pub steps : Steps w m instruction frame after
+  pub ready : IsTrue (jumps instruction.insn.op) → All IsNotFresh after.stack
   pub falls_on : IsTrue (falls instruction.insn.op)
   pub past : length m.code ≤ instruction.place + instruction.insn.len
 

@@ -2,11 +2,11 @@
 use Rattle.std.specs.Prelude.{◌≡◌, ℕ, ◌+◌, ◌↔◌, List, length, Option, IsSome, IfSome, ⊤}
 use Rattle.jc_base.specs.declared.ty.Ty.TheVariants.{Top}
 use Rattle.jc_base.specs.World.{Linked}
-use Rattle.jc_rules.specs.Demand.{Frame}
+use Rattle.jc_rules.specs.Demand.{Frame, AreKnown}
 use Rattle.jc_control.specs.Method.{Method}
 use Rattle.jc_control.specs.WellFormed.{IsWellFormed}
 use Rattle.jc_control.specs.Control.{IsReached}
-use Rattle.jc_rules.specs.Flow.{HasFlowTyping}
+use Rattle.jc_rules.specs.Flow.{IsDerived, HasFlowTyping}
 use Rattle.jc_rules.specs.Typing.{state_at}
 use Rattle.jc_control.specs.Flaw.{IsFirstFlaw}
 use Rattle.jc_control.specs.declared.flaw.Flaw.TheVariants as flaws
@@ -23,6 +23,13 @@ AreReached m typing = (place : ℕ) → IsSome (state_at typing place) ↔ IsRea
 -- each frame has a type for each register of the method
 abbrev pub HaveRegisters : Method → List (Option Frame) → Type 0
 HaveRegisters m typing = (place : ℕ) → IfSome (state_at typing place) (λ f. length f.regs ≡ m.rec.nargs + m.rec.max_locals)
+
+-- each frame is a derived one, and its types name classes
+abbrev pub AreDerived : Linked → Method → List (Option Frame) → Type 0
+AreDerived w m typing = (place : ℕ) → IfSome (state_at typing place) (IsDerived w m Top place)
+
+abbrev pub HaveKnownTypes : Linked → List (Option Frame) → Type 0
+HaveKnownTypes w typing = (place : ℕ) → IfSome (state_at typing place) (AreKnown w.classes)
 
 -- why there is no typing: the method is not well formed, and this is its first flaw; or it is, and a derived frame fails so at the place
 abbrev pub TellsEnd : Linked → Method → FlowEnd → Type 0

@@ -5,7 +5,7 @@ ghost use Rattle.jc_rules.specs.Flow.{IsLeastTyping, At, FrameBelow, start_frame
 ghost use Rattle.jc_rules.specs.Typing.{state_at};
 ghost use Rattle.jc_flow.specs.Progress.{AreHeld, AreClosed};
 ghost use Rattle.jc_flow.specs.Fails.{IsFailure};
-ghost use Rattle.jc_flow.specs.Infer.{AreReached, HaveRegisters, TellsEnd, HasNone, unformed_as};
+ghost use Rattle.jc_flow.specs.Infer.{AreReached, HaveRegisters, AreDerived, HaveKnownTypes, TellsEnd, HasNone, unformed_as};
 ghost use Rattle.jc_flow.specs.Visit.{analysed, world_of, IsAnalysis};
 
 use crate::analysis::Analysis;
@@ -24,7 +24,8 @@ use std::alloc::{AllocError, Global};
 /// First the method's code, targets and handlers are tried, and then the places in the order in which they wait,
 /// the least first. At one place come the rule, an uninitialised object under the operands of a branch or switch,
 /// the end of the code, and then the edges: the covering handlers in table order, the instruction after, and the
-/// targets in order, the default first.
+/// targets in order, the default first. Of the edges no clause pins the order: an end at a place names a reason that
+/// holds there.
 pub fn infer(alloc: Global, world: &World<'_>, method: u16) -> Result<Typing, FlowEnd>
     requires { IsSomeAnd (slice_get world.now.methods method) (λ m. 0 < m.code_len) }
     ensures known { IsSomeAnd (method_in world.now method) (λ m. IsMethodOf world.now m) }
@@ -32,6 +33,9 @@ pub fn infer(alloc: Global, world: &World<'_>, method: u16) -> Result<Typing, Fl
     // A place has a state exactly where control reaches it.
     ensures states { IsSomeAnd (method_in world.now method) (λ m. IfOk result (λ t. AreReached m t)) }
     ensures registers { IsSomeAnd (method_in world.now method) (λ m. IfOk result (HaveRegisters m)) }
+    // Each state is a derived one: each other typing is above it. Its types name classes of the world.
+    ensures derived { IsSomeAnd (method_in world.now method) (λ m. IfOk result (AreDerived world.now m)) }
+    ensures types { IsSomeAnd (method_in world.now method) (λ m. IfOk result (HaveKnownTypes world.now)) }
     // But for one out of memory, an end says that there is no typing, and why.
     ensures none { IsSomeAnd (method_in world.now method) (λ m. IfErr result (HasNone world.now m)) }
     ensures end { IsSomeAnd (method_in world.now method) (λ m. IfErr result (TellsEnd world.now m)) }
@@ -121,6 +125,8 @@ impl Analysis<'_> {
         ensures typing { IfOk result (λ t. IsLeastTyping (world_of self.now) (analysed self.now) Top (state_at t.states)) }
         ensures reached { IfOk result (λ t. AreReached (analysed self.now) t.states) }
         ensures registers { IfOk result (λ t. HaveRegisters (analysed self.now) t.states) }
+        ensures derived { IfOk result (λ t. AreDerived (world_of self.now) (analysed self.now) t.states) }
+        ensures known { IfOk result (λ t. HaveKnownTypes (world_of self.now) t.states) }
         ensures failed { IfErr result (IsFailure (world_of self.now) (analysed self.now)) }
     {
         let registers = self.rec.nargs + self.rec.max_locals;

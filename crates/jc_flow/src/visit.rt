@@ -6,7 +6,7 @@ ghost use Rattle.jc_flow.specs.Found.{IsPending, taken, NonePending};
 ghost use Rattle.jc_flow.specs.Progress.{AreHeld, AreClosed};
 ghost use Rattle.jc_flow.specs.Scratch.{SuitsMethod};
 ghost use Rattle.jc_flow.specs.Fails.{IsFailure};
-ghost use Rattle.jc_flow.specs.Infer.{AreReached, HaveRegisters};
+ghost use Rattle.jc_flow.specs.Infer.{AreReached, HaveRegisters, AreDerived, HaveKnownTypes};
 ghost use Rattle.jc_flow.specs.Visit.{analysed, world_of, IsAnalysis, Goes, IsVisited};
 
 use crate::analysis::Analysis;
@@ -72,6 +72,8 @@ impl Analysis<'_> {
         ensures settled { OnOk result (IsLeastTyping (world_of self.now) (analysed self.now) Top (state_at table.new.states)) }
         ensures reached { OnOk result (AreReached (analysed self.now) table.new.states) }
         ensures registers { OnOk result (HaveRegisters (analysed self.now) table.new.states) }
+        ensures derived { OnOk result (AreDerived (world_of self.now) (analysed self.now) table.new.states) }
+        ensures known { OnOk result (HaveKnownTypes (world_of self.now) table.new.states) }
         ensures failed { IfErr result (IsFailure (world_of self.now) (analysed self.now)) }
     {
         'places: while let Some(place) = table.take_least() {

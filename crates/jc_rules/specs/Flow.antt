@@ -6,7 +6,7 @@ use Rattle.jc_base.specs.declared.ty.Ty.TheVariants.{Class, Fresh, Top}
 use Rattle.jc_base.specs.declared.record.Handler.{Handler}
 use Rattle.jc_base.specs.declared.record.MethodRec.{MethodRec}
 use Rattle.jc_base.specs.Class.{ClassTable}
-use Rattle.jc_base.specs.Order.{Below, IsJoin, IsKnown}
+use Rattle.jc_base.specs.Order.{Below, IsJoin}
 use Rattle.jc_base.specs.World.{Linked}
 use Rattle.jc_decode.specs.declared.insn.Placed.{Placed}
 use Rattle.jc_decode.specs.Listing.{falls, jumps}
@@ -71,9 +71,7 @@ pub record IsFollowed (w : Linked) (m : Method) (frames : ℕ → Option Frame) 
   pub ready : IsTrue (jumps i.insn.op) → All IsNotFresh after.stack
 
 -- a frame that may stand at a reached place
-pub record IsFit (w : Linked) (m : Method) (f : Frame) : Type 0 where
-  pub known_regs : All (IsKnown w.classes) f.regs
-  pub known_stack : All (IsKnown w.classes) f.stack
+pub record IsFit (m : Method) (f : Frame) : Type 0 where
   pub room : length f.stack ≤ m.rec.max_stack
   pub no_top : All IsNotTop f.stack
   pub no_fresh : All IsNotFresh f.regs
@@ -84,7 +82,7 @@ pub record IsFit (w : Linked) (m : Method) (f : Frame) : Type 0 where
 pub record FlowTyping (w : Linked) (m : Method) (unset : Ty) (frames : ℕ → Option Frame) : Type 0 where
   pub formed : IsWellFormed m
   pub start : At frames 0 (FrameBelow w.classes (start_frame m.rec unset))
-  pub fit : (p : ℕ) → IsReached m p → At frames p (IsFit w m)
+  pub fit : (p : ℕ) → IsReached m p → At frames p (IsFit m)
   pub rules : (i : Placed) → Stands m.code i → IsReached m i.place → At frames i.place (IsFollowed w m frames i)
   pub stays : (i : Placed) → Stands m.code i → IsReached m i.place → IsTrue (falls i.insn.op) → i.place + i.insn.len < length m.code
   pub handlers :

@@ -3,7 +3,7 @@ use Rattle.jc_flow.specs.Found.{Found, taken}
 use Rattle.jc_flow.specs.Progress.{AreHeld}
 use Rattle.jc_flow.proofs.Growth.{taken-held}
 use Rattle.jc_flow.specs.Visit.{analysed, IsVisited}
-use Rattle.jc_flow.proofs.Settling.{still-closed, still-started, least-found, reached-are, registers-are}
+use Rattle.jc_flow.proofs.Settling.{still-closed, still-started, least-found, reached-are, registers-are, derived-are, known-are}
 use Rattle.jc_flow.proofs.analysis.Analysis.settle.Goals as goal
 
 pub visit-requires-clause-held : goal.visit-requires-clause-held
@@ -30,3 +30,9 @@ returns-clause-reached c =
 
 pub returns-clause-registers : goal.returns-clause-registers
 returns-clause-registers c = registers-are c.args.self.now.world.now c.requires.analysis.world (analysed c.args.self.now) c.requires.analysis.method c.places.table c.take_least.new.self c.in_default.ensures.1 c.places.invariant.held
+
+pub returns-clause-derived : goal.returns-clause-derived
+returns-clause-derived c = derived-are c.args.self.now.world.now (analysed c.args.self.now) c.places.table c.take_least.new.self c.in_default.ensures.1 c.places.invariant.held
+
+pub returns-clause-known : goal.returns-clause-known
+returns-clause-known c = known-are c.args.self.now.world.now c.requires.analysis.world (analysed c.args.self.now) c.requires.analysis.method c.places.table c.take_least.new.self c.in_default.ensures.1 c.places.invariant.held

@@ -25,7 +25,8 @@ returns-then-jumps_with_fresh-clause-failed c =
 
 pub returns-then-falls_off-clause-failed : goal.returns-then-falls_off-clause-failed
 returns-then-falls_off-clause-failed c =
-    fall-past c.args.self.now.world.now (analysed c.args.self.now) c.args.place c.args.frame.now.frame c.requires.here c.in-Ok.insn (sym c.in-Ok.ensures.value) c.if-falls_off.ensures.0 c.if-falls_off.ensures.1
+    fall-past c.args.self.now.world.now (analysed c.args.self.now) c.args.place c.args.frame.now.frame c.requires.here c.in-Ok.insn (sym c.in-Ok.ensures.value) c.apply.new.self.frame c.in_default.ensures.stepped
+    (λ j. all-of_slice IsNotFresh c.stack.result.now c.apply.new.self.frame.stack c.stack.ensures.is (c.if-jumps_with_fresh.ensures j)) c.if-falls_off.ensures.0 c.if-falls_off.ensures.1
 
 pub returns-clause-stepped : goal.returns-clause-stepped
 returns-clause-stepped c = record {
