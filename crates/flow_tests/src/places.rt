@@ -1,19 +1,19 @@
 use crate::caught::Range;
 use crate::one_method::world;
-use jc_control::{Flaw, Survey, SurveyEnd, survey};
+use jc_control::{ControlEnd, ControlFlow, Flaw, control_flow};
 use jc_decode::CodeEnd;
 use std::alloc::Global;
 use std::test::*;
 
 /// The code of a method and its handlers; the places that control reaches, and the leaders among them.
-type Surveyed = (
+type Controlled = (
     &'static [u8],
     &'static [Range],
     &'static [u16],
     &'static [u16],
 );
 
-static SURVEYED: [Surveyed; 5] = [
+static CONTROLLED: [Controlled; 5] = [
     // `sconst_0`, `sreturn`
     (&[3, 120], &[], &[0, 1], &[]),
     // `sconst_0` alone: control falls past the end
@@ -54,23 +54,27 @@ static FLAWED: [Flawed; 8] = [
     (&[17, 0, 0, 122], &[(0, 4, 1)], Flaw::BadHandler(1, 0)),
 ];
 
-/// The survey of the method, where its code is that of a short example.
-fn surveyed(alloc: Global, code: &[u8], ranges: &[Range]) -> Option<Result<Survey, SurveyEnd>> {
+/// Where control goes in the method, where its code is that of a short example.
+fn controlled(
+    alloc: Global,
+    code: &[u8],
+    ranges: &[Range],
+) -> Option<Result<ControlFlow, ControlEnd>> {
     if code.is_empty() || code.len() > 100 || ranges.len() > 10 {
         return None;
     }
     match world(alloc, code, ranges) {
-        Ok(world) => Some(survey(alloc, &world, 0)),
+        Ok(world) => Some(control_flow(alloc, &world, 0)),
         Err(_) => None,
     }
 }
 
 /// Whether these are the places that control reaches, and the leaders among them.
-fn finds(alloc: Global, (code, ranges, reached, leaders): Surveyed) -> bool {
-    match surveyed(alloc, code, ranges) {
-        Some(Ok(survey)) => (0..=100).all(|place| {
-            survey.is_reached(place) == reached.contains(&place)
-                && survey.is_leader(place) == leaders.contains(&place)
+fn finds(alloc: Global, (code, ranges, reached, leaders): Controlled) -> bool {
+    match controlled(alloc, code, ranges) {
+        Some(Ok(control)) => (0..=100).all(|place| {
+            control.is_reached(place) == reached.contains(&place)
+                && control.is_leader(place) == leaders.contains(&place)
         }),
         _ => false,
     }
@@ -100,15 +104,15 @@ fn is_same_flaw(a: Flaw, b: Flaw) -> bool {
 
 /// Whether this is the first flaw.
 fn is_flawed(alloc: Global, (code, ranges, expected): Flawed) -> bool {
-    match surveyed(alloc, code, ranges) {
-        Some(Err(SurveyEnd::Flawed(flaw))) => is_same_flaw(flaw, expected),
+    match controlled(alloc, code, ranges) {
+        Some(Err(ControlEnd::Flawed(flaw))) => is_same_flaw(flaw, expected),
         _ => false,
     }
 }
 
 #[test]
 fn where_control_goes(rt: HostRuntime) {
-    for example in SURVEYED {
+    for example in CONTROLLED {
         assert!(rt; finds(rt.alloc(), example));
     }
     for example in FLAWED {
