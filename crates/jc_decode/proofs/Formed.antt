@@ -224,3 +224,18 @@ short-allowed i allowed = by_test (has_register i.op) refl (nat_le (unsigned_abs
         let short = IsShort-at i.op (unsigned_abs i.x) small e few in
         let other = and-parts _ _ (or-rest _ _ (passed-at is_moved is_moved-all (first_short i.op + unsigned_abs i.x) short.small) short.moved) in
         rw (e, f) (AllowsBy-none (record i { op = first_short i.op + unsigned_abs i.x; x = pos 0 }) (layout_of (first_short i.op + unsigned_abs i.x)) other.0 refl n.y n.z)
+
+pub short-jumps : (i : Insn) → jumps (short_form i).op ≡ jumps i.op
+short-jumps i = by_test (has_register i.op) refl (nat_le (unsigned_abs i.x) 3) refl
+  where
+    by_test : (a : Bool) → has_register i.op ≡ a → (b : Bool) → nat_le (unsigned_abs i.x) 3 ≡ b → jumps (short_form i).op ≡ jumps i.op
+    by_test false e b f = rw e refl
+    by_test true e false f = rw (e, f) refl
+    by_test true e true f =
+        let small = small-by i.op e in
+        let named = and-parts _ _ (or-rest (has_register i.op) _ (passed-at is_named is_named-all i.op small) e) in
+        let still = and-parts _ _ named.1 in
+        let few = few-by (unsigned_abs i.x) f in
+        let short = IsShort-at i.op (unsigned_abs i.x) small e few in
+        let other = and-parts _ _ (or-rest _ _ (passed-at is_moved is_moved-all (first_short i.op + unsigned_abs i.x) short.small) short.moved) in
+        rw (e, f) (not-true _ other.1 ∙ sym (not-true _ still.0))

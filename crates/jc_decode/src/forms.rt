@@ -1,6 +1,7 @@
 ghost use Rattle.std.specs.Prelude.{◌≡◌, ℕ, List, Ok, IsTrue};
 ghost use Rattle.jc_decode.specs.Decoding.{decoded};
 ghost use Rattle.jc_decode.specs.Encoding.{IsAllowed};
+ghost use Rattle.jc_decode.specs.Listing.{jumps};
 ghost use Rattle.jc_decode.specs.Forms.{essence, first_short, has_register, is_register_move, length_of, plain_length, short_form};
 
 use crate::insn::Insn;
@@ -17,10 +18,10 @@ impl Insn {
     /// A load or store of one of the first four registers as the instruction of one byte for it, as
     /// `aload_2` for `aload 2`. Any other instruction stays as it is.
     pub fn short_form(self) -> Insn
-        requires { IsAllowed self }
         ensures value { result ≡ short_form self }
-        ensures same { essence result ≡ essence self }
-        ensures allowed { IsAllowed result }
+        ensures same { IsAllowed self → essence result ≡ essence self }
+        ensures allowed { IsAllowed self → IsAllowed result }
+        ensures jumps { jumps result.op ≡ jumps self.op }
     {
         self.in_one_byte()
     }
