@@ -3,16 +3,16 @@ use Rattle.std.proofs.Common.{◌≡◌, ℕ, ◌<◌, length, All, Option, Some
 use Rattle.jc_base.specs.Order.{IsKnown}
 use Rattle.jc_base.specs.World.{Linked, IsWorld}
 use Rattle.jc_rules.specs.Demand.{Frame}
-use Rattle.jc_rules.specs.Flow.{Method, IsMethodOf}
+use Rattle.jc_control.specs.Method.{Method, IsMethodOf}
 use Rattle.jc_rules.specs.Typing.{state_at}
 use Rattle.jc_control.proofs.Listed.{place-inside}
-use Rattle.jc_states.specs.declared.table.PutEnd.{PutEnd}
-use Rattle.jc_states.specs.Found.{Found, HasKnown, Lands, Prevents}
+use Rattle.jc_flow.specs.declared.table.PutEnd.{PutEnd}
+use Rattle.jc_flow.specs.Found.{Found, HasKnown, Lands, Prevents}
 use Rattle.jc_base.specs.Class.{ClassTable}
-use Rattle.jc_states.specs.Progress.{IsHeld, AreHeld}
-use Rattle.jc_states.proofs.Derived.{derived-fine}
-use Rattle.jc_states.proofs.Growth.{lands-grown, lands-above, lands-held}
-use Rattle.jc_states.proofs.Measure.{frame-rises}
+use Rattle.jc_flow.specs.Progress.{IsHeld, AreHeld}
+use Rattle.jc_flow.proofs.Derived.{derived-fine}
+use Rattle.jc_flow.proofs.Growth.{lands-grown, lands-above, lands-held}
+use Rattle.jc_flow.proofs.Measure.{frame-rises}
 use Rattle.jc_flow.specs.Visit.{Raised}
 
 module _ (w : Linked) (is : IsWorld w) (m : Method) (mo : IsMethodOf w m) where
