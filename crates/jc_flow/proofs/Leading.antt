@@ -60,7 +60,7 @@ module _ (w : Linked) (is : IsWorld w) (m : Method) (mo : IsMethodOf w m) (forme
   step-held q to place ready = record {
     derived = derived_next here.derived stands st.steps to;
     place = place;
-    room = subst (λ r. length g.stack ≤ r.max_stack) (some-same st.steps.1.is_method mo.rec) st.steps.1.room;
+    room = subst (λ r. length g.stack ≤ r.max_stack) (some-same st.steps.1.is_method mo.rec) st.steps.1.rule.does.room;
     no_top = (step-keeps w is m mo (record { place = p; insn = insn }) f g (derived-fine w is m mo here.derived) st.steps).no_top here.no_top;
     ready = ready;
   }
