@@ -14,7 +14,7 @@ use Rattle.jc_control.specs.Method.{Method}
 use Rattle.jc_control.specs.WellFormed.{Stands, IsWellFormed}
 use Rattle.jc_control.specs.Control.{IsSuccessor, Covers, IsReached, IsLeader}
 use Rattle.jc_rules.specs.declared.effect.Mode.TheVariants.{Flow}
-use Rattle.jc_rules.specs.declared.rule.Site.{Site}
+use Rattle.jc_ops.specs.declared.site.Site.{Site}
 use Rattle.jc_rules.specs.declared.rule.Outcome.{Outcome}
 use Rattle.jc_rules.specs.Demand.{Frame}
 use Rattle.jc_rules.specs.Apply.{Applies}

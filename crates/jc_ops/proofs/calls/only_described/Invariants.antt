@@ -1,7 +1,7 @@
 use Rattle.std.proofs.Common.{◌<◌, length, IfSome, slice_get}
-use Rattle.jc_ops.specs.Named.{passes, is_described}
+use Rattle.jc_ops.specs.Resolve.{passes, is_described}
 use Rattle.jc_ops.proofs.Described.{Finds}
-use Rattle.jc_ops.proofs.called.only_described.Given as goal
+use Rattle.jc_ops.proofs.calls.only_described.Given as goal
 
 abbrev pub invariant-methods : goal.invariant-methods
 invariant-methods l = record {

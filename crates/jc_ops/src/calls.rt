@@ -1,14 +1,16 @@
-ghost use Rattle.std.specs.Prelude.{◌≡◌, ◌<◌, ◌+◌, ◌≤◌, length, IfOk, IfSome, Some, None, slice_get};
+ghost use Rattle.std.specs.Prelude.{◌≡◌, ◌<◌, length, IfSome, Some, slice_get};
 ghost use Rattle.jc_base.specs.Class.{IsClass};
 ghost use Rattle.jc_base.specs.declared.record.Member.TheVariants.{Super, StaticCall};
 ghost use Rattle.jc_base.specs.Dispatch.{entry_at};
 ghost use Rattle.jc_base.specs.Linked.{lacks_code};
 ghost use Rattle.jc_base.specs.World.{member_at};
-ghost use Rattle.jc_ops.specs.Named.{byte_of, short_of, virtual_named, entry_named, special_named, static_call_named, interface_named, described_named, is_described, only, described, call_named, own_receiver, TakesReceiver, IsNamed};
+ghost use Rattle.jc_ops.specs.Resolve.{virtual_callee, entry_callee, special_callee, static_callee, interface_callee, described_callee, is_described, only, described, callee, own_receiver};
+ghost use Rattle.jc_ops.specs.Sound.{TakesReceiver};
 
 use crate::fault::RuleFault;
-use crate::named::{Named, byte_of, member, short_of};
-use crate::row::Call;
+use crate::named::{byte_of, member, short_of};
+use crate::operation::{Callee, Choice};
+use crate::row::Invocation;
 use crate::want::Want;
 use jc_base::{Dispatch, Member, MethodRec, Ty, World};
 use jc_decode::Insn;
@@ -32,16 +34,16 @@ fn number_at(list: &Dispatch, n: usize) -> Option<u16>
     list.as_slice().get(n).copied()
 }
 
-fn virtual_named(world: &World<'_>, package: u16, pool: u16) -> Result<Named, RuleFault>
+fn virtual_callee(world: &World<'_>, package: u16, pool: u16) -> Result<Callee, RuleFault>
     requires { «package» < length world.now.infos }
-    ensures is { result ≡ virtual_named world.now pool (member_at world.now «package» pool) }
-    ensures known { IfOk result (IsNamed world.now) }
+    ensures { result ≡ virtual_callee world.now pool (member_at world.now «package» pool) }
 {
     match member(world, package, pool) {
-        Some(Member::Virtual { class, token }) => entry_named(
+        Some(Member::Virtual { class, token }) => entry_callee(
             world,
             pool,
             class,
+            token,
             entry(world, class, token),
         ),
         _ => Err(RuleFault::BadMember(pool)),
@@ -49,26 +51,26 @@ fn virtual_named(world: &World<'_>, package: u16, pool: u16) -> Result<Named, Ru
 }
 
 /// The method of a dispatch list's entry. An array may be the receiver of a method of object.
-fn entry_named(
+fn entry_callee(
     world: &World<'_>,
     pool: u16,
     class: u16,
+    token: u8,
     entry: Option<u16>,
-) -> Result<Named, RuleFault>
-    requires class { IsClass world.now.classes class }
-    requires receives { IfSome entry (TakesReceiver world.now.methods) }
-    ensures is { result ≡ entry_named world.now pool class entry }
-    ensures known { IfOk result (IsNamed world.now) }
+) -> Result<Callee, RuleFault>
+    requires { IfSome entry (TakesReceiver world.now.methods) }
+    ensures { result ≡ entry_callee world.now pool class token entry }
 {
-    let Some(number) = entry else {
+    let Some(method) = entry else {
         return Err(RuleFault::BadMember(pool));
     };
-    if class == world.role(0) && world.method(number).is_abstract {
+    if class == world.role(0) && world.method(method).is_abstract {
         return Err(RuleFault::BadMember(pool));
     }
-    Ok(Named::Method {
-        number,
+    Ok(Callee {
+        method,
         receiver: Some(Want::Value(Ty::Class(class))),
+        choice: Choice::Virtual { class, token },
     })
 }
 
@@ -80,18 +82,17 @@ fn lacks_code(world: &World<'_>, method: &MethodRec) -> bool
     method.is_abstract || world.classes().is_interface(method.class)
 }
 
-fn super_named(world: &World<'_>, pool: u16, class: u16, number: u16) -> Result<Named, RuleFault>
-    requires class { IsClass world.now.classes class }
-    requires receives { TakesReceiver world.now.methods number }
-    ensures is { result ≡ special_named world.now pool (Some (Super class number)) }
-    ensures known { IfOk result (IsNamed world.now) }
+fn super_callee(world: &World<'_>, pool: u16, class: u16, method: u16) -> Result<Callee, RuleFault>
+    requires { TakesReceiver world.now.methods method }
+    ensures { result ≡ special_callee world.now pool (Some (Super class method)) }
 {
-    if lacks_code(world, world.method(number)) {
+    if lacks_code(world, world.method(method)) {
         return Err(RuleFault::BadMember(pool));
     }
-    Ok(Named::Method {
-        number,
+    Ok(Callee {
+        method,
         receiver: Some(Want::Value(Ty::Class(class))),
+        choice: Choice::Special,
     })
 }
 
@@ -107,56 +108,54 @@ fn own_receiver(method: &MethodRec) -> Want
 }
 
 /// A private method or a constructor.
-fn own_named(world: &World<'_>, pool: u16, number: u16) -> Result<Named, RuleFault>
+fn own_callee(world: &World<'_>, pool: u16, number: u16) -> Result<Callee, RuleFault>
     requires { number < length world.now.methods }
-    ensures is { result ≡ special_named world.now pool (Some (StaticCall number)) }
-    ensures known { IfOk result (IsNamed world.now) }
+    ensures { result ≡ special_callee world.now pool (Some (StaticCall number)) }
 {
     let method = world.method(number);
     if method.is_static || lacks_code(world, method) {
         return Err(RuleFault::BadMember(pool));
     }
-    Ok(Named::Method {
-        number,
+    Ok(Callee {
+        method: number,
         receiver: Some(own_receiver(method)),
+        choice: Choice::Special,
     })
 }
 
-fn special_named(world: &World<'_>, package: u16, pool: u16) -> Result<Named, RuleFault>
+fn special_callee(world: &World<'_>, package: u16, pool: u16) -> Result<Callee, RuleFault>
     requires { «package» < length world.now.infos }
-    ensures is { result ≡ special_named world.now pool (member_at world.now «package» pool) }
-    ensures known { IfOk result (IsNamed world.now) }
+    ensures { result ≡ special_callee world.now pool (member_at world.now «package» pool) }
 {
     match member(world, package, pool) {
-        Some(Member::Super { class, method }) => super_named(world, pool, class, method),
-        Some(Member::StaticCall { method }) => own_named(world, pool, method),
+        Some(Member::Super { class, method }) => super_callee(world, pool, class, method),
+        Some(Member::StaticCall { method }) => own_callee(world, pool, method),
         _ => Err(RuleFault::BadMember(pool)),
     }
 }
 
-fn static_call_named(world: &World<'_>, package: u16, pool: u16) -> Result<Named, RuleFault>
+fn static_callee(world: &World<'_>, package: u16, pool: u16) -> Result<Callee, RuleFault>
     requires { «package» < length world.now.infos }
-    ensures is { result ≡ static_call_named world.now pool (member_at world.now «package» pool) }
-    ensures known { IfOk result (IsNamed world.now) }
+    ensures { result ≡ static_callee world.now pool (member_at world.now «package» pool) }
 {
     match member(world, package, pool) {
-        Some(Member::StaticCall { method: number }) => static_method_named(world, pool, number),
+        Some(Member::StaticCall { method: number }) => static_method(world, pool, number),
         _ => Err(RuleFault::BadMember(pool)),
     }
 }
 
-fn static_method_named(world: &World<'_>, pool: u16, number: u16) -> Result<Named, RuleFault>
+fn static_method(world: &World<'_>, pool: u16, number: u16) -> Result<Callee, RuleFault>
     requires { number < length world.now.methods }
-    ensures is { result ≡ static_call_named world.now pool (Some (StaticCall number)) }
-    ensures known { IfOk result (IsNamed world.now) }
+    ensures { result ≡ static_callee world.now pool (Some (StaticCall number)) }
 {
     let method = world.method(number);
     if !method.is_static || method.is_init || lacks_code(world, method) {
         return Err(RuleFault::BadMember(pool));
     }
-    Ok(Named::Method {
-        number,
+    Ok(Callee {
+        method: number,
         receiver: None,
+        choice: Choice::Static,
     })
 }
 
@@ -184,64 +183,73 @@ fn only_described(world: &World<'_>, interface: u16, token: u8) -> Option<u16>
     found
 }
 
-/// The method that an interface describes; its argument words and the receiver are `nargs`.
-fn described_named(
+/// The method that an interface describes; its argument words and the receiver are `words`.
+fn described_callee(
     world: &World<'_>,
     pool: u16,
-    nargs: u8,
-    number: Option<u16>,
-) -> Result<Named, RuleFault>
-    requires { IfSome number (λ n. n < length world.now.methods) }
-    ensures is { result ≡ described_named world.now pool nargs number }
-    ensures known { IfOk result (IsNamed world.now) }
+    words: u8,
+    class: u16,
+    token: u8,
+    described: Option<u16>,
+) -> Result<Callee, RuleFault>
+    requires { IfSome described (λ n. n < length world.now.methods) }
+    ensures { result ≡ described_callee world.now pool words class token described }
 {
-    let Some(number) = number else {
+    let Some(method) = described else {
         return Err(RuleFault::BadMember(pool));
     };
-    if world.method(number).sig.args.len() + 1 != nargs as usize {
+    if world.method(method).sig.args.len() + 1 != words as usize {
         return Err(RuleFault::BadMember(pool));
     }
-    Ok(Named::Method {
-        number,
+    Ok(Callee {
+        method,
         receiver: Some(Want::Value(Ty::Class(world.role(0)))),
+        choice: Choice::Interface {
+            class,
+            token,
+            words,
+        },
     })
 }
 
-fn interface_named(
+fn interface_callee(
     world: &World<'_>,
     package: u16,
     pool: u16,
-    nargs: u8,
+    words: u8,
     token: u8,
-) -> Result<Named, RuleFault>
+) -> Result<Callee, RuleFault>
     requires { «package» < length world.now.infos }
-    ensures is { result ≡ interface_named world.now pool nargs token (member_at world.now «package» pool) }
-    ensures known { IfOk result (IsNamed world.now) }
+    ensures { result ≡ interface_callee world.now pool words token (member_at world.now «package» pool) }
 {
     match member(world, package, pool) {
-        Some(Member::ClassOf { class }) if world.classes().is_interface(class) => {
-            described_named(world, pool, nargs, only_described(world, class, token))
-        }
+        Some(Member::ClassOf { class }) if world.classes().is_interface(class) => described_callee(
+            world,
+            pool,
+            words,
+            class,
+            token,
+            only_described(world, class, token),
+        ),
         _ => Err(RuleFault::BadMember(pool)),
     }
 }
 
 /// The method that is called.
-pub(crate) fn call_named(
+pub(crate) fn callee(
     world: &World<'_>,
     package: u16,
     insn: Insn,
-    call: Call,
-) -> Result<Named, RuleFault>
+    by: Invocation,
+) -> Result<Callee, RuleFault>
     requires { «package» < length world.now.infos }
-    ensures is { result ≡ call_named world.now «package» insn call }
-    ensures known { IfOk result (IsNamed world.now) }
+    ensures { result ≡ callee world.now «package» insn by }
 {
-    match call {
-        Call::Virtual => virtual_named(world, package, short_of(insn.x)),
-        Call::Special => special_named(world, package, short_of(insn.x)),
-        Call::Static => static_call_named(world, package, short_of(insn.x)),
-        Call::Interface => interface_named(
+    match by {
+        Invocation::Virtual => virtual_callee(world, package, short_of(insn.x)),
+        Invocation::Special => special_callee(world, package, short_of(insn.x)),
+        Invocation::Static => static_callee(world, package, short_of(insn.x)),
+        Invocation::Interface => interface_callee(
             world,
             package,
             short_of(insn.y),

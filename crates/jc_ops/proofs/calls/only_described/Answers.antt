@@ -1,8 +1,8 @@
 use Rattle.std.proofs.Common.{◌≡◌, ◌<◌, ◌+◌, ℕ, Bool, true, length, IfSome, slice_get, ◌∙◌, sym, subst, arith}
-use Rattle.jc_ops.specs.Named.{passes, is_described, described}
+use Rattle.jc_ops.specs.Resolve.{passes, is_described, described}
 use Rattle.jc_ops.proofs.Described.{Finds, Finds-skip, Finds-take, Finds-two, Finds-end, passes-read}
-use Rattle.jc_ops.proofs.called.only_described.Goals as goal
-use Rattle.jc_ops.proofs.called.only_described.Goals.{then-is_described+in-None, else-is_described}
+use Rattle.jc_ops.proofs.calls.only_described.Goals as goal
+use Rattle.jc_ops.proofs.calls.only_described.Goals.{then-is_described+in-None, else-is_described}
 
 pub returns-in-Some-clause-is : goal.returns-in-Some-clause-is
 unfolding described
