@@ -15,7 +15,7 @@ use Rattle.jc_decode.specs.Encoding.{Allows, AllowsBy, IsAllowed}
 use Rattle.jc_decode.specs.Forms.{has_register, is_load_n, is_store_n, first_short, short_form, essence}
 use Rattle.jc_decode.proofs.Passed.{passed-at, and-parts, or-rest}
 
-abbrev is_absent : Operand → Bool
+abbrev pub is_absent : Operand → Bool
 is_absent Absent = true
 is_absent U1 = false
 is_absent U2 = false
@@ -82,7 +82,7 @@ absent-is SwapWords v h a = absurd (cc)
 absent-is ArrayType v h a = absurd (cc)
 absent-is TestedType v h a = absurd (cc)
 
-absent-allows : (o : Operand) → is_absent o ≡ true → Allows o (pos 0)
+pub absent-allows : (o : Operand) → is_absent o ≡ true → Allows o (pos 0)
 absent-allows Absent h = (refl, search rules)
 absent-allows U1 h = absurd (cc)
 absent-allows U2 h = absurd (cc)

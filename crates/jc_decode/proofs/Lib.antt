@@ -18,3 +18,5 @@ pub mod Formed
 pub mod PoolIndices
 pub mod Sized
 pub mod Labels
+pub mod JumpForms
+pub mod Defaults

@@ -1,6 +1,6 @@
 -- The forms of one instruction (JCVM 2.2, section 7.5): a load or store of one of the first four registers
 -- has a form without an operand, a jump one with an offset of one byte and one with two.
-use Rattle.std.specs.Prelude.{◌≡◌, ℕ, pos, unsigned_abs, ◌+◌, ◌-◌, ◌*◌, ◌/◌, ◌%◌, Bool, Result, Ok, Err, ◌||◌, ◌&&◌, nat_le, if◌then◌else◌}
+use Rattle.std.specs.Prelude.{◌≡◌, ℕ, pos, unsigned_abs, ◌+◌, ◌-◌, ◌*◌, ◌/◌, ◌%◌, Bool, Result, Ok, Err, ◌||◌, ◌&&◌, nat_le, if◌then◌else◌, negsuc, int_le, ℤ}
 use Rattle.std.proofs.Common.{refl}
 use Rattle.jc_decode.specs.declared.layout.Layout.{Layout}
 use Rattle.jc_decode.specs.declared.insn.Insn.{Insn}
@@ -52,6 +52,14 @@ is_wide_jump op = is_between 152 168 op
 -- the wide form of a jump
 abbrev pub wide : ℕ → ℕ
 wide op = if is_between 96 112 op then op + 56 else op
+
+-- an offset of one byte
+abbrev pub is_near : ℤ → Bool
+is_near d = int_le (negsuc 127) d && int_le d (pos 127)
+
+-- the jump whose wide form has this opcode, over a distance, in its wide or its short form
+abbrev pub jump_to : ℕ → Bool → ℤ → Insn
+jump_to op is_wide d = record { op = if is_wide then op else op - 56; x = d; y = pos 0; z = pos 0; len = 0 }
 
 -- an instruction in its long form, without its length and, where it jumps, without the default or the only distance:
 -- what stays the same where it is laid elsewhere

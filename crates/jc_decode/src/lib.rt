@@ -13,6 +13,7 @@ mod instructions;
 mod laws;
 mod layout;
 mod pool_index;
+mod renewed;
 mod setting;
 mod sizes;
 mod symbols;

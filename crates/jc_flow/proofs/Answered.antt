@@ -3,7 +3,8 @@ use Rattle.std.proofs.Common.{◌≡◌, ℕ, ◌<◌, ◌≤◌, Bool, true, fa
 use Rattle.jc_base.specs.declared.ty.Ty.TheVariants.{Top}
 use Rattle.jc_base.specs.declared.record.MethodRec.{MethodRec}
 use Rattle.jc_base.specs.Linked.{IsCodeLength, lacks_code}
-use Rattle.jc_base.specs.World.{Linked, IsWorld, code_of}
+use Rattle.jc_base.specs.World.{Linked, code_of}
+use Rattle.jc_rules.specs.FlowLaws.{AreRules}
 use Rattle.jc_base.proofs.Lists.{slice_get-below}
 use Rattle.jc_control.specs.Method.{Method, IsMethodOf, method_in, method_with}
 use Rattle.jc_rules.specs.Flow.{HasFlowTyping}
@@ -44,7 +45,7 @@ module _ (w : Linked) (n : ℕ) (rec : MethodRec) (code : List ℕ) (here : slic
   pub to-method : (P : Method → Type 0) → P (record { number = n; rec = rec; code = code }) → IsSomeAnd (method_in w n) P
   to-method P h = at_some P method-is h
 
-  pub code-short : IsWorld w → IsMethodOf w (record { number = n; rec = rec; code = code }) → length code ≤ 32767
+  pub code-short : AreRules w → IsMethodOf w (record { number = n; rec = rec; code = code }) → length code ≤ 32767
   code-short is mo =
       let most : rec.code_len ≤ 32767 = length-short (lacks_code w.classes rec) rec.code_len (of_world w is (record { number = n; rec = rec; code = code }) mo).code in
       let size : length code ≡ _ = ap length mo.code ∙ length-take rec.code_len _ in
@@ -62,7 +63,7 @@ unformed-none w m NoControl h = tt
 pub none-unformed : (w : Linked) (o : Option Method) (end : ControlEnd) (r : FlowEnd) → r ≡ unformed_as end → IsSomeAnd o (λ m. TellsFlaw m end) → IsSomeAnd o (λ m. HasNone w m r)
 none-unformed w o end r e h = some_map (λ m. TellsFlaw m end) (λ m. HasNone w m r) o (λ m t. subst (HasNone w m) (sym e) (unformed-none w m end t)) h
 
-pub none-failed : (w : Linked) → IsWorld w → (m : Method) → IsMethodOf w m → (end : FlowEnd) → IsFailure w m end → HasNone w m end
+pub none-failed : (w : Linked) → AreRules w → (m : Method) → IsMethodOf w m → (end : FlowEnd) → IsFailure w m end → HasNone w m end
 none-failed w is m mo (NoTyping p fault) h = none-where-fails w is m mo p fault h
 none-failed w is m mo (FallsOff p) h = none-where-falls w is m mo p h
 none-failed w is m mo (Code p end) h = absurd h

@@ -10,13 +10,12 @@ use Rattle.jc_base.specs.Class.{ClassTable, IsClass, is_interface}
 use Rattle.jc_base.specs.Cell.{IsDeclared}
 use Rattle.jc_base.specs.Order.{IsKnown}
 use Rattle.jc_base.specs.Linked.{IsMethod, IsHandler, IsCodeLength, list_at, lacks_code, receiver_words}
-use Rattle.jc_base.specs.World.{Linked, IsWorld}
+use Rattle.jc_base.specs.World.{Linked}
+use Rattle.jc_rules.specs.FlowLaws.{AreRules}
 use Rattle.jc_base.proofs.Lists.{All-slice_get}
 use Rattle.jc_base.proofs.Joins.{IsJoin-known}
 use Rattle.jc_decode.specs.declared.insn.Placed.{Placed}
 use Rattle.jc_ops.proofs.Members.{declared-known}
-use Rattle.jc_ops.proofs.Soundness.{operations-are-sound}
-use Rattle.jc_ops.proofs.Deciding.{operations-are-decided}
 use Rattle.jc_rules.specs.declared.effect.Mode.TheVariants.{Flow}
 use Rattle.jc_rules.specs.Demand.{Frame, AreKnown}
 use Rattle.jc_control.specs.Method.{Method, IsMethodOf}
@@ -25,9 +24,6 @@ use Rattle.jc_control.specs.Control.{IsReached, begins, follows, caught}
 use Rattle.jc_rules.specs.Flow.{IsFit, FrameBelow, At, Merges, Steps, site_of, start_frame, caught_frame, receiver_of, IsNotFresh, IsDerived, derived_start, derived_caught, derived_next, derived_joined, FlowTyping, IsFollowed}
 use Rattle.jc_rules.specs.Laws.{IsNotBottom, Keeps, FallsTo}
 use Rattle.jc_rules.proofs.CellLists.{cells-same}
-use Rattle.jc_rules.proofs.Falls.{rule-falls}
-use Rattle.jc_rules.proofs.Keeps.{rule-keeps, join-not_fresh}
-use Rattle.jc_rules.proofs.Decides.{rule-decides}
 use Rattle.jc_flow.proofs.Frames.{all_none, all_more, all_same, frame-trans, join-least, join-length, join-all, full-join}
 
 -- ---- elements
@@ -76,11 +72,11 @@ has_code : (b : Bool) (n : ℕ) → MatchBool b (n ≡ 0) (IsCodeLength n) → 0
 has_code true n h lt = absurd (omega arith)
 has_code false n h lt = refl
 
-module _ (w : Linked) (is : IsWorld w) (m : Method) (mo : IsMethodOf w m) where
+module _ (w : Linked) (is : AreRules w) (m : Method) (mo : IsMethodOf w m) where
   -- ---- the method
 
   pub of_world : IsMethod w.infos w.pools w.classes m.rec
-  of_world = All-slice_get (IsMethod w.infos w.pools w.classes) w.methods m.number m.rec is.methods mo.rec
+  of_world = All-slice_get (IsMethod w.infos w.pools w.classes) w.methods m.number m.rec is.world.methods mo.rec
 
   pub handler_of : (h : Handler) → Contains m.rec.handlers h → IsHandler w.classes (list_at w.pools m.rec.package) m.rec.code_len h
   handler_of h c = all_contained (IsHandler w.classes (list_at w.pools m.rec.package) m.rec.code_len) m.rec.handlers h of_world.handlers c
@@ -128,7 +124,7 @@ module _ (w : Linked) (is : IsWorld w) (m : Method) (mo : IsMethodOf w m) where
       few = omega (arith, start-length, of_world.registers);
       regs = start-all (IsKnown w.classes) own_class (declared-known w.classes) tt;
       stack = all_none (IsKnown w.classes);
-      object = is.chains.objects;
+      object = is.world.chains.objects;
     };
     count = start-length;
     no_fresh = start-all IsNotFresh tt (declared-ready w.classes) tt;
@@ -149,7 +145,7 @@ module _ (w : Linked) (is : IsWorld w) (m : Method) (mo : IsMethodOf w m) where
   }
 
   pub step-keeps : (i : Placed) (f g : Frame) → IsFine f → Steps w m i f g → Keeps w f g
-  step-keeps i f g fine s = rule-keeps w is is.chains (operations-are-sound w is) (site_of m i.place) i.insn Flow f g s.0 fine.known s.1
+  step-keeps i f g fine s = is.keeps (site_of m i.place) i.insn Flow f g s.0 fine.known s.1
 
   pub step-fine : (i : Placed) (f g : Frame) → IsFine f → Steps w m i f g → IsFine g
   step-fine i f g fine s = let k = step-keeps i f g fine s in record {
@@ -163,13 +159,13 @@ module _ (w : Linked) (is : IsWorld w) (m : Method) (mo : IsMethodOf w m) where
   joined-fine f g j a b merges = record {
     known = record {
       few = omega (arith, join-length w.classes merges.regs, a.known.few);
-      regs = join-all w.classes (IsKnown w.classes) (λ a b j known others join. IsJoin-known w.classes is.chains known others join) merges.regs a.known.regs b.known.regs;
-      stack = join-all w.classes (IsKnown w.classes) (λ a b j known others join. IsJoin-known w.classes is.chains known others join) merges.stack a.known.stack b.known.stack;
+      regs = join-all w.classes (IsKnown w.classes) (λ a b j known others join. IsJoin-known w.classes is.world.chains known others join) merges.regs a.known.regs b.known.regs;
+      stack = join-all w.classes (IsKnown w.classes) (λ a b j known others join. IsJoin-known w.classes is.world.chains known others join) merges.stack a.known.stack b.known.stack;
       object = a.known.object;
     };
     count = join-length w.classes merges.regs ∙ a.count;
-    no_fresh = join-all w.classes IsNotFresh (join-not_fresh w.classes is.chains) merges.regs a.no_fresh b.no_fresh;
-    no_bottom = join-all w.classes IsNotBottom (full-join w.classes is.chains) merges.stack a.no_bottom b.no_bottom;
+    no_fresh = join-all w.classes IsNotFresh (is.ready) merges.regs a.no_fresh b.no_fresh;
+    no_bottom = join-all w.classes IsNotBottom (full-join w.classes is.world.chains) merges.stack a.no_bottom b.no_bottom;
   }
 
   pub derived-fine : {p : ℕ} {f : Frame} → IsDerived w m Top p f → IsFine f
@@ -200,12 +196,12 @@ module _ (w : Linked) (is : IsWorld w) (m : Method) (mo : IsMethodOf w m) where
           above = le;
           there = there;
           followed = followed;
-          fallen = rule-falls w is.chains (site_of m i.place) i.insn Flow g f followed.after followed.steps.0 le fit.no_top fine.no_bottom followed.steps.1;
+          fallen = is.falls (site_of m i.place) i.insn Flow g f followed.after followed.steps.0 le fit.no_top fine.no_bottom followed.steps.1;
         }) below
 
     -- what the rule gives for the lesser frame is below what it gives for the greater one
     pub step-below : (i : Placed) (f g : Frame) → (s : Follows i f) → Steps w m i f g → FrameBelow w.classes g s.followed.after
-    step-below i f g s steps = subst (λ x. FrameBelow w.classes x s.followed.after) ((rule-decides w is.chains (operations-are-decided w) (site_of m i.place) i.insn Flow f).one s.fallen.applies steps.1) s.fallen.lower
+    step-below i f g s steps = subst (λ x. FrameBelow w.classes x s.followed.after) ((is.decides (site_of m i.place) i.insn Flow f).one s.fallen.applies steps.1) s.fallen.lower
 
     pub record IsUnder (p : ℕ) (f : Frame) : Type 0 where
       pub reached : IsReached m p

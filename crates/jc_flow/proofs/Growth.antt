@@ -2,13 +2,13 @@
 use Rattle.std.proofs.Common.{◌≡◌, ◌≢◌, ℕ, zero, suc, ◌<◌, ◌≤◌, ◌⊎◌, inl, inr, Bool, true, false, List, [], ◌∷◌, length, get_or, set, Option, Some, None, refl, sym, ◌∙◌, ap, subst, arith}
 use Rattle.std.proofs.lemmas.List.{length-set, get_or-set_same, get_or-set_other}
 use Rattle.std.proofs.lemmas.List.Sums.{sum_by-set}
-use Rattle.jc_base.specs.Class.{ClassTable, AreClasses}
+use Rattle.jc_base.specs.Class.{ClassTable}
 use Rattle.jc_base.specs.World.{Linked}
 use Rattle.jc_rules.specs.Demand.{Frame}
 use Rattle.jc_control.specs.Method.{Method}
 use Rattle.jc_rules.specs.Flow.{FrameBelow, At, Merges, derived_joined, IsNotFresh, caught_frame}
 use Rattle.jc_rules.specs.Typing.{state_at, rises_of}
-use Rattle.jc_rules.proofs.Keeps.{join-not_fresh}
+use Rattle.jc_rules.specs.FlowLaws.{JoinsStayReady}
 use Rattle.jc_flow.specs.Found.{Found, IsPending, with_state, taken, Lands, comes_first, stays, rises}
 use Rattle.jc_flow.specs.Progress.{IsHeld, AreHeld, IsClosed, AreClosed, rises_there, one_if, work, Grown}
 use Rattle.jc_flow.proofs.Frames.{frame-same, frame-trans, join-left, join-right, join-length, join-all}
@@ -152,14 +152,14 @@ module _ (t : ClassTable) (most : ℕ) where
 
 -- ---- frames that may stand where they stand
 
-module _ (w : Linked) (are : AreClasses w.classes) (m : Method) where
+module _ (w : Linked) (ready_joins : JoinsStayReady w.classes) (m : Method) where
   pub joined-held : (p : ℕ) (g f j : Frame) → IsHeld w m p g → IsHeld w m p f → Merges w.classes g f j → IsHeld w m p j
   joined-held p g f j a b merges = record {
     derived = derived_joined a.derived b.derived merges;
     place = a.place;
     room = omega (arith, join-length w.classes merges.stack, a.room);
     no_top = merges.no_top;
-    ready = λ l. join-all w.classes IsNotFresh (join-not_fresh w.classes are) merges.stack (a.ready l) (b.ready l);
+    ready = λ l. join-all w.classes IsNotFresh ready_joins merges.stack (a.ready l) (b.ready l);
   }
 
   set-held : (old : Found) (place : ℕ) (j : Frame) → place < length old.states → AreHeld w m old → IsHeld w m place j → AreHeld w m (with_state old place j)

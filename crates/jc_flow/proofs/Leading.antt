@@ -5,7 +5,8 @@ use Rattle.std.specs.List.{Contains}
 use Rattle.jc_base.specs.declared.ty.Ty.{Ty}
 use Rattle.jc_base.specs.declared.ty.Ty.TheVariants.{Class}
 use Rattle.jc_base.specs.declared.record.Handler.{Handler}
-use Rattle.jc_base.specs.World.{Linked, IsWorld}
+use Rattle.jc_base.specs.World.{Linked}
+use Rattle.jc_rules.specs.FlowLaws.{AreRules}
 use Rattle.jc_decode.specs.declared.insn.Insn.{Insn}
 use Rattle.jc_decode.specs.declared.insn.Placed.{Placed}
 use Rattle.jc_decode.specs.Cases.{cases}
@@ -52,7 +53,7 @@ pub targets-jump : (code : List ℕ) (i : Placed) (t : ℤ) → Contains (target
 unfolding targets
 targets-jump code i t c = if-jumps (jumps i.insn.op) (target i.place i.insn.x ∷ map (λ c. target i.place c.offset) (cases code i.place i.insn)) t c
 
-module _ (w : Linked) (is : IsWorld w) (m : Method) (mo : IsMethodOf w m) (formed : IsWellFormed m) (p : ℕ) (f g : Frame) (insn : Insn) (here : IsHeld w m p f) (st : HasStepped w m p f g insn) where
+module _ (w : Linked) (is : AreRules w) (m : Method) (mo : IsMethodOf w m) (formed : IsWellFormed m) (p : ℕ) (f g : Frame) (insn : Insn) (here : IsHeld w m p f) (st : HasStepped w m p f g insn) where
   stands : Stands m.code (record { place = p; insn = insn })
   stands = stands-here m.code p here.place insn st.decodes
 
@@ -60,7 +61,7 @@ module _ (w : Linked) (is : IsWorld w) (m : Method) (mo : IsMethodOf w m) (forme
   step-held q to place ready = record {
     derived = derived_next here.derived stands st.steps to;
     place = place;
-    room = subst (λ r. length g.stack ≤ r.max_stack) (some-same st.steps.1.is_method mo.rec) st.steps.1.room;
+    room = subst (λ r. length g.stack ≤ r.max_stack) (some-same st.steps.1.is_method mo.rec) st.steps.1.rule.does.room;
     no_top = (step-keeps w is m mo (record { place = p; insn = insn }) f g (derived-fine w is m mo here.derived) st.steps).no_top here.no_top;
     ready = ready;
   }

@@ -5,7 +5,8 @@ use Rattle.std.proofs.lemmas.List.Elements.{All-head}
 use Rattle.jc_base.specs.declared.ty.Ty.{Ty}
 use Rattle.jc_base.specs.declared.ty.Ty.TheVariants.{Top}
 use Rattle.jc_base.specs.Class.{ClassTable, AreClasses}
-use Rattle.jc_base.specs.World.{Linked, IsWorld}
+use Rattle.jc_base.specs.World.{Linked}
+use Rattle.jc_rules.specs.FlowLaws.{AreRules}
 use Rattle.jc_decode.specs.declared.insn.Placed.{Placed}
 use Rattle.jc_decode.specs.Cases.{cases}
 use Rattle.jc_decode.specs.Listing.{jumps, target, targets}
@@ -18,9 +19,7 @@ use Rattle.jc_control.specs.WellFormed.{Stands, IsTargetPlace}
 use Rattle.jc_control.specs.Control.{IsReached, follows, jumped}
 use Rattle.jc_rules.specs.Flow.{IsNotFresh, IsNotTop, FrameBelow, IsFit, site_of, caught_frame, IsDerived, derived_next, derived_caught, FlowTyping, HasFlowTyping}
 use Rattle.jc_rules.specs.Typing.{Clashes, depths, cells}
-use Rattle.jc_ops.proofs.Deciding.{operations-are-decided}
 use Rattle.jc_flow.proofs.Frames.{IsReady, cells-fall, join-least, topless-falls, ready-falls}
-use Rattle.jc_rules.proofs.Decides.{rule-decides}
 use Rattle.jc_rules.proofs.CellLists.{cells-length}
 use Rattle.jc_flow.proofs.Derived.{derived-fine, derived-under, followed-below, step-below, some_to, some_at, Follows}
 use Rattle.jc_flow.specs.Fails.{Fails, fails_rule, fails_jump, fails_leader, fails_merge, fails_caught, fails_handler, FailsAt, FallsPast}
@@ -45,7 +44,7 @@ jump-leads code i places j = by (target i.place i.insn.x) (All-head (IsTargetPla
 both : (P Q : Ty → Type 0) (xs : List Ty) → All P xs → All Q xs → All (λ ty. P ty × Q ty) xs
 both P Q xs p q k d lt = (p k d lt, q k d lt)
 
-module _ (w : Linked) (is : IsWorld w) (m : Method) (mo : IsMethodOf w m) (frames : ℕ → Option Frame) (ty : FlowTyping w m Top frames) where
+module _ (w : Linked) (is : AreRules w) (m : Method) (mo : IsMethodOf w m) (frames : ℕ → Option Frame) (ty : FlowTyping w m Top frames) where
   -- the frame of the typing at a place of a derived one
   record Above (q : ℕ) (f : Frame) : Type 0 where
     frame : Frame
@@ -75,16 +74,16 @@ module _ (w : Linked) (is : IsWorld w) (m : Method) (mo : IsMethodOf w m) (frame
       let u = derived-under w is m mo frames ty d in
       let fit = ty.fit to.0 (follows st u.reached (jumped to.1)) in
       some_to (FrameBelow w.classes s.followed.after) (All IsNotTop s.followed.after.stack) (frames to.0)
-      (λ g there le. cells-fall w.classes IsNotTop IsNotTop (topless-falls w.classes is.chains) le.stack (some_at (IsFit m) there fit).no_top)
+      (λ g there le. cells-fall w.classes IsNotTop IsNotTop (topless-falls w.classes is.world.chains) le.stack (some_at (IsFit m) there fit).no_top)
       (s.followed.below to.0 (jumped to.1))
 
   no-fresh : (g u : Frame) → FrameBelow w.classes g u → All IsNotFresh u.stack → All IsNotTop u.stack → All IsNotFresh g.stack
-  no-fresh g u le ready topless = cells-fall w.classes IsNotFresh IsReady (ready-falls w.classes is.chains) le.stack (both IsNotFresh IsNotTop u.stack ready topless)
+  no-fresh g u le ready topless = cells-fall w.classes IsNotFresh IsReady (ready-falls w.classes is.world.chains) le.stack (both IsNotFresh IsNotTop u.stack ready topless)
 
   pub fails-never : (p : ℕ) (f : Frame) (fault : RuleFault) → IsDerived w m Top p f → Fails w m p f fault → ⊥
   fails-never p f fault d (fails_rule i st e r) =
       let s = follow i f (at-instruction i p f e d) st in
-      (rule-decides w is.chains (operations-are-decided w) (site_of m i.place) i.insn Flow f).never_both s.fallen.applies (subst (λ q. Refuses w (site_of m q) i.insn f fault) (sym e) r)
+      (is.decides (site_of m i.place) i.insn Flow f).never_both s.fallen.applies (subst (λ q. Refuses w (site_of m q) i.insn f fault) (sym e) r)
   fails-never p f fault d (fails_jump i g st e steps j n) =
       let here = at-instruction i p f e d in
       let s = follow i f here st in
@@ -95,11 +94,11 @@ module _ (w : Linked) (is : IsWorld w) (m : Method) (mo : IsMethodOf w m) (frame
   fails-never p f fault d (fails_merge i g other q st e steps to od clash) =
       let u = above q g (derived_next (at-instruction i p f e d) st steps to) in
       let v = derived-under w is m mo frames ty od in
-      clash-never w.classes is.chains other g u.frame u.fit.no_top (some_at (FrameBelow w.classes other) u.there v.below) u.below clash
+      clash-never w.classes is.world.chains other g u.frame u.fit.no_top (some_at (FrameBelow w.classes other) u.there v.below) u.below clash
   fails-never p f fault d (fails_caught h other c cov od clash) =
       let u = above h.entry (caught_frame h f) (derived_caught d c cov) in
       let v = derived-under w is m mo frames ty od in
-      clash-never w.classes is.chains other (caught_frame h f) u.frame u.fit.no_top (some_at (FrameBelow w.classes other) u.there v.below) u.below clash
+      clash-never w.classes is.world.chains other (caught_frame h f) u.frame u.fit.no_top (some_at (FrameBelow w.classes other) u.there v.below) u.below clash
   fails-never p f fault d (fails_handler h c cov e) =
       let u = above h.entry (caught_frame h f) (derived_caught d c cov) in
       absurd (omega (arith, cells-length w.classes u.below.stack, u.fit.room, e))
@@ -109,7 +108,7 @@ module _ (w : Linked) (is : IsWorld w) (m : Method) (mo : IsMethodOf w m) (frame
       let u = derived-under w is m mo frames ty (at-instruction h.instruction p h.frame h.at h.derived) in
       absurd (omega (arith, ty.stays h.instruction h.stands u.reached h.falls_on, h.past))
 
-module _ (w : Linked) (is : IsWorld w) (m : Method) (mo : IsMethodOf w m) where
+module _ (w : Linked) (is : AreRules w) (m : Method) (mo : IsMethodOf w m) where
   pub none-where-fails : (p : ℕ) (fault : RuleFault) → FailsAt w m p fault → ¬ (HasFlowTyping w m Top)
   none-where-fails p fault h has = fails-never w is m mo has.frames has.typing p h.frame fault h.derived h.fails
 

@@ -1,7 +1,8 @@
 -- Where no place waits, the frames that were found are the least flow typing.
 use Rattle.std.proofs.Common.{◌≡◌, ℕ, ◌⊎◌, inl, inr, All, Some, refl}
 use Rattle.jc_base.specs.declared.ty.Ty.TheVariants.{Top}
-use Rattle.jc_base.specs.World.{Linked, IsWorld}
+use Rattle.jc_base.specs.World.{Linked}
+use Rattle.jc_rules.specs.FlowLaws.{AreRules}
 use Rattle.jc_rules.specs.Demand.{Frame}
 use Rattle.jc_control.specs.Method.{Method, IsMethodOf}
 use Rattle.jc_control.specs.WellFormed.{IsWellFormed}
@@ -16,7 +17,7 @@ pub leader-reached : (m : Method) {q : ℕ} → IsLeader m q → IsReached m q
 leader-reached m (led_to st r c) = follows st r (jumped c)
 leader-reached m (entered r c cov) = caught r c cov
 
-module _ (w : Linked) (is : IsWorld w) (m : Method) (mo : IsMethodOf w m) (found : Found) (formed : IsWellFormed m) (held : AreHeld w m found) (closed : AreClosed w m found) (none : NonePending found) (start : At (state_at found.states) 0 (FrameBelow w.classes (start_frame m.rec Top))) where
+module _ (w : Linked) (is : AreRules w) (m : Method) (mo : IsMethodOf w m) (found : Found) (formed : IsWellFormed m) (held : AreHeld w m found) (closed : AreClosed w m found) (none : NonePending found) (start : At (state_at found.states) 0 (FrameBelow w.classes (start_frame m.rec Top))) where
   is_closed : (p : ℕ) (f : Frame) → state_at found.states p ≡ Some f → IsClosed w m found p f
   is_closed p f e = by (closed p f e)
     where

@@ -4,7 +4,8 @@ use Rattle.std.specs.Prelude.{ℤ, pos, negsuc}
 use Rattle.std.proofs.lemmas.List.{take_all}
 use Rattle.std.proofs.lemmas.List.Elements.{All-more}
 use Rattle.jc_base.specs.declared.record.Handler.{Handler}
-use Rattle.jc_base.specs.World.{Linked, IsWorld}
+use Rattle.jc_base.specs.World.{Linked}
+use Rattle.jc_rules.specs.FlowLaws.{AreRules}
 use Rattle.jc_decode.specs.declared.insn.Insn.{Insn}
 use Rattle.jc_decode.specs.declared.insn.Placed.{Placed}
 use Rattle.jc_decode.specs.Listing.{falls, targets}
@@ -54,7 +55,7 @@ module _ (w : Linked) (m : Method) where
 
 -- ---- the frames that the rules work on
 
-module _ (w : Linked) (is : IsWorld w) (m : Method) (mo : IsMethodOf w m) (p : ℕ) (f : Frame) (here : IsHeld w m p f) where
+module _ (w : Linked) (is : AreRules w) (m : Method) (mo : IsMethodOf w m) (p : ℕ) (f : Frame) (here : IsHeld w m p f) where
   pub load-registers : (s : Scratched) → SuitsMethod s m.rec → length f.regs ≡ length s.frame.regs
   load-registers s suits = (derived-fine w is m mo here.derived).count ∙ sym suits.registers
 

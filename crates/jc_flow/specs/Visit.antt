@@ -1,7 +1,8 @@
 -- What a visit of a place brings about.
 use Rattle.std.specs.Prelude.{◌≡◌, ℕ, ◌+◌, ◌<◌, ◌≤◌, length, All, IsTrue, ℤ, pos, negsuc, Some, Ok}
 use Rattle.jc_base.specs.declared.record.Handler.{Handler}
-use Rattle.jc_base.specs.World.{Linked, IsWorld}
+use Rattle.jc_base.specs.World.{Linked}
+use Rattle.jc_rules.specs.FlowLaws.{AreRules}
 use Rattle.jc_decode.specs.declared.insn.Insn.{Insn}
 use Rattle.jc_decode.specs.Decoding.{decoded}
 use Rattle.jc_decode.specs.Listing.{falls, jumps}
@@ -30,7 +31,7 @@ world_of s = s.world.now
 
 -- an analysis of a well-formed method of the world, in which it is known where control goes
 pub record IsAnalysis (s : Analysis) : Type 0 where
-  pub world : IsWorld s.world.now
+  pub rules : AreRules s.world.now
   pub method : IsMethodOf s.world.now (analysed s)
   pub control : IsControlFlow (analysed s) s.control.now
   pub short : length s.code.bytes.now ≤ 32767

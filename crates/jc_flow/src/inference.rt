@@ -16,7 +16,7 @@ use crate::table::Table;
 use cap_bytes::View;
 use jc_base::{MethodRec, Ty, World};
 use jc_control::{ControlEnd, Flaw, control_flow};
-use jc_rules::Typing;
+use jc_rules::{Typing, rule_laws};
 use std::alloc::{AllocError, Global};
 
 /// The least dataflow typing of a method with code, in which every register that is no argument starts as Top.
@@ -40,8 +40,8 @@ pub fn infer(alloc: Global, world: &World<'_>, method: u16) -> Result<Typing, Fl
     ensures none { IsSomeAnd (method_in world.now method) (λ m. IfErr result (HasNone world.now m)) }
     ensures end { IsSomeAnd (method_in world.now method) (λ m. IfErr result (TellsEnd world.now m)) }
 {
-    // The facts that hold of each world.
-    let _ = world.classes();
+    // The facts that hold of each world and of its rules.
+    rule_laws(world);
     let control = match control_flow(alloc, world, method) {
         Ok(control) => control,
         Err(end) => return Err(unformed(end)),

@@ -90,7 +90,9 @@ table =
     ++ rows.CopyUnder ∷ rows.Exchange ∷ []
     ++ binary (operators.Add ∷ operators.Subtract ∷ operators.Multiply ∷ operators.Divide ∷ operators.Remainder ∷ [])
     ++ by_width (λ w. rows.Plain (ops.Arithmetic (arithmetic.Negate w)))
-    ++ binary (operators.ShiftLeft ∷ operators.ShiftRight ∷ operators.ShiftRightUnsigned ∷ operators.And ∷ operators.Or ∷ operators.ExclusiveOr ∷ [])
+    ++ binary
+    (operators.ShiftLeft ∷ operators.ShiftRight ∷ operators.ShiftRightUnsigned
+    ∷ operators.And ∷ operators.Or ∷ operators.ExclusiveOr ∷ [])
     ++ by_width rows.Increment
     ++ map (λ a. rows.Plain (ops.Arithmetic a))
     (arithmetic.ShortToByte ∷ arithmetic.ShortToInt ∷ arithmetic.IntToByte ∷ arithmetic.IntToShort ∷ arithmetic.CompareInts ∷ [])

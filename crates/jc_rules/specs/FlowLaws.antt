@@ -4,10 +4,11 @@ use Rattle.jc_base.specs.declared.ty.Ty.{Ty}
 use Rattle.jc_base.specs.declared.ty.Ty.TheVariants.{Bottom, Top}
 use Rattle.jc_base.specs.Class.{ClassTable}
 use Rattle.jc_base.specs.Order.{IsJoin}
-use Rattle.jc_base.specs.World.{Linked}
+use Rattle.jc_base.specs.World.{Linked, IsWorld}
 use Rattle.jc_control.specs.Method.{Method}
 use Rattle.jc_control.specs.Control.{IsReached}
 use Rattle.jc_rules.specs.Demand.{Frame}
+use Rattle.jc_rules.specs.Laws.{RuleDecides, RuleKeeps, RuleFalls}
 use Rattle.jc_rules.specs.Flow.{CellsBelow, FlowTyping, IsLeastTyping, IsNotFresh}
 
 -- the order of lists of cells: reflexive, transitive and antisymmetric, of lists of one length, and the same bottom first
@@ -38,3 +39,12 @@ TopIsBottom w =
     (m : Method) (frames : ℕ → Option Frame)
     → FlowTyping w m Top frames
     → FlowTyping w m Bottom frames
+
+-- what dataflow analyses rest on: a world, and the laws of its rules
+pub record AreRules (w : Linked) : Type 0 where
+  pub world : IsWorld w
+  pub decides : RuleDecides w
+  pub keeps : RuleKeeps w
+  pub falls : RuleFalls w
+  pub order : IsOrderOfCells w.classes
+  pub ready : JoinsStayReady w.classes

@@ -27,10 +27,25 @@ IsNotBottom _ = ⊤
 
 -- an operation has one result, and none where it refuses; it refuses with one fault
 pub record IsOperationDecided (w : Linked) (limit : ℕ) (op : Operation) (mode : Mode) (before : Frame) : Type 0 where
-  pub one : {f g : Frame} {o p : Outcome} → OperationApplies w limit op mode before f o → OperationApplies w limit op mode before g p → f ≡ g
-  pub one_outcome : {f g : Frame} {o p : Outcome} → OperationApplies w limit op mode before f o → OperationApplies w limit op mode before g p → o ≡ p
-  pub one_fault : {fault other : RuleFault} → OperationRefuses w limit op before fault → OperationRefuses w limit op before other → fault ≡ other
-  pub never_both : {f : Frame} {o : Outcome} {fault : RuleFault} → OperationApplies w limit op mode before f o → ¬ (OperationRefuses w limit op before fault)
+  pub one :
+      {f g : Frame} {o p : Outcome}
+      → OperationApplies w limit op mode before f o
+      → OperationApplies w limit op mode before g p
+      → f ≡ g
+  pub one_outcome :
+      {f g : Frame} {o p : Outcome}
+      → OperationApplies w limit op mode before f o
+      → OperationApplies w limit op mode before g p
+      → o ≡ p
+  pub one_fault :
+      {fault other : RuleFault}
+      → OperationRefuses w limit op before fault
+      → OperationRefuses w limit op before other
+      → fault ≡ other
+  pub never_both :
+      {f : Frame} {o : Outcome} {fault : RuleFault}
+      → OperationApplies w limit op mode before f o
+      → ¬ (OperationRefuses w limit op before fault)
 
 abbrev pub OperationDecides : Linked → Type 0
 OperationDecides w = (limit : ℕ) (op : Operation) (mode : Mode) (before : Frame) → IsOperationDecided w limit op mode before

@@ -202,7 +202,9 @@ abbrev pub array_write_demands : ClassTable → Kind → List Demand
 array_write_demands t kinds.Ref = Cell 0 (a_reference t) ∷ Cell 1 (Value Short) ∷ Cell 2 (array_wanted t kinds.Ref) ∷ []
 array_write_demands t kinds.Byte = Cell 0 (Value Short) ∷ Cell 1 (Value Short) ∷ Cell 2 (array_wanted t kinds.Byte) ∷ []
 array_write_demands t kinds.Short = Cell 0 (Value Short) ∷ Cell 1 (Value Short) ∷ Cell 2 (array_wanted t kinds.Short) ∷ []
-array_write_demands t kinds.Int = Cell 0 (Value IntLow) ∷ Cell 1 (Value IntHigh) ∷ Cell 2 (Value Short) ∷ Cell 3 (array_wanted t kinds.Int) ∷ []
+array_write_demands t kinds.Int =
+    Cell 0 (Value IntLow) ∷ Cell 1 (Value IntHigh) ∷ Cell 2 (Value Short)
+    ∷ Cell 3 (array_wanted t kinds.Int) ∷ []
 
 abbrev pub array_write_effect : Kind → Effect
 array_write_effect kinds.Int = replacing 4 given.Nothing

@@ -1,5 +1,5 @@
 ghost use Rattle.jc_rules.specs.Demand.{AreDecided};
-ghost use Rattle.jc_rules.specs.FlowLaws.{IsOrderOfCells, JoinsStayReady, LeastIsOne, TopIsBottom};
+ghost use Rattle.jc_rules.specs.FlowLaws.{AreRules, IsOrderOfCells, JoinsStayReady, LeastIsOne, TopIsBottom};
 ghost use Rattle.jc_rules.specs.Footprint.{MetIsThere, AskedIsThere, OperationReads, FootprintIsOne, OperationLeaves, OperationNamesNone, AlikeLeaveAlike};
 ghost use Rattle.jc_rules.specs.Whole.{OperationKeepsWhole};
 ghost use Rattle.jc_rules.specs.Laws.{OperationDecides, OperationKeeps, OperationFalls, OperationFallsOnCard, OperationRaises, OperationStays, RuleDecides, RuleKeeps, RuleFalls, RuleFallsOnCard, RuleRaises, RuleRises, RuleStays};
@@ -83,5 +83,13 @@ pub fn typing_laws(world: &World<'_>)
     ensures least { LeastIsOne world.now }
     ensures unset { TopIsBottom world.now }
 {
+    let _object = world.classes().at(world.role(0));
+}
+
+/// What dataflow analyses rest on: a world, and the laws of its rules.
+pub fn rule_laws(world: &World<'_>)
+    ensures { AreRules world.now }
+{
+    operations_are_sound(world);
     let _object = world.classes().at(world.role(0));
 }

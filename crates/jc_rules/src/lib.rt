@@ -23,7 +23,7 @@ pub use effect::{Cells, Change, Effect, Mode, Store};
 pub use jc_ops::{RuleFault, Site};
 pub use laws::{
     demands_are_decided, footprint_laws, operation_laws, rule_decides, rule_falls, rule_keeps,
-    rule_raises, typing_laws,
+    rule_laws, rule_raises, typing_laws,
 };
 pub use rule::{Outcome, apply};
 pub use state::{Merged, State};

@@ -20,14 +20,14 @@ settled-requires c =
     let bytes : option_map (code_of c.args.world.now.infos) (slice_get c.args.world.now.methods c.args.method) ≡ Some c.of.result.bytes.now = cc in
     let mo : IsMethodOf c.args.world.now (record { number = c.args.method; rec = c.method.result.now; code = c.of.result.bytes.now }) = of-method c.args.world.now c.args.method c.method.result.now c.of.result.bytes.now c.method.ensures.is bytes (IsMethodOf c.args.world.now) c.control_flow.ensures.known in
     record {
-      world = c.classes.ensures.links;
+      rules = c.rule_laws.ensures;
       method = mo;
       control = of-method c.args.world.now c.args.method c.method.result.now c.of.result.bytes.now c.method.ensures.is bytes (λ m. IsControlFlow m c.in-Ok.control) c.in-Ok.ensures.formed;
-      short = code-short c.args.world.now c.args.method c.method.result.now c.of.result.bytes.now c.method.ensures.is bytes c.classes.ensures.links mo;
+      short = code-short c.args.world.now c.args.method c.method.result.now c.of.result.bytes.now c.method.ensures.is bytes c.rule_laws.ensures mo;
     }
 
 pub returns-clause-none : goal.returns-clause-none
 returns-clause-none c =
     let bytes : option_map (code_of c.args.world.now.infos) (slice_get c.args.world.now.methods c.args.method) ≡ Some c.of.result.bytes.now = cc in
     let mo : IsMethodOf c.args.world.now (record { number = c.args.method; rec = c.method.result.now; code = c.of.result.bytes.now }) = of-method c.args.world.now c.args.method c.method.result.now c.of.result.bytes.now c.method.ensures.is bytes (IsMethodOf c.args.world.now) c.control_flow.ensures.known in
-    to-method c.args.world.now c.args.method c.method.result.now c.of.result.bytes.now c.method.ensures.is bytes (λ m. HasNone c.args.world.now m c.in-Err-settled.end) (none-failed c.args.world.now c.classes.ensures.links (record { number = c.args.method; rec = c.method.result.now; code = c.of.result.bytes.now }) mo c.in-Err-settled.end c.in-Err-settled.ensures.failed)
+    to-method c.args.world.now c.args.method c.method.result.now c.of.result.bytes.now c.method.ensures.is bytes (λ m. HasNone c.args.world.now m c.in-Err-settled.end) (none-failed c.args.world.now c.rule_laws.ensures (record { number = c.args.method; rec = c.method.result.now; code = c.of.result.bytes.now }) mo c.in-Err-settled.end c.in-Err-settled.ensures.failed)

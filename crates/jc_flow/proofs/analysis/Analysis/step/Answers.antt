@@ -9,10 +9,10 @@ pub returns-in-Err-clause-failed : goal.returns-in-Err-clause-failed
 returns-in-Err-clause-failed c = decodes-always c.args.self.now.code.bytes.now c.args.place c.requires.here.place (sym c.in-Err.ensures.value)
 
 pub apply-requires-clause-regs_known : goal.apply-requires-clause-regs_known
-apply-requires-clause-regs_known c = (derived-fine c.args.self.now.world.now c.requires.analysis.world (analysed c.args.self.now) c.requires.analysis.method c.requires.here.derived).known.regs
+apply-requires-clause-regs_known c = (derived-fine c.args.self.now.world.now c.requires.analysis.rules (analysed c.args.self.now) c.requires.analysis.method c.requires.here.derived).known.regs
 
 pub apply-requires-clause-stack_known : goal.apply-requires-clause-stack_known
-apply-requires-clause-stack_known c = (derived-fine c.args.self.now.world.now c.requires.analysis.world (analysed c.args.self.now) c.requires.analysis.method c.requires.here.derived).known.stack
+apply-requires-clause-stack_known c = (derived-fine c.args.self.now.world.now c.requires.analysis.rules (analysed c.args.self.now) c.requires.analysis.method c.requires.here.derived).known.stack
 
 pub returns-in-Err-apply-clause-failed : goal.returns-in-Err-apply-clause-failed
 returns-in-Err-apply-clause-failed c =

@@ -1,11 +1,11 @@
 -- Numbers that lead to others, and the test that computes it.
-use Rattle.std.proofs.Common.{◌≡◌, ℕ, zero, suc, ◌<◌, ◌⊎◌, inl, inr, Bool, true, false, List, [], ◌∷◌, get_or, refl, arith}
+use Rattle.std.proofs.Common.{◌≡◌, ℕ, zero, suc, ◌<◌, ◌⊎◌, inl, inr, Bool, true, false, List, [], ◌∷◌, get_or, refl, subst, arith}
 use Rattle.std.specs.Prelude.{◌==◌, ◌||◌, ◌&&◌, Contains}
 use Rattle.std.specs.List.{list_any}
 use Rattle.std.proofs.lemmas.Bool.{eqb-true, eq-eqb, false≢true, cases_lt}
 use Rattle.std.proofs.lemmas.List.Folds.{list_any_at}
 use Rattle.std.proofs.lemmas.List.Elements.{Contains-append_right}
-use Rattle.jc_hierarchy.specs.Ancestor.{Leads, at_once, further, leads_below}
+use Rattle.jc_base.specs.Leads.{Leads, at_once, further, leads_below}
 
 pub either : (a b : Bool) → (a || b) ≡ true → (a ≡ true) ⊎ (b ≡ true)
 either true b e = inl refl
@@ -15,15 +15,15 @@ pub both : (a b : Bool) → (a && b) ≡ true → (a ≡ true) × (b ≡ true)
 both true b e = (refl, e)
 both false b e = absurd (false≢true e)
 
-left : (a b : Bool) → a ≡ true → (a || b) ≡ true
+pub left : (a b : Bool) → a ≡ true → (a || b) ≡ true
 left true b e = refl
 left false b e = absurd (false≢true e)
 
-right : (a b : Bool) → b ≡ true → (a || b) ≡ true
+pub right : (a b : Bool) → b ≡ true → (a || b) ≡ true
 right true b e = refl
 right false b e = e
 
-and : (a b : Bool) → a ≡ true → b ≡ true → (a && b) ≡ true
+pub and : (a b : Bool) → a ≡ true → b ≡ true → (a && b) ≡ true
 and true b e f = f
 and false b e f = absurd (false≢true e)
 
@@ -42,6 +42,21 @@ contains-any xs b c = list_any_at (λ x. x == b) xs c.0 b c.1 (eq-eqb (get_or xs
 pub Leads-join : {next : ℕ → List ℕ} {a b c : ℕ} → Leads next a b → Leads next b c → Leads next a c
 Leads-join (at_once h) more = further h more
 Leads-join (further h rest) more = further h (Leads-join rest more)
+
+no-step : {xs : List ℕ} {b : ℕ} → xs ≡ [] → Contains xs b → ⊥
+no-step {b = b} e h =
+    let none : Contains [] b = subst (λ (ys : List ℕ). Contains ys b) e h in
+    absurd (omega (arith, none.1))
+
+-- where each step of one kind is one of another
+pub Leads-along : {f g : ℕ → List ℕ} {a b : ℕ} → ((x y : ℕ) → Contains (f x) y → Contains (g x) y) → Leads f a b → Leads g a b
+Leads-along {a = a} step (at_once {b = b} h) = at_once (step a b h)
+Leads-along {a = a} step (further {b = b} h rest) = further (step a b h) (Leads-along step rest)
+
+-- where there is no step, nothing leads to anything
+pub leads-nowhere : {next : ℕ → List ℕ} {a b : ℕ} → ((x : ℕ) → next x ≡ []) → Leads next a b → ⊥
+leads-nowhere {a = a} none (at_once {b = b} h) = no-step (none a) h
+leads-nowhere {a = a} none (further {b = b} h rest) = no-step (none a) h
 
 pub Leads-from : {next : ℕ → List ℕ} {a b : ℕ} (n : ℕ) → ((x y : ℕ) → Contains (next x) y → x < n) → Leads next a b → a < n
 Leads-from {a = a} n inside (at_once {b = b} h) = inside a b h
