@@ -181,9 +181,10 @@ pub record IsOfClass (k number low : ℕ) (n : NumberedMethod) : Type 0 where
 
 of_class : (k : ℕ) (p : PackageRecord) (number : ℕ) (c : described.Class) (i : ℕ) (ms : List Method) → Each (IsOfClass k number i) (methods_of_class k p number c i ms)
 of_class k p number c i [] = tt {0}
-of_class k p number c i (m ∷ ms) =
-    (record { home = refl; class = refl; method = omega arith },
-      each-weaker (IsOfClass k number (i + 1)) (IsOfClass k number i) (λ n h. let low = h.method in record { home = h.home; class = h.class; method = omega arith }) (methods_of_class k p number c (i + 1) ms) (of_class k p number c (i + 1) ms))
+of_class k p number c i (m ∷ ms) = (
+  record { home = refl; class = refl; method = omega arith },
+  each-weaker (IsOfClass k number (i + 1)) (IsOfClass k number i) (λ n h. let low = h.method in record { home = h.home; class = h.class; method = omega arith }) (methods_of_class k p number c (i + 1) ms) (of_class k p number c (i + 1) ms),
+)
 
 of_classes : (k : ℕ) (p : PackageRecord) (number : ℕ) (cs : List described.Class) → Each (IsOf k number) (methods_of_classes k p number cs)
 of_classes k p number [] = tt {0}
@@ -195,11 +196,12 @@ of_classes k p number (c ∷ cs) =
 class_earlier : (k : ℕ) (p : PackageRecord) (number : ℕ) (c : described.Class) (i : ℕ) (ms : List Method) (others : List NumberedMethod) → Each (IsOf k (number + 1)) others → Pairwise IsEarlier others → Pairwise IsEarlier (methods_of_class k p number c i ms ++ others)
 class_earlier k p number c i [] others later d = d
 class_earlier k p number c i (m ∷ ms) others later d =
-    let here = numbered k p number c i m in
-    (each-append (IsEarlier here) (methods_of_class k p number c (i + 1) ms) others
-      (each-weaker (IsOfClass k number (i + 1)) (IsEarlier here) (λ n h. let low = h.method in inr (sym h.home, inr (sym h.class, omega arith))) (methods_of_class k p number c (i + 1) ms) (of_class k p number c (i + 1) ms))
-      (each-weaker (IsOf k (number + 1)) (IsEarlier here) (λ n h. let low = h.class in inr (sym h.home, inl (omega arith))) others later),
-      class_earlier k p number c (i + 1) ms others later d)
+    let here = numbered k p number c i m in (
+      each-append (IsEarlier here) (methods_of_class k p number c (i + 1) ms) others
+          (each-weaker (IsOfClass k number (i + 1)) (IsEarlier here) (λ n h. let low = h.method in inr (sym h.home, inr (sym h.class, omega arith))) (methods_of_class k p number c (i + 1) ms) (of_class k p number c (i + 1) ms))
+          (each-weaker (IsOf k (number + 1)) (IsEarlier here) (λ n h. let low = h.class in inr (sym h.home, inl (omega arith))) others later),
+      class_earlier k p number c (i + 1) ms others later d,
+    )
 
 classes_earlier : (k : ℕ) (p : PackageRecord) (number : ℕ) (cs : List described.Class) → Pairwise IsEarlier (methods_of_classes k p number cs)
 classes_earlier k p number [] = tt {0}
