@@ -22,13 +22,17 @@ use Rattle.jc_members.specs.Catches.{HandlerPlace, handlers_from, handlers_behin
 -- each entry of a pool has a member
 pub record HaveMembers (f : Entry → Option Member) (es : List Entry) : Type 0 where
   pub at : (i : ℕ) → slice_get (filter_map f es) i ≡ option_and_then f (slice_get es i)
+  pub there : (i : ℕ) (e : Entry) → slice_get es i ≡ Some e → (m : Member) × (f e ≡ Some m)
 
 have_none : (f : Entry → Option Member) → HaveMembers f []
-have_none f = record { at = λ i. refl }
+have_none f = record { at = λ i. refl; there = λ i e h. absurd (past_end e h) }
+  where
+    past_end : (e : Entry) → None ≡ Some e → ⊥
+    past_end e h = cc
 
 have_more : (f : Entry → Option Member) (e : Entry) (es : List Entry) (o : Option Member) → f e ≡ o → is_none o ≡ false → HaveMembers f es → HaveMembers f (e ∷ es)
 have_more f e es None is there others = absurd (false≢true (sym there))
-have_more f e es (Some m) is there others = record { at = λ i. by i }
+have_more f e es (Some m) is there others = record { at = λ i. by i; there = λ i x h. there_at i x h }
   where
     first : filter_map f (e ∷ es) ≡ m ∷ filter_map f es
     first = ap (λ (o : Option Member). cons_option o (filter_map f es)) is
@@ -36,6 +40,10 @@ have_more f e es (Some m) is there others = record { at = λ i. by i }
     by : (i : ℕ) → slice_get (filter_map f (e ∷ es)) i ≡ option_and_then f (slice_get (e ∷ es) i)
     by zero = ap (λ (ms : List Member). slice_get ms 0) first ∙ sym is
     by (suc i) = ap (λ (ms : List Member). slice_get ms (suc i)) first ∙ others.at i
+
+    there_at : (i : ℕ) (x : Entry) → slice_get (e ∷ es) i ≡ Some x → (n : Member) × (f x ≡ Some n)
+    there_at zero x h = let same : e ≡ x = cc in (m, ap f (sym same) ∙ is)
+    there_at (suc i) x h = others.there i x h
 
 module _ (all : List PackageRecord) (t : ClassTable) (statics : List StaticRec) where
   there_by : (x : PoolPlace) (b : Bool) → is_none (member_of all t statics x.home x.entry) ≡ b → member_fault all t statics x ≡ None → b ≡ false
@@ -66,6 +74,33 @@ module _ (all : List PackageRecord) (t : ClassTable) (statics : List StaticRec) 
       let both = both_faultless (member_fault all t statics) (places_from k 0 q.pool) (places_behind (k + 1) qs) e in
       let k-is : k + 1 + n ≡ k + suc n = omega arith in
       λ i. pools-at (k + 1) qs n p both.1 at i ∙ ap (λ (j : ℕ). option_and_then (member_of all t statics j) (slice_get p.pool i)) k-is
+
+  -- an entry of a pool and its member
+  pools-entry : (k : ℕ) (ps : List PackageRecord) (n : ℕ) (p : PackageRecord) → filter_map (member_fault all t statics) (places_behind k ps) ≡ [] → slice_get ps n ≡ Some p
+      → (i : ℕ) (x : Entry) → slice_get p.pool i ≡ Some x → (m : Member) × (member_of all t statics (k + n) x ≡ Some m)
+  pools-entry k [] n p e at i x h = absurd (past_end p at)
+    where
+      past_end : (p : PackageRecord) → None ≡ Some p → ⊥
+      past_end p h = cc
+  pools-entry k (q ∷ qs) zero p e at i x h =
+      let same : q ≡ p = cc in
+      let both = both_faultless (member_fault all t statics) (places_from k 0 q.pool) (places_behind (k + 1) qs) e in
+      let k-is : k ≡ k + 0 = omega arith in
+      let here : slice_get q.pool i ≡ Some x = ap (λ (r : PackageRecord). slice_get r.pool i) same ∙ h in
+      let m = (pool-members k 0 q.pool both.0).there i x here in
+      (m.0, ap (λ (j : ℕ). member_of all t statics j x) (sym k-is) ∙ m.1)
+  pools-entry k (q ∷ qs) (suc n) p e at i x h =
+      let both = both_faultless (member_fault all t statics) (places_from k 0 q.pool) (places_behind (k + 1) qs) e in
+      let k-is : k + 1 + n ≡ k + suc n = omega arith in
+      let m = pools-entry (k + 1) qs n p both.1 at i x h in
+      (m.0, ap (λ (j : ℕ). member_of all t statics j x) (sym k-is) ∙ m.1)
+
+  pub pools-some : (k : ℕ) (ps : List PackageRecord) (n : ℕ) (p : PackageRecord) → filter_map (member_fault all t statics) (places_behind k ps) ≡ [] → slice_get ps n ≡ Some p
+      → (i : ℕ) (x : Entry) → slice_get p.pool i ≡ Some x
+      → (m : Member) × (slice_get (list_at (pools_behind (member_of all t statics) k ps) n) i ≡ Some m) × (member_of all t statics (k + n) x ≡ Some m)
+  pools-some k ps n p e at i x h =
+      let m = pools-entry k ps n p e at i x h in
+      (m.0, pools-at k ps n p e at i ∙ ap (option_and_then (member_of all t statics (k + n))) h ∙ m.1, m.1)
 
 -- ---- handlers
 
