@@ -1,11 +1,10 @@
-ghost use Rattle.std.specs.Prelude.{◌≡◌, ◌≤◌, true, IsNone};
+ghost use Rattle.std.specs.Prelude.{◌≡◌, true, IsNone};
 ghost use Rattle.cap_frame.specs.Directory.{directory_items, size_in};
 ghost use Rattle.cap_frame.specs.DirectoryFormat.{directory_info};
 ghost use Rattle.cap_package.specs.Components.{read_part};
 ghost use Rattle.cap_package.specs.Parts.{held};
 ghost use Rattle.capcheck_core.specs.Loads.{is_required, is_optional, is_some_size, is_sized, is_asked};
-ghost use Rattle.capcheck_core.specs.LoadEnds.{LoadsParts, LoadsAsked, LoadsNext};
-ghost use Rattle.capcheck_core.specs.Outside.{folders, StoresNothing};
+ghost use Rattle.capcheck_core.specs.LoadEnds.{LoadsParts, LoadsAsked, LoadsNext, LoadsLeave};
 
 use cap_bytes::Part;
 use cap_files::{Folder, LoadEnd};
@@ -35,13 +34,9 @@ pub fn load_parts<F: Folder>(
     folder: &mut F,
     dir: &str,
 ) -> Result<OwnedParts, LoadStop>
-    ensures loads { LoadsParts
-        (folders (F.held folder.old) (F.load_faults folder.old) (F.store_faults folder.old))
-        (folders (F.held folder.new) (F.load_faults folder.new) (F.store_faults folder.new)) dir.now result }
-    ensures stores { StoresNothing
-        (folders (F.held folder.old) (F.load_faults folder.old) (F.store_faults folder.old))
-        (folders (F.held folder.new) (F.load_faults folder.new) (F.store_faults folder.new)) }
-    ensures counts { F.load_faults folder.old ≤ F.load_faults folder.new }
+    ensures loads { LoadsParts (F.folders folder.old) (F.folders folder.new)
+        dir.now result }
+    ensures folders { LoadsLeave (F.folders folder.old) (F.folders folder.new) result }
 {
     let mut parts = OwnedParts::new(alloc);
     'tags: for tag in 1..256u16 {
@@ -62,13 +57,9 @@ fn load_next<F: Folder>(
     parts: &mut OwnedParts,
 ) -> Result<(), LoadStop>
     requires absent { IsNone (held parts.old part.0) }
-    ensures loads { LoadsNext
-        (folders (F.held folder.old) (F.load_faults folder.old) (F.store_faults folder.old))
-        (folders (F.held folder.new) (F.load_faults folder.new) (F.store_faults folder.new)) dir.now part.0 parts.old parts.new result }
-    ensures stores { StoresNothing
-        (folders (F.held folder.old) (F.load_faults folder.old) (F.store_faults folder.old))
-        (folders (F.held folder.new) (F.load_faults folder.new) (F.store_faults folder.new)) }
-    ensures counts { F.load_faults folder.old ≤ F.load_faults folder.new }
+    ensures loads { LoadsNext (F.folders folder.old) (F.folders folder.new)
+        dir.now part.0 parts.old parts.new result }
+    ensures folders { LoadsLeave (F.folders folder.old) (F.folders folder.new) result }
 {
     if asks(parts, part.0) {
         load_asked(alloc, folder, dir, part, parts)
@@ -87,13 +78,9 @@ fn load_asked<F: Folder>(
 ) -> Result<(), LoadStop>
     requires absent { IsNone (held parts.old part.0) }
     requires asked { is_asked parts.old part.0 ≡ true }
-    ensures loads { LoadsAsked
-        (folders (F.held folder.old) (F.load_faults folder.old) (F.store_faults folder.old))
-        (folders (F.held folder.new) (F.load_faults folder.new) (F.store_faults folder.new)) dir.now part.0 parts.old parts.new result }
-    ensures stores { StoresNothing
-        (folders (F.held folder.old) (F.load_faults folder.old) (F.store_faults folder.old))
-        (folders (F.held folder.new) (F.load_faults folder.new) (F.store_faults folder.new)) }
-    ensures counts { F.load_faults folder.old ≤ F.load_faults folder.new }
+    ensures loads { LoadsAsked (F.folders folder.old) (F.folders folder.new)
+        dir.now part.0 parts.old parts.new result }
+    ensures folders { LoadsLeave (F.folders folder.old) (F.folders folder.new) result }
 {
     let mut file = Vec::new(alloc);
     match folder.load(alloc, dir, part, &mut file) {
