@@ -1,12 +1,12 @@
 use crate::PLAIN_CLASS;
 use crate::samples::MIXED;
-use cap_bytes::View;
+use cap_bytes::{Format, View};
 use cap_class::classes;
 use std::test::Fail;
 
 #[test]
 fn classes_are_given_by_position_and_by_offset(rt: HostRuntime) -> Result<(), Fail> {
-    let part = classes(View::of(&PLAIN_CLASS[3..]))
+    let part = classes(View::of(&PLAIN_CLASS[3..]), Format::V22)
         .ok()
         .ok_or("eight classes")?;
     assert_eq!(rt; part.count(), 8);
@@ -19,7 +19,7 @@ fn classes_are_given_by_position_and_by_offset(rt: HostRuntime) -> Result<(), Fa
 
 #[test]
 fn an_interface_gives_what_it_extends(rt: HostRuntime) -> Result<(), Fail> {
-    let part = classes(View::of(&MIXED[3..]))
+    let part = classes(View::of(&MIXED[3..]), Format::V22)
         .ok()
         .ok_or("an interface and a class")?;
     assert_eq!(rt; part.count(), 2);
@@ -40,7 +40,7 @@ fn an_interface_gives_what_it_extends(rt: HostRuntime) -> Result<(), Fail> {
 
 #[test]
 fn a_class_gives_its_tables_and_interfaces(rt: HostRuntime) -> Result<(), Fail> {
-    let part = classes(View::of(&MIXED[3..]))
+    let part = classes(View::of(&MIXED[3..]), Format::V22)
         .ok()
         .ok_or("an interface and a class")?;
     let class = part.at(1).ok_or("the class")?;

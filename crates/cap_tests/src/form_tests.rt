@@ -1,10 +1,12 @@
-use crate::forms::{READ, Told, changed_fault, ends_early, info_fault, is_exact, longer};
+use crate::forms::{
+    READ, Told, changed_fault, ends_early, info_fault, info_fault_in, is_exact, longer,
+};
 use crate::samples::{
     ARRAYS, CUSTOM, HANDLED, IMAGE, LOCATIONS, MIXED, ONE_APPLET, ONE_IMPORT, POOL, TWO_EXPORTS,
     TYPES,
 };
 use crate::*;
-use cap_bytes::{Part, View};
+use cap_bytes::{Format, Part, View};
 
 #[test]
 fn a_component_is_read_whole_and_neither_cut_nor_lengthened(rt: HostRuntime) {
@@ -57,11 +59,49 @@ fn a_component_without_a_count_may_end_behind_its_records(rt: HostRuntime) {
     assert_eq!(rt; info_fault(METHOD, View::of(&method[3..23])), READ);
 }
 
+/// A format, a component's file, and the first fault in its info.
+type InFormat = (Format, Part, &'static [u8], Told);
+
+/// Files of both formats, read in each.
+static IN_FORMATS: [InFormat; 8] = [
+    (Format::V21, DIRECTORY, &OLDER_DIRECTORY, READ),
+    (Format::V22, DIRECTORY, &OLDER_DIRECTORY, (2, 34, "Cut")),
+    (
+        Format::V21,
+        DIRECTORY,
+        &PLAIN_DIRECTORY,
+        (2, 34, "Trailing"),
+    ),
+    (Format::V22, DIRECTORY, &PLAIN_DIRECTORY, READ),
+    (Format::V21, CLASS, &OLDER_CLASS, READ),
+    (Format::V22, CLASS, &OLDER_CLASS, (6, 83, "Cut")),
+    (Format::V21, CLASS, &PLAIN_CLASS, (6, 85, "Cut")),
+    (Format::V22, CLASS, &PLAIN_CLASS, READ),
+];
+
+/// Whether the info of a file has this first fault in a format.
+fn has_fault_in(case: &InFormat) -> bool {
+    let (format, part, file, want) = case;
+    file.len() >= 3
+        && file.len() <= 100
+        && info_fault_in(*format, *part, View::of(&file[3..])) == *want
+}
+
+#[test]
+fn a_component_is_read_in_the_format_that_is_given(rt: HostRuntime) {
+    let wrong = IN_FORMATS.iter().position(|case| !has_fault_in(case));
+    assert_eq!(rt; wrong, None);
+}
+
 /// A component's file, an offset, the byte that stands there instead, and what is told.
-const BAD: [(Part, &'static [u8], usize, u8, Told); 23] = [
+const BAD: [(Part, &'static [u8], usize, u8, Told); 26] = [
     (HEADER, &PLAIN_HEADER, 0, 2, (1, 0, "WrongTag")),
     (HEADER, &PLAIN_HEADER, 6, 0, (1, 3, "BadMagic")),
-    (HEADER, &PLAIN_HEADER, 7, 1, (1, 7, "BadVersion")),
+    // the minor version of the format, and the major one; format 2.1 has no name
+    (HEADER, &PLAIN_HEADER, 7, 0, (1, 7, "BadVersion")),
+    (HEADER, &PLAIN_HEADER, 7, 3, (1, 7, "BadVersion")),
+    (HEADER, &PLAIN_HEADER, 7, 1, (1, 18, "Trailing")),
+    (HEADER, &OLDER_HEADER, 7, 2, (1, 18, "Cut")),
     (HEADER, &PLAIN_HEADER, 8, 1, (1, 8, "BadVersion")),
     // the length of an AID
     (HEADER, &PLAIN_HEADER, 12, 4, (1, 12, "BadValue")),

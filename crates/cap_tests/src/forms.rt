@@ -1,6 +1,6 @@
 ghost use Rattle.std.specs.Prelude.{◌≤◌, length};
 
-use cap_bytes::{FormFault, FormKind, Part, View};
+use cap_bytes::{FormFault, FormKind, Format, Part, View};
 use cap_class::classes;
 use cap_desc::descriptor;
 use cap_frame::{applets, directory, frame, header, imports};
@@ -30,17 +30,24 @@ pub(crate) fn named(fault: FormFault) -> Told {
     (fault.part, fault.at, kind_name(fault.kind))
 }
 
-/// The first fault in the info of a component.
+/// The first fault in the info of a component in format 2.2.
 pub(crate) fn info_fault(part: Part, info: View<'_>) -> Told
+    requires { length info.bytes.now ≤ 65535 }
+{
+    info_fault_in(Format::V22, part, info)
+}
+
+/// The first fault in the info of a component in a format.
+pub(crate) fn info_fault_in(format: Format, part: Part, info: View<'_>) -> Told
     requires { length info.bytes.now ≤ 65535 }
 {
     let fault = match part.0 {
         1 => header(info).err(),
-        2 => directory(info).err(),
+        2 => directory(info, format).err(),
         3 => applets(info).err(),
         4 => imports(info).err(),
         5 => pool(info).err(),
-        6 => classes(info).err(),
+        6 => classes(info, format).err(),
         7 => methods(info).err(),
         8 => statics(info).err(),
         9 => locations(info).err(),

@@ -1,5 +1,6 @@
 use crate::samples::{CUSTOM, ONE_APPLET, ONE_IMPORT};
-use crate::{APPLET, DIRECTORY, HEADER, IMPORT, PLAIN_HEADER};
+use crate::{APPLET, DIRECTORY, HEADER, IMPORT, OLDER_DIRECTORY, OLDER_HEADER, PLAIN_HEADER};
+use cap_bytes::{Format, View};
 use cap_frame::{applets, directory, frame, header, imports};
 use std::test::Fail;
 
@@ -16,10 +17,35 @@ fn a_header_gives_its_items(rt: HostRuntime) -> Result<(), Fail> {
     Ok(())
 }
 
+/// Whether the Header of package T in format 2.1 tells its format and has no name.
+fn is_older() -> bool {
+    match header(View::of(&OLDER_HEADER[3..])) {
+        Ok(header) => matches!(header.format(), Format::V21) && header.name().is_empty(),
+        Err(_) => false,
+    }
+}
+
+/// Whether the Directory in format 2.1 gives Debug no size, and what comes after the sizes.
+fn has_eleven_sizes() -> bool {
+    match directory(View::of(&OLDER_DIRECTORY[3..]), Format::V21) {
+        Ok(directory) => {
+            directory.size(11) == Some(111)
+                && directory.size(12) == Some(0)
+                && directory.image_size() == 2
+        }
+        Err(_) => false,
+    }
+}
+
+#[test]
+fn a_package_in_format_2_1_has_neither_name_nor_size_of_debug(rt: HostRuntime) {
+    assert!(rt; is_older() && has_eleven_sizes());
+}
+
 #[test]
 fn a_directory_gives_the_sizes(rt: HostRuntime) -> Result<(), Fail> {
     let info = frame(&CUSTOM, DIRECTORY).ok().ok_or("a frame")?;
-    let directory = directory(info).ok().ok_or("a directory")?;
+    let directory = directory(info, Format::V22).ok().ok_or("a directory")?;
     assert_eq!(rt; directory.info().bytes.len(), 51);
     for (tag, size) in [
         (0, None),

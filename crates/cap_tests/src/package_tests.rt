@@ -49,9 +49,14 @@ fn told(alloc: Global, owned: &OwnedParts) -> Result<Told, AllocError> {
     }
 }
 
-fn are_told(rt: &impl Abort, alloc: Global, cases: &[Case]) -> Result<(), AllocError> {
+fn are_told(
+    rt: &impl Abort,
+    alloc: Global,
+    files: &[File<'_>],
+    cases: &[Case],
+) -> Result<(), AllocError> {
     for (changes, want) in cases {
-        let owned = changed(alloc, &PLAIN, changes)?;
+        let owned = changed(alloc, files, changes)?;
         assert_eq!(rt; told(alloc, &owned)?, *want);
     }
     Ok(())
@@ -60,7 +65,35 @@ fn are_told(rt: &impl Abort, alloc: Global, cases: &[Case]) -> Result<(), AllocE
 /// What is after the 35 bytes of a Directory's file: one custom component, of tag 130 and two bytes.
 const ONE_CUSTOM: [u8; 10] = [1, 0x82, 0, 2, 5, 0xF0, 1, 2, 3, 4];
 
-const PARTS: [Case; 9] = [
+/// Package T in format 2.1, then with the Header's minor version 2, and with the size of an Applet component.
+const OLDER_PARTS: [Case; 3] = [
+    (&[], ("package", 0, 0, 0)),
+    (&[Change::Byte(HEADER, 7, 2)], ("Cut", 1, 18, 0)),
+    (
+        &[Change::Size(APPLET, 9), Change::Byte(DIRECTORY, 32, 1)],
+        ("MissingPart", 3, 0, 0),
+    ),
+];
+
+const PARTS: [Case; 12] = [
+    // where the Header is malformed, no size of the Directory is asked, and its own fault comes after
+    // that of a part that every package has
+    (
+        &[Change::Byte(HEADER, 7, 3), Change::Size(APPLET, 9)],
+        ("BadVersion", 1, 7, 0),
+    ),
+    (
+        &[Change::Byte(HEADER, 7, 3), Change::Without(METHOD)],
+        ("MissingPart", 7, 0, 0),
+    ),
+    // and no other part is read
+    (
+        &[
+            Change::Byte(HEADER, 7, 3),
+            Change::File(DIRECTORY, &[2, 0, 1, 0]),
+        ],
+        ("BadVersion", 1, 7, 0),
+    ),
     (&[], ("package", 0, 0, 0)),
     (&[Change::Without(METHOD)], ("MissingPart", 7, 0, 0)),
     (
@@ -207,9 +240,10 @@ fn a_package_without_a_fault_is_one_and_else_the_first_is_named(
     rt: HostRuntime,
 ) -> Result<(), AllocError> {
     let alloc = rt.alloc();
-    are_told(&rt, alloc, &PARTS)?;
-    are_told(&rt, alloc, &COUNTS)?;
-    are_told(&rt, alloc, &MEMBERS)
+    are_told(&rt, alloc, &PLAIN, &PARTS)?;
+    are_told(&rt, alloc, &PLAIN, &COUNTS)?;
+    are_told(&rt, alloc, &PLAIN, &MEMBERS)?;
+    are_told(&rt, alloc, &OLDER, &OLDER_PARTS)
 }
 
 /// The bytes of the infos of the custom components 130, 129 and 131.
