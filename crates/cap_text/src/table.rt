@@ -51,7 +51,7 @@ fn package_line(alloc: Global, format: Format, info: PackageInfo<'_>) -> Result<
 
 // The version of the format.
 fn format_name(format: Format) -> &'static str
-    ensures { string_bytes result ≡ format_name format }
+    ensures { result.now ≡ format_name format }
 {
     match format {
         Format::V21 => "2.1",
