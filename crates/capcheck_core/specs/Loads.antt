@@ -1,12 +1,12 @@
 -- The parts of a package's folder, as they are loaded: by rising tag, the components that every package has (JCVM 2.2, section 6.1),
--- and the other ones to which the Directory gives a size that is not 0 (section 6.4). A Directory that is absent or malformed tells no
--- sizes.
+-- and the other ones to which the Directory gives a size that is not 0 (section 6.4). Where the
+-- Header or the Directory is absent or malformed, no sizes are told.
 use Rattle.std.specs.Prelude.{◌≡◌, ℕ, suc, ◌<◌, ◌≤◌, Bool, true, false, not, ◌&&◌, ◌||◌, ◌==◌, nat_le, List, [], ◌∷◌, ◌++◌, length, filter, Option, Some, None, Result, Ok, Err, refl}
-use Rattle.cap_frame.specs.DirectoryFormat.{DirectoryItems, directory_info}
+use Rattle.cap_frame.specs.DirectoryFormat.{DirectoryItems}
 use Rattle.cap_frame.specs.Directory.{size_in}
 use Rattle.cap_components.specs.declared.fault.PackFault.{PackFault}
 use Rattle.cap_package.specs.Parts.{Lent}
-use Rattle.cap_package.specs.Components.{read_part}
+use Rattle.cap_package.specs.Components.{read_directory}
 use Rattle.cap_package.specs.PartChecks.{required}
 use Rattle.std.specs.List.{range_with_len}
 use Rattle.cap_files.specs.Folder.{Folders, IsThere, IsAbsent, IsTooLong, LoadFails}
@@ -34,7 +34,7 @@ is_sized (Err fault) tag = false
 
 -- a part is asked for, by the parts that were loaded before it
 abbrev pub is_asked : List Lent → ℕ → Bool
-is_asked parts tag = is_required tag || (is_optional tag && is_sized (read_part directory_info 2 parts) tag)
+is_asked parts tag = is_required tag || (is_optional tag && is_sized (read_directory parts) tag)
 
 -- what a folder has for a part: nothing, or a file that is not too long
 abbrev pub Has : Folders → List ℕ → ℕ → Option (List ℕ) → Type 0
