@@ -4,10 +4,11 @@ use Rattle.std.specs.Prelude.{All, slice_get, option_map}
 use Rattle.std.proofs.lemmas.Bool.{leb-true}
 use Rattle.std.proofs.lemmas.List.Elements.{All-head, All-tail}
 use Rattle.std.proofs.lemmas.Option.{slice_get-map}
-use Rattle.cap_bytes.specs.Grammar.{at_most, when, give, number, piece, ◌>>=◌}
+use Rattle.cap_bytes.specs.Grammar.{at_most, when, give, ◌>>=◌}
 use Rattle.cap_bytes.specs.Number.{number_at}
+use Rattle.cap_bytes.specs.declared.format.Format.{Format}
 use Rattle.cap_bytes.specs.Spelling.{Spells, Stands}
-use Rattle.cap_class.specs.ClassFormat.{Class, record_info, is_behind, behind_first, is_interface, class_flags, wrong_record, classes_info}
+use Rattle.cap_class.specs.ClassFormat.{Class, record_info, is_behind, behind_first, is_interface, class_flags, wrong_record, signature_pool, classes_info}
 use Rattle.cap_package.specs.PackageRecord.{PackageRecord}
 use Rattle.jc_resolve.specs.declared.place.Place.{Place}
 use Rattle.jc_resolve.specs.Named.{IsAgreed}
@@ -80,19 +81,17 @@ rises (suc n) s bytes at xs after le h =
     let same : h.1 ≡ at = h.2.1 in
     subst (λ i. AreRising i xs) same (rises_when n s _ bytes h.1 xs after (λ s' at' ys end le' g. rises n s' bytes at' ys end le' g) (omega arith) h.3)
 
-component_rises : (bytes : List ℕ) (cs : List Class) → Stands classes_info bytes cs → Pairwise IsLower cs
+component_rises : (format : Format) (bytes : List ℕ) (cs : List Class) → Stands (classes_info format) bytes cs → Pairwise IsLower cs
 unfolding Spells Stands
-component_rises bytes cs h =
+component_rises format bytes cs h =
     let pool = h.1 in
-    let start = (goes_on (number 2 (λ n. None)) bytes 0 pool.0 pool.1 (omega arith) pool.2).reach in
-    let rest = pool.3 in
-    let reach = (goes_on (piece pool.0) bytes pool.1 rest.0 rest.1 start rest.2).reach in
-    let until = rest.3 in
-    let same : until.1 ≡ rest.1 = until.2.1 in
+    let reach = (goes_on (signature_pool format) bytes 0 pool.0 pool.1 (omega arith) pool.2).reach in
+    let until = pool.3 in
+    let same : until.1 ≡ pool.1 = until.2.1 in
     (rises until.0 false bytes until.1 cs h.0 (omega arith) until.3).rising
 
 classes_rise : (p : PackageRecord) → IsAgreed p → Pairwise IsLower p.classes
-classes_rise p agreed = let said = agreed.said.classes in component_rises said.0 p.classes said.1.said
+classes_rise p agreed = let said = agreed.said.classes in component_rises p.header.format said.0 p.classes said.1.said
 
 -- ---- all packages
 
