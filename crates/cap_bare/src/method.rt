@@ -1,5 +1,6 @@
 ghost use Rattle.std.specs.Prelude.{◌≡◌, ◌≤◌, ◌+◌, length, IfOk, IfErr};
-ghost use Rattle.cap_bytes.specs.Spelling.{info_of, Stands, IsExact};
+ghost use Rattle.cap_bytes.specs.Exact.{IsExact};
+ghost use Rattle.cap_bytes.specs.Spelling.{info_of, Stands};
 ghost use Rattle.cap_bytes.specs.Taking.{Takes, Reads, same};
 ghost use Rattle.cap_bare.specs.Typing.{IsCompact};
 ghost use Rattle.cap_bare.specs.MethodFile.{compact_header, method_info, IsFileFault};

@@ -7,8 +7,9 @@ use Rattle.cap_bytes.specs.declared.fault.FormKind.TheVariants.{Trailing}
 use Rattle.byteorder.specs.Endian.{big_number}
 use Rattle.cap_bytes.specs.Number.{number_at}
 use Rattle.cap_bytes.specs.Grammar.{Grammar, give, number, piece, remaining, place, finish, ◌>>=◌}
-use Rattle.cap_bytes.specs.Spelling.{Spells, Stands, Origin, fault_at, cut, Breaks, IsExact, info_of}
+use Rattle.cap_bytes.specs.Spelling.{Spells, Stands, Origin, fault_at, cut, Breaks, info_of}
 use Rattle.cap_bytes.specs.Reading.{Reading, and_then, tested, number_read, read, reading, outcome}
+use Rattle.cap_bytes.specs.Exact.{IsExact}
 
 -- ---- what is spelled is read
 
@@ -131,14 +132,6 @@ pub Spells-one : {X : Type 0} (g : Grammar X) (bytes : List ℕ) (at : ℕ) (x y
 Spells-one g bytes at x y a b p q =
     pair_ok x y a b (sym (spelled-read (info_of 0) g bytes at x a p) ∙ spelled-read (info_of 0) g bytes at y b q)
 
-pub is_exact : {X : Type 0} (from : Origin) (g : Grammar X) (bytes : List ℕ) → IsExact from g bytes
-unfolding Stands
-is_exact from g bytes = record {
-  one_value = λ x y p q. sym (Spells-one g bytes 0 x y p.0 q.0 p.1 q.1).0;
-  one_fault = λ a b p q. let e = sym (breaks-read from g bytes 0 a p) ∙ breaks-read from g bytes 0 b q in cc;
-  apart = λ x a p q. let e = sym (spelled-read from g bytes 0 x p.0 p.1) ∙ breaks-read from g bytes 0 a q in cc;
-}
-
 -- ---- whole bytes
 
 outcome_ok : {X : Type 0} (r : Reading X) (x : X) → outcome r ≡ Ok x → (after : ℕ) × (r ≡ Ok (x, after))
@@ -165,6 +158,16 @@ reading_where from g bytes x h = rw (spelled-read from g bytes 0 x h.0 h.1) refl
 pub refused_where : {X : Type 0} (from : Origin) (g : Grammar X) (bytes : List ℕ) (fault : FormFault) → Breaks from g bytes 0 fault → reading from g bytes ≡ Err fault
 unfolding reading
 refused_where from g bytes fault h = rw (breaks-read from g bytes 0 fault h) refl
+
+pub is_exact : {X : Type 0} (from : Origin) (g : Grammar X) (bytes : List ℕ) → IsExact from g bytes
+unfolding Stands
+is_exact from g bytes = record {
+  one_value = λ x y p q. sym (Spells-one g bytes 0 x y p.0 q.0 p.1 q.1).0;
+  one_fault = λ a b p q. let e = sym (breaks-read from g bytes 0 a p) ∙ breaks-read from g bytes 0 b q in cc;
+  apart = λ x a p q. let e = sym (spelled-read from g bytes 0 x p.0 p.1) ∙ breaks-read from g bytes 0 a q in cc;
+  value = λ x. (λ h. stands from g bytes x h, λ h. reading_where from g bytes x h);
+  fault = λ a. (λ h. breaks from g bytes a h, λ h. refused_where from g bytes a h);
+}
 
 -- what the reader of a whole component needs
 pub ruleset whole = (stands, breaks, is_exact)

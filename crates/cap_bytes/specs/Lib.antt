@@ -1,7 +1,9 @@
 pub mod Number
 pub mod Grammar
+pub mod ClassReference
 pub mod Spelling
 pub mod Reading
+pub mod Exact
 pub mod Taking
 pub mod Table
 pub mod Samples

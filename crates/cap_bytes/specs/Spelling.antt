@@ -55,12 +55,3 @@ Breaks from finish bytes at fault = (at < length bytes) × (fault ≡ fault_at f
 Breaks from (g >>= next) bytes at fault =
     Breaks from g bytes at fault ⊎
     ((x : _) × (middle : ℕ) × Spells g bytes at x middle × Breaks from (next x) bytes middle fault)
-
--- A grammar has one answer for each list of bytes.
-pub record IsExact {X : Type 0} (from : Origin) (g : Grammar X) (bytes : List ℕ) : Type 0 where
-  -- the bytes stand for at most one value
-  pub one_value : (x y : X) → Stands g bytes x → Stands g bytes y → x ≡ y
-  -- one fault is the first
-  pub one_fault : (a b : FormFault) → Breaks from g bytes 0 a → Breaks from g bytes 0 b → a ≡ b
-  -- and where it is, they stand for none
-  pub apart : (x : X) (a : FormFault) → Stands g bytes x → Breaks from g bytes 0 a → ⊥

@@ -7,7 +7,7 @@ pub enum FormKind {
     WrongTag,
     /// The magic number is not `DECAFFED`.
     BadMagic,
-    /// The format's version is not 2.2.
+    /// The format's version is neither 2.1 nor 2.2.
     BadVersion,
     /// Bytes remain after the last item.
     Trailing,

@@ -5,7 +5,9 @@
 //! breaks it. It stands on `byteorder`, and takes no memory.
 #![tactic(auto)]
 
+mod class_reference;
 mod fault;
+mod format;
 mod items;
 mod part;
 mod table;
@@ -13,7 +15,9 @@ mod table_reads;
 mod take;
 mod view;
 
+pub use class_reference::ClassReference;
 pub use fault::{FormFault, FormKind};
+pub use format::Format;
 pub use items::Items;
 pub use part::Part;
 pub use table::Table;

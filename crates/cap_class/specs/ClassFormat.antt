@@ -1,9 +1,11 @@
--- The format of the Class component (JCVM 2.2, section 6.8): the signature pool, which is carried unread,
--- then the interfaces, then the classes.
+-- The format of the Class component (JCVM 2.2, section 6.8), in the formats 2.1 and 2.2: in 2.2 the signature pool,
+-- which is carried unread, then the interfaces, then the classes.
 use Rattle.std.specs.Prelude.{ℕ, ◌/◌, ◌%◌, Bool, true, false, not, ◌||◌, ◌&&◌, ◌==◌, if◌then◌else◌, List, [], Option, Some, None}
 use Rattle.std.specs.Int.RustNames.{bit_and}
 use Rattle.cap_bytes.specs.declared.fault.FormKind.{FormKind}
 use Rattle.cap_bytes.specs.declared.fault.FormKind.TheVariants.{BadValue, Remote}
+use Rattle.cap_bytes.specs.declared.format.Format.{Format}
+use Rattle.cap_bytes.specs.declared.format.Format.TheVariants.{V21, V22}
 use Rattle.cap_bytes.specs.Grammar.{Grammar, number, u1, u2, piece, repeat, table, until_end, place, give, ◌>>=◌}
 
 -- implemented_interface_info: the interface, and for each of its tokens the class's own
@@ -146,9 +148,15 @@ any_record = record_info false
 abbrev pub is_behind : Bool → Class → Bool
 is_behind behind_class c = behind_class || not (is_interface c.flags)
 
+-- the signature pool, which format 2.1 does not have
+abbrev pub signature_pool : Format → Grammar (List ℕ)
+signature_pool V21 = give []
+signature_pool V22 = do
+  length ← u2
+  piece length
+
 -- the component
-abbrev pub classes_info : Grammar (List Class)
-classes_info = do
-  signature_pool_length ← u2
-  signature_pool ← piece signature_pool_length
+abbrev pub classes_info : Format → Grammar (List Class)
+classes_info format = do
+  pool ← signature_pool format
   until_end record_info is_behind false

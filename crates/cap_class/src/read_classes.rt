@@ -1,9 +1,10 @@
 ghost use Rattle.std.specs.Prelude.{◌≡◌, ◌==◌, ◌≤◌, length, IfOk, IfErr, false, find, option_map, slice_get};
 ghost use Rattle.std.specs.Iterator.{YieldsFirstBy, item_count};
 ghost use Rattle.cap_bytes.specs.Grammar.{until_end};
-ghost use Rattle.cap_bytes.specs.Spelling.{info_of, Stands, Breaks, IsExact};
-ghost use Rattle.cap_bytes.specs.Taking.{Takes, Reads};
-ghost use Rattle.cap_class.specs.ClassFormat.{record_info, is_behind, classes_info};
+ghost use Rattle.cap_bytes.specs.Exact.{IsExact};
+ghost use Rattle.cap_bytes.specs.Spelling.{info_of, Stands, Breaks};
+ghost use Rattle.cap_bytes.specs.Taking.{Takes, Reads, bytes};
+ghost use Rattle.cap_class.specs.ClassFormat.{record_info, is_behind, signature_pool, classes_info};
 ghost use Rattle.cap_bytes.specs.Table.{numbers};
 ghost use Rattle.cap_class.specs.Lists.{interface_seen, interfaces_left};
 ghost use Rattle.cap_class.specs.ClassPart.{class_seen, classes_left, records, PassesRecords};
@@ -15,7 +16,7 @@ use crate::class_part::ClassPart;
 use crate::implemented::Implemented;
 use crate::interfaces::Interfaces;
 use crate::read_record::record;
-use cap_bytes::{FormFault, Items, Table, View};
+use cap_bytes::{FormFault, Format, Items, Table, View};
 
 /// The tag of the component.
 const CLASS: u8 = 6;
@@ -78,30 +79,43 @@ impl<'a> Iterator for Classes<'a> {
     }
 }
 
+/// The signature pool.
+fn signature_pool<'a>(items: &mut Items<'a>, format: Format) -> Result<&'a [u8], FormFault>
+    ensures { Takes bytes (signature_pool format) items.old result items.new }
+{
+    match format {
+        Format::V21 => Ok(&[]),
+        Format::V22 => {
+            let length = items.u2()?;
+            items.piece(u32::from(length))
+        }
+    }
+}
+
 /// The items of the component.
 #[tactic(auto, unfolding(cap_bytes::specs::Reading::reading))]
-fn read(info: View<'_>) -> Result<ClassPart<'_>, FormFault>
+fn read(info: View<'_>, format: Format) -> Result<ClassPart<'_>, FormFault>
     requires { length info.bytes.now ≤ 65535 }
-    ensures value { Reads records (info_of 6) classes_info info.entry.bytes.now result }
+    ensures value { Reads records (info_of 6) (classes_info format) info.entry.bytes.now result }
     ensures info { IfOk result (λ x. x.info ≡ info.entry) }
 {
     let mut items = Items::of(info, CLASS);
-    let signature_pool_length = items.u2()?;
-    items.piece(u32::from(signature_pool_length))?;
+    signature_pool(&mut items, format)?;
     let classes = records(&mut items)?;
     Ok(ClassPart { info, classes })
 }
 
-/// The Class component that the info is, or the first item that breaks its format.
+/// The Class component that the info is in the format that the Header names, or the first item that
+/// breaks it.
 #[tactic(auto, using(cap_bytes::proofs::Laws::whole))]
-pub fn classes(info: View<'_>) -> Result<ClassPart<'_>, FormFault>
+pub fn classes(info: View<'_>, format: Format) -> Result<ClassPart<'_>, FormFault>
     requires { length info.bytes.now ≤ 65535 }
-    ensures found { IfOk result (λ x. Stands classes_info info.entry.bytes.now (records x)) }
-    ensures fault { IfErr result (λ e. Breaks (info_of 6) classes_info info.entry.bytes.now 0 e) }
-    ensures exact { IsExact (info_of 6) classes_info info.entry.bytes.now }
+    ensures found { IfOk result (λ x. Stands (classes_info format) info.entry.bytes.now (records x)) }
+    ensures fault { IfErr result (λ e. Breaks (info_of 6) (classes_info format) info.entry.bytes.now 0 e) }
+    ensures exact { IsExact (info_of 6) (classes_info format) info.entry.bytes.now }
     ensures info { IfOk result (λ x. x.info ≡ info.entry) }
 {
-    read(info)
+    read(info, format)
 }
 
 impl<'a> ClassPart<'a> {

@@ -6,7 +6,7 @@ use Rattle.cap_bytes.specs.Spelling.{info_of, file_of, Stands}
 use Rattle.cap_bytes.specs.Reading.{reading}
 use Rattle.cap_bytes.proofs.Laws.{reading_where, refused_where, stands, breaks}
 use Rattle.cap_frame.specs.Frame.{component}
-use Rattle.cap_frame.specs.HeaderFormat.{header_info}
+use Rattle.cap_frame.specs.HeaderFormat.{HeaderItems, header_info}
 use Rattle.cap_frame.specs.DirectoryFormat.{directory_info}
 use Rattle.cap_frame.specs.ImportFormat.{imports_info}
 use Rattle.cap_frame.specs.AppletFormat.{applets_info}
@@ -23,8 +23,8 @@ use Rattle.cap_components.specs.Parts.{Lent, held}
 use Rattle.cap_components.specs.Components.{◌>>=◌, formed, framed, there, info_in, read_part, read_if_held, read_methods, read_description, Methods}
 use Rattle.cap_components.specs.Descriptions.{Description}
 use Rattle.cap_components.specs.PackageRecord.{PackageRecord}
-use Rattle.cap_components.specs.ReadPackage.{read_package}
-use Rattle.cap_components.specs.Saying.{Holds, Says, SaysIf, AreSaid, IsBroken, in_file, in_info, Fails, absent, broken, FailsOr, BreaksOr, IsFirstFailing}
+use Rattle.cap_components.specs.ReadPackage.{read_after, read_package}
+use Rattle.cap_components.specs.Saying.{Holds, Says, SaysIf, AreSaid, IsBroken, in_file, in_info, Fails, absent, broken, FailsOr, BreaksOr, IsFirstAfter, IsFirstFailing}
 
 -- ---- what is said is read
 
@@ -53,15 +53,15 @@ unfolding read_description
 description_read parts d h = rw (info-read parts 11 descriptor_info d.info d.items h) (ap (λ (r : Result _ PackFault). r >>= λ items. Ok (record { info = d.info; items = items })) (items_read parts 11 descriptor_info d.info d.items h))
 
 pub said-read : (parts : List Lent) (p : PackageRecord) → AreSaid parts p → read_package parts ≡ Ok p
-unfolding read_package
+unfolding read_package read_after
 said-read parts p s =
     rw (
       part_read parts 1 header_info p.header s.header,
-      part_read parts 2 directory_info p.directory s.directory,
+      part_read parts 2 (directory_info p.header.format) p.directory s.directory,
       held_read parts 3 applets_info p.applets s.applets,
       part_read parts 4 imports_info p.imports s.imports,
       part_read parts 5 pool_info p.pool s.pool,
-      part_read parts 6 classes_info p.classes s.classes,
+      part_read parts 6 (classes_info p.header.format) p.classes s.classes,
       methods_read parts p.methods s.methods,
       part_read parts 8 statics_info p.statics s.statics,
       part_read parts 9 locations_info p.locations s.locations,
@@ -153,26 +153,25 @@ same_ok x y h = cc
 pub record AreRead (parts : List Lent) (p : PackageRecord) : Type 0 where
   pub same : p.parts ≡ parts
   pub header : read_part header_info 1 parts ≡ Ok p.header
-  pub directory : read_part directory_info 2 parts ≡ Ok p.directory
+  pub directory : read_part (directory_info p.header.format) 2 parts ≡ Ok p.directory
   pub applets : read_if_held applets_info 3 parts ≡ Ok p.applets
   pub imports : read_part imports_info 4 parts ≡ Ok p.imports
   pub pool : read_part pool_info 5 parts ≡ Ok p.pool
-  pub classes : read_part classes_info 6 parts ≡ Ok p.classes
+  pub classes : read_part (classes_info p.header.format) 6 parts ≡ Ok p.classes
   pub methods : read_methods parts ≡ Ok p.methods
   pub statics : read_part statics_info 8 parts ≡ Ok p.statics
   pub locations : read_part locations_info 9 parts ≡ Ok p.locations
   pub export : read_if_held export_info 10 parts ≡ Ok p.export
   pub description : read_description parts ≡ Ok p.description
 
-are_read : (parts : List Lent) (p : PackageRecord) → read_package parts ≡ Ok p → AreRead parts p
-unfolding read_package
-are_read parts p h =
-    let a = then_ok (read_part header_info 1 parts) _ p h in
-    let b = then_ok (read_part directory_info 2 parts) _ p a.2 in
+read_behind : (parts : List Lent) (header : HeaderItems) (p : PackageRecord) → read_part header_info 1 parts ≡ Ok header → read_after parts header ≡ Ok p → AreRead parts p
+unfolding read_after
+read_behind parts header p there h =
+    let b = then_ok (read_part (directory_info header.format) 2 parts) _ p h in
     let c = then_ok (read_if_held applets_info 3 parts) _ p b.2 in
     let d = then_ok (read_part imports_info 4 parts) _ p c.2 in
     let e = then_ok (read_part pool_info 5 parts) _ p d.2 in
-    let f = then_ok (read_part classes_info 6 parts) _ p e.2 in
+    let f = then_ok (read_part (classes_info header.format) 6 parts) _ p e.2 in
     let g = then_ok (read_methods parts) _ p f.2 in
     let i = then_ok (read_part statics_info 8 parts) _ p g.2 in
     let j = then_ok (read_part locations_info 9 parts) _ p i.2 in
@@ -180,7 +179,7 @@ are_read parts p h =
     let l = then_ok (read_description parts) _ p k.2 in
     let q : PackageRecord = record {
       parts = parts;
-      header = a.0;
+      header = header;
       directory = b.0;
       applets = c.0;
       imports = d.0;
@@ -194,9 +193,9 @@ are_read parts p h =
     } in
     let same : Ok q ≡ Ok p = l.2 in
     let eq : q ≡ p = same_ok q p same in
-    subst (AreRead parts) eq (record {
+    subst (AreRead parts) {x = q} eq (record {
       same = refl;
-      header = a.1;
+      header = there;
       directory = b.1;
       applets = c.1;
       imports = d.1;
@@ -209,6 +208,12 @@ are_read parts p h =
       description = l.1;
     })
 
+are_read : (parts : List Lent) (p : PackageRecord) → read_package parts ≡ Ok p → AreRead parts p
+unfolding read_package
+are_read parts p h =
+    let a = then_ok (read_part header_info 1 parts) (read_after parts) p h in
+    read_behind parts a.0 p a.1 a.2
+
 -- what the components of parts that are read say
 pub read-said : (parts : List Lent) (p : PackageRecord) → read_package parts ≡ Ok p → AreSaid parts p
 read-said parts p h =
@@ -216,11 +221,11 @@ read-said parts p h =
     record {
       same = r.same;
       header = part_says parts 1 header_info p.header r.header;
-      directory = part_says parts 2 directory_info p.directory r.directory;
+      directory = part_says parts 2 (directory_info p.header.format) p.directory r.directory;
       applets = (said_if parts 3 applets_info p.applets (held parts 3) refl r.applets).said;
       imports = part_says parts 4 imports_info p.imports r.imports;
       pool = part_says parts 5 pool_info p.pool r.pool;
-      classes = part_says parts 6 classes_info p.classes r.classes;
+      classes = part_says parts 6 (classes_info p.header.format) p.classes r.classes;
       methods = methods_say parts p.methods r.methods;
       statics = part_says parts 8 statics_info p.statics r.statics;
       locations = part_says parts 9 locations_info p.locations r.locations;
@@ -315,6 +320,10 @@ part_step : {X B : Type 0} (parts : List Lent) (tag : ℕ) (g : Grammar X) (faul
 part_step parts tag g fault next others (by_first e) known = inl (part_fails parts tag g fault e)
 part_step parts tag g fault next others (by_next x e h) known = inr ((x, part_says parts tag g x e), known x h)
 
+header_step : {B : Type 0} (parts : List Lent) (fault : PackFault) (next : HeaderItems → Result B PackFault) → IsRefused (read_part header_info 1 parts) next fault → ((x : HeaderItems) → next x ≡ Err fault → IsFirstAfter x.format parts fault) → IsFirstFailing parts fault
+header_step parts fault next (by_first e) known = inl (part_fails parts 1 header_info fault e)
+header_step parts fault next (by_next x e h) known = inr (x, part_says parts 1 header_info x e, known x h)
+
 held_step : {X B : Type 0} (parts : List Lent) (tag : ℕ) (g : Grammar X) (fault : PackFault) (next : Option X → Result B PackFault) (others : Type 0) → IsRefused (read_if_held g tag parts) next fault → ((x : Option X) → next x ≡ Err fault → others) → BreaksOr parts tag g fault others
 held_step parts tag g fault next others (by_first e) known = inl (held_breaks parts tag g fault (held parts tag) refl e)
 held_step parts tag g fault next others (by_next x e h) known = inr ((x, (said_if parts tag g x (held parts tag) refl e).said), known x h)
@@ -327,21 +336,24 @@ last_step : {B : Type 0} (parts : List Lent) (fault : PackFault) (next : Descrip
 last_step parts fault next (by_first e) = description_fails parts fault e
 last_step parts fault next (by_next d e h) = no_answer (next d) fault h
 
--- of parts that are refused the first component by tag fails so
-pub read-fails : (parts : List Lent) (fault : PackFault) → read_package parts ≡ Err fault → IsFirstFailing parts fault
-unfolding read_package
-read-fails parts fault h =
-    part_step parts 1 header_info fault _ _ (then_err _ _ fault h) (λ a h1.
-    part_step parts 2 directory_info fault _ _ (then_err _ _ fault h1) (λ b h2.
+after_fails : (parts : List Lent) (header : HeaderItems) (fault : PackFault) → read_after parts header ≡ Err fault → IsFirstAfter header.format parts fault
+unfolding read_after
+after_fails parts header fault h1 =
+    part_step parts 2 (directory_info header.format) fault _ _ (then_err _ _ fault h1) (λ b h2.
     held_step parts 3 applets_info fault _ _ (then_err _ _ fault h2) (λ c h3.
     part_step parts 4 imports_info fault _ _ (then_err _ _ fault h3) (λ d h4.
     part_step parts 5 pool_info fault _ _ (then_err _ _ fault h4) (λ e h5.
-    part_step parts 6 classes_info fault _ _ (then_err _ _ fault h5) (λ f h6.
+    part_step parts 6 (classes_info header.format) fault _ _ (then_err _ _ fault h5) (λ f h6.
     methods_step parts fault _ _ (then_err _ _ fault h6) (λ g h7.
     part_step parts 8 statics_info fault _ _ (then_err _ _ fault h7) (λ i h8.
     part_step parts 9 locations_info fault _ _ (then_err _ _ fault h8) (λ j h9.
     held_step parts 10 export_info fault _ _ (then_err _ _ fault h9) (λ k h10.
-    last_step parts fault _ (then_err _ _ fault h10)))))))))))
+    last_step parts fault _ (then_err _ _ fault h10))))))))))
+
+-- of parts that are refused the first component by tag fails so
+pub read-fails : (parts : List Lent) (fault : PackFault) → read_package parts ≡ Err fault → IsFirstFailing parts fault
+unfolding read_package
+read-fails parts fault h = header_step parts fault (read_after parts) (then_err _ _ fault h) (λ header k. after_fails parts header fault k)
 
 -- ---- what fails is refused
 
@@ -380,6 +392,10 @@ part_back : {X B : Type 0} (parts : List Lent) (tag : ℕ) (g : Grammar X) (faul
 part_back parts tag g fault next others (inl f) known = rw (part_refused parts tag g fault f) refl
 part_back parts tag g fault next others (inr h) known = rw (part_read parts tag g h.0.0 h.0.1) (known h.0.0 h.1)
 
+header_back : {B : Type 0} (parts : List Lent) (fault : PackFault) (next : HeaderItems → Result B PackFault) → IsFirstFailing parts fault → ((x : HeaderItems) → IsFirstAfter x.format parts fault → next x ≡ Err fault) → (read_part header_info 1 parts >>= next) ≡ Err fault
+header_back parts fault next (inl f) known = rw (part_refused parts 1 header_info fault f) refl
+header_back parts fault next (inr h) known = rw (part_read parts 1 header_info h.0 h.1) (known h.0 h.2)
+
 held_back : {X B : Type 0} (parts : List Lent) (tag : ℕ) (g : Grammar X) (fault : PackFault) (next : Option X → Result B PackFault) (others : Type 0) → BreaksOr parts tag g fault others → ((x : Option X) → others → next x ≡ Err fault) → (read_if_held g tag parts >>= next) ≡ Err fault
 held_back parts tag g fault next others (inl f) known = rw (held_refused parts tag g fault f.0 f.1 f.2) refl
 held_back parts tag g fault next others (inr h) known = rw (held_read parts tag g h.0.0 h.0.1) (known h.0.0 h.1)
@@ -393,18 +409,21 @@ methods_back parts fault next others (inr h) known =
 last_back : {B : Type 0} (parts : List Lent) (fault : PackFault) (next : Description → Result B PackFault) → Fails parts 11 descriptor_info fault → (read_description parts >>= next) ≡ Err fault
 last_back parts fault next f = rw (description_refused parts fault f) refl
 
--- parts of which a component fails are refused so
-pub fails-read : (parts : List Lent) (fault : PackFault) → IsFirstFailing parts fault → read_package parts ≡ Err fault
-unfolding read_package
-fails-read parts fault h =
-    part_back parts 1 header_info fault _ _ h (λ a h1.
-    part_back parts 2 directory_info fault _ _ h1 (λ b h2.
+after_refused : (parts : List Lent) (header : HeaderItems) (fault : PackFault) → IsFirstAfter header.format parts fault → read_after parts header ≡ Err fault
+unfolding read_after
+after_refused parts header fault h1 =
+    part_back parts 2 (directory_info header.format) fault _ _ h1 (λ b h2.
     held_back parts 3 applets_info fault _ _ h2 (λ c h3.
     part_back parts 4 imports_info fault _ _ h3 (λ d h4.
     part_back parts 5 pool_info fault _ _ h4 (λ e h5.
-    part_back parts 6 classes_info fault _ _ h5 (λ f h6.
+    part_back parts 6 (classes_info header.format) fault _ _ h5 (λ f h6.
     methods_back parts fault _ _ h6 (λ g h7.
     part_back parts 8 statics_info fault _ _ h7 (λ i h8.
     part_back parts 9 locations_info fault _ _ h8 (λ j h9.
     held_back parts 10 export_info fault _ _ h9 (λ k h10.
-    last_back parts fault _ h10))))))))))
+    last_back parts fault _ h10)))))))))
+
+-- parts of which a component fails are refused so
+pub fails-read : (parts : List Lent) (fault : PackFault) → IsFirstFailing parts fault → read_package parts ≡ Err fault
+unfolding read_package
+fails-read parts fault h = header_back parts fault (read_after parts) h (λ header k. after_refused parts header fault k)

@@ -1,10 +1,13 @@
 -- What the parts of a package say, component by component.
 use Rattle.std.specs.Prelude.{◌≡◌, ℕ, List, Option, Some, None, Result, Ok, Err, is_some, if◌then◌else◌}
+pub use Rattle.first_fault.specs.Least.{◌>>=◌}
 use Rattle.cap_bytes.specs.declared.fault.FormFault.{FormFault}
 use Rattle.cap_bytes.specs.Grammar.{Grammar}
 use Rattle.cap_bytes.specs.Spelling.{info_of, file_of}
 use Rattle.cap_bytes.specs.Reading.{reading}
 use Rattle.cap_frame.specs.Frame.{component}
+use Rattle.cap_frame.specs.HeaderFormat.{header_info}
+use Rattle.cap_frame.specs.DirectoryFormat.{DirectoryItems, directory_info}
 use Rattle.cap_method.specs.declared.handler.HandlerInfo.{HandlerInfo}
 use Rattle.cap_method.specs.MethodFormat.{methods_info}
 use Rattle.cap_desc.specs.DescriptorFormat.{descriptor_info}
@@ -12,12 +15,6 @@ use Rattle.cap_components.specs.declared.fault.PackFault.{PackFault}
 use Rattle.cap_components.specs.declared.fault.PackFault.TheVariants.{Form, MissingPart}
 use Rattle.cap_components.specs.Parts.{Lent, held}
 use Rattle.cap_components.specs.Descriptions.{Description}
-
-infixl 10 ◌>>=◌
--- one answer after the other, up to the first fault
-abbrev pub ◌>>=◌ : {A B : Type 0} → Result A PackFault → (A → Result B PackFault) → Result B PackFault
-(Ok x) >>= f = f x
-(Err fault) >>= f = Err fault
 
 -- what a function returned, seen by a view, is this answer
 abbrev pub Answers : {R X : Type 0} → (R → X) → Result R PackFault → Result X PackFault → Type 0
@@ -41,6 +38,12 @@ unfoldable pub read_part : {X : Type 0} → Grammar X → ℕ → List Lent → 
 read_part g tag parts = do
   info ← info_in parts tag
   formed (reading (info_of tag) g info)
+
+-- the Directory in the format that the Header names: none is known where the Header is absent or malformed
+unfoldable pub read_directory : List Lent → Result DirectoryItems PackFault
+read_directory parts = do
+  header ← read_part header_info 1 parts
+  read_part (directory_info header.format) 2 parts
 
 abbrev pub there : {X : Type 0} → Result X PackFault → Result (Option X) PackFault
 there (Ok x) = Ok (Some x)

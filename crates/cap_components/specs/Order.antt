@@ -1,41 +1,38 @@
+-- By what the faults of one condition are in order: the part, the offset, the two offsets, or the number that they name.
 -- Of several things that break one condition the least is named.
-use Rattle.std.specs.Prelude.{ℕ, ◌+◌, ◌*◌, List, Option, Some, None, Result, Ok, Err, fold, nat_lt, if◌then◌else◌}
+use Rattle.std.specs.Prelude.{List, Option}
+use Rattle.first_fault.specs.declared.place.Place.{Place}
+use Rattle.first_fault.specs.Order.{one, two}
+use Rattle.first_fault.specs.Least as first_fault
+pub use Rattle.first_fault.specs.Least.{refused}
 use Rattle.cap_components.specs.declared.fault.PackFault.{PackFault}
 use Rattle.cap_components.specs.declared.fault.PackFault.TheVariants.{Form, MissingPart, SizeDisagrees, MethodOverlaps, MethodOutside, CountDisagrees, HandlerOutside, StaticOverlaps, NoMethodAt, ClassUndescribed, TooManyRegisters, BadType, StaticOutside, MethodLength, NoStaticAt, PartTooLong}
 
--- by what the faults of one condition are in order: the part, the offset, the two offsets, or the number that
--- they name
-unfoldable pub place_of : PackFault → ℕ
-place_of (Form fault) = fault.part
-place_of (MissingPart part) = part
-place_of (SizeDisagrees part said found) = part
-place_of (MethodOverlaps first second) = first * 65536 + second
-place_of (MethodOutside offset) = offset
-place_of (CountDisagrees what said found) = what
-place_of (HandlerOutside number) = number
-place_of (StaticOverlaps first second) = first * 65536 + second
-place_of (NoMethodAt offset) = offset
-place_of (ClassUndescribed offset) = offset
-place_of (TooManyRegisters offset n) = offset
-place_of (BadType offset) = offset
-place_of (StaticOutside offset) = offset
-place_of (MethodLength offset n) = offset
-place_of (NoStaticAt offset) = offset
-place_of (PartTooLong part) = part
+unfoldable pub place_of : PackFault → Place
+place_of (Form fault) = one fault.part
+place_of (MissingPart part) = one part
+place_of (SizeDisagrees part said found) = one part
+place_of (MethodOverlaps first second) = two first second
+place_of (MethodOutside offset) = one offset
+place_of (CountDisagrees what said found) = one what
+place_of (HandlerOutside number) = one number
+place_of (StaticOverlaps first second) = two first second
+place_of (NoMethodAt offset) = one offset
+place_of (ClassUndescribed offset) = one offset
+place_of (TooManyRegisters offset n) = one offset
+place_of (BadType offset) = one offset
+place_of (StaticOutside offset) = one offset
+place_of (MethodLength offset n) = one offset
+place_of (NoStaticAt offset) = one offset
+place_of (PartTooLong part) = one part
 
--- the fault that is named, when a thing was seen that may be at fault: the least so far stays where it is as low
-unfoldable pub lesser : Option PackFault → Option PackFault → Option PackFault
-lesser least None = least
-lesser None (Some fault) = Some fault
-lesser (Some least) (Some fault) = if nat_lt (place_of fault) (place_of least) then Some fault else Some least
+-- the fault that is named, when a thing was seen that may be at fault
+abbrev pub lesser : Option PackFault → Option PackFault → Option PackFault
+lesser = first_fault.lesser place_of
 
 -- the least fault of things, where `fault` tells what is wrong with each, beside one that was seen before
 abbrev pub least_from : {X : Type 0} → Option PackFault → (X → Option PackFault) → List X → Option PackFault
-least_from before fault = fold (λ least x. lesser least (fault x)) before
+least_from = first_fault.least_from place_of
 
 abbrev pub least_of : {X : Type 0} → (X → Option PackFault) → List X → Option PackFault
-least_of = least_from None
-
-abbrev pub refused : Option PackFault → Result (Unit {0}) PackFault
-refused None = Ok (tt {0})
-refused (Some fault) = Err fault
+least_of = first_fault.least_of place_of

@@ -34,7 +34,8 @@ absent_by (Some size) fault = if size == 0 then None else fault
 unfoldable pub sized_fault : List Lent → DirectoryItems → ℕ → Option PackFault
 sized_fault parts d tag = absent_by (size_in d tag) (absent_fault parts tag)
 
--- the least part that must be there and is absent; a Directory that is malformed or absent tells no sizes
+-- the least part that must be there and is absent; where the Header or
+-- the Directory is malformed or absent, no sizes are told
 abbrev pub missing : List Lent → Result DirectoryItems PackFault → Option PackFault
 missing parts (Err fault) = least_of (absent_fault parts) required
 missing parts (Ok d) = least_from (least_from (least_of (absent_fault parts) required) (sized_fault parts d) optional) (sized_fault parts d) (custom_tags d)

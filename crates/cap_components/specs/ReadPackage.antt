@@ -1,7 +1,7 @@
 -- What the parts of a package say, or the first fault on the way: a part that is absent, then the first part by tag that
 -- breaks its format.
 use Rattle.std.specs.Prelude.{List, Result, Ok}
-use Rattle.cap_frame.specs.HeaderFormat.{header_info}
+use Rattle.cap_frame.specs.HeaderFormat.{HeaderItems, header_info}
 use Rattle.cap_frame.specs.DirectoryFormat.{directory_info}
 use Rattle.cap_frame.specs.ImportFormat.{imports_info}
 use Rattle.cap_frame.specs.AppletFormat.{applets_info}
@@ -15,14 +15,14 @@ use Rattle.cap_components.specs.Parts.{Lent}
 use Rattle.cap_components.specs.Components.{◌>>=◌, read_part, read_if_held, read_methods, read_description}
 use Rattle.cap_components.specs.PackageRecord.{PackageRecord}
 
-unfoldable pub read_package : List Lent → Result PackageRecord PackFault
-read_package parts = do
-  header ← read_part header_info 1 parts
-  directory ← read_part directory_info 2 parts
+-- the components after the Header, in its format
+unfoldable pub read_after : List Lent → HeaderItems → Result PackageRecord PackFault
+read_after parts header = do
+  directory ← read_part (directory_info header.format) 2 parts
   applets ← read_if_held applets_info 3 parts
   imports ← read_part imports_info 4 parts
   pool ← read_part pool_info 5 parts
-  classes ← read_part classes_info 6 parts
+  classes ← read_part (classes_info header.format) 6 parts
   methods ← read_methods parts
   statics ← read_part statics_info 8 parts
   locations ← read_part locations_info 9 parts
@@ -42,3 +42,8 @@ read_package parts = do
     export = export;
     description = description;
   })
+
+unfoldable pub read_package : List Lent → Result PackageRecord PackFault
+read_package parts = do
+  header ← read_part header_info 1 parts
+  read_after parts header

@@ -1,10 +1,11 @@
 -- What the components of a package say (JCVM 2.2, chapter 6), or the first by tag that is absent or breaks its format.
 use Rattle.std.specs.Prelude.{◌≡◌, ℕ, ◌⊎◌, List, Option, Some, None}
 use Rattle.cap_bytes.specs.declared.fault.FormFault.{FormFault}
+use Rattle.cap_bytes.specs.declared.format.Format.{Format}
 use Rattle.cap_bytes.specs.Grammar.{Grammar}
 use Rattle.cap_bytes.specs.Spelling.{Stands, Breaks, info_of, file_of}
 use Rattle.cap_frame.specs.Frame.{component}
-use Rattle.cap_frame.specs.HeaderFormat.{header_info}
+use Rattle.cap_frame.specs.HeaderFormat.{HeaderItems, header_info}
 use Rattle.cap_frame.specs.DirectoryFormat.{directory_info}
 use Rattle.cap_frame.specs.ImportFormat.{imports_info}
 use Rattle.cap_frame.specs.AppletFormat.{applets_info}
@@ -42,11 +43,11 @@ SaysIf parts tag g (Some items) = Says parts tag g items
 pub record AreSaid (parts : List Lent) (p : PackageRecord) : Type 0 where
   pub same : p.parts ≡ parts
   pub header : Says parts 1 header_info p.header
-  pub directory : Says parts 2 directory_info p.directory
+  pub directory : Says parts 2 (directory_info p.header.format) p.directory
   pub applets : SaysIf parts 3 applets_info p.applets
   pub imports : Says parts 4 imports_info p.imports
   pub pool : Says parts 5 pool_info p.pool
-  pub classes : Says parts 6 classes_info p.classes
+  pub classes : Says parts 6 (classes_info p.header.format) p.classes
   pub methods : Holds parts 7 methods_info p.methods.info p.methods.handlers
   pub statics : Says parts 8 statics_info p.statics
   pub locations : Says parts 9 locations_info p.locations
@@ -78,17 +79,22 @@ FailsOr parts tag g fault others = Fails parts tag g fault ⊎ (((items : _) × 
 abbrev pub BreaksOr : {X : Type 0} → List Lent → ℕ → Grammar X → PackFault → Type 0 → Type 0
 BreaksOr parts tag g fault others = ((form : FormFault) × (fault ≡ Form form) × IsBroken parts tag g form) ⊎ (((items : _) × SaysIf parts tag g items) × others)
 
--- the first component by tag that fails
-abbrev pub IsFirstFailing : List Lent → PackFault → Type 0
-IsFirstFailing parts fault =
-    FailsOr parts 1 header_info fault
-    (FailsOr parts 2 directory_info fault
+-- the first component by tag that fails of those after the Header, in its format
+abbrev pub IsFirstAfter : Format → List Lent → PackFault → Type 0
+IsFirstAfter format parts fault =
+    FailsOr parts 2 (directory_info format) fault
     (BreaksOr parts 3 applets_info fault
     (FailsOr parts 4 imports_info fault
     (FailsOr parts 5 pool_info fault
-    (FailsOr parts 6 classes_info fault
+    (FailsOr parts 6 (classes_info format) fault
     (FailsOr parts 7 methods_info fault
     (FailsOr parts 8 statics_info fault
     (FailsOr parts 9 locations_info fault
     (BreaksOr parts 10 export_info fault
-    (Fails parts 11 descriptor_info fault))))))))))
+    (Fails parts 11 descriptor_info fault)))))))))
+
+-- the first component by tag that fails: the Header, or the first of the others in the format that it names
+abbrev pub IsFirstFailing : List Lent → PackFault → Type 0
+IsFirstFailing parts fault =
+    Fails parts 1 header_info fault
+    ⊎ ((header : HeaderItems) × Says parts 1 header_info header × IsFirstAfter header.format parts fault)

@@ -1,14 +1,14 @@
 ghost use Rattle.std.specs.Prelude.{◌≡◌, map};
 ghost use Rattle.cap_frame.specs.Directory.{directory_items, customs_left};
-ghost use Rattle.cap_frame.specs.DirectoryFormat.{Custom, directory_info};
-ghost use Rattle.cap_components.specs.Components.{read_part};
+ghost use Rattle.cap_frame.specs.DirectoryFormat.{Custom};
+ghost use Rattle.cap_components.specs.Components.{read_directory};
 ghost use Rattle.cap_components.specs.Order.{least_of, least_from, refused};
 ghost use Rattle.cap_components.specs.PartChecks.{required, components, optional, custom_tags, absent_fault, sized_fault, missing, form_fault, size_fault};
 
 use crate::fault::PackFault;
 use crate::least::{lesser, refuse};
 use crate::parts::Parts;
-use crate::read::{directory_in, info_in};
+use crate::read::{info_in, sizes_in};
 use cap_bytes::Part;
 use cap_frame::Directory;
 
@@ -64,10 +64,10 @@ fn absent_sized(
 
 /// Every part that must be there is.
 pub fn none_missing(parts: &Parts<'_>) -> Result<(), PackFault>
-    ensures { result ≡ refused (missing parts.now (read_part directory_info 2 parts.now)) }
+    ensures { result ≡ refused (missing parts.now (read_directory parts.now)) }
 {
     let least = absent_among(parts, &[1, 2, 4, 5, 6, 7, 8, 9, 11]);
-    match directory_in(parts) {
+    match sizes_in(parts) {
         Ok(directory) => refuse(absent_sized(parts, &directory, least)),
         Err(_) => refuse(least),
     }

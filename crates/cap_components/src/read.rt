@@ -19,13 +19,13 @@ ghost use Rattle.cap_class.specs.ClassFormat.{classes_info};
 ghost use Rattle.cap_method.specs.StaticPart.{statics_seen};
 ghost use Rattle.cap_method.specs.StaticFormat.{statics_info};
 ghost use Rattle.cap_components.specs.Descriptions.{description};
-ghost use Rattle.cap_components.specs.Components.{Answers, info_in, read_part, read_if_held, read_methods, read_description};
+ghost use Rattle.cap_components.specs.Components.{Answers, info_in, read_part, read_directory, read_if_held, read_methods, read_description};
 ghost use Rattle.cap_components.specs.MethodsSeen.{methods_seen};
 ghost use Rattle.cap_components.specs.IfThere.{seen_if};
 
 use crate::fault::PackFault;
 use crate::parts::Parts;
-use cap_bytes::{Part, View};
+use cap_bytes::{Format, Part, View};
 use cap_class::ClassPart;
 use cap_desc::DescPart;
 use cap_frame::{Applets, Directory, Header, Imports, applets, directory, frame, header, imports};
@@ -60,17 +60,26 @@ pub fn header_in<'a>(parts: &Parts<'a>) -> Result<Header<'a>, PackFault>
     }
 }
 
-/// The Directory component.
+/// The Directory component in a format.
 #[tactic(auto, using(cap_bytes::proofs::Laws::reading_where, cap_bytes::proofs::Laws::refused_where), unfolding(crate::specs::Components::read_part))]
-pub fn directory_in<'a>(parts: &Parts<'a>) -> Result<Directory<'a>, PackFault>
-    ensures value { Answers directory_items result (read_part directory_info 2 parts.now) }
+pub fn directory_in<'a>(parts: &Parts<'a>, format: Format) -> Result<Directory<'a>, PackFault>
+    ensures value { Answers directory_items result (read_part (directory_info format) 2 parts.now) }
     ensures info { IfOk result (λ x. info_in parts.now 2 ≡ Ok x.info.bytes.now) }
 {
     let info = info_in(parts, 2)?;
-    match directory(info) {
+    match directory(info, format) {
         Ok(directory) => Ok(directory),
         Err(fault) => Err(PackFault::Form(fault)),
     }
+}
+
+/// The Directory component in the format that the Header names.
+#[tactic(auto, unfolding(crate::specs::Components::read_directory))]
+pub fn sizes_in<'a>(parts: &Parts<'a>) -> Result<Directory<'a>, PackFault>
+    ensures { Answers directory_items result (read_directory parts.now) }
+{
+    let header = header_in(parts)?;
+    directory_in(parts, header.format())
 }
 
 /// The Import component.
@@ -99,14 +108,14 @@ pub fn pool_in<'a>(parts: &Parts<'a>) -> Result<Pool<'a>, PackFault>
     }
 }
 
-/// The Class component.
+/// The Class component in a format.
 #[tactic(auto, using(cap_bytes::proofs::Laws::reading_where, cap_bytes::proofs::Laws::refused_where), unfolding(crate::specs::Components::read_part))]
-pub fn classes_in<'a>(parts: &Parts<'a>) -> Result<ClassPart<'a>, PackFault>
-    ensures value { Answers records result (read_part classes_info 6 parts.now) }
+pub fn classes_in<'a>(parts: &Parts<'a>, format: Format) -> Result<ClassPart<'a>, PackFault>
+    ensures value { Answers records result (read_part (classes_info format) 6 parts.now) }
     ensures info { IfOk result (λ x. info_in parts.now 6 ≡ Ok x.info.bytes.now) }
 {
     let info = info_in(parts, 6)?;
-    match cap_class::classes(info) {
+    match cap_class::classes(info, format) {
         Ok(classes) => Ok(classes),
         Err(fault) => Err(PackFault::Form(fault)),
     }

@@ -3,3 +3,4 @@ pub mod Pieces
 pub mod Keys
 pub mod Transfers
 pub mod Outputs
+pub mod Ranges

@@ -1,8 +1,11 @@
 -- The files in which folders keep their parts: what a disk holds when a file was opened, made or closed.
-use Rattle.std.specs.Prelude.{◌≡◌, ℕ, ◌≤◌, Bool, true, false, List, [], length, Option, Some, None, IfSome, IsSomeAnd, Result, Ok, Err, ◌⊎◌}
+use Rattle.std.specs.Prelude.{◌≡◌, ◌≢◌, ℕ, ◌≤◌, Bool, true, false, List, [], length, Option, Some, None, IfSome, IsSomeAnd, Result, Ok, Err, ◌⊎◌}
 use Rattle.std.specs.FinMap as map
+use Rattle.std.specs.IoError.{error_kind}
+use Rattle.std.specs.declared.io.Error.{Error}
+use Rattle.std.specs.declared.io.ErrorKind.TheVariants.{NotFound}
 use Rattle.cap_files.specs.declared.disk.DiskFailed.{DiskFailed}
-use Rattle.cap_files.specs.Folder.{Parts, Holds}
+use Rattle.cap_files.specs.Folder.{Parts, Folders, Holds}
 
 -- the file is there, and all its bytes are left to be read, or it is absent
 abbrev pub Opens : Option Parts → List ℕ → Option (List ℕ) → Result Bool DiskFailed → Type 0
@@ -36,7 +39,22 @@ abbrev pub TakesAny : {E : Type 0} → List ℕ → Result ℕ E → Type 0
 TakesAny bytes (Ok count) = (count ≤ length bytes) × (count ≡ 0 → length bytes ≡ 0)
 TakesAny bytes (Err _) = Unit {0}
 
+-- what a call that opens a file to be read found: the file; none exactly where the error is that there is no such file; else a failure
+abbrev pub Finds : {F : Type 0} → Result F Error → Result (Option F) DiskFailed → Type 0
+Finds (Ok file) found = found ≡ Ok (Some file)
+Finds (Err error) (Ok found) = (found ≡ None) × (error_kind error ≡ NotFound)
+Finds (Err error) (Err failed) = error_kind error ≢ NotFound
+
 -- what an open file's handle tells
 abbrev pub of_open : {F : Type 0} → (F → Option (List ℕ)) → Option F → Option (List ℕ)
 of_open told None = None
 of_open told (Some file) = told file
+
+-- the folders whose parts are the files of a disk, which does not tell which loads failed
+abbrev pub on_disk : Option Parts → ℕ → ℕ → Folders
+on_disk held read_faults write_faults = record {
+  held = held;
+  failed = None;
+  load_faults = read_faults;
+  store_faults = write_faults;
+}

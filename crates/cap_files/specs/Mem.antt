@@ -4,7 +4,7 @@ use Rattle.cap_files.specs.declared.folder.LoadEnd.{LoadEnd}
 use Rattle.cap_files.specs.declared.folder.LoadEnd.TheVariants.{Failed, TooLong, Memory}
 use Rattle.cap_files.specs.declared.mem_folder.MemFolder.{MemFolder}
 use Rattle.cap_files.specs.declared.mem_sink.MemSink.{MemSink}
-use Rattle.cap_files.specs.Folder.{Parts}
+use Rattle.cap_files.specs.Folder.{Folders}
 use Rattle.cap_files.specs.CallCounts.{Counted}
 use Rattle.cap_files.specs.Calls.{next_keep, counted, faulted, listed}
 use Rattle.cap_files.specs.Shelf as shelf
@@ -19,16 +19,14 @@ abbrev pub called : Counted → Bool → Counted
 called calls failed = if failed then faulted (counted calls) else counted calls
 
 -- ---- folders
--- what a folder holds, which it always tells
-abbrev pub parts_held : MemFolder → Option Parts
-parts_held folder = Some folder.shelf.parts
-
--- how often its loads and its stores have failed
-abbrev pub load_faults_of : MemFolder → ℕ
-load_faults_of folder = folder.loads.faults
-
-abbrev pub store_faults_of : MemFolder → ℕ
-store_faults_of folder = folder.stores.faults
+-- a folder from outside: it always tells what it holds, and does not tell which loads failed
+abbrev pub folders_of : MemFolder → Folders
+folders_of folder = record {
+  held = Some folder.shelf.parts;
+  failed = None;
+  load_faults = folder.loads.faults;
+  store_faults = folder.stores.faults;
+}
 
 -- a part set, where the room suffices
 abbrev pub set : MemFolder → List ℕ → List ℕ → MemFolder

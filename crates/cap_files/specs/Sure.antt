@@ -2,13 +2,18 @@
 use Rattle.std.specs.Prelude.{ℕ, false, List, Option, Some, None, if◌then◌else◌}
 use Rattle.cap_files.specs.declared.sure_folder.SureFolder.{SureFolder}
 use Rattle.cap_files.specs.declared.sure_sink.SureSink.{SureSink}
-use Rattle.cap_files.specs.Folder.{Parts}
+use Rattle.cap_files.specs.Folder.{Folders}
 use Rattle.cap_files.specs.Shelf as shelf
 use Rattle.cap_files.specs.Tape as tape
 
--- what a folder holds, where it tells
-abbrev pub parts_told : SureFolder → Option Parts
-parts_told folder = if folder.told then Some folder.shelf.parts else None
+-- a folder from outside: it tells what it holds until something went beyond its room, and no load or store of it fails
+abbrev pub folders_told : SureFolder → Folders
+folders_told folder = record {
+  held = if folder.told then Some folder.shelf.parts else None;
+  failed = None;
+  load_faults = 0;
+  store_faults = 0;
+}
 
 -- a part set, where the room suffices
 abbrev pub set : SureFolder → List ℕ → List ℕ → SureFolder
@@ -26,6 +31,6 @@ text_told sink = if sink.told then Some sink.tape.bytes else None
 abbrev pub received : SureSink → List ℕ → SureSink
 received sink piece = if tape.has_room sink.tape piece then record sink { tape = tape.appended sink.tape piece } else record sink { told = false }
 
--- neither ever fails
+-- a sink never fails
 abbrev pub no_faults : {A : Type 0} → A → ℕ
 no_faults device = 0

@@ -1,6 +1,7 @@
 ghost use Rattle.std.specs.Prelude.{◌≡◌, None, IfOk};
 ghost use Rattle.cap_files.specs.Counts.{CountsFault};
-ghost use Rattle.cap_files.specs.Folder.{Loads, Stores, key_of};
+ghost use Rattle.cap_files.specs.Disk.{on_disk};
+ghost use Rattle.cap_files.specs.Folder.{Loads, LoadLeaves, Stores, StoreCounts, key_of};
 ghost use Rattle.cap_files.specs.Transfer.{CountsRead};
 
 use crate::disk::Disk;
@@ -37,11 +38,7 @@ impl<'a, R: Files> DirFolder<FileSystem<'a, R>> {
 }
 
 impl<D: Disk> Folder for DirFolder<D> {
-    ghost held = { λ d. D.held d.disk };
-
-    ghost load_faults = { λ d. D.read_faults d.disk };
-
-    ghost store_faults = { λ d. D.write_faults d.disk };
+    ghost folders = { λ d. on_disk (D.held d.disk) (D.read_faults d.disk) (D.write_faults d.disk) };
 
     fn load(
         &mut self,
@@ -49,18 +46,33 @@ impl<D: Disk> Folder for DirFolder<D> {
         dir: &str,
         part: Part,
         to: &mut Vec<u8>,
-    ) -> Result<bool, LoadEnd> {
+    ) -> Result<bool, LoadEnd>
+        ensures bytes { Loads (D.held self.old.disk) (key_of part dir.now) to.new.items result }
+        ensures folders { LoadLeaves
+            (on_disk (D.held self.old.disk) (D.read_faults self.old.disk) (D.write_faults self.old.disk))
+            (key_of part dir.now)
+            (on_disk (D.held self.new.disk) (D.read_faults self.new.disk) (D.write_faults self.new.disk)) result }
+        ensures closed { D.opened self.new.disk ≡ None }
+    {
         read(&mut self.disk, dir, part, to)
     }
 
-    fn store(&mut self, dir: &str, part: Part, bytes: &[u8]) -> Result<(), StoreFailed> {
+    fn store(&mut self, dir: &str, part: Part, bytes: &[u8]) -> Result<(), StoreFailed>
+        ensures bytes { Stores (D.held self.old.disk) (key_of part dir.now) bytes.now (D.held self.new.disk) result }
+        ensures counts { StoreCounts
+            (on_disk (D.held self.old.disk) (D.read_faults self.old.disk) (D.write_faults self.old.disk))
+            (on_disk (D.held self.new.disk) (D.read_faults self.new.disk) (D.write_faults self.new.disk)) result }
+        ensures closed { D.opened self.new.disk ≡ None }
+    {
         write(&mut self.disk, dir, part, bytes)
     }
 }
 
-// Reads the file of a part, if it is there. After a failure, and out of memory, `to` is empty.
+// Reads the file of a part, if it is there, and closes it also where a read failed. After a failure,
+// and out of memory, `to` is empty.
 fn read<D: Disk>(disk: &mut D, dir: &str, part: Part, to: &mut Vec<u8>) -> Result<bool, LoadEnd>
     ensures bytes { Loads (D.held disk.old) (key_of part dir.now) to.new.items result }
+    ensures closed { D.opened disk.new ≡ None }
     ensures held { D.held disk.new ≡ D.held disk.old }
     ensures read_faults { CountsRead (D.read_faults disk.old) (D.read_faults disk.new) result }
     ensures write_faults { D.write_faults disk.new ≡ D.write_faults disk.old }
@@ -71,7 +83,9 @@ fn read<D: Disk>(disk: &mut D, dir: &str, part: Part, to: &mut Vec<u8>) -> Resul
         Ok(false) => return Ok(false),
         Err(_) => return Err(LoadEnd::Failed),
     }
-    match read_part(disk, to) {
+    let read = read_part(disk, to);
+    disk.end_read();
+    match read {
         Ok(()) => Ok(true),
         Err(LoadEnd::TooLong) => Err(LoadEnd::TooLong),
         Err(LoadEnd::Failed) => {
@@ -97,6 +111,6 @@ fn write<D: Disk>(disk: &mut D, dir: &str, part: Part, bytes: &[u8]) -> Result<(
         Err(_) => return Err(StoreFailed),
     }
     let stored = write_part(disk, bytes);
-    disk.close(dir, part);
+    disk.end_write(dir, part);
     stored
 }

@@ -50,6 +50,13 @@ pub trait Disk {
         ensures read_faults { CountsFault (read_faults self.old) (read_faults self.new) result }
         ensures write_faults { write_faults self.new ≡ write_faults self.old };
 
+    /// Closes the file that was read.
+    fn end_read(&mut self)
+        ensures opened { opened self.new ≡ None }
+        ensures held { held self.new ≡ held self.old }
+        ensures read_faults { read_faults self.new ≡ read_faults self.old }
+        ensures write_faults { write_faults self.new ≡ write_faults self.old };
+
     /// Opens the file of a part to be written, with no bytes.
     fn create(&mut self, dir: &str, part: Part) -> Result<(), DiskFailed>
         ensures bytes { Creates (held self.old) (key_of part dir.now) (held self.new) (written self.new) result }
@@ -68,7 +75,7 @@ pub trait Disk {
         ensures read_faults { read_faults self.new ≡ read_faults self.old };
 
     /// Closes the file of the part that was written.
-    fn close(&mut self, dir: &str, part: Part)
+    fn end_write(&mut self, dir: &str, part: Part)
         ensures bytes { Closes (held self.old) (key_of part dir.now) (written self.old) (held self.new) }
         ensures opened { opened self.new ≡ None }
         ensures write_faults { write_faults self.new ≡ write_faults self.old }

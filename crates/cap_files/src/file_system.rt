@@ -1,15 +1,14 @@
 ghost use Rattle.std.specs.Prelude.{◌≡◌, ◌≤◌, None, IfOk};
 ghost use Rattle.std.specs.Option.{option_map};
 ghost use Rattle.cap_files.specs.Counts.{one_more};
-ghost use Rattle.cap_files.specs.Disk.{of_open};
+ghost use Rattle.cap_files.specs.Disk.{Finds, of_open};
 
 use crate::count::raise;
 use crate::disk::{Disk, DiskFailed};
 use crate::path::Path;
 use cap_bytes::Part;
 use std::alloc::{AllocError, Global};
-use std::fs;
-use std::io::{ErrorKind, Read, Write};
+use std::io::{self, ErrorKind, Read, Write};
 use std::rt::Files;
 
 /// The files of the machine. A folder's word is its path, and a part is the file of its name in it.
@@ -79,12 +78,12 @@ impl<'a, R: Files> Disk for FileSystem<'a, R> {
         if !self.path.set(dir, part) {
             return Err(self.read_failed());
         }
-        match fs::open(self.files, self.path.text()) {
-            Ok(file) => {
+        match found(self.path.open(self.files)) {
+            Ok(Some(file)) => {
                 self.file = Some(file);
                 Ok(true)
             }
-            Err(e) if matches!(e.kind(), ErrorKind::NotFound) => Ok(false),
+            Ok(None) => Ok(false),
             Err(_) => Err(self.read_failed()),
         }
     }
@@ -98,12 +97,16 @@ impl<'a, R: Files> Disk for FileSystem<'a, R> {
         Err(self.read_failed())
     }
 
+    fn end_read(&mut self) {
+        self.file = None;
+    }
+
     fn create(&mut self, dir: &str, part: Part) -> Result<(), DiskFailed> {
         self.file = None;
         if !self.path.set(dir, part) {
             return Err(self.write_failed());
         }
-        match fs::create(self.files, self.path.text()) {
+        match self.path.create(self.files) {
             Ok(file) => {
                 self.file = Some(file);
                 Ok(())
@@ -123,7 +126,21 @@ impl<'a, R: Files> Disk for FileSystem<'a, R> {
         Err(self.write_failed())
     }
 
-    fn close(&mut self, _dir: &str, _part: Part) {
+    fn end_write(&mut self, _dir: &str, _part: Part) {
         self.file = None;
+    }
+}
+
+// The file that was opened to be read, or none where there is no such file. Every other error is a
+// failure.
+fn found<F>(opened: io::Result<F>) -> Result<Option<F>, DiskFailed>
+    ensures { Finds opened result }
+{
+    match opened {
+        Ok(file) => Ok(Some(file)),
+        Err(e) => match e.kind() {
+            ErrorKind::NotFound => Ok(None),
+            _ => Err(DiskFailed),
+        },
     }
 }

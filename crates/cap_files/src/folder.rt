@@ -1,6 +1,4 @@
-ghost use Rattle.std.specs.Prelude.{◌≡◌, ℕ, ◌≤◌, Option, OnErr};
-ghost use Rattle.cap_files.specs.Counts.{Rose};
-ghost use Rattle.cap_files.specs.Folder.{Parts, Loads, FailsRisen, Stores, key_of};
+ghost use Rattle.cap_files.specs.Folder.{Folders, Loads, LoadLeaves, Stores, StoreCounts, key_of};
 
 use cap_bytes::Part;
 use std::alloc::Global;
@@ -22,14 +20,9 @@ pub struct StoreFailed;
 
 /// Folders of package components. A folder is named by a word, and holds a part or does not.
 pub trait Folder {
-    /// What all folders hold, where the device tells it.
-    ghost held: { Self → Option Parts };
-
-    /// How often a load has failed.
-    ghost load_faults: { Self → ℕ };
-
-    /// How often a store has failed.
-    ghost store_faults: { Self → ℕ };
+    /// The folders as they are seen from outside: what they hold, where the device tells it, and
+    /// how often a load and a store have failed.
+    ghost folders: { Self → Folders };
 
     /// Replaces the bytes of `to` by those of a part, of which there are at most 65,538, and
     /// answers whether the part is there. After `TooLong` the first 65,539 bytes are in `to`, and
@@ -41,17 +34,12 @@ pub trait Folder {
         part: Part,
         to: &mut Vec<u8>,
     ) -> Result<bool, LoadEnd>
-        ensures bytes { Loads (held self.old) (key_of part dir.now) to.new.items result }
-        ensures held { held self.new ≡ held self.old }
-        ensures failed { FailsRisen (load_faults self.old) (load_faults self.new) result }
-        ensures load_faults { load_faults self.old ≤ load_faults self.new }
-        ensures store_faults { store_faults self.new ≡ store_faults self.old };
+        ensures bytes { Loads (folders self.old).held (key_of part dir.now) to.new.items result }
+        ensures folders { LoadLeaves (folders self.old) (key_of part dir.now) (folders self.new) result };
 
     /// Makes the bytes the content of a part, with no memory taken. After a failure the part is as
     /// before, or holds the bytes that were written first. Every other part is as before.
     fn store(&mut self, dir: &str, part: Part, bytes: &[u8]) -> Result<(), StoreFailed>
-        ensures bytes { Stores (held self.old) (key_of part dir.now) bytes.now (held self.new) result }
-        ensures failed { OnErr result (Rose (store_faults self.old) (store_faults self.new)) }
-        ensures store_faults { store_faults self.old ≤ store_faults self.new }
-        ensures load_faults { load_faults self.new ≡ load_faults self.old };
+        ensures bytes { Stores (folders self.old).held (key_of part dir.now) bytes.now (folders self.new).held result }
+        ensures counts { StoreCounts (folders self.old) (folders self.new) result };
 }

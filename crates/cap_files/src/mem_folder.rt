@@ -1,9 +1,8 @@
-ghost use Rattle.std.specs.Prelude.{◌≡◌, ◌≤◌, length, nat_lt, is_ok, IfOk, OnErr, if◌then◌else◌};
+ghost use Rattle.std.specs.Prelude.{◌≡◌, length, nat_lt, is_ok, IfOk, if◌then◌else◌};
 ghost use Rattle.cap_files.specs.Calls.{no_calls};
-ghost use Rattle.cap_files.specs.Counts.{Rose};
-ghost use Rattle.cap_files.specs.Folder.{Loads, FailsRisen, Stores, key_of};
+ghost use Rattle.cap_files.specs.Folder.{Loads, LoadLeaves, Stores, StoreCounts, key_of};
 ghost use Rattle.cap_files.specs.Shelf.{empty_shelf, has_room};
-ghost use Rattle.cap_files.specs.Mem.{parts_held, load_faults_of, store_faults_of, set, load_listed, store_listed, loaded, FailsWhenDue, is_stored, stored};
+ghost use Rattle.cap_files.specs.Mem.{folders_of, set, load_listed, store_listed, loaded, FailsWhenDue, is_stored, stored};
 
 use crate::calls::Calls;
 use crate::folder::{Folder, LoadEnd, StoreFailed};
@@ -63,11 +62,7 @@ impl MemFolder {
 }
 
 impl Folder for MemFolder {
-    ghost held = { parts_held };
-
-    ghost load_faults = { load_faults_of };
-
-    ghost store_faults = { store_faults_of };
+    ghost folders = { folders_of };
 
     fn load(
         &mut self,
@@ -76,11 +71,8 @@ impl Folder for MemFolder {
         part: Part,
         to: &mut Vec<u8>,
     ) -> Result<bool, LoadEnd>
-        ensures bytes { Loads (parts_held self.old) (key_of part dir.now) to.new.items result }
-        ensures held { parts_held self.new ≡ parts_held self.old }
-        ensures failed { FailsRisen (load_faults_of self.old) (load_faults_of self.new) result }
-        ensures load_faults { load_faults_of self.old ≤ load_faults_of self.new }
-        ensures store_faults { store_faults_of self.new ≡ store_faults_of self.old }
+        ensures bytes { Loads (folders_of self.old).held (key_of part dir.now) to.new.items result }
+        ensures folders { LoadLeaves (folders_of self.old) (key_of part dir.now) (folders_of self.new) result }
         ensures due { FailsWhenDue self.old.loads result }
         ensures after { self.new ≡ loaded self.old }
     {
@@ -95,10 +87,8 @@ impl Folder for MemFolder {
     /// Puts a part. A store that is listed to fail puts the bytes that it is to keep, where the
     /// room suffices for them.
     fn store(&mut self, dir: &str, part: Part, bytes: &[u8]) -> Result<(), StoreFailed>
-        ensures bytes { Stores (parts_held self.old) (key_of part dir.now) bytes.now (parts_held self.new) result }
-        ensures failed { OnErr result (Rose (store_faults_of self.old) (store_faults_of self.new)) }
-        ensures store_faults { store_faults_of self.old ≤ store_faults_of self.new }
-        ensures load_faults { load_faults_of self.new ≡ load_faults_of self.old }
+        ensures bytes { Stores (folders_of self.old).held (key_of part dir.now) bytes.now (folders_of self.new).held result }
+        ensures counts { StoreCounts (folders_of self.old) (folders_of self.new) result }
         ensures stored { is_ok result ≡ is_stored self.old (key_of part dir.now) bytes.now }
         ensures after { self.new ≡ stored self.old (key_of part dir.now) bytes.now }
     {

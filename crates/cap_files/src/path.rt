@@ -6,6 +6,8 @@ use cap_bytes::Part;
 use itoa::Buffer;
 use std::alloc::{AllocError, Global};
 use std::marker::Model;
+use std::rt::Files;
+use std::{fs, io};
 
 // What a path has after its folder's word at most, as `/ConstantPool.cap`.
 const LONGEST_NAME: usize = 17;
@@ -56,10 +58,15 @@ impl Path {
         true
     }
 
-    pub(crate) fn text(&self) -> &str
-        ensures { result.now ≡ self.now.text }
-    {
-        self.text.as_str()
+    /// Opens the file at the path to be read. The library does not say which file a handle is of:
+    /// here and in `create` it is tied to the path, and nowhere else.
+    pub(crate) fn open<R: Files>(&self, files: &R) -> io::Result<R::File> {
+        fs::open(files, self.text.as_str())
+    }
+
+    /// Makes the file at the path, empty, to be written.
+    pub(crate) fn create<R: Files>(&self, files: &R) -> io::Result<R::File> {
+        fs::create(files, self.text.as_str())
     }
 }
 

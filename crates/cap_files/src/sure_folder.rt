@@ -1,8 +1,7 @@
-ghost use Rattle.std.specs.Prelude.{◌≡◌, ◌≤◌, true, IfOk, IsOk, OnErr};
-ghost use Rattle.cap_files.specs.Counts.{Rose};
-ghost use Rattle.cap_files.specs.Folder.{Loads, FailsRisen, Stores, key_of};
+ghost use Rattle.std.specs.Prelude.{◌≡◌, true, IfOk, IsOk};
+ghost use Rattle.cap_files.specs.Folder.{Loads, LoadLeaves, Stores, StoreCounts, key_of};
 ghost use Rattle.cap_files.specs.Shelf.{empty_shelf, has_room};
-ghost use Rattle.cap_files.specs.Sure.{set, stored, parts_told, no_faults};
+ghost use Rattle.cap_files.specs.Sure.{set, stored, folders_told};
 
 use crate::folder::{Folder, LoadEnd, StoreFailed};
 use crate::load::hand_over;
@@ -39,11 +38,7 @@ impl SureFolder {
 }
 
 impl Folder for SureFolder {
-    ghost held = { parts_told };
-
-    ghost load_faults = { no_faults };
-
-    ghost store_faults = { no_faults };
+    ghost folders = { folders_told };
 
     fn load(
         &mut self,
@@ -52,11 +47,8 @@ impl Folder for SureFolder {
         part: Part,
         to: &mut Vec<u8>,
     ) -> Result<bool, LoadEnd>
-        ensures bytes { Loads (parts_told self.old) (key_of part dir.now) to.new.items result }
-        ensures held { parts_told self.new ≡ parts_told self.old }
-        ensures failed { FailsRisen (no_faults self.old) (no_faults self.new) result }
-        ensures load_faults { no_faults self.old ≤ no_faults self.new }
-        ensures store_faults { no_faults self.new ≡ no_faults self.old }
+        ensures bytes { Loads (folders_told self.old).held (key_of part dir.now) to.new.items result }
+        ensures folders { LoadLeaves (folders_told self.old) (key_of part dir.now) (folders_told self.new) result }
         ensures after { self.new ≡ self.old }
     {
         hand_over(self.shelf.get(dir, part), to)
@@ -65,10 +57,8 @@ impl Folder for SureFolder {
     /// Puts a part. Beyond the room the bytes are let go, and from then on the folders do not tell
     /// what they hold.
     fn store(&mut self, dir: &str, part: Part, bytes: &[u8]) -> Result<(), StoreFailed>
-        ensures bytes { Stores (parts_told self.old) (key_of part dir.now) bytes.now (parts_told self.new) result }
-        ensures failed { OnErr result (Rose (no_faults self.old) (no_faults self.new)) }
-        ensures store_faults { no_faults self.old ≤ no_faults self.new }
-        ensures load_faults { no_faults self.new ≡ no_faults self.old }
+        ensures bytes { Stores (folders_told self.old).held (key_of part dir.now) bytes.now (folders_told self.new).held result }
+        ensures counts { StoreCounts (folders_told self.old) (folders_told self.new) result }
         ensures sure { IsOk result }
         ensures after { self.new ≡ stored self.old (key_of part dir.now) bytes.now }
     {

@@ -28,7 +28,7 @@ fn load<F: Folder>(
 
 #[test]
 fn a_part_is_written_and_read_in_a_folder(rt: HostRuntime) -> Result<(), Fail> {
-    let mut folder = DirFolder::new(&rt, rt.alloc(), 8)?;
+    let mut folder = DirFolder::new(&rt, rt.alloc(), 13)?;
     let long = vec![in rt.alloc(); 3u8; 65_539]?;
     let mut to = vec![in rt.alloc(); 1, 2, 3]?;
     assert_eq!(rt;
@@ -50,8 +50,8 @@ fn a_part_is_written_and_read_in_a_folder(rt: HostRuntime) -> Result<(), Fail> {
         "too long"
     );
     assert_eq!(rt; to.len(), 65_539);
-    // Longer than the room, and no name of a folder.
-    for dir in ["././././.", "a\0b"] {
+    // longer than the room, no name of a folder, and the name of a file
+    for dir in ["././././././..", "a\0b", "Custom200.cap"] {
         assert_eq!(rt;
             load(&mut folder, rt.alloc(), dir, CUSTOM, &mut to),
             "failed"

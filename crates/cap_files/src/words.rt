@@ -1,4 +1,4 @@
-ghost use Rattle.std.specs.Prelude.{◌≡◌, ◌<◌, ◌^◌, [], ◌∷◌, ◌++◌, length, slice_index_or, OnOk, OnErr};
+ghost use Rattle.std.specs.Prelude.{◌≡◌, ◌<◌, ◌^◌, [], ◌∷◌, ◌++◌, length, take, slice_index_or, OnOk, OnErr};
 ghost use Rattle.std.specs.Iterator.{YieldsFirstRef, item_count};
 ghost use Rattle.cap_files.specs.WordsLeft.{words_left};
 
@@ -75,20 +75,33 @@ impl Words {
         ensures words { words_left result ≡ self.now }
         ensures few { length self.now < 2 ^ 64 }
     {
-        // Their number is one that `len` can answer.
-        let _count = self.len();
         WordsIter {
             words: self,
             next: 0,
+            end: self.len(),
         }
     }
 }
 
-/// The words that are left to visit.
+/// The words that are left to visit: those from a place on, before another.
 #[derive(Clone, Copy)]
 pub struct WordsIter<'a> {
     words: &'a Words,
     next: usize,
+    end: usize,
+}
+
+impl<'a> WordsIter<'a> {
+    /// The first words that are left, at most so many: the folders that stand before the word that
+    /// ends them, where it stands at the place `count`.
+    pub fn first(self, count: usize) -> WordsIter<'a>
+        ensures { words_left result ≡ take count (words_left self.entry) }
+    {
+        WordsIter {
+            end: self.end.min(self.next.saturating_add(count)),
+            ..self
+        }
+    }
 }
 
 impl<'a> Iterator for WordsIter<'a> {
@@ -99,7 +112,7 @@ impl<'a> Iterator for WordsIter<'a> {
     ghost remaining = { item_count words_left };
 
     fn next(&mut self) -> Option<&'a str> {
-        if self.next < self.words.len() {
+        if self.next < self.end && self.next < self.words.len() {
             let word = self.words.at(self.next);
             self.next += 1;
             Some(word)

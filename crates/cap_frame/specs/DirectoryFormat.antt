@@ -1,5 +1,7 @@
--- The Directory component (JCVM 2.2, section 6.4).
+-- The Directory component (JCVM 2.2, section 6.4), in the formats 2.1 and 2.2.
 use Rattle.std.specs.Prelude.{ℕ, Bool, false, List, not, ◌&&◌, ◌||◌, ◌==◌, nat_le}
+use Rattle.cap_bytes.specs.declared.format.Format.{Format}
+use Rattle.cap_bytes.specs.declared.format.Format.TheVariants.{V21, V22}
 use Rattle.cap_bytes.specs.Grammar.{Grammar, give, number, finish, u1, u2, aid, that, each, table, ◌>>=◌}
 
 -- a custom component
@@ -9,7 +11,7 @@ pub record Custom : Type 0 where
   pub aid : List ℕ
 
 pub record DirectoryItems : Type 0 where
-  -- the sizes of the components 1 to 12, 0 for one that is absent
+  -- the sizes of the components from tag 1 on, 0 for one that is absent
   pub sizes : List ℕ
   pub image_size : ℕ
   pub array_init_count : ℕ
@@ -48,21 +50,37 @@ customs_info = do
   count ← u1
   each count custom_info and_that_of none
 
-abbrev pub directory_info : Grammar DirectoryItems
-directory_info = do
-  sizes ← table 12
+-- the components with a size: 1 to 12, and in format 2.1, which has none for Debug, 1 to 11
+abbrev pub size_count : Format → ℕ
+size_count V21 = 11
+size_count V22 = 12
+
+-- static_field_size_info
+pub record ImageSizes : Type 0 where
+  pub image_size : ℕ
+  pub array_init_count : ℕ
+  pub array_init_size : ℕ
+
+abbrev pub image_sizes_info : Grammar ImageSizes
+image_sizes_info = do
   image_size ← u2
   array_init_count ← u2
   array_init_size ← u2
+  give (record { image_size = image_size; array_init_count = array_init_count; array_init_size = array_init_size })
+
+abbrev pub directory_info : Format → Grammar DirectoryItems
+directory_info format = do
+  sizes ← table (size_count format)
+  image ← image_sizes_info
   import_count ← u1
   applet_count ← u1
   customs ← customs_info
   end ← finish
   give (record {
     sizes = sizes;
-    image_size = image_size;
-    array_init_count = array_init_count;
-    array_init_size = array_init_size;
+    image_size = image.image_size;
+    array_init_count = image.array_init_count;
+    array_init_size = image.array_init_size;
     import_count = import_count;
     applet_count = applet_count;
     customs = customs;

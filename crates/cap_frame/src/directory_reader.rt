@@ -1,42 +1,41 @@
 ghost use Rattle.std.specs.Prelude.{◌≡◌, ◌≤◌, length, IfOk, IfErr};
 ghost use Rattle.cap_bytes.specs.Grammar.{each};
-ghost use Rattle.cap_bytes.specs.Spelling.{info_of, Stands, Breaks, IsExact};
+ghost use Rattle.cap_bytes.specs.Exact.{IsExact};
+ghost use Rattle.cap_bytes.specs.Spelling.{info_of, Stands, Breaks};
 ghost use Rattle.cap_bytes.specs.Taking.{Takes, Passes, Reads};
-ghost use Rattle.cap_frame.specs.Directory.{custom_seen, customs_left, directory_items};
-ghost use Rattle.cap_frame.specs.DirectoryFormat.{custom_info, behind_tag, customs_info, and_that_of, none, directory_info};
+ghost use Rattle.cap_frame.specs.Directory.{custom_seen, customs_left, image_sizes_seen, directory_items};
+ghost use Rattle.cap_frame.specs.DirectoryFormat.{custom_info, behind_tag, customs_info, and_that_of, none, size_count, image_sizes_info, directory_info};
 ghost use Rattle.cap_frame.specs.Tags.{named_in};
 
-use crate::directory_record::{CustomEntry, Directory};
+use crate::directory_record::{CustomEntry, Directory, ImageSizes};
 use crate::lists::CustomEntries;
-use cap_bytes::{FormFault, FormKind, Items, View};
+use cap_bytes::{FormFault, FormKind, Format, Items, View};
 
 /// The tag of the component.
 const DIRECTORY: u8 = 2;
 
-/// Reads the info of a Directory component.
+/// Reads the info of a Directory component in the format that the Header names.
 #[tactic(auto, using(cap_bytes::proofs::Laws::whole))]
-pub fn directory(info: View<'_>) -> Result<Directory<'_>, FormFault>
+pub fn directory(info: View<'_>, format: Format) -> Result<Directory<'_>, FormFault>
     requires { length info.bytes.now ≤ 65535 }
-    ensures found { IfOk result (λ x. Stands directory_info info.entry.bytes.now (directory_items x)) }
-    ensures fault { IfErr result (λ e. Breaks (info_of 2) directory_info info.entry.bytes.now 0 e) }
-    ensures exact { IsExact (info_of 2) directory_info info.entry.bytes.now }
+    ensures found { IfOk result (λ x. Stands (directory_info format) info.entry.bytes.now (directory_items x)) }
+    ensures fault { IfErr result (λ e. Breaks (info_of 2) (directory_info format) info.entry.bytes.now 0 e) }
+    ensures exact { IsExact (info_of 2) (directory_info format) info.entry.bytes.now }
     ensures info { IfOk result (λ x. x.info ≡ info.entry) }
 {
-    read(info)
+    read(info, format)
 }
 
 /// The items of the component.
 #[tactic(auto, using(cap_bytes::proofs::Loops::yielding), unfolding(cap_bytes::specs::Reading::reading))]
-fn read(info: View<'_>) -> Result<Directory<'_>, FormFault>
+fn read(info: View<'_>, format: Format) -> Result<Directory<'_>, FormFault>
     requires { length info.bytes.now ≤ 65535 }
-    ensures value { Reads directory_items (info_of 2) directory_info info.entry.bytes.now result }
+    ensures value { Reads directory_items (info_of 2) (directory_info format) info.entry.bytes.now result }
     ensures info { IfOk result (λ x. x.info ≡ info.entry) }
 {
     let mut items = Items::of(info, DIRECTORY);
-    let sizes = items.table(12)?;
-    let image_size = items.u2()?;
-    let array_init_count = items.u2()?;
-    let array_init_size = items.u2()?;
+    let sizes = items.table(size_count(format))?;
+    let image = image_sizes(&mut items)?;
     let import_count = items.u1()?;
     let applet_count = items.u1()?;
     let customs = customs(&mut items)?;
@@ -44,12 +43,34 @@ fn read(info: View<'_>) -> Result<Directory<'_>, FormFault>
     Ok(Directory {
         info,
         sizes,
-        image_size,
-        array_init_count,
-        array_init_size,
+        image,
         import_count,
         applet_count,
         customs,
+    })
+}
+
+/// How many components have a size.
+fn size_count(format: Format) -> u16
+    ensures { result ≡ size_count format }
+{
+    match format {
+        Format::V21 => 11,
+        Format::V22 => 12,
+    }
+}
+
+/// What the Directory says of the static image.
+fn image_sizes(items: &mut Items<'_>) -> Result<ImageSizes, FormFault>
+    ensures { Takes image_sizes_seen image_sizes_info items.old result items.new }
+{
+    let image_size = items.u2()?;
+    let array_init_count = items.u2()?;
+    let array_init_size = items.u2()?;
+    Ok(ImageSizes {
+        image_size,
+        array_init_count,
+        array_init_size,
     })
 }
 

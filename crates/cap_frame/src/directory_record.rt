@@ -15,14 +15,20 @@ pub struct CustomEntry<'a> {
     pub aid: &'a [u8],
 }
 
+/// What the Directory says of the static image.
+#[derive(Clone, Copy)]
+pub(crate) struct ImageSizes {
+    pub(crate) image_size: u16,
+    pub(crate) array_init_count: u16,
+    pub(crate) array_init_size: u16,
+}
+
 /// The sizes of the components and of the static image (section 6.4).
 #[derive(Clone, Copy)]
 pub struct Directory<'a> {
     pub(crate) info: View<'a>,
     pub(crate) sizes: Table<'a>,
-    pub(crate) image_size: u16,
-    pub(crate) array_init_count: u16,
-    pub(crate) array_init_size: u16,
+    pub(crate) image: ImageSizes,
     pub(crate) import_count: u8,
     pub(crate) applet_count: u8,
     pub(crate) customs: CustomEntries<'a>,
@@ -36,13 +42,13 @@ impl<'a> Directory<'a> {
         self.info
     }
 
-    /// The size of the component with this tag: from 1 to 12, with 0 for one that is absent, or that
-    /// of a custom component.
+    /// The size of the component with this tag: from 1 to 12, with 0 for one that is absent or, as
+    /// Debug in format 2.1, has no size, or that of a custom component.
     pub fn size(&self, tag: u8) -> Option<u16>
         ensures { result ≡ size_in (directory_items self.now) tag }
     {
         if tag >= 1 && tag <= 12 {
-            self.sizes.at(tag as u16 - 1)
+            Some(self.sizes.at(tag as u16 - 1).unwrap_or(0))
         } else {
             self.custom_size(tag)
         }
@@ -64,21 +70,21 @@ impl<'a> Directory<'a> {
     pub fn image_size(&self) -> u16
         ensures { result ≡ (directory_items self.now).image_size }
     {
-        self.image_size
+        self.image.image_size
     }
 
     /// How many static arrays are initialised.
     pub fn array_init_count(&self) -> u16
         ensures { result ≡ (directory_items self.now).array_init_count }
     {
-        self.array_init_count
+        self.image.array_init_count
     }
 
     /// The bytes of their values.
     pub fn array_init_size(&self) -> u16
         ensures { result ≡ (directory_items self.now).array_init_size }
     {
-        self.array_init_size
+        self.image.array_init_size
     }
 
     /// How many packages are imported.

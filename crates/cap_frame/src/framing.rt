@@ -1,5 +1,6 @@
 ghost use Rattle.std.specs.Prelude.{◌≡◌, ◌≤◌, length, IfOk, IfErr};
-ghost use Rattle.cap_bytes.specs.Spelling.{file_of, fault_at, Stands, Breaks, IsExact};
+ghost use Rattle.cap_bytes.specs.Exact.{IsExact};
+ghost use Rattle.cap_bytes.specs.Spelling.{file_of, fault_at, Stands, Breaks};
 ghost use Rattle.cap_bytes.specs.Taking.{Reads};
 ghost use Rattle.cap_frame.specs.Frame.{component};
 ghost use Rattle.cap_frame.specs.Framed.{info_bytes};

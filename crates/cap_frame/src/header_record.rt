@@ -4,12 +4,13 @@ ghost use Rattle.cap_frame.specs.Packages.{package_seen};
 
 use crate::header_flags::HeaderFlags;
 use crate::package_info::PackageInfo;
-use cap_bytes::View;
+use cap_bytes::{Format, View};
 
 /// What a package says of itself (section 6.3).
 #[derive(Clone, Copy)]
 pub struct Header<'a> {
     pub(crate) info: View<'a>,
+    pub(crate) format: Format,
     pub(crate) flags: HeaderFlags,
     pub(crate) package: PackageInfo<'a>,
     pub(crate) name: &'a [u8],
@@ -21,6 +22,13 @@ impl<'a> Header<'a> {
         ensures { result ≡ self.now.info }
     {
         self.info
+    }
+
+    /// The format of the package's components.
+    pub fn format(&self) -> Format
+        ensures { result ≡ (header_items self.now).format }
+    {
+        self.format
     }
 
     /// What the package has or needs.
@@ -37,7 +45,7 @@ impl<'a> Header<'a> {
         self.package
     }
 
-    /// The bytes of its name, none where it has no name.
+    /// The bytes of its name, none where it has no name, as in format 2.1.
     pub fn name(&self) -> &'a [u8]
         ensures { result.now ≡ (header_items self.now).name }
     {

@@ -1,5 +1,6 @@
 ghost use Rattle.std.specs.Prelude.{◌≡◌, ◌≤◌, length, IfOk, IfErr};
-ghost use Rattle.cap_bytes.specs.Spelling.{info_of, Stands, Breaks, IsExact};
+ghost use Rattle.cap_bytes.specs.Exact.{IsExact};
+ghost use Rattle.cap_bytes.specs.Spelling.{info_of, Stands, Breaks};
 ghost use Rattle.cap_bytes.specs.Taking.{Reads};
 ghost use Rattle.cap_frame.specs.ImportFormat.{imports_info};
 ghost use Rattle.cap_frame.specs.Imports.{packages};

@@ -1,6 +1,7 @@
 ghost use Rattle.std.specs.Prelude.{◌≡◌, ◌≤◌, length, IfOk, IfErr, IfSome, IfNone, option_map, slice_get};
 ghost use Rattle.std.specs.Iterator.{YieldsFirst, item_count};
-ghost use Rattle.cap_bytes.specs.Spelling.{info_of, Stands, Breaks, IsExact};
+ghost use Rattle.cap_bytes.specs.Exact.{IsExact};
+ghost use Rattle.cap_bytes.specs.Spelling.{info_of, Stands, Breaks};
 ghost use Rattle.cap_bytes.specs.Taking.{Takes, Passes, Reads, same};
 ghost use Rattle.cap_bytes.specs.Grammar.{repeat};
 ghost use Rattle.cap_method.specs.MethodFormat.{Header, handler_info, methods_info, header_info};

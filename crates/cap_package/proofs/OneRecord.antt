@@ -1,5 +1,5 @@
 -- A list of parts stands for a package exactly where the package is answered, so for one at most.
-use Rattle.std.proofs.Common.{◌≡◌, ℕ, Option, Some, None, IfSome, List, [], ◌∷◌, Result, Ok, Err, sym, ap, subst, inl, inr}
+use Rattle.std.proofs.Common.{◌≡◌, ℕ, Option, Some, None, IfSome, List, Result, Ok, Err, sym, ap, subst, inl, inr}
 use Rattle.std.specs.Option.{option_map}
 use Rattle.cap_bytes.specs.Grammar.{Grammar}
 use Rattle.cap_components.specs.declared.fault.PackFault.{PackFault}
@@ -10,16 +10,14 @@ use Rattle.cap_components.specs.Components.{info_in}
 use Rattle.cap_components.specs.Saying.{Holds, Says, SaysIf}
 use Rattle.cap_components.proofs.Saying.{info-read, said-read, fails-read}
 use Rattle.cap_package.specs.Agreement.{package_of}
-use Rattle.cap_package.specs.FirstFault.{IsFirst, IsLeast, AllEmpty, conditions_of, Tells}
+use Rattle.first_fault.specs.First.{IsFirst, IsLeast}
+use Rattle.first_fault.proofs.FirstTold.{none_first}
+use Rattle.cap_components.specs.Order.{place_of}
+use Rattle.cap_package.specs.FirstFault.{conditions_of, Tells}
 use Rattle.cap_package.specs.StandsFor.{StandsFor, HavePackage}
 use Rattle.cap_package.proofs.FirstTold.{first_told}
 
 -- ---- where nothing is at fault no fault is told
-
-none_first : (lists : List (List PackFault)) (f : PackFault) → AllEmpty lists → IsFirst lists f → ⊥
-none_first [] f empty first = first
-none_first (faults ∷ others) f empty (inl l) = subst (λ fs. IsLeast fs f → ⊥) (sym empty.0) (λ k. k) l
-none_first (faults ∷ others) f empty (inr h) = none_first others f empty.1 h.1
 
 ok_same : (p q : PackageRecord) (r : Result PackageRecord PackFault) → r ≡ Ok p → r ≡ Ok q → q ≡ p
 ok_same p q r e h = cc
@@ -30,11 +28,11 @@ no_answer p f r e h = absurd cc
 -- what is told of parts that stand for a package
 pub stands_told : (parts : List Lent) (p : PackageRecord) (answer : Result PackageRecord PackFault) → StandsFor parts p → Tells parts answer → answer ≡ Ok p
 stands_told parts p (Ok q) s t = ap Ok (ok_same p q (read_package parts) (said-read parts p s.said) (said-read parts q t.1))
-stands_told parts p (Err f) s (inl l) = absurd (subst (λ fs. IsLeast fs f → ⊥) (sym s.missing) (λ k. k) l)
+stands_told parts p (Err f) s (inl l) = absurd (subst (λ fs. IsLeast place_of fs f → ⊥) (sym s.missing) (λ k. k) l)
 stands_told parts p (Err f) s (inr (none, inl first)) = absurd (no_answer p f (read_package parts) (said-read parts p s.said) (fails-read parts f first))
 stands_told parts p (Err f) s (inr (none, inr (q, said, first))) =
     let same = ok_same p q (read_package parts) (said-read parts p s.said) (said-read parts q said) in
-    absurd (none_first (conditions_of parts p) f s.agree (subst (λ x. IsFirst (conditions_of parts x) f) same first))
+    absurd (none_first place_of (conditions_of parts p) f s.agree (subst (λ x. IsFirst place_of (conditions_of parts x) f) same first))
 
 -- parts that stand for a package are answered with it
 pub stands_only : (parts : List Lent) (p : PackageRecord) → StandsFor parts p → package_of parts ≡ Ok p

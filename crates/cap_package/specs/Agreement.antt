@@ -2,7 +2,6 @@
 -- fault of the things that it speaks of.
 use Rattle.std.specs.Prelude.{◌≡◌, List, [], length, Option, Some, None, Result, Ok, map}
 use Rattle.cap_frame.specs.AppletFormat.{Applet}
-use Rattle.cap_frame.specs.DirectoryFormat.{directory_info}
 use Rattle.cap_pool.specs.ExportFormat.{Exported}
 use Rattle.cap_desc.specs.DescriptorFormat as described
 use Rattle.cap_desc.specs.Members.{methods_from}
@@ -10,7 +9,7 @@ use Rattle.cap_components.specs.declared.fault.PackFault.{PackFault}
 use Rattle.cap_components.specs.Parts.{Lent}
 use Rattle.cap_components.specs.Order.{least_of, least_from, refused}
 use Rattle.cap_package.specs.Pairs.{pairs}
-use Rattle.cap_components.specs.Components.{◌>>=◌, read_part}
+use Rattle.cap_components.specs.Components.{◌>>=◌, read_directory}
 use Rattle.cap_components.specs.PackageRecord.{PackageRecord, classes_from, described, fields}
 use Rattle.cap_components.specs.ReadPackage.{read_package}
 use Rattle.cap_components.specs.PartChecks.{missing, form_fault, size_fault, components, custom_tags}
@@ -123,7 +122,7 @@ members_agree p = do
 -- the package that the parts stand for, or the first fault
 unfoldable pub package_of : List Lent → Result PackageRecord PackFault
 package_of parts = do
-  all_there ← refused (missing parts (read_part directory_info 2 parts))
+  all_there ← refused (missing parts (read_directory parts))
   p ← read_package parts
   customs ← refused (least_of (form_fault parts) (custom_tags p.directory))
   places ← places_agree p

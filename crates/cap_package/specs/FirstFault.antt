@@ -1,10 +1,10 @@
 -- Which fault is named, in the subject's words: the conditions stand in the order of their numbers, each with the list
 -- of the things that break it; the first list that is not empty tells the fault, and the least thing in it is named.
-use Rattle.std.specs.Prelude.{◌≡◌, ℕ, ◌≤◌, ◌<◌, ◌⊎◌, List, [], ◌∷◌, ◌++◌, length, Option, Result, Ok, Err, map}
-use Rattle.std.specs.List.{filter_map}
+use Rattle.std.specs.Prelude.{◌≡◌, ℕ, ◌⊎◌, List, [], ◌∷◌, ◌++◌, length, Result, Ok, Err, map}
 use Rattle.std.specs.Option.{option_to_list}
+use Rattle.first_fault.specs.First.{at_fault, IsLeast, IsFirst, AllEmpty}
 use Rattle.cap_frame.specs.AppletFormat.{Applet}
-use Rattle.cap_frame.specs.DirectoryFormat.{DirectoryItems, directory_info}
+use Rattle.cap_frame.specs.DirectoryFormat.{DirectoryItems}
 use Rattle.cap_pool.specs.ExportFormat.{Exported}
 use Rattle.cap_desc.specs.DescriptorFormat as described
 use Rattle.cap_desc.specs.Members.{methods_from}
@@ -12,7 +12,7 @@ use Rattle.cap_components.specs.declared.fault.PackFault.{PackFault}
 use Rattle.cap_components.specs.Parts.{Lent}
 use Rattle.cap_components.specs.Order.{place_of}
 use Rattle.cap_package.specs.Pairs.{pairs}
-use Rattle.cap_components.specs.Components.{read_part}
+use Rattle.cap_components.specs.Components.{read_directory}
 use Rattle.cap_components.specs.PackageRecord.{PackageRecord, classes_from, described, fields}
 use Rattle.cap_components.specs.Saying.{AreSaid, IsFirstFailing}
 use Rattle.cap_components.specs.PartChecks.{required, optional, absent_fault, sized_fault, form_fault, size_fault, components, custom_tags}
@@ -24,10 +24,6 @@ use Rattle.cap_package.specs.NameChecks.{is_method_at, no_method_fault, no_entry
 use Rattle.cap_package.specs.TypeChecks.{field_type_fault, method_type_fault, interface_methods}
 use Rattle.cap_package.specs.CountChecks.{differ, array_bytes, image_bytes, instance_fault, count_if}
 use Rattle.cap_package.specs.Agreement.{or_none}
-
--- the things at fault
-abbrev pub at_fault : {X : Type 0} → (X → Option PackFault) → List X → List PackFault
-at_fault = filter_map
 
 -- ---- the conditions, as lists of what breaks them
 
@@ -90,27 +86,6 @@ member_lists p =
 abbrev pub conditions : PackageRecord → List (List PackFault)
 conditions p = place_lists p ++ (count_lists p ++ member_lists p)
 
--- ---- which fault is named
-
--- nothing in the list comes before the fault
-abbrev pub ComesFirst : List PackFault → PackFault → Type 0
-ComesFirst [] fault = Unit {0}
-ComesFirst (other ∷ others) fault = (place_of fault ≤ place_of other) × ComesFirst others fault
-
--- the least of the faults, and of several that are least the first in the list
-abbrev pub IsLeast : List PackFault → PackFault → Type 0
-IsLeast [] fault = ⊥
-IsLeast (other ∷ others) fault = ((fault ≡ other) × ComesFirst others fault) ⊎ ((place_of fault < place_of other) × IsLeast others fault)
-
--- the least of the first list that is not empty
-abbrev pub IsFirst : List (List PackFault) → PackFault → Type 0
-IsFirst [] fault = ⊥
-IsFirst (faults ∷ others) fault = IsLeast faults fault ⊎ ((faults ≡ []) × IsFirst others fault)
-
-abbrev pub AllEmpty : List (List PackFault) → Type 0
-AllEmpty [] = Unit {0}
-AllEmpty (faults ∷ others) = (faults ≡ []) × AllEmpty others
-
 -- what is asked of the parts before their agreement: nothing is missing, and the custom components have their format
 abbrev pub conditions_of : List Lent → PackageRecord → List (List PackFault)
 conditions_of parts p = at_fault (form_fault parts) (custom_tags p.directory) ∷ conditions p
@@ -118,8 +93,8 @@ conditions_of parts p = at_fault (form_fault parts) (custom_tags p.directory) �
 -- a package exactly where nothing is at fault; else the first that is: a part that is missing, the first component by tag
 -- that breaks its format, or the first condition by number that is broken, at its least thing
 abbrev pub Tells : List Lent → Result PackageRecord PackFault → Type 0
-Tells parts (Ok p) = (missing_parts parts (read_part directory_info 2 parts) ≡ []) × AreSaid parts p × AllEmpty (conditions_of parts p)
+Tells parts (Ok p) = (missing_parts parts (read_directory parts) ≡ []) × AreSaid parts p × AllEmpty (conditions_of parts p)
 Tells parts (Err fault) =
-    IsLeast (missing_parts parts (read_part directory_info 2 parts)) fault
-    ⊎ ((missing_parts parts (read_part directory_info 2 parts) ≡ [])
-    × (IsFirstFailing parts fault ⊎ ((p : PackageRecord) × AreSaid parts p × IsFirst (conditions_of parts p) fault)))
+    IsLeast place_of (missing_parts parts (read_directory parts)) fault
+    ⊎ ((missing_parts parts (read_directory parts) ≡ [])
+    × (IsFirstFailing parts fault ⊎ ((p : PackageRecord) × AreSaid parts p × IsFirst place_of (conditions_of parts p) fault)))

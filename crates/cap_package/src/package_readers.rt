@@ -60,7 +60,7 @@ impl<'p, 'a> Package<'p, 'a> {
     /// The Directory component.
     pub fn directory(&self) -> Directory<'a>
         ensures items { directory_items result ≡ self.now.directory }
-        ensures info { Holds self.now.parts 2 directory_info result.info.bytes.now self.now.directory }
+        ensures info { Holds self.now.parts 2 (directory_info self.now.header.format) result.info.bytes.now self.now.directory }
     {
         self.all.directory
     }
@@ -84,7 +84,7 @@ impl<'p, 'a> Package<'p, 'a> {
     /// The Class component.
     pub fn classes(&self) -> ClassPart<'a>
         ensures items { records result ≡ self.now.classes }
-        ensures info { Holds self.now.parts 6 classes_info result.info.bytes.now self.now.classes }
+        ensures info { Holds self.now.parts 6 (classes_info self.now.header.format) result.info.bytes.now self.now.classes }
     {
         self.all.classes
     }

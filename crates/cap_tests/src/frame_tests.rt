@@ -1,54 +1,99 @@
 use crate::samples::{CUSTOM, ONE_APPLET, ONE_IMPORT};
-use crate::{APPLET, DIRECTORY, HEADER, IMPORT, PLAIN_HEADER};
-use cap_frame::{applets, directory, frame, header, imports};
-use std::test::Fail;
+use crate::{OLDER_DIRECTORY, OLDER_HEADER, PLAIN_HEADER};
+use cap_bytes::{Format, View};
+use cap_frame::{Directory, applets, directory, header, imports};
 
-#[test]
-fn a_header_gives_its_items(rt: HostRuntime) -> Result<(), Fail> {
+/// Whether a Header with an unknown flag keeps the known ones, and gives its items.
+fn is_header() -> bool {
     let mut flagged = PLAIN_HEADER;
     flagged[9] = 0xFC;
-    let info = frame(&flagged, HEADER).ok().ok_or("a frame")?;
-    let header = header(info).ok().ok_or("a header")?;
-    assert_eq!(rt; header.flags().0, 4);
-    assert_eq!(rt; header.package().major, 1);
-    assert_eq!(rt; header.package().aid.len(), 5);
-    assert_eq!(rt; header.name().len(), 0);
-    Ok(())
-}
-
-#[test]
-fn a_directory_gives_the_sizes(rt: HostRuntime) -> Result<(), Fail> {
-    let info = frame(&CUSTOM, DIRECTORY).ok().ok_or("a frame")?;
-    let directory = directory(info).ok().ok_or("a directory")?;
-    assert_eq!(rt; directory.info().bytes.len(), 51);
-    for (tag, size) in [
-        (0, None),
-        (1, Some(16)),
-        (3, Some(0)),
-        (12, Some(0)),
-        (13, None),
-        (128, Some(7)),
-        (255, Some(256)),
-    ] {
-        assert_eq!(rt; directory.size(tag), size, "tag {tag}");
+    match header(View::of(&flagged[3..])) {
+        Ok(header) => {
+            header.flags().0 == 4
+                && header.package().major == 1
+                && header.package().aid.len() == 5
+                && header.name().is_empty()
+                && matches!(header.format(), Format::V22)
+        }
+        Err(_) => false,
     }
-    assert_eq!(rt; directory.image_size(), 2);
-    assert_eq!(rt; directory.custom_count(), 2);
-    assert!(rt; directory.custom(1).is_some_and(|custom| custom.tag == 255));
-    assert!(rt; directory.custom(2).is_none());
-    Ok(())
+}
+
+/// Whether the Header of package T in format 2.1 tells its format and has no name.
+fn is_older() -> bool {
+    match header(View::of(&OLDER_HEADER[3..])) {
+        Ok(header) => matches!(header.format(), Format::V21) && header.name().is_empty(),
+        Err(_) => false,
+    }
+}
+
+/// Whether the Directory in format 2.1 gives Debug no size, and what comes after the sizes.
+fn has_eleven_sizes() -> bool {
+    match directory(View::of(&OLDER_DIRECTORY[3..]), Format::V21) {
+        Ok(directory) => {
+            directory.size(11) == Some(111)
+                && directory.size(12) == Some(0)
+                && directory.image_size() == 2
+        }
+        Err(_) => false,
+    }
+}
+
+/// Tags, and the sizes that a Directory with two custom components gives them.
+static SIZES: [(u8, Option<u16>); 7] = [
+    (0, None),
+    (1, Some(16)),
+    (3, Some(0)),
+    (12, Some(0)),
+    (13, None),
+    (128, Some(7)),
+    (255, Some(256)),
+];
+
+/// Whether a Directory gives these sizes and the custom components.
+fn has_sizes(directory: &Directory<'_>) -> bool {
+    directory.info().bytes.len() == 51
+        && SIZES
+            .iter()
+            .position(|(tag, size)| directory.size(*tag) != *size)
+            .is_none()
+        && directory.image_size() == 2
+        && directory.custom_count() == 2
+        && directory.custom(1).is_some_and(|custom| custom.tag == 255)
+        && directory.custom(2).is_none()
+}
+
+fn is_directory() -> bool {
+    match directory(View::of(&CUSTOM[3..]), Format::V22) {
+        Ok(directory) => has_sizes(&directory),
+        Err(_) => false,
+    }
 }
 
 #[test]
-fn applets_and_imports_are_given_by_position(rt: HostRuntime) -> Result<(), Fail> {
-    let info = frame(&ONE_APPLET, APPLET).ok().ok_or("a frame")?;
-    let applets = applets(info).ok().ok_or("applets")?;
-    assert!(rt; applets.at(0).is_some_and(|applet| applet.install == 16));
-    assert!(rt; applets.at(1).is_none());
+fn a_header_and_a_directory_give_their_items_in_both_formats(rt: HostRuntime) {
+    assert!(rt; is_header() && is_older() && is_directory() && has_eleven_sizes());
+}
 
-    let info = frame(&ONE_IMPORT, IMPORT).ok().ok_or("a frame")?;
-    let imports = imports(info).ok().ok_or("imports")?;
-    assert!(rt; imports.at(0).is_some_and(|package| package.minor == 3));
-    assert!(rt; imports.at(1).is_none());
-    Ok(())
+fn are_applets() -> bool {
+    match applets(View::of(&ONE_APPLET[3..])) {
+        Ok(applets) => {
+            applets.at(0).is_some_and(|applet| applet.install == 16) && applets.at(1).is_none()
+        }
+        Err(_) => false,
+    }
+}
+
+fn are_imports() -> bool {
+    match imports(View::of(&ONE_IMPORT[3..])) {
+        Ok(imports) => {
+            imports.at(0).is_some_and(|package| package.minor == 3) && imports.at(1).is_none()
+        }
+        Err(_) => false,
+    }
+}
+
+#[test]
+fn applets_and_imports_are_given_by_position(rt: HostRuntime) {
+    assert!(rt; are_applets() && are_imports());
 }

@@ -1,11 +1,12 @@
 //! Worked components and packages. Package T, a small package of eight classes and two methods, stands
-//! here once, with changes of a package by name. The tests read worked components with each reader
+//! here once, in format 2.2 and in format 2.1, with changes of a package by name. The tests read worked components with each reader
 //! (`cap_frame`, `cap_pool`, `cap_class`, `cap_method`, `cap_desc`), and changed packages with
 //! `cap_package`.
 #![tactic(auto)]
 
 mod changes;
 mod components;
+mod older_package;
 mod plain_package;
 mod whole_package;
 
@@ -14,6 +15,7 @@ pub use components::{
     APPLET, CLASS, CONSTANT_POOL, DEBUG, DESCRIPTOR, DIRECTORY, EXPORT, HEADER, IMPORT, METHOD,
     REF_LOCATION, STATIC_FIELD,
 };
+pub use older_package::{OLDER, OLDER_CLASS, OLDER_DIRECTORY, OLDER_HEADER};
 pub use plain_package::{
     PLAIN, PLAIN_CLASS, PLAIN_CONSTANT_POOL, PLAIN_DESCRIPTOR, PLAIN_DIRECTORY, PLAIN_HEADER,
     PLAIN_IMPORT, PLAIN_METHOD, PLAIN_REF_LOCATION, PLAIN_ROLES, PLAIN_STATIC_FIELD,

@@ -2,7 +2,6 @@ use crate::{forms, *};
 use cap_bytes::Part;
 use cap_package::{OwnedParts, PackFault, Package, Packages, Parts, package};
 use std::alloc::{AllocError, Global};
-use std::process::Abort;
 
 /// A fault's name and what it names.
 type Told = (&'static str, u32, u32, u32);
@@ -49,18 +48,49 @@ fn told(alloc: Global, owned: &OwnedParts) -> Result<Told, AllocError> {
     }
 }
 
-fn are_told(rt: &impl Abort, alloc: Global, cases: &[Case]) -> Result<(), AllocError> {
+/// Whether of changes of a package each is told so.
+fn are_told(alloc: Global, files: &[File<'_>], cases: &[Case]) -> Result<bool, AllocError> {
     for (changes, want) in cases {
-        let owned = changed(alloc, &PLAIN, changes)?;
-        assert_eq!(rt; told(alloc, &owned)?, *want);
+        let owned = changed(alloc, files, changes)?;
+        if told(alloc, &owned)? != *want {
+            return Ok(false);
+        }
     }
-    Ok(())
+    Ok(true)
 }
 
 /// What is after the 35 bytes of a Directory's file: one custom component, of tag 130 and two bytes.
 const ONE_CUSTOM: [u8; 10] = [1, 0x82, 0, 2, 5, 0xF0, 1, 2, 3, 4];
 
-const PARTS: [Case; 9] = [
+/// Package T in format 2.1, then with the Header's minor version 2, and with the size of an Applet component.
+static OLDER_PARTS: [Case; 3] = [
+    (&[], ("package", 0, 0, 0)),
+    (&[Change::Byte(HEADER, 7, 2)], ("Cut", 1, 18, 0)),
+    (
+        &[Change::Size(APPLET, 9), Change::Byte(DIRECTORY, 32, 1)],
+        ("MissingPart", 3, 0, 0),
+    ),
+];
+
+static PARTS: [Case; 12] = [
+    // where the Header is malformed, no size of the Directory is asked, and its own fault comes after
+    // that of a part that every package has
+    (
+        &[Change::Byte(HEADER, 7, 3), Change::Size(APPLET, 9)],
+        ("BadVersion", 1, 7, 0),
+    ),
+    (
+        &[Change::Byte(HEADER, 7, 3), Change::Without(METHOD)],
+        ("MissingPart", 7, 0, 0),
+    ),
+    // and no other part is read
+    (
+        &[
+            Change::Byte(HEADER, 7, 3),
+            Change::File(DIRECTORY, &[2, 0, 1, 0]),
+        ],
+        ("BadVersion", 1, 7, 0),
+    ),
     (&[], ("package", 0, 0, 0)),
     (&[Change::Without(METHOD)], ("MissingPart", 7, 0, 0)),
     (
@@ -100,7 +130,7 @@ const PARTS: [Case; 9] = [
     ),
 ];
 
-const COUNTS: [Case; 10] = [
+static COUNTS: [Case; 10] = [
     // the Directory's imports, applets, bytes of the image, initial arrays, and bytes of these
     (
         &[Change::Byte(DIRECTORY, 33, 1)],
@@ -143,7 +173,7 @@ const COUNTS: [Case; 10] = [
     ),
 ];
 
-const MEMBERS: [Case; 12] = [
+static MEMBERS: [Case; 12] = [
     // where a method begins, its length, and its handlers
     (
         &[Change::Byte(DESCRIPTOR, 27, 5)],
@@ -207,9 +237,12 @@ fn a_package_without_a_fault_is_one_and_else_the_first_is_named(
     rt: HostRuntime,
 ) -> Result<(), AllocError> {
     let alloc = rt.alloc();
-    are_told(&rt, alloc, &PARTS)?;
-    are_told(&rt, alloc, &COUNTS)?;
-    are_told(&rt, alloc, &MEMBERS)
+    let right = are_told(alloc, &PLAIN, &PARTS)?
+        && are_told(alloc, &PLAIN, &COUNTS)?
+        && are_told(alloc, &PLAIN, &MEMBERS)?
+        && are_told(alloc, &OLDER, &OLDER_PARTS)?;
+    assert!(rt; right);
+    Ok(())
 }
 
 /// The bytes of the infos of the custom components 130, 129 and 131.
@@ -262,13 +295,20 @@ fn pushed_alone(alloc: Global, found: Package<'_, '_>) -> Result<(usize, usize),
     Ok((packages.len(), packages.at(0).parts().len()))
 }
 
+/// Whether a package has its optional and custom parts.
+fn is_whole(alloc: Global, owned: &OwnedParts) -> Result<bool, AllocError> {
+    Ok(
+        owned.len() == 12
+            && told(alloc, owned)? == ("package", 0, 0, 0)
+            && custom_sizes(alloc, owned) == (2, 0, 9)
+            && pushed(alloc, owned)? == (1, 12),
+    )
+}
+
 #[test]
 fn a_package_has_its_optional_and_custom_parts(rt: HostRuntime) -> Result<(), AllocError> {
     let alloc = rt.alloc();
-    let owned = changed(alloc, &PLAIN, &WHOLE)?;
-    assert_eq!(rt; owned.len(), 12);
-    assert_eq!(rt; told(alloc, &owned)?, ("package", 0, 0, 0));
-    assert_eq!(rt; custom_sizes(alloc, &owned), (2, 0, 9));
-    assert_eq!(rt; pushed(alloc, &owned)?, (1, 12));
+    let whole = is_whole(alloc, &changed(alloc, &PLAIN, &WHOLE)?)?;
+    assert!(rt; whole);
     Ok(())
 }

@@ -1,17 +1,27 @@
--- The component table of a package, as capcheck prints it: the package's identifier in lower-case hexadecimal digits and its version;
+-- The component table of a package, as capcheck prints it: the package's identifier in lower-case hexadecimal digits, its version
+-- and its format;
 -- then for each component of the standard (JCVM 2.2, section 6.1) and each custom component the name of its file, its tag, and the size
 -- that the Directory gives, or that it is absent.
 use Rattle.std.specs.Prelude.{ℕ, List, [], ◌∷◌, ◌++◌, codes, decimal, unwrap_or, ◌==◌, if◌then◌else◌}
 use Rattle.std.specs.List.{concat, flat_map}
 use Rattle.hex.specs.Hex.{encode_lower}
+use Rattle.cap_bytes.specs.declared.format.Format.{Format}
+use Rattle.cap_bytes.specs.declared.format.Format.TheVariants.{V21, V22}
 use Rattle.cap_files.specs.FileName.{part_name}
 use Rattle.cap_frame.specs.DirectoryFormat.{DirectoryItems, Custom}
 use Rattle.cap_frame.specs.Directory.{size_in}
 use Rattle.cap_frame.specs.PackageFormat.{Package}
 use Rattle.cap_package.specs.PackageRecord.{PackageRecord}
 
-unfoldable pub package_line : Package → List ℕ
-package_line p = concat (codes "package " ∷ encode_lower p.aid ∷ codes " " ∷ decimal p.major ∷ codes "." ∷ decimal p.minor ∷ codes " format 2.2\n" ∷ [])
+-- the version of the format
+abbrev pub format_name : Format → List ℕ
+format_name V21 = codes "2.1"
+format_name V22 = codes "2.2"
+
+unfoldable pub package_line : Format → Package → List ℕ
+package_line format p =
+    concat (codes "package " ∷ encode_lower p.aid ∷ codes " " ∷ decimal p.major ∷ codes "." ∷ decimal p.minor
+    ∷ codes " format " ∷ format_name format ∷ codes "\n" ∷ [])
 
 -- a size of 0 says that the component is absent
 abbrev pub size_text : ℕ → List ℕ
@@ -38,9 +48,9 @@ custom_line c = component_line c.tag c.size
 unfoldable pub custom_lines : DirectoryItems → List ℕ
 custom_lines d = flat_map custom_line d.customs
 
--- the lines of a package with this identifier and version and with these sizes
-unfoldable pub table_of : Package → DirectoryItems → List ℕ
-table_of p d = (package_line p ++ component_lines d) ++ custom_lines d
+-- the lines of a package in this format with this identifier and version and with these sizes
+unfoldable pub table_of : Format → Package → DirectoryItems → List ℕ
+table_of format p d = (package_line format p ++ component_lines d) ++ custom_lines d
 
 abbrev pub component_table : PackageRecord → List ℕ
-component_table p = table_of p.header.package_of p.directory
+component_table p = table_of p.header.format p.header.package_of p.directory

@@ -1,12 +1,13 @@
 ghost use Rattle.std.specs.Prelude.{◌≡◌, IfOk, string_bytes, unwrap_or};
 ghost use Rattle.std.specs.List.{flat_map};
 ghost use Rattle.cap_frame.specs.Directory.{directory_items, size_in};
+ghost use Rattle.cap_frame.specs.Header.{header_items};
 ghost use Rattle.cap_frame.specs.Packages.{package_seen};
-ghost use Rattle.cap_text.specs.Table.{package_line, component_line, tag_line, component_lines, custom_lines, table_of, component_table};
+ghost use Rattle.cap_text.specs.Table.{format_name, package_line, component_line, tag_line, component_lines, custom_lines, table_of, component_table};
 
-use cap_bytes::Part;
+use cap_bytes::{Format, Part};
 use cap_files::file_name;
-use cap_frame::{Directory, PackageInfo};
+use cap_frame::{Directory, Header, PackageInfo};
 use cap_package::Package;
 use std::alloc::{AllocError, Global};
 
@@ -18,29 +19,44 @@ const TAGS: [u8; 12] = [1, 2, 3, 4, 5, 6, 7, 8, 9, 10, 11, 12];
 pub fn component_table(alloc: Global, package: &Package<'_, '_>) -> Result<String, AllocError>
     ensures { IfOk result (λ t. string_bytes t ≡ component_table «package».now) }
 {
-    table_of(alloc, package.header().package(), package)
+    table_of(alloc, &package.header(), package)
 }
 
 #[tactic(auto, unfolding(crate::specs::Table::table_of))]
 fn table_of(
     alloc: Global,
-    info: PackageInfo<'_>,
+    header: &Header<'_>,
     package: &Package<'_, '_>,
 ) -> Result<String, AllocError>
-    ensures { IfOk result (λ t. string_bytes t ≡ table_of (package_seen info.entry) «package».now.directory) }
+    ensures { IfOk result (λ t. string_bytes t
+        ≡ table_of (header_items header.now).format (header_items header.now).package_of «package».now.directory) }
 {
-    let mut text = package_line(alloc, info)?;
+    let mut text = package_line(alloc, header.format(), header.package())?;
     text.push_str(standard_lines(alloc, package)?.as_str())?;
     text.push_str(lines_of_customs(alloc, package)?.as_str())?;
     Ok(text)
 }
 
 #[tactic(auto, unfolding(crate::specs::Table::package_line))]
-fn package_line(alloc: Global, info: PackageInfo<'_>) -> Result<String, AllocError>
-    ensures { IfOk result (λ t. string_bytes t ≡ package_line (package_seen info.entry)) }
+fn package_line(alloc: Global, format: Format, info: PackageInfo<'_>) -> Result<String, AllocError>
+    ensures { IfOk result (λ t. string_bytes t ≡ package_line format (package_seen info.entry)) }
 {
     let aid = hex::encode(alloc, info.aid)?;
-    format!(in alloc; "package {aid} {}.{} format 2.2\n", info.major, info.minor)
+    let version = format_name(format);
+    format!(in alloc;
+        "package {aid} {}.{} format {version}\n",
+        info.major, info.minor
+    )
+}
+
+// The version of the format.
+fn format_name(format: Format) -> &'static str
+    ensures { result.now ≡ format_name format }
+{
+    match format {
+        Format::V21 => "2.1",
+        Format::V22 => "2.2",
+    }
 }
 
 #[tactic(auto, unfolding(crate::specs::Table::component_lines))]

@@ -15,7 +15,11 @@ abbrev pub start_by : ErrorKind → NoStart
 start_by OutOfMemory = Memory
 start_by _ = Words
 
--- the length of the longest word and no less than this, where a length of 32 bits stands still at its end
+-- a length as 32 bits count it, where it stands still at their end
+abbrev pub counted : ℕ → ℕ
+counted n = min n (2 ^ 32 - 1)
+
+-- the length of the longest word, and no less than this
 abbrev pub longest_from : ℕ → List (List ℕ) → ℕ
 longest_from least [] = least
-longest_from least (word ∷ words) = longest_from (max least (min (length word) (2 ^ 32 - 1))) words
+longest_from least (word ∷ words) = longest_from (max least (counted (length word))) words

@@ -3,11 +3,11 @@
 //! `capcheck_core`.
 #![tactic(auto)]
 
-ghost use Rattle.std.specs.Prelude.{◌≡◌, map, drop, string_bytes, IfOk};
+ghost use Rattle.std.specs.Prelude.{◌≡◌, ◌≤◌, map, drop, length, string_bytes, All, IfOk, MatchResult};
 ghost use Rattle.std.specs.Vec.Iter.{into_iter_items};
 ghost use Rattle.std.specs.IoError.{error_kind};
 ghost use Rattle.capcheck.specs.declared.NoStart.TheVariants.{Memory};
-ghost use Rattle.capcheck.specs.Start.{longest_from, start_by, status_of};
+ghost use Rattle.capcheck.specs.Start.{counted, longest_from, start_by, status_of};
 
 use cap_files::{DirFolder, OutSink, Words};
 use capcheck_core::capcheck;
@@ -52,23 +52,34 @@ impl From<AllocError> for NoStart {
 }
 
 fn main(rt: HostRuntime) -> ExitCode {
-    match run(&rt) {
-        Ok(status) => ExitCode::from(status),
-        Err(end) => ExitCode::from(end.status()),
+    ExitCode::from(exit_status(run(&rt)))
+}
+
+/// The status that the program ends with: the command's, or that of what kept it from beginning.
+fn exit_status(ended: Result<u8, NoStart>) -> u8
+    ensures { MatchResult ended (λ status. result ≡ status) (λ end. result ≡ status_of end) }
+{
+    match ended {
+        Ok(status) => status,
+        Err(end) => end.status(),
     }
 }
 
 fn run(rt: &HostRuntime) -> Result<u8, NoStart> {
+    run_words(rt, &words(rt)?)
+}
+
+/// Runs the command that the words spell, over the machine's folders and standard output.
+fn run_words(rt: &HostRuntime, words: &Words) -> Result<u8, NoStart> {
     let alloc = rt.alloc();
-    let words = words(rt)?;
-    let mut folder = DirFolder::new(rt, alloc, longest(&words))?;
+    let mut folder = DirFolder::new(rt, alloc, longest(words))?;
     let mut out = OutSink::new(rt.stdout());
     let mut ram = vec![in alloc; 0u16; RAM]?;
     let mut heap = vec![in alloc; 0u16; HEAP]?;
     let mut statics = vec![in alloc; 0u16; STATICS]?;
     Ok(capcheck(
         alloc,
-        &words,
+        words,
         &mut folder,
         &mut out,
         &mut ram,
@@ -106,7 +117,8 @@ fn no_words(error: io::Error) -> NoStart
 
 /// The length of the longest word in bytes.
 fn longest(words: &Words) -> u32
-    ensures { result ≡ longest_from 0 words.now }
+    ensures value { result ≡ longest_from 0 words.now }
+    ensures longest { All (λ word. counted (length word) ≤ result) words.now }
 {
     let mut longest = 0;
     'words: for word in words.iter() {
@@ -114,3 +126,6 @@ fn longest(words: &Words) -> u32
     }
     longest
 }
+
+#[cfg(test)]
+mod tests;

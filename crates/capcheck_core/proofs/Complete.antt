@@ -2,7 +2,7 @@
 use Rattle.std.proofs.Common.{◌≡◌, ◌⊎◌, List, ℕ, ℤ, ◌<◌, length, map, subst, ◌∙◌, inl, inr, refl, arith, rules, suc, zero, [], ◌∷◌, All, FitsSigned, w16}
 use Rattle.std.specs.Prelude.{None, IfSome, IsSomeAnd, string_bytes, slice_get}
 use Rattle.std.specs.FinMap as map
-use Rattle.cap_files.specs.Folder.{Holds}
+use Rattle.cap_files.specs.Folder.{Folders, Holds, IsThere, IsAbsent, IsTooLong}
 use Rattle.cap_bare.specs.Typing.{CardTyping}
 use Rattle.cap_text.specs.declared.word.Arg.{Arg}
 use Rattle.cap_text.specs.declared.word.Arg.TheVariants.{Number}
@@ -10,22 +10,26 @@ use Rattle.cap_text.specs.declared.start.StartFault.{StartFault}
 use Rattle.cap_text.specs.declared.start.StartFault.TheVariants.{NoEntry, NotStatic, ArgCount, ArgKind}
 use Rattle.cap_text.specs.Probe.{ProbeRequest}
 use Rattle.cap_text.specs.Show.{ShowRequest}
+use Rattle.cap_text.specs.Check.{CheckRequest}
 use Rattle.cap_text.specs.Request.{Request, probe, show, check}
 use Rattle.capcheck_core.specs.declared.verdict.Verdict.{Verdict}
 use Rattle.capcheck_core.specs.declared.verdict.Verdict.TheVariants.{Done, Refused, Limit, Malformed, Usage, ReadFault, StoreFault, Memory}
 use Rattle.capcheck_core.specs.Verdict.{status_of}
-use Rattle.capcheck_core.specs.Outside.{Folders, Card, IsThere, IsAbsent, IsTooLong}
+use Rattle.capcheck_core.specs.Check.{ChecksWorld, Checks}
+use Rattle.capcheck_core.specs.Outside.{Outside}
 use Rattle.capcheck_core.specs.Answers.{Answers, IsVerdict}
-use Rattle.capcheck_core.specs.Completeness.{CanProbe, CanShow, CanDo, NoFault, Completes}
+use Rattle.capcheck_core.specs.Completeness.{CanProbe, CanShow, CanCheck, CanDo, NoFault, Completes}
 use Rattle.capcheck_core.specs.MethodFile.{IsMethodFile}
-use Rattle.capcheck_core.specs.Probe.{Probes, OfMethodPart, OfMethod, IsRefusal, IsUnstarted, IsNoMethod, method_key}
+use Rattle.capcheck_core.specs.Probe.{ProbesFolder, FailsMethodPart, Probes, OfMethodPart, OfMethod, IsRefusal, IsUnstarted, IsNoMethod, method_key}
 use Rattle.capcheck_core.specs.Report.{Seen, IsReported}
 use Rattle.capcheck_core.specs.Shorts.{IsShort, AreShorts, RefusesStart}
-use Rattle.capcheck_core.specs.Show.{Shows, OfParts, IsUnshown}
+use Rattle.capcheck_core.specs.Show.{ShowsFolder, FailsFolder, Shows, OfParts, IsUnshown}
+use Rattle.capcheck_core.specs.Typed.{AreTyped}
 use Rattle.capcheck_core.proofs.MethodFiles.{same_method, no_breach}
 use Rattle.capcheck_core.proofs.Loads.{one_list, none_long}
-use Rattle.capcheck_core.proofs.CheckComplete.{no_fault, can_check}
+use Rattle.capcheck_core.proofs.WorldComplete.{no_fault, reaches}
 use Rattle.cap_package.specs.StandsFor.{StandsFor}
+use Rattle.jc_base.specs.World.{Linked}
 
 -- the file that was read is the one that is held
 same_file : (p : ProbeRequest) (before : Folders) (can : CanProbe p before) (file : List ℕ) → IsThere before (method_key p) file → can.file ≡ file
@@ -79,41 +83,76 @@ unbroken p before can text part =
     ]
 
 -- the verdicts that stand where a probe can be done
+probed : (p : ProbeRequest) (before : Folders) (verdict : Verdict) → CanProbe p before → ProbesFolder p before verdict → (status_of verdict ≡ 0) ⊎ (status_of verdict ≡ 6)
+probed p before (Done text) can probes = inl refl
+probed p before Memory can probes = inr refl
+probed p before (Refused text) can probes = absurd (unrefused p before can (string_bytes text) probes)
+probed p before (Malformed text) can (inl missing) = absurd (absent_not p before can missing.absent)
+probed p before (Malformed text) can (inr (inl long)) = absurd (long_not p before can long.long)
+probed p before (Malformed text) can (inr (inr part)) = absurd (unbroken p before can (string_bytes text) part)
+probed p before ReadFault can probes = absurd probes
+probed p before Usage can probes = absurd probes
+probed p before StoreFault can probes = absurd probes
+probed p before (Limit text) can probes = absurd probes
+
+unread : (p : ProbeRequest) (before after : Folders) (sink put : Seen) (verdict : Verdict) → NoFault before after sink put → FailsMethodPart p before after verdict → ⊥
+unread p before after sink put ReadFault calm fails = calm.loads fails.rose
+unread p before after sink put _ calm fails = fails
+
 can_probe : (p : ProbeRequest) (before after : Folders) (sink put : Seen) (verdict : Verdict) → CanProbe p before → NoFault before after sink put
     → Probes p before after verdict → (status_of verdict ≡ 0) ⊎ (status_of verdict ≡ 6)
-can_probe p before after sink put (Done text) can calm probes = inl refl
-can_probe p before after sink put Memory can calm probes = inr refl
-can_probe p before after sink put (Refused text) can calm probes = absurd (unrefused p before can (string_bytes text) probes)
-can_probe p before after sink put (Malformed text) can calm (inl missing) = absurd (absent_not p before can missing.absent)
-can_probe p before after sink put (Malformed text) can calm (inr (inl long)) = absurd (long_not p before can long.long)
-can_probe p before after sink put (Malformed text) can calm (inr (inr part)) = absurd (unbroken p before can (string_bytes text) part)
-can_probe p before after sink put ReadFault can calm probes = absurd (calm.loads probes)
-can_probe p before after sink put Usage can calm probes = absurd probes
-can_probe p before after sink put StoreFault can calm probes = absurd probes
-can_probe p before after sink put (Limit text) can calm probes = absurd probes
+can_probe p before after sink put verdict can calm (inl probes) = probed p before verdict can probes.1
+can_probe p before after sink put verdict can calm (inr fails) = absurd (unread p before after sink put verdict calm fails)
 
 shown : (s : ShowRequest) (before : Folders) → CanShow s before → (text : List ℕ) → OfParts s before (λ parts. IsUnshown parts text) → ⊥
 shown s before can text of =
     let same = one_list before can.held s.dir 256 can.parts of.parts can.told can.loaded of.loaded in
     no_fault of.parts can.shown of.holds.fault (subst (λ ps. StandsFor ps can.shown) same can.stands) of.holds.refused
 
+has_shown : (s : ShowRequest) (before : Folders) (verdict : Verdict) → CanShow s before → ShowsFolder s before verdict → (status_of verdict ≡ 0) ⊎ (status_of verdict ≡ 6)
+has_shown s before (Done text) can shows = inl refl
+has_shown s before Memory can shows = inr refl
+has_shown s before (Malformed text) can (inl long) = absurd (none_long before can.held s.dir 256 long.tag can.parts can.told can.loaded long.first.byte long.first)
+has_shown s before (Malformed text) can (inr of) = absurd (shown s before can (string_bytes text) of)
+has_shown s before ReadFault can shows = absurd shows
+has_shown s before (Refused text) can shows = absurd shows
+has_shown s before Usage can shows = absurd shows
+has_shown s before StoreFault can shows = absurd shows
+has_shown s before (Limit text) can shows = absurd shows
+
+unloaded : (s : ShowRequest) (before after : Folders) (sink put : Seen) (verdict : Verdict) → NoFault before after sink put → FailsFolder s before after verdict → ⊥
+unloaded s before after sink put ReadFault calm fails = calm.loads fails.1.holds.rose
+unloaded s before after sink put _ calm fails = fails
+
 can_show : (s : ShowRequest) (before after : Folders) (sink put : Seen) (verdict : Verdict) → CanShow s before → NoFault before after sink put
     → Shows s before after verdict → (status_of verdict ≡ 0) ⊎ (status_of verdict ≡ 6)
-can_show s before after sink put (Done text) can calm shows = inl refl
-can_show s before after sink put Memory can calm shows = inr refl
-can_show s before after sink put (Malformed text) can calm (inl long) = absurd (none_long before can.held s.dir 256 long.tag can.parts can.told can.loaded long.first.byte long.first)
-can_show s before after sink put (Malformed text) can calm (inr of) = absurd (shown s before can (string_bytes text) of)
-can_show s before after sink put ReadFault can calm shows = absurd (calm.loads shows)
-can_show s before after sink put (Refused text) can calm shows = absurd shows
-can_show s before after sink put Usage can calm shows = absurd shows
-can_show s before after sink put StoreFault can calm shows = absurd shows
-can_show s before after sink put (Limit text) can calm shows = absurd shows
+can_show s before after sink put verdict can calm (inl shows) = has_shown s before verdict can shows.1
+can_show s before after sink put verdict can calm (inr fails) = absurd (unloaded s before after sink put verdict calm fails)
 
-can_do : (r : Request) (before after : Folders) (old new : Card) (sink put : Seen) (verdict : Verdict) → CanDo r before → NoFault before after sink put
-    → Answers r before after old new verdict → (status_of verdict ≡ 0) ⊎ (status_of verdict ≡ 6)
-can_do (probe p) before after old new sink put verdict can calm answers = can_probe p before after sink put verdict can calm answers.0
-can_do (show s) before after old new sink put verdict can calm answers = can_show s before after sink put verdict can calm answers.0
-can_do (check c) before after old new sink put verdict can calm answers = can_check c before after sink put verdict can calm answers.0
+-- the last step of a check refuses no world in which all methods are typed
+types : (w : Linked) (before after : Outside) (verdict : Verdict) → AreTyped w → ChecksWorld w before after verdict → (status_of verdict ≡ 0) ⊎ (status_of verdict ≡ 6)
+types w before after (Done text) typed checks = inl refl
+types w before after Memory typed checks = inr refl
+types w before after (Refused text) typed checks = absurd (checks.1.untyped (typed checks.1.method checks.1.of_last))
+types w before after (Malformed text) typed checks = absurd checks.1
+types w before after (Limit text) typed checks = absurd checks.1
+types w before after Usage typed checks = absurd checks.1
+types w before after ReadFault typed checks = absurd checks.1
+types w before after StoreFault typed checks = absurd checks.1
+
+can_check : (c : CheckRequest) (before after : Outside) (sink put : Seen) (verdict : Verdict) → CanCheck c before.folders → NoFault before.folders after.folders sink put
+    → Checks c before after verdict → (status_of verdict ≡ 0) ⊎ (status_of verdict ≡ 6)
+can_check c before after sink put verdict can calm checks =
+    elim (reaches ChecksWorld c.dirs before after can.world verdict can.links calm.loads checks) [
+      | inl memory ↦ inr memory
+      | inr own ↦ types can.world before after verdict can.typed own
+    ]
+
+can_do : (r : Request) (before after : Outside) (sink put : Seen) (verdict : Verdict) → CanDo r before.folders → NoFault before.folders after.folders sink put
+    → Answers r before after verdict → (status_of verdict ≡ 0) ⊎ (status_of verdict ≡ 6)
+can_do (probe p) before after sink put verdict can calm answers = can_probe p before.folders after.folders sink put verdict can calm answers.0
+can_do (show s) before after sink put verdict can calm answers = can_show s before.folders after.folders sink put verdict can calm answers.0
+can_do (check c) before after sink put verdict can calm answers = can_check c before after sink put verdict can calm answers
 
 reported : (verdict : Verdict) (before after : Folders) (sink put : Seen) (status : ℕ) → NoFault before after sink put → IsReported verdict sink put status
     → (status_of verdict ≡ 0) ⊎ (status_of verdict ≡ 6) → (status ≡ 0) ⊎ (status ≡ 6)
@@ -121,7 +160,7 @@ reported verdict before after sink put status calm (inr broken) known = absurd (
 reported verdict before after sink put status calm (inl whole) (inl done) = inl (whole.says ∙ done)
 reported verdict before after sink put status calm (inl whole) (inr memory) = inr (whole.says ∙ memory)
 
-pub completes : (words : List (List ℕ)) (before after : Folders) (old new : Card) (sink put : Seen) (verdict : Verdict) (status : ℕ)
-    → IsVerdict words before after old new verdict → IsReported verdict sink put status → Completes words before after sink put status
-completes words before after old new sink put verdict status is report = λ r asks can calm.
-    reported verdict before after sink put status calm report (can_do r before after old new sink put verdict can calm (is.command r asks))
+pub completes : (words : List (List ℕ)) (before after : Outside) (sink put : Seen) (verdict : Verdict) (status : ℕ)
+    → IsVerdict words before after verdict → IsReported verdict sink put status → Completes words before.folders after.folders sink put status
+completes words before after sink put verdict status is report = λ r asks can calm.
+    reported verdict before.folders after.folders sink put status calm report (can_do r before after sink put verdict can calm (is.command r asks))

@@ -1,8 +1,8 @@
 pub mod Verdicts
 pub mod MethodFiles
 pub mod Loads
-pub mod SameHeld
 pub mod PackageLoads
 pub mod Typings
-pub mod CheckComplete
+pub mod Worlds
+pub mod WorldComplete
 pub mod Complete

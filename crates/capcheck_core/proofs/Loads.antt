@@ -1,16 +1,17 @@
 -- The parts that are loaded have rising tags, and a folder that tells what it holds has one list of them.
 use Rattle.std.proofs.Common.{◌≡◌, ◌<◌, ◌+◌, ℕ, suc, List, [], ◌∷◌, ◌++◌, Option, Some, None, IsNone, true, false, true≢false, refl, sym, ap, subst, ◌∙◌, inl, inr, ◌⊎◌, arith, length}
-use Rattle.std.specs.Prelude.{Bool, Result, IfSome, IsSomeAnd, Ok}
+use Rattle.std.specs.Prelude.{Bool, Result, IfSome, IsSomeAnd, Ok, Err}
 use Rattle.std.specs.FinMap as map
 use Rattle.std.proofs.lemmas.Bool.{ne_eqb}
 use Rattle.std.proofs.Math.Nat.{eq-or-lt_of_le}
-use Rattle.cap_files.specs.Folder.{Parts, Holds, Loads}
+use Rattle.cap_files.specs.Folder.{Parts, Folders, Holds, IsTooLong, Loads}
 use Rattle.cap_files.specs.declared.folder.LoadEnd.{LoadEnd}
 use Rattle.cap_package.specs.Parts.{Lent, held}
 use Rattle.cap_components.proofs.PartsLemmas.{held-other}
-use Rattle.capcheck_core.specs.Outside.{Folders, IsTooLong}
-use Rattle.capcheck_core.specs.Loads.{is_asked, Has, with_file, AreLoaded, loaded_none, loaded_unasked, loaded_asked, IsFirstLong}
-use Rattle.capcheck_core.specs.LoadEnds.{LoadsNext}
+use Rattle.capcheck_core.specs.Loads.{is_asked, Has, with_file, AreLoaded, loaded_none, loaded_unasked, loaded_asked, StopsAt, IsFirstLong}
+use Rattle.capcheck_core.specs.declared.load.LoadStop.{LoadStop}
+use Rattle.capcheck_core.specs.declared.load.LoadStop.TheVariants.{TooLong, Failed, Memory}
+use Rattle.capcheck_core.specs.LoadEnds.{LoadsParts, LoadsNext}
 
 -- ---- each tag stands once
 
@@ -51,26 +52,38 @@ pub has_read : (before : Folders) (dir to : List ℕ) (tag : ℕ) (r : Result Bo
 has_read before dir to tag r there is known loads =
     let read : Loads before.held (tag ∷ dir) to (Ok true) = subst (λ x. Loads before.held (tag ∷ dir) to x) (is ∙ ap Ok known) loads in (read.1, read.0)
 
-pub had : (before now : Folders) (dir : List ℕ) (tag : ℕ) (file : Option (List ℕ)) → now.held ≡ before.held → Has now dir tag file → Has before dir tag file
-had before now dir tag None same has = subst (λ held. IfSome held (λ parts. map.get parts (tag ∷ dir) ≡ None)) same has
-had before now dir tag (Some bytes) same has = (subst (λ held. IfSome held (λ parts. Holds parts (tag ∷ dir) bytes)) same has.0, has.1)
-
 -- no part before the first
 pub begun : (before : Folders) (dir : List ℕ) (parts : List Lent) → parts ≡ [] → AreLoaded before dir 1 parts
 begun before dir parts none = subst (λ ps. AreLoaded before dir 1 ps) (sym none) (loaded_unasked 0 [] loaded_none refl)
 
 -- the parts with the next one
-next : (before now after : Folders) (dir : List ℕ) (tag : ℕ) (parts more : List Lent) → AreLoaded before dir tag parts → now.held ≡ before.held
-    → LoadsNext now after dir tag parts more (Ok tt) → AreLoaded before dir (suc tag) more
-next before now after dir tag parts more loaded same (inl added) =
-    subst (λ ps. AreLoaded before dir (suc tag) ps) (sym added.adds) (loaded_asked tag parts added.file loaded added.asked (had before now dir tag added.file same added.has))
-next before now after dir tag parts more loaded same (inr skipped) =
+next : (before after : Folders) (dir : List ℕ) (tag : ℕ) (parts more : List Lent) → AreLoaded before dir tag parts
+    → LoadsNext before after dir tag parts more (Ok tt) → AreLoaded before dir (suc tag) more
+next before after dir tag parts more loaded (inl added) =
+    subst (λ ps. AreLoaded before dir (suc tag) ps) (sym added.adds) (loaded_asked tag parts added.file loaded added.asked added.has)
+next before after dir tag parts more loaded (inr skipped) =
     subst (λ ps. AreLoaded before dir (suc tag) ps) (sym skipped.same) (loaded_unasked tag parts loaded skipped.unasked)
 
-pub next_loaded : (before now after : Folders) (dir : List ℕ) (tag : ℕ) (parts more : List Lent) → AreLoaded before dir tag parts → now.held ≡ before.held
+pub next_loaded : (before now after : Folders) (dir : List ℕ) (tag : ℕ) (parts more : List Lent) → AreLoaded before dir tag parts → now ≡ before
     → LoadsNext now after dir tag parts more (Ok tt) → AreLoaded before dir (tag + 1) more
 next_loaded before now after dir tag parts more loaded same loads =
-    let step : suc tag ≡ tag + 1 = omega arith in subst (λ n. AreLoaded before dir n more) step (next before now after dir tag parts more loaded same loads)
+    let step : suc tag ≡ tag + 1 = omega arith in
+    let here : LoadsNext before after dir tag parts more (Ok tt) = subst (λ f. LoadsNext f after dir tag parts more (Ok tt)) same loads in
+    subst (λ n. AreLoaded before dir n more) step (next before after dir tag parts more loaded here)
+
+-- the loads stop at the next one
+stopped : (before after : Folders) (dir : List ℕ) (tag : ℕ) (parts more : List Lent) (stop : LoadStop) → tag < 256 → AreLoaded before dir tag parts
+    → LoadsNext before after dir tag parts more (Err stop) → LoadsParts before after dir (Err stop)
+stopped before after dir tag parts more (TooLong part) byte loaded (is, asked, long) =
+    subst (λ t. IsFirstLong before dir t) (sym is) (record { byte = byte; parts = parts; loaded = loaded; asked = asked; holds = long })
+stopped before after dir tag parts more Failed byte loaded (asked, fails) =
+    (tag, record { byte = byte; parts = parts; loaded = loaded; asked = asked; holds = fails })
+stopped before after dir tag parts more Memory byte loaded loads = tt {0}
+
+pub stopped_there : (before now after : Folders) (dir : List ℕ) (tag : ℕ) (parts more : List Lent) (stop : LoadStop) → tag < 256 → AreLoaded before dir tag parts → now ≡ before
+    → LoadsNext now after dir tag parts more (Err stop) → LoadsParts before after dir (Err stop)
+stopped_there before now after dir tag parts more stop byte loaded same loads =
+    stopped before after dir tag parts more stop byte loaded (subst (λ f. LoadsNext f after dir tag parts more (Err stop)) same loads)
 
 -- ---- a folder that tells has one list of parts
 
@@ -121,5 +134,5 @@ none_long before parts dir _ tag _ told (loaded_unasked top xs l u) below first 
 none_long before parts dir _ tag _ told (loaded_asked top xs f l a hf) below first =
     elim (split tag top below) [
       | inr less ↦ none_long before parts dir top tag xs told l less first
-      | inl same ↦ has_no_long before parts dir top f told hf (subst (λ t. IsTooLong before (t ∷ dir)) same first.long)
+      | inl same ↦ has_no_long before parts dir top f told hf (subst (λ t. IsTooLong before (t ∷ dir)) same first.holds)
     ]

@@ -1,13 +1,25 @@
 -- A list of words asks for one thing, so the verdict for it is the verdict for whatever they ask.
-use Rattle.std.proofs.Common.{List, ℕ, subst}
-use Rattle.cap_text.specs.Request.{Request, IsRequest, OneRequest}
+use Rattle.std.proofs.Common.{List, ℕ, subst, inl, refl}
+use Rattle.cap_text.specs.Request.{Request, probe, show, check, IsRequest, OneRequest}
 use Rattle.capcheck_core.specs.declared.verdict.Verdict.{Verdict}
-use Rattle.capcheck_core.specs.Outside.{Folders, Card}
+use Rattle.capcheck_core.specs.declared.verdict.Verdict.TheVariants.{Memory}
+use Rattle.capcheck_core.specs.Outside.{Outside, Untouched}
 use Rattle.capcheck_core.specs.Answers.{Answers, IsVerdict}
 
-pub asked : (words : List (List ℕ)) (r : Request) (before after : Folders) (old new : Card) (verdict : Verdict) → OneRequest words → IsRequest words r
-    → Answers r before after old new verdict → IsVerdict words before after old new verdict
-asked words r before after old new verdict one is answers = record {
-  command = λ s is_s. subst (λ t. Answers t before after old new verdict) (one r s is is_s) answers;
+pub asked : (words : List (List ℕ)) (r : Request) (before after : Outside) (verdict : Verdict) → OneRequest words → IsRequest words r
+    → Answers r before after verdict → IsVerdict words before after verdict
+asked words r before after verdict one is answers = record {
+  command = λ s is_s. subst (λ t. Answers t before after verdict) (one r s is is_s) answers;
   usage = λ none. absurd (none r is);
 }
+
+-- without memory to read the words nothing was done, whatever they ask for
+no_memory : (r : Request) (before after : Outside) → Untouched before after → Answers r before after Memory
+no_memory (probe p) before after same = (inl (same.folders, tt {0}), same.card)
+no_memory (show s) before after same = (inl (same.folders, tt {0}), same.card)
+no_memory (check c) before after same = inl same
+
+pub without_memory : (words : List (List ℕ)) (outside : Outside) → IsVerdict words outside outside Memory
+without_memory words outside =
+    let same : Untouched outside outside = record { folders = refl; card = refl } in
+    record { command = λ r is. no_memory r outside outside same; usage = λ none. (tt {0}, same) }

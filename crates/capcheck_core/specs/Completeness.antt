@@ -1,7 +1,7 @@
 -- When a command does its work, or wants memory for it.
 use Rattle.std.specs.Prelude.{◌≡◌, ℕ, ℤ, ◌≤◌, List, length, Some, ◌⊎◌}
 use Rattle.cap_files.specs.Counts.{Rose}
-use Rattle.cap_files.specs.Folder.{Parts, Holds}
+use Rattle.cap_files.specs.Folder.{Parts, Folders, Holds}
 use Rattle.cap_bare.specs.declared.bare.Bare.{Bare}
 use Rattle.cap_bare.specs.Typing.{CardTyping}
 use Rattle.cap_text.specs.Probe.{ProbeRequest}
@@ -12,15 +12,14 @@ use Rattle.cap_package.specs.Parts.{Lent}
 use Rattle.cap_package.specs.PackageRecord.{PackageRecord}
 use Rattle.cap_package.specs.StandsFor.{StandsFor}
 use Rattle.jc_base.specs.World.{Linked}
-use Rattle.jc_link.specs.World.{IsLinked}
 use Rattle.capcheck_core.specs.MethodFile.{IsMethodFile}
 use Rattle.capcheck_core.specs.Loads.{AreParts}
-use Rattle.capcheck_core.specs.Outside.{Folders}
-use Rattle.capcheck_core.specs.Packages.{ArePackages, AreRoles}
+use Rattle.capcheck_core.specs.Packages.{AreGiven}
 use Rattle.capcheck_core.specs.Probe.{method_key}
 use Rattle.capcheck_core.specs.Report.{Seen}
 use Rattle.capcheck_core.specs.Shorts.{AreShorts}
 use Rattle.capcheck_core.specs.Typed.{AreTyped}
+use Rattle.capcheck_core.specs.World.{MakeWorld}
 
 -- no load, store or put failed
 pub record NoFault (before after : Folders) (sink put : Seen) : Type 0 where
@@ -51,17 +50,19 @@ pub record CanShow (s : ShowRequest) (before : Folders) : Type 0 where
   pub shown : PackageRecord
   pub stands : StandsFor parts shown
 
--- the parts of each folder stand for a package, the packages make a world with the roles beside the first, and every method with code of
--- the last package has a typing
-pub record CanCheck (c : CheckRequest) (before : Folders) : Type 0 where
+-- the parts in the folders and the roles beside the first make this world
+pub record CanLink (dirs : List (List ℕ)) (before : Folders) (world : Linked) : Type 0 where
   pub held : Parts
   pub told : before.held ≡ Some held
-  pub packages : List PackageRecord
-  pub packages_are : ArePackages before c.dirs packages
+  pub parts : List (List Lent)
   pub roles : List ℕ
-  pub roles_are : AreRoles before c.dirs roles
+  pub given : AreGiven before dirs parts roles
+  pub made : MakeWorld parts roles world
+
+-- the folders make a world, and every method with code of the last package has a typing
+pub record CanCheck (c : CheckRequest) (before : Folders) : Type 0 where
   pub world : Linked
-  pub linked : IsLinked packages roles world
+  pub links : CanLink c.dirs before world
   pub typed : AreTyped world
 
 -- what a command needs is there
@@ -70,7 +71,7 @@ CanDo (probe p) before = CanProbe p before
 CanDo (show s) before = CanShow s before
 CanDo (check c) before = CanCheck c before
 
--- where the words ask for something, what it needs is there and no device failed, the work is done or memory is wanting
+-- where the words ask for something, what it needs is there and no device failed, the work is done or there was no memory
 abbrev pub Completes : List (List ℕ) → Folders → Folders → Seen → Seen → ℕ → Type 0
 Completes words before after sink put status =
     (r : Request) → IsRequest words r → CanDo r before → NoFault before after sink put → (status ≡ 0) ⊎ (status ≡ 6)

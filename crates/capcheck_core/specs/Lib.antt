@@ -10,8 +10,11 @@ pub mod Show
 pub mod Roles
 pub mod Packages
 pub mod PackageEnds
+pub mod OverFolders
+pub mod World
 pub mod Typed
 pub mod Check
 pub mod CheckEnds
+pub mod Step
 pub mod Answers
 pub mod Completeness

@@ -1,15 +1,15 @@
 -- The parts of a package's folder, as they are loaded: by rising tag, the components that every package has (JCVM 2.2, section 6.1),
--- and the other ones to which the Directory gives a size that is not 0 (section 6.4). A Directory that is absent or malformed tells no
--- sizes.
+-- and the other ones to which the Directory gives a size that is not 0 (section 6.4). Where the
+-- Header or the Directory is absent or malformed, no sizes are told.
 use Rattle.std.specs.Prelude.{◌≡◌, ℕ, suc, ◌<◌, ◌≤◌, Bool, true, false, not, ◌&&◌, ◌||◌, ◌==◌, nat_le, List, [], ◌∷◌, ◌++◌, length, filter, Option, Some, None, Result, Ok, Err, refl}
-use Rattle.cap_frame.specs.DirectoryFormat.{DirectoryItems, directory_info}
+use Rattle.cap_frame.specs.DirectoryFormat.{DirectoryItems}
 use Rattle.cap_frame.specs.Directory.{size_in}
 use Rattle.cap_components.specs.declared.fault.PackFault.{PackFault}
 use Rattle.cap_package.specs.Parts.{Lent}
-use Rattle.cap_package.specs.Components.{read_part}
+use Rattle.cap_package.specs.Components.{read_directory}
 use Rattle.cap_package.specs.PartChecks.{required}
 use Rattle.std.specs.List.{range_with_len}
-use Rattle.capcheck_core.specs.Outside.{Folders, IsThere, IsAbsent, IsTooLong}
+use Rattle.cap_files.specs.Folder.{Folders, IsThere, IsAbsent, IsTooLong, LoadFails}
 
 -- the components that every package has: all of the standard but Applet, Export and Debug
 abbrev pub is_required : ℕ → Bool
@@ -34,7 +34,7 @@ is_sized (Err fault) tag = false
 
 -- a part is asked for, by the parts that were loaded before it
 abbrev pub is_asked : List Lent → ℕ → Bool
-is_asked parts tag = is_required tag || (is_optional tag && is_sized (read_part directory_info 2 parts) tag)
+is_asked parts tag = is_required tag || (is_optional tag && is_sized (read_directory parts) tag)
 
 -- what a folder has for a part: nothing, or a file that is not too long
 abbrev pub Has : Folders → List ℕ → ℕ → Option (List ℕ) → Type 0
@@ -66,13 +66,21 @@ pub record IsSkipped (tag : ℕ) (parts more : List Lent) : Type 0 where
   pub unasked : is_asked parts tag ≡ false
   pub same : more ≡ parts
 
--- a part is the first that is asked for and is longer than a component can be
-pub record IsFirstLong (before : Folders) (dir : List ℕ) (tag : ℕ) : Type 0 where
+-- the parts below this tag are loaded, the one with this tag is asked for, and of its key this is true
+pub record StopsAt (before : Folders) (dir : List ℕ) (tag : ℕ) (P : List ℕ → Type 0) : Type 0 where
   pub byte : tag < 256
   pub parts : List Lent
   pub loaded : AreLoaded before dir tag parts
   pub asked : is_asked parts tag ≡ true
-  pub long : IsTooLong before (tag ∷ dir)
+  pub holds : P (tag ∷ dir)
+
+-- the part with this tag is the first that is asked for and is longer than a component can be
+abbrev pub IsFirstLong : Folders → List ℕ → ℕ → Type 0
+IsFirstLong before dir tag = StopsAt before dir tag (IsTooLong before)
+
+-- the load of a part that is asked for failed, and that of no part before it
+abbrev pub FailsParts : Folders → List ℕ → Folders → Type 0
+FailsParts before dir after = (tag : ℕ) × StopsAt before dir tag (λ key. LoadFails before key after)
 
 -- all parts of the folder that are asked for and are there: tags are bytes
 abbrev pub AreParts : Folders → List ℕ → List Lent → Type 0

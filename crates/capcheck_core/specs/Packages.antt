@@ -1,16 +1,15 @@
--- The packages in several folders, with the roles of classes beside the first, and what is at fault first: the parts of the first
+-- The packages in several folders, with the roles of classes beside the first, and what stops their loads: the parts of the first
 -- folder, its roles, and then the parts of each other folder in turn.
-use Rattle.std.specs.Prelude.{◌≡◌, ℕ, suc, ◌≤◌, ◌⊎◌, List, [], ◌∷◌, length, Err}
+use Rattle.std.specs.Prelude.{◌≡◌, ℕ, suc, ◌<◌, ◌≤◌, ◌⊎◌, min, List, [], ◌∷◌, length, Err}
 use Rattle.std.specs.List.{AllZip}
+use Rattle.cap_files.specs.Folder.{Folders, LoadFails}
 use Rattle.cap_components.specs.declared.fault.PackFault.{PackFault}
 use Rattle.cap_components.specs.declared.fault.PackFault.TheVariants.{PartTooLong}
 use Rattle.cap_package.specs.Parts.{Lent}
-use Rattle.cap_package.specs.PackageRecord.{PackageRecord}
-use Rattle.cap_package.specs.StandsFor.{StandsFor, HavePackage}
+use Rattle.cap_package.specs.StandsFor.{HavePackage}
 use Rattle.cap_package.specs.FirstFault.{Tells}
-use Rattle.capcheck_core.specs.Outside.{Folders}
-use Rattle.capcheck_core.specs.Loads.{AreParts, IsFirstLong}
-use Rattle.capcheck_core.specs.Roles.{AreRolesIn, LacksRoles}
+use Rattle.capcheck_core.specs.Loads.{AreParts, IsFirstLong, FailsParts}
+use Rattle.capcheck_core.specs.Roles.{AreRolesIn, LacksRoles, roles_key}
 
 -- ---- packages
 
@@ -20,24 +19,24 @@ pub record HasPackage (before : Folders) (dir : List ℕ) : Type 0 where
   pub loaded : AreParts before dir parts
   pub whole : HavePackage parts
 
--- the packages in the folders, in order
-pub record ArePackages (before : Folders) (dirs : List (List ℕ)) (packages : List PackageRecord) : Type 0 where
-  pub parts : List (List Lent)
-  pub loaded : AllZip (AreParts before) dirs parts
-  pub stand : AllZip StandsFor parts packages
-
 -- the roles beside the first package
 abbrev pub AreRoles : Folders → List (List ℕ) → List ℕ → Type 0
 AreRoles before [] roles = ⊥
 AreRoles before (dir ∷ dirs) roles = AreRolesIn before dir roles
 
--- the packages and the roles in at most 16 folders
-pub record AreGiven (before : Folders) (dirs : List (List ℕ)) (packages : List PackageRecord) (roles : List ℕ) : Type 0 where
-  pub few : length dirs ≤ 16
-  pub packages_are : ArePackages before dirs packages
+-- the parts in each folder, in order, and the roles beside the first
+pub record AreGiven (before : Folders) (dirs : List (List ℕ)) (parts : List (List Lent)) (roles : List ℕ) : Type 0 where
+  pub parts_are : AllZip (AreParts before) dirs parts
   pub roles_are : AreRoles before dirs roles
 
--- ---- what is at fault
+-- ---- too many
+
+-- so many folders: none, or more than 16
+pub record AreTooMany (dirs : List (List ℕ)) (count : ℕ) : Type 0 where
+  pub wrong : (length dirs ≡ 0) ⊎ (16 < length dirs)
+  pub counts : count ≡ min (length dirs) 4294967295
+
+-- ---- what is at fault in one folder
 
 -- a part of the folder is too long
 pub record IsLong (before : Folders) (dir : List ℕ) (fault : PackFault) : Type 0 where
@@ -55,27 +54,36 @@ pub record IsRefused (before : Folders) (dir : List ℕ) (fault : PackFault) : T
 abbrev pub LacksPackage : Folders → List ℕ → PackFault → Type 0
 LacksPackage before dir fault = IsLong before dir fault ⊎ IsRefused before dir fault
 
--- of folders that are numbered from here on, the first that has no package, and why
-abbrev pub IsFirstLack : Folders → ℕ → List (List ℕ) → ℕ → PackFault → Type 0
-IsFirstLack before from [] number fault = ⊥
-IsFirstLack before from (dir ∷ dirs) number fault =
-    ((number ≡ from) × LacksPackage before dir fault) ⊎ (HasPackage before dir × IsFirstLack before (suc from) dirs number fault)
+-- ---- the first folder at which the loads stop
 
--- the first folder has a package and no roles
-pub record IsRoleless (before : Folders) (dir : List ℕ) (number : ℕ) (fault : PackFault) : Type 0 where
+-- of folders that are numbered from here on, the first of which this is true, where each before it has a package
+abbrev pub IsFirstWhere : Folders → ℕ → List (List ℕ) → (ℕ → List ℕ → Type 0) → Type 0
+IsFirstWhere before from [] P = ⊥
+IsFirstWhere before from (dir ∷ dirs) P = P from dir ⊎ (HasPackage before dir × IsFirstWhere before (suc from) dirs P)
+
+-- the first folder has a package, and of it this is true
+pub record IsAtRoles (before : Folders) (dir : List ℕ) (R : List ℕ → Type 0) : Type 0 where
   pub has : HasPackage before dir
-  pub first : number ≡ 0
-  pub lacks : LacksRoles before dir fault
+  pub holds : R dir
 
--- the first folder has a package and roles, and of the others this is the first that has no package
-pub record IsLackBehind (before : Folders) (dir : List ℕ) (dirs : List (List ℕ)) (number : ℕ) (fault : PackFault) : Type 0 where
+-- the first folder has a package and roles, and of the others this is the first of which this is true
+pub record IsAfterRoles (before : Folders) (dir : List ℕ) (dirs : List (List ℕ)) (P : ℕ → List ℕ → Type 0) : Type 0 where
   pub has : HasPackage before dir
   pub roles : List ℕ
   pub roles_are : AreRolesIn before dir roles
-  pub behind : IsFirstLack before 1 dirs number fault
+  pub first : IsFirstWhere before 1 dirs P
 
--- the first thing at fault in the folders, in the order in which they are loaded, with the number of its folder
-abbrev pub IsFirstFault : Folders → List (List ℕ) → ℕ → PackFault → Type 0
-IsFirstFault before [] number fault = ⊥
-IsFirstFault before (dir ∷ dirs) number fault =
-    ((number ≡ 0) × LacksPackage before dir fault) ⊎ IsRoleless before dir number fault ⊎ IsLackBehind before dir dirs number fault
+-- in the order of the loads the first place in the folders where `P` is true of a package's number and folder, or `R` of the roles
+abbrev pub IsFirstStop : Folders → List (List ℕ) → (ℕ → List ℕ → Type 0) → (List ℕ → Type 0) → Type 0
+IsFirstStop before [] P R = ⊥
+IsFirstStop before (dir ∷ dirs) P R = P 0 dir ⊎ IsAtRoles before dir R ⊎ IsAfterRoles before dir dirs P
+
+-- of at most 16 folders the first thing at fault, with the number of its folder
+pub record IsFault (before : Folders) (dirs : List (List ℕ)) (number : ℕ) (fault : PackFault) : Type 0 where
+  pub few : length dirs ≤ 16
+  pub first : IsFirstStop before dirs (λ n dir. (number ≡ n) × LacksPackage before dir fault) (λ dir. (number ≡ 0) × LacksRoles before dir fault)
+
+-- of at most 16 folders a load failed, of a part that is asked for, and all before it were there
+pub record IsFailed (before : Folders) (dirs : List (List ℕ)) (after : Folders) : Type 0 where
+  pub few : length dirs ≤ 16
+  pub first : IsFirstStop before dirs (λ n dir. FailsParts before dir after) (λ dir. LoadFails before (roles_key dir) after)

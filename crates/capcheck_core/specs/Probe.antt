@@ -1,6 +1,6 @@
 -- What `probe` may answer, by the file of the Method component in its folder.
 use Rattle.std.specs.Prelude.{◌≡◌, ℕ, ℤ, ◌≤◌, List, ◌∷◌, length, string_bytes, ◌⊎◌}
-use Rattle.cap_files.specs.Counts.{Rose}
+use Rattle.cap_files.specs.Folder.{Folders, IsThere, IsAbsent, IsTooLong, LoadFails}
 use Rattle.cap_components.specs.declared.fault.PackFault.{PackFault}
 use Rattle.cap_components.specs.declared.fault.PackFault.TheVariants.{MissingPart, PartTooLong}
 use Rattle.cap_bare.specs.declared.bare.Bare.{Bare}
@@ -13,9 +13,8 @@ use Rattle.cap_text.specs.declared.start.StartFault.{StartFault}
 use Rattle.cap_text.specs.Probe.{ProbeRequest}
 use Rattle.cap_text.specs.Line.{malformed_line, not_started_line, refused_bare_line, bare_ending_line}
 use Rattle.capcheck_core.specs.declared.verdict.Verdict.{Verdict}
-use Rattle.capcheck_core.specs.declared.verdict.Verdict.TheVariants.{Done, Refused, Limit, Malformed, Usage, ReadFault, StoreFault, Memory}
+use Rattle.capcheck_core.specs.declared.verdict.Verdict.TheVariants.{Done, Refused, Malformed, ReadFault, Memory}
 use Rattle.capcheck_core.specs.MethodFile.{method_tag, IsMethodFile, RefusesFile}
-use Rattle.capcheck_core.specs.Outside.{Folders, IsThere, IsAbsent, IsTooLong}
 use Rattle.capcheck_core.specs.Shorts.{AreShorts, RefusesStart}
 
 -- the method has a typing, and the text is how its run with the arguments ends within the budget
@@ -90,14 +89,20 @@ ProbesFile file p (Malformed text) = IsNoMethod file (string_bytes text) ⊎ OfM
 ProbesFile file p Memory = Unit {0}
 ProbesFile file p _ = ⊥
 
--- what a probe answers, and when: the folders are as they were when it began, and as they are afterwards
-abbrev pub Probes : ProbeRequest → Folders → Folders → Verdict → Type 0
-Probes p before after (Done text) = OfMethodPart p before (λ file. ProbesFile file p (Done text))
-Probes p before after (Refused text) = OfMethodPart p before (λ file. ProbesFile file p (Refused text))
-Probes p before after (Malformed text) =
+-- the answers by the folder, where no load failed
+abbrev pub ProbesFolder : ProbeRequest → Folders → Verdict → Type 0
+ProbesFolder p before (Done text) = OfMethodPart p before (λ file. ProbesFile file p (Done text))
+ProbesFolder p before (Refused text) = OfMethodPart p before (λ file. ProbesFile file p (Refused text))
+ProbesFolder p before (Malformed text) =
     IsMissing p before (string_bytes text) ⊎ IsLong p before (string_bytes text) ⊎ OfMethodPart p before (λ file. ProbesFile file p (Malformed text))
-Probes p before after ReadFault = Rose before.load_faults after.load_faults
-Probes p before after Memory = Unit {0}
-Probes p before after Usage = ⊥
-Probes p before after StoreFault = ⊥
-Probes p before after (Limit text) = ⊥
+ProbesFolder p before Memory = Unit {0}
+ProbesFolder p before _ = ⊥
+
+-- the load of the Method part failed
+abbrev pub FailsMethodPart : ProbeRequest → Folders → Folders → Verdict → Type 0
+FailsMethodPart p before after ReadFault = LoadFails before (method_key p) after
+FailsMethodPart p before after _ = ⊥
+
+-- what a probe answers, and when: the outside is as it was when it began, and as it is afterwards
+abbrev pub Probes : ProbeRequest → Folders → Folders → Verdict → Type 0
+Probes p before after verdict = ((after ≡ before) × ProbesFolder p before verdict) ⊎ FailsMethodPart p before after verdict

@@ -5,7 +5,7 @@ use Rattle.cap_bytes.specs.declared.fault.FormKind.{FormKind}
 use Rattle.cap_bytes.specs.declared.fault.FormKind.TheVariants.{Cut, Trailing}
 use Rattle.cap_components.specs.declared.fault.PackFault.{PackFault}
 use Rattle.cap_components.specs.declared.fault.PackFault.TheVariants.{Form, MissingPart, PartTooLong}
-use Rattle.capcheck_core.specs.Outside.{Folders, IsThere, IsAbsent, IsTooLong}
+use Rattle.cap_files.specs.Folder.{Folders, IsThere, IsAbsent, IsTooLong}
 
 -- the roles' file is part 0
 abbrev pub roles_tag : ℕ

@@ -1,6 +1,6 @@
 -- What `show` may answer, by the parts in its folder.
 use Rattle.std.specs.Prelude.{◌≡◌, ℕ, List, string_bytes, Err, ◌⊎◌}
-use Rattle.cap_files.specs.Counts.{Rose}
+use Rattle.cap_files.specs.Folder.{Folders}
 use Rattle.cap_components.specs.declared.fault.PackFault.{PackFault}
 use Rattle.cap_components.specs.declared.fault.PackFault.TheVariants.{PartTooLong}
 use Rattle.cap_package.specs.Parts.{Lent}
@@ -11,9 +11,8 @@ use Rattle.cap_text.specs.Show.{ShowRequest}
 use Rattle.cap_text.specs.Line.{malformed_line}
 use Rattle.cap_text.specs.Table.{component_table}
 use Rattle.capcheck_core.specs.declared.verdict.Verdict.{Verdict}
-use Rattle.capcheck_core.specs.declared.verdict.Verdict.TheVariants.{Done, Refused, Limit, Malformed, Usage, ReadFault, StoreFault, Memory}
-use Rattle.capcheck_core.specs.Outside.{Folders}
-use Rattle.capcheck_core.specs.Loads.{AreParts, IsFirstLong}
+use Rattle.capcheck_core.specs.declared.verdict.Verdict.TheVariants.{Done, Malformed, ReadFault, Memory}
+use Rattle.capcheck_core.specs.Loads.{AreParts, IsFirstLong, FailsParts}
 
 -- the parts stand for a package, and the text is its component table
 pub record IsShown (parts : List Lent) (text : List ℕ) : Type 0 where
@@ -46,13 +45,18 @@ ShowsParts parts (Malformed text) = IsUnshown parts (string_bytes text)
 ShowsParts parts Memory = Unit {0}
 ShowsParts parts _ = ⊥
 
+-- the answers by the folder, where no load failed
+abbrev pub ShowsFolder : ShowRequest → Folders → Verdict → Type 0
+ShowsFolder s before (Done text) = OfParts s before (λ parts. ShowsParts parts (Done text))
+ShowsFolder s before (Malformed text) = IsLongPart s before (string_bytes text) ⊎ OfParts s before (λ parts. ShowsParts parts (Malformed text))
+ShowsFolder s before Memory = Unit {0}
+ShowsFolder s before _ = ⊥
+
+-- a load failed, of a part that is asked for
+abbrev pub FailsFolder : ShowRequest → Folders → Folders → Verdict → Type 0
+FailsFolder s before after ReadFault = FailsParts before s.dir after
+FailsFolder s before after _ = ⊥
+
 -- what a show answers, and when: the folders are as they were when it began, and as they are afterwards
 abbrev pub Shows : ShowRequest → Folders → Folders → Verdict → Type 0
-Shows s before after (Done text) = OfParts s before (λ parts. ShowsParts parts (Done text))
-Shows s before after (Malformed text) = IsLongPart s before (string_bytes text) ⊎ OfParts s before (λ parts. ShowsParts parts (Malformed text))
-Shows s before after ReadFault = Rose before.load_faults after.load_faults
-Shows s before after Memory = Unit {0}
-Shows s before after (Refused text) = ⊥
-Shows s before after Usage = ⊥
-Shows s before after StoreFault = ⊥
-Shows s before after (Limit text) = ⊥
+Shows s before after verdict = ((after ≡ before) × ShowsFolder s before verdict) ⊎ FailsFolder s before after verdict

@@ -2,15 +2,16 @@ ghost use Rattle.std.specs.Prelude.{◌≡◌, length};
 ghost use Rattle.cap_text.specs.Request.{request_of};
 ghost use Rattle.capcheck_core.specs.Answers.{Answers, IsVerdict};
 ghost use Rattle.capcheck_core.specs.Completeness.{Completes};
-ghost use Rattle.capcheck_core.specs.Outside.{folders, card};
+ghost use Rattle.capcheck_core.specs.Outside.{outside, card};
 ghost use Rattle.capcheck_core.specs.Report.{IsReported, seen};
 ghost use Rattle.capcheck_core.specs.declared.verdict.Verdict.{Verdict};
 
-use crate::check::check;
 use crate::probe::probe;
 use crate::report::report;
 use crate::show::show;
+use crate::step::Step;
 use crate::verdict::Verdict;
+use crate::world::over_folders;
 use cap_files::{Folder, Sink, Words};
 use cap_text::{Command, read_command};
 use std::alloc::Global;
@@ -31,20 +32,18 @@ pub fn capcheck<F: Folder, K: Sink>(
     requires statics { length statics.old ≡ 32768 }
     ensures answered { (verdict : Verdict)
         × IsVerdict words.now
-        (folders (F.held folder.old) (F.load_faults folder.old) (F.store_faults folder.old))
-        (folders (F.held folder.new) (F.load_faults folder.new) (F.store_faults folder.new))
-        (card ram.old heap.old statics.old) (card ram.new heap.new statics.new) verdict
-        × IsReported verdict (seen (K.received out.old) (K.faults out.old)) (seen (K.received out.new) (K.faults out.new)) result }
-    ensures complete { Completes words.now
-        (folders (F.held folder.old) (F.load_faults folder.old) (F.store_faults folder.old))
-        (folders (F.held folder.new) (F.load_faults folder.new) (F.store_faults folder.new))
+        (outside (F.folders folder.old) (card ram.old heap.old statics.old))
+        (outside (F.folders folder.new) (card ram.new heap.new statics.new)) verdict
+        × IsReported verdict
+        (seen (K.received out.old) (K.faults out.old)) (seen (K.received out.new) (K.faults out.new)) result }
+    ensures complete { Completes words.now (F.folders folder.old) (F.folders folder.new)
         (seen (K.received out.old) (K.faults out.old)) (seen (K.received out.new) (K.faults out.new)) result }
 {
     let verdict = answer(alloc, words, folder, ram, heap, statics);
     report(out, &verdict)
 }
 
-#[tactic(auto, using(crate::proofs::Verdicts::asked))]
+#[tactic(auto, using(crate::proofs::Verdicts::asked, crate::proofs::Verdicts::without_memory))]
 // What the command that the words spell decides.
 fn answer<F: Folder>(
     alloc: Global,
@@ -55,9 +54,8 @@ fn answer<F: Folder>(
     statics: &mut [u16],
 ) -> Verdict
     ensures { IsVerdict words.now
-        (folders (F.held folder.old) (F.load_faults folder.old) (F.store_faults folder.old))
-        (folders (F.held folder.new) (F.load_faults folder.new) (F.store_faults folder.new))
-        (card ram.old heap.old statics.old) (card ram.new heap.new statics.new) result }
+        (outside (F.folders folder.old) (card ram.old heap.old statics.old))
+        (outside (F.folders folder.new) (card ram.new heap.new statics.new)) result }
 {
     match read_command(alloc, words) {
         Ok(Some(command)) => perform(alloc, &command, folder, ram, heap, statics),
@@ -76,13 +74,20 @@ fn perform<F: Folder>(
     statics: &mut [u16],
 ) -> Verdict
     ensures { Answers (request_of command.now)
-        (folders (F.held folder.old) (F.load_faults folder.old) (F.store_faults folder.old))
-        (folders (F.held folder.new) (F.load_faults folder.new) (F.store_faults folder.new))
-        (card ram.old heap.old statics.old) (card ram.new heap.new statics.new) result }
+        (outside (F.folders folder.old) (card ram.old heap.old statics.old))
+        (outside (F.folders folder.new) (card ram.new heap.new statics.new)) result }
 {
     match command {
         Command::Probe(operands) => probe(alloc, folder, operands),
         Command::Show(operands) => show(alloc, folder, operands),
-        Command::Check(operands) => check(alloc, folder, operands),
+        Command::Check(operands) => over_folders(
+            alloc,
+            Step::Check,
+            operands.dirs,
+            folder,
+            ram,
+            heap,
+            statics,
+        ),
     }
 }

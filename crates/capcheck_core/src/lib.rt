@@ -4,7 +4,6 @@
 #![tactic(auto)]
 
 mod call;
-mod check;
 mod load;
 mod method_file;
 mod packages;
@@ -12,9 +11,11 @@ mod probe;
 mod report;
 mod shorts;
 mod show;
+mod step;
 mod sure;
 mod typing;
 mod verdict;
+mod world;
 
 pub use call::capcheck;
 pub use sure::sure_forms_never_fail;

@@ -1,20 +1,20 @@
-ghost use Rattle.std.specs.Prelude.{◌≡◌, ◌≤◌, true, IsNone};
+ghost use Rattle.std.specs.Prelude.{◌≡◌, ◌≤◌, true, length, IsNone, IfOk};
 ghost use Rattle.cap_frame.specs.Directory.{directory_items, size_in};
 ghost use Rattle.cap_frame.specs.DirectoryFormat.{directory_info};
-ghost use Rattle.cap_package.specs.Components.{read_part};
+ghost use Rattle.cap_frame.specs.Framed.{info_bytes};
+ghost use Rattle.cap_frame.specs.Header.{header_items};
+ghost use Rattle.cap_frame.specs.HeaderFormat.{header_info};
+ghost use Rattle.cap_package.specs.Components.{Answers, info_in, read_part, read_directory};
 ghost use Rattle.cap_package.specs.Parts.{held};
 ghost use Rattle.capcheck_core.specs.Loads.{is_required, is_optional, is_some_size, is_sized, is_asked};
-ghost use Rattle.capcheck_core.specs.LoadEnds.{LoadsParts, LoadsAsked, LoadsNext};
-ghost use Rattle.capcheck_core.specs.Outside.{folders, StoresNothing};
+ghost use Rattle.capcheck_core.specs.LoadEnds.{LoadsParts, LoadsAsked, LoadsNext, LoadsLeave};
 
-use cap_bytes::Part;
+use cap_bytes::{Format, Part, View};
+use cap_components::PackFault;
 use cap_files::{Folder, LoadEnd};
-use cap_frame::{Directory, directory, frame};
+use cap_frame::{Directory, Header, directory, frame, header};
 use cap_package::OwnedParts;
 use std::alloc::Global;
-
-/// The Directory component.
-const DIRECTORY: Part = Part(2);
 
 /// Why the parts of a folder were not loaded.
 #[derive(Clone, Copy)]
@@ -35,13 +35,9 @@ pub fn load_parts<F: Folder>(
     folder: &mut F,
     dir: &str,
 ) -> Result<OwnedParts, LoadStop>
-    ensures loads { LoadsParts
-        (folders (F.held folder.old) (F.load_faults folder.old) (F.store_faults folder.old))
-        (folders (F.held folder.new) (F.load_faults folder.new) (F.store_faults folder.new)) dir.now result }
-    ensures stores { StoresNothing
-        (folders (F.held folder.old) (F.load_faults folder.old) (F.store_faults folder.old))
-        (folders (F.held folder.new) (F.load_faults folder.new) (F.store_faults folder.new)) }
-    ensures counts { F.load_faults folder.old ≤ F.load_faults folder.new }
+    ensures loads { LoadsParts (F.folders folder.old) (F.folders folder.new)
+        dir.now result }
+    ensures folders { LoadsLeave (F.folders folder.old) (F.folders folder.new) result }
 {
     let mut parts = OwnedParts::new(alloc);
     'tags: for tag in 1..256u16 {
@@ -62,13 +58,9 @@ fn load_next<F: Folder>(
     parts: &mut OwnedParts,
 ) -> Result<(), LoadStop>
     requires absent { IsNone (held parts.old part.0) }
-    ensures loads { LoadsNext
-        (folders (F.held folder.old) (F.load_faults folder.old) (F.store_faults folder.old))
-        (folders (F.held folder.new) (F.load_faults folder.new) (F.store_faults folder.new)) dir.now part.0 parts.old parts.new result }
-    ensures stores { StoresNothing
-        (folders (F.held folder.old) (F.load_faults folder.old) (F.store_faults folder.old))
-        (folders (F.held folder.new) (F.load_faults folder.new) (F.store_faults folder.new)) }
-    ensures counts { F.load_faults folder.old ≤ F.load_faults folder.new }
+    ensures loads { LoadsNext (F.folders folder.old) (F.folders folder.new)
+        dir.now part.0 parts.old parts.new result }
+    ensures folders { LoadsLeave (F.folders folder.old) (F.folders folder.new) result }
 {
     if asks(parts, part.0) {
         load_asked(alloc, folder, dir, part, parts)
@@ -87,13 +79,9 @@ fn load_asked<F: Folder>(
 ) -> Result<(), LoadStop>
     requires absent { IsNone (held parts.old part.0) }
     requires asked { is_asked parts.old part.0 ≡ true }
-    ensures loads { LoadsAsked
-        (folders (F.held folder.old) (F.load_faults folder.old) (F.store_faults folder.old))
-        (folders (F.held folder.new) (F.load_faults folder.new) (F.store_faults folder.new)) dir.now part.0 parts.old parts.new result }
-    ensures stores { StoresNothing
-        (folders (F.held folder.old) (F.load_faults folder.old) (F.store_faults folder.old))
-        (folders (F.held folder.new) (F.load_faults folder.new) (F.store_faults folder.new)) }
-    ensures counts { F.load_faults folder.old ≤ F.load_faults folder.new }
+    ensures loads { LoadsAsked (F.folders folder.old) (F.folders folder.new)
+        dir.now part.0 parts.old parts.new result }
+    ensures folders { LoadsLeave (F.folders folder.old) (F.folders folder.new) result }
 {
     let mut file = Vec::new(alloc);
     match folder.load(alloc, dir, part, &mut file) {
@@ -129,20 +117,55 @@ fn is_optional(tag: u8) -> bool
     tag == 3 || tag == 10 || tag >= 128
 }
 
-// Whether the Directory gives the component a size that is not 0.
-#[tactic(auto, using(cap_bytes::proofs::Laws::reading_where, cap_bytes::proofs::Laws::refused_where), unfolding(cap_components::specs::Components::info_in, cap_components::specs::Components::read_part))]
+// Whether the Directory, in the format that the Header names, gives the component a size that is not 0.
+#[tactic(auto, unfolding(cap_components::specs::Components::read_directory))]
 fn gives_size(parts: &OwnedParts, tag: u8) -> bool
-    ensures { result ≡ is_sized (read_part directory_info 2 parts.now) tag }
+    ensures { result ≡ is_sized (read_directory parts.now) tag }
 {
-    let Some(file) = parts.get(DIRECTORY) else {
+    match header_in(parts) {
+        Ok(header) => gives_size_in(parts, header.format(), tag),
+        Err(_) => false,
+    }
+}
+
+// Whether the Directory gives the component a size that is not 0, in a format.
+#[tactic(auto, using(cap_bytes::proofs::Laws::reading_where, cap_bytes::proofs::Laws::refused_where), unfolding(cap_components::specs::Components::read_part))]
+fn gives_size_in(parts: &OwnedParts, format: Format, tag: u8) -> bool
+    ensures { result ≡ is_sized (read_part (directory_info format) 2 parts.now) tag }
+{
+    let Ok(info) = info_in(parts, 2) else {
         return false;
     };
-    let Ok(info) = frame(file, DIRECTORY) else {
-        return false;
-    };
-    match directory(info) {
+    match directory(info, format) {
         Ok(directory) => has_size(&directory, tag),
         Err(_) => false,
+    }
+}
+
+// The Header component.
+#[tactic(auto, using(cap_bytes::proofs::Laws::reading_where, cap_bytes::proofs::Laws::refused_where), unfolding(cap_components::specs::Components::read_part))]
+fn header_in(parts: &OwnedParts) -> Result<Header<'_>, PackFault>
+    ensures { Answers header_items result (read_part header_info 1 parts.now) }
+{
+    let info = info_in(parts, 1)?;
+    match header(info) {
+        Ok(header) => Ok(header),
+        Err(fault) => Err(PackFault::Form(fault)),
+    }
+}
+
+// The info of the component with a tag.
+#[tactic(auto, using(cap_bytes::proofs::Laws::reading_where, cap_bytes::proofs::Laws::refused_where), unfolding(cap_components::specs::Components::info_in))]
+fn info_in(parts: &OwnedParts, tag: u8) -> Result<View<'_>, PackFault>
+    ensures value { Answers info_bytes result (info_in parts.now tag) }
+    ensures few { IfOk result (λ info. length info.bytes.now ≤ 65535) }
+{
+    let Some(file) = parts.get(Part(tag)) else {
+        return Err(PackFault::MissingPart(tag));
+    };
+    match frame(file, Part(tag)) {
+        Ok(info) => Ok(info),
+        Err(fault) => Err(PackFault::Form(fault)),
     }
 }
 

@@ -1,16 +1,13 @@
-ghost use Rattle.std.specs.Prelude.{◌≡◌, ◌≢◌, ◌+◌, ◌∷◌, ◌≤◌, length, min, vec_len, All, IfOk};
-ghost use Rattle.std.specs.List.{AllZip};
-ghost use Rattle.cap_package.specs.StandsFor.{StandsFor, HavePackage};
+ghost use Rattle.std.specs.Prelude.{◌≡◌, ◌≢◌, ◌+◌, ◌∷◌, ◌≤◌, length, min, vec_len};
 ghost use Rattle.cap_files.specs.WordsLeft.{words_left};
-ghost use Rattle.capcheck_core.specs.Outside.{folders, StoresNothing};
 ghost use Rattle.capcheck_core.specs.Roles.{IsNoRoles};
-ghost use Rattle.capcheck_core.specs.PackageEnds.{ReadsRoles, LoadsRoles, Agrees, LoadsPackage, LoadsOthers, LoadsPackages, IsStop};
+ghost use Rattle.capcheck_core.specs.PackageEnds.{ReadsRoles, LoadsRoles, Agrees, LoadsPackage, LoadsOthers, LoadsPackages, PackagesLeave, IsStop};
 
 use crate::load::{LoadStop, load_parts};
 use crate::verdict::Verdict;
 use cap_bytes::{FormFault, FormKind, Part};
 use cap_files::{Folder, LoadEnd, WordsIter};
-use cap_package::{OwnedParts, PackFault, Packages, Parts, agreed_package, package};
+use cap_package::{OwnedParts, PackFault, Parts, package};
 use cap_text::{malformed, not_linked};
 use jc_resolve::LinkFault;
 use std::alloc::{AllocError, Global};
@@ -79,12 +76,9 @@ pub fn load_packages<F: Folder>(
     folder: &mut F,
     dirs: WordsIter<'_>,
 ) -> Result<Loaded, PackagesStop>
-    ensures loads { LoadsPackages
-        (folders (F.held folder.old) (F.load_faults folder.old) (F.store_faults folder.old))
-        (folders (F.held folder.new) (F.load_faults folder.new) (F.store_faults folder.new)) (words_left dirs.entry) result }
-    ensures stores { StoresNothing
-        (folders (F.held folder.old) (F.load_faults folder.old) (F.store_faults folder.old))
-        (folders (F.held folder.new) (F.load_faults folder.new) (F.store_faults folder.new)) }
+    ensures loads { LoadsPackages (F.folders folder.old) (F.folders folder.new)
+        (words_left dirs.entry) result }
+    ensures folders { PackagesLeave (F.folders folder.old) (F.folders folder.new) result }
 {
     let count = count_of(dirs);
     let mut others = dirs;
@@ -113,12 +107,9 @@ fn load_first<F: Folder>(
     others: WordsIter<'_>,
 ) -> Result<Loaded, PackagesStop>
     requires few { length (words_left others) ≤ 15 }
-    ensures loads { LoadsPackages
-        (folders (F.held folder.old) (F.load_faults folder.old) (F.store_faults folder.old))
-        (folders (F.held folder.new) (F.load_faults folder.new) (F.store_faults folder.new)) (dir.now ∷ words_left others.entry) result }
-    ensures stores { StoresNothing
-        (folders (F.held folder.old) (F.load_faults folder.old) (F.store_faults folder.old))
-        (folders (F.held folder.new) (F.load_faults folder.new) (F.store_faults folder.new)) }
+    ensures loads { LoadsPackages (F.folders folder.old) (F.folders folder.new)
+        (dir.now ∷ words_left others.entry) result }
+    ensures folders { PackagesLeave (F.folders folder.old) (F.folders folder.new) result }
 {
     let parts = load_package(alloc, folder, dir, 0)?;
     let roles = load_roles(alloc, folder, dir)?;
@@ -141,12 +132,9 @@ fn load_others<F: Folder>(
     packages: &mut Vec<OwnedParts>,
 ) -> Result<(), PackagesStop>
     requires few { vec_len packages.old + length (words_left dirs) ≤ 16 }
-    ensures loads { LoadsOthers
-        (folders (F.held folder.old) (F.load_faults folder.old) (F.store_faults folder.old))
-        (folders (F.held folder.new) (F.load_faults folder.new) (F.store_faults folder.new)) (words_left dirs.entry) packages.old.items packages.new.items result }
-    ensures stores { StoresNothing
-        (folders (F.held folder.old) (F.load_faults folder.old) (F.store_faults folder.old))
-        (folders (F.held folder.new) (F.load_faults folder.new) (F.store_faults folder.new)) }
+    ensures loads { LoadsOthers (F.folders folder.old) (F.folders folder.new)
+        (words_left dirs.entry) packages.old.items packages.new.items result }
+    ensures folders { PackagesLeave (F.folders folder.old) (F.folders folder.new) result }
 {
     'dirs: for dir in dirs {
         let number = packages.len() as u16;
@@ -168,13 +156,9 @@ fn load_package<F: Folder>(
     dir: &str,
     number: u16,
 ) -> Result<OwnedParts, PackagesStop>
-    ensures loads { LoadsPackage
-        (folders (F.held folder.old) (F.load_faults folder.old) (F.store_faults folder.old))
-        (folders (F.held folder.new) (F.load_faults folder.new) (F.store_faults folder.new)) dir.now number result }
-    ensures stores { StoresNothing
-        (folders (F.held folder.old) (F.load_faults folder.old) (F.store_faults folder.old))
-        (folders (F.held folder.new) (F.load_faults folder.new) (F.store_faults folder.new)) }
-    ensures counts { F.load_faults folder.old ≤ F.load_faults folder.new }
+    ensures loads { LoadsPackage (F.folders folder.old) (F.folders folder.new)
+        dir.now number result }
+    ensures folders { PackagesLeave (F.folders folder.old) (F.folders folder.new) result }
 {
     match load_parts(alloc, folder, dir) {
         Ok(parts) => {
@@ -209,13 +193,9 @@ fn lent_agree(parts: &Parts<'_>, number: u16) -> Result<(), PackagesStop>
 
 // The roles beside the first package.
 fn load_roles<F: Folder>(alloc: Global, folder: &mut F, dir: &str) -> Result<[u8; 8], PackagesStop>
-    ensures loads { LoadsRoles
-        (folders (F.held folder.old) (F.load_faults folder.old) (F.store_faults folder.old))
-        (folders (F.held folder.new) (F.load_faults folder.new) (F.store_faults folder.new)) dir.now result }
-    ensures stores { StoresNothing
-        (folders (F.held folder.old) (F.load_faults folder.old) (F.store_faults folder.old))
-        (folders (F.held folder.new) (F.load_faults folder.new) (F.store_faults folder.new)) }
-    ensures counts { F.load_faults folder.old ≤ F.load_faults folder.new }
+    ensures loads { LoadsRoles (F.folders folder.old) (F.folders folder.new)
+        dir.now result }
+    ensures folders { PackagesLeave (F.folders folder.old) (F.folders folder.new) result }
 {
     let mut file = Vec::new(alloc);
     match folder.load(alloc, dir, ROLES, &mut file) {
@@ -257,30 +237,4 @@ fn misfit(file: &[u8]) -> FormFault
             kind: FormKind::Trailing,
         }
     }
-}
-
-/// The same parts, borrowed.
-pub fn lend_all(alloc: Global, packages: &Vec<OwnedParts>) -> Result<Vec<Parts<'_>>, AllocError>
-    ensures { IfOk result (λ parts. parts.items ≡ packages.now.items) }
-{
-    let mut parts = Vec::new(alloc);
-    'packages: for owned in packages {
-        parts.push(owned.lend(alloc)?)?;
-    }
-    Ok(parts)
-}
-
-/// The packages that the parts stand for.
-pub fn packages_of<'p, 'a>(
-    alloc: Global,
-    parts: &'p Vec<Parts<'a>>,
-) -> Result<Packages<'p, 'a>, AllocError>
-    requires { All HavePackage parts.now.items }
-    ensures { IfOk result (λ packages. AllZip StandsFor parts.now.items packages) }
-{
-    let mut packages = Packages::new(alloc);
-    'parts: for lent in parts {
-        packages.push(agreed_package(lent))?;
-    }
-    Ok(packages)
 }

@@ -1,7 +1,6 @@
 ghost use Rattle.cap_bare.specs.BareFile.{IsVerifiable};
 ghost use Rattle.cap_bare.specs.Typing.{CardTyping};
 ghost use Rattle.cap_text.specs.Probe.{probe_request};
-ghost use Rattle.capcheck_core.specs.Outside.{folders, StoresNothing};
 ghost use Rattle.capcheck_core.specs.Probe.{ProbesMethod, ProbesFile, Probes};
 
 use crate::method_file::{METHOD, method_file};
@@ -15,12 +14,7 @@ use std::alloc::Global;
 
 /// Verifies and runs the bare method of a folder.
 pub fn probe<F: Folder>(alloc: Global, folder: &mut F, probe: &Probe<'_>) -> Verdict
-    ensures answers { Probes (probe_request probe.now)
-        (folders (F.held folder.old) (F.load_faults folder.old) (F.store_faults folder.old))
-        (folders (F.held folder.new) (F.load_faults folder.new) (F.store_faults folder.new)) result }
-    ensures stores { StoresNothing
-        (folders (F.held folder.old) (F.load_faults folder.old) (F.store_faults folder.old))
-        (folders (F.held folder.new) (F.load_faults folder.new) (F.store_faults folder.new)) }
+    ensures answers { Probes (probe_request probe.now) (F.folders folder.old) (F.folders folder.new) result }
 {
     let mut file = Vec::new(alloc);
     match folder.load(alloc, probe.dir, METHOD, &mut file) {

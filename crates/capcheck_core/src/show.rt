@@ -1,5 +1,4 @@
 ghost use Rattle.cap_text.specs.Show.{show_request};
-ghost use Rattle.capcheck_core.specs.Outside.{folders, StoresNothing};
 ghost use Rattle.capcheck_core.specs.Show.{ShowsParts, Shows};
 
 use crate::load::{LoadStop, load_parts};
@@ -11,12 +10,7 @@ use std::alloc::Global;
 
 /// Prints the component table of the package of a folder.
 pub fn show<F: Folder>(alloc: Global, folder: &mut F, show: &Show<'_>) -> Verdict
-    ensures answers { Shows (show_request show.now)
-        (folders (F.held folder.old) (F.load_faults folder.old) (F.store_faults folder.old))
-        (folders (F.held folder.new) (F.load_faults folder.new) (F.store_faults folder.new)) result }
-    ensures stores { StoresNothing
-        (folders (F.held folder.old) (F.load_faults folder.old) (F.store_faults folder.old))
-        (folders (F.held folder.new) (F.load_faults folder.new) (F.store_faults folder.new)) }
+    ensures answers { Shows (show_request show.now) (F.folders folder.old) (F.folders folder.new) result }
 {
     match load_parts(alloc, folder, show.dir) {
         Ok(parts) => show_parts(alloc, parts),

@@ -1,7 +1,7 @@
 ghost use Rattle.std.specs.Prelude.{◌≡◌, ◌<◌, length, Some, option_map, slice_get};
 ghost use Rattle.capcheck_core.specs.Typed.{is_of_last, number_of, AreTypedBelow};
 ghost use Rattle.capcheck_core.specs.CheckEnds.{TypesAt, FailsAt};
-ghost use Rattle.capcheck_core.specs.Check.{ChecksWorld};
+ghost use Rattle.capcheck_core.specs.Check.{TypesWorld};
 
 use crate::verdict::Verdict;
 use cap_text::{MethodNumber, refused_flow, typed};
@@ -11,7 +11,7 @@ use std::alloc::Global;
 
 /// Types each method with code of the last package of a world.
 pub fn type_methods(alloc: Global, world: &World<'_>) -> Verdict
-    ensures { ChecksWorld world.now result }
+    ensures { TypesWorld world.now result }
 {
     let mut count = 0u16;
     'methods: for number in 0..world.method_count() {
@@ -52,7 +52,7 @@ fn untyped(alloc: Global, world: &World<'_>, number: u16, end: FlowEnd) -> Verdi
     requires known { number < length world.now.methods }
     requires earlier { AreTypedBelow world.now number }
     requires fails { FailsAt world.now number end }
-    ensures { ChecksWorld world.now result }
+    ensures { TypesWorld world.now result }
 {
     match end {
         FlowEnd::Memory => Verdict::Memory,

@@ -1,11 +1,11 @@
 use crate::put_package::put_package;
 use crate::run::run;
-use crate::{BELOW, OVERRIDING};
+use crate::{BELOW, OLDER_BELOW, OVERRIDING};
 use cap_bytes::Part;
 use cap_files::{MemFolder, MemSink, SureFolder, SureSink};
 use cap_tests::{
-    CONSTANT_POOL, Change, DESCRIPTOR, DIRECTORY, EXPORT, HEADER, IMPORT, METHOD, PLAIN,
-    PLAIN_METHOD, PLAIN_ROLES, changed,
+    CONSTANT_POOL, Change, DESCRIPTOR, DIRECTORY, EXPORT, File, HEADER, IMPORT, METHOD, OLDER,
+    PLAIN, PLAIN_METHOD, PLAIN_ROLES, changed,
 };
 use std::alloc::{AllocError, Global};
 
@@ -86,6 +86,37 @@ fn check_types_the_last_package(rt: HostRuntime) -> Result<(), AllocError> {
     }
     let folder = folders(alloc, &PLAIN_ROLES, &EXPORTING, &[])?;
     assert!(rt; gives(alloc, "check T W", folder, "typed 1 methods\n", 0)?);
+    Ok(())
+}
+
+/// What makes package T in format 2.1 export its first class.
+const OLDER_EXPORTING: [Change<'static>; 1] = [Change::Sized(
+    EXPORT,
+    b"\x0A\x00\x05\x01\x00\x00\x00\x00",
+)];
+
+/// Whether a package that stands on package T is typed where T and it have these files.
+fn types_both(
+    alloc: Global,
+    library: &[File<'_>],
+    exporting: &[Change<'_>],
+    user: &[File<'_>],
+) -> Result<bool, AllocError> {
+    let mut folder = SureFolder::new(alloc, 24, 70_000)?;
+    put_package(&mut folder, "T", &changed(alloc, library, exporting)?);
+    put_package(&mut folder, "W", &changed(alloc, user, &[])?);
+    folder.set("T", ROLES, &PLAIN_ROLES);
+    gives(alloc, "check T W", folder, "typed 1 methods\n", 0)
+}
+
+#[test]
+fn packages_of_both_formats_stand_in_one_world(rt: HostRuntime) -> Result<(), AllocError> {
+    let alloc = rt.alloc();
+    assert!(rt;
+        types_both(alloc, &OLDER, &OLDER_EXPORTING, &BELOW)?
+            && types_both(alloc, &PLAIN, &EXPORTING, &OLDER_BELOW)?
+            && types_both(alloc, &OLDER, &OLDER_EXPORTING, &OLDER_BELOW)?
+    );
     Ok(())
 }
 

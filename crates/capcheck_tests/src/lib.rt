@@ -6,7 +6,7 @@ mod memory_of;
 mod small_packages;
 
 pub use memory_of::memory;
-pub use small_packages::{BELOW, OVERRIDING};
+pub use small_packages::{BELOW, OLDER_BELOW, OVERRIDING};
 
 #[cfg(test)]
 mod check_tests;

@@ -3,8 +3,8 @@ use crate::run::run;
 use cap_bytes::Part;
 use cap_files::{MemFolder, MemSink, SureFolder, SureSink};
 use cap_tests::{
-    APPLET, CLASS, CONSTANT_POOL, Change, DEBUG, DIRECTORY, EXPORT, HEADER, METHOD, PLAIN,
-    PLAIN_METHOD, WHOLE, changed,
+    APPLET, CLASS, CONSTANT_POOL, Change, DEBUG, DIRECTORY, EXPORT, File, HEADER, METHOD, OLDER,
+    PLAIN, PLAIN_METHOD, WHOLE, changed,
 };
 use std::alloc::{AllocError, Global};
 
@@ -16,6 +16,10 @@ const TABLE: &str =
 const WHOLE_TABLE: &str =
     "package f001020304 1.0 format 2.2\nHeader 1 16\nDirectory 2 51\nApplet 3 9\nImport 4 1\nConstantPool 5 2\nClass 6 82\nMethod 7 19\nStaticField 8 12\nRefLocation 9 4\nExport 10 9\nDescriptor 11 111\nDebug 12 4\nCustom130 130 2\nCustom129 129 3\n";
 
+/// The component table of package T in format 2.1.
+const OLDER_TABLE: &str =
+    "package f001020304 1.0 format 2.1\nHeader 1 15\nDirectory 2 31\nApplet 3 absent\nImport 4 1\nConstantPool 5 2\nClass 6 80\nMethod 7 19\nStaticField 8 12\nRefLocation 9 4\nExport 10 absent\nDescriptor 11 111\nDebug 12 absent\n";
+
 /// Whether `show T` gives this text and this status where package T is changed so.
 fn shows(
     alloc: Global,
@@ -23,8 +27,19 @@ fn shows(
     text: &str,
     status: u8,
 ) -> Result<bool, AllocError> {
+    shows_of(alloc, &PLAIN, changes, text, status)
+}
+
+/// The same of a package with these files.
+fn shows_of(
+    alloc: Global,
+    files: &[File<'_>],
+    changes: &[Change<'_>],
+    text: &str,
+    status: u8,
+) -> Result<bool, AllocError> {
     let mut folder = SureFolder::new(alloc, 16, 70_000)?;
-    let parts = changed(alloc, &PLAIN, changes)?;
+    let parts = changed(alloc, files, changes)?;
     let fits = put_package(&mut folder, "T", &parts);
     let mut out = SureSink::new(alloc, 400)?;
     let answer = run(alloc, "show T", &mut folder, &mut out)?;
@@ -35,6 +50,7 @@ fn shows(
 fn show_prints_the_table_of_a_package(rt: HostRuntime) -> Result<(), AllocError> {
     let alloc = rt.alloc();
     assert!(rt; shows(alloc, &[], TABLE, 0)?);
+    assert!(rt; shows_of(alloc, &OLDER, &[], OLDER_TABLE, 0)?);
     // parts that the Directory gives no size, and Debug, are not read
     let unread = [
         Change::File(APPLET, b"?"),
@@ -57,7 +73,20 @@ fn show_prints_the_table_of_a_package(rt: HostRuntime) -> Result<(), AllocError>
     Ok(())
 }
 
-const MALFORMED: [(&'static [Change<'static>], &'static str); 4] = [
+const MALFORMED: [(&'static [Change<'static>], &'static str); 6] = [
+    // there is no format 2.3; with no format no size is asked, and no part that may be absent is loaded
+    (
+        &[Change::Byte(HEADER, 7, 3)],
+        "malformed package 0 Form 1 7 BadVersion\n",
+    ),
+    (
+        &[
+            Change::Byte(HEADER, 7, 3),
+            Change::Size(APPLET, 9),
+            Change::File(APPLET, b"?"),
+        ],
+        "malformed package 0 Form 1 7 BadVersion\n",
+    ),
     (
         &[Change::File(HEADER, b"")],
         "malformed package 0 Form 1 0 Cut\n",

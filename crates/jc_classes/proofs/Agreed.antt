@@ -1,5 +1,5 @@
 -- The class table of classes of which nothing is at fault.
-use Rattle.std.proofs.Common.{◌≡◌, ℕ, zero, suc, ◌+◌, ◌<◌, ◌≤◌, Bool, true, false, take, get_or, List, [], length, flat_map, Some, None, Ok, Err, refl, sym, ap, subst, ◌∙◌, arith}
+use Rattle.std.proofs.Common.{◌≡◌, ℕ, zero, suc, ◌+◌, ◌<◌, ◌≤◌, Bool, true, false, take, get_or, List, [], length, flat_map, Some, None, Result, Ok, Err, refl, sym, ap, subst, ◌∙◌, arith}
 use Rattle.std.specs.Prelude.{slice_get, nat_lt}
 use Rattle.std.specs.List.{range_with_len}
 use Rattle.std.proofs.lemmas.Bool.{ltb-false}
@@ -9,16 +9,19 @@ use Rattle.jc_base.specs.declared.record.ClassRec.{ClassRec}
 use Rattle.jc_base.specs.Class.{ClassTable, AreClasses}
 use Rattle.jc_resolve.specs.declared.fault.LinkFault.{LinkFault}
 use Rattle.jc_resolve.specs.declared.fault.LinkFault.TheVariants.{InstanceLong}
+use Rattle.jc_resolve.specs.declared.fault.LinkEnd.{LinkEnd}
+use Rattle.jc_resolve.specs.declared.fault.LinkEnd.TheVariants.{Fault, Memory}
+use Rattle.jc_resolve.specs.Due.{IsDue}
 use Rattle.jc_resolve.specs.declared.named.NamedClass.{NamedClass}
 use Rattle.jc_resolve.specs.Fault.{place_of}
-use Rattle.jc_resolve.specs.FirstFault.{IsFirst, AllEmpty}
+use Rattle.jc_resolve.specs.FirstFault.{◌>>=◌, IsFirst, AllEmpty}
 use Rattle.jc_resolve.proofs.Faultless.{faultless_at}
 use Rattle.jc_resolve.proofs.FirstTold.{IsTold, things-told, step, last, refused-first, accepted-empty}
 use Rattle.jc_classes.specs.declared.layout.Layout.{Layout}
 use Rattle.jc_hierarchy.specs.Outline.{outline}
 use Rattle.jc_classes.specs.Layout.{instance_cells, layouts}
 use Rattle.jc_classes.specs.Conditions.{hole_fault, entries_in, override_fault, replacements_in, interface_fault, implementations_in, long_fault, class_numbers, long_instances, conditions}
-use Rattle.jc_classes.specs.Tables.{records_from, classes_agree}
+use Rattle.jc_classes.specs.Tables.{records_from, class_tables, classes_agree, tables_of, TellsEnd}
 use Rattle.jc_classes.proofs.Folds.{cells_are, layout_at, layouts_count}
 use Rattle.jc_classes.proofs.Lines.{IsOutline, tables-classes, records-length}
 
@@ -72,6 +75,23 @@ told_first t classes methods f e = refused-first place_of (conditions t classes 
 
 pub told_empty : (t : ClassTable) (classes : List NamedClass) (methods : List MethodRec) → Ok (tt {0}) ≡ classes_agree t classes methods → AllEmpty (conditions t classes methods)
 told_empty t classes methods e = accepted-empty place_of (conditions t classes methods) (sym (agree-told t classes methods).same ∙ sym e)
+
+told-by : (t : ClassTable) (classes : List NamedClass) (methods : List MethodRec) (s : Result (Unit {0}) LinkFault) (r : Result ClassTable LinkEnd) → classes_agree t classes methods ≡ s → IsDue (s >>= λ _. Ok (class_tables t classes)) r → TellsEnd t classes methods r
+told-by t classes methods (Ok x) (Ok table) e due =
+    let same : class_tables t classes ≡ table = cc in
+    (sym same, told_empty t classes methods (sym e))
+told-by t classes methods (Ok x) (Err (Fault f)) e due = absurd cc
+told-by t classes methods (Ok x) (Err Memory) e due = tt {0}
+told-by t classes methods (Err g) (Ok table) e due = absurd cc
+told-by t classes methods (Err g) (Err (Fault f)) e due =
+    let same : g ≡ f = cc in
+    told_first t classes methods f (sym (e ∙ ap Err same))
+told-by t classes methods (Err g) (Err Memory) e due = tt {0}
+
+-- the answer that is due tells the table, or the first condition that is broken
+pub due-tells : (t : ClassTable) (classes : List NamedClass) (methods : List MethodRec) (r : Result ClassTable LinkEnd) → IsDue (tables_of t classes methods) r → TellsEnd t classes methods r
+unfolding tables_of
+due-tells t classes methods r due = told-by t classes methods (classes_agree t classes methods) r refl due
 
 pub told_short : (t : ClassTable) (classes : List NamedClass) (methods : List MethodRec) → Ok (tt {0}) ≡ classes_agree t classes methods → long_instances t classes ≡ []
 told_short t classes methods e = (told_empty t classes methods e).1.1.1.0

@@ -1,6 +1,6 @@
 -- The class table of classes of which nothing is at fault is that of a linked world.
-use Rattle.std.proofs.Common.{◌≡◌, ℕ, ◌+◌, ◌<◌, ◌≤◌, max, get_or, Bool, true, false, List, [], ◌∷◌, length, Option, Some, None, refl, sym, ap, subst, ◌∙◌, arith, inl, inr}
-use Rattle.std.specs.Prelude.{◌==◌, ◌&&◌, ◌||◌, not, All, IfSome, IsSomeAnd, MatchBool, slice_get, option_map, option_and_then, if◌then◌else◌}
+use Rattle.std.proofs.Common.{◌≡◌, ℕ, ◌+◌, ◌<◌, ◌≤◌, max, get_or, Bool, true, false, List, [], ◌∷◌, length, Option, Some, None, Result, Ok, Err, refl, sym, ap, subst, ◌∙◌, arith, inl, inr}
+use Rattle.std.specs.Prelude.{◌==◌, ◌&&◌, ◌||◌, not, All, IfOk, IfSome, IsSomeAnd, MatchBool, slice_get, option_map, option_and_then, if◌then◌else◌}
 use Rattle.std.specs.List.{list_all}
 use Rattle.std.specs.Option.{option_flatten}
 use Rattle.std.proofs.lemmas.Bool.{false≢true, and_parts, eq-eqb}
@@ -21,7 +21,9 @@ use Rattle.jc_base.proofs.Chains.{next_on_chain}
 use Rattle.jc_base.proofs.Climbs.{parent_of-class}
 use Rattle.jc_base.proofs.Subtypes.{Below-from_is_below}
 use Rattle.jc_base.proofs.Lists.{All-slice_get, IfSome-is, slice_get-below}
+use Rattle.jc_resolve.specs.declared.fault.LinkEnd.{LinkEnd}
 use Rattle.jc_resolve.specs.declared.named.NamedClass.{NamedClass}
+use Rattle.jc_resolve.specs.Due.{IsDue}
 use Rattle.jc_resolve.specs.Named as named
 use Rattle.jc_resolve.specs.FirstFault.{AllEmpty}
 use Rattle.jc_hierarchy.specs.Lines.{HaveLines}
@@ -32,12 +34,12 @@ use Rattle.jc_classes.specs.Entries.{overlaid, overlaid_at, reach}
 use Rattle.jc_classes.specs.Layout.{layout_of, public_entries, visible_entries, instance_cells, above_or_nothing, at_home}
 use Rattle.jc_classes.specs.Signatures.{signature_in}
 use Rattle.jc_classes.specs.Conditions.{may_stand, layout_above, visible_above, implemented_by, serves, holes, overrides, unserved, long_instances, conditions}
-use Rattle.jc_classes.specs.Tables.{methods_listed, record_from, class_tables, Links}
+use Rattle.jc_classes.specs.Tables.{methods_listed, record_from, class_tables, tables_of, Links}
 use Rattle.jc_classes.proofs.Climbs.{chain_step}
 use Rattle.jc_classes.proofs.Steps.{public_step, visible_step, cells_step}
 use Rattle.jc_classes.proofs.SameTypes.{same_signature-equal}
 use Rattle.jc_classes.proofs.Lines.{AreAlike, IsOutline, tables-alike, tables-classes, record_is, outline_at, on_chain-alike, class-alike}
-use Rattle.jc_classes.proofs.Agreed.{cells_short}
+use Rattle.jc_classes.proofs.Agreed.{cells_short, due-tells}
 use Rattle.jc_classes.proofs.Faultless.{AllStand, public_stand, visible_stand, IsListed, listed, listed_none, listed_all, signature_listed, Agrees, public_agrees, visible_agrees, AllServed, interfaces_met}
 
 -- ---- methods in dispatch lists
@@ -323,3 +325,8 @@ links t classes methods table e o are known lines empty = λ packages named_all.
       unserved = empty.1.1.0;
       long = empty.1.1.1.0;
     }))
+
+-- the table of an answer that is due is what a world needs of its classes
+pub due-links : (t : ClassTable) (classes : List NamedClass) (methods : List MethodRec) (r : Result ClassTable LinkEnd) → IsDue (tables_of t classes methods) r → t ≡ outline classes t.roles → AreClasses t → AreKnown t classes → HaveLines classes t → IfOk r (λ table. Links t classes methods table)
+due-links t classes methods (Ok table) due o are known lines = let told = due-tells t classes methods (Ok table) due in links t classes methods table told.0 o are known lines told.1
+due-links t classes methods (Err end) due o are known lines = tt

@@ -67,6 +67,57 @@ pub ruleset marking = (unmarked, marked_more, marked_all)
 
 -- ---- taking marks away
 
+-- what is marked stands on the part of the chain that is still to be climbed
+pub record AreLeft (t : ClassTable) (marks : List Bool) (above : Option ℕ) : Type 0 where
+  pub count : length marks ≡ length t.records
+  pub each : (d : ℕ) → d < length t.records → get_or marks d false ≡ true → list_any (λ x. x == d) (list_of (chain t) above) ≡ true
+  pub known : IfSome above (λ a. a < length t.records)
+
+pub left_first : (t : ClassTable) (c : ℕ) (marks : List Bool) → c < length t.records → marks ≡ map (λ d. is_on_chain t d c) (range_with_len 0 (length t.records)) → AreLeft t marks (Some c)
+unfolding is_on_chain
+left_first t c marks h e = record {
+  count = ap length e ∙ length-map-range_with_len (λ d. is_on_chain t d c) 0 (length t.records);
+  each = λ d k on. sym (ap (λ (ms : List Bool). get_or ms d false) e ∙ get_or-map-range_with_len (λ x. is_on_chain t x c) 0 (length t.records) d d false k (omega arith)) ∙ on;
+  known = h;
+}
+
+left_each : (t : ClassTable) (a : ℕ) (marks : List Bool) (next : Option ℕ) (d : ℕ) (b : Bool) → (a == d) ≡ b → a < length marks → chain t a ≡ a ∷ list_of (chain t) next
+    → (get_or marks d false ≡ true → list_any (λ x. x == d) (list_of (chain t) (Some a)) ≡ true)
+    → get_or (set marks a false) d false ≡ true → list_any (λ x. x == d) (list_of (chain t) next) ≡ true
+left_each t a marks next d true e h step before on =
+    let same : a ≡ d = eqb-true a d e in
+    let here : get_or (set marks a false) d false ≡ false = ap (λ (k : ℕ). get_or (set marks a false) k false) (sym same) ∙ get_or-set_same marks a false false h in
+    absurd (false≢true (sym here ∙ on))
+left_each t a marks next d false e h step before on =
+    let other : d ≢ a = λ same. false≢true (sym e ∙ eq-eqb a d (sym same)) in
+    let here : get_or (set marks a false) d false ≡ get_or marks d false = get_or-set_other marks a d false false other in
+    let there : list_any (λ x. x == d) (list_of (chain t) (Some a)) ≡ list_any (λ x. x == d) (list_of (chain t) next) = at_class t a d next step ∙ rw e refl in
+    sym there ∙ before (sym here ∙ on)
+
+pub left_less : (t : ClassTable) (a : ℕ) (marks : List Bool) (above next : Option ℕ) → above ≡ Some a → chain t a ≡ a ∷ list_of (chain t) next → IfSome next (λ p. p < length t.records) → AreLeft t marks above → AreLeft t (set marks a false) next
+left_less t a marks above next is step known are =
+    let low : a < length t.records = subst (λ (o : Option ℕ). IfSome o (λ p. p < length t.records)) is are.known in
+    record {
+      count = length-set marks a false ∙ are.count;
+      each = λ d k on. left_each t a marks next d (a == d) refl (omega (arith, are.count)) step
+          (subst (λ (o : Option ℕ). get_or marks d false ≡ true → list_any (λ x. x == d) (list_of (chain t) o) ≡ true) is (are.each d k)) on;
+      known = known;
+    }
+
+unmarked_by : (b : Bool) → (b ≡ true → false ≡ true) → b ≡ false
+unmarked_by true h = absurd (false≢true (h refl))
+unmarked_by false h = refl
+
+pub left_none : (t : ClassTable) (marks : List Bool) (above : Option ℕ) → above ≡ None → AreLeft t marks above → (k : ℕ) → k < length marks → get_or marks k false ≡ false
+left_none t marks above is are k lt =
+    let whole : AreLeft t marks None = subst (AreLeft t marks) is are in
+    let count = are.count in
+    unmarked_by (get_or marks k false) (λ on. whole.each k (omega arith) on)
+
+pub ruleset unmarking = (left_first, left_less, left_none)
+
+-- ---- taking all marks away
+
 pub cleared_more : (marks : List Bool) (i : ℕ) → i < length marks → ((k : ℕ) → k < i → get_or marks k false ≡ false) → (k : ℕ) → k < i + 1 → get_or (set marks i false) k false ≡ false
 cleared_more marks i h none k lt = elim (cases_lt k i) [
   | inl less ↦ let other : k ≢ i = λ e. omega (arith, e) in get_or-set_other marks i k false false other ∙ none k less

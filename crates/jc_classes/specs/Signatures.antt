@@ -1,5 +1,5 @@
 -- Signatures of methods compared: the types of the argument words and of the result (JCVM 2.2, section 6.13.4).
-use Rattle.std.specs.Prelude.{ℕ, ◌&&◌, Bool, true, false, List, [], ◌∷◌, Option, Some, None, option_map, option_and_then, slice_get}
+use Rattle.std.specs.Prelude.{◌≡◌, ℕ, ◌&&◌, ◌↔◌, Bool, true, false, IsTrue, List, [], ◌∷◌, Option, Some, None, option_map, option_and_then, slice_get}
 use Rattle.jc_base.specs.declared.ty.Ty.{Ty}
 use Rattle.jc_base.specs.declared.record.Sig.{Sig}
 use Rattle.jc_base.specs.declared.record.MethodRec.{MethodRec}
@@ -26,6 +26,10 @@ same_signature None None = true
 same_signature None (Some b) = false
 same_signature (Some a) None = false
 same_signature (Some a) (Some b) = same_sig a b
+
+-- that is: true exactly where the signatures are equal
+abbrev pub TellsSame : Type 0
+TellsSame = (a b : Option Sig) → IsTrue (same_signature a b) ↔ (a ≡ b)
 
 -- the method of an entry of a dispatch list, and its signature
 abbrev pub method_in : List MethodRec → Option ℕ → Option MethodRec

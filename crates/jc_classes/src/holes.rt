@@ -38,18 +38,33 @@ fn clear(marks: &mut [bool])
     }
 }
 
-/// Marks a class and its superclasses, and nothing else.
+/// Marks a class and its superclasses, where nothing is marked.
 #[tactic(auto, using(crate::proofs::Marks::marking))]
 fn mark(lineage: &Classes, c: u16, marks: &mut [bool])
     requires known { c < length lineage.now.records }
     requires room { length marks.now ≡ length lineage.now.records }
+    requires none { (k : ℕ) → k < length marks.now → slice_index_or marks.now k false ≡ false }
     ensures is { marks.new ≡ map (λ d. is_on_chain lineage.now d c) (range_with_len 0 (length lineage.now.records)) }
     ensures room { length marks.new ≡ length lineage.now.records }
 {
-    clear(marks);
     let mut above = Some(c);
     'climb: while let Some(a) = above {
         marks[a as usize] = true;
+        above = parent(lineage, a);
+    }
+}
+
+/// Takes the marks of a class and its superclasses away.
+#[tactic(auto, using(crate::proofs::Marks::unmarking))]
+fn unmark(lineage: &Classes, c: u16, marks: &mut [bool])
+    requires known { c < length lineage.now.records }
+    requires marked { marks.now ≡ map (λ d. is_on_chain lineage.now d c) (range_with_len 0 (length lineage.now.records)) }
+    ensures room { length marks.new ≡ length lineage.now.records }
+    ensures none { (k : ℕ) → k < length marks.new → slice_index_or marks.new k false ≡ false }
+{
+    let mut above = Some(c);
+    'climb: while let Some(a) = above {
+        marks[a as usize] = false;
         above = parent(lineage, a);
     }
 }
@@ -129,9 +144,11 @@ fn holes_of(
 ) -> Option<LinkFault>
     requires class { c < length lineage.now.records }
     requires room { length marks.now ≡ length lineage.now.records }
+    requires none { (k : ℕ) → k < length marks.now → slice_index_or marks.now k false ≡ false }
     requires known { All (λ m. m.class < length lineage.now.records) methods.now }
     requires few { IsShort layout.now }
     ensures room { length marks.new ≡ length lineage.now.records }
+    ensures none { (k : ℕ) → k < length marks.new → slice_index_or marks.new k false ≡ false }
     ensures is { result
         ≡ least_from place_of least
         (hole_fault lineage.now methods.now)
@@ -143,8 +160,10 @@ fn holes_of(
         class: c,
         marks: &*marks,
     };
-    let least = line.holes_in(methods, 0, layout.public.as_slice(), least);
-    line.holes_in(methods, 128, layout.visible.as_slice(), least)
+    let public = line.holes_in(methods, 0, layout.public.as_slice(), least);
+    let both = line.holes_in(methods, 128, layout.visible.as_slice(), public);
+    unmark(lineage, c, marks);
+    both
 }
 
 /// Each entry of each dispatch list has a method of the class or of one of its superclasses. `marks` is
@@ -167,6 +186,7 @@ pub(crate) fn no_holes(
         (hole_fault lineage.now methods.now)
         (flat_map (entries_in lineage.now classes.now) (class_numbers classes.now))) }
 {
+    clear(marks);
     let mut least = None;
     'classes: for c in 0..classes.len() {
         least = holes_of(lineage, methods, &all[c], c as u16, marks, least);

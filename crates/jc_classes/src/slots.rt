@@ -15,7 +15,7 @@ use std::alloc::{AllocError, Global};
 
 /// The classes from one upwards whose lists are not yet made, the lowest first, and the class above them.
 #[derive(Drop)]
-struct Climb {
+struct UnmadeClasses {
     path: Vec<u16>,
     above: Option<u16>,
 }
@@ -53,7 +53,7 @@ fn climb_from(
     lineage: &Classes,
     slots: &Vec<Option<Layout>>,
     c: u16,
-) -> Result<Climb, AllocError>
+) -> Result<UnmadeClasses, AllocError>
     requires known { c < length lineage.now.records }
     ensures { IfOk result (λ climb. IsClimb lineage.now slots.now.items c climb.path.items climb.above) }
 {
@@ -61,12 +61,12 @@ fn climb_from(
     let mut above = Some(c);
     'climb: while let Some(a) = above {
         if slot_at(slots, a).is_some() {
-            return Ok(Climb { path, above });
+            return Ok(UnmadeClasses { path, above });
         }
         path.push(a)?;
         above = parent(lineage, a);
     }
-    Ok(Climb { path, above: None })
+    Ok(UnmadeClasses { path, above: None })
 }
 
 /// Whether the superclass, where there is one, is of the package of a class.

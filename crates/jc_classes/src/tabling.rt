@@ -4,6 +4,7 @@ ghost use Rattle.jc_hierarchy.specs.Outline.{outline};
 ghost use Rattle.jc_hierarchy.specs.Lines.{HaveLines};
 ghost use Rattle.jc_classes.specs.Known.{AreInRange, AreKnown};
 ghost use Rattle.jc_classes.specs.Layout.{layouts};
+ghost use Rattle.jc_classes.specs.Signatures.{TellsSame};
 ghost use Rattle.jc_classes.specs.Groups.{AreGroups};
 ghost use Rattle.jc_classes.specs.Conditions.{long_instances};
 ghost use Rattle.jc_classes.specs.Tables.{class_tables, classes_agree, tables_of, Links, TellsEnd};
@@ -73,9 +74,36 @@ fn no_marks(alloc: Global, count: usize) -> Result<Vec<bool>, AllocError>
     Ok(marks)
 }
 
+/// The table of classes of which nothing is at fault.
+#[tactic(auto, using(crate::proofs::Agreed::telling), unfolding(crate::specs::Tables::tables_of))]
+fn tables_or_fault(
+    alloc: Global,
+    lineage: &Classes,
+    classes: &NamedClasses,
+    methods: &Methods,
+) -> Result<Classes, LinkEnd>
+    requires outline { lineage.now ≡ outline classes.now lineage.now.roles }
+    requires known { AreKnown lineage.now classes.now }
+    requires interfaces { AreInRange classes.now }
+    requires methods { All (λ m. m.class < length classes.now) methods.now }
+    ensures { IsDue (tables_of lineage.now classes.now methods.now) result }
+{
+    let all = layouts(alloc, lineage, classes)?;
+    let groups = groups(alloc, methods, classes.len())?;
+    let mut marks = no_marks(alloc, classes.len())?;
+    agree(
+        lineage,
+        classes,
+        methods,
+        all.as_slice(),
+        groups.as_slice(),
+        marks.as_mut_slice(),
+    )?;
+    Ok(build(alloc, lineage, classes, all.as_slice())?)
+}
+
 /// The dispatch lists, the cells and the interfaces of classes whose superclasses are known: their class
 /// table.
-#[tactic(auto, using(crate::proofs::Agreed::telling), unfolding(crate::specs::Tables::tables_of))]
 pub fn tables(
     alloc: Global,
     lineage: &Classes,
@@ -93,19 +121,10 @@ pub fn tables(
     ensures tells { TellsEnd lineage.now classes.now methods.now result }
     // What a world needs of its classes, where all that they name are numbers.
     ensures linked { IfOk result (λ table. Links lineage.now classes.now methods.now table) }
+    // Signatures are compared exactly.
+    ensures signatures { TellsSame }
 {
+    // Every chain of superclasses ends.
     let _ = lineage.records();
-    let all = layouts(alloc, lineage, classes)?;
-    let groups = groups(alloc, methods, classes.len())?;
-    let mut marks = no_marks(alloc, classes.len())?;
-    agree(
-        lineage,
-        classes,
-        methods,
-        all.as_slice(),
-        groups.as_slice(),
-        marks.as_mut_slice(),
-    )?;
-    let table = build(alloc, lineage, classes, all.as_slice())?;
-    Ok(table)
+    tables_or_fault(alloc, lineage, classes, methods)
 }

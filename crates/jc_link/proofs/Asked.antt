@@ -9,6 +9,8 @@ use Rattle.jc_base.specs.declared.record.StaticRec.{StaticRec}
 use Rattle.jc_base.specs.Class.{ClassTable}
 use Rattle.jc_base.specs.Linked.{IsMember}
 use Rattle.jc_resolve.specs.declared.fault.LinkFault.{LinkFault}
+use Rattle.jc_resolve.specs.declared.fault.LinkEnd.{LinkEnd}
+use Rattle.jc_resolve.specs.declared.fault.LinkEnd.TheVariants.{Fault, Memory}
 use Rattle.jc_resolve.specs.Fault.{place_of}
 use Rattle.jc_resolve.specs.Names.{NamesRecord}
 use Rattle.jc_resolve.specs.FirstFault.{least_of, refused, IsLeast, IsFirst, AllEmpty}
@@ -17,7 +19,8 @@ use Rattle.jc_statics.specs.Room.{statics_fault, arrays_fault}
 use Rattle.jc_members.specs.Pools.{pools, missing_members}
 use Rattle.jc_members.specs.Catches.{catch_fault, handler_places, bad_catches}
 use Rattle.jc_members.specs.Roles.{role_fault, thrown_roles, abstract_roles}
-use Rattle.jc_link.specs.World.{table_of, methods_of, statics_of, member_conditions}
+use Rattle.jc_link.specs.declared.linking.Resolved.{Resolved}
+use Rattle.jc_link.specs.World.{table_of, methods_of, statics_of, member_conditions, rest_conditions, TellsFirst}
 use Rattle.jc_link.specs.Known.{AreNamesOf, IsTableOf}
 use Rattle.jc_link.proofs.Steps.{methods-are}
 
@@ -47,34 +50,42 @@ module _ (ps : List PackageRecord) (roles : List ℕ) (qs : List PackageRecord) 
   pub catches_none : (x : Unit {0}) → Ok x ≡ refused (least_of place_of (catch_fault ps t) (handler_places ps)) → bad_catches ps t ≡ []
   catches_none x h = things-none place_of (catch_fault ps t) (handler_places ps) x h
 
+  catches_same : bad_catches ps t ≡ bad_catches ps (table_of ps roles)
+  catches_same = ap (λ (u : ClassTable). bad_catches ps u) a.table.is
+
+  roles_same : abstract_roles t methods ≡ abstract_roles (table_of ps roles) (methods_of ps roles)
+  roles_same = ap (λ (u : ClassTable). abstract_roles u methods) a.table.is ∙ ap (λ (ms : List MethodRec). abstract_roles (table_of ps roles) ms) a.methods_are
+
+  -- ---- handlers, initial arrays and roles
+
+  pub catches_first : (f : LinkFault) → Err f ≡ refused (least_of place_of (catch_fault ps t) (handler_places ps)) → IsFirst place_of (rest_conditions ps roles) f
+  catches_first f h = inl (subst (λ (fs : List LinkFault). IsLeast place_of fs f) catches_same (things-refused place_of (catch_fault ps t) (handler_places ps) f h))
+
+  pub arrays_first : (f : LinkFault) → bad_catches ps t ≡ [] → Err f ≡ refused (arrays_fault qs) → IsFirst place_of (rest_conditions ps roles) f
+  arrays_first f caught h = inr (sym catches_same ∙ caught, inl (one-refused place_of (arrays_fault ps) f (h ∙ ap (λ (xs : List PackageRecord). refused (arrays_fault xs)) a.packages)))
+
+  pub roles_first : (f : LinkFault) → bad_catches ps t ≡ [] → option_to_list (arrays_fault ps) ≡ [] → Err f ≡ refused (least_of place_of (role_fault t methods) thrown_roles) → IsFirst place_of (rest_conditions ps roles) f
+  roles_first f caught arrays h =
+      inr (sym catches_same ∙ caught, inr (arrays, inl (subst (λ (fs : List LinkFault). IsLeast place_of fs f) roles_same (things-refused place_of (role_fault t methods) thrown_roles f h))))
+
+  pub rest_empty : (x : Unit {0}) → bad_catches ps t ≡ [] → option_to_list (arrays_fault ps) ≡ [] → Ok x ≡ refused (least_of place_of (role_fault t methods) thrown_roles) → AllEmpty (rest_conditions ps roles)
+  rest_empty x caught arrays h = (sym catches_same ∙ caught, (arrays, (sym roles_same ∙ things-none place_of (role_fault t methods) thrown_roles x h, tt {0})))
+
+  -- ---- static fields and pools before them
+
   module _ (statics : List StaticRec) (s : statics ≡ statics_of ps roles) where
     missing_same : missing_members ps t statics ≡ missing_members ps (table_of ps roles) (statics_of ps roles)
     missing_same = ap (λ (u : ClassTable). missing_members ps u statics) a.table.is ∙ ap (λ (xs : List StaticRec). missing_members ps (table_of ps roles) xs) s
 
-    catches_same : bad_catches ps t ≡ bad_catches ps (table_of ps roles)
-    catches_same = ap (λ (u : ClassTable). bad_catches ps u) a.table.is
-
-    roles_same : abstract_roles t methods ≡ abstract_roles (table_of ps roles) (methods_of ps roles)
-    roles_same = ap (λ (u : ClassTable). abstract_roles u methods) a.table.is ∙ ap (λ (ms : List MethodRec). abstract_roles (table_of ps roles) ms) a.methods_are
-
     pub members_first : (f : LinkFault) → HasStatics → IsLeast place_of (missing_members ps t statics) f → IsFirst place_of (member_conditions ps roles) f
     members_first f none h = inr (none, inl (subst (λ (fs : List LinkFault). IsLeast place_of fs f) missing_same h))
 
-    pub catches_first : (f : LinkFault) → HasStatics → missing_members ps t statics ≡ [] → Err f ≡ refused (least_of place_of (catch_fault ps t) (handler_places ps)) → IsFirst place_of (member_conditions ps roles) f
-    catches_first f none members h =
-        inr (none, inr (sym missing_same ∙ members, inl (subst (λ (fs : List LinkFault). IsLeast place_of fs f) catches_same (things-refused place_of (catch_fault ps t) (handler_places ps) f h))))
+    pub rest_told : (end : LinkEnd) → HasStatics → missing_members ps t statics ≡ [] → TellsFirst {A = Unit {0}} (rest_conditions ps roles) (Err end) → TellsFirst {A = Resolved} (member_conditions ps roles) (Err end)
+    rest_told (Fault f) none members h = inr (none, inr (sym missing_same ∙ members, h))
+    rest_told Memory none members h = tt {0}
 
-    pub arrays_first : (f : LinkFault) → HasStatics → missing_members ps t statics ≡ [] → bad_catches ps t ≡ [] → Err f ≡ refused (arrays_fault qs) → IsFirst place_of (member_conditions ps roles) f
-    arrays_first f none members caught h =
-        inr (none, inr (sym missing_same ∙ members, inr (sym catches_same ∙ caught, inl (one-refused place_of (arrays_fault ps) f (h ∙ ap (λ (xs : List PackageRecord). refused (arrays_fault xs)) a.packages)))))
-
-    pub roles_first : (f : LinkFault) → HasStatics → missing_members ps t statics ≡ [] → bad_catches ps t ≡ [] → option_to_list (arrays_fault ps) ≡ [] → Err f ≡ refused (least_of place_of (role_fault t methods) thrown_roles) → IsFirst place_of (member_conditions ps roles) f
-    roles_first f none members caught arrays h =
-        inr (none, inr (sym missing_same ∙ members, inr (sym catches_same ∙ caught, inr (arrays, inl (subst (λ (fs : List LinkFault). IsLeast place_of fs f) roles_same (things-refused place_of (role_fault t methods) thrown_roles f h))))))
-
-    pub members_empty : (x : Unit {0}) → HasStatics → missing_members ps t statics ≡ [] → bad_catches ps t ≡ [] → option_to_list (arrays_fault ps) ≡ [] → Ok x ≡ refused (least_of place_of (role_fault t methods) thrown_roles) → AllEmpty (member_conditions ps roles)
-    members_empty x none members caught arrays h =
-        (none, (sym missing_same ∙ members, (sym catches_same ∙ caught, (arrays, (sym roles_same ∙ things-none place_of (role_fault t methods) thrown_roles x h, tt {0})))))
+    pub members_empty : HasStatics → missing_members ps t statics ≡ [] → AllEmpty (rest_conditions ps roles) → AllEmpty (member_conditions ps roles)
+    members_empty none members rest = (none, (sym missing_same ∙ members, rest))
 
     -- ---- what is found
 

@@ -1,7 +1,6 @@
 pub mod Tables
 pub mod Steps
 pub mod Asked
-pub mod Faultless
 pub mod Handlers
 pub mod Methods
 pub mod Fields

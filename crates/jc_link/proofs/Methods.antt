@@ -22,7 +22,7 @@ use Rattle.jc_members.specs.Pools.{pools, missing_members}
 use Rattle.jc_members.specs.Catches.{bad_catches}
 use Rattle.jc_link.specs.World.{classes_of, table_of, methods_of, statics_of}
 use Rattle.jc_link.specs.Known.{IsTableOf}
-use Rattle.jc_link.proofs.Faultless.{pools-at, IsCatching, handlers-at}
+use Rattle.jc_members.proofs.Faultless.{pools-at, IsCatching, handlers-at}
 use Rattle.jc_link.proofs.Handlers.{CatchesThrown, body-throws}
 use Rattle.jc_link.proofs.Tables.{counted, interface_same, table-chains, role-class, declared}
 

@@ -29,6 +29,7 @@ use Rattle.jc_classes.specs.Tables.{class_tables, Links, TellsEnd}
 use Rattle.jc_members.specs.Fields.{HasCellsOf}
 use Rattle.jc_link.specs.World.{classes_of, lineage_of, table_of, methods_of, first_classes, class_conditions, table_conditions, member_conditions, conditions, TellsFirst, TableTells, LinkTells}
 use Rattle.jc_link.specs.declared.linking.Resolved.{Resolved}
+use Rattle.jc_link.specs.declared.tabling.Tabled.{Tabled}
 use Rattle.jc_link.specs.Known.{AreNamesOf, IsTableOf}
 use Rattle.jc_link.proofs.Tables.{sized, in_range, methods_in, linked-more, has-cells, counted, role-class}
 
@@ -217,15 +218,19 @@ module _ (ps : List PackageRecord) (roles : List ℕ) where
 -- ---- what each step tells of the whole
 
 module _ (ps : List PackageRecord) (roles : List ℕ) where
-  pub names_tell : (end : LinkEnd) → TellsFirst {A = NamesRecord} (names.conditions ps) (Err end) → TableTells ps roles (Err end)
+  pub names_tell : (end : LinkEnd) → TellsFirst {A = NamesRecord} (names.conditions ps) (Err end) → TellsFirst {A = Tabled} (table_conditions ps roles) (Err end)
   names_tell (Fault f) h = names_table ps roles f h
   names_tell Memory h = tt {0}
 
-  pub classes_tell : (end : LinkEnd) → AllEmpty (names.conditions ps) → TellsFirst {A = ClassTable} (class_conditions ps roles) (Err end) → TableTells ps roles (Err end)
+  pub classes_tell : (end : LinkEnd) → AllEmpty (names.conditions ps) → TellsFirst {A = ClassTable} (class_conditions ps roles) (Err end) → TellsFirst {A = Tabled} (table_conditions ps roles) (Err end)
   classes_tell (Fault f) none h = classes_table ps roles f none h
   classes_tell Memory none h = tt {0}
 
-  pub table_tells : (end : LinkEnd) → TableTells ps roles (Err end) → LinkTells ps roles (Err end)
+  pub table_told : (end : LinkEnd) → TellsFirst {A = Tabled} (table_conditions ps roles) (Err end) → TableTells ps roles (Err end)
+  table_told (Fault f) h = h
+  table_told Memory h = tt {0}
+
+  pub table_tells : (end : LinkEnd) → TellsFirst {A = Tabled} (table_conditions ps roles) (Err end) → LinkTells ps roles (Err end)
   table_tells (Fault f) h = table_all ps roles f h
   table_tells Memory h = tt {0}
 

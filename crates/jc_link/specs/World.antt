@@ -79,6 +79,17 @@ table_conditions ps roles =
     names.conditions ps
     ++ class_conditions ps roles
 
+-- those on handlers, initial arrays and roles
+abbrev pub rest_conditions : List PackageRecord → List ℕ → List (List LinkFault)
+rest_conditions ps roles =
+    -- handlers that catch no class below throwable
+    bad_catches ps (table_of ps roles)
+    -- initial arrays
+    ∷ option_to_list (arrays_fault ps)
+    -- roles whose class is abstract
+    ∷ abstract_roles (table_of ps roles) (methods_of ps roles)
+    ∷ []
+
 -- those on what stands on the classes
 abbrev pub member_conditions : List PackageRecord → List ℕ → List (List LinkFault)
 member_conditions ps roles =
@@ -86,13 +97,7 @@ member_conditions ps roles =
     option_to_list (statics_fault ps)
     -- pool entries that have not exactly one member
     ∷ missing_members ps (table_of ps roles) (statics_of ps roles)
-    -- handlers that catch no class below throwable
-    ∷ bad_catches ps (table_of ps roles)
-    -- initial arrays
-    ∷ option_to_list (arrays_fault ps)
-    -- roles whose class is abstract
-    ∷ abstract_roles (table_of ps roles) (methods_of ps roles)
-    ∷ []
+    ∷ rest_conditions ps roles
 
 abbrev pub conditions : List PackageRecord → List ℕ → List (List LinkFault)
 conditions ps roles = table_conditions ps roles ++ member_conditions ps roles

@@ -1,10 +1,11 @@
-ghost use Rattle.std.specs.Prelude.{IfOk};
-ghost use Rattle.jc_link.specs.World.{TellsFirst, LinkTells, member_conditions};
+ghost use Rattle.std.specs.Prelude.{◌≤◌, length, IfOk, OnOk};
+ghost use Rattle.jc_resolve.specs.FirstFault.{AllEmpty};
+ghost use Rattle.jc_statics.specs.Arrays.{array_records, cells_of};
+ghost use Rattle.jc_link.specs.World.{TellsFirst, LinkTells, table_conditions, member_conditions, rest_conditions};
 ghost use Rattle.jc_link.specs.Known.{AreNamesOf, IsTableOf, AreResolved};
 
 use crate::method_infos::infos;
-use crate::naming::named;
-use crate::tabling::table;
+use crate::tabling::{Tabled, with_table};
 use cap_package::Packages;
 use jc_base::{Classes, Pools, Statics, World};
 use jc_members::{handlers_fit, members, roles_fit};
@@ -19,6 +20,21 @@ struct Resolved {
     pools: Pools,
 }
 
+/// Handlers, initial arrays and roles are as a world needs them.
+fn rest_fits(names: &Names<'_, '_, '_>, classes: &Classes) -> Result<(), LinkEnd>
+    requires names { AreNamesOf names.now.packages names.now.roles names.now }
+    requires table { IsTableOf names.now.packages names.now.roles classes.now }
+    ensures first { TellsFirst (rest_conditions names.now.packages names.now.roles) result }
+    ensures arrays { OnOk result (length (array_records names.now.packages) ≤ 4096) }
+    ensures cells { OnOk result (cells_of (array_records names.now.packages) ≤ 32768) }
+{
+    let packages = names.packages();
+    handlers_fit(names, classes)?;
+    arrays_fit(packages)?;
+    roles_fit(classes, names.methods())?;
+    Ok(())
+}
+
 /// The static fields of packages, and what their pool entries name.
 fn resolve(alloc: Global, names: &Names<'_, '_, '_>, classes: &Classes) -> Result<Resolved, LinkEnd>
     requires names { AreNamesOf names.now.packages names.now.roles names.now }
@@ -26,14 +42,41 @@ fn resolve(alloc: Global, names: &Names<'_, '_, '_>, classes: &Classes) -> Resul
     ensures first { TellsFirst (member_conditions names.now.packages names.now.roles) result }
     ensures known { IfOk result (AreResolved names.now.packages names.now.roles) }
 {
+    // There are not more methods than a world has.
+    let _methods = names.methods();
     let packages = names.packages();
     statics_fit(packages)?;
     let statics = statics(alloc, names)?;
     let pools = members(alloc, names, classes, &statics)?;
-    handlers_fit(names, classes)?;
-    arrays_fit(packages)?;
-    roles_fit(classes, names.methods())?;
+    rest_fits(names, classes)?;
     Ok(Resolved { statics, pools })
+}
+
+/// The world of packages by number, of which nothing is at fault.
+fn made<'a>(
+    alloc: Global,
+    tabled: Tabled<'_, '_, 'a>,
+    resolved: Resolved,
+) -> Result<World<'a>, LinkEnd>
+    requires names { AreNamesOf tabled.names.packages tabled.names.roles tabled.names }
+    requires table { IsTableOf tabled.names.packages tabled.names.roles tabled.classes }
+    requires resolved { AreResolved tabled.names.packages tabled.names.roles resolved }
+    requires classes { AllEmpty (table_conditions tabled.names.packages tabled.names.roles) }
+    requires members { AllEmpty (member_conditions tabled.names.packages tabled.names.roles) }
+    ensures { LinkTells tabled.entry.names.packages tabled.entry.names.roles result }
+{
+    let packages = tabled.names.packages();
+    let arrays = arrays(alloc, packages)?;
+    let infos = infos(alloc, packages)?;
+    let methods = tabled.names.into_methods();
+    Ok(World::of(
+        infos,
+        resolved.pools,
+        tabled.classes,
+        methods,
+        resolved.statics,
+        arrays,
+    ))
 }
 
 /// The world of packages and the roles of classes, or the first condition that is broken.
@@ -46,18 +89,7 @@ pub fn link<'a>(
     // least thing.
     ensures tells { LinkTells packages.now roles result }
 {
-    let names = named(alloc, packages, roles)?;
-    let classes = table(alloc, packages, &names, roles)?;
-    let resolved = resolve(alloc, &names, &classes)?;
-    let arrays = arrays(alloc, packages)?;
-    let infos = infos(alloc, packages)?;
-    let methods = names.into_methods();
-    Ok(World::of(
-        infos,
-        resolved.pools,
-        classes,
-        methods,
-        resolved.statics,
-        arrays,
-    ))
+    let tabled = with_table(alloc, packages, roles)?;
+    let resolved = resolve(alloc, &tabled.names, &tabled.classes)?;
+    made(alloc, tabled, resolved)
 }

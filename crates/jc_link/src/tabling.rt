@@ -1,5 +1,5 @@
 ghost use Rattle.std.specs.Prelude.{IfOk};
-ghost use Rattle.jc_link.specs.World.{TellsFirst, TableTells, class_conditions};
+ghost use Rattle.jc_link.specs.World.{TellsFirst, TableTells, class_conditions, table_conditions};
 ghost use Rattle.jc_link.specs.Known.{AreNamesOf, IsTableOf};
 
 use crate::naming::{first_classes, named};
@@ -30,6 +30,28 @@ pub(crate) fn table(
     Ok(table)
 }
 
+/// Packages by number, with the table of their classes.
+#[derive(Drop)]
+pub(crate) struct Tabled<'n, 'p, 'a> {
+    pub(crate) names: Names<'n, 'p, 'a>,
+    pub(crate) classes: Classes,
+}
+
+/// The packages by number with the table of their classes.
+pub(crate) fn with_table<'n, 'p, 'a>(
+    alloc: Global,
+    packages: &'n Packages<'p, 'a>,
+    roles: [u8; 8],
+) -> Result<Tabled<'n, 'p, 'a>, LinkEnd>
+    ensures first { TellsFirst (table_conditions packages.now roles) result }
+    ensures names { IfOk result (λ x. AreNamesOf packages.now roles x.names) }
+    ensures table { IfOk result (λ x. IsTableOf packages.now roles x.classes) }
+{
+    let names = named(alloc, packages, roles)?;
+    let classes = table(alloc, packages, &names, roles)?;
+    Ok(Tabled { names, classes })
+}
+
 /// The classes and interfaces of all packages with their dispatch lists and their cells, where class object
 /// and the classes that the machine throws have roles: numbers of classes of the first package.
 pub fn class_table(
@@ -41,7 +63,6 @@ pub fn class_table(
     // broken, at its least thing.
     ensures tells { TableTells packages.now roles result }
 {
-    let names = named(alloc, packages, roles)?;
-    let table = table(alloc, packages, &names, roles)?;
-    Ok(table)
+    let tabled = with_table(alloc, packages, roles)?;
+    Ok(tabled.classes)
 }

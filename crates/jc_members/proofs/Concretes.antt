@@ -71,9 +71,9 @@ module _ (t : ClassTable) (methods : List MethodRec) (c : ℕ) where
         visible = visible-from second.1;
       }
 
-  to : IsConcrete t methods c → is_concrete t methods c ≡ true
+  pub concrete-to : IsConcrete t methods c → is_concrete t methods c ≡ true
   unfolding is_concrete
-  to k = rw (k.class.class, bodies-to (public_of t c) k.public, visible-to k.visible) refl
+  concrete-to k = rw (k.class.class, bodies-to (public_of t c) k.public, visible-to k.visible) refl
 
 same-tests : (b s : Bool) → (b ≡ true → s ≡ true) → (s ≡ true → b ≡ true) → b ≡ s
 same-tests true s f g = sym (f refl)
@@ -81,4 +81,4 @@ same-tests false true f g = g refl
 same-tests false false f g = refl
 
 pub concrete_told : (t : ClassTable) (methods : List MethodRec) (c : ℕ) (b : Bool) → c < length t.records → IsTrue b ↔ IsConcrete t methods c → b ≡ is_concrete t methods c
-concrete_told t methods c b known h = same-tests b (is_concrete t methods c) (λ e. to t methods c (h.0 e)) (λ e. h.1 (concrete-from t methods c known e))
+concrete_told t methods c b known h = same-tests b (is_concrete t methods c) (λ e. concrete-to t methods c (h.0 e)) (λ e. h.1 (concrete-from t methods c known e))

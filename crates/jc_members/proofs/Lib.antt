@@ -6,9 +6,14 @@ pub mod Counted
 pub mod Told
 pub mod Behind
 pub mod Concretes
+pub mod RoleLaws
 pub mod TokenCells
 pub mod OwnCells
 pub mod NumberedFields
 pub mod OwnRecords
 pub mod FieldsLinked
 pub mod MembersLinked
+pub mod Faultless
+pub mod NamingLaws
+pub mod PoolTags
+pub mod EachNamed

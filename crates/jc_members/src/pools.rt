@@ -10,6 +10,7 @@ ghost use Rattle.jc_resolve.specs.FirstFault.{least_from, least_of};
 ghost use Rattle.jc_members.specs.Fields.{HasCellsOf, field_sites};
 ghost use Rattle.jc_members.specs.Sites.{all_entered};
 ghost use Rattle.jc_members.specs.Members.{static_sites, member_of};
+ghost use Rattle.jc_members.specs.Naming.{NamesEach};
 ghost use Rattle.jc_members.specs.Pools.{places_from, pool_places, member_fault, pools, pools_of, Tells};
 
 use crate::entries::{
@@ -214,10 +215,14 @@ pub fn members(
     ensures value { IsDue (pools_of names.now.packages classes.now statics.now) result }
     // The pools exactly where each entry has one member; else the least entry that has not.
     ensures tells { Tells names.now.packages classes.now statics.now result }
+    // Each entry names one member, which the pools have; the entry that is told names none.
+    ensures names { NamesEach names.now.packages classes.now statics.now result }
     // What is named is there.
     ensures linked { IfOk result (λ pools. All (All (IsMember classes.now names.now.methods statics.now)) pools) }
     ensures each { IfOk result (λ pools. length pools ≡ length names.now.packages) }
     ensures few { IfOk result (λ pools. All (λ pool. length pool ≤ 65535) pools) }
 {
+    // The parts of the packages stand for them.
+    let _packages = names.packages();
     pools_of(alloc, names, classes, statics)
 }

@@ -2,7 +2,7 @@ ghost use Rattle.std.specs.Prelude.{◌≡◌, ◌<◌, ℕ, length, slice_index
 ghost use Rattle.jc_base.specs.Linked.{AreLinkedClasses};
 ghost use Rattle.jc_resolve.specs.Fault.{place_of};
 ghost use Rattle.jc_resolve.specs.FirstFault.{least_of, refused};
-ghost use Rattle.jc_members.specs.Roles.{is_concrete, role_fault, thrown_roles};
+ghost use Rattle.jc_members.specs.Roles.{Tells, is_concrete, role_fault, thrown_roles};
 
 use jc_base::{Classes, Methods};
 use jc_resolve::{LinkFault, lesser, refuse};
@@ -41,16 +41,27 @@ fn role_fault(classes: &Classes, methods: &Methods, role: u8) -> Option<LinkFaul
     }
 }
 
-/// The classes that the machine throws are concrete.
-pub fn roles_fit(classes: &Classes, methods: &Methods) -> Result<(), LinkFault>
+/// The first of the roles from 2 on whose class is not concrete.
+fn least_abstract(classes: &Classes, methods: &Methods) -> Option<LinkFault>
     requires known { (k : ℕ) → k < 8 → slice_index classes.now.roles k < length classes.now.records }
     requires links { AreLinkedClasses 16 classes.now methods.now }
-    ensures { result ≡ refused (least_of place_of (role_fault classes.now methods.now) thrown_roles) }
+    ensures { result ≡ least_of place_of (role_fault classes.now methods.now) thrown_roles }
 {
     let least = lesser(None, role_fault(classes, methods, 2));
     let least = lesser(least, role_fault(classes, methods, 3));
     let least = lesser(least, role_fault(classes, methods, 4));
     let least = lesser(least, role_fault(classes, methods, 5));
     let least = lesser(least, role_fault(classes, methods, 6));
-    refuse(lesser(least, role_fault(classes, methods, 7)))
+    lesser(least, role_fault(classes, methods, 7))
+}
+
+/// The classes that the machine throws are concrete.
+pub fn roles_fit(classes: &Classes, methods: &Methods) -> Result<(), LinkFault>
+    requires known { (k : ℕ) → k < 8 → slice_index classes.now.roles k < length classes.now.records }
+    requires links { AreLinkedClasses 16 classes.now methods.now }
+    ensures is { result ≡ refused (least_of place_of (role_fault classes.now methods.now) thrown_roles) }
+    // Each of them is concrete; or the first role is named whose class is not.
+    ensures tells { Tells classes.now methods.now result }
+{
+    refuse(least_abstract(classes, methods))
 }

@@ -24,3 +24,6 @@ pub mod Repeats
 pub mod DescribedFields
 pub mod FieldCounts
 pub mod NamedTold
+pub mod Pairwise
+pub mod ClassPlaces
+pub mod MethodPlaces

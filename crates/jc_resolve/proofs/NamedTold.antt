@@ -15,6 +15,8 @@ use Rattle.jc_resolve.specs.Names.{NamesRecord, named, checked, names_of}
 use Rattle.jc_resolve.proofs.ClassFacts.{classes-named}
 use Rattle.jc_resolve.proofs.NamedMethodLaws.{methods-named}
 use Rattle.jc_resolve.proofs.NamesTold.{names_told}
+use Rattle.jc_resolve.specs.OwnPlaces.{HaveOwnPlaces}
+use Rattle.jc_resolve.proofs.MethodPlaces.{own_places}
 use Rattle.jc_resolve.proofs.Totals.{named_methods_many}
 
 infos_many : (ps : List PackageRecord) → length (infos_of ps) ≡ length ps
@@ -48,3 +50,8 @@ answer_right ps roles (Ok n) h sized agreed few =
     subst (λ (m : NamesRecord). AreNamed (infos_of ps) (slice_index roles 0) m.classes m.methods) e
     (names_right ps roles agreed few (names_told ps roles (Ok n) h) (subst (λ (m : NamesRecord). All IsSized m.classes) (sym e) sized))
 answer_right ps roles (Err e) h sized agreed few = tt
+
+-- and have places and numbers of their own
+pub answer_apart : (ps : List PackageRecord) (roles : List ℕ) (answer : Result NamesRecord LinkEnd) → IsDue (names_of ps roles) answer → IfOk answer (λ n. All IsAgreed ps) → IfOk answer (λ n. HaveOwnPlaces ps n.methods)
+answer_apart ps roles (Ok n) h agreed = subst (λ (m : NamesRecord). HaveOwnPlaces ps m.methods) (answer_named ps roles n h) (own_places ps roles agreed)
+answer_apart ps roles (Err e) h agreed = tt

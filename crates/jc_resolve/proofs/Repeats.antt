@@ -15,7 +15,7 @@ use Rattle.cap_bytes.proofs.Laws.{read-spells}
 abbrev pub OfEach : {X : Type 0} → (X → Type 0) → Grammar X → Type 0
 OfEach {X = X} P g = (bytes : List ℕ) (at : ℕ) (x : X) (after : ℕ) → Spells g bytes at x after → P x
 
-spelled_all : {X : Type 0} (P : X → Type 0) (g : Grammar X) → OfEach P g → (n : ℕ) (bytes : List ℕ) (at : ℕ) (xs : List X) (after : ℕ) → Spells (repeat n g) bytes at xs after → All P xs
+pub spelled_all : {X : Type 0} (P : X → Type 0) (g : Grammar X) → OfEach P g → (n : ℕ) (bytes : List ℕ) (at : ℕ) (xs : List X) (after : ℕ) → Spells (repeat n g) bytes at xs after → All P xs
 unfolding Spells
 spelled_all P g each zero bytes at xs after h = subst (λ ys. All P ys) (sym h.0) (All-nil P)
 spelled_all P g each (suc n) bytes at xs after h =

@@ -11,3 +11,4 @@ pub mod Counts
 pub mod Numbers
 pub mod Conditions
 pub mod Names
+pub mod OwnPlaces

@@ -1,5 +1,5 @@
 -- The names of packages: their classes and methods by number, or the first condition that is broken.
-use Rattle.std.specs.Prelude.{◌≡◌, ℕ, List, Result, Ok, Err, slice_index, ⊤}
+use Rattle.std.specs.Prelude.{◌≡◌, ℕ, List, Result, Ok, Err, slice_index, All, ⊤}
 use Rattle.cap_package.specs.PackageRecord.{PackageRecord}
 use Rattle.jc_base.specs.declared.record.MethodRec.{MethodRec}
 use Rattle.jc_resolve.specs.declared.fault.LinkFault.{LinkFault}
@@ -7,6 +7,7 @@ use Rattle.jc_resolve.specs.declared.fault.LinkEnd.{LinkEnd}
 use Rattle.jc_resolve.specs.declared.fault.LinkEnd.TheVariants.{Fault, Memory}
 use Rattle.jc_resolve.specs.declared.named.NamedClass.{NamedClass}
 use Rattle.jc_resolve.specs.Fault.{place_of}
+use Rattle.jc_resolve.specs.Named.{IsAgreed}
 use Rattle.jc_resolve.specs.FirstFault.{◌>>=◌, refused, least_of, IsFirst, AllEmpty}
 use Rattle.jc_resolve.specs.NamedClasses.{named_classes}
 use Rattle.jc_resolve.specs.NamedMethods.{named_methods}
@@ -27,6 +28,8 @@ named ps roles = record { packages = ps; roles = roles; classes = named_classes 
 pub record AreNames (n : NamesRecord) : Type 0 where
   pub classes_are : n.classes ≡ named_classes n.packages (slice_index n.roles 0)
   pub methods_are : n.methods ≡ named_methods n.packages n.roles
+  -- the parts of each package stand for it
+  pub agreed : All IsAgreed n.packages
 
 -- the conditions one after the other
 unfoldable pub checked : List PackageRecord → Result (Unit {0}) LinkFault

@@ -1,4 +1,5 @@
-ghost use Rattle.std.specs.Prelude.{◌≡◌, ℕ, ◌<◌, ◌≤◌, ◌↔◌, length, slice_index, Some, IfSome};
+ghost use Rattle.std.specs.Prelude.{◌≡◌, ℕ, ◌<◌, ◌≤◌, ◌↔◌, length, slice_index, Some, IfSome, All};
+ghost use Rattle.jc_resolve.specs.Named.{IsAgreed};
 ghost use Rattle.jc_resolve.specs.NamedClasses.{named_classes};
 ghost use Rattle.jc_resolve.specs.NamedMethods.{named_methods};
 ghost use Rattle.jc_resolve.specs.Numbering.{numbered_classes, numbered_methods, method_at};
@@ -41,6 +42,8 @@ impl<'n, 'p, 'a> Names<'n, 'p, 'a> {
     pub fn packages(&self) -> &'n Packages<'p, 'a>
         ensures is { result.now ≡ self.now.packages }
         ensures few { length result.now ≤ 16 }
+        // The parts of each stand for it.
+        ensures agreed { All IsAgreed result.now }
     {
         self.index.packages()
     }

@@ -1,6 +1,7 @@
 ghost use Rattle.std.specs.Prelude.{All, IfOk, slice_index};
 ghost use Rattle.jc_resolve.specs.Named.{AreNamed, IsAgreed, IsSized, infos_of};
 ghost use Rattle.jc_resolve.specs.NamedMethods.{HasFewHandlers};
+ghost use Rattle.jc_resolve.specs.OwnPlaces.{HaveOwnPlaces};
 ghost use Rattle.jc_resolve.specs.Due.{IsDue};
 ghost use Rattle.jc_resolve.specs.Names.{Checks, Tells, names_of};
 
@@ -69,6 +70,8 @@ pub fn names<'n, 'p, 'a>(
     ensures tells { Tells packages.now result }
     // Everything that they name is a class or a method of theirs, and is as large as its component can tell.
     ensures named { IfOk result (λ n. AreNamed (infos_of packages.now) (slice_index roles 0) n.classes n.methods) }
+    // No two classes, and no two methods of a package, have one place or the same numbers.
+    ensures own { IfOk result (λ n. HaveOwnPlaces packages.now n.methods) }
 {
     names_or_fault(alloc, packages, roles)
 }

@@ -1,4 +1,4 @@
-ghost use Rattle.std.specs.Prelude.{◌≡◌, ◌+◌, ◌≤◌, ◌++◌, length, map, slice_index, sum_by, All, IfOk};
+ghost use Rattle.std.specs.Prelude.{◌≡◌, ◌+◌, ◌≤◌, ◌∷◌, ◌++◌, [], length, map, slice_index, sum_by, All, IfOk, OnOk};
 ghost use Rattle.jc_base.specs.Class.{ClassTable};
 ghost use Rattle.jc_base.specs.Cell.{IsDeclared, width};
 ghost use Rattle.jc_base.specs.Linked.{AreSlots, IsStatic};
@@ -19,7 +19,7 @@ use std::alloc::{AllocError, Global};
 
 /// A package among all: its number, and the handle of its first initial array.
 #[derive(Clone, Copy)]
-struct Home {
+struct NumberedPackage {
     package: u16,
     first: u32,
 }
@@ -27,7 +27,7 @@ struct Home {
 /// The static field at a place, whose first cell is the slot.
 fn static_record(
     alloc: Global,
-    home: Home,
+    home: NumberedPackage,
     slot: u16,
     statics: &StaticPart<'_>,
     place: StaticPlace,
@@ -46,12 +46,31 @@ fn static_record(
     })
 }
 
+/// Appends the static field at a place, whose first cell is the slot.
+fn push_static(
+    alloc: Global,
+    records: &mut Vec<StaticRec>,
+    home: NumberedPackage,
+    slot: u16,
+    statics: &StaticPart<'_>,
+    place: StaticPlace,
+    ty: Ty,
+) -> Result<(), AllocError>
+    ensures { OnOk result
+        (records.new.items
+        ≡ records.old.items ++ static_record slot (site home.«package» home.first (statics_seen statics.now) (place_seen place)) ty ∷ []) }
+{
+    let record = static_record(alloc, home, slot, statics, place, ty)?;
+    records.push(record)?;
+    Ok(())
+}
+
 /// Appends the static fields of a package, whose cells begin at a slot, and gives the slot after them.
 fn push_statics(
     alloc: Global,
     records: &mut Vec<StaticRec>,
     package: &Package<'_, '_>,
-    home: Home,
+    home: NumberedPackage,
     slot: u32,
     names: &Names<'_, '_, '_>,
 ) -> Result<u32, AllocError>
@@ -67,7 +86,7 @@ fn push_statics(
     let mut slot = slot;
     'places: for place in package.static_places() {
         let ty = names.type_of(home.package, place.ty);
-        records.push(static_record(alloc, home, slot as u16, &statics, place, ty)?)?;
+        push_static(alloc, records, home, slot as u16, &statics, place, ty)?;
         slot += width(kind_of(place.ty));
     }
     Ok(slot)
@@ -89,7 +108,7 @@ fn all_statics(
     let mut slot: u32 = 0;
     'packages: for n in 0..packages.len() {
         let package = packages.at(n);
-        let home = Home {
+        let home = NumberedPackage {
             package: n as u16,
             first,
         };

@@ -2,7 +2,7 @@ ghost use Rattle.jc_tests.specs.TwoPackages.{HasSampleSizes};
 
 use crate::compared::{is_known, is_same};
 use crate::two_packages::{table, world};
-use jc_base::{Classes, Member, Ty, below, join};
+use jc_base::{Classes, Member, Ty, World, below, join};
 use std::alloc::{AllocError, Global};
 use std::test::*;
 

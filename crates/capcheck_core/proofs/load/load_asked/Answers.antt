@@ -1,6 +1,5 @@
 -- the part that was read is the one that is added
 use Rattle.std.specs.Prelude.{Some}
-use Rattle.capcheck_core.specs.Outside.{folders}
 use Rattle.capcheck_core.proofs.Loads.{has_read}
 use Rattle.capcheck_core.proofs.load.load_asked.Goals as goal
 
@@ -8,7 +7,7 @@ pub returns-in-Ok-clause-loads : goal.returns-in-Ok-clause-loads
 returns-in-Ok-clause-loads g c = record {
   asked = c.requires.asked;
   file = Some c.load.new.to.items;
-  has = has_read (folders (g.F.Folder.held c.args.folder.now) (g.F.Folder.load_faults c.args.folder.now) (g.F.Folder.store_faults c.args.folder.now)) c.args.dir.now
+  has = has_read (g.F.Folder.folders c.args.folder.now) c.args.dir.now
       c.load.new.to.items c.args.part.0 c.load.result c.in-Ok-true.field-0 c.in-Ok-true.is (let test = c.in-Ok-true.field-0-test in let is = c.in-Ok-true.field-0-is in cc) c.load.ensures.bytes;
   adds = c.in-Ok.ensures.ok;
 }

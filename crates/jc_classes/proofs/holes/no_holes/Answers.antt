@@ -23,4 +23,5 @@ classes-preserved c =
           ∙ ap (λ (l : Layout). least_from place_of c.classes.least fault (entries_from c.classes.c 0 l.public ++ entries_from c.classes.c 128 l.visible)) at
           ∙ least_next fault (entries_in c.args.lineage.now c.args.classes.now) c.classes.c c.classes.least c.classes.invariant.0,
       c.holes_of-least.ensures.room,
+      c.holes_of-least.ensures.none,
     )

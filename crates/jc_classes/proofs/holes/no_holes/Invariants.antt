@@ -1,4 +1,4 @@
-use Rattle.std.proofs.Common.{◌≡◌, length}
+use Rattle.std.proofs.Common.{◌≡◌, ◌<◌, ℕ, false, length, get_or}
 use Rattle.std.specs.Prelude.{flat_map}
 use Rattle.std.specs.List.{range_with_len}
 use Rattle.jc_resolve.specs.Fault.{place_of}
@@ -10,3 +10,4 @@ abbrev pub invariant-classes : goal.invariant-classes
 invariant-classes l =
     (l.least ≡ least_of place_of (hole_fault l.lineage l.methods) (flat_map (entries_in l.lineage l.classes) (range_with_len 0 l.c)))
     × (length l.marks ≡ length l.lineage.records)
+    × ((k : ℕ) → k < length l.marks → get_or l.marks k false ≡ false)

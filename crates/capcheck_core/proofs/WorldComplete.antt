@@ -1,0 +1,209 @@
+-- Where the parts in the folders and the roles beside the first make a world, nothing stops a command before its own last step but a load
+-- that fails, or no memory.
+use Rattle.std.proofs.Common.{◌≡◌, ◌⊎◌, ◌<◌, ◌≤◌, ℕ, suc, List, [], ◌∷◌, length, Some, refl, sym, ap, subst, ◌∙◌, inl, inr, arith}
+use Rattle.std.specs.Prelude.{Err, IfSome, IsSomeAnd, None, string_bytes}
+use Rattle.std.specs.FinMap as map
+use Rattle.std.specs.List.{AllZip}
+use Rattle.std.proofs.lemmas.Slice.Zip.{AllZip-long}
+use Rattle.cap_bytes.specs.declared.fault.FormKind.{FormKind}
+use Rattle.cap_bytes.specs.declared.fault.FormKind.TheVariants.{Cut, Trailing}
+use Rattle.cap_files.specs.Counts.{Rose}
+use Rattle.cap_files.specs.Folder.{Parts, Folders, Holds, IsThere, IsAbsent, IsTooLong, LoadFails}
+use Rattle.cap_components.specs.declared.fault.PackFault.{PackFault}
+use Rattle.cap_components.specs.declared.fault.PackFault.TheVariants as faults
+use Rattle.cap_package.specs.Parts.{Lent}
+use Rattle.cap_package.specs.PackageRecord.{PackageRecord}
+use Rattle.cap_package.specs.StandsFor.{StandsFor}
+use Rattle.cap_package.specs.FirstFault.{Tells}
+use Rattle.cap_package.proofs.OneRecord.{stands_told, stands_only}
+use Rattle.jc_base.specs.World.{Linked}
+use Rattle.jc_link.specs.World.{IsLinked}
+use Rattle.jc_link.proofs.OneWorld.{one_world, linked_few, linked_faultless}
+use Rattle.capcheck_core.specs.declared.verdict.Verdict.{Verdict}
+use Rattle.capcheck_core.specs.declared.verdict.Verdict.TheVariants.{Done, Refused, Limit, Malformed, Usage, ReadFault, StoreFault, Memory}
+use Rattle.capcheck_core.specs.Verdict.{status_of}
+use Rattle.capcheck_core.specs.Outside.{Outside}
+use Rattle.capcheck_core.specs.Loads.{AreParts, FailsParts}
+use Rattle.capcheck_core.specs.Roles.{AreRolesIn, LacksRoles, BreaksRoles, roles_key}
+use Rattle.capcheck_core.specs.Packages.{AreRoles, AreGiven, LacksPackage, IsFirstWhere, IsFirstStop}
+use Rattle.capcheck_core.specs.OverFolders.{StopsAtLoad, OfGiven, OverFolders}
+use Rattle.capcheck_core.specs.World.{StopsAtLink, MakeWorld, OverPackages, OverWorld}
+use Rattle.capcheck_core.specs.Completeness.{CanLink}
+use Rattle.capcheck_core.proofs.Loads.{one_list, none_long}
+
+-- ---- packages
+
+-- nothing is told against parts that stand for a package
+pub no_fault : (parts : List Lent) (p : PackageRecord) (fault : PackFault) → StandsFor parts p → Tells parts (Err fault) → ⊥
+no_fault parts p fault stands told = let same = stands_told parts p (Err fault) stands told in absurd (cc)
+
+-- parts stand for one package
+one_package : (parts : List Lent) (p q : PackageRecord) → StandsFor parts p → StandsFor parts q → p ≡ q
+one_package parts p q s t = let a = stands_only parts p s in let b = stands_only parts q t in cc
+
+same_packages : (parts : List (List Lent)) (ps qs : List PackageRecord) → AllZip StandsFor parts ps → AllZip StandsFor parts qs → ps ≡ qs
+same_packages [] [] [] s t = refl
+same_packages [] [] (q ∷ qs) s t = absurd t
+same_packages [] (p ∷ ps) qs s t = absurd s
+same_packages (lent ∷ parts) [] qs s t = absurd s
+same_packages (lent ∷ parts) (p ∷ ps) [] s t = absurd t
+same_packages (lent ∷ parts) (p ∷ ps) (q ∷ qs) s t = let head = one_package lent p q s.0 t.0 in let tail = same_packages parts ps qs s.1 t.1 in cc
+
+module _ (before : Folders) (held : Parts) (told : before.held ≡ Some held) where
+  same_parts : (dirs : List (List ℕ)) (xs ys : List (List Lent)) → AllZip (AreParts before) dirs xs → AllZip (AreParts before) dirs ys → xs ≡ ys
+  same_parts [] [] [] s t = refl
+  same_parts [] [] (y ∷ ys) s t = absurd t
+  same_parts [] (x ∷ xs) ys s t = absurd s
+  same_parts (dir ∷ dirs) [] ys s t = absurd s
+  same_parts (dir ∷ dirs) (x ∷ xs) [] s t = absurd t
+  same_parts (dir ∷ dirs) (x ∷ xs) (y ∷ ys) s t =
+      let head = one_list before held dir 256 x y told s.0 t.0 in let tail = same_parts dirs xs ys s.1 t.1 in cc
+
+  -- a folder with a package lacks none
+  no_lack : (dir : List ℕ) (parts : List Lent) (p : PackageRecord) (fault : PackFault) → AreParts before dir parts → StandsFor parts p → LacksPackage before dir fault → ⊥
+  no_lack dir parts p fault loaded stands (inl long) = none_long before held dir 256 long.tag parts told loaded long.first.byte long.first
+  no_lack dir parts p fault loaded stands (inr refused) =
+      let same = one_list before held dir 256 parts refused.parts told loaded refused.loaded in
+      no_fault refused.parts p fault (subst (λ ps. StandsFor ps p) same stands) refused.refused
+
+  -- ---- roles
+
+  file_of : (key file : List ℕ) → IsThere before key file → map.get held key ≡ Some file
+  file_of key file there = subst (λ h. IfSome h (λ parts. Holds parts key file)) told there
+
+  one_file : (key xs ys : List ℕ) → IsThere before key xs → IsThere before key ys → xs ≡ ys
+  one_file key xs ys s t = let a = file_of key xs s in let b = file_of key ys t in cc
+
+  one_roles : (dirs : List (List ℕ)) (rs qs : List ℕ) → AreRoles before dirs rs → AreRoles before dirs qs → rs ≡ qs
+  one_roles [] rs qs r q = absurd r
+  one_roles (dir ∷ dirs) rs qs r q = one_file (roles_key dir) rs qs r.there q.there
+
+  no_break : (file : List ℕ) (at : ℕ) (kind : FormKind) → length file ≡ 8 → BreaksRoles file at kind → ⊥
+  no_break file at Cut eight breaks = absurd (omega (arith, eight, breaks.0))
+  no_break file at Trailing eight breaks = absurd (omega (arith, eight, breaks.0))
+  no_break file at _ eight breaks = breaks
+
+  not_absent : (key file : List ℕ) → IsThere before key file → IsAbsent before key → ⊥
+  not_absent key file there absent =
+      let is = file_of key file there in
+      let none : map.get held key ≡ None = subst (λ h. IfSome h (λ parts. map.get parts key ≡ None)) told absent in
+      absurd (cc)
+
+  not_long : (key file : List ℕ) → IsThere before key file → length file ≤ 65538 → IsTooLong before key → ⊥
+  not_long key file there short long =
+      let beyond : IsSomeAnd (map.get held key) (λ f. 65538 < length f) = subst (λ h. IfSome h (λ parts. IsSomeAnd (map.get parts key) (λ f. 65538 < length f))) told long in
+      let over : 65538 < length file = subst (λ found. IsSomeAnd found (λ f. 65538 < length f)) (file_of key file there) beyond in
+      absurd (omega (arith, short, over))
+
+  -- a folder with roles lacks none
+  no_roles_lack : (dir roles : List ℕ) (fault : PackFault) → AreRolesIn before dir roles → LacksRoles before dir fault → ⊥
+  no_roles_lack dir roles (faults.MissingPart part) r lack = not_absent (roles_key dir) roles r.there lack.1
+  no_roles_lack dir roles (faults.PartTooLong part) r lack = let eight = r.eight in not_long (roles_key dir) roles r.there (omega (arith, eight)) lack.1
+  no_roles_lack dir roles (faults.Form form) r lack =
+      let same = one_file (roles_key dir) lack.file roles lack.there r.there in
+      no_break lack.file form.at form.kind (ap length same ∙ r.eight) lack.refused.breaks
+  no_roles_lack dir roles _ r lack = lack
+
+  -- ---- where nothing stops the loads
+
+  -- no folder is the first of which something is true that is true of none with a package
+  no_first : (P : ℕ → List ℕ → Type 0) → ((n : ℕ) (dir : List ℕ) (parts : List Lent) (p : PackageRecord) → AreParts before dir parts → StandsFor parts p → P n dir → ⊥)
+      → (from : ℕ) (dirs : List (List ℕ)) (parts : List (List Lent)) (ps : List PackageRecord)
+      → AllZip (AreParts before) dirs parts → AllZip StandsFor parts ps → IsFirstWhere before from dirs P → ⊥
+  no_first P never from [] parts ps loaded stand first = first
+  no_first P never from (dir ∷ dirs) [] ps loaded stand first = absurd loaded
+  no_first P never from (dir ∷ dirs) (x ∷ xs) [] loaded stand first = absurd stand
+  no_first P never from (dir ∷ dirs) (x ∷ xs) (p ∷ ps) loaded stand (inl here) = never from dir x p loaded.0 stand.0 here
+  no_first P never from (dir ∷ dirs) (x ∷ xs) (p ∷ ps) loaded stand (inr r) = no_first P never (suc from) dirs xs ps loaded.1 stand.1 r.1
+
+  no_stop : (P : ℕ → List ℕ → Type 0) (R : List ℕ → Type 0)
+      → ((n : ℕ) (dir : List ℕ) (parts : List Lent) (p : PackageRecord) → AreParts before dir parts → StandsFor parts p → P n dir → ⊥)
+      → ((dir roles : List ℕ) → AreRolesIn before dir roles → R dir → ⊥)
+      → (dirs : List (List ℕ)) (parts : List (List Lent)) (ps : List PackageRecord) (roles : List ℕ)
+      → AllZip (AreParts before) dirs parts → AllZip StandsFor parts ps → AreRoles before dirs roles → IsFirstStop before dirs P R → ⊥
+  no_stop P R never none [] parts ps roles loaded stand are stop = stop
+  no_stop P R never none (dir ∷ dirs) [] ps roles loaded stand are stop = absurd loaded
+  no_stop P R never none (dir ∷ dirs) (x ∷ xs) [] roles loaded stand are stop = absurd stand
+  no_stop P R never none (dir ∷ dirs) (x ∷ xs) (p ∷ ps) roles loaded stand are (inl here) = never 0 dir x p loaded.0 stand.0 here
+  no_stop P R never none (dir ∷ dirs) (x ∷ xs) (p ∷ ps) roles loaded stand are (inr (inl at)) = none dir roles are at.holds
+  no_stop P R never none (dir ∷ dirs) (x ∷ xs) (p ∷ ps) roles loaded stand are (inr (inr after)) = no_first P never 1 dirs xs ps loaded.1 stand.1 after.first
+
+-- ---- a load that failed raised the count
+
+first_rose : (before after : Folders) (from : ℕ) (dirs : List (List ℕ)) → IsFirstWhere before from dirs (λ n dir. FailsParts before dir after)
+    → Rose before.load_faults after.load_faults
+first_rose before after from [] first = absurd first
+first_rose before after from (dir ∷ dirs) (inl here) = here.1.holds.rose
+first_rose before after from (dir ∷ dirs) (inr r) = first_rose before after (suc from) dirs r.1
+
+stop_rose : (before after : Folders) (dirs : List (List ℕ))
+    → IsFirstStop before dirs (λ n dir. FailsParts before dir after) (λ dir. LoadFails before (roles_key dir) after) → Rose before.load_faults after.load_faults
+stop_rose before after [] stop = absurd stop
+stop_rose before after (dir ∷ dirs) (inl here) = here.1.holds.rose
+stop_rose before after (dir ∷ dirs) (inr (inl at)) = at.holds.rose
+stop_rose before after (dir ∷ dirs) (inr (inr behind)) = first_rose before after 1 dirs behind.first
+
+-- ---- all of it
+
+-- there are as many folders as packages, which are few
+counted : (dirs : List (List ℕ)) (before : Folders) (world : Linked) (can : CanLink dirs before world) → length dirs ≡ length can.made.packages
+counted dirs before world can =
+    sym (AllZip-long (AreParts before) dirs can.parts can.given.parts_are) ∙ sym (AllZip-long StandsFor can.parts can.made.packages can.made.stand)
+
+-- roles stand beside a first package
+no_folders : (before : Folders) (dirs : List (List ℕ)) (roles : List ℕ) → length dirs ≡ 0 → AreRoles before dirs roles → ⊥
+no_folders before [] roles none are = are
+no_folders before (dir ∷ dirs) roles none are = absurd (omega (arith, none))
+
+-- the loads do not stop
+unstopped : (dirs : List (List ℕ)) (before after : Outside) (world : Linked) (verdict : Verdict) → CanLink dirs before.folders world
+    → (Rose before.folders.load_faults after.folders.load_faults → ⊥) → StopsAtLoad dirs before after verdict → status_of verdict ≡ 6
+unstopped dirs before after world Memory can calm stops = refl
+unstopped dirs before after world ReadFault can calm stops = absurd (calm (stop_rose before.folders after.folders dirs stops.0.first))
+unstopped dirs before after world (Malformed text) can calm (same, inl many) =
+    let few = linked_few can.made.packages can.roles world can.made.linked in
+    let count = counted dirs before.folders world can in
+    elim many.many.wrong [ inl none ↦ absurd (no_folders before.folders dirs can.roles none can.given.roles_are) | inr above ↦ absurd (omega (arith, few, count, above)) ]
+unstopped dirs before after world (Malformed text) can calm (same, inr fault) =
+    absurd (no_stop before.folders can.held can.told (λ n dir. (fault.number ≡ n) × LacksPackage before.folders dir fault.fault) (λ dir. (fault.number ≡ 0) × LacksRoles before.folders dir fault.fault)
+    (λ n dir parts p loaded stands lack. no_lack before.folders can.held can.told dir parts p fault.fault loaded stands lack.1)
+    (λ dir roles are lack. no_roles_lack before.folders can.held can.told dir roles fault.fault are lack.1)
+    dirs can.parts can.made.packages can.roles can.given.parts_are can.made.stand can.given.roles_are fault.is.first)
+unstopped dirs before after world (Done text) can calm stops = absurd stops
+unstopped dirs before after world (Refused text) can calm stops = absurd stops
+unstopped dirs before after world (Limit text) can calm stops = absurd stops
+unstopped dirs before after world Usage can calm stops = absurd stops
+unstopped dirs before after world StoreFault can calm stops = absurd stops
+
+-- the packages are linked
+linked : (packages : List PackageRecord) (roles : List ℕ) (world : Linked) (verdict : Verdict) → IsLinked packages roles world
+    → StopsAtLink packages roles verdict → status_of verdict ≡ 6
+linked packages roles world Memory is stops = refl
+linked packages roles world (Malformed text) is stops = absurd (linked_faultless packages roles world stops.fault is stops.first)
+linked packages roles world (Done text) is stops = absurd stops
+linked packages roles world (Refused text) is stops = absurd stops
+linked packages roles world (Limit text) is stops = absurd stops
+linked packages roles world Usage is stops = absurd stops
+linked packages roles world ReadFault is stops = absurd stops
+linked packages roles world StoreFault is stops = absurd stops
+
+-- what is given is what is there
+same_linked : (dirs : List (List ℕ)) (before : Folders) (world : Linked) (can : CanLink dirs before world)
+    (P : List (List Lent) → List ℕ → Type 0) (of : OfGiven before dirs P) (packages : List PackageRecord) → AllZip StandsFor of.parts packages → IsLinked packages of.roles world
+same_linked dirs before world can P of packages stand =
+    let parts = same_parts before can.held can.told dirs can.parts of.parts can.given.parts_are of.given.parts_are in
+    let roles = one_roles before can.held can.told dirs can.roles of.roles can.given.roles_are of.given.roles_are in
+    let ps = same_packages of.parts can.made.packages packages (subst (λ xs. AllZip StandsFor xs can.made.packages) parts can.made.stand) stand in
+    subst (λ qs. IsLinked qs of.roles world) ps (subst (λ rs. IsLinked can.made.packages rs world) roles can.made.linked)
+
+-- the command takes its own last step over the world, or there was no memory
+pub reaches : (own : Linked → Outside → Outside → Verdict → Type 0) (dirs : List (List ℕ)) (before after : Outside) (world : Linked) (verdict : Verdict) → CanLink dirs before.folders world
+    → (Rose before.folders.load_faults after.folders.load_faults → ⊥) → OverFolders (OverWorld own) dirs before after verdict
+    → (status_of verdict ≡ 6) ⊎ own world before after verdict
+reaches own dirs before after world verdict can calm (inl stops) = inl (unstopped dirs before after world verdict can calm stops)
+reaches own dirs before after world verdict can calm (inr of) =
+    let is = same_linked dirs before.folders world can (λ parts roles. OverWorld own parts roles before after verdict) of of.holds.packages of.holds.stand in
+    elim of.holds.holds [
+      | inl unlinked ↦ inl (linked of.holds.packages of.roles world verdict is unlinked.1)
+      | inr l ↦ inr (subst (λ w. own w before after verdict) (sym (one_world of.holds.packages of.roles world l.world is l.linked)) l.holds)
+    ]

@@ -1,0 +1,34 @@
+ghost use Rattle.capcheck_core.specs.Outside.{outside, card};
+ghost use Rattle.capcheck_core.specs.Step.{OwnAnswers};
+
+use crate::typing::type_methods;
+use crate::verdict::Verdict;
+use cap_files::Folder;
+use jc_base::World;
+use std::alloc::Global;
+
+/// The last step of a command over a world.
+#[derive(Clone, Copy)]
+pub enum Step {
+    /// Types each method with code of the last package.
+    Check,
+}
+
+/// Takes a command's last step. It is handed all that a command may change.
+pub(crate) fn take_step<F: Folder>(
+    alloc: Global,
+    step: Step,
+    world: &World<'_>,
+    _folder: &mut F,
+    _ram: &mut [u16],
+    _heap: &mut [u16],
+    _statics: &mut [u16],
+) -> Verdict
+    ensures { OwnAnswers step world.now
+        (outside (F.folders _folder.old) (card _ram.old _heap.old _statics.old))
+        (outside (F.folders _folder.new) (card _ram.new _heap.new _statics.new)) result }
+{
+    match step {
+        Step::Check => type_methods(alloc, world),
+    }
+}

@@ -1,0 +1,4 @@
+pub mod Order
+pub mod Least
+pub mod First
+pub mod Samples

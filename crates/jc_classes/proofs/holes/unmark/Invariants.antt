@@ -1,0 +1,10 @@
+use Rattle.std.proofs.Common.{length}
+use Rattle.jc_base.specs.Class.{chain, list_of}
+use Rattle.jc_classes.proofs.Marks.{AreLeft}
+use Rattle.jc_classes.proofs.holes.unmark.Given as goal
+
+abbrev pub invariant-climb : goal.invariant-climb
+invariant-climb l = AreLeft l.lineage l.marks l.above
+
+abbrev pub decreases-climb : goal.decreases-climb
+decreases-climb l = length (list_of (chain l.lineage) l.above)

@@ -1,0 +1,21 @@
+use Rattle.std.proofs.Common.{ap, ◌∙◌}
+use Rattle.jc_resolve.specs.Named.{infos_of}
+use Rattle.jc_statics.specs.Arrays.{array_records}
+use Rattle.jc_link.proofs.Worlds.{world-made, linked-made}
+use Rattle.jc_link.proofs.linking.made.Goals as goal
+
+pub of-requires : goal.of-requires
+of-requires c =
+    let n = c.args.tabled.names in
+    let e = c.packages-packages.ensures.is in
+    world-made n.packages n.roles n c.requires.names c.args.tabled.classes c.requires.table c.args.resolved c.requires.resolved
+    c.in_ok-infos.infos (c.in_ok-infos.ensures.are ∙ ap infos_of e) c.into_methods-methods.result c.into_methods-methods.ensures c.in_ok-arrays.arrays (c.in_ok-arrays.ensures.is ∙ ap array_records e)
+    c.requires.members c.in_ok-infos.ensures.few c.in_ok-arrays.ensures.elements
+
+pub returns : goal.returns
+returns c =
+    let n = c.args.tabled.names in
+    let e = c.packages-packages.ensures.is in
+    linked-made n.packages n.roles n c.requires.names c.args.tabled.classes c.requires.table c.args.resolved c.requires.resolved
+    c.in_ok-infos.infos (c.in_ok-infos.ensures.are ∙ ap infos_of e) c.into_methods-methods.result c.into_methods-methods.ensures c.in_ok-arrays.arrays (c.in_ok-arrays.ensures.is ∙ ap array_records e)
+    c.of.result c.of.ensures c.requires.classes c.requires.members

@@ -1,0 +1,9 @@
+use Rattle.std.proofs.Common.{ap, ◌∙◌}
+use Rattle.jc_resolve.specs.FirstFault.{refused}
+use Rattle.jc_members.proofs.RoleLaws.{roles_told}
+use Rattle.jc_members.proofs.roles.roles_fit.Goals as goal
+
+pub returns-clause-tells : goal.returns-clause-tells
+returns-clause-tells c =
+    roles_told c.args.classes.now c.args.methods.now c.refuse.result c.requires.known
+    (c.refuse.ensures ∙ ap refused c.least_abstract.ensures)

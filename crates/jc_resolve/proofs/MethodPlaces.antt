@@ -1,0 +1,297 @@
+-- No two methods stand at one place of a Method component, and no two of a package have the same two numbers.
+use Rattle.std.proofs.Common.{◌≡◌, ℕ, zero, suc, ◌+◌, ◌<◌, ◌≤◌, ◌⊎◌, Bool, true, false, ltb, leb, max, min, cond, List, [], ◌∷◌, ◌++◌, length, map, Option, Some, None, refl, sym, ap, subst, ◌∙◌, arith, inl, inr}
+use Rattle.std.specs.Prelude.{All, slice_get, option_map}
+use Rattle.std.specs.List.{filter_map}
+use Rattle.std.proofs.lemmas.Bool.{lt-ltb, true≢false}
+use Rattle.std.proofs.lemmas.List.Elements.{All-head, All-tail}
+use Rattle.std.proofs.lemmas.Option.{slice_get-map}
+use Rattle.cap_bytes.specs.Number.{number_at}
+use Rattle.cap_components.specs.declared.fault.PackFault.{PackFault}
+use Rattle.cap_components.specs.declared.fault.PackFault.TheVariants.{MethodOverlaps}
+use Rattle.cap_desc.specs.DescriptorFormat as described
+use Rattle.cap_desc.specs.DescriptorFormat.{Method}
+use Rattle.cap_desc.specs.Members.{methods_from}
+use Rattle.cap_package.specs.MethodChecks.{size_by, code_start, code_end, overlap_fault, overlap_pair, outside_fault}
+use Rattle.cap_package.specs.PackageRecord.{PackageRecord, classes_from, described as described_methods}
+use Rattle.cap_package.specs.Pairs.{pairs}
+use Rattle.cap_package.proofs.HeaderLaws.{ends-within}
+use Rattle.jc_base.specs.declared.record.MethodRec.{MethodRec}
+use Rattle.jc_resolve.specs.declared.place.Place.{Place}
+use Rattle.jc_resolve.specs.Named.{IsAgreed}
+use Rattle.jc_resolve.specs.NamedMethods.{named_method, named_methods}
+use Rattle.jc_resolve.specs.Numbering.{NumberedMethod, numbered, is_placed, methods_of_class, methods_of_classes, methods_behind, numbered_methods, place_of_method, method_places}
+use Rattle.jc_resolve.specs.OwnPlaces.{HaveOwnPlaces}
+use Rattle.jc_resolve.proofs.ClassPlaces.{classes_apart}
+use Rattle.jc_resolve.proofs.Faultless.{faultless_first, both_faultless}
+use Rattle.jc_resolve.proofs.Pairwise.{Each, each-append, each-split, each-weaker, Pairwise, pairwise-append, pairwise-split, IsSplit, one-place}
+
+-- ---- the methods that a package describes
+
+each_faultless : {X Y Z : Type 0} (f : Y → Option Z) (g : X → Y) (xs : List X) → filter_map f (map g xs) ≡ [] → Each (λ x. f (g x) ≡ None) xs
+each_faultless f g [] e = tt {0}
+each_faultless f g (x ∷ xs) e = let both = faultless_first (f (g x)) (filter_map f (map g xs)) e in (both.0, each_faultless f g xs both.1)
+
+all_faultless : {X Z : Type 0} (f : X → Option Z) (xs : List X) → filter_map f xs ≡ [] → Each (λ x. f x ≡ None) xs
+all_faultless f [] e = tt {0}
+all_faultless f (x ∷ xs) e = let both = faultless_first (f x) (filter_map f xs) e in (both.0, all_faultless f xs both.1)
+
+abbrev IsApart : Method → Method → Type 0
+IsApart a b = a.method_offset ≡ b.method_offset → ⊥
+
+size_some : (o : Option ℕ) → 2 ≤ size_by o
+size_some None = omega arith
+size_some (Some first) = by (leb 128 first)
+  where
+    by : (b : Bool) → 2 ≤ cond b 4 2
+    by true = omega arith
+    by false = omega arith
+
+long_code : (info : List ℕ) (m : Method) → m.method_offset < code_end info m
+unfolding code_end code_start
+long_code info m = let size = size_some (number_at 1 m.method_offset info) in omega arith
+
+shared_by : (fault : PackFault) (b : Bool) → cond b (Some fault) None ≡ None → b ≡ false
+shared_by fault true h = absurd cc
+shared_by fault false h = refl
+
+no_share : (info : List ℕ) (a b : Method) → overlap_fault info a b ≡ None → ltb (max a.method_offset b.method_offset) (min (min (code_end info a) (code_end info b)) (length info)) ≡ false
+unfolding overlap_fault
+no_share info a b h = shared_by (MethodOverlaps (min a.method_offset b.method_offset) (max a.method_offset b.method_offset)) (ltb (max a.method_offset b.method_offset) (min (min (code_end info a) (code_end info b)) (length info))) h
+
+-- a method that shares no byte with one that lies in the info stands elsewhere
+stands_apart : (info : List ℕ) (a b : Method) → code_end info a ≤ length info → overlap_fault info a b ≡ None → IsApart a b
+stands_apart info a b inside none same =
+    let first = long_code info a in
+    let second = long_code info b in
+    let below : max a.method_offset b.method_offset < min (min (code_end info a) (code_end info b)) (length info) = omega arith in
+    true≢false (sym (lt-ltb _ _ below) ∙ no_share info a b none)
+
+pairs_apart : (info : List ℕ) (count : ℕ) (ms : List Method) → Each (λ m. outside_fault info count m ≡ None) ms → filter_map (overlap_pair info) (pairs ms) ≡ [] → Pairwise IsApart ms
+pairs_apart info count [] inside e = tt {0}
+pairs_apart info count (m ∷ ms) inside e =
+    let both = both_faultless (overlap_pair info) (map (λ n. (m, n)) ms) (pairs ms) e in
+    let none = each_faultless (overlap_pair info) (λ n. (m, n)) ms both.0 in
+    (each-weaker (λ n. overlap_fault info m n ≡ None) (IsApart m) (λ n h. stands_apart info m n (ends-within info count m inside.0) h) ms none, pairs_apart info count ms inside.1 both.1)
+
+described_apart : (p : PackageRecord) → IsAgreed p → Pairwise IsApart (described_methods p)
+described_apart p agreed =
+    pairs_apart p.methods.info (length p.methods.handlers) (described_methods p)
+    (all_faultless (outside_fault p.methods.info (length p.methods.handlers)) (described_methods p) agreed.agree.1.1.1.0)
+    agreed.agree.1.1.0
+
+-- ---- methods at places
+
+abbrev At : Place → NumberedMethod → Type 0
+At place m = place_of_method m ≡ Some place
+
+-- no place is that of both
+abbrev Differ : NumberedMethod → NumberedMethod → Type 0
+Differ m n = (place : Place) → At place m → At place n → ⊥
+
+offset_by : (b : Bool) (k : ℕ) (m : Method) (place : Place) → cond b (Some (record { «package» = k; offset = m.method_offset })) None ≡ Some place → m.method_offset ≡ place.offset
+offset_by true k m place h = let same : record { «package» = k; offset = m.method_offset } ≡ place = cc in ap (λ (q : Place). q.offset) same
+offset_by false k m place h = absurd cc
+
+home_by : (b : Bool) (k offset : ℕ) (place : Place) → cond b (Some (record { «package» = k; offset = offset })) None ≡ Some place → k ≡ place.package
+home_by true k offset place h = let same : record { «package» = k; offset = offset } ≡ place = cc in ap (λ (q : Place). q.package) same
+home_by false k offset place h = absurd cc
+
+-- a method whose offset is not that of another, if it stands in the component
+abbrev IsElsewhere : Method → NumberedMethod → Type 0
+IsElsewhere a n = (place : Place) → At place n → a.method_offset ≡ place.offset → ⊥
+
+in_class : (a : Method) (k : ℕ) (p : PackageRecord) (number : ℕ) (c : described.Class) (i : ℕ) (ms : List Method) → Each (IsApart a) ms → Each (IsElsewhere a) (methods_of_class k p number c i ms)
+in_class a k p number c i [] h = tt {0}
+in_class a k p number c i (m ∷ ms) h =
+    (λ place at same. h.0 (same ∙ sym (offset_by (is_placed p c) k m place at)), in_class a k p number c (i + 1) ms h.1)
+
+not_placed : (a : Method) (k : ℕ) (p : PackageRecord) (number : ℕ) (c : described.Class) (i : ℕ) (ms : List Method) → is_placed p c ≡ false → Each (IsElsewhere a) (methods_of_class k p number c i ms)
+not_placed a k p number c i [] e = tt {0}
+not_placed a k p number c i (m ∷ ms) e =
+    (λ place at same. nowhere (record { «package» = k; offset = m.method_offset }) place (is_placed p c) e at, not_placed a k p number c (i + 1) ms e)
+  where
+    nowhere : (here place : Place) (b : Bool) → b ≡ false → cond b (Some here) None ≡ Some place → ⊥
+    nowhere here place true f h = true≢false f
+    nowhere here place false f h = cc
+
+module _ (k : ℕ) (p : PackageRecord) where
+  abbrev start : ℕ
+  start = classes_from p.classes
+
+  elsewhere : (a : Method) (number : ℕ) (cs : List described.Class) → Each (IsApart a) (methods_from start cs) → Each (IsElsewhere a) (methods_of_classes k p number cs)
+  elsewhere a number [] h = tt {0}
+  elsewhere a number (c ∷ cs) h = by (leb start c.class_ref) refl h (λ g. elsewhere a (number + 1) cs g)
+    where
+      by : (b : Bool) → leb start c.class_ref ≡ b → Each (IsApart a) (cond b (c.methods ++ methods_from start cs) (methods_from start cs)) → (Each (IsApart a) (methods_from start cs) → Each (IsElsewhere a) (methods_of_classes k p (number + 1) cs))
+          → Each (IsElsewhere a) (methods_of_class k p number c 0 c.methods ++ methods_of_classes k p (number + 1) cs)
+      by true e g rest =
+          let both = each-split (IsApart a) c.methods (methods_from start cs) g in
+          each-append (IsElsewhere a) (methods_of_class k p number c 0 c.methods) (methods_of_classes k p (number + 1) cs) (in_class a k p number c 0 c.methods both.0) (rest both.1)
+      by false e g rest = each-append (IsElsewhere a) (methods_of_class k p number c 0 c.methods) (methods_of_classes k p (number + 1) cs) (not_placed a k p number c 0 c.methods e) (rest g)
+
+  -- the methods of a class, before others
+  class_differs : (number : ℕ) (c : described.Class) (i : ℕ) (ms : List Method) (others : List NumberedMethod) → Pairwise IsApart ms → Each (λ a. Each (IsElsewhere a) others) ms → Pairwise Differ others → Pairwise Differ (methods_of_class k p number c i ms ++ others)
+  class_differs number c i [] others a b d = d
+  class_differs number c i (m ∷ ms) others a b d =
+      let P = λ (n : NumberedMethod) (f : IsElsewhere m n) (place : Place) (here : At place (numbered k p number c i m)) (there : At place n). f place there (offset_by (is_placed p c) k m place here) in
+      let front = each-weaker (IsElsewhere m) (Differ (numbered k p number c i m)) P (methods_of_class k p number c (i + 1) ms) (in_class m k p number c (i + 1) ms a.0) in
+      let back = each-weaker (IsElsewhere m) (Differ (numbered k p number c i m)) P others b.0 in
+      (each-append (Differ (numbered k p number c i m)) (methods_of_class k p number c (i + 1) ms) others front back, class_differs number c (i + 1) ms others a.1 b.1 d)
+
+  -- those of a class that stands elsewhere
+  unplaced_differs : (number : ℕ) (c : described.Class) (i : ℕ) (ms : List Method) (others : List NumberedMethod) → is_placed p c ≡ false → Pairwise Differ others → Pairwise Differ (methods_of_class k p number c i ms ++ others)
+  unplaced_differs number c i [] others e d = d
+  unplaced_differs number c i (m ∷ ms) others e d = (all_differ (methods_of_class k p number c (i + 1) ms ++ others), unplaced_differs number c (i + 1) ms others e d)
+    where
+      nowhere : (here place : Place) (b : Bool) → b ≡ false → cond b (Some here) None ≡ Some place → ⊥
+      nowhere here place true f h = true≢false f
+      nowhere here place false f h = cc
+
+      all_differ : (ns : List NumberedMethod) → Each (Differ (numbered k p number c i m)) ns
+      all_differ [] = tt {0}
+      all_differ (n ∷ ns) = (λ place at there. nowhere (record { «package» = k; offset = m.method_offset }) place (is_placed p c) e at, all_differ ns)
+
+  classes_differ : (number : ℕ) (cs : List described.Class) → Pairwise IsApart (methods_from start cs) → Pairwise Differ (methods_of_classes k p number cs)
+  classes_differ number [] h = tt {0}
+  classes_differ number (c ∷ cs) h = by (leb start c.class_ref) refl h (λ g. classes_differ (number + 1) cs g)
+    where
+      by : (b : Bool) → leb start c.class_ref ≡ b → Pairwise IsApart (cond b (c.methods ++ methods_from start cs) (methods_from start cs)) → (Pairwise IsApart (methods_from start cs) → Pairwise Differ (methods_of_classes k p (number + 1) cs))
+          → Pairwise Differ (methods_of_class k p number c 0 c.methods ++ methods_of_classes k p (number + 1) cs)
+      by true e g rest =
+          let s = pairwise-split IsApart c.methods (methods_from start cs) g in
+          class_differs number c 0 c.methods (methods_of_classes k p (number + 1) cs) s.front
+          (each-weaker (λ a. Each (IsApart a) (methods_from start cs)) (λ a. Each (IsElsewhere a) (methods_of_classes k p (number + 1) cs)) (λ a f. elsewhere a (number + 1) cs f) c.methods s.across) (rest s.back)
+      by false e g rest = unplaced_differs number c 0 c.methods (methods_of_classes k p (number + 1) cs) e (rest g)
+
+-- ---- numbers
+
+-- a method of an earlier package, or of an earlier class of it, or before another in its class
+abbrev IsEarlier : NumberedMethod → NumberedMethod → Type 0
+IsEarlier m n = (m.home < n.home) ⊎ ((m.home ≡ n.home) × ((m.class_no < n.class_no) ⊎ ((m.class_no ≡ n.class_no) × (m.method_no < n.method_no))))
+
+-- a method of the package k
+pub record IsOf (k low : ℕ) (n : NumberedMethod) : Type 0 where
+  pub home : n.home ≡ k
+  pub class : low ≤ n.class_no
+
+pub record IsOfClass (k number low : ℕ) (n : NumberedMethod) : Type 0 where
+  pub home : n.home ≡ k
+  pub class : n.class_no ≡ number
+  pub method : low ≤ n.method_no
+
+of_class : (k : ℕ) (p : PackageRecord) (number : ℕ) (c : described.Class) (i : ℕ) (ms : List Method) → Each (IsOfClass k number i) (methods_of_class k p number c i ms)
+of_class k p number c i [] = tt {0}
+of_class k p number c i (m ∷ ms) = (
+  record { home = refl; class = refl; method = omega arith },
+  each-weaker (IsOfClass k number (i + 1)) (IsOfClass k number i) (λ n h. let low = h.method in record { home = h.home; class = h.class; method = omega arith }) (methods_of_class k p number c (i + 1) ms) (of_class k p number c (i + 1) ms),
+)
+
+of_classes : (k : ℕ) (p : PackageRecord) (number : ℕ) (cs : List described.Class) → Each (IsOf k number) (methods_of_classes k p number cs)
+of_classes k p number [] = tt {0}
+of_classes k p number (c ∷ cs) =
+    each-append (IsOf k number) (methods_of_class k p number c 0 c.methods) (methods_of_classes k p (number + 1) cs)
+    (each-weaker (IsOfClass k number 0) (IsOf k number) (λ n h. let same = h.class in record { home = h.home; class = omega arith }) (methods_of_class k p number c 0 c.methods) (of_class k p number c 0 c.methods))
+    (each-weaker (IsOf k (number + 1)) (IsOf k number) (λ n h. let low = h.class in record { home = h.home; class = omega arith }) (methods_of_classes k p (number + 1) cs) (of_classes k p (number + 1) cs))
+
+class_earlier : (k : ℕ) (p : PackageRecord) (number : ℕ) (c : described.Class) (i : ℕ) (ms : List Method) (others : List NumberedMethod) → Each (IsOf k (number + 1)) others → Pairwise IsEarlier others → Pairwise IsEarlier (methods_of_class k p number c i ms ++ others)
+class_earlier k p number c i [] others later d = d
+class_earlier k p number c i (m ∷ ms) others later d =
+    let here = numbered k p number c i m in (
+      each-append (IsEarlier here) (methods_of_class k p number c (i + 1) ms) others
+          (each-weaker (IsOfClass k number (i + 1)) (IsEarlier here) (λ n h. let low = h.method in inr (sym h.home, inr (sym h.class, omega arith))) (methods_of_class k p number c (i + 1) ms) (of_class k p number c (i + 1) ms))
+          (each-weaker (IsOf k (number + 1)) (IsEarlier here) (λ n h. let low = h.class in inr (sym h.home, inl (omega arith))) others later),
+      class_earlier k p number c (i + 1) ms others later d,
+    )
+
+classes_earlier : (k : ℕ) (p : PackageRecord) (number : ℕ) (cs : List described.Class) → Pairwise IsEarlier (methods_of_classes k p number cs)
+classes_earlier k p number [] = tt {0}
+classes_earlier k p number (c ∷ cs) = class_earlier k p number c 0 c.methods (methods_of_classes k p (number + 1) cs) (of_classes k p (number + 1) cs) (classes_earlier k p (number + 1) cs)
+
+-- ---- all packages
+
+homes_from : (k : ℕ) (ps : List PackageRecord) → Each (λ (n : NumberedMethod). k ≤ n.home) (methods_behind k ps)
+homes_from k [] = tt {0}
+homes_from k (p ∷ ps) =
+    let P = λ (n : NumberedMethod). k ≤ n.home in
+    each-append P (methods_of_classes k p 0 p.description.items.classes) (methods_behind (k + 1) ps)
+    (each-weaker (IsOf k 0) P (λ n h. let same = h.home in omega arith) (methods_of_classes k p 0 p.description.items.classes) (of_classes k p 0 p.description.items.classes))
+    (each-weaker (λ (n : NumberedMethod). k + 1 ≤ n.home) P (λ n le. omega arith) (methods_behind (k + 1) ps) (homes_from (k + 1) ps))
+
+other_homes : (m n : NumberedMethod) → m.home < n.home → Differ m n
+other_homes m n lt place here there =
+    let first = home_by m.placed m.home m.record_of.method_offset place here in
+    let second = home_by n.placed n.home n.record_of.method_offset place there in
+    omega arith
+
+packages_differ : (k : ℕ) (ps : List PackageRecord) → All IsAgreed ps → Pairwise Differ (methods_behind k ps)
+packages_differ k [] agreed = tt {0}
+packages_differ k (p ∷ ps) agreed =
+    let own = methods_of_classes k p 0 p.description.items.classes in
+    pairwise-append Differ own (methods_behind (k + 1) ps)
+    (classes_differ k p 0 p.description.items.classes (described_apart p (All-head IsAgreed p ps agreed)))
+    (packages_differ (k + 1) ps (All-tail IsAgreed p ps agreed))
+    (each-weaker (IsOf k 0) (λ m. Each (Differ m) (methods_behind (k + 1) ps)) (λ m h. let same = h.home in each-weaker (λ (n : NumberedMethod). k + 1 ≤ n.home) (Differ m) (λ n le. other_homes m n (omega arith)) (methods_behind (k + 1) ps) (homes_from (k + 1) ps)) own (of_classes k p 0 p.description.items.classes))
+
+packages_earlier : (k : ℕ) (ps : List PackageRecord) → Pairwise IsEarlier (methods_behind k ps)
+packages_earlier k [] = tt {0}
+packages_earlier k (p ∷ ps) =
+    let own = methods_of_classes k p 0 p.description.items.classes in
+    pairwise-append IsEarlier own (methods_behind (k + 1) ps)
+    (classes_earlier k p 0 p.description.items.classes)
+    (packages_earlier (k + 1) ps)
+    (each-weaker (IsOf k 0) (λ m. Each (IsEarlier m) (methods_behind (k + 1) ps)) (λ m h. let same = h.home in each-weaker (λ (n : NumberedMethod). k + 1 ≤ n.home) (IsEarlier m) (λ n le. inl (omega arith)) (methods_behind (k + 1) ps) (homes_from (k + 1) ps)) own (of_classes k p 0 p.description.items.classes))
+
+at_place : (o : Option NumberedMethod) (place : Place) → option_map place_of_method o ≡ Some (Some place) → (m : NumberedMethod) × (o ≡ Some m) × At place m
+at_place None place h = absurd cc
+at_place (Some m) place h = (m, refl, cc)
+
+headers_apart : (ps : List PackageRecord) → All IsAgreed ps → (i j : ℕ) (place : Place) → slice_get (method_places ps) i ≡ Some (Some place) → slice_get (method_places ps) j ≡ Some (Some place) → i ≡ j
+headers_apart ps agreed i j place e f =
+    let m = at_place (slice_get (numbered_methods ps) i) place (sym (slice_get-map place_of_method (numbered_methods ps) i) ∙ e) in
+    let n = at_place (slice_get (numbered_methods ps) j) place (sym (slice_get-map place_of_method (numbered_methods ps) j) ∙ f) in
+    one-place Differ (numbered_methods ps) i j m.0 n.0 (packages_differ 0 ps agreed) m.1 n.1 (λ d. d place m.2 n.2) (λ d. d place n.2 m.2)
+
+-- the numbers of a method are those of its record
+pub record HasNumbers (m : NumberedMethod) (r : MethodRec) : Type 0 where
+  pub home : m.home ≡ r.«package»
+  pub class : m.class_no ≡ r.class_no
+  pub method : m.method_no ≡ r.method_no
+
+same_numbers : (ps : List PackageRecord) (roles : List ℕ) (m : NumberedMethod) → HasNumbers m (named_method ps roles m)
+unfolding named_method
+same_numbers ps roles m = record { home = refl; class = refl; method = refl }
+
+at_number : (ps : List PackageRecord) (roles : List ℕ) (o : Option NumberedMethod) (r : MethodRec) → option_map (named_method ps roles) o ≡ Some r → (m : NumberedMethod) × (o ≡ Some m) × HasNumbers m r
+at_number ps roles None r h = absurd cc
+at_number ps roles (Some m) r h =
+    let same : named_method ps roles m ≡ r = cc in
+    (m, refl, subst (HasNumbers m) same (same_numbers ps roles m))
+
+never_earlier : (m n : NumberedMethod) (a b : MethodRec) → HasNumbers m a → HasNumbers n b → a.«package» ≡ b.«package» → a.class_no ≡ b.class_no → a.method_no ≡ b.method_no → IsEarlier m n → ⊥
+never_earlier m n a b x y home class method (inl lt) =
+    let f = x.home in
+    let g = y.home in
+    omega arith
+never_earlier m n a b x y home class method (inr (same, inl lt)) =
+    let f = x.class in
+    let g = y.class in
+    omega arith
+never_earlier m n a b x y home class method (inr (same, inr (also, lt))) =
+    let f = x.method in
+    let g = y.method in
+    omega arith
+
+numbers_apart : (ps : List PackageRecord) (roles : List ℕ) (i j : ℕ) (a b : MethodRec) → slice_get (named_methods ps roles) i ≡ Some a → slice_get (named_methods ps roles) j ≡ Some b → a.«package» ≡ b.«package» → a.class_no ≡ b.class_no → a.method_no ≡ b.method_no → i ≡ j
+unfolding named_methods
+numbers_apart ps roles i j a b e f home class method =
+    let m = at_number ps roles (slice_get (numbered_methods ps) i) a (sym (slice_get-map (named_method ps roles) (numbered_methods ps) i) ∙ e) in
+    let n = at_number ps roles (slice_get (numbered_methods ps) j) b (sym (slice_get-map (named_method ps roles) (numbered_methods ps) j) ∙ f) in
+    one-place IsEarlier (numbered_methods ps) i j m.0 n.0 (packages_earlier 0 ps) m.1 n.1 (never_earlier m.0 n.0 a b m.2 n.2 home class method) (never_earlier n.0 m.0 b a n.2 m.2 (sym home) (sym class) (sym method))
+
+-- classes and methods of packages whose parts agree have places and numbers of their own
+pub own_places : (ps : List PackageRecord) (roles : List ℕ) → All IsAgreed ps → HaveOwnPlaces ps (named_methods ps roles)
+own_places ps roles agreed = record {
+  classes = λ c d place e f. classes_apart ps agreed c d place e f;
+  headers = λ m n place e f. headers_apart ps agreed m n place e f;
+  numbers = λ m n a b e f home class method. numbers_apart ps roles m n a b e f home class method;
+}
