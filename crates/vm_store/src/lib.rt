@@ -1,0 +1,18 @@
+//! What the machines compute with (JCVM 2.2, chapter 3): cells and their types, frames, objects and
+//! static fields, and the stores that keep them, once with the kind of every cell and once as bare
+//! words in memory that a caller lends.
+//! It stands on the types and worlds of `jc_base`.
+#![tactic(auto)]
+
+mod cell;
+mod form;
+mod frame;
+mod header;
+mod kind;
+mod stack;
+mod store;
+
+pub use cell::{Cell, CellKind};
+pub use form::CellForm;
+pub use kind::ObjectKind;
+pub use store::Store;
