@@ -1,1 +1,3 @@
 mod Stacks
+mod Frames
+mod Tops

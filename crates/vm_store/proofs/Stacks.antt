@@ -1,6 +1,6 @@
 -- A stack that lies in memory with its top last is the reverse of the list of its cells.
 use Rattle.std.proofs.Common.{◌≡◌, ℕ, ◌+◌, ◌-◌, ◌<◌, ◌≤◌, List, [], ◌∷◌, ◌++◌, length, take, drop, map, reverse, refl, sym, ◌∙◌, ap, arith, length-drop, length-take}
-use Rattle.std.proofs.lemmas.List.{take-append-drop, reverse-append, length-reverse, take_at, drop_at, take-take, take_all, drop_all, append-nil, append_assoc}
+use Rattle.std.proofs.lemmas.List.{map-append, take-append-drop, reverse-append, length-reverse, take_at, drop_at, take-take, take_all, drop_all, append-nil, append_assoc}
 use borrow.Rule.Slice.PartMut.{put_mid}
 use Rattle.vm_store.specs.State.{rotated}
 
@@ -38,3 +38,31 @@ reverse-turned xs ms count by h b e =
     ∙ (ap (λ y. y ++ reverse (take (length xs - count) xs)) parts
     ∙ (append_assoc (reverse (take (count - by) ms)) (reverse (drop (count - by) ms)) (reverse (take (length xs - count) xs))
     ∙ (cc)))
+
+-- what is left once the last n cells are gone
+pub discarded : {A : Type 0} (xs ys : List A) (m n : ℕ) → n ≤ length xs → m ≡ length xs - n → ys ≡ take m xs → reverse ys ≡ drop n (reverse xs)
+discarded xs ys m n h e k = ap reverse (k ∙ ap (λ i. take i xs) e) ∙ sym (drop-reverse xs n h)
+
+-- the part of the stack from k on, as a call gives it back that turned it by some to the right
+pub rotated_in_place :
+    {A : Type 0} (xs ys ms : List A) (k n count by : ℕ)
+    → count ≤ length xs → by ≤ count → k ≡ length xs - count → n ≡ length xs - k → ms ≡ take n (drop k xs)
+    → ys ≡ drop (length ms - by) ms ++ take (length ms - by) ms → reverse (put_mid k n xs ys) ≡ rotated count by (reverse xs)
+rotated_in_place xs ys ms k n count by h b from size part e =
+    let rest : length (drop k xs) ≤ n = omega (arith, length-drop k xs) in
+    let whole : ms ≡ drop k xs = part ∙ take_all n (drop k xs) rest in
+    let len : length ms ≡ count = ap length whole ∙ (length-drop k xs ∙ (omega arith)) in
+    let same : ms ≡ drop (length xs - count) xs = whole ∙ ap (λ i. drop i xs) from in
+    let none : drop n (drop k xs) ≡ [] = drop_all n (drop k xs) rest in
+    let turned : ys ≡ drop (count - by) ms ++ take (count - by) ms = e ∙ ap (λ i. drop (i - by) ms ++ take (i - by) ms) len in
+    let all : put_mid k n xs ys ≡ take (length xs - count) xs ++ (drop (count - by) ms ++ take (count - by) ms) =
+        ap (λ r. take k xs ++ (ys ++ r)) none
+        ∙ (ap (λ r. take k xs ++ r) (append-nil ys) ∙ (ap (λ r. take k xs ++ r) turned ∙ ap (λ i. take i xs ++ (drop (count - by) ms ++ take (count - by) ms)) from)) in
+    ap reverse all ∙ reverse-turned xs ms count by h b same
+
+pub reverse-map : {A B : Type 0} (f : A → B) (xs : List A) → reverse (map f xs) ≡ map f (reverse xs)
+reverse-map f [] = refl
+reverse-map f (x ∷ xs) =
+    reverse-append (f x ∷ []) (map f xs)
+    ∙ (ap (λ y. y ++ f x ∷ []) (reverse-map f xs)
+    ∙ (sym (map-append f (reverse xs) (x ∷ [])) ∙ ap (map f) (sym (reverse-append (x ∷ []) xs))))

@@ -6,3 +6,4 @@ pub mod Objects
 pub mod Value
 pub mod Store
 pub mod Layout
+pub mod Tagged

@@ -11,8 +11,10 @@ mod header;
 mod kind;
 mod stack;
 mod store;
+mod tagged;
 
 pub use cell::{Cell, CellKind};
 pub use form::CellForm;
 pub use kind::ObjectKind;
 pub use store::Store;
+pub use tagged::TaggedStore;

@@ -1,6 +1,7 @@
-use Rattle.std.proofs.Common.{◌≡◌, ap, sym, ◌∙◌, arith}
-use Rattle.vm_store.proofs.Stacks.{reverse-turned}
+use Rattle.std.proofs.Common.{length, ◌-◌, refl}
+use Rattle.vm_store.proofs.Stacks.{rotated_in_place}
 use Rattle.vm_store.proofs.stack.rotate.Goals as goal
 
 pub returns : goal.returns
-returns g c = ?
+returns g c =
+    rotated_in_place c.args.stack.now c.rotate_right.new.self _ _ _ c.args.count c.args.by c.requires.there c.requires.part refl refl refl c.rotate_right.ensures.after
