@@ -1,3 +1,5 @@
 mod Stacks
 mod Frames
 mod Tops
+mod Windows
+mod Rams

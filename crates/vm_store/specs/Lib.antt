@@ -7,3 +7,5 @@ pub mod Value
 pub mod Store
 pub mod Layout
 pub mod Tagged
+pub mod Words
+pub mod WordStore

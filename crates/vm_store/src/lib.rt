@@ -12,9 +12,12 @@ mod kind;
 mod stack;
 mod store;
 mod tagged;
+mod window;
+mod words;
 
 pub use cell::{Cell, CellKind};
 pub use form::CellForm;
 pub use kind::ObjectKind;
 pub use store::Store;
 pub use tagged::TaggedStore;
+pub use words::{Counts, WordStore};
