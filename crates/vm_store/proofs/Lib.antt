@@ -3,3 +3,7 @@ mod Frames
 mod Tops
 mod Windows
 mod Rams
+mod Heaps
+mod Handles
+mod Fills
+mod Instances

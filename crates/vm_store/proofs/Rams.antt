@@ -17,7 +17,7 @@ window_below : (xs ys : List ℕ) (n k : ℕ) → n < k → take (513 * k) xs �
 window_below xs ys n k lt e =
     let fits : 513 * n + 513 ≤ 513 * k = omega arith in
     let cut : (zs : List ℕ) → window zs n ≡ drop (513 * n) (take (513 * n + 513) (take (513 * k) zs)) =
-        λ zs. sym (drop-take (513 * n) 513 zs) ∙ ap (drop (513 * n)) (sym (take-take (513 * n + 513) (513 * k) zs fits)) in
+    λ zs. sym (drop-take (513 * n) 513 zs) ∙ ap (drop (513 * n)) (sym (take-take (513 * n + 513) (513 * k) zs fits)) in
     cut xs ∙ (ap (λ zs. drop (513 * n) (take (513 * n + 513) zs)) e ∙ sym (cut ys))
 
 pub frames_below : (methods : List MethodRec) (xs ys : List ℕ) (n k : ℕ) → n ≤ k → take (513 * k) xs ≡ take (513 * k) ys → frames_in methods xs n ≡ frames_in methods ys n
@@ -118,9 +118,9 @@ module _ (w : Linked) (ram heap : List ℕ) (counts : Counts) (laid : AreLaid w 
       let held : frame_in w.methods ws ≡ f = e ∙ ap change taken_is in
       let framed : List (Frame ℕ) → State ℕ = λ fs. record (words_state w.methods ram heap statics counts) { frames = fs } in
       let narrow : frames_in w.methods (put_mid (513 * n) (513 * n + 513 - 513 * n) ram ws) counts.frames ≡ frames_in w.methods (put_mid (513 * n) 513 ram ws) counts.frames =
-          ap (λ k. frames_in w.methods (put_mid (513 * n) k ram ws) counts.frames) width in
+      ap (λ k. frames_in w.methods (put_mid (513 * n) k ram ws) counts.frames) width in
       let counted : frames_in w.methods (put_mid (513 * n) 513 ram ws) counts.frames ≡ frames_in w.methods (put_mid (513 * n) 513 ram ws) (suc n) =
-          ap (frames_in w.methods (put_mid (513 * n) 513 ram ws)) (sym last) in
+      ap (frames_in w.methods (put_mid (513 * n) 513 ram ws)) (sym last) in
       let others : frames_in w.methods ram n ≡ other_frames (frames_in w.methods ram counts.frames) = ap other_frames (sym frames_are) in
       ap framed
       (narrow
@@ -144,5 +144,5 @@ module _ (w : Linked) (ram heap : List ℕ) (counts : Counts) (laid : AreLaid w 
         some_objects = laid.some_objects;
         some_cells = laid.some_cells;
         windows = subst (FitWindows w.methods (put_mid (513 * n) 513 ram ws)) last (put_fits w.methods ram ws n within len fits fits_all.1);
-        laid = laid.laid
+        laid = laid.laid;
       })

@@ -27,13 +27,13 @@ reverse-turned xs ms count by h b e =
     let within : length ms - by ≡ count - by = ap (λ n. n - by) whole in
     let last : take count (reverse xs) ≡ reverse ms = take-reverse xs count h ∙ ap reverse (sym e) in
     let others : drop by (take count (reverse xs)) ≡ reverse (take (count - by) ms) =
-        ap (drop by) last ∙ (drop-reverse ms by few ∙ ap (λ n. reverse (take n ms)) within) in
+    ap (drop by) last ∙ (drop-reverse ms by few ∙ ap (λ n. reverse (take n ms)) within) in
     let first : take by (reverse xs) ≡ reverse (drop (count - by) ms) =
-        sym (take-take by count (reverse xs) b)
-        ∙ (ap (take by) last ∙ (take-reverse ms by few ∙ ap (λ n. reverse (drop n ms)) within)) in
+    sym (take-take by count (reverse xs) b)
+    ∙ (ap (take by) last ∙ (take-reverse ms by few ∙ ap (λ n. reverse (drop n ms)) within)) in
     let rest : drop count (reverse xs) ≡ reverse (take (length xs - count) xs) = drop-reverse xs count h in
     let parts : reverse (drop (count - by) ms ++ take (count - by) ms) ≡ reverse (take (count - by) ms) ++ reverse (drop (count - by) ms) =
-        reverse-append (drop (count - by) ms) (take (count - by) ms) in
+    reverse-append (drop (count - by) ms) (take (count - by) ms) in
     reverse-append (take (length xs - count) xs) (drop (count - by) ms ++ take (count - by) ms)
     ∙ (ap (λ y. y ++ reverse (take (length xs - count) xs)) parts
     ∙ (append_assoc (reverse (take (count - by) ms)) (reverse (drop (count - by) ms)) (reverse (take (length xs - count) xs))
@@ -56,8 +56,8 @@ rotated_in_place xs ys ms k n count by h b from size part e =
     let none : drop n (drop k xs) ≡ [] = drop_all n (drop k xs) rest in
     let turned : ys ≡ drop (count - by) ms ++ take (count - by) ms = e ∙ ap (λ i. drop (i - by) ms ++ take (i - by) ms) len in
     let all : put_mid k n xs ys ≡ take (length xs - count) xs ++ (drop (count - by) ms ++ take (count - by) ms) =
-        ap (λ r. take k xs ++ (ys ++ r)) none
-        ∙ (ap (λ r. take k xs ++ r) (append-nil ys) ∙ (ap (λ r. take k xs ++ r) turned ∙ ap (λ i. take i xs ++ (drop (count - by) ms ++ take (count - by) ms)) from)) in
+    ap (λ r. take k xs ++ (ys ++ r)) none
+    ∙ (ap (λ r. take k xs ++ r) (append-nil ys) ∙ (ap (λ r. take k xs ++ r) turned ∙ ap (λ i. take i xs ++ (drop (count - by) ms ++ take (count - by) ms)) from)) in
     ap reverse all ∙ reverse-turned xs ms count by h b same
 
 pub reverse-map : {A B : Type 0} (f : A → B) (xs : List A) → reverse (map f xs) ≡ map f (reverse xs)

@@ -49,7 +49,7 @@ module _ (methods : List MethodRec) (ws : List ℕ) (len : length ws ≡ 513) (f
       let depth_kept : get_or (set ws 1 place) 2 0 ≡ get_or ws 2 0 = get_or-set_other ws 1 2 place 0 (omega arith) in
       record {
         registers = rw zero_kept fits.registers;
-        stack = rw depth_kept fits.stack
+        stack = rw depth_kept fits.stack;
       }
 
   -- the words after a push
@@ -98,7 +98,7 @@ module _ (methods : List MethodRec) (ws : List ℕ) (len : length ws ≡ 513) (f
         let p : get_or ws' 1 0 ≡ get_or ws 1 0 = kept 1 (omega arith) (omega arith) in
         let d = deeper in
         let r : take (register_count methods (get_or ws 0 0)) (drop 3 ws') ≡ take (register_count methods (get_or ws 0 0)) (drop 3 ws) =
-            registers_kept (register_count methods (get_or ws 0 0)) fits.registers in
+        registers_kept (register_count methods (get_or ws 0 0)) fits.registers in
         let s = stack_is in
         cc
 
@@ -107,7 +107,7 @@ module _ (methods : List MethodRec) (ws : List ℕ) (len : length ws ≡ 513) (f
         let m : get_or (set (set ws (258 + get_or ws 2 0) cell) 2 (get_or ws 2 0 + 1)) 0 0 ≡ get_or ws 0 0 = kept 0 (omega arith) (omega arith) in
         record {
           registers = rw m fits.registers;
-          stack = rw deeper (omega (arith, below))
+          stack = rw deeper (omega (arith, below));
         }
 
   -- ---- cells taken from the stack
@@ -127,8 +127,8 @@ module _ (methods : List MethodRec) (ws : List ℕ) (len : length ws ≡ 513) (f
         let xs = take d (drop 258 ws) in
         let few : count ≤ length xs = omega (arith, length-stack, enough) in
         let cut : drop count (reverse xs) ≡ reverse (take (d - count) (drop 258 ws)) =
-            drop-reverse xs count few
-            ∙ (ap (λ k. reverse (take (k - count) xs)) length-stack ∙ ap reverse (take-take (d - count) d (drop 258 ws) (omega arith))) in
+        drop-reverse xs count few
+        ∙ (ap (λ k. reverse (take (k - count) xs)) length-stack ∙ ap reverse (take-take (d - count) d (drop 258 ws) (omega arith))) in
         cc
 
     pub dropped_fits : FitsWindow methods (set ws 2 (get_or ws 2 0 - count))
@@ -139,5 +139,5 @@ module _ (methods : List MethodRec) (ws : List ℕ) (len : length ws ≡ 513) (f
         let n : get_or (set ws 2 (d - count)) 2 0 ≡ d - count = get_or-set_same ws 2 (d - count) 0 (omega arith) in
         record {
           registers = rw m fits.registers;
-          stack = rw n (omega arith)
+          stack = rw n (omega arith);
         }

@@ -75,17 +75,37 @@ word_of (Fresh h p) = h
 
 abbrev pub tagged : Cells Cell
 tagged =
-    record
-    { checks = true; type_of = λ t kinds c. least_type t Bottom kinds c; word = word_of; empty = Empty
-    ; short = Short; high = High; low = Low; reference = Ref; fresh = Fresh; loaded = loaded_as; ready = made_ready }
+    record {
+      checks = true;
+      type_of = λ t kinds c. least_type t Bottom kinds c;
+      word = word_of;
+      empty = Empty;
+      short = Short;
+      high = High;
+      low = Low;
+      reference = Ref;
+      fresh = Fresh;
+      loaded = loaded_as;
+      ready = made_ready;
+    }
 
 -- ---- bare words: nothing is known of what a word holds, and nothing is tested
 
 abbrev pub words : Cells ℕ
 words =
-    record
-    { checks = false; type_of = λ t kinds w. Top; word = λ w. w; empty = 0; short = cast_unsigned w16; high = λ n. n
-    ; low = λ n. n; reference = λ h. h; fresh = λ h p. h; loaded = λ kind w. w; ready = λ place w. w }
+    record {
+      checks = false;
+      type_of = λ t kinds w. Top;
+      word = λ w. w;
+      empty = 0;
+      short = cast_unsigned w16;
+      high = λ n. n;
+      low = λ n. n;
+      reference = λ h. h;
+      fresh = λ h p. h;
+      loaded = λ kind w. w;
+      ready = λ place w. w;
+    }
 
 -- a map of cells that keeps their words and carries each operation of the one form to the other:
 -- all but the types and the tests, which the second form lacks

@@ -1,6 +1,6 @@
 -- How the objects lie in memory: the cells of one after those of another, and a header for each
 -- that says what it is and where they are.
-use Rattle.std.specs.Prelude.{◌≡◌, ℕ, ◌+◌, ◌*◌, List, [], ◌∷◌, map, take, drop}
+use Rattle.std.specs.Prelude.{◌≡◌, ℕ, ◌+◌, ◌*◌, List, [], ◌∷◌, ◌++◌, length, map, take, drop}
 use Rattle.vm_store.specs.declared.header.Header.{Header}
 use Rattle.vm_store.specs.Kind.{element_width}
 use Rattle.vm_store.specs.State.{Object}
@@ -21,3 +21,7 @@ objects_in cells headers = map (object_in cells) headers
 abbrev pub Follow : ℕ → List Header → ℕ → Type 0
 Follow from [] end = from ≡ end
 Follow from (h ∷ hs) end = (h.start ≡ from) × Follow (from + size h) hs end
+
+-- the cells, of which those from a place on are others
+abbrev pub overwritten : {A : Type 0} → List A → ℕ → List A → List A
+overwritten cells from others = take from cells ++ (others ++ drop (from + length others) cells)

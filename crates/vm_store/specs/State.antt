@@ -95,9 +95,12 @@ register_count methods method = registers_of (slice_get methods method)
 -- the others empty
 abbrev pub entered : {A : Type 0} → Cells A → List MethodRec → ℕ → List A → Frame A
 entered k methods method args =
-    record
-    { method = method; place = 0
-    ; registers = args ++ replicate (register_count methods method - length args) k.empty; stack = [] }
+    record {
+      method = method;
+      place = 0;
+      registers = args ++ replicate (register_count methods method - length args) k.empty;
+      stack = [];
+    }
 
 -- the arguments that the top cells of a stack are: the first argument lies deepest
 abbrev pub arguments : {A : Type 0} → ℕ → List A → List A

@@ -22,10 +22,12 @@ window ram n = take 513 (drop (513 * n) ram)
 -- the frame that such words hold
 abbrev pub frame_in : List MethodRec → List ℕ → Frame ℕ
 frame_in methods ws =
-    record
-    { method = slice_index ws 0; place = slice_index ws 1
-    ; registers = take (register_count methods (slice_index ws 0)) (drop 3 ws)
-    ; stack = reverse (take (slice_index ws 2) (drop 258 ws)) }
+    record {
+      method = slice_index ws 0;
+      place = slice_index ws 1;
+      registers = take (register_count methods (slice_index ws 0)) (drop 3 ws);
+      stack = reverse (take (slice_index ws 2) (drop 258 ws));
+    }
 
 -- the first n frames, the last of them on top
 abbrev pub frames_in : List MethodRec → List ℕ → ℕ → List (Frame ℕ)
@@ -78,10 +80,11 @@ headers_in ws (suc n) = headers_in ws n ++ header_at ws n ∷ []
 -- the state that the slices hold
 abbrev pub words_state : List MethodRec → List ℕ → List ℕ → List ℕ → Counts → State ℕ
 words_state methods ram heap statics counts =
-    record
-    { frames = frames_in methods ram counts.frames
-    ; heap = objects_in (drop 12288 heap) (headers_in heap counts.objects)
-    ; statics = statics }
+    record {
+      frames = frames_in methods ram counts.frames;
+      heap = objects_in (drop 12288 heap) (headers_in heap counts.objects);
+      statics = statics;
+    }
 
 -- the slices have their lengths, and the frames and objects lie in them
 pub record AreLaid (w : Linked) (ram heap : List ℕ) (counts : Counts) : Type 0 where

@@ -5,6 +5,7 @@
 #![tactic(auto)]
 
 mod cell;
+mod fill;
 mod form;
 mod frame;
 mod header;

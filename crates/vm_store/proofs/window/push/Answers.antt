@@ -5,7 +5,7 @@ use Rattle.vm_store.proofs.window.push.Goals as goal
 pub bounds-window-depth : goal.bounds-window-depth
 bounds-window-depth c =
     let d : get_or c.args.window.now 2 0 < 255 =
-        below c.args.world.now.methods c.args.window.now c.requires.len c.requires.fits c.args.cell c.requires.room in
+    below c.args.world.now.methods c.args.window.now c.requires.len c.requires.fits c.args.cell c.requires.room in
     omega (arith, c.requires.len)
 
 pub returns-clause-frame : goal.returns-clause-frame
