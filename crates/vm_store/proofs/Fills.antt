@@ -1,7 +1,11 @@
 -- Cells written one after another from a place on.
-use Rattle.std.proofs.Common.{◌≡◌, ℕ, zero, suc, ◌+◌, ◌-◌, ◌*◌, ◌<◌, ◌≤◌, List, [], ◌∷◌, ◌++◌, length, take, drop, map, set, get_or, refl, sym, ◌∙◌, ap, subst, arith, length-drop, length-take}
-use Rattle.std.proofs.lemmas.List.{append-nil, append_assoc, length-append, set-append_right, take-append-drop, take_at, drop_at, drop-set, drop_more, take-append-le, take-take}
-use Rattle.vm_store.specs.Objects.{repeated}
+use Rattle.std.proofs.Common.{◌≡◌, ℕ, zero, suc, ◌+◌, ◌-◌, ◌*◌, ◌<◌, ◌≤◌, List, [], ◌∷◌, ◌++◌, length, take, drop, map, set, refl, sym, ◌∙◌, ap, arith, length-take}
+use Rattle.std.proofs.lemmas.List.{append-nil, append_assoc, length-append, set-append_right, take-append-drop, drop_at, drop_more, take-append-le, take-take}
+use Rattle.vm_store.specs.declared.kind.ObjectKind.{ObjectKind}
+use Rattle.vm_store.specs.declared.kind.ObjectKind.TheVariants.{Instance, Booleans, Bytes, Shorts, Ints, References}
+use Rattle.vm_store.specs.Kind.{element_cells, element_width}
+use Rattle.vm_store.specs.Cells.{Cells, zero_cell}
+use Rattle.vm_store.specs.Objects.{repeated, array_cells}
 use Rattle.vm_store.specs.Layout.{overwritten}
 
 pub overwritten-nil : {A : Type 0} (xs : List A) (from : ℕ) → xs ≡ overwritten xs from []
@@ -81,3 +85,11 @@ overwritten-before xs ys zs from p at le =
     (ap (λ k. ys ++ drop k (take p xs ++ (zs ++ rest))) (sym at)
     ∙ (ap (λ ws. ys ++ ws) (drop_at (take p xs) (zs ++ rest) p front)
     ∙ (sym (append_assoc ys zs rest) ∙ ap (λ k. (ys ++ zs) ++ drop k xs) end)))
+
+pub length-array : {A : Type 0} (k : Cells A) (kind : ObjectKind) (n : ℕ) → length (array_cells k kind n) ≡ element_width kind * n
+length-array k (Instance c) n = length-repeated n 1 (map (zero_cell k) (element_cells (Instance c))) refl
+length-array k Booleans n = length-repeated n 1 (map (zero_cell k) (element_cells Booleans)) refl
+length-array k Bytes n = length-repeated n 1 (map (zero_cell k) (element_cells Bytes)) refl
+length-array k Shorts n = length-repeated n 1 (map (zero_cell k) (element_cells Shorts)) refl
+length-array k Ints n = length-repeated n 2 (map (zero_cell k) (element_cells Ints)) refl
+length-array k (References c) n = length-repeated n 1 (map (zero_cell k) (element_cells (References c))) refl

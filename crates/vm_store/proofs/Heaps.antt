@@ -1,12 +1,12 @@
 -- Objects whose cells follow one another in memory.
-use Rattle.std.proofs.Common.{◌≡◌, ◌≢◌, ℕ, zero, suc, ◌+◌, ◌-◌, ◌*◌, ◌<◌, ◌≤◌, List, [], ◌∷◌, ◌++◌, length, take, drop, map, set, get_or, refl, sym, ◌∙◌, ap, subst, arith, length-drop, length-take, length-set}
-use Rattle.std.specs.Prelude.{Option, Some, None, IsSome, sum_by, slice_get, option_map}
-use Rattle.std.proofs.lemmas.List.{take-set-le, drop-set-lt, drop-set-add, drop-drop, get_or-take, get_or-drop, take-take, drop-take, map-append, length-map, length-append}
+use Rattle.std.proofs.Common.{◌≡◌, ℕ, zero, suc, ◌+◌, ◌-◌, ◌<◌, ◌≤◌, List, [], ◌∷◌, ◌++◌, length, take, drop, set, get_or, refl, sym, ◌∙◌, ap, arith, length-drop, length-take}
+use Rattle.std.specs.Prelude.{sum_by}
+use Rattle.std.proofs.lemmas.List.{take-set-le, drop-set-lt, drop-set-add, drop-drop, take-take, drop-take, take_at, drop_at, map-append}
 use Rattle.std.proofs.lemmas.List.Sums.{sum_by-cons}
 use Rattle.vm_store.specs.declared.header.Header.{Header}
-use Rattle.vm_store.specs.State.{Object, State}
-use Rattle.vm_store.specs.Objects.{write_object, cells_in, object_at, object_cells}
-use Rattle.vm_store.specs.Layout.{size, object_in, objects_in, Follow}
+use Rattle.vm_store.specs.State.{Object}
+use Rattle.vm_store.specs.Objects.{write_object}
+use Rattle.vm_store.specs.Layout.{size, object_in, objects_in, Follow, overwritten}
 
 pub set-take : {A : Type 0} (n : ℕ) (xs : List A) (i : ℕ) (a : A) → take n (set xs i a) ≡ set (take n xs) i a
 set-take zero xs i a = refl
@@ -123,3 +123,22 @@ sum-objects {A} xs from (h ∷ hs) end (here, rest) le =
 pub follow-more : (from : ℕ) (hs : List Header) (end : ℕ) (h : Header) → Follow from hs end → h.start ≡ end → Follow from (hs ++ h ∷ []) (end + size h)
 follow-more from [] end h f here = (here ∙ sym f, ap (λ k. k + size h) f)
 follow-more from (g ∷ gs) end h (first, rest) here = (first, follow-more (from + size g) gs end h rest here)
+
+-- ---- a new object
+
+pub added :
+    {A : Type 0} (xs ys news : List A) (hs : List Header) (end : ℕ) (h : Header)
+    → Follow 0 hs end → end ≤ length xs → ys ≡ overwritten xs end news → h.start ≡ end → size h ≡ length news
+    → objects_in ys (hs ++ h ∷ []) ≡ objects_in xs hs ++ record { kind = h.kind; cells = news } ∷ []
+added {A} xs ys news hs end h follow enough is here width =
+    let build : List A → Object A = λ cells. record { kind = h.kind; cells = cells } in
+    let rest = drop (end + length news) xs in
+    let front : length (take end xs) ≡ end = omega (arith, length-take end xs) in
+    let whole : end - 0 ≡ end = omega arith in
+    let same : take end ys ≡ take end xs = ap (take end) is ∙ take_at (take end xs) (news ++ rest) end front in
+    let same' : take (end - 0) ys ≡ take (end - 0) xs = ap (λ n. take n ys) whole ∙ (same ∙ ap (λ n. take n xs) (sym whole)) in
+    let old : objects_in ys hs ≡ objects_in xs hs = same_objects ys xs 0 hs end follow same' in
+    let behind : drop h.start ys ≡ news ++ rest = ap (λ n. drop n ys) here ∙ (ap (drop end) is ∙ drop_at (take end xs) (news ++ rest) end front) in
+    let cells : take (size h) (drop h.start ys) ≡ news = ap (take (size h)) behind ∙ take_at news rest (size h) (sym width) in
+    map-append (object_in ys) hs (h ∷ [])
+    ∙ (ap (λ os. os ++ object_in ys h ∷ []) old ∙ ap (λ cs. objects_in xs hs ++ build cs ∷ []) cells)

@@ -5,5 +5,8 @@ mod Windows
 mod Rams
 mod Heaps
 mod Handles
+mod Rooms
 mod Fills
 mod Instances
+mod SeenClasses
+mod TaggedHeaps

@@ -1,11 +1,11 @@
 -- The words of all frames, and what a write to those of the frame on top does.
-use Rattle.std.proofs.Common.{◌≡◌, ℕ, zero, suc, ◌+◌, ◌-◌, ◌*◌, ◌<◌, ◌≤◌, List, [], ◌∷◌, ◌++◌, length, take, drop, refl, sym, ◌∙◌, ap, subst, arith, length-drop, length-take}
-use Rattle.std.proofs.lemmas.List.{take-take, take-append-le, take_at, drop_at, drop-drop, length-append, drop-append-le, drop-take, take_all}
+use Rattle.std.proofs.Common.{◌≡◌, ℕ, zero, suc, ◌+◌, ◌-◌, ◌*◌, ◌<◌, ◌≤◌, List, ◌∷◌, ◌++◌, length, take, drop, refl, sym, ◌∙◌, ap, subst, arith, length-drop, length-take}
+use Rattle.std.proofs.lemmas.List.{take-take, take_at, drop_at, length-append, drop-take}
 use borrow.Rule.Slice.PartMut.{put_mid}
 use Rattle.jc_base.specs.declared.record.MethodRec.{MethodRec}
 use Rattle.jc_base.specs.World.{Linked}
 use Rattle.vm_store.specs.declared.words.Counts.{Counts}
-use Rattle.vm_store.specs.State.{Frame, State, first_frame, other_frames, with_top, top}
+use Rattle.vm_store.specs.State.{Frame, State, first_frame, other_frames, with_top}
 use Rattle.vm_store.specs.Words.{window, frame_in, frames_in, FitsWindow, FitWindows, words_state, AreLaid}
 
 pub length-frames_in : (methods : List MethodRec) (ram : List ℕ) (n : ℕ) → length (frames_in methods ram n) ≡ n

@@ -1,5 +1,5 @@
 -- A stack that lies in memory with its top last is the reverse of the list of its cells.
-use Rattle.std.proofs.Common.{◌≡◌, ℕ, ◌+◌, ◌-◌, ◌<◌, ◌≤◌, List, [], ◌∷◌, ◌++◌, length, take, drop, map, reverse, refl, sym, ◌∙◌, ap, arith, length-drop, length-take}
+use Rattle.std.proofs.Common.{◌≡◌, ℕ, ◌-◌, ◌≤◌, List, [], ◌∷◌, ◌++◌, length, take, drop, map, reverse, refl, sym, ◌∙◌, ap, arith, length-drop}
 use Rattle.std.proofs.lemmas.List.{map-append, take-append-drop, reverse-append, length-reverse, take_at, drop_at, take-take, take_all, drop_all, append-nil, append_assoc}
 use borrow.Rule.Slice.PartMut.{put_mid}
 use Rattle.vm_store.specs.State.{rotated}

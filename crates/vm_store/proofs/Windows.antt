@@ -1,9 +1,9 @@
 -- A frame in its words, and what a write to them does to it.
-use Rattle.std.proofs.Common.{◌≡◌, ◌≢◌, ℕ, zero, suc, ◌+◌, ◌-◌, ◌*◌, ◌<◌, ◌≤◌, List, [], ◌∷◌, ◌++◌, length, take, drop, reverse, set, get_or, refl, sym, ◌∙◌, ap, subst, arith, length-drop, length-take, length-set}
+use Rattle.std.proofs.Common.{◌≡◌, ◌≢◌, ℕ, ◌+◌, ◌-◌, ◌<◌, ◌≤◌, List, [], ◌∷◌, length, take, drop, reverse, set, get_or, sym, ◌∙◌, ap, arith, length-drop, length-take, length-set}
 use Rattle.std.proofs.lemmas.List.{take_more_set, take-set-le, drop-set-lt, drop-set-add, get_or-set_other, get_or-set_same, get_or-reverse, get_or-take, get_or-drop, reverse-append, length-reverse, take-take}
 use Rattle.jc_base.specs.declared.record.MethodRec.{MethodRec}
 use Rattle.vm_store.proofs.Stacks.{drop-reverse}
-use Rattle.vm_store.specs.State.{Frame, register_count}
+use Rattle.vm_store.specs.State.{register_count}
 use Rattle.vm_store.specs.Words.{frame_in, FitsWindow}
 
 module _ (methods : List MethodRec) (ws : List ℕ) (len : length ws ≡ 513) (fits : FitsWindow methods ws) where

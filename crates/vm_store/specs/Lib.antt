@@ -9,3 +9,4 @@ pub mod Layout
 pub mod Tagged
 pub mod Words
 pub mod WordStore
+pub mod Calls

@@ -1,11 +1,8 @@
 -- Objects, their making and their cells (JCVM 2.2, sections 2.2, 3.1 and 3.6; chapter 7, `new`, `newarray` and `anewarray`).
-use Rattle.std.specs.Prelude.{◌≡◌, ℕ, zero, suc, ◌+◌, ◌-◌, ◌*◌, ◌/◌, ◌<◌, ◌≤◌, Bool, ◌&&◌, nat_lt, nat_le, List, [], ◌∷◌, ◌++◌, length, map, replicate, slice_set, slice_get, sum_by, Option, Some, None, option_map}
-use Rattle.jc_base.specs.declared.ty.Ty.{Ty}
+use Rattle.std.specs.Prelude.{ℕ, zero, suc, ◌+◌, ◌/◌, Bool, ◌&&◌, nat_lt, nat_le, List, [], ◌∷◌, ◌++◌, length, map, slice_set, slice_get, sum_by, Option, Some, None}
 use Rattle.jc_base.specs.Class.{ClassTable}
 use Rattle.jc_base.specs.Dispatch.{cells_of}
-use Rattle.vm_store.specs.declared.cell.CellKind.{CellKind}
 use Rattle.vm_store.specs.declared.kind.ObjectKind.{ObjectKind}
-use Rattle.vm_store.specs.declared.kind.ObjectKind.TheVariants.{Instance}
 use Rattle.vm_store.specs.Kind.{cell_kind, element_cells, element_width}
 use Rattle.vm_store.specs.Cells.{Cells, zero_cell}
 use Rattle.vm_store.specs.State.{Object, State}

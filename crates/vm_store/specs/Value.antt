@@ -1,6 +1,6 @@
 -- The values of fields and elements in the cells that keep them (JCVM 2.2, sections 3.1 and 3.3; chapter 7,
 -- the instructions that read and write arrays, fields and static fields).
-use Rattle.std.specs.Prelude.{ℕ, zero, suc, ◌+◌, ◌%◌, ℤ, List, [], ◌∷◌, ◌++◌, map, reverse}
+use Rattle.std.specs.Prelude.{ℕ, ◌+◌, ◌%◌, ℤ, List, [], ◌∷◌, ◌++◌, map, reverse}
 use Rattle.std.specs.Int.{w8, cast_signed}
 use Rattle.jc_base.specs.declared.ty.Kind.{Kind}
 use Rattle.jc_base.specs.declared.ty.Kind.TheVariants as fields

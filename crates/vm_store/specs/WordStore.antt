@@ -1,5 +1,5 @@
 -- What a store of bare words holds.
-use Rattle.std.specs.Prelude.{ℕ, List, [], ◌∷◌, Option, Some}
+use Rattle.std.specs.Prelude.{ℕ, [], ◌∷◌, Some}
 use Rattle.vm_store.specs.declared.words.WordStore.{WordStore}
 use Rattle.vm_store.specs.State.{State}
 use Rattle.vm_store.specs.Store.{Fixed}

@@ -3,7 +3,7 @@
 --   heap     object n, counted from 0, from word 3 n on: its kind, its first cell, its elements; all cells from word 12,288 on
 --   statics  the cells of the static fields by slot
 -- An int takes its high word first. Empty and null are 0, a reference is its handle, a short its 16 bits.
-use Rattle.std.specs.Prelude.{◌≡◌, ℕ, zero, suc, ◌+◌, ◌-◌, ◌*◌, ◌<◌, ◌≤◌, Bool, nat_lt, ◌==◌, if◌then◌else◌, List, [], ◌∷◌, ◌++◌, length, map, take, drop, reverse, slice_index}
+use Rattle.std.specs.Prelude.{◌≡◌, ℕ, zero, suc, ◌+◌, ◌-◌, ◌*◌, ◌≤◌, nat_lt, ◌==◌, if◌then◌else◌, List, [], ◌∷◌, ◌++◌, length, take, drop, reverse, slice_index}
 use Rattle.jc_base.specs.declared.record.MethodRec.{MethodRec}
 use Rattle.jc_base.specs.World.{Linked}
 use Rattle.vm_store.specs.declared.kind.ObjectKind.{ObjectKind}

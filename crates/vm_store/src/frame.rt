@@ -1,6 +1,8 @@
-ghost use Rattle.std.specs.Prelude.{◌≡◌, ◌+◌, ◌<◌, ◌≤◌, [], ◌∷◌, ◌++◌, length, map, drop, reverse, replicate, slice_set};
+ghost use Rattle.std.specs.Prelude.{◌≡◌, ◌+◌, ◌-◌, ◌<◌, ◌≤◌, [], ◌∷◌, ◌++◌, length, map, drop, replicate, slice_index_or, slice_set};
+ghost use Rattle.vm_store.specs.declared.cell.Cell.TheVariants.{Empty};
 ghost use Rattle.vm_store.specs.Cells.{tagged, made_ready};
-ghost use Rattle.vm_store.specs.State.{nth, rotated};
+ghost use Rattle.vm_store.specs.Calls.{called};
+ghost use Rattle.vm_store.specs.State.{nth, no_frame, rotated, arguments};
 
 use crate::cell::Cell;
 use crate::stack;
@@ -118,6 +120,34 @@ impl TaggedFrame {
         stack::make_ready(self.stack.as_mut_slice(), place);
     }
 
+    /// Begins a method, with its arguments in the first registers and the others empty.
+    pub fn enter(&mut self, method: u16, count: usize, args: &[Cell])
+        requires few { count ≤ 255 }
+        requires room { length args.now ≤ count }
+        ensures { self.new
+            ≡ record { method = method; place = 0; registers = args.now ++ replicate (count - length args.now) Empty; stack = [] } }
+    {
+        self.method = method;
+        self.place = 0;
+        self.stack.clear();
+        self.registers.clear();
+        for cell in args {
+            self.registers.push(*cell);
+        }
+        for _x in args.len()..count {
+            self.registers.push(Cell::Empty);
+        }
+    }
+
+    /// The top cells of the stack, as a callee's arguments.
+    pub fn last(&self, count: usize) -> &[Cell]
+        requires { count ≤ length self.now.stack }
+        ensures { result.now ≡ arguments count self.now.stack }
+    {
+        let cells = self.stack.as_slice();
+        &cells[cells.len() - count..]
+    }
+
     pub fn register(&self, x: u16) -> Cell
         requires { x < length self.now.registers }
         ensures { result ≡ nth tagged self.now.registers x }
@@ -131,4 +161,19 @@ impl TaggedFrame {
     {
         self.registers[x as usize] = cell;
     }
+}
+
+/// The frame at a number calls a method: the next one begins it, with the top cells of the caller's
+/// stack, which leave it, as its arguments.
+pub fn call(frames: &mut [TaggedFrame], caller: usize, method: u16, registers: usize, count: usize)
+    requires room { caller + 1 < length frames.old }
+    requires there { count ≤ length (slice_index_or frames.old caller no_frame).stack }
+    requires few { registers ≤ 255 }
+    requires fit { count ≤ registers }
+    ensures { frames.new ≡ called frames.old caller method registers count }
+{
+    let (callers, others) = frames.split_at_mut(caller + 1);
+    let caller = &mut callers[caller];
+    others[0].enter(method, registers, caller.last(count));
+    caller.discard(count);
 }

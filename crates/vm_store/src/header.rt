@@ -1,5 +1,4 @@
-ghost use Rattle.std.specs.Prelude.{◌≡◌, ◌*◌, ◌<◌};
-ghost use Rattle.vm_store.specs.Kind.{element_width};
+ghost use Rattle.std.specs.Prelude.{◌≡◌};
 
 use crate::kind::ObjectKind;
 
@@ -11,19 +10,6 @@ pub struct Header {
     pub start: u16,
     /// The number of its elements, or of its cells where it is an instance.
     pub elements: u16,
-}
-
-impl ObjectKind {
-    /// How many cells an element takes, or a cell of an instance.
-    pub fn width(self) -> usize
-        ensures value { result ≡ element_width self }
-        ensures most { result < 3 }
-    {
-        match self {
-            ObjectKind::Ints => 2,
-            _ => 1,
-        }
-    }
 }
 
 impl Header {

@@ -10,6 +10,7 @@ mod form;
 mod frame;
 mod header;
 mod kind;
+mod registers;
 mod stack;
 mod store;
 mod tagged;

@@ -1,6 +1,5 @@
-use Rattle.std.proofs.Common.{◌≡◌, ◌+◌, ◌-◌, ◌≤◌, length, ap, sym, ◌∙◌, subst, arith}
+use Rattle.std.proofs.Common.{◌+◌, ◌-◌, length, ap, sym, ◌∙◌, subst}
 use Rattle.jc_base.specs.Class.{ClassTable, IsNextOnChain, IsEndOfChain}
-use Rattle.jc_base.specs.Dispatch.{own_cells, cells_of}
 use Rattle.vm_store.proofs.Instances.{filled-nothing, own_cells_is, fits-above, filled-next, filled-whole}
 use Rattle.vm_store.proofs.fill.fill_instance.Goals as goal
 

@@ -1,6 +1,5 @@
-use Rattle.std.proofs.Common.{◌≡◌, ◌+◌, length, drop}
+use Rattle.std.proofs.Common.{length}
 use Rattle.jc_base.specs.Class.{chain}
-use Rattle.jc_base.specs.Dispatch.{cells_of}
 use Rattle.vm_store.proofs.Instances.{IsFilledAbove}
 use Rattle.vm_store.proofs.fill.fill_instance.Given as goal
 

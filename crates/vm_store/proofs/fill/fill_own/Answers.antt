@@ -1,5 +1,4 @@
-use Rattle.std.proofs.Common.{◌≡◌, ap, ◌∙◌}
-use Rattle.vm_store.specs.Kind.{cell_kind}
+use Rattle.std.proofs.Common.{ap, ◌∙◌}
 use Rattle.vm_store.specs.Cells.{zero_cell}
 use Rattle.vm_store.proofs.Instances.{zeros-more}
 use Rattle.vm_store.proofs.fill.fill_own.Goals as goal

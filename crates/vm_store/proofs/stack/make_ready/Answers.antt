@@ -1,4 +1,4 @@
-use Rattle.std.proofs.Common.{◌≡◌, ◌+◌, ◌++◌, length, map, take, drop, set, get_or, ◌∙◌, ap, sym, arith}
+use Rattle.std.proofs.Common.{set, get_or, ◌∙◌, ap, arith}
 use Rattle.std.proofs.lemmas.List.{get_or_default}
 use Rattle.vm_store.specs.Cells.{made_ready}
 use Rattle.vm_store.specs.declared.cell.Cell.TheVariants.{Empty}

@@ -1,4 +1,4 @@
-use Rattle.std.proofs.Common.{length, ◌-◌, refl}
+use Rattle.std.proofs.Common.{refl}
 use Rattle.vm_store.proofs.Stacks.{rotated_in_place}
 use Rattle.vm_store.proofs.stack.rotate.Goals as goal
 

@@ -1,5 +1,4 @@
-use Rattle.std.proofs.Common.{◌≡◌, length, reverse, map, ap, ◌∙◌, sym}
-use Rattle.std.specs.List.{refill}
+use Rattle.std.proofs.Common.{◌≡◌, length, reverse, map, ap, ◌∙◌}
 use Rattle.std.proofs.lemmas.List.{length-map}
 use Rattle.vm_store.specs.Cells.{made_ready}
 use Rattle.vm_store.proofs.Frames.{restacked, refilled}
