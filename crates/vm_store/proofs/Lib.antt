@@ -1,12 +1,10 @@
-mod Stacks
+pub mod Stacks
 mod Frames
 mod Tops
-mod Windows
-mod Rams
-mod Heaps
-mod Handles
-mod Rooms
-mod Fills
-mod Instances
-mod SeenClasses
+pub mod Heaps
+pub mod Handles
+pub mod Rooms
+pub mod Fills
+pub mod Instances
+pub mod SeenClasses
 mod TaggedHeaps

@@ -1,5 +1,5 @@
 -- What an object is, and which cells it has (JCVM 2.2, sections 2.2, 3.1 and 3.6).
-use Rattle.std.specs.Prelude.{ℕ, zero, suc, if◌then◌else◌, List, [], ◌∷◌, Option, None, slice_get}
+use Rattle.std.specs.Prelude.{ℕ, zero, suc, ◌<◌, if◌then◌else◌, List, [], ◌∷◌, Option, None, slice_get}
 use Rattle.jc_base.specs.declared.ty.Ty.{Ty}
 use Rattle.jc_base.specs.declared.ty.Ty.TheVariants.{Short, IntHigh, IntLow, Class, ArrBool, ArrByte, ArrShort, ArrInt, ArrRef}
 use Rattle.jc_base.specs.Class.{ClassTable, is_interface, object}
@@ -25,6 +25,12 @@ type_of_kind t (References c) = ArrRef (seen_class t c)
 abbrev pub IsArrayKind : ObjectKind → Type 0
 IsArrayKind (Instance c) = ⊥
 IsArrayKind _ = Unit {0}
+
+-- its class or interface, where it has one, is numbered as one of a world, which has 4,096 at most
+abbrev pub IsNumbered : ObjectKind → Type 0
+IsNumbered (Instance c) = c < 4096
+IsNumbered (References c) = c < 4096
+IsNumbered _ = Unit {0}
 
 -- the cells of one element of an array, or one cell of an instance
 abbrev pub element_cells : ObjectKind → List CellKind

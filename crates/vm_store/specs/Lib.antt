@@ -7,6 +7,4 @@ pub mod Value
 pub mod Store
 pub mod Layout
 pub mod Tagged
-pub mod Words
-pub mod WordStore
 pub mod Calls

@@ -111,7 +111,7 @@ impl TaggedFrame {
         requires part { by ≤ count }
         ensures { self.new ≡ record self.old { stack = rotated count by self.old.stack } }
     {
-        stack::rotate(self.stack.as_mut_slice(), count, by);
+        stack::rotate_cells(self.stack.as_mut_slice(), count, by);
     }
 
     pub fn make_ready(&mut self, place: u16)

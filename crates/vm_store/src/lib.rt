@@ -14,12 +14,13 @@ mod registers;
 mod stack;
 mod store;
 mod tagged;
-mod window;
-mod words;
 
 pub use cell::{Cell, CellKind};
+pub use fill::{fill_array, fill_instance};
 pub use form::CellForm;
+pub use header::Header;
 pub use kind::ObjectKind;
+pub use registers::register_count;
+pub use stack::rotate_cells;
 pub use store::Store;
 pub use tagged::TaggedStore;
-pub use words::{Counts, WordStore};

@@ -7,7 +7,7 @@ use crate::cell::Cell;
 use crate::form::CellForm;
 
 /// Puts the top `by` of the top `count` cells below the others.
-pub fn rotate<C: CellForm>(stack: &mut [C], count: usize, by: usize)
+pub fn rotate_cells<C: CellForm>(stack: &mut [C], count: usize, by: usize)
     requires there { count ≤ length stack.old }
     requires part { by ≤ count }
     ensures { reverse stack.new ≡ rotated count by (reverse stack.old) }

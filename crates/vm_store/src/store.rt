@@ -1,7 +1,7 @@
 ghost use Rattle.std.specs.Prelude.{◌≡◌, ◌+◌, ◌*◌, ◌^◌, ◌<◌, ◌≤◌, ◌∷◌, ℕ, Some, IsTrue, IsSome, List, length, map, drop, option_map};
 ghost use Rattle.jc_base.specs.Class.{IsClass};
 ghost use Rattle.jc_base.specs.Dispatch.{cells_of};
-ghost use Rattle.vm_store.specs.Kind.{IsArrayKind, element_width, kind_of_handle};
+ghost use Rattle.vm_store.specs.Kind.{IsArrayKind, IsNumbered, element_width, kind_of_handle};
 ghost use Rattle.vm_store.specs.State.{State, IsRunning, nth, top, with_top, with_place, with_stack, with_register, with_call, with_entry, without_top, without_frames, rotated, register_count, frame_limit};
 ghost use Rattle.vm_store.specs.Objects.{kinds, object_at, object_cells, element_count, has_room, instance_cells, array_cells, with_object, with_object_cell, with_static_cell};
 ghost use Rattle.vm_store.specs.Store.{Fixed, IsOf};
@@ -208,6 +208,7 @@ pub trait Store {
     fn make_array(&mut self, kind: ObjectKind, count: u16) -> u16
         requires well { well self.old }
         requires array { IsArrayKind kind }
+        requires class { IsNumbered kind }
         requires room { IsTrue (has_room (state self.old) (element_width kind * count)) }
         ensures handle { result ≡ length (state self.old).heap + 1 }
         ensures state { state self.new ≡ with_object (state self.old) kind (array_cells Self.Cell.cells kind count) }
