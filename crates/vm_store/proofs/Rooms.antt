@@ -13,6 +13,9 @@ use Rattle.std.proofs.lemmas.List.{length-map}
 lt-true : (a b : ℕ) → a < b → nat_lt a b ≡ true
 lt-true a b h = grind (arith, nat_tests)
 
+not-lt : (a b : ℕ) → b ≤ a → nat_lt a b ≡ false
+not-lt a b h = grind (arith, nat_tests)
+
 true-lt : (a b : ℕ) → nat_lt a b ≡ true → a < b
 true-lt a b h = grind (arith, nat_tests)
 
@@ -49,3 +52,8 @@ module _ {A : Type 0} (s : State A) (xs : List A) (hs : List Header) (end : ℕ)
   room_for n h =
       let r = room-means s n h in
       record { one = omega (arith, r.one, objects_counted); all = omega (arith, r.all, cells_counted) }
+
+  pub room_else : (n : ℕ) → 4096 ≤ length hs → false ≡ has_room s n
+  room_else n many =
+      let f : nat_lt (length s.heap) 4096 ≡ false = not-lt (length s.heap) 4096 (omega (arith, many, objects_counted)) in
+      ap (λ b. b && nat_le (cell_count s + n) 32768) (sym f)

@@ -1,2 +1,3 @@
 mod Windows
 mod Rams
+mod WordHeaps

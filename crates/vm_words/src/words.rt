@@ -3,7 +3,7 @@ ghost use Rattle.vm_store.specs.Cells.{words};
 ghost use Rattle.vm_store.specs.State.{IsRunning, top, first_frame, other_frames, arguments, entered, register_count};
 ghost use Rattle.vm_words.specs.Words.{AreLaid, FitsWindow, FitWindows, frame_in, frames_in, called_words, words_state};
 
-use crate::object::{header, set_header};
+use crate::object::{FIRST_CELL, cell, header, set_cell, set_header};
 use crate::window;
 use jc_base::{Classes, Ty, World};
 use vm_store::{Header, ObjectKind, Store, fill_array, fill_instance};
@@ -13,9 +13,6 @@ const OBJECTS: u16 = 4096;
 
 /// The most cells of all objects of a run.
 const CELLS: usize = 32768;
-
-/// Where the cells of objects begin.
-const FIRST_CELL: usize = 12288;
 
 /// How many frames, objects and cells of objects there are.
 #[derive(Clone, Copy)]
@@ -163,6 +160,7 @@ impl<'a> Store for WordStore<'a> {
         );
     }
 
+    #[tactic(auto, using(crate::proofs::Rams::next_reach))]
     fn begin(&mut self, _world: &World<'_>, method: u16) {
         let from = window::WORDS * self.counts.frames as usize;
         window::enter(
@@ -194,7 +192,10 @@ impl<'a> Store for WordStore<'a> {
     }
 
     fn has_room(&self, cells: usize) -> bool {
-        self.counts.objects < OBJECTS && self.counts.cells as usize + cells <= CELLS
+        if self.counts.objects >= OBJECTS {
+            return false;
+        }
+        self.counts.cells as usize + cells <= CELLS
     }
 
     fn object_count(&self) -> u16 {
@@ -210,6 +211,7 @@ impl<'a> Store for WordStore<'a> {
     }
 
     fn make_instance(&mut self, world: &World<'_>, class: u16) -> u16 {
+        let _limit = world.class_count();
         let elements = world.class(class).cells;
         let start = self.counts.cells;
         fill_instance(&mut self.heap[FIRST_CELL..], start as usize, world, class);
@@ -239,13 +241,11 @@ impl<'a> Store for WordStore<'a> {
     }
 
     fn object_cell(&self, handle: u16, i: usize) -> u16 {
-        let header = header(self.heap, handle as usize - 1);
-        self.heap[FIRST_CELL + (header.start as usize + i)]
+        cell(self.heap, handle as usize - 1, i)
     }
 
     fn set_object_cell(&mut self, handle: u16, i: usize, cell: u16) {
-        let header = header(self.heap, handle as usize - 1);
-        self.heap[FIRST_CELL + (header.start as usize + i)] = cell;
+        set_cell(self.heap, handle as usize - 1, i, cell);
     }
 
     fn static_cell(&self, slot: usize) -> u16 {
@@ -275,12 +275,8 @@ fn call(ram: &mut [u16], world: &World<'_>, frames: usize, method: u16, count: u
     ensures fit { FitWindows world.now.methods ram.new (frames + 1) }
 {
     let (below, above) = ram.split_at_mut(window::WORDS * frames);
-    let caller = &mut below[window::WORDS * (frames - 1)..];
-    window::enter(
-        &mut above[..window::WORDS],
-        world,
-        method,
-        window::last(caller, world, count),
-    );
+    let (_lower, caller) = below.split_at_mut(window::WORDS * (frames - 1));
+    let (callee, _unused) = above.split_at_mut(window::WORDS);
+    window::enter(callee, world, method, window::last(caller, world, count));
     window::discard(caller, world, count);
 }

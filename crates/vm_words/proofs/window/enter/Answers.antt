@@ -1,4 +1,4 @@
-use Rattle.std.proofs.Common.{◌≡◌, ℕ, ◌-◌, ◌++◌, ◌≤◌, length, take, drop, replicate, ap, sym, ◌∙◌, subst, arith}
+use Rattle.std.proofs.Common.{◌≡◌, ℕ, ◌-◌, ◌++◌, ◌≤◌, length, take, drop, replicate, ◌∙◌, subst, arith}
 use Rattle.vm_store.specs.State.{register_count}
 use Rattle.vm_words.proofs.Windows.{register-more, begun, begun_fits}
 use Rattle.vm_words.proofs.window.enter.Goals as goal
