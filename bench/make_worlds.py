@@ -28,7 +28,7 @@ ACONST_NULL, ALOAD, ASTORE, SCONST_0, SCONST_1, SLOAD, SSTORE, SADD = 1, 21, 40,
 ALOAD_0, ASTORE_0, POP, CHECKCAST, IFEQ_W, IFNE_W = 24, 43, 59, 148, 152, 153
 
 
-def identifier(number):
+def aid(number):
     return bytes([0xF0, 1, 2, 3, number])
 
 
@@ -56,7 +56,7 @@ def above_in_chain(package, number, at):
 
 
 def above_in_tree(package, number, at):
-    """The superclass is object, and for the roles behind throwable it is throwable."""
+    """The superclass is object, and for the roles after throwable it is throwable."""
     if package > 0:
         return external(0, 0)
     if number == 0:
@@ -92,8 +92,8 @@ def pool_entries(number, count, at, statics):
 
 def full_package(number, above):
     """255 classes with 2,048 methods, 2,040 static and as many instance fields, and a pool of every kind."""
-    package, at, exports, statics = Package(identifier(number)), [], [], []
-    package.imports = [identifier(n) for n in range(number)]
+    package, at, exports, statics = Package(aid(number)), [], [], []
+    package.imports = [aid(n) for n in range(number)]
     package.zeros = 16 * CLASSES
     first = 2 + 2 * POOL
     for c in range(CLASSES):
@@ -134,8 +134,8 @@ def with_roles(packages):
 
 def class_chain(number):
     """255 classes in one chain that goes on from the package before."""
-    package, at = Package(identifier(number)), []
-    package.imports = [identifier(n) for n in range(number)]
+    package, at = Package(aid(number)), []
+    package.imports = [aid(n) for n in range(number)]
     for c in range(CLASSES):
         at.append(package.next_class())
         package.add_class(class_record(above=above_in_chain(number, c, at)))
@@ -144,12 +144,12 @@ def class_chain(number):
 
 
 def with_method(code, max_stack, classes, handlers=()):
-    """A method with 255 registers behind packages with a chain of so many classes or more, of which its
+    """A method with 255 registers after packages with a chain of so many classes or more, of which its
     pool names as many from the lowest on. A handler is its first place, its length and its entry."""
     libraries = [class_chain(n) for n in range(max(1, -(-classes // CLASSES)))]
     count = len(libraries)
-    package = Package(identifier(count))
-    package.imports = [identifier(n) for n in range(count)]
+    package = Package(aid(count))
+    package.imports = [aid(n) for n in range(count)]
     lowest = count * CLASSES - 1
     package.pool = [bytes([1]) + u2(external((lowest - n) // CLASSES, (lowest - n) % CLASSES)) + bytes([0]) for n in range(classes)]
     start = 1 + 8 * len(handlers)
@@ -213,10 +213,10 @@ def deep_handlers(share):
     places they have the lowest class of a chain of 3,825. So each merge climbs the chain for each register."""
     places, classes = part(share, 16), 15 * CLASSES
     before = all_registers(classes - 2) + bytes([ACONST_NULL, SCONST_0])
-    behind = bytes([POP]) + all_registers(0)
-    start = len(before) + 3 + len(behind)
+    between = bytes([POP]) + all_registers(0)
+    start = len(before) + 3 + len(between)
     entry = start + places + 1
-    code = before + branch(IFNE_W, entry - len(before)) + behind + bytes(places) + RETURN + RETURN
+    code = before + branch(IFNE_W, entry - len(before)) + between + bytes(places) + RETURN + RETURN
     return with_method(code, 2, classes, [(start, places, entry)] * 255)
 
 
@@ -230,7 +230,7 @@ def back_branches(count, head, at):
 
 
 def climbing(share):
-    """Half of the code is straight, and behind it stand branches back to its beginning. Each raises register 0 by
+    """Half of the code is straight, and after it stand branches back to its beginning. Each raises register 0 by
     one class along a chain, so that all the straight code is gone over again for each."""
     size = part(share, 8192)
     code = bytes([ACONST_NULL, ASTORE_0])

@@ -1,4 +1,4 @@
-"""A package as it is laid into the files of its components, for the makers of large ones."""
+"""A package as it is laid into the files of its components, for the makers of examples and of large ones."""
 import os
 
 AID = bytes([0xF0, 1, 2, 3, 4])
@@ -21,9 +21,10 @@ def write_component(folder, tag, info):
         file.write(bytes([tag]) + u2(len(info)) + info)
 
 
-def class_record(public=(), visible=(), above=NO_SUPERCLASS, cells=0):
-    """A class with full tables from token 0 on, its superclass's reference, and so many cells of its own."""
-    head = bytes([0]) + u2(above) + bytes([cells, 0xFF, 0, 0, len(public), 0, len(visible)])
+def class_record(public=(), visible=(), above=NO_SUPERCLASS, cells=0, base=0):
+    """A class with its superclass's reference, so many cells of its own, and two tables: the public one begins
+    at the token `base`, the package-visible one at 0."""
+    head = bytes([0]) + u2(above) + bytes([cells, 0xFF, 0, base, len(public), 0, len(visible)])
     return head + b"".join(map(u2, public)) + b"".join(map(u2, visible))
 
 
@@ -54,13 +55,16 @@ class Package:
 
     def __init__(self, aid=AID):
         self.aid = aid
-        self.imports = []       # identifiers of packages
+        self.applets = []       # pairs of an AID and the offset of the install method
+        self.imports = []       # AIDs of packages
         self.pool = []          # entries of four bytes
+        self.pool_types = None  # for each entry its type in the Descriptor; None: zeros
         self.classes = []       # Class records
         self.described = []     # for each a pair of field records and method records
         self.handlers = b""
         self.methods = b""
         self.indices = []       # where indices of two bytes into the pool stand in the info of Method
+        self.byte_indices = []  # the same of indices of one byte
         self.references = 0
         self.arrays = []
         self.zeros = 0
@@ -87,11 +91,12 @@ class Package:
 
     def descriptor(self):
         info, at = bytes([min(len(self.described), 255)]), 2
-        for record, (fields, methods) in list(zip(self.classes, self.described))[:255]:
-            info += bytes([0, 0]) + u2(at) + bytes([0]) + u2(len(fields)) + u2(len(methods))
+        for token, (record, (fields, methods)) in enumerate(list(zip(self.classes, self.described))[:255]):
+            info += bytes([token, 1]) + u2(at) + bytes([0]) + u2(len(fields)) + u2(len(methods))
             info += b"".join(fields) + b"".join(methods)
             at += len(record)
-        return info + u2(len(self.pool)) + bytes(2 * len(self.pool)) + self.types
+        pool_types = self.pool_types or [0] * len(self.pool)
+        return info + u2(len(self.pool)) + b"".join(map(u2, pool_types)) + self.types
 
     def statics(self):
         info = u2(self.image_size()) + u2(self.references) + u2(len(self.arrays))
@@ -107,18 +112,21 @@ class Package:
         array_bytes = sum(len(values) for _, values in self.arrays)
         info = b"".join(u2(sizes.get(tag, 0)) for tag in range(1, 13))
         info += u2(self.image_size()) + u2(len(self.arrays)) + u2(array_bytes & 0xFFFF)
-        return info + bytes([len(self.imports), 0, 0])
+        return info + bytes([len(self.imports), len(self.applets), 0])
 
     def infos(self):
-        flags = 0 if self.export is None else 2
+        flags = (0 if self.export is None else 2) + (4 if self.applets else 0)
         infos = {
             1: bytes.fromhex("DECAFFED0202") + bytes([flags, 0, 1, len(self.aid)]) + self.aid + bytes([0]),
             4: bytes([len(self.imports)]) + b"".join(bytes([0, 1, len(aid)]) + aid for aid in self.imports),
             5: u2(len(self.pool)) + b"".join(self.pool),
             6: u2(0) + b"".join(self.classes),
             7: bytes([len(self.handlers) // 8]) + self.handlers + self.methods,
-            8: self.statics(), 9: u2(0) + distances(self.indices), 11: self.descriptor(),
+            8: self.statics(), 9: distances(self.byte_indices) + distances(self.indices), 11: self.descriptor(),
         }
+        if self.applets:
+            infos[3] = bytes([len(self.applets)])
+            infos[3] += b"".join(bytes([len(aid)]) + aid + u2(install) for aid, install in self.applets)
         if self.export is not None:
             infos[10] = self.export
         infos[2] = self.directory(infos)

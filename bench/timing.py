@@ -14,7 +14,7 @@ def timed(words):
 
 def run(usage, command, shapes, make):
     """Runs a maker on its own words, FOLDER [CAPCHECK [PERCENT]]. `make(shape, share, folder)` makes a shape of
-    this share of its full size in the folder, and gives the words that stand behind the command's name."""
+    this share of its full size in the folder, and gives the words that stand after the command's name."""
     words = sys.argv[1:]
     if not 1 <= len(words) <= 3:
         sys.exit(usage)
@@ -22,7 +22,7 @@ def run(usage, command, shapes, make):
     for shape in shapes:
         row = []
         for name, size in (("full", share), ("half", share / 2)):
-            behind = make(shape, size, os.path.abspath(os.path.join(words[0], shape.__name__ + "-" + name)))
+            words_after = make(shape, size, os.path.abspath(os.path.join(words[0], shape.__name__ + "-" + name)))
             if len(words) > 1:
-                row.append(name + " " + timed([words[1], command, *behind]))
+                row.append(name + " " + timed([words[1], command, *words_after]))
         print("%-13s %s" % (shape.__name__, "   ".join(row)), flush=True)

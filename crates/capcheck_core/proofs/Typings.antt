@@ -12,9 +12,9 @@ use Rattle.jc_base.specs.declared.record.MethodRec.{MethodRec}
 use Rattle.jc_base.specs.World.{Linked, code_of}
 use Rattle.jc_base.specs.Linked.{list_at}
 use Rattle.jc_rules.specs.Demand.{Frame}
-use Rattle.jc_rules.specs.Flow.{Method, IsMethodOf, IsLeastTyping, HasFlowTyping}
+use Rattle.jc_control.specs.Method.{Method, IsMethodOf, method_with, method_in}
+use Rattle.jc_rules.specs.Flow.{IsLeastTyping, HasFlowTyping}
 use Rattle.jc_rules.specs.Typing.{state_at}
-use Rattle.jc_control.specs.MethodIn.{method_with, method_in}
 use Rattle.jc_flow.specs.declared.end.FlowEnd.{FlowEnd}
 use Rattle.jc_flow.specs.declared.end.FlowEnd.TheVariants.{NoTyping, Code, BadTarget, FallsOff, BadHandler, Memory}
 use Rattle.jc_flow.specs.Infer.{TellsEnd, HasNone}

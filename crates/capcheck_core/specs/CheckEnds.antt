@@ -2,7 +2,8 @@
 use Rattle.std.specs.Prelude.{◌≡◌, ℕ, Bool, length, option_map, Some, Result, Ok, Err, slice_get}
 use Rattle.jc_base.specs.declared.ty.Ty.TheVariants.{Top}
 use Rattle.jc_base.specs.World.{Linked}
-use Rattle.jc_rules.specs.Flow.{Method, HasFlowTyping}
+use Rattle.jc_control.specs.Method.{Method}
+use Rattle.jc_rules.specs.Flow.{HasFlowTyping}
 use Rattle.jc_flow.specs.declared.end.FlowEnd.{FlowEnd}
 use Rattle.jc_flow.specs.Infer.{TellsEnd, HasNone}
 use Rattle.capcheck_core.specs.Typed.{IsOfLast, is_of_last}

@@ -4,12 +4,14 @@ use Rattle.std.specs.Prelude.{IfSome, slice_get, slice_index, ◌==◌}
 use Rattle.std.proofs.lemmas.List.Elements.{All-from_recursion, All-nil}
 use Rattle.jc_base.specs.declared.ty.Ty.TheVariants.{Class}
 use Rattle.jc_base.specs.declared.record.Member.TheVariants.{ClassOf}
-use Rattle.jc_base.specs.Cell.{IsDeclared}
+use Rattle.jc_base.specs.Cell.{IsDeclared, no_cells, one_cell}
 use Rattle.jc_base.specs.declared.record.Handler.{Handler}
 use Rattle.jc_base.specs.declared.record.MethodRec.{MethodRec}
 use Rattle.jc_base.specs.Class.{IsClass, AreClasses, EndsWithObject, is_interface, parent_of, chain, chain_over}
 use Rattle.jc_base.specs.Order.{same}
 use Rattle.jc_base.specs.Dispatch.{HasBody, visible_in, nearest_of, package_of, public_of, visible_of, cell_count}
+use Rattle.jc_base.specs.Interface.{extended, NoneExtendsItself}
+use Rattle.jc_base.proofs.Leading.{leads-nowhere}
 use Rattle.jc_base.specs.Linked.{IsMethod, IsHandler, IsLinkedClass, IsDispatch, IsMember}
 use Rattle.jc_base.specs.World.{IsWorld, IsThrown}
 use Rattle.flow_tests.specs.OneMethod.{classes, only_method, sample}
@@ -87,6 +89,17 @@ all_thrown methods (suc (suc (suc (suc (suc (suc zero)))))) low high = thrown me
 all_thrown methods (suc (suc (suc (suc (suc (suc (suc zero))))))) low high = thrown methods
 all_thrown methods (suc (suc (suc (suc (suc (suc (suc (suc k)))))))) low high = absurd (omega arith)
 
+extends_nothing : (i : ℕ) → extended classes i ≡ []
+unfolding extended
+extends_nothing zero = refl
+extends_nothing (suc zero) = refl
+extends_nothing (suc (suc zero)) = refl
+extends_nothing (suc (suc (suc zero))) = refl
+extends_nothing (suc (suc (suc (suc i)))) = refl
+
+none_extends : NoneExtendsItself classes
+none_extends = λ i leads. leads-nowhere extends_nothing leads
+
 -- ---- the method and the world
 
 pub caught_all : (len start end entry : ℕ) → start ≤ end → end ≤ len → entry < len → IsHandler classes (ClassOf 1 ∷ []) len (record { start = start; end = end; entry = entry; index = 0; class = 1 })
@@ -103,6 +116,8 @@ module _ (code : List ℕ) (handlers : List Handler) (filled : 0 < length code) 
         registers = lit≤ tt;
         arguments = All-from_recursion (IsDeclared classes) (Class 2 ∷ Class 3 ∷ []) (is_first, (is_second, tt));
         result = is_throwable;
+        whole = one_cell tt (one_cell tt no_cells);
+        first = tt;
         code = record { least = filled; most = short };
         inside = omega arith;
         handlers = fit;
@@ -125,6 +140,7 @@ module _ (code : List ℕ) (handlers : List Handler) (filled : 0 < length code) 
         one_pool_each = refl;
         members = All-from_recursion (All (IsMember classes (only_method (length code) handlers ∷ []) [])) ((ClassOf 1 ∷ []) ∷ []) (All-from_recursion (IsMember classes (only_method (length code) handlers ∷ []) []) (ClassOf 1 ∷ []) (lit< tt, tt), tt);
         chains = are_classes;
+        extension = none_extends;
         classes = linked (only_method (length code) handlers ∷ []);
         methods = All-from_recursion (IsMethod (code ∷ []) ((ClassOf 1 ∷ []) ∷ []) classes) (only_method (length code) handlers ∷ []) (the_method, tt);
         statics = All-nil _;

@@ -1,19 +1,22 @@
-use crate::caught::Range;
+ghost use Rattle.std.specs.Prelude.{◌<◌, IsSomeAnd, slice_get};
+
+use crate::caught::{Range, handler};
 use crate::one_method::world;
-use jc_control::{Flaw, Survey, SurveyEnd, survey};
+use jc_base::World;
+use jc_control::{ControlEnd, Flaw, control_flow};
 use jc_decode::CodeEnd;
 use std::alloc::Global;
 use std::test::*;
 
 /// The code of a method and its handlers; the places that control reaches, and the leaders among them.
-type Surveyed = (
+type Controlled = (
     &'static [u8],
     &'static [Range],
     &'static [u16],
     &'static [u16],
 );
 
-static SURVEYED: [Surveyed; 5] = [
+static CONTROLLED: [Controlled; 5] = [
     // `sconst_0`, `sreturn`
     (&[3, 120], &[], &[0, 1], &[]),
     // `sconst_0` alone: control falls past the end
@@ -54,25 +57,33 @@ static FLAWED: [Flawed; 8] = [
     (&[17, 0, 0, 122], &[(0, 4, 1)], Flaw::BadHandler(1, 0)),
 ];
 
-/// The survey of the method, where its code is that of a short example.
-fn surveyed(alloc: Global, code: &[u8], ranges: &[Range]) -> Option<Result<Survey, SurveyEnd>> {
-    if code.is_empty() || code.len() > 100 || ranges.len() > 10 {
-        return None;
-    }
-    match world(alloc, code, ranges) {
-        Ok(world) => Some(survey(alloc, &world, 0)),
-        Err(_) => None,
+/// Whether these are the places that control reaches and the leaders among them, and the handlers live whose entries
+/// are leaders.
+fn has_control(alloc: Global, world: &World<'_>, len: u16, example: Controlled) -> bool
+    requires code { IsSomeAnd (slice_get world.now.methods 0) (λ m. 0 < m.code_len) }
+    requires filled { 0 < len }
+{
+    let (_, ranges, reached, leaders) = example;
+    match control_flow(alloc, world, 0) {
+        Ok(control) => (0..=100).all(|place| {
+            control.is_reached(place) == reached.contains(&place)
+                && control.is_leader(place) == leaders.contains(&place)
+        }) && ranges.iter().all(|range| {
+            control.is_live(handler(*range, len)) == leaders.contains(&range.2)
+        }),
+        Err(_) => false,
     }
 }
 
-/// Whether these are the places that control reaches, and the leaders among them.
-fn finds(alloc: Global, (code, ranges, reached, leaders): Surveyed) -> bool {
-    match surveyed(alloc, code, ranges) {
-        Some(Ok(survey)) => (0..=100).all(|place| {
-            survey.is_reached(place) == reached.contains(&place)
-                && survey.is_leader(place) == leaders.contains(&place)
-        }),
-        _ => false,
+/// Whether this is what is told of the method.
+fn finds(alloc: Global, example: Controlled) -> bool {
+    let (code, ranges, _, _) = example;
+    if code.is_empty() || code.len() > 100 || ranges.len() > 10 {
+        return false;
+    }
+    match world(alloc, code, ranges) {
+        Ok(world) => has_control(alloc, &world, code.len() as u16, example),
+        Err(_) => false,
     }
 }
 
@@ -98,20 +109,43 @@ fn is_same_flaw(a: Flaw, b: Flaw) -> bool {
     }
 }
 
-/// Whether this is the first flaw.
-fn is_flawed(alloc: Global, (code, ranges, expected): Flawed) -> bool {
-    match surveyed(alloc, code, ranges) {
-        Some(Err(SurveyEnd::Flawed(flaw))) => is_same_flaw(flaw, expected),
+/// Whether this is the first flaw of the method of a world.
+fn has_flaw(alloc: Global, world: &World<'_>, expected: Flaw) -> bool
+    requires { IsSomeAnd (slice_get world.now.methods 0) (λ m. 0 < m.code_len) }
+{
+    match control_flow(alloc, world, 0) {
+        Err(ControlEnd::Flawed(flaw)) => is_same_flaw(flaw, expected),
         _ => false,
     }
 }
 
+/// Whether this is the first flaw.
+fn is_flawed(alloc: Global, (code, ranges, expected): Flawed) -> bool {
+    if code.is_empty() || code.len() > 100 || ranges.len() > 10 {
+        return false;
+    }
+    match world(alloc, code, ranges) {
+        Ok(world) => has_flaw(alloc, &world, expected),
+        Err(_) => false,
+    }
+}
+
+/// Whether each example is told as expected.
+fn are_told(alloc: Global) -> bool {
+    for example in CONTROLLED.iter() {
+        if !finds(alloc, *example) {
+            return false;
+        }
+    }
+    for example in FLAWED.iter() {
+        if !is_flawed(alloc, *example) {
+            return false;
+        }
+    }
+    true
+}
+
 #[test]
 fn where_control_goes(rt: HostRuntime) {
-    for example in SURVEYED {
-        assert!(rt; finds(rt.alloc(), example));
-    }
-    for example in FLAWED {
-        assert!(rt; is_flawed(rt.alloc(), example));
-    }
+    assert!(rt; are_told(rt.alloc()));
 }

@@ -1,6 +1,8 @@
+ghost use Rattle.std.specs.Prelude.{◌<◌, IsSomeAnd, slice_get};
+
 use crate::caught::Range;
 use crate::one_method::world;
-use jc_base::Ty;
+use jc_base::{Ty, World};
 use jc_flow::{FlowEnd, infer};
 use jc_ops::RuleFault;
 use jc_rules::Typing;
@@ -97,17 +99,6 @@ static UNTYPED: [Untyped; 5] = [
     (&[112, 1], FlowEnd::BadTarget(0, 1)),
 ];
 
-/// What is inferred of the method, where its code is that of a short example.
-fn inferred(alloc: Global, code: &[u8], ranges: &[Range]) -> Option<Result<Typing, FlowEnd>> {
-    if code.is_empty() || code.len() > 100 || ranges.len() > 10 {
-        return None;
-    }
-    match world(alloc, code, ranges) {
-        Ok(world) => Some(infer(alloc, &world, 0)),
-        Err(_) => None,
-    }
-}
-
 /// Whether two types that occur here are the same.
 fn is_same(a: Ty, b: Ty) -> bool {
     match a {
@@ -150,18 +141,28 @@ fn is_state(typing: &Typing, (place, expected): Expected) -> bool {
     }
 }
 
-fn is_typed(alloc: Global, (code, ranges, states): Typed) -> bool {
-    match inferred(alloc, code, ranges) {
-        Some(Ok(typing)) => states.iter().all(|expected| is_state(&typing, *expected)),
-        _ => false,
+/// Whether the method of a world has these states.
+fn has_typing(alloc: Global, world: &World<'_>, states: &[Expected]) -> bool
+    requires { IsSomeAnd (slice_get world.now.methods 0) (λ m. 0 < m.code_len) }
+{
+    match infer(alloc, world, 0) {
+        Ok(typing) => states.iter().all(|expected| is_state(&typing, *expected)),
+        Err(_) => false,
     }
 }
 
-fn is_untyped(alloc: Global, (code, expected): Untyped) -> bool {
-    let end = match inferred(alloc, code, &[]) {
-        Some(Err(end)) => end,
-        _ => return false,
-    };
+fn is_typed(alloc: Global, (code, ranges, states): Typed) -> bool {
+    if code.is_empty() || code.len() > 100 || ranges.len() > 10 {
+        return false;
+    }
+    match world(alloc, code, ranges) {
+        Ok(world) => has_typing(alloc, &world, states),
+        Err(_) => false,
+    }
+}
+
+/// Whether two ends that occur here are the same.
+fn is_same_end(end: FlowEnd, expected: FlowEnd) -> bool {
     match expected {
         FlowEnd::NoTyping(place, fault) => {
             matches!(end, FlowEnd::NoTyping(at, why) if at == place && is_same_fault(why, fault))
@@ -174,12 +175,42 @@ fn is_untyped(alloc: Global, (code, expected): Untyped) -> bool {
     }
 }
 
+/// Whether the method of a world has no typing, for this reason.
+fn ends(alloc: Global, world: &World<'_>, expected: FlowEnd) -> bool
+    requires { IsSomeAnd (slice_get world.now.methods 0) (λ m. 0 < m.code_len) }
+{
+    match infer(alloc, world, 0) {
+        Ok(_) => false,
+        Err(end) => is_same_end(end, expected),
+    }
+}
+
+fn is_untyped(alloc: Global, (code, expected): Untyped) -> bool {
+    if code.is_empty() || code.len() > 100 {
+        return false;
+    }
+    match world(alloc, code, &[]) {
+        Ok(world) => ends(alloc, &world, expected),
+        Err(_) => false,
+    }
+}
+
+/// Whether each example is inferred as expected.
+fn are_inferred(alloc: Global) -> bool {
+    for example in TYPED.iter() {
+        if !is_typed(alloc, *example) {
+            return false;
+        }
+    }
+    for example in UNTYPED.iter() {
+        if !is_untyped(alloc, *example) {
+            return false;
+        }
+    }
+    true
+}
+
 #[test]
 fn what_is_inferred(rt: HostRuntime) {
-    for example in TYPED {
-        assert!(rt; is_typed(rt.alloc(), example));
-    }
-    for example in UNTYPED {
-        assert!(rt; is_untyped(rt.alloc(), example));
-    }
+    assert!(rt; are_inferred(rt.alloc()));
 }

@@ -211,7 +211,7 @@ public_next packages t methods r p token n linked link up = elim (has_list packa
       (subst (λ (o : Option ℕ). IsDispatch t methods r (list_of (public_of t) o) (public_of t r)) link is.public) up.found up.signature
 ]
 
-runs_public : (packages : ℕ) (t : ClassTable) (methods : List MethodRec) → AreClasses t → AreLinkedClasses packages t methods → (r c token n : ℕ) → is_on_chain t c r ≡ true
+pub runs_public : (packages : ℕ) (t : ClassTable) (methods : List MethodRec) → AreClasses t → AreLinkedClasses packages t methods → (r c token n : ℕ) → is_on_chain t c r ≡ true
     → slice_get (public_of t c) token ≡ Some n → Runs t methods r (public_of t r) token n
 runs_public packages t methods are linked = climb t are (λ r. (c token n : ℕ) → is_on_chain t c r ≡ true → slice_get (public_of t c) token ≡ Some n → Runs t methods r (public_of t r) token n)
     (λ r top alone c token n on at. own_public packages t methods r token n linked (subst (λ (x : ℕ). slice_get (public_of t x) token ≡ Some n) (sym (on_alone t c r alone on)) at))
@@ -283,7 +283,7 @@ dispatches packages t methods are linked r c token n on entry =
     (λ own. runs_public packages t methods are linked r c token n on own)
     (λ own. runs_visible packages t methods are linked r c (token - 128) n on own) entry
 
-on_chain-from_Below : (t : ClassTable) → AreClasses t → (r c : ℕ) → Below t (Class r) (Class c) → is_on_chain t c r ≡ true
+pub on_chain-from_Below : (t : ClassTable) → AreClasses t → (r c : ℕ) → Below t (Class r) (Class c) → is_on_chain t c r ≡ true
 unfolding is_below
 on_chain-from_Below t are r c below =
     let on : is_below t (Class r) (Class c) ≡ true = is_below-from_Below t are below in

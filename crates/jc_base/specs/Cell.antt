@@ -24,6 +24,23 @@ IsDeclared t (ArrRef c) = IsClass t c
 IsDeclared t (Fresh place c) = ⊥
 IsDeclared t Top = ⊥
 
+-- not half an int
+abbrev pub IsNoHalf : Ty → Type 0
+IsNoHalf IntHigh = ⊥
+IsNoHalf IntLow = ⊥
+IsNoHalf _ = ⊤
+
+-- cells of whole values: an int takes two, the high half and then the low one, and no half stands alone
+pub data AreWhole : List Ty → Type 0 where
+  no_cells : AreWhole []
+  whole_int : {types : List Ty} → AreWhole types → AreWhole (IntHigh ∷ IntLow ∷ types)
+  one_cell : {a : Ty} {types : List Ty} → IsNoHalf a → AreWhole types → AreWhole (a ∷ types)
+
+-- the type of the first cell of a value
+abbrev pub IsFirstCell : Ty → Type 0
+IsFirstCell IntLow = ⊥
+IsFirstCell _ = ⊤
+
 -- a class or an array type
 abbrev pub IsReference : Ty → Type 0
 IsReference (Class c) = ⊤

@@ -1,10 +1,11 @@
 -- Dispatch lists and instance cells of classes (JCVM 2.2, sections 4.3.7.6 and 6.8.2).
-use Rattle.std.specs.Prelude.{◌≡◌, ℕ, ◌-◌, false, if◌then◌else◌, nat_lt, ◌==◌, List, [], reverse, Option, Some, None, IsSomeAnd, All, slice_get, find, flat_map, option_map, option_and_then}
+use Rattle.std.specs.Prelude.{◌≡◌, ℕ, ◌-◌, Bool, false, if◌then◌else◌, not, ◌&&◌, nat_lt, ◌==◌, List, [], length, reverse, Option, Some, None, IsSomeAnd, All, slice_get, find, flat_map, option_map, option_and_then}
+use Rattle.std.specs.List.{list_all}
 use Rattle.jc_base.specs.declared.ty.Ty.{Ty}
 use Rattle.jc_base.specs.declared.record.Sig.{Sig}
 use Rattle.jc_base.specs.declared.record.ClassRec.{ClassRec}
 use Rattle.jc_base.specs.declared.record.MethodRec.{MethodRec}
-use Rattle.jc_base.specs.Class.{ClassTable, IsClass, chain, list_of}
+use Rattle.jc_base.specs.Class.{ClassTable, IsClass, is_interface, chain, list_of}
 
 -- what a function gives of the record of a number, and else a default
 abbrev pub of_record : {A : Type 0} → A → (ClassRec → A) → Option ClassRec → A
@@ -61,6 +62,29 @@ pub record IsConcrete (t : ClassTable) (methods : List MethodRec) (c : ℕ) : Ty
   pub class : IsClass t c
   pub public : All (HasBody methods) (public_of t c)
   pub visible : (home : ℕ) → All (HasBody methods) (visible_in t home c)
+
+-- ---- the same as it is computed
+
+abbrev pub has_body_in : Option MethodRec → Bool
+has_body_in None = false
+has_body_in (Some m) = not m.is_abstract
+
+-- whether the method of a number has a body
+abbrev pub has_body : List MethodRec → ℕ → Bool
+has_body methods n = has_body_in (slice_get methods n)
+
+abbrev pub all_have_bodies : List MethodRec → List ℕ → Bool
+all_have_bodies methods = list_all (has_body methods)
+
+-- whether objects can be made of a class: the package-visible lists are those of the packages on its chain
+unfoldable pub is_concrete : ClassTable → List MethodRec → ℕ → Bool
+is_concrete t methods c =
+    nat_lt c (length t.records)
+    && (not (is_interface t c)
+    && (all_have_bodies methods (public_of t c)
+    && list_all (λ a. all_have_bodies methods (visible_in t (package_of t a) c)) (chain t c)))
+
+-- ---- signatures
 
 -- the signature of a method number
 abbrev pub signature_of : List MethodRec → ℕ → Option Sig

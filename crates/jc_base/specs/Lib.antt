@@ -1,6 +1,11 @@
+pub mod Each
+pub mod Leads
 pub mod Class
 pub mod Order
+pub mod SameType
 pub mod Cell
 pub mod Dispatch
+pub mod Interface
 pub mod Linked
 pub mod World
+pub mod Laws

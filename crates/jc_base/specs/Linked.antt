@@ -14,7 +14,7 @@ use Rattle.jc_base.specs.declared.record.StaticRec.{StaticRec}
 use Rattle.jc_base.specs.declared.record.ArrayRec.{ArrayRec}
 use Rattle.jc_base.specs.Class.{ClassTable, IsClass, is_interface, parent_of, throwable, list_of}
 use Rattle.jc_base.specs.Order.{Below}
-use Rattle.jc_base.specs.Cell.{IsDeclared, IsOfKind, width, AreWordsOf}
+use Rattle.jc_base.specs.Cell.{IsDeclared, AreWhole, IsFirstCell, IsOfKind, width, AreWordsOf}
 use Rattle.jc_base.specs.Dispatch.{package_of, public_of, visible_of, cell_count, cells_of, entry_at, dispatched, signature_of, signature_at}
 
 -- ---- methods
@@ -60,6 +60,9 @@ pub record IsMethod (infos : List (List ℕ)) (pools : List (List Member)) (t : 
   pub registers : m.nargs + m.max_locals ≤ 255
   pub arguments : All (IsDeclared t) m.sig.args
   pub result : IfSome m.sig.result (IsDeclared t)
+  -- an int takes two argument words, high then low; of a result the first cell's type is told
+  pub whole : AreWhole m.sig.args
+  pub first : IfSome m.sig.result IsFirstCell
   pub code : MatchBool (lacks_code t m) (m.code_len ≡ 0) (IsCodeLength m.code_len)
   -- its code lies in the Method info of its package
   pub inside : m.code_at + m.code_len ≤ length (list_at infos m.package)
@@ -96,7 +99,7 @@ pub record IsImplemented (t : ClassTable) (methods : List MethodRec) (public : L
       → option_and_then (signature_at methods public) (slice_get i.tokens m.token)
       ≡ Some m.sig) methods
 
--- an interface that an interface extends: it serves no method, so it lists no token
+-- an interface that an interface extends; nothing is asked of tokens, which a search for a method never reads there
 pub record IsExtended (t : ClassTable) (i : Iface) : Type 0 where
   pub number : i.class < length t.records
   pub interface : is_interface t i.class ≡ true

@@ -9,6 +9,7 @@ use Rattle.jc_base.specs.Class.{ClassTable, IsClass, AreClasses, object, throwab
 use Rattle.jc_base.specs.Order.{Below}
 use Rattle.jc_base.specs.Cell.{width, AreElementsOf}
 use Rattle.jc_base.specs.Dispatch.{IsConcrete}
+use Rattle.jc_base.specs.Interface.{NoneExtendsItself}
 use Rattle.jc_base.specs.Linked.{IsMember, AreLinkedClasses, IsMethod, IsStatic, AreSlots, list_at}
 
 -- the lists as which a world is seen: by package the Method info and the members by pool number;
@@ -49,6 +50,7 @@ pub record IsWorld (w : Linked) : Type 0 where
   pub one_pool_each : length w.pools ≡ length w.infos
   pub members : All (All (IsMember w.classes w.methods w.statics)) w.pools
   pub chains : AreClasses w.classes
+  pub extension : NoneExtendsItself w.classes
   pub classes : AreLinkedClasses (length w.infos) w.classes w.methods
   pub methods : All (IsMethod w.infos w.pools w.classes) w.methods
   pub statics : All (IsStatic (length w.infos) w.classes w.arrays) w.statics

@@ -7,6 +7,7 @@
 mod class;
 mod concrete;
 mod infos;
+mod laws;
 mod list;
 mod order;
 mod record;
@@ -16,11 +17,12 @@ mod world;
 pub use class::Classes;
 pub use concrete::is_concrete;
 pub use infos::Infos;
+pub use laws::{concrete_decides, interfaces_decide, public_methods_run, subclasses_extend};
 pub use list::{
     Arrays, ClassRecs, Dispatch, Handlers, Ifaces, Initial, Items, Members, Methods, Pools,
     Statics, Tokens, Tys,
 };
-pub use order::{below, is_reference, join};
+pub use order::{below, is_reference, join, join_all};
 pub use record::{ArrayRec, ClassRec, Handler, Iface, Member, MethodRec, Sig, StaticRec};
-pub use ty::{Kind, Ty};
+pub use ty::{Kind, Ty, same_type};
 pub use world::World;

@@ -1,3 +1,6 @@
+ghost use Rattle.std.specs.Prelude.{◌≡◌, ◌↔◌, IsTrue};
+ghost use Rattle.jc_base.specs.SameType.{same_type};
+
 /// What a verifier knows of one cell: of a register, of the operand stack, or of a field
 /// (JCVM 2.2, section 3.1; Leroy 2002, section 2). A class is named by its number in the world.
 #[derive(Clone, Copy)]
@@ -32,4 +35,39 @@ pub enum Kind {
     Byte,
     Short,
     Int,
+}
+
+/// Whether two types are equal.
+pub fn same_type(a: Ty, b: Ty) -> bool
+    ensures is { IsTrue result ↔ (a ≡ b) }
+    ensures computed { result ≡ same_type a b }
+{
+    is_same(a, b)
+}
+
+#[tactic(auto, unfolding(crate::specs::SameType::same_type))]
+fn is_same(a: Ty, b: Ty) -> bool
+    ensures { result ≡ same_type a b }
+{
+    match a {
+        Ty::Bottom => matches!(b, Ty::Bottom),
+        Ty::Short => matches!(b, Ty::Short),
+        Ty::IntHigh => matches!(b, Ty::IntHigh),
+        Ty::IntLow => matches!(b, Ty::IntLow),
+        Ty::Null => matches!(b, Ty::Null),
+        Ty::Class(c) => matches!(b, Ty::Class(d) if c == d),
+        Ty::ArrBool => matches!(b, Ty::ArrBool),
+        Ty::ArrByte => matches!(b, Ty::ArrByte),
+        Ty::ArrShort => matches!(b, Ty::ArrShort),
+        Ty::ArrInt => matches!(b, Ty::ArrInt),
+        Ty::ArrRef(c) => matches!(b, Ty::ArrRef(d) if c == d),
+        Ty::Fresh { place, class } => match b {
+            Ty::Fresh {
+                place: other,
+                class: other_class,
+            } => place == other && class == other_class,
+            _ => false,
+        },
+        Ty::Top => matches!(b, Ty::Top),
+    }
 }

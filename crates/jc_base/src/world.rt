@@ -1,7 +1,7 @@
 ghost use Rattle.std.specs.Prelude.{◌≡◌, ◌<◌, ◌≤◌, ◌↔◌, length, All, IsTrue, IfSome, Some, slice_get, slice_index, option_map};
 ghost use Rattle.jc_base.specs.Class.{IsClass};
 ghost use Rattle.jc_base.specs.Cell.{AreElementsOf};
-ghost use Rattle.jc_base.specs.Dispatch.{IsConcrete, cells_of};
+ghost use Rattle.jc_base.specs.Dispatch.{IsConcrete, is_concrete, cells_of};
 ghost use Rattle.jc_base.specs.Linked.{AreDispatched, IsMember, IsLinkedClass, IsMethod, IsStatic, list_at};
 ghost use Rattle.jc_base.specs.World.{IsWorld, IsThrown, member_at, code_of, has_numbers, method_numbered};
 
@@ -146,7 +146,8 @@ impl<'a> World<'a> {
     /// abstract.
     pub fn is_concrete(&self, class: u16) -> bool
         requires { class < length self.now.classes.records }
-        ensures { IsTrue result ↔ IsConcrete self.now.classes self.now.methods class }
+        ensures is { IsTrue result ↔ IsConcrete self.now.classes self.now.methods class }
+        ensures computed { result ≡ is_concrete self.now.classes self.now.methods class }
     {
         is_concrete(&self.classes, &self.methods, class)
     }

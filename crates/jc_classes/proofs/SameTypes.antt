@@ -1,13 +1,14 @@
 -- Types and signatures that are the same.
 use Rattle.std.proofs.Common.{◌≡◌, ℕ, suc, ◌+◌, ◌<◌, Bool, true, false, List, [], ◌∷◌, length, drop, get_or, refl, sym, ap, subst, ◌∙◌, ◌≤◌, arith, drop-cons, add-one}
 use Rattle.std.proofs.lemmas.List.{drop_all}
-use Rattle.std.specs.Prelude.{◌&&◌, ◌==◌, ◌↔◌, IsTrue, Option, Some, None}
-use Rattle.std.proofs.lemmas.Bool.{false≢true, eqb-true, eq-eqb}
+use Rattle.std.specs.Prelude.{◌&&◌, ◌↔◌, IsTrue, Option, Some, None}
+use Rattle.std.proofs.lemmas.Bool.{false≢true}
 use Rattle.jc_base.specs.declared.ty.Ty.{Ty}
-use Rattle.jc_base.specs.declared.ty.Ty.TheVariants.{Bottom, Short, IntHigh, IntLow, Null, Class, ArrBool, ArrByte, ArrShort, ArrInt, ArrRef, Fresh, Top}
 use Rattle.jc_base.specs.declared.record.Sig.{Sig}
 use Rattle.jc_base.specs.declared.record.MethodRec.{MethodRec}
-use Rattle.jc_classes.specs.Signatures.{same_type, same_types, same_result, same_sig, same_signature, signature_in}
+use Rattle.jc_base.specs.SameType.{same_type}
+use Rattle.jc_base.proofs.SameTypes.{same_type-equal, same_type-itself}
+use Rattle.jc_classes.specs.Signatures.{same_types, same_result, same_sig, same_signature, signature_in}
 
 both-first : (a b : Bool) → (a && b) ≡ true → a ≡ true
 both-first true b h = refl
@@ -55,42 +56,6 @@ same_types-whole xs ys i h same before = sym (same_types-end xs ys i h same) ∙
 pub ruleset same_lists = (same_types-differ, same_types-next, same_types-other, same_types-whole)
 
 -- ---- what is the same is equal
-
-pub same_type-equal : (a b : Ty) → same_type a b ≡ true → a ≡ b
-unfolding same_type
-same_type-equal Bottom Bottom e = refl
-same_type-equal Short Short e = refl
-same_type-equal IntHigh IntHigh e = refl
-same_type-equal IntLow IntLow e = refl
-same_type-equal Null Null e = refl
-same_type-equal (Class c) (Class d) e = ap Class (eqb-true c d e)
-same_type-equal ArrBool ArrBool e = refl
-same_type-equal ArrByte ArrByte e = refl
-same_type-equal ArrShort ArrShort e = refl
-same_type-equal ArrInt ArrInt e = refl
-same_type-equal (ArrRef c) (ArrRef d) e = ap ArrRef (eqb-true c d e)
-same_type-equal (Fresh p c) (Fresh q d) e =
-    let places : p ≡ q = eqb-true p q (both-first (p == q) (c == d) e) in
-    let classes : c ≡ d = eqb-true c d (both-second (p == q) (c == d) e) in
-    rw (places, classes) refl
-same_type-equal Top Top e = refl
-same_type-equal a b e = absurd (false≢true e)
-
-pub same_type-itself : (a : Ty) → same_type a a ≡ true
-unfolding same_type
-same_type-itself Bottom = refl
-same_type-itself Short = refl
-same_type-itself IntHigh = refl
-same_type-itself IntLow = refl
-same_type-itself Null = refl
-same_type-itself (Class c) = eq-eqb c c refl
-same_type-itself ArrBool = refl
-same_type-itself ArrByte = refl
-same_type-itself ArrShort = refl
-same_type-itself ArrInt = refl
-same_type-itself (ArrRef c) = eq-eqb c c refl
-same_type-itself (Fresh p c) = rw (eq-eqb p p refl, eq-eqb c c refl) refl
-same_type-itself Top = refl
 
 same_types-equal : (xs ys : List Ty) → same_types xs ys ≡ true → xs ≡ ys
 same_types-equal [] [] e = refl

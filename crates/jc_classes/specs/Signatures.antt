@@ -1,25 +1,9 @@
 -- Signatures of methods compared: the types of the argument words and of the result (JCVM 2.2, section 6.13.4).
-use Rattle.std.specs.Prelude.{ℕ, ◌==◌, ◌&&◌, Bool, true, false, List, [], ◌∷◌, Option, Some, None, option_map, option_and_then, slice_get}
+use Rattle.std.specs.Prelude.{ℕ, ◌&&◌, Bool, true, false, List, [], ◌∷◌, Option, Some, None, option_map, option_and_then, slice_get}
 use Rattle.jc_base.specs.declared.ty.Ty.{Ty}
-use Rattle.jc_base.specs.declared.ty.Ty.TheVariants.{Bottom, Short, IntHigh, IntLow, Null, Class, ArrBool, ArrByte, ArrShort, ArrInt, ArrRef, Fresh, Top}
 use Rattle.jc_base.specs.declared.record.Sig.{Sig}
 use Rattle.jc_base.specs.declared.record.MethodRec.{MethodRec}
-
-unfoldable pub same_type : Ty → Ty → Bool
-same_type Bottom Bottom = true
-same_type Short Short = true
-same_type IntHigh IntHigh = true
-same_type IntLow IntLow = true
-same_type Null Null = true
-same_type (Class c) (Class d) = c == d
-same_type ArrBool ArrBool = true
-same_type ArrByte ArrByte = true
-same_type ArrShort ArrShort = true
-same_type ArrInt ArrInt = true
-same_type (ArrRef c) (ArrRef d) = c == d
-same_type (Fresh p c) (Fresh q d) = p == q && c == d
-same_type Top Top = true
-same_type a b = false
+use Rattle.jc_base.specs.SameType.{same_type}
 
 abbrev pub same_types : List Ty → List Ty → Bool
 same_types [] [] = true

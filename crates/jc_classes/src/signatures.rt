@@ -1,34 +1,7 @@
 ghost use Rattle.std.specs.Prelude.{◌≡◌, ◌<◌, ◌↔◌, All, IfSome, IsTrue, length, option_map, Some};
-ghost use Rattle.jc_classes.specs.Signatures.{same_type, same_types, same_result, same_sig, same_signature, method_in, signature_in};
+ghost use Rattle.jc_classes.specs.Signatures.{same_types, same_result, same_sig, same_signature, method_in, signature_in};
 
-use jc_base::{MethodRec, Methods, Sig, Ty};
-
-#[tactic(auto, unfolding(crate::specs::Signatures::same_type))]
-fn same_type(a: Ty, b: Ty) -> bool
-    ensures { result ≡ same_type a b }
-{
-    match a {
-        Ty::Bottom => matches!(b, Ty::Bottom),
-        Ty::Short => matches!(b, Ty::Short),
-        Ty::IntHigh => matches!(b, Ty::IntHigh),
-        Ty::IntLow => matches!(b, Ty::IntLow),
-        Ty::Null => matches!(b, Ty::Null),
-        Ty::Class(c) => matches!(b, Ty::Class(d) if c == d),
-        Ty::ArrBool => matches!(b, Ty::ArrBool),
-        Ty::ArrByte => matches!(b, Ty::ArrByte),
-        Ty::ArrShort => matches!(b, Ty::ArrShort),
-        Ty::ArrInt => matches!(b, Ty::ArrInt),
-        Ty::ArrRef(c) => matches!(b, Ty::ArrRef(d) if c == d),
-        Ty::Fresh { place, class } => match b {
-            Ty::Fresh {
-                place: other,
-                class: other_class,
-            } => place == other && class == other_class,
-            _ => false,
-        },
-        Ty::Top => matches!(b, Ty::Top),
-    }
-}
+use jc_base::{MethodRec, Methods, Sig, Ty, same_type};
 
 #[tactic(auto, using(crate::proofs::SameTypes::same_lists))]
 fn same_types(a: &[Ty], b: &[Ty]) -> bool

@@ -1,5 +1,5 @@
--- What a search has found when nothing is pending is what control reaches.
-use Rattle.std.proofs.Common.{◌≡◌, ◌≤◌, ◌+◌, ◌⊎◌, inl, inr, ⊎_elim, ℕ, Bool, false, Ok, Err, List, [], ◌∷◌, length, refl, sym, ap, ◌∙◌, subst, arith, Contains, All, IsTrue}
+-- What a traversal has found when nothing is pending is what control reaches.
+use Rattle.std.proofs.Common.{◌≡◌, ◌<◌, ◌≤◌, ◌+◌, ◌⊎◌, inl, inr, ⊎_elim, ℕ, Bool, false, Ok, Err, List, [], ◌∷◌, length, refl, sym, ap, ◌∙◌, subst, arith, Contains, All, IsTrue}
 use Rattle.std.specs.Prelude.{pos, replicate}
 use Rattle.std.proofs.lemmas.Bool.{false≢true}
 use Rattle.std.proofs.lemmas.List.{length-replicate}
@@ -11,22 +11,25 @@ use Rattle.jc_decode.specs.declared.insn.CodeEnd.{CodeEnd}
 use Rattle.jc_decode.specs.Decoding.{decoded}
 use Rattle.jc_decode.specs.Listing.{listing, listing_end, end_from, falls, targets, Lists}
 use Rattle.jc_decode.proofs.Decoded.{IsWithin-decoded, ok-same}
-use Rattle.jc_rules.specs.Flow.{Method, Stands, IsPlace, IsTargetPlace, IsBoundary, IsHandlerOf, IsWellFormed, IsSuccessor, behind, jumped, Covers, IsReached, begins, follows, caught, IsLeader, led_to, entered}
-use Rattle.jc_control.specs.declared.search.Search.{Search}
+use Rattle.jc_control.specs.Method.{Method}
+use Rattle.jc_control.specs.WellFormed.{Stands, IsPlace, IsTargetPlace, IsBoundary, IsHandlerOf, IsWellFormed}
+use Rattle.jc_control.specs.Control.{IsSuccessor, falls_through, jumped, Covers, IsReached, begins, follows, caught, IsLeader, led_to, entered}
+use Rattle.jc_control.specs.declared.traversal.Traversal.{Traversal}
 use Rattle.jc_control.specs.Flags.{IsFlagged}
 use Rattle.jc_control.specs.Places.{BeginsIn}
-use Rattle.jc_control.specs.Search.{Grows, IsSound, IsLedTo, IsCaught, IsClosedAt, IsClosed, IsDone, found}
-use Rattle.jc_control.specs.Survey.{IsSurvey}
+use Rattle.jc_control.specs.Traversal.{Grows, IsSound, IsLedTo, IsCaught, IsClosedAt, IsClosed, IsDone, found}
+use Rattle.jc_control.specs.ControlFlow.{IsControlFlow}
+use Rattle.jc_control.specs.Laws.{InstructionsArePlaced}
 use Rattle.jc_control.proofs.Elements.{nothing-in, Contains-either, Contains-first, Contains-later}
 use Rattle.jc_control.proofs.Listed.{all-listed, decoded-Stands, one-at}
 use Rattle.jc_control.proofs.Marked.{flag-none}
 
 -- ---- control reaches instructions, and at most the end
 
-behind-in : (code : List ℕ) (at : ℕ) (ps : List Placed) (i : Placed) → Lists code at ps → Contains ps i → (i.place + i.insn.len ≡ end_from at ps) ⊎ BeginsIn ps (i.place + i.insn.len)
-behind-in code at [] i l c = absurd (nothing-in i c)
-behind-in code at (p ∷ ps) i l c =
-    ⊎_elim (λ here. this here ps l.2) (λ later. on (behind-in code (at + p.insn.len) ps i l.2 later)) (Contains-either p ps i c)
+next-in : (code : List ℕ) (at : ℕ) (ps : List Placed) (i : Placed) → Lists code at ps → Contains ps i → (i.place + i.insn.len ≡ end_from at ps) ⊎ BeginsIn ps (i.place + i.insn.len)
+next-in code at [] i l c = absurd (nothing-in i c)
+next-in code at (p ∷ ps) i l c =
+    ⊎_elim (λ here. this here ps l.2) (λ later. on (next-in code (at + p.insn.len) ps i l.2 later)) (Contains-either p ps i c)
   where
     here-end : p ≡ i → i.place + i.insn.len ≡ at + p.insn.len
     here-end here = let place = ap (λ (q : Placed). q.place) here in let len = ap (λ (q : Placed). q.insn.len) here in omega (arith, l.0)
@@ -49,8 +52,19 @@ module _ (m : Method) (w : IsWellFormed m) where
   at-end p (inr place) = inr place
 
   target-boundary : (i : Placed) (q : ℕ) → Stands m.code i → IsSuccessor m.code i q → IsBoundary m.code q
-  target-boundary i _ there (behind goes) = at-end (i.place + i.insn.len) (behind-in m.code 0 (listing m.code) i (all-listed m.code) there)
+  target-boundary i _ there (falls_through goes) = at-end (i.place + i.insn.len) (next-in m.code 0 (listing m.code) i (all-listed m.code) there)
   target-boundary i q there (jumped among) = inr (All-contains (IsTargetPlace m.code) (targets m.code i) (pos q) (w.targets i there) among)
+
+  next-boundary : (i : Placed) → Stands m.code i → IsBoundary m.code (i.place + i.insn.len)
+  next-boundary i there = at-end (i.place + i.insn.len) (next-in m.code 0 (listing m.code) i (all-listed m.code) there)
+
+  -- where the code goes on, an instruction begins after each
+  pub place-after : (i : Placed) → Stands m.code i → i.place + i.insn.len < length m.code → IsPlace m.code (i.place + i.insn.len)
+  place-after i there inside = ⊎_elim (λ end. absurd (omega (arith, end))) (λ place. place) (next-boundary i there)
+
+  -- and one begins at place 0
+  pub place-first : 0 < length m.code → IsPlace m.code 0
+  place-first filled = ⊎_elim (λ end. absurd (omega (arith, end))) (λ place. place) (at-end 0 (first-in m.code (listing m.code) (all-listed m.code)))
 
   reached-boundary : (p : ℕ) → IsReached m p → IsBoundary m.code p
   reached-boundary _ begins = at-end 0 (first-in m.code (listing m.code) (all-listed m.code))
@@ -72,7 +86,7 @@ module _ (m : Method) (w : IsWellFormed m) where
           subst (Stands m.code) same here.1
 
   -- nothing follows the end
-  pub closed-at-end : (s : Search) (p : ℕ) (e : CodeEnd) → IsReached m p → decoded m.code p ≡ Err e → IsClosedAt m s p
+  pub closed-at-end : (s : Traversal) (p : ℕ) (e : CodeEnd) → IsReached m p → decoded m.code p ≡ Err e → IsClosedAt m s p
   closed-at-end s p e r d = record {
     follows = λ i q there here succ. absurd (none i there here);
     leads = λ i q there here target. absurd (none i there here);
@@ -91,7 +105,7 @@ module _ (m : Method) (w : IsWellFormed m) where
           ⊎_elim (λ end. let within = inside h formed in let before = covers.before in absurd (omega arith)) (λ place. none place.0 place.1 place.2) (reached-boundary p r)
 
 -- what the three steps from an instruction find is all that follows it
-pub closed-after : (m : Method) (a b c : Search) (i : Placed) → Grows a b → Grows b c → Stands m.code i
+pub closed-after : (m : Method) (a b c : Traversal) (i : Placed) → Grows a b → Grows b c → Stands m.code i
     → (IsTrue (falls i.insn.op) → IsFlagged a.reached (i.place + i.insn.len)) → All (IsLedTo b) (targets m.code i) → All (IsCaught c i.place) m.rec.handlers → IsClosedAt m c i.place
 closed-after m a b c i g h stands fell led entries = record {
   follows = λ j q there here succ. goes q (subst (λ (k : Placed). IsSuccessor m.code k q) (one-at m.code j i there stands here) succ);
@@ -101,12 +115,20 @@ closed-after m a b c i g h stands fell led entries = record {
 }
   where
     goes : (q : ℕ) → IsSuccessor m.code i q → IsFlagged c.reached q
-    goes _ (behind falls_on) = h.reached (i.place + i.insn.len) (g.reached (i.place + i.insn.len) (fell falls_on))
+    goes _ (falls_through falls_on) = h.reached (i.place + i.insn.len) (g.reached (i.place + i.insn.len) (fell falls_on))
     goes q (jumped among) = h.reached q ((All-contains (IsLedTo b) (targets m.code i) (pos q) led among).0)
 
 -- ---- nothing pending
 
-module _ (m : Method) (s t : Search) (sound : IsSound m s) (closed : IsClosed m s) (start : IsFlagged s.reached 0) (done : IsDone s t) where
+pub instructions-are-placed : InstructionsArePlaced
+instructions-are-placed = λ m w. record {
+  first = place-first m w;
+  next = next-boundary m w;
+  reached = reached-boundary m w;
+  decoded = stands-reached m w;
+}
+
+module _ (m : Method) (s t : Traversal) (sound : IsSound m s) (closed : IsClosed m s) (start : IsFlagged s.reached 0) (done : IsDone s t) where
   closed-there : (p : ℕ) → IsFlagged s.reached p → IsClosedAt m s p
   closed-there p f = ⊎_elim (λ waits. absurd (nothing-in p (subst (λ (ps : List ℕ). Contains ps p) done.before waits))) (λ c. c) (closed p f)
 
@@ -119,8 +141,8 @@ module _ (m : Method) (s t : Search) (sound : IsSound m s) (closed : IsClosed m 
   all-led _ (led_to {i = i} {q = q} there r among) = (closed-there i.place (all-found i.place r)).leads i q there refl among
   all-led _ (entered {h = h} {p = p} r there covers) = ((closed-there p (all-found p r)).catches h there covers).1
 
-  pub searched : IsWellFormed m → IsSurvey m (found t)
-  searched w = record {
+  pub traversed : IsWellFormed m → IsControlFlow m (found t)
+  traversed w = record {
     formed = w;
     reached = λ p. (λ f. sound.reached p (subst (λ (fs : List Bool). IsFlagged fs p) done.reached f), λ r. subst (λ (fs : List Bool). IsFlagged fs p) (sym done.reached) (all-found p r));
     leaders = λ p. (λ f. sound.leaders p (subst (λ (fs : List Bool). IsFlagged fs p) done.leaders f), λ r. subst (λ (fs : List Bool). IsFlagged fs p) (sym done.leaders) (all-led p r));
@@ -128,7 +150,7 @@ module _ (m : Method) (s t : Search) (sound : IsSound m s) (closed : IsClosed m 
 
 -- ---- nothing found yet
 
-pub none-sound : (m : Method) (s : Search) (size : ℕ) → size ≡ length m.code + 1 → s.reached ≡ replicate size false → s.leaders ≡ replicate size false → s.pending.items ≡ [] → IsSound m s
+pub none-sound : (m : Method) (s : Traversal) (size : ℕ) → size ≡ length m.code + 1 → s.reached ≡ replicate size false → s.leaders ≡ replicate size false → s.pending.items ≡ [] → IsSound m s
 none-sound m s size fits reached leaders pending = record {
   reached_size = ap length reached ∙ length-replicate size false ∙ fits;
   leaders_size = ap length leaders ∙ length-replicate size false ∙ fits;
@@ -140,5 +162,5 @@ none-sound m s size fits reached leaders pending = record {
     unflagged : (fs : List Bool) → fs ≡ replicate size false → (p : ℕ) → IsFlagged fs p → ⊥
     unflagged fs e p f = false≢true (sym (flag-none size p) ∙ subst (λ (gs : List Bool). IsFlagged gs p) e f)
 
-pub none-closed : (m : Method) (s : Search) (size : ℕ) → s.reached ≡ replicate size false → (t : Search) → Grows s t → IsClosed m t
+pub none-closed : (m : Method) (s : Traversal) (size : ℕ) → s.reached ≡ replicate size false → (t : Traversal) → Grows s t → IsClosed m t
 none-closed m s size reached t g p f = ⊎_elim (λ before. absurd (false≢true (sym (flag-none size p) ∙ subst (λ (fs : List Bool). IsFlagged fs p) reached before))) (λ waits. inl waits) (g.fresh p f)

@@ -41,19 +41,19 @@ drop-past (y ∷ ys) zero h = absurd (cc)
 drop-past (y ∷ ys) (suc n) h = drop-past ys n h
 
 -- where a list is gone over, the next element is the one of the number of those before it
-pub here-in : {A : Type 0} (before : List A) (x : A) (behind whole : List A) → before ++ x ∷ behind ≡ whole → slice_get whole (length before) ≡ Some x
-here-in [] x behind whole h = rw (← h) refl
-here-in (y ∷ ys) x behind whole h = rw (← h) (here-in ys x behind (ys ++ x ∷ behind) refl)
+pub here-in : {A : Type 0} (before : List A) (x : A) (after whole : List A) → before ++ x ∷ after ≡ whole → slice_get whole (length before) ≡ Some x
+here-in [] x after whole h = rw (← h) refl
+here-in (y ∷ ys) x after whole h = rw (← h) (here-in ys x after (ys ++ x ∷ after) refl)
 
-pub before-in : {A : Type 0} (before behind whole : List A) → before ++ behind ≡ whole → take (length before) whole ≡ before
-before-in [] behind whole h = refl
-before-in (y ∷ ys) behind whole h = rw (← h) (ap (λ (zs : List _). y ∷ zs) (before-in ys behind (ys ++ behind) refl))
+pub before-in : {A : Type 0} (before after whole : List A) → before ++ after ≡ whole → take (length before) whole ≡ before
+before-in [] after whole h = refl
+before-in (y ∷ ys) after whole h = rw (← h) (ap (λ (zs : List _). y ∷ zs) (before-in ys after (ys ++ after) refl))
 
-pub contained-in : {A : Type 0} (before : List A) (x : A) (behind whole : List A) → before ++ x ∷ behind ≡ whole → Contains whole x
-contained-in before x behind whole h = Contains-slice_get whole (length before) x (here-in before x behind whole h)
+pub contained-in : {A : Type 0} (before : List A) (x : A) (after whole : List A) → before ++ x ∷ after ≡ whole → Contains whole x
+contained-in before x after whole h = Contains-slice_get whole (length before) x (here-in before x after whole h)
 
-pub go-on : {A : Type 0} (before : List A) (x : A) (behind whole : List A) → before ++ x ∷ behind ≡ whole → (before ++ x ∷ []) ++ behind ≡ whole
-go-on before x behind whole h = append_assoc before (x ∷ []) behind ∙ h
+pub go-on : {A : Type 0} (before : List A) (x : A) (after whole : List A) → before ++ x ∷ after ≡ whole → (before ++ x ∷ []) ++ after ≡ whole
+go-on before x after whole h = append_assoc before (x ∷ []) after ∙ h
 
 pub slice_get-in : {A : Type 0} (P : A → Type 0) (xs : List A) (n : ℕ) (x : A) → All P xs → slice_get xs n ≡ Some x → P x
 slice_get-in P xs n x all h = All-contains P xs x all (Contains-slice_get xs n x h)
@@ -69,17 +69,17 @@ pub taken-in : {A : Type 0} (P : A → Type 0) (xs : List A) (k n : ℕ) (x : A)
 taken-in P xs k n x all h e = slice_get-in P (take n xs) k x all (slice_get-take xs k n x h e)
 
 -- a step along a list
-pub at-next : {A : Type 0} (before rest : List A) (x : A) (behind whole : List A) → before ++ rest ≡ whole → rest ≡ x ∷ behind → before ++ x ∷ behind ≡ whole
-at-next before rest x behind whole h e = ap (λ (r : List _). before ++ r) (sym e) ∙ h
+pub at-next : {A : Type 0} (before rest : List A) (x : A) (after whole : List A) → before ++ rest ≡ whole → rest ≡ x ∷ after → before ++ x ∷ after ≡ whole
+at-next before rest x after whole h e = ap (λ (r : List _). before ++ r) (sym e) ∙ h
 
 pub at-last : {A : Type 0} (before rest whole : List A) → before ++ rest ≡ whole → rest ≡ [] → before ≡ whole
 at-last before rest whole h e = sym (append-nil before) ∙ ap (λ (r : List _). before ++ r) (sym e) ∙ h
 
 -- the next element fails where those before it do not
-pub first-failing : {A : Type 0} (P : A → Type 0) (before : List A) (x : A) (behind whole : List A) → before ++ x ∷ behind ≡ whole → All P before → ¬ P x
+pub first-failing : {A : Type 0} (P : A → Type 0) (before : List A) (x : A) (after whole : List A) → before ++ x ∷ after ≡ whole → All P before → ¬ P x
     → IsFirstFailing P whole (length before) x
-first-failing P before x behind whole h all fails = record {
-  here = here-in before x behind whole h;
+first-failing P before x after whole h all fails = record {
+  here = here-in before x after whole h;
   fails = fails;
-  before = rw (before-in before (x ∷ behind) whole h) all;
+  before = rw (before-in before (x ∷ after) whole h) all;
 }

@@ -5,13 +5,14 @@ use Rattle.std.proofs.lemmas.Bool.{cases_lt, cases_eq}
 use Rattle.std.proofs.lemmas.List.Elements.{All-contains}
 use Rattle.jc_decode.specs.declared.insn.Placed.{Placed}
 use Rattle.jc_decode.specs.Listing.{listing, listing_end, targets}
-use Rattle.jc_rules.specs.Flow.{Method, Stands, IsTargetPlace, IsHandlerOf, IsWellFormed}
+use Rattle.jc_control.specs.Method.{Method}
+use Rattle.jc_control.specs.WellFormed.{Stands, IsTargetPlace, IsHandlerOf, IsWellFormed}
 use Rattle.jc_control.specs.declared.flaw.Flaw.{Flaw}
 use Rattle.jc_control.specs.Flaw.{Spot, in_code, in_table, ComesBefore, IsFlaw, flaw_target, flaw_end, flaw_handler, IsFirstFlaw}
 use Rattle.jc_control.specs.FirstFailing.{IsFirstFailing}
 use Rattle.jc_control.specs.Scan.{LeadsToPlaces, IsFirstStray, IsStop, IsFirstBadHandler}
 use Rattle.jc_control.proofs.Elements.{slice_get-in, taken-in, slice_get-Contains, Contains-slice_get}
-use Rattle.jc_control.proofs.Listed.{rising, one-at, ends-behind}
+use Rattle.jc_control.proofs.Listed.{rising, one-at, ends-after}
 
 module _ (m : Method) where
   -- an instruction before the first that leads astray leads to places
@@ -46,8 +47,8 @@ module _ (m : Method) where
           let here : i ≡ s.from = one-at m.code i s.from there stands same in
           astray (taken-in (IsTargetPlace m.code) (targets m.code s.from) k s.target_number t s.target_is.before fewer
           (subst (λ (j : Placed). slice_get (targets m.code j) k ≡ Some t) here get))
-      none-before _ _ (flaw_end end goes_on why) (inl lower) = let inside = ends-behind m.code s.from stands in absurd (omega arith)
-      none-before _ _ (flaw_end end goes_on why) (inr (same, fewer)) = let inside = ends-behind m.code s.from stands in absurd (omega arith)
+      none-before _ _ (flaw_end end goes_on why) (inl lower) = let inside = ends-after m.code s.from stands in absurd (omega arith)
+      none-before _ _ (flaw_end end goes_on why) (inr (same, fewer)) = let inside = ends-after m.code s.from stands in absurd (omega arith)
       none-before _ _ (flaw_handler n h get bad) before = before
 
   -- where all instructions lead to places no target is a flaw

@@ -8,14 +8,15 @@ use Rattle.jc_decode.specs.declared.insn.Placed.{Placed}
 use Rattle.jc_decode.specs.declared.insn.CodeEnd.{CodeEnd}
 use Rattle.jc_decode.specs.Decoding.{decoded}
 use Rattle.jc_decode.specs.Listing.{listing, listing_end, targets}
-use Rattle.jc_rules.specs.Flow.{Method, Stands, IsPlace, IsTargetPlace, IsBoundary, IsHandlerOf, IsWellFormed}
+use Rattle.jc_control.specs.Method.{Method}
+use Rattle.jc_control.specs.WellFormed.{Stands, IsPlace, IsTargetPlace, IsBoundary, IsHandlerOf, IsWellFormed}
 use Rattle.jc_control.specs.declared.flaw.Flaw.{Flaw}
 use Rattle.jc_control.specs.declared.flaw.Flaw.TheVariants.{Code, BadTarget, BadHandler}
 use Rattle.jc_control.specs.Flaw.{Spot, in_code, in_table, ComesBefore, IsFlaw, flaw_target, flaw_end, flaw_handler, IsFirstFlaw}
 use Rattle.jc_control.specs.Places.{BeginsIn}
 use Rattle.jc_control.specs.Laws.{FlawsDecide, FirstFlawIsOne}
 use Rattle.jc_control.proofs.Elements.{slice_get-in, Contains-either, Contains-first, Contains-later, nothing-in}
-use Rattle.jc_control.proofs.Listed.{one-at, ends-behind, why-it-ends}
+use Rattle.jc_control.proofs.Listed.{one-at, ends-after, why-it-ends}
 
 -- ---- each condition holds or does not
 
@@ -115,8 +116,8 @@ module _ (m : Method) where
       let get = subst (λ (i : Placed). slice_get (targets m.code i) n ≡ Some a.target) from a.get in
       let same : a.target ≡ b.target = cc (get, b.get) in
       a.is ∙ ap (BadTarget p) same ∙ sym b.is
-  one-told (in_code p n) f g (inl a) (inr b) = let before = ends-behind m.code a.from a.stands in absurd (omega (arith, a.here, b.here))
-  one-told (in_code p n) f g (inr a) (inl b) = let before = ends-behind m.code b.from b.stands in absurd (omega (arith, a.here, b.here))
+  one-told (in_code p n) f g (inl a) (inr b) = let before = ends-after m.code a.from a.stands in absurd (omega (arith, a.here, b.here))
+  one-told (in_code p n) f g (inr a) (inl b) = let before = ends-after m.code b.from b.stands in absurd (omega (arith, a.here, b.here))
   one-told (in_code p n) f g (inr a) (inr b) = let same : a.end ≡ b.end = cc (a.why, b.why) in a.is ∙ ap (Code p) same ∙ sym b.is
   one-told (in_table n) f g a b = let same : a.handler ≡ b.handler = cc (a.get, b.get) in a.is ∙ ap (λ (h : Handler). BadHandler h.entry n) same ∙ sym b.is
 

@@ -1,4 +1,4 @@
--- How a search goes on.
+-- How a traversal goes on.
 use Rattle.std.proofs.Common.{◌≡◌, ◌<◌, ◌≤◌, ◌⊎◌, inl, inr, ⊎_elim, ℕ, Bool, true, false, cond, Result, Ok, Err, List, [], ◌∷◌, ◌++◌, length, refl, sym, ap, ◌∙◌, subst, arith, Contains, MatchBool, All}
 use Rattle.std.specs.Prelude.{ℤ, pos, negsuc, OnOk}
 use Rattle.std.proofs.Math.ListN.{set}
@@ -6,18 +6,19 @@ use Rattle.std.proofs.lemmas.List.{length-append, length-set}
 use Rattle.std.proofs.lemmas.List.Sums.{sum_by-set}
 use Rattle.std.proofs.lemmas.List.Elements.{Contains-append_left, Contains-push, Contains-push_cases, All-weaker}
 use Rattle.jc_base.specs.declared.record.Handler.{Handler}
-use Rattle.jc_rules.specs.Flow.{Method, IsReached, IsLeader}
-use Rattle.jc_control.specs.declared.search.Search.{Search}
+use Rattle.jc_control.specs.Method.{Method}
+use Rattle.jc_control.specs.Control.{IsReached, IsLeader}
+use Rattle.jc_control.specs.declared.traversal.Traversal.{Traversal}
 use Rattle.jc_control.specs.Flags.{flag, IsFlagged}
-use Rattle.jc_control.specs.Search.{IsPending, IsAsBefore, IsFound, Reaches, Takes, work, Grows, IsSound, IsLed, IsLedTo, IsCaught, IsClosedAt, IsClosed}
+use Rattle.jc_control.specs.Traversal.{IsPending, IsAsBefore, IsFound, Reaches, Takes, work, Grows, IsSound, IsLed, IsLedTo, IsCaught, IsClosedAt, IsClosed}
 use Rattle.jc_control.proofs.Marked.{flag-here, flag-kept, flag-only}
 
 -- ---- growth
 
-pub grows-not : (s : Search) → Grows s s
+pub grows-not : (s : Traversal) → Grows s s
 grows-not s = record { reached = λ p h. h; leaders = λ p h. h; fresh = λ p h. inl h; pending = λ p h. h; less = omega arith }
 
-pub grows-on : (a b c : Search) → Grows a b → Grows b c → Grows a c
+pub grows-on : (a b c : Traversal) → Grows a b → Grows b c → Grows a c
 grows-on a b c g h = record {
   reached = λ p f. h.reached p (g.reached p f);
   leaders = λ p f. h.leaders p (g.leaders p f);
@@ -29,7 +30,7 @@ grows-on a b c g h = record {
 abbrev weight : Bool → ℕ
 weight b = cond b 0 1
 
-module _ (place : ℕ) (old new : Search) where
+module _ (place : ℕ) (old new : Traversal) where
   -- what is so where the place was known, and where it was found
   by_flag : (X : Type 0) → (IsFlagged old.reached place → IsAsBefore old new → X) → (flag old.reached place ≡ false → IsFound place old new → X) → Reaches place old new → X
   by_flag X known found r = go (flag old.reached place) refl r
@@ -104,7 +105,7 @@ on-ok P Q (Ok t) f h = f h
 on-ok P Q (Err e) f h = tt
 
 -- a place is reached
-module _ (m : Method) (place : ℕ) (old new : Search) (sound : IsSound m old) (inside : place ≤ length m.code) (same : new.leaders ≡ old.leaders) (r : Reaches place old new) where
+module _ (m : Method) (place : ℕ) (old new : Traversal) (sound : IsSound m old) (inside : place ≤ length m.code) (same : new.leaders ≡ old.leaders) (r : Reaches place old new) where
   pub reached-sound : IsReached m place → IsSound m new
   reached-sound here = reach-sound place old new (omega (arith, sound.reached_size)) r m sound here (ap length same)
       (λ p h. sound.leaders p (ap (λ (fs : List Bool). flag fs p) (sym same) ∙ h))
@@ -116,7 +117,7 @@ module _ (m : Method) (place : ℕ) (old new : Search) (sound : IsSound m old) (
   reached-found = reached-here place old new (omega (arith, sound.reached_size)) r
 
 -- control is led to a place
-module _ (m : Method) (place : ℕ) (old new : Search) (sound : IsSound m old) (inside : place ≤ length m.code) (one_more : new.leaders ≡ set old.leaders place true) (r : Reaches place old new) where
+module _ (m : Method) (place : ℕ) (old new : Traversal) (sound : IsSound m old) (inside : place ≤ length m.code) (one_more : new.leaders ≡ set old.leaders place true) (r : Reaches place old new) where
   led_inside : place < length old.leaders
   led_inside = omega (arith, sound.leaders_size)
 
@@ -133,18 +134,18 @@ module _ (m : Method) (place : ℕ) (old new : Search) (sound : IsSound m old) (
 
 -- ---- what is found stays found
 
-pub led-stays : (old new : Search) (t : ℤ) → Grows old new → IsLedTo old t → IsLedTo new t
+pub led-stays : (old new : Traversal) (t : ℤ) → Grows old new → IsLedTo old t → IsLedTo new t
 led-stays old new (pos p) g h = (g.reached p h.0, g.leaders p h.1)
 led-stays old new (negsuc n) g h = tt
 
-pub all-led-stays : (old new : Search) (ts : List ℤ) → Grows old new → All (IsLedTo old) ts → All (IsLedTo new) ts
+pub all-led-stays : (old new : Traversal) (ts : List ℤ) → Grows old new → All (IsLedTo old) ts → All (IsLedTo new) ts
 all-led-stays old new ts g all = All-weaker (IsLedTo old) (IsLedTo new) (λ t h. led-stays old new t g h) ts all
 
-pub all-caught-stay : (old new : Search) (place : ℕ) (hs : List Handler) → Grows old new → All (IsCaught old place) hs → All (IsCaught new place) hs
+pub all-caught-stay : (old new : Traversal) (place : ℕ) (hs : List Handler) → Grows old new → All (IsCaught old place) hs → All (IsCaught new place) hs
 all-caught-stay old new place hs g all =
     All-weaker (IsCaught old place) (IsCaught new place) (λ h c covers. let led = c covers in (g.reached h.entry led.0, g.leaders h.entry led.1)) hs all
 
-pub closed-stays : (m : Method) (old new : Search) (p : ℕ) → ((q : ℕ) → IsFlagged old.reached q → IsFlagged new.reached q) → ((q : ℕ) → IsFlagged old.leaders q → IsFlagged new.leaders q)
+pub closed-stays : (m : Method) (old new : Traversal) (p : ℕ) → ((q : ℕ) → IsFlagged old.reached q → IsFlagged new.reached q) → ((q : ℕ) → IsFlagged old.leaders q → IsFlagged new.leaders q)
     → IsClosedAt m old p → IsClosedAt m new p
 closed-stays m old new p reached leaders c = record {
   follows = λ i q there here succ. reached q (c.follows i q there here succ);
@@ -154,7 +155,7 @@ closed-stays m old new p reached leaders c = record {
 
 -- ---- a pending place is taken up
 
-module _ (m : Method) (place : ℕ) (old new : Search) (t : Takes place old new) where
+module _ (m : Method) (place : ℕ) (old new : Traversal) (t : Takes place old new) where
   still-pending : (p : ℕ) → IsPending new p → IsPending old p
   still-pending p h = subst (λ (ps : List ℕ). Contains ps p) (sym t.pending) (Contains-append_left new.pending.items (place ∷ []) p h)
 
@@ -174,7 +175,7 @@ module _ (m : Method) (place : ℕ) (old new : Search) (t : Takes place old new)
   taken-less = rw (t.reached, t.pending) (omega (arith, length-append new.pending.items (place ∷ [])))
 
   -- once all that follows it is found
-  pub visited-closed : (after : Search) → Grows new after → IsClosedAt m after place → IsClosed m old → IsClosed m after
+  pub visited-closed : (after : Traversal) → Grows new after → IsClosedAt m after place → IsClosed m old → IsClosed m after
   visited-closed after g closed all p h =
       ⊎_elim (λ before. known (all p (ap (λ (fs : List Bool). flag fs p) (sym t.reached) ∙ before))) (λ waits. inl waits) (g.fresh p h)
     where

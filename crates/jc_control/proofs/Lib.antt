@@ -6,3 +6,4 @@ pub mod FirstFound
 pub mod FlawLaws
 pub mod Growing
 pub mod Closing
+pub mod Living

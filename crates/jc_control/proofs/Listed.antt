@@ -9,7 +9,7 @@ use Rattle.jc_decode.specs.Decoding.{decoded, IsWithin}
 use Rattle.jc_decode.specs.Listing.{listing, listing_end, end_from, Lists}
 use Rattle.jc_decode.proofs.Decoded.{IsWithin-decoded, ok-same}
 use Rattle.jc_decode.proofs.Listing.{Lists-listing_from, listing_from-start}
-use Rattle.jc_rules.specs.Flow.{Stands, IsPlace, IsTargetPlace}
+use Rattle.jc_control.specs.WellFormed.{Stands, IsPlace, IsTargetPlace}
 use Rattle.jc_control.proofs.Elements.{contained-in, nothing-in, Contains-either, Contains-slice_get}
 
 module _ (code : List ℕ) where
@@ -72,8 +72,8 @@ module _ (code : List ℕ) where
       (λ later. before-end (at + p.insn.len) ps i l.2 later)
       (Contains-either p ps i c)
 
-  pub ends-behind : (i : Placed) → Stands code i → i.place < listing_end code
-  ends-behind i s = before-end 0 (listing code) i all-listed s
+  pub ends-after : (i : Placed) → Stands code i → i.place < listing_end code
+  ends-after i s = before-end 0 (listing code) i all-listed s
 
 -- after the last instruction none is decoded
 none-at-end : (code : List ℕ) (at : ℕ) (ps : List Placed) → Lists code at ps → IsErr (decoded code (end_from at ps))
@@ -88,9 +88,9 @@ pub why-it-ends : (code : List ℕ) → (e : CodeEnd) × (decoded code (listing_
 why-it-ends code = err-of (decoded code (listing_end code)) (none-at-end code 0 (listing code) (all-listed code))
 
 -- the next instruction of a walk stands in the code
-pub next-inside : (code : List ℕ) (before : List Placed) (i : Placed) (behind : List Placed) → before ++ i ∷ behind ≡ listing code → i.place < length code
-next-inside code before i behind whole =
-    let w = within-Stands code i (contained-in before i behind (listing code) whole) in
+pub next-inside : (code : List ℕ) (before : List Placed) (i : Placed) (after : List Placed) → before ++ i ∷ after ≡ listing code → i.place < length code
+next-inside code before i after whole =
+    let w = within-Stands code i (contained-in before i after (listing code) whole) in
     omega (arith, w.one, w.reaches)
 
 -- a target that is a place is a number that fits in sixteen bits

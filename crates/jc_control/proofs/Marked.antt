@@ -1,12 +1,12 @@
 -- Flags as the set of the flagged places.
-use Rattle.std.proofs.Common.{◌≡◌, ◌<◌, ◌⊎◌, inl, inr, ⊎_elim, ℕ, Bool, true, false, List, [], ◌∷◌, ◌++◌, length, sym, ap, ◌∙◌, subst, arith}
+use Rattle.std.proofs.Common.{◌≡◌, ◌<◌, ◌≤◌, ◌⊎◌, inl, inr, ⊎_elim, ℕ, Bool, true, false, List, [], ◌∷◌, ◌++◌, length, sym, ap, ◌∙◌, subst, arith}
 use Rattle.std.specs.Prelude.{ℤ, pos, negsuc, replicate}
 use Rattle.std.proofs.Math.ListN.{set}
 use Rattle.std.proofs.lemmas.Bool.{cases_eq, cases_lt, false≢true}
 use Rattle.std.proofs.lemmas.List.{get_or-replicate, get_or_past, length-replicate, get_or-set_same, get_or-set_other}
 use Rattle.std.proofs.lemmas.List.Elements.{Contains-append_left, Contains-push, Contains-push_cases}
 use Rattle.jc_decode.specs.declared.insn.Placed.{Placed}
-use Rattle.jc_rules.specs.Flow.{IsPlace, IsTargetPlace}
+use Rattle.jc_control.specs.WellFormed.{IsPlace, IsTargetPlace}
 use Rattle.jc_control.specs.Flags.{flag, IsFlagged, Marks, target_flag}
 use Rattle.jc_control.specs.Places.{BeginsIn}
 use Rattle.jc_control.proofs.Elements.{nothing-in}
@@ -43,6 +43,10 @@ flag-only fs p q h = elim (cases_eq q p) [
 
 pub marks-none : (n : ℕ) → Marks (BeginsIn []) (replicate n false)
 marks-none n p = (λ e. absurd (false≢true (sym (flag-none n p) ∙ e)), λ b. absurd (nothing-in b.0 b.1))
+
+-- flags that are all no mark nothing
+pub marks-clear : (fs : List Bool) (n : ℕ) → length fs ≤ n → ((p : ℕ) → p < n → IsFlagged fs p → ⊥) → Marks (BeginsIn []) fs
+marks-clear fs n all none p = (λ e. absurd (none p (let inside = flagged-inside fs p e in omega arith) e), λ b. absurd (nothing-in b.0 b.1))
 
 pub marks-more : (is : List Placed) (i : Placed) (fs : List Bool) → i.place < length fs → Marks (BeginsIn is) fs → Marks (BeginsIn (is ++ i ∷ [])) (set fs i.place true)
 marks-more is i fs inside m p = (

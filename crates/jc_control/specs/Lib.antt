@@ -1,11 +1,13 @@
+pub mod Method
+pub mod WellFormed
+pub mod Control
 pub mod Flaw
 pub mod Laws
 pub mod Flags
-pub mod Survey
-pub mod MethodIn
+pub mod ControlFlow
 pub mod Subject
 pub mod Places
 pub mod FirstFailing
 pub mod Scan
 pub mod Targets
-pub mod Search
+pub mod Traversal

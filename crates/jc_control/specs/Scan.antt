@@ -5,7 +5,7 @@ use Rattle.jc_decode.specs.declared.insn.Placed.{Placed}
 use Rattle.jc_decode.specs.declared.insn.CodeEnd.{CodeEnd}
 use Rattle.jc_decode.specs.Decoding.{decoded}
 use Rattle.jc_decode.specs.Listing.{listing, listing_end, targets}
-use Rattle.jc_rules.specs.Flow.{IsTargetPlace, IsHandlerOf}
+use Rattle.jc_control.specs.WellFormed.{IsTargetPlace, IsHandlerOf}
 use Rattle.jc_control.specs.declared.flaw.Flaw.{Flaw}
 use Rattle.jc_control.specs.declared.flaw.Flaw.TheVariants.{Code, BadTarget, BadHandler}
 use Rattle.jc_control.specs.FirstFailing.{IsFirstFailing}

@@ -1,5 +1,5 @@
 -- The method that is looked at.
-use Rattle.jc_rules.specs.Flow.{Method}
+use Rattle.jc_control.specs.Method.{Method}
 use Rattle.jc_control.specs.declared.subject.Subject.{Subject}
 
 abbrev pub method : Subject → Method

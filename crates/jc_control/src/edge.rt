@@ -1,5 +1,5 @@
 ghost use Rattle.std.specs.Prelude.{◌≡◌, ◌≤ℤ◌, ◌<ℤ◌, pos, MatchBool};
-ghost use Rattle.jc_rules.specs.Flow.{Covers};
+ghost use Rattle.jc_control.specs.Control.{Covers};
 
 use jc_base::Handler;
 

@@ -28,6 +28,13 @@ impl Flags {
         })
     }
 
+    /// These flags, by place.
+    pub fn of(items: Vec<bool>) -> Flags
+        ensures { result ≡ items.items }
+    {
+        Flags { items }
+    }
+
     /// The flag of a place; past the last one it is no.
     pub fn has(&self, place: u32) -> bool
         ensures { result ≡ flag self.now place }

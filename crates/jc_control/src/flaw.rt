@@ -14,30 +14,30 @@ pub enum Flaw {
     BadHandler(u16, u16),
 }
 
-/// Why a method is not surveyed.
+/// Why it is not told where control goes in a method.
 #[derive(Clone, Copy)]
-pub enum SurveyEnd {
+pub enum ControlEnd {
     /// The first flaw of a method that is not well formed.
     Flawed(Flaw),
     Memory,
 }
 
-impl From<Flaw> for SurveyEnd {
-    ghost use Rattle.jc_control.specs.declared.flaw.SurveyEnd.TheVariants.{Flawed};
+impl From<Flaw> for ControlEnd {
+    ghost use Rattle.jc_control.specs.declared.flaw.ControlEnd.TheVariants.{Flawed};
 
     ghost from_gives = { λ f e. e ≡ Flawed f };
 
-    fn from(flaw: Flaw) -> SurveyEnd {
-        SurveyEnd::Flawed(flaw)
+    fn from(flaw: Flaw) -> ControlEnd {
+        ControlEnd::Flawed(flaw)
     }
 }
 
-impl From<AllocError> for SurveyEnd {
-    ghost use Rattle.jc_control.specs.declared.flaw.SurveyEnd.TheVariants.{Memory};
+impl From<AllocError> for ControlEnd {
+    ghost use Rattle.jc_control.specs.declared.flaw.ControlEnd.TheVariants.{Memory};
 
     ghost from_gives = { λ _ e. e ≡ Memory };
 
-    fn from(_error: AllocError) -> SurveyEnd {
-        SurveyEnd::Memory
+    fn from(_error: AllocError) -> ControlEnd {
+        ControlEnd::Memory
     }
 }

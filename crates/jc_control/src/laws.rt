@@ -1,4 +1,4 @@
-ghost use Rattle.jc_control.specs.Laws.{FlawsDecide, FirstFlawIsOne};
+ghost use Rattle.jc_control.specs.Laws.{FlawsDecide, FirstFlawIsOne, InstructionsArePlaced, LiveHandlersLead, LeadersAreReached};
 
 /// A method is well formed exactly where it has no flaw.
 pub fn flaws_decide()
@@ -8,4 +8,16 @@ pub fn flaws_decide()
 /// A method has at most one first flaw.
 pub fn first_flaw_is_one()
     ensures { FirstFlawIsOne }
+{}
+
+/// Where a method is well formed, an instruction is found at its first place, after each other, and at each place
+/// that control reaches, unless the code ends there.
+pub fn instructions_are_placed()
+    ensures { InstructionsArePlaced }
+{}
+
+/// The entry of a live handler is reached and a leader, and each leader is reached.
+pub fn leaders_are_reached()
+    ensures live { LiveHandlersLead }
+    ensures leaders { LeadersAreReached }
 {}

@@ -1,8 +1,7 @@
 //! Where control goes in a method (JCVM 2.2, section 7.5): whether its code, its targets and its handlers
 //! are well formed, which places control reaches, and at which of them it comes together.
 //!
-//! The definitions of these sets stand in `jc_rules`. It stands on the worlds of `jc_base` and on the
-//! instructions of `jc_decode`.
+//! It stands on the worlds of `jc_base` and on the instructions of `jc_decode`.
 #![tactic(auto)]
 
 mod control;
@@ -10,15 +9,17 @@ mod edge;
 mod flags;
 mod flaw;
 mod laws;
+mod reached;
 mod scan;
-mod search;
 mod subject;
-mod surveyed;
 mod targets;
+mod traversal;
 
-pub use control::survey;
+pub use control::control_flow;
 pub use edge::{covers, place_of};
-pub use flaw::{Flaw, SurveyEnd};
-pub use laws::{first_flaw_is_one, flaws_decide};
-pub use surveyed::Survey;
+pub use flags::Flags;
+pub use flaw::{ControlEnd, Flaw};
+pub use laws::{first_flaw_is_one, flaws_decide, instructions_are_placed, leaders_are_reached};
+pub use reached::ControlFlow;
+pub use scan::{instruction_places, mark_places};
 pub use targets::Targets;

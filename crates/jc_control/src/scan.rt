@@ -1,7 +1,7 @@
 ghost use Rattle.std.specs.Prelude.{◌≡◌, ◌≤◌, ◌↔◌, ℕ, length, All, IsTrue, IfOk, IfErr, OnOk, IfSome, IfNone, Ok};
 ghost use Rattle.jc_decode.specs.Decoding.{decoded};
 ghost use Rattle.jc_decode.specs.Listing.{listing, listing_end, targets};
-ghost use Rattle.jc_rules.specs.Flow.{IsPlace, IsTargetPlace, IsHandlerOf, IsWellFormed};
+ghost use Rattle.jc_control.specs.WellFormed.{IsPlace, IsTargetPlace, IsHandlerOf, IsWellFormed};
 ghost use Rattle.jc_control.specs.Flags.{Marks};
 ghost use Rattle.jc_control.specs.Subject.{method};
 ghost use Rattle.jc_control.specs.Flaw.{IsFirstFlaw};
@@ -17,16 +17,30 @@ use jc_base::{Handler, Handlers};
 use jc_decode::{Instructions, Placed, code_end};
 use std::alloc::{AllocError, Global};
 
+/// Marks the places at which an instruction begins, and no others, in flags that the caller lends: a set that is
+/// decided once a method. There is a flag for each byte of the code at least.
+pub fn mark_places(code: View<'_>, flags: &mut [bool])
+    requires short { length code.bytes.now ≤ 32767 }
+    requires room { length code.bytes.now ≤ length flags.old }
+    ensures marks { Marks (IsPlace code.entry.bytes.now) flags.new }
+    ensures count { length flags.new ≡ length flags.old }
+{
+    'clear: for flag in flags.iter_mut() {
+        *flag = false;
+    }
+    'walk: for placed in Instructions::of(code) {
+        flags[usize::from(placed.place)] = true;
+    }
+}
+
 /// The places at which an instruction begins.
 pub fn instruction_places(alloc: Global, code: View<'_>) -> Result<Flags, AllocError>
     requires short { length code.bytes.now ≤ 32767 }
     ensures { IfOk result (λ f. Marks (IsPlace code.entry.bytes.now) f) }
 {
-    let mut places = Flags::new(alloc, code.bytes.len())?;
-    'walk: for placed in Instructions::of(code) {
-        places.set(placed.place);
-    }
-    Ok(places)
+    let mut flags = vec![in alloc; false; code.bytes.len()]?;
+    mark_places(code, flags.as_mut_slice());
+    Ok(Flags::of(flags))
 }
 
 /// Whether a method is well formed, or else its first flaw.

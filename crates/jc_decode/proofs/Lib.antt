@@ -12,3 +12,11 @@ pub mod Written
 pub mod OwnBytes
 pub mod Rising
 pub mod Refusals
+pub mod Passed
+pub mod OneInstruction
+pub mod Formed
+pub mod PoolIndices
+pub mod Sized
+pub mod Labels
+pub mod JumpForms
+pub mod Defaults

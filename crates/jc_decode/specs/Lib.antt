@@ -5,3 +5,8 @@ pub mod Listing
 pub mod Instructions
 pub mod Refusal
 pub mod Encoding
+pub mod Forms
+pub mod PoolIndex
+pub mod Symbols
+pub mod Standing
+pub mod Laws

@@ -2,6 +2,7 @@ ghost use Rattle.std.specs.Prelude.{◌≡◌, ◌≤◌, ◌+◌, ◌++◌, len
 ghost use Rattle.jc_decode.specs.Decoding.{decoded, FitsOperand};
 ghost use Rattle.jc_decode.specs.Layout.{total_width};
 ghost use Rattle.jc_decode.specs.Cases.{HasTable, is_table};
+ghost use Rattle.jc_decode.specs.Forms.{length_of};
 ghost use Rattle.jc_decode.specs.Encoding.{operand_bytes, head_bytes, AllowsBy, table_bytes, encoding, IsAllowed, ReadsBack};
 
 use crate::decoding::are_bytes;
@@ -21,6 +22,7 @@ pub fn encode(insn: Insn, code: View, at: u16, to: &mut Vec<u8>) -> Result<(), A
     ensures read_back { ReadsBack code.entry.bytes.now at insn (encoding code.entry.bytes.now at insn) }
     ensures same_bytes { decoded code.entry.bytes.now at ≡ Ok insn
         → encoding code.entry.bytes.now at insn ≡ take insn.len (drop at code.entry.bytes.now) }
+    ensures long { length (encoding code.entry.bytes.now at insn) ≡ length_of insn }
     ensures unchanged { OnErr result (to.new.items ≡ to.old.items) }
 {
     are_bytes(code.bytes);

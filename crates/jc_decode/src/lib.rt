@@ -1,15 +1,21 @@
 //! The instructions of Java Card bytecode (Java Card 2.2 VM Specification, chapter 7): their operands,
 //! their decoding from a method's code and their encoding, the cases of switches, and a method's code as
-//! the list of its instructions. It stands on `cap_bytes` and `byteorder`; decoding takes no memory.
+//! the list of its instructions. Code whose jumps go to labels is read as such a list too, and code that
+//! is laid in bytes may stand for it. It stands on `cap_bytes` and `byteorder`; decoding takes no memory.
 #![tactic(auto)]
 
 mod cases;
 mod decoding;
 mod encoding;
+mod forms;
 mod insn;
 mod instructions;
+mod laws;
 mod layout;
+mod pool_index;
+mod renewed;
 mod setting;
+mod sizes;
 mod symbols;
 
 pub use cases::{case, target};
@@ -17,6 +23,9 @@ pub use decoding::decode;
 pub use encoding::encode;
 pub use insn::{Case, CodeEnd, Insn, Placed};
 pub use instructions::{Instructions, code_end};
+pub use laws::{bytes_read_back, labels_stand_between, listing_is_one};
 pub use layout::{Cases, Layout, Operand};
+pub use pool_index::{IndexWidth, PoolIndex};
 pub use setting::set_case;
+pub use sizes::plain_size;
 pub use symbols::{Handler, Item, Labels, Laid, Range, Sequence, Symbols};

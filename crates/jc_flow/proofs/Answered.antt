@@ -3,23 +3,23 @@ use Rattle.std.proofs.Common.{◌≡◌, ℕ, ◌<◌, ◌≤◌, Bool, true, fa
 use Rattle.jc_base.specs.declared.ty.Ty.TheVariants.{Top}
 use Rattle.jc_base.specs.declared.record.MethodRec.{MethodRec}
 use Rattle.jc_base.specs.Linked.{IsCodeLength, lacks_code}
-use Rattle.jc_base.specs.World.{Linked, IsWorld, code_of}
+use Rattle.jc_base.specs.World.{Linked, code_of}
+use Rattle.jc_rules.specs.FlowLaws.{AreRules}
 use Rattle.jc_base.proofs.Lists.{slice_get-below}
-use Rattle.jc_rules.specs.Flow.{Method, IsMethodOf, HasFlowTyping}
+use Rattle.jc_control.specs.Method.{Method, IsMethodOf, method_in, method_with}
+use Rattle.jc_rules.specs.Flow.{HasFlowTyping}
 use Rattle.jc_control.specs.declared.flaw.Flaw.{Flaw}
 use Rattle.jc_control.specs.declared.flaw.Flaw.TheVariants as flaws
-use Rattle.jc_control.specs.declared.flaw.SurveyEnd.{SurveyEnd}
-use Rattle.jc_control.specs.declared.flaw.SurveyEnd.TheVariants.{Flawed}
-use Rattle.jc_control.specs.declared.flaw.SurveyEnd.TheVariants.{Memory as NotSurveyed}
+use Rattle.jc_control.specs.declared.flaw.ControlEnd.{ControlEnd}
+use Rattle.jc_control.specs.declared.flaw.ControlEnd.TheVariants.{Flawed, Memory as NoControl}
 use Rattle.jc_control.specs.Flaw.{IsFirstFlaw}
-use Rattle.jc_control.specs.MethodIn.{method_in, method_with}
-use Rattle.jc_control.specs.Survey.{TellsFlaw}
+use Rattle.jc_control.specs.ControlFlow.{TellsFlaw}
 use Rattle.jc_control.proofs.FlawLaws.{first-flaw-refuses}
-use Rattle.jc_states.proofs.Derived.{some_to, some_at, at_some, some_map, of_world}
+use Rattle.jc_flow.proofs.Derived.{some_to, some_at, at_some, some_map, of_world}
 use Rattle.jc_flow.specs.declared.end.FlowEnd.{FlowEnd}
 use Rattle.jc_flow.specs.declared.end.FlowEnd.TheVariants.{NoTyping, Code, BadTarget, FallsOff, BadHandler, Memory}
 use Rattle.jc_flow.specs.Fails.{IsFailure}
-use Rattle.jc_flow.specs.Infer.{HasNone, unsurveyed_as}
+use Rattle.jc_flow.specs.Infer.{HasNone, unformed_as}
 use Rattle.jc_flow.proofs.Never.{none-where-fails, none-where-falls}
 
 pub number-below : {X : Type 0} (P : X → Type 0) (xs : List X) (n : ℕ) → IsSomeAnd (slice_get xs n) P → n < length xs
@@ -45,7 +45,7 @@ module _ (w : Linked) (n : ℕ) (rec : MethodRec) (code : List ℕ) (here : slic
   pub to-method : (P : Method → Type 0) → P (record { number = n; rec = rec; code = code }) → IsSomeAnd (method_in w n) P
   to-method P h = at_some P method-is h
 
-  pub code-short : IsWorld w → IsMethodOf w (record { number = n; rec = rec; code = code }) → length code ≤ 32767
+  pub code-short : AreRules w → IsMethodOf w (record { number = n; rec = rec; code = code }) → length code ≤ 32767
   code-short is mo =
       let most : rec.code_len ≤ 32767 = length-short (lacks_code w.classes rec) rec.code_len (of_world w is (record { number = n; rec = rec; code = code }) mo).code in
       let size : length code ≡ _ = ap length mo.code ∙ length-take rec.code_len _ in
@@ -54,16 +54,16 @@ module _ (w : Linked) (n : ℕ) (rec : MethodRec) (code : List ℕ) (here : slic
 flaw-none : (w : Linked) (m : Method) (f : Flaw) → IsFirstFlaw m f → ¬ (HasFlowTyping w m Top)
 flaw-none w m f first has = first-flaw-refuses m f first has.typing.formed
 
-unsurveyed-none : (w : Linked) (m : Method) (end : SurveyEnd) → TellsFlaw m end → HasNone w m (unsurveyed_as end)
-unsurveyed-none w m (Flawed (flaws.Code p e)) h = flaw-none w m (flaws.Code p e) h
-unsurveyed-none w m (Flawed (flaws.BadTarget p t)) h = flaw-none w m (flaws.BadTarget p t) h
-unsurveyed-none w m (Flawed (flaws.BadHandler p k)) h = flaw-none w m (flaws.BadHandler p k) h
-unsurveyed-none w m NotSurveyed h = tt
+unformed-none : (w : Linked) (m : Method) (end : ControlEnd) → TellsFlaw m end → HasNone w m (unformed_as end)
+unformed-none w m (Flawed (flaws.Code p e)) h = flaw-none w m (flaws.Code p e) h
+unformed-none w m (Flawed (flaws.BadTarget p t)) h = flaw-none w m (flaws.BadTarget p t) h
+unformed-none w m (Flawed (flaws.BadHandler p k)) h = flaw-none w m (flaws.BadHandler p k) h
+unformed-none w m NoControl h = tt
 
-pub none-unsurveyed : (w : Linked) (o : Option Method) (end : SurveyEnd) (r : FlowEnd) → r ≡ unsurveyed_as end → IsSomeAnd o (λ m. TellsFlaw m end) → IsSomeAnd o (λ m. HasNone w m r)
-none-unsurveyed w o end r e h = some_map (λ m. TellsFlaw m end) (λ m. HasNone w m r) o (λ m t. subst (HasNone w m) (sym e) (unsurveyed-none w m end t)) h
+pub none-unformed : (w : Linked) (o : Option Method) (end : ControlEnd) (r : FlowEnd) → r ≡ unformed_as end → IsSomeAnd o (λ m. TellsFlaw m end) → IsSomeAnd o (λ m. HasNone w m r)
+none-unformed w o end r e h = some_map (λ m. TellsFlaw m end) (λ m. HasNone w m r) o (λ m t. subst (HasNone w m) (sym e) (unformed-none w m end t)) h
 
-pub none-failed : (w : Linked) → IsWorld w → (m : Method) → IsMethodOf w m → (end : FlowEnd) → IsFailure w m end → HasNone w m end
+pub none-failed : (w : Linked) → AreRules w → (m : Method) → IsMethodOf w m → (end : FlowEnd) → IsFailure w m end → HasNone w m end
 none-failed w is m mo (NoTyping p fault) h = none-where-fails w is m mo p fault h
 none-failed w is m mo (FallsOff p) h = none-where-falls w is m mo p h
 none-failed w is m mo (Code p end) h = absurd h

@@ -1,19 +1,21 @@
--- The search's begin: an empty table, and the frame of the method's start.
+-- The begin of an analysis: an empty table, and the frame of the method's start.
 use Rattle.std.proofs.Common.{◌≡◌, ℕ, zero, suc, ◌⊎◌, inl, inr, false, length, replicate, Option, Some, None, IsSomeAnd, refl, sym, ◌∙◌, ap, subst, arith}
 use Rattle.std.proofs.lemmas.List.{length-replicate}
 use Rattle.jc_base.specs.declared.ty.Ty.TheVariants.{Top}
 use Rattle.jc_base.specs.World.{Linked}
 use Rattle.jc_rules.specs.Demand.{Frame}
-use Rattle.jc_rules.specs.Flow.{Method, IsMethodOf, IsWellFormed, IsNotTop, IsNotFresh, start_frame, derived_start}
+use Rattle.jc_control.specs.Method.{Method, IsMethodOf}
+use Rattle.jc_control.specs.WellFormed.{IsWellFormed}
+use Rattle.jc_rules.specs.Flow.{IsNotTop, IsNotFresh, start_frame, derived_start}
 use Rattle.jc_rules.specs.Typing.{state_at, Clashes}
-use Rattle.jc_states.specs.declared.table.PutEnd.{PutEnd}
-use Rattle.jc_states.specs.declared.table.PutEnd.TheVariants.{Clash, Memory}
-use Rattle.jc_states.specs.Found.{Found, IsPending, Prevents}
-use Rattle.jc_states.specs.Progress.{IsHeld, AreHeld, IsClosed, AreClosed}
-use Rattle.jc_states.proofs.Frames.{all_none}
+use Rattle.jc_flow.specs.declared.table.PutEnd.{PutEnd}
+use Rattle.jc_flow.specs.declared.table.PutEnd.TheVariants.{Clash, Memory}
+use Rattle.jc_flow.specs.Found.{Found, IsPending, Prevents}
+use Rattle.jc_flow.specs.Progress.{IsHeld, AreHeld, IsClosed, AreClosed}
+use Rattle.jc_flow.proofs.Frames.{all_none}
 use Rattle.jc_flow.specs.Fails.{IsFailure}
 use Rattle.jc_flow.specs.Visit.{Goes, broken_at}
-use Rattle.jc_flow.proofs.Behind.{place-first}
+use Rattle.jc_control.proofs.Closing.{place-first}
 
 abbrev pub empty : ℕ → Found
 empty n = record { states = replicate n None; pending = replicate n false }
@@ -39,7 +41,7 @@ module _ (w : Linked) (m : Method) where
   pub start-held : IsMethodOf w m → IsWellFormed m → IsHeld w m 0 (start_frame m.rec Top)
   start-held mo formed = record {
     derived = derived_start;
-    place = place-first m.code formed.ends mo.filled;
+    place = place-first m formed mo.filled;
     room = omega arith;
     no_top = all_none IsNotTop;
     ready = λ l. all_none IsNotFresh;

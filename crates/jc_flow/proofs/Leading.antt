@@ -5,28 +5,32 @@ use Rattle.std.specs.List.{Contains}
 use Rattle.jc_base.specs.declared.ty.Ty.{Ty}
 use Rattle.jc_base.specs.declared.ty.Ty.TheVariants.{Class}
 use Rattle.jc_base.specs.declared.record.Handler.{Handler}
-use Rattle.jc_base.specs.World.{Linked, IsWorld}
+use Rattle.jc_base.specs.World.{Linked}
+use Rattle.jc_rules.specs.FlowLaws.{AreRules}
 use Rattle.jc_decode.specs.declared.insn.Insn.{Insn}
 use Rattle.jc_decode.specs.declared.insn.Placed.{Placed}
 use Rattle.jc_decode.specs.Cases.{cases}
 use Rattle.jc_decode.specs.Listing.{falls, jumps, target, targets}
 use Rattle.jc_ops.specs.declared.fault.RuleFault.TheVariants.{FreshKept, StackMerge, Overflow}
 use Rattle.jc_rules.specs.Demand.{Frame}
-use Rattle.jc_rules.specs.Flow.{Method, IsMethodOf, IsWellFormed, Stands, IsPlace, IsTargetPlace, IsHandlerOf, IsSuccessor, behind, jumped, IsLeader, Covers, IsNotFresh, IsNotTop, caught_frame, derived_next, derived_caught}
+use Rattle.jc_control.specs.Method.{Method, IsMethodOf}
+use Rattle.jc_control.specs.WellFormed.{IsWellFormed, Stands, IsPlace, IsTargetPlace, IsHandlerOf}
+use Rattle.jc_control.specs.Control.{IsSuccessor, falls_through, jumped, IsLeader, Covers}
+use Rattle.jc_rules.specs.Flow.{IsNotFresh, IsNotTop, caught_frame, derived_next, derived_caught}
 use Rattle.jc_rules.specs.Typing.{state_at, Clashes}
 use Rattle.jc_control.proofs.Elements.{nothing-in}
 use Rattle.jc_control.proofs.Listed.{target-range}
-use Rattle.jc_states.specs.declared.table.PutEnd.{PutEnd}
-use Rattle.jc_states.specs.declared.table.PutEnd.TheVariants.{Clash, Memory}
-use Rattle.jc_states.specs.Found.{Found, Prevents}
-use Rattle.jc_states.specs.Progress.{IsHeld, AreHeld, most_rises}
-use Rattle.jc_states.proofs.Frames.{all_none, all_more}
-use Rattle.jc_states.proofs.Derived.{derived-fine, step-keeps, all_contained, some_to}
-use Rattle.jc_states.proofs.Growth.{grown-same}
+use Rattle.jc_flow.specs.declared.table.PutEnd.{PutEnd}
+use Rattle.jc_flow.specs.declared.table.PutEnd.TheVariants.{Clash, Memory}
+use Rattle.jc_flow.specs.Found.{Found, Prevents}
+use Rattle.jc_flow.specs.Progress.{IsHeld, AreHeld, most_rises}
+use Rattle.jc_flow.proofs.Frames.{all_none, all_more}
+use Rattle.jc_flow.proofs.Derived.{derived-fine, step-keeps, all_contained, some_to}
+use Rattle.jc_flow.proofs.Growth.{grown-same}
 use Rattle.jc_flow.specs.Fails.{FailsAt, fails_leader, fails_merge, fails_caught, fails_handler, IsFailure}
 use Rattle.jc_flow.specs.Visit.{HasStepped, Goes, broken_at}
 use Rattle.jc_flow.proofs.Steps.{stands-here}
-use Rattle.jc_flow.proofs.Behind.{place-behind}
+use Rattle.jc_control.proofs.Closing.{place-after}
 
 pub frame-is : (regs stack : List Ty) (f : Frame) → regs ≡ f.regs → stack ≡ f.stack → ◌≡◌ {A = Frame} (record { regs = regs; stack = stack }) f
 frame-is regs stack f e h =
@@ -49,7 +53,7 @@ pub targets-jump : (code : List ℕ) (i : Placed) (t : ℤ) → Contains (target
 unfolding targets
 targets-jump code i t c = if-jumps (jumps i.insn.op) (target i.place i.insn.x ∷ map (λ c. target i.place c.offset) (cases code i.place i.insn)) t c
 
-module _ (w : Linked) (is : IsWorld w) (m : Method) (mo : IsMethodOf w m) (formed : IsWellFormed m) (p : ℕ) (f g : Frame) (insn : Insn) (here : IsHeld w m p f) (st : HasStepped w m p f g insn) where
+module _ (w : Linked) (is : AreRules w) (m : Method) (mo : IsMethodOf w m) (formed : IsWellFormed m) (p : ℕ) (f g : Frame) (insn : Insn) (here : IsHeld w m p f) (st : HasStepped w m p f g insn) where
   stands : Stands m.code (record { place = p; insn = insn })
   stands = stands-here m.code p here.place insn st.decodes
 
@@ -57,13 +61,13 @@ module _ (w : Linked) (is : IsWorld w) (m : Method) (mo : IsMethodOf w m) (forme
   step-held q to place ready = record {
     derived = derived_next here.derived stands st.steps to;
     place = place;
-    room = subst (λ r. length g.stack ≤ r.max_stack) (some-same st.steps.1.is_method mo.rec) st.steps.1.room;
+    room = subst (λ r. length g.stack ≤ r.max_stack) (some-same st.steps.1.is_method mo.rec) st.steps.1.rule.does.room;
     no_top = (step-keeps w is m mo (record { place = p; insn = insn }) f g (derived-fine w is m mo here.derived) st.steps).no_top here.no_top;
     ready = ready;
   }
 
-  pub behind-held : IsTrue (falls insn.op) → (IsLeader m (p + insn.len) → All IsNotFresh g.stack) → IsHeld w m (p + insn.len) g
-  behind-held on ready = step-held (p + insn.len) (behind on) (place-behind m.code formed.ends (record { place = p; insn = insn }) stands (st.stays on)) ready
+  pub next-held : IsTrue (falls insn.op) → (IsLeader m (p + insn.len) → All IsNotFresh g.stack) → IsHeld w m (p + insn.len) g
+  next-held on ready = step-held (p + insn.len) (falls_through on) (place-after m formed (record { place = p; insn = insn }) stands (st.stays on)) ready
 
   pub target-there : (t : ℤ) → Contains (targets m.code (record { place = p; insn = insn })) t → IsTargetPlace m.code t
   target-there t c = all_contained (IsTargetPlace m.code) (targets m.code (record { place = p; insn = insn })) t (formed.targets (record { place = p; insn = insn }) stands) c
@@ -85,8 +89,8 @@ module _ (w : Linked) (is : IsWorld w) (m : Method) (mo : IsMethodOf w m) (forme
 
   -- ---- where it fails
 
-  pub behind-fresh : IsTrue (falls insn.op) → IsLeader m (p + insn.len) → ¬ (All IsNotFresh g.stack) → FailsAt w m p FreshKept
-  behind-fresh on l n = record { frame = f; derived = here.derived; fails = fails_leader (record { place = p; insn = insn }) g (p + insn.len) stands refl st.steps (behind on) l n }
+  pub next-fresh : IsTrue (falls insn.op) → IsLeader m (p + insn.len) → ¬ (All IsNotFresh g.stack) → FailsAt w m p FreshKept
+  next-fresh on l n = record { frame = f; derived = here.derived; fails = fails_leader (record { place = p; insn = insn }) g (p + insn.len) stands refl st.steps (falls_through on) l n }
 
   pub no-room : (h : Handler) → Contains m.rec.handlers h → Covers h p → m.rec.max_stack ≡ 0 → FailsAt w m p Overflow
   no-room h c cov e = record { frame = f; derived = here.derived; fails = fails_handler h c cov e }

@@ -1,7 +1,12 @@
+pub mod Frames
+pub mod Landing
+pub mod Derived
+pub mod Growth
+pub mod Settled
+pub mod Measure
 pub mod Copies
 pub mod Raise
 pub mod Steps
-pub mod Behind
 pub mod Leading
 pub mod Visits
 pub mod Settling

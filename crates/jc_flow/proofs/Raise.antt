@@ -1,21 +1,22 @@
 -- A frame that may stand at a place can be put there, and the table grows.
 use Rattle.std.proofs.Common.{◌≡◌, ℕ, ◌<◌, length, All, Option, Some, None, IfSome, Result, Ok, Err, MatchResult, refl, sym, ◌∙◌, subst, arith}
 use Rattle.jc_base.specs.Order.{IsKnown}
-use Rattle.jc_base.specs.World.{Linked, IsWorld}
+use Rattle.jc_base.specs.World.{Linked}
+use Rattle.jc_rules.specs.FlowLaws.{AreRules}
 use Rattle.jc_rules.specs.Demand.{Frame}
-use Rattle.jc_rules.specs.Flow.{Method, IsMethodOf}
+use Rattle.jc_control.specs.Method.{Method, IsMethodOf}
 use Rattle.jc_rules.specs.Typing.{state_at}
 use Rattle.jc_control.proofs.Listed.{place-inside}
-use Rattle.jc_states.specs.declared.table.PutEnd.{PutEnd}
-use Rattle.jc_states.specs.Found.{Found, HasKnown, Lands, Prevents}
+use Rattle.jc_flow.specs.declared.table.PutEnd.{PutEnd}
+use Rattle.jc_flow.specs.Found.{Found, HasKnown, Lands, Prevents}
 use Rattle.jc_base.specs.Class.{ClassTable}
-use Rattle.jc_states.specs.Progress.{IsHeld, AreHeld}
-use Rattle.jc_states.proofs.Derived.{derived-fine}
-use Rattle.jc_states.proofs.Growth.{lands-grown, lands-above, lands-held}
-use Rattle.jc_states.proofs.Measure.{frame-rises}
+use Rattle.jc_flow.specs.Progress.{IsHeld, AreHeld}
+use Rattle.jc_flow.proofs.Derived.{derived-fine}
+use Rattle.jc_flow.proofs.Growth.{lands-grown, lands-above, lands-held}
+use Rattle.jc_flow.proofs.Measure.{frame-rises}
 use Rattle.jc_flow.specs.Visit.{Raised}
 
-module _ (w : Linked) (is : IsWorld w) (m : Method) (mo : IsMethodOf w m) where
+module _ (w : Linked) (is : AreRules w) (m : Method) (mo : IsMethodOf w m) where
   module _ (found : Found) (held : AreHeld w m found) (to : ℕ) (f : Frame) (h : IsHeld w m to f) where
     pub place-there : to < length found.states
     place-there = let inside : to < length m.code = place-inside m.code to h.place in omega (arith, held.places)
@@ -42,7 +43,7 @@ module _ (w : Linked) (is : IsWorld w) (m : Method) (mo : IsMethodOf w m) where
     raised new lands = record {
       goes = record {
         grown = lands-grown w.classes _ place-there flag-there (frame-rises w.classes m f (derived-fine w is m mo h.derived).count h.room) lands;
-        held = lands-held w is.chains m place-there held h lands;
+        held = lands-held w is.ready m place-there held h lands;
       };
       above = lands-above w.classes 0 place-there lands;
     }

@@ -1,21 +1,24 @@
--- The search from visit to visit, and its end.
+-- An analysis from visit to visit, and its end.
 use Rattle.std.proofs.Common.{◌≡◌, ℕ, ◌+◌, ◌<◌, Option, Some, None, IsSome, IfSome, length, refl, subst, sym, arith}
 use Rattle.jc_base.specs.declared.ty.Ty.TheVariants.{Top}
-use Rattle.jc_base.specs.World.{Linked, IsWorld}
-use Rattle.jc_rules.specs.Demand.{Frame}
-use Rattle.jc_rules.specs.Flow.{Method, IsMethodOf, IsWellFormed, At, FrameBelow, start_frame, IsLeastTyping}
+use Rattle.jc_base.specs.World.{Linked}
+use Rattle.jc_rules.specs.FlowLaws.{AreRules}
+use Rattle.jc_rules.specs.Demand.{Frame, AreKnown}
+use Rattle.jc_control.specs.Method.{Method, IsMethodOf}
+use Rattle.jc_control.specs.WellFormed.{IsWellFormed}
+use Rattle.jc_rules.specs.Flow.{At, FrameBelow, start_frame, IsDerived, IsLeastTyping}
 use Rattle.jc_rules.specs.Typing.{state_at}
-use Rattle.jc_states.specs.Found.{Found, IsPending, NonePending, taken}
-use Rattle.jc_states.specs.Progress.{AreHeld, AreClosed, most_rises, work}
-use Rattle.jc_states.proofs.Derived.{derived-fine}
-use Rattle.jc_states.proofs.Growth.{visited, at-grown, taken-less}
-use Rattle.jc_states.proofs.Settled.{settled-least, reached-found, found-reached}
-use Rattle.jc_flow.specs.Infer.{AreReached, HaveRegisters}
+use Rattle.jc_flow.specs.Found.{Found, IsPending, NonePending, taken}
+use Rattle.jc_flow.specs.Progress.{AreHeld, AreClosed, most_rises, work}
+use Rattle.jc_flow.proofs.Derived.{derived-fine}
+use Rattle.jc_flow.proofs.Growth.{visited, at-grown, taken-less}
+use Rattle.jc_flow.proofs.Settled.{settled-least, reached-found, found-reached}
+use Rattle.jc_flow.specs.Infer.{AreReached, HaveRegisters, AreDerived, HaveKnownTypes}
 use Rattle.jc_flow.specs.Visit.{IsVisited}
 
-module _ (w : Linked) (is : IsWorld w) (m : Method) (p : ℕ) (old new : Found) (v : IsVisited w m p (taken old p) new) where
+module _ (w : Linked) (is : AreRules w) (m : Method) (p : ℕ) (old new : Found) (v : IsVisited w m p (taken old p) new) where
   pub still-closed : AreClosed w m old → AreClosed w m new
-  still-closed closed = visited w is.chains m (most_rises w.classes m) old new p v.goes.grown closed v.closed
+  still-closed closed = visited w is.ready m (most_rises w.classes m) old new p v.goes.grown closed v.closed
 
 module _ (w : Linked) (m : Method) (p : ℕ) (old new : Found) (v : IsVisited w m p (taken old p) new) where
   pub still-started : At (state_at old.states) 0 (FrameBelow w.classes (start_frame m.rec Top)) → At (state_at new.states) 0 (FrameBelow w.classes (start_frame m.rec Top))
@@ -24,7 +27,7 @@ module _ (w : Linked) (m : Method) (p : ℕ) (old new : Found) (v : IsVisited w 
   pub still-less : IsPending old p → work w.classes (most_rises w.classes m) new < work w.classes (most_rises w.classes m) old
   still-less waits = let less = taken-less w.classes (most_rises w.classes m) old p waits in omega (arith, v.goes.grown.less)
 
-pub least-found : (w : Linked) → IsWorld w → (m : Method) → IsMethodOf w m → IsWellFormed m → (found end : Found) → end ≡ found → AreHeld w m found → AreClosed w m found → NonePending found
+pub least-found : (w : Linked) → AreRules w → (m : Method) → IsMethodOf w m → IsWellFormed m → (found end : Found) → end ≡ found → AreHeld w m found → AreClosed w m found → NonePending found
     → At (state_at found.states) 0 (FrameBelow w.classes (start_frame m.rec Top)) → IsLeastTyping w m Top (state_at end.states)
 least-found w is m mo formed found end e held closed none start =
     subst (λ (x : Found). IsLeastTyping w m Top (state_at x.states)) (sym e) (settled-least w is m mo found formed held closed none start)
@@ -38,7 +41,7 @@ is-there None h = absurd (cc)
 is-there (Some f) h = (f, refl)
 
 -- the places with a frame are those that control reaches
-pub reached-are : (w : Linked) → IsWorld w → (m : Method) → IsMethodOf w m → IsWellFormed m → (found end : Found) → end ≡ found → AreHeld w m found → AreClosed w m found → NonePending found
+pub reached-are : (w : Linked) → AreRules w → (m : Method) → IsMethodOf w m → IsWellFormed m → (found end : Found) → end ≡ found → AreHeld w m found → AreClosed w m found → NonePending found
     → At (state_at found.states) 0 (FrameBelow w.classes (start_frame m.rec Top)) → AreReached m end.states
 reached-are w is m mo formed found end e held closed none start = subst (λ (x : Found). AreReached m x.states) (sym e) (λ p. (
   (λ h. found-reached w is m mo found formed held closed none start (is-there (state_at found.states p) h).1),
@@ -46,9 +49,25 @@ reached-are w is m mo formed found end e held closed none start = subst (λ (x :
 ))
 
 -- each frame has the method's registers
-pub registers-are : (w : Linked) → IsWorld w → (m : Method) → IsMethodOf w m → (found end : Found) → end ≡ found → AreHeld w m found → HaveRegisters m end.states
+pub registers-are : (w : Linked) → AreRules w → (m : Method) → IsMethodOf w m → (found end : Found) → end ≡ found → AreHeld w m found → HaveRegisters m end.states
 registers-are w is m mo found end e held = subst (λ (x : Found). HaveRegisters m x.states) (sym e) (λ p. at (state_at found.states p) p refl)
   where
     at : (o : Option Frame) (p : ℕ) → state_at found.states p ≡ o → IfSome o (λ f. length f.regs ≡ m.rec.nargs + m.rec.max_locals)
     at None p h = tt
     at (Some f) p h = (derived-fine w is m mo (held.held p f h).derived).count
+
+-- each frame is derived
+pub derived-are : (w : Linked) (m : Method) (found end : Found) → end ≡ found → AreHeld w m found → AreDerived w m end.states
+derived-are w m found end e held = subst (λ (x : Found). AreDerived w m x.states) (sym e) (λ p. at (state_at found.states p) p refl)
+  where
+    at : (o : Option Frame) (p : ℕ) → state_at found.states p ≡ o → IfSome o (IsDerived w m Top p)
+    at None p h = tt
+    at (Some f) p h = (held.held p f h).derived
+
+-- and has known types
+pub known-are : (w : Linked) → AreRules w → (m : Method) → IsMethodOf w m → (found end : Found) → end ≡ found → AreHeld w m found → HaveKnownTypes w end.states
+known-are w is m mo found end e held = subst (λ (x : Found). HaveKnownTypes w x.states) (sym e) (λ p. at (state_at found.states p) p refl)
+  where
+    at : (o : Option Frame) (p : ℕ) → state_at found.states p ≡ o → IfSome o (AreKnown w.classes)
+    at None p h = tt
+    at (Some f) p h = (derived-fine w is m mo (held.held p f h).derived).known

@@ -10,10 +10,12 @@ use Rattle.jc_ops.specs.declared.fault.RuleFault.{RuleFault}
 use Rattle.jc_ops.specs.declared.fault.RuleFault.TheVariants.{FreshKept}
 use Rattle.jc_rules.specs.Demand.{Frame}
 use Rattle.jc_rules.specs.Apply.{Refuses}
-use Rattle.jc_rules.specs.Flow.{Method, Stands, IsPlace, IsNotFresh, Steps, site_of}
+use Rattle.jc_control.specs.Method.{Method}
+use Rattle.jc_control.specs.WellFormed.{Stands, IsPlace}
+use Rattle.jc_rules.specs.Flow.{IsNotFresh, Steps, site_of}
 use Rattle.jc_rules.proofs.Raising.{All-turned, All-reverse}
 use Rattle.jc_control.proofs.Listed.{decoded-Stands}
-use Rattle.jc_states.specs.Progress.{IsHeld}
+use Rattle.jc_flow.specs.Progress.{IsHeld}
 use Rattle.jc_flow.specs.Fails.{FailsAt, FallsPast, fails_rule, fails_jump}
 
 ok-same : {i j : Insn} → ◌≡◌ {A = Result Insn CodeEnd} (Ok i) (Ok j) → i ≡ j
@@ -45,5 +47,16 @@ module _ (w : Linked) (m : Method) (p : ℕ) (f : Frame) (h : IsHeld w m p f) (i
   pub fail-jump : (g : Frame) → Steps w m (record { place = p; insn = insn }) f g → IsTrue (jumps insn.op) → ¬ (All IsNotFresh g.stack) → FailsAt w m p FreshKept
   fail-jump g s j n = record { frame = f; derived = h.derived; fails = fails_jump (record { place = p; insn = insn }) g (stands-here m.code p h.place insn d) refl s j n }
 
-  pub fall-past : IsTrue (falls insn.op) → length m.code ≤ p + insn.len → FallsPast w m p
-  fall-past on past = record { frame = f; derived = h.derived; instruction = record { place = p; insn = insn }; stands = stands-here m.code p h.place insn d; at = refl; falls_on = on; past = past }
+  pub fall-past : (g : Frame) → Steps w m (record { place = p; insn = insn }) f g → (IsTrue (jumps insn.op) → All IsNotFresh g.stack) → IsTrue (falls insn.op) → length m.code ≤ p + insn.len → FallsPast w m p
+  fall-past g s ready on past = record {
+    frame = f;
+    derived = h.derived;
+    instruction = record { place = p; insn = insn };
+    stands = stands-here m.code p h.place insn d;
+    at = refl;
+    after = g;
+    steps = s;
+    ready = ready;
+    falls_on = on;
+    past = past;
+  }

@@ -4,18 +4,22 @@ use Rattle.std.specs.Prelude.{ℤ, pos, negsuc}
 use Rattle.std.proofs.lemmas.List.{take_all}
 use Rattle.std.proofs.lemmas.List.Elements.{All-more}
 use Rattle.jc_base.specs.declared.record.Handler.{Handler}
-use Rattle.jc_base.specs.World.{Linked, IsWorld}
+use Rattle.jc_base.specs.World.{Linked}
+use Rattle.jc_rules.specs.FlowLaws.{AreRules}
 use Rattle.jc_decode.specs.declared.insn.Insn.{Insn}
 use Rattle.jc_decode.specs.declared.insn.Placed.{Placed}
 use Rattle.jc_decode.specs.Listing.{falls, targets}
 use Rattle.jc_rules.specs.Demand.{Frame}
-use Rattle.jc_rules.specs.Flow.{Method, IsMethodOf, Stands, IsSuccessor, behind, jumped, At, FrameBelow, IsFollowed, caught_frame}
+use Rattle.jc_control.specs.Method.{Method, IsMethodOf}
+use Rattle.jc_control.specs.WellFormed.{Stands}
+use Rattle.jc_control.specs.Control.{IsSuccessor, falls_through, jumped}
+use Rattle.jc_rules.specs.Flow.{At, FrameBelow, IsFollowed, caught_frame}
 use Rattle.jc_rules.specs.Typing.{state_at}
 use Rattle.jc_control.proofs.Listed.{one-at}
-use Rattle.jc_states.specs.Found.{Found}
-use Rattle.jc_states.specs.Progress.{IsHeld, IsClosed, most_rises}
-use Rattle.jc_states.proofs.Derived.{derived-fine, all_contained}
-use Rattle.jc_states.proofs.Growth.{grown-trans, at-grown}
+use Rattle.jc_flow.specs.Found.{Found}
+use Rattle.jc_flow.specs.Progress.{IsHeld, IsClosed, most_rises}
+use Rattle.jc_flow.proofs.Derived.{derived-fine, all_contained}
+use Rattle.jc_flow.proofs.Growth.{grown-trans, at-grown}
 use Rattle.jc_flow.specs.declared.edges.Step.{Step}
 use Rattle.jc_flow.specs.Scratch.{Scratched, SuitsMethod}
 use Rattle.jc_flow.specs.Visit.{HasStepped, IsStep, Goes, IsCaught, IsAtTarget, IsVisited}
@@ -51,7 +55,7 @@ module _ (w : Linked) (m : Method) where
 
 -- ---- the frames that the rules work on
 
-module _ (w : Linked) (is : IsWorld w) (m : Method) (mo : IsMethodOf w m) (p : ℕ) (f : Frame) (here : IsHeld w m p f) where
+module _ (w : Linked) (is : AreRules w) (m : Method) (mo : IsMethodOf w m) (p : ℕ) (f : Frame) (here : IsHeld w m p f) where
   pub load-registers : (s : Scratched) → SuitsMethod s m.rec → length f.regs ≡ length s.frame.regs
   load-registers s suits = (derived-fine w is m mo here.derived).count ∙ sym suits.registers
 
@@ -83,7 +87,7 @@ module _ (w : Linked) (is : IsWorld w) (m : Method) (mo : IsMethodOf w m) (p : �
 
 module _ (w : Linked) (m : Method) (t0 t1 t2 t3 : Found) (p : ℕ) (f g : Frame) (insn : Insn) (here : IsHeld w m p f) (stepped : HasStepped w m p f g insn) (g1 : Goes w m t0 t1) (g2 : Goes w m t1 t2) (g3 : Goes w m t2 t3) (caught : All (IsCaught w p f t1) m.rec.handlers) (on : IsTrue (falls insn.op) → At (state_at t2.states) (p + insn.len) (FrameBelow w.classes g)) (reached : All (IsAtTarget w g t3) (targets m.code (record { place = p; insn = insn }))) where
   to-successor : (q : ℕ) → IsSuccessor m.code (record { place = p; insn = insn }) q → At (state_at t3.states) q (FrameBelow w.classes g)
-  to-successor q (behind falls_on) = goes-above w m t2 t3 g g3 q (on falls_on)
+  to-successor q (falls_through falls_on) = goes-above w m t2 t3 g g3 q (on falls_on)
   to-successor q (jumped c) = all_contained (IsAtTarget w g t3) (targets m.code (record { place = p; insn = insn })) (pos q) reached c
 
   same-instruction : (i : Placed) → Stands m.code i → i.place ≡ p → record { place = p; insn = insn } ≡ i

@@ -9,7 +9,10 @@ use Rattle.jc_ops.specs.declared.fault.RuleFault.{RuleFault}
 use Rattle.jc_ops.specs.declared.fault.RuleFault.TheVariants.{Overflow, FreshKept, StackMerge}
 use Rattle.jc_rules.specs.Demand.{Frame}
 use Rattle.jc_rules.specs.Apply.{Refuses}
-use Rattle.jc_rules.specs.Flow.{Method, Stands, IsSuccessor, IsLeader, Covers, IsNotFresh, Steps, site_of, caught_frame, IsDerived}
+use Rattle.jc_control.specs.Method.{Method}
+use Rattle.jc_control.specs.WellFormed.{Stands}
+use Rattle.jc_control.specs.Control.{IsSuccessor, IsLeader, Covers}
+use Rattle.jc_rules.specs.Flow.{IsNotFresh, Steps, site_of, caught_frame, IsDerived}
 use Rattle.jc_rules.specs.Typing.{Clashes}
 use Rattle.jc_flow.specs.declared.end.FlowEnd.{FlowEnd}
 use Rattle.jc_flow.specs.declared.end.FlowEnd.TheVariants.{NoTyping, Code, BadTarget, FallsOff, BadHandler, Memory}
@@ -65,17 +68,21 @@ pub record FailsAt (w : Linked) (m : Method) (p : ℕ) (fault : RuleFault) : Typ
   pub derived : IsDerived w m Top p frame
   pub fails : Fails w m p frame fault
 
--- a derived frame stands at the place, and after the instruction there the code ends
+-- a derived frame stands at the place; the rule of the instruction there gives a frame, with no uninitialised object under the operands of
+-- a branch or switch; and after it the code ends
 pub record FallsPast (w : Linked) (m : Method) (p : ℕ) : Type 0 where
   pub frame : Frame
   pub derived : IsDerived w m Top p frame
   pub instruction : Placed
   pub stands : Stands m.code instruction
   pub at : instruction.place ≡ p
+  pub after : Frame
+  pub steps : Steps w m instruction frame after
+  pub ready : IsTrue (jumps instruction.insn.op) → All IsNotFresh after.stack
   pub falls_on : IsTrue (falls instruction.insn.op)
   pub past : length m.code ≤ instruction.place + instruction.insn.len
 
--- why the search of a well-formed method ends
+-- why the analysis of a well-formed method ends
 abbrev pub IsFailure : Linked → Method → FlowEnd → Type 0
 IsFailure w m (NoTyping p fault) = FailsAt w m p fault
 IsFailure w m (FallsOff p) = FallsPast w m p

@@ -2,14 +2,16 @@
 use Rattle.std.specs.Prelude.{◌≡◌, ℕ, ◌+◌, ◌↔◌, List, length, Option, IsSome, IfSome, ⊤}
 use Rattle.jc_base.specs.declared.ty.Ty.TheVariants.{Top}
 use Rattle.jc_base.specs.World.{Linked}
-use Rattle.jc_rules.specs.Demand.{Frame}
-use Rattle.jc_rules.specs.Flow.{Method, IsWellFormed, IsReached, HasFlowTyping}
+use Rattle.jc_rules.specs.Demand.{Frame, AreKnown}
+use Rattle.jc_control.specs.Method.{Method}
+use Rattle.jc_control.specs.WellFormed.{IsWellFormed}
+use Rattle.jc_control.specs.Control.{IsReached}
+use Rattle.jc_rules.specs.Flow.{IsDerived, HasFlowTyping}
 use Rattle.jc_rules.specs.Typing.{state_at}
 use Rattle.jc_control.specs.Flaw.{IsFirstFlaw}
 use Rattle.jc_control.specs.declared.flaw.Flaw.TheVariants as flaws
-use Rattle.jc_control.specs.declared.flaw.SurveyEnd.{SurveyEnd}
-use Rattle.jc_control.specs.declared.flaw.SurveyEnd.TheVariants.{Flawed}
-use Rattle.jc_control.specs.declared.flaw.SurveyEnd.TheVariants.{Memory as NotSurveyed}
+use Rattle.jc_control.specs.declared.flaw.ControlEnd.{ControlEnd}
+use Rattle.jc_control.specs.declared.flaw.ControlEnd.TheVariants.{Flawed, Memory as NoControl}
 use Rattle.jc_flow.specs.declared.end.FlowEnd.{FlowEnd}
 use Rattle.jc_flow.specs.declared.end.FlowEnd.TheVariants.{NoTyping, Code, BadTarget, FallsOff, BadHandler, Memory}
 use Rattle.jc_flow.specs.Fails.{FailsAt, FallsPast}
@@ -21,6 +23,13 @@ AreReached m typing = (place : ℕ) → IsSome (state_at typing place) ↔ IsRea
 -- each frame has a type for each register of the method
 abbrev pub HaveRegisters : Method → List (Option Frame) → Type 0
 HaveRegisters m typing = (place : ℕ) → IfSome (state_at typing place) (λ f. length f.regs ≡ m.rec.nargs + m.rec.max_locals)
+
+-- each frame is a derived one, and its types name classes
+abbrev pub AreDerived : Linked → Method → List (Option Frame) → Type 0
+AreDerived w m typing = (place : ℕ) → IfSome (state_at typing place) (IsDerived w m Top place)
+
+abbrev pub HaveKnownTypes : Linked → List (Option Frame) → Type 0
+HaveKnownTypes w typing = (place : ℕ) → IfSome (state_at typing place) (AreKnown w.classes)
 
 -- why there is no typing: the method is not well formed, and this is its first flaw; or it is, and a derived frame fails so at the place
 abbrev pub TellsEnd : Linked → Method → FlowEnd → Type 0
@@ -40,9 +49,9 @@ HasNone w m (Code p end) = ¬ (HasFlowTyping w m Top)
 HasNone w m (BadTarget p target) = ¬ (HasFlowTyping w m Top)
 HasNone w m (BadHandler entry number) = ¬ (HasFlowTyping w m Top)
 
--- why a method was not surveyed
-abbrev pub unsurveyed_as : SurveyEnd → FlowEnd
-unsurveyed_as (Flawed (flaws.Code p end)) = Code p end
-unsurveyed_as (Flawed (flaws.BadTarget p target)) = BadTarget p target
-unsurveyed_as (Flawed (flaws.BadHandler entry number)) = BadHandler entry number
-unsurveyed_as NotSurveyed = Memory
+-- why it is not known where control goes in the method
+abbrev pub unformed_as : ControlEnd → FlowEnd
+unformed_as (Flawed (flaws.Code p end)) = Code p end
+unformed_as (Flawed (flaws.BadTarget p target)) = BadTarget p target
+unformed_as (Flawed (flaws.BadHandler entry number)) = BadHandler entry number
+unformed_as NoControl = Memory

@@ -1,3 +1,5 @@
+pub mod Found
+pub mod Progress
 pub mod Fails
 pub mod Infer
 pub mod Scratch

@@ -1,37 +1,39 @@
 -- What a visit of a place brings about.
 use Rattle.std.specs.Prelude.{◌≡◌, ℕ, ◌+◌, ◌<◌, ◌≤◌, length, All, IsTrue, ℤ, pos, negsuc, Some, Ok}
 use Rattle.jc_base.specs.declared.record.Handler.{Handler}
-use Rattle.jc_base.specs.World.{Linked, IsWorld}
+use Rattle.jc_base.specs.World.{Linked}
+use Rattle.jc_rules.specs.FlowLaws.{AreRules}
 use Rattle.jc_decode.specs.declared.insn.Insn.{Insn}
 use Rattle.jc_decode.specs.Decoding.{decoded}
 use Rattle.jc_decode.specs.Listing.{falls, jumps}
 use Rattle.jc_rules.specs.Demand.{Frame}
-use Rattle.jc_rules.specs.Flow.{Method, IsMethodOf, Covers, IsNotFresh, Steps, At, FrameBelow, caught_frame}
+use Rattle.jc_control.specs.Method.{Method, IsMethodOf}
+use Rattle.jc_control.specs.Control.{Covers}
+use Rattle.jc_rules.specs.Flow.{IsNotFresh, Steps, At, FrameBelow, caught_frame}
 use Rattle.jc_rules.specs.Typing.{state_at}
-use Rattle.jc_states.specs.Found.{Found}
-use Rattle.jc_states.specs.Progress.{IsHeld, AreHeld, IsClosed, Grown, most_rises}
-use Rattle.jc_control.specs.Survey.{IsSurvey}
-use Rattle.jc_flow.specs.declared.search.Search.{Search}
+use Rattle.jc_flow.specs.Found.{Found}
+use Rattle.jc_flow.specs.Progress.{IsHeld, AreHeld, IsClosed, Grown, most_rises}
+use Rattle.jc_control.specs.ControlFlow.{IsControlFlow}
+use Rattle.jc_flow.specs.declared.analysis.Analysis.{Analysis}
 use Rattle.jc_flow.specs.declared.edges.Step.{Step}
 use Rattle.jc_ops.specs.declared.fault.RuleFault.TheVariants.{StackMerge}
-use Rattle.jc_states.specs.declared.table.PutEnd.{PutEnd}
-use Rattle.jc_states.specs.declared.table.PutEnd.TheVariants.{Clash, Memory}
+use Rattle.jc_flow.specs.declared.table.PutEnd.{PutEnd}
+use Rattle.jc_flow.specs.declared.table.PutEnd.TheVariants.{Clash, Memory}
 use Rattle.jc_flow.specs.declared.end.FlowEnd.{FlowEnd}
-use Rattle.jc_flow.specs.declared.end.FlowEnd.TheVariants.{NoTyping}
-use Rattle.jc_flow.specs.declared.end.FlowEnd.TheVariants.{Memory as NoMemory}
+use Rattle.jc_flow.specs.declared.end.FlowEnd.TheVariants.{NoTyping, Memory as NoMemory}
 
--- the method that is searched
-abbrev pub searched : Search → Method
-searched s = record { number = s.number; rec = s.rec.now; code = s.code.bytes.now }
+-- the method that is analysed
+abbrev pub analysed : Analysis → Method
+analysed s = record { number = s.number; rec = s.rec.now; code = s.code.bytes.now }
 
-abbrev pub world_of : Search → Linked
+abbrev pub world_of : Analysis → Linked
 world_of s = s.world.now
 
--- a search of a well-formed method of the world, with what its survey tells
-pub record IsSearch (s : Search) : Type 0 where
-  pub world : IsWorld s.world.now
-  pub method : IsMethodOf s.world.now (searched s)
-  pub survey : IsSurvey (searched s) s.survey.now
+-- an analysis of a well-formed method of the world, in which it is known where control goes
+pub record IsAnalysis (s : Analysis) : Type 0 where
+  pub rules : AreRules s.world.now
+  pub method : IsMethodOf s.world.now (analysed s)
+  pub control : IsControlFlow (analysed s) s.control.now
   pub short : length s.code.bytes.now ≤ 32767
 
 -- a table grows, and its frames may stand where they stand
@@ -66,8 +68,8 @@ pub record IsStep (w : Linked) (m : Method) (s : Step) : Type 0 where
   pub stepped : HasStepped w m s.place s.before.now.frame s.after.now.frame s.insn
 
 -- what the step leads to after the instruction
-abbrev pub IsBehind : Linked → Step → Found → Type 0
-IsBehind w s found = IsTrue (falls s.insn.op) → At (state_at found.states) (s.place + s.insn.len) (FrameBelow w.classes s.after.now.frame)
+abbrev pub IsAtNext : Linked → Step → Found → Type 0
+IsAtNext w s found = IsTrue (falls s.insn.op) → At (state_at found.states) (s.place + s.insn.len) (FrameBelow w.classes s.after.now.frame)
 
 -- and at a target
 abbrev pub IsAtTarget : Linked → Frame → Found → ℤ → Type 0

@@ -2,18 +2,18 @@ ghost use Rattle.std.specs.Prelude.{◌≡◌, ◌+◌, ◌<◌, ◌≤◌, leng
 ghost use Rattle.jc_decode.specs.Listing.{targets};
 ghost use Rattle.jc_rules.specs.Flow.{At, FrameBelow};
 ghost use Rattle.jc_rules.specs.Typing.{state_at};
-ghost use Rattle.jc_states.specs.Progress.{AreHeld};
+ghost use Rattle.jc_flow.specs.Progress.{AreHeld};
 ghost use Rattle.jc_flow.specs.Fails.{IsFailure};
-ghost use Rattle.jc_flow.specs.Visit.{searched, world_of, IsSearch, IsStep, Goes, IsCaught, HandlersRaised, IsBehind, IsAtTarget, broken_at};
+ghost use Rattle.jc_flow.specs.Visit.{analysed, world_of, IsAnalysis, IsStep, Goes, IsCaught, HandlersRaised, IsAtNext, IsAtTarget, broken_at};
 
+use crate::analysis::Analysis;
 use crate::end::FlowEnd;
 use crate::scratch::Scratch;
-use crate::search::Search;
+use crate::table::{PutEnd, Table};
 use jc_base::{Handler, Ty};
 use jc_control::{Targets, covers, place_of};
 use jc_decode::{Insn, Placed};
 use jc_ops::RuleFault;
-use jc_states::{PutEnd, Table};
 use std::alloc::Global;
 
 /// The instruction at a place, with the frames before and after its rule.
@@ -35,7 +35,7 @@ pub(crate) fn broken(place: u16, end: PutEnd) -> FlowEnd
     }
 }
 
-impl Search<'_> {
+impl Analysis<'_> {
     /// Leads to the entry of a handler, if it covers the place.
     fn raise_handler(
         &self,
@@ -44,13 +44,13 @@ impl Search<'_> {
         step: Step<'_>,
         handler: Handler,
     ) -> Result<(), FlowEnd>
-        requires search { IsSearch self.now }
-        requires held { AreHeld (world_of self.now) (searched self.now) table.old }
-        requires step { IsStep (world_of self.now) (searched self.now) step }
+        requires analysis { IsAnalysis self.now }
+        requires held { AreHeld (world_of self.now) (analysed self.now) table.old }
+        requires step { IsStep (world_of self.now) (analysed self.now) step }
         requires listed { Contains self.now.rec.now.handlers handler }
-        ensures goes { OnOk result (Goes (world_of self.now) (searched self.now) table.old table.new) }
+        ensures goes { OnOk result (Goes (world_of self.now) (analysed self.now) table.old table.new) }
         ensures caught { OnOk result (IsCaught (world_of self.now) step.entry.place step.entry.before.now.frame table.new handler) }
-        ensures failed { IfErr result (IsFailure (world_of self.now) (searched self.now)) }
+        ensures failed { IfErr result (IsFailure (world_of self.now) (analysed self.now)) }
     {
         if !covers(handler, step.place) {
             return Ok(());
@@ -66,18 +66,18 @@ impl Search<'_> {
     }
 
     /// Leads to the instruction after, if the one at the place falls through.
-    pub fn raise_behind(
+    pub fn raise_next(
         &self,
         alloc: Global,
         table: &mut Table,
         step: Step<'_>,
     ) -> Result<(), FlowEnd>
-        requires search { IsSearch self.now }
-        requires held { AreHeld (world_of self.now) (searched self.now) table.old }
-        requires step { IsStep (world_of self.now) (searched self.now) step }
-        ensures goes { OnOk result (Goes (world_of self.now) (searched self.now) table.old table.new) }
-        ensures behind { OnOk result (IsBehind (world_of self.now) step.entry table.new) }
-        ensures failed { IfErr result (IsFailure (world_of self.now) (searched self.now)) }
+        requires analysis { IsAnalysis self.now }
+        requires held { AreHeld (world_of self.now) (analysed self.now) table.old }
+        requires step { IsStep (world_of self.now) (analysed self.now) step }
+        ensures goes { OnOk result (Goes (world_of self.now) (analysed self.now) table.old table.new) }
+        ensures next { OnOk result (IsAtNext (world_of self.now) step.entry table.new) }
+        ensures failed { IfErr result (IsFailure (world_of self.now) (analysed self.now)) }
     {
         if !step.insn.falls() {
             return Ok(());
@@ -100,13 +100,13 @@ impl Search<'_> {
         step: Step<'_>,
         target: i32,
     ) -> Result<(), FlowEnd>
-        requires search { IsSearch self.now }
-        requires held { AreHeld (world_of self.now) (searched self.now) table.old }
-        requires step { IsStep (world_of self.now) (searched self.now) step }
+        requires analysis { IsAnalysis self.now }
+        requires held { AreHeld (world_of self.now) (analysed self.now) table.old }
+        requires step { IsStep (world_of self.now) (analysed self.now) step }
         requires listed { Contains (targets self.now.code.bytes.now (record { place = step.place; insn = step.insn })) target }
-        ensures goes { OnOk result (Goes (world_of self.now) (searched self.now) table.old table.new) }
+        ensures goes { OnOk result (Goes (world_of self.now) (analysed self.now) table.old table.new) }
         ensures reached { OnOk result (IsAtTarget (world_of self.now) step.entry.after.now.frame table.new target) }
-        ensures failed { IfErr result (IsFailure (world_of self.now) (searched self.now)) }
+        ensures failed { IfErr result (IsFailure (world_of self.now) (analysed self.now)) }
     {
         let to = place_of(target);
         match self.raise(alloc, table, to, step.after.regs(), step.after.stack()) {
@@ -122,15 +122,15 @@ impl Search<'_> {
         table: &mut Table,
         step: Step<'_>,
     ) -> Result<(), FlowEnd>
-        requires search { IsSearch self.now }
-        requires held { AreHeld (world_of self.now) (searched self.now) table.old }
-        requires step { IsStep (world_of self.now) (searched self.now) step }
-        ensures goes { OnOk result (Goes (world_of self.now) (searched self.now) table.old table.new) }
+        requires analysis { IsAnalysis self.now }
+        requires held { AreHeld (world_of self.now) (analysed self.now) table.old }
+        requires step { IsStep (world_of self.now) (analysed self.now) step }
+        ensures goes { OnOk result (Goes (world_of self.now) (analysed self.now) table.old table.new) }
         ensures caught { OnOk result
             (All
             (IsCaught (world_of self.now) step.entry.place step.entry.before.now.frame
             table.new) self.now.rec.now.handlers) }
-        ensures failed { IfErr result (IsFailure (world_of self.now) (searched self.now)) }
+        ensures failed { IfErr result (IsFailure (world_of self.now) (analysed self.now)) }
     {
         'handlers: for handler in self.rec.handlers.as_slice() {
             if let Err(end) = self.raise_handler(alloc, table, step, *handler) {
@@ -147,16 +147,16 @@ impl Search<'_> {
         table: &mut Table,
         step: Step<'_>,
     ) -> Result<(), FlowEnd>
-        requires search { IsSearch self.now }
-        requires held { AreHeld (world_of self.now) (searched self.now) table.old }
-        requires step { IsStep (world_of self.now) (searched self.now) step }
-        ensures goes { OnOk result (Goes (world_of self.now) (searched self.now) table.old table.new) }
+        requires analysis { IsAnalysis self.now }
+        requires held { AreHeld (world_of self.now) (analysed self.now) table.old }
+        requires step { IsStep (world_of self.now) (analysed self.now) step }
+        ensures goes { OnOk result (Goes (world_of self.now) (analysed self.now) table.old table.new) }
         ensures reached { OnOk result
             (All
             (IsAtTarget (world_of self.now) step.entry.after.now.frame table.new)
             (targets self.now.code.bytes.now
             (record { place = step.entry.place; insn = step.entry.insn }))) }
-        ensures failed { IfErr result (IsFailure (world_of self.now) (searched self.now)) }
+        ensures failed { IfErr result (IsFailure (world_of self.now) (analysed self.now)) }
     {
         let placed = Placed {
             place: step.place,

@@ -1,22 +1,22 @@
 ghost use Rattle.std.specs.Prelude.{◌≡◌, ◌<◌, ◌≤◌, None, false, length, replicate, IfOk, IfErr, OnOk, IsSomeAnd, slice_get};
 ghost use Rattle.jc_base.specs.declared.ty.Ty.TheVariants.{Top};
-ghost use Rattle.jc_rules.specs.Flow.{IsMethodOf, IsLeastTyping, At, FrameBelow, start_frame, receiver_of};
+ghost use Rattle.jc_control.specs.Method.{IsMethodOf, method_in};
+ghost use Rattle.jc_rules.specs.Flow.{IsLeastTyping, At, FrameBelow, start_frame, receiver_of};
 ghost use Rattle.jc_rules.specs.Typing.{state_at};
-ghost use Rattle.jc_states.specs.Progress.{AreHeld, AreClosed};
-ghost use Rattle.jc_control.specs.MethodIn.{method_in};
+ghost use Rattle.jc_flow.specs.Progress.{AreHeld, AreClosed};
 ghost use Rattle.jc_flow.specs.Fails.{IsFailure};
-ghost use Rattle.jc_flow.specs.Infer.{AreReached, HaveRegisters, TellsEnd, HasNone, unsurveyed_as};
-ghost use Rattle.jc_flow.specs.Visit.{searched, world_of, IsSearch};
+ghost use Rattle.jc_flow.specs.Infer.{AreReached, HaveRegisters, AreDerived, HaveKnownTypes, TellsEnd, HasNone, unformed_as};
+ghost use Rattle.jc_flow.specs.Visit.{analysed, world_of, IsAnalysis};
 
+use crate::analysis::Analysis;
 use crate::edges::broken;
 use crate::end::FlowEnd;
 use crate::scratch::Scratch;
-use crate::search::Search;
+use crate::table::Table;
 use cap_bytes::View;
 use jc_base::{MethodRec, Ty, World};
-use jc_control::{Flaw, SurveyEnd, survey};
-use jc_rules::Typing;
-use jc_states::Table;
+use jc_control::{ControlEnd, Flaw, control_flow};
+use jc_rules::{Typing, rule_laws};
 use std::alloc::{AllocError, Global};
 
 /// The least dataflow typing of a method with code, in which every register that is no argument starts as Top.
@@ -24,7 +24,8 @@ use std::alloc::{AllocError, Global};
 /// First the method's code, targets and handlers are tried, and then the places in the order in which they wait,
 /// the least first. At one place come the rule, an uninitialised object under the operands of a branch or switch,
 /// the end of the code, and then the edges: the covering handlers in table order, the instruction after, and the
-/// targets in order, the default first.
+/// targets in order, the default first. Of the edges no clause pins the order: an end at a place names a reason that
+/// holds there.
 pub fn infer(alloc: Global, world: &World<'_>, method: u16) -> Result<Typing, FlowEnd>
     requires { IsSomeAnd (slice_get world.now.methods method) (λ m. 0 < m.code_len) }
     ensures known { IsSomeAnd (method_in world.now method) (λ m. IsMethodOf world.now m) }
@@ -32,40 +33,43 @@ pub fn infer(alloc: Global, world: &World<'_>, method: u16) -> Result<Typing, Fl
     // A place has a state exactly where control reaches it.
     ensures states { IsSomeAnd (method_in world.now method) (λ m. IfOk result (λ t. AreReached m t)) }
     ensures registers { IsSomeAnd (method_in world.now method) (λ m. IfOk result (HaveRegisters m)) }
+    // Each state is a derived one: each other typing is above it. Its types name classes of the world.
+    ensures derived { IsSomeAnd (method_in world.now method) (λ m. IfOk result (AreDerived world.now m)) }
+    ensures types { IsSomeAnd (method_in world.now method) (λ m. IfOk result (HaveKnownTypes world.now)) }
     // But for one out of memory, an end says that there is no typing, and why.
     ensures none { IsSomeAnd (method_in world.now method) (λ m. IfErr result (HasNone world.now m)) }
     ensures end { IsSomeAnd (method_in world.now method) (λ m. IfErr result (TellsEnd world.now m)) }
 {
-    // The facts that hold of each world.
-    let _ = world.classes();
-    let survey = match survey(alloc, world, method) {
-        Ok(survey) => survey,
-        Err(end) => return Err(unsurveyed(end)),
+    // The facts that hold of each world and of its rules.
+    rule_laws(world);
+    let control = match control_flow(alloc, world, method) {
+        Ok(control) => control,
+        Err(end) => return Err(unformed(end)),
     };
-    let search = Search {
+    let analysis = Analysis {
         world,
         number: method,
         rec: world.method(method),
         code: View::of(world.code(method)),
-        survey: &survey,
+        control: &control,
     };
-    match search.settled(alloc) {
+    match analysis.settled(alloc) {
         Ok(table) => Ok(table.into_typing()),
         Err(end) => Err(end),
     }
 }
 
-/// Why a method was not surveyed.
-fn unsurveyed(end: SurveyEnd) -> FlowEnd
-    ensures { result ≡ unsurveyed_as end }
+/// Why it is not known where control goes in the method.
+fn unformed(end: ControlEnd) -> FlowEnd
+    ensures { result ≡ unformed_as end }
 {
     match end {
-        SurveyEnd::Flawed(flaw) => match flaw {
+        ControlEnd::Flawed(flaw) => match flaw {
             Flaw::Code(place, why) => FlowEnd::Code(place, why),
             Flaw::BadTarget(place, target) => FlowEnd::BadTarget(place, target),
             Flaw::BadHandler(entry, number) => FlowEnd::BadHandler(entry, number),
         },
-        SurveyEnd::Memory => FlowEnd::Memory,
+        ControlEnd::Memory => FlowEnd::Memory,
     }
 }
 
@@ -91,19 +95,19 @@ fn start_regs(alloc: Global, rec: &MethodRec) -> Result<Vec<Ty>, AllocError>
     Ok(regs)
 }
 
-impl Search<'_> {
+impl Analysis<'_> {
     /// Puts the frame of the method's start at place 0 of an empty table.
     fn begin(&self, alloc: Global, table: &mut Table) -> Result<(), FlowEnd>
-        requires search { IsSearch self.now }
+        requires analysis { IsAnalysis self.now }
         requires empty { table.old
             ≡ record
             { states = replicate (length self.now.code.bytes.now) None; pending = replicate (length self.now.code.bytes.now) false } }
-        ensures held { OnOk result (AreHeld (world_of self.now) (searched self.now) table.new) }
-        ensures closed { OnOk result (AreClosed (world_of self.now) (searched self.now) table.new) }
+        ensures held { OnOk result (AreHeld (world_of self.now) (analysed self.now) table.new) }
+        ensures closed { OnOk result (AreClosed (world_of self.now) (analysed self.now) table.new) }
         ensures start { OnOk result
             (At (state_at table.new.states) 0
             (FrameBelow self.now.world.now.classes (start_frame self.now.rec.now Top))) }
-        ensures failed { IfErr result (IsFailure (world_of self.now) (searched self.now)) }
+        ensures failed { IfErr result (IsFailure (world_of self.now) (analysed self.now)) }
     {
         let regs = match start_regs(alloc, self.rec) {
             Ok(regs) => regs,
@@ -117,11 +121,13 @@ impl Search<'_> {
 
     /// The table once no place waits.
     fn settled(&self, alloc: Global) -> Result<Table, FlowEnd>
-        requires { IsSearch self.now }
-        ensures typing { IfOk result (λ t. IsLeastTyping (world_of self.now) (searched self.now) Top (state_at t.states)) }
-        ensures reached { IfOk result (λ t. AreReached (searched self.now) t.states) }
-        ensures registers { IfOk result (λ t. HaveRegisters (searched self.now) t.states) }
-        ensures failed { IfErr result (IsFailure (world_of self.now) (searched self.now)) }
+        requires { IsAnalysis self.now }
+        ensures typing { IfOk result (λ t. IsLeastTyping (world_of self.now) (analysed self.now) Top (state_at t.states)) }
+        ensures reached { IfOk result (λ t. AreReached (analysed self.now) t.states) }
+        ensures registers { IfOk result (λ t. HaveRegisters (analysed self.now) t.states) }
+        ensures derived { IfOk result (λ t. AreDerived (world_of self.now) (analysed self.now) t.states) }
+        ensures known { IfOk result (λ t. HaveKnownTypes (world_of self.now) t.states) }
+        ensures failed { IfErr result (IsFailure (world_of self.now) (analysed self.now)) }
     {
         let registers = self.rec.nargs + self.rec.max_locals;
         let mut table = Table::new(alloc, self.code.bytes.len())?;

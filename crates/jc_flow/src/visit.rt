@@ -2,21 +2,21 @@ ghost use Rattle.std.specs.Prelude.{◌≡◌, IfErr, OnOk};
 ghost use Rattle.jc_rules.specs.Flow.{At, FrameBelow, IsLeastTyping, start_frame};
 ghost use Rattle.jc_rules.specs.Typing.{state_at};
 ghost use Rattle.jc_base.specs.declared.ty.Ty.TheVariants.{Top};
-ghost use Rattle.jc_states.specs.Found.{IsPending, taken, NonePending};
-ghost use Rattle.jc_states.specs.Progress.{AreHeld, AreClosed};
+ghost use Rattle.jc_flow.specs.Found.{IsPending, taken, NonePending};
+ghost use Rattle.jc_flow.specs.Progress.{AreHeld, AreClosed};
 ghost use Rattle.jc_flow.specs.Scratch.{SuitsMethod};
 ghost use Rattle.jc_flow.specs.Fails.{IsFailure};
-ghost use Rattle.jc_flow.specs.Infer.{AreReached, HaveRegisters};
-ghost use Rattle.jc_flow.specs.Visit.{searched, world_of, IsSearch, Goes, IsVisited};
+ghost use Rattle.jc_flow.specs.Infer.{AreReached, HaveRegisters, AreDerived, HaveKnownTypes};
+ghost use Rattle.jc_flow.specs.Visit.{analysed, world_of, IsAnalysis, Goes, IsVisited};
 
+use crate::analysis::Analysis;
 use crate::edges::Step;
 use crate::end::FlowEnd;
 use crate::scratch::Scratch;
-use crate::search::Search;
-use jc_states::Table;
+use crate::table::Table;
 use std::alloc::Global;
 
-impl Search<'_> {
+impl Analysis<'_> {
     /// Leads from the state at a place to wherever control goes next.
     pub fn visit(
         &self,
@@ -26,14 +26,14 @@ impl Search<'_> {
         before: &mut Scratch,
         after: &mut Scratch,
     ) -> Result<(), FlowEnd>
-        requires search { IsSearch self.now }
-        requires held { AreHeld (world_of self.now) (searched self.now) table.old }
+        requires analysis { IsAnalysis self.now }
+        requires held { AreHeld (world_of self.now) (analysed self.now) table.old }
         requires before { SuitsMethod before.old self.now.rec.now }
         requires after { SuitsMethod after.old self.now.rec.now }
-        ensures visited { OnOk result (IsVisited (world_of self.now) (searched self.now) place table.old table.new) }
+        ensures visited { OnOk result (IsVisited (world_of self.now) (analysed self.now) place table.old table.new) }
         ensures before { OnOk result (SuitsMethod before.new self.now.rec.now) }
         ensures after { OnOk result (SuitsMethod after.new self.now.rec.now) }
-        ensures failed { IfErr result (IsFailure (world_of self.now) (searched self.now)) }
+        ensures failed { IfErr result (IsFailure (world_of self.now) (analysed self.now)) }
     {
         match table.state(place) {
             Some(state) => {
@@ -50,7 +50,7 @@ impl Search<'_> {
             after,
         };
         self.raise_handlers(alloc, table, step)?;
-        self.raise_behind(alloc, table, step)?;
+        self.raise_next(alloc, table, step)?;
         self.raise_targets(alloc, table, step)?;
         Ok(())
     }
@@ -63,16 +63,18 @@ impl Search<'_> {
         before: &mut Scratch,
         after: &mut Scratch,
     ) -> Result<(), FlowEnd>
-        requires search { IsSearch self.now }
-        requires held { AreHeld (world_of self.now) (searched self.now) table.old }
-        requires closed { AreClosed (world_of self.now) (searched self.now) table.old }
+        requires analysis { IsAnalysis self.now }
+        requires held { AreHeld (world_of self.now) (analysed self.now) table.old }
+        requires closed { AreClosed (world_of self.now) (analysed self.now) table.old }
         requires start { At (state_at table.old.states) 0 (FrameBelow self.now.world.now.classes (start_frame self.now.rec.now Top)) }
         requires before { SuitsMethod before.old self.now.rec.now }
         requires after { SuitsMethod after.old self.now.rec.now }
-        ensures settled { OnOk result (IsLeastTyping (world_of self.now) (searched self.now) Top (state_at table.new.states)) }
-        ensures reached { OnOk result (AreReached (searched self.now) table.new.states) }
-        ensures registers { OnOk result (HaveRegisters (searched self.now) table.new.states) }
-        ensures failed { IfErr result (IsFailure (world_of self.now) (searched self.now)) }
+        ensures settled { OnOk result (IsLeastTyping (world_of self.now) (analysed self.now) Top (state_at table.new.states)) }
+        ensures reached { OnOk result (AreReached (analysed self.now) table.new.states) }
+        ensures registers { OnOk result (HaveRegisters (analysed self.now) table.new.states) }
+        ensures derived { OnOk result (AreDerived (world_of self.now) (analysed self.now) table.new.states) }
+        ensures known { OnOk result (HaveKnownTypes (world_of self.now) table.new.states) }
+        ensures failed { IfErr result (IsFailure (world_of self.now) (analysed self.now)) }
     {
         'places: while let Some(place) = table.take_least() {
             if let Err(end) = self.visit(alloc, table, place, before, after) {

@@ -7,8 +7,9 @@ use Rattle.jc_base.proofs.Lists.{All-slice_get, slice_get-below}
 use Rattle.jc_base.specs.declared.record.Iface.{Iface}
 use Rattle.jc_resolve.specs.declared.named.NamedClass.{NamedClass}
 use Rattle.jc_hierarchy.specs.Known.{HasKnownLine}
-use Rattle.jc_hierarchy.specs.Ancestor.{Leads, superclass, superclass_in, extended, extended_in, above, is_above, TellsAbove}
-use Rattle.jc_hierarchy.proofs.Leading.{leads-sound, leads-complete}
+use Rattle.jc_base.specs.Leads.{Leads}
+use Rattle.jc_hierarchy.specs.Ancestor.{superclass, superclass_in, extended, extended_in, above, is_above, TellsAbove}
+use Rattle.jc_base.proofs.Leading.{leads-sound, leads-complete}
 
 nothing : (b : ℕ) (A : Type 0) → Contains [] b → A
 nothing b A h = absurd (omega (arith, h.1))

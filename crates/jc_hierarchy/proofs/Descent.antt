@@ -14,11 +14,12 @@ use Rattle.jc_base.proofs.Lists.{All-slice_get, slice_get-below, IfSome-is}
 use Rattle.jc_resolve.specs.declared.named.NamedClass.{NamedClass}
 use Rattle.jc_resolve.specs.Named.{is_interface}
 use Rattle.jc_hierarchy.specs.Known.{HasKnownLine}
-use Rattle.jc_hierarchy.specs.Ancestor.{Leads, at_once, further, superclass, superclass_in, is_above}
+use Rattle.jc_base.specs.Leads.{Leads, at_once, further}
+use Rattle.jc_hierarchy.specs.Ancestor.{superclass, superclass_in, is_above}
 use Rattle.jc_hierarchy.specs.Conditions.{names_class, class_in, fits_role}
 use Rattle.jc_hierarchy.specs.Outline.{outlined, outline}
 use Rattle.jc_hierarchy.proofs.Above.{is_above-sound}
-use Rattle.jc_hierarchy.proofs.Leading.{both, either}
+use Rattle.jc_base.proofs.Leading.{both, either}
 use Rattle.jc_hierarchy.proofs.Faultless.{NoFault}
 use Rattle.jc_hierarchy.proofs.Ranks.{rank, rank-most, rank-falls}
 

@@ -6,7 +6,8 @@ use Rattle.jc_base.specs.Class.{AreClasses}
 use Rattle.jc_base.specs.Order.{is_on_chain}
 use Rattle.jc_base.proofs.Climbs.{climb, on_alone, on_next, on_chain-here, on_chain-parent, on_chain-trans}
 use Rattle.jc_resolve.specs.declared.named.NamedClass.{NamedClass}
-use Rattle.jc_hierarchy.specs.Ancestor.{Leads, at_once, further, superclass, superclass_in, extended, extended_in, IsAncestor, above, is_above}
+use Rattle.jc_base.specs.Leads.{Leads, at_once, further}
+use Rattle.jc_hierarchy.specs.Ancestor.{superclass, superclass_in, extended, extended_in, IsAncestor, above, is_above}
 use Rattle.jc_hierarchy.specs.Outline.{outline}
 use Rattle.jc_hierarchy.proofs.Above.{above-from, is_above-complete}
 use Rattle.jc_hierarchy.proofs.Faultless.{NoFault}

@@ -1,5 +1,4 @@
 pub mod Numbered
-pub mod Leading
 pub mod Marking
 pub mod Above
 pub mod Faultless

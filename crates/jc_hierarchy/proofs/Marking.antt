@@ -6,9 +6,9 @@ use Rattle.std.proofs.lemmas.List.{length-replicate}
 use Rattle.std.proofs.lemmas.List.Sums.{sum_by-set}
 use Rattle.std.proofs.lemmas.List.Elements.{Contains-append_left, Contains-append_right, Contains-append_cases, Contains-push, Contains-push_cases}
 use Rattle.std.proofs.lemmas.Option.{slice_get-get_or}
-use Rattle.jc_hierarchy.specs.Ancestor.{Leads, at_once, further}
+use Rattle.jc_base.specs.Leads.{Leads, at_once, further}
 use Rattle.jc_hierarchy.specs.Marks.{Marks, mark, mark_all}
-use Rattle.jc_hierarchy.proofs.Leading.{Leads-join}
+use Rattle.jc_base.proofs.Leading.{Leads-join}
 
 -- a number is marked
 abbrev pub IsMarked : Marks → ℕ → Type 0

@@ -1,45 +1,12 @@
 -- A class has more ancestors than its superclass, where no class is an ancestor of itself.
-use Rattle.std.proofs.Common.{◌≡◌, ℕ, ◌+◌, ◌<◌, ◌≤◌, inl, inr, Bool, true, false, cond, List, [], ◌∷◌, length, refl, ap, ◌∙◌, arith}
+use Rattle.std.proofs.Common.{◌≡◌, ℕ, ◌<◌, ◌≤◌, false, List, length}
 use Rattle.std.specs.Prelude.{Contains, count_by}
 use Rattle.std.specs.List.{range_with_len}
-use Rattle.std.proofs.lemmas.List.Sums.{sum_by-cons, count_by-le-length}
-use Rattle.std.proofs.lemmas.List.Elements.{Contains-append_cases, Contains-push_cases}
-use Rattle.std.proofs.lemmas.List.FromFn.{length-range_with_len, get_or-range_with_len}
+use Rattle.jc_base.proofs.Counting.{count-less, count-most, number-among}
 use Rattle.jc_resolve.specs.declared.named.NamedClass.{NamedClass}
-use Rattle.jc_hierarchy.specs.Ancestor.{at_once, further, superclass, is_above}
+use Rattle.jc_base.specs.Leads.{at_once, further}
+use Rattle.jc_hierarchy.specs.Ancestor.{superclass, is_above}
 use Rattle.jc_hierarchy.proofs.Above.{is_above-sound, is_above-complete}
-
--- ---- counting
-
-count-cons : (p : ℕ → Bool) (x : ℕ) (xs : List ℕ) → count_by p (x ∷ xs) ≡ cond (p x) 1 0 + count_by p xs
-count-cons p x xs = sum_by-cons (λ y. cond (p y) 1 0) x xs
-
-one-le : (b d : Bool) → (b ≡ true → d ≡ true) → cond {A = ℕ} b 1 0 ≤ cond {A = ℕ} d 1 0
-one-le true d h = let e : d ≡ true = h refl in rw e (omega arith)
-one-le false true h = omega arith
-one-le false false h = omega arith
-
-count-le : (p q : ℕ → Bool) (xs : List ℕ) → ((x : ℕ) → p x ≡ true → q x ≡ true) → count_by p xs ≤ count_by q xs
-count-le p q [] h = omega arith
-count-le p q (x ∷ xs) h = omega (arith, count-cons p x xs, count-cons q x xs, one-le (p x) (q x) (h x), count-le p q xs h)
-
-count-less : (p q : ℕ → Bool) (xs : List ℕ) (y : ℕ) → ((x : ℕ) → p x ≡ true → q x ≡ true) → Contains xs y → p y ≡ false → q y ≡ true → count_by p xs < count_by q xs
-count-less p q [] y h at lacks has = absurd (omega (arith, at.1))
-count-less p q (x ∷ xs) y h at lacks has = elim (Contains-append_cases (x ∷ []) xs y at) [
-  | inl here ↦ elim (Contains-push_cases [] x y here) [
-    | inl none ↦ absurd (omega (arith, none.1))
-    | inr e ↦
-        let not_p : cond {A = ℕ} (p x) 1 0 ≡ 0 = ap (λ (b : Bool). cond {A = ℕ} b 1 0) (ap p e ∙ lacks) in
-        let is_q : cond {A = ℕ} (q x) 1 0 ≡ 1 = ap (λ (b : Bool). cond {A = ℕ} b 1 0) (ap q e ∙ has) in
-        omega (arith, count-cons p x xs, count-cons q x xs, not_p, is_q, count-le p q xs h)
-  ]
-  | inr more ↦ omega (arith, count-cons p x xs, count-cons q x xs, one-le (p x) (q x) (h x), count-less p q xs y h more lacks has)
-]
-
-number-among : (n c : ℕ) → c < n → Contains (range_with_len 0 n) c
-number-among n c h =
-    let same : 0 + c ≡ c = omega arith in
-    (c, omega (arith, length-range_with_len 0 n), get_or-range_with_len 0 n c c h ∙ same)
 
 -- ---- ranks
 
@@ -48,7 +15,7 @@ abbrev pub rank : List NamedClass → ℕ → ℕ
 rank cs c = count_by (λ a. is_above cs false a c) (range_with_len 0 (length cs))
 
 pub rank-most : (cs : List NamedClass) (c : ℕ) → rank cs c ≤ length cs
-rank-most cs c = omega (arith, count_by-le-length (λ a. is_above cs false a c) (range_with_len 0 (length cs)), length-range_with_len 0 (length cs))
+rank-most cs c = count-most (λ a. is_above cs false a c) (length cs)
 
 pub rank-falls : (cs : List NamedClass) (c p : ℕ) → Contains (superclass cs c) p → p < length cs → is_above cs false p p ≡ false → rank cs p < rank cs c
 rank-falls cs c p up there acyclic =

@@ -10,9 +10,10 @@ use Rattle.std.proofs.lemmas.List.Folds.{list_all-map}
 use Rattle.std.proofs.lemmas.List.Elements.{Contains-append_cases, Contains-push_cases}
 use Rattle.jc_base.specs.declared.record.Iface.{Iface}
 use Rattle.jc_resolve.specs.declared.named.NamedClass.{NamedClass}
-use Rattle.jc_hierarchy.specs.Ancestor.{Leads, at_once, further, superclass, superclass_in, extended, extended_in, above, is_above}
+use Rattle.jc_base.specs.Leads.{Leads, at_once, further}
+use Rattle.jc_hierarchy.specs.Ancestor.{superclass, superclass_in, extended, extended_in, above, is_above}
 use Rattle.jc_hierarchy.specs.Marks.{rests_on}
-use Rattle.jc_hierarchy.proofs.Leading.{both}
+use Rattle.jc_base.proofs.Leading.{both}
 use Rattle.jc_hierarchy.proofs.Above.{is_above-sound}
 
 -- a number is settled

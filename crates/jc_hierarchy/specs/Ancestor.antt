@@ -1,15 +1,10 @@
 -- What stands above a class or an interface: the superclass of a class and the superclass of that
 -- one, the interfaces that an interface extends and those that these extend (JCVM 2.2, sections
 -- 2.2.1 and 6.8).
-use Rattle.std.specs.Prelude.{ℕ, zero, suc, Bool, true, false, if◌then◌else◌, ◌==◌, ◌||◌, ◌&&◌, ◌↔◌, IsTrue, List, [], map, length, Option, Some, None, Contains, slice_get}
-use Rattle.std.specs.List.{list_any}
+use Rattle.std.specs.Prelude.{ℕ, Bool, true, false, if◌then◌else◌, ◌↔◌, IsTrue, List, [], map, length, Option, Some, None, slice_get}
 use Rattle.std.specs.Option.{option_to_list}
+use Rattle.jc_base.specs.Leads.{Leads, leads_below}
 use Rattle.jc_resolve.specs.declared.named.NamedClass.{NamedClass}
-
--- a number leads to another by one step or by more
-pub data Leads (next : ℕ → List ℕ) : ℕ → ℕ → Type 0 where
-  at_once : {a b : ℕ} → Contains (next a) b → Leads next a b
-  further : {a b c : ℕ} → Contains (next a) b → Leads next b c → Leads next a c
 
 abbrev pub superclass_in : Option NamedClass → List ℕ
 superclass_in None = []
@@ -41,11 +36,6 @@ above cs true = extended cs
 above cs false = superclass cs
 
 -- ---- the same as it is computed
-
--- whether a number leads to another by steps over numbers below n alone
-unfoldable pub leads_below : (ℕ → List ℕ) → ℕ → ℕ → ℕ → Bool
-leads_below next zero a b = list_any (λ x. x == b) (next a)
-leads_below next (suc n) a b = leads_below next n a b || (leads_below next n a n && leads_below next n n b)
 
 -- whether a number stands above another, among interfaces or among classes
 unfoldable pub is_above : List NamedClass → Bool → ℕ → ℕ → Bool

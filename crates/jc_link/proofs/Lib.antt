@@ -6,5 +6,6 @@ pub mod Handlers
 pub mod Methods
 pub mod Fields
 pub mod Roles
+pub mod Extensions
 pub mod Worlds
 pub mod OneWorld

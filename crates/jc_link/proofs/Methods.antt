@@ -68,6 +68,8 @@ module _ (ps : List PackageRecord) (roles : List ℕ) where
       registers = named_is.registers;
       arguments = All-weaker (named.IsDeclared (classes_of ps roles) (slice_index roles 0)) (IsDeclared (table_of ps roles)) (declared ps roles t is known) m.sig.args named_is.arguments;
       result = IfSome_then m.sig.result named_is.result (declared ps roles t is known);
+      whole = named_is.whole;
+      first = named_is.first;
       code = subst (λ (b : Bool). MatchBool b (m.code_len ≡ 0) (IsCodeLength m.code_len)) (sym (code_same m)) named_is.code;
       inside = named_is.inside;
       handlers = λ k d lt.

@@ -20,6 +20,7 @@ use Rattle.jc_link.specs.declared.linking.Resolved.{Resolved}
 use Rattle.jc_link.specs.World.{classes_of, table_of, methods_of, statics_of, AreListsOf, table_conditions, member_conditions, IsLinked}
 use Rattle.jc_link.specs.Known.{AreNamesOf, IsTableOf, AreResolved}
 use Rattle.jc_link.proofs.Tables.{counted, table-chains}
+use Rattle.jc_link.proofs.Extensions.{none-extends-itself}
 use Rattle.jc_link.proofs.Steps.{methods-are, along, all_empty}
 use Rattle.jc_link.proofs.Methods.{methods-linked}
 use Rattle.jc_link.proofs.Fields.{statics-declared}
@@ -62,6 +63,7 @@ module _ (ps : List PackageRecord) (roles : List ℕ) where
     one_pool_each = lists.each ∙ sym infos_count;
     members = lists.members;
     chains = table-chains ps roles t is;
+    extension = none-extends-itself ps roles t is;
     classes = rw infos_count is.linked;
     methods = methods-linked ps roles t is none.1.0 none.1.1.0 known;
     statics = rw infos_count (lists.fields lists.arrays (table_of ps roles) (statics-declared ps roles t is known));

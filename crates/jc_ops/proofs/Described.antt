@@ -3,7 +3,7 @@ use Rattle.std.proofs.Common.{◌≡◌, ℕ, suc, ◌+◌, ◌-◌, ◌<◌, �
 use Rattle.std.specs.Option.{option_to_list}
 use Rattle.std.specs.List.{range_with_len}
 use Rattle.jc_base.specs.declared.record.MethodRec.{MethodRec}
-use Rattle.jc_ops.specs.Named.{only, is_described, passes}
+use Rattle.jc_ops.specs.Resolve.{only, is_described, passes}
 
 -- what is found up to n, with what is found from n on, is what is found in all
 abbrev pub Finds : (ℕ → Bool) → ℕ → Option ℕ → ℕ → Type 0

@@ -1,4 +1,7 @@
 pub mod Rows
 pub mod Members
 pub mod Described
-pub mod Naming
+pub mod Soundness
+pub mod Deciding
+pub mod Entries
+pub mod Going

@@ -16,7 +16,7 @@ use Rattle.jc_base.specs.Cell.{IsDeclared}
 use Rattle.jc_base.specs.Dispatch.{of_record, public_of, visible_of, entry_at, cells_of, own_cells}
 use Rattle.jc_base.specs.Linked.{IsInherited, IsMethod, IsMember, IsLinkedClass, receiver_words, IsStatic}
 use Rattle.jc_base.specs.World.{Linked, IsWorld}
-use Rattle.jc_ops.specs.Named.{TakesReceiver, IsKnownMember}
+use Rattle.jc_ops.specs.Sound.{TakesReceiver, IsKnownMember}
 
 -- a declared type is known
 pub declared-known : (t : ClassTable) (ty : Ty) → IsDeclared t ty → IsKnown t ty
@@ -82,17 +82,25 @@ module _ (w : Linked) (is : IsWorld w) where
   pub visible-inside : (c : ℕ) (r : ClassRec) → IsLinkedClass (length w.infos) w.classes w.methods c r → All (λ n. n < length w.methods) r.visible
   visible-inside c r h = inside_list c r.visible h.visible.entries
 
-  list-receives : (c : ℕ) (list : List ℕ) → All (λ n. IsSomeAnd (slice_get w.methods n) (IsInherited w.classes c)) list → (k : ℕ) (o : Option ℕ) → slice_get list k ≡ o → IfSome o (TakesReceiver w.methods)
-  list-receives c list all k None e = tt
-  list-receives c list all k (Some n) e = inherited-receives c n (All-slice_get (λ n. IsSomeAnd (slice_get w.methods n) (IsInherited w.classes c)) list k n all e)
+  list-inherits : (c : ℕ) (list : List ℕ) → All (λ n. IsSomeAnd (slice_get w.methods n) (IsInherited w.classes c)) list → (k : ℕ) (o : Option ℕ) → slice_get list k ≡ o → IfSome o (λ n. IsSomeAnd (slice_get w.methods n) (IsInherited w.classes c))
+  list-inherits c list all k None e = tt
+  list-inherits c list all k (Some n) e = All-slice_get (λ n. IsSomeAnd (slice_get w.methods n) (IsInherited w.classes c)) list k n all e
+
+  -- an entry of a class's lists is a method that it inherits
+  pub entry-inherits : (c token : ℕ) → IfSome (entry_at w.classes c token) (λ n. IsSomeAnd (slice_get w.methods n) (IsInherited w.classes c))
+  unfolding entry_at
+  entry-inherits c token =
+      elim (nat_lt token 128) as (λ b. IfSome (cond b (slice_get (public_of w.classes c) token) (slice_get (visible_of w.classes c) (token - 128))) (λ n. IsSomeAnd (slice_get w.methods n) (IsInherited w.classes c))) [
+        | true ↦ list-inherits c (public_of w.classes c) (public-inherits c) token (slice_get (public_of w.classes c) token) refl
+        | false ↦ list-inherits c (visible_of w.classes c) (visible-inherits c) (token - 128) (slice_get (visible_of w.classes c) (token - 128)) refl
+      ]
+
+  receives_at : (c : ℕ) (o : Option ℕ) → IfSome o (λ n. IsSomeAnd (slice_get w.methods n) (IsInherited w.classes c)) → IfSome o (TakesReceiver w.methods)
+  receives_at c None h = tt
+  receives_at c (Some n) h = inherited-receives c n h
 
   pub entry-receives : (c token : ℕ) → IfSome (entry_at w.classes c token) (TakesReceiver w.methods)
-  unfolding entry_at
-  entry-receives c token =
-      elim (nat_lt token 128) as (λ b. IfSome (cond b (slice_get (public_of w.classes c) token) (slice_get (visible_of w.classes c) (token - 128))) (TakesReceiver w.methods)) [
-        | true ↦ list-receives c (public_of w.classes c) (public-inherits c) token (slice_get (public_of w.classes c) token) refl
-        | false ↦ list-receives c (visible_of w.classes c) (visible-inherits c) (token - 128) (slice_get (visible_of w.classes c) (token - 128)) refl
-      ]
+  entry-receives c token = receives_at c (entry_at w.classes c token) (entry-inherits c token)
 
   own_at : (c : ℕ) (o : Option ClassRec) → IfSome o (IsLinkedClass (length w.infos) w.classes w.methods c) → All (IsDeclared w.classes) (of_record [] (λ r. r.own) o)
   own_at c None h = λ k d lt. absurd (omega arith)
@@ -110,20 +118,23 @@ module _ (w : Linked) (is : IsWorld w) where
   unfolding cells_of
   cells-declared c = flat-declared (reverse (chain w.classes c))
 
-  pub static-known : (f : StaticRec) (k : ℕ) → k < length w.statics → get_or w.statics k f ≡ f → IsDeclared w.classes f.ty
-  static-known f k lt at = (subst (λ g. IsStatic (length w.infos) w.classes w.arrays g) at (is.statics k f lt)).ty
+  pub static-known : (f : StaticRec) (k : ℕ) → k < length w.statics → get_or w.statics k f ≡ f → IsStatic (length w.infos) w.classes w.arrays f
+  static-known f k lt at = subst (λ g. IsStatic (length w.infos) w.classes w.arrays g) at (is.statics k f lt)
+
+  -- a method that the superclass has
+  pub super-inherits : (p n : ℕ) → Contains (public_of w.classes p ++ visible_of w.classes p) n → IsSomeAnd (slice_get w.methods n) (IsInherited w.classes p)
+  super-inherits p n h =
+      All-contains (λ k. IsSomeAnd (slice_get w.methods k) (IsInherited w.classes p)) (public_of w.classes p ++ visible_of w.classes p) n
+      (All-append (λ k. IsSomeAnd (slice_get w.methods k) (IsInherited w.classes p)) (public_of w.classes p) (visible_of w.classes p) (public-inherits p) (visible-inherits p)) h
 
   super-receives : (c n : ℕ) → (o : Option ℕ) → IsSomeAnd o (λ p. Contains (public_of w.classes p ++ visible_of w.classes p) n) → TakesReceiver w.methods n
   super-receives c n None h = absurd h
-  super-receives c n (Some p) h =
-      inherited-receives p n
-      (All-contains (λ k. IsSomeAnd (slice_get w.methods k) (IsInherited w.classes p)) (public_of w.classes p ++ visible_of w.classes p) n
-      (All-append (λ k. IsSomeAnd (slice_get w.methods k) (IsInherited w.classes p)) (public_of w.classes p) (visible_of w.classes p) (public-inherits p) (visible-inherits p)) h)
+  super-receives c n (Some p) h = inherited-receives p n (super-inherits p n h)
 
   pub member-known : (m : Member) → IsMember w.classes w.methods w.statics m → IsKnownMember w m
   member-known (ClassOf c) h = h
   member-known (Field c cell kind ty) h = (h.class, declared-known w.classes ty (All-slice_get (IsDeclared w.classes) (cells_of w.classes c) cell ty (cells-declared c) h.first))
-  member-known (Static slot kind ty) (k, f, lt, at, slot_of) = declared-known w.classes ty (subst (IsDeclared w.classes) slot_of.ty (static-known f k lt at))
+  member-known (Static slot kind ty) (k, f, lt, at, slot_of) = declared-known w.classes ty (subst (IsDeclared w.classes) slot_of.ty (static-known f k lt at).ty)
   member-known (Virtual c token) h = (h.0, entry-receives c token)
   member-known (Super c n) h = (h.0, super-receives c n (parent_of w.classes c) h.1)
   member-known (StaticCall n) h = h

@@ -1,2 +1,6 @@
 pub mod Row
-pub mod Named
+pub mod Resolve
+pub mod Sound
+pub mod Entry
+pub mod Alike
+pub mod Next

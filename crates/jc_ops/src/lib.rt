@@ -1,25 +1,29 @@
-//! The kinds of instructions by opcode (JCVM 2.2, section 7.5), and what their operands name in a world.
+//! The operations of instructions (JCVM 2.2, section 7.5): what an instruction does, with all that its operands
+//! name in a world.
 //!
-//! Typing rules and machines are both defined over these rows: a row says what an instruction is, and
-//! `name` finds the field, method or type that it speaks of, or refuses it.
+//! Typing rules and machines are both defined over operations. `resolve` makes one of an instruction at its
+//! site, or refuses what the operands name; from an operation alone a machine knows all that it needs of the
+//! constant pool and of the place.
 //! It stands on the worlds of `jc_base` and on the instructions of `jc_decode`.
 
 #![tactic(auto)]
 
-mod called;
+mod calls;
 mod fault;
 mod laws;
 mod named;
-mod names;
+mod operation;
+mod resolving;
 mod row;
+mod site;
 mod want;
 
 pub use fault::RuleFault;
-pub use laws::names_are_sound;
-pub use named::{Named, byte_of, short_of};
-pub use names::name;
-pub use row::{
-    Arithmetic, Branch, Call, Constant, Holder, Local, Make, Move, Number, Operator, Order, Row,
-    Sameness, Sort, TypeTest, Width,
+pub use laws::{entries_are_named, operations_are_sound, operations_go_alike};
+pub use operation::{
+    Arithmetic, Branch, Callee, Choice, Constant, Holder, InstanceField, Move, Operation, Operator,
+    Order, Sameness, Sort, StaticField, TypeTest, Width,
 };
+pub use resolving::resolve;
+pub use site::Site;
 pub use want::Want;

@@ -1,36 +1,22 @@
-ghost use Rattle.std.specs.Prelude.{◌≡◌, ◌<◌, length, IfOk, IfSome};
-ghost use Rattle.jc_base.specs.Class.{ClassTable, IsClass};
+ghost use Rattle.std.specs.Prelude.{◌≡◌, ◌<◌, length, IfSome};
 ghost use Rattle.jc_base.specs.declared.ty.Ty.TheVariants.{Class, ArrRef};
-ghost use Rattle.jc_base.specs.Order.{IsKnown};
 ghost use Rattle.jc_base.specs.World.{member_at};
-ghost use Rattle.jc_ops.specs.Named.{byte_of, short_of, same_kind, static_named, field_named, standing, class_named, array_of, tested, returns, returned, return_named, IsKnownMember, IsNamed};
+ghost use Rattle.jc_ops.specs.Resolve.{byte_of, short_of, same_kind, static_field, instance_field, class_type, array_of, tested_type, returns, returned, result_type, result_returned};
+ghost use Rattle.jc_ops.specs.Sound.{IsKnownMember};
 
 use crate::fault::RuleFault;
-use crate::row::Sort;
-use crate::want::Want;
+use crate::operation::{InstanceField, Sort, StaticField};
 use jc_base::{Kind, Member, Ty, World, is_reference};
 
-/// What the operands of an instruction name in the world.
-#[derive(Clone, Copy)]
-pub enum Named {
-    Nothing,
-    /// The type of a static field, of what is made or tested, or of the method's own result.
-    Type(Ty),
-    /// An instance field of the class.
-    Field { class: u16, ty: Ty },
-    /// A method, and what is wanted of the receiver where it takes one.
-    Method { number: u16, receiver: Option<Want> },
-}
-
 /// An operand read as an unsigned byte.
-pub fn byte_of(x: i32) -> u8
+pub(crate) fn byte_of(x: i32) -> u8
     ensures { result ≡ byte_of x }
 {
     (x.unsigned_abs() % 256) as u8
 }
 
 /// An operand read as an unsigned number of two bytes.
-pub fn short_of(x: i32) -> u16
+pub(crate) fn short_of(x: i32) -> u16
     ensures { result ≡ short_of x }
 {
     (x.unsigned_abs() % 65536) as u16
@@ -61,93 +47,84 @@ fn same_kind(a: Kind, b: Kind) -> bool
     }
 }
 
-pub(crate) fn static_named(
+pub(crate) fn static_field(
     world: &World<'_>,
     package: u16,
     pool: u16,
     kind: Kind,
-) -> Result<Named, RuleFault>
+) -> Result<StaticField, RuleFault>
     requires { «package» < length world.now.infos }
-    ensures is { result ≡ static_named pool kind (member_at world.now «package» pool) }
-    ensures known { IfOk result (IsNamed world.now) }
+    ensures { result ≡ static_field pool kind (member_at world.now «package» pool) }
 {
     match member(world, package, pool) {
         Some(
             Member::Static {
+                slot,
                 kind: found,
                 ty,
-                ..
             },
-        ) if same_kind(kind, found) => Ok(Named::Type(ty)),
+        ) if same_kind(kind, found) => Ok(StaticField {
+            slot,
+            kind: found,
+            ty,
+        }),
         _ => Err(RuleFault::BadMember(pool)),
     }
 }
 
-pub(crate) fn field_named(
+pub(crate) fn instance_field(
     world: &World<'_>,
     package: u16,
     pool: u16,
     kind: Kind,
-) -> Result<Named, RuleFault>
+) -> Result<InstanceField, RuleFault>
     requires { «package» < length world.now.infos }
-    ensures is { result ≡ field_named world.now.classes pool kind (member_at world.now «package» pool) }
-    ensures known { IfOk result (IsNamed world.now) }
+    ensures { result ≡ instance_field world.now.classes pool kind (member_at world.now «package» pool) }
 {
     let object = world.role(0);
     match member(world, package, pool) {
         Some(
             Member::Field {
                 class,
+                cell,
                 kind: found,
                 ty,
-                ..
             },
-        ) if same_kind(kind, found) && class != object => Ok(Named::Field { class, ty }),
+        ) if same_kind(kind, found) && class != object => Ok(InstanceField {
+            class,
+            cell,
+            kind: found,
+            ty,
+        }),
         _ => Err(RuleFault::BadMember(pool)),
     }
 }
 
-/// The class that stands for a class or an interface in types: object for an interface.
-fn standing(world: &World<'_>, class: u16) -> u16
-    requires { class < length world.now.classes.records }
-    ensures is { result ≡ standing world.now.classes class }
-    ensures known { IsClass world.now.classes result }
-{
-    if world.classes().is_interface(class) {
-        world.role(0)
-    } else {
-        class
-    }
-}
-
-/// An array of references of the class that a pool entry names.
-pub(crate) fn array_named(world: &World<'_>, package: u16, pool: u16) -> Result<Named, RuleFault>
+/// An array of references of the class or interface that a pool entry names.
+pub(crate) fn array_type(world: &World<'_>, package: u16, pool: u16) -> Result<Ty, RuleFault>
     requires { «package» < length world.now.infos }
-    ensures is { result ≡ class_named world.now.classes pool ArrRef (member_at world.now «package» pool) }
-    ensures known { IfOk result (IsNamed world.now) }
+    ensures { result ≡ class_type ArrRef pool (member_at world.now «package» pool) }
 {
     match member(world, package, pool) {
-        Some(Member::ClassOf { class }) => Ok(Named::Type(Ty::ArrRef(standing(world, class)))),
+        Some(Member::ClassOf { class }) => Ok(Ty::ArrRef(class)),
         _ => Err(RuleFault::BadMember(pool)),
     }
 }
 
-/// A reference of the class that a pool entry names.
-fn class_named(world: &World<'_>, package: u16, pool: u16) -> Result<Named, RuleFault>
+/// The class or interface that a pool entry names.
+fn class_type(world: &World<'_>, package: u16, pool: u16) -> Result<Ty, RuleFault>
     requires { «package» < length world.now.infos }
-    ensures is { result ≡ class_named world.now.classes pool Class (member_at world.now «package» pool) }
-    ensures known { IfOk result (IsNamed world.now) }
+    ensures { result ≡ class_type Class pool (member_at world.now «package» pool) }
 {
     match member(world, package, pool) {
-        Some(Member::ClassOf { class }) => Ok(Named::Type(Ty::Class(standing(world, class)))),
+        Some(Member::ClassOf { class }) => Ok(Ty::Class(class)),
         _ => Err(RuleFault::BadMember(pool)),
     }
 }
 
 /// The array of primitives of a number: 10 boolean, 11 byte, 12 short, 13 int.
 pub(crate) fn array_of(atype: u8) -> Ty
-    ensures is { result ≡ array_of atype }
-    ensures known { (t : ClassTable) → IsKnown t result }
+    ensures { result ≡ array_of atype }
 {
     match atype {
         10 => Ty::ArrBool,
@@ -158,20 +135,19 @@ pub(crate) fn array_of(atype: u8) -> Ty
 }
 
 /// The type that is tested.
-pub(crate) fn tested(
+pub(crate) fn tested_type(
     world: &World<'_>,
     package: u16,
     atype: u8,
     pool: u16,
-) -> Result<Named, RuleFault>
+) -> Result<Ty, RuleFault>
     requires { «package» < length world.now.infos }
-    ensures is { result ≡ tested world.now.classes atype pool (member_at world.now «package» pool) }
-    ensures known { IfOk result (IsNamed world.now) }
+    ensures { result ≡ tested_type atype pool (member_at world.now «package» pool) }
 {
     match atype {
-        0 => class_named(world, package, pool),
-        14 => array_named(world, package, pool),
-        _ => Ok(Named::Type(array_of(atype))),
+        0 => class_type(world, package, pool),
+        14 => array_type(world, package, pool),
+        _ => Ok(array_of(atype)),
     }
 }
 
@@ -199,24 +175,29 @@ fn returned(world: &World<'_>, sort: Option<Sort>) -> Ty
     }
 }
 
-/// The result of the method's own signature.
-pub(crate) fn return_named(
+/// The result of the method's own signature, where the instruction returns it.
+pub(crate) fn result_returned(
     world: &World<'_>,
     sort: Option<Sort>,
-    result_type: Option<Ty>,
-) -> Result<Named, RuleFault>
-    requires { IfSome result_type (IsKnown world.now.classes) }
-    ensures is { result ≡ return_named world.now.classes sort result_type }
-    ensures known { IfOk result (IsNamed world.now) }
+    declared: Option<Ty>,
+) -> Result<Option<Ty>, RuleFault>
+    ensures { result ≡ result_returned world.now.classes sort declared }
 {
-    if !returns(sort, result_type) {
-        return Err(RuleFault::Mismatch {
+    if returns(sort, declared) {
+        Ok(declared)
+    } else {
+        Err(RuleFault::Mismatch {
             found: returned(world, sort),
-            wanted: result_type.unwrap_or(Ty::Bottom),
-        });
+            wanted: result_type(declared),
+        })
     }
-    Ok(match result_type {
-        None => Named::Nothing,
-        Some(ty) => Named::Type(ty),
-    })
+}
+
+fn result_type(declared: Option<Ty>) -> Ty
+    ensures { result ≡ result_type declared }
+{
+    match declared {
+        None => Ty::Bottom,
+        Some(ty) => ty,
+    }
 }

@@ -1,428 +1,370 @@
 ghost use Rattle.std.specs.Prelude.{◌≡◌};
 ghost use Rattle.jc_ops.specs.Row.{row_at};
 
+use crate::operation::{
+    Arithmetic, Branch, Constant, Holder, Move, Operation, Operator, Order, Sameness, Sort,
+    TypeTest, Width,
+};
 use jc_base::Kind;
 
-/// What an instruction loads, stores or returns, by the letter of its name.
+/// By which instruction a method is called.
 #[derive(Clone, Copy)]
-pub enum Sort {
-    Reference,
-    Short,
-    Int,
-}
-
-/// The two sorts of numbers: a short is one cell, an int two.
-#[derive(Clone, Copy)]
-pub enum Width {
-    Short,
-    Int,
-}
-
-/// The register that a load or a store names: operand `x`, or the one of its name.
-#[derive(Clone, Copy)]
-pub enum Local {
-    Operand,
-    Fixed(u8),
-}
-
-/// The number that a constant pushes: operand `x`, or the one of its name.
-#[derive(Clone, Copy)]
-pub enum Number {
-    Operand,
-    Fixed(i32),
-}
-
-#[derive(Clone, Copy)]
-pub enum Constant {
-    Nothing,
-    Null,
-    Short(Number),
-    Int(Number),
-}
-
-/// `pop`, `pop2`, `dup`, `dup2`, `dup_x` and `swap_x`.
-#[derive(Clone, Copy)]
-pub enum Move {
-    Pop,
-    PopTwo,
-    Duplicate,
-    DuplicateTwo,
-    CopyUnder,
-    Exchange,
-}
-
-#[derive(Clone, Copy)]
-pub enum Operator {
-    Add,
-    Subtract,
-    Multiply,
-    Divide,
-    Remainder,
-    ShiftLeft,
-    ShiftRight,
-    ShiftRightUnsigned,
-    And,
-    Or,
-    ExclusiveOr,
-}
-
-#[derive(Clone, Copy)]
-pub enum Arithmetic {
-    Binary(Operator, Width),
-    Negate(Width),
-    ShortToByte,
-    ShortToInt,
-    IntToByte,
-    IntToShort,
-    CompareInts,
-}
-
-#[derive(Clone, Copy)]
-pub enum Order {
-    Equal,
-    NotEqual,
-    Less,
-    GreaterOrEqual,
-    Greater,
-    LessOrEqual,
-}
-
-#[derive(Clone, Copy)]
-pub enum Sameness {
-    Equal,
-    Different,
-}
-
-/// What a branch asks: nothing, a short against zero, a reference against null, two references, two shorts.
-#[derive(Clone, Copy)]
-pub enum Branch {
-    Always,
-    Zero(Order),
-    Null(Sameness),
-    References(Sameness),
-    Shorts(Order),
-}
-
-/// Where the object of a field stands: on the stack, or in register 0.
-#[derive(Clone, Copy)]
-pub enum Holder {
-    Stack,
-    This,
-}
-
-#[derive(Clone, Copy)]
-pub enum Call {
+pub(crate) enum Invocation {
     Virtual,
     Special,
     Static,
     Interface,
 }
 
-/// `new`, `newarray` and `anewarray`.
+/// What an instruction is by its opcode alone: an operation, or one that its operands complete.
 #[derive(Clone, Copy)]
-pub enum Make {
-    Object,
-    Numbers,
-    References,
-}
-
-#[derive(Clone, Copy)]
-pub enum TypeTest {
-    Cast,
-    InstanceOf,
-}
-
-/// What an instruction is, by its opcode alone (JCVM 2.2, section 7.5).
-#[derive(Clone, Copy)]
-pub enum Row {
-    Constant(Constant),
-    Load(Sort, Local),
-    Store(Sort, Local),
+pub(crate) enum Row {
+    Plain(Operation),
+    PushShort,
+    PushInt,
+    Load(Sort),
+    Store(Sort),
     Increment(Width),
-    Move(Move),
-    Arithmetic(Arithmetic),
-    ArrayRead(Kind),
-    ArrayWrite(Kind),
-    ArrayLength,
-    Branch(Branch),
-    /// By the width of the key.
-    Switch(Width),
+    CopyUnder,
+    Exchange,
     StaticRead(Kind),
     StaticWrite(Kind),
     FieldRead(Kind, Holder),
     FieldWrite(Kind, Holder),
-    Call(Call),
-    Make(Make),
-    Throw,
+    Call(Invocation),
+    New,
+    NewNumbers,
+    NewReferences,
     TypeTest(TypeTest),
     /// By what is returned; none is void.
     Return(Option<Sort>),
-    /// No instruction has this opcode.
-    Reserved,
 }
 
+/// By opcode (JCVM 2.2, section 7.5). What is no instruction does nothing, as `nop`: none is decoded.
 static ROWS: [Row; 256] = [
-    Row::Constant(Constant::Nothing),
-    Row::Constant(Constant::Null),
-    Row::Constant(Constant::Short(Number::Fixed(-1))),
-    Row::Constant(Constant::Short(Number::Fixed(0))),
-    Row::Constant(Constant::Short(Number::Fixed(1))),
-    Row::Constant(Constant::Short(Number::Fixed(2))),
-    Row::Constant(Constant::Short(Number::Fixed(3))),
-    Row::Constant(Constant::Short(Number::Fixed(4))),
-    Row::Constant(Constant::Short(Number::Fixed(5))),
-    Row::Constant(Constant::Int(Number::Fixed(-1))),
-    Row::Constant(Constant::Int(Number::Fixed(0))),
-    Row::Constant(Constant::Int(Number::Fixed(1))),
-    Row::Constant(Constant::Int(Number::Fixed(2))),
-    Row::Constant(Constant::Int(Number::Fixed(3))),
-    Row::Constant(Constant::Int(Number::Fixed(4))),
-    Row::Constant(Constant::Int(Number::Fixed(5))),
-    Row::Constant(Constant::Short(Number::Operand)),
-    Row::Constant(Constant::Short(Number::Operand)),
-    Row::Constant(Constant::Int(Number::Operand)),
-    Row::Constant(Constant::Int(Number::Operand)),
-    Row::Constant(Constant::Int(Number::Operand)),
-    Row::Load(Sort::Reference, Local::Operand),
-    Row::Load(Sort::Short, Local::Operand),
-    Row::Load(Sort::Int, Local::Operand),
-    Row::Load(Sort::Reference, Local::Fixed(0)),
-    Row::Load(Sort::Reference, Local::Fixed(1)),
-    Row::Load(Sort::Reference, Local::Fixed(2)),
-    Row::Load(Sort::Reference, Local::Fixed(3)),
-    Row::Load(Sort::Short, Local::Fixed(0)),
-    Row::Load(Sort::Short, Local::Fixed(1)),
-    Row::Load(Sort::Short, Local::Fixed(2)),
-    Row::Load(Sort::Short, Local::Fixed(3)),
-    Row::Load(Sort::Int, Local::Fixed(0)),
-    Row::Load(Sort::Int, Local::Fixed(1)),
-    Row::Load(Sort::Int, Local::Fixed(2)),
-    Row::Load(Sort::Int, Local::Fixed(3)),
-    Row::ArrayRead(Kind::Ref),
-    Row::ArrayRead(Kind::Byte),
-    Row::ArrayRead(Kind::Short),
-    Row::ArrayRead(Kind::Int),
-    Row::Store(Sort::Reference, Local::Operand),
-    Row::Store(Sort::Short, Local::Operand),
-    Row::Store(Sort::Int, Local::Operand),
-    Row::Store(Sort::Reference, Local::Fixed(0)),
-    Row::Store(Sort::Reference, Local::Fixed(1)),
-    Row::Store(Sort::Reference, Local::Fixed(2)),
-    Row::Store(Sort::Reference, Local::Fixed(3)),
-    Row::Store(Sort::Short, Local::Fixed(0)),
-    Row::Store(Sort::Short, Local::Fixed(1)),
-    Row::Store(Sort::Short, Local::Fixed(2)),
-    Row::Store(Sort::Short, Local::Fixed(3)),
-    Row::Store(Sort::Int, Local::Fixed(0)),
-    Row::Store(Sort::Int, Local::Fixed(1)),
-    Row::Store(Sort::Int, Local::Fixed(2)),
-    Row::Store(Sort::Int, Local::Fixed(3)),
-    Row::ArrayWrite(Kind::Ref),
-    Row::ArrayWrite(Kind::Byte),
-    Row::ArrayWrite(Kind::Short),
-    Row::ArrayWrite(Kind::Int),
-    Row::Move(Move::Pop),
-    Row::Move(Move::PopTwo),
-    Row::Move(Move::Duplicate),
-    Row::Move(Move::DuplicateTwo),
-    Row::Move(Move::CopyUnder),
-    Row::Move(Move::Exchange),
-    Row::Arithmetic(Arithmetic::Binary(Operator::Add, Width::Short)),
-    Row::Arithmetic(Arithmetic::Binary(Operator::Add, Width::Int)),
-    Row::Arithmetic(Arithmetic::Binary(Operator::Subtract, Width::Short)),
-    Row::Arithmetic(Arithmetic::Binary(Operator::Subtract, Width::Int)),
-    Row::Arithmetic(Arithmetic::Binary(Operator::Multiply, Width::Short)),
-    Row::Arithmetic(Arithmetic::Binary(Operator::Multiply, Width::Int)),
-    Row::Arithmetic(Arithmetic::Binary(Operator::Divide, Width::Short)),
-    Row::Arithmetic(Arithmetic::Binary(Operator::Divide, Width::Int)),
-    Row::Arithmetic(Arithmetic::Binary(Operator::Remainder, Width::Short)),
-    Row::Arithmetic(Arithmetic::Binary(Operator::Remainder, Width::Int)),
-    Row::Arithmetic(Arithmetic::Negate(Width::Short)),
-    Row::Arithmetic(Arithmetic::Negate(Width::Int)),
-    Row::Arithmetic(Arithmetic::Binary(Operator::ShiftLeft, Width::Short)),
-    Row::Arithmetic(Arithmetic::Binary(Operator::ShiftLeft, Width::Int)),
-    Row::Arithmetic(Arithmetic::Binary(Operator::ShiftRight, Width::Short)),
-    Row::Arithmetic(Arithmetic::Binary(Operator::ShiftRight, Width::Int)),
-    Row::Arithmetic(Arithmetic::Binary(Operator::ShiftRightUnsigned, Width::Short)),
-    Row::Arithmetic(Arithmetic::Binary(Operator::ShiftRightUnsigned, Width::Int)),
-    Row::Arithmetic(Arithmetic::Binary(Operator::And, Width::Short)),
-    Row::Arithmetic(Arithmetic::Binary(Operator::And, Width::Int)),
-    Row::Arithmetic(Arithmetic::Binary(Operator::Or, Width::Short)),
-    Row::Arithmetic(Arithmetic::Binary(Operator::Or, Width::Int)),
-    Row::Arithmetic(Arithmetic::Binary(Operator::ExclusiveOr, Width::Short)),
-    Row::Arithmetic(Arithmetic::Binary(Operator::ExclusiveOr, Width::Int)),
+    // nop, aconst_null
+    Row::Plain(Operation::Constant(Constant::Nothing)),
+    Row::Plain(Operation::Constant(Constant::Null)),
+    // sconst_m1 to sconst_5
+    Row::Plain(Operation::Constant(Constant::Short(-1))),
+    Row::Plain(Operation::Constant(Constant::Short(0))),
+    Row::Plain(Operation::Constant(Constant::Short(1))),
+    Row::Plain(Operation::Constant(Constant::Short(2))),
+    Row::Plain(Operation::Constant(Constant::Short(3))),
+    Row::Plain(Operation::Constant(Constant::Short(4))),
+    Row::Plain(Operation::Constant(Constant::Short(5))),
+    // iconst_m1 to iconst_5
+    Row::Plain(Operation::Constant(Constant::Int(-1))),
+    Row::Plain(Operation::Constant(Constant::Int(0))),
+    Row::Plain(Operation::Constant(Constant::Int(1))),
+    Row::Plain(Operation::Constant(Constant::Int(2))),
+    Row::Plain(Operation::Constant(Constant::Int(3))),
+    Row::Plain(Operation::Constant(Constant::Int(4))),
+    Row::Plain(Operation::Constant(Constant::Int(5))),
+    // bspush, sspush
+    Row::PushShort,
+    Row::PushShort,
+    // bipush, sipush, iipush
+    Row::PushInt,
+    Row::PushInt,
+    Row::PushInt,
+    // aload, sload, iload
+    Row::Load(Sort::Reference),
+    Row::Load(Sort::Short),
+    Row::Load(Sort::Int),
+    // aload_0 to aload_3
+    Row::Plain(Operation::Load(Sort::Reference, 0)),
+    Row::Plain(Operation::Load(Sort::Reference, 1)),
+    Row::Plain(Operation::Load(Sort::Reference, 2)),
+    Row::Plain(Operation::Load(Sort::Reference, 3)),
+    // sload_0 to sload_3
+    Row::Plain(Operation::Load(Sort::Short, 0)),
+    Row::Plain(Operation::Load(Sort::Short, 1)),
+    Row::Plain(Operation::Load(Sort::Short, 2)),
+    Row::Plain(Operation::Load(Sort::Short, 3)),
+    // iload_0 to iload_3
+    Row::Plain(Operation::Load(Sort::Int, 0)),
+    Row::Plain(Operation::Load(Sort::Int, 1)),
+    Row::Plain(Operation::Load(Sort::Int, 2)),
+    Row::Plain(Operation::Load(Sort::Int, 3)),
+    // aaload, baload, saload, iaload
+    Row::Plain(Operation::ArrayRead(Kind::Ref)),
+    Row::Plain(Operation::ArrayRead(Kind::Byte)),
+    Row::Plain(Operation::ArrayRead(Kind::Short)),
+    Row::Plain(Operation::ArrayRead(Kind::Int)),
+    // astore, sstore, istore
+    Row::Store(Sort::Reference),
+    Row::Store(Sort::Short),
+    Row::Store(Sort::Int),
+    // astore_0 to astore_3
+    Row::Plain(Operation::Store(Sort::Reference, 0)),
+    Row::Plain(Operation::Store(Sort::Reference, 1)),
+    Row::Plain(Operation::Store(Sort::Reference, 2)),
+    Row::Plain(Operation::Store(Sort::Reference, 3)),
+    // sstore_0 to sstore_3
+    Row::Plain(Operation::Store(Sort::Short, 0)),
+    Row::Plain(Operation::Store(Sort::Short, 1)),
+    Row::Plain(Operation::Store(Sort::Short, 2)),
+    Row::Plain(Operation::Store(Sort::Short, 3)),
+    // istore_0 to istore_3
+    Row::Plain(Operation::Store(Sort::Int, 0)),
+    Row::Plain(Operation::Store(Sort::Int, 1)),
+    Row::Plain(Operation::Store(Sort::Int, 2)),
+    Row::Plain(Operation::Store(Sort::Int, 3)),
+    // aastore, bastore, sastore, iastore
+    Row::Plain(Operation::ArrayWrite(Kind::Ref)),
+    Row::Plain(Operation::ArrayWrite(Kind::Byte)),
+    Row::Plain(Operation::ArrayWrite(Kind::Short)),
+    Row::Plain(Operation::ArrayWrite(Kind::Int)),
+    // pop, pop2, dup, dup2
+    Row::Plain(Operation::Move(Move::Pop)),
+    Row::Plain(Operation::Move(Move::PopTwo)),
+    Row::Plain(Operation::Move(Move::Duplicate)),
+    Row::Plain(Operation::Move(Move::DuplicateTwo)),
+    // dup_x, swap_x
+    Row::CopyUnder,
+    Row::Exchange,
+    // sadd, iadd
+    Row::Plain(Operation::Arithmetic(Arithmetic::Binary(Operator::Add, Width::Short))),
+    Row::Plain(Operation::Arithmetic(Arithmetic::Binary(Operator::Add, Width::Int))),
+    // ssub, isub
+    Row::Plain(Operation::Arithmetic(Arithmetic::Binary(Operator::Subtract, Width::Short))),
+    Row::Plain(Operation::Arithmetic(Arithmetic::Binary(Operator::Subtract, Width::Int))),
+    // smul, imul
+    Row::Plain(Operation::Arithmetic(Arithmetic::Binary(Operator::Multiply, Width::Short))),
+    Row::Plain(Operation::Arithmetic(Arithmetic::Binary(Operator::Multiply, Width::Int))),
+    // sdiv, idiv
+    Row::Plain(Operation::Arithmetic(Arithmetic::Binary(Operator::Divide, Width::Short))),
+    Row::Plain(Operation::Arithmetic(Arithmetic::Binary(Operator::Divide, Width::Int))),
+    // srem, irem
+    Row::Plain(Operation::Arithmetic(Arithmetic::Binary(Operator::Remainder, Width::Short))),
+    Row::Plain(Operation::Arithmetic(Arithmetic::Binary(Operator::Remainder, Width::Int))),
+    // sneg, ineg
+    Row::Plain(Operation::Arithmetic(Arithmetic::Negate(Width::Short))),
+    Row::Plain(Operation::Arithmetic(Arithmetic::Negate(Width::Int))),
+    // sshl, ishl
+    Row::Plain(Operation::Arithmetic(Arithmetic::Binary(Operator::ShiftLeft, Width::Short))),
+    Row::Plain(Operation::Arithmetic(Arithmetic::Binary(Operator::ShiftLeft, Width::Int))),
+    // sshr, ishr
+    Row::Plain(Operation::Arithmetic(Arithmetic::Binary(Operator::ShiftRight, Width::Short))),
+    Row::Plain(Operation::Arithmetic(Arithmetic::Binary(Operator::ShiftRight, Width::Int))),
+    // sushr, iushr
+    Row::Plain(Operation::Arithmetic(Arithmetic::Binary(
+        Operator::ShiftRightUnsigned,
+        Width::Short,
+    ))),
+    Row::Plain(Operation::Arithmetic(Arithmetic::Binary(Operator::ShiftRightUnsigned, Width::Int))),
+    // sand, iand
+    Row::Plain(Operation::Arithmetic(Arithmetic::Binary(Operator::And, Width::Short))),
+    Row::Plain(Operation::Arithmetic(Arithmetic::Binary(Operator::And, Width::Int))),
+    // sor, ior
+    Row::Plain(Operation::Arithmetic(Arithmetic::Binary(Operator::Or, Width::Short))),
+    Row::Plain(Operation::Arithmetic(Arithmetic::Binary(Operator::Or, Width::Int))),
+    // sxor, ixor
+    Row::Plain(Operation::Arithmetic(Arithmetic::Binary(Operator::ExclusiveOr, Width::Short))),
+    Row::Plain(Operation::Arithmetic(Arithmetic::Binary(Operator::ExclusiveOr, Width::Int))),
+    // sinc, iinc
     Row::Increment(Width::Short),
     Row::Increment(Width::Int),
-    Row::Arithmetic(Arithmetic::ShortToByte),
-    Row::Arithmetic(Arithmetic::ShortToInt),
-    Row::Arithmetic(Arithmetic::IntToByte),
-    Row::Arithmetic(Arithmetic::IntToShort),
-    Row::Arithmetic(Arithmetic::CompareInts),
-    Row::Branch(Branch::Zero(Order::Equal)),
-    Row::Branch(Branch::Zero(Order::NotEqual)),
-    Row::Branch(Branch::Zero(Order::Less)),
-    Row::Branch(Branch::Zero(Order::GreaterOrEqual)),
-    Row::Branch(Branch::Zero(Order::Greater)),
-    Row::Branch(Branch::Zero(Order::LessOrEqual)),
-    Row::Branch(Branch::Null(Sameness::Equal)),
-    Row::Branch(Branch::Null(Sameness::Different)),
-    Row::Branch(Branch::References(Sameness::Equal)),
-    Row::Branch(Branch::References(Sameness::Different)),
-    Row::Branch(Branch::Shorts(Order::Equal)),
-    Row::Branch(Branch::Shorts(Order::NotEqual)),
-    Row::Branch(Branch::Shorts(Order::Less)),
-    Row::Branch(Branch::Shorts(Order::GreaterOrEqual)),
-    Row::Branch(Branch::Shorts(Order::Greater)),
-    Row::Branch(Branch::Shorts(Order::LessOrEqual)),
-    Row::Branch(Branch::Always),
-    Row::Reserved,
-    Row::Reserved,
-    Row::Switch(Width::Short),
-    Row::Switch(Width::Int),
-    Row::Switch(Width::Short),
-    Row::Switch(Width::Int),
+    // s2b, s2i, i2b, i2s, icmp
+    Row::Plain(Operation::Arithmetic(Arithmetic::ShortToByte)),
+    Row::Plain(Operation::Arithmetic(Arithmetic::ShortToInt)),
+    Row::Plain(Operation::Arithmetic(Arithmetic::IntToByte)),
+    Row::Plain(Operation::Arithmetic(Arithmetic::IntToShort)),
+    Row::Plain(Operation::Arithmetic(Arithmetic::CompareInts)),
+    // ifeq, ifne, iflt, ifge, ifgt, ifle
+    Row::Plain(Operation::Branch(Branch::Zero(Order::Equal))),
+    Row::Plain(Operation::Branch(Branch::Zero(Order::NotEqual))),
+    Row::Plain(Operation::Branch(Branch::Zero(Order::Less))),
+    Row::Plain(Operation::Branch(Branch::Zero(Order::GreaterOrEqual))),
+    Row::Plain(Operation::Branch(Branch::Zero(Order::Greater))),
+    Row::Plain(Operation::Branch(Branch::Zero(Order::LessOrEqual))),
+    // ifnull, ifnonnull
+    Row::Plain(Operation::Branch(Branch::Null(Sameness::Equal))),
+    Row::Plain(Operation::Branch(Branch::Null(Sameness::Different))),
+    // if_acmpeq, if_acmpne
+    Row::Plain(Operation::Branch(Branch::References(Sameness::Equal))),
+    Row::Plain(Operation::Branch(Branch::References(Sameness::Different))),
+    // if_scmpeq, if_scmpne, if_scmplt, if_scmpge, if_scmpgt, if_scmple
+    Row::Plain(Operation::Branch(Branch::Shorts(Order::Equal))),
+    Row::Plain(Operation::Branch(Branch::Shorts(Order::NotEqual))),
+    Row::Plain(Operation::Branch(Branch::Shorts(Order::Less))),
+    Row::Plain(Operation::Branch(Branch::Shorts(Order::GreaterOrEqual))),
+    Row::Plain(Operation::Branch(Branch::Shorts(Order::Greater))),
+    Row::Plain(Operation::Branch(Branch::Shorts(Order::LessOrEqual))),
+    // goto
+    Row::Plain(Operation::Branch(Branch::Always)),
+    // jsr, ret: no instruction of this profile
+    Row::Plain(Operation::Constant(Constant::Nothing)),
+    Row::Plain(Operation::Constant(Constant::Nothing)),
+    // stableswitch, itableswitch
+    Row::Plain(Operation::Switch(Width::Short)),
+    Row::Plain(Operation::Switch(Width::Int)),
+    // slookupswitch, ilookupswitch
+    Row::Plain(Operation::Switch(Width::Short)),
+    Row::Plain(Operation::Switch(Width::Int)),
+    // areturn, sreturn, ireturn, return
     Row::Return(Some(Sort::Reference)),
     Row::Return(Some(Sort::Short)),
     Row::Return(Some(Sort::Int)),
     Row::Return(None),
+    // getstatic_a, getstatic_b, getstatic_s, getstatic_i
     Row::StaticRead(Kind::Ref),
     Row::StaticRead(Kind::Byte),
     Row::StaticRead(Kind::Short),
     Row::StaticRead(Kind::Int),
+    // putstatic_a, putstatic_b, putstatic_s, putstatic_i
     Row::StaticWrite(Kind::Ref),
     Row::StaticWrite(Kind::Byte),
     Row::StaticWrite(Kind::Short),
     Row::StaticWrite(Kind::Int),
+    // getfield_a, getfield_b, getfield_s, getfield_i
     Row::FieldRead(Kind::Ref, Holder::Stack),
     Row::FieldRead(Kind::Byte, Holder::Stack),
     Row::FieldRead(Kind::Short, Holder::Stack),
     Row::FieldRead(Kind::Int, Holder::Stack),
+    // putfield_a, putfield_b, putfield_s, putfield_i
     Row::FieldWrite(Kind::Ref, Holder::Stack),
     Row::FieldWrite(Kind::Byte, Holder::Stack),
     Row::FieldWrite(Kind::Short, Holder::Stack),
     Row::FieldWrite(Kind::Int, Holder::Stack),
-    Row::Call(Call::Virtual),
-    Row::Call(Call::Special),
-    Row::Call(Call::Static),
-    Row::Call(Call::Interface),
-    Row::Make(Make::Object),
-    Row::Make(Make::Numbers),
-    Row::Make(Make::References),
-    Row::ArrayLength,
-    Row::Throw,
+    // invokevirtual, invokespecial, invokestatic, invokeinterface
+    Row::Call(Invocation::Virtual),
+    Row::Call(Invocation::Special),
+    Row::Call(Invocation::Static),
+    Row::Call(Invocation::Interface),
+    // new, newarray, anewarray
+    Row::New,
+    Row::NewNumbers,
+    Row::NewReferences,
+    // arraylength, athrow
+    Row::Plain(Operation::ArrayLength),
+    Row::Plain(Operation::Throw),
+    // checkcast, instanceof
     Row::TypeTest(TypeTest::Cast),
     Row::TypeTest(TypeTest::InstanceOf),
+    // sinc_w, iinc_w
     Row::Increment(Width::Short),
     Row::Increment(Width::Int),
-    Row::Branch(Branch::Zero(Order::Equal)),
-    Row::Branch(Branch::Zero(Order::NotEqual)),
-    Row::Branch(Branch::Zero(Order::Less)),
-    Row::Branch(Branch::Zero(Order::GreaterOrEqual)),
-    Row::Branch(Branch::Zero(Order::Greater)),
-    Row::Branch(Branch::Zero(Order::LessOrEqual)),
-    Row::Branch(Branch::Null(Sameness::Equal)),
-    Row::Branch(Branch::Null(Sameness::Different)),
-    Row::Branch(Branch::References(Sameness::Equal)),
-    Row::Branch(Branch::References(Sameness::Different)),
-    Row::Branch(Branch::Shorts(Order::Equal)),
-    Row::Branch(Branch::Shorts(Order::NotEqual)),
-    Row::Branch(Branch::Shorts(Order::Less)),
-    Row::Branch(Branch::Shorts(Order::GreaterOrEqual)),
-    Row::Branch(Branch::Shorts(Order::Greater)),
-    Row::Branch(Branch::Shorts(Order::LessOrEqual)),
-    Row::Branch(Branch::Always),
+    // ifeq_w, ifne_w, iflt_w, ifge_w, ifgt_w, ifle_w
+    Row::Plain(Operation::Branch(Branch::Zero(Order::Equal))),
+    Row::Plain(Operation::Branch(Branch::Zero(Order::NotEqual))),
+    Row::Plain(Operation::Branch(Branch::Zero(Order::Less))),
+    Row::Plain(Operation::Branch(Branch::Zero(Order::GreaterOrEqual))),
+    Row::Plain(Operation::Branch(Branch::Zero(Order::Greater))),
+    Row::Plain(Operation::Branch(Branch::Zero(Order::LessOrEqual))),
+    // ifnull_w, ifnonnull_w
+    Row::Plain(Operation::Branch(Branch::Null(Sameness::Equal))),
+    Row::Plain(Operation::Branch(Branch::Null(Sameness::Different))),
+    // if_acmpeq_w, if_acmpne_w
+    Row::Plain(Operation::Branch(Branch::References(Sameness::Equal))),
+    Row::Plain(Operation::Branch(Branch::References(Sameness::Different))),
+    // if_scmpeq_w, if_scmpne_w, if_scmplt_w, if_scmpge_w, if_scmpgt_w, if_scmple_w
+    Row::Plain(Operation::Branch(Branch::Shorts(Order::Equal))),
+    Row::Plain(Operation::Branch(Branch::Shorts(Order::NotEqual))),
+    Row::Plain(Operation::Branch(Branch::Shorts(Order::Less))),
+    Row::Plain(Operation::Branch(Branch::Shorts(Order::GreaterOrEqual))),
+    Row::Plain(Operation::Branch(Branch::Shorts(Order::Greater))),
+    Row::Plain(Operation::Branch(Branch::Shorts(Order::LessOrEqual))),
+    // goto_w
+    Row::Plain(Operation::Branch(Branch::Always)),
+    // getfield_a_w, getfield_b_w, getfield_s_w, getfield_i_w
     Row::FieldRead(Kind::Ref, Holder::Stack),
     Row::FieldRead(Kind::Byte, Holder::Stack),
     Row::FieldRead(Kind::Short, Holder::Stack),
     Row::FieldRead(Kind::Int, Holder::Stack),
+    // getfield_a_this, getfield_b_this, getfield_s_this, getfield_i_this
     Row::FieldRead(Kind::Ref, Holder::This),
     Row::FieldRead(Kind::Byte, Holder::This),
     Row::FieldRead(Kind::Short, Holder::This),
     Row::FieldRead(Kind::Int, Holder::This),
+    // putfield_a_w, putfield_b_w, putfield_s_w, putfield_i_w
     Row::FieldWrite(Kind::Ref, Holder::Stack),
     Row::FieldWrite(Kind::Byte, Holder::Stack),
     Row::FieldWrite(Kind::Short, Holder::Stack),
     Row::FieldWrite(Kind::Int, Holder::Stack),
+    // putfield_a_this, putfield_b_this, putfield_s_this, putfield_i_this
     Row::FieldWrite(Kind::Ref, Holder::This),
     Row::FieldWrite(Kind::Byte, Holder::This),
     Row::FieldWrite(Kind::Short, Holder::This),
     Row::FieldWrite(Kind::Int, Holder::This),
-    Row::Reserved,
-    Row::Reserved,
-    Row::Reserved,
-    Row::Reserved,
-    Row::Reserved,
-    Row::Reserved,
-    Row::Reserved,
-    Row::Reserved,
-    Row::Reserved,
-    Row::Reserved,
-    Row::Reserved,
-    Row::Reserved,
-    Row::Reserved,
-    Row::Reserved,
-    Row::Reserved,
-    Row::Reserved,
-    Row::Reserved,
-    Row::Reserved,
-    Row::Reserved,
-    Row::Reserved,
-    Row::Reserved,
-    Row::Reserved,
-    Row::Reserved,
-    Row::Reserved,
-    Row::Reserved,
-    Row::Reserved,
-    Row::Reserved,
-    Row::Reserved,
-    Row::Reserved,
-    Row::Reserved,
-    Row::Reserved,
-    Row::Reserved,
-    Row::Reserved,
-    Row::Reserved,
-    Row::Reserved,
-    Row::Reserved,
-    Row::Reserved,
-    Row::Reserved,
-    Row::Reserved,
-    Row::Reserved,
-    Row::Reserved,
-    Row::Reserved,
-    Row::Reserved,
-    Row::Reserved,
-    Row::Reserved,
-    Row::Reserved,
-    Row::Reserved,
-    Row::Reserved,
-    Row::Reserved,
-    Row::Reserved,
-    Row::Reserved,
-    Row::Reserved,
-    Row::Reserved,
-    Row::Reserved,
-    Row::Reserved,
-    Row::Reserved,
-    Row::Reserved,
-    Row::Reserved,
-    Row::Reserved,
-    Row::Reserved,
-    Row::Reserved,
-    Row::Reserved,
-    Row::Reserved,
-    Row::Reserved,
-    Row::Reserved,
-    Row::Reserved,
-    Row::Reserved,
-    Row::Reserved,
-    Row::Reserved,
-    Row::Reserved,
-    Row::Reserved,
+    // no instruction of the standard, and its two reserved opcodes
+    Row::Plain(Operation::Constant(Constant::Nothing)),
+    Row::Plain(Operation::Constant(Constant::Nothing)),
+    Row::Plain(Operation::Constant(Constant::Nothing)),
+    Row::Plain(Operation::Constant(Constant::Nothing)),
+    Row::Plain(Operation::Constant(Constant::Nothing)),
+    Row::Plain(Operation::Constant(Constant::Nothing)),
+    Row::Plain(Operation::Constant(Constant::Nothing)),
+    Row::Plain(Operation::Constant(Constant::Nothing)),
+    Row::Plain(Operation::Constant(Constant::Nothing)),
+    Row::Plain(Operation::Constant(Constant::Nothing)),
+    Row::Plain(Operation::Constant(Constant::Nothing)),
+    Row::Plain(Operation::Constant(Constant::Nothing)),
+    Row::Plain(Operation::Constant(Constant::Nothing)),
+    Row::Plain(Operation::Constant(Constant::Nothing)),
+    Row::Plain(Operation::Constant(Constant::Nothing)),
+    Row::Plain(Operation::Constant(Constant::Nothing)),
+    Row::Plain(Operation::Constant(Constant::Nothing)),
+    Row::Plain(Operation::Constant(Constant::Nothing)),
+    Row::Plain(Operation::Constant(Constant::Nothing)),
+    Row::Plain(Operation::Constant(Constant::Nothing)),
+    Row::Plain(Operation::Constant(Constant::Nothing)),
+    Row::Plain(Operation::Constant(Constant::Nothing)),
+    Row::Plain(Operation::Constant(Constant::Nothing)),
+    Row::Plain(Operation::Constant(Constant::Nothing)),
+    Row::Plain(Operation::Constant(Constant::Nothing)),
+    Row::Plain(Operation::Constant(Constant::Nothing)),
+    Row::Plain(Operation::Constant(Constant::Nothing)),
+    Row::Plain(Operation::Constant(Constant::Nothing)),
+    Row::Plain(Operation::Constant(Constant::Nothing)),
+    Row::Plain(Operation::Constant(Constant::Nothing)),
+    Row::Plain(Operation::Constant(Constant::Nothing)),
+    Row::Plain(Operation::Constant(Constant::Nothing)),
+    Row::Plain(Operation::Constant(Constant::Nothing)),
+    Row::Plain(Operation::Constant(Constant::Nothing)),
+    Row::Plain(Operation::Constant(Constant::Nothing)),
+    Row::Plain(Operation::Constant(Constant::Nothing)),
+    Row::Plain(Operation::Constant(Constant::Nothing)),
+    Row::Plain(Operation::Constant(Constant::Nothing)),
+    Row::Plain(Operation::Constant(Constant::Nothing)),
+    Row::Plain(Operation::Constant(Constant::Nothing)),
+    Row::Plain(Operation::Constant(Constant::Nothing)),
+    Row::Plain(Operation::Constant(Constant::Nothing)),
+    Row::Plain(Operation::Constant(Constant::Nothing)),
+    Row::Plain(Operation::Constant(Constant::Nothing)),
+    Row::Plain(Operation::Constant(Constant::Nothing)),
+    Row::Plain(Operation::Constant(Constant::Nothing)),
+    Row::Plain(Operation::Constant(Constant::Nothing)),
+    Row::Plain(Operation::Constant(Constant::Nothing)),
+    Row::Plain(Operation::Constant(Constant::Nothing)),
+    Row::Plain(Operation::Constant(Constant::Nothing)),
+    Row::Plain(Operation::Constant(Constant::Nothing)),
+    Row::Plain(Operation::Constant(Constant::Nothing)),
+    Row::Plain(Operation::Constant(Constant::Nothing)),
+    Row::Plain(Operation::Constant(Constant::Nothing)),
+    Row::Plain(Operation::Constant(Constant::Nothing)),
+    Row::Plain(Operation::Constant(Constant::Nothing)),
+    Row::Plain(Operation::Constant(Constant::Nothing)),
+    Row::Plain(Operation::Constant(Constant::Nothing)),
+    Row::Plain(Operation::Constant(Constant::Nothing)),
+    Row::Plain(Operation::Constant(Constant::Nothing)),
+    Row::Plain(Operation::Constant(Constant::Nothing)),
+    Row::Plain(Operation::Constant(Constant::Nothing)),
+    Row::Plain(Operation::Constant(Constant::Nothing)),
+    Row::Plain(Operation::Constant(Constant::Nothing)),
+    Row::Plain(Operation::Constant(Constant::Nothing)),
+    Row::Plain(Operation::Constant(Constant::Nothing)),
+    Row::Plain(Operation::Constant(Constant::Nothing)),
+    Row::Plain(Operation::Constant(Constant::Nothing)),
+    Row::Plain(Operation::Constant(Constant::Nothing)),
+    Row::Plain(Operation::Constant(Constant::Nothing)),
+    Row::Plain(Operation::Constant(Constant::Nothing)),
 ];
 
 impl Row {
     /// The row of an opcode.
-    pub fn of(op: u8) -> Row
+    pub(crate) fn of(op: u8) -> Row
         ensures { result ≡ row_at op }
     {
         ROWS[op as usize]

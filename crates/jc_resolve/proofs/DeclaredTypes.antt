@@ -1,11 +1,12 @@
 -- The types that packages tell are types of their named classes.
-use Rattle.std.proofs.Common.{◌≡◌, ℕ, ◌<◌, Bool, true, false, eqb, List, [], ◌∷◌, length, Option, Some, None, option_map, option_and_then, if◌then◌else◌, refl, sym, ap, subst, ◌∙◌, inl, inr}
+use Rattle.std.proofs.Common.{◌≡◌, ℕ, ◌<◌, Bool, true, false, eqb, List, [], ◌∷◌, ◌++◌, length, Option, Some, None, option_map, option_and_then, if◌then◌else◌, refl, sym, ap, subst, ◌∙◌, inl, inr}
 use Rattle.std.specs.Prelude.{All, IfSome, slice_get}
 use Rattle.std.proofs.lemmas.List.{length-map}
 use Rattle.std.proofs.lemmas.List.Elements.{All-nil, All-cons, All-append}
 use Rattle.std.proofs.lemmas.Option.{slice_get-map}
 use Rattle.jc_base.specs.declared.ty.Ty.{Ty}
 use Rattle.jc_base.specs.declared.ty.Ty.TheVariants.{Short, IntHigh, IntLow, Class, ArrBool, ArrByte, ArrShort, ArrInt, ArrRef}
+use Rattle.jc_base.specs.Cell.{IsNoHalf, AreWhole, no_cells, whole_int, one_cell, IsFirstCell}
 use Rattle.cap_class.specs.ClassFormat as format
 use Rattle.cap_desc.specs.declared.type_item.TypeItem.{TypeItem}
 use Rattle.cap_package.specs.Descriptions.{Description}
@@ -23,6 +24,10 @@ use Rattle.jc_resolve.proofs.NumberLaws.{class_below}
 pub either : {X : Type 0} (P : X → Type 0) (b : Bool) (x y : X) → P x → P y → P (if b then x else y)
 either P true x y p q = p
 either P false x y p q = q
+
+no-half-first : (a : Ty) → IsNoHalf a → IsFirstCell a
+no-half-first IntLow h = h
+no-half-first a h = tt
 
 -- ---- numbers of named classes
 
@@ -129,3 +134,58 @@ module _ (ps : List PackageRecord) (object : ℕ) where
   pub result_declared : (k : ℕ) (d : Description) (offset : ℕ) → IfSome (signature_of ps object k d offset).result (IsDeclared (named_classes ps object) object)
   unfolding signature_of
   result_declared k d offset = result_in k (types_named d offset)
+
+  -- ---- whole values
+
+  not_half : (k : ℕ) (t : TypeItem) → eqb t.nibble 5 ≡ false → IsNoHalf (type_of ps object k t)
+  unfolding type_of
+  not_half k t e =
+      let n = t.nibble in
+      let c = type_class ps object k t.class_ref in
+      let from14 : Ty = if eqb n 14 then ArrRef c else Short in
+      let from13 : Ty = if eqb n 13 then ArrInt else from14 in
+      let from12 : Ty = if eqb n 12 then ArrShort else from13 in
+      let from11 : Ty = if eqb n 11 then ArrByte else from12 in
+      let from10 : Ty = if eqb n 10 then ArrBool else from11 in
+      rw e
+      (either IsNoHalf (eqb n 6) (Class c) from10 tt
+      (either IsNoHalf (eqb n 10) ArrBool from11 tt
+      (either IsNoHalf (eqb n 11) ArrByte from12 tt
+      (either IsNoHalf (eqb n 12) ArrShort from13 tt
+      (either IsNoHalf (eqb n 13) ArrInt from14 tt
+      (either IsNoHalf (eqb n 14) (ArrRef c) Short tt tt))))))
+
+  first_by : (k : ℕ) (t : TypeItem) (b : Bool) → eqb t.nibble 5 ≡ b → IsFirstCell (type_of ps object k t)
+  unfolding type_of
+  first_by k t true e = rw e tt
+  first_by k t false e = no-half-first (type_of ps object k t) (not_half k t e)
+
+  cells_whole : (k : ℕ) (t : TypeItem) (b : Bool) (rest : List Ty) → eqb t.nibble 5 ≡ b → AreWhole rest → AreWhole (cells_of_type ps object k t ++ rest)
+  cells_whole k t true rest e whole = rw e (whole_int whole)
+  cells_whole k t false rest e whole = rw e (one_cell (not_half k t e) whole)
+
+  before_whole : (k : ℕ) (t : TypeItem) (us : List TypeItem) → AreWhole (arguments_before ps object k t us)
+  before_whole k t [] = no_cells
+  before_whole k t (u ∷ us) = cells_whole k t (eqb t.nibble 5) (arguments_before ps object k u us) refl (before_whole k u us)
+
+  after_first : (k : ℕ) (t : TypeItem) (us : List TypeItem) → IfSome (result_after ps object k t us) IsFirstCell
+  after_first k t [] =
+      let P : Option Ty → Type 0 = λ o. IfSome o IsFirstCell in
+      either P (eqb t.nibble 1) None (Some (type_of ps object k t)) tt (first_by k t (eqb t.nibble 5) refl)
+  after_first k t (u ∷ us) = after_first k u us
+
+  whole_in : (k : ℕ) (ts : List TypeItem) → AreWhole (signature_in ps object k ts).args
+  whole_in k [] = no_cells
+  whole_in k (t ∷ ts) = before_whole k t ts
+
+  first_in : (k : ℕ) (ts : List TypeItem) → IfSome (signature_in ps object k ts).result IsFirstCell
+  first_in k [] = tt
+  first_in k (t ∷ ts) = after_first k t ts
+
+  pub arguments_whole : (k : ℕ) (d : Description) (offset : ℕ) → AreWhole (signature_of ps object k d offset).args
+  unfolding signature_of
+  arguments_whole k d offset = whole_in k (types_named d offset)
+
+  pub result_first : (k : ℕ) (d : Description) (offset : ℕ) → IfSome (signature_of ps object k d offset).result IsFirstCell
+  unfolding signature_of
+  result_first k d offset = first_in k (types_named d offset)

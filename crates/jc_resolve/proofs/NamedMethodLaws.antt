@@ -18,7 +18,7 @@ use Rattle.jc_resolve.specs.NamedMethods.{HasFewHandlers, body_of, class_describ
 use Rattle.jc_resolve.specs.Numbering.{NumberedMethod, numbered_methods, is_interface_number}
 use Rattle.jc_resolve.specs.References.{class_named}
 use Rattle.jc_resolve.specs.WorldTypes.{signature_of}
-use Rattle.jc_resolve.proofs.DeclaredTypes.{named-length, interface_numbered, arguments_declared, result_declared}
+use Rattle.jc_resolve.proofs.DeclaredTypes.{named-length, interface_numbered, arguments_declared, result_declared, arguments_whole, result_first}
 use Rattle.jc_resolve.proofs.MethodBodies.{IsBody, body-known}
 use Rattle.jc_resolve.proofs.NamedClassLaws.{NamesClass, describes-class, class-described}
 use Rattle.jc_resolve.proofs.NumberedLaws.{IsDescribed, all-described}
@@ -55,6 +55,8 @@ module _ (ps : List PackageRecord) (roles : List ℕ) (m : NumberedMethod) where
     registers = b.registers;
     arguments = arguments_declared ps object m.home m.of_package.description m.record_of.type_offset;
     result = result_declared ps object m.home m.of_package.description m.record_of.type_offset;
+    whole = arguments_whole ps object m.home m.of_package.description m.record_of.type_offset;
+    first = result_first ps object m.home m.of_package.description m.record_of.type_offset;
     code = lacks_by (body).is_abstract (is_interface (named_classes ps object) (class_described ps m.home m.class)) ((body).code_len ≡ 0) (IsCodeLength (body).code_len) (λ e. proper_by x (b.proper e)) b.code;
     inside = subst (λ (info : List ℕ). (body).code_at + (body).code_len ≤ length info) (sym (info_there d)) b.inside;
     handlers = b.handlers;

@@ -7,6 +7,7 @@ use Rattle.jc_base.specs.declared.ty.Ty.TheVariants.{Bottom, Short, IntHigh, Int
 use Rattle.jc_base.specs.declared.record.Handler.{Handler}
 use Rattle.jc_base.specs.declared.record.Iface.{Iface}
 use Rattle.jc_base.specs.declared.record.MethodRec.{MethodRec}
+use Rattle.jc_base.specs.Cell.{AreWhole, IsFirstCell}
 use Rattle.jc_base.specs.Linked.{receiver_words, list_at, IsCodeLength}
 use Rattle.jc_resolve.specs.declared.named.NamedClass.{NamedClass}
 use Rattle.jc_resolve.specs.declared.named.Table.{Table}
@@ -119,6 +120,9 @@ pub record IsNamedMethod (infos : List (List ℕ)) (classes : List NamedClass) (
   pub registers : m.nargs + m.max_locals ≤ 255
   pub arguments : All (IsDeclared classes object) m.sig.args
   pub result : IfSome m.sig.result (IsDeclared classes object)
+  -- an int takes two argument words, high then low; of a result the first cell's type is told
+  pub whole : AreWhole m.sig.args
+  pub first : IfSome m.sig.result IsFirstCell
   pub code : MatchBool (lacks_code classes m) (m.code_len ≡ 0) (IsCodeLength m.code_len)
   -- its code lies in the Method info of its package
   pub inside : m.code_at + m.code_len ≤ length (list_at infos m.package)

@@ -1,27 +1,28 @@
 -- On the card a rule raises registers, and applies to each lesser frame.
-use Rattle.std.proofs.Common.{◌≡◌, ℕ, zero, suc, ◌+◌, List, [], ◌∷◌, get_or, set, All, refl, sym, ◌∙◌, ap, subst, arith}
+use Rattle.std.proofs.Common.{◌≡◌, ℕ, zero, suc, ◌+◌, ◌<◌, Bool, true, false, not, ◌||◌, List, [], ◌∷◌, length, get_or, set, All, sum_by, refl, sym, ◌∙◌, ap, subst, arith}
+use Rattle.std.proofs.lemmas.List.{get_or-set_other}
+use Rattle.std.proofs.lemmas.List.Sums.{sum_by-set}
 use Rattle.jc_base.specs.declared.ty.Ty.{Ty}
 use Rattle.jc_base.specs.declared.ty.Ty.TheVariants.{IntHigh, IntLow, Top}
 use Rattle.jc_base.specs.Class.{ClassTable, AreClasses}
-use Rattle.jc_base.specs.Order.{Below, IsJoin, IsKnown, same, anything, join_of}
-use Rattle.jc_base.specs.Linked.{IsMethod}
+use Rattle.jc_base.specs.Order.{Below, IsJoin, IsKnown, same, anything, is_below, join_of, rises_left}
+use Rattle.jc_base.proofs.Subtypes.{is_below-from_Below, Below-from_is_below}
 use Rattle.jc_base.specs.World.{Linked, IsWorld}
-use Rattle.jc_base.proofs.Lists.{All-slice_get}
-use Rattle.jc_base.proofs.Joins.{join_of-is, IsJoin-known, IsJoin-monotone, IsJoin-above}
+use Rattle.jc_base.proofs.Joins.{join_of-is, IsJoin-known, IsJoin-monotone, IsJoin-above, IsJoin-rises, IsJoin-unique}
 use Rattle.std.proofs.lemmas.List.Elements.{All-set}
-use Rattle.jc_ops.specs.Row.{row_at}
-use Rattle.jc_ops.proofs.Naming.{names-are-sound}
+use Rattle.jc_ops.specs.Sound.{OperationsAreSound}
 use Rattle.jc_rules.specs.declared.effect.Cells.{Cells}
 use Rattle.jc_rules.specs.declared.effect.Cells.TheVariants as given
 use Rattle.jc_rules.specs.declared.effect.Mode.TheVariants.{Card, Flow}
-use Rattle.jc_rules.specs.Effect.{Writes, WritesCells, reg}
+use Rattle.jc_rules.specs.Effect.{Writes, WritesInt, WritesCells, reg, rises_at, cells_rise}
 use Rattle.jc_rules.specs.Rule.{effect}
 use Rattle.jc_rules.specs.Flow.{CellsBelow, no_cells, more_cells}
-use Rattle.jc_rules.specs.Laws.{RuleFallsOnCard, RuleRaises, RuleStays}
-use Rattle.jc_rules.proofs.Effects.{CellsKept, Suits, suits}
+use Rattle.jc_rules.specs.Laws.{OperationFallsTo, OperationFallsOnCard, OperationRaises, OperationStays, RuleFallsOnCard, RuleRaises, RuleRises, RuleStays}
+use Rattle.jc_rules.proofs.Effects.{CellsKept, Suits, suits, sound-known}
+use Rattle.jc_rules.proofs.Raising.{RoseTo}
 use Rattle.jc_rules.proofs.CellLists.{cells-or, cells-same, cells-trans, cells-set}
 use Rattle.jc_rules.proofs.Falls.{GivenBelow, EffectBelow, StoresBelow, asked-falls, doing-falls, applies-falls}
-use Rattle.jc_rules.proofs.Keeps.{all-or}
+use Rattle.jc_rules.proofs.Keeps.{all-or, site-sound}
 
 module _ (t : ClassTable) where
   -- one cell is raised
@@ -58,15 +59,36 @@ module _ (t : ClassTable) where
   write-stays : (regs : List Ty) (x : ℕ) {ty : Ty} → Below t ty (reg regs x) → Writes t Card x ty regs regs
   write-stays regs x h = record { value = reg regs x; stored = IsJoin-above t h; after_is = set-read regs x }
 
-  store-stays : (x : ℕ) (cells : Cells) (regs after : List Ty) → WritesCells t Flow x cells regs after → CellsBelow t after regs → WritesCells t Card x cells regs regs
-  store-stays x given.Nothing regs after u ps = refl
-  store-stays x (given.One ty) regs after u ps =
-      write-stays regs x (under-one regs x (subst (λ ys. CellsBelow t ys regs) (u.after_is ∙ ap (set regs x) u.stored) ps))
-  store-stays x given.Int regs after u ps =
+  below-one : (x : ℕ) (ty : Ty) (regs after : List Ty) → Writes t Flow x ty regs after → CellsBelow t after regs → Below t ty (reg regs x)
+  below-one x ty regs after u ps = under-one regs x (subst (λ ys. CellsBelow t ys regs) (u.after_is ∙ ap (set regs x) u.stored) ps)
+
+  below-two : (x : ℕ) (regs after : List Ty) → WritesInt t Flow x regs after → CellsBelow t after regs → Below t IntHigh (reg regs x) × Below t IntLow (reg regs (x + 1))
+  below-two x regs after u ps =
       let written = u.low.after_is ∙ ap (set u.between (x + 1)) u.low.stored ∙ ap (λ ys. set ys (x + 1) IntLow) (u.high.after_is ∙ ap (set regs x) u.high.stored) in
       let next : x + 1 ≡ suc x = omega arith in
       let both = under-two regs x (subst (λ n. CellsBelow t (set (set regs x IntHigh) n IntLow) regs) next (subst (λ ys. CellsBelow t ys regs) written ps)) in
-      record { between = regs; high = write-stays regs x both.0; low = write-stays regs (x + 1) (subst (λ n. Below t IntLow (reg regs n)) (sym next) both.1) }
+      (both.0, subst (λ n. Below t IntLow (reg regs n)) (sym next) both.1)
+
+  store-stays : (x : ℕ) (cells : Cells) (regs after : List Ty) → WritesCells t Flow x cells regs after → CellsBelow t after regs → WritesCells t Card x cells regs regs
+  store-stays x given.Nothing regs after u ps = refl
+  store-stays x (given.One ty) regs after u ps = write-stays regs x (below-one x ty regs after u ps)
+  store-stays x given.Int regs after u ps =
+      let both = below-two x regs after u ps in
+      record { between = regs; high = write-stays regs x both.0; low = write-stays regs (x + 1) both.1 }
+
+  -- ---- a register that rises
+
+  none-left : (b : Ty) → rises_left t b < rises_left t Top → ⊥
+  unfolding rises_left
+  none-left b h = absurd (omega arith)
+
+  in-list : (xs : List Ty) (n : ℕ) (b : Ty) → rises_left t b < rises_left t (get_or xs n Top) → n < length xs
+  in-list [] n b h = absurd (none-left b h)
+  in-list (x ∷ xs) zero b h = omega arith
+  in-list (x ∷ xs) (suc n) b h = let more : n < length xs = in-list xs n b h in omega arith
+
+  set-less : (xs : List Ty) (n : ℕ) (b : Ty) → rises_left t b < rises_left t (get_or xs n Top) → sum_by (rises_left t) (set xs n b) < sum_by (rises_left t) xs
+  set-less xs n b h = let e = sum_by-set (rises_left t) xs n b Top (in-list xs n b h) in omega arith
 
   -- ---- a lesser frame
 
@@ -107,21 +129,64 @@ module _ (t : ClassTable) where
     store-card xs ys zs x y given.Int given.Nothing e g k all ps u = absurd g
     store-card xs ys zs x y given.Int (given.One b) e g k all ps u = absurd g
 
+-- ---- whether a register rose
+
+module _ (t : ClassTable) (are : AreClasses t) where
+  not-below : (a b : Ty) → is_below t a b ≡ false → Below t a b → ⊥
+  not-below a b e h = let q : is_below t a b ≡ true = is_below-from_Below t are h in absurd (cc)
+
+  -- one register is written: it stays where the stored type is below, and else it rises
+  write-rises : (x : ℕ) (ty : Ty) (regs after : List Ty) (b : Bool) → is_below t ty (reg regs x) ≡ b → Writes t Card x ty regs after → RoseTo t regs after (not b)
+  write-rises x ty regs after true e u =
+      let le : Below t ty (reg regs x) = Below-from_is_below t are ty (reg regs x) e in
+      u.after_is ∙ ap (set regs x) (IsJoin-unique t are u.stored (IsJoin-above t le)) ∙ sym (set-read t regs x)
+  write-rises x ty regs after false e u =
+      let less : rises_left t u.value < rises_left t (reg regs x) = IsJoin-rises t are u.stored (not-below ty (reg regs x) e) in
+      subst (λ zs. sum_by (rises_left t) zs < sum_by (rises_left t) regs) (sym u.after_is) (set-less t regs x u.value less)
+
+  both-rise : (xs ys zs : List Ty) (a b : Bool) → RoseTo t xs ys a → RoseTo t ys zs b → RoseTo t xs zs (a || b)
+  both-rise xs ys zs true true p q = omega arith
+  both-rise xs ys zs true false p q = subst (λ rs. sum_by (rises_left t) rs < sum_by (rises_left t) xs) (sym q) p
+  both-rise xs ys zs false true p q = subst (λ rs. sum_by (rises_left t) zs < sum_by (rises_left t) rs) p q
+  both-rise xs ys zs false false p q = q ∙ p
+
+  pub store-rises : (x : ℕ) (cells : Cells) (regs after : List Ty) → WritesCells t Card x cells regs after → RoseTo t regs after (cells_rise t regs x cells)
+  store-rises x given.Nothing regs after u = u
+  store-rises x (given.One ty) regs after u = write-rises x ty regs after (is_below t ty (reg regs x)) refl u
+  store-rises x given.Int regs after u =
+      let next : reg u.between (x + 1) ≡ reg regs (x + 1) = ap (λ rs. reg rs (x + 1)) u.high.after_is ∙ get_or-set_other regs x (x + 1) u.high.value Top (λ same. absurd (omega arith)) in
+      both-rise regs u.between after (rises_at t regs x IntHigh) (rises_at t regs (x + 1) IntLow)
+      (write-rises x IntHigh regs u.between (is_below t IntHigh (reg regs x)) refl u.high)
+      (subst (λ ty. RoseTo t u.between after (not (is_below t IntLow ty))) next (write-rises (x + 1) IntLow u.between after (is_below t IntLow (reg u.between (x + 1))) refl u.low))
+
+  -- where what is stored is below, none rises
+  none-rises : (x : ℕ) (cells : Cells) (regs after : List Ty) → WritesCells t Flow x cells regs after → CellsBelow t after regs → cells_rise t regs x cells ≡ false
+  none-rises x given.Nothing regs after u ps = refl
+  none-rises x (given.One ty) regs after u ps = ap not (is_below-from_Below t are (below-one t x ty regs after u ps))
+  none-rises x given.Int regs after u ps =
+      let both = below-two t x regs after u ps in
+      ap (λ b. not b || rises_at t regs (x + 1) IntLow) (is_below-from_Below t are both.0) ∙ ap not (is_below-from_Below t are both.1)
+
 -- ---- the rule
 
-pub rule-raises : (w : Linked) → RuleRaises w
-rule-raises w site i before after o a =
-    let e = effect w i a.named (row_at i.op) before in
-    store-raises w.classes e.store.register e.store.cells before.regs after.regs a.regs
-
-pub rule-stays : (w : Linked) → RuleStays w
-rule-stays w site i before after o a ps =
-    let e = effect w i a.named (row_at i.op) before in
+pub operation-raises : (w : Linked) → AreClasses w.classes → OperationRaises w
+operation-raises w are limit op before after o a =
+    let e = effect w op before in
     record {
-      method = a.method;
-      is_method = a.is_method;
-      named = a.named;
-      names = a.names;
+      below = store-raises w.classes e.store.register e.store.cells before.regs after.regs a.regs;
+      rises = subst (RoseTo w.classes before.regs after.regs) (sym a.rose_is) (store-rises w.classes are e.store.register e.store.cells before.regs after.regs a.regs);
+    }
+
+pub rule-raises : (w : Linked) → AreClasses w.classes → RuleRaises w
+rule-raises w are site i before after o a = (operation-raises w are a.method.max_stack a.rule.operation before after o a.rule.does).below
+
+pub rule-rises : (w : Linked) → AreClasses w.classes → RuleRises w
+rule-rises w are site i before after o a = (operation-raises w are a.method.max_stack a.rule.operation before after o a.rule.does).rises
+
+pub operation-stays : (w : Linked) → AreClasses w.classes → OperationStays w
+operation-stays w are limit op before after o a ps =
+    let e = effect w op before in
+    record {
       asked = a.asked;
       regs = store-stays w.classes e.store.register e.store.cells before.regs after.regs a.regs ps;
       stack = a.stack;
@@ -130,17 +195,32 @@ rule-stays w site i before after o a ps =
       ends = a.ends;
       depth = a.depth;
       wrote_is = a.wrote_is;
+      rose_is = a.rose_is ∙ sym (none-rises w.classes are e.store.register e.store.cells before.regs after.regs a.regs ps);
     }
 
-pub rule-falls-on-card : (w : Linked) → IsWorld w → AreClasses w.classes → RuleFallsOnCard w
-rule-falls-on-card w is are site i greater lesser after o k below no_top no_bottom a =
-    let row = row_at i.op in
-    let d = effect w i a.named row lesser in
-    let e = effect w i a.named row greater in
-    let less : EffectBelow w.classes d e = doing-falls w are site i Card greater lesser after o below no_top no_bottom a in
+pub rule-stays : (w : Linked) → AreClasses w.classes → RuleStays w
+rule-stays w are site i before after o a ps =
+    let r = a.rule in
+    record { method = a.method; is_method = a.is_method; rule = record { operation = r.operation; resolves = r.resolves; does = operation-stays w are a.method.max_stack r.operation before after o r.does ps } }
+
+pub operation-falls-on-card : (w : Linked) → IsWorld w → AreClasses w.classes → OperationFallsOnCard w
+operation-falls-on-card w is are limit m place op greater lesser after o sound k below no_top no_bottom a =
+    let d = effect w op lesser in
+    let e = effect w op greater in
+    let less : EffectBelow w.classes d e = doing-falls w are limit op Card greater lesser after o below no_top no_bottom a in
     let fits : Suits w.classes lesser d =
-    suits w is lesser k i a.named row
-    (names-are-sound w is a.method site.place i row a.named (All-slice_get (IsMethod w.infos w.pools w.classes) w.methods site.method a.method is.methods a.is_method) a.names)
-    (asked-falls w are site i Card greater lesser after o below no_top no_bottom a) in
-    applies-falls w are site i Card greater lesser after o below no_top no_bottom a Card
+    suits w is lesser k op (sound-known w m place op sound) (asked-falls w are limit op Card greater lesser after o below no_top no_bottom a) in
+    applies-falls w are limit op Card greater lesser after o below no_top no_bottom a Card
     (store-card w.classes are lesser.regs greater.regs after.regs d.store.register e.store.register d.store.cells e.store.cells less.register less.cells fits.stored k.regs below.regs a.regs)
+
+pub rule-falls-on-card : (w : Linked) → IsWorld w → AreClasses w.classes → OperationsAreSound w → RuleFallsOnCard w
+rule-falls-on-card w is are sound site i greater lesser after o k below no_top no_bottom a =
+    let r = a.rule in
+    let falls : OperationFallsTo w a.method.max_stack r.operation Card lesser after =
+    operation-falls-on-card w is are a.method.max_stack a.method site.place r.operation greater lesser after o (site-sound w is sound a) k below no_top no_bottom r.does in
+    record {
+      below = falls.below;
+      outcome = falls.outcome;
+      applies = record { method = a.method; is_method = a.is_method; rule = record { operation = r.operation; resolves = r.resolves; does = falls.applies } };
+      lower = falls.lower;
+    }

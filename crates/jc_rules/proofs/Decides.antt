@@ -1,80 +1,47 @@
--- The rule of an instruction has one outcome: it applies with one result, or it refuses.
-use Rattle.std.proofs.Common.{◌≡◌, ℕ, ◌≤◌, List, length, Option, Some, None, Result, Ok, Err, slice_get, slice_set, refl, sym, ◌∙◌, ap, subst, arith}
+-- The rule of an instruction has one outcome: it applies with one result, or it refuses with one fault.
+use Rattle.std.proofs.Common.{◌≡◌, ℕ, ◌≤◌, List, length, Option, Some, Result, Ok, Err, slice_get, slice_set, refl, sym, ◌∙◌, ap, subst, arith}
 use Rattle.jc_base.specs.declared.record.MethodRec.{MethodRec}
-use Rattle.jc_base.specs.declared.record.Member.{Member}
-use Rattle.jc_base.specs.declared.record.Member.TheVariants.{ClassOf, Field, Static, Virtual, Super, StaticCall}
 use Rattle.jc_base.specs.declared.ty.Ty.{Ty}
 use Rattle.jc_base.specs.Class.{ClassTable, AreClasses}
 use Rattle.jc_base.proofs.Joins.{IsJoin-unique}
-use Rattle.jc_base.specs.World.{Linked, member_at}
+use Rattle.jc_base.specs.World.{Linked}
 use Rattle.jc_decode.specs.declared.insn.Insn.{Insn}
 use Rattle.jc_ops.specs.declared.fault.RuleFault.{RuleFault}
-use Rattle.jc_ops.specs.declared.named.Named.{Named}
-use Rattle.jc_ops.specs.declared.row.Make.TheVariants as makes
-use Rattle.jc_ops.specs.declared.row.Row.{Row}
-use Rattle.jc_ops.specs.declared.row.Row.TheVariants as rows
-use Rattle.jc_ops.specs.Row.{row_at}
-use Rattle.jc_ops.specs.Named.{Names, NamesObject, short_of}
+use Rattle.jc_ops.specs.declared.fault.RuleFault.TheVariants.{Overflow}
+use Rattle.jc_ops.specs.declared.operation.Operation.{Operation}
+use Rattle.jc_ops.specs.declared.site.Site.{Site}
+use Rattle.jc_ops.specs.Resolve.{Resolves}
+use Rattle.jc_ops.specs.Sound.{OperationsAreDecided}
 use Rattle.jc_rules.specs.declared.demand.Demand.{Demand}
-use Rattle.jc_rules.specs.declared.rule.Site.{Site}
 use Rattle.jc_rules.specs.declared.rule.Outcome.{Outcome}
-use Rattle.jc_rules.specs.Effect.{changed, reg, IsStored, Writes, WritesCells, Stores}
-use Rattle.jc_rules.specs.Demand.{Frame, AllHold, Breaks, here, later}
-use Rattle.jc_rules.specs.Rule.{demands, effect}
-use Rattle.jc_rules.specs.Apply.{Applies, Refuses, unnamed, unmet, full}
 use Rattle.jc_rules.specs.declared.effect.Mode.{Mode}
 use Rattle.jc_rules.specs.declared.effect.Mode.TheVariants.{Card, Flow}
 use Rattle.jc_rules.specs.declared.effect.Cells.{Cells}
 use Rattle.jc_rules.specs.declared.effect.Cells.TheVariants as given
-use Rattle.jc_rules.specs.Laws.{RuleDecides}
-
-object-unique : (w : Linked) (place pool : ℕ) (o : Option Member) (r s : Result Named RuleFault) → NamesObject w place pool o r → NamesObject w place pool o s → r ≡ s
-object-unique w place pool (Some (ClassOf c)) (Ok n) (Ok k) h g = ap Ok (h.1 ∙ sym g.1)
-object-unique w place pool (Some (ClassOf c)) (Ok n) (Err f) h g = absurd (g.0 h.0)
-object-unique w place pool (Some (ClassOf c)) (Err f) (Ok n) h g = absurd (h.0 g.0)
-object-unique w place pool (Some (ClassOf c)) (Err e) (Err f) h g = ap Err (h.1 ∙ sym g.1)
-object-unique w place pool (Some (Field c cell k ty)) r s h g = h ∙ sym g
-object-unique w place pool (Some (Static slot k ty)) r s h g = h ∙ sym g
-object-unique w place pool (Some (Virtual c token)) r s h g = h ∙ sym g
-object-unique w place pool (Some (Super c n)) r s h g = h ∙ sym g
-object-unique w place pool (Some (StaticCall n)) r s h g = h ∙ sym g
-object-unique w place pool None r s h g = h ∙ sym g
-
--- an instruction names one thing
-pub names-unique : (w : Linked) (m : MethodRec) (place : ℕ) (i : Insn) (row : Row) (r s : Result Named RuleFault) → Names w m place i row r → Names w m place i row s → r ≡ s
-names-unique w m place i (rows.Make makes.Object) r s h g = object-unique w place (short_of i.x) (member_at w m.package (short_of i.x)) r s h g
-names-unique w m place i (rows.Make makes.Numbers) r s h g = h ∙ sym g
-names-unique w m place i (rows.Make makes.References) r s h g = h ∙ sym g
-names-unique w m place i (rows.Constant c) r s h g = h ∙ sym g
-names-unique w m place i (rows.Load a b) r s h g = h ∙ sym g
-names-unique w m place i (rows.Store a b) r s h g = h ∙ sym g
-names-unique w m place i (rows.Increment a) r s h g = h ∙ sym g
-names-unique w m place i (rows.Move a) r s h g = h ∙ sym g
-names-unique w m place i (rows.Arithmetic a) r s h g = h ∙ sym g
-names-unique w m place i (rows.ArrayRead a) r s h g = h ∙ sym g
-names-unique w m place i (rows.ArrayWrite a) r s h g = h ∙ sym g
-names-unique w m place i rows.ArrayLength r s h g = h ∙ sym g
-names-unique w m place i (rows.Branch a) r s h g = h ∙ sym g
-names-unique w m place i (rows.Switch a) r s h g = h ∙ sym g
-names-unique w m place i (rows.StaticRead a) r s h g = h ∙ sym g
-names-unique w m place i (rows.StaticWrite a) r s h g = h ∙ sym g
-names-unique w m place i (rows.FieldRead a b) r s h g = h ∙ sym g
-names-unique w m place i (rows.FieldWrite a b) r s h g = h ∙ sym g
-names-unique w m place i (rows.Call a) r s h g = h ∙ sym g
-names-unique w m place i rows.Throw r s h g = h ∙ sym g
-names-unique w m place i (rows.TypeTest a) r s h g = h ∙ sym g
-names-unique w m place i (rows.Return a) r s h g = h ∙ sym g
-names-unique w m place i rows.Reserved r s h g = h ∙ sym g
+use Rattle.jc_rules.specs.Effect.{changed, reg, IsStored, Writes, WritesCells}
+use Rattle.jc_rules.specs.Demand.{Frame, AllHold, Breaks, here, later}
+use Rattle.jc_rules.specs.Rule.{demands, effect}
+use Rattle.jc_rules.specs.Apply.{OperationApplies, OperationRefuses, unmet, full, RuleApplies, RuleRefuses, unresolved, refused_by, Applies, Refuses}
+use Rattle.jc_rules.specs.Laws.{OperationDecides, RuleDecides}
 
 breaks-not : (t : ClassTable) (f : Frame) {ds : List Demand} {fault : RuleFault} → Breaks t f ds fault → AllHold t f ds → ⊥
 breaks-not t f (here n e) all = n all.0
 breaks-not t f (later h b) all = breaks-not t f b all.1
 
+breaks-unique : (t : ClassTable) (f : Frame) {ds : List Demand} {fault other : RuleFault} → Breaks t f ds fault → Breaks t f ds other → fault ≡ other
+breaks-unique t f (here n e) (here m d) = e ∙ sym d
+breaks-unique t f (here n e) (later h b) = absurd (n h)
+breaks-unique t f (later h b) (here n e) = absurd (n h)
+breaks-unique t f (later h b) (later g c) = breaks-unique t f b c
+
 some-same : {X : Type 0} {a b : X} {o : Option X} → o ≡ Some a → o ≡ Some b → a ≡ b
 some-same e f = cc
 
-ok-same : {n k : Named} → ◌≡◌ {A = Result Named RuleFault} (Ok n) (Ok k) → n ≡ k
+ok-same : {op other : Operation} → ◌≡◌ {A = Result Operation RuleFault} (Ok op) (Ok other) → op ≡ other
 ok-same e = cc
+
+err-same : {fault other : RuleFault} → ◌≡◌ {A = Result Operation RuleFault} (Err fault) (Err other) → fault ≡ other
+err-same e = cc
 
 -- ---- what is stored
 
@@ -93,37 +60,86 @@ module _ (t : ClassTable) (are : AreClasses t) (mode : Mode) where
   cells-unique x (given.One ty) regs f g u v = writes-unique refl u v
   cells-unique x given.Int regs f g u v = writes-unique (writes-unique refl u.high v.high) u.low v.low
 
-module _ (w : Linked) (site : Site) (i : Insn) (mode : Mode) (before : Frame) where
-  -- what is named where the rule applies
-  named-same : (m : MethodRec) (r : Result Named RuleFault) {after : Frame} {o : Outcome} → (a : Applies w site i mode before after o) → slice_get w.methods site.method ≡ Some m → Names w m site.place i (row_at i.op) r → r ≡ Ok a.named
-  named-same m r a e h =
-      names-unique w a.method site.place i (row_at i.op) r (Ok a.named) (subst (λ x. Names w x site.place i (row_at i.op) r) (some-same e a.is_method) h) a.names
+frame-eta : (f : Frame) (regs stack : List Ty) → f.regs ≡ regs → f.stack ≡ stack → f ≡ record { regs = regs; stack = stack }
+frame-eta f regs stack e h = ap (λ x. record { regs = x; stack = f.stack }) e ∙ ap (λ x. record { regs = regs; stack = x }) h
 
-  frame-eta : (f : Frame) (regs stack : List Ty) → f.regs ≡ regs → f.stack ≡ stack → f ≡ record { regs = regs; stack = stack }
-  frame-eta f regs stack e h = ap (λ x. record { regs = x; stack = f.stack }) e ∙ ap (λ x. record { regs = regs; stack = x }) h
+outcome-eta : (o p : Outcome) → o.falls ≡ p.falls → o.ends ≡ p.ends → o.depth ≡ p.depth → o.wrote ≡ p.wrote → o.rose ≡ p.rose → o ≡ p
+outcome-eta o p falls ends depth wrote rose =
+    ap (λ x. record o { falls = x }) falls
+    ∙ ap (λ x. record { falls = p.falls; ends = x; depth = o.depth; wrote = o.wrote; rose = o.rose }) ends
+    ∙ ap (λ x. record { falls = p.falls; ends = p.ends; depth = x; wrote = o.wrote; rose = o.rose }) depth
+    ∙ ap (λ x. record { falls = p.falls; ends = p.ends; depth = p.depth; wrote = x; rose = o.rose }) wrote
+    ∙ ap (λ x. record { falls = p.falls; ends = p.ends; depth = p.depth; wrote = p.wrote; rose = x }) rose
 
-  -- the rule applies with one result
-  pub applies-unique : AreClasses w.classes → {f g : Frame} {o p : Outcome} → Applies w site i mode before f o → Applies w site i mode before g p → f ≡ g
-  applies-unique are {f} {g} a b =
-      let n : a.named ≡ b.named = ok-same (named-same a.method (Ok a.named) b a.is_method a.names) in
-      let e = (effect w i b.named (row_at i.op) before).store in
-      let regs : f.regs ≡ g.regs = cells-unique w.classes are mode e.register e.cells before.regs f.regs g.regs (subst (λ x. Stores w.classes mode (effect w i x (row_at i.op) before).store before.regs f.regs) n a.regs) b.regs in
-      let stack : f.stack ≡ g.stack = a.stack ∙ ap (λ x. changed (effect w i x (row_at i.op) before).change before.stack) n ∙ sym b.stack in
-      frame-eta f g.regs g.stack regs stack
+-- ---- an operation
 
-  -- a rule that applies does not refuse
-  pub applies-not-refuses : {after : Frame} {o : Outcome} {fault : RuleFault} → Applies w site i mode before after o → Refuses w site i before fault → ⊥
-  applies-not-refuses a (unnamed {m} {fault} e h) = let same : ◌≡◌ {A = Result Named RuleFault} (Err fault) (Ok a.named) = named-same m (Err fault) a e h in absurd (cc)
-  applies-not-refuses a (unmet {m} n e h b) =
-      breaks-not w.classes before b (subst (λ x. AllHold w.classes before (demands w i x (row_at i.op))) (sym (ok-same (named-same m (Ok n) a e h))) a.asked)
-  applies-not-refuses {after} a (full {m} n e h all lt) =
-      let same : n ≡ a.named = ok-same (named-same m (Ok n) a e h) in
-      let size : length after.stack ≡ length (changed (effect w i n (row_at i.op) before).change before.stack) = ap length (a.stack ∙ ap (λ x. changed (effect w i x (row_at i.op) before).change before.stack) (sym same)) in
-      let room : length after.stack ≤ m.max_stack = subst (λ x. length after.stack ≤ x.max_stack) (some-same a.is_method e) a.room in
+module _ (w : Linked) (are : AreClasses w.classes) (limit : ℕ) (op : Operation) (mode : Mode) (before : Frame) where
+  frames-agree : {f g : Frame} {o p : Outcome} → OperationApplies w limit op mode before f o → OperationApplies w limit op mode before g p → f ≡ g
+  frames-agree {f} {g} a b =
+      let e = (effect w op before).store in
+      frame-eta f g.regs g.stack (cells-unique w.classes are mode e.register e.cells before.regs f.regs g.regs a.regs b.regs) (a.stack ∙ sym b.stack)
+
+  outcomes-agree : {f g : Frame} {o p : Outcome} → OperationApplies w limit op mode before f o → OperationApplies w limit op mode before g p → o ≡ p
+  outcomes-agree {f} {g} {o} {p} a b =
+      outcome-eta o p (a.falls ∙ sym b.falls) (a.ends ∙ sym b.ends)
+      (a.depth ∙ ap (λ (h : Frame). length h.stack) (frames-agree a b) ∙ sym b.depth)
+      (a.wrote_is ∙ sym b.wrote_is) (a.rose_is ∙ sym b.rose_is)
+
+  faults-agree : {fault other : RuleFault} → OperationRefuses w limit op before fault → OperationRefuses w limit op before other → fault ≡ other
+  faults-agree (unmet b) (unmet c) = breaks-unique w.classes before b c
+  faults-agree (unmet b) (full all lt) = absurd (breaks-not w.classes before b all)
+  faults-agree (full all lt) (unmet b) = absurd (breaks-not w.classes before b all)
+  faults-agree (full all lt) (full others gt) = refl
+
+  not-both : {f : Frame} {o : Outcome} {fault : RuleFault} → OperationApplies w limit op mode before f o → OperationRefuses w limit op before fault → ⊥
+  not-both a (unmet b) = breaks-not w.classes before b a.asked
+  not-both {f} a (full all lt) =
+      let size : length f.stack ≡ length (changed (effect w op before).change before.stack) = ap length a.stack in
+      let room : length f.stack ≤ limit = a.room in
       absurd (omega arith)
 
-pub rule-decides : (w : Linked) → AreClasses w.classes → RuleDecides w
-rule-decides w are site i mode before = record {
-  one = λ {f} {g} {o} {p} a b. applies-unique w site i mode before are a b;
-  never_both = λ {f} {o} {fault} a r. applies-not-refuses w site i mode before a r;
+pub operation-decides : (w : Linked) → AreClasses w.classes → OperationDecides w
+operation-decides w are limit op mode before = record {
+  one = λ {f} {g} {o} {p} a b. frames-agree w are limit op mode before a b;
+  one_outcome = λ {f} {g} {o} {p} a b. outcomes-agree w are limit op mode before a b;
+  one_fault = λ {fault} {other} a b. faults-agree w are limit op mode before a b;
+  never_both = λ {f} {o} {fault} a r. not-both w are limit op mode before a r;
+}
+
+-- ---- an instruction at a site
+
+module _ (w : Linked) (are : AreClasses w.classes) (decided : OperationsAreDecided w) (site : Site) (i : Insn) (mode : Mode) (before : Frame) where
+  -- the rule by the other's method and operation
+  same-rule : {f g : Frame} {o p : Outcome} → (a : Applies w site i mode before f o) → (b : Applies w site i mode before g p) → OperationApplies w a.method.max_stack a.rule.operation mode before g p
+  same-rule {g = g} {p = p} a b =
+      let method : b.method ≡ a.method = some-same b.is_method a.is_method in
+      let op : b.rule.operation ≡ a.rule.operation =
+      ok-same (decided a.method site.place i (Ok b.rule.operation) (Ok a.rule.operation) (subst (λ m. Resolves w m site.place i (Ok b.rule.operation)) method b.rule.resolves) a.rule.resolves) in
+      subst (λ x. OperationApplies w a.method.max_stack x mode before g p) op
+      (subst (λ (m : MethodRec). OperationApplies w m.max_stack b.rule.operation mode before g p) method b.rule.does)
+
+  -- the refusal by the other's method
+  same-refusal : {m : MethodRec} {fault : RuleFault} → slice_get w.methods site.method ≡ Some m → (r : Refuses w site i before fault) → RuleRefuses w m site.place i before fault
+  same-refusal {m = m} {fault = fault} e r = subst (λ (x : MethodRec). RuleRefuses w x site.place i before fault) (some-same r.is_method e) r.rule
+
+  rules-refuse : (m : MethodRec) {fault other : RuleFault} → RuleRefuses w m site.place i before fault → RuleRefuses w m site.place i before other → fault ≡ other
+  rules-refuse m {fault = fault} {other = other} (unresolved h) (unresolved g) = err-same (decided m site.place i (Err fault) (Err other) h g)
+  rules-refuse m {fault = fault} (unresolved h) (refused_by {op} g b) = let e : ◌≡◌ {A = Result Operation RuleFault} (Err fault) (Ok op) = decided m site.place i (Err fault) (Ok op) h g in absurd (cc)
+  rules-refuse m {other = other} (refused_by {op} h b) (unresolved g) = let e : ◌≡◌ {A = Result Operation RuleFault} (Err other) (Ok op) = decided m site.place i (Err other) (Ok op) g h in absurd (cc)
+  rules-refuse m {other = other} (refused_by {op} h b) (refused_by {op = another} g c) =
+      faults-agree w are m.max_stack op mode before b
+      (subst (λ x. OperationRefuses w m.max_stack x before other) (ok-same (decided m site.place i (Ok another) (Ok op) g h)) c)
+
+  rules-not-both : (m : MethodRec) {f : Frame} {o : Outcome} {fault : RuleFault} → RuleApplies w m site.place i mode before f o → RuleRefuses w m site.place i before fault → ⊥
+  rules-not-both m {fault = fault} a (unresolved h) = let e : ◌≡◌ {A = Result Operation RuleFault} (Err fault) (Ok a.operation) = decided m site.place i (Err fault) (Ok a.operation) h a.resolves in absurd (cc)
+  rules-not-both m {fault = fault} a (refused_by {op} h b) =
+      not-both w are m.max_stack a.operation mode before a.does
+      (subst (λ x. OperationRefuses w m.max_stack x before fault) (ok-same (decided m site.place i (Ok op) (Ok a.operation) h a.resolves)) b)
+
+pub rule-decides : (w : Linked) → AreClasses w.classes → OperationsAreDecided w → RuleDecides w
+rule-decides w are decided site i mode before = record {
+  one = λ {f} {g} {o} {p} a b. frames-agree w are a.method.max_stack a.rule.operation mode before a.rule.does (same-rule w are decided site i mode before a b);
+  one_outcome = λ {f} {g} {o} {p} a b. outcomes-agree w are a.method.max_stack a.rule.operation mode before a.rule.does (same-rule w are decided site i mode before a b);
+  one_fault = λ {fault} {other} r s. rules-refuse w are decided site i mode before r.method r.rule (same-refusal w are decided site i mode before r.is_method s);
+  never_both = λ {f} {o} {fault} a r. rules-not-both w are decided site i mode before a.method a.rule (same-refusal w are decided site i mode before a.is_method r);
 }

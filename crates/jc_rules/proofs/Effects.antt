@@ -1,5 +1,5 @@
 -- What an instruction asks suffices for what it does: the cells and registers are there, and what it gives is known.
-use Rattle.std.proofs.Common.{◌≡◌, ℕ, zero, suc, ◌+◌, ◌-◌, ◌<◌, ◌≤◌, List, [], ◌∷◌, ◌++◌, length, take, drop, map, reverse, get_or, Option, Some, None, IsSomeAnd, IfSome, slice_get, All, refl, arith, cond, true, false, ◌==◌, length-append, length-take, length-drop}
+use Rattle.std.proofs.Common.{◌≡◌, ℕ, zero, suc, ◌+◌, ◌-◌, ◌<◌, ◌≤◌, List, [], ◌∷◌, ◌++◌, length, take, drop, map, reverse, get_or, Option, Some, None, IsSomeAnd, IfSome, slice_get, All, refl, sym, subst, arith, cond, Bool, true, false, ◌==◌, if◌then◌else◌, length-append, length-take, length-drop}
 use Rattle.std.specs.Bool.{⊤}
 use Rattle.std.proofs.lemmas.List.{length-map, length-reverse}
 use Rattle.std.proofs.lemmas.List.Elements.{All-append, All-take, All-drop, All-map, All-get_or}
@@ -8,38 +8,34 @@ use Rattle.jc_base.specs.declared.ty.Ty.TheVariants.{Bottom, Short, IntHigh, Int
 use Rattle.jc_base.specs.declared.ty.Kind.{Kind}
 use Rattle.jc_base.specs.declared.ty.Kind.TheVariants as kinds
 use Rattle.jc_base.specs.declared.record.MethodRec.{MethodRec}
-use Rattle.jc_base.specs.Class.{ClassTable, IsClass, object, throwable}
+use Rattle.jc_base.specs.Class.{ClassTable, IsClass, is_interface, object, throwable}
 use Rattle.jc_base.specs.Order.{Below, IsKnown}
 use Rattle.jc_base.specs.Cell.{IsDeclared}
 use Rattle.jc_base.specs.Linked.{IsMethod}
 use Rattle.jc_base.specs.World.{Linked, IsWorld}
 use Rattle.jc_base.proofs.Lists.{All-slice_get, slice_get-below}
-use Rattle.jc_decode.specs.declared.insn.Insn.{Insn}
-use Rattle.jc_ops.specs.declared.row.Sort.{Sort}
-use Rattle.jc_ops.specs.declared.row.Sort.TheVariants as sorts
-use Rattle.jc_ops.specs.declared.row.Width.{Width}
-use Rattle.jc_ops.specs.declared.row.Width.TheVariants as widths
-use Rattle.jc_ops.specs.declared.row.Constant.{Constant}
-use Rattle.jc_ops.specs.declared.row.Constant.TheVariants as constants
-use Rattle.jc_ops.specs.declared.row.Move.{Move}
-use Rattle.jc_ops.specs.declared.row.Move.TheVariants as moves
-use Rattle.jc_ops.specs.declared.row.Arithmetic.{Arithmetic}
-use Rattle.jc_ops.specs.declared.row.Arithmetic.TheVariants as arithmetic
-use Rattle.jc_ops.specs.declared.row.Branch.{Branch}
-use Rattle.jc_ops.specs.declared.row.Branch.TheVariants as branches
-use Rattle.jc_ops.specs.declared.row.Holder.{Holder}
-use Rattle.jc_ops.specs.declared.row.Holder.TheVariants as holders
-use Rattle.jc_ops.specs.declared.row.Make.{Make}
-use Rattle.jc_ops.specs.declared.row.Make.TheVariants as makes
-use Rattle.jc_ops.specs.declared.row.TypeTest.{TypeTest}
-use Rattle.jc_ops.specs.declared.row.TypeTest.TheVariants as tests
-use Rattle.jc_ops.specs.declared.row.Row.{Row}
-use Rattle.jc_ops.specs.declared.row.Row.TheVariants as rows
+use Rattle.jc_ops.specs.declared.operation.Sort.{Sort}
+use Rattle.jc_ops.specs.declared.operation.Sort.TheVariants as sorts
+use Rattle.jc_ops.specs.declared.operation.Width.{Width}
+use Rattle.jc_ops.specs.declared.operation.Width.TheVariants as widths
+use Rattle.jc_ops.specs.declared.operation.Constant.{Constant}
+use Rattle.jc_ops.specs.declared.operation.Constant.TheVariants as constants
+use Rattle.jc_ops.specs.declared.operation.Move.{Move}
+use Rattle.jc_ops.specs.declared.operation.Move.TheVariants as moves
+use Rattle.jc_ops.specs.declared.operation.Arithmetic.{Arithmetic}
+use Rattle.jc_ops.specs.declared.operation.Arithmetic.TheVariants as arithmetic
+use Rattle.jc_ops.specs.declared.operation.Branch.{Branch}
+use Rattle.jc_ops.specs.declared.operation.Branch.TheVariants as branches
+use Rattle.jc_ops.specs.declared.operation.Holder.{Holder}
+use Rattle.jc_ops.specs.declared.operation.Holder.TheVariants as holders
+use Rattle.jc_ops.specs.declared.operation.TypeTest.{TypeTest}
+use Rattle.jc_ops.specs.declared.operation.TypeTest.TheVariants as tests
+use Rattle.jc_ops.specs.declared.operation.Operation.{Operation}
+use Rattle.jc_ops.specs.declared.operation.Operation.TheVariants as ops
 use Rattle.jc_ops.specs.declared.want.Want.{Want}
 use Rattle.jc_ops.specs.declared.want.Want.TheVariants.{Value, Storable, ByteArray, AnyArray, Whole, Receiver}
-use Rattle.jc_ops.specs.declared.named.Named.{Named}
-use Rattle.jc_ops.specs.declared.named.Named.TheVariants as names
-use Rattle.jc_ops.specs.Named.{IsGiven, IsSound, IsKnownWant, byte_of}
+use Rattle.jc_ops.specs.declared.operation.Callee.{Callee}
+use Rattle.jc_ops.specs.Sound.{IsKnownWant, IsMove, IsNamedType, IsCalleeOf, IsResult, receiver_count, IsSound}
 use Rattle.jc_rules.specs.declared.demand.Demand.{Demand}
 use Rattle.jc_rules.specs.declared.demand.Demand.TheVariants.{Cell, Held}
 use Rattle.jc_rules.specs.declared.effect.Cells.{Cells}
@@ -49,7 +45,8 @@ use Rattle.jc_rules.specs.declared.effect.Change.TheVariants.{Replace, CopyUnder
 use Rattle.jc_rules.specs.declared.effect.Effect.{Effect}
 use Rattle.jc_rules.specs.Effect.{listed, ready, changed, needed, depth_after, reg}
 use Rattle.jc_rules.specs.Demand.{Frame, Meets, AllHold, AreKnown}
-use Rattle.jc_rules.specs.Rule.{cell, number, two_numbers, size, number_given, value_given, value_wanted, value_size, on_stack, replacing, storing, constant_effect, load_demands, load_effect, or_null, store_demands, store_effect, increment_demands, increment_effect, move_demands, move_effect, arithmetic_demands, arithmetic_effect, element, array_read_demands, array_read_effect, array_write_demands, array_write_effect, branch_demands, branch_effect, field_read_demands, field_read_effect, field_write_demands, field_write_effect, cells_wanted, call_demands, call_effect, ready_with, result_given, args_at, result_at, make_demands, make_effect, type_test_effect, type_named, array_wanted, a_reference, read_demands, read_effect, write_demands, write_effect, method_demands, method_effect, return_demands, return_effect, local_of, copied_of, under_of, demands, effect}
+use Rattle.jc_rules.specs.Rule.{cell, number, two_numbers, size, number_given, value_given, value_wanted, value_size, on_stack, replacing, storing, constant_effect, load_demands, load_effect, or_null, store_demands, store_effect, increment_demands, increment_effect, move_demands, move_effect, arithmetic_demands, arithmetic_effect, element, array_read_demands, array_read_effect, array_write_demands, array_write_effect, branch_demands, branch_effect, field_read_demands, field_read_effect, field_write_demands, field_write_effect, cells_wanted, call_demands, call_effect, ready_with, result_given, args_at, result_at, standing, seen, type_test_effect, array_wanted, a_reference, return_demands, return_effect, demands, effect}
+use Rattle.jc_rules.specs.Known.{IsValue, IsKnownCallee, IsKnownOperation}
 use Rattle.jc_rules.specs.Flow.{IsNotFresh, IsNotTop}
 use Rattle.jc_rules.specs.Laws.{IsNotBottom}
 use Rattle.jc_rules.proofs.Falls.{plain_class, top_not_below_class, some-or}
@@ -68,12 +65,6 @@ length-changed (Exchange top under) s h = simp (length-append, length-take, leng
 length-changed (MakeReady taken place class cells) s h = simp (length-append, length-map, length-drop) (omega arith)
 
 -- ---- what is known of what is given
-
--- the type of a value: neither Bottom nor Top
-abbrev pub IsValue : Ty → Type 0
-IsValue Bottom = ⊥
-IsValue Top = ⊥
-IsValue _ = ⊤
 
 value-full : (ty : Ty) → IsValue ty → IsNotBottom ty
 value-full Bottom h = h
@@ -116,6 +107,12 @@ abbrev pub CellsKept : ClassTable → Cells → Type 0
 CellsKept t given.Nothing = ⊤
 CellsKept t (given.One ty) = IsKnown t ty × IsNotFresh ty
 CellsKept t given.Int = ⊤
+
+-- what goes into a register is no Bottom
+abbrev pub CellsFull : Cells → Type 0
+CellsFull given.Nothing = ⊤
+CellsFull (given.One ty) = IsNotBottom ty
+CellsFull given.Int = ⊤
 
 abbrev pub ChangeKnown : ClassTable → Change → Type 0
 ChangeKnown t (Replace taken cells) = CellsKnown t cells
@@ -403,13 +400,13 @@ module _ (t : ClassTable) (f : Frame) where
     suits-increment widths.Short x h = suits-storing 0 x (given.One Short) (omega arith) h.0 (tt, tt)
     suits-increment widths.Int x h = suits-storing 0 x given.Int (omega arith) h.0 tt
 
-    suits-move : (m : Move) (p n : ℕ) → AllHold t f (move_demands m p n) → Suits t f (move_effect m p n)
-    suits-move moves.Pop p n h = suits-replacing 1 given.Nothing (cell-there f.stack 0 (Meets t Whole) h.0) tt
-    suits-move moves.PopTwo p n h = suits-replacing 2 given.Nothing h.0 tt
-    suits-move moves.Duplicate p n h = let there : 0 + 1 ≤ length f.stack = cell-there f.stack 0 (Meets t Whole) h.0 in suits-on_stack (CopyUnder 1 0) (omega arith) tt
-    suits-move moves.DuplicateTwo p n h = suits-on_stack (CopyUnder 2 0) (omega (arith, h.0)) tt
-    suits-move moves.CopyUnder p n h = suits-on_stack (CopyUnder p n) (omega (arith, h.0, h.1.1.0)) tt
-    suits-move moves.Exchange p n h = suits-on_stack (Exchange p n) h.1.1.0 tt
+    suits-move : (m : Move) → AllHold t f (move_demands m) → Suits t f (move_effect m)
+    suits-move moves.Pop h = suits-replacing 1 given.Nothing (cell-there f.stack 0 (Meets t Whole) h.0) tt
+    suits-move moves.PopTwo h = suits-replacing 2 given.Nothing h.0 tt
+    suits-move moves.Duplicate h = let there : 0 + 1 ≤ length f.stack = cell-there f.stack 0 (Meets t Whole) h.0 in suits-on_stack (CopyUnder 1 0) (omega arith) tt
+    suits-move moves.DuplicateTwo h = suits-on_stack (CopyUnder 2 0) (omega (arith, h.0)) tt
+    suits-move (moves.CopyUnder p n) h = suits-on_stack (CopyUnder p n) (omega (arith, h.0, h.1.1.0)) tt
+    suits-move (moves.Exchange p n) h = suits-on_stack (Exchange p n) h.1.1.0 tt
 
     suits-arithmetic : (a : Arithmetic) → AllHold t f (arithmetic_demands a) → Suits t f (arithmetic_effect a)
     suits-arithmetic (arithmetic.Binary o widths.Short) h = suits-replacing 2 (given.One Short) (two-there widths.Short h) (tt, tt)
@@ -449,11 +446,6 @@ module _ (t : ClassTable) (f : Frame) where
     suits-write : (h : Holder) (c : ℕ) (ty : Ty) → AllHold t f (field_write_demands h c ty) → Suits t f (field_write_effect h ty)
     suits-write holders.Stack c ty h = suits-replacing (value_size ty + 1) given.Nothing (cell-there f.stack (value_size ty) (Meets t (Value (Class c))) (AllHold-rest t f (value_wanted ty) (Cell (value_size ty) (Value (Class c)) ∷ []) h).0) tt
     suits-write holders.This c ty h = suits-replacing (value_size ty) given.Nothing (value-there (Held 0 (Class c) ∷ []) ty h.1) tt
-
-    suits-make : (m : Make) (ty : Ty) → IsKnown t ty × IsValue ty → AllHold t f (make_demands m) → Suits t f (make_effect m ty)
-    suits-make makes.Object ty known h = suits-replacing 0 (given.One ty) (omega arith) known
-    suits-make makes.Numbers ty known h = suits-replacing 1 (given.One ty) (cell-there f.stack 0 (Meets t (Value Short)) h.0) known
-    suits-make makes.References ty known h = suits-replacing 1 (given.One ty) (cell-there f.stack 0 (Meets t (Value Short)) h.0) known
 
     suits-test : (test : TypeTest) (ty : Ty) → IsKnown t ty × IsValue ty → 0 + 1 ≤ length f.stack → Suits t f (type_test_effect test ty)
     suits-test tests.Cast ty known h = suits-replacing 1 (given.One ty) h known
@@ -523,21 +515,6 @@ declared-full t (ArrRef c) h = (h, tt)
 declared-full t (Fresh place c) h = absurd h
 declared-full t Top h = absurd h
 
-given-full : (t : ClassTable) (ty : Ty) → IsGiven t ty → IsKnown t ty × IsValue ty
-given-full t Bottom h = absurd h
-given-full t Short h = (tt, tt)
-given-full t IntHigh h = (tt, tt)
-given-full t IntLow h = (tt, tt)
-given-full t Null h = absurd h
-given-full t (Class c) h = (h, tt)
-given-full t ArrBool h = (tt, tt)
-given-full t ArrByte h = (tt, tt)
-given-full t ArrShort h = (tt, tt)
-given-full t ArrInt h = (tt, tt)
-given-full t (ArrRef c) h = (h, tt)
-given-full t (Fresh place c) h = (h, tt)
-given-full t Top h = absurd h
-
 result-declared : (w : Linked) → IsWorld w → (o : Option MethodRec) → ((m : MethodRec) → o ≡ Some m → IfSome m.sig.result (λ ty. IsKnown w.classes ty × IsValue ty)) → IfSome (result_at o) (λ ty. IsKnown w.classes ty × IsValue ty)
 result-declared w is None h = tt
 result-declared w is (Some m) h = h m refl
@@ -549,60 +526,132 @@ IfSome-full t (Some ty) h = declared-full t ty h
 method-result : (w : Linked) → IsWorld w → (n : ℕ) → IfSome (result_at (slice_get w.methods n)) (λ ty. IsKnown w.classes ty × IsValue ty)
 method-result w is n = result-declared w is (slice_get w.methods n) (λ m e. IfSome-full w.classes m.sig.result (All-slice_get (IsMethod w.infos w.pools w.classes) w.methods n m is.methods e).result)
 
-type-known : (w : Linked) (n : Named) → IsSound w n → IsKnown w.classes (type_named n) × IsValue (type_named n)
-type-known w names.Nothing h = (tt, tt)
-type-known w (names.Type ty) h = given-full w.classes ty h
-type-known w (names.Field c ty) h = (tt, tt)
-type-known w (names.Method k receiver) h = (tt, tt)
+module _ (t : ClassTable) (objects : IsClass t (object t)) where
+  standing-class : (c : ℕ) → c < length t.records → IsClass t (standing t c)
+  standing-class c lt = at (is_interface t c) refl
+    where
+      at : (b : Bool) → is_interface t c ≡ b → IsClass t (if b then object t else c)
+      at true e = objects
+      at false e = record { number = lt; class = e }
+
+  seen-known : (ty : Ty) → IsNamedType t ty → IsKnown t (seen t ty) × IsValue (seen t ty)
+  seen-known (Class c) h = (standing-class c h, tt)
+  seen-known ArrBool h = (tt, tt)
+  seen-known ArrByte h = (tt, tt)
+  seen-known ArrShort h = (tt, tt)
+  seen-known ArrInt h = (tt, tt)
+  seen-known (ArrRef c) h = (standing-class c h, tt)
+  seen-known _ h = absurd h
+
+result-full : (t : ClassTable) (o : Option Ty) → IfSome o (IsResult t) → IfSome o (λ ty. IsKnown t ty × IsValue ty)
+result-full t None h = tt
+result-full t (Some ty) h = declared-full t ty h.declared
+
+-- what a sound operation speaks of is known
+callee-known : (w : Linked) (c : Callee) → IsCalleeOf w c → IsKnownCallee w c
+callee-known w c h = (subst (λ o. IsSomeAnd o (λ m. length m.sig.args + receiver_count c.receiver ≤ 255)) (sym h.is_method) h.room, h.known)
+
+pub sound-known : (w : Linked) (m : MethodRec) (place : ℕ) (op : Operation) → IsSound w m place op → IsKnownOperation w op
+sound-known w m place (ops.Move move) h = h
+sound-known w m place (ops.StaticRead field) h = declared-full w.classes field.ty h.ty
+sound-known w m place (ops.StaticWrite field) h = declared-full w.classes field.ty h.ty
+sound-known w m place (ops.FieldRead field holder) h = let k = declared-full w.classes field.ty h.ty in (h.cells.class, k.0, k.1)
+sound-known w m place (ops.FieldWrite field holder) h = let k = declared-full w.classes field.ty h.ty in (h.cells.class, k.0, k.1)
+sound-known w m place (ops.Call c) h = callee-known w c h
+sound-known w m place (ops.New p c) h = h.1.class
+sound-known w m place (ops.NewArray ty) h = h.1
+sound-known w m place (ops.TypeTest test ty) h = h
+sound-known w m place (ops.Return result) h = result-full w.classes result h.1
+sound-known w m place _ h = tt
 
 module _ (w : Linked) (is : IsWorld w) (f : Frame) (k : AreKnown w.classes f) where
   suits-nothing : Suits w.classes f (replacing 0 given.Nothing)
   suits-nothing = suits-replacing w.classes f 0 given.Nothing (omega arith) tt
 
-  suits-named_read : (h : Holder) (n : Named) → IsSound w n → AllHold w.classes f (read_demands h n) → Suits w.classes f (read_effect h n)
-  suits-named_read h (names.Field c ty) known all = suits-read w.classes f k h c ty (declared-full w.classes ty known.1) all
-  suits-named_read h names.Nothing known all = suits-nothing
-  suits-named_read h (names.Type ty) known all = suits-nothing
-  suits-named_read h (names.Method m receiver) known all = suits-nothing
+  suits-return : (result : Option Ty) → AllHold w.classes f (return_demands result) → Suits w.classes f (return_effect result)
+  suits-return (Some ty) all = suits-popped w.classes f k ty all
+  suits-return None all = suits-nothing
 
-  suits-named_write : (h : Holder) (n : Named) → AllHold w.classes f (write_demands h n) → Suits w.classes f (write_effect h n)
-  suits-named_write h (names.Field c ty) all = suits-write w.classes f k h c ty all
-  suits-named_write h names.Nothing all = suits-nothing
-  suits-named_write h (names.Type ty) all = suits-nothing
-  suits-named_write h (names.Method m receiver) all = suits-nothing
+  -- where what an operation asks is met, what it does suits the frame
+  pub suits : (op : Operation) → IsKnownOperation w op → AllHold w.classes f (demands w op) → Suits w.classes f (effect w op f)
+  suits (ops.Constant c) known all = suits-constant w.classes f k c
+  suits (ops.Load s x) known all = suits-load w.classes f k s x all
+  suits (ops.Store s x) known all = suits-store w.classes f k s x all
+  suits (ops.Increment width x amount) known all = suits-increment w.classes f k width x all
+  suits (ops.Move m) known all = suits-move w.classes f k m all
+  suits (ops.Arithmetic a) known all = suits-arithmetic w.classes f k a all
+  suits (ops.ArrayRead kind) known all = suits-array_read w.classes f k kind all
+  suits (ops.ArrayWrite kind) known all = suits-array_write w.classes f k kind all
+  suits ops.ArrayLength known all = suits-replacing w.classes f 1 (given.One Short) (cell-there w.classes f f.stack 0 (Meets w.classes AnyArray) all.0) (tt, tt)
+  suits (ops.Branch b) known all = suits-branch w.classes f k b all
+  suits (ops.Switch width) known all = let there : 0 + size width ≤ length f.stack = number-there w.classes f width 0 all in suits-replacing w.classes f (size width) given.Nothing (omega arith) tt
+  suits (ops.StaticRead field) known all = suits-replacing w.classes f 0 (value_given field.ty) (omega arith) (value-known w.classes f field.ty known)
+  suits (ops.StaticWrite field) known all = suits-popped w.classes f k field.ty all
+  suits (ops.FieldRead field h) known all = suits-read w.classes f k h field.class field.ty (known.1, known.2) all
+  suits (ops.FieldWrite field h) known all = suits-write w.classes f k h field.class field.ty all
+  suits (ops.Call c) known all = suits-call w.classes f k (args_at (slice_get w.methods c.method)) (result_at (slice_get w.methods c.method)) c.receiver (method-result w is c.method) known.1 all
+  suits (ops.New place c) known all = suits-replacing w.classes f 0 (given.One (Fresh place c)) (omega arith) (known, tt)
+  suits (ops.NewArray ty) known all = suits-replacing w.classes f 1 (given.One (seen w.classes ty)) (cell-there w.classes f f.stack 0 (Meets w.classes (Value Short)) all.0) (seen-known w.classes k.object ty known)
+  suits ops.Throw known all = suits-replacing w.classes f 1 given.Nothing (cell-there w.classes f f.stack 0 (Meets w.classes (Value (Class (throwable w.classes)))) all.0) tt
+  suits (ops.TypeTest test ty) known all = suits-test w.classes f k test (seen w.classes ty) (seen-known w.classes k.object ty known) (cell-there w.classes f f.stack 0 (Meets w.classes (a_reference w.classes)) all.0)
+  suits (ops.Return result) known all = suits-return result all
 
-  suits-method : (n : Named) → IsSound w n → AllHold w.classes f (method_demands w n) → Suits w.classes f (method_effect w n f)
-  suits-method (names.Method m receiver) known all = suits-call w.classes f k (args_at (slice_get w.methods m)) (result_at (slice_get w.methods m)) receiver (method-result w is m) known all
-  suits-method names.Nothing known all = suits-nothing
-  suits-method (names.Type ty) known all = suits-nothing
-  suits-method (names.Field c ty) known all = suits-nothing
-
-  suits-return : (n : Named) → AllHold w.classes f (return_demands n) → Suits w.classes f (return_effect n)
-  suits-return (names.Type ty) all = suits-popped w.classes f k ty all
-  suits-return names.Nothing all = suits-nothing
-  suits-return (names.Field c ty) all = suits-nothing
-  suits-return (names.Method m receiver) all = suits-nothing
-
-  -- where what an instruction asks is met, what it does suits the frame
-  pub suits : (i : Insn) (n : Named) (row : Row) → IsSound w n → AllHold w.classes f (demands w i n row) → Suits w.classes f (effect w i n row f)
-  suits i n (rows.Constant c) known all = suits-constant w.classes f k c
-  suits i n (rows.Load s l) known all = suits-load w.classes f k s (local_of i l) all
-  suits i n (rows.Store s l) known all = suits-store w.classes f k s (local_of i l) all
-  suits i n (rows.Increment width) known all = suits-increment w.classes f k width (byte_of i.x) all
-  suits i n (rows.Move m) known all = suits-move w.classes f k m (copied_of i) (under_of i) all
-  suits i n (rows.Arithmetic a) known all = suits-arithmetic w.classes f k a all
-  suits i n (rows.ArrayRead kind) known all = suits-array_read w.classes f k kind all
-  suits i n (rows.ArrayWrite kind) known all = suits-array_write w.classes f k kind all
-  suits i n rows.ArrayLength known all = suits-replacing w.classes f 1 (given.One Short) (cell-there w.classes f f.stack 0 (Meets w.classes AnyArray) all.0) (tt, tt)
-  suits i n (rows.Branch b) known all = suits-branch w.classes f k b all
-  suits i n (rows.Switch width) known all = let there : 0 + size width ≤ length f.stack = number-there w.classes f width 0 all in suits-replacing w.classes f (size width) given.Nothing (omega arith) tt
-  suits i n (rows.StaticRead kind) known all = suits-replacing w.classes f 0 (value_given (type_named n)) (omega arith) (value-known w.classes f (type_named n) (type-known w n known))
-  suits i n (rows.StaticWrite kind) known all = suits-popped w.classes f k (type_named n) all
-  suits i n (rows.FieldRead kind h) known all = suits-named_read h n known all
-  suits i n (rows.FieldWrite kind h) known all = suits-named_write h n all
-  suits i n (rows.Call c) known all = suits-method n known all
-  suits i n (rows.Make m) known all = suits-make w.classes f k m (type_named n) (type-known w n known) all
-  suits i n rows.Throw known all = suits-replacing w.classes f 1 given.Nothing (cell-there w.classes f f.stack 0 (Meets w.classes (Value (Class (throwable w.classes)))) all.0) tt
-  suits i n (rows.TypeTest test) known all = suits-test w.classes f k test (type_named n) (type-known w n known) (cell-there w.classes f f.stack 0 (Meets w.classes (a_reference w.classes)) all.0)
-  suits i n (rows.Return s) known all = suits-return n all
-  suits i n rows.Reserved known all = suits-nothing
+-- what an operation stores where no cell is Bottom
+pub stored-full : (w : Linked) (f : Frame) (op : Operation) → AllHold w.classes f (demands w op) → All IsNotBottom f.stack → CellsFull (effect w op f).store.cells
+stored-full w f (ops.Store sorts.Reference x) all full =
+    let there : 0 + 1 ≤ length f.stack = cell-there w.classes f f.stack 0 (Meets w.classes Storable) all.1.0 in
+    All-get_or IsNotBottom f.stack 0 Top (omega arith) full
+stored-full w f (ops.Store sorts.Short x) all full = tt
+stored-full w f (ops.Store sorts.Int x) all full = tt
+stored-full w f (ops.Increment widths.Short x amount) all full = tt
+stored-full w f (ops.Increment widths.Int x amount) all full = tt
+stored-full w f (ops.Load sorts.Reference x) all full = tt
+stored-full w f (ops.Load sorts.Short x) all full = tt
+stored-full w f (ops.Load sorts.Int x) all full = tt
+stored-full w f (ops.Constant constants.Nothing) all full = tt
+stored-full w f (ops.Constant constants.Null) all full = tt
+stored-full w f (ops.Constant (constants.Short n)) all full = tt
+stored-full w f (ops.Constant (constants.Int n)) all full = tt
+stored-full w f (ops.Move moves.Pop) all full = tt
+stored-full w f (ops.Move moves.PopTwo) all full = tt
+stored-full w f (ops.Move moves.Duplicate) all full = tt
+stored-full w f (ops.Move moves.DuplicateTwo) all full = tt
+stored-full w f (ops.Move (moves.CopyUnder p n)) all full = tt
+stored-full w f (ops.Move (moves.Exchange p n)) all full = tt
+stored-full w f (ops.Arithmetic (arithmetic.Binary o widths.Short)) all full = tt
+stored-full w f (ops.Arithmetic (arithmetic.Binary o widths.Int)) all full = tt
+stored-full w f (ops.Arithmetic (arithmetic.Negate width)) all full = tt
+stored-full w f (ops.Arithmetic arithmetic.ShortToByte) all full = tt
+stored-full w f (ops.Arithmetic arithmetic.ShortToInt) all full = tt
+stored-full w f (ops.Arithmetic arithmetic.IntToByte) all full = tt
+stored-full w f (ops.Arithmetic arithmetic.IntToShort) all full = tt
+stored-full w f (ops.Arithmetic arithmetic.CompareInts) all full = tt
+stored-full w f (ops.ArrayRead kinds.Ref) all full = tt
+stored-full w f (ops.ArrayRead kinds.Byte) all full = tt
+stored-full w f (ops.ArrayRead kinds.Short) all full = tt
+stored-full w f (ops.ArrayRead kinds.Int) all full = tt
+stored-full w f (ops.ArrayWrite kinds.Int) all full = tt
+stored-full w f (ops.ArrayWrite kinds.Ref) all full = tt
+stored-full w f (ops.ArrayWrite kinds.Byte) all full = tt
+stored-full w f (ops.ArrayWrite kinds.Short) all full = tt
+stored-full w f ops.ArrayLength all full = tt
+stored-full w f (ops.Branch branches.Always) all full = tt
+stored-full w f (ops.Branch (branches.Zero o)) all full = tt
+stored-full w f (ops.Branch (branches.Null e)) all full = tt
+stored-full w f (ops.Branch (branches.References e)) all full = tt
+stored-full w f (ops.Branch (branches.Shorts o)) all full = tt
+stored-full w f (ops.Switch width) all full = tt
+stored-full w f (ops.StaticRead field) all full = tt
+stored-full w f (ops.StaticWrite field) all full = tt
+stored-full w f (ops.FieldRead field holders.Stack) all full = tt
+stored-full w f (ops.FieldRead field holders.This) all full = tt
+stored-full w f (ops.FieldWrite field holders.Stack) all full = tt
+stored-full w f (ops.FieldWrite field holders.This) all full = tt
+stored-full w f (ops.Call c) all full = tt
+stored-full w f (ops.New place c) all full = tt
+stored-full w f (ops.NewArray ty) all full = tt
+stored-full w f ops.Throw all full = tt
+stored-full w f (ops.TypeTest tests.Cast ty) all full = tt
+stored-full w f (ops.TypeTest tests.InstanceOf ty) all full = tt
+stored-full w f (ops.Return None) all full = tt
+stored-full w f (ops.Return (Some ty)) all full = tt

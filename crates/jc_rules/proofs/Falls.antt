@@ -9,16 +9,12 @@ use Rattle.jc_base.specs.Class.{ClassTable, AreClasses, object}
 use Rattle.jc_base.specs.Order.{Below, same, joined, nothing, anything, null_object, null_array, subclass, array_object, array_array, of_booleans, of_bytes, of_shorts, of_ints, of_references, is_below}
 use Rattle.jc_base.proofs.Subtypes.{is_below-from_Below, Below-from_is_below}
 use Rattle.jc_base.specs.World.{Linked}
-use Rattle.jc_decode.specs.declared.insn.Insn.{Insn}
-use Rattle.jc_ops.specs.declared.row.Sort.{Sort}
-use Rattle.jc_ops.specs.declared.row.Sort.TheVariants as sorts
-use Rattle.jc_ops.specs.declared.row.Row.{Row}
-use Rattle.jc_ops.specs.declared.row.Row.TheVariants as rows
+use Rattle.jc_ops.specs.declared.operation.Sort.{Sort}
+use Rattle.jc_ops.specs.declared.operation.Sort.TheVariants as sorts
+use Rattle.jc_ops.specs.declared.operation.Operation.{Operation}
+use Rattle.jc_ops.specs.declared.operation.Operation.TheVariants as ops
 use Rattle.jc_ops.specs.declared.want.Want.{Want}
 use Rattle.jc_ops.specs.declared.want.Want.TheVariants.{Value, Storable, ByteArray, AnyArray, Whole, Receiver}
-use Rattle.jc_ops.specs.declared.named.Named.{Named}
-use Rattle.jc_ops.specs.declared.named.Named.TheVariants as names
-use Rattle.jc_ops.specs.Row.{row_at}
 use Rattle.jc_rules.specs.declared.demand.Demand.{Demand}
 use Rattle.jc_rules.specs.declared.demand.Demand.TheVariants.{Registers, Depth, Cell, Cut, Held}
 use Rattle.jc_rules.specs.declared.effect.Cells.{Cells}
@@ -29,21 +25,22 @@ use Rattle.jc_rules.specs.declared.effect.Effect.{Effect}
 use Rattle.jc_rules.specs.declared.effect.Store.{Store}
 use Rattle.jc_rules.specs.declared.effect.Mode.{Mode}
 use Rattle.jc_rules.specs.declared.effect.Mode.TheVariants.{Card, Flow}
-use Rattle.jc_rules.specs.declared.rule.Site.{Site}
+use Rattle.jc_ops.specs.declared.site.Site.{Site}
 use Rattle.jc_rules.specs.declared.rule.Outcome.{Outcome}
-use Rattle.jc_rules.specs.Effect.{listed, ready, changed, reg, IsStored, Writes, WritesCells, Stores}
+use Rattle.jc_rules.specs.Effect.{listed, ready, changed, reg, IsStored, Writes, WritesCells, Stores, rises}
 use Rattle.jc_rules.specs.Demand.{Frame, IsArrayOrNull, IsHalf, IsFreshOf, Meets, Holds, AllHold}
-use Rattle.jc_rules.specs.Rule.{cell, or_null, element, ready_with, call_demands, call_effect, cells_wanted, args_at, result_at, result_given, local_of, load_demands, load_effect, store_effect, array_read_demands, array_read_effect, method_demands, method_effect, falls_from, ends_at, wrote, demands, effect}
+use Rattle.jc_ops.specs.Next.{falls_from, ends_at}
+use Rattle.jc_rules.specs.Rule.{cell, or_null, element, ready_with, call_demands, call_effect, cells_wanted, args_at, result_at, result_given, load_demands, load_effect, store_effect, array_read_demands, array_read_effect, wrote, demands, effect}
 use Rattle.jc_rules.specs.Flow.{CellsBelow, no_cells, more_cells, FrameBelow, IsNotTop, IsNotFresh}
-use Rattle.jc_rules.specs.Laws.{IsNotBottom, RuleFalls, FallsTo}
-use Rattle.jc_rules.specs.Apply.{Applies}
+use Rattle.jc_rules.specs.Laws.{IsNotBottom, OperationFalls, OperationFallsTo, RuleFalls, FallsTo}
+use Rattle.jc_rules.specs.Apply.{OperationApplies, Applies}
 use Rattle.jc_rules.proofs.CellLists.{Each, each-from_All, each-at, PairAt, cells-at, cells-or, cells-length, cells-same, cells-append, cells-take, cells-drop, cells-set}
 use Rattle.jc_rules.proofs.Demands.{AllHold-rest}
 
 -- ---- what lies below and above
 
 -- IntLow and what is above it, IntHigh and what is above it
-LowUp : Ty → Type 0
+unfoldable pub LowUp : Ty → Type 0
 LowUp IntLow = ⊤
 LowUp Top = ⊤
 LowUp _ = ⊥
@@ -91,7 +88,7 @@ ReferencesDown (ArrRef c) = ⊤
 ReferencesDown _ = ⊥
 
 module _ (t : ClassTable) where
-  low-up : {a b : Ty} → Below t a b → LowUp a → LowUp b
+  pub low-up : {a b : Ty} → Below t a b → LowUp a → LowUp b
   unfolding LowUp
   low-up same h = h
   low-up (joined p q) h = low-up q (low-up p h)
@@ -268,7 +265,7 @@ module _ (t : ClassTable) where
   unfolding HighUp
   high_above {b = b} p n = high_is b (high-up t p tt) n
 
-  half-up : (a : Ty) {b : Ty} → Below t a b → IsNotTop b → IsHalf a → IsHalf b
+  pub half-up : (a : Ty) {b : Ty} → Below t a b → IsNotTop b → IsHalf a → IsHalf b
   half-up IntHigh p n h = subst IsHalf (sym (high_above p n)) tt
   half-up IntLow p n h = subst IsHalf (sym (low_above p n)) tt
   half-up _ p n h = absurd h
@@ -325,6 +322,23 @@ module _ (t : ClassTable) where
   pub fresh_not_below_bottom : (p c : ℕ) → Below t (Fresh p c) Bottom → ⊥
   unfolding FreshUp
   fresh_not_below_bottom p c x = fresh-up t p c x (refl, refl)
+
+-- below Bottom is nothing else
+pub bottom-least : (t : ClassTable) (are : AreClasses t) (a : Ty) → Below t a Bottom → Bottom ≡ a
+unfolding is_below
+bottom-least t are Bottom h = refl
+bottom-least t are Short h = let e : false ≡ true = is_below-from_Below t are h in absurd (cc)
+bottom-least t are IntHigh h = let e : false ≡ true = is_below-from_Below t are h in absurd (cc)
+bottom-least t are IntLow h = let e : false ≡ true = is_below-from_Below t are h in absurd (cc)
+bottom-least t are Null h = let e : false ≡ true = is_below-from_Below t are h in absurd (cc)
+bottom-least t are (Class c) h = let e : false ≡ true = is_below-from_Below t are h in absurd (cc)
+bottom-least t are ArrBool h = let e : false ≡ true = is_below-from_Below t are h in absurd (cc)
+bottom-least t are ArrByte h = let e : false ≡ true = is_below-from_Below t are h in absurd (cc)
+bottom-least t are ArrShort h = let e : false ≡ true = is_below-from_Below t are h in absurd (cc)
+bottom-least t are ArrInt h = let e : false ≡ true = is_below-from_Below t are h in absurd (cc)
+bottom-least t are (ArrRef c) h = let e : false ≡ true = is_below-from_Below t are h in absurd (cc)
+bottom-least t are (Fresh p c) h = let e : false ≡ true = is_below-from_Below t are h in absurd (cc)
+bottom-least t are Top h = let e : false ≡ true = is_below-from_Below t are h in absurd (cc)
 
 -- ---- demands
 
@@ -694,77 +708,79 @@ module _ (w : Linked) (are : AreClasses w.classes) (f g : Frame) (regs : CellsBe
     cells = tt;
   }
 
-  method-falls : (n : Named) → AllHold w.classes g (method_demands w n) → EffectBelow w.classes (method_effect w n f) (method_effect w n g)
-  method-falls (names.Method k receiver) h = call-falls (args_at (slice_get w.methods k)) (result_at (slice_get w.methods k)) receiver h
-  method-falls names.Nothing h = effect-same w.classes are (method_effect w names.Nothing g)
-  method-falls (names.Type ty) h = effect-same w.classes are (method_effect w (names.Type ty) g)
-  method-falls (names.Field c ty) h = effect-same w.classes are (method_effect w (names.Field c ty) g)
+  effect-falls : (op : Operation) → AllHold w.classes g (demands w op) → EffectBelow w.classes (effect w op f) (effect w op g)
+  effect-falls (ops.Load s x) h = load-falls s x h
+  effect-falls (ops.Store s x) h = store-falls s x
+  effect-falls (ops.ArrayRead k) h = array-falls k h
+  effect-falls (ops.Call c) h = call-falls (args_at (slice_get w.methods c.method)) (result_at (slice_get w.methods c.method)) c.receiver h
+  effect-falls (ops.Constant c) h = effect-same w.classes are (effect w (ops.Constant c) g)
+  effect-falls (ops.Increment width x amount) h = effect-same w.classes are (effect w (ops.Increment width x amount) g)
+  effect-falls (ops.Move m) h = effect-same w.classes are (effect w (ops.Move m) g)
+  effect-falls (ops.Arithmetic a) h = effect-same w.classes are (effect w (ops.Arithmetic a) g)
+  effect-falls (ops.ArrayWrite k) h = effect-same w.classes are (effect w (ops.ArrayWrite k) g)
+  effect-falls ops.ArrayLength h = effect-same w.classes are (effect w ops.ArrayLength g)
+  effect-falls (ops.Branch b) h = effect-same w.classes are (effect w (ops.Branch b) g)
+  effect-falls (ops.Switch width) h = effect-same w.classes are (effect w (ops.Switch width) g)
+  effect-falls (ops.StaticRead field) h = effect-same w.classes are (effect w (ops.StaticRead field) g)
+  effect-falls (ops.StaticWrite field) h = effect-same w.classes are (effect w (ops.StaticWrite field) g)
+  effect-falls (ops.FieldRead field holder) h = effect-same w.classes are (effect w (ops.FieldRead field holder) g)
+  effect-falls (ops.FieldWrite field holder) h = effect-same w.classes are (effect w (ops.FieldWrite field holder) g)
+  effect-falls (ops.New place c) h = effect-same w.classes are (effect w (ops.New place c) g)
+  effect-falls (ops.NewArray ty) h = effect-same w.classes are (effect w (ops.NewArray ty) g)
+  effect-falls ops.Throw h = effect-same w.classes are (effect w ops.Throw g)
+  effect-falls (ops.TypeTest test ty) h = effect-same w.classes are (effect w (ops.TypeTest test ty) g)
+  effect-falls (ops.Return result) h = effect-same w.classes are (effect w (ops.Return result) g)
 
-  effect-falls : (i : Insn) (n : Named) (row : Row) → AllHold w.classes g (demands w i n row) → EffectBelow w.classes (effect w i n row f) (effect w i n row g)
-  effect-falls i n (rows.Load s l) h = load-falls s (local_of i l) h
-  effect-falls i n (rows.Store s l) h = store-falls s (local_of i l)
-  effect-falls i n (rows.ArrayRead k) h = array-falls k h
-  effect-falls i n (rows.Call c) h = method-falls n h
-  effect-falls i n (rows.Constant c) h = effect-same w.classes are (effect w i n (rows.Constant c) g)
-  effect-falls i n (rows.Increment width) h = effect-same w.classes are (effect w i n (rows.Increment width) g)
-  effect-falls i n (rows.Move m) h = effect-same w.classes are (effect w i n (rows.Move m) g)
-  effect-falls i n (rows.Arithmetic a) h = effect-same w.classes are (effect w i n (rows.Arithmetic a) g)
-  effect-falls i n (rows.ArrayWrite k) h = effect-same w.classes are (effect w i n (rows.ArrayWrite k) g)
-  effect-falls i n rows.ArrayLength h = effect-same w.classes are (effect w i n rows.ArrayLength g)
-  effect-falls i n (rows.Branch b) h = effect-same w.classes are (effect w i n (rows.Branch b) g)
-  effect-falls i n (rows.Switch width) h = effect-same w.classes are (effect w i n (rows.Switch width) g)
-  effect-falls i n (rows.StaticRead k) h = effect-same w.classes are (effect w i n (rows.StaticRead k) g)
-  effect-falls i n (rows.StaticWrite k) h = effect-same w.classes are (effect w i n (rows.StaticWrite k) g)
-  effect-falls i n (rows.FieldRead k holder) h = effect-same w.classes are (effect w i n (rows.FieldRead k holder) g)
-  effect-falls i n (rows.FieldWrite k holder) h = effect-same w.classes are (effect w i n (rows.FieldWrite k holder) g)
-  effect-falls i n (rows.Make m) h = effect-same w.classes are (effect w i n (rows.Make m) g)
-  effect-falls i n rows.Throw h = effect-same w.classes are (effect w i n rows.Throw g)
-  effect-falls i n (rows.TypeTest test) h = effect-same w.classes are (effect w i n (rows.TypeTest test) g)
-  effect-falls i n (rows.Return s) h = effect-same w.classes are (effect w i n (rows.Return s) g)
-  effect-falls i n rows.Reserved h = effect-same w.classes are (effect w i n rows.Reserved g)
-
--- a rule applies to a frame, and here is a lesser one
-module _ (w : Linked) (are : AreClasses w.classes) (site : Site) (i : Insn) (mode : Mode) (greater lesser after : Frame) (o : Outcome) (below : FrameBelow w.classes lesser greater)
-    (no_top : All IsNotTop greater.stack) (no_bottom : All IsNotBottom lesser.stack) (a : Applies w site i mode greater after o) where
+-- an operation applies to a frame, and here is a lesser one
+module _ (w : Linked) (are : AreClasses w.classes) (limit : ℕ) (op : Operation) (mode : Mode) (greater lesser after : Frame) (o : Outcome) (below : FrameBelow w.classes lesser greater)
+    (no_top : All IsNotTop greater.stack) (no_bottom : All IsNotBottom lesser.stack) (a : OperationApplies w limit op mode greater after o) where
   -- what is asked is met
-  pub asked-falls : AllHold w.classes lesser (demands w i a.named (row_at i.op))
-  asked-falls = all-falls w.classes lesser greater below.regs below.stack (each-from_All IsNotTop greater.stack no_top) (each-from_All IsNotBottom lesser.stack no_bottom) (demands w i a.named (row_at i.op)) a.asked
+  pub asked-falls : AllHold w.classes lesser (demands w op)
+  asked-falls = all-falls w.classes lesser greater below.regs below.stack (each-from_All IsNotTop greater.stack no_top) (each-from_All IsNotBottom lesser.stack no_bottom) (demands w op) a.asked
 
   -- what is done is lesser
-  pub doing-falls : EffectBelow w.classes (effect w i a.named (row_at i.op) lesser) (effect w i a.named (row_at i.op) greater)
-  doing-falls = effect-falls w are lesser greater below.regs below.stack (each-from_All IsNotBottom lesser.stack no_bottom) i a.named (row_at i.op) a.asked
+  pub doing-falls : EffectBelow w.classes (effect w op lesser) (effect w op greater)
+  doing-falls = effect-falls w are lesser greater below.regs below.stack (each-from_All IsNotBottom lesser.stack no_bottom) op a.asked
 
-  -- where the store can be made, the rule applies
-  pub applies-falls : (target : Mode) → StoresBelow w.classes target (effect w i a.named (row_at i.op) lesser).store lesser.regs after.regs → FallsTo w site i target lesser after
+  -- where the store can be made, the operation applies
+  pub applies-falls : (target : Mode) → StoresBelow w.classes target (effect w op lesser).store lesser.regs after.regs → OperationFallsTo w limit op target lesser after
   applies-falls target s =
-      let row = row_at i.op in
-      let e = effect w i a.named row lesser in
+      let e = effect w op lesser in
       let stack : CellsBelow w.classes (changed e.change lesser.stack) after.stack =
-      subst (CellsBelow w.classes (changed e.change lesser.stack)) (sym a.stack) (changed-falls w.classes are e.change (effect w i a.named row greater).change doing-falls.change below.stack) in
+      subst (CellsBelow w.classes (changed e.change lesser.stack)) (sym a.stack) (changed-falls w.classes are e.change (effect w op greater).change doing-falls.change below.stack) in
       record {
         below = record { regs = s.below; stack = changed e.change lesser.stack };
-        outcome = record { falls = falls_from row; ends = ends_at row; depth = length (changed e.change lesser.stack); wrote = wrote e.store.register e.store.cells };
+        outcome = record { falls = falls_from op; ends = ends_at op; depth = length (changed e.change lesser.stack); wrote = wrote e.store.register e.store.cells; rose = rises w.classes target e.store lesser.regs };
         applies = record {
-          method = a.method;
-          is_method = a.is_method;
-          named = a.named;
-          names = a.names;
           asked = asked-falls;
           regs = s.stores;
           stack = refl;
-          room = subst (λ n. n ≤ a.method.max_stack) (sym (cells-length w.classes stack)) a.room;
+          room = subst (λ n. n ≤ limit) (sym (cells-length w.classes stack)) a.room;
           falls = refl;
           ends = refl;
           depth = refl;
           wrote_is = refl;
+          rose_is = refl;
         };
         lower = record { regs = s.lower; stack = stack };
       }
 
+pub operation-falls : (w : Linked) → AreClasses w.classes → OperationFalls w
+operation-falls w are limit op mode greater lesser after o below no_top no_bottom a =
+    let d = effect w op lesser in
+    let e = effect w op greater in
+    let less : EffectBelow w.classes d e = doing-falls w are limit op mode greater lesser after o below no_top no_bottom a in
+    applies-falls w are limit op mode greater lesser after o below no_top no_bottom a Flow
+    (store-flow w.classes are mode lesser.regs greater.regs after.regs d.store.register e.store.register d.store.cells e.store.cells less.register less.cells below.regs a.regs)
+
 pub rule-falls : (w : Linked) → AreClasses w.classes → RuleFalls w
 rule-falls w are site i mode greater lesser after o below no_top no_bottom a =
-    let d = effect w i a.named (row_at i.op) lesser in
-    let e = effect w i a.named (row_at i.op) greater in
-    let less : EffectBelow w.classes d e = doing-falls w are site i mode greater lesser after o below no_top no_bottom a in
-    applies-falls w are site i mode greater lesser after o below no_top no_bottom a Flow
-    (store-flow w.classes are mode lesser.regs greater.regs after.regs d.store.register e.store.register d.store.cells e.store.cells less.register less.cells below.regs a.regs)
+    let r = a.rule in
+    let falls : OperationFallsTo w a.method.max_stack r.operation Flow lesser after =
+    operation-falls w are a.method.max_stack r.operation mode greater lesser after o below no_top no_bottom r.does in
+    record {
+      below = falls.below;
+      outcome = falls.outcome;
+      applies = record { method = a.method; is_method = a.is_method; rule = record { operation = r.operation; resolves = r.resolves; does = falls.applies } };
+      lower = falls.lower;
+    }

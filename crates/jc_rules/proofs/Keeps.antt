@@ -10,9 +10,10 @@ use Rattle.jc_base.specs.Class.{ClassTable, AreClasses}
 use Rattle.jc_base.specs.Order.{Below, IsJoin, IsKnown, nothing}
 use Rattle.jc_base.specs.Linked.{IsMethod}
 use Rattle.jc_base.specs.World.{Linked, IsWorld}
-use Rattle.jc_ops.specs.Row.{row_at}
-use Rattle.jc_ops.specs.Named.{IsSound}
-use Rattle.jc_ops.proofs.Naming.{names-are-sound}
+use Rattle.jc_decode.specs.declared.insn.Insn.{Insn}
+use Rattle.jc_base.specs.declared.record.MethodRec.{MethodRec}
+use Rattle.jc_ops.specs.declared.site.Site.{Site}
+use Rattle.jc_ops.specs.Sound.{IsSound, OperationsAreSound}
 use Rattle.jc_rules.specs.declared.effect.Cells.{Cells}
 use Rattle.jc_rules.specs.declared.effect.Cells.TheVariants as given
 use Rattle.jc_rules.specs.declared.effect.Mode.{Mode}
@@ -20,9 +21,13 @@ use Rattle.jc_rules.specs.declared.effect.Mode.TheVariants.{Card, Flow}
 use Rattle.jc_rules.specs.Effect.{IsStored, Writes, WritesCells, reg}
 use Rattle.jc_rules.specs.Rule.{effect}
 use Rattle.jc_rules.specs.Flow.{IsNotFresh, IsNotTop}
-use Rattle.jc_rules.specs.Laws.{IsNotBottom, RuleKeeps}
-use Rattle.jc_rules.proofs.Falls.{fresh_is_bottom, fresh_not_below_bottom}
-use Rattle.jc_rules.proofs.Effects.{CellsKept, Suits, suits, changed-known, changed-full, changed-topless}
+use Rattle.jc_rules.specs.Apply.{OperationApplies, Applies}
+use Rattle.jc_rules.specs.Laws.{IsNotBottom, OperationKeeps, RuleKeeps}
+use Rattle.jc_rules.proofs.Falls.{bottom-least, fresh_is_bottom, fresh_not_below_bottom}
+use Rattle.jc_rules.specs.declared.rule.Outcome.{Outcome}
+use Rattle.jc_rules.specs.Demand.{Frame, AllHold}
+use Rattle.jc_rules.specs.Rule.{demands}
+use Rattle.jc_rules.proofs.Effects.{CellsKept, CellsFull, Suits, suits, sound-known, stored-full, changed-known, changed-full, changed-topless}
 
 -- what is read, or Top
 pub all-or : (P : Ty → Type 0) (xs : List Ty) (n : ℕ) → P Top → All P xs → P (get_or xs n Top)
@@ -82,12 +87,37 @@ module _ (t : ClassTable) (are : AreClasses t) where
     stores-not_fresh x (given.One ty) regs after u k none = writes-keeps IsNotFresh tt (stored-not_fresh mode) u k.1 none
     stores-not_fresh x given.Int regs after u k none = writes-keeps IsNotFresh tt (stored-not_fresh mode) u.low tt (writes-keeps IsNotFresh tt (stored-not_fresh mode) u.high tt none)
 
-pub rule-keeps : (w : Linked) → IsWorld w → AreClasses w.classes → RuleKeeps w
-rule-keeps w is are site i mode before after o k a =
-    let e = effect w i a.named (row_at i.op) before in
-    let sound : IsSound w a.named =
-    names-are-sound w is a.method site.place i (row_at i.op) a.named (All-slice_get (IsMethod w.infos w.pools w.classes) w.methods site.method a.method is.methods a.is_method) a.names in
-    let fits : Suits w.classes before e = suits w is before k i a.named (row_at i.op) sound a.asked in
+-- a type of which Bottom is no upper bound
+full-below : (t : ClassTable) (are : AreClasses t) (a b : Ty) → Below t a b → IsNotBottom a → IsNotBottom b
+full-below t are a Bottom le n = subst IsNotBottom (sym (bottom-least t are a le)) n
+full-below t are a Short le n = tt
+full-below t are a IntHigh le n = tt
+full-below t are a IntLow le n = tt
+full-below t are a Null le n = tt
+full-below t are a (Class c) le n = tt
+full-below t are a ArrBool le n = tt
+full-below t are a ArrByte le n = tt
+full-below t are a ArrShort le n = tt
+full-below t are a ArrInt le n = tt
+full-below t are a (ArrRef c) le n = tt
+full-below t are a (Fresh p c) le n = tt
+full-below t are a Top le n = tt
+
+module _ (t : ClassTable) (are : AreClasses t) where
+  kept-full : (mode : Mode) (held ty now : Ty) → IsStored t mode held ty now → IsNotBottom held → IsNotBottom ty → IsNotBottom now
+  kept-full Flow held ty now e h n = subst IsNotBottom (sym e) n
+  kept-full Card held ty now is h n = full-below t are held now is.left h
+
+  module _ (mode : Mode) where
+    stores-full : (x : ℕ) (cells : Cells) (regs after : List Ty) → WritesCells t mode x cells regs after → CellsFull cells → All IsNotBottom regs → All IsNotBottom after
+    stores-full x given.Nothing regs after u k none = subst (All IsNotBottom) (sym u) none
+    stores-full x (given.One ty) regs after u k none = writes-keeps t are mode IsNotBottom tt (kept-full mode) u k none
+    stores-full x given.Int regs after u k none = writes-keeps t are mode IsNotBottom tt (kept-full mode) u.low tt (writes-keeps t are mode IsNotBottom tt (kept-full mode) u.high tt none)
+
+pub operation-keeps : (w : Linked) → IsWorld w → AreClasses w.classes → OperationKeeps w
+operation-keeps w is are limit m place op mode before after o sound k a =
+    let e = effect w op before in
+    let fits : Suits w.classes before e = suits w is before k op (sound-known w m place op sound) a.asked in
     let count : length after.regs ≡ length before.regs = stores-length w.classes are mode e.store.register e.store.cells before.regs after.regs a.regs in
     record {
       known = record {
@@ -100,4 +130,14 @@ rule-keeps w is are site i mode before after o k a =
       no_fresh = λ none. stores-not_fresh w.classes are mode e.store.register e.store.cells before.regs after.regs a.regs fits.stored none;
       no_bottom = λ none. subst (All IsNotBottom) (sym a.stack) (changed-full w.classes e.change before.stack fits.change none);
       no_top = λ none. subst (All IsNotTop) (sym a.stack) (changed-topless w.classes e.change before.stack fits.change none);
+      full_regs = λ none full. stores-full w.classes are mode e.store.register e.store.cells before.regs after.regs a.regs (stored-full w before op a.asked full) none;
     }
+
+-- the operation at a site is sound
+pub site-sound : (w : Linked) (is : IsWorld w) → OperationsAreSound w → {site : Site} {i : Insn} {mode : Mode} {before after : Frame} {o : Outcome} → (a : Applies w site i mode before after o) → IsSound w a.method site.place a.rule.operation
+site-sound w is sound {site = site} {i = i} a =
+    sound a.method site.place i a.rule.operation (All-slice_get (IsMethod w.infos w.pools w.classes) w.methods site.method a.method is.methods a.is_method).result a.rule.resolves
+
+pub rule-keeps : (w : Linked) → IsWorld w → AreClasses w.classes → OperationsAreSound w → RuleKeeps w
+rule-keeps w is are sound site i mode before after o k a =
+    operation-keeps w is are a.method.max_stack a.method site.place a.rule.operation mode before after o (site-sound w is sound a) k a.rule.does

@@ -1,4 +1,5 @@
 pub mod Demands
+pub mod Decided
 pub mod Stacks
 pub mod CellLists
 pub mod Falls
@@ -8,3 +9,6 @@ pub mod Keeps
 pub mod Raising
 pub mod Cards
 pub mod Decides
+pub mod Footprints
+pub mod Flowing
+pub mod Wholes

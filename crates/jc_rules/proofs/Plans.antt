@@ -6,32 +6,30 @@ use Rattle.jc_base.specs.declared.record.MethodRec.{MethodRec}
 use Rattle.jc_base.specs.Order.{IsKnown}
 use Rattle.jc_base.specs.Linked.{IsMethod}
 use Rattle.jc_base.specs.World.{Linked, IsWorld}
-use Rattle.jc_decode.specs.declared.insn.Insn.{Insn}
-use Rattle.jc_ops.specs.declared.row.Row.{Row}
-use Rattle.jc_ops.specs.declared.named.Named.{Named}
-use Rattle.jc_ops.specs.Row.{row_at}
-use Rattle.jc_ops.specs.Named.{IsSound}
-use Rattle.jc_ops.proofs.Naming.{names-are-sound}
+use Rattle.jc_ops.specs.declared.operation.Operation.{Operation}
+use Rattle.jc_ops.specs.declared.site.Site.{Site}
+use Rattle.jc_ops.specs.Sound.{IsSound}
 use Rattle.jc_rules.specs.declared.effect.Effect.{Effect}
 use Rattle.jc_rules.specs.declared.effect.Mode.{Mode}
-use Rattle.jc_rules.specs.declared.rule.Site.{Site}
 use Rattle.jc_rules.specs.declared.rule.Outcome.{Outcome}
 use Rattle.jc_rules.specs.Stack.{cells}
-use Rattle.jc_rules.specs.Effect.{changed, depth_after, Stores}
+use Rattle.jc_rules.specs.Effect.{changed, depth_after, Stores, rises}
 use Rattle.jc_rules.specs.Demand.{Frame, AllHold, AreKnown}
-use Rattle.jc_rules.specs.Rule.{demands, effect, falls_from, ends_at, wrote}
-use Rattle.jc_rules.specs.Apply.{frame_of, HasRoom, IsPlan, Applies}
-use Rattle.jc_rules.proofs.Effects.{Suits, suits, length-changed}
+use Rattle.jc_ops.specs.Next.{falls_from, ends_at}
+use Rattle.jc_rules.specs.Rule.{demands, effect, wrote}
+use Rattle.jc_rules.specs.Known.{IsKnownOperation}
+use Rattle.jc_rules.specs.Apply.{frame_of, HasRoom, IsPlan, OperationApplies}
+use Rattle.jc_rules.proofs.Effects.{Suits, suits, sound-known, length-changed}
 
 -- the stack would pass the limit
-pub plan-full : (w : Linked) (is : IsWorld w) (f : Frame) (k : AreKnown w.classes f) (i : Insn) (n : Named) (row : Row) (e : Effect) (limit : ℕ) →
-    IsSound w n → AllHold w.classes f (demands w i n row) → e ≡ effect w i n row f → limit < depth_after e.change (length f.stack) → limit < length (changed (effect w i n row f).change f.stack)
-plan-full w is f k i n row e limit known all is_effect more =
-    subst (λ d. limit < d) (sym (length-changed (effect w i n row f).change f.stack (suits w is f k i n row known all).there))
+pub plan-full : (w : Linked) (is : IsWorld w) (f : Frame) (k : AreKnown w.classes f) (op : Operation) (e : Effect) (limit : ℕ) →
+    IsKnownOperation w op → AllHold w.classes f (demands w op) → e ≡ effect w op f → limit < depth_after e.change (length f.stack) → limit < length (changed (effect w op f).change f.stack)
+plan-full w is f k op e limit known all is_effect more =
+    subst (λ d. limit < d) (sym (length-changed (effect w op f).change f.stack (suits w is f k op known all).there))
     (subst (λ d. limit < depth_after d.change (length f.stack)) is_effect more)
 
-pub plan-suits : (w : Linked) (is : IsWorld w) (f : Frame) (k : AreKnown w.classes f) (site : Site) (i : Insn) (e : Effect) → IsPlan w site i f e → Suits w.classes f e
-plan-suits w is f k site i e p = subst (Suits w.classes f) (sym p.effect_is) (suits w is f k i p.named (row_at i.op) (names-are-sound w is p.method site.place i (row_at i.op) p.named (All-slice_get (IsMethod w.infos w.pools w.classes) w.methods site.method p.method is.methods p.is_method) p.names) p.asked)
+pub plan-suits : (w : Linked) (is : IsWorld w) (f : Frame) (k : AreKnown w.classes f) (limit : ℕ) (op : Operation) (e : Effect) → IsKnownOperation w op → IsPlan w limit op f e → Suits w.classes f e
+plan-suits w is f k limit op e known p = subst (Suits w.classes f) (sym p.effect_is) (suits w is f k op known p.asked)
 
 -- the lengths that a method declares
 module _ (w : Linked) (is : IsWorld w) (n : ℕ) (regs slice : List Ty) (depth : ℕ) where
@@ -56,26 +54,34 @@ method-inside w n P h = in_list w n P (slice_get w.methods n) refl h
 pub method-room : (w : Linked) (n : ℕ) (m : MethodRec) (P : MethodRec → Type 0) → slice_get w.methods n ≡ Some m → IsSomeAnd (slice_get w.methods n) P → P m
 method-room w n m P e h = subst (λ o. IsSomeAnd o P) e h
 
--- the stack fits
-pub plan-room : (w : Linked) (is : IsWorld w) (f : Frame) (k : AreKnown w.classes f) (site : Site) (i : Insn) (e : Effect) (m : MethodRec) → IsPlan w site i f e → slice_get w.methods site.method ≡ Some m → depth_after e.change (length f.stack) ≤ m.max_stack
-plan-room w is f k site i e m p at = let same : p.method ≡ m = cc (p.is_method, at) in subst (λ r. depth_after e.change (length f.stack) ≤ r.max_stack) same p.room
+-- the operation of a site is known
+pub site-known : (w : Linked) (place n : ℕ) (op : Operation) → IsSomeAnd (slice_get w.methods n) (λ m. IsSound w m place op) → IsKnownOperation w op
+site-known w place n op h = at (slice_get w.methods n) h
+  where
+    at : (o : Option MethodRec) → IsSomeAnd o (λ m. IsSound w m place op) → IsKnownOperation w op
+    at None k = absurd k
+    at (Some m) k = sound-known w m place op k
+
+-- what is planned for an operation of a site suits the frame
+pub planned-suits : (w : Linked) (is : IsWorld w) (site : Site) (op : Operation) (regs slice : List Ty) (depth limit : ℕ) (e : Effect) →
+    IsSomeAnd (slice_get w.methods site.method) (λ m. HasRoom m regs slice depth) → All (IsKnown w.classes) regs → All (IsKnown w.classes) (cells slice depth) →
+    IsSomeAnd (slice_get w.methods site.method) (λ m. IsSound w m site.place op) → IsPlan w limit op (frame_of regs slice depth) e → Suits w.classes (frame_of regs slice depth) e
+planned-suits w is site op regs slice depth limit e room r s sound p =
+    plan-suits w is (frame_of regs slice depth) (room-known w is site.method regs slice depth room r s) limit op e (site-known w site.place site.method op sound) p
 
 -- the plan is carried out
-pub plan-applies : (w : Linked) (is : IsWorld w) (site : Site) (i : Insn) (mode : Mode) (before after : Frame) (e : Effect) (o : Outcome) (k : AreKnown w.classes before) → IsPlan w site i before e →
+pub plan-applies : (w : Linked) (is : IsWorld w) (limit : ℕ) (op : Operation) (mode : Mode) (before after : Frame) (e : Effect) (o : Outcome) (k : AreKnown w.classes before) → IsKnownOperation w op → IsPlan w limit op before e →
     Stores w.classes mode e.store before.regs after.regs → after.stack ≡ changed e.change before.stack →
-    o.falls ≡ falls_from (row_at i.op) → o.ends ≡ ends_at (row_at i.op) → o.depth ≡ length after.stack → o.wrote ≡ wrote e.store.register e.store.cells →
-    Applies w site i mode before after o
-plan-applies w is site i mode before after e o k p regs stack falls ends depth wrote_is = record {
-  method = p.method;
-  is_method = p.is_method;
-  named = p.named;
-  names = p.names;
+    o.falls ≡ falls_from op → o.ends ≡ ends_at op → o.depth ≡ length after.stack → o.wrote ≡ wrote e.store.register e.store.cells → o.rose ≡ rises w.classes mode e.store before.regs →
+    OperationApplies w limit op mode before after o
+plan-applies w is limit op mode before after e o k known p regs stack falls ends depth wrote_is rose_is = record {
   asked = p.asked;
   regs = subst (λ x. Stores w.classes mode x.store before.regs after.regs) p.effect_is regs;
   stack = subst (λ x. after.stack ≡ changed x.change before.stack) p.effect_is stack;
-  room = subst (λ d. d ≤ p.method.max_stack) (sym (ap length stack ∙ length-changed e.change before.stack (plan-suits w is before k site i e p).there)) p.room;
+  room = subst (λ d. d ≤ limit) (sym (ap length stack ∙ length-changed e.change before.stack (plan-suits w is before k limit op e known p).there)) p.room;
   falls = falls;
   ends = ends;
   depth = depth;
   wrote_is = subst (λ x. o.wrote ≡ wrote x.store.register x.store.cells) p.effect_is wrote_is;
+  rose_is = subst (λ x. o.rose ≡ rises w.classes mode x.store before.regs) p.effect_is rose_is;
 }

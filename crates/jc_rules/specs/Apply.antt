@@ -7,17 +7,17 @@ use Rattle.jc_base.specs.World.{Linked}
 use Rattle.jc_decode.specs.declared.insn.Insn.{Insn}
 use Rattle.jc_ops.specs.declared.fault.RuleFault.{RuleFault}
 use Rattle.jc_ops.specs.declared.fault.RuleFault.TheVariants.{Overflow}
-use Rattle.jc_ops.specs.declared.named.Named.{Named}
-use Rattle.jc_ops.specs.Row.{row_at}
-use Rattle.jc_ops.specs.Named.{Names}
+use Rattle.jc_ops.specs.declared.operation.Operation.{Operation}
+use Rattle.jc_ops.specs.declared.site.Site.{Site}
+use Rattle.jc_ops.specs.Resolve.{Resolves}
 use Rattle.jc_rules.specs.declared.effect.Effect.{Effect}
 use Rattle.jc_rules.specs.declared.effect.Mode.{Mode}
-use Rattle.jc_rules.specs.declared.rule.Site.{Site}
 use Rattle.jc_rules.specs.declared.rule.Outcome.{Outcome}
 use Rattle.jc_rules.specs.Stack.{cells}
-use Rattle.jc_rules.specs.Effect.{changed, Stores, depth_after}
+use Rattle.jc_rules.specs.Effect.{changed, Stores, depth_after, rises}
 use Rattle.jc_rules.specs.Demand.{Frame, AllHold, Breaks}
-use Rattle.jc_rules.specs.Rule.{demands, effect, falls_from, ends_at, wrote}
+use Rattle.jc_ops.specs.Next.{falls_from, ends_at}
+use Rattle.jc_rules.specs.Rule.{demands, effect, wrote}
 
 -- the frame that registers, a slice and a depth hold
 abbrev pub frame_of : List Ty → List Ty → ℕ → Frame
@@ -29,54 +29,69 @@ pub record HasRoom (m : MethodRec) (regs slice : List Ty) (depth : ℕ) : Type 0
   pub cells : length slice ≡ m.max_stack
   pub within : depth ≤ m.max_stack
 
--- the instruction i at the site takes the frame before to the frame after: what it names is there,
--- what it asks is met, and what it gives has room
+-- ---- an operation
+
+-- the operation takes the frame before to the frame after, on a stack of so many cells at most: what it asks is met,
+-- and what it gives has room
+pub record OperationApplies (w : Linked) (limit : ℕ) (op : Operation) (mode : Mode) (before after : Frame) (o : Outcome) : Type 0 where
+  pub asked : AllHold w.classes before (demands w op)
+  pub regs : Stores w.classes mode (effect w op before).store before.regs after.regs
+  pub stack : after.stack ≡ changed (effect w op before).change before.stack
+  pub room : length after.stack ≤ limit
+  pub falls : o.falls ≡ falls_from op
+  pub ends : o.ends ≡ ends_at op
+  pub depth : o.depth ≡ length after.stack
+  pub wrote_is : o.wrote ≡ wrote (effect w op before).store.register (effect w op before).store.cells
+  pub rose_is : o.rose ≡ rises w.classes mode (effect w op before).store before.regs
+
+-- the operation refuses the frame with its first fault: of what it asks in order, then of the room
+pub data OperationRefuses (w : Linked) (limit : ℕ) (op : Operation) (before : Frame) : RuleFault → Type 0 where
+  unmet : {fault : RuleFault} → Breaks w.classes before (demands w op) fault → OperationRefuses w limit op before fault
+  full :
+      AllHold w.classes before (demands w op)
+      → limit < length (changed (effect w op before).change before.stack)
+      → OperationRefuses w limit op before Overflow
+
+-- ---- an instruction, by the record of its method
+
+-- the instruction i at a place of a method's code has an operation, which applies
+pub record RuleApplies (w : Linked) (m : MethodRec) (place : ℕ) (i : Insn) (mode : Mode) (before after : Frame) (o : Outcome) : Type 0 where
+  pub operation : Operation
+  pub resolves : Resolves w m place i (Ok operation)
+  pub does : OperationApplies w m.max_stack operation mode before after o
+
+-- it has no operation, or the operation refuses
+pub data RuleRefuses (w : Linked) (m : MethodRec) (place : ℕ) (i : Insn) (before : Frame) : RuleFault → Type 0 where
+  unresolved : {fault : RuleFault} → Resolves w m place i (Err fault) → RuleRefuses w m place i before fault
+  refused_by :
+      {op : Operation} {fault : RuleFault}
+      → Resolves w m place i (Ok op)
+      → OperationRefuses w m.max_stack op before fault
+      → RuleRefuses w m place i before fault
+
+-- ---- an instruction at a site of the world
+
+-- the instruction i at the site takes the frame before to the frame after
 pub record Applies (w : Linked) (site : Site) (i : Insn) (mode : Mode) (before after : Frame) (o : Outcome) : Type 0 where
   pub method : MethodRec
   pub is_method : slice_get w.methods site.method ≡ Some method
-  pub named : Named
-  pub names : Names w method site.place i (row_at i.op) (Ok named)
-  pub asked : AllHold w.classes before (demands w i named (row_at i.op))
-  pub regs : Stores w.classes mode (effect w i named (row_at i.op) before).store before.regs after.regs
-  pub stack : after.stack ≡ changed (effect w i named (row_at i.op) before).change before.stack
-  pub room : length after.stack ≤ method.max_stack
-  pub falls : o.falls ≡ falls_from (row_at i.op)
-  pub ends : o.ends ≡ ends_at (row_at i.op)
-  pub depth : o.depth ≡ length after.stack
-  pub wrote_is : o.wrote ≡ wrote (effect w i named (row_at i.op) before).store.register (effect w i named (row_at i.op) before).store.cells
+  pub rule : RuleApplies w method site.place i mode before after o
 
 -- the instruction i at the site refuses the frame with its first fault: of what it names, then of what it asks in order, then of the room
-pub data Refuses (w : Linked) (site : Site) (i : Insn) (before : Frame) : RuleFault → Type 0 where
-  unnamed :
-      {m : MethodRec} {fault : RuleFault}
-      → slice_get w.methods site.method ≡ Some m
-      → Names w m site.place i (row_at i.op) (Err fault)
-      → Refuses w site i before fault
-  unmet :
-      {m : MethodRec} (named : Named) {fault : RuleFault}
-      → slice_get w.methods site.method ≡ Some m
-      → Names w m site.place i (row_at i.op) (Ok named)
-      → Breaks w.classes before (demands w i named (row_at i.op)) fault
-      → Refuses w site i before fault
-  full :
-      {m : MethodRec} (named : Named)
-      → slice_get w.methods site.method ≡ Some m
-      → Names w m site.place i (row_at i.op) (Ok named)
-      → AllHold w.classes before (demands w i named (row_at i.op))
-      → m.max_stack < length (changed (effect w i named (row_at i.op) before).change before.stack)
-      → Refuses w site i before Overflow
-
--- what is planned before anything changes
-pub record IsPlan (w : Linked) (site : Site) (i : Insn) (before : Frame) (e : Effect) : Type 0 where
+pub record Refuses (w : Linked) (site : Site) (i : Insn) (before : Frame) (fault : RuleFault) : Type 0 where
   pub method : MethodRec
   pub is_method : slice_get w.methods site.method ≡ Some method
-  pub named : Named
-  pub names : Names w method site.place i (row_at i.op) (Ok named)
-  pub asked : AllHold w.classes before (demands w i named (row_at i.op))
-  pub effect_is : e ≡ effect w i named (row_at i.op) before
-  pub room : depth_after e.change (length before.stack) ≤ method.max_stack
+  pub rule : RuleRefuses w method site.place i before fault
+
+-- ---- a plan
+
+-- what is planned before anything changes
+pub record IsPlan (w : Linked) (limit : ℕ) (op : Operation) (before : Frame) (e : Effect) : Type 0 where
+  pub asked : AllHold w.classes before (demands w op)
+  pub effect_is : e ≡ effect w op before
+  pub room : depth_after e.change (length before.stack) ≤ limit
 
 -- what is planned, or why nothing is
-abbrev pub IsPlanned : Linked → Site → Insn → Frame → Result Effect RuleFault → Type 0
-IsPlanned w site i before (Ok e) = IsPlan w site i before e
-IsPlanned w site i before (Err fault) = Refuses w site i before fault
+abbrev pub IsPlanned : Linked → ℕ → Operation → Frame → Result Effect RuleFault → Type 0
+IsPlanned w limit op before (Ok e) = IsPlan w limit op before e
+IsPlanned w limit op before (Err fault) = OperationRefuses w limit op before fault

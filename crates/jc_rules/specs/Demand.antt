@@ -1,17 +1,17 @@
 -- What an instruction asks of the frame before it changes anything (JCVM 2.2, section 7.5; Leroy 2002,
 -- section 2.2), and the first thing that is missing.
-use Rattle.std.specs.Prelude.{◌≡◌, ℕ, ◌+◌, ◌-◌, ◌≤◌, ◌⊎◌, ⊤, List, [], ◌∷◌, length, reverse, All, Option, Some, None, IsSomeAnd, Result, Ok, Err, slice_get}
+use Rattle.std.specs.Prelude.{◌≡◌, ℕ, ◌+◌, ◌-◌, ◌≤◌, ◌⊎◌, ⊤, Bool, true, false, not, ◌&&◌, ◌||◌, ◌==◌, nat_le, MatchBool, List, [], ◌∷◌, length, reverse, All, Option, Some, None, IsSomeAnd, Result, Ok, Err, slice_get}
 use Rattle.jc_base.specs.declared.ty.Ty.{Ty}
 use Rattle.jc_base.specs.declared.ty.Ty.TheVariants.{Bottom, IntHigh, IntLow, Null, Class, ArrBool, ArrByte, ArrShort, ArrInt, ArrRef, Fresh}
 use Rattle.jc_base.specs.Class.{ClassTable, IsClass, object}
-use Rattle.jc_base.specs.Order.{Below, IsKnown}
+use Rattle.jc_base.specs.Order.{Below, IsKnown, is_below}
 use Rattle.jc_ops.specs.declared.fault.RuleFault.{RuleFault}
 use Rattle.jc_ops.specs.declared.fault.RuleFault.TheVariants.{Underflow, Mismatch, NoLocal, SplitInt, FreshKept}
 use Rattle.jc_rules.specs.declared.demand.Before.{Before}
 use Rattle.jc_rules.specs.declared.effect.Effect.{Effect}
 use Rattle.jc_ops.specs.declared.want.Want.{Want}
 use Rattle.jc_ops.specs.declared.want.Want.TheVariants.{Value, Storable, ByteArray, AnyArray, Whole, Receiver}
-use Rattle.jc_ops.specs.Named.{IsKnownWant}
+use Rattle.jc_ops.specs.Sound.{IsKnownWant}
 use Rattle.jc_rules.specs.declared.demand.Demand.{Demand}
 use Rattle.jc_rules.specs.declared.demand.Demand.TheVariants.{Registers, Depth, Cell, Cut, Held}
 
@@ -116,6 +116,61 @@ IsKnownDemand t _ = ⊤
 abbrev pub AreKnownDemands : ClassTable → List Demand → Type 0
 AreKnownDemands t [] = ⊤
 AreKnownDemands t (d ∷ ds) = IsKnownDemand t d × AreKnownDemands t ds
+
+-- ---- the same as computed
+
+abbrev pub is_array_or_null : Ty → Bool
+is_array_or_null Bottom = true
+is_array_or_null Null = true
+is_array_or_null ArrBool = true
+is_array_or_null ArrByte = true
+is_array_or_null ArrShort = true
+is_array_or_null ArrInt = true
+is_array_or_null (ArrRef c) = true
+is_array_or_null _ = false
+
+abbrev pub is_half : Ty → Bool
+is_half IntHigh = true
+is_half IntLow = true
+is_half _ = false
+
+abbrev pub is_fresh_of : ℕ → Ty → Bool
+is_fresh_of c (Fresh place d) = d == c
+is_fresh_of c _ = false
+
+-- whether what is found is as wanted
+abbrev pub meets : ClassTable → Want → Ty → Bool
+meets t (Value wanted) found = is_below t found wanted
+meets t Storable found = is_below t found (Class (object t))
+meets t ByteArray found = is_below t found ArrByte || is_below t found ArrBool
+meets t AnyArray found = is_array_or_null found
+meets t Whole found = not (is_half found)
+meets t (Receiver c) found = is_fresh_of c found || is_below t found (Class c)
+
+abbrev pub is_low : Option Ty → Bool
+is_low (Some IntLow) = true
+is_low _ = false
+
+abbrev pub is_high : Option Ty → Bool
+is_high (Some IntHigh) = true
+is_high _ = false
+
+abbrev pub met_at : ClassTable → Want → Option Ty → Bool
+met_at t want None = false
+met_at t want (Some found) = meets t want found
+
+-- whether the demand is met
+abbrev pub holds : ClassTable → Frame → Demand → Bool
+holds t f (Registers x n) = nat_le (x + n) (length f.regs)
+holds t f (Depth n) = nat_le n (length f.stack)
+holds t f (Cell n want) = met_at t want (slice_get f.stack n)
+holds t f (Cut n) = not (is_low (slice_get f.stack (n - 1)) && is_high (slice_get f.stack n))
+holds t f (Held x ty) = met_at t (Value ty) (slice_get f.regs x)
+
+-- a want and a demand are decided
+pub record AreDecided (t : ClassTable) : Type 0 where
+  pub want : (want : Want) (found : Ty) → MatchBool (meets t want found) (Meets t want found) (¬ (Meets t want found))
+  pub demand : (f : Frame) (d : Demand) → MatchBool (holds t f d) (Holds t f d) (¬ (Holds t f d))
 
 -- what a check of demands answers: the effect where each is met, and else the fault of the first that is not
 abbrev pub IsJudged : ClassTable → Frame → List Demand → Effect → Result Effect RuleFault → Type 0

@@ -1,11 +1,11 @@
 -- What an instruction does to the stack and to the registers.
-use Rattle.std.specs.Prelude.{◌≡◌, ℕ, ◌+◌, ◌-◌, ◌==◌, if◌then◌else◌, max, List, [], ◌∷◌, ◌++◌, length, map, take, drop, slice_index_or, slice_set}
+use Rattle.std.specs.Prelude.{◌≡◌, ℕ, ◌+◌, ◌-◌, ◌==◌, if◌then◌else◌, Bool, false, not, ◌||◌, max, List, [], ◌∷◌, ◌++◌, length, map, take, drop, slice_index_or, slice_set}
 use Rattle.jc_base.specs.declared.ty.Ty.{Ty}
 use Rattle.jc_base.specs.declared.ty.Ty.TheVariants.{IntHigh, IntLow, Class, Fresh, Top}
 use Rattle.jc_rules.specs.declared.effect.Cells.{Cells}
 use Rattle.jc_rules.specs.declared.effect.Cells.TheVariants.{Nothing, One, Int}
 use Rattle.jc_base.specs.Class.{ClassTable}
-use Rattle.jc_base.specs.Order.{IsJoin}
+use Rattle.jc_base.specs.Order.{IsJoin, is_below}
 use Rattle.jc_rules.specs.declared.effect.Mode.{Mode}
 use Rattle.jc_rules.specs.declared.effect.Mode.TheVariants.{Card, Flow}
 use Rattle.jc_rules.specs.declared.effect.Store.{Store}
@@ -73,3 +73,17 @@ WritesCells t mode x Int before after = WritesInt t mode x before after
 -- the registers before and after a store
 abbrev pub Stores : ClassTable → Mode → Store → List Ty → List Ty → Type 0
 Stores t mode s before after = WritesCells t mode s.register s.cells before after
+
+-- a register rises where what is stored over it is not below what it holds
+abbrev pub rises_at : ClassTable → List Ty → ℕ → Ty → Bool
+rises_at t regs x ty = not (is_below t ty (reg regs x))
+
+abbrev pub cells_rise : ClassTable → List Ty → ℕ → Cells → Bool
+cells_rise t regs x Nothing = false
+cells_rise t regs x (One ty) = rises_at t regs x ty
+cells_rise t regs x Int = rises_at t regs x IntHigh || rises_at t regs (x + 1) IntLow
+
+-- whether a store raises a register: on the card it may; in the dataflow it replaces what is held, and raises none
+abbrev pub rises : ClassTable → Mode → Store → List Ty → Bool
+rises t Flow s regs = false
+rises t Card s regs = cells_rise t regs s.register s.cells

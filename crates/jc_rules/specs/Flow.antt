@@ -1,86 +1,23 @@
 -- Dataflow typings of a method (Leroy 2002, section 2.3; JCVM 2.2, section 7.5; the data-flow analysis of the class file verifier):
 -- registers and a stack at every reached place at once, that meet the rule of every instruction.
-use Rattle.std.specs.Prelude.{◌≡◌, ℕ, ◌+◌, ◌<◌, ◌≤◌, ◌⊎◌, ℤ, pos, negsuc, if◌then◌else◌, ⊤, List, [], ◌∷◌, ◌++◌, length, replicate, All, Contains, Option, Some, IsSomeAnd, IsTrue, slice_get}
+use Rattle.std.specs.Prelude.{◌≡◌, ℕ, ◌+◌, ◌<◌, ◌≤◌, if◌then◌else◌, ⊤, List, [], ◌∷◌, ◌++◌, length, replicate, All, Contains, Option, IsSomeAnd, IsTrue}
 use Rattle.jc_base.specs.declared.ty.Ty.{Ty}
 use Rattle.jc_base.specs.declared.ty.Ty.TheVariants.{Class, Fresh, Top}
 use Rattle.jc_base.specs.declared.record.Handler.{Handler}
 use Rattle.jc_base.specs.declared.record.MethodRec.{MethodRec}
 use Rattle.jc_base.specs.Class.{ClassTable}
-use Rattle.jc_base.specs.Order.{Below, IsJoin, IsKnown}
-use Rattle.jc_base.specs.World.{Linked, code_of}
+use Rattle.jc_base.specs.Order.{Below, IsJoin}
+use Rattle.jc_base.specs.World.{Linked}
 use Rattle.jc_decode.specs.declared.insn.Placed.{Placed}
-use Rattle.jc_decode.specs.Listing.{listing, listing_end, falls, jumps, targets}
+use Rattle.jc_decode.specs.Listing.{falls, jumps}
+use Rattle.jc_control.specs.Method.{Method}
+use Rattle.jc_control.specs.WellFormed.{Stands, IsWellFormed}
+use Rattle.jc_control.specs.Control.{IsSuccessor, Covers, IsReached, IsLeader}
 use Rattle.jc_rules.specs.declared.effect.Mode.TheVariants.{Flow}
-use Rattle.jc_rules.specs.declared.rule.Site.{Site}
+use Rattle.jc_ops.specs.declared.site.Site.{Site}
 use Rattle.jc_rules.specs.declared.rule.Outcome.{Outcome}
 use Rattle.jc_rules.specs.Demand.{Frame}
 use Rattle.jc_rules.specs.Apply.{Applies}
-
--- a method of a world: its number, its record and the bytes of its code
-pub record Method : Type 0 where
-  pub number : ℕ
-  pub rec : MethodRec
-  pub code : List ℕ
-
--- the method of this number has code
-pub record IsMethodOf (w : Linked) (m : Method) : Type 0 where
-  pub rec : slice_get w.methods m.number ≡ Some m.rec
-  pub code : m.code ≡ code_of w.infos m.rec
-  pub filled : 0 < length m.code
-
--- ---- well-formed methods
-
--- one of the instructions of the code
-abbrev pub Stands : List ℕ → Placed → Type 0
-Stands code i = Contains (listing code) i
-
--- an instruction of the code begins at this place
-abbrev pub IsPlace : List ℕ → ℕ → Type 0
-IsPlace code place = (i : Placed) × Stands code i × (i.place ≡ place)
-
-abbrev pub IsTargetPlace : List ℕ → ℤ → Type 0
-IsTargetPlace code (pos place) = IsPlace code place
-IsTargetPlace code (negsuc n) = ⊥
-
--- a place of the code, or its end
-abbrev pub IsBoundary : List ℕ → ℕ → Type 0
-IsBoundary code place = (place ≡ length code) ⊎ IsPlace code place
-
--- its range is not empty and lies between instructions, and its entry is one
-pub record IsHandlerOf (code : List ℕ) (h : Handler) : Type 0 where
-  pub start : IsPlace code h.start
-  pub end : IsBoundary code h.end
-  pub order : h.start < h.end
-  pub entry : IsPlace code h.entry
-
--- the code decodes to its end, each target of each instruction is a place, and each handler is well formed
-pub record IsWellFormed (m : Method) : Type 0 where
-  pub ends : listing_end m.code ≡ length m.code
-  pub targets : (i : Placed) → Stands m.code i → All (IsTargetPlace m.code) (targets m.code i)
-  pub handlers : All (IsHandlerOf m.code) m.rec.handlers
-
--- ---- where control goes
-
--- control may go from the instruction to this place: after it, or to a target
-pub data IsSuccessor (code : List ℕ) (i : Placed) : ℕ → Type 0 where
-  behind : IsTrue (falls i.insn.op) → IsSuccessor code i (i.place + i.insn.len)
-  jumped : {q : ℕ} → Contains (targets code i) (pos q) → IsSuccessor code i q
-
--- the handler's range has the place
-pub record Covers (h : Handler) (place : ℕ) : Type 0 where
-  pub from : h.start ≤ place
-  pub before : place < h.end
-
--- the least set of places with place 0, the successors of its members, and the entry of each handler that covers a member
-pub data IsReached (m : Method) : ℕ → Type 0 where
-  begins : IsReached m 0
-  follows : {i : Placed} {q : ℕ} → Stands m.code i → IsReached m i.place → IsSuccessor m.code i q → IsReached m q
-  caught : {h : Handler} {p : ℕ} → IsReached m p → Contains m.rec.handlers h → Covers h p → IsReached m h.entry
-
--- a target of a reached branch or switch, or the entry of a handler that covers a reached place
-pub data IsLeader (m : Method) : ℕ → Type 0 where
-  led_to : {i : Placed} {q : ℕ} → Stands m.code i → IsReached m i.place → Contains (targets m.code i) (pos q) → IsLeader m q
-  entered : {h : Handler} {p : ℕ} → IsReached m p → Contains m.rec.handlers h → Covers h p → IsLeader m h.entry
 
 -- ---- frames
 
@@ -134,9 +71,7 @@ pub record IsFollowed (w : Linked) (m : Method) (frames : ℕ → Option Frame) 
   pub ready : IsTrue (jumps i.insn.op) → All IsNotFresh after.stack
 
 -- a frame that may stand at a reached place
-pub record IsFit (w : Linked) (m : Method) (f : Frame) : Type 0 where
-  pub known_regs : All (IsKnown w.classes) f.regs
-  pub known_stack : All (IsKnown w.classes) f.stack
+pub record IsFit (m : Method) (f : Frame) : Type 0 where
   pub room : length f.stack ≤ m.rec.max_stack
   pub no_top : All IsNotTop f.stack
   pub no_fresh : All IsNotFresh f.regs
@@ -147,7 +82,7 @@ pub record IsFit (w : Linked) (m : Method) (f : Frame) : Type 0 where
 pub record FlowTyping (w : Linked) (m : Method) (unset : Ty) (frames : ℕ → Option Frame) : Type 0 where
   pub formed : IsWellFormed m
   pub start : At frames 0 (FrameBelow w.classes (start_frame m.rec unset))
-  pub fit : (p : ℕ) → IsReached m p → At frames p (IsFit w m)
+  pub fit : (p : ℕ) → IsReached m p → At frames p (IsFit m)
   pub rules : (i : Placed) → Stands m.code i → IsReached m i.place → At frames i.place (IsFollowed w m frames i)
   pub stays : (i : Placed) → Stands m.code i → IsReached m i.place → IsTrue (falls i.insn.op) → i.place + i.insn.len < length m.code
   pub handlers :

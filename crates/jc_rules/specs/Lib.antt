@@ -2,8 +2,12 @@ pub mod Stack
 pub mod Effect
 pub mod Demand
 pub mod Rule
+pub mod Known
 pub mod Apply
 pub mod Flow
 pub mod Typing
+pub mod Whole
 pub mod Laws
+pub mod FlowLaws
+pub mod Footprint
 pub mod Worked

@@ -1,38 +1,33 @@
--- The typing rule of each instruction (JCVM 2.2, section 7.5; Leroy 2002, section 2.2): by the kind of its row, what it
--- asks of the frame, in the order in which it is tried, and what it does.
-use Rattle.std.specs.Prelude.{ℕ, ◌+◌, ◌/◌, ◌%◌, Bool, true, false, List, [], ◌∷◌, ◌++◌, length, reverse, Option, Some, None, slice_get, slice_index_or}
+-- The typing rule of each operation (JCVM 2.2, section 7.5; Leroy 2002, section 2.2): what it asks of the frame, in the
+-- order in which it is tried, and what it does.
+use Rattle.std.specs.Prelude.{ℕ, ◌+◌, Bool, true, false, if◌then◌else◌, List, [], ◌∷◌, ◌++◌, length, reverse, Option, Some, None, slice_get, slice_index_or}
 use Rattle.jc_base.specs.declared.ty.Ty.{Ty}
 use Rattle.jc_base.specs.declared.ty.Ty.TheVariants.{Bottom, Short, IntHigh, IntLow, Null, Class, ArrShort, ArrInt, ArrRef, Fresh, Top}
 use Rattle.jc_base.specs.declared.ty.Kind.{Kind}
 use Rattle.jc_base.specs.declared.ty.Kind.TheVariants as kinds
 use Rattle.jc_base.specs.declared.record.MethodRec.{MethodRec}
-use Rattle.jc_base.specs.Class.{ClassTable, object, throwable}
+use Rattle.jc_base.specs.Class.{ClassTable, is_interface, object, throwable}
 use Rattle.jc_base.specs.World.{Linked}
-use Rattle.jc_decode.specs.declared.insn.Insn.{Insn}
-use Rattle.jc_ops.specs.declared.row.Sort.{Sort}
-use Rattle.jc_ops.specs.declared.row.Sort.TheVariants as sorts
-use Rattle.jc_ops.specs.declared.row.Width.{Width}
-use Rattle.jc_ops.specs.declared.row.Width.TheVariants as widths
-use Rattle.jc_ops.specs.declared.row.Local.{Local}
-use Rattle.jc_ops.specs.declared.row.Local.TheVariants as locals
-use Rattle.jc_ops.specs.declared.row.Constant.{Constant}
-use Rattle.jc_ops.specs.declared.row.Constant.TheVariants as constants
-use Rattle.jc_ops.specs.declared.row.Move.{Move}
-use Rattle.jc_ops.specs.declared.row.Move.TheVariants as moves
-use Rattle.jc_ops.specs.declared.row.Arithmetic.{Arithmetic}
-use Rattle.jc_ops.specs.declared.row.Arithmetic.TheVariants as arithmetic
-use Rattle.jc_ops.specs.declared.row.Branch.{Branch}
-use Rattle.jc_ops.specs.declared.row.Branch.TheVariants as branches
-use Rattle.jc_ops.specs.declared.row.Holder.{Holder}
-use Rattle.jc_ops.specs.declared.row.Holder.TheVariants as holders
-use Rattle.jc_ops.specs.declared.row.Make.{Make}
-use Rattle.jc_ops.specs.declared.row.Make.TheVariants as makes
-use Rattle.jc_ops.specs.declared.row.TypeTest.{TypeTest}
-use Rattle.jc_ops.specs.declared.row.TypeTest.TheVariants as tests
-use Rattle.jc_ops.specs.declared.row.Row.{Row}
-use Rattle.jc_ops.specs.declared.row.Row.TheVariants as rows
 use Rattle.jc_ops.specs.declared.want.Want.{Want}
 use Rattle.jc_ops.specs.declared.want.Want.TheVariants.{Value, Storable, ByteArray, AnyArray, Whole, Receiver}
+use Rattle.jc_ops.specs.declared.operation.Sort.{Sort}
+use Rattle.jc_ops.specs.declared.operation.Sort.TheVariants as sorts
+use Rattle.jc_ops.specs.declared.operation.Width.{Width}
+use Rattle.jc_ops.specs.declared.operation.Width.TheVariants as widths
+use Rattle.jc_ops.specs.declared.operation.Constant.{Constant}
+use Rattle.jc_ops.specs.declared.operation.Constant.TheVariants as constants
+use Rattle.jc_ops.specs.declared.operation.Move.{Move}
+use Rattle.jc_ops.specs.declared.operation.Move.TheVariants as moves
+use Rattle.jc_ops.specs.declared.operation.Arithmetic.{Arithmetic}
+use Rattle.jc_ops.specs.declared.operation.Arithmetic.TheVariants as arithmetic
+use Rattle.jc_ops.specs.declared.operation.Branch.{Branch}
+use Rattle.jc_ops.specs.declared.operation.Branch.TheVariants as branches
+use Rattle.jc_ops.specs.declared.operation.Holder.{Holder}
+use Rattle.jc_ops.specs.declared.operation.Holder.TheVariants as holders
+use Rattle.jc_ops.specs.declared.operation.TypeTest.{TypeTest}
+use Rattle.jc_ops.specs.declared.operation.TypeTest.TheVariants as tests
+use Rattle.jc_ops.specs.declared.operation.Operation.{Operation}
+use Rattle.jc_ops.specs.declared.operation.Operation.TheVariants as ops
 use Rattle.jc_rules.specs.declared.demand.Demand.{Demand}
 use Rattle.jc_rules.specs.declared.demand.Demand.TheVariants.{Registers, Depth, Cell, Cut, Held}
 use Rattle.jc_rules.specs.declared.effect.Cells.{Cells}
@@ -40,28 +35,14 @@ use Rattle.jc_rules.specs.declared.effect.Cells.TheVariants as given
 use Rattle.jc_rules.specs.declared.effect.Change.{Change}
 use Rattle.jc_rules.specs.declared.effect.Change.TheVariants.{Replace, CopyUnder, Exchange, MakeReady}
 use Rattle.jc_rules.specs.declared.effect.Effect.{Effect}
-use Rattle.jc_ops.specs.declared.named.Named.{Named}
-use Rattle.jc_ops.specs.declared.named.Named.TheVariants as names
 use Rattle.jc_rules.specs.Effect.{reg}
 use Rattle.jc_rules.specs.Demand.{Frame}
-use Rattle.jc_ops.specs.Named.{byte_of}
 
 -- ---- words
 
 -- the type at a number of a list of registers or cells
 abbrev pub cell : List Ty → ℕ → Ty
 cell stack n = slice_index_or stack n Top
-
-abbrev pub local_of : Insn → Local → ℕ
-local_of i locals.Operand = byte_of i.x
-local_of i (locals.Fixed n) = n
-
--- m and n of the operand of dup_x and swap_x
-abbrev pub copied_of : Insn → ℕ
-copied_of i = byte_of i.x / 16
-
-abbrev pub under_of : Insn → ℕ
-under_of i = byte_of i.x % 16
 
 -- a reference to an object or an array
 abbrev pub a_reference : ClassTable → Want
@@ -155,21 +136,21 @@ increment_effect w x = storing 0 x (number_given w)
 abbrev pub two_cells : List Demand
 two_cells = Depth 2 ∷ Cut 2 ∷ []
 
-abbrev pub move_demands : Move → ℕ → ℕ → List Demand
-move_demands moves.Pop m n = Cell 0 Whole ∷ []
-move_demands moves.PopTwo m n = two_cells
-move_demands moves.Duplicate m n = Cell 0 Whole ∷ []
-move_demands moves.DuplicateTwo m n = two_cells
-move_demands moves.CopyUnder m n = Depth m ∷ Cut m ∷ Depth n ∷ Cut n ∷ []
-move_demands moves.Exchange m n = Depth m ∷ Cut m ∷ Depth (m + n) ∷ Cut (m + n) ∷ []
+abbrev pub move_demands : Move → List Demand
+move_demands moves.Pop = Cell 0 Whole ∷ []
+move_demands moves.PopTwo = two_cells
+move_demands moves.Duplicate = Cell 0 Whole ∷ []
+move_demands moves.DuplicateTwo = two_cells
+move_demands (moves.CopyUnder m n) = Depth m ∷ Cut m ∷ Depth n ∷ Cut n ∷ []
+move_demands (moves.Exchange m n) = Depth m ∷ Cut m ∷ Depth (m + n) ∷ Cut (m + n) ∷ []
 
-abbrev pub move_effect : Move → ℕ → ℕ → Effect
-move_effect moves.Pop m n = replacing 1 given.Nothing
-move_effect moves.PopTwo m n = replacing 2 given.Nothing
-move_effect moves.Duplicate m n = on_stack (CopyUnder 1 0)
-move_effect moves.DuplicateTwo m n = on_stack (CopyUnder 2 0)
-move_effect moves.CopyUnder m n = on_stack (CopyUnder m n)
-move_effect moves.Exchange m n = on_stack (Exchange m n)
+abbrev pub move_effect : Move → Effect
+move_effect moves.Pop = replacing 1 given.Nothing
+move_effect moves.PopTwo = replacing 2 given.Nothing
+move_effect moves.Duplicate = on_stack (CopyUnder 1 0)
+move_effect moves.DuplicateTwo = on_stack (CopyUnder 2 0)
+move_effect (moves.CopyUnder m n) = on_stack (CopyUnder m n)
+move_effect (moves.Exchange m n) = on_stack (Exchange m n)
 
 -- ---- arithmetic
 
@@ -221,7 +202,9 @@ abbrev pub array_write_demands : ClassTable → Kind → List Demand
 array_write_demands t kinds.Ref = Cell 0 (a_reference t) ∷ Cell 1 (Value Short) ∷ Cell 2 (array_wanted t kinds.Ref) ∷ []
 array_write_demands t kinds.Byte = Cell 0 (Value Short) ∷ Cell 1 (Value Short) ∷ Cell 2 (array_wanted t kinds.Byte) ∷ []
 array_write_demands t kinds.Short = Cell 0 (Value Short) ∷ Cell 1 (Value Short) ∷ Cell 2 (array_wanted t kinds.Short) ∷ []
-array_write_demands t kinds.Int = Cell 0 (Value IntLow) ∷ Cell 1 (Value IntHigh) ∷ Cell 2 (Value Short) ∷ Cell 3 (array_wanted t kinds.Int) ∷ []
+array_write_demands t kinds.Int =
+    Cell 0 (Value IntLow) ∷ Cell 1 (Value IntHigh) ∷ Cell 2 (Value Short)
+    ∷ Cell 3 (array_wanted t kinds.Int) ∷ []
 
 abbrev pub array_write_effect : Kind → Effect
 array_write_effect kinds.Int = replacing 4 given.Nothing
@@ -245,11 +228,6 @@ branch_effect (branches.Shorts o) = replacing 2 given.Nothing
 
 -- ---- fields
 
--- the type that is named
-abbrev pub type_named : Named → Ty
-type_named (names.Type ty) = ty
-type_named _ = Null
-
 abbrev pub field_read_demands : Holder → ℕ → List Demand
 field_read_demands holders.Stack c = Cell 0 (Value (Class c)) ∷ []
 field_read_demands holders.This c = Registers 0 1 ∷ Held 0 (Class c) ∷ []
@@ -266,23 +244,6 @@ field_write_demands holders.This c ty = Registers 0 1 ∷ (value_wanted ty ++ He
 abbrev pub field_write_effect : Holder → Ty → Effect
 field_write_effect holders.Stack ty = replacing (value_size ty + 1) given.Nothing
 field_write_effect holders.This ty = replacing (value_size ty) given.Nothing
-
--- by the field that is named
-abbrev pub read_demands : Holder → Named → List Demand
-read_demands h (names.Field c ty) = field_read_demands h c
-read_demands h _ = []
-
-abbrev pub read_effect : Holder → Named → Effect
-read_effect h (names.Field c ty) = field_read_effect h ty
-read_effect h _ = replacing 0 given.Nothing
-
-abbrev pub write_demands : Holder → Named → List Demand
-write_demands h (names.Field c ty) = field_write_demands h c ty
-write_demands h _ = []
-
-abbrev pub write_effect : Holder → Named → Effect
-write_effect h (names.Field c ty) = field_write_effect h ty
-write_effect h _ = replacing 0 given.Nothing
 
 -- ---- calls
 
@@ -324,102 +285,79 @@ abbrev pub result_at : Option MethodRec → Option Ty
 result_at None = None
 result_at (Some m) = m.sig.result
 
-abbrev pub method_demands : Linked → Named → List Demand
-method_demands w (names.Method n receiver) = call_demands (args_at (slice_get w.methods n)) receiver
-method_demands w _ = []
-
-abbrev pub method_effect : Linked → Named → Frame → Effect
-method_effect w (names.Method n receiver) f = call_effect (args_at (slice_get w.methods n)) (result_at (slice_get w.methods n)) receiver f
-method_effect w _ f = replacing 0 given.Nothing
-
 -- ---- objects and types
 
--- arrays take a length
-abbrev pub make_demands : Make → List Demand
-make_demands makes.Object = []
-make_demands makes.Numbers = Cell 0 (Value Short) ∷ []
-make_demands makes.References = Cell 0 (Value Short) ∷ []
+-- an interface stands for class object
+abbrev pub standing : ClassTable → ℕ → ℕ
+standing t c = if is_interface t c then object t else c
 
-abbrev pub make_effect : Make → Ty → Effect
-make_effect makes.Object ty = replacing 0 (given.One ty)
-make_effect makes.Numbers ty = replacing 1 (given.One ty)
-make_effect makes.References ty = replacing 1 (given.One ty)
+-- the type of an object or an array, as frames have it
+abbrev pub seen : ClassTable → Ty → Ty
+seen t (Class c) = Class (standing t c)
+seen t (ArrRef c) = ArrRef (standing t c)
+seen t ty = ty
 
 abbrev pub type_test_effect : TypeTest → Ty → Effect
 type_test_effect tests.Cast ty = replacing 1 (given.One ty)
 type_test_effect tests.InstanceOf ty = replacing 1 (given.One Short)
 
-abbrev pub return_demands : Named → List Demand
-return_demands (names.Type ty) = value_wanted ty
-return_demands _ = []
+abbrev pub return_demands : Option Ty → List Demand
+return_demands None = []
+return_demands (Some ty) = value_wanted ty
 
-abbrev pub return_effect : Named → Effect
-return_effect (names.Type ty) = replacing (value_size ty) given.Nothing
-return_effect _ = replacing 0 given.Nothing
+abbrev pub return_effect : Option Ty → Effect
+return_effect None = replacing 0 given.Nothing
+return_effect (Some ty) = replacing (value_size ty) given.Nothing
 
 -- ---- the rule
 
--- what an instruction asks of the frame, in order: the registers that it names, cells from the top down, registers that it reads
-abbrev pub demands : Linked → Insn → Named → Row → List Demand
-demands w i n (rows.Constant c) = []
-demands w i n (rows.Load s l) = load_demands w.classes s (local_of i l)
-demands w i n (rows.Store s l) = store_demands s (local_of i l)
-demands w i n (rows.Increment width) = increment_demands width (byte_of i.x)
-demands w i n (rows.Move m) = move_demands m (copied_of i) (under_of i)
-demands w i n (rows.Arithmetic a) = arithmetic_demands a
-demands w i n (rows.ArrayRead k) = array_read_demands w.classes k
-demands w i n (rows.ArrayWrite k) = array_write_demands w.classes k
-demands w i n rows.ArrayLength = Cell 0 AnyArray ∷ []
-demands w i n (rows.Branch b) = branch_demands w.classes b
-demands w i n (rows.Switch width) = number width 0
-demands w i n (rows.StaticRead k) = []
-demands w i n (rows.StaticWrite k) = value_wanted (type_named n)
-demands w i n (rows.FieldRead k h) = read_demands h n
-demands w i n (rows.FieldWrite k h) = write_demands h n
-demands w i n (rows.Call c) = method_demands w n
-demands w i n (rows.Make m) = make_demands m
-demands w i n rows.Throw = Cell 0 (Value (Class (throwable w.classes))) ∷ []
-demands w i n (rows.TypeTest test) = Cell 0 (a_reference w.classes) ∷ []
-demands w i n (rows.Return s) = return_demands n
-demands w i n rows.Reserved = []
+-- what an operation asks of the frame, in order: the registers that it names, cells from the top down, registers that it reads
+abbrev pub demands : Linked → Operation → List Demand
+demands w (ops.Constant c) = []
+demands w (ops.Load s x) = load_demands w.classes s x
+demands w (ops.Store s x) = store_demands s x
+demands w (ops.Increment width x amount) = increment_demands width x
+demands w (ops.Move m) = move_demands m
+demands w (ops.Arithmetic a) = arithmetic_demands a
+demands w (ops.ArrayRead k) = array_read_demands w.classes k
+demands w (ops.ArrayWrite k) = array_write_demands w.classes k
+demands w ops.ArrayLength = Cell 0 AnyArray ∷ []
+demands w (ops.Branch b) = branch_demands w.classes b
+demands w (ops.Switch width) = number width 0
+demands w (ops.StaticRead f) = []
+demands w (ops.StaticWrite f) = value_wanted f.ty
+demands w (ops.FieldRead f h) = field_read_demands h f.class
+demands w (ops.FieldWrite f h) = field_write_demands h f.class f.ty
+demands w (ops.Call c) = call_demands (args_at (slice_get w.methods c.method)) c.receiver
+demands w (ops.New place c) = []
+demands w (ops.NewArray ty) = Cell 0 (Value Short) ∷ []
+demands w ops.Throw = Cell 0 (Value (Class (throwable w.classes))) ∷ []
+demands w (ops.TypeTest test ty) = Cell 0 (a_reference w.classes) ∷ []
+demands w (ops.Return result) = return_demands result
 
 -- what it does to a frame that has what it asks
-abbrev pub effect : Linked → Insn → Named → Row → Frame → Effect
-effect w i n (rows.Constant c) f = constant_effect c
-effect w i n (rows.Load s l) f = load_effect s (local_of i l) f
-effect w i n (rows.Store s l) f = store_effect s (local_of i l) f
-effect w i n (rows.Increment width) f = increment_effect width (byte_of i.x)
-effect w i n (rows.Move m) f = move_effect m (copied_of i) (under_of i)
-effect w i n (rows.Arithmetic a) f = arithmetic_effect a
-effect w i n (rows.ArrayRead k) f = array_read_effect k f
-effect w i n (rows.ArrayWrite k) f = array_write_effect k
-effect w i n rows.ArrayLength f = replacing 1 (given.One Short)
-effect w i n (rows.Branch b) f = branch_effect b
-effect w i n (rows.Switch width) f = replacing (size width) given.Nothing
-effect w i n (rows.StaticRead k) f = replacing 0 (value_given (type_named n))
-effect w i n (rows.StaticWrite k) f = replacing (value_size (type_named n)) given.Nothing
-effect w i n (rows.FieldRead k h) f = read_effect h n
-effect w i n (rows.FieldWrite k h) f = write_effect h n
-effect w i n (rows.Call c) f = method_effect w n f
-effect w i n (rows.Make m) f = make_effect m (type_named n)
-effect w i n rows.Throw f = replacing 1 given.Nothing
-effect w i n (rows.TypeTest test) f = type_test_effect test (type_named n)
-effect w i n (rows.Return s) f = return_effect n
-effect w i n rows.Reserved f = replacing 0 given.Nothing
-
--- whether the instruction after may come next
-abbrev pub falls_from : Row → Bool
-falls_from (rows.Branch branches.Always) = false
-falls_from (rows.Switch width) = false
-falls_from (rows.Return s) = false
-falls_from rows.Throw = false
-falls_from row = true
-
--- whether the method ends here, or is left for a handler
-abbrev pub ends_at : Row → Bool
-ends_at (rows.Return s) = true
-ends_at rows.Throw = true
-ends_at row = false
+abbrev pub effect : Linked → Operation → Frame → Effect
+effect w (ops.Constant c) f = constant_effect c
+effect w (ops.Load s x) f = load_effect s x f
+effect w (ops.Store s x) f = store_effect s x f
+effect w (ops.Increment width x amount) f = increment_effect width x
+effect w (ops.Move m) f = move_effect m
+effect w (ops.Arithmetic a) f = arithmetic_effect a
+effect w (ops.ArrayRead k) f = array_read_effect k f
+effect w (ops.ArrayWrite k) f = array_write_effect k
+effect w ops.ArrayLength f = replacing 1 (given.One Short)
+effect w (ops.Branch b) f = branch_effect b
+effect w (ops.Switch width) f = replacing (size width) given.Nothing
+effect w (ops.StaticRead field) f = replacing 0 (value_given field.ty)
+effect w (ops.StaticWrite field) f = replacing (value_size field.ty) given.Nothing
+effect w (ops.FieldRead field h) f = field_read_effect h field.ty
+effect w (ops.FieldWrite field h) f = field_write_effect h field.ty
+effect w (ops.Call c) f = call_effect (args_at (slice_get w.methods c.method)) (result_at (slice_get w.methods c.method)) c.receiver f
+effect w (ops.New place c) f = replacing 0 (given.One (Fresh place c))
+effect w (ops.NewArray ty) f = replacing 1 (given.One (seen w.classes ty))
+effect w ops.Throw f = replacing 1 given.Nothing
+effect w (ops.TypeTest test ty) f = type_test_effect test (seen w.classes ty)
+effect w (ops.Return result) f = return_effect result
 
 -- the first register that is written and how many are
 abbrev pub wrote : ℕ → Cells → Option (ℕ × ℕ)

@@ -1,7 +1,7 @@
 ghost use Rattle.std.specs.Prelude.{◌≡◌, ◌+◌, ◌≤◌, length, reverse, MatchResult, IfSome, All};
 ghost use Rattle.jc_base.specs.Order.{IsKnown};
 ghost use Rattle.jc_rules.specs.Demand.{AreKnown, AllHold, Breaks, frame, IsJudged};
-ghost use Rattle.jc_ops.specs.Named.{IsKnownWant, receiver_count};
+ghost use Rattle.jc_ops.specs.Sound.{IsKnownWant, receiver_count};
 ghost use Rattle.jc_rules.specs.Rule.{cells_wanted, call_demands, call_effect, ready_with, result_given};
 
 use crate::demand::{Before, Demand};

@@ -2,8 +2,8 @@ ghost use Rattle.std.specs.Prelude.{◌≡◌, ◌↔◌, ◌≤◌, ◌<◌, le
 ghost use Rattle.jc_base.specs.Class.{IsClass, object};
 ghost use Rattle.jc_base.specs.Order.{IsKnown};
 ghost use Rattle.jc_base.specs.declared.ty.Ty.TheVariants.{IntLow, IntHigh};
-ghost use Rattle.jc_ops.specs.Named.{IsKnownWant};
-ghost use Rattle.jc_rules.specs.Demand.{AllHold, AreKnownDemands, AreKnown, frame, Meets, Holds, Breaks, refusal, refused, IsKnownDemand, IsArrayOrNull, IsHalf, IsFreshOf, Splits, refused_at};
+ghost use Rattle.jc_ops.specs.Sound.{IsKnownWant};
+ghost use Rattle.jc_rules.specs.Demand.{AllHold, AreKnownDemands, AreKnown, frame, Meets, Holds, Breaks, refusal, refused, IsKnownDemand, IsArrayOrNull, IsHalf, IsFreshOf, Splits, refused_at, is_array_or_null, is_half, is_fresh_of, meets};
 
 use jc_base::{Classes, Ty, World, below};
 use jc_ops::{RuleFault, Want};
@@ -49,8 +49,8 @@ impl Before<'_> {
         Ok(())
     }
 
-    /// The fault of a demand that is not met.
-    pub(crate) fn broken(&self, demand: Demand) -> Option<RuleFault>
+    /// The fault of a demand, where it is not met.
+    pub fn broken(&self, demand: Demand) -> Option<RuleFault>
         requires frame { AreKnown self.now.world.now.classes (frame self.now) }
         requires demand { IsKnownDemand self.now.world.now.classes demand }
         ensures { MatchOption result
@@ -94,7 +94,12 @@ impl Before<'_> {
     pub fn cell(&self, n: u8) -> Option<Ty>
         ensures { result ≡ slice_get (reverse self.now.stack.now) n }
     {
-        self.stack.iter().rev().nth(n as usize).copied()
+        let n = n as usize;
+        if n < self.stack.len() {
+            Some(self.stack[self.stack.len() - 1 - n])
+        } else {
+            None
+        }
     }
 
     pub fn reg(&self, x: u8) -> Option<Ty>
@@ -105,11 +110,12 @@ impl Before<'_> {
 }
 
 /// Whether what is found is as wanted.
-fn meets(classes: &Classes, want: Want, found: Ty) -> bool
+pub fn meets(classes: &Classes, want: Want, found: Ty) -> bool
     requires want_known { IsKnownWant classes.now want }
     requires found_known { IsKnown classes.now found }
     requires object_known { IsClass classes.now (object classes.now) }
-    ensures { IsTrue result ↔ Meets classes.now want found }
+    ensures is { IsTrue result ↔ Meets classes.now want found }
+    ensures computed { result ≡ meets classes.now want found }
 {
     match want {
         Want::Value(wanted) => below(classes, found, wanted),
@@ -153,7 +159,8 @@ fn is_high(found: Option<Ty>) -> bool
 }
 
 fn is_array_or_null(found: Ty) -> bool
-    ensures { IsTrue result ↔ IsArrayOrNull found }
+    ensures is { IsTrue result ↔ IsArrayOrNull found }
+    ensures computed { result ≡ is_array_or_null found }
 {
     matches!(
         found,
@@ -168,13 +175,15 @@ fn is_array_or_null(found: Ty) -> bool
 }
 
 fn is_half(found: Ty) -> bool
-    ensures { IsTrue result ↔ IsHalf found }
+    ensures is { IsTrue result ↔ IsHalf found }
+    ensures computed { result ≡ is_half found }
 {
     matches!(found, Ty::IntHigh | Ty::IntLow)
 }
 
 fn is_fresh_of(class: u16, found: Ty) -> bool
-    ensures { IsTrue result ↔ IsFreshOf class found }
+    ensures is { IsTrue result ↔ IsFreshOf class found }
+    ensures computed { result ≡ is_fresh_of class found }
 {
     match found {
         Ty::Fresh { class: of, .. } => of == class,

@@ -1,9 +1,9 @@
-ghost use Rattle.std.specs.Prelude.{◌≡◌, ◌+◌, ◌<◌, ◌≤◌, ◌∷◌, ◌++◌, length, map, max, All};
-ghost use Rattle.jc_base.specs.Order.{IsKnown};
+ghost use Rattle.std.specs.Prelude.{◌≡◌, ◌+◌, ◌<◌, ◌≤◌, ◌∷◌, ◌++◌, length, map, max, not, All};
+ghost use Rattle.jc_base.specs.Order.{IsKnown, IsJoin, is_below};
 ghost use Rattle.jc_rules.specs.Stack.{cells};
-ghost use Rattle.jc_rules.specs.Effect.{changed, ready, listed, needed, depth_after, reg, IsStored, Writes, Stores};
+ghost use Rattle.jc_rules.specs.Effect.{changed, ready, listed, needed, depth_after, Writes, Stores, rises};
 
-use jc_base::{Classes, Ty, join};
+use jc_base::{Classes, Ty, below, join};
 
 /// What is pushed or stored: nothing, one cell, or both cells of an int.
 #[derive(Clone, Copy)]
@@ -194,45 +194,61 @@ fn ready(ty: Ty, place: u16, class: u16) -> Ty
     }
 }
 
-/// Writes what is stored into the registers.
-pub fn change_regs(classes: &Classes, regs: &mut [Ty], store: Store, mode: Mode)
+/// Writes what is stored into the registers, and tells whether one rose.
+pub fn change_regs(classes: &Classes, regs: &mut [Ty], store: Store, mode: Mode) -> bool
     requires inside { store.register + length (listed store.cells) ≤ length regs.old }
     requires small { length regs.old ≤ 255 }
     requires regs_known { All (IsKnown classes.now) regs.old }
     requires stored_known { All (IsKnown classes.now) (listed store.cells) }
     ensures value { Stores classes.now mode store regs.old regs.new }
     ensures known { All (IsKnown classes.now) regs.new }
+    ensures rose { result ≡ rises classes.now mode store regs.old }
 {
     match store.cells {
-        Cells::Nothing => (),
+        Cells::Nothing => false,
         Cells::One(ty) => write(classes, regs, store.register, ty, mode),
         Cells::Int => {
-            write(classes, regs, store.register, Ty::IntHigh, mode);
-            write(classes, regs, store.register + 1, Ty::IntLow, mode);
+            let high = write(classes, regs, store.register, Ty::IntHigh, mode);
+            let low = write(classes, regs, store.register + 1, Ty::IntLow, mode);
+            high || low
         }
     }
 }
 
-fn write(classes: &Classes, regs: &mut [Ty], x: u8, ty: Ty, mode: Mode)
+fn write(classes: &Classes, regs: &mut [Ty], x: u8, ty: Ty, mode: Mode) -> bool
     requires inside { x < length regs.old }
     requires regs_known { All (IsKnown classes.now) regs.old }
     requires ty_known { IsKnown classes.now ty }
     ensures value { Writes classes.now mode x ty regs.old regs.new }
     ensures regs_known { All (IsKnown classes.now) regs.new }
+    ensures rose { result ≡ rises classes.now mode (record { register = x; cells = Cells.One ty }) regs.old }
 {
     let x = x as usize;
-    regs[x] = over(classes, regs[x], ty, mode);
+    match mode {
+        Mode::Flow => {
+            regs[x] = ty;
+            false
+        }
+        Mode::Card => {
+            let (now, rose) = over(classes, regs[x], ty);
+            regs[x] = now;
+            rose
+        }
+    }
 }
 
-/// What a register holds once a value of type `ty` is stored over one of type `held`.
-fn over(classes: &Classes, held: Ty, ty: Ty, mode: Mode) -> Ty
+/// What a register of the card holds once a value of type `ty` is stored over one of type `held`, and whether
+/// it rose.
+fn over(classes: &Classes, held: Ty, ty: Ty) -> (Ty, bool)
     requires held_known { IsKnown classes.now held }
     requires ty_known { IsKnown classes.now ty }
-    ensures value { IsStored classes.now mode held ty result }
-    ensures known { IsKnown classes.now result }
+    ensures value { IsJoin classes.now held ty result.0 }
+    ensures known { IsKnown classes.now result.0 }
+    ensures rose { result.1 ≡ not (is_below classes.now ty held) }
 {
-    match mode {
-        Mode::Flow => ty,
-        Mode::Card => join(classes, held, ty),
+    if below(classes, ty, held) {
+        (held, false)
+    } else {
+        (join(classes, held, ty), true)
     }
 }

@@ -1,11 +1,17 @@
-ghost use Rattle.jc_rules.specs.Laws.{RuleDecides, RuleKeeps, RuleFalls, RuleFallsOnCard, RuleRaises, RuleStays};
+ghost use Rattle.jc_rules.specs.Demand.{AreDecided};
+ghost use Rattle.jc_rules.specs.FlowLaws.{AreRules, IsOrderOfCells, JoinsStayReady, LeastIsOne, TopIsBottom};
+ghost use Rattle.jc_rules.specs.Footprint.{MetIsThere, AskedIsThere, OperationReads, FootprintIsOne, OperationLeaves, OperationNamesNone, AlikeLeaveAlike};
+ghost use Rattle.jc_rules.specs.Whole.{OperationKeepsWhole};
+ghost use Rattle.jc_rules.specs.Laws.{OperationDecides, OperationKeeps, OperationFalls, OperationFallsOnCard, OperationRaises, OperationStays, RuleDecides, RuleKeeps, RuleFalls, RuleFallsOnCard, RuleRaises, RuleRises, RuleStays};
 
 use jc_base::World;
+use jc_ops::operations_are_sound;
 
-/// A rule of a world has one result, and none where it refuses.
+/// A rule of a world has one result, and none where it refuses; it refuses with one fault.
 pub fn rule_decides(world: &World<'_>)
     ensures { RuleDecides world.now }
 {
+    operations_are_sound(world);
     let _object = world.classes().at(world.role(0));
 }
 
@@ -13,6 +19,7 @@ pub fn rule_decides(world: &World<'_>)
 pub fn rule_keeps(world: &World<'_>)
     ensures { RuleKeeps world.now }
 {
+    operations_are_sound(world);
     let _object = world.classes().at(world.role(0));
 }
 
@@ -22,13 +29,67 @@ pub fn rule_falls(world: &World<'_>)
     ensures flow { RuleFalls world.now }
     ensures card { RuleFallsOnCard world.now }
 {
+    operations_are_sound(world);
     let _object = world.classes().at(world.role(0));
 }
 
-/// On the card the rules of a world raise registers, and those that are above all that is stored stay.
+/// On the card the rules of a world raise registers, as they tell, and those that are above all that is stored
+/// stay.
 pub fn rule_raises(world: &World<'_>)
     ensures raises { RuleRaises world.now }
+    ensures rises { RuleRises world.now }
     ensures stays { RuleStays world.now }
 {
+    let _object = world.classes().at(world.role(0));
+}
+
+/// The same of operations, in any method.
+pub fn operation_laws(world: &World<'_>)
+    ensures decides { OperationDecides world.now }
+    ensures keeps { OperationKeeps world.now }
+    ensures keeps_whole { OperationKeepsWhole world.now }
+    ensures falls { OperationFalls world.now }
+    ensures falls_on_card { OperationFallsOnCard world.now }
+    ensures raises { OperationRaises world.now }
+    ensures stays { OperationStays world.now }
+{
+    let _object = world.classes().at(world.role(0));
+}
+
+/// What operations ask and leave as numbers, whatever the types are.
+pub fn footprint_laws(world: &World<'_>)
+    ensures met { MetIsThere world.now }
+    ensures asked { AskedIsThere }
+    ensures reads { OperationReads world.now }
+    ensures one { FootprintIsOne world.now }
+    ensures leaves { OperationLeaves world.now }
+    ensures names_none { OperationNamesNone world.now }
+    ensures alike { AlikeLeaveAlike world.now }
+{
+    let _classes = world.classes();
+}
+
+/// Whether what is found is as wanted, and a demand is met, is decided by the computed order of types.
+pub fn demands_are_decided(world: &World<'_>)
+    ensures { AreDecided world.now.classes }
+{
+    let _object = world.classes().at(world.role(0));
+}
+
+/// The order of frames, and what dataflow typings have of it.
+pub fn typing_laws(world: &World<'_>)
+    ensures order { IsOrderOfCells world.now.classes }
+    ensures ready { JoinsStayReady world.now.classes }
+    ensures least { LeastIsOne world.now }
+    ensures unset { TopIsBottom world.now }
+{
+    let _object = world.classes().at(world.role(0));
+}
+
+/// What dataflow analyses rest on: a world, and the laws of its rules.
+pub fn rule_laws(world: &World<'_>)
+    ensures { AreRules world.now }
+{
+    operations_are_sound(world);
     let _object = world.classes().at(world.role(0));
 }

@@ -5,14 +5,14 @@ ghost use Rattle.jc_base.specs.Order.{IsKnown};
 ghost use Rattle.jc_ops.specs.declared.want.Want.TheVariants.{Value};
 ghost use Rattle.jc_rules.specs.declared.demand.Demand.TheVariants.{Cell};
 ghost use Rattle.jc_rules.specs.Demand.{AreKnown, AllHold, Breaks, frame, IsJudged};
-ghost use Rattle.jc_ops.specs.Named.{IsKnownWant};
-ghost use Rattle.jc_rules.specs.Rule.{a_reference, element, array_wanted, array_read_demands, array_read_effect, array_write_demands, array_write_effect, branch_demands, branch_effect, value_given, value_wanted, value_size, field_read_demands, field_read_effect, field_write_demands, field_write_effect, make_demands, make_effect, type_test_effect, replacing, number, size};
+ghost use Rattle.jc_ops.specs.Sound.{IsKnownWant};
+ghost use Rattle.jc_rules.specs.Rule.{a_reference, element, array_wanted, array_read_demands, array_read_effect, array_write_demands, array_write_effect, branch_demands, branch_effect, value_given, value_wanted, value_size, field_read_demands, field_read_effect, field_write_demands, field_write_effect, type_test_effect, replacing, number, size};
 
 use crate::demand::{Before, Demand};
 use crate::effect::{Cells, Effect};
 use crate::values::{INT_HIGH, INT_LOW, SHORT, size};
 use jc_base::{Kind, Ty};
-use jc_ops::{Branch, Holder, Make, RuleFault, TypeTest, Want, Width};
+use jc_ops::{Branch, Holder, RuleFault, TypeTest, Want, Width};
 
 /// The type of an element of an array of references.
 fn element(array: Ty) -> Ty
@@ -250,17 +250,14 @@ impl Before<'_> {
         Ok(Effect::replacing(value_size(ty), Cells::Nothing))
     }
 
-    pub(crate) fn made(&self, make: Make, ty: Ty) -> Result<Effect, RuleFault>
+    /// An array of this type is made, of the length on top of the stack.
+    pub(crate) fn new_array(&self, ty: Ty) -> Result<Effect, RuleFault>
         requires { AreKnown self.now.world.now.classes (frame self.now) }
-        ensures { IsJudged self.now.world.now.classes (frame self.now) (make_demands make) (make_effect make ty) result }
+        ensures { IsJudged self.now.world.now.classes (frame self.now) (Cell 0 (Value Ty.Short) ∷ [])
+            (replacing 1 (Cells.One ty)) result }
     {
-        match make {
-            Make::Object => Ok(Effect::replacing(0, Cells::One(ty))),
-            Make::Numbers | Make::References => {
-                self.check(&[Demand::Cell(0, SHORT)])?;
-                Ok(Effect::replacing(1, Cells::One(ty)))
-            }
-        }
+        self.check(&[Demand::Cell(0, SHORT)])?;
+        Ok(Effect::replacing(1, Cells::One(ty)))
     }
 
     pub(crate) fn thrown(&self) -> Result<Effect, RuleFault>

@@ -1,14 +1,16 @@
-ghost use Rattle.std.specs.Prelude.{◌≡◌, ◌+◌, ◌<◌, ◌≤◌, length, reverse, All, Some, MatchResult, IfOk, IfErr, OnErr, IsSomeAnd, IfSome, slice_get};
-ghost use Rattle.jc_base.specs.Order.{IsKnown};
+ghost use Rattle.std.specs.Prelude.{◌≡◌, ◌+◌, ◌<◌, ◌≤◌, length, reverse, sum_by, All, MatchBool, IfOk, IfErr, IfSome, OnErr, IsSomeAnd, slice_get};
+ghost use Rattle.jc_base.specs.Order.{IsKnown, rises_left};
 ghost use Rattle.jc_base.specs.World.{IsWorld};
-ghost use Rattle.jc_ops.specs.Row.{row_at};
-ghost use Rattle.jc_ops.specs.Named.{IsNamed, IsKnownWant, receiver_count};
 ghost use Rattle.jc_rules.specs.declared.demand.Before.{Before};
+ghost use Rattle.jc_rules.specs.declared.effect.Mode.TheVariants.{Card};
 ghost use Rattle.jc_rules.specs.Stack.{cells};
 ghost use Rattle.jc_rules.specs.Effect.{depth_after};
 ghost use Rattle.jc_rules.specs.Demand.{Frame, AreKnown, frame, IsJudged};
-ghost use Rattle.jc_rules.specs.Rule.{demands, effect, local_of, type_named, read_demands, read_effect, write_demands, write_effect, method_demands, method_effect, return_demands, return_effect, falls_from, ends_at, wrote};
+ghost use Rattle.jc_rules.specs.Rule.{demands, effect, return_demands, return_effect, seen, standing, wrote};
+ghost use Rattle.jc_rules.specs.Known.{IsKnownCallee, IsKnownOperation, IsValue};
 ghost use Rattle.jc_rules.specs.Apply.{frame_of, HasRoom, Applies, Refuses, IsPlanned};
+ghost use Rattle.jc_ops.specs.declared.operation.Operation.TheVariants.{Call};
+ghost use Rattle.jc_ops.specs.Sound.{IsNamedType};
 
 use crate::demand::Before;
 use crate::effect::{Cells, Effect, Mode, Store, change_regs, change_stack};
@@ -16,14 +18,7 @@ use crate::objects::value_given;
 use crate::values::constant;
 use jc_base::{Ty, World};
 use jc_decode::Insn;
-use jc_ops::{Branch, Holder, Local, Named, Row, RuleFault, Want, byte_of, name};
-
-/// Where an instruction stands: its method, and its offset in the method's code.
-#[derive(Clone, Copy)]
-pub struct Site {
-    pub method: u16,
-    pub place: u16,
-}
+use jc_ops::{Callee, Operation, RuleFault, Site, resolve};
 
 /// What an instruction did.
 #[derive(Clone, Copy)]
@@ -36,165 +31,118 @@ pub struct Outcome {
     pub depth: u8,
     /// The first register that was written, and how many were.
     pub wrote: Option<(u8, u8)>,
-}
-
-/// The register that a load or a store names.
-fn local_of(insn: Insn, local: Local) -> u8
-    ensures { result ≡ local_of insn local }
-{
-    match local {
-        Local::Operand => byte_of(insn.x),
-        Local::Fixed(x) => x,
-    }
-}
-
-/// The type that is named.
-fn type_named(world: &World<'_>, named: Named) -> Ty
-    requires { IsNamed world.now named }
-    ensures is { result ≡ type_named named }
-    ensures known { IsKnown world.now.classes result }
-{
-    match named {
-        Named::Type(ty) => ty,
-        _ => Ty::Null,
-    }
+    /// Whether a register rose: on the card, where what was stored is not below what it held.
+    pub rose: bool,
 }
 
 impl Before<'_> {
-    /// What the instruction of a row does, if the frame has what it asks.
-    fn rule(&self, insn: Insn, row: Row, named: Named) -> Result<Effect, RuleFault>
+    /// What the operation does, if the frame has what it asks.
+    fn rule(&self, operation: Operation) -> Result<Effect, RuleFault>
         requires frame { AreKnown self.now.world.now.classes (frame self.now) }
-        requires named { IsNamed self.now.world.now named }
+        requires known { IsKnownOperation self.now.world.now operation }
         ensures { IsJudged self.now.world.now.classes (frame self.now)
-            (demands self.now.world.now insn named row)
-            (effect self.now.world.now insn named row (frame self.now)) result }
+            (demands self.now.world.now operation)
+            (effect self.now.world.now operation (frame self.now)) result }
     {
-        let ty = type_named(self.world, named);
-        match row {
-            Row::Constant(pushed) => Ok(constant(pushed)),
-            Row::Load(sort, local) => self.load(sort, local_of(insn, local)),
-            Row::Store(sort, local) => self.store(sort, local_of(insn, local)),
-            Row::Increment(width) => self.increment(width, byte_of(insn.x)),
-            Row::Move(cells) => self.moved(cells, byte_of(insn.x) / 16, byte_of(insn.x) % 16),
-            Row::Arithmetic(arithmetic) => self.computed(arithmetic),
-            Row::ArrayRead(kind) => self.array_read(kind),
-            Row::ArrayWrite(kind) => self.array_write(kind),
-            Row::ArrayLength => self.array_length(),
-            Row::Branch(branch) => self.branched(branch),
-            Row::Switch(width) => self.switched(width),
-            Row::StaticRead(_) => Ok(Effect::replacing(0, value_given(ty))),
-            Row::StaticWrite(_) => self.popped(ty),
-            Row::FieldRead(_, holder) => self.read(holder, named),
-            Row::FieldWrite(_, holder) => self.write(holder, named),
-            Row::Call(_) => self.call(named),
-            Row::Make(make) => self.made(make, ty),
-            Row::Throw => self.thrown(),
-            Row::TypeTest(test) => self.tested(test, ty),
-            Row::Return(_) => self.returned(named),
-            Row::Reserved => Ok(Effect::replacing(0, Cells::Nothing)),
+        match operation {
+            Operation::Constant(pushed) => Ok(constant(pushed)),
+            Operation::Load(sort, register) => self.load(sort, register),
+            Operation::Store(sort, register) => self.store(sort, register),
+            Operation::Increment {
+                width,
+                register,
+                ..
+            } => self.increment(width, register),
+            Operation::Move(cells) => self.moved(cells),
+            Operation::Arithmetic(arithmetic) => self.computed(arithmetic),
+            Operation::ArrayRead(kind) => self.array_read(kind),
+            Operation::ArrayWrite(kind) => self.array_write(kind),
+            Operation::ArrayLength => self.array_length(),
+            Operation::Branch(branch) => self.branched(branch),
+            Operation::Switch(width) => self.switched(width),
+            Operation::StaticRead(field) => Ok(Effect::replacing(0, value_given(field.ty))),
+            Operation::StaticWrite(field) => self.popped(field.ty),
+            Operation::FieldRead(field, holder) => self.field_read(holder, field.class, field.ty),
+            Operation::FieldWrite(field, holder) => {
+                self.field_write(holder, field.class, field.ty)
+            }
+            Operation::Call(callee) => self.call(callee),
+            Operation::New { place, class } => Ok(Effect::replacing(
+                0,
+                Cells::One(Ty::Fresh { place, class }),
+            )),
+            Operation::NewArray(ty) => self.new_array(self.seen(ty)),
+            Operation::Throw => self.thrown(),
+            Operation::TypeTest(test, ty) => self.tested(test, self.seen(ty)),
+            Operation::Return(declared) => self.returned(declared),
         }
     }
 
-    fn read(&self, holder: Holder, named: Named) -> Result<Effect, RuleFault>
-        requires frame { AreKnown self.now.world.now.classes (frame self.now) }
-        requires named { IsNamed self.now.world.now named }
-        ensures { IsJudged self.now.world.now.classes (frame self.now) (read_demands holder named) (read_effect holder named) result }
+    /// The type of an object or an array, as frames have it: an interface stands for object.
+    fn seen(&self, ty: Ty) -> Ty
+        requires { IsNamedType self.now.world.now.classes ty }
+        ensures { result ≡ seen self.now.world.now.classes ty }
     {
-        match named {
-            Named::Field { class, ty } => self.field_read(holder, class, ty),
-            _ => Ok(Effect::replacing(0, Cells::Nothing)),
+        match ty {
+            Ty::Class(class) => Ty::Class(self.standing(class)),
+            Ty::ArrRef(class) => Ty::ArrRef(self.standing(class)),
+            other => other,
         }
     }
 
-    fn write(&self, holder: Holder, named: Named) -> Result<Effect, RuleFault>
-        requires frame { AreKnown self.now.world.now.classes (frame self.now) }
-        requires named { IsNamed self.now.world.now named }
-        ensures { IsJudged self.now.world.now.classes (frame self.now) (write_demands holder named) (write_effect holder named) result }
+    fn standing(&self, class: u16) -> u16
+        requires { class < length self.now.world.now.classes.records }
+        ensures { result ≡ standing self.now.world.now.classes class }
     {
-        match named {
-            Named::Field { class, ty } => self.field_write(holder, class, ty),
-            _ => Ok(Effect::replacing(0, Cells::Nothing)),
+        if self.world.classes().is_interface(class) {
+            self.world.role(0)
+        } else {
+            class
         }
     }
 
-    fn call(&self, named: Named) -> Result<Effect, RuleFault>
+    fn call(&self, callee: Callee) -> Result<Effect, RuleFault>
         requires frame { AreKnown self.now.world.now.classes (frame self.now) }
-        requires named { IsNamed self.now.world.now named }
+        requires known { IsKnownCallee self.now.world.now callee }
         ensures { IsJudged self.now.world.now.classes (frame self.now)
-            (method_demands self.now.world.now named)
-            (method_effect self.now.world.now named (frame self.now)) result }
+            (demands self.now.world.now (Call callee))
+            (effect self.now.world.now (Call callee) (frame self.now)) result }
     {
-        match named {
-            Named::Method { number, receiver } => self.method_called(number, receiver),
-            _ => Ok(Effect::replacing(0, Cells::Nothing)),
-        }
+        self.called(&self.world.method(callee.method).sig, callee.receiver)
     }
 
-    fn method_called(&self, number: u16, receiver: Option<Want>) -> Result<Effect, RuleFault>
+    fn returned(&self, declared: Option<Ty>) -> Result<Effect, RuleFault>
         requires frame { AreKnown self.now.world.now.classes (frame self.now) }
-        requires named { IsNamed self.now.world.now (Named.Method number receiver) }
-        ensures { IsJudged self.now.world.now.classes (frame self.now)
-            (method_demands self.now.world.now (Named.Method number receiver))
-            (method_effect self.now.world.now (Named.Method number receiver) (frame self.now))
-            result }
+        requires known { IfSome declared (λ ty. IsKnown self.now.world.now.classes ty × IsValue ty) }
+        ensures { IsJudged self.now.world.now.classes (frame self.now) (return_demands declared) (return_effect declared) result }
     {
-        self.called(&self.world.method(number).sig, receiver)
-    }
-
-    fn returned(&self, named: Named) -> Result<Effect, RuleFault>
-        requires frame { AreKnown self.now.world.now.classes (frame self.now) }
-        requires named { IsNamed self.now.world.now named }
-        ensures { IsJudged self.now.world.now.classes (frame self.now) (return_demands named) (return_effect named) result }
-    {
-        match named {
-            Named::Type(ty) => self.popped(ty),
-            _ => Ok(Effect::replacing(0, Cells::Nothing)),
+        match declared {
+            Some(ty) => self.popped(ty),
+            None => Ok(Effect::replacing(0, Cells::Nothing)),
         }
     }
 }
 
-/// Reads what an instruction would do, and decides whether it may: nothing is changed yet.
+/// Reads what an operation would do, and decides whether it may: nothing is changed yet.
 fn plan(
     world: &World<'_>,
-    site: Site,
-    insn: Insn,
+    operation: Operation,
     regs: &[Ty],
     stack: &[Ty],
     max_stack: u8,
 ) -> Result<Effect, RuleFault>
-    requires method { IsSomeAnd (slice_get world.now.methods site.method) (λ m. m.max_stack ≡ max_stack) }
     requires frame { AreKnown world.now.classes (record { regs = regs.now; stack = reverse stack.now }) }
+    requires known { IsKnownOperation world.now operation }
     requires few { length stack.now ≤ 255 }
     requires world { IsWorld world.now }
-    ensures { IsPlanned world.now site insn (record { regs = regs.now; stack = reverse stack.now }) result }
+    ensures { IsPlanned world.now max_stack operation (record { regs = regs.now; stack = reverse stack.now }) result }
 {
-    let row = Row::of(insn.op);
-    let named = name(world, world.method(site.method), site.place, insn, row)?;
     let before = Before { world, regs, stack };
-    let effect = before.rule(insn, row, named)?;
+    let effect = before.rule(operation)?;
     if effect.change.depth_after(stack.len() as u8) > max_stack as usize {
         return Err(RuleFault::Overflow);
     }
     Ok(effect)
-}
-
-/// Whether the instruction after may come next.
-fn falls(row: Row) -> bool
-    ensures { result ≡ falls_from row }
-{
-    match row {
-        Row::Branch(Branch::Always) | Row::Switch(_) | Row::Return(_) | Row::Throw => false,
-        _ => true,
-    }
-}
-
-fn ends(row: Row) -> bool
-    ensures { result ≡ ends_at row }
-{
-    match row {
-        Row::Return(_) | Row::Throw => true,
-        _ => false,
-    }
 }
 
 impl Store {
@@ -234,17 +182,25 @@ pub fn apply(
     ensures as_before { OnErr result ((regs.new ≡ regs.old) × (stack.new ≡ stack.old)) }
     ensures regs_known { IfOk result (λ o. All (IsKnown world.now.classes) regs.new) }
     ensures stack_known { IfOk result (λ o. All (IsKnown world.now.classes) (cells stack.new o.depth)) }
+    // On the card the registers are as before, or what is left for them to rise is less.
+    ensures rises { IfOk result
+        (λ o.
+        mode ≡ Card
+        → MatchBool o.rose
+        (sum_by (rises_left world.now.classes) regs.new < sum_by (rises_left world.now.classes) regs.old)
+        (regs.new ≡ regs.old)) }
 {
     let classes = world.classes();
+    let operation = resolve(world, site, insn)?;
     let max_stack = world.method(site.method).max_stack;
-    let effect = plan(world, site, insn, regs, &stack[..depth as usize], max_stack)?;
-    let row = Row::of(insn.op);
+    let effect = plan(world, operation, regs, &stack[..depth as usize], max_stack)?;
     let depth = change_stack(stack, depth, effect.change);
-    change_regs(classes, regs, effect.store, mode);
+    let rose = change_regs(classes, regs, effect.store, mode);
     Ok(Outcome {
-        falls: falls(row),
-        ends: ends(row),
+        falls: operation.falls(),
+        ends: operation.ends(),
         depth,
         wrote: effect.store.wrote(),
+        rose,
     })
 }

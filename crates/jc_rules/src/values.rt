@@ -1,6 +1,7 @@
 ghost use Rattle.std.specs.Prelude.{◌≡◌, ◌+◌, ◌≤◌, ◌<◌, length, reverse, MatchResult};
-ghost use Rattle.jc_ops.specs.declared.row.Sort.TheVariants as sorts;
+ghost use Rattle.jc_ops.specs.declared.operation.Sort.TheVariants as sorts;
 ghost use Rattle.jc_rules.specs.Demand.{AreKnown, AllHold, Breaks, frame, IsJudged};
+ghost use Rattle.jc_ops.specs.Sound.{IsMove};
 ghost use Rattle.jc_rules.specs.Effect.{reg};
 ghost use Rattle.jc_rules.specs.Rule.{cell, or_null, number, number_given, size, value_given, value_wanted, value_size, replacing, constant_effect, load_demands, load_effect, store_demands, store_effect, increment_demands, increment_effect, move_demands, move_effect, arithmetic_demands, arithmetic_effect, on_stack, storing, a_reference, two_numbers};
 
@@ -192,10 +193,10 @@ impl Before<'_> {
         Ok(Effect::storing(0, x, number_given(width)))
     }
 
-    pub(crate) fn moved(&self, cells: Move, m: u8, n: u8) -> Result<Effect, RuleFault>
+    pub(crate) fn moved(&self, cells: Move) -> Result<Effect, RuleFault>
         requires frame { AreKnown self.now.world.now.classes (frame self.now) }
-        requires small { m + n ≤ 255 }
-        ensures { IsJudged self.now.world.now.classes (frame self.now) (move_demands cells m n) (move_effect cells m n) result }
+        requires small { IsMove cells }
+        ensures { IsJudged self.now.world.now.classes (frame self.now) (move_demands cells) (move_effect cells) result }
     {
         match cells {
             Move::Pop => {
@@ -220,8 +221,8 @@ impl Before<'_> {
                     under: 0,
                 }))
             }
-            Move::CopyUnder => self.copied_under(m, n),
-            Move::Exchange => self.exchanged(m, n),
+            Move::CopyUnder { copied, under } => self.copied_under(copied, under),
+            Move::Exchange { top, under } => self.exchanged(top, under),
         }
     }
 
@@ -229,8 +230,8 @@ impl Before<'_> {
     fn copied_under(&self, m: u8, n: u8) -> Result<Effect, RuleFault>
         requires { AreKnown self.now.world.now.classes (frame self.now) }
         ensures { IsJudged self.now.world.now.classes (frame self.now)
-            (move_demands Move.CopyUnder m n)
-            (move_effect Move.CopyUnder m n) result }
+            (move_demands (Move.CopyUnder m n))
+            (move_effect (Move.CopyUnder m n)) result }
     {
         self.check(&[
             Demand::Depth(m),
@@ -249,8 +250,8 @@ impl Before<'_> {
         requires frame { AreKnown self.now.world.now.classes (frame self.now) }
         requires small { m + n ≤ 255 }
         ensures { IsJudged self.now.world.now.classes (frame self.now)
-            (move_demands Move.Exchange m n)
-            (move_effect Move.Exchange m n) result }
+            (move_demands (Move.Exchange m n))
+            (move_effect (Move.Exchange m n)) result }
     {
         self.check(&[
             Demand::Depth(m),

@@ -8,8 +8,10 @@ use Rattle.jc_base.specs.declared.record.Member.TheVariants.{Static, Virtual, Su
 use Rattle.jc_base.specs.declared.record.MethodRec.{MethodRec}
 use Rattle.jc_base.specs.Class.{IsClass, AreClasses, EndsWithObject, is_interface, parent_of, chain, chain_over}
 use Rattle.jc_base.specs.Order.{Below, same, joined, subclass}
-use Rattle.jc_base.specs.Cell.{IsDeclared, AreElementsOf, IsByteWord}
+use Rattle.jc_base.specs.Cell.{IsDeclared, no_cells, one_cell, AreElementsOf, IsByteWord}
 use Rattle.jc_base.specs.Dispatch.{HasBody, visible_in, nearest_of, package_of, public_of, visible_of, cell_count, cells_of, own_cells, entry_at, signature_at}
+use Rattle.jc_base.specs.Interface.{extended, NoneExtendsItself}
+use Rattle.jc_base.proofs.Leading.{leads-nowhere}
 use Rattle.jc_base.specs.Linked.{IsMethod, IsHandler, IsLinkedClass, IsInherited, IsDispatch, IsImplemented, IsStatic, IsMember, IsField, list_at}
 use Rattle.jc_base.specs.World.{IsWorld, IsThrown}
 use Rattle.jc_tests.specs.TwoPackages.{sample, HasSampleSizes, classes, methods, statics, arrays, first_pool, second_pool, first_info, second_info, instance_method, interface_method, static_method}
@@ -201,6 +203,8 @@ plain_method home class token class_no method_no at home_is class_is plain reach
       registers = lit≤ tt;
       arguments = All-from_recursion (IsDeclared classes) (Short ∷ []) (tt, tt);
       result = tt;
+      whole = one_cell tt no_cells;
+      first = tt;
       code = rw plain (record { least = lit< tt; most = lit≤ tt });
       inside = reaches home home_is;
       handlers = All-nil _;
@@ -221,6 +225,8 @@ abstract_method =
       registers = lit≤ tt;
       arguments = All-from_recursion (IsDeclared classes) (Short ∷ []) (tt, tt);
       result = tt;
+      whole = one_cell tt no_cells;
+      first = tt;
       code = refl;
       inside = lit≤ tt;
       handlers = All-nil _;
@@ -237,6 +243,8 @@ last_method =
       registers = lit≤ tt;
       arguments = All-from_recursion (IsDeclared classes) (Short ∷ []) (tt, tt);
       result = tt;
+      whole = one_cell tt no_cells;
+      first = tt;
       code = record { least = lit< tt; most = lit≤ tt };
       inside = lit≤ tt;
       handlers = All-from_recursion (IsHandler classes second_pool 4) static_method.handlers
@@ -267,6 +275,21 @@ are_methods = All-from_recursion (IsMethod (first_info ∷ second_info ∷ []) (
     ),
   ),
 )
+
+-- ---- interfaces
+
+extends_nothing : (i : ℕ) → extended classes i ≡ []
+unfolding extended
+extends_nothing zero = refl
+extends_nothing (suc zero) = refl
+extends_nothing (suc (suc zero)) = refl
+extends_nothing (suc (suc (suc zero))) = refl
+extends_nothing (suc (suc (suc (suc zero)))) = refl
+extends_nothing (suc (suc (suc (suc (suc zero))))) = refl
+extends_nothing (suc (suc (suc (suc (suc (suc i)))))) = refl
+
+none_extends : NoneExtendsItself classes
+none_extends = λ i leads. leads-nowhere extends_nothing leads
 
 -- ---- the members, the static fields and the roles
 
@@ -350,6 +373,7 @@ is_world =
       one_pool_each = refl;
       members = are_members;
       chains = are_classes;
+      extension = none_extends;
       classes = linked;
       methods = are_methods;
       statics = are_statics;

@@ -100,16 +100,52 @@ methods =
     ∷ []
 
 abbrev pub object_class : ClassRec
-object_class = record { «package» = 0; interface = false; parent = None; cells = 0; own = []; implements = []; public = 0 ∷ []; visible = [] }
+object_class = record {
+  «package» = 0;
+  interface = false;
+  parent = None;
+  cells = 0;
+  own = [];
+  implements = [];
+  public = 0 ∷ [];
+  visible = [];
+}
 
 abbrev pub throwable_class : ClassRec
-throwable_class = record { «package» = 0; interface = false; parent = Some 0; cells = 0; own = []; implements = []; public = 0 ∷ []; visible = [] }
+throwable_class = record {
+  «package» = 0;
+  interface = false;
+  parent = Some 0;
+  cells = 0;
+  own = [];
+  implements = [];
+  public = 0 ∷ [];
+  visible = [];
+}
 
 abbrev pub interface_record : ClassRec
-interface_record = record { «package» = 0; interface = true; parent = None; cells = 0; own = []; implements = []; public = []; visible = [] }
+interface_record = record {
+  «package» = 0;
+  interface = true;
+  parent = None;
+  cells = 0;
+  own = [];
+  implements = [];
+  public = [];
+  visible = [];
+}
 
 abbrev pub base_class : ClassRec
-base_class = record { «package» = 0; interface = false; parent = Some 0; cells = 1; own = Short ∷ []; implements = []; public = 0 ∷ 2 ∷ []; visible = 3 ∷ [] }
+base_class = record {
+  «package» = 0;
+  interface = false;
+  parent = Some 0;
+  cells = 1;
+  own = Short ∷ [];
+  implements = [];
+  public = 0 ∷ 2 ∷ [];
+  visible = 3 ∷ [];
+}
 
 abbrev pub derived_class : ClassRec
 derived_class = record {
@@ -124,7 +160,16 @@ derived_class = record {
 }
 
 abbrev pub last_class : ClassRec
-last_class = record { «package» = 1; interface = false; parent = Some 4; cells = 3; own = []; implements = []; public = 0 ∷ 4 ∷ []; visible = 6 ∷ [] }
+last_class = record {
+  «package» = 1;
+  interface = false;
+  parent = Some 4;
+  cells = 3;
+  own = [];
+  implements = [];
+  public = 0 ∷ 4 ∷ [];
+  visible = 6 ∷ [];
+}
 
 abbrev pub records : List ClassRec
 records = object_class ∷ throwable_class ∷ interface_record ∷ base_class ∷ derived_class ∷ last_class ∷ []

@@ -23,8 +23,16 @@ pub fn class(
     ensures { IfOk result
         (λ r.
         r
-        ≡ record
-        { «package» = «package»; interface = false; parent = parent; cells = cells; own = own.now; implements = []; public = public.now; visible = visible.now }) }
+        ≡ record {
+          «package» = «package»;
+          interface = false;
+          parent = parent;
+          cells = cells;
+          own = own.now;
+          implements = [];
+          public = public.now;
+          visible = visible.now;
+        }) }
 {
     Ok(ClassRec {
         package,

@@ -9,6 +9,7 @@ use jc_base::{Classes, Ty, World};
 use jc_decode::Insn;
 use jc_ops::RuleFault;
 use jc_rules::{Mode, Outcome, Site, apply};
+use std::alloc::{AllocError, Global};
 use std::test::*;
 
 const S: Ty = Ty::Short;
@@ -309,19 +310,24 @@ fn is_fault(gives: Gives, fault: RuleFault) -> bool {
     }
 }
 
-fn all_hold(world: &World<'_>, cases: &[Case], mode: Mode) -> bool {
-    for case in cases {
-        if !holds(world, *case, mode) {
-            return false;
-        }
-    }
-    true
+/// The first case that does not hold, and the number of cases where all do.
+fn first_wrong(world: &World<'_>, cases: &[Case], mode: Mode) -> usize {
+    cases
+        .iter()
+        .position(|case| !holds(world, *case, mode))
+        .unwrap_or(cases.len())
+}
+
+fn wrong(alloc: Global) -> Result<(usize, usize), AllocError> {
+    let world = world(alloc)?;
+    Ok((
+        first_wrong(&world, &CASES, Mode::Flow),
+        first_wrong(&world, &CARD_CASES, Mode::Card),
+    ))
 }
 
 #[test]
-fn each_instruction_by_the_table(rt: HostRuntime) -> Result<(), Fail> {
-    let world = world(rt.alloc())?;
-    assert!(rt; all_hold(&world, &CASES, Mode::Flow));
-    assert!(rt; all_hold(&world, &CARD_CASES, Mode::Card));
+fn each_instruction_by_the_table(rt: HostRuntime) -> Result<(), AllocError> {
+    assert_eq!(rt; wrong(rt.alloc())?, (108, 2));
     Ok(())
 }

@@ -41,24 +41,16 @@ fn static_method(alloc: Global) -> Result<MethodRec, AllocError>
 fn methods(alloc: Global) -> Result<Methods, AllocError>
     ensures { IfOk result (λ l. l ≡ methods) }
 {
-    let object = instance_method(alloc, 0, 0, 0, 0, 0, 0)?;
-    let described = interface_method(alloc)?;
-    let base = instance_method(alloc, 0, 3, 1, 3, 0, 2)?;
-    let base_visible = instance_method(alloc, 0, 3, 128, 3, 1, 4)?;
-    let derived = instance_method(alloc, 1, 4, 1, 0, 0, 0)?;
-    let derived_visible = instance_method(alloc, 1, 4, 128, 0, 1, 2)?;
-    let last_visible = instance_method(alloc, 1, 5, 128, 1, 0, 4)?;
-    let last = static_method(alloc)?;
-    Ok(Items::of(vec![in alloc;
-        object,
-        described,
-        base,
-        base_visible,
-        derived,
-        derived_visible,
-        last_visible,
-        last,
-    ]?))
+    let mut methods = Vec::new(alloc);
+    methods.push(instance_method(alloc, 0, 0, 0, 0, 0, 0)?)?;
+    methods.push(interface_method(alloc)?)?;
+    methods.push(instance_method(alloc, 0, 3, 1, 3, 0, 2)?)?;
+    methods.push(instance_method(alloc, 0, 3, 128, 3, 1, 4)?)?;
+    methods.push(instance_method(alloc, 1, 4, 1, 0, 0, 0)?)?;
+    methods.push(instance_method(alloc, 1, 4, 128, 0, 1, 2)?)?;
+    methods.push(instance_method(alloc, 1, 5, 128, 1, 0, 4)?)?;
+    methods.push(static_method(alloc)?)?;
+    Ok(Items::of(methods))
 }
 
 fn derived_class(alloc: Global) -> Result<ClassRec, AllocError>

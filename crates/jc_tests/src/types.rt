@@ -1,58 +1,88 @@
+ghost use Rattle.jc_tests.specs.TwoPackages.{HasSampleSizes};
+
 use crate::compared::{is_known, is_same};
 use crate::two_packages::{table, world};
 use jc_base::{Classes, Member, Ty, below, join};
+use std::alloc::{AllocError, Global};
 use std::test::*;
 
-#[test]
-fn the_lists_of_a_world(rt: HostRuntime) -> Result<(), Fail> {
-    let world = world(rt.alloc())?;
-    assert_eq!(rt; world.package_count(), 2);
-    assert_eq!(rt; world.class_count(), 6);
-    assert_eq!(rt; world.method_count(), 8);
-    assert_eq!(rt; world.static_count(), 2);
-    assert_eq!(rt; world.array_count(), 1);
-    assert_eq!(rt; world.pool_count(0), 1);
-    assert_eq!(rt; world.pool_count(1), 7);
-    assert_eq!(rt; world.role(0), 0);
-    assert_eq!(rt; world.role(7), 1);
-    assert_eq!(rt; world.classes().len(), 6);
-    assert_eq!(rt; world.array(0).initial.len(), 2);
-    assert_eq!(rt; world.static_field(1).slot, 1);
-    Ok(())
+/// The first of its lists that is not as it should be, and no name where all are.
+fn first_wrong(world: &World<'_>) -> &'static str
+    requires { HasSampleSizes world.now }
+{
+    if !has_counts(world) {
+        "counts"
+    } else if !has_dispatch(world) {
+        "dispatch lists"
+    } else if !has_members(world) {
+        "members"
+    } else if !has_code(world) {
+        "code"
+    } else {
+        ""
+    }
+}
+
+fn has_counts(world: &World<'_>) -> bool
+    requires { HasSampleSizes world.now }
+{
+    world.package_count() == 2
+        && world.class_count() == 6
+        && world.method_count() == 8
+        && world.static_count() == 2
+        && world.array_count() == 1
+        && world.pool_count(0) == 1
+        && world.pool_count(1) == 7
+        && world.role(0) == 0
+        && world.role(7) == 1
+        && world.classes().len() == 6
+        && world.array(0).initial.len() == 2
+        && world.static_field(1).slot == 1
+}
+
+fn has_dispatch(world: &World<'_>) -> bool
+    requires { HasSampleSizes world.now }
+{
+    world.class(3).public.as_slice() == [0, 2].as_slice()
+        && world.class(4).public.as_slice() == [0, 4].as_slice()
+        && world.class(3).visible.as_slice() == [3].as_slice()
+        && world.class(4).visible.as_slice() == [5].as_slice()
+        && world.class(5).visible.as_slice() == [6].as_slice()
+        && world.class(4).implements.len() == 1
+        && matches!(world.class(4).parent, Some(3))
+}
+
+fn has_members(world: &World<'_>) -> bool
+    requires { HasSampleSizes world.now }
+{
+    matches!(
+        world.member(1, 4),
+        Member::Virtual {
+            class: 4,
+            token: 128
+        }
+    ) && matches!(world.member(0, 0), Member::ClassOf { class: 0 })
+}
+
+fn has_code(world: &World<'_>) -> bool
+    requires { HasSampleSizes world.now }
+{
+    world.code(7) == [3, 120, 3, 120].as_slice()
+        && world.code(3) == [3, 120].as_slice()
+        && world.code(1).is_empty()
+        && matches!(world.method_at(1, 0, 2), Some(7))
+        && world.method_at(0, 0, 2).is_none()
+        && world.method(7).handlers.len() == 1
+}
+
+fn wrong(alloc: Global) -> Result<&'static str, AllocError> {
+    let world = world(alloc)?;
+    Ok(first_wrong(&world))
 }
 
 #[test]
-fn the_override_and_the_visible_methods(rt: HostRuntime) -> Result<(), Fail> {
-    let world = world(rt.alloc())?;
-    assert_eq!(rt; world.class(3).public.as_slice(), [0, 2].as_slice());
-    assert_eq!(rt; world.class(4).public.as_slice(), [0, 4].as_slice());
-    assert_eq!(rt; world.class(3).visible.as_slice(), [3].as_slice());
-    assert_eq!(rt; world.class(4).visible.as_slice(), [5].as_slice());
-    assert_eq!(rt; world.class(5).visible.as_slice(), [6].as_slice());
-    assert_eq!(rt; world.class(4).implements.len(), 1);
-    assert!(rt; matches!(world.class(4).parent, Some(3)));
-    assert!(rt;
-        matches!(
-            world.member(1, 4),
-            Member::Virtual {
-                class: 4,
-                token: 128
-            }
-        )
-    );
-    assert!(rt; matches!(world.member(0, 0), Member::ClassOf { class: 0 }));
-    Ok(())
-}
-
-#[test]
-fn the_code_of_a_method(rt: HostRuntime) -> Result<(), Fail> {
-    let world = world(rt.alloc())?;
-    assert_eq!(rt; world.code(7), [3, 120, 3, 120].as_slice());
-    assert_eq!(rt; world.code(3), [3, 120].as_slice());
-    assert!(rt; world.code(1).is_empty());
-    assert!(rt; matches!(world.method_at(1, 0, 2), Some(7)));
-    assert!(rt; world.method_at(0, 0, 2).is_none());
-    assert_eq!(rt; world.method(7).handlers.len(), 1);
+fn the_lists_of_a_world(rt: HostRuntime) -> Result<(), AllocError> {
+    assert_eq!(rt; wrong(rt.alloc())?, "");
     Ok(())
 }
 
@@ -98,11 +128,19 @@ static CASES: [(Ty, Ty, bool, Ty); 18] = [
     ),
 ];
 
+fn all_hold(classes: &Classes) -> bool {
+    CASES
+        .iter()
+        .all(|case| holds(classes, case.0, case.1, case.2, case.3))
+}
+
+fn has_order(alloc: Global) -> Result<bool, AllocError> {
+    let classes = table(alloc)?;
+    Ok(all_hold(&classes))
+}
+
 #[test]
-fn the_order_and_the_join(rt: HostRuntime) -> Result<(), Fail> {
-    let classes = table(rt.alloc())?;
-    for (a, b, is, top) in CASES {
-        assert!(rt; holds(&classes, a, b, is, top));
-    }
+fn the_order_and_the_join(rt: HostRuntime) -> Result<(), AllocError> {
+    assert!(rt; has_order(rt.alloc())?);
     Ok(())
 }

@@ -2,7 +2,7 @@ use Rattle.std.proofs.Common.{◌<◌, ap, length, get_or, arith, subst, List, A
 use Rattle.std.proofs.lemmas.List.{take_all}
 use Rattle.std.proofs.lemmas.List.Elements.{All-more}
 use Rattle.jc_base.specs.declared.record.Handler.{Handler}
-use Rattle.jc_rules.specs.Flow.{IsHandlerOf}
+use Rattle.jc_control.specs.WellFormed.{IsHandlerOf}
 use Rattle.jc_control.proofs.scan.check_handlers.Goals as goal
 
 pub handlers-preserved : goal.handlers-preserved

@@ -1,5 +1,5 @@
 use Rattle.std.proofs.Common.{take, All}
-use Rattle.jc_rules.specs.Flow.{IsHandlerOf}
+use Rattle.jc_control.specs.WellFormed.{IsHandlerOf}
 use Rattle.jc_control.proofs.scan.check_handlers.Given as goal
 
 abbrev pub invariant-handlers : goal.invariant-handlers

@@ -4,7 +4,7 @@ use Rattle.std.specs.Int.{w32}
 use Rattle.std.proofs.lemmas.Int.{to_z-of_z}
 use Rattle.jc_decode.specs.Instructions.{rest_of}
 use Rattle.jc_decode.specs.Listing.{listing, targets}
-use Rattle.jc_rules.specs.Flow.{IsTargetPlace}
+use Rattle.jc_control.specs.WellFormed.{IsTargetPlace}
 use Rattle.jc_control.specs.declared.flaw.Flaw.TheVariants.{BadTarget}
 use Rattle.jc_control.specs.Scan.{LeadsToPlaces}
 use Rattle.jc_control.proofs.Elements.{at-next, contained-in, first-failing, slice_get-in}

@@ -4,7 +4,7 @@ use Rattle.std.specs.Int.{w32}
 use Rattle.std.proofs.lemmas.Int.{to_z-of_z}
 use Rattle.std.proofs.lemmas.List.Elements.{All-push}
 use Rattle.jc_decode.specs.Listing.{targets}
-use Rattle.jc_rules.specs.Flow.{IsTargetPlace}
+use Rattle.jc_control.specs.WellFormed.{IsTargetPlace}
 use Rattle.jc_control.specs.Flags.{target_flag}
 use Rattle.jc_control.specs.Targets.{rest_of}
 use Rattle.jc_control.proofs.Elements.{at-next, go-on, first-failing}

@@ -1,6 +1,6 @@
 use Rattle.std.proofs.Common.{◌≡◌, ◌++◌, All}
 use Rattle.jc_decode.specs.Listing.{targets}
-use Rattle.jc_rules.specs.Flow.{IsTargetPlace}
+use Rattle.jc_control.specs.WellFormed.{IsTargetPlace}
 use Rattle.jc_control.specs.Targets.{rest_of}
 use Rattle.jc_control.proofs.scan.stray_target.Given as goal
 

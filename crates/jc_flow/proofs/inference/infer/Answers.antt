@@ -1,14 +1,13 @@
 use Rattle.std.proofs.Common.{◌≡◌, ◌<◌, Some, option_map, slice_get}
 use Rattle.jc_base.specs.World.{code_of}
-use Rattle.jc_rules.specs.Flow.{IsMethodOf}
-use Rattle.jc_control.specs.MethodIn.{method_in}
-use Rattle.jc_control.specs.Survey.{IsSurvey}
+use Rattle.jc_control.specs.Method.{IsMethodOf, method_in}
+use Rattle.jc_control.specs.ControlFlow.{IsControlFlow}
 use Rattle.jc_flow.specs.Infer.{HasNone}
-use Rattle.jc_flow.proofs.Answered.{number-below, of-method, to-method, code-short, none-unsurveyed, none-failed}
+use Rattle.jc_flow.proofs.Answered.{number-below, of-method, to-method, code-short, none-unformed, none-failed}
 use Rattle.jc_flow.proofs.inference.infer.Goals as goal
 
 pub returns-in-Err-clause-none : goal.returns-in-Err-clause-none
-returns-in-Err-clause-none c = none-unsurveyed c.args.world.now (method_in c.args.world.now c.args.method) c.in-Err.end c.unsurveyed.result c.unsurveyed.ensures c.in-Err.ensures.flawed
+returns-in-Err-clause-none c = none-unformed c.args.world.now (method_in c.args.world.now c.args.method) c.in-Err.end c.unformed.result c.unformed.ensures c.in-Err.ensures.flawed
 
 pub method-requires : goal.method-requires
 method-requires c = number-below (λ m. 0 < m.code_len) c.args.world.now.methods c.args.method c.requires
@@ -19,16 +18,16 @@ code-requires c = number-below (λ m. 0 < m.code_len) c.args.world.now.methods c
 pub settled-requires : goal.settled-requires
 settled-requires c =
     let bytes : option_map (code_of c.args.world.now.infos) (slice_get c.args.world.now.methods c.args.method) ≡ Some c.of.result.bytes.now = cc in
-    let mo : IsMethodOf c.args.world.now (record { number = c.args.method; rec = c.method.result.now; code = c.of.result.bytes.now }) = of-method c.args.world.now c.args.method c.method.result.now c.of.result.bytes.now c.method.ensures.is bytes (IsMethodOf c.args.world.now) c.survey.ensures.known in
+    let mo : IsMethodOf c.args.world.now (record { number = c.args.method; rec = c.method.result.now; code = c.of.result.bytes.now }) = of-method c.args.world.now c.args.method c.method.result.now c.of.result.bytes.now c.method.ensures.is bytes (IsMethodOf c.args.world.now) c.control_flow.ensures.known in
     record {
-      world = c.classes.ensures.links;
+      rules = c.rule_laws.ensures;
       method = mo;
-      survey = of-method c.args.world.now c.args.method c.method.result.now c.of.result.bytes.now c.method.ensures.is bytes (λ m. IsSurvey m c.in-Ok.survey) c.in-Ok.ensures.formed;
-      short = code-short c.args.world.now c.args.method c.method.result.now c.of.result.bytes.now c.method.ensures.is bytes c.classes.ensures.links mo;
+      control = of-method c.args.world.now c.args.method c.method.result.now c.of.result.bytes.now c.method.ensures.is bytes (λ m. IsControlFlow m c.in-Ok.control) c.in-Ok.ensures.formed;
+      short = code-short c.args.world.now c.args.method c.method.result.now c.of.result.bytes.now c.method.ensures.is bytes c.rule_laws.ensures mo;
     }
 
 pub returns-clause-none : goal.returns-clause-none
 returns-clause-none c =
     let bytes : option_map (code_of c.args.world.now.infos) (slice_get c.args.world.now.methods c.args.method) ≡ Some c.of.result.bytes.now = cc in
-    let mo : IsMethodOf c.args.world.now (record { number = c.args.method; rec = c.method.result.now; code = c.of.result.bytes.now }) = of-method c.args.world.now c.args.method c.method.result.now c.of.result.bytes.now c.method.ensures.is bytes (IsMethodOf c.args.world.now) c.survey.ensures.known in
-    to-method c.args.world.now c.args.method c.method.result.now c.of.result.bytes.now c.method.ensures.is bytes (λ m. HasNone c.args.world.now m c.in-Err-settled.end) (none-failed c.args.world.now c.classes.ensures.links (record { number = c.args.method; rec = c.method.result.now; code = c.of.result.bytes.now }) mo c.in-Err-settled.end c.in-Err-settled.ensures.failed)
+    let mo : IsMethodOf c.args.world.now (record { number = c.args.method; rec = c.method.result.now; code = c.of.result.bytes.now }) = of-method c.args.world.now c.args.method c.method.result.now c.of.result.bytes.now c.method.ensures.is bytes (IsMethodOf c.args.world.now) c.control_flow.ensures.known in
+    to-method c.args.world.now c.args.method c.method.result.now c.of.result.bytes.now c.method.ensures.is bytes (λ m. HasNone c.args.world.now m c.in-Err-settled.end) (none-failed c.args.world.now c.rule_laws.ensures (record { number = c.args.method; rec = c.method.result.now; code = c.of.result.bytes.now }) mo c.in-Err-settled.end c.in-Err-settled.ensures.failed)

@@ -4,4 +4,4 @@ use Rattle.jc_rules.proofs.Decides.{rule-decides}
 use Rattle.jc_rules.proofs.laws.rule_decides.Goals as goal
 
 pub returns : goal.returns
-returns c = rule-decides c.args.world.now (subst AreClasses c.classes.ensures.is c.at-object.ensures.chains)
+returns c = rule-decides c.args.world.now (subst AreClasses c.classes.ensures.is c.at-object.ensures.chains) c.operations_are_sound.ensures.decided

@@ -4,4 +4,4 @@ use Rattle.jc_rules.proofs.Keeps.{rule-keeps}
 use Rattle.jc_rules.proofs.laws.rule_keeps.Goals as goal
 
 pub returns : goal.returns
-returns c = rule-keeps c.args.world.now c.classes.ensures.links (subst AreClasses c.classes.ensures.is c.at-object.ensures.chains)
+returns c = rule-keeps c.args.world.now c.classes.ensures.links (subst AreClasses c.classes.ensures.is c.at-object.ensures.chains) c.operations_are_sound.ensures.sound

@@ -1,8 +1,13 @@
-use Rattle.jc_rules.proofs.Cards.{rule-raises, rule-stays}
+use Rattle.std.proofs.Common.{subst}
+use Rattle.jc_base.specs.Class.{AreClasses}
+use Rattle.jc_rules.proofs.Cards.{rule-raises, rule-rises, rule-stays}
 use Rattle.jc_rules.proofs.laws.rule_raises.Goals as goal
 
 pub returns-clause-raises : goal.returns-clause-raises
-returns-clause-raises c = rule-raises c.args.world.now
+returns-clause-raises c = rule-raises c.args.world.now (subst AreClasses c.classes.ensures.is c.at-object.ensures.chains)
+
+pub returns-clause-rises : goal.returns-clause-rises
+returns-clause-rises c = rule-rises c.args.world.now (subst AreClasses c.classes.ensures.is c.at-object.ensures.chains)
 
 pub returns-clause-stays : goal.returns-clause-stays
-returns-clause-stays c = rule-stays c.args.world.now
+returns-clause-stays c = rule-stays c.args.world.now (subst AreClasses c.classes.ensures.is c.at-object.ensures.chains)

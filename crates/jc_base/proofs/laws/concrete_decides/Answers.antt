@@ -1,0 +1,5 @@
+use Rattle.jc_base.proofs.Concreteness.{concrete-decides}
+use Rattle.jc_base.proofs.laws.concrete_decides.Goals as goal
+
+pub returns : goal.returns
+returns c = concrete-decides c.args.world.now.classes c.args.world.now.methods

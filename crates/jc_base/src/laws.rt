@@ -1,0 +1,33 @@
+ghost use Rattle.jc_base.specs.Laws.{ClassesAreObjects, InstancesExtend, PublicMethodsRun, ConcreteDecides, ImplementsDecides, ExtendsEnds};
+
+use crate::class::Classes;
+use crate::world::World;
+
+/// Every class is object or a subclass of it, and its instances begin with the cells of each superclass.
+pub fn subclasses_extend(classes: &Classes)
+    ensures objects { ClassesAreObjects classes.now }
+    ensures cells { InstancesExtend classes.now }
+{
+    let _ = classes.records();
+}
+
+/// An object runs a method of the same signature at each public token of a class that is above its own.
+pub fn public_methods_run(world: &World<'_>)
+    ensures { PublicMethodsRun world.now.classes world.now.methods }
+{
+    let _ = world.classes().records();
+}
+
+/// Whether a class is concrete is decided, and the answer is the computed one.
+pub fn concrete_decides(world: &World<'_>)
+    ensures { ConcreteDecides world.now.classes world.now.methods }
+{}
+
+/// Whether a class implements an interface is decided, and a search along the interfaces that others extend
+/// ends.
+pub fn interfaces_decide(world: &World<'_>)
+    ensures implements { ImplementsDecides world.now.classes }
+    ensures ends { ExtendsEnds world.now.classes }
+{
+    let _ = world.classes().records();
+}

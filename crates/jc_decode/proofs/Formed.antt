@@ -1,0 +1,241 @@
+-- A load or store of one of the first four registers in its short form is the same instruction, and allowed.
+use Rattle.std.proofs.Common.{◌≡◌, ◌∙◌, ◌<◌, ◌≤◌, ◌+◌, ◌-◌, ◌/◌, ◌%◌, ℕ, zero, suc, Bool, true, false, cond, Result, Ok, Err, refl, sym, ap, arith, rules}
+use Rattle.std.specs.Prelude.{ℤ, pos, negsuc, unsigned_abs, not, ◌&&◌, ◌||◌, ◌==◌, nat_le, map, replicate}
+use Rattle.std.specs.List.{range_with_len}
+use Rattle.std.proofs.lemmas.Bool.{eqb-true}
+use Rattle.std.proofs.lemmas.Bool.Decides.{nat_tests}
+use Rattle.jc_decode.specs.declared.layout.Operand.{Operand}
+use Rattle.jc_decode.specs.declared.layout.Operand.TheVariants.{Absent, U1, U2, S1, S2, S4, DupWords, SwapWords, ArrayType, TestedType}
+use Rattle.jc_decode.specs.declared.layout.Layout.{Layout}
+use Rattle.jc_decode.specs.declared.insn.Insn.{Insn}
+use Rattle.jc_decode.specs.declared.insn.CodeEnd.{CodeEnd}
+use Rattle.jc_decode.specs.Layout.{layout_of, opcode}
+use Rattle.jc_decode.specs.Listing.{jumps}
+use Rattle.jc_decode.specs.Encoding.{Allows, AllowsBy, IsAllowed}
+use Rattle.jc_decode.specs.Forms.{has_register, is_load_n, is_store_n, first_short, short_form, essence}
+use Rattle.jc_decode.proofs.Passed.{passed-at, and-parts, or-rest}
+
+abbrev pub is_absent : Operand → Bool
+is_absent Absent = true
+is_absent U1 = false
+is_absent U2 = false
+is_absent S1 = false
+is_absent S2 = false
+is_absent S4 = false
+is_absent DupWords = false
+is_absent SwapWords = false
+is_absent ArrayType = false
+is_absent TestedType = false
+
+abbrev is_byte : Operand → Bool
+is_byte U1 = true
+is_byte Absent = false
+is_byte U2 = false
+is_byte S1 = false
+is_byte S2 = false
+is_byte S4 = false
+is_byte DupWords = false
+is_byte SwapWords = false
+is_byte ArrayType = false
+is_byte TestedType = false
+
+abbrev has_none : Result Layout CodeEnd → Bool
+has_none (Ok l) = is_absent l.x && (is_absent l.y && is_absent l.z)
+has_none (Err e) = false
+
+abbrev has_byte : Result Layout CodeEnd → Bool
+has_byte (Ok l) = is_byte l.x && (is_absent l.y && is_absent l.z)
+has_byte (Err e) = false
+
+-- opcode by opcode: a load or store with its register in the opcode has no operand, one with an operand has a byte
+abbrev is_moved : ℕ → Bool
+is_moved op = not (is_load_n op || is_store_n op) || (has_none (layout_of op) && not (jumps op))
+
+abbrev is_named : ℕ → Bool
+is_named op = not (has_register op) || (has_byte (layout_of op) && (not (jumps op) && not (is_load_n op || is_store_n op)))
+
+is_moved-all : map is_moved (range_with_len 0 256) ≡ replicate 256 true
+unfolding layout_of opcode
+is_moved-all = refl
+
+is_named-all : map is_named (range_with_len 0 256) ≡ replicate 256 true
+unfolding layout_of opcode
+is_named-all = refl
+
+not-true : (a : Bool) → not a ≡ true → a ≡ false
+not-true true h = absurd (cc)
+not-true false h = refl
+
+nor-parts : (a b : Bool) → (a || b) ≡ false → (a ≡ false) × (b ≡ false)
+nor-parts true b h = absurd (cc)
+nor-parts false b h = (refl, h)
+
+absent-is : (o : Operand) (v : ℤ) → is_absent o ≡ true → Allows o v → v ≡ pos 0
+absent-is Absent v h a = a.0
+absent-is U1 v h a = absurd (cc)
+absent-is U2 v h a = absurd (cc)
+absent-is S1 v h a = absurd (cc)
+absent-is S2 v h a = absurd (cc)
+absent-is S4 v h a = absurd (cc)
+absent-is DupWords v h a = absurd (cc)
+absent-is SwapWords v h a = absurd (cc)
+absent-is ArrayType v h a = absurd (cc)
+absent-is TestedType v h a = absurd (cc)
+
+pub absent-allows : (o : Operand) → is_absent o ≡ true → Allows o (pos 0)
+absent-allows Absent h = (refl, search rules)
+absent-allows U1 h = absurd (cc)
+absent-allows U2 h = absurd (cc)
+absent-allows S1 h = absurd (cc)
+absent-allows S2 h = absurd (cc)
+absent-allows S4 h = absurd (cc)
+absent-allows DupWords h = absurd (cc)
+absent-allows SwapWords h = absurd (cc)
+absent-allows ArrayType h = absurd (cc)
+absent-allows TestedType h = absurd (cc)
+
+byte-is : (o : Operand) (v : ℤ) → is_byte o ≡ true → Allows o v → pos (unsigned_abs v) ≡ v
+byte-is U1 (pos n) h a = refl
+byte-is U1 (negsuc n) h a = absurd a.0
+byte-is Absent v h a = absurd (cc)
+byte-is U2 v h a = absurd (cc)
+byte-is S1 v h a = absurd (cc)
+byte-is S2 v h a = absurd (cc)
+byte-is S4 v h a = absurd (cc)
+byte-is DupWords v h a = absurd (cc)
+byte-is SwapWords v h a = absurd (cc)
+byte-is ArrayType v h a = absurd (cc)
+byte-is TestedType v h a = absurd (cc)
+
+-- the operands of a load or store of a register
+record IsNamed (i : Insn) : Type 0 where
+  pub x : pos (unsigned_abs i.x) ≡ i.x
+  pub y : i.y ≡ pos 0
+  pub z : i.z ≡ pos 0
+
+IsNamed-allowed : (i : Insn) (r : Result Layout CodeEnd) → has_byte r ≡ true → AllowsBy i r → IsNamed i
+IsNamed-allowed i (Err e) h a = absurd a
+IsNamed-allowed i (Ok l) h a =
+    let p = and-parts _ _ h in
+    let q = and-parts _ _ p.1 in
+    record { x = byte-is l.x i.x p.0 a.0; y = absent-is l.y i.y q.0 a.1; z = absent-is l.z i.z q.1 a.2 }
+
+AllowsBy-none : (i : Insn) (r : Result Layout CodeEnd) → has_none r ≡ true → i.x ≡ pos 0 → i.y ≡ pos 0 → i.z ≡ pos 0 → AllowsBy i r
+AllowsBy-none i (Err e) h x y z = absurd (cc)
+AllowsBy-none i (Ok l) h x y z =
+    let p = and-parts _ _ h in
+    let q = and-parts _ _ p.1 in
+    (rw x (absent-allows l.x p.0), rw y (absent-allows l.y q.0), rw z (absent-allows l.z q.1))
+
+-- the short opcode is that of a load or store with the register in it, and gives back the long one and the register
+record IsShort (op n short : ℕ) : Type 0 where
+  pub small : short < 256
+  pub moved : (is_load_n short || is_store_n short) ≡ true
+  pub long : cond (is_load_n short) (21 + (short - 24) / 4) (40 + (short - 43) / 4) ≡ op
+  pub register : cond (is_load_n short) ((short - 24) % 4) ((short - 43) % 4) ≡ n
+
+abbrev is_short : ℕ → ℕ → Bool
+is_short n op =
+    not (has_register op)
+    || ((is_load_n (first_short op + n) || is_store_n (first_short op + n))
+    && ((cond (is_load_n (first_short op + n)) (21 + (first_short op + n - 24) / 4) (40 + (first_short op + n - 43) / 4) == op)
+    && (cond (is_load_n (first_short op + n)) ((first_short op + n - 24) % 4) ((first_short op + n - 43) % 4) == n)))
+
+is_short-all0 : map (is_short 0) (range_with_len 0 256) ≡ replicate 256 true
+is_short-all0 = refl
+
+is_short-all1 : map (is_short 1) (range_with_len 0 256) ≡ replicate 256 true
+is_short-all1 = refl
+
+is_short-all2 : map (is_short 2) (range_with_len 0 256) ≡ replicate 256 true
+is_short-all2 = refl
+
+is_short-all3 : map (is_short 3) (range_with_len 0 256) ≡ replicate 256 true
+is_short-all3 = refl
+
+is_short-at : (n op : ℕ) → n ≤ 3 → op < 256 → is_short n op ≡ true
+is_short-at zero op few h = passed-at (is_short 0) is_short-all0 op h
+is_short-at (suc zero) op few h = passed-at (is_short 1) is_short-all1 op h
+is_short-at (suc (suc zero)) op few h = passed-at (is_short 2) is_short-all2 op h
+is_short-at (suc (suc (suc zero))) op few h = passed-at (is_short 3) is_short-all3 op h
+is_short-at (suc (suc (suc (suc n)))) op few h = absurd (omega arith)
+
+IsShort-at : (op n : ℕ) → op < 256 → has_register op ≡ true → n ≤ 3 → IsShort op n (first_short op + n)
+IsShort-at op n h named few =
+    let p = and-parts _ _ (or-rest (has_register op) _ (is_short-at n op few h) named) in
+    let q = and-parts _ _ p.1 in
+    record { small = small (nat_le op 23) refl; moved = p.0; long = eqb-true _ _ q.0; register = eqb-true _ _ q.1 }
+  where
+    small : (b : Bool) → nat_le op 23 ≡ b → first_short op + n < 256
+    small b e = grind (arith, nat_tests)
+
+-- a load or store with its register in the opcode, in its long form
+essence-moved : (j : Insn) (op n : ℕ) → jumps j.op ≡ false → (is_load_n j.op || is_store_n j.op) ≡ true
+    → cond (is_load_n j.op) (21 + (j.op - 24) / 4) (40 + (j.op - 43) / 4) ≡ op
+    → cond (is_load_n j.op) ((j.op - 24) % 4) ((j.op - 43) % 4) ≡ n
+    → essence j ≡ record j { op = op; x = pos n; len = 0 }
+essence-moved j op n still moved long register = by_form (is_load_n j.op) refl (is_store_n j.op) refl
+  where
+    by_form : (a : Bool) → is_load_n j.op ≡ a → (b : Bool) → is_store_n j.op ≡ b → essence j ≡ record j { op = op; x = pos n; len = 0 }
+    by_form true e b f = let l = rw e at long in let r = rw e at register in rw (still, e, l, r) refl
+    by_form false e true f = let l = rw e at long in let r = rw e at register in rw (still, e, f, l, r) refl
+    by_form false e false f = let m = rw (e, f) at moved in absurd (cc)
+
+essence-named : (i : Insn) → jumps i.op ≡ false → is_load_n i.op ≡ false → is_store_n i.op ≡ false → essence i ≡ record i { len = 0 }
+essence-named i still load store = rw (still, load, store) refl
+
+small-by : (op : ℕ) → has_register op ≡ true → op < 256
+small-by op h = grind (arith, nat_tests)
+
+few-by : (n : ℕ) → nat_le n 3 ≡ true → n ≤ 3
+few-by n h = grind (arith, nat_tests)
+
+pub short-essence : (i : Insn) → IsAllowed i → essence (short_form i) ≡ essence i
+short-essence i allowed = by_test (has_register i.op) refl (nat_le (unsigned_abs i.x) 3) refl
+  where
+    by_test : (a : Bool) → has_register i.op ≡ a → (b : Bool) → nat_le (unsigned_abs i.x) 3 ≡ b → essence (short_form i) ≡ essence i
+    by_test false e b f = rw e refl
+    by_test true e false f = rw (e, f) refl
+    by_test true e true f =
+        let small = small-by i.op e in
+        let named = and-parts _ _ (or-rest (has_register i.op) _ (passed-at is_named is_named-all i.op small) e) in
+        let still = and-parts _ _ named.1 in
+        let n = IsNamed-allowed i (layout_of i.op) named.0 allowed in
+        let few = few-by (unsigned_abs i.x) f in
+        let short = IsShort-at i.op (unsigned_abs i.x) small e few in
+        let other = and-parts _ _ (or-rest _ _ (passed-at is_moved is_moved-all (first_short i.op + unsigned_abs i.x) short.small) short.moved) in
+        let free = nor-parts _ _ (not-true _ still.1) in
+        rw (e, f)
+        (essence-moved (record i { op = first_short i.op + unsigned_abs i.x; x = pos 0 }) i.op (unsigned_abs i.x) (not-true _ other.1) short.moved short.long short.register
+        ∙ ap (λ (x : ℤ). record i { x = x; len = 0 }) n.x
+        ∙ sym (essence-named i (not-true _ still.0) free.0 free.1))
+
+pub short-allowed : (i : Insn) → IsAllowed i → IsAllowed (short_form i)
+short-allowed i allowed = by_test (has_register i.op) refl (nat_le (unsigned_abs i.x) 3) refl
+  where
+    by_test : (a : Bool) → has_register i.op ≡ a → (b : Bool) → nat_le (unsigned_abs i.x) 3 ≡ b → IsAllowed (short_form i)
+    by_test false e b f = rw e allowed
+    by_test true e false f = rw (e, f) allowed
+    by_test true e true f =
+        let small = small-by i.op e in
+        let named = and-parts _ _ (or-rest (has_register i.op) _ (passed-at is_named is_named-all i.op small) e) in
+        let n = IsNamed-allowed i (layout_of i.op) named.0 allowed in
+        let few = few-by (unsigned_abs i.x) f in
+        let short = IsShort-at i.op (unsigned_abs i.x) small e few in
+        let other = and-parts _ _ (or-rest _ _ (passed-at is_moved is_moved-all (first_short i.op + unsigned_abs i.x) short.small) short.moved) in
+        rw (e, f) (AllowsBy-none (record i { op = first_short i.op + unsigned_abs i.x; x = pos 0 }) (layout_of (first_short i.op + unsigned_abs i.x)) other.0 refl n.y n.z)
+
+pub short-jumps : (i : Insn) → jumps (short_form i).op ≡ jumps i.op
+short-jumps i = by_test (has_register i.op) refl (nat_le (unsigned_abs i.x) 3) refl
+  where
+    by_test : (a : Bool) → has_register i.op ≡ a → (b : Bool) → nat_le (unsigned_abs i.x) 3 ≡ b → jumps (short_form i).op ≡ jumps i.op
+    by_test false e b f = rw e refl
+    by_test true e false f = rw (e, f) refl
+    by_test true e true f =
+        let small = small-by i.op e in
+        let named = and-parts _ _ (or-rest (has_register i.op) _ (passed-at is_named is_named-all i.op small) e) in
+        let still = and-parts _ _ named.1 in
+        let few = few-by (unsigned_abs i.x) f in
+        let short = IsShort-at i.op (unsigned_abs i.x) small e few in
+        let other = and-parts _ _ (or-rest _ _ (passed-at is_moved is_moved-all (first_short i.op + unsigned_abs i.x) short.small) short.moved) in
+        rw (e, f) (not-true _ other.1 ∙ sym (not-true _ still.0))

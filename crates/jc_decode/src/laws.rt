@@ -1,0 +1,20 @@
+ghost use Rattle.jc_decode.specs.Laws.{BytesReadBack, LabelsStandBetween, ListingIsOne};
+
+use crate::decoding::are_bytes;
+
+/// The bytes of an instruction are decoded to it wherever they stand, and of a switch its cases too.
+pub fn bytes_read_back(bytes: &[u8])
+    ensures { BytesReadBack bytes.now }
+{
+    are_bytes(bytes);
+}
+
+/// A code has one listing, which is found instruction by instruction.
+pub fn listing_is_one()
+    ensures { ListingIsOne }
+{}
+
+/// A label stands between instructions: for the number of those before it.
+pub fn labels_stand_between()
+    ensures { LabelsStandBetween }
+{}

@@ -1,0 +1,233 @@
+-- What holds of each derived frame, and that each flow typing is above it.
+use Rattle.std.proofs.Common.{◌≡◌, ℕ, ◌+◌, ◌<◌, ◌||◌, Bool, true, false, if◌then◌else◌, List, [], ◌∷◌, ◌++◌, length, replicate, All, Option, Some, None, IsSomeAnd, MatchBool, refl, sym, ◌∙◌, ap, subst, arith, length-append, length-take}
+use Rattle.std.specs.List.{Contains}
+use Rattle.std.proofs.lemmas.List.{length-replicate}
+use Rattle.std.proofs.lemmas.List.Elements.{All-append}
+use Rattle.jc_base.specs.declared.ty.Ty.{Ty}
+use Rattle.jc_base.specs.declared.ty.Ty.TheVariants.{Bottom, Short, IntHigh, IntLow, Null, Class, ArrBool, ArrByte, ArrShort, ArrInt, ArrRef, Fresh, Top}
+use Rattle.jc_base.specs.declared.record.Handler.{Handler}
+use Rattle.jc_base.specs.Class.{ClassTable, IsClass, is_interface}
+use Rattle.jc_base.specs.Cell.{IsDeclared}
+use Rattle.jc_base.specs.Order.{IsKnown}
+use Rattle.jc_base.specs.Linked.{IsMethod, IsHandler, IsCodeLength, list_at, lacks_code, receiver_words}
+use Rattle.jc_base.specs.World.{Linked}
+use Rattle.jc_rules.specs.FlowLaws.{AreRules}
+use Rattle.jc_base.proofs.Lists.{All-slice_get}
+use Rattle.jc_base.proofs.Joins.{IsJoin-known}
+use Rattle.jc_decode.specs.declared.insn.Placed.{Placed}
+use Rattle.jc_ops.proofs.Members.{declared-known}
+use Rattle.jc_rules.specs.declared.effect.Mode.TheVariants.{Flow}
+use Rattle.jc_rules.specs.Demand.{Frame, AreKnown}
+use Rattle.jc_control.specs.Method.{Method, IsMethodOf}
+use Rattle.jc_control.specs.WellFormed.{Stands}
+use Rattle.jc_control.specs.Control.{IsReached, begins, follows, caught}
+use Rattle.jc_rules.specs.Flow.{IsFit, FrameBelow, At, Merges, Steps, site_of, start_frame, caught_frame, receiver_of, IsNotFresh, IsDerived, derived_start, derived_caught, derived_next, derived_joined, FlowTyping, IsFollowed}
+use Rattle.jc_rules.specs.Laws.{IsNotBottom, Keeps, FallsTo}
+use Rattle.jc_rules.proofs.CellLists.{cells-same}
+use Rattle.jc_flow.proofs.Frames.{all_none, all_more, all_same, frame-trans, join-least, join-length, join-all, full-join}
+
+-- ---- elements
+
+pub all_contained : {X : Type 0} (P : X → Type 0) (xs : List X) (x : X) → All P xs → Contains xs x → P x
+all_contained P xs x all here = subst P here.2 (all here.0 x here.1)
+
+pub some_both : {X : Type 0} (P Q R : X → Type 0) (o : Option X) → ((x : X) → o ≡ Some x → P x → Q x → R x) → IsSomeAnd o P → IsSomeAnd o Q → IsSomeAnd o R
+some_both P Q R None f p q = p
+some_both P Q R (Some x) f p q = f x refl p q
+
+pub some_to : {X : Type 0} (P : X → Type 0) (R : Type 0) (o : Option X) → ((x : X) → o ≡ Some x → P x → R) → IsSomeAnd o P → R
+some_to P R None f p = absurd p
+some_to P R (Some x) f p = f x refl p
+
+pub some_map : {X : Type 0} (P Q : X → Type 0) (o : Option X) → ((x : X) → P x → Q x) → IsSomeAnd o P → IsSomeAnd o Q
+some_map P Q None f p = p
+some_map P Q (Some x) f p = f x p
+
+pub some_at : {X : Type 0} (P : X → Type 0) {o : Option X} {x : X} → o ≡ Some x → IsSomeAnd o P → P x
+some_at P {o} {x} e h = subst (λ r. IsSomeAnd r P) e h
+
+pub at_some : {X : Type 0} (P : X → Type 0) {o : Option X} {x : X} → o ≡ Some x → P x → IsSomeAnd o P
+at_some P {o} {x} e h = subst (λ r. IsSomeAnd r P) (sym e) h
+
+declared-ready : (t : ClassTable) (ty : Ty) → IsDeclared t ty → IsNotFresh ty
+declared-ready t Bottom h = tt
+declared-ready t Short h = tt
+declared-ready t IntHigh h = tt
+declared-ready t IntLow h = tt
+declared-ready t Null h = tt
+declared-ready t (Class c) h = tt
+declared-ready t ArrBool h = tt
+declared-ready t ArrByte h = tt
+declared-ready t ArrShort h = tt
+declared-ready t ArrInt h = tt
+declared-ready t (ArrRef c) h = tt
+declared-ready t (Fresh p c) h = h
+declared-ready t Top h = tt
+
+right_of_or : (a b : Bool) → (a || b) ≡ false → b ≡ false
+right_of_or true b e = absurd (cc)
+right_of_or false b e = e
+
+has_code : (b : Bool) (n : ℕ) → MatchBool b (n ≡ 0) (IsCodeLength n) → 0 < n → b ≡ false
+has_code true n h lt = absurd (omega arith)
+has_code false n h lt = refl
+
+module _ (w : Linked) (is : AreRules w) (m : Method) (mo : IsMethodOf w m) where
+  -- ---- the method
+
+  pub of_world : IsMethod w.infos w.pools w.classes m.rec
+  of_world = All-slice_get (IsMethod w.infos w.pools w.classes) w.methods m.number m.rec is.world.methods mo.rec
+
+  pub handler_of : (h : Handler) → Contains m.rec.handlers h → IsHandler w.classes (list_at w.pools m.rec.package) m.rec.code_len h
+  handler_of h c = all_contained (IsHandler w.classes (list_at w.pools m.rec.package) m.rec.code_len) m.rec.handlers h of_world.handlers c
+
+  own_class : IsClass w.classes m.rec.class
+  own_class =
+      let size : length m.code ≡ _ = ap length mo.code ∙ length-take m.rec.code_len _ in
+      let filled : 0 < m.rec.code_len = omega (arith, mo.filled) in
+      record {
+        number = of_world.class;
+        class = right_of_or m.rec.is_abstract (is_interface w.classes m.rec.class) (has_code (lacks_code w.classes m.rec) m.rec.code_len of_world.code filled);
+      }
+
+  -- ---- the frame of a derived state
+
+  pub record IsFine (f : Frame) : Type 0 where
+    pub known : AreKnown w.classes f
+    pub count : length f.regs ≡ m.rec.nargs + m.rec.max_locals
+    pub no_fresh : All IsNotFresh f.regs
+    pub no_bottom : All IsNotBottom f.stack
+
+  module _ (P : Ty → Type 0) (class : P (Class m.rec.class)) (declared : (ty : Ty) → IsDeclared w.classes ty → P ty) (top : P Top) where
+    receiver-all : (b : Bool) → All P (if b then [] else Class m.rec.class ∷ [])
+    receiver-all true = all_none P
+    receiver-all false = all_more P (Class m.rec.class) [] class (all_none P)
+
+    start-all : All P (start_frame m.rec Top).regs
+    start-all =
+        All-append P (receiver_of m.rec ++ m.rec.sig.args) (replicate m.rec.max_locals Top)
+        (All-append P (receiver_of m.rec) m.rec.sig.args (receiver-all m.rec.is_static) (λ k d lt. declared _ (of_world.arguments k d lt)))
+        (all_same P m.rec.max_locals Top top)
+
+  receiver-length : (b : Bool) → length (if b then [] else Class m.rec.class ∷ []) ≡ receiver_words b
+  receiver-length true = refl
+  receiver-length false = refl
+
+  start-length : length (start_frame m.rec Top).regs ≡ m.rec.nargs + m.rec.max_locals
+  start-length =
+      length-append (receiver_of m.rec ++ m.rec.sig.args) (replicate m.rec.max_locals Top)
+      ∙ omega (arith, length-append (receiver_of m.rec) m.rec.sig.args, length-replicate m.rec.max_locals Top, receiver-length m.rec.is_static, of_world.words)
+
+  pub start-fine : IsFine (start_frame m.rec Top)
+  start-fine = record {
+    known = record {
+      few = omega (arith, start-length, of_world.registers);
+      regs = start-all (IsKnown w.classes) own_class (declared-known w.classes) tt;
+      stack = all_none (IsKnown w.classes);
+      object = is.world.chains.objects;
+    };
+    count = start-length;
+    no_fresh = start-all IsNotFresh tt (declared-ready w.classes) tt;
+    no_bottom = all_none IsNotBottom;
+  }
+
+  pub caught-fine : (h : Handler) (f : Frame) → Contains m.rec.handlers h → IsFine f → IsFine (caught_frame h f)
+  caught-fine h f c fine = record {
+    known = record {
+      few = fine.known.few;
+      regs = fine.known.regs;
+      stack = all_more (IsKnown w.classes) (Class h.class) [] (handler_of h c).class (all_none (IsKnown w.classes));
+      object = fine.known.object;
+    };
+    count = fine.count;
+    no_fresh = fine.no_fresh;
+    no_bottom = all_more IsNotBottom (Class h.class) [] tt (all_none IsNotBottom);
+  }
+
+  pub step-keeps : (i : Placed) (f g : Frame) → IsFine f → Steps w m i f g → Keeps w f g
+  step-keeps i f g fine s = is.keeps (site_of m i.place) i.insn Flow f g s.0 fine.known s.1
+
+  pub step-fine : (i : Placed) (f g : Frame) → IsFine f → Steps w m i f g → IsFine g
+  step-fine i f g fine s = let k = step-keeps i f g fine s in record {
+    known = k.known;
+    count = k.count ∙ fine.count;
+    no_fresh = k.no_fresh fine.no_fresh;
+    no_bottom = k.no_bottom fine.no_bottom;
+  }
+
+  pub joined-fine : (f g j : Frame) → IsFine f → IsFine g → Merges w.classes f g j → IsFine j
+  joined-fine f g j a b merges = record {
+    known = record {
+      few = omega (arith, join-length w.classes merges.regs, a.known.few);
+      regs = join-all w.classes (IsKnown w.classes) (λ a b j known others join. IsJoin-known w.classes is.world.chains known others join) merges.regs a.known.regs b.known.regs;
+      stack = join-all w.classes (IsKnown w.classes) (λ a b j known others join. IsJoin-known w.classes is.world.chains known others join) merges.stack a.known.stack b.known.stack;
+      object = a.known.object;
+    };
+    count = join-length w.classes merges.regs ∙ a.count;
+    no_fresh = join-all w.classes IsNotFresh (is.ready) merges.regs a.no_fresh b.no_fresh;
+    no_bottom = join-all w.classes IsNotBottom (full-join w.classes is.world.chains) merges.stack a.no_bottom b.no_bottom;
+  }
+
+  pub derived-fine : {p : ℕ} {f : Frame} → IsDerived w m Top p f → IsFine f
+  derived-fine derived_start = start-fine
+  derived-fine (derived_caught {h} {p} {f} d c cov) = caught-fine h f c (derived-fine d)
+  derived-fine (derived_next {i} {q} {f} {g} d st s to) = step-fine i f g (derived-fine d) s
+  derived-fine (derived_joined {p} {f} {g} {j} d e merges) = joined-fine f g j (derived-fine d) (derived-fine e) merges
+
+  -- ---- flow typings are above
+
+  module _ (frames : ℕ → Option Frame) (ty : FlowTyping w m Top frames) where
+    -- at the place of a lesser frame the rule applies, with a result below that of the typing
+    pub record Follows (i : Placed) (f : Frame) : Type 0 where
+      pub greater : Frame
+      pub above : FrameBelow w.classes f greater
+      pub there : frames i.place ≡ Some greater
+      pub followed : IsFollowed w m frames i greater
+      pub fallen : FallsTo w (site_of m i.place) i.insn Flow f followed.after
+
+    pub followed-below : (i : Placed) (f : Frame) → IsFine f → IsReached m i.place → Stands m.code i → At frames i.place (FrameBelow w.classes f) → Follows i f
+    followed-below i f fine reached st below =
+        some_to (FrameBelow w.classes f) (Follows i f) (frames i.place)
+        (λ g there le.
+        let followed : IsFollowed w m frames i g = some_at (IsFollowed w m frames i) there (ty.rules i st reached) in
+        let fit = some_at (IsFit m) there (ty.fit i.place reached) in
+        record {
+          greater = g;
+          above = le;
+          there = there;
+          followed = followed;
+          fallen = is.falls (site_of m i.place) i.insn Flow g f followed.after followed.steps.0 le fit.no_top fine.no_bottom followed.steps.1;
+        }) below
+
+    -- what the rule gives for the lesser frame is below what it gives for the greater one
+    pub step-below : (i : Placed) (f g : Frame) → (s : Follows i f) → Steps w m i f g → FrameBelow w.classes g s.followed.after
+    step-below i f g s steps = subst (λ x. FrameBelow w.classes x s.followed.after) ((is.decides (site_of m i.place) i.insn Flow f).one s.fallen.applies steps.1) s.fallen.lower
+
+    pub record IsUnder (p : ℕ) (f : Frame) : Type 0 where
+      pub reached : IsReached m p
+      pub below : At frames p (FrameBelow w.classes f)
+
+    pub derived-under : {p : ℕ} {f : Frame} → IsDerived w m Top p f → IsUnder p f
+    derived-under derived_start = record { reached = begins; below = ty.start }
+    derived-under (derived_caught {h} {p} {f} d c cov) = let u = derived-under d in record {
+      reached = caught u.reached c cov;
+      below = some_to (FrameBelow w.classes f) (At frames h.entry (FrameBelow w.classes (caught_frame h f))) (frames p)
+          (λ g there le. some_map (FrameBelow w.classes (caught_frame h g)) (FrameBelow w.classes (caught_frame h f)) (frames h.entry)
+          (λ k above. frame-trans w.classes (record { regs = le.regs; stack = cells-same w.classes (Class h.class ∷ []) }) above)
+          (some_at (λ g. At frames h.entry (FrameBelow w.classes (caught_frame h g))) there (ty.handlers p h u.reached c cov))) u.below;
+    }
+    derived-under (derived_next {i} {q} {f} {g} d st s to) =
+        let u = derived-under d in
+        let follow = followed-below i f (derived-fine d) u.reached st u.below in
+        record {
+          reached = follows st u.reached to;
+          below = some_map (FrameBelow w.classes follow.followed.after) (FrameBelow w.classes g) (frames q) (λ k above. frame-trans w.classes (step-below i f g follow s) above) (follow.followed.below q to);
+        }
+    derived-under (derived_joined {p} {f} {g} {j} d e merges) =
+        let u = derived-under d in
+        let v = derived-under e in
+        record {
+          reached = u.reached;
+          below = some_both (FrameBelow w.classes f) (FrameBelow w.classes g) (FrameBelow w.classes j) (frames p)
+              (λ k there a b. record { regs = join-least w.classes merges.regs a.regs b.regs; stack = join-least w.classes merges.stack a.stack b.stack }) u.below v.below;
+        }

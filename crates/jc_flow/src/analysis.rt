@@ -1,0 +1,128 @@
+ghost use Rattle.std.specs.Prelude.{◌≡◌, ◌+◌, ◌<◌, ◌≤◌, length, reverse, All, Contains, IfOk, IfErr, OnOk, IsTrue, MatchBool, MatchResult};
+ghost use Rattle.jc_decode.specs.Listing.{falls, jumps};
+ghost use Rattle.jc_control.specs.Control.{IsLeader};
+ghost use Rattle.jc_rules.specs.Flow.{IsNotFresh};
+ghost use Rattle.jc_flow.specs.Found.{Prevents};
+ghost use Rattle.jc_flow.specs.Progress.{IsHeld, AreHeld};
+ghost use Rattle.jc_flow.specs.Scratch.{SuitsMethod};
+ghost use Rattle.jc_flow.specs.Fails.{IsFailure};
+ghost use Rattle.jc_flow.specs.Visit.{analysed, world_of, IsAnalysis, Raised, HasStepped};
+
+use crate::end::FlowEnd;
+use crate::scratch::Scratch;
+use crate::table::{PutEnd, Table};
+use cap_bytes::View;
+use jc_base::{MethodRec, Ty, World};
+use jc_control::ControlFlow;
+use jc_decode::{Insn, decode};
+use jc_ops::RuleFault;
+use jc_rules::Site;
+use std::alloc::Global;
+
+/// The dataflow analysis of a well-formed method.
+#[derive(Clone, Copy)]
+pub struct Analysis<'a> {
+    pub world: &'a World<'a>,
+    pub number: u16,
+    pub rec: &'a MethodRec,
+    pub code: View<'a>,
+    pub control: &'a ControlFlow,
+}
+
+impl Analysis<'_> {
+    /// Puts a frame at a place: the registers, and the stack with its top last.
+    pub fn raise(
+        &self,
+        alloc: Global,
+        table: &mut Table,
+        to: u16,
+        regs: &[Ty],
+        stack: &[Ty],
+    ) -> Result<(), PutEnd>
+        requires analysis { IsAnalysis self.now }
+        requires few { length stack.now ≤ 255 }
+        requires held { AreHeld (world_of self.now) (analysed self.now) table.old }
+        requires frame { IsHeld (world_of self.now) (analysed self.now) to (record { regs = regs.now; stack = reverse stack.now }) }
+        ensures { MatchResult result
+            (λ _.
+            Raised (world_of self.now) (analysed self.now) table.old table.new to
+            (record { regs = regs.now; stack = reverse stack.now }))
+            (Prevents self.now.world.now.classes table.old to
+            (record { regs = regs.now; stack = reverse stack.now })) }
+    {
+        table.put(alloc, self.world.classes(), to, regs, stack)
+    }
+
+    /// Whether an uninitialised object on the stack would come to a leader.
+    pub fn keeps_fresh(&self, to: u16, stack: &[Ty]) -> bool
+        requires { IsAnalysis self.now }
+        ensures { MatchBool result
+            (IsLeader (analysed self.now) to × ¬ (All IsNotFresh stack.now))
+            (IsLeader (analysed self.now) to → All IsNotFresh stack.now) }
+    {
+        self.control.is_leader(to) && has_fresh(stack)
+    }
+
+    /// Applies the rule of the instruction at a place.
+    pub fn step(&self, place: u16, frame: &mut Scratch) -> Result<Insn, FlowEnd>
+        requires analysis { IsAnalysis self.now }
+        requires here { IsHeld (world_of self.now) (analysed self.now) place frame.old.frame }
+        requires suits { SuitsMethod frame.old self.now.rec.now }
+        ensures stepped { IfOk result (HasStepped (world_of self.now) (analysed self.now) place frame.old.frame frame.new.frame) }
+        ensures suits { OnOk result (SuitsMethod frame.new self.now.rec.now) }
+        ensures failed { IfErr result (IsFailure (world_of self.now) (analysed self.now)) }
+    {
+        let insn = match decode(self.code, place) {
+            Ok(insn) => insn,
+            Err(end) => return Err(FlowEnd::Code(place, end)),
+        };
+        let site = Site {
+            method: self.number,
+            place,
+        };
+        if let Err(fault) = frame.apply(self.world, site, insn) {
+            return Err(FlowEnd::NoTyping(place, fault));
+        }
+        if jumps_with_fresh(insn, frame.stack()) {
+            return Err(FlowEnd::NoTyping(place, RuleFault::FreshKept));
+        }
+        if self.falls_off(place, insn) {
+            return Err(FlowEnd::FallsOff(place));
+        }
+        Ok(insn)
+    }
+
+    /// Whether control falls past the end of the code after the instruction.
+    fn falls_off(&self, place: u16, insn: Insn) -> bool
+        ensures { MatchBool result
+            (IsTrue (falls insn.op) × (length self.now.code.bytes.now ≤ place + insn.len))
+            (IsTrue (falls insn.op) → place + insn.len < length self.now.code.bytes.now) }
+    {
+        insn.falls() && self.code.bytes.len() as u64 <= u64::from(place) + u64::from(insn.len)
+    }
+}
+
+/// Whether an uninitialised object is under the operands of a branch or switch.
+fn jumps_with_fresh(insn: Insn, stack: &[Ty]) -> bool
+    ensures { MatchBool result (IsTrue (jumps insn.op) × ¬ (All IsNotFresh stack.now)) (IsTrue (jumps insn.op) → All IsNotFresh stack.now) }
+{
+    insn.jumps() && has_fresh(stack)
+}
+
+fn is_fresh(ty: Ty) -> bool
+    ensures { MatchBool result (¬ (IsNotFresh ty)) (IsNotFresh ty) }
+{
+    matches!(ty, Ty::Fresh { .. })
+}
+
+/// Whether a cell holds an uninitialised object.
+fn has_fresh(cells: &[Ty]) -> bool
+    ensures { MatchBool result (¬ (All IsNotFresh cells.now)) (All IsNotFresh cells.now) }
+{
+    'cells: for cell in cells {
+        if is_fresh(*cell) {
+            return true;
+        }
+    }
+    false
+}

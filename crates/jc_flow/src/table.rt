@@ -1,0 +1,188 @@
+ghost use Rattle.std.specs.Prelude.{◌≡◌, ◌<◌, ◌≤◌, Some, None, true, false, length, replicate, reverse, All, IfOk, IfErr, OnOk, IfSome, IsSome, MatchOption, MatchResult, option_copied, slice_set, slice_index_or};
+ghost use Rattle.std.specs.List.{AllWithin};
+ghost use Rattle.jc_base.specs.Order.{IsKnown};
+ghost use Rattle.jc_rules.specs.Demand.{Frame};
+ghost use Rattle.jc_rules.specs.Typing.{state_at, Clashes};
+ghost use Rattle.jc_flow.specs.Found.{Found, IsPending, IsLeastPending, NonePending, taken, with_state, HasKnown, Lands, Prevents, IsMergedThere};
+
+use jc_base::{Classes, Ty};
+use jc_rules::{Merged, State, Typing};
+use std::alloc::{AllocError, Global};
+use std::marker::Model;
+
+/// The state that is found for each place of a method's code, and which places wait.
+#[derive(Drop)]
+pub struct Table {
+    states: Vec<Option<State>>,
+    pending: Vec<bool>,
+    /// No place before this one waits.
+    low: usize,
+}
+
+impl Model for Table {
+    ghost use Rattle.jc_flow.specs.Found.{Found};
+
+    ghost Value = { Found };
+
+    ghost use Rattle.std.specs.Prelude.{length};
+    ghost use Rattle.jc_flow.specs.Found.{AreFlags};
+
+    ghost view = { λ t. record { states = t.states.items; pending = t.pending.items } };
+
+    ghost invariant = { λ t. AreFlags (length t.states.items) t.pending.items t.low };
+}
+
+/// Why a state was not put into the table.
+#[derive(Clone, Copy)]
+pub enum PutEnd {
+    /// Its stack does not merge with the one that stands there.
+    Clash,
+    Memory,
+}
+
+impl From<AllocError> for PutEnd {
+    ghost use Rattle.jc_flow.specs.declared.table.PutEnd.TheVariants.{Memory};
+
+    ghost from_gives = { λ f e. e ≡ Memory };
+
+    fn from(_error: AllocError) -> PutEnd {
+        PutEnd::Memory
+    }
+}
+
+impl Table {
+    /// The empty table of so many places.
+    pub fn new(alloc: Global, places: usize) -> Result<Table, AllocError>
+        requires { places ≤ 65535 }
+        ensures { IfOk result (λ t. t ≡ record { states = replicate places None; pending = replicate places false }) }
+    {
+        let mut states = Vec::with_capacity(alloc, places)?;
+        for _ in 0..places {
+            states.push(None)?;
+        }
+        Ok(Table {
+            states,
+            pending: vec![in alloc; false; places]?,
+            low: 0,
+        })
+    }
+
+    /// The state at a place.
+    #[tactic(auto, unfolding(jc_rules::specs::Typing::state_at))]
+    pub fn state(&self, place: u16) -> Option<&State>
+        ensures { option_copied result ≡ state_at self.now.states place }
+    {
+        match self.states.as_slice().get(place as usize) {
+            Some(Some(state)) => Some(state),
+            _ => None,
+        }
+    }
+
+    /// The least place that waits. It waits no more.
+    pub fn take_least(&mut self) -> Option<u16>
+        ensures { MatchOption result
+            (NonePending self.old × (self.new ≡ self.old))
+            (λ p. IsLeastPending self.old p × (self.new ≡ taken self.old p)) }
+    {
+        let place = next_set(self.pending.as_slice(), self.low);
+        self.low = place;
+        if place == self.pending.len() {
+            return None;
+        }
+        self.pending[place] = false;
+        Some(place as u16)
+    }
+
+    /// Puts a state at a place: the registers, and the stack with its top last. It is merged with the one that
+    /// stands there. After an end the table is of no more use.
+    pub fn put(
+        &mut self,
+        alloc: Global,
+        classes: &Classes,
+        place: u16,
+        regs: &[Ty],
+        stack: &[Ty],
+    ) -> Result<(), PutEnd>
+        requires place { place < length self.old.states }
+        requires few { length stack.now ≤ 255 }
+        requires regs_known { All (IsKnown classes.now) regs.now }
+        requires stack_known { All (IsKnown classes.now) stack.now }
+        requires held_known { IfSome (state_at self.old.states place) (HasKnown classes.now (length regs.now)) }
+        ensures { MatchResult result
+            (λ _.
+            Lands classes.now self.old place
+            (record { regs = regs.now; stack = reverse stack.now }) self.new)
+            (Prevents classes.now self.old place
+            (record { regs = regs.now; stack = reverse stack.now })) }
+    {
+        if self.state(place).is_none() {
+            self.states[place as usize] = Some(copied(alloc, regs, stack)?);
+            self.wait(place as usize);
+            return Ok(());
+        }
+        match merge(&mut self.states[place as usize], classes, regs, stack) {
+            Merged::Same => Ok(()),
+            Merged::Risen => {
+                self.wait(place as usize);
+                Ok(())
+            }
+            Merged::Clashing => Err(PutEnd::Clash),
+        }
+    }
+
+    /// The states that were found.
+    pub fn into_typing(self) -> Typing
+        ensures { result ≡ self.states }
+    {
+        Typing::of(self.states)
+    }
+
+    /// The place waits.
+    fn wait(&mut self, place: usize)
+        requires { place < length self.old.states }
+        ensures { self.new ≡ record { states = self.old.states; pending = slice_set self.old.pending place true } }
+    {
+        self.pending[place] = true;
+        self.low = self.low.min(place);
+    }
+}
+
+/// A state of these registers and of this stack, with its top last.
+fn copied(alloc: Global, regs: &[Ty], stack: &[Ty]) -> Result<State, AllocError>
+    requires { length stack.now ≤ 255 }
+    ensures { IfOk result (λ s. s ≡ record { regs = regs.now; stack = reverse stack.now }) }
+{
+    Ok(State::of(regs.to_vec(alloc)?, stack.to_vec(alloc)?))
+}
+
+/// Merges registers and a stack into the state that is there.
+fn merge(there: &mut Option<State>, classes: &Classes, regs: &[Ty], stack: &[Ty]) -> Merged
+    requires there { IsSome there.old }
+    requires regs_known { All (IsKnown classes.now) regs.now }
+    requires stack_known { All (IsKnown classes.now) stack.now }
+    requires held_known { IfSome there.old (HasKnown classes.now (length regs.now)) }
+    ensures { IsMergedThere classes.now there.old (record { regs = regs.now; stack = reverse stack.now }) there.new result }
+{
+    match there {
+        Some(state) => state.merge(classes, regs, stack),
+        None => unreachable!(),
+    }
+}
+
+/// The first flag from a place on that is set, or the number of flags.
+fn next_set(flags: &[bool], from: usize) -> usize
+    requires { from ≤ length flags.now }
+    ensures after { from ≤ result }
+    ensures within { result ≤ length flags.now }
+    ensures none_before { AllWithin (λ b. b ≡ false) flags.now from result }
+    ensures set { result < length flags.now → slice_index_or flags.now result false ≡ true }
+{
+    let mut at = from;
+    'search: while at < flags.len() {
+        if flags[at] {
+            return at;
+        }
+        at += 1;
+    }
+    at
+}

@@ -1,0 +1,260 @@
+ghost use Rattle.std.specs.Prelude.{◌≡◌, ◌<◌, length, IfSome, Some, slice_get};
+ghost use Rattle.jc_base.specs.Class.{IsClass};
+ghost use Rattle.jc_base.specs.declared.record.Member.TheVariants.{Super, StaticCall};
+ghost use Rattle.jc_base.specs.Dispatch.{entry_at};
+ghost use Rattle.jc_base.specs.Linked.{lacks_code};
+ghost use Rattle.jc_base.specs.World.{member_at};
+ghost use Rattle.jc_ops.specs.Resolve.{virtual_callee, entry_callee, special_callee, static_callee, interface_callee, described_callee, is_described, only, described, callee, own_receiver};
+ghost use Rattle.jc_ops.specs.Sound.{TakesReceiver};
+
+use crate::fault::RuleFault;
+use crate::named::{byte_of, member, short_of};
+use crate::operation::{Callee, Choice};
+use crate::row::Invocation;
+use crate::want::Want;
+use jc_base::{Dispatch, Member, MethodRec, Ty, World};
+use jc_decode::Insn;
+
+/// The entry of a class's own dispatch lists.
+fn entry(world: &World<'_>, class: u16, token: u8) -> Option<u16>
+    requires { IsClass world.now.classes class }
+    ensures { result ≡ entry_at world.now.classes class token }
+{
+    let record = world.class(class);
+    if token < 128 {
+        number_at(&record.public, token as usize)
+    } else {
+        number_at(&record.visible, token as usize - 128)
+    }
+}
+
+fn number_at(list: &Dispatch, n: usize) -> Option<u16>
+    ensures { result ≡ slice_get list.now n }
+{
+    list.as_slice().get(n).copied()
+}
+
+fn virtual_callee(world: &World<'_>, package: u16, pool: u16) -> Result<Callee, RuleFault>
+    requires { «package» < length world.now.infos }
+    ensures { result ≡ virtual_callee world.now pool (member_at world.now «package» pool) }
+{
+    match member(world, package, pool) {
+        Some(Member::Virtual { class, token }) => entry_callee(
+            world,
+            pool,
+            class,
+            token,
+            entry(world, class, token),
+        ),
+        _ => Err(RuleFault::BadMember(pool)),
+    }
+}
+
+/// The method of a dispatch list's entry. An array may be the receiver of a method of object.
+fn entry_callee(
+    world: &World<'_>,
+    pool: u16,
+    class: u16,
+    token: u8,
+    entry: Option<u16>,
+) -> Result<Callee, RuleFault>
+    requires { IfSome entry (TakesReceiver world.now.methods) }
+    ensures { result ≡ entry_callee world.now pool class token entry }
+{
+    let Some(method) = entry else {
+        return Err(RuleFault::BadMember(pool));
+    };
+    if class == world.role(0) && world.method(method).is_abstract {
+        return Err(RuleFault::BadMember(pool));
+    }
+    Ok(Callee {
+        method,
+        receiver: Some(Want::Value(Ty::Class(class))),
+        choice: Choice::Virtual { class, token },
+    })
+}
+
+/// Whether a method has no code: an abstract one, or one of an interface.
+fn lacks_code(world: &World<'_>, method: &MethodRec) -> bool
+    requires { method.now.class < length world.now.classes.records }
+    ensures { result ≡ lacks_code world.now.classes method.now }
+{
+    method.is_abstract || world.classes().is_interface(method.class)
+}
+
+fn super_callee(world: &World<'_>, pool: u16, class: u16, method: u16) -> Result<Callee, RuleFault>
+    requires { TakesReceiver world.now.methods method }
+    ensures { result ≡ special_callee world.now pool (Some (Super class method)) }
+{
+    if lacks_code(world, world.method(method)) {
+        return Err(RuleFault::BadMember(pool));
+    }
+    Ok(Callee {
+        method,
+        receiver: Some(Want::Value(Ty::Class(class))),
+        choice: Choice::Special,
+    })
+}
+
+/// What receives a method that is called without dispatch.
+fn own_receiver(method: &MethodRec) -> Want
+    ensures { result ≡ own_receiver method.now }
+{
+    if method.is_init {
+        Want::Receiver(method.class)
+    } else {
+        Want::Value(Ty::Class(method.class))
+    }
+}
+
+/// A private method or a constructor.
+fn own_callee(world: &World<'_>, pool: u16, number: u16) -> Result<Callee, RuleFault>
+    requires { number < length world.now.methods }
+    ensures { result ≡ special_callee world.now pool (Some (StaticCall number)) }
+{
+    let method = world.method(number);
+    if method.is_static || lacks_code(world, method) {
+        return Err(RuleFault::BadMember(pool));
+    }
+    Ok(Callee {
+        method: number,
+        receiver: Some(own_receiver(method)),
+        choice: Choice::Special,
+    })
+}
+
+fn special_callee(world: &World<'_>, package: u16, pool: u16) -> Result<Callee, RuleFault>
+    requires { «package» < length world.now.infos }
+    ensures { result ≡ special_callee world.now pool (member_at world.now «package» pool) }
+{
+    match member(world, package, pool) {
+        Some(Member::Super { class, method }) => super_callee(world, pool, class, method),
+        Some(Member::StaticCall { method }) => own_callee(world, pool, method),
+        _ => Err(RuleFault::BadMember(pool)),
+    }
+}
+
+fn static_callee(world: &World<'_>, package: u16, pool: u16) -> Result<Callee, RuleFault>
+    requires { «package» < length world.now.infos }
+    ensures { result ≡ static_callee world.now pool (member_at world.now «package» pool) }
+{
+    match member(world, package, pool) {
+        Some(Member::StaticCall { method: number }) => static_method(world, pool, number),
+        _ => Err(RuleFault::BadMember(pool)),
+    }
+}
+
+fn static_method(world: &World<'_>, pool: u16, number: u16) -> Result<Callee, RuleFault>
+    requires { number < length world.now.methods }
+    ensures { result ≡ static_callee world.now pool (Some (StaticCall number)) }
+{
+    let method = world.method(number);
+    if !method.is_static || method.is_init || lacks_code(world, method) {
+        return Err(RuleFault::BadMember(pool));
+    }
+    Ok(Callee {
+        method: number,
+        receiver: None,
+        choice: Choice::Static,
+    })
+}
+
+/// Whether the interface describes the method under the token.
+fn is_described(method: &MethodRec, interface: u16, token: u8) -> bool
+    ensures { result ≡ is_described interface token method.now }
+{
+    method.class == interface && method.token == token
+}
+
+/// The number of the method that the interface describes under the token, where there is one only.
+fn only_described(world: &World<'_>, interface: u16, token: u8) -> Option<u16>
+    ensures is { result ≡ only (described world.now.methods interface token) }
+    ensures inside { IfSome result (λ n. n < length world.now.methods) }
+{
+    let mut found = None;
+    'methods: for n in 0..world.method_count() {
+        if is_described(world.method(n), interface, token) {
+            match found {
+                Some(_) => return None,
+                None => found = Some(n),
+            }
+        }
+    }
+    found
+}
+
+/// The method that an interface describes; its argument words and the receiver are `words`.
+fn described_callee(
+    world: &World<'_>,
+    pool: u16,
+    words: u8,
+    class: u16,
+    token: u8,
+    described: Option<u16>,
+) -> Result<Callee, RuleFault>
+    requires { IfSome described (λ n. n < length world.now.methods) }
+    ensures { result ≡ described_callee world.now pool words class token described }
+{
+    let Some(method) = described else {
+        return Err(RuleFault::BadMember(pool));
+    };
+    if world.method(method).sig.args.len() + 1 != words as usize {
+        return Err(RuleFault::BadMember(pool));
+    }
+    Ok(Callee {
+        method,
+        receiver: Some(Want::Value(Ty::Class(world.role(0)))),
+        choice: Choice::Interface {
+            class,
+            token,
+            words,
+        },
+    })
+}
+
+fn interface_callee(
+    world: &World<'_>,
+    package: u16,
+    pool: u16,
+    words: u8,
+    token: u8,
+) -> Result<Callee, RuleFault>
+    requires { «package» < length world.now.infos }
+    ensures { result ≡ interface_callee world.now pool words token (member_at world.now «package» pool) }
+{
+    match member(world, package, pool) {
+        Some(Member::ClassOf { class }) if world.classes().is_interface(class) => described_callee(
+            world,
+            pool,
+            words,
+            class,
+            token,
+            only_described(world, class, token),
+        ),
+        _ => Err(RuleFault::BadMember(pool)),
+    }
+}
+
+/// The method that is called.
+pub(crate) fn callee(
+    world: &World<'_>,
+    package: u16,
+    insn: Insn,
+    by: Invocation,
+) -> Result<Callee, RuleFault>
+    requires { «package» < length world.now.infos }
+    ensures { result ≡ callee world.now «package» insn by }
+{
+    match by {
+        Invocation::Virtual => virtual_callee(world, package, short_of(insn.x)),
+        Invocation::Special => special_callee(world, package, short_of(insn.x)),
+        Invocation::Static => static_callee(world, package, short_of(insn.x)),
+        Invocation::Interface => interface_callee(
+            world,
+            package,
+            short_of(insn.y),
+            byte_of(insn.x),
+            byte_of(insn.z),
+        ),
+    }
+}

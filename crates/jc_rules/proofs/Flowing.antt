@@ -1,0 +1,85 @@
+-- Laws of frames and of dataflow typings.
+use Rattle.std.proofs.Common.{◌≡◌, ℕ, zero, suc, ◌+◌, ◌<◌, List, [], ◌∷◌, ◌++◌, length, reverse, replicate, map, get_or, All, Bool, true, false, if◌then◌else◌, Option, Some, None, IsSomeAnd, Result, Ok, Err, refl, sym, ◌∙◌, ap, subst, arith, append_assoc}
+use Rattle.std.specs.List.{range_with_len}
+use Rattle.std.proofs.lemmas.List.{reverse-append}
+use Rattle.jc_base.specs.declared.ty.Ty.{Ty}
+use Rattle.jc_base.specs.declared.ty.Ty.TheVariants.{Bottom, Top}
+use Rattle.jc_base.specs.declared.record.MethodRec.{MethodRec}
+use Rattle.jc_base.specs.Class.{ClassTable, AreClasses}
+use Rattle.jc_base.specs.Order.{Below, nothing}
+use Rattle.jc_base.specs.World.{Linked}
+use Rattle.jc_base.proofs.Joins.{Below-antisym}
+use Rattle.jc_control.specs.Method.{Method}
+use Rattle.jc_control.specs.Control.{IsReached}
+use Rattle.jc_rules.specs.Demand.{Frame}
+use Rattle.jc_rules.specs.Flow.{CellsBelow, no_cells, more_cells, FrameBelow, At, start_frame, receiver_of, FlowTyping, IsLeastTyping}
+use Rattle.jc_rules.specs.FlowLaws.{IsOrderOfCells, JoinsStayReady, LeastIsOne, TopIsBottom}
+use Rattle.jc_rules.proofs.CellLists.{cells-same, cells-trans, cells-length, cells-append}
+use Rattle.jc_rules.proofs.Keeps.{join-not_fresh}
+
+module _ (t : ClassTable) where
+  cells-turned : {xs ys : List Ty} → CellsBelow t xs ys → CellsBelow t (reverse xs) (reverse ys)
+  cells-turned no_cells = no_cells
+  cells-turned (more_cells {a = a} {b = b} {xs = xs} {ys = ys} p ps) =
+      subst (λ us. CellsBelow t us (reverse (b ∷ ys))) (sym (reverse-append (a ∷ []) xs))
+      (subst (CellsBelow t (reverse xs ++ (a ∷ []))) (sym (reverse-append (b ∷ []) ys))
+      (cells-append t (cells-turned ps) (more_cells p no_cells)))
+
+  cells-apart : AreClasses t → {xs ys : List Ty} → CellsBelow t xs ys → CellsBelow t ys xs → xs ≡ ys
+  cells-apart are no_cells no_cells = refl
+  cells-apart are (more_cells {a = a} {b = b} {xs = xs} {ys = ys} p ps) (more_cells q qs) = ap (λ x. x ∷ xs) (Below-antisym t are p q) ∙ ap (λ zs. b ∷ zs) (cells-apart are ps qs)
+
+  pub is-order-of-cells : AreClasses t → IsOrderOfCells t
+  is-order-of-cells are = record {
+    self = cells-same t;
+    through = λ {xs} {ys} {zs} p q. cells-trans t p q;
+    apart = λ {xs} {ys} p q. cells-apart are p q;
+    lengths = λ {xs} {ys} p. cells-length t p;
+    turned = λ {xs} {ys} p. cells-turned p;
+  }
+
+  cells-unset : (n : ℕ) → CellsBelow t (replicate n Bottom) (replicate n Top)
+  cells-unset zero = no_cells
+  cells-unset (suc n) = more_cells nothing (cells-unset n)
+
+  -- the start with no value in unset registers is below the one with any
+  start-below : (r : MethodRec) → FrameBelow t (start_frame r Bottom) (start_frame r Top)
+  start-below r = record {
+    regs = cells-append t (cells-append t (cells-same t (receiver_of r)) (cells-same t r.sig.args)) (cells-unset r.max_locals);
+    stack = no_cells;
+  }
+
+pub joins-stay-ready : (t : ClassTable) → AreClasses t → JoinsStayReady t
+joins-stay-ready t are = join-not_fresh t are
+
+pub top-is-bottom : (w : Linked) → TopIsBottom w
+top-is-bottom w m frames ty = record {
+  formed = ty.formed;
+  start = lower (frames 0) ty.start;
+  fit = ty.fit;
+  rules = ty.rules;
+  stays = ty.stays;
+  handlers = ty.handlers;
+  leaders = ty.leaders;
+}
+  where
+    lower : (o : Option Frame) → IsSomeAnd o (FrameBelow w.classes (start_frame m.rec Top)) → IsSomeAnd o (FrameBelow w.classes (start_frame m.rec Bottom))
+    lower None h = h
+    lower (Some f) h =
+        let le = start-below w.classes m.rec in
+        record { regs = cells-trans w.classes le.regs h.regs; stack = cells-trans w.classes le.stack h.stack }
+
+-- two frames below each other
+frames-apart : (t : ClassTable) → AreClasses t → (f g : Frame) → FrameBelow t f g → FrameBelow t g f → f ≡ g
+frames-apart t are f g p q =
+    ap (λ (x : List Ty). record { regs = x; stack = f.stack }) (cells-apart t are p.regs q.regs)
+    ∙ ap (λ (x : List Ty). record { regs = g.regs; stack = x }) (cells-apart t are p.stack q.stack)
+
+below-both : (t : ClassTable) → AreClasses t → (o p : Option Frame) → IsSomeAnd o (λ f. IsSomeAnd p (FrameBelow t f)) → IsSomeAnd p (λ g. IsSomeAnd o (FrameBelow t g)) → o ≡ p
+below-both t are None p h k = absurd h
+below-both t are (Some f) None h k = absurd h
+below-both t are (Some f) (Some g) h k = ap Some (frames-apart t are f g h k)
+
+pub least-is-one : (w : Linked) → AreClasses w.classes → LeastIsOne w
+least-is-one w are m unset frames others one other p reached =
+    below-both w.classes are (frames p) (others p) (one.least others other.typing p reached) (other.least frames one.typing p reached)

@@ -1,0 +1,573 @@
+-- Operations keep stacks whole.
+use Rattle.std.proofs.Common.{◌≡◌, ℕ, zero, suc, ◌+◌, ◌-◌, ◌<◌, ◌≤◌, Bool, true, false, cond, ◌==◌, inl, inr, List, [], ◌∷◌, ◌++◌, length, take, drop, map, reverse, All, Option, Some, None, IsSomeAnd, IfSome, slice_get, get_or, refl, sym, ◌∙◌, ap, subst, arith}
+use Rattle.std.proofs.lemmas.List.{length-reverse}
+use Rattle.jc_base.specs.declared.ty.Ty.{Ty}
+use Rattle.jc_base.specs.declared.ty.Ty.TheVariants.{Bottom, Short, IntHigh, IntLow, Null, Class, ArrBool, ArrByte, ArrShort, ArrInt, ArrRef, Fresh, Top}
+use Rattle.jc_base.specs.declared.ty.Kind.{Kind}
+use Rattle.jc_base.specs.declared.ty.Kind.TheVariants as kinds
+use Rattle.jc_base.specs.declared.record.MethodRec.{MethodRec}
+use Rattle.jc_base.specs.Class.{ClassTable, object, throwable}
+use Rattle.jc_base.specs.Order.{Below}
+use Rattle.jc_base.specs.Cell.{IsDeclared, IsOfKind, IsReference}
+use Rattle.jc_base.specs.Linked.{IsMethod}
+use Rattle.jc_base.specs.World.{Linked, IsWorld}
+use Rattle.jc_base.proofs.Lists.{All-slice_get}
+use Rattle.jc_ops.specs.declared.want.Want.{Want}
+use Rattle.jc_ops.specs.declared.want.Want.TheVariants.{Value, Storable, ByteArray, AnyArray, Whole, Receiver}
+use Rattle.jc_ops.specs.declared.operation.Sort.{Sort}
+use Rattle.jc_ops.specs.declared.operation.Sort.TheVariants as sorts
+use Rattle.jc_ops.specs.declared.operation.Width.{Width}
+use Rattle.jc_ops.specs.declared.operation.Width.TheVariants as widths
+use Rattle.jc_ops.specs.declared.operation.Constant.{Constant}
+use Rattle.jc_ops.specs.declared.operation.Constant.TheVariants as constants
+use Rattle.jc_ops.specs.declared.operation.Move.{Move}
+use Rattle.jc_ops.specs.declared.operation.Move.TheVariants as moves
+use Rattle.jc_ops.specs.declared.operation.Arithmetic.{Arithmetic}
+use Rattle.jc_ops.specs.declared.operation.Arithmetic.TheVariants as arithmetic
+use Rattle.jc_ops.specs.declared.operation.Branch.{Branch}
+use Rattle.jc_ops.specs.declared.operation.Branch.TheVariants as branches
+use Rattle.jc_ops.specs.declared.operation.Holder.{Holder}
+use Rattle.jc_ops.specs.declared.operation.Holder.TheVariants as holders
+use Rattle.jc_ops.specs.declared.operation.TypeTest.{TypeTest}
+use Rattle.jc_ops.specs.declared.operation.TypeTest.TheVariants as tests
+use Rattle.jc_ops.specs.declared.operation.Operation.{Operation}
+use Rattle.jc_ops.specs.declared.operation.Operation.TheVariants as ops
+use Rattle.jc_ops.specs.declared.operation.Choice.{Choice}
+use Rattle.jc_ops.specs.declared.operation.Choice.TheVariants as choices
+use Rattle.jc_ops.specs.declared.operation.Callee.{Callee}
+use Rattle.jc_ops.specs.Sound.{IsSound, IsNamedType, IsReceiverOf, IsChosen, IsCalleeOf, IsResult}
+use Rattle.jc_rules.specs.declared.demand.Demand.{Demand}
+use Rattle.jc_rules.specs.declared.demand.Demand.TheVariants.{Cell, Held}
+use Rattle.jc_rules.specs.declared.effect.Cells.{Cells}
+use Rattle.jc_rules.specs.declared.effect.Cells.TheVariants as given
+use Rattle.jc_rules.specs.declared.effect.Change.{Change}
+use Rattle.jc_rules.specs.declared.effect.Change.TheVariants.{Replace, CopyUnder, Exchange, MakeReady}
+use Rattle.jc_rules.specs.Effect.{listed, ready, changed, reg}
+use Rattle.jc_rules.specs.Demand.{Frame, IsHalf, IsArrayOrNull, IsFreshOf, Meets, Splits, Holds, AllHold}
+use Rattle.jc_rules.specs.Rule.{constant_effect, load_demands, load_effect, store_demands, store_effect, increment_effect, move_demands, move_effect, arithmetic_demands, arithmetic_effect, array_read_demands, array_read_effect, array_write_demands, array_write_effect, branch_demands, branch_effect, field_read_demands, field_read_effect, field_write_demands, field_write_effect, type_test_effect, return_demands, return_effect, cell, number, two_numbers, size, number_given, value_given, value_wanted, value_size, or_null, element, array_wanted, a_reference, ready_with, cells_wanted, call_demands, call_effect, result_given, args_at, result_at, seen, demands, effect}
+use Rattle.jc_rules.specs.Apply.{OperationApplies}
+use Rattle.jc_rules.specs.Whole.{IsWhole, whole_empty, whole_int, whole_cell, IsWholeSig, CallsWhole, OperationKeepsWhole}
+use Rattle.jc_rules.specs.Flow.{IsNotTop}
+use Rattle.jc_rules.proofs.Falls.{low-up, LowUp, half-up, some-or}
+use Rattle.jc_rules.proofs.Demands.{AllHold-front, AllHold-rest, AllHold-append}
+use Rattle.jc_rules.proofs.Raising.{All-reverse}
+
+-- ---- lists
+
+whole-append : {xs ys : List Ty} → IsWhole xs → IsWhole ys → IsWhole (xs ++ ys)
+whole-append whole_empty h = h
+whole-append (whole_int g) h = whole_int (whole-append g h)
+whole-append (whole_cell n g) h = whole_cell n (whole-append g h)
+
+whole-rest : {ty : Ty} {s : List Ty} → ¬ (IsHalf ty) → IsWhole (ty ∷ s) → IsWhole s
+whole-rest n (whole_int h) = absurd (n tt)
+whole-rest n (whole_cell k h) = h
+
+-- the low half of an int stands at a place and the high half under it
+Pair : List Ty → ℕ → Type 0
+Pair s k = (slice_get s k ≡ Some IntLow) × (slice_get s (suc k) ≡ Some IntHigh)
+
+record IsCut (s : List Ty) (n : ℕ) : Type 0 where
+  front : IsWhole (take n s)
+  rest : IsWhole (drop n s)
+
+cut-after : {s : List Ty} → IsWhole s → (k : ℕ) → ¬ (Pair s k) → IsCut s (suc k)
+unfolding Pair
+cut-after whole_empty k n = record { front = whole_empty; rest = whole_empty }
+cut-after (whole_int h) zero n = absurd (n (refl, refl))
+cut-after (whole_int h) (suc zero) n = record { front = whole_int whole_empty; rest = h }
+cut-after (whole_int h) (suc (suc k)) n = let c = cut-after h k n in record { front = whole_int c.front; rest = c.rest }
+cut-after (whole_cell c h) zero n = record { front = whole_cell c whole_empty; rest = h }
+cut-after (whole_cell c h) (suc k) n = let r = cut-after h k n in record { front = whole_cell c r.front; rest = r.rest }
+
+cut-at : {s : List Ty} → IsWhole s → (n : ℕ) → ¬ (Splits s n) → IsCut s n
+unfolding Pair
+cut-at h zero n = record { front = whole_empty; rest = h }
+cut-at {s = s} h (suc k) n = cut-after h k (λ p. n (subst (λ j. slice_get s j ≡ Some IntLow) (sym (before k)) p.0, p.1))
+  where
+    before : (k : ℕ) → suc k - 1 ≡ k
+    before k = omega arith
+
+read-dropped : (s : List Ty) (n k : ℕ) → slice_get (drop n s) k ≡ slice_get s (n + k)
+read-dropped s zero k = let e : 0 + k ≡ k = omega arith in ap (slice_get s) (sym e)
+read-dropped [] (suc n) k = let e : suc n + k ≡ suc (n + k) = omega arith in sym (ap (slice_get []) e)
+read-dropped (x ∷ s) (suc n) k = let e : suc n + k ≡ suc (n + k) = omega arith in read-dropped s n k ∙ sym (ap (slice_get (x ∷ s)) e)
+
+-- a cut of what lies under another
+cut-under : (s : List Ty) (n m : ℕ) → IsWhole (drop n s) → ¬ (Splits s (n + m)) → IsWhole (take m (drop n s))
+cut-under s n zero h apart = whole_empty
+cut-under s n (suc k) h apart =
+    (cut-at h (suc k) (λ p. apart (
+      subst (λ o. o ≡ Some IntLow) (read-dropped s n (suc k - 1) ∙ ap (slice_get s) (same_place n k)) p.0,
+      subst (λ o. o ≡ Some IntHigh) (read-dropped s n (suc k)) p.1,
+    ))).front
+  where
+    same_place : (n k : ℕ) → n + (suc k - 1) ≡ n + suc k - 1
+    same_place n k = omega arith
+
+ready-half : (place class : ℕ) (ty : Ty) → ¬ (IsHalf ty) → ¬ (IsHalf (ready place class ty))
+ready-half place class (Fresh p c) n = at (p == place)
+  where
+    at : (b : Bool) → ¬ (IsHalf (cond b (Class class) (Fresh p c)))
+    at true = λ h. h
+    at false = λ h. h
+ready-half place class Bottom n = n
+ready-half place class Short n = n
+ready-half place class IntHigh n = n
+ready-half place class IntLow n = n
+ready-half place class Null n = n
+ready-half place class (Class c) n = n
+ready-half place class ArrBool n = n
+ready-half place class ArrByte n = n
+ready-half place class ArrShort n = n
+ready-half place class ArrInt n = n
+ready-half place class (ArrRef c) n = n
+ready-half place class Top n = n
+
+whole-ready : (place class : ℕ) {s : List Ty} → IsWhole s → IsWhole (map (ready place class) s)
+whole-ready place class whole_empty = whole_empty
+whole-ready place class (whole_int h) = whole_int (whole-ready place class h)
+whole-ready place class (whole_cell {ty = ty} n h) = whole_cell (ready-half place class ty n) (whole-ready place class h)
+
+-- ---- what is wanted
+
+-- no half of an int is as wanted
+TakesNoHalf : Want → Type 0
+TakesNoHalf (Value ty) = (¬ (IsHalf ty)) × IsNotTop ty
+TakesNoHalf _ = Unit {0}
+
+array-half : (ty : Ty) → IsArrayOrNull ty → ¬ (IsHalf ty)
+array-half IntHigh h = λ k. h
+array-half IntLow h = λ k. h
+array-half Bottom h = λ k. k
+array-half Short h = λ k. k
+array-half Null h = λ k. k
+array-half (Class c) h = λ k. k
+array-half ArrBool h = λ k. k
+array-half ArrByte h = λ k. k
+array-half ArrShort h = λ k. k
+array-half ArrInt h = λ k. k
+array-half (ArrRef c) h = λ k. k
+array-half (Fresh p c) h = λ k. k
+array-half Top h = λ k. k
+
+fresh-half : (c : ℕ) (ty : Ty) → IsFreshOf c ty → ¬ (IsHalf ty)
+fresh-half c IntHigh h = λ k. h
+fresh-half c IntLow h = λ k. h
+fresh-half c Bottom h = λ k. k
+fresh-half c Short h = λ k. k
+fresh-half c Null h = λ k. k
+fresh-half c (Class d) h = λ k. k
+fresh-half c ArrBool h = λ k. k
+fresh-half c ArrByte h = λ k. k
+fresh-half c ArrShort h = λ k. k
+fresh-half c ArrInt h = λ k. k
+fresh-half c (ArrRef d) h = λ k. k
+fresh-half c (Fresh p d) h = λ k. k
+fresh-half c Top h = λ k. k
+
+module _ (t : ClassTable) where
+  below-half : (a b : Ty) → Below t a b → ¬ (IsHalf b) → IsNotTop b → ¬ (IsHalf a)
+  below-half a b le n top = λ h. n (half-up t a le top h)
+
+  met-half : (want : Want) (found : Ty) → TakesNoHalf want → Meets t want found → ¬ (IsHalf found)
+  unfolding TakesNoHalf
+  met-half (Value ty) found h m = below-half found ty m h.0 h.1
+  met-half Storable found h m = below-half found (Class (object t)) m (λ k. k) tt
+  met-half ByteArray found h (inl m) = below-half found ArrByte m (λ k. k) tt
+  met-half ByteArray found h (inr m) = below-half found ArrBool m (λ k. k) tt
+  met-half AnyArray found h m = array-half found m
+  met-half Whole found h m = m
+  met-half (Receiver c) found h (inl m) = fresh-half c found m
+  met-half (Receiver c) found h (inr m) = below-half found (Class c) m (λ k. k) tt
+
+  low-not_high : Below t IntLow IntHigh → ⊥
+  unfolding LowUp
+  low-not_high h = low-up t h tt
+
+  -- an int on top goes as a whole
+  int-rest : {a b : Ty} {s : List Ty} → Below t a IntLow → Below t b IntHigh → IsWhole (a ∷ b ∷ s) → IsWhole s
+  int-rest p q (whole_int h) = h
+  int-rest p q (whole_cell n h) = under q h
+    where
+      under : {b : Ty} {s : List Ty} → Below t b IntHigh → IsWhole (b ∷ s) → IsWhole s
+      under q (whole_int h) = absurd (low-not_high q)
+      under q (whole_cell n h) = h
+
+  -- ---- cells that go
+
+  peel-one : (s : List Ty) (n : ℕ) (want : Want) → TakesNoHalf want → IsSomeAnd (slice_get s n) (Meets t want) → IsWhole (drop n s) → IsWhole (drop (n + 1) s)
+  peel-one [] n want k m h = absurd m
+  peel-one (x ∷ s) zero want k m h = whole-rest (met-half want x k m) h
+  peel-one (x ∷ s) (suc n) want k m h = let e : suc n + 1 ≡ suc (n + 1) = omega arith in subst (λ j. IsWhole (drop j (x ∷ s))) (sym e) (peel-one s n want k m h)
+
+  int-top : (s : List Ty) → IsSomeAnd (slice_get s 0) (Meets t (Value IntLow)) → IsSomeAnd (slice_get s 1) (Meets t (Value IntHigh)) → IsWhole s → IsWhole (drop 2 s)
+  int-top [] m k h = absurd m
+  int-top (x ∷ []) m k h = absurd k
+  int-top (x ∷ y ∷ s) m k h = int-rest m k h
+
+  peel-int : (s : List Ty) (n : ℕ) → IsSomeAnd (slice_get s n) (Meets t (Value IntLow)) → IsSomeAnd (slice_get s (n + 1)) (Meets t (Value IntHigh)) → IsWhole (drop n s) → IsWhole (drop (n + 2) s)
+  peel-int s zero m k h = int-top s m k h
+  peel-int [] (suc n) m k h = absurd m
+  peel-int (x ∷ s) (suc n) m k h =
+      let e : suc n + 2 ≡ suc (n + 2) = omega arith in
+      let f : suc n + 1 ≡ suc (n + 1) = omega arith in
+      subst (λ j. IsWhole (drop j (x ∷ s))) (sym e) (peel-int s n m (subst (λ j. IsSomeAnd (slice_get (x ∷ s) j) (Meets t (Value IntHigh))) f k) h)
+
+  peel-number : (s : Frame) (width : Width) (n : ℕ) → AllHold t s (number width n) → IsWhole (drop n s.stack) → IsWhole (drop (n + size width) s.stack)
+  unfolding TakesNoHalf
+  peel-number s widths.Short n all h = peel-one s.stack n (Value Short) ((λ k. k), tt) all.0 h
+  peel-number s widths.Int n all h = peel-int s.stack n all.0 all.1.0 h
+
+  -- the type of a value that a frame has is no low half
+  value-rest : (f : Frame) (ty : Ty) (rest : List Demand) → IsNotTop ty → ¬ (ty ≡ IntLow) → AllHold t f (value_wanted ty ++ rest) → IsWhole f.stack → IsWhole (drop (value_size ty) f.stack)
+  unfolding TakesNoHalf
+  value-rest f IntHigh rest top low all h = peel-int f.stack 0 all.0 all.1.0 h
+  value-rest f IntLow rest top low all h = absurd (low refl)
+  value-rest f Bottom rest top low all h = peel-one f.stack 0 (Value Bottom) ((λ k. k), tt) all.0 h
+  value-rest f Short rest top low all h = peel-one f.stack 0 (Value Short) ((λ k. k), tt) all.0 h
+  value-rest f Null rest top low all h = peel-one f.stack 0 (Value Null) ((λ k. k), tt) all.0 h
+  value-rest f (Class c) rest top low all h = peel-one f.stack 0 (Value (Class c)) ((λ k. k), tt) all.0 h
+  value-rest f ArrBool rest top low all h = peel-one f.stack 0 (Value ArrBool) ((λ k. k), tt) all.0 h
+  value-rest f ArrByte rest top low all h = peel-one f.stack 0 (Value ArrByte) ((λ k. k), tt) all.0 h
+  value-rest f ArrShort rest top low all h = peel-one f.stack 0 (Value ArrShort) ((λ k. k), tt) all.0 h
+  value-rest f ArrInt rest top low all h = peel-one f.stack 0 (Value ArrInt) ((λ k. k), tt) all.0 h
+  value-rest f (ArrRef c) rest top low all h = peel-one f.stack 0 (Value (ArrRef c)) ((λ k. k), tt) all.0 h
+  value-rest f (Fresh p c) rest top low all h = peel-one f.stack 0 (Value (Fresh p c)) ((λ k. k), tt) all.0 h
+  value-rest f Top rest top low all h = absurd top
+
+  -- ---- cells that come
+
+  whole-given : (ty : Ty) → ¬ (ty ≡ IntLow) → IsWhole (listed (value_given ty))
+  whole-given IntHigh low = whole_int whole_empty
+  whole-given IntLow low = absurd (low refl)
+  whole-given Bottom low = whole_cell (λ k. k) whole_empty
+  whole-given Short low = whole_cell (λ k. k) whole_empty
+  whole-given Null low = whole_cell (λ k. k) whole_empty
+  whole-given (Class c) low = whole_cell (λ k. k) whole_empty
+  whole-given ArrBool low = whole_cell (λ k. k) whole_empty
+  whole-given ArrByte low = whole_cell (λ k. k) whole_empty
+  whole-given ArrShort low = whole_cell (λ k. k) whole_empty
+  whole-given ArrInt low = whole_cell (λ k. k) whole_empty
+  whole-given (ArrRef c) low = whole_cell (λ k. k) whole_empty
+  whole-given (Fresh p c) low = whole_cell (λ k. k) whole_empty
+  whole-given Top low = whole_cell (λ k. k) whole_empty
+
+  whole-one : (ty : Ty) → ¬ (IsHalf ty) → IsWhole (listed (given.One ty))
+  whole-one ty n = whole_cell n whole_empty
+
+  short-one : IsWhole (listed (given.One Short))
+  short-one = whole_cell (λ k. k) whole_empty
+
+  whole-number : (width : Width) → IsWhole (listed (number_given width))
+  whole-number widths.Short = short-one
+  whole-number widths.Int = whole_int whole_empty
+
+  or_null-half : (ty : Ty) → ¬ (IsHalf ty) → ¬ (IsHalf (or_null ty))
+  or_null-half Bottom n = λ k. k
+  or_null-half Short n = n
+  or_null-half IntHigh n = n
+  or_null-half IntLow n = n
+  or_null-half Null n = n
+  or_null-half (Class c) n = n
+  or_null-half ArrBool n = n
+  or_null-half ArrByte n = n
+  or_null-half ArrShort n = n
+  or_null-half ArrInt n = n
+  or_null-half (ArrRef c) n = n
+  or_null-half (Fresh p c) n = n
+  or_null-half Top n = n
+
+  element-half : (ty : Ty) → ¬ (IsHalf (element ty))
+  element-half (ArrRef c) = λ k. k
+  element-half Bottom = λ k. k
+  element-half Short = λ k. k
+  element-half IntHigh = λ k. k
+  element-half IntLow = λ k. k
+  element-half Null = λ k. k
+  element-half (Class c) = λ k. k
+  element-half ArrBool = λ k. k
+  element-half ArrByte = λ k. k
+  element-half ArrShort = λ k. k
+  element-half ArrInt = λ k. k
+  element-half (Fresh p c) = λ k. k
+  element-half Top = λ k. k
+
+  seen-half : (ty : Ty) → IsNamedType t ty → ¬ (IsHalf (seen t ty))
+  seen-half (Class c) h = λ k. k
+  seen-half ArrBool h = λ k. k
+  seen-half ArrByte h = λ k. k
+  seen-half ArrShort h = λ k. k
+  seen-half ArrInt h = λ k. k
+  seen-half (ArrRef c) h = λ k. k
+  seen-half _ h = absurd h
+
+-- a declared type is no Top; a field's first cell is no low half
+declared-topless : (t : ClassTable) (ty : Ty) → IsDeclared t ty → IsNotTop ty
+declared-topless t Top h = absurd h
+declared-topless t Bottom h = tt
+declared-topless t Short h = tt
+declared-topless t IntHigh h = tt
+declared-topless t IntLow h = tt
+declared-topless t Null h = tt
+declared-topless t (Class c) h = tt
+declared-topless t ArrBool h = tt
+declared-topless t ArrByte h = tt
+declared-topless t ArrShort h = tt
+declared-topless t ArrInt h = tt
+declared-topless t (ArrRef c) h = tt
+declared-topless t (Fresh p c) h = tt
+
+kind-low : (k : Kind) (ty : Ty) → IsOfKind k ty → ¬ (ty ≡ IntLow)
+kind-low kinds.Ref ty h = λ e. subst IsReference e h
+kind-low kinds.Byte ty h = λ e. absurd (cc)
+kind-low kinds.Short ty h = λ e. absurd (cc)
+kind-low kinds.Int ty h = λ e. absurd (cc)
+
+-- the receiver of a call is no half of an int
+receiver-of : (w : Linked) (m : MethodRec) (receiver : Option Want) → IsReceiverOf w m receiver → IfSome receiver TakesNoHalf
+unfolding TakesNoHalf
+receiver-of w m (Some (Receiver c)) h = tt
+receiver-of w m (Some (Value (Class c))) h = ((λ k. k), tt)
+receiver-of w m _ h = absurd h
+
+takes-class : (receiver : Option Want) (c : ℕ) → receiver ≡ Some (Value (Class c)) → IfSome receiver TakesNoHalf
+unfolding TakesNoHalf
+takes-class receiver c e = subst (λ o. IfSome o TakesNoHalf) (sym e) ((λ k. k), tt)
+
+receiver-takes : (w : Linked) (n : ℕ) (m : MethodRec) (receiver : Option Want) (choice : Choice) → IsChosen w n m receiver choice → IfSome receiver TakesNoHalf
+receiver-takes w n m receiver (choices.Virtual c token) h = takes-class receiver c h.receiver_is
+receiver-takes w n m receiver choices.Special h = receiver-of w m receiver h.receives
+receiver-takes w n m receiver choices.Static h = subst (λ o. IfSome o TakesNoHalf) (sym h.receiver_is) tt
+receiver-takes w n m receiver (choices.Interface c token words) h = takes-class receiver (object w.classes) h.receiver_is
+
+-- what a receiver that is found makes ready leaves halves as they are
+ready-keeps : (taken : ℕ) (cells : Cells) (found : Ty) (want : Want) (s : List Ty) → IsWhole (listed cells) → IsWhole (drop taken s) → IsWhole (changed (ready_with taken cells found want) s)
+ready-keeps taken cells (Fresh p c) (Receiver d) s g h = whole-append g (whole-ready p d h)
+ready-keeps taken cells (Fresh p c) (Value ty) s g h = whole-append g h
+ready-keeps taken cells (Fresh p c) Storable s g h = whole-append g h
+ready-keeps taken cells (Fresh p c) ByteArray s g h = whole-append g h
+ready-keeps taken cells (Fresh p c) AnyArray s g h = whole-append g h
+ready-keeps taken cells (Fresh p c) Whole s g h = whole-append g h
+ready-keeps taken cells Bottom want s g h = whole-append g h
+ready-keeps taken cells Short want s g h = whole-append g h
+ready-keeps taken cells IntHigh want s g h = whole-append g h
+ready-keeps taken cells IntLow want s g h = whole-append g h
+ready-keeps taken cells Null want s g h = whole-append g h
+ready-keeps taken cells (Class c) want s g h = whole-append g h
+ready-keeps taken cells ArrBool want s g h = whole-append g h
+ready-keeps taken cells ArrByte want s g h = whole-append g h
+ready-keeps taken cells ArrShort want s g h = whole-append g h
+ready-keeps taken cells ArrInt want s g h = whole-append g h
+ready-keeps taken cells (ArrRef c) want s g h = whole-append g h
+ready-keeps taken cells Top want s g h = whole-append g h
+
+top-one : (t : ClassTable) (s : List Ty) → IsSomeAnd (slice_get s 0) (Meets t Whole) → IsWhole (take 1 s)
+top-one t [] m = absurd m
+top-one t (x ∷ s) m = whole_cell m whole_empty
+
+module _ (t : ClassTable) (f : Frame) (whole : IsWhole f.stack) where
+  -- the arguments go
+  peel-args : (tys : List Ty) (n : ℕ) → IsWhole tys → All IsNotTop tys → AllHold t f (cells_wanted n tys) → IsWhole (drop n f.stack) → IsWhole (drop (n + length tys) f.stack)
+  unfolding TakesNoHalf
+  peel-args _ n whole_empty top all h = let e : n + 0 ≡ n = omega arith in subst (λ j. IsWhole (drop j f.stack)) (sym e) h
+  peel-args _ n (whole_int {s = rest} g) top all h =
+      let two : n + 1 + 1 ≡ n + 2 = omega arith in
+      let e : n + 1 + 1 + length rest ≡ n + suc (suc (length rest)) = omega arith in
+      subst (λ j. IsWhole (drop j f.stack)) e
+      (peel-args rest (n + 1 + 1) g (λ k d lt. top (suc (suc k)) d (omega arith)) all.1.1
+      (subst (λ j. IsWhole (drop j f.stack)) (sym two) (peel-int t f.stack n all.0 all.1.0 h)))
+  peel-args _ n (whole_cell {ty = ty} {s = rest} c g) top all h =
+      let e : n + 1 + length rest ≡ n + suc (length rest) = omega arith in
+      subst (λ j. IsWhole (drop j f.stack)) e
+      (peel-args rest (n + 1) g (λ k d lt. top (suc k) d (omega arith)) all.1
+      (peel-one t f.stack n (Value ty) (c, top 0 ty (omega arith)) all.0 h))
+
+  args-rest : (args : List Ty) (ds : List Demand) → IsWhole (reverse args) → All IsNotTop (reverse args) → AllHold t f (cells_wanted 0 (reverse args) ++ ds) → IsWhole (drop (length args) f.stack)
+  args-rest args ds g top all =
+      let e : 0 + length (reverse args) ≡ length args = omega (arith, length-reverse args) in
+      subst (λ j. IsWhole (drop j f.stack)) e (peel-args (reverse args) 0 g top (AllHold-front t f (cells_wanted 0 (reverse args)) ds all) whole)
+
+  keep-call : (args : List Ty) (result : Option Ty) (receiver : Option Want) → IsWhole (reverse args) → All IsNotTop (reverse args) → IfSome result (λ ty. ¬ (ty ≡ IntLow)) → IfSome receiver TakesNoHalf
+      → AllHold t f (call_demands args receiver) → IsWhole (changed (call_effect args result receiver f).change f.stack)
+  keep-call args result None g top low k all = whole-append (result-whole result low) (args-rest args [] g top all)
+    where
+      result-whole : (o : Option Ty) → IfSome o (λ ty. ¬ (ty ≡ IntLow)) → IsWhole (listed (result_given o))
+      result-whole None h = whole_empty
+      result-whole (Some ty) h = whole-given t ty h
+  keep-call args result (Some want) g top low k all =
+      ready-keeps (length args + 1) (result_given result) (cell f.stack (length args)) want f.stack (result-whole result low)
+      (peel-one t f.stack (length args) want k (AllHold-rest t f (cells_wanted 0 (reverse args)) (Cell (length args) want ∷ []) all).0
+      (args-rest args (Cell (length args) want ∷ []) g top all))
+    where
+      result-whole : (o : Option Ty) → IfSome o (λ ty. ¬ (ty ≡ IntLow)) → IsWhole (listed (result_given o))
+      result-whole None h = whole_empty
+      result-whole (Some ty) h = whole-given t ty h
+
+  -- ---- kinds
+
+  one-gone : (want : Want) → TakesNoHalf want → IsSomeAnd (slice_get f.stack 0) (Meets t want) → IsWhole (drop 1 f.stack)
+  one-gone want k m = peel-one t f.stack 0 want k m whole
+
+  next-gone : (n : ℕ) (want : Want) → TakesNoHalf want → IsSomeAnd (slice_get f.stack n) (Meets t want) → IsWhole (drop n f.stack) → IsWhole (drop (n + 1) f.stack)
+  next-gone n want k m h = peel-one t f.stack n want k m h
+
+  a_short : TakesNoHalf (Value Short)
+  unfolding TakesNoHalf
+  a_short = ((λ k. k), tt)
+
+  a_class : (c : ℕ) → TakesNoHalf (Value (Class c))
+  unfolding TakesNoHalf
+  a_class c = ((λ k. k), tt)
+
+  an_array : (k : Kind) → TakesNoHalf (array_wanted t k)
+  unfolding TakesNoHalf
+  an_array kinds.Ref = ((λ k. k), tt)
+  an_array kinds.Byte = tt
+  an_array kinds.Short = ((λ k. k), tt)
+  an_array kinds.Int = ((λ k. k), tt)
+
+  plain_want : TakesNoHalf Storable × TakesNoHalf AnyArray × TakesNoHalf Whole
+  unfolding TakesNoHalf
+  plain_want = (tt, tt, tt)
+
+  number-gone : (width : Width) → AllHold t f (number width 0) → IsWhole (drop (size width) f.stack)
+  number-gone widths.Short all = one-gone (Value Short) a_short all.0
+  number-gone widths.Int all = peel-int t f.stack 0 all.0 all.1.0 whole
+
+  two-gone : (width : Width) → AllHold t f (two_numbers width) → IsWhole (drop (size width + size width) f.stack)
+  two-gone widths.Short all = next-gone 1 (Value Short) a_short all.1.0 (one-gone (Value Short) a_short all.0)
+  two-gone widths.Int all = peel-int t f.stack 2 all.1.1.0 all.1.1.1.0 (peel-int t f.stack 0 all.0 all.1.0 whole)
+
+  keep-move : (m : Move) → AllHold t f (move_demands m) → IsWhole (changed (move_effect m).change f.stack)
+  keep-move moves.Pop all = one-gone Whole plain_want.2 all.0
+  keep-move moves.PopTwo all = (cut-at whole 2 all.1.0).rest
+  keep-move moves.Duplicate all = whole-append (top-one t f.stack all.0) whole
+  keep-move moves.DuplicateTwo all = whole-append (cut-at whole 2 all.1.0).front whole
+  keep-move (moves.CopyUnder m n) all =
+      let a = cut-at whole m all.1.0 in
+      let b = cut-at whole n all.1.1.1.0 in
+      whole-append b.front (whole-append a.front b.rest)
+  keep-move (moves.Exchange m n) all =
+      let a = cut-at whole m all.1.0 in
+      let b = cut-at whole (m + n) all.1.1.1.0 in
+      whole-append (cut-under f.stack m n a.rest all.1.1.1.0) (whole-append a.front b.rest)
+
+  keep-arithmetic : (a : Arithmetic) → AllHold t f (arithmetic_demands a) → IsWhole (changed (arithmetic_effect a).change f.stack)
+  keep-arithmetic (arithmetic.Binary o widths.Short) all = whole-append (short-one t) (two-gone widths.Short all)
+  keep-arithmetic (arithmetic.Binary o widths.Int) all = whole-append (whole-number t widths.Int) (two-gone widths.Int all)
+  keep-arithmetic (arithmetic.Negate width) all = whole-append (whole-number t width) (number-gone width all)
+  keep-arithmetic arithmetic.ShortToByte all = whole-append (short-one t) (number-gone widths.Short all)
+  keep-arithmetic arithmetic.ShortToInt all = whole-append (whole-number t widths.Int) (number-gone widths.Short all)
+  keep-arithmetic arithmetic.IntToByte all = whole-append (short-one t) (number-gone widths.Int all)
+  keep-arithmetic arithmetic.IntToShort all = whole-append (short-one t) (number-gone widths.Int all)
+  keep-arithmetic arithmetic.CompareInts all = whole-append (short-one t) (two-gone widths.Int all)
+
+  keep-array_read : (k : Kind) → AllHold t f (array_read_demands t k) → IsWhole (changed (array_read_effect k f).change f.stack)
+  keep-array_read kinds.Ref all = whole-append (whole-one t (element (cell f.stack 1)) (element-half t (cell f.stack 1))) (next-gone 1 (array_wanted t kinds.Ref) (an_array kinds.Ref) all.1.0 (one-gone (Value Short) a_short all.0))
+  keep-array_read kinds.Byte all = whole-append (short-one t) (next-gone 1 (array_wanted t kinds.Byte) (an_array kinds.Byte) all.1.0 (one-gone (Value Short) a_short all.0))
+  keep-array_read kinds.Short all = whole-append (short-one t) (next-gone 1 (array_wanted t kinds.Short) (an_array kinds.Short) all.1.0 (one-gone (Value Short) a_short all.0))
+  keep-array_read kinds.Int all = whole-append (whole-number t widths.Int) (next-gone 1 (array_wanted t kinds.Int) (an_array kinds.Int) all.1.0 (one-gone (Value Short) a_short all.0))
+
+  keep-array_write : (k : Kind) → AllHold t f (array_write_demands t k) → IsWhole (changed (array_write_effect k).change f.stack)
+  keep-array_write kinds.Ref all = next-gone 2 (array_wanted t kinds.Ref) (an_array kinds.Ref) all.1.1.0 (next-gone 1 (Value Short) a_short all.1.0 (one-gone (a_reference t) (a_class (object t)) all.0))
+  keep-array_write kinds.Byte all = next-gone 2 (array_wanted t kinds.Byte) (an_array kinds.Byte) all.1.1.0 (next-gone 1 (Value Short) a_short all.1.0 (one-gone (Value Short) a_short all.0))
+  keep-array_write kinds.Short all = next-gone 2 (array_wanted t kinds.Short) (an_array kinds.Short) all.1.1.0 (next-gone 1 (Value Short) a_short all.1.0 (one-gone (Value Short) a_short all.0))
+  keep-array_write kinds.Int all = next-gone 3 (array_wanted t kinds.Int) (an_array kinds.Int) all.1.1.1.0 (next-gone 2 (Value Short) a_short all.1.1.0 (peel-int t f.stack 0 all.0 all.1.0 whole))
+
+  keep-branch : (b : Branch) → AllHold t f (branch_demands t b) → IsWhole (changed (branch_effect b).change f.stack)
+  keep-branch branches.Always all = whole
+  keep-branch (branches.Zero o) all = one-gone (Value Short) a_short all.0
+  keep-branch (branches.Null q) all = one-gone (a_reference t) (a_class (object t)) all.0
+  keep-branch (branches.References q) all = next-gone 1 (a_reference t) (a_class (object t)) all.1.0 (one-gone (a_reference t) (a_class (object t)) all.0)
+  keep-branch (branches.Shorts o) all = two-gone widths.Short all
+
+  keep-constant : (c : Constant) → IsWhole (changed (constant_effect c).change f.stack)
+  keep-constant constants.Nothing = whole
+  keep-constant constants.Null = whole-append (whole-one t Null (λ k. k)) whole
+  keep-constant (constants.Short n) = whole-append (short-one t) whole
+  keep-constant (constants.Int n) = whole-append (whole-number t widths.Int) whole
+
+  keep-load : (s : Sort) (x : ℕ) → AllHold t f (load_demands t s x) → IsWhole (changed (load_effect s x f).change f.stack)
+  keep-load sorts.Reference x all =
+      whole-append (whole-one t (or_null (reg f.regs x)) (or_null-half t (reg f.regs x) (below-half t (reg f.regs x) (Class (object t)) (some-or (λ ty. Below t ty (Class (object t))) f.regs x all.1.0) (λ k. k) tt))) whole
+  keep-load sorts.Short x all = whole-append (short-one t) whole
+  keep-load sorts.Int x all = whole-append (whole-number t widths.Int) whole
+
+  keep-store : (s : Sort) (x : ℕ) → AllHold t f (store_demands s x) → IsWhole (changed (store_effect s x f).change f.stack)
+  keep-store sorts.Reference x all = one-gone Storable plain_want.0 all.1.0
+  keep-store sorts.Short x all = one-gone (Value Short) a_short all.1.0
+  keep-store sorts.Int x all = peel-int t f.stack 0 all.1.0 all.1.1.0 whole
+
+  keep-increment : (width : Width) (x : ℕ) → IsWhole (changed (increment_effect width x).change f.stack)
+  keep-increment widths.Short x = whole
+  keep-increment widths.Int x = whole
+
+  value-gone : (ty : Ty) (rest : List Demand) → IsNotTop ty → ¬ (ty ≡ IntLow) → AllHold t f (value_wanted ty ++ rest) → IsWhole (drop (value_size ty) f.stack)
+  value-gone ty rest top low all = value-rest t f ty rest top low all whole
+
+  keep-read : (h : Holder) (c : ℕ) (ty : Ty) → ¬ (ty ≡ IntLow) → AllHold t f (field_read_demands h c) → IsWhole (changed (field_read_effect h ty).change f.stack)
+  keep-read holders.Stack c ty low all = whole-append (whole-given t ty low) (one-gone (Value (Class c)) (a_class c) all.0)
+  keep-read holders.This c ty low all = whole-append (whole-given t ty low) whole
+
+  keep-write : (h : Holder) (c : ℕ) (ty : Ty) → IsNotTop ty → ¬ (ty ≡ IntLow) → AllHold t f (field_write_demands h c ty) → IsWhole (changed (field_write_effect h ty).change f.stack)
+  keep-write holders.Stack c ty top low all =
+      next-gone (value_size ty) (Value (Class c)) (a_class c) (AllHold-rest t f (value_wanted ty) (Cell (value_size ty) (Value (Class c)) ∷ []) all).0
+      (value-gone ty (Cell (value_size ty) (Value (Class c)) ∷ []) top low all)
+  keep-write holders.This c ty top low all = value-gone ty (Held 0 (Class c) ∷ []) top low all.1
+
+  keep-test : (test : TypeTest) (ty : Ty) → ¬ (IsHalf ty) → IsWhole (drop 1 f.stack) → IsWhole (changed (type_test_effect test ty).change f.stack)
+  keep-test tests.Cast ty n h = whole-append (whole-one t ty n) h
+  keep-test tests.InstanceOf ty n h = whole-append (short-one t) h
+
+-- ---- operations
+
+declared-args : (w : Linked) (m : MethodRec) → IsMethod w.infos w.pools w.classes m → All IsNotTop (reverse m.sig.args)
+declared-args w m is = λ k d lt. declared-topless w.classes _ (All-reverse (IsDeclared w.classes) m.sig.args is.arguments k d lt)
+
+module _ (w : Linked) (is : IsWorld w) (f : Frame) (whole : IsWhole f.stack) (m : MethodRec) (place : ℕ) where
+  keep-called : (c : Callee) (o : Option MethodRec) → slice_get w.methods c.method ≡ o → IsCalleeOf w c → ((r : MethodRec) → slice_get w.methods c.method ≡ Some r → IsWholeSig r.sig)
+      → AllHold w.classes f (call_demands (args_at o) c.receiver) → IsWhole (changed (call_effect (args_at o) (result_at o) c.receiver f).change f.stack)
+  keep-called c None e h sig all = absurd (no-method (h.is_method) e)
+    where
+      no-method : slice_get w.methods c.method ≡ Some h.rec → slice_get w.methods c.method ≡ None → ⊥
+      no-method p q = absurd (cc)
+  keep-called c (Some r) e h sig all =
+      keep-call w.classes f whole r.sig.args r.sig.result c.receiver (sig r e).args
+      (declared-args w r (All-slice_get (IsMethod w.infos w.pools w.classes) w.methods c.method r is.methods e))
+      (sig r e).result (receiver-takes w c.method h.rec c.receiver c.choice h.chosen) all
+
+  keep-return : (result : Option Ty) → IfSome result (IsResult w.classes) → AllHold w.classes f (return_demands result) → IsWhole (changed (return_effect result).change f.stack)
+  keep-return None h all = whole
+  keep-return (Some ty) h all = value-gone w.classes f whole ty [] (declared-topless w.classes ty h.declared) h.no_low (AllHold-append w.classes f (value_wanted ty) [] all tt)
+
+  keeps-whole : (op : Operation) → IsSound w m place op → CallsWhole w op → AllHold w.classes f (demands w op) → IsWhole (changed (effect w op f).change f.stack)
+  keeps-whole (ops.Constant c) sound calls all = keep-constant w.classes f whole c
+  keeps-whole (ops.Load s x) sound calls all = keep-load w.classes f whole s x all
+  keeps-whole (ops.Store s x) sound calls all = keep-store w.classes f whole s x all
+  keeps-whole (ops.Increment width x amount) sound calls all = keep-increment w.classes f whole width x
+  keeps-whole (ops.Move move) sound calls all = keep-move w.classes f whole move all
+  keeps-whole (ops.Arithmetic a) sound calls all = keep-arithmetic w.classes f whole a all
+  keeps-whole (ops.ArrayRead k) sound calls all = keep-array_read w.classes f whole k all
+  keeps-whole (ops.ArrayWrite k) sound calls all = keep-array_write w.classes f whole k all
+  keeps-whole ops.ArrayLength sound calls all = whole-append (short-one w.classes) (one-gone w.classes f whole AnyArray (plain_want w.classes f whole).1 all.0)
+  keeps-whole (ops.Branch b) sound calls all = keep-branch w.classes f whole b all
+  keeps-whole (ops.Switch width) sound calls all = number-gone w.classes f whole width all
+  keeps-whole (ops.StaticRead field) sound calls all = whole-append (whole-given w.classes field.ty (kind-low field.kind field.ty sound.kind)) whole
+  keeps-whole (ops.StaticWrite field) sound calls all =
+      value-gone w.classes f whole field.ty [] (declared-topless w.classes field.ty sound.ty) (kind-low field.kind field.ty sound.kind) (AllHold-append w.classes f (value_wanted field.ty) [] all tt)
+  keeps-whole (ops.FieldRead field h) sound calls all = keep-read w.classes f whole h field.class field.ty (kind-low field.kind field.ty sound.cells.kind) all
+  keeps-whole (ops.FieldWrite field h) sound calls all =
+      keep-write w.classes f whole h field.class field.ty (declared-topless w.classes field.ty sound.ty) (kind-low field.kind field.ty sound.cells.kind) all
+  keeps-whole (ops.Call c) sound calls all = keep-called c (slice_get w.methods c.method) refl sound calls all
+  keeps-whole (ops.New p c) sound calls all = whole-append (whole-one w.classes (Fresh p c) (λ k. k)) whole
+  keeps-whole (ops.NewArray ty) sound calls all =
+      whole-append (whole-one w.classes (seen w.classes ty) (seen-half w.classes ty sound.1)) (one-gone w.classes f whole (Value Short) (a_short w.classes f whole) all.0)
+  keeps-whole ops.Throw sound calls all = one-gone w.classes f whole (Value (Class (throwable w.classes))) (a_class w.classes f whole (throwable w.classes)) all.0
+  keeps-whole (ops.TypeTest test ty) sound calls all =
+      keep-test w.classes f whole test (seen w.classes ty) (seen-half w.classes ty sound) (one-gone w.classes f whole (a_reference w.classes) (a_class w.classes f whole (object w.classes)) all.0)
+  keeps-whole (ops.Return result) sound calls all = keep-return result sound.1 all
+
+pub operation-keeps-whole : (w : Linked) → IsWorld w → OperationKeepsWhole w
+operation-keeps-whole w is limit m place op mode before after o sound calls k whole a =
+    subst IsWhole (sym a.stack) (keeps-whole w is before whole m place op sound calls a.asked)

@@ -1,6 +1,0 @@
-pub mod Frames
-pub mod Landing
-pub mod Derived
-pub mod Growth
-pub mod Settled
-pub mod Measure
