@@ -1,0 +1,10 @@
+pub mod Stacks
+mod Frames
+mod Tops
+pub mod Heaps
+pub mod Handles
+pub mod Rooms
+pub mod Fills
+pub mod Instances
+pub mod SeenClasses
+mod TaggedHeaps

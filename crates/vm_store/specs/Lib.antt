@@ -1,0 +1,10 @@
+pub mod Kind
+pub mod Typing
+pub mod Cells
+pub mod State
+pub mod Objects
+pub mod Value
+pub mod Store
+pub mod Layout
+pub mod Tagged
+pub mod Calls
