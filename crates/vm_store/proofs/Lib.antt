@@ -8,3 +8,5 @@ pub mod Fills
 pub mod Instances
 pub mod SeenClasses
 mod TaggedHeaps
+pub mod CellTypes
+pub mod TypedHeaps

@@ -8,3 +8,4 @@ pub mod Store
 pub mod Layout
 pub mod Tagged
 pub mod Calls
+pub mod Laws

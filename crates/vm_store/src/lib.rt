@@ -10,17 +10,26 @@ mod form;
 mod frame;
 mod header;
 mod kind;
+mod laws;
 mod registers;
 mod stack;
 mod store;
 mod tagged;
+mod value;
 
 pub use cell::{Cell, CellKind};
 pub use fill::{fill_array, fill_instance};
 pub use form::CellForm;
 pub use header::Header;
 pub use kind::ObjectKind;
+pub use laws::{
+    least_types_are_least, typed_heaps_stay_typed, types_fall_with_objects, words_erase_cells,
+    writes_keep_kinds,
+};
 pub use registers::register_count;
 pub use stack::rotate_cells;
 pub use store::Store;
 pub use tagged::TaggedStore;
+pub use value::{
+    byte_of_word, pop_object_value, pop_static_value, push_object_value, push_static_value,
+};
