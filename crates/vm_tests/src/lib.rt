@@ -1,0 +1,5 @@
+//! Worked cases of the machines' arithmetic and stores.
+#![tactic(auto)]
+
+#[cfg(test)]
+mod number_tests;
