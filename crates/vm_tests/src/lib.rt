@@ -3,3 +3,5 @@
 
 #[cfg(test)]
 mod number_tests;
+#[cfg(test)]
+mod store_tests;
