@@ -1,4 +1,5 @@
-ghost use Rattle.std.specs.Prelude.{◌≡◌, [], None, map};
+ghost use Rattle.std.specs.Prelude.{◌≡◌, [], None, pos, IfOk, map, replicate, vec_len};
+ghost use Rattle.vm_store.specs.declared.cell.Cell.TheVariants.{Short};
 ghost use Rattle.vm_store.specs.Kind.{kind_of_handle};
 ghost use Rattle.vm_store.specs.Typing.{type_of_handle, type_of_fresh};
 ghost use Rattle.vm_store.specs.State.{IsRunning, top};
@@ -11,7 +12,11 @@ use crate::kind::ObjectKind;
 use crate::registers::register_count;
 use crate::store::Store;
 use jc_base::{Classes, Ty, World};
+use std::alloc::{AllocError, Global};
 use std::marker::Model;
+
+/// The most frames of a run.
+const FRAMES: usize = 64;
 
 /// The most objects of a run.
 const OBJECTS: usize = 4096;
@@ -49,6 +54,26 @@ impl Model for TaggedStore {
 }
 
 impl TaggedStore {
+    /// The memory of a run with so many static cells, which are zero: no frame and no object yet.
+    pub fn new(alloc: Global, statics: u16) -> Result<TaggedStore, AllocError>
+        ensures { IfOk
+            result
+            (λ s. s ≡ record { frames = []; heap = []; statics = replicate statics (Short (pos 0)) }) }
+    {
+        let frames = new_frames(alloc)?;
+        let headers = Vec::with_capacity(alloc, OBJECTS)?;
+        let cells = vec![in alloc; Cell::Empty; CELLS]?;
+        let statics = vec![in alloc; Cell::Short(0); statics as usize]?;
+        Ok(TaggedStore {
+            frames,
+            live: 0,
+            headers,
+            cells,
+            used: 0,
+            statics,
+        })
+    }
+
     /// The frame on top.
     fn top(&self) -> &TaggedFrame
         requires { IsRunning self.now }
@@ -224,6 +249,17 @@ impl Store for TaggedStore {
             Cell::Fresh { handle, place } => type_of_fresh(&self.headers, handle, place),
         }
     }
+}
+
+/// The frames of a run, of no method yet.
+fn new_frames(alloc: Global) -> Result<Vec<TaggedFrame>, AllocError>
+    ensures { IfOk result (λ v. vec_len v ≡ 64) }
+{
+    let mut frames = Vec::with_capacity(alloc, FRAMES)?;
+    'frames: for _n in 0..FRAMES {
+        frames.push_reserved(TaggedFrame::new());
+    }
+    Ok(frames)
 }
 
 /// What the object of a handle is.
