@@ -7,7 +7,7 @@ ghost use Rattle.cap_bare.specs.MethodFile.{compact_header, method_info, IsFileF
 ghost use Rattle.cap_bare.specs.BareFile.{file, IsVerifiable};
 
 use crate::bare::Bare;
-use cap_bytes::{FormFault, FormKind, Items, View};
+use cap_bytes::{Cursor, FormFault, FormKind, View};
 use cap_package::PackFault;
 
 /// The tag of the Method component.

@@ -3,7 +3,7 @@ use Rattle.std.proofs.Common.{◌≡◌, ℕ, suc, ◌+◌, ◌-◌, ◌≤◌, 
 use Rattle.cap_bytes.specs.declared.fault.FormFault.{FormFault}
 use Rattle.cap_bytes.specs.declared.fault.FormKind.{FormKind}
 use Rattle.cap_bytes.specs.Number.{number_at}
-use Rattle.cap_bytes.specs.declared.items.Items.{Items}
+use Rattle.cap_bytes.specs.declared.cursor.Cursor.{Cursor}
 use Rattle.cap_bytes.specs.Grammar.{Grammar, each, repeat, give, number, ◌>>=◌}
 use Rattle.cap_bytes.specs.Spelling.{Origin, info_of}
 use Rattle.cap_bytes.specs.Reading.{read, number_read, tested}
@@ -12,18 +12,18 @@ use Rattle.cap_bytes.proofs.Laws.{then_ok, read_ok}
 use Rattle.cap_bytes.proofs.Loops.{end_of, err_of, ok_of, forget}
 
 -- i of so many items from `start` on are passed, which changed the state from `first` to `s`, and `now` is after them
-pub record HasPassedEach {X S : Type 0} (g : S → Grammar X) (step : S → X → S) (count : ℕ) (start : Items) (first : S) (i : ℕ) (now : Items) (s : S) : Type 0 where
+pub record HasPassedEach {X S : Type 0} (g : S → Grammar X) (step : S → X → S) (count : ℕ) (start : Cursor) (first : S) (i : ℕ) (now : Cursor) (s : S) : Type 0 where
   pub goes_on : end_of (next (each (count - i) g step s) now) ≡ end_of (next (each count g step first) start)
   pub info : now.info ≡ start.info
   pub part : now.part ≡ start.part
 
-pub each_none : {X S : Type 0} (g : S → Grammar X) (step : S → X → S) (count : ℕ) (start : Items) (first : S) → HasPassedEach g step count start first 0 start first
+pub each_none : {X S : Type 0} (g : S → Grammar X) (step : S → X → S) (count : ℕ) (start : Cursor) (first : S) → HasPassedEach g step count start first 0 start first
 each_none g step count start first = record { goes_on = let e : count - 0 ≡ count = omega arith in rw e refl; info = refl; part = refl }
 
-end_one : {X S : Type 0} (g : S → Grammar X) (step : S → X → S) (n : ℕ) (now : Items) (s : S) (x : X) (after : Items) → Taken (g s) now x after → end_of (next (each (suc n) g step s) now) ≡ end_of (next (each n g step (step s x)) after)
+end_one : {X S : Type 0} (g : S → Grammar X) (step : S → X → S) (n : ℕ) (now : Cursor) (s : S) (x : X) (after : Cursor) → Taken (g s) now x after → end_of (next (each (suc n) g step s) now) ≡ end_of (next (each n g step (step s x)) after)
 end_one g step n now s x after h = rw (h.value, h.info, h.part) (forget x (read (info_of now.part) (each n g step (step s x)) now.info.bytes.now after.at))
 
-pub each_more : {X S : Type 0} (g : S → Grammar X) (step : S → X → S) (count : ℕ) (start : Items) (first : S) (i : ℕ) (now : Items) (s : S) (x : X) (after : Items) → HasPassedEach g step count start first i now s → i < count → Taken (g s) now x after → HasPassedEach g step count start first (i + 1) after (step s x)
+pub each_more : {X S : Type 0} (g : S → Grammar X) (step : S → X → S) (count : ℕ) (start : Cursor) (first : S) (i : ℕ) (now : Cursor) (s : S) (x : X) (after : Cursor) → HasPassedEach g step count start first i now s → i < count → Taken (g s) now x after → HasPassedEach g step count start first (i + 1) after (step s x)
 each_more g step count start first i now s x after so_far lt h =
     let k : count - i ≡ suc (count - (i + 1)) = omega arith in
     record {
@@ -32,16 +32,16 @@ each_more g step count start first i now s x after so_far lt h =
       part = h.part ∙ so_far.part;
     }
 
-end_fault : {X S : Type 0} (g : S → Grammar X) (step : S → X → S) (n : ℕ) (now : Items) (s : S) (fault : FormFault) → Fails (g s) now fault → end_of (next (each (suc n) g step s) now) ≡ Err fault
+end_fault : {X S : Type 0} (g : S → Grammar X) (step : S → X → S) (n : ℕ) (now : Cursor) (s : S) (fault : FormFault) → Fails (g s) now fault → end_of (next (each (suc n) g step s) now) ≡ Err fault
 end_fault g step n now s fault h = rw h.answer refl
 
-pub each_fault : {X S : Type 0} (g : S → Grammar X) (step : S → X → S) (count : ℕ) (start : Items) (first : S) (i : ℕ) (now : Items) (s : S) (fault : FormFault) → HasPassedEach g step count start first i now s → i < count → Fails (g s) now fault → Fails (each count g step first) start fault
+pub each_fault : {X S : Type 0} (g : S → Grammar X) (step : S → X → S) (count : ℕ) (start : Cursor) (first : S) (i : ℕ) (now : Cursor) (s : S) (fault : FormFault) → HasPassedEach g step count start first i now s → i < count → Fails (g s) now fault → Fails (each count g step first) start fault
 each_fault g step count start first i now s fault so_far lt h =
     let k : count - i ≡ suc (count - (i + 1)) = omega arith in
     let e : end_of (next (each (suc (count - (i + 1))) g step s) now) ≡ Err fault = end_fault g step (count - (i + 1)) now s fault h in
     record { answer = err_of (next (each count g step first) start) fault (sym so_far.goes_on ∙ ap (λ n. end_of (next (each n g step s) now)) k ∙ e) }
 
-pub each_all : {X S : Type 0} (g : S → Grammar X) (step : S → X → S) (count : ℕ) (start : Items) (first : S) (i : ℕ) (now : Items) (s : S) → HasPassedEach g step count start first i now s → count ≤ i → (xs : List X) × Taken (each count g step first) start xs now
+pub each_all : {X S : Type 0} (g : S → Grammar X) (step : S → X → S) (count : ℕ) (start : Cursor) (first : S) (i : ℕ) (now : Cursor) (s : S) → HasPassedEach g step count start first i now s → count ≤ i → (xs : List X) × Taken (each count g step first) start xs now
 each_all g step count start first i now s so_far le =
     let k : count - i ≡ 0 = omega arith in
     let t = ok_of (next (each count g step first) start) now.at (sym so_far.goes_on ∙ ap (λ n. end_of (next (each n g step s) now)) k) in
@@ -63,7 +63,7 @@ each-repeat g step h all (suc n) s from bytes at xs after e =
     let u = then_ok (read from (each n g step (step s t.0)) bytes t.1) (λ ys p. read_ok (t.0 ∷ ys) p) xs after t.3 in
     rw (all s from bytes at t.0 t.1 t.2, each-repeat g step h all n (step s t.0) from bytes t.1 u.0 u.1 u.2) u.3
 
-pub each_taken : {X S : Type 0} (g : S → Grammar X) (step : S → X → S) (h : Grammar X) → ReadsAll g h → (n : ℕ) (s : S) (now : Items) (xs : List X) (after : Items) → Taken (each n g step s) now xs after → Taken (repeat n h) now xs after
+pub each_taken : {X S : Type 0} (g : S → Grammar X) (step : S → X → S) (h : Grammar X) → ReadsAll g h → (n : ℕ) (s : S) (now : Cursor) (xs : List X) (after : Cursor) → Taken (each n g step s) now xs after → Taken (repeat n h) now xs after
 each_taken g step h all n s now xs after t = record { value = each-repeat g step h all n s (info_of now.part) now.info.bytes.now now.at xs after.at t.value; info = t.info; part = t.part }
 
 -- a number that passes a stricter test passes this one

@@ -2,7 +2,7 @@
 use Rattle.std.proofs.Common.{◌≡◌, ℕ, zero, suc, ◌+◌, ◌-◌, ◌≤◌, ◌<◌, List, [], ◌∷◌, length, Result, Ok, Err, refl, sym, ap, subst, ◌∙◌, false, arith}
 use Rattle.std.specs.Prelude.{IsTrue}
 use Rattle.cap_bytes.specs.declared.fault.FormFault.{FormFault}
-use Rattle.cap_bytes.specs.declared.items.Items.{Items}
+use Rattle.cap_bytes.specs.declared.cursor.Cursor.{Cursor}
 use Rattle.cap_bytes.specs.Grammar.{Grammar, give, ◌>>=◌, repeat}
 use Rattle.cap_bytes.specs.Spelling.{Origin, info_of}
 use Rattle.cap_bytes.specs.Reading.{Reading, and_then, read, is_read, value_or}
@@ -23,22 +23,22 @@ ok_of (Ok x) at h = let e : x.1 ≡ at = cc in (x.0, rw (← e) refl)
 ok_of (Err e) at h = absurd cc
 
 -- i of so many items from `start` on are passed, and `now` is after them
-pub record HasPassed {X : Type 0} (g : Grammar X) (count : ℕ) (start : Items) (i : ℕ) (now : Items) : Type 0 where
+pub record HasPassed {X : Type 0} (g : Grammar X) (count : ℕ) (start : Cursor) (i : ℕ) (now : Cursor) : Type 0 where
   pub goes_on : end_of (next (repeat (count - i) g) now) ≡ end_of (next (repeat count g) start)
   pub info : now.info ≡ start.info
   pub part : now.part ≡ start.part
 
-pub passed_none : {X : Type 0} (g : Grammar X) (count : ℕ) (start : Items) → HasPassed g count start 0 start
+pub passed_none : {X : Type 0} (g : Grammar X) (count : ℕ) (start : Cursor) → HasPassed g count start 0 start
 passed_none g count start = record { goes_on = let e : count - 0 ≡ count = omega arith in rw e refl; info = refl; part = refl }
 
 pub forget : {X : Type 0} (x : X) (r : Reading (List X)) → end_of (and_then r (λ xs p. Ok (x ∷ xs, p))) ≡ end_of r
 forget x (Ok y) = refl
 forget x (Err e) = refl
 
-end_one : {X : Type 0} (g : Grammar X) (n : ℕ) (now : Items) (x : X) (after : Items) → Taken g now x after → end_of (next (repeat (suc n) g) now) ≡ end_of (next (repeat n g) after)
+end_one : {X : Type 0} (g : Grammar X) (n : ℕ) (now : Cursor) (x : X) (after : Cursor) → Taken g now x after → end_of (next (repeat (suc n) g) now) ≡ end_of (next (repeat n g) after)
 end_one g n now x after h = rw (h.value, h.info, h.part) (forget x (read (info_of now.part) (repeat n g) now.info.bytes.now after.at))
 
-pub passed_more : {X : Type 0} (g : Grammar X) (count : ℕ) (start : Items) (i : ℕ) (now : Items) (x : X) (after : Items) → HasPassed g count start i now → i < count → Taken g now x after → HasPassed g count start (i + 1) after
+pub passed_more : {X : Type 0} (g : Grammar X) (count : ℕ) (start : Cursor) (i : ℕ) (now : Cursor) (x : X) (after : Cursor) → HasPassed g count start i now → i < count → Taken g now x after → HasPassed g count start (i + 1) after
 passed_more g count start i now x after so_far lt h =
     let k : count - i ≡ suc (count - (i + 1)) = omega arith in
     record {
@@ -47,16 +47,16 @@ passed_more g count start i now x after so_far lt h =
       part = h.part ∙ so_far.part;
     }
 
-end_fault : {X : Type 0} (g : Grammar X) (n : ℕ) (now : Items) (fault : FormFault) → Fails g now fault → end_of (next (repeat (suc n) g) now) ≡ Err fault
+end_fault : {X : Type 0} (g : Grammar X) (n : ℕ) (now : Cursor) (fault : FormFault) → Fails g now fault → end_of (next (repeat (suc n) g) now) ≡ Err fault
 end_fault g n now fault h = rw h.answer refl
 
-pub passed_fault : {X : Type 0} (g : Grammar X) (count : ℕ) (start : Items) (i : ℕ) (now : Items) (fault : FormFault) → HasPassed g count start i now → i < count → Fails g now fault → Fails (repeat count g) start fault
+pub passed_fault : {X : Type 0} (g : Grammar X) (count : ℕ) (start : Cursor) (i : ℕ) (now : Cursor) (fault : FormFault) → HasPassed g count start i now → i < count → Fails g now fault → Fails (repeat count g) start fault
 passed_fault g count start i now fault so_far lt h =
     let k : count - i ≡ suc (count - (i + 1)) = omega arith in
     let e : end_of (next (repeat (suc (count - (i + 1))) g) now) ≡ Err fault = end_fault g (count - (i + 1)) now fault h in
     record { answer = err_of (next (repeat count g) start) fault (sym so_far.goes_on ∙ ap (λ n. end_of (next (repeat n g) now)) k ∙ e) }
 
-pub passed_all : {X : Type 0} (g : Grammar X) (count : ℕ) (start : Items) (i : ℕ) (now : Items) → HasPassed g count start i now → count ≤ i → (xs : List X) × Taken (repeat count g) start xs now
+pub passed_all : {X : Type 0} (g : Grammar X) (count : ℕ) (start : Cursor) (i : ℕ) (now : Cursor) → HasPassed g count start i now → count ≤ i → (xs : List X) × Taken (repeat count g) start xs now
 passed_all g count start i now so_far le =
     let k : count - i ≡ 0 = omega arith in
     let t = ok_of (next (repeat count g) start) now.at (sym so_far.goes_on ∙ ap (λ n. end_of (next (repeat n g) now)) k) in
@@ -78,16 +78,16 @@ value_first x (Err e) h = absurd cc
 one_less : (left : ℕ) → 0 < left → left ≡ suc (left - 1)
 one_less left h = omega arith
 
-first_read : {X : Type 0} (g : Grammar X) (n : ℕ) (now : Items) (x : X) (after : Items) → Taken g now x after → is_read (next (repeat (suc n) g) now) ≡ is_read (next (repeat n g) after)
+first_read : {X : Type 0} (g : Grammar X) (n : ℕ) (now : Cursor) (x : X) (after : Cursor) → Taken g now x after → is_read (next (repeat (suc n) g) now) ≡ is_read (next (repeat n g) after)
 first_read g n now x after h = rw (h.value, h.info, h.part) (read_first x (read (info_of now.part) (repeat n g) now.info.bytes.now after.at))
 
-pub gives_rest : {X : Type 0} (g : Grammar X) (left : ℕ) (now : Items) (x : X) (after : Items) → Gives (repeat left g) now → 0 < left → Taken g now x after → Gives (repeat (left - 1) g) after
+pub gives_rest : {X : Type 0} (g : Grammar X) (left : ℕ) (now : Cursor) (x : X) (after : Cursor) → Gives (repeat left g) now → 0 < left → Taken g now x after → Gives (repeat (left - 1) g) after
 unfolding gives given
 gives_rest g left now x after h lt t =
     let e : IsTrue (is_read (next (repeat (suc (left - 1)) g) now)) = subst (λ n. IsTrue (is_read (next (repeat n g) now))) (one_less left lt) h in
     subst IsTrue (first_read g (left - 1) now x after t) e
 
-pub gives_first : {X : Type 0} (g : Grammar X) (left : ℕ) (now : Items) (x : X) (after : Items) → Gives (repeat left g) now → 0 < left → Taken g now x after → given [] (repeat left g) now ≡ x ∷ given [] (repeat (left - 1) g) after
+pub gives_first : {X : Type 0} (g : Grammar X) (left : ℕ) (now : Cursor) (x : X) (after : Cursor) → Gives (repeat left g) now → 0 < left → Taken g now x after → given [] (repeat left g) now ≡ x ∷ given [] (repeat (left - 1) g) after
 unfolding gives given
 gives_first g left now x after h lt t =
     let k = one_less left lt in
@@ -107,27 +107,27 @@ length-value : {X : Type 0} (n : ℕ) (r : Reading (List X)) → ((xs : List X) 
 length-value n (Ok x) h k = h x.0 x.1 refl
 length-value n (Err e) h k = absurd cc
 
-pub length_given : {X : Type 0} (g : Grammar X) (left : ℕ) (now : Items) → Gives (repeat left g) now → length (given [] (repeat left g) now) ≡ left
+pub length_given : {X : Type 0} (g : Grammar X) (left : ℕ) (now : Cursor) → Gives (repeat left g) now → length (given [] (repeat left g) now) ≡ left
 unfolding gives given
 length_given g left now h = length-value left (next (repeat left g) now) (length-repeat (info_of now.part) g left now.info.bytes.now now.at) h
 
-pub count_given : {X : Type 0} (g : Grammar X) (left : ℕ) (now : Items) → Gives (repeat left g) now → left ≡ length (given [] (repeat left g) now)
+pub count_given : {X : Type 0} (g : Grammar X) (left : ℕ) (now : Cursor) → Gives (repeat left g) now → left ≡ length (given [] (repeat left g) now)
 count_given g left now h = sym (length_given g left now h)
 
 -- items that were taken were known to be next
-pub gives_taken : {X : Type 0} (g : Grammar X) (now : Items) (x : X) (after : Items) → Taken g now x after → Gives g now
+pub gives_taken : {X : Type 0} (g : Grammar X) (now : Cursor) (x : X) (after : Cursor) → Taken g now x after → Gives g now
 unfolding gives
 gives_taken g now x after t = rw t.value refl
 
-pub given_taken : {X : Type 0} (otherwise : X) (g : Grammar X) (now : Items) (x : X) (after : Items) → Taken g now x after → given otherwise g now ≡ x
+pub given_taken : {X : Type 0} (otherwise : X) (g : Grammar X) (now : Cursor) (x : X) (after : Cursor) → Taken g now x after → given otherwise g now ≡ x
 unfolding given
 given_taken otherwise g now x after t = rw t.value refl
 
-pub gives_none : {X : Type 0} (g : Grammar X) (left : ℕ) (now : Items) → left ≡ 0 → given [] (repeat left g) now ≡ []
+pub gives_none : {X : Type 0} (g : Grammar X) (left : ℕ) (now : Cursor) → left ≡ 0 → given [] (repeat left g) now ≡ []
 unfolding gives given
 gives_none g left now h = rw h refl
 
-pub gives_not : {X : Type 0} (g : Grammar X) (left : ℕ) (now : Items) (fault : FormFault) → Gives (repeat left g) now → 0 < left → Fails g now fault → ⊥
+pub gives_not : {X : Type 0} (g : Grammar X) (left : ℕ) (now : Cursor) (fault : FormFault) → Gives (repeat left g) now → 0 < left → Fails g now fault → ⊥
 unfolding gives given
 gives_not g left now fault h lt f =
     let e : IsTrue (is_read (next (repeat (suc (left - 1)) g) now)) = subst (λ n. IsTrue (is_read (next (repeat n g) now))) (one_less left lt) h in

@@ -4,7 +4,7 @@ use Rattle.std.specs.Prelude.{IsTrue, slice_get}
 use Rattle.std.proofs.lemmas.Option.{slice_get_past}
 use Rattle.cap_bytes.specs.declared.fault.FormFault.{FormFault}
 use Rattle.cap_bytes.specs.declared.fault.FormKind.{FormKind}
-use Rattle.cap_bytes.specs.declared.items.Items.{Items}
+use Rattle.cap_bytes.specs.declared.cursor.Cursor.{Cursor}
 use Rattle.std.proofs.lemmas.Bool.{leb-true}
 use Rattle.std.proofs.Math.Nat.{mul-le-mul_right}
 use Rattle.byteorder.specs.Endian.{big_number}
@@ -92,7 +92,7 @@ known : {X : Type 0} (r : Reading X) (otherwise : X) → IsTrue (is_read r) → 
 known (Ok x) otherwise h = (x.1, refl)
 known (Err e) otherwise h = absurd cc
 
-pub nth_within : {X : Type 0} (w : ℕ) (g : Grammar X) (left k : ℕ) (now : Items) → IsWide w g → Gives (repeat left g) now → k < left → now.at + k * w ≤ length now.info.bytes.now
+pub nth_within : {X : Type 0} (w : ℕ) (g : Grammar X) (left k : ℕ) (now : Cursor) → IsWide w g → Gives (repeat left g) now → k < left → now.at + k * w ≤ length now.info.bytes.now
 unfolding gives
 nth_within w g left k now wide h lt =
     let r = next (repeat left g) now in
@@ -102,7 +102,7 @@ nth_within w g left k now wide h lt =
     let c : k * w ≤ left * w = mul-le-mul_right w (omega arith) in
     omega (arith, a, b, c)
 
-nth_known : {X : Type 0} (w : ℕ) (g : Grammar X) (left k : ℕ) (now there : Items) → IsWide w g → Gives (repeat left g) now → k < left → IsAhead now k w there → (x : X) × (next g there ≡ Ok (x, there.at + w)) × (slice_get (given [] (repeat left g) now) k ≡ Some x)
+nth_known : {X : Type 0} (w : ℕ) (g : Grammar X) (left k : ℕ) (now there : Cursor) → IsWide w g → Gives (repeat left g) now → k < left → IsAhead now k w there → (x : X) × (next g there ≡ Ok (x, there.at + w)) × (slice_get (given [] (repeat left g) now) k ≡ Some x)
 unfolding gives given
 nth_known w g left k now there wide h lt a =
     let r = next (repeat left g) now in
@@ -110,7 +110,7 @@ nth_known w g left k now there wide h lt a =
     let n = nth-read w g wide left k lt (info_of now.part) now.info.bytes.now now.at (value_or [] r) o.0 o.1 in
     (n.0, rw (a.at, a.info, a.part) n.1, n.2)
 
-pub nth_given : {X : Type 0} (w : ℕ) (g : Grammar X) (left k : ℕ) (now there : Items) (x : X) (after : Items) → IsWide w g → Gives (repeat left g) now → k < left → IsAhead now k w there → Taken g there x after → Some x ≡ slice_get (given [] (repeat left g) now) k
+pub nth_given : {X : Type 0} (w : ℕ) (g : Grammar X) (left k : ℕ) (now there : Cursor) (x : X) (after : Cursor) → IsWide w g → Gives (repeat left g) now → k < left → IsAhead now k w there → Taken g there x after → Some x ≡ slice_get (given [] (repeat left g) now) k
 nth_given w g left k now there x after wide h lt a t =
     let n = nth_known w g left k now there wide h lt a in
     let e : read_ok n.0 (there.at + w) ≡ Ok (x, after.at) = sym n.1 ∙ t.value in
@@ -119,13 +119,13 @@ nth_given w g left k now there x after wide h lt a t =
 not_both : {X : Type 0} (x : X) (after : ℕ) (fault : FormFault) → read_ok x after ≡ Err fault → ⊥
 not_both x after fault e = cc
 
-pub nth_not : {X : Type 0} (other : Option X) (w : ℕ) (g : Grammar X) (left k : ℕ) (now there : Items) (fault : FormFault) → IsWide w g → Gives (repeat left g) now → k < left → IsAhead now k w there → Fails g there fault → other ≡ slice_get (given [] (repeat left g) now) k
+pub nth_not : {X : Type 0} (other : Option X) (w : ℕ) (g : Grammar X) (left k : ℕ) (now there : Cursor) (fault : FormFault) → IsWide w g → Gives (repeat left g) now → k < left → IsAhead now k w there → Fails g there fault → other ≡ slice_get (given [] (repeat left g) now) k
 nth_not other w g left k now there fault wide h lt a f =
     let n = nth_known w g left k now there wide h lt a in
     let e : read_ok n.0 (there.at + w) ≡ Err fault = sym n.1 ∙ f.answer in
     absurd (not_both n.0 (there.at + w) fault e)
 
-pub nth_none : {X : Type 0} (g : Grammar X) (left k : ℕ) (now : Items) → Gives (repeat left g) now → left ≤ k → None ≡ slice_get (given [] (repeat left g) now) k
+pub nth_none : {X : Type 0} (g : Grammar X) (left k : ℕ) (now : Cursor) → Gives (repeat left g) now → left ≤ k → None ≡ slice_get (given [] (repeat left g) now) k
 nth_none g left k now h le = sym (slice_get_past (given [] (repeat left g) now) k (omega (arith, length_given g left now h)))
 
 -- what a numbered reader of items of one width needs, beside the fact that they are wide

@@ -86,7 +86,8 @@ counted g = u1 >>= λ n. repeat n g
 -- items up to the end of the bytes, at most so many, each with a state as for `each`
 abbrev pub at_most : {X S : Type 0} → ℕ → (S → Grammar X) → (S → X → S) → S → Grammar (List X)
 at_most zero g step s = give []
-at_most (suc n) g step s = remaining >>= λ bytes. when (nat_lt 0 bytes) [] (g s >>= λ x. at_most n g step (step s x) >>= λ xs. give (x ∷ xs))
+at_most (suc n) g step s = remaining >>= λ bytes. when (nat_lt 0 bytes) []
+    (g s >>= λ x. at_most n g step (step s x) >>= λ xs. give (x ∷ xs))
 
 -- items up to the end of the bytes: never more than bytes, where each has one or more
 abbrev pub until_end : {X S : Type 0} → (S → Grammar X) → (S → X → S) → S → Grammar (List X)

@@ -2,7 +2,7 @@
 use Rattle.std.specs.Prelude.{◌≡◌, ℕ, ◌+◌, ◌*◌, List, Result, Ok, Err, Bool, IsTrue}
 use Rattle.std.specs.Borrow.{Bor}
 use Rattle.cap_bytes.specs.declared.fault.FormFault.{FormFault}
-use Rattle.cap_bytes.specs.declared.items.Items.{Items}
+use Rattle.cap_bytes.specs.declared.cursor.Cursor.{Cursor}
 use Rattle.cap_bytes.specs.Grammar.{Grammar}
 use Rattle.cap_bytes.specs.Spelling.{Origin, info_of}
 use Rattle.cap_bytes.specs.Reading.{Reading, read, reading, is_read, value_or}
@@ -21,45 +21,45 @@ nothing x = tt {0}
 -- ---- taking
 
 -- what reading the next items by a grammar answers
-abbrev pub next : {X : Type 0} → Grammar X → Items → Reading X
+abbrev pub next : {X : Type 0} → Grammar X → Cursor → Reading X
 next g items = read (info_of items.part) g items.info.bytes.now items.at
 
 -- the items of the grammar were next, with this value, and what is left begins after them
-pub record Taken {X : Type 0} (g : Grammar X) (before : Items) (x : X) (after : Items) : Type 0 where
+pub record Taken {X : Type 0} (g : Grammar X) (before : Cursor) (x : X) (after : Cursor) : Type 0 where
   pub value : next g before ≡ Ok (x, after.at)
   pub info : after.info ≡ before.info
   pub part : after.part ≡ before.part
 
 -- the first item that breaks the grammar gives this fault
-pub record Fails {X : Type 0} (g : Grammar X) (before : Items) (fault : FormFault) : Type 0 where
+pub record Fails {X : Type 0} (g : Grammar X) (before : Cursor) (fault : FormFault) : Type 0 where
   pub answer : next g before ≡ Err fault
 
 -- the items are taken, and the result is their value; or the first of them that breaks the grammar
 -- gives the fault
-abbrev pub Takes : {R X : Type 0} → (R → X) → Grammar X → Items → Result R FormFault → Items → Type 0
+abbrev pub Takes : {R X : Type 0} → (R → X) → Grammar X → Cursor → Result R FormFault → Cursor → Type 0
 Takes view g before (Ok x) after = Taken g before (view x) after
 Takes view g before (Err fault) after = Fails g before fault
 
 -- the same where the value is passed over
-abbrev pub Passes : {R X : Type 0} → Grammar X → Items → Result R FormFault → Items → Type 0
+abbrev pub Passes : {R X : Type 0} → Grammar X → Cursor → Result R FormFault → Cursor → Type 0
 Passes {X = X} g before (Ok r) after = (x : X) × Taken g before x after
 Passes g before (Err fault) after = Fails g before fault
 
 -- ---- what is known to be next
 
 -- whether the next items are by the grammar
-unfoldable pub gives : {X : Type 0} → Grammar X → Items → Bool
+unfoldable pub gives : {X : Type 0} → Grammar X → Cursor → Bool
 gives g items = is_read (next g items)
 
-abbrev pub Gives : {X : Type 0} → Grammar X → Items → Type 0
+abbrev pub Gives : {X : Type 0} → Grammar X → Cursor → Type 0
 Gives g items = IsTrue (gives g items)
 
 -- their value, or another where they are not
-unfoldable pub given : {X : Type 0} → X → Grammar X → Items → X
+unfoldable pub given : {X : Type 0} → X → Grammar X → Cursor → X
 given otherwise g items = value_or otherwise (next g items)
 
 -- so many items of one width further on
-pub record IsAhead (now : Items) (n width : ℕ) (there : Items) : Type 0 where
+pub record IsAhead (now : Cursor) (n width : ℕ) (there : Cursor) : Type 0 where
   pub at : there.at ≡ now.at + n * width
   pub info : there.info ≡ now.info
   pub part : there.part ≡ now.part

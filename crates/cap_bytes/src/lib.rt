@@ -6,9 +6,9 @@
 #![tactic(auto)]
 
 mod class_reference;
+mod cursor;
 mod fault;
 mod format;
-mod items;
 mod part;
 mod table;
 mod table_reads;
@@ -16,9 +16,9 @@ mod take;
 mod view;
 
 pub use class_reference::ClassReference;
+pub use cursor::Cursor;
 pub use fault::{FormFault, FormKind};
 pub use format::Format;
-pub use items::Items;
 pub use part::Part;
 pub use table::Table;
 pub use view::View;

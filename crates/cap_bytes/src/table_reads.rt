@@ -4,11 +4,11 @@ ghost use Rattle.cap_bytes.specs.Grammar.{repeat, table, u2};
 ghost use Rattle.cap_bytes.specs.Taking.{Takes, Passes};
 ghost use Rattle.cap_bytes.specs.Table.{numbers};
 
+use crate::cursor::Cursor;
 use crate::fault::FormFault;
-use crate::items::Items;
 use crate::table::Table;
 
-impl<'a> Items<'a> {
+impl<'a> Cursor<'a> {
     /// A table of so many numbers of two bytes.
     #[tactic(auto, using(crate::proofs::Loops::yielding), unfolding(crate::specs::Grammar::table))]
     pub fn table(&mut self, count: u16) -> Result<Table<'a>, FormFault>

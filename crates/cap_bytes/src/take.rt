@@ -3,27 +3,27 @@ ghost use Rattle.cap_bytes.specs.Grammar.{u1, u2, u4, number, piece, remaining, 
 ghost use Rattle.cap_bytes.specs.Spelling.{info_of, fault_at, cut};
 ghost use Rattle.cap_bytes.specs.Taking.{Takes, IsAhead, same, bytes, nothing};
 
+use crate::cursor::Cursor;
 use crate::fault::{FormFault, FormKind};
-use crate::items::Items;
 use crate::view::View;
 
-impl<'a> Items<'a> {
+impl<'a> Cursor<'a> {
     /// The items of a component with this tag and info.
-    pub fn of(info: View<'a>, part: u8) -> Items<'a>
+    pub fn of(info: View<'a>, part: u8) -> Cursor<'a>
         requires { length info.bytes.now ≤ 65535 }
         ensures info { result.info ≡ info.entry }
         ensures part { result.part ≡ part }
         ensures first { result.at ≡ 0 }
     {
-        Items { info, part, at: 0 }
+        Cursor { info, part, at: 0 }
     }
 
     /// The place of the n-th item from here, counted from 0, where each has this width in bytes.
-    pub fn ahead(self, n: u32, width: u32) -> Items<'a>
+    pub fn ahead(self, n: u32, width: u32) -> Cursor<'a>
         requires { self.at + n * width ≤ length self.info.bytes.now }
         ensures { IsAhead self.entry n width result }
     {
-        Items {
+        Cursor {
             info: self.info,
             part: self.part,
             at: self.at + n * width,

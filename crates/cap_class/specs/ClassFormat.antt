@@ -43,7 +43,8 @@ is_remote flags = bit_and flags 2 == 2
 -- no interface stands after a class, and none is remote
 abbrev pub wrong_record : Bool → ℕ → Option FormKind
 wrong_record behind_class first =
-    if behind_class && is_interface (class_flags first) then Some BadValue else (if is_remote (class_flags first) then Some Remote else None)
+    if behind_class && is_interface (class_flags first) then Some BadValue
+    else (if is_remote (class_flags first) then Some Remote else None)
 
 -- ---- the parts of a record
 
@@ -71,16 +72,21 @@ instance_info = do
   declared_instance_size ← u1
   first_reference_token ← u1
   reference_count ← u1
-  give (record { super_ref = super_ref; instance_size = declared_instance_size; first_reference = first_reference_token; reference_count = reference_count })
+  give (record {
+    super_ref = super_ref;
+    instance_size = declared_instance_size;
+    first_reference = first_reference_token;
+    reference_count = reference_count;
+  })
 
 -- the public and the package-visible dispatch table, each with the token of its first entry
-pub record Tables : Type 0 where
+pub record DispatchTables : Type 0 where
   pub public_base : ℕ
   pub package_base : ℕ
   pub public : List ℕ
   pub visible : List ℕ
 
-abbrev pub tables_info : Grammar Tables
+abbrev pub tables_info : Grammar DispatchTables
 tables_info = do
   public_base ← u1
   public_count ← u1
@@ -107,7 +113,7 @@ of_interface offset first interfaces = record {
   interfaces = interfaces;
 }
 
-abbrev pub of_class : ℕ → ℕ → Instance → Tables → List Interface → Class
+abbrev pub of_class : ℕ → ℕ → Instance → DispatchTables → List Interface → Class
 of_class offset first i t interfaces = record {
   offset = offset;
   flags = class_flags first;

@@ -3,10 +3,10 @@ use Rattle.std.specs.Prelude.{ℕ, false, List, [], Result, Ok, Err}
 use Rattle.cap_bytes.specs.Grammar.{repeat, until_end}
 use Rattle.cap_bytes.specs.Table.{numbers}
 use Rattle.cap_bytes.specs.declared.fault.FormFault.{FormFault}
-use Rattle.cap_bytes.specs.declared.items.Items.{Items}
+use Rattle.cap_bytes.specs.declared.cursor.Cursor.{Cursor}
 use Rattle.cap_bytes.specs.Taking.{Taken, Fails, given}
 use Rattle.cap_class.specs.declared.class_info.Instance.{Instance}
-use Rattle.cap_class.specs.declared.class_info.Tables.{Tables}
+use Rattle.cap_class.specs.declared.class_info.DispatchTables.{DispatchTables}
 use Rattle.cap_class.specs.declared.class_info.ClassInfo.{ClassInfo}
 use Rattle.cap_class.specs.declared.class_list.Classes.{Classes}
 use Rattle.cap_class.specs.declared.class_part.ClassPart.{ClassPart}
@@ -15,10 +15,20 @@ use Rattle.cap_class.specs.ClassFormat.{any_record, record_info, is_behind}
 use Rattle.cap_class.specs.Lists.{interfaces_left}
 
 abbrev pub instance_seen : Instance → format.Instance
-instance_seen i = record { super_ref = i.super_ref; instance_size = i.instance_size; first_reference = i.first_reference; reference_count = i.reference_count }
+instance_seen i = record {
+  super_ref = i.super_ref;
+  instance_size = i.instance_size;
+  first_reference = i.first_reference;
+  reference_count = i.reference_count;
+}
 
-abbrev pub tables_seen : Tables → format.Tables
-tables_seen t = record { public_base = t.public_base; package_base = t.package_base; public = numbers t.public; visible = numbers t.visible }
+abbrev pub tables_seen : DispatchTables → format.DispatchTables
+tables_seen t = record {
+  public_base = t.public_base;
+  package_base = t.package_base;
+  public = numbers t.public;
+  visible = numbers t.visible;
+}
 
 abbrev pub class_seen : ClassInfo → format.Class
 class_seen c = record {
@@ -45,6 +55,8 @@ records x = classes_left x.classes
 
 -- the records up to the end are passed, which are so many that may stand anywhere; or the first item that
 -- breaks the format gives the fault
-abbrev pub PassesRecords : Items → Result ℕ FormFault → Items → Type 0
-PassesRecords before (Ok count) after = (xs : List format.Class) × Taken (until_end record_info is_behind false) before xs after × Taken (repeat count any_record) before xs after
+abbrev pub PassesRecords : Cursor → Result ℕ FormFault → Cursor → Type 0
+PassesRecords before (Ok count) after = (xs : List format.Class)
+    × Taken (until_end record_info is_behind false) before xs after
+    × Taken (repeat count any_record) before xs after
 PassesRecords before (Err fault) after = Fails (until_end record_info is_behind false) before fault

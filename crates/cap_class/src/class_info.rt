@@ -16,7 +16,7 @@ pub(crate) struct Instance {
 
 /// The dispatch tables of a class.
 #[derive(Clone, Copy)]
-pub(crate) struct Tables<'a> {
+pub(crate) struct DispatchTables<'a> {
     pub(crate) public_base: u8,
     pub(crate) package_base: u8,
     pub(crate) public: Table<'a>,
@@ -31,6 +31,6 @@ pub struct ClassInfo<'a> {
     pub(crate) offset: u16,
     pub(crate) flags: ClassFlags,
     pub(crate) instance: Instance,
-    pub(crate) tables: Tables<'a>,
+    pub(crate) tables: DispatchTables<'a>,
     pub(crate) interfaces: Interfaces<'a>,
 }

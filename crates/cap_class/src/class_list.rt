@@ -2,12 +2,12 @@ ghost use Rattle.cap_bytes.specs.Grammar.{repeat};
 ghost use Rattle.cap_bytes.specs.Taking.{Gives};
 ghost use Rattle.cap_class.specs.ClassFormat.{any_record};
 
-use cap_bytes::Items;
+use cap_bytes::Cursor;
 
 /// The records that are left, from the first on.
 #[derive(Clone, Copy, Drop)]
 pub struct Classes<'a> {
-    pub(crate) items: Items<'a>,
+    pub(crate) items: Cursor<'a>,
     pub(crate) left: u16,
     ghost known: { Gives (repeat left any_record) items },
 }

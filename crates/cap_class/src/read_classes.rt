@@ -16,7 +16,7 @@ use crate::class_part::ClassPart;
 use crate::implemented::Implemented;
 use crate::interfaces::Interfaces;
 use crate::read_record::record;
-use cap_bytes::{FormFault, Format, Items, Table, View};
+use cap_bytes::{Cursor, FormFault, Format, Table, View};
 
 /// The tag of the component.
 const CLASS: u8 = 6;
@@ -30,7 +30,7 @@ fn is_behind(behind_class: bool, class: ClassInfo<'_>) -> bool
 
 /// How many records there are up to the end.
 #[tactic(auto, using(cap_bytes::proofs::UntilLoops::passing_until, crate::proofs::Records::advancing))]
-fn pass_records(items: &mut Items<'_>) -> Result<u16, FormFault>
+fn pass_records(items: &mut Cursor<'_>) -> Result<u16, FormFault>
     ensures { PassesRecords items.old result items.new }
 {
     let mut behind_class = false;
@@ -45,7 +45,7 @@ fn pass_records(items: &mut Items<'_>) -> Result<u16, FormFault>
 
 /// The records up to the end.
 #[tactic(auto, using(cap_bytes::proofs::Loops::yielding))]
-fn records<'a>(items: &mut Items<'a>) -> Result<Classes<'a>, FormFault>
+fn records<'a>(items: &mut Cursor<'a>) -> Result<Classes<'a>, FormFault>
     ensures { Takes classes_left (until_end record_info is_behind false) items.old result items.new }
 {
     let first = *items;
@@ -80,7 +80,7 @@ impl<'a> Iterator for Classes<'a> {
 }
 
 /// The signature pool.
-fn signature_pool<'a>(items: &mut Items<'a>, format: Format) -> Result<&'a [u8], FormFault>
+fn signature_pool<'a>(items: &mut Cursor<'a>, format: Format) -> Result<&'a [u8], FormFault>
     ensures { Takes bytes (signature_pool format) items.old result items.new }
 {
     match format {
@@ -99,7 +99,7 @@ fn read(info: View<'_>, format: Format) -> Result<ClassPart<'_>, FormFault>
     ensures value { Reads records (info_of 6) (classes_info format) info.entry.bytes.now result }
     ensures info { IfOk result (λ x. x.info ≡ info.entry) }
 {
-    let mut items = Items::of(info, CLASS);
+    let mut items = Cursor::of(info, CLASS);
     signature_pool(&mut items, format)?;
     let classes = records(&mut items)?;
     Ok(ClassPart { info, classes })
@@ -263,7 +263,7 @@ impl<'a> ClassInfo<'a> {
     }
 
     /// The package-visible dispatch table, as the public one.
-    pub fn packages(&self) -> Table<'a>
+    pub fn package_table(&self) -> Table<'a>
         ensures { numbers result ≡ (class_seen self.now).visible }
     {
         self.tables.visible

@@ -8,13 +8,13 @@ ghost use Rattle.cap_class.specs.Lists.{interface_seen, interfaces_left};
 ghost use Rattle.cap_class.specs.ClassPart.{instance_seen, tables_seen, class_seen};
 
 use crate::class_flags::ClassFlags;
-use crate::class_info::{ClassInfo, Instance, Tables};
+use crate::class_info::{ClassInfo, DispatchTables, Instance};
 use crate::implemented::Implemented;
 use crate::interfaces::Interfaces;
-use cap_bytes::{FormFault, FormKind, Items, Table};
+use cap_bytes::{Cursor, FormFault, FormKind, Table};
 
 /// The next interface of a record: one that an interface extends, or one that a class implements.
-fn interface<'a>(items: &mut Items<'a>, extended: bool) -> Result<Implemented<'a>, FormFault>
+fn interface<'a>(items: &mut Cursor<'a>, extended: bool) -> Result<Implemented<'a>, FormFault>
     ensures { Takes interface_seen (interface_info extended) items.old result items.new }
 {
     let class_ref = items.u2()?;
@@ -31,7 +31,7 @@ fn interface<'a>(items: &mut Items<'a>, extended: bool) -> Result<Implemented<'a
 
 /// Passes over so many interfaces.
 #[tactic(auto, using(cap_bytes::proofs::Loops::passing))]
-fn pass_interfaces(items: &mut Items<'_>, count: u8, extended: bool) -> Result<(), FormFault>
+fn pass_interfaces(items: &mut Cursor<'_>, count: u8, extended: bool) -> Result<(), FormFault>
     ensures { Passes (repeat count (interface_info extended)) items.old result items.new }
 {
     'interfaces: for _ in 0..count {
@@ -43,7 +43,7 @@ fn pass_interfaces(items: &mut Items<'_>, count: u8, extended: bool) -> Result<(
 /// The next so many interfaces.
 #[tactic(auto, using(cap_bytes::proofs::Loops::yielding))]
 fn interfaces<'a>(
-    items: &mut Items<'a>,
+    items: &mut Cursor<'a>,
     left: u8,
     extended: bool,
 ) -> Result<Interfaces<'a>, FormFault>
@@ -59,7 +59,7 @@ fn interfaces<'a>(
 }
 
 /// The superclass, and what an instance has of its own.
-fn instance(items: &mut Items<'_>) -> Result<Instance, FormFault>
+fn instance(items: &mut Cursor<'_>) -> Result<Instance, FormFault>
     ensures { Takes instance_seen instance_info items.old result items.new }
 {
     let super_ref = items.u2()?;
@@ -75,7 +75,7 @@ fn instance(items: &mut Items<'_>) -> Result<Instance, FormFault>
 }
 
 /// A dispatch table of at most 255 entries.
-fn dispatch<'a>(items: &mut Items<'a>, count: u8) -> Result<Table<'a>, FormFault>
+fn dispatch<'a>(items: &mut Cursor<'a>, count: u8) -> Result<Table<'a>, FormFault>
     ensures taken { Takes numbers (table count) items.old result items.new }
     ensures few { IfOk result (λ t. length (numbers t) ≤ 255) }
 {
@@ -83,7 +83,7 @@ fn dispatch<'a>(items: &mut Items<'a>, count: u8) -> Result<Table<'a>, FormFault
 }
 
 /// Both dispatch tables.
-fn tables<'a>(items: &mut Items<'a>) -> Result<Tables<'a>, FormFault>
+fn tables<'a>(items: &mut Cursor<'a>) -> Result<DispatchTables<'a>, FormFault>
     ensures { Takes tables_seen tables_info items.old result items.new }
 {
     let public_base = items.u1()?;
@@ -92,7 +92,7 @@ fn tables<'a>(items: &mut Items<'a>) -> Result<Tables<'a>, FormFault>
     let package_count = items.u1()?;
     let public = dispatch(items, public_count)?;
     let visible = dispatch(items, package_count)?;
-    Ok(Tables {
+    Ok(DispatchTables {
         public_base,
         package_base,
         public,
@@ -102,7 +102,7 @@ fn tables<'a>(items: &mut Items<'a>) -> Result<Tables<'a>, FormFault>
 
 /// A table of no entries.
 #[tactic(auto, using(crate::proofs::Records::empty))]
-fn no_table<'a>(items: &Items<'a>) -> Table<'a>
+fn no_table<'a>(items: &Cursor<'a>) -> Table<'a>
     ensures { numbers result ≡ [] }
 {
     let mut there = *items;
@@ -113,10 +113,10 @@ fn no_table<'a>(items: &Items<'a>) -> Table<'a>
 }
 
 /// The tables of an interface, which has none.
-fn no_tables<'a>(items: &Items<'a>) -> Tables<'a>
+fn no_tables<'a>(items: &Cursor<'a>) -> DispatchTables<'a>
     ensures { tables_seen result ≡ record { public_base = 0; package_base = 0; public = []; visible = [] } }
 {
-    Tables {
+    DispatchTables {
         public_base: 0,
         package_base: 0,
         public: no_table(items),
@@ -126,7 +126,7 @@ fn no_tables<'a>(items: &Items<'a>) -> Tables<'a>
 
 /// A record after its first byte, which stands at this offset.
 fn behind_first<'a>(
-    items: &mut Items<'a>,
+    items: &mut Cursor<'a>,
     offset: u16,
     first: u8,
 ) -> Result<ClassInfo<'a>, FormFault>
@@ -165,7 +165,7 @@ fn behind_first<'a>(
 /// The next record, which stands after a class or not.
 #[tactic(auto, unfolding(crate::specs::ClassFormat::record_info))]
 pub(crate) fn record<'a>(
-    items: &mut Items<'a>,
+    items: &mut Cursor<'a>,
     behind_class: bool,
 ) -> Result<ClassInfo<'a>, FormFault>
     ensures { Takes class_seen (record_info behind_class) items.old result items.new }

@@ -38,7 +38,9 @@ sized_fault parts d tag = absent_by (size_in d tag) (absent_fault parts tag)
 -- the Directory is malformed or absent, no sizes are told
 abbrev pub missing : List Lent → Result DirectoryItems PackFault → Option PackFault
 missing parts (Err fault) = least_of (absent_fault parts) required
-missing parts (Ok d) = least_from (least_from (least_of (absent_fault parts) required) (sized_fault parts d) optional) (sized_fault parts d) (custom_tags d)
+missing parts (Ok d) = least_from
+    (least_from (least_of (absent_fault parts) required) (sized_fault parts d) optional)
+    (sized_fault parts d) (custom_tags d)
 
 -- a custom component that is there breaks its format
 abbrev pub form_by : {X : Type 0} → Option (List ℕ) → Result X PackFault → Option PackFault

@@ -77,7 +77,8 @@ FailsOr parts tag g fault others = Fails parts tag g fault ⊎ (((items : _) × 
 
 -- a part that may be absent breaks its format, or it says something, or is absent, and others fail
 abbrev pub BreaksOr : {X : Type 0} → List Lent → ℕ → Grammar X → PackFault → Type 0 → Type 0
-BreaksOr parts tag g fault others = ((form : FormFault) × (fault ≡ Form form) × IsBroken parts tag g form) ⊎ (((items : _) × SaysIf parts tag g items) × others)
+BreaksOr parts tag g fault others = ((form : FormFault) × (fault ≡ Form form) × IsBroken parts tag g form)
+    ⊎ (((items : _) × SaysIf parts tag g items) × others)
 
 -- the first component by tag that fails of those after the Header, in its format
 abbrev pub IsFirstAfter : Format → List Lent → PackFault → Type 0

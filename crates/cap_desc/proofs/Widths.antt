@@ -4,7 +4,7 @@ use Rattle.std.proofs.Common.{◌≡◌, ℕ, zero, suc, ◌+◌, ◌*◌, ◌�
 use Rattle.std.proofs.lemmas.Bool.{le-leb, lt-leb, leb-true, leb-false}
 use Rattle.byteorder.specs.Endian.{big_number}
 use Rattle.cap_bytes.specs.declared.fault.FormFault.{FormFault}
-use Rattle.cap_bytes.specs.declared.items.Items.{Items}
+use Rattle.cap_bytes.specs.declared.cursor.Cursor.{Cursor}
 use Rattle.cap_bytes.specs.Grammar.{Grammar, give, number, piece, ◌>>=◌, any, repeat}
 use Rattle.cap_bytes.specs.Spelling.{Origin, cut, info_of}
 use Rattle.cap_bytes.specs.Reading.{Reading, read, value_or}
@@ -73,7 +73,7 @@ value_is : {X : Type 0} (r : Reading X) (otherwise x : X) (a b : ℕ) → r ≡ 
 value_is r otherwise x a b e f = rw (e, f) refl
 
 -- items of one width are taken where a piece of their width is, and have a value
-pub taken-width : {X : Type 0} (m : ℕ) (g : Grammar X) (otherwise : X) (part : List ℕ) (before after : Items) → HasWidth m g → Taken (piece m) before part after
+pub taken-width : {X : Type 0} (m : ℕ) (g : Grammar X) (otherwise : X) (part : List ℕ) (before after : Cursor) → HasWidth m g → Taken (piece m) before part after
     → Taken g before (given otherwise g before) after × Gives g before
 unfolding Spells given gives
 taken-width m g otherwise part before after h t =
@@ -81,7 +81,7 @@ taken-width m g otherwise part before after h t =
     let x = h.reach (info_of before.part) before.info.bytes.now before.at s.0 in
     (record { value = value_is (next g before) otherwise x.0 (before.at + m) after.at x.1 s.2; info = t.info; part = t.part }, rw x.1 refl)
 
-pub fails-width : {X : Type 0} (m : ℕ) (g : Grammar X) (before : Items) (fault : FormFault) → HasWidth m g → Fails (piece m) before fault → Fails g before fault
+pub fails-width : {X : Type 0} (m : ℕ) (g : Grammar X) (before : Cursor) (fault : FormFault) → HasWidth m g → Fails (piece m) before fault → Fails g before fault
 unfolding Breaks
 fails-width m g before fault h f =
     let b = read-breaks (info_of before.part) (piece m) before.info.bytes.now before.at fault f.answer in

@@ -9,7 +9,13 @@ use Rattle.cap_desc.specs.DescriptorFormat.{Class, class_info}
 use Rattle.cap_desc.specs.MemberLists.{fields_left, methods_left}
 
 abbrev pub class_seen : DescClass → Class
-class_seen c = record { token = c.token; class_ref = c.class_ref; interfaces = numbers c.interfaces; fields = fields_left c.fields; methods = methods_left c.methods }
+class_seen c = record {
+  token = c.token;
+  class_ref = c.class_ref;
+  interfaces = numbers c.interfaces;
+  fields = fields_left c.fields;
+  methods = methods_left c.methods;
+}
 
 abbrev pub classes_left : DescClasses → List Class
 classes_left x = given [] (repeat x.left class_info) x.items

@@ -64,7 +64,8 @@ one_type_in ns = option_map (λ p. p.0) (result_ok (nibbles_read (type_item >>= 
 
 -- so many nibbles, from a place of bytes on, where the bytes reach
 abbrev pub nibbles_at : List ℕ → ℕ → ℕ → Option (List ℕ)
-nibbles_at bytes at count = if nat_le (at + (count + 1) / 2) (length bytes) then Some (take count (nibbles (take ((count + 1) / 2) (drop at bytes)))) else None
+nibbles_at bytes at count = if nat_le (at + (count + 1) / 2) (length bytes)
+    then Some (take count (nibbles (take ((count + 1) / 2) (drop at bytes)))) else None
 
 -- the nibbles of the type descriptor at a place, where the bytes reach
 abbrev pub descriptor_nibbles : List ℕ → ℕ → Option (List ℕ)

@@ -2,12 +2,12 @@ ghost use Rattle.cap_bytes.specs.Grammar.{repeat};
 ghost use Rattle.cap_bytes.specs.Taking.{Gives};
 ghost use Rattle.cap_desc.specs.DescriptorFormat.{field_info, method_info, class_info};
 
-use cap_bytes::Items;
+use cap_bytes::Cursor;
 
 /// The fields of a class that are left, in the order of the component.
 #[derive(Clone, Copy, Drop)]
 pub struct DescFields<'a> {
-    pub(crate) items: Items<'a>,
+    pub(crate) items: Cursor<'a>,
     pub(crate) left: u16,
     ghost known: { Gives (repeat left field_info) items },
 }
@@ -15,7 +15,7 @@ pub struct DescFields<'a> {
 /// The methods of a class that are left, in the order of the component.
 #[derive(Clone, Copy, Drop)]
 pub struct DescMethods<'a> {
-    pub(crate) items: Items<'a>,
+    pub(crate) items: Cursor<'a>,
     pub(crate) left: u16,
     ghost known: { Gives (repeat left method_info) items },
 }
@@ -23,7 +23,7 @@ pub struct DescMethods<'a> {
 /// The classes and interfaces that are left, in the order of the component.
 #[derive(Clone, Copy, Drop)]
 pub struct DescClasses<'a> {
-    pub(crate) items: Items<'a>,
+    pub(crate) items: Cursor<'a>,
     pub(crate) left: u8,
     ghost known: { Gives (repeat left class_info) items },
 }

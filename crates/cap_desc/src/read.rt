@@ -10,14 +10,14 @@ ghost use Rattle.cap_desc.specs.Descriptors.{descriptor_seen};
 use crate::desc_part::DescPart;
 use crate::lists::DescClasses;
 use crate::take;
-use cap_bytes::{FormFault, Items, View};
+use cap_bytes::{Cursor, FormFault, View};
 
 /// The tag of the Descriptor component.
 const DESCRIPTOR: u8 = 11;
 
 /// Passes over so many classes.
 #[tactic(auto, using(cap_bytes::proofs::Loops::passing))]
-fn pass_classes(items: &mut Items<'_>, count: u8) -> Result<(), FormFault>
+fn pass_classes(items: &mut Cursor<'_>, count: u8) -> Result<(), FormFault>
     ensures { Passes (repeat count class_info) items.old result items.new }
 {
     'classes: for _ in 0..count {
@@ -28,7 +28,7 @@ fn pass_classes(items: &mut Items<'_>, count: u8) -> Result<(), FormFault>
 
 /// The next so many classes.
 #[tactic(auto, using(cap_bytes::proofs::Loops::yielding))]
-fn classes<'a>(items: &mut Items<'a>, count: u8) -> Result<DescClasses<'a>, FormFault>
+fn classes<'a>(items: &mut Cursor<'a>, count: u8) -> Result<DescClasses<'a>, FormFault>
     ensures { Takes classes_left (repeat count class_info) items.old result items.new }
 {
     let first = *items;
@@ -46,7 +46,7 @@ fn read(info: View<'_>) -> Result<DescPart<'_>, FormFault>
     ensures value { Reads descriptor_seen (info_of 11) descriptor_info info.entry.bytes.now result }
     ensures info { IfOk result (λ x. x.info ≡ info.entry) }
 {
-    let mut items = Items::of(info, DESCRIPTOR);
+    let mut items = Cursor::of(info, DESCRIPTOR);
     let class_count = items.u1()?;
     let classes = classes(&mut items, class_count)?;
     let types_start = items.at;

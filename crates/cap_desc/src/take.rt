@@ -9,10 +9,10 @@ use crate::access_flags::AccessFlags;
 use crate::class::DescClass;
 use crate::lists::{DescFields, DescMethods};
 use crate::records::{FieldInfo, MethodInfo};
-use cap_bytes::{FormFault, Items};
+use cap_bytes::{Cursor, FormFault};
 
 /// The next `field_descriptor_info`.
-pub(crate) fn field_info(items: &mut Items<'_>) -> Result<FieldInfo, FormFault>
+pub(crate) fn field_info(items: &mut Cursor<'_>) -> Result<FieldInfo, FormFault>
     ensures { Takes field_seen field_info items.old result items.new }
 {
     let token = items.u1()?;
@@ -28,7 +28,7 @@ pub(crate) fn field_info(items: &mut Items<'_>) -> Result<FieldInfo, FormFault>
 }
 
 /// The next `method_descriptor_info`.
-pub(crate) fn method_info(items: &mut Items<'_>) -> Result<MethodInfo, FormFault>
+pub(crate) fn method_info(items: &mut Cursor<'_>) -> Result<MethodInfo, FormFault>
     ensures { Takes method_seen method_info items.old result items.new }
 {
     let token = items.u1()?;
@@ -50,7 +50,7 @@ pub(crate) fn method_info(items: &mut Items<'_>) -> Result<MethodInfo, FormFault
 }
 
 /// The next so many fields.
-pub(crate) fn fields<'a>(items: &mut Items<'a>, count: u16) -> Result<DescFields<'a>, FormFault>
+pub(crate) fn fields<'a>(items: &mut Cursor<'a>, count: u16) -> Result<DescFields<'a>, FormFault>
     ensures { Takes fields_left (repeat count field_info) items.old result items.new }
 {
     let first = *items;
@@ -62,7 +62,7 @@ pub(crate) fn fields<'a>(items: &mut Items<'a>, count: u16) -> Result<DescFields
 }
 
 /// The next so many methods.
-pub(crate) fn methods<'a>(items: &mut Items<'a>, count: u16) -> Result<DescMethods<'a>, FormFault>
+pub(crate) fn methods<'a>(items: &mut Cursor<'a>, count: u16) -> Result<DescMethods<'a>, FormFault>
     ensures { Takes methods_left (repeat count method_info) items.old result items.new }
 {
     let first = *items;
@@ -74,7 +74,7 @@ pub(crate) fn methods<'a>(items: &mut Items<'a>, count: u16) -> Result<DescMetho
 }
 
 /// The next `class_descriptor_info`.
-pub(crate) fn class_info<'a>(items: &mut Items<'a>) -> Result<DescClass<'a>, FormFault>
+pub(crate) fn class_info<'a>(items: &mut Cursor<'a>) -> Result<DescClass<'a>, FormFault>
     ensures { Takes class_seen class_info items.old result items.new }
 {
     let token = items.u1()?;

@@ -21,7 +21,8 @@ Creates before key after written (Err _) = IfSome after (λ now. IsSomeAnd befor
 
 -- the bytes that were written are held at the part, and all else as before
 abbrev pub Closes : Option Parts → List ℕ → Option (List ℕ) → Option Parts → Type 0
-Closes before key written after = IfSome after (λ now. IsSomeAnd before (λ parts. IsSomeAnd written (λ bytes. now ≡ map.insert parts key bytes)))
+Closes before key written after = IfSome after
+    (λ now. IsSomeAnd before (λ parts. IsSomeAnd written (λ bytes. now ≡ map.insert parts key bytes)))
 
 -- the path of the file that is open after a call that opens it to be read: none where it is absent, and none after a failure
 abbrev pub path_found : List ℕ → Result Bool DiskFailed → Option (List ℕ)

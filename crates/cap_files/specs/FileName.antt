@@ -6,7 +6,8 @@ use Rattle.cap_files.specs.declared.name.FileName.{FileName}
 -- the components by their tags, and before them the file of roles
 abbrev pub standard_names : List (List ℕ)
 standard_names =
-    codes "Roles" ∷ codes "Header" ∷ codes "Directory" ∷ codes "Applet" ∷ codes "Import" ∷ codes "ConstantPool" ∷ codes "Class" ∷ codes "Method" ∷ codes "StaticField" ∷
+    codes "Roles" ∷ codes "Header" ∷ codes "Directory" ∷ codes "Applet" ∷ codes "Import"
+    ∷ codes "ConstantPool" ∷ codes "Class" ∷ codes "Method" ∷ codes "StaticField" ∷
     codes "RefLocation" ∷ codes "Export" ∷ codes "Descriptor" ∷ codes "Debug" ∷ []
 
 -- the name of a part's file, without its extension

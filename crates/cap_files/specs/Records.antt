@@ -14,7 +14,8 @@ pub record Piled : Type 0 where
 -- a pile as a value is stored as the tuple of its fields
 abbrev pub piled_code : Coded Piled
 piled_code =
-    code_by (List (List ℕ × List ℕ) × (ℕ × ℕ)) (coded× (coded_list (coded× (coded_list coded_ℕ) (coded_list coded_ℕ))) (coded× coded_ℕ coded_ℕ))
+    code_by (List (List ℕ × List ℕ) × (ℕ × ℕ))
+    (coded× (coded_list (coded× (coded_list coded_ℕ) (coded_list coded_ℕ))) (coded× coded_ℕ coded_ℕ))
     (λ p. (p.records, (p.most_parts, p.most_bytes))) (λ p. record { records = p.0; most_parts = p.1.0; most_bytes = p.1.1 }) (λ _. refl)
 
 -- whether a record's key is the one

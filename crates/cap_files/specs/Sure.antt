@@ -29,7 +29,8 @@ text_told sink = if sink.told then Some sink.tape.bytes else None
 
 -- a piece put
 abbrev pub received : SureSink → List ℕ → SureSink
-received sink piece = if tape.has_room sink.tape piece then record sink { tape = tape.appended sink.tape piece } else record sink { told = false }
+received sink piece = if tape.has_room sink.tape piece
+    then record sink { tape = tape.appended sink.tape piece } else record sink { told = false }
 
 -- a sink never fails
 abbrev pub no_faults : {A : Type 0} → A → ℕ

@@ -15,7 +15,8 @@ TakesAll left to (Err Memory) = Unit {0}
 
 -- one read puts the next bytes after those that were read, and answers false at the file's end alone; it is never too long
 abbrev pub TakesMore : Option (List ℕ) → Option (List ℕ) → List ℕ → List ℕ → Result Bool LoadEnd → Type 0
-TakesMore left rest to after (Ok more) = ((bytes : List ℕ) × (after ≡ to ++ bytes) × Consumes left rest bytes) × (more ≡ false → IsAtEnd rest)
+TakesMore left rest to after (Ok more) =
+    ((bytes : List ℕ) × (after ≡ to ++ bytes) × Consumes left rest bytes) × (more ≡ false → IsAtEnd rest)
 TakesMore left rest to after (Err TooLong) = ⊥
 TakesMore left rest to after (Err Failed) = Unit {0}
 TakesMore left rest to after (Err Memory) = Unit {0}

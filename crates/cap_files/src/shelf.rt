@@ -24,7 +24,10 @@ impl Model for Shelf {
     ghost use Rattle.std.specs.FinMap as map;
     ghost use Rattle.cap_files.specs.Distinct.{AreDistinct};
 
-    ghost view = { λ s. record { parts = map.from_entries s.pile.records; room = record { parts = s.pile.most_parts; bytes = s.pile.most_bytes } } };
+    ghost view = { λ s. record {
+      parts = map.from_entries s.pile.records;
+      room = record { parts = s.pile.most_parts; bytes = s.pile.most_bytes };
+    } };
 
     ghost invariant = { λ s. AreDistinct s.pile.records };
 }

@@ -6,7 +6,7 @@ use Rattle.std.proofs.lemmas.List.{get_or-set_other, get_or-set_same, get_or-rep
 use Rattle.std.proofs.lemmas.Bool.{cases_lt}
 use Rattle.cap_bytes.specs.declared.fault.FormFault.{FormFault}
 use Rattle.cap_bytes.specs.declared.fault.FormKind.{FormKind}
-use Rattle.cap_bytes.specs.declared.items.Items.{Items}
+use Rattle.cap_bytes.specs.declared.cursor.Cursor.{Cursor}
 use Rattle.cap_bytes.specs.Grammar.{that, each, repeat}
 use Rattle.cap_bytes.specs.Taking.{Taken, Fails}
 use Rattle.cap_bytes.proofs.EachLoops.{ReadsAll, each_taken, loose_first, HasPassedEach, each_none, each_more, each_fault, each_all}
@@ -25,7 +25,7 @@ less_strict named tag e = both (nat_le 128 tag) (not (named tag)) _ e
 all_loose : ReadsAll custom_info (custom_info none)
 all_loose = loose_first 1 (λ named. that (is_new_tag named)) (that (is_new_tag none)) behind_tag less_strict
 
-pub customs_known : (n : ℕ) (now : Items) (xs : List Custom) (after : Items) → Taken (each n custom_info and_that_of none) now xs after → Taken (repeat n (custom_info none)) now xs after
+pub customs_known : (n : ℕ) (now : Cursor) (xs : List Custom) (after : Cursor) → Taken (each n custom_info and_that_of none) now xs after → Taken (repeat n (custom_info none)) now xs after
 customs_known n now xs after t = each_taken custom_info and_that_of (custom_info none) all_loose n none now xs after t
 
 -- ---- flags by tag are the set of tags
@@ -37,17 +37,17 @@ one_more_named : (named : List Bool) (custom : Custom) → custom.tag < length n
 one_more_named named custom lt = fun_ext (λ tag. grind (arith, get_or-set_other, get_or-set_same))
 
 -- i of so many custom components are passed, and their tags are the flags that are set
-pub record HasNamed (count : ℕ) (start : Items) (i : ℕ) (now : Items) (named : List Bool) : Type 0 where
+pub record HasNamed (count : ℕ) (start : Cursor) (i : ℕ) (now : Cursor) (named : List Bool) : Type 0 where
   pub passed : HasPassedEach custom_info and_that_of count start none i now (named_in named)
   pub flags : length named ≡ 256
 
-pub named_none : (count : ℕ) (start : Items) → HasNamed count start 0 start (replicate 256 false)
+pub named_none : (count : ℕ) (start : Cursor) → HasNamed count start 0 start (replicate 256 false)
 named_none count start = record {
   passed = subst (λ s. HasPassedEach custom_info and_that_of count start none 0 start s) (sym none_named) (each_none custom_info and_that_of count start none);
   flags = length-replicate 256 false;
 }
 
-pub named_more : (count : ℕ) (start : Items) (i : ℕ) (now : Items) (named : List Bool) (custom : Custom) (after : Items) → HasNamed count start i now named → i < count → Taken (custom_info (named_in named)) now custom after → custom.tag < 256 → HasNamed count start (i + 1) after (slice_set named custom.tag true)
+pub named_more : (count : ℕ) (start : Cursor) (i : ℕ) (now : Cursor) (named : List Bool) (custom : Custom) (after : Cursor) → HasNamed count start i now named → i < count → Taken (custom_info (named_in named)) now custom after → custom.tag < 256 → HasNamed count start (i + 1) after (slice_set named custom.tag true)
 named_more count start i now named custom after so_far lt t within =
     let inside : custom.tag < length named = omega (arith, so_far.flags) in
     record {
@@ -55,10 +55,10 @@ named_more count start i now named custom after so_far lt t within =
       flags = length-set named custom.tag true ∙ so_far.flags;
     }
 
-pub named_fault : (count : ℕ) (start : Items) (i : ℕ) (now : Items) (named : List Bool) (fault : FormFault) → HasNamed count start i now named → i < count → Fails (custom_info (named_in named)) now fault → Fails (each count custom_info and_that_of none) start fault
+pub named_fault : (count : ℕ) (start : Cursor) (i : ℕ) (now : Cursor) (named : List Bool) (fault : FormFault) → HasNamed count start i now named → i < count → Fails (custom_info (named_in named)) now fault → Fails (each count custom_info and_that_of none) start fault
 named_fault count start i now named fault so_far lt f = each_fault custom_info and_that_of count start none i now (named_in named) fault so_far.passed lt f
 
-pub named_all : (count : ℕ) (start : Items) (i : ℕ) (now : Items) (named : List Bool) → HasNamed count start i now named → count ≤ i → (xs : List Custom) × Taken (each count custom_info and_that_of none) start xs now
+pub named_all : (count : ℕ) (start : Cursor) (i : ℕ) (now : Cursor) (named : List Bool) → HasNamed count start i now named → count ≤ i → (xs : List Custom) × Taken (each count custom_info and_that_of none) start xs now
 named_all count start i now named so_far le = each_all custom_info and_that_of count start none i now (named_in named) so_far.passed le
 
 -- what the loop over the custom components needs

@@ -44,11 +44,14 @@ header_23 : reading (info_of 1) header_info (0xDE ∷ 0xCA ∷ 0xFF ∷ 0xED ∷
 unfolding reading magic version
 header_23 = refl
 
-one_import : reading (info_of 4) imports_info (1 ∷ 3 ∷ 1 ∷ 5 ∷ 0xF0 ∷ 1 ∷ 2 ∷ 3 ∷ 4 ∷ []) ≡ Ok (record { minor = 3; major = 1; aid = identifier } ∷ [])
+one_import : reading (info_of 4) imports_info (1 ∷ 3 ∷ 1 ∷ 5 ∷ 0xF0 ∷ 1 ∷ 2 ∷ 3 ∷ 4 ∷ [])
+    ≡ Ok (record { minor = 3; major = 1; aid = identifier } ∷ [])
 unfolding reading identifier
 one_import = refl
 
 -- a custom tag stands a second time, nine bytes after the first
-tag_twice : reading (info_of 2) customs_info (2 ∷ 0x80 ∷ 0 ∷ 7 ∷ 5 ∷ 0xF0 ∷ 1 ∷ 2 ∷ 3 ∷ 4 ∷ 0x80 ∷ 0 ∷ 7 ∷ 5 ∷ 0xF0 ∷ 1 ∷ 2 ∷ 3 ∷ 4 ∷ []) ≡ Err (record { part = 2; at = 13; kind = BadValue })
+tag_twice : reading (info_of 2) customs_info
+    (2 ∷ 0x80 ∷ 0 ∷ 7 ∷ 5 ∷ 0xF0 ∷ 1 ∷ 2 ∷ 3 ∷ 4 ∷ 0x80 ∷ 0 ∷ 7 ∷ 5 ∷ 0xF0 ∷ 1 ∷ 2 ∷ 3 ∷ 4 ∷ [])
+    ≡ Err (record { part = 2; at = 13; kind = BadValue })
 unfolding reading
 tag_twice = refl

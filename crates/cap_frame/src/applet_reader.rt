@@ -8,7 +8,7 @@ ghost use Rattle.cap_frame.specs.Applets.{applet_seen, applets_of};
 
 use crate::applet_record::{AppletInfo, Applets};
 use crate::lists::AppletInfos;
-use cap_bytes::{FormFault, Items, View};
+use cap_bytes::{Cursor, FormFault, View};
 
 /// The tag of the component.
 const APPLET: u8 = 3;
@@ -32,7 +32,7 @@ fn read(info: View<'_>) -> Result<Applets<'_>, FormFault>
     ensures value { Reads applets_of (info_of 3) applets_info info.entry.bytes.now result }
     ensures info { IfOk result (λ x. x.info ≡ info.entry) }
 {
-    let mut items = Items::of(info, APPLET);
+    let mut items = Cursor::of(info, APPLET);
     let left = items.u1()?;
     let applets = AppletInfos { items, left };
     pass_applets(&mut items, left)?;
@@ -42,7 +42,7 @@ fn read(info: View<'_>) -> Result<Applets<'_>, FormFault>
 
 /// Passes over so many applets.
 #[tactic(auto, using(cap_bytes::proofs::Loops::passing))]
-fn pass_applets(items: &mut Items<'_>, count: u8) -> Result<(), FormFault>
+fn pass_applets(items: &mut Cursor<'_>, count: u8) -> Result<(), FormFault>
     ensures { Passes (repeat count applet_info) items.old result items.new }
 {
     'applets: for _ in 0..count {
@@ -52,7 +52,7 @@ fn pass_applets(items: &mut Items<'_>, count: u8) -> Result<(), FormFault>
 }
 
 /// The next applet.
-pub(crate) fn applet_info<'a>(items: &mut Items<'a>) -> Result<AppletInfo<'a>, FormFault>
+pub(crate) fn applet_info<'a>(items: &mut Cursor<'a>) -> Result<AppletInfo<'a>, FormFault>
     ensures { Takes applet_seen applet_info items.old result items.new }
 {
     let aid = items.aid()?;

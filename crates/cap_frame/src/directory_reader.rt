@@ -9,7 +9,7 @@ ghost use Rattle.cap_frame.specs.Tags.{named_in};
 
 use crate::directory_record::{CustomEntry, Directory, ImageSizes};
 use crate::lists::CustomEntries;
-use cap_bytes::{FormFault, FormKind, Format, Items, View};
+use cap_bytes::{Cursor, FormFault, FormKind, Format, View};
 
 /// The tag of the component.
 const DIRECTORY: u8 = 2;
@@ -33,7 +33,7 @@ fn read(info: View<'_>, format: Format) -> Result<Directory<'_>, FormFault>
     ensures value { Reads directory_items (info_of 2) (directory_info format) info.entry.bytes.now result }
     ensures info { IfOk result (λ x. x.info ≡ info.entry) }
 {
-    let mut items = Items::of(info, DIRECTORY);
+    let mut items = Cursor::of(info, DIRECTORY);
     let sizes = items.table(size_count(format))?;
     let image = image_sizes(&mut items)?;
     let import_count = items.u1()?;
@@ -61,7 +61,7 @@ fn size_count(format: Format) -> u16
 }
 
 /// What the Directory says of the static image.
-fn image_sizes(items: &mut Items<'_>) -> Result<ImageSizes, FormFault>
+fn image_sizes(items: &mut Cursor<'_>) -> Result<ImageSizes, FormFault>
     ensures { Takes image_sizes_seen image_sizes_info items.old result items.new }
 {
     let image_size = items.u2()?;
@@ -76,7 +76,7 @@ fn image_sizes(items: &mut Items<'_>) -> Result<ImageSizes, FormFault>
 
 /// The custom components after the byte that counts them.
 #[tactic(auto, using(cap_bytes::proofs::Loops::yielding, crate::proofs::Customs::customs_known))]
-fn customs<'a>(items: &mut Items<'a>) -> Result<CustomEntries<'a>, FormFault>
+fn customs<'a>(items: &mut Cursor<'a>) -> Result<CustomEntries<'a>, FormFault>
     ensures { Takes customs_left customs_info items.old result items.new }
 {
     let left = items.u1()?;
@@ -87,7 +87,7 @@ fn customs<'a>(items: &mut Items<'a>) -> Result<CustomEntries<'a>, FormFault>
 
 /// Passes over so many custom components, no two of one tag.
 #[tactic(auto, using(crate::proofs::Customs::naming))]
-fn pass_customs(items: &mut Items<'_>, count: u8) -> Result<(), FormFault>
+fn pass_customs(items: &mut Cursor<'_>, count: u8) -> Result<(), FormFault>
     ensures { Passes (each count custom_info and_that_of none) items.old result items.new }
 {
     let mut named = [false; 256];
@@ -99,7 +99,7 @@ fn pass_customs(items: &mut Items<'_>, count: u8) -> Result<(), FormFault>
 }
 
 /// The next custom component, whose tag is none of those that are named.
-fn new_custom<'a>(items: &mut Items<'a>, named: &[bool; 256]) -> Result<CustomEntry<'a>, FormFault>
+fn new_custom<'a>(items: &mut Cursor<'a>, named: &[bool; 256]) -> Result<CustomEntry<'a>, FormFault>
     ensures { Takes custom_seen (custom_info (named_in named.now)) items.old result items.new }
 {
     let place = *items;
@@ -111,7 +111,7 @@ fn new_custom<'a>(items: &mut Items<'a>, named: &[bool; 256]) -> Result<CustomEn
 }
 
 /// The next custom component, where nothing is asked of its tag but that it is from 128.
-pub(crate) fn custom_info<'a>(items: &mut Items<'a>) -> Result<CustomEntry<'a>, FormFault>
+pub(crate) fn custom_info<'a>(items: &mut Cursor<'a>) -> Result<CustomEntry<'a>, FormFault>
     ensures { Takes custom_seen (custom_info none) items.old result items.new }
 {
     let place = *items;
@@ -123,7 +123,7 @@ pub(crate) fn custom_info<'a>(items: &mut Items<'a>) -> Result<CustomEntry<'a>, 
 }
 
 /// What stands after a custom component's tag.
-fn behind_tag<'a>(items: &mut Items<'a>, tag: u8) -> Result<CustomEntry<'a>, FormFault>
+fn behind_tag<'a>(items: &mut Cursor<'a>, tag: u8) -> Result<CustomEntry<'a>, FormFault>
     ensures { Takes custom_seen (behind_tag tag) items.old result items.new }
 {
     let size = items.u2()?;

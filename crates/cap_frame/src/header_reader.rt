@@ -8,7 +8,7 @@ ghost use Rattle.cap_frame.specs.HeaderFormat.{magic, version, format_of, name_i
 use crate::header_flags::HeaderFlags;
 use crate::header_record::Header;
 use crate::package_items::package_info;
-use cap_bytes::{FormFault, FormKind, Format, Items, View};
+use cap_bytes::{Cursor, FormFault, FormKind, Format, View};
 
 /// The tag of the component.
 const HEADER: u8 = 1;
@@ -32,7 +32,7 @@ fn read(info: View<'_>) -> Result<Header<'_>, FormFault>
     ensures value { Reads header_items (info_of 1) header_info info.entry.bytes.now result }
     ensures info { IfOk result (λ x. x.info ≡ info.entry) }
 {
-    let mut items = Items::of(info, HEADER);
+    let mut items = Cursor::of(info, HEADER);
     magic(&mut items)?;
     let format = version(&mut items)?;
     let flags = HeaderFlags::of(items.u1()?);
@@ -50,7 +50,7 @@ fn read(info: View<'_>) -> Result<Header<'_>, FormFault>
 
 /// The magic number.
 #[tactic(auto, unfolding(crate::specs::HeaderFormat::magic))]
-fn magic(items: &mut Items<'_>) -> Result<u32, FormFault>
+fn magic(items: &mut Cursor<'_>) -> Result<u32, FormFault>
     ensures { Takes same magic items.old result items.new }
 {
     let place = *items;
@@ -63,7 +63,7 @@ fn magic(items: &mut Items<'_>) -> Result<u32, FormFault>
 
 /// The format's version: its minor number, and then its major one.
 #[tactic(auto, unfolding(crate::specs::HeaderFormat::version))]
-fn version(items: &mut Items<'_>) -> Result<Format, FormFault>
+fn version(items: &mut Cursor<'_>) -> Result<Format, FormFault>
     ensures { Takes same version items.old result items.new }
 {
     let minor_place = *items;
@@ -87,7 +87,7 @@ fn format_of(minor: u8) -> Format
 
 /// The package's name.
 #[tactic(auto, unfolding(crate::specs::HeaderFormat::name_info))]
-fn name<'a>(items: &mut Items<'a>, format: Format) -> Result<&'a [u8], FormFault>
+fn name<'a>(items: &mut Cursor<'a>, format: Format) -> Result<&'a [u8], FormFault>
     ensures { Takes bytes (name_info format) items.old result items.new }
 {
     match format {

@@ -8,7 +8,7 @@ ghost use Rattle.cap_frame.specs.Imports.{packages};
 use crate::import_record::Imports;
 use crate::lists::PackageInfos;
 use crate::package_items::pass_packages;
-use cap_bytes::{FormFault, Items, View};
+use cap_bytes::{Cursor, FormFault, View};
 
 /// The tag of the component.
 const IMPORT: u8 = 4;
@@ -32,7 +32,7 @@ fn read(info: View<'_>) -> Result<Imports<'_>, FormFault>
     ensures value { Reads packages (info_of 4) imports_info info.entry.bytes.now result }
     ensures info { IfOk result (λ x. x.info ≡ info.entry) }
 {
-    let mut items = Items::of(info, IMPORT);
+    let mut items = Cursor::of(info, IMPORT);
     let left = items.u1()?;
     let packages = PackageInfos { items, left };
     pass_packages(&mut items, left)?;

@@ -6,10 +6,10 @@ ghost use Rattle.cap_frame.specs.Packages.{package_seen, packages_left};
 
 use crate::lists::PackageInfos;
 use crate::package_info::PackageInfo;
-use cap_bytes::{FormFault, Items};
+use cap_bytes::{Cursor, FormFault};
 
 /// The next package.
-pub(crate) fn package_info<'a>(items: &mut Items<'a>) -> Result<PackageInfo<'a>, FormFault>
+pub(crate) fn package_info<'a>(items: &mut Cursor<'a>) -> Result<PackageInfo<'a>, FormFault>
     ensures { Takes package_seen package_info items.old result items.new }
 {
     let minor = items.u1()?;
@@ -20,7 +20,7 @@ pub(crate) fn package_info<'a>(items: &mut Items<'a>) -> Result<PackageInfo<'a>,
 
 /// Passes over so many packages.
 #[tactic(auto, using(cap_bytes::proofs::Loops::passing))]
-pub(crate) fn pass_packages(items: &mut Items<'_>, count: u8) -> Result<(), FormFault>
+pub(crate) fn pass_packages(items: &mut Cursor<'_>, count: u8) -> Result<(), FormFault>
     ensures { Passes (repeat count package_info) items.old result items.new }
 {
     'packages: for _ in 0..count {

@@ -5,7 +5,7 @@ use Rattle.std.specs.Prelude.{IfSome, IfNone}
 use Rattle.std.specs.Result.{result_ok}
 use Rattle.byteorder.specs.Endian.{big_number}
 use Rattle.cap_bytes.specs.declared.fault.FormFault.{FormFault}
-use Rattle.cap_bytes.specs.declared.items.Items.{Items}
+use Rattle.cap_bytes.specs.declared.cursor.Cursor.{Cursor}
 use Rattle.cap_bytes.specs.Spelling.{Spells, info_of}
 use Rattle.cap_bytes.specs.Taking.{Takes}
 use Rattle.cap_bytes.proofs.Laws.{spelled-read, read-spells, Spells-one}
@@ -13,11 +13,11 @@ use Rattle.cap_method.specs.declared.header.MethodHeader.{MethodHeader}
 use Rattle.cap_method.specs.MethodFormat.{Header, header_info}
 use Rattle.cap_method.specs.MethodPart.{header_seen, HeaderAt}
 
-pub header_found : (r : Result MethodHeader FormFault) (before after : Items) → Takes header_seen header_info before r after → IfSome (result_ok r) (λ h. HeaderAt before.info.bytes.now before.at (header_seen h))
+pub header_found : (r : Result MethodHeader FormFault) (before after : Cursor) → Takes header_seen header_info before r after → IfSome (result_ok r) (λ h. HeaderAt before.info.bytes.now before.at (header_seen h))
 header_found (Ok h) before after t = (after.at, read-spells (info_of before.part) header_info before.info.bytes.now before.at (header_seen h) after.at t.value)
 header_found (Err fault) before after t = tt
 
-pub header_none : (r : Result MethodHeader FormFault) (before after : Items) → Takes header_seen header_info before r after → IfNone (result_ok r) ((h : Header) → HeaderAt before.info.bytes.now before.at h → ⊥)
+pub header_none : (r : Result MethodHeader FormFault) (before after : Cursor) → Takes header_seen header_info before r after → IfNone (result_ok r) ((h : Header) → HeaderAt before.info.bytes.now before.at h → ⊥)
 header_none (Ok h) before after t = tt
 header_none (Err fault) before after t = λ h there. let e = spelled-read (info_of before.part) header_info before.info.bytes.now before.at h there.0 there.1 in let f = t.answer in absurd cc
 

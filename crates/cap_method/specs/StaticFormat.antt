@@ -37,7 +37,8 @@ array_init_info = do
 
 -- array_init_count, at most one for each reference, and the arrays
 abbrev pub array_inits : ℕ → Grammar (List Array)
-array_inits reference_count = number 2 (that (λ n. nat_le n reference_count)) >>= λ array_init_count. repeat array_init_count array_init_info
+array_inits reference_count = number 2
+    (that (λ n. nat_le n reference_count)) >>= λ array_init_count. repeat array_init_count array_init_info
 
 -- non_default_value_count, and the values
 abbrev pub non_default_values : Grammar (List ℕ)
@@ -51,4 +52,10 @@ statics_info = do
   default_value_count ← u2
   values ← non_default_values
   end ← finish
-  give (record { image_size = image_size; reference_count = reference_count; arrays = arrays; default_value_count = default_value_count; values = values })
+  give (record {
+    image_size = image_size;
+    reference_count = reference_count;
+    arrays = arrays;
+    default_value_count = default_value_count;
+    values = values;
+  })

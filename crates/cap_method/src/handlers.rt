@@ -2,12 +2,12 @@ ghost use Rattle.cap_bytes.specs.Grammar.{repeat};
 ghost use Rattle.cap_bytes.specs.Taking.{Gives};
 ghost use Rattle.cap_method.specs.MethodFormat.{handler_info};
 
-use cap_bytes::Items;
+use cap_bytes::Cursor;
 
 /// The entries of the handler table that are left, from the first on.
 #[derive(Clone, Copy, Drop)]
 pub struct Handlers<'a> {
-    pub(crate) items: Items<'a>,
+    pub(crate) items: Cursor<'a>,
     pub(crate) left: u8,
     ghost known: { Gives (repeat left handler_info) items },
 }

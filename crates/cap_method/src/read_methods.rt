@@ -12,13 +12,13 @@ use crate::handlers::Handlers;
 use crate::header::MethodHeader;
 use crate::method_flags::MethodFlags;
 use crate::method_part::MethodPart;
-use cap_bytes::{FormFault, Items, View};
+use cap_bytes::{Cursor, FormFault, View};
 
 /// The tag of the component.
 const METHOD: u8 = 7;
 
 /// The next handler.
-fn handler(items: &mut Items<'_>) -> Result<HandlerInfo, FormFault>
+fn handler(items: &mut Cursor<'_>) -> Result<HandlerInfo, FormFault>
     ensures { Takes same handler_info items.old result items.new }
 {
     let start = items.u2()?;
@@ -36,7 +36,7 @@ fn handler(items: &mut Items<'_>) -> Result<HandlerInfo, FormFault>
 
 /// Passes over so many handlers.
 #[tactic(auto, using(cap_bytes::proofs::Loops::passing))]
-fn pass_handlers(items: &mut Items<'_>, count: u8) -> Result<(), FormFault>
+fn pass_handlers(items: &mut Cursor<'_>, count: u8) -> Result<(), FormFault>
     ensures { Passes (repeat count handler_info) items.old result items.new }
 {
     'handlers: for _ in 0..count {
@@ -52,7 +52,7 @@ fn read(info: View<'_>) -> Result<MethodPart<'_>, FormFault>
     ensures value { Reads handlers (info_of 7) methods_info info.entry.bytes.now result }
     ensures info { IfOk result (λ x. x.info ≡ info.entry) }
 {
-    let mut items = Items::of(info, METHOD);
+    let mut items = Cursor::of(info, METHOD);
     let left = items.u1()?;
     let handlers = Handlers { items, left };
     pass_handlers(&mut items, left)?;
@@ -99,7 +99,7 @@ impl<'a> Iterator for Handlers<'a> {
 }
 
 /// The next header.
-fn header(items: &mut Items<'_>) -> Result<MethodHeader, FormFault>
+fn header(items: &mut Cursor<'_>) -> Result<MethodHeader, FormFault>
     ensures { Takes header_seen header_info items.old result items.new }
 {
     let first = items.u1()?;
@@ -170,7 +170,7 @@ impl<'a> MethodPart<'a> {
         if at > self.info.bytes.len() as u32 {
             return None;
         }
-        let mut items = Items {
+        let mut items = Cursor {
             info: self.info,
             part: METHOD,
             at,

@@ -10,7 +10,7 @@ ghost use Rattle.cap_method.specs.StaticPart.{array_seen, arrays_left, statics_s
 use crate::array_init::ArrayInit;
 use crate::arrays::ArrayInits;
 use crate::static_part::StaticPart;
-use cap_bytes::{FormFault, FormKind, Items, View};
+use cap_bytes::{Cursor, FormFault, FormKind, View};
 
 /// The tag of the component.
 const STATIC_FIELD: u8 = 8;
@@ -27,7 +27,7 @@ fn whole(kind: u8, count: u16) -> bool
 }
 
 /// The next initial array.
-fn array_init<'a>(items: &mut Items<'a>) -> Result<ArrayInit<'a>, FormFault>
+fn array_init<'a>(items: &mut Cursor<'a>) -> Result<ArrayInit<'a>, FormFault>
     ensures { Takes array_seen array_init_info items.old result items.new }
 {
     let place = *items;
@@ -46,7 +46,7 @@ fn array_init<'a>(items: &mut Items<'a>) -> Result<ArrayInit<'a>, FormFault>
 
 /// Passes over so many initial arrays.
 #[tactic(auto, using(cap_bytes::proofs::Loops::passing))]
-fn pass_arrays(items: &mut Items<'_>, count: u16) -> Result<(), FormFault>
+fn pass_arrays(items: &mut Cursor<'_>, count: u16) -> Result<(), FormFault>
     ensures { Passes (repeat count array_init_info) items.old result items.new }
 {
     'arrays: for _ in 0..count {
@@ -57,7 +57,10 @@ fn pass_arrays(items: &mut Items<'_>, count: u16) -> Result<(), FormFault>
 
 /// The initial arrays after their count, which no more than the references can be.
 #[tactic(auto, using(cap_bytes::proofs::Loops::yielding))]
-fn array_inits<'a>(items: &mut Items<'a>, reference_count: u16) -> Result<ArrayInits<'a>, FormFault>
+fn array_inits<'a>(
+    items: &mut Cursor<'a>,
+    reference_count: u16,
+) -> Result<ArrayInits<'a>, FormFault>
     ensures { Takes arrays_left (array_inits reference_count) items.old result items.new }
 {
     let place = *items;
@@ -71,7 +74,7 @@ fn array_inits<'a>(items: &mut Items<'a>, reference_count: u16) -> Result<ArrayI
 }
 
 /// The values after their count.
-fn non_default_values<'a>(items: &mut Items<'a>) -> Result<&'a [u8], FormFault>
+fn non_default_values<'a>(items: &mut Cursor<'a>) -> Result<&'a [u8], FormFault>
     ensures values { Takes bytes non_default_values items.old result items.new }
     ensures few { IfOk result (λ v. length v.now ≤ 65535) }
 {
@@ -86,7 +89,7 @@ fn read(info: View<'_>) -> Result<StaticPart<'_>, FormFault>
     ensures value { Reads statics_seen (info_of 8) statics_info info.entry.bytes.now result }
     ensures info { IfOk result (λ x. x.info ≡ info.entry) }
 {
-    let mut items = Items::of(info, STATIC_FIELD);
+    let mut items = Cursor::of(info, STATIC_FIELD);
     let image_size = items.u2()?;
     let reference_count = items.u2()?;
     let arrays = array_inits(&mut items, reference_count)?;

@@ -12,7 +12,7 @@ use Rattle.cap_components.specs.declared.fault.PackFault.{PackFault}
 use Rattle.cap_components.specs.declared.fault.PackFault.TheVariants.{StaticOutside, StaticOverlaps}
 use Rattle.cap_components.specs.Descriptions.{Description, field_type}
 use Rattle.cap_package.specs.HeaderChecks.{is_static}
-use Rattle.cap_package.specs.StaticChecks.{Place, image_offset, place_by, place_in, is_in_image, image_fault, array_kinds, kind_at, filled_by, filled_fault, width_of, share_by, share_fault, share_pair}
+use Rattle.cap_package.specs.StaticChecks.{ImagePlace, image_offset, place_by, place_in, is_in_image, image_fault, array_kinds, kind_at, filled_by, filled_fault, width_of, share_by, share_fault, share_pair}
 use Rattle.cap_package.specs.Pairs.{pairs}
 use Rattle.cap_components.specs.PackageRecord.{PackageRecord, fields}
 use Rattle.cap_package.specs.Agreement.{IsPackage}
@@ -52,31 +52,31 @@ none_map f g (w ∷ ws) h = (h.0, none_map f g ws h.1)
 
 -- ---- the place of a field
 
-record IsPlaceOf (f : Field) (t : TypeItem) (p : Place) : Type 0 where
+record IsPlaceOf (f : Field) (t : TypeItem) (p : ImagePlace) : Type 0 where
   offset : p.offset ≡ image_offset f
   ty : p.ty ≡ t
 
-static_by : (f : Field) (t : TypeItem) (p : Place) (b : Bool) → cond b (Some (record { offset = image_offset f; ty = t })) None ≡ Some p → IsPlaceOf f t p
+static_by : (f : Field) (t : TypeItem) (p : ImagePlace) (b : Bool) → cond b (Some (record { offset = image_offset f; ty = t })) None ≡ Some p → IsPlaceOf f t p
 static_by f t p true h =
     let same : record { offset = image_offset f; ty = t } ≡ p = cc in
     subst (IsPlaceOf f t) same (record { offset = refl; ty = refl })
 static_by f t p false h = absurd cc
 
-record ComesFrom (d : Description) (f : Field) (p : Place) : Type 0 where
+record ComesFrom (d : Description) (f : Field) (p : ImagePlace) : Type 0 where
   offset : p.offset ≡ image_offset f
   typed : IsFieldType p.ty
 
-place_from : (d : Description) (f : Field) (p : Place) (o : Option TypeItem) → field_type d f.ty ≡ o → place_by f o ≡ Some p → ComesFrom d f p
+place_from : (d : Description) (f : Field) (p : ImagePlace) (o : Option TypeItem) → field_type d f.ty ≡ o → place_by f o ≡ Some p → ComesFrom d f p
 place_from d f p None e h = absurd cc
 place_from d f p (Some t) e h =
     let s = static_by f t p (is_static f.flags) h in
     record { offset = s.offset; typed = subst IsFieldType (sym s.ty) (field_typed d f.ty t e) }
 
-inside_by : (s : Statics) (p : Place) (fault : PackFault) (b : Bool) → is_in_image s p ≡ b → cond b None (Some fault) ≡ None → is_in_image s p ≡ true
+inside_by : (s : Statics) (p : ImagePlace) (fault : PackFault) (b : Bool) → is_in_image s p ≡ b → cond b None (Some fault) ≡ None → is_in_image s p ≡ true
 inside_by s p fault true e h = e
 inside_by s p fault false e h = absurd cc
 
-filled_by_kind : (kind : ℕ) (p : Place) (fault : PackFault) (b : Bool) → eqb p.ty.nibble (kind + 8) ≡ b → cond b None (Some fault) ≡ None → p.ty.nibble ≡ kind + 8
+filled_by_kind : (kind : ℕ) (p : ImagePlace) (fault : PackFault) (b : Bool) → eqb p.ty.nibble (kind + 8) ≡ b → cond b None (Some fault) ≡ None → p.ty.nibble ≡ kind + 8
 filled_by_kind kind p fault true e h = eqb-true _ _ e
 filled_by_kind kind p fault false e h = absurd cc
 
@@ -88,14 +88,14 @@ fills_at arrays k a e =
     let half : (2 * k) / 2 ≡ k = omega arith in
     rw (even, half, slice_get-map (λ (x : Array). x.kind) arrays k, e) refl
 
-filled_at : (arrays : List Array) (d : Description) (f : Field) (p : Place) (k : ℕ) (a : Array) → place_in d f ≡ Some p → image_offset f ≡ 2 * k → slice_get arrays k ≡ Some a → filled_fault (array_kinds arrays) d f ≡ None → p.ty.nibble ≡ a.kind + 8
+filled_at : (arrays : List Array) (d : Description) (f : Field) (p : ImagePlace) (k : ℕ) (a : Array) → place_in d f ≡ Some p → image_offset f ≡ 2 * k → slice_get arrays k ≡ Some a → filled_fault (array_kinds arrays) d f ≡ None → p.ty.nibble ≡ a.kind + 8
 unfolding filled_fault
 filled_at arrays d f p k a e at there h =
     let g : filled_by (kind_at (array_kinds arrays) (2 * k)) (place_in d f) ≡ None = subst (λ n. filled_by (kind_at (array_kinds arrays) n) (place_in d f) ≡ None) at h in
     let i : filled_by (Some a.kind) (Some p) ≡ None = rw (fills_at arrays k a there, e) at g in
     filled_by_kind a.kind p (StaticOutside p.offset) (eqb p.ty.nibble (a.kind + 8)) refl i
 
-place_known : (s : Statics) (d : Description) (f : Field) (p : Place) → place_in d f ≡ Some p → image_fault s d f ≡ None → filled_fault (array_kinds s.arrays) d f ≡ None → IsStaticPlace s p
+place_known : (s : Statics) (d : Description) (f : Field) (p : ImagePlace) → place_in d f ≡ Some p → image_fault s d f ≡ None → filled_fault (array_kinds s.arrays) d f ≡ None → IsStaticPlace s p
 unfolding place_in image_fault
 place_known s d f p e image fills =
     let from = place_from d f p (field_type d f.ty) refl e in
@@ -106,7 +106,7 @@ place_known s d f p e image fills =
       filled = λ k a there at. filled_at s.arrays d f p k a e (sym from.offset ∙ at) there fills;
     }
 
-place_first : (s : Statics) (d : Description) (f : Field) (fs : List Field) (o : Option Place) → place_in d f ≡ o → image_fault s d f ≡ None → filled_fault (array_kinds s.arrays) d f ≡ None → All (IsStaticPlace s) (filter_map (place_in d) fs) → All (IsStaticPlace s) (cons_option o (filter_map (place_in d) fs))
+place_first : (s : Statics) (d : Description) (f : Field) (fs : List Field) (o : Option ImagePlace) → place_in d f ≡ o → image_fault s d f ≡ None → filled_fault (array_kinds s.arrays) d f ≡ None → All (IsStaticPlace s) (filter_map (place_in d) fs) → All (IsStaticPlace s) (cons_option o (filter_map (place_in d) fs))
 place_first s d f fs None e image fills others = others
 place_first s d f fs (Some p) e image fills others = All-cons (IsStaticPlace s) p (filter_map (place_in d) fs) (place_known s d f p e image fills) others
 
@@ -133,27 +133,27 @@ one_byte false false false = omega arith
 takes_byte : (t : TypeItem) → 1 ≤ width_of t
 takes_byte t = one_byte (eqb t.nibble 2) (eqb t.nibble 3) (eqb t.nibble 5)
 
-apart_by : (p q : Place) (fault : PackFault) (b : Bool) → ltb (max p.offset q.offset) (min (p.offset + width_of p.ty) (q.offset + width_of q.ty)) ≡ b → cond b (Some fault) None ≡ None → p.offset ≡ q.offset → ⊥
+apart_by : (p q : ImagePlace) (fault : PackFault) (b : Bool) → ltb (max p.offset q.offset) (min (p.offset + width_of p.ty) (q.offset + width_of q.ty)) ≡ b → cond b (Some fault) None ≡ None → p.offset ≡ q.offset → ⊥
 apart_by p q fault true e h same = absurd cc
 apart_by p q fault false e h same =
     let le = ltb-false (max p.offset q.offset) (min (p.offset + width_of p.ty) (q.offset + width_of q.ty)) e in
     omega (arith, le, same, takes_byte p.ty, takes_byte q.ty)
 
-abbrev IsApart : Place → Place → Type 0
+abbrev IsApart : ImagePlace → ImagePlace → Type 0
 IsApart p q = p.offset ≡ q.offset → ⊥
 
-next_apart : (d : Description) (p : Place) (fs : List Field) (o : Option Place) → share_by (Some p) o ≡ None → All (IsApart p) (filter_map (place_in d) fs) → All (IsApart p) (cons_option o (filter_map (place_in d) fs))
+next_apart : (d : Description) (p : ImagePlace) (fs : List Field) (o : Option ImagePlace) → share_by (Some p) o ≡ None → All (IsApart p) (filter_map (place_in d) fs) → All (IsApart p) (cons_option o (filter_map (place_in d) fs))
 next_apart d p fs None h others = others
 next_apart d p fs (Some q) h others =
     All-cons (IsApart p) q (filter_map (place_in d) fs)
     (apart_by p q (StaticOverlaps (min p.offset q.offset) (max p.offset q.offset)) (ltb (max p.offset q.offset) (min (p.offset + width_of p.ty) (q.offset + width_of q.ty))) refl h) others
 
-others_apart : (d : Description) (p : Place) (fs : List Field) → NoneOf (share_fault d (Some p)) fs → All (IsApart p) (filter_map (place_in d) fs)
+others_apart : (d : Description) (p : ImagePlace) (fs : List Field) → NoneOf (share_fault d (Some p)) fs → All (IsApart p) (filter_map (place_in d) fs)
 unfolding share_fault
 others_apart d p [] none = All-nil (IsApart p)
 others_apart d p (f ∷ fs) none = next_apart d p fs (place_in d f) none.0 (others_apart d p fs none.1)
 
-first_apart : (d : Description) (fs : List Field) (o : Option Place) → NoneOf (share_fault d o) fs → AreApart (filter_map (place_in d) fs) → AreApart (cons_option o (filter_map (place_in d) fs))
+first_apart : (d : Description) (fs : List Field) (o : Option ImagePlace) → NoneOf (share_fault d o) fs → AreApart (filter_map (place_in d) fs) → AreApart (cons_option o (filter_map (place_in d) fs))
 first_apart d fs None none others = others
 first_apart d fs (Some p) none others = (others_apart d p fs none, others)
 

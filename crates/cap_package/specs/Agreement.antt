@@ -28,7 +28,8 @@ or_none (Some xs) = xs
 -- ---- parts and methods
 
 abbrev pub size_condition : PackageRecord → Option PackFault
-size_condition p = least_from (least_of (size_fault p.parts p.directory) components) (size_fault p.parts p.directory) (custom_tags p.directory)
+size_condition p = least_from (least_of (size_fault p.parts p.directory) components)
+    (size_fault p.parts p.directory) (custom_tags p.directory)
 
 abbrev pub overlap_condition : PackageRecord → Option PackFault
 overlap_condition p = least_of (overlap_pair p.methods.info) (pairs (described p))
@@ -51,7 +52,8 @@ abstract_condition p = least_of (abstract_fault p.methods.info) (described p)
 
 abbrev pub handler_condition : PackageRecord → Option PackFault
 handler_condition p =
-    least_from (least_of (numbered_fault p.methods.info (described p)) (numbered 0 p.methods.handlers)) (claim_fault (length p.methods.handlers)) (described p)
+    least_from (least_of (numbered_fault p.methods.info (described p)) (numbered 0 p.methods.handlers))
+    (claim_fault (length p.methods.handlers)) (described p)
 
 abbrev pub static_condition : PackageRecord → Option PackFault
 static_condition p = least_of (share_pair p.description) (pairs (fields p))
@@ -59,13 +61,15 @@ static_condition p = least_of (share_pair p.description) (pairs (fields p))
 abbrev pub named_condition : PackageRecord → Option PackFault
 named_condition p =
     least_from
-    (least_from (least_of (no_entry_fault (is_method_at (described p))) (table_entries p.classes)) (no_method_fault (is_method_at (described p))) (exported_methods (or_none p.export)))
+    (least_from (least_of (no_entry_fault (is_method_at (described p))) (table_entries p.classes))
+    (no_method_fault (is_method_at (described p))) (exported_methods (or_none p.export)))
     (no_method_fault (is_method_at (described p))) (map (λ (a : Applet). a.install) (or_none p.applets))
 
 abbrev pub class_condition : PackageRecord → Option PackFault
 class_condition p =
     least_from
-    (least_from (least_of (undescribed_fault p.description.items.classes) p.classes) (no_class_fault p.classes) (map (λ (d : described.Class). d.class_ref) p.description.items.classes))
+    (least_from (least_of (undescribed_fault p.description.items.classes) p.classes)
+    (no_class_fault p.classes) (map (λ (d : described.Class). d.class_ref) p.description.items.classes))
     (no_class_fault p.classes) (map (λ (c : Exported). c.class_offset) (or_none p.export))
 
 abbrev pub register_condition : PackageRecord → Option PackFault
@@ -74,11 +78,13 @@ register_condition p = least_of (registers_fault p.methods.info) (described p)
 abbrev pub type_condition : PackageRecord → Option PackFault
 type_condition p =
     least_from
-    (least_from (least_of (field_type_fault p.description) (fields p)) (method_type_fault p.description 510) (methods_from 0 p.description.items.classes))
+    (least_from (least_of (field_type_fault p.description) (fields p)) (method_type_fault p.description 510)
+    (methods_from 0 p.description.items.classes))
     (method_type_fault p.description 254) (interface_methods (classes_from p.classes) p.description.items.classes)
 
 abbrev pub image_condition : PackageRecord → Option PackFault
-image_condition p = least_from (least_of (image_fault p.statics p.description) (fields p)) (filled_fault (array_kinds p.statics.arrays) p.description) (fields p)
+image_condition p = least_from (least_of (image_fault p.statics p.description) (fields p))
+    (filled_fault (array_kinds p.statics.arrays) p.description) (fields p)
 
 abbrev pub length_condition : PackageRecord → Option PackFault
 length_condition p = least_of (length_fault p.methods.info) (described p)

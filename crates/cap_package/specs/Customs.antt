@@ -15,4 +15,6 @@ info_or_none (Err fault) = []
 
 -- the custom component with this tag, where the Directory has an entry with it
 abbrev pub custom_in : PackageRecord → ℕ → Option CustomItems
-custom_in p tag = option_map (λ (c : directory.Custom). record { aid = c.aid; info = info_or_none (info_in p.parts tag) }) (find (λ (c : directory.Custom). c.tag == tag) p.directory.customs)
+custom_in p tag = option_map
+    (λ (c : directory.Custom). record { aid = c.aid; info = info_or_none (info_in p.parts tag) })
+    (find (λ (c : directory.Custom). c.tag == tag) p.directory.customs)

@@ -29,7 +29,9 @@ use Rattle.cap_package.specs.Agreement.{or_none}
 
 abbrev pub missing_parts : List Lent → Result DirectoryItems PackFault → List PackFault
 missing_parts parts (Err fault) = at_fault (absent_fault parts) required
-missing_parts parts (Ok d) = (at_fault (absent_fault parts) required ++ at_fault (sized_fault parts d) optional) ++ at_fault (sized_fault parts d) (custom_tags d)
+missing_parts parts (Ok d) =
+    (at_fault (absent_fault parts) required ++ at_fault (sized_fault parts d) optional)
+    ++ at_fault (sized_fault parts d) (custom_tags d)
 
 abbrev pub disagreements : ℕ → ℕ → ℕ → List PackFault
 disagreements what said found = option_to_list (differ what said found)
@@ -61,22 +63,28 @@ count_lists p =
 abbrev pub member_lists : PackageRecord → List (List PackFault)
 member_lists p =
     -- handlers
-    (at_fault (numbered_fault p.methods.info (described p)) (numbered 0 p.methods.handlers) ++ at_fault (claim_fault (length p.methods.handlers)) (described p))
+    (at_fault (numbered_fault p.methods.info (described p)) (numbered 0 p.methods.handlers)
+    ++ at_fault (claim_fault (length p.methods.handlers)) (described p))
     -- static fields that share a byte
     ∷ at_fault (share_pair p.description) (pairs (fields p))
     -- dispatch entries, exports and applets that name no method
-    ∷ ((at_fault (no_entry_fault (is_method_at (described p))) (table_entries p.classes) ++ at_fault (no_method_fault (is_method_at (described p))) (exported_methods (or_none p.export)))
+    ∷ ((at_fault (no_entry_fault (is_method_at (described p))) (table_entries p.classes)
+    ++ at_fault (no_method_fault (is_method_at (described p))) (exported_methods (or_none p.export)))
     ++ at_fault (no_method_fault (is_method_at (described p))) (map (λ (a : Applet). a.install) (or_none p.applets)))
     -- classes that are not described once, and names of none
-    ∷ ((at_fault (undescribed_fault p.description.items.classes) p.classes ++ at_fault (no_class_fault p.classes) (map (λ (d : described.Class). d.class_ref) p.description.items.classes))
+    ∷ ((at_fault (undescribed_fault p.description.items.classes) p.classes
+    ++ at_fault (no_class_fault p.classes)
+    (map (λ (d : described.Class). d.class_ref) p.description.items.classes))
     ++ at_fault (no_class_fault p.classes) (map (λ (c : Exported). c.class_offset) (or_none p.export)))
     -- registers
     ∷ at_fault (registers_fault p.methods.info) (described p)
     -- types
-    ∷ ((at_fault (field_type_fault p.description) (fields p) ++ at_fault (method_type_fault p.description 510) (methods_from 0 p.description.items.classes))
+    ∷ ((at_fault (field_type_fault p.description) (fields p)
+    ++ at_fault (method_type_fault p.description 510) (methods_from 0 p.description.items.classes))
     ++ at_fault (method_type_fault p.description 254) (interface_methods (classes_from p.classes) p.description.items.classes))
     -- static fields in the image
-    ∷ (at_fault (image_fault p.statics p.description) (fields p) ++ at_fault (filled_fault (array_kinds p.statics.arrays) p.description) (fields p))
+    ∷ (at_fault (image_fault p.statics p.description) (fields p)
+    ++ at_fault (filled_fault (array_kinds p.statics.arrays) p.description) (fields p))
     -- lengths of code
     ∷ at_fault (length_fault p.methods.info) (described p)
     -- exports that name no static field

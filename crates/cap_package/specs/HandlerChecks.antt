@@ -31,7 +31,8 @@ entry_fault info methods number h = if has_home info h (owners number methods) t
 
 -- a method claims an entry after a table of so many: the least such number
 unfoldable pub claim_fault : ℕ → Method → Option PackFault
-claim_fault count m = if not (m.handler_count == 0) && nat_lt count (m.handler_index + m.handler_count) then Some (HandlerOutside (max m.handler_index count)) else None
+claim_fault count m = if not (m.handler_count == 0) && nat_lt count (m.handler_index + m.handler_count)
+    then Some (HandlerOutside (max m.handler_index count)) else None
 
 -- things with their numbers, from a number on
 abbrev pub numbered : {X : Type 0} → ℕ → List X → List (ℕ × X)

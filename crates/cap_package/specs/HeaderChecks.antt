@@ -23,7 +23,8 @@ is_static flags = bit_and flags 8 == 8
 -- arguments and locals of a method are more than 255 words
 abbrev pub registers_by : Method → Option Header → Option PackFault
 registers_by m None = None
-registers_by m (Some h) = if nat_lt 255 (h.nargs + h.max_locals) then Some (TooManyRegisters m.method_offset (h.nargs + h.max_locals)) else None
+registers_by m (Some h) = if nat_lt 255 (h.nargs + h.max_locals)
+    then Some (TooManyRegisters m.method_offset (h.nargs + h.max_locals)) else None
 
 unfoldable pub registers_fault : List ℕ → Method → Option PackFault
 registers_fault info m = registers_by m (header_in info m.method_offset)
@@ -31,7 +32,8 @@ registers_fault info m = registers_by m (header_in info m.method_offset)
 -- a method with code has no byte of it, or more than 32,767
 abbrev pub length_by : Method → Option Header → Option PackFault
 length_by m None = None
-length_by m (Some h) = if not (is_abstract h) && (m.bytecode_count == 0 || nat_lt 32767 m.bytecode_count) then Some (MethodLength m.method_offset m.bytecode_count) else None
+length_by m (Some h) = if not (is_abstract h) && (m.bytecode_count == 0 || nat_lt 32767 m.bytecode_count)
+    then Some (MethodLength m.method_offset m.bytecode_count) else None
 
 unfoldable pub length_fault : List ℕ → Method → Option PackFault
 length_fault info m = length_by m (header_in info m.method_offset)
@@ -43,7 +45,8 @@ this_words m = if is_static m.flags then 0 else 1
 abbrev pub arguments_by : Method → Option Header → Option ℕ → Option PackFault
 arguments_by m None words = None
 arguments_by m (Some h) None = None
-arguments_by m (Some h) (Some words) = if h.nargs == words + this_words m then None else Some (CountDisagrees 7 h.nargs (words + this_words m))
+arguments_by m (Some h) (Some words) = if h.nargs == words + this_words m then None
+    else Some (CountDisagrees 7 h.nargs (words + this_words m))
 
 unfoldable pub arguments_fault : List ℕ → Description → Method → Option PackFault
 arguments_fault info d m = arguments_by m (header_in info m.method_offset) (argument_words d m.type_offset)

@@ -11,7 +11,9 @@ abbrev pub share_byte : List ℕ → Method → Method → Bool
 share_byte info a b = nat_lt (max a.method_offset b.method_offset) (min (min (code_end info a) (code_end info b)) (length info))
 
 unfoldable pub overlap_fault : List ℕ → Method → Method → Option PackFault
-overlap_fault info a b = if share_byte info a b then Some (MethodOverlaps (min a.method_offset b.method_offset) (max a.method_offset b.method_offset)) else None
+overlap_fault info a b = if share_byte info a b
+    then Some (MethodOverlaps (min a.method_offset b.method_offset) (max a.method_offset b.method_offset))
+    else None
 
 abbrev pub overlap_pair : List ℕ → Method × Method → Option PackFault
 overlap_pair info p = overlap_fault info p.0 p.1
@@ -19,4 +21,5 @@ overlap_pair info p = overlap_fault info p.0 p.1
 -- a method begins in the handler table, or reaches past the info
 unfoldable pub outside_fault : List ℕ → ℕ → Method → Option PackFault
 outside_fault info handler_count m =
-    if nat_lt m.method_offset (1 + 8 * handler_count) || nat_lt (length info) (code_end info m) then Some (MethodOutside m.method_offset) else None
+    if nat_lt m.method_offset (1 + 8 * handler_count) || nat_lt (length info) (code_end info m)
+    then Some (MethodOutside m.method_offset) else None

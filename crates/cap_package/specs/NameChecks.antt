@@ -36,7 +36,9 @@ exported_fields (c ∷ cs) = c.fields ++ exported_fields cs
 
 -- a class record is not described exactly once
 unfoldable pub undescribed_fault : List described.Class → Class → Option PackFault
-undescribed_fault descriptions c = if count_by (λ (d : described.Class). d.class_ref == c.offset) descriptions == 1 then None else Some (ClassUndescribed c.offset)
+undescribed_fault descriptions c = if count_by
+    (λ (d : described.Class). d.class_ref == c.offset) descriptions == 1 then None
+    else Some (ClassUndescribed c.offset)
 
 -- an offset names no class record
 unfoldable pub no_class_fault : List Class → ℕ → Option PackFault

@@ -1,6 +1,6 @@
 -- A static field's place as a value of the program.
 use Rattle.cap_package.specs.declared.static_place.StaticPlace.{StaticPlace}
-use Rattle.cap_package.specs.StaticChecks.{Place}
+use Rattle.cap_package.specs.StaticChecks.{ImagePlace}
 
-abbrev pub place_seen : StaticPlace → Place
+abbrev pub place_seen : StaticPlace → ImagePlace
 place_seen p = record { offset = p.offset; ty = p.ty }

@@ -22,38 +22,38 @@ abbrev pub is_reference : TypeItem → Bool
 is_reference t = nat_le 6 t.nibble
 
 -- where a static field stands in the image, and of which type it is
-pub record Place : Type 0 where
+pub record ImagePlace : Type 0 where
   pub offset : ℕ
   pub ty : TypeItem
 
-abbrev pub place_by : Field → Option TypeItem → Option Place
+abbrev pub place_by : Field → Option TypeItem → Option ImagePlace
 place_by f None = None
 place_by f (Some t) = if is_static f.flags then Some (record { offset = image_offset f; ty = t }) else None
 
-unfoldable pub place_in : Description → Field → Option Place
+unfoldable pub place_in : Description → Field → Option ImagePlace
 place_in d f = place_by f (field_type d f.ty)
 
 -- two static fields share a byte
-abbrev pub share_by : Option Place → Option Place → Option PackFault
+abbrev pub share_by : Option ImagePlace → Option ImagePlace → Option PackFault
 share_by None q = None
 share_by (Some p) None = None
 share_by (Some p) (Some q) =
     if nat_lt (max p.offset q.offset) (min (p.offset + width_of p.ty) (q.offset + width_of q.ty))
     then Some (StaticOverlaps (min p.offset q.offset) (max p.offset q.offset)) else None
 
-unfoldable pub share_fault : Description → Option Place → Field → Option PackFault
+unfoldable pub share_fault : Description → Option ImagePlace → Field → Option PackFault
 share_fault d p g = share_by p (place_in d g)
 
 abbrev pub share_pair : Description → Field × Field → Option PackFault
 share_pair d p = share_fault d (place_in d p.0) p.1
 
 -- a place lies in the part of the image for its kind
-abbrev pub is_in_image : Statics → Place → Bool
+abbrev pub is_in_image : Statics → ImagePlace → Bool
 is_in_image s p =
     if is_reference p.ty then p.offset % 2 == 0 && nat_le (p.offset + 2) (2 * s.reference_count)
     else nat_le (2 * s.reference_count) p.offset && nat_le (p.offset + width_of p.ty) s.image_size
 
-abbrev pub image_by : Statics → Option Place → Option PackFault
+abbrev pub image_by : Statics → Option ImagePlace → Option PackFault
 image_by s None = None
 image_by s (Some p) = if is_in_image s p then None else Some (StaticOutside p.offset)
 
@@ -69,7 +69,7 @@ unfoldable pub kind_at : List ℕ → ℕ → Option ℕ
 kind_at kinds offset = if offset % 2 == 0 then slice_get kinds (offset / 2) else None
 
 -- a field of another type than the initial array that fills its reference
-abbrev pub filled_by : Option ℕ → Option Place → Option PackFault
+abbrev pub filled_by : Option ℕ → Option ImagePlace → Option PackFault
 filled_by None p = None
 filled_by (Some kind) None = None
 filled_by (Some kind) (Some p) = if p.ty.nibble == kind + 8 then None else Some (StaticOutside p.offset)

@@ -75,7 +75,7 @@ pub(crate) fn entries_named(described: &Offsets, classes: &ClassPart<'_>) -> Opt
     let mut least = None;
     'classes: for class in classes.iter() {
         let public = entries_of_table(described, class.publics(), least);
-        least = entries_of_table(described, class.packages(), public);
+        least = entries_of_table(described, class.package_table(), public);
     }
     least
 }

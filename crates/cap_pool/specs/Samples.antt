@@ -18,7 +18,8 @@ unfolding reading
 no_such_tag = refl
 
 -- a class at offset 10 with a static field at 6 and a static method at 16
-one_class : reading (info_of 10) export_info (1 ∷ 0 ∷ 10 ∷ 1 ∷ 1 ∷ 0 ∷ 6 ∷ 0 ∷ 16 ∷ []) ≡ Ok (record { class_offset = 10; fields = 6 ∷ []; methods = 16 ∷ [] } ∷ [])
+one_class : reading (info_of 10) export_info (1 ∷ 0 ∷ 10 ∷ 1 ∷ 1 ∷ 0 ∷ 6 ∷ 0 ∷ 16 ∷ [])
+    ≡ Ok (record { class_offset = 10; fields = 6 ∷ []; methods = 16 ∷ [] } ∷ [])
 unfolding reading table
 one_class = refl
 

@@ -5,10 +5,10 @@ ghost use Rattle.cap_pool.specs.Export.{class_seen, classes_left};
 ghost use Rattle.cap_pool.specs.ExportFormat.{class_info};
 
 use crate::lists::{ExportClass, ExportedClass, ExportedClasses};
-use cap_bytes::{FormFault, Items};
+use cap_bytes::{Cursor, FormFault};
 
 /// The next class.
-pub(crate) fn class<'a>(items: &mut Items<'a>) -> Result<ExportedClass<'a>, FormFault>
+pub(crate) fn class<'a>(items: &mut Cursor<'a>) -> Result<ExportedClass<'a>, FormFault>
     ensures { Takes class_seen class_info items.old result items.new }
 {
     let class_offset = items.u2()?;
@@ -29,7 +29,7 @@ pub(crate) fn class<'a>(items: &mut Items<'a>) -> Result<ExportedClass<'a>, Form
 
 /// Passes over so many classes.
 #[tactic(auto, using(cap_bytes::proofs::Loops::passing))]
-pub(crate) fn pass_classes(items: &mut Items<'_>, count: u8) -> Result<(), FormFault>
+pub(crate) fn pass_classes(items: &mut Cursor<'_>, count: u8) -> Result<(), FormFault>
     ensures { Passes (repeat count class_info) items.old result items.new }
 {
     'classes: for _ in 0..count {

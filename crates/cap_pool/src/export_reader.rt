@@ -8,7 +8,7 @@ ghost use Rattle.cap_pool.specs.ExportFormat.{export_info};
 use crate::export_items::pass_classes;
 use crate::export_record::Export;
 use crate::lists::ExportedClasses;
-use cap_bytes::{FormFault, Items, View};
+use cap_bytes::{Cursor, FormFault, View};
 
 /// The tag of the component.
 const EXPORT: u8 = 10;
@@ -32,7 +32,7 @@ fn read(info: View<'_>) -> Result<Export<'_>, FormFault>
     ensures value { Reads classes (info_of 10) export_info info.entry.bytes.now result }
     ensures info { IfOk result (λ x. x.info ≡ info.entry) }
 {
-    let mut items = Items::of(info, EXPORT);
+    let mut items = Cursor::of(info, EXPORT);
     let left = items.u1()?;
     let classes = ExportedClasses { items, left };
     pass_classes(&mut items, left)?;

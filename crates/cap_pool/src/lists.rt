@@ -5,12 +5,12 @@ ghost use Rattle.cap_bytes.specs.Taking.{Gives};
 ghost use Rattle.cap_pool.specs.ExportFormat.{class_info};
 ghost use Rattle.cap_pool.specs.PoolFormat.{entry_info};
 
-use cap_bytes::{Items, Table};
+use cap_bytes::{Cursor, Table};
 
 /// Pool entries in order: those that are left.
 #[derive(Clone, Copy, Drop)]
 pub struct PoolEntries<'a> {
-    pub(crate) items: Items<'a>,
+    pub(crate) items: Cursor<'a>,
     pub(crate) left: u16,
     ghost known: { Gives (repeat left entry_info) items },
 }
@@ -18,7 +18,7 @@ pub struct PoolEntries<'a> {
 /// Exported classes by rising token: those that are left.
 #[derive(Clone, Copy, Drop)]
 pub struct ExportedClasses<'a> {
-    pub(crate) items: Items<'a>,
+    pub(crate) items: Cursor<'a>,
     pub(crate) left: u8,
     ghost known: { Gives (repeat left class_info) items },
 }

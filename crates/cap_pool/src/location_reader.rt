@@ -6,7 +6,7 @@ ghost use Rattle.cap_pool.specs.LocationFormat.{locations_info};
 ghost use Rattle.cap_pool.specs.Locations.{location_items};
 
 use crate::location_record::Locations;
-use cap_bytes::{FormFault, Items, View};
+use cap_bytes::{Cursor, FormFault, View};
 
 /// The tag of the component.
 const REFERENCE_LOCATION: u8 = 9;
@@ -30,7 +30,7 @@ fn read(info: View<'_>) -> Result<Locations<'_>, FormFault>
     ensures value { Reads location_items (info_of 9) locations_info info.entry.bytes.now result }
     ensures info { IfOk result (λ x. x.info ≡ info.entry) }
 {
-    let mut items = Items::of(info, REFERENCE_LOCATION);
+    let mut items = Cursor::of(info, REFERENCE_LOCATION);
     let byte_count = items.u2()?;
     let byte = items.piece(byte_count as u32)?;
     let byte2_count = items.u2()?;

@@ -6,10 +6,10 @@ ghost use Rattle.cap_pool.specs.PoolFormat.{entry_info};
 
 use crate::lists::PoolEntries;
 use crate::pool_record::PoolEntry;
-use cap_bytes::{FormFault, FormKind, Items};
+use cap_bytes::{Cursor, FormFault, FormKind};
 
 /// The next entry.
-pub(crate) fn entry(items: &mut Items<'_>) -> Result<PoolEntry, FormFault>
+pub(crate) fn entry(items: &mut Cursor<'_>) -> Result<PoolEntry, FormFault>
     ensures { Takes entry_seen entry_info items.old result items.new }
 {
     let place = *items;
@@ -23,7 +23,7 @@ pub(crate) fn entry(items: &mut Items<'_>) -> Result<PoolEntry, FormFault>
 
 /// Passes over so many entries.
 #[tactic(auto, using(cap_bytes::proofs::Loops::passing))]
-pub(crate) fn pass_entries(items: &mut Items<'_>, count: u16) -> Result<(), FormFault>
+pub(crate) fn pass_entries(items: &mut Cursor<'_>, count: u16) -> Result<(), FormFault>
     ensures { Passes (repeat count entry_info) items.old result items.new }
 {
     'entries: for _ in 0..count {

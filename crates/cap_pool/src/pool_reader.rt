@@ -8,7 +8,7 @@ ghost use Rattle.cap_pool.specs.PoolFormat.{pool_info};
 use crate::lists::PoolEntries;
 use crate::pool_items::pass_entries;
 use crate::pool_record::Pool;
-use cap_bytes::{FormFault, Items, View};
+use cap_bytes::{Cursor, FormFault, View};
 
 /// The tag of the component.
 const CONSTANT_POOL: u8 = 5;
@@ -32,7 +32,7 @@ fn read(info: View<'_>) -> Result<Pool<'_>, FormFault>
     ensures value { Reads entries (info_of 5) pool_info info.entry.bytes.now result }
     ensures info { IfOk result (λ x. x.info ≡ info.entry) }
 {
-    let mut items = Items::of(info, CONSTANT_POOL);
+    let mut items = Cursor::of(info, CONSTANT_POOL);
     let left = items.u2()?;
     let entries = PoolEntries { items, left };
     pass_entries(&mut items, left)?;

@@ -52,7 +52,7 @@ fn has_tables(class: &ClassInfo<'_>) -> bool {
         && (class.package_base(), class.package_count()) == (4, 1)
         && (class.public(0), class.public(1), class.public(2)) == (Some(20), Some(0xFFFF), None)
         && (class.package(0), class.package(1)) == (Some(31), None)
-        && class.publics().count() + class.packages().count() == 3
+        && class.publics().count() + class.package_table().count() == 3
 }
 
 /// Whether a class implements one interface, its two tokens served by 1 and 0.

@@ -1,5 +1,5 @@
--- Why a method has no dataflow typing, as capcheck prints it: the place and what is wrong there. Want of memory says nothing of the
--- method and is never printed so: its text is empty.
+-- Why a method has no dataflow typing, as capcheck prints it: the place and what is wrong there. Running out
+-- of memory says nothing of the method and is never printed so: its text is empty.
 use Rattle.std.specs.Prelude.{ℕ, List, [], ◌∷◌, codes, decimal}
 use Rattle.std.specs.Fmt.{signed_decimal}
 use Rattle.std.specs.List.{concat}

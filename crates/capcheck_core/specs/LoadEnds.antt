@@ -26,7 +26,8 @@ LoadsLeave before after (Err stop) = StopLeaves before after stop
 -- the load of one more part that is asked for, by its answer
 abbrev pub LoadsAsked : Folders → Folders → List ℕ → ℕ → List Lent → List Lent → Result (Unit {0}) LoadStop → Type 0
 LoadsAsked before after dir tag parts more (Ok done) = IsAdded before dir tag parts more
-LoadsAsked before after dir tag parts more (Err (TooLong part)) = (part.0 ≡ tag) × (is_asked parts tag ≡ true) × IsTooLong before (tag ∷ dir)
+LoadsAsked before after dir tag parts more (Err (TooLong part)) = (part.0 ≡ tag)
+    × (is_asked parts tag ≡ true) × IsTooLong before (tag ∷ dir)
 LoadsAsked before after dir tag parts more (Err Failed) = (is_asked parts tag ≡ true) × LoadFails before (tag ∷ dir) after
 LoadsAsked before after dir tag parts more (Err Memory) = Unit {0}
 

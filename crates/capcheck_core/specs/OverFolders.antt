@@ -41,6 +41,7 @@ pub record OfGiven (before : Folders) (dirs : List (List ℕ)) (P : List (List L
   pub holds : P parts roles
 
 -- what a command answers, and makes of the outside: where all parts and roles were loaded, `own` says both
-abbrev pub OverFolders : (List (List Lent) → List ℕ → Outside → Outside → Verdict → Type 0) → List (List ℕ) → Outside → Outside → Verdict → Type 0
+abbrev pub OverFolders : (List (List Lent) → List ℕ → Outside → Outside → Verdict → Type 0) → List (List ℕ)
+    → Outside → Outside → Verdict → Type 0
 OverFolders own dirs before after verdict =
     StopsAtLoad dirs before after verdict ⊎ OfGiven before.folders dirs (λ parts roles. own parts roles before after verdict)

@@ -77,7 +77,8 @@ pub record AreAdded (before : Folders) (dirs : List (List ℕ)) (old new : List 
 -- the loads of the packages of folders after others, by their answer
 abbrev pub LoadsOthers : Folders → Folders → List (List ℕ) → List (List Lent) → List (List Lent) → Result (Unit {0}) PackagesStop → Type 0
 LoadsOthers before after dirs old new (Ok done) = AreAdded before dirs old new
-LoadsOthers before after dirs old new (Err (Malformed number fault)) = IsFirstWhere before (length old) dirs (λ n dir. (number ≡ n) × LacksPackage before dir fault)
+LoadsOthers before after dirs old new (Err (Malformed number fault)) = IsFirstWhere before (length old) dirs
+    (λ n dir. (number ≡ n) × LacksPackage before dir fault)
 LoadsOthers before after dirs old new (Err Failed) = IsFirstWhere before (length old) dirs (λ n dir. FailsParts before dir after)
 LoadsOthers before after dirs old new (Err Memory) = Unit {0}
 LoadsOthers before after dirs old new (Err (TooMany count)) = ⊥

@@ -81,7 +81,8 @@ IsFirstStop before (dir ∷ dirs) P R = P 0 dir ⊎ IsAtRoles before dir R ⊎ I
 -- of at most 16 folders the first thing at fault, with the number of its folder
 pub record IsFault (before : Folders) (dirs : List (List ℕ)) (number : ℕ) (fault : PackFault) : Type 0 where
   pub few : length dirs ≤ 16
-  pub first : IsFirstStop before dirs (λ n dir. (number ≡ n) × LacksPackage before dir fault) (λ dir. (number ≡ 0) × LacksRoles before dir fault)
+  pub first : IsFirstStop before dirs (λ n dir. (number ≡ n) × LacksPackage before dir fault)
+      (λ dir. (number ≡ 0) × LacksRoles before dir fault)
 
 -- of at most 16 folders a load failed, of a part that is asked for, and all before it were there
 pub record IsFailed (before : Folders) (dirs : List (List ℕ)) (after : Folders) : Type 0 where

@@ -85,7 +85,8 @@ ProbesMethod bare code p _ = ⊥
 abbrev pub ProbesFile : List ℕ → ProbeRequest → Verdict → Type 0
 ProbesFile file p (Done text) = OfMethod file (λ bare code. IsRun bare code p (string_bytes text))
 ProbesFile file p (Refused text) = OfMethod file (λ bare code. IsRefusal bare code (string_bytes text))
-ProbesFile file p (Malformed text) = IsNoMethod file (string_bytes text) ⊎ OfMethod file (λ bare code. IsUnstarted bare code p (string_bytes text))
+ProbesFile file p (Malformed text) = IsNoMethod file (string_bytes text)
+    ⊎ OfMethod file (λ bare code. IsUnstarted bare code p (string_bytes text))
 ProbesFile file p Memory = Unit {0}
 ProbesFile file p _ = ⊥
 
@@ -94,7 +95,8 @@ abbrev pub ProbesFolder : ProbeRequest → Folders → Verdict → Type 0
 ProbesFolder p before (Done text) = OfMethodPart p before (λ file. ProbesFile file p (Done text))
 ProbesFolder p before (Refused text) = OfMethodPart p before (λ file. ProbesFile file p (Refused text))
 ProbesFolder p before (Malformed text) =
-    IsMissing p before (string_bytes text) ⊎ IsLong p before (string_bytes text) ⊎ OfMethodPart p before (λ file. ProbesFile file p (Malformed text))
+    IsMissing p before (string_bytes text) ⊎ IsLong p before (string_bytes text)
+    ⊎ OfMethodPart p before (λ file. ProbesFile file p (Malformed text))
 ProbesFolder p before Memory = Unit {0}
 ProbesFolder p before _ = ⊥
 

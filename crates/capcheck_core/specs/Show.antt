@@ -48,7 +48,8 @@ ShowsParts parts _ = ⊥
 -- the answers by the folder, where no load failed
 abbrev pub ShowsFolder : ShowRequest → Folders → Verdict → Type 0
 ShowsFolder s before (Done text) = OfParts s before (λ parts. ShowsParts parts (Done text))
-ShowsFolder s before (Malformed text) = IsLongPart s before (string_bytes text) ⊎ OfParts s before (λ parts. ShowsParts parts (Malformed text))
+ShowsFolder s before (Malformed text) = IsLongPart s before (string_bytes text)
+    ⊎ OfParts s before (λ parts. ShowsParts parts (Malformed text))
 ShowsFolder s before Memory = Unit {0}
 ShowsFolder s before _ = ⊥
 

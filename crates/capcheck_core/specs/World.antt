@@ -44,7 +44,8 @@ IsUnlinkedBy ends.Memory Memory = Unit {0}
 IsUnlinkedBy _ _ = ⊥
 
 -- what a command over a world answers, and makes of the outside: where the world was made, `own` says both
-abbrev pub OverPackages : (Linked → Outside → Outside → Verdict → Type 0) → List PackageRecord → List ℕ → Outside → Outside → Verdict → Type 0
+abbrev pub OverPackages : (Linked → Outside → Outside → Verdict → Type 0) → List PackageRecord → List ℕ
+    → Outside → Outside → Verdict → Type 0
 OverPackages own packages roles before after verdict =
     (Untouched before after × StopsAtLink packages roles verdict) ⊎ OfLinked packages roles (λ w. own w before after verdict)
 

@@ -10,15 +10,21 @@ use std::alloc::{AllocError, Global};
 
 /// The component table of package T.
 const TABLE: &str =
-    "package f001020304 1.0 format 2.2\nHeader 1 16\nDirectory 2 33\nApplet 3 absent\nImport 4 1\nConstantPool 5 2\nClass 6 82\nMethod 7 19\nStaticField 8 12\nRefLocation 9 4\nExport 10 absent\nDescriptor 11 111\nDebug 12 absent\n";
+    "package f001020304 1.0 format 2.2\nHeader 1 16\nDirectory 2 33\nApplet 3 absent\nImport 4 1\nConstantPool 5 2\n\
+     Class 6 82\nMethod 7 19\nStaticField 8 12\n\
+     RefLocation 9 4\nExport 10 absent\nDescriptor 11 111\nDebug 12 absent\n";
 
 /// That of package T with every component and two custom ones.
 const WHOLE_TABLE: &str =
-    "package f001020304 1.0 format 2.2\nHeader 1 16\nDirectory 2 51\nApplet 3 9\nImport 4 1\nConstantPool 5 2\nClass 6 82\nMethod 7 19\nStaticField 8 12\nRefLocation 9 4\nExport 10 9\nDescriptor 11 111\nDebug 12 4\nCustom130 130 2\nCustom129 129 3\n";
+    "package f001020304 1.0 format 2.2\nHeader 1 16\nDirectory 2 51\nApplet 3 9\nImport 4 1\nConstantPool 5 2\n\
+     Class 6 82\nMethod 7 19\nStaticField 8 12\n\
+     RefLocation 9 4\nExport 10 9\nDescriptor 11 111\nDebug 12 4\nCustom130 130 2\nCustom129 129 3\n";
 
 /// The component table of package T in format 2.1.
 const OLDER_TABLE: &str =
-    "package f001020304 1.0 format 2.1\nHeader 1 15\nDirectory 2 31\nApplet 3 absent\nImport 4 1\nConstantPool 5 2\nClass 6 80\nMethod 7 19\nStaticField 8 12\nRefLocation 9 4\nExport 10 absent\nDescriptor 11 111\nDebug 12 absent\n";
+    "package f001020304 1.0 format 2.1\nHeader 1 15\nDirectory 2 31\nApplet 3 absent\nImport 4 1\nConstantPool 5 2\n\
+     Class 6 80\nMethod 7 19\nStaticField 8 12\n\
+     RefLocation 9 4\nExport 10 absent\nDescriptor 11 111\nDebug 12 absent\n";
 
 /// Whether `show T` gives this text and this status where package T is changed so.
 fn shows(

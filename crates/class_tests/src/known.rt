@@ -6,7 +6,7 @@ ghost use Rattle.jc_hierarchy.specs.Known.{HasKnownLine};
 ghost use Rattle.jc_classes.specs.Known.{AreInRange};
 
 use jc_base::{Iface, Ifaces, MethodRec, Methods};
-use jc_resolve::{NamedClass, NamedClasses, Table};
+use jc_resolve::{DispatchTable, NamedClass, NamedClasses};
 
 fn is_number(count: usize, interface: &Iface) -> bool
     ensures { IsTrue result → interface.now.class < count }
@@ -70,7 +70,7 @@ pub(crate) fn name_interfaces(classes: &NamedClasses) -> bool
         .all(|class| has_interfaces(count, class))
 }
 
-fn is_byte_table(table: &Table) -> bool
+fn is_byte_table(table: &DispatchTable) -> bool
     ensures { IsTrue result → IsByteTable table.now }
 {
     let base = table.base as usize;

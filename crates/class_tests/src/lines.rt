@@ -1,5 +1,5 @@
 use jc_base::{Iface, Ifaces, Items, Ty};
-use jc_resolve::{NamedClass, NamedClasses, Table};
+use jc_resolve::{DispatchTable, NamedClass, NamedClasses};
 use std::alloc::{AllocError, Global};
 
 /// The entries of a dispatch table, from a token on.
@@ -53,8 +53,8 @@ pub(crate) fn interface(interfaces: &[u16]) -> Line<'_> {
     }
 }
 
-fn table(alloc: Global, entries: Entries<'_>) -> Result<Table, AllocError> {
-    Ok(Table {
+fn table(alloc: Global, entries: Entries<'_>) -> Result<DispatchTable, AllocError> {
+    Ok(DispatchTable {
         base: entries.0,
         entries: Items::of(Vec::from_slice(alloc, entries.1)?),
     })

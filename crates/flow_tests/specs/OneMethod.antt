@@ -32,7 +32,16 @@ abbrev pub object_class : ClassRec
 object_class = record { «package» = 0; interface = false; parent = None; cells = 0; own = []; implements = []; public = []; visible = [] }
 
 abbrev pub throwable_class : ClassRec
-throwable_class = record { «package» = 0; interface = false; parent = Some 0; cells = 0; own = []; implements = []; public = []; visible = [] }
+throwable_class = record {
+  «package» = 0;
+  interface = false;
+  parent = Some 0;
+  cells = 0;
+  own = [];
+  implements = [];
+  public = [];
+  visible = [];
+}
 
 abbrev pub thrown_class : ClassRec
 thrown_class = record { «package» = 0; interface = false; parent = Some 1; cells = 0; own = []; implements = []; public = []; visible = [] }

@@ -49,7 +49,8 @@ visible_in t home c = list_of (visible_of t) (nearest_of t home c)
 -- the public list of r, a package-visible one in the list of the nearest class of the package of c
 -- among r and its superclasses
 unfoldable pub dispatched : ClassTable → ℕ → ℕ → ℕ → Option ℕ
-dispatched t c token r = if nat_lt token 128 then slice_get (public_of t r) token else slice_get (visible_in t (package_of t c) r) (token - 128)
+dispatched t c token r = if nat_lt token 128 then slice_get (public_of t r) token
+    else slice_get (visible_in t (package_of t c) r) (token - 128)
 
 -- a method number whose method has a body
 abbrev pub HasBody : List MethodRec → ℕ → Type 0

@@ -122,7 +122,8 @@ common t c d = unwrap_or (find (λ x. is_on_chain t x d) (chain t c)) (object t)
 
 -- the join of two types that are not both classes, and not both arrays of classes
 abbrev pub join_of_others : ClassTable → Ty → Ty → Ty
-join_of_others t a b = if is_below t a b then b else if is_below t b a then a else if is_reference a && is_reference b then Class (object t) else Top
+join_of_others t a b = if is_below t a b then b else if is_below t b a then a
+    else if is_reference a && is_reference b then Class (object t) else Top
 
 -- the join of two types
 unfoldable pub join_of : ClassTable → Ty → Ty → Ty

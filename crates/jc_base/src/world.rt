@@ -29,9 +29,24 @@ impl<'a> Model for World<'a> {
 
     ghost Value = { Linked };
 
-    ghost view = { λ a. record { infos = a.infos; pools = a.pools; classes = a.classes; methods = a.methods; statics = a.statics; arrays = a.arrays } };
+    ghost view = { λ a. record {
+      infos = a.infos;
+      pools = a.pools;
+      classes = a.classes;
+      methods = a.methods;
+      statics = a.statics;
+      arrays = a.arrays;
+    } };
 
-    ghost invariant = { λ a. IsWorld (record { infos = a.infos; pools = a.pools; classes = a.classes; methods = a.methods; statics = a.statics; arrays = a.arrays }) };
+    ghost invariant = { λ a. IsWorld
+        (record {
+          infos = a.infos;
+          pools = a.pools;
+          classes = a.classes;
+          methods = a.methods;
+          statics = a.statics;
+          arrays = a.arrays;
+        }) };
 }
 
 impl<'a> World<'a> {

@@ -17,7 +17,7 @@ use Rattle.jc_resolve.specs.Fault.{place_of}
 use Rattle.jc_resolve.specs.FirstFault.{◌>>=◌, IsFirst, AllEmpty}
 use Rattle.jc_resolve.proofs.Faultless.{faultless_at}
 use Rattle.jc_resolve.proofs.FirstTold.{IsTold, things-told, step, last, refused-first, accepted-empty}
-use Rattle.jc_classes.specs.declared.layout.Layout.{Layout}
+use Rattle.jc_classes.specs.declared.layout.ClassLayout.{ClassLayout}
 use Rattle.jc_hierarchy.specs.Outline.{outline}
 use Rattle.jc_classes.specs.Layout.{instance_cells, layouts}
 use Rattle.jc_classes.specs.Conditions.{hole_fault, entries_in, override_fault, replacements_in, interface_fault, implementations_in, long_fault, class_numbers, long_instances, conditions}
@@ -47,11 +47,11 @@ cells_short t classes c none h =
     let at : slice_get (class_numbers classes) c ≡ Some c = slice_get-numbers 0 (length classes) c h ∙ ap Some (omega arith) in
     within_by t classes c (nat_lt 32767 (instance_cells t classes c)) refl (faultless_at (long_fault t classes) (class_numbers classes) c c none at)
 
-pub layout_cells_short : (t : ClassTable) (classes : List NamedClass) (all : List Layout) (c : ℕ) (l : Layout) → all ≡ layouts t classes → long_instances t classes ≡ [] → c < length classes → l ≡ get_or all c l → l.cells ≤ 32767
+pub layout_cells_short : (t : ClassTable) (classes : List NamedClass) (all : List ClassLayout) (c : ℕ) (l : ClassLayout) → all ≡ layouts t classes → long_instances t classes ≡ [] → c < length classes → l ≡ get_or all c l → l.cells ≤ 32767
 layout_cells_short t classes all c l e none h at = rw (cells_are t classes all c l e h at) (cells_short t classes c none h)
 
-pub records_whole : (t : ClassTable) (classes : List NamedClass) (n : ℕ) (records : List ClassRec) → length classes ≤ n → records ≡ take n (records_from t classes 0 classes) → records ≡ records_from t classes 0 classes
-records_whole t classes n records h e = e ∙ take_all n (records_from t classes 0 classes) (omega (arith, records-length t classes classes 0))
+pub least_of_records : (t : ClassTable) (classes : List NamedClass) (n : ℕ) (records : List ClassRec) → length classes ≤ n → records ≡ take n (records_from t classes 0 classes) → records ≡ records_from t classes 0 classes
+least_of_records t classes n records h e = e ∙ take_all n (records_from t classes 0 classes) (omega (arith, records-length t classes classes 0))
 
 pub table_classes : (t : ClassTable) (classes : List NamedClass) (records : List ClassRec) → t ≡ outline classes t.roles → AreClasses t → records ≡ records_from t classes 0 classes → AreClasses (record { records = records; roles = t.roles })
 table_classes t classes records o are e =

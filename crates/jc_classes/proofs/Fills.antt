@@ -14,7 +14,7 @@ use Rattle.jc_classes.specs.Known.{AreKnown}
 use Rattle.jc_classes.proofs.Climbs.{chain_from, chain_step, climbed_whole, head_same, tail_same, no_end}
 use Rattle.jc_resolve.specs.declared.named.NamedClass.{NamedClass}
 use Rattle.jc_resolve.specs.Named.{IsSized}
-use Rattle.jc_classes.specs.declared.layout.Layout.{Layout}
+use Rattle.jc_classes.specs.declared.layout.ClassLayout.{ClassLayout}
 use Rattle.jc_classes.specs.Layout.{layouts, of_class, own_of, instance_cells, layout_of, layout_from, above_or_nothing, at_home}
 use Rattle.jc_classes.specs.Slots.{slot_at, IsFilled, AreSlots, IsMade, Keeps, IsClimb}
 use Rattle.jc_classes.proofs.Steps.{layout_step}
@@ -42,15 +42,15 @@ same_or_other i j = elim (cases_lt i j) [
   ]
 ]
 
-pub filled-here : (slots : List (Option Layout)) (c : ℕ) (l : Layout) → c < length slots → slot_at (set slots c (Some l)) c ≡ Some l
+pub filled-here : (slots : List (Option ClassLayout)) (c : ℕ) (l : ClassLayout) → c < length slots → slot_at (set slots c (Some l)) c ≡ Some l
 unfolding slot_at
 filled-here slots c l h = ap option_flatten (slice_get-set_here slots c (Some l) h)
 
-pub filled-other : (slots : List (Option Layout)) (c d : ℕ) (l : Layout) → (c ≡ d → ⊥) → slot_at (set slots c (Some l)) d ≡ slot_at slots d
+pub filled-other : (slots : List (Option ClassLayout)) (c d : ℕ) (l : ClassLayout) → (c ≡ d → ⊥) → slot_at (set slots c (Some l)) d ≡ slot_at slots d
 unfolding slot_at
 filled-other slots c d l ne = ap option_flatten (slice_get-set_other slots c d (Some l) ne)
 
-pub slots_filled : (t : ClassTable) (classes : List NamedClass) (slots : List (Option Layout)) (c : ℕ) (l : Layout) → AreSlots t classes slots → c < length classes → l ≡ layout_of t classes c
+pub slots_filled : (t : ClassTable) (classes : List NamedClass) (slots : List (Option ClassLayout)) (c : ℕ) (l : ClassLayout) → AreSlots t classes slots → c < length classes → l ≡ layout_of t classes c
     → AreSlots t classes (set slots c (Some l))
 slots_filled t classes slots c l are h is = record {
   count = length-set slots c (Some l) ∙ are.count;
@@ -58,12 +58,12 @@ slots_filled t classes slots c l are h is = record {
     | inl e ↦
         let within : c < length slots = omega (arith, are.count) in
         let here : slot_at (set slots c (Some l)) d ≡ Some l = ap (slot_at (set slots c (Some l))) (sym e) ∙ filled-here slots c l within in
-        subst (λ (o : Option Layout). IfSome o (λ m. m ≡ layout_of t classes d)) (sym here) (is ∙ ap (layout_of t classes) e)
-    | inr ne ↦ subst (λ (o : Option Layout). IfSome o (λ m. m ≡ layout_of t classes d)) (sym (filled-other slots c d l ne)) (are.right d)
+        subst (λ (o : Option ClassLayout). IfSome o (λ m. m ≡ layout_of t classes d)) (sym here) (is ∙ ap (layout_of t classes) e)
+    | inr ne ↦ subst (λ (o : Option ClassLayout). IfSome o (λ m. m ≡ layout_of t classes d)) (sym (filled-other slots c d l ne)) (are.right d)
   ];
 }
 
-pub slots_kept : (t : ClassTable) (classes : List NamedClass) (slots : List (Option Layout)) (c : ℕ) (l : Layout) → AreSlots t classes slots → c < length classes → l ≡ layout_of t classes c
+pub slots_kept : (t : ClassTable) (classes : List NamedClass) (slots : List (Option ClassLayout)) (c : ℕ) (l : ClassLayout) → AreSlots t classes slots → c < length classes → l ≡ layout_of t classes c
     → Keeps t classes slots (set slots c (Some l))
 slots_kept t classes slots c l are h is = record {
   filled = λ d was. elim (same_or_other c d) [
@@ -76,16 +76,16 @@ slots_kept t classes slots c l are h is = record {
 
 -- ---- the superclass's slot
 
-made_is : (t : ClassTable) (classes : List NamedClass) (p : ℕ) (o : Option Layout) → IsSome o → IfSome o (λ l. l ≡ layout_of t classes p) → o ≡ Some (layout_of t classes p)
+made_is : (t : ClassTable) (classes : List NamedClass) (p : ℕ) (o : Option ClassLayout) → IsSome o → IfSome o (λ l. l ≡ layout_of t classes p) → o ≡ Some (layout_of t classes p)
 made_is t classes p None is e = absurd (false≢true is)
 made_is t classes p (Some l) is e = ap Some e
 
 -- a slot that is not empty holds the layout of its class
-pub filled_from : (t : ClassTable) (classes : List NamedClass) (slots : List (Option Layout)) (above : Option ℕ) → AreSlots t classes slots → IfSome above (λ p. IsSome (slot_at slots p)) → IfSome above (IsFilled t classes slots)
+pub filled_from : (t : ClassTable) (classes : List NamedClass) (slots : List (Option ClassLayout)) (above : Option ℕ) → AreSlots t classes slots → IfSome above (λ p. IsSome (slot_at slots p)) → IfSome above (IsFilled t classes slots)
 filled_from t classes slots None are made = tt
 filled_from t classes slots (Some p) are made = made_is t classes p (slot_at slots p) made (are.right p)
 
-pub above_filled : (t : ClassTable) (classes : List NamedClass) (slots : List (Option Layout)) (above : Option ℕ) → IfSome above (IsFilled t classes slots) → option_and_then (slot_at slots) above ≡ option_map (layout_of t classes) above
+pub above_filled : (t : ClassTable) (classes : List NamedClass) (slots : List (Option ClassLayout)) (above : Option ℕ) → IfSome above (IsFilled t classes slots) → option_and_then (slot_at slots) above ≡ option_map (layout_of t classes) above
 above_filled t classes slots None made = refl
 above_filled t classes slots (Some p) made = made
 
@@ -120,19 +120,19 @@ above_few t classes (Some p) all few = cells_few t classes p all few
 
 -- ---- a class made from the one above it
 
-pub up_is : (t : ClassTable) (classes : List NamedClass) (slots : List (Option Layout)) (above : Option ℕ) (up : Option Layout) → up ≡ option_and_then (slot_at slots) above → IfSome above (IsFilled t classes slots) → up ≡ option_map (layout_of t classes) above
+pub up_is : (t : ClassTable) (classes : List NamedClass) (slots : List (Option ClassLayout)) (above : Option ℕ) (up : Option ClassLayout) → up ≡ option_and_then (slot_at slots) above → IfSome above (IsFilled t classes slots) → up ≡ option_map (layout_of t classes) above
 up_is t classes slots above up e made = e ∙ above_filled t classes slots above made
 
-pub up_few : (t : ClassTable) (classes : List NamedClass) (slots : List (Option Layout)) (above : Option ℕ) (up : Option Layout) → up ≡ option_and_then (slot_at slots) above → IfSome above (IsFilled t classes slots) → AreKnown t classes
+pub up_few : (t : ClassTable) (classes : List NamedClass) (slots : List (Option ClassLayout)) (above : Option ℕ) (up : Option ClassLayout) → up ≡ option_and_then (slot_at slots) above → IfSome above (IsFilled t classes slots) → AreKnown t classes
     → (above_or_nothing up).cells ≤ 536993790
 up_few t classes slots above up e made known = rw (up_is t classes slots above up e made) (above_few t classes above known.sized (omega (arith, known.few, known.count)))
 
-pub made_right : (t : ClassTable) (classes : List NamedClass) (slots : List (Option Layout)) (above : Option ℕ) (up : Option Layout) (c : ℕ) (k : NamedClass) (made : Layout) → AreSlots t classes slots → c < length classes
+pub made_right : (t : ClassTable) (classes : List NamedClass) (slots : List (Option ClassLayout)) (above : Option ℕ) (up : Option ClassLayout) (c : ℕ) (k : NamedClass) (made : ClassLayout) → AreSlots t classes slots → c < length classes
     → up ≡ option_and_then (slot_at slots) above → IfSome above (IsFilled t classes slots) → slice_get classes c ≡ Some k → chain t c ≡ c ∷ list_of (chain t) above
     → made ≡ layout_from k (above_or_nothing up) (at_home t above c) → IsMade t classes slots (set slots c (Some made)) c
 made_right t classes slots above up c k made are known e filled at step is =
     let same : made ≡ layout_of t classes c =
-    is ∙ ap (λ (o : Option Layout). layout_from k (above_or_nothing o) (at_home t above c)) (up_is t classes slots above up e filled) ∙ sym (layout_step t classes c above k step at) in
+    is ∙ ap (λ (o : Option ClassLayout). layout_from k (above_or_nothing o) (at_home t above c)) (up_is t classes slots above up e filled) ∙ sym (layout_step t classes c above k step at) in
     let within : c < length slots = omega (arith, are.count) in
     record {
       slots = slots_filled t classes slots c made are known same;
@@ -182,7 +182,7 @@ down_known t classes path rest x above c are known h e whole =
 
 -- ---- the invariant of the descent
 
-pub record IsDescent (t : ClassTable) (classes : List NamedClass) (first : List (Option Layout)) (slots : List (Option Layout)) (c : ℕ) (path : List ℕ) (above : Option ℕ) : Type 0 where
+pub record IsDescent (t : ClassTable) (classes : List NamedClass) (first : List (Option ClassLayout)) (slots : List (Option ClassLayout)) (c : ℕ) (path : List ℕ) (above : Option ℕ) : Type 0 where
   pub whole : path ++ list_of (chain t) above ≡ chain t c
   pub right : AreSlots t classes slots
   pub keeps : Keeps t classes first slots
@@ -193,7 +193,7 @@ above_counted : (t : ClassTable) (classes : List NamedClass) (above : Option ℕ
 above_counted t classes None known h = tt
 above_counted t classes (Some p) known h = omega (arith, known.count, h)
 
-pub descent_first : (t : ClassTable) (classes : List NamedClass) (slots : List (Option Layout)) (c : ℕ) (path : List ℕ) (above : Option ℕ) → AreKnown t classes → AreSlots t classes slots → IsClimb t slots c path above → IsDescent t classes slots slots c path above
+pub descent_first : (t : ClassTable) (classes : List NamedClass) (slots : List (Option ClassLayout)) (c : ℕ) (path : List ℕ) (above : Option ℕ) → AreKnown t classes → AreSlots t classes slots → IsClimb t slots c path above → IsDescent t classes slots slots c path above
 descent_first t classes slots c path above known are climb = record {
   whole = climb.whole;
   right = are;
@@ -202,7 +202,7 @@ descent_first t classes slots c path above known are climb = record {
   known = above_counted t classes above known climb.known;
 }
 
-pub descent_next : (t : ClassTable) (classes : List NamedClass) (first slots next : List (Option Layout)) (c : ℕ) (path rest : List ℕ) (x : ℕ) (above : Option ℕ) → AreClasses t → AreKnown t classes → c < length classes → path ≡ rest ++ (x ∷ [])
+pub descent_next : (t : ClassTable) (classes : List NamedClass) (first slots next : List (Option ClassLayout)) (c : ℕ) (path rest : List ℕ) (x : ℕ) (above : Option ℕ) → AreClasses t → AreKnown t classes → c < length classes → path ≡ rest ++ (x ∷ [])
     → IsDescent t classes first slots c path above → IsMade t classes slots next x → IsDescent t classes first next c rest (Some x)
 descent_next t classes first slots next c path rest x above are known low e d made = record {
   whole = down_whole t path rest x above c are e d.whole;
@@ -212,7 +212,7 @@ descent_next t classes first slots next c path rest x above are known low e d ma
   known = down_known t classes path rest x above c are known low e d.whole;
 }
 
-pub descent_last : (t : ClassTable) (classes : List NamedClass) (first slots : List (Option Layout)) (c : ℕ) (path : List ℕ) (above : Option ℕ) → path ≡ [] → IsDescent t classes first slots c path above → IsMade t classes first slots c
+pub descent_last : (t : ClassTable) (classes : List NamedClass) (first slots : List (Option ClassLayout)) (c : ℕ) (path : List ℕ) (above : Option ℕ) → path ≡ [] → IsDescent t classes first slots c path above → IsMade t classes first slots c
 descent_last t classes first slots c path above e d =
     let top : above ≡ Some c = climbed_whole t above c (ap (λ (xs : List ℕ). xs ++ list_of (chain t) above) (sym e) ∙ d.whole) in
     record {
@@ -226,28 +226,28 @@ pub ruleset fills = (descent_first, descent_last, down_step, down_known)
 -- ---- all classes
 
 -- slots of which those below a number are filled
-pub record AreFilledBelow (t : ClassTable) (classes : List NamedClass) (slots : List (Option Layout)) (n : ℕ) : Type 0 where
+pub record AreFilledBelow (t : ClassTable) (classes : List NamedClass) (slots : List (Option ClassLayout)) (n : ℕ) : Type 0 where
   pub right : AreSlots t classes slots
   pub filled : (c : ℕ) → c < n → IsFilled t classes slots c
 
-nothing_there : (n c : ℕ) → option_flatten (slice_get {X = Option Layout} (replicate n None) c) ≡ None
+nothing_there : (n c : ℕ) → option_flatten (slice_get {X = Option ClassLayout} (replicate n None) c) ≡ None
 nothing_there zero c = refl
 nothing_there (suc n) zero = refl
 nothing_there (suc n) (suc c) = nothing_there n c
 
-pub none_filled : (t : ClassTable) (classes : List NamedClass) (slots : List (Option Layout)) (n : ℕ) → n ≡ length classes → slots ≡ replicate n None → AreFilledBelow t classes slots 0
+pub none_filled : (t : ClassTable) (classes : List NamedClass) (slots : List (Option ClassLayout)) (n : ℕ) → n ≡ length classes → slots ≡ replicate n None → AreFilledBelow t classes slots 0
 unfolding slot_at
 none_filled t classes slots n m e =
     let f : (c : ℕ) → c < 0 → IsFilled t classes slots c = λ c h. absurd (omega arith) in
     record {
       right = record {
         count = ap length e ∙ length-replicate n None ∙ m;
-        right = λ c. subst (λ (o : Option Layout). IfSome o (λ l. l ≡ layout_of t classes c)) (sym (ap (λ (xs : List (Option Layout)). slot_at xs c) e ∙ nothing_there n c)) tt;
+        right = λ c. subst (λ (o : Option ClassLayout). IfSome o (λ l. l ≡ layout_of t classes c)) (sym (ap (λ (xs : List (Option ClassLayout)). slot_at xs c) e ∙ nothing_there n c)) tt;
       };
       filled = f;
     }
 
-pub more_filled : (t : ClassTable) (classes : List NamedClass) (old new : List (Option Layout)) (n : ℕ) → AreFilledBelow t classes old n → IsMade t classes old new n → AreFilledBelow t classes new (n + 1)
+pub more_filled : (t : ClassTable) (classes : List NamedClass) (old new : List (Option ClassLayout)) (n : ℕ) → AreFilledBelow t classes old n → IsMade t classes old new n → AreFilledBelow t classes new (n + 1)
 more_filled t classes old new n are made = record {
   right = made.slots;
   filled = λ c h. elim (cases_lt c n) [
@@ -284,7 +284,7 @@ all_some f (o ∷ os) a h =
     shifted : (c : ℕ) → c < length os → option_flatten (slice_get os c) ≡ Some (f (a + 1 + c))
     shifted c k = let e : a + suc c ≡ a + 1 + c = omega arith in h (suc c) (omega arith) ∙ ap (λ (n : ℕ). Some (f n)) e
 
-pub all_filled : (t : ClassTable) (classes : List NamedClass) (slots : List (Option Layout)) → AreFilledBelow t classes slots (length classes) → filter_map (λ o. o) slots ≡ layouts t classes
+pub all_filled : (t : ClassTable) (classes : List NamedClass) (slots : List (Option ClassLayout)) → AreFilledBelow t classes slots (length classes) → filter_map (λ o. o) slots ≡ layouts t classes
 unfolding slot_at
 all_filled t classes slots are =
     let n : length slots ≡ length classes = are.right.count in

@@ -12,13 +12,13 @@ use Rattle.jc_base.specs.declared.record.MethodRec.{MethodRec}
 use Rattle.jc_base.specs.Class.{ClassTable, chain, parent_of}
 use Rattle.jc_resolve.specs.declared.fault.LinkFault.{LinkFault}
 use Rattle.jc_resolve.specs.declared.fault.LinkFault.TheVariants.{InstanceLong}
-use Rattle.jc_resolve.specs.declared.named.Table.{Table}
+use Rattle.jc_resolve.specs.declared.named.DispatchTable.{DispatchTable}
 use Rattle.jc_resolve.specs.declared.named.NamedClass.{NamedClass}
 use Rattle.jc_resolve.specs.Named.{IsByteTable, IsSized}
 use Rattle.jc_resolve.specs.Fault.{place_of}
 use Rattle.jc_resolve.specs.FirstFault.{least_from, least_of, lesser}
 use Rattle.jc_classes.specs.Known.{AreKnown}
-use Rattle.jc_classes.specs.declared.layout.Layout.{Layout}
+use Rattle.jc_classes.specs.declared.layout.ClassLayout.{ClassLayout}
 use Rattle.jc_classes.specs.Entries.{reach, reach_from, reach_of}
 use Rattle.jc_classes.specs.Layout.{above_or_nothing, at_home, no_table, of_class, public_table, visible_table, home_run, public_entries, visible_entries, instance_cells, layout_of, layouts}
 use Rattle.jc_classes.specs.Slots.{IsShort}
@@ -74,14 +74,14 @@ reach_few_by : (base : ℕ) (entries : List (Option ℕ)) → base ≤ 255 → l
 reach_few_by base [] h k = omega arith
 reach_few_by base (e ∷ es) h k = omega arith
 
-reach_few : (table : Table) → IsByteTable table → reach table ≤ 510
+reach_few : (table : DispatchTable) → IsByteTable table → reach table ≤ 510
 unfolding reach
 reach_few table h = reach_few_by table.base table.entries h.base h.count
 
 empty_table : IsByteTable no_table
 empty_table = record { base = omega arith; count = omega arith }
 
-table_few_by : (f : NamedClass → Table) → ((k : NamedClass) → IsSized k → IsByteTable (f k)) → (o : Option NamedClass) → IfSome o IsSized → IsByteTable (of_class no_table f o)
+table_few_by : (f : NamedClass → DispatchTable) → ((k : NamedClass) → IsSized k → IsByteTable (f k)) → (o : Option NamedClass) → IfSome o IsSized → IsByteTable (of_class no_table f o)
 table_few_by f each None h = empty_table
 table_few_by f each (Some k) h = each k h
 
@@ -97,7 +97,7 @@ visible_few : (classes : List NamedClass) (c : ℕ) → All IsSized classes → 
 unfolding visible_table
 visible_few classes c all = reach_few (visible_table classes c) (table_few_by (λ k. k.visible) (λ k h. h.visible) (slice_get classes c) (sized_at classes c (slice_get classes c) refl all))
 
-reach_of_few : (f : ℕ → Table) → ((c : ℕ) → reach (f c) ≤ 510) → (cs : List ℕ) → reach_of (map f cs) ≤ 510
+reach_of_few : (f : ℕ → DispatchTable) → ((c : ℕ) → reach (f c) ≤ 510) → (cs : List ℕ) → reach_of (map f cs) ≤ 510
 reach_of_few f each [] = omega arith
 reach_of_few f each (c ∷ cs) = omega (arith, each c, reach_of_few f each cs)
 
@@ -109,18 +109,18 @@ lists_short t classes c all = record {
 }
 
 -- the layout of a class in the list of all
-pub layout_is : (t : ClassTable) (classes : List NamedClass) (all : List Layout) (c : ℕ) (d : Layout) → all ≡ layouts t classes → c < length classes → get_or all c d ≡ layout_of t classes c
-layout_is t classes all c d e h = ap (λ (ls : List Layout). get_or ls c d) e ∙ get_or-map-range_with_len (layout_of t classes) 0 (length classes) c c d h (omega arith)
+pub layout_is : (t : ClassTable) (classes : List NamedClass) (all : List ClassLayout) (c : ℕ) (d : ClassLayout) → all ≡ layouts t classes → c < length classes → get_or all c d ≡ layout_of t classes c
+layout_is t classes all c d e h = ap (λ (ls : List ClassLayout). get_or ls c d) e ∙ get_or-map-range_with_len (layout_of t classes) 0 (length classes) c c d h (omega arith)
 
-pub layout_short : (t : ClassTable) (classes : List NamedClass) (all : List Layout) (c : ℕ) (d : Layout) → all ≡ layouts t classes → c < length classes → AreKnown t classes → IsShort (get_or all c d)
+pub layout_short : (t : ClassTable) (classes : List NamedClass) (all : List ClassLayout) (c : ℕ) (d : ClassLayout) → all ≡ layouts t classes → c < length classes → AreKnown t classes → IsShort (get_or all c d)
 layout_short t classes all c d e h known = rw (layout_is t classes all c d e h) (lists_short t classes c known.sized)
 
-pub layouts_count : (t : ClassTable) (classes : List NamedClass) (all : List Layout) → all ≡ layouts t classes → length all ≡ length classes
+pub layouts_count : (t : ClassTable) (classes : List NamedClass) (all : List ClassLayout) → all ≡ layouts t classes → length all ≡ length classes
 layouts_count t classes all e = ap length e ∙ length-map-range_with_len (layout_of t classes) 0 (length classes)
 
 pub ruleset folds = (least_next, least_both, layout_is, layout_short, layouts_count)
 
-pub layout_at : (t : ClassTable) (classes : List NamedClass) (all : List Layout) (c : ℕ) (l : Layout) → all ≡ layouts t classes → c < length classes → l ≡ get_or all c l → l ≡ layout_of t classes c
+pub layout_at : (t : ClassTable) (classes : List NamedClass) (all : List ClassLayout) (c : ℕ) (l : ClassLayout) → all ≡ layouts t classes → c < length classes → l ≡ get_or all c l → l ≡ layout_of t classes c
 layout_at t classes all c l e h is = is ∙ layout_is t classes all c l e h
 
 -- ---- replacement by replacement
@@ -153,7 +153,7 @@ pub ruleset replacement_folds = (replacements_next, replacements_end)
 
 -- ---- the superclass among all classes
 
-pub above_at : (t : ClassTable) (classes : List NamedClass) (all : List Layout) (p : ℕ) (d : Layout) (o : Option ℕ) → all ≡ layouts t classes → p < length t.records → AreKnown t classes → Some p ≡ o → d ≡ get_or all p d
+pub above_at : (t : ClassTable) (classes : List NamedClass) (all : List ClassLayout) (p : ℕ) (d : ClassLayout) (o : Option ℕ) → all ≡ layouts t classes → p < length t.records → AreKnown t classes → Some p ≡ o → d ≡ get_or all p d
     → Some d ≡ option_map (layout_of t classes) o
 above_at t classes all p d o e h known is at =
     let low : p < length classes = omega (arith, known.count) in
@@ -164,7 +164,7 @@ pub ruleset above_in_all = (above_at, layouts_count)
 pub ruleset compares = (least_both, layout_at, layouts_count)
 
 -- both lists of a class compared with those of its superclass
-pub class_compared : (t : ClassTable) (classes : List NamedClass) (c : ℕ) (fault : Replacement → Option LinkFault) (least middle last : Option LinkFault) (own : Layout) (up : Option Layout) (home : Bool) (above_public public above_visible visible : List (Option ℕ))
+pub class_compared : (t : ClassTable) (classes : List NamedClass) (c : ℕ) (fault : Replacement → Option LinkFault) (least middle last : Option LinkFault) (own : ClassLayout) (up : Option ClassLayout) (home : Bool) (above_public public above_visible visible : List (Option ℕ))
     → own ≡ layout_of t classes c → up ≡ option_map (layout_of t classes) (parent_of t c) → home ≡ at_home t (parent_of t c) c
     → above_public ≡ (above_or_nothing up).public → public ≡ own.public → above_visible ≡ (if home then (above_or_nothing up).visible else []) → visible ≡ own.visible
     → middle ≡ least_from place_of least fault (replacements_from c 0 above_public public) → last ≡ least_from place_of middle fault (replacements_from c 128 above_visible visible)
@@ -188,11 +188,11 @@ long_by : (c cells : ℕ) (t : ClassTable) (classes : List NamedClass) (b : Bool
 unfolding long_fault
 long_by c cells t classes b e is = rw (← is, e) refl
 
-pub cells_are : (t : ClassTable) (classes : List NamedClass) (all : List Layout) (c : ℕ) (l : Layout) → all ≡ layouts t classes → c < length classes → l ≡ get_or all c l → l.cells ≡ instance_cells t classes c
+pub cells_are : (t : ClassTable) (classes : List NamedClass) (all : List ClassLayout) (c : ℕ) (l : ClassLayout) → all ≡ layouts t classes → c < length classes → l ≡ get_or all c l → l.cells ≡ instance_cells t classes c
 unfolding layout_of
-cells_are t classes all c l e h is = ap (λ (x : Layout). x.cells) (layout_at t classes all c l e h is)
+cells_are t classes all c l e h is = ap (λ (x : ClassLayout). x.cells) (layout_at t classes all c l e h is)
 
-pub long_next : (t : ClassTable) (classes : List NamedClass) (all : List Layout) (c : ℕ) (d : Layout) (least fault : Option LinkFault) → all ≡ layouts t classes → c < length classes → d ≡ get_or all c d
+pub long_next : (t : ClassTable) (classes : List NamedClass) (all : List ClassLayout) (c : ℕ) (d : ClassLayout) (least fault : Option LinkFault) → all ≡ layouts t classes → c < length classes → d ≡ get_or all c d
     → fault ≡ (if nat_lt 32767 d.cells then Some (InstanceLong c d.cells) else None) → least ≡ least_of place_of (long_fault t classes) (range_with_len 0 c)
     → lesser place_of least fault ≡ least_of place_of (long_fault t classes) (range_with_len 0 (c + 1))
 long_next t classes all c d least fault e h at is before =
@@ -200,6 +200,6 @@ long_next t classes all c d least fault e h at is before =
 
 pub ruleset long_folds = (long_next, layouts_count)
 
-pub public_at : (t : ClassTable) (classes : List NamedClass) (all : List Layout) (c : ℕ) (l : Layout) → all ≡ layouts t classes → c < length classes → l ≡ get_or all c l → l.public ≡ public_entries t classes c
+pub public_at : (t : ClassTable) (classes : List NamedClass) (all : List ClassLayout) (c : ℕ) (l : ClassLayout) → all ≡ layouts t classes → c < length classes → l ≡ get_or all c l → l.public ≡ public_entries t classes c
 unfolding layout_of
-public_at t classes all c l e h is = ap (λ (x : Layout). x.public) (layout_at t classes all c l e h is)
+public_at t classes all c l e h is = ap (λ (x : ClassLayout). x.public) (layout_at t classes all c l e h is)

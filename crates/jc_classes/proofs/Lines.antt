@@ -9,7 +9,7 @@ use Rattle.jc_base.specs.Class.{ClassTable, IsClass, AreClasses, EndsWithObject,
 use Rattle.jc_base.specs.Order.{is_on_chain}
 use Rattle.jc_base.specs.Dispatch.{package_of, of_record}
 use Rattle.jc_resolve.specs.declared.named.NamedClass.{NamedClass}
-use Rattle.jc_classes.specs.declared.layout.Layout.{Layout}
+use Rattle.jc_classes.specs.declared.layout.ClassLayout.{ClassLayout}
 use Rattle.jc_hierarchy.specs.Outline.{outline, outlined}
 use Rattle.jc_classes.specs.Layout.{layout_of}
 use Rattle.jc_classes.specs.Tables.{record_from, records_from, class_tables}
@@ -91,17 +91,17 @@ pub record IsOutline (t : ClassTable) (classes : List NamedClass) : Type 0 where
 pub outline_at : (t : ClassTable) (classes : List NamedClass) (c : ℕ) → IsOutline t classes → slice_get t.records c ≡ option_map outlined (slice_get classes c)
 outline_at t classes c o = ap (λ (u : ClassTable). slice_get u.records c) o.is ∙ slice_get-map outlined classes c
 
-same_interface : (l : Layout) (o : Option NamedClass) → is_interface_record (option_map (λ k. record_from k l) o) ≡ is_interface_record (option_map outlined o)
+same_interface : (l : ClassLayout) (o : Option NamedClass) → is_interface_record (option_map (λ k. record_from k l) o) ≡ is_interface_record (option_map outlined o)
 unfolding record_from
 same_interface l None = refl
 same_interface l (Some k) = refl
 
-same_parent : (l : Layout) (o : Option NamedClass) → parent_in_record (option_map (λ k. record_from k l) o) ≡ parent_in_record (option_map outlined o)
+same_parent : (l : ClassLayout) (o : Option NamedClass) → parent_in_record (option_map (λ k. record_from k l) o) ≡ parent_in_record (option_map outlined o)
 unfolding record_from
 same_parent l None = refl
 same_parent l (Some k) = refl
 
-same_package : (l : Layout) (o : Option NamedClass) → of_record 0 (λ r. r.«package») (option_map (λ k. record_from k l) o) ≡ of_record 0 (λ r. r.«package») (option_map outlined o)
+same_package : (l : ClassLayout) (o : Option NamedClass) → of_record 0 (λ r. r.«package») (option_map (λ k. record_from k l) o) ≡ of_record 0 (λ r. r.«package») (option_map outlined o)
 unfolding record_from
 same_package l None = refl
 same_package l (Some k) = refl
@@ -120,11 +120,11 @@ pub tables-classes : (t : ClassTable) (classes : List NamedClass) → IsOutline 
 tables-classes t classes o are = classes-alike t (class_tables t classes) (tables-alike t classes o) are
 
 -- one more record
-pub records_next : (t : ClassTable) (classes : List NamedClass) (c : ℕ) (k : NamedClass) (l : Layout) (r : ClassRec) (records : List ClassRec) → slice_get classes c ≡ Some k → l ≡ layout_of t classes c → r ≡ record_from k l → c < length classes
+pub records_next : (t : ClassTable) (classes : List NamedClass) (c : ℕ) (k : NamedClass) (l : ClassLayout) (r : ClassRec) (records : List ClassRec) → slice_get classes c ≡ Some k → l ≡ layout_of t classes c → r ≡ record_from k l → c < length classes
     → records ≡ take c (records_from t classes 0 classes) → records ++ (r ∷ []) ≡ take (c + 1) (records_from t classes 0 classes)
 records_next t classes c k l r records at same is low before =
     let low_too : c < length (records_from t classes 0 classes) = omega (arith, records-length t classes classes 0) in
-    let there : slice_get (records_from t classes 0 classes) c ≡ Some r = record_is t classes c ∙ ap (option_map (λ x. record_from x (layout_of t classes c))) at ∙ ap (λ (m : Layout). Some (record_from k m)) (sym same) ∙ ap Some (sym is) in
+    let there : slice_get (records_from t classes 0 classes) c ≡ Some r = record_is t classes c ∙ ap (option_map (λ x. record_from x (layout_of t classes c))) at ∙ ap (λ (m : ClassLayout). Some (record_from k m)) (sym same) ∙ ap Some (sym is) in
     ap (λ (rs : List ClassRec). rs ++ (r ∷ [])) before
     ∙ ap (λ (x : ClassRec). take c (records_from t classes 0 classes) ++ (x ∷ [])) (sym (get_or_from_slice_get (records_from t classes 0 classes) c r r there))
     ∙ sym (take_more (records_from t classes 0 classes) c r low_too)

@@ -29,7 +29,7 @@ use Rattle.jc_resolve.specs.FirstFault.{AllEmpty}
 use Rattle.jc_hierarchy.specs.Lines.{HaveLines}
 use Rattle.jc_hierarchy.specs.Outline.{outline, outlined}
 use Rattle.jc_classes.specs.Known.{AreKnown}
-use Rattle.jc_classes.specs.declared.layout.Layout.{Layout}
+use Rattle.jc_classes.specs.declared.layout.ClassLayout.{ClassLayout}
 use Rattle.jc_classes.specs.Entries.{overlaid, overlaid_at, reach}
 use Rattle.jc_classes.specs.Layout.{layout_of, public_entries, visible_entries, instance_cells, above_or_nothing, at_home}
 use Rattle.jc_classes.specs.Signatures.{signature_in}
@@ -103,7 +103,7 @@ cells_built : (t : ClassTable) (classes : List NamedClass) (c : ℕ) (k : NamedC
 unfolding cell_count record_from
 cells_built t classes c k e = ap (of_record 0 (λ r. r.cells)) (record_is t classes c ∙ ap (option_map (λ x. record_from x (layout_of t classes c))) e)
 
-abbrev above_by : ClassTable → List NamedClass → Option ℕ → Layout
+abbrev above_by : ClassTable → List NamedClass → Option ℕ → ClassLayout
 above_by t classes o = above_or_nothing (option_map (layout_of t classes) o)
 
 public_above_by : (t : ClassTable) (classes : List NamedClass) (o : Option ℕ) → IfSome o (λ p. p < length classes) → list_of (public_of (class_tables t classes)) o ≡ methods_listed (above_by t classes o).public

@@ -6,7 +6,7 @@ use Rattle.std.specs.List.{range_with_len}
 use Rattle.std.proofs.lemmas.Bool.{cases_lt, ltb-false}
 use Rattle.std.proofs.lemmas.Option.{slice_get-get_or, slice_get_past}
 use Rattle.std.proofs.lemmas.List.FromFn.{length-map-range_with_len, get_or-map-range_with_len}
-use Rattle.jc_resolve.specs.declared.named.Table.{Table}
+use Rattle.jc_resolve.specs.declared.named.DispatchTable.{DispatchTable}
 use Rattle.jc_classes.specs.Entries.{reach, reach_from, reach_of, named_by, method_named, entries_of, overlaid, overlaid_at}
 
 pub map-same : {A B : Type 0} (f g : A → B) → ((x : A) → f x ≡ g x) → (xs : List A) → map f xs ≡ map g xs
@@ -27,15 +27,15 @@ past_from : (base token : ℕ) (entries : List (Option ℕ)) → base ≤ token 
 past_from base token [] low h = refl
 past_from base token (e ∷ es) low h = slice_get_past (e ∷ es) (token - base) (omega arith)
 
-named_past_by : (table : Table) (token : ℕ) (b : Bool) → ltb token table.base ≡ b → reach table ≤ token → named_by table token ≡ None
+named_past_by : (table : DispatchTable) (token : ℕ) (b : Bool) → ltb token table.base ≡ b → reach table ≤ token → named_by table token ≡ None
 unfolding named_by reach
 named_past_by table token true e h = rw e refl
 named_past_by table token false e h = rw (e, past_from table.base token table.entries (ltb-false token table.base e) h) refl
 
-pub named_past : (table : Table) (token : ℕ) → reach table ≤ token → named_by table token ≡ None
+pub named_past : (table : DispatchTable) (token : ℕ) → reach table ≤ token → named_by table token ≡ None
 named_past table token h = named_past_by table token (ltb token table.base) refl h
 
-method_past : (tables : List Table) (token : ℕ) → reach_of tables ≤ token → method_named tables token ≡ None
+method_past : (tables : List DispatchTable) (token : ℕ) → reach_of tables ≤ token → method_named tables token ≡ None
 method_past [] token h = refl
 method_past (table ∷ tables) token h =
     let here : reach table ≤ token = omega arith in
@@ -43,23 +43,23 @@ method_past (table ∷ tables) token h =
     ap (λ o. option_or o (method_named tables token)) (named_past table token here) ∙ method_past tables token rest
 
 -- the method that a dispatch list has at a token
-pub entry_is : (tables : List Table) (token : ℕ) → option_flatten (slice_get (entries_of tables) token) ≡ method_named tables token
+pub entry_is : (tables : List DispatchTable) (token : ℕ) → option_flatten (slice_get (entries_of tables) token) ≡ method_named tables token
 unfolding entries_of
 entry_is tables token = elim (cases_lt token (reach_of tables)) [
   | inl lt ↦ ap option_flatten (slice_get-range (method_named tables) (reach_of tables) token lt)
   | inr le ↦ ap option_flatten (slice_get-range_past (method_named tables) (reach_of tables) token le) ∙ sym (method_past tables token le)
 ]
 
-pub length-entries : (tables : List Table) → length (entries_of tables) ≡ reach_of tables
+pub length-entries : (tables : List DispatchTable) → length (entries_of tables) ≡ reach_of tables
 unfolding entries_of
 length-entries tables = length-map-range_with_len (method_named tables) 0 (reach_of tables)
 
-overlaid_is : (table : Table) (tables : List Table) (token : ℕ) → overlaid_at table (entries_of tables) token ≡ method_named (table ∷ tables) token
+overlaid_is : (table : DispatchTable) (tables : List DispatchTable) (token : ℕ) → overlaid_at table (entries_of tables) token ≡ method_named (table ∷ tables) token
 unfolding overlaid_at
 overlaid_is table tables token = ap (λ o. option_or (named_by table token) o) (entry_is tables token)
 
 -- a class's list is that of its superclass, overwritten and extended by its own table
-pub overlaid-is : (table : Table) (tables : List Table) → overlaid table (entries_of tables) ≡ entries_of (table ∷ tables)
+pub overlaid-is : (table : DispatchTable) (tables : List DispatchTable) → overlaid table (entries_of tables) ≡ entries_of (table ∷ tables)
 unfolding entries_of
 overlaid-is table tables =
     ap (λ (n : ℕ). map (overlaid_at table (entries_of tables)) (range_with_len 0 (max n (reach table)))) (length-entries tables)

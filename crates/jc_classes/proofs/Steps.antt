@@ -9,13 +9,13 @@ use Rattle.jc_base.specs.Class.{ClassTable, chain, list_of}
 use Rattle.jc_base.specs.Dispatch.{package_of}
 use Rattle.jc_base.proofs.Climbs.{chain-front}
 use Rattle.jc_resolve.specs.declared.named.NamedClass.{NamedClass}
-use Rattle.jc_resolve.specs.declared.named.Table.{Table}
-use Rattle.jc_classes.specs.declared.layout.Layout.{Layout}
+use Rattle.jc_resolve.specs.declared.named.DispatchTable.{DispatchTable}
+use Rattle.jc_classes.specs.declared.layout.ClassLayout.{ClassLayout}
 use Rattle.jc_classes.specs.Entries.{entries_of, overlaid}
 use Rattle.jc_classes.specs.Layout.{public_table, visible_table, own_of, home_run, public_entries, visible_entries, instance_cells, layout_of, layout_from, above_or_nothing, at_home}
 use Rattle.jc_classes.proofs.Overlays.{overlaid-is}
 
-abbrev pub above_of : ClassTable → List NamedClass → Option ℕ → Layout
+abbrev pub above_of : ClassTable → List NamedClass → Option ℕ → ClassLayout
 above_of t classes above = above_or_nothing (option_map (layout_of t classes) above)
 
 public_above : (t : ClassTable) (classes : List NamedClass) (above : Option ℕ) → entries_of (map (public_table classes) (list_of (chain t) above)) ≡ (above_of t classes above).public
@@ -35,7 +35,7 @@ public_step t classes c above k chains e =
     let table : public_table classes c ≡ k.public = rw e refl in
     ap (λ (cs : List ℕ). entries_of (map (public_table classes) cs)) chains
     ∙ sym (overlaid-is (public_table classes c) (map (public_table classes) (list_of (chain t) above)))
-    ∙ ap (λ (x : Table). overlaid x (entries_of (map (public_table classes) (list_of (chain t) above)))) table
+    ∙ ap (λ (x : DispatchTable). overlaid x (entries_of (map (public_table classes) (list_of (chain t) above)))) table
     ∙ ap (overlaid k.public) (public_above t classes above)
 
 pub cells_step : (t : ClassTable) (classes : List NamedClass) (c : ℕ) (above : Option ℕ) (k : NamedClass) → chain t c ≡ c ∷ list_of (chain t) above → slice_get classes c ≡ Some k
@@ -87,7 +87,7 @@ visible_step t classes c above k chains e =
     let rest : List ℕ = take_while (λ a. package_of t a == package_of t c) (list_of (chain t) above) in
     ap (λ (cs : List ℕ). entries_of (map (visible_table classes) cs)) (run_step t c (list_of (chain t) above) chains)
     ∙ sym (overlaid-is (visible_table classes c) (map (visible_table classes) rest))
-    ∙ ap (λ (x : Table). overlaid x (entries_of (map (visible_table classes) rest))) table
+    ∙ ap (λ (x : DispatchTable). overlaid x (entries_of (map (visible_table classes) rest))) table
     ∙ ap (overlaid k.visible) (visible_above t classes c above)
 
 -- what a class makes of its superclass's lists are its lists

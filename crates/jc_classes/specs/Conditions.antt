@@ -10,7 +10,7 @@ use Rattle.jc_resolve.specs.declared.fault.LinkFault.{LinkFault}
 use Rattle.jc_resolve.specs.declared.fault.LinkFault.TheVariants.{Hole, OverrideType, InterfaceType, InstanceLong}
 use Rattle.jc_resolve.specs.declared.named.NamedClass.{NamedClass}
 use Rattle.jc_resolve.specs.FirstFault.{at_fault}
-use Rattle.jc_classes.specs.declared.layout.Layout.{Layout}
+use Rattle.jc_classes.specs.declared.layout.ClassLayout.{ClassLayout}
 use Rattle.jc_classes.specs.Layout.{public_entries, visible_entries, instance_cells, layout_of, above_or_nothing, at_home}
 use Rattle.jc_classes.specs.Signatures.{method_in, signature_in, same_signature}
 
@@ -55,10 +55,11 @@ pub record Replacement : Type 0 where
 abbrev pub replacements_from : ℕ → ℕ → List (Option ℕ) → List (Option ℕ) → List Replacement
 replacements_from c token [] ms = []
 replacements_from c token (i ∷ is) [] = []
-replacements_from c token (i ∷ is) (m ∷ ms) = record { class = c; token = token; inherited = i; method = m } ∷ replacements_from c (token + 1) is ms
+replacements_from c token (i ∷ is) (m ∷ ms) = record { class = c; token = token; inherited = i; method = m }
+    ∷ replacements_from c (token + 1) is ms
 
 -- the lists of the superclass
-unfoldable pub layout_above : ClassTable → List NamedClass → ℕ → Layout
+unfoldable pub layout_above : ClassTable → List NamedClass → ℕ → ClassLayout
 layout_above t classes c = above_or_nothing (option_map (layout_of t classes) (parent_of t c))
 
 -- the package-visible list from which that of a class is made
@@ -66,10 +67,13 @@ abbrev pub visible_above : ClassTable → List NamedClass → ℕ → List (Opti
 visible_above t classes c = if at_home t (parent_of t c) c then (layout_above t classes c).visible else []
 
 abbrev pub replacements_in : ClassTable → List NamedClass → ℕ → List Replacement
-replacements_in t classes c = replacements_from c 0 (layout_above t classes c).public (public_entries t classes c) ++ replacements_from c 128 (visible_above t classes c) (visible_entries t classes c)
+replacements_in t classes c = replacements_from c 0 (layout_above t classes c).public
+    (public_entries t classes c)
+    ++ replacements_from c 128 (visible_above t classes c) (visible_entries t classes c)
 
 unfoldable pub override_fault : List MethodRec → Replacement → Option LinkFault
-override_fault methods r = if same_signature (signature_in methods r.method) (signature_in methods r.inherited) then None else Some (OverrideType r.class r.token)
+override_fault methods r = if same_signature (signature_in methods r.method)
+    (signature_in methods r.inherited) then None else Some (OverrideType r.class r.token)
 
 abbrev pub overrides : ClassTable → List NamedClass → List MethodRec → List LinkFault
 overrides t classes methods = at_fault (override_fault methods) (flat_map (replacements_in t classes) (class_numbers classes))
@@ -88,11 +92,15 @@ implemented_by None = []
 implemented_by (Some k) = if k.interface then [] else k.interfaces
 
 abbrev pub implementations_in : ClassTable → List NamedClass → ℕ → List Implementation
-implementations_in t classes c = map (λ (i : Iface). record { class = c; public = public_entries t classes c; iface = i }) (implemented_by (slice_get classes c))
+implementations_in t classes c = map
+    (λ (i : Iface). record { class = c; public = public_entries t classes c; iface = i })
+    (implemented_by (slice_get classes c))
 
 -- whether the class has a public method of its signature at the token that serves a method of the interface
 abbrev pub serves : List MethodRec → List (Option ℕ) → Iface → MethodRec → Bool
-serves methods public i m = same_signature (option_and_then (λ token. signature_in methods (option_flatten (slice_get public token))) (slice_get i.tokens m.token)) (Some m.sig)
+serves methods public i m = same_signature
+    (option_and_then (λ token. signature_in methods (option_flatten (slice_get public token)))
+    (slice_get i.tokens m.token)) (Some m.sig)
 
 -- whether that holds of each method that the interface describes
 abbrev pub serves_all : List MethodRec → List (Option ℕ) → Iface → Bool
@@ -115,4 +123,5 @@ long_instances t classes = at_fault (long_fault t classes) (class_numbers classe
 -- ---- all, in the order of their numbers
 
 abbrev pub conditions : ClassTable → List NamedClass → List MethodRec → List (List LinkFault)
-conditions t classes methods = holes t classes methods ∷ overrides t classes methods ∷ unserved t classes methods ∷ long_instances t classes ∷ []
+conditions t classes methods = holes t classes methods ∷ overrides t classes methods
+    ∷ unserved t classes methods ∷ long_instances t classes ∷ []

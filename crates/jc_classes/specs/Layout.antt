@@ -4,9 +4,9 @@ use Rattle.std.specs.List.{range_with_len, take_while}
 use Rattle.jc_base.specs.declared.ty.Ty.{Ty}
 use Rattle.jc_base.specs.Class.{ClassTable, chain}
 use Rattle.jc_base.specs.Dispatch.{package_of}
-use Rattle.jc_resolve.specs.declared.named.Table.{Table}
+use Rattle.jc_resolve.specs.declared.named.DispatchTable.{DispatchTable}
 use Rattle.jc_resolve.specs.declared.named.NamedClass.{NamedClass}
-use Rattle.jc_classes.specs.declared.layout.Layout.{Layout}
+use Rattle.jc_classes.specs.declared.layout.ClassLayout.{ClassLayout}
 use Rattle.jc_classes.specs.Entries.{entries_of, overlaid}
 
 -- what a function gives of the class of a number, and else a default
@@ -14,14 +14,14 @@ abbrev pub of_class : {A : Type 0} → A → (NamedClass → A) → Option Named
 of_class d f None = d
 of_class d f (Some k) = f k
 
-abbrev pub no_table : Table
+abbrev pub no_table : DispatchTable
 no_table = record { base = 0; entries = [] }
 
 -- the dispatch tables and the types of the own cells of the class of a number
-unfoldable pub public_table : List NamedClass → ℕ → Table
+unfoldable pub public_table : List NamedClass → ℕ → DispatchTable
 public_table classes c = of_class no_table (λ k. k.public) (slice_get classes c)
 
-unfoldable pub visible_table : List NamedClass → ℕ → Table
+unfoldable pub visible_table : List NamedClass → ℕ → DispatchTable
 visible_table classes c = of_class no_table (λ k. k.visible) (slice_get classes c)
 
 unfoldable pub own_of : List NamedClass → ℕ → List Ty
@@ -44,23 +44,27 @@ unfoldable pub instance_cells : ClassTable → List NamedClass → ℕ → ℕ
 instance_cells t classes c = sum_by (λ a. length (own_of classes a)) (chain t c)
 
 -- the lists and the number of cells of a class
-unfoldable pub layout_of : ClassTable → List NamedClass → ℕ → Layout
-layout_of t classes c = record { public = public_entries t classes c; visible = visible_entries t classes c; cells = instance_cells t classes c }
+unfoldable pub layout_of : ClassTable → List NamedClass → ℕ → ClassLayout
+layout_of t classes c = record {
+  public = public_entries t classes c;
+  visible = visible_entries t classes c;
+  cells = instance_cells t classes c;
+}
 
 -- those of all classes, by number
-abbrev pub layouts : ClassTable → List NamedClass → List Layout
+abbrev pub layouts : ClassTable → List NamedClass → List ClassLayout
 layouts t classes = map (layout_of t classes) (range_with_len 0 (length classes))
 
 -- ---- the same step by step: what a class makes of its superclass's lists
 
-abbrev pub nothing_above : Layout
+abbrev pub nothing_above : ClassLayout
 nothing_above = record { public = []; visible = []; cells = 0 }
 
-abbrev pub above_or_nothing : Option Layout → Layout
+abbrev pub above_or_nothing : Option ClassLayout → ClassLayout
 above_or_nothing None = nothing_above
 above_or_nothing (Some up) = up
 
-unfoldable pub layout_from : NamedClass → Layout → Bool → Layout
+unfoldable pub layout_from : NamedClass → ClassLayout → Bool → ClassLayout
 layout_from k up home = record {
   public = overlaid k.public up.public;
   visible = overlaid k.visible (if home then up.visible else []);

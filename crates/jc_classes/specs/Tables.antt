@@ -12,7 +12,7 @@ use Rattle.jc_resolve.specs.declared.fault.LinkEnd.TheVariants.{Fault, Memory}
 use Rattle.jc_resolve.specs.declared.named.NamedClass.{NamedClass}
 use Rattle.jc_resolve.specs.Fault.{place_of}
 use Rattle.jc_resolve.specs.FirstFault.{◌>>=◌, least_of, refused, IsFirst, AllEmpty}
-use Rattle.jc_classes.specs.declared.layout.Layout.{Layout}
+use Rattle.jc_classes.specs.declared.layout.ClassLayout.{ClassLayout}
 use Rattle.jc_classes.specs.Layout.{layout_of}
 use Rattle.jc_classes.specs.Conditions.{hole_fault, entries_in, override_fault, replacements_in, interface_fault, implementations_in, long_fault, class_numbers, conditions}
 
@@ -21,7 +21,7 @@ abbrev pub methods_listed : List (Option ℕ) → List ℕ
 methods_listed entries = filter_map (λ entry. entry) entries
 
 -- a class with these lists and cells
-unfoldable pub record_from : NamedClass → Layout → ClassRec
+unfoldable pub record_from : NamedClass → ClassLayout → ClassRec
 record_from k l = record {
   «package» = k.«package»;
   interface = k.interface;
@@ -67,4 +67,6 @@ TellsEnd t classes methods (Err Memory) = Unit {0}
 
 -- in a world of so many packages, in which everything is a number, the table is what a world needs of its classes
 abbrev pub Links : ClassTable → List NamedClass → List MethodRec → ClassTable → Type 0
-Links t classes methods table = (packages : ℕ) → All (IsNamedClass packages (length methods) classes (object t)) classes → AreLinkedClasses packages table methods
+Links t classes methods table = (packages : ℕ)
+    → All (IsNamedClass packages (length methods) classes (object t)) classes
+    → AreLinkedClasses packages table methods

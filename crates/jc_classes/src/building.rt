@@ -1,7 +1,7 @@
 ghost use Rattle.std.specs.Prelude.{◌≡◌, ◌≤◌, IfOk, Some, length};
 ghost use Rattle.jc_classes.specs.Tables.{methods_listed, record_from};
 
-use crate::layout::{Entries, Layout};
+use crate::layout::{ClassLayout, Entries};
 use jc_base::{ClassRec, Dispatch, Iface, Ifaces, Items};
 use jc_resolve::NamedClass;
 use std::alloc::{AllocError, Global};
@@ -45,7 +45,7 @@ fn copied_interfaces(alloc: Global, interfaces: &Ifaces) -> Result<Ifaces, Alloc
 pub(crate) fn record_from(
     alloc: Global,
     class: &NamedClass,
-    layout: &Layout,
+    layout: &ClassLayout,
 ) -> Result<ClassRec, AllocError>
     requires short { layout.now.cells ≤ 32767 }
     ensures { IfOk result (λ r. r ≡ record_from class.now layout.now) }

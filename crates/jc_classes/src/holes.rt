@@ -10,7 +10,7 @@ ghost use Rattle.jc_classes.specs.Signatures.{method_in};
 ghost use Rattle.jc_classes.specs.Slots.{IsShort};
 ghost use Rattle.jc_classes.specs.Conditions.{may_stand, entries_from, entries_in, hole_fault, class_numbers};
 
-use crate::layout::Layout;
+use crate::layout::ClassLayout;
 use crate::signatures::method_in;
 use crate::slots::parent;
 use jc_base::{Classes, MethodRec, Methods};
@@ -137,7 +137,7 @@ impl<'a> Line<'a> {
 fn holes_of(
     lineage: &Classes,
     methods: &Methods,
-    layout: &Layout,
+    layout: &ClassLayout,
     c: u16,
     marks: &mut [bool],
     least: Option<LinkFault>,
@@ -173,7 +173,7 @@ pub(crate) fn no_holes(
     lineage: &Classes,
     classes: &NamedClasses,
     methods: &Methods,
-    all: &[Layout],
+    all: &[ClassLayout],
     marks: &mut [bool],
 ) -> Result<(), LinkFault>
     requires known { AreKnown lineage.now classes.now }

@@ -6,7 +6,7 @@ ghost use Rattle.jc_classes.specs.Known.{AreKnown};
 ghost use Rattle.jc_classes.specs.Layout.{layouts};
 ghost use Rattle.jc_classes.specs.Conditions.{long_fault, class_numbers};
 
-use crate::layout::Layout;
+use crate::layout::ClassLayout;
 use jc_base::Classes;
 use jc_resolve::{LinkFault, NamedClasses, lesser, refuse};
 
@@ -26,7 +26,7 @@ fn long_fault(c: u16, cells: u32) -> Option<LinkFault>
 pub(crate) fn instances_fit(
     lineage: &Classes,
     classes: &NamedClasses,
-    all: &[Layout],
+    all: &[ClassLayout],
 ) -> Result<(), LinkFault>
     requires known { AreKnown lineage.now classes.now }
     requires layouts { all.now ≡ layouts lineage.now classes.now }

@@ -9,7 +9,7 @@ ghost use Rattle.jc_classes.specs.Conditions.{Implementation, serves, interface_
 ghost use Rattle.jc_classes.specs.Groups.{AreGroups};
 
 use crate::groups::Group;
-use crate::layout::Layout;
+use crate::layout::ClassLayout;
 use crate::overlay::entry_at;
 use crate::signatures::{method_in, same_sig};
 use jc_base::{Classes, Iface, MethodRec, Methods};
@@ -126,7 +126,7 @@ pub(crate) fn interfaces_served(
     lineage: &Classes,
     classes: &NamedClasses,
     methods: &Methods,
-    all: &[Layout],
+    all: &[ClassLayout],
     groups: &[Group<'_>],
 ) -> Result<(), LinkFault>
     requires known { AreKnown lineage.now classes.now }

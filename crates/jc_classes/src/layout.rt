@@ -5,7 +5,7 @@ pub type Entries = Items<Option<u16>>;
 
 /// The dispatch lists of a class, and the number of cells of an instance.
 #[derive(Drop)]
-pub struct Layout {
+pub struct ClassLayout {
     pub public: Entries,
     pub visible: Entries,
     pub cells: u32,

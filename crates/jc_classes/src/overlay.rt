@@ -6,12 +6,12 @@ ghost use Rattle.jc_classes.specs.Entries.{reach, named_by, overlaid_at, overlai
 
 use crate::layout::Entries;
 use jc_base::Items;
-use jc_resolve::Table;
+use jc_resolve::DispatchTable;
 use std::alloc::{AllocError, Global};
 
 /// The token after the last entry of a table, and 0 where it has none.
 #[tactic(auto, unfolding(crate::specs::Entries::reach))]
-fn reach(table: &Table) -> usize
+fn reach(table: &DispatchTable) -> usize
     requires few { length table.now.entries ≤ 255 }
     ensures { result ≡ reach table.now }
 {
@@ -24,7 +24,7 @@ fn reach(table: &Table) -> usize
 
 /// The method that a table names for a token.
 #[tactic(auto, unfolding(crate::specs::Entries::named_by))]
-fn named_by(table: &Table, token: usize) -> Option<u16>
+fn named_by(table: &DispatchTable, token: usize) -> Option<u16>
     ensures { result ≡ named_by table.now token }
 {
     let base = table.base as usize;
@@ -47,7 +47,7 @@ pub(crate) fn entry_at(list: &[Option<u16>], token: usize) -> Option<u16>
 }
 
 #[tactic(auto, unfolding(crate::specs::Entries::overlaid_at))]
-fn overlaid_at(table: &Table, inherited: &[Option<u16>], token: usize) -> Option<u16>
+fn overlaid_at(table: &DispatchTable, inherited: &[Option<u16>], token: usize) -> Option<u16>
     ensures { result ≡ overlaid_at table.now inherited.now token }
 {
     match named_by(table, token) {
@@ -60,7 +60,7 @@ fn overlaid_at(table: &Table, inherited: &[Option<u16>], token: usize) -> Option
 #[tactic(auto, using(crate::proofs::Ranges::ranges))]
 pub(crate) fn overlay(
     alloc: Global,
-    table: &Table,
+    table: &DispatchTable,
     inherited: &[Option<u16>],
 ) -> Result<Entries, AllocError>
     requires few { IsByteTable table.now }

@@ -6,7 +6,7 @@ ghost use Rattle.jc_classes.specs.Known.{AreKnown};
 ghost use Rattle.jc_classes.specs.Layout.{layout_of, layouts};
 ghost use Rattle.jc_classes.specs.Conditions.{Replacement, override_fault, replacements_from, replacements_in, class_numbers};
 
-use crate::layout::Layout;
+use crate::layout::ClassLayout;
 use crate::signatures::same_signature;
 use crate::slots::{at_home, parent, public_above, visible_above};
 use jc_base::{Classes, Methods};
@@ -59,9 +59,9 @@ fn overrides_in(
 fn layout_above<'a>(
     lineage: &Classes,
     classes: &NamedClasses,
-    all: &'a [Layout],
+    all: &'a [ClassLayout],
     c: u16,
-) -> Option<&'a Layout>
+) -> Option<&'a ClassLayout>
     requires known { AreKnown lineage.now classes.now }
     requires layouts { all.now ≡ layouts lineage.now classes.now }
     requires class { c < length classes.now }
@@ -79,7 +79,7 @@ fn overrides_of(
     lineage: &Classes,
     classes: &NamedClasses,
     methods: &Methods,
-    all: &[Layout],
+    all: &[ClassLayout],
     c: u16,
     least: Option<LinkFault>,
 ) -> Option<LinkFault>
@@ -103,7 +103,7 @@ pub(crate) fn overrides_agree(
     lineage: &Classes,
     classes: &NamedClasses,
     methods: &Methods,
-    all: &[Layout],
+    all: &[ClassLayout],
 ) -> Result<(), LinkFault>
     requires known { AreKnown lineage.now classes.now }
     requires layouts { all.now ≡ layouts lineage.now classes.now }

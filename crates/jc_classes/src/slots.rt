@@ -7,7 +7,7 @@ ghost use Rattle.jc_classes.specs.Known.{AreKnown};
 ghost use Rattle.jc_classes.specs.Layout.{layout_of, layouts, layout_from, above_or_nothing, at_home};
 ghost use Rattle.jc_classes.specs.Slots.{IsFilled, AreSlots, IsMade, IsClimb, slot_at};
 
-use crate::layout::Layout;
+use crate::layout::ClassLayout;
 use crate::overlay::overlay;
 use jc_base::Classes;
 use jc_resolve::{NamedClass, NamedClasses};
@@ -36,7 +36,7 @@ pub(crate) fn parent(lineage: &Classes, c: u16) -> Option<u16>
 
 /// The layout in the slot of a class.
 #[tactic(auto, unfolding(crate::specs::Slots::slot_at))]
-fn slot_at(slots: &Vec<Option<Layout>>, c: u16) -> Option<&Layout>
+fn slot_at(slots: &Vec<Option<ClassLayout>>, c: u16) -> Option<&ClassLayout>
     ensures { option_map (λ l. l.now) result ≡ slot_at slots.now.items c }
 {
     let c = c as usize;
@@ -51,7 +51,7 @@ fn slot_at(slots: &Vec<Option<Layout>>, c: u16) -> Option<&Layout>
 fn climb_from(
     alloc: Global,
     lineage: &Classes,
-    slots: &Vec<Option<Layout>>,
+    slots: &Vec<Option<ClassLayout>>,
     c: u16,
 ) -> Result<UnmadeClasses, AllocError>
     requires known { c < length lineage.now.records }
@@ -90,7 +90,7 @@ fn package_of(lineage: &Classes, c: u16) -> u16
     lineage.at(c).package
 }
 
-pub(crate) fn public_above<'a>(up: Option<&'a Layout>) -> &'a [Option<u16>]
+pub(crate) fn public_above<'a>(up: Option<&'a ClassLayout>) -> &'a [Option<u16>]
     ensures { result.now ≡ (above_or_nothing (option_map (λ l. l.now) up.entry)).public }
 {
     match up {
@@ -99,7 +99,7 @@ pub(crate) fn public_above<'a>(up: Option<&'a Layout>) -> &'a [Option<u16>]
     }
 }
 
-pub(crate) fn visible_above<'a>(up: Option<&'a Layout>, home: bool) -> &'a [Option<u16>]
+pub(crate) fn visible_above<'a>(up: Option<&'a ClassLayout>, home: bool) -> &'a [Option<u16>]
     ensures { result.now ≡ (if home then (above_or_nothing (option_map (λ l. l.now) up.entry)).visible else []) }
 {
     match up {
@@ -108,7 +108,7 @@ pub(crate) fn visible_above<'a>(up: Option<&'a Layout>, home: bool) -> &'a [Opti
     }
 }
 
-fn cells_above(up: Option<&Layout>) -> u32
+fn cells_above(up: Option<&ClassLayout>) -> u32
     ensures { result ≡ (above_or_nothing (option_map (λ l. l.now) up.entry)).cells }
 {
     match up {
@@ -122,14 +122,14 @@ fn cells_above(up: Option<&Layout>) -> u32
 fn layout_from(
     alloc: Global,
     class: &NamedClass,
-    up: Option<&Layout>,
+    up: Option<&ClassLayout>,
     home: bool,
-) -> Result<Layout, AllocError>
+) -> Result<ClassLayout, AllocError>
     requires sized { IsSized class.now }
     requires few { (above_or_nothing (option_map (λ l. l.now) up)).cells ≤ 536993790 }
     ensures { IfOk result (λ l. l ≡ layout_from class.now (above_or_nothing (option_map (λ l. l.now) up.entry)) home) }
 {
-    Ok(Layout {
+    Ok(ClassLayout {
         public: overlay(alloc, &class.public, public_above(up))?,
         visible: overlay(alloc, &class.visible, visible_above(up, home))?,
         cells: class.own.len() as u32 + cells_above(up),
@@ -137,7 +137,10 @@ fn layout_from(
 }
 
 /// The layout of the superclass, where there is one.
-fn slot_above<'a>(slots: &'a Vec<Option<Layout>>, above: Option<u16>) -> Option<&'a Layout>
+fn slot_above<'a>(
+    slots: &'a Vec<Option<ClassLayout>>,
+    above: Option<u16>,
+) -> Option<&'a ClassLayout>
     ensures { option_map (λ l. l.now) result ≡ option_and_then (slot_at slots.now.items) above }
 {
     match above {
@@ -152,7 +155,7 @@ fn make(
     alloc: Global,
     lineage: &Classes,
     classes: &NamedClasses,
-    slots: &mut Vec<Option<Layout>>,
+    slots: &mut Vec<Option<ClassLayout>>,
     above: Option<u16>,
     c: u16,
 ) -> Result<(), AllocError>
@@ -177,7 +180,7 @@ fn fill(
     alloc: Global,
     lineage: &Classes,
     classes: &NamedClasses,
-    slots: &mut Vec<Option<Layout>>,
+    slots: &mut Vec<Option<ClassLayout>>,
     c: u16,
 ) -> Result<(), AllocError>
     requires known { AreKnown lineage.now classes.now }
@@ -197,7 +200,7 @@ fn fill(
 }
 
 /// An empty slot for each class.
-fn empty_slots(alloc: Global, n: usize) -> Result<Vec<Option<Layout>>, AllocError>
+fn empty_slots(alloc: Global, n: usize) -> Result<Vec<Option<ClassLayout>>, AllocError>
     ensures { IfOk result (λ slots. slots.items ≡ replicate n None) }
 {
     let mut slots = Vec::with_capacity(alloc, n)?;
@@ -209,7 +212,10 @@ fn empty_slots(alloc: Global, n: usize) -> Result<Vec<Option<Layout>>, AllocErro
 
 /// The layouts in slots that are all filled.
 #[tactic(auto, using(crate::proofs::Fills::slots_read))]
-fn layouts_of(alloc: Global, slots: Vec<Option<Layout>>) -> Result<Vec<Layout>, AllocError>
+fn layouts_of(
+    alloc: Global,
+    slots: Vec<Option<ClassLayout>>,
+) -> Result<Vec<ClassLayout>, AllocError>
     ensures { IfOk result (λ layouts. layouts.items ≡ filter_map (λ slot. slot) slots.items) }
 {
     let mut layouts = Vec::with_capacity(alloc, slots.len())?;
@@ -227,7 +233,7 @@ pub(crate) fn layouts(
     alloc: Global,
     lineage: &Classes,
     classes: &NamedClasses,
-) -> Result<Vec<Layout>, AllocError>
+) -> Result<Vec<ClassLayout>, AllocError>
     requires known { AreKnown lineage.now classes.now }
     ensures { IfOk result (λ all. all.items ≡ layouts lineage.now classes.now) }
 {

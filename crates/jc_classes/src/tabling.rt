@@ -14,7 +14,7 @@ use crate::groups::{Group, groups};
 use crate::holes::no_holes;
 use crate::instances::instances_fit;
 use crate::interfaces::interfaces_served;
-use crate::layout::Layout;
+use crate::layout::ClassLayout;
 use crate::overrides::overrides_agree;
 use crate::slots::layouts;
 use jc_base::{Classes, Items, Methods};
@@ -27,7 +27,7 @@ fn agree(
     lineage: &Classes,
     classes: &NamedClasses,
     methods: &Methods,
-    all: &[Layout],
+    all: &[ClassLayout],
     groups: &[Group<'_>],
     marks: &mut [bool],
 ) -> Result<(), LinkFault>
@@ -51,7 +51,7 @@ fn build(
     alloc: Global,
     lineage: &Classes,
     classes: &NamedClasses,
-    all: &[Layout],
+    all: &[ClassLayout],
 ) -> Result<Classes, AllocError>
     requires outline { lineage.now ≡ outline classes.now lineage.now.roles }
     requires layouts { all.now ≡ layouts lineage.now classes.now }

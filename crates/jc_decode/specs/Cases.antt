@@ -104,7 +104,8 @@ abbrev pub leading : ℤ → Case → Case
 leading offset c = record c { offset = offset }
 
 -- a stableswitch from -1 to 0
-table : cases (115 ∷ 0 ∷ 5 ∷ 255 ∷ 255 ∷ 0 ∷ 0 ∷ 0 ∷ 16 ∷ 255 ∷ 254 ∷ []) 0 (record { op = 115; x = pos 5; y = negsuc 0; z = pos 0; len = 11 })
+table : cases (115 ∷ 0 ∷ 5 ∷ 255 ∷ 255 ∷ 0 ∷ 0 ∷ 0 ∷ 16 ∷ 255 ∷ 254 ∷ []) 0
+    (record { op = 115; x = pos 5; y = negsuc 0; z = pos 0; len = 11 })
     ≡ record { key = negsuc 0; offset = pos 16 } ∷ record { key = pos 0; offset = negsuc 1 } ∷ []
 unfolding cases layout_of opcode
 table = refl

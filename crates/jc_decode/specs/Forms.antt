@@ -82,12 +82,15 @@ abbrev pub plain_length : Insn → ℕ
 plain_length i = if is_register_move i.op then 2 else if is_branch i.op then 3 else length_of i
 
 -- sload 3 and sload_3; astore_2; a goto of one byte
-third : short_form (record { op = 22; x = pos 3; y = pos 0; z = pos 0; len = 2 }) ≡ record { op = 31; x = pos 0; y = pos 0; z = pos 0; len = 2 }
+third : short_form (record { op = 22; x = pos 3; y = pos 0; z = pos 0; len = 2 })
+    ≡ record { op = 31; x = pos 0; y = pos 0; z = pos 0; len = 2 }
 third = refl
 
-store_two : with_operand (record { op = 45; x = pos 0; y = pos 0; z = pos 0; len = 1 }) ≡ record { op = 40; x = pos 2; y = pos 0; z = pos 0; len = 1 }
+store_two : with_operand (record { op = 45; x = pos 0; y = pos 0; z = pos 0; len = 1 })
+    ≡ record { op = 40; x = pos 2; y = pos 0; z = pos 0; len = 1 }
 store_two = refl
 
-goto : essence (record { op = 112; x = pos 5; y = pos 0; z = pos 0; len = 2 }) ≡ record { op = 168; x = pos 0; y = pos 0; z = pos 0; len = 0 }
+goto : essence (record { op = 112; x = pos 5; y = pos 0; z = pos 0; len = 2 })
+    ≡ record { op = 168; x = pos 0; y = pos 0; z = pos 0; len = 0 }
 unfolding layout_of opcode
 goto = refl

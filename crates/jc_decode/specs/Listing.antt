@@ -69,11 +69,15 @@ abbrev plain : ℕ → ℕ → Placed
 plain place op = record { place = place; insn = record { op = op; x = pos 0; y = pos 0; z = pos 0; len = 1 } }
 
 -- nop, sspush 258, return, and what is no instruction
-short : listing (0 ∷ 17 ∷ 1 ∷ 2 ∷ 122 ∷ 185 ∷ []) ≡ plain 0 0 ∷ record { place = 1; insn = record { op = 17; x = pos 258; y = pos 0; z = pos 0; len = 3 } } ∷ plain 4 122 ∷ []
+short : listing (0 ∷ 17 ∷ 1 ∷ 2 ∷ 122 ∷ 185 ∷ []) ≡ plain 0 0
+    ∷ record { place = 1; insn = record { op = 17; x = pos 258; y = pos 0; z = pos 0; len = 3 } }
+    ∷ plain 4 122 ∷ []
 unfolding listing listing_from at_most decoded layout_of opcode
 short = refl
 
 -- a goto that leads before the code
-back : targets (112 ∷ 255 ∷ []) (record { place = 0; insn = record { op = 112; x = negsuc 0; y = pos 0; z = pos 0; len = 2 } }) ≡ negsuc 0 ∷ []
+back : targets (112 ∷ 255 ∷ [])
+    (record { place = 0; insn = record { op = 112; x = negsuc 0; y = pos 0; z = pos 0; len = 2 } })
+    ≡ negsuc 0 ∷ []
 unfolding targets cases layout_of opcode
 back = refl

@@ -42,7 +42,8 @@ pool_index i =
     else None
 
 -- getstatic_a 258; checkcast to class 7 and to an array of bytes
-static_field : pool_index (record { op = 123; x = pos 258; y = pos 0; z = pos 0; len = 3 }) ≡ Some (record { at = 1; width = Two; entry = 258 })
+static_field : pool_index (record { op = 123; x = pos 258; y = pos 0; z = pos 0; len = 3 })
+    ≡ Some (record { at = 1; width = Two; entry = 258 })
 static_field = refl
 
 to_class : pool_index (record { op = 148; x = pos 0; y = pos 7; z = pos 0; len = 4 }) ≡ Some (record { at = 2; width = Two; entry = 7 })

@@ -10,7 +10,7 @@ ghost use Rattle.jc_flow.specs.Visit.{analysed, world_of, IsAnalysis, Raised, Ha
 
 use crate::end::FlowEnd;
 use crate::scratch::Scratch;
-use crate::table::{PutEnd, Table};
+use crate::table::{PutEnd, StateTable};
 use cap_bytes::View;
 use jc_base::{MethodRec, Ty, World};
 use jc_control::ControlFlow;
@@ -34,7 +34,7 @@ impl Analysis<'_> {
     pub fn raise(
         &self,
         alloc: Global,
-        table: &mut Table,
+        table: &mut StateTable,
         to: u16,
         regs: &[Ty],
         stack: &[Ty],

@@ -9,7 +9,7 @@ ghost use Rattle.jc_flow.specs.Visit.{analysed, world_of, IsAnalysis, IsStep, Go
 use crate::analysis::Analysis;
 use crate::end::FlowEnd;
 use crate::scratch::Scratch;
-use crate::table::{PutEnd, Table};
+use crate::table::{PutEnd, StateTable};
 use jc_base::{Handler, Ty};
 use jc_control::{Targets, covers, place_of};
 use jc_decode::{Insn, Placed};
@@ -40,7 +40,7 @@ impl Analysis<'_> {
     fn raise_handler(
         &self,
         alloc: Global,
-        table: &mut Table,
+        table: &mut StateTable,
         step: Step<'_>,
         handler: Handler,
     ) -> Result<(), FlowEnd>
@@ -69,7 +69,7 @@ impl Analysis<'_> {
     pub fn raise_next(
         &self,
         alloc: Global,
-        table: &mut Table,
+        table: &mut StateTable,
         step: Step<'_>,
     ) -> Result<(), FlowEnd>
         requires analysis { IsAnalysis self.now }
@@ -96,7 +96,7 @@ impl Analysis<'_> {
     fn raise_target(
         &self,
         alloc: Global,
-        table: &mut Table,
+        table: &mut StateTable,
         step: Step<'_>,
         target: i32,
     ) -> Result<(), FlowEnd>
@@ -119,7 +119,7 @@ impl Analysis<'_> {
     pub fn raise_handlers(
         &self,
         alloc: Global,
-        table: &mut Table,
+        table: &mut StateTable,
         step: Step<'_>,
     ) -> Result<(), FlowEnd>
         requires analysis { IsAnalysis self.now }
@@ -144,7 +144,7 @@ impl Analysis<'_> {
     pub fn raise_targets(
         &self,
         alloc: Global,
-        table: &mut Table,
+        table: &mut StateTable,
         step: Step<'_>,
     ) -> Result<(), FlowEnd>
         requires analysis { IsAnalysis self.now }

@@ -12,7 +12,7 @@ use crate::analysis::Analysis;
 use crate::edges::broken;
 use crate::end::FlowEnd;
 use crate::scratch::Scratch;
-use crate::table::Table;
+use crate::table::StateTable;
 use cap_bytes::View;
 use jc_base::{MethodRec, Ty, World};
 use jc_control::{ControlEnd, Flaw, control_flow};
@@ -97,7 +97,7 @@ fn start_regs(alloc: Global, rec: &MethodRec) -> Result<Vec<Ty>, AllocError>
 
 impl Analysis<'_> {
     /// Puts the frame of the method's start at place 0 of an empty table.
-    fn begin(&self, alloc: Global, table: &mut Table) -> Result<(), FlowEnd>
+    fn begin(&self, alloc: Global, table: &mut StateTable) -> Result<(), FlowEnd>
         requires analysis { IsAnalysis self.now }
         requires empty { table.old
             ≡ record
@@ -120,7 +120,7 @@ impl Analysis<'_> {
     }
 
     /// The table once no place waits.
-    fn settled(&self, alloc: Global) -> Result<Table, FlowEnd>
+    fn settled(&self, alloc: Global) -> Result<StateTable, FlowEnd>
         requires { IsAnalysis self.now }
         ensures typing { IfOk result (λ t. IsLeastTyping (world_of self.now) (analysed self.now) Top (state_at t.states)) }
         ensures reached { IfOk result (λ t. AreReached (analysed self.now) t.states) }
@@ -130,7 +130,7 @@ impl Analysis<'_> {
         ensures failed { IfErr result (IsFailure (world_of self.now) (analysed self.now)) }
     {
         let registers = self.rec.nargs + self.rec.max_locals;
-        let mut table = Table::new(alloc, self.code.bytes.len())?;
+        let mut table = StateTable::new(alloc, self.code.bytes.len())?;
         let mut before = Scratch::new(alloc, registers, self.rec.max_stack)?;
         let mut after = Scratch::new(alloc, registers, self.rec.max_stack)?;
         self.begin(alloc, &mut table)?;

@@ -28,7 +28,10 @@ impl Model for Scratch {
     ghost use Rattle.jc_rules.specs.Stack.{cells};
     ghost use Rattle.jc_flow.specs.Scratch.{HasDepth};
 
-    ghost view = { λ s. record { frame = record { regs = s.regs.items; stack = cells s.stack.items s.depth }; room = length s.stack.items } };
+    ghost view = { λ s. record {
+      frame = record { regs = s.regs.items; stack = cells s.stack.items s.depth };
+      room = length s.stack.items;
+    } };
 
     ghost invariant = { λ s. HasDepth (length s.stack.items) s.depth };
 }

@@ -12,14 +12,14 @@ use std::marker::Model;
 
 /// The state that is found for each place of a method's code, and which places wait.
 #[derive(Drop)]
-pub struct Table {
+pub struct StateTable {
     states: Vec<Option<State>>,
     pending: Vec<bool>,
     /// No place before this one waits.
     low: usize,
 }
 
-impl Model for Table {
+impl Model for StateTable {
     ghost use Rattle.jc_flow.specs.Found.{Found};
 
     ghost Value = { Found };
@@ -50,9 +50,9 @@ impl From<AllocError> for PutEnd {
     }
 }
 
-impl Table {
+impl StateTable {
     /// The empty table of so many places.
-    pub fn new(alloc: Global, places: usize) -> Result<Table, AllocError>
+    pub fn new(alloc: Global, places: usize) -> Result<StateTable, AllocError>
         requires { places ≤ 65535 }
         ensures { IfOk result (λ t. t ≡ record { states = replicate places None; pending = replicate places false }) }
     {
@@ -60,7 +60,7 @@ impl Table {
         for _ in 0..places {
             states.push(None)?;
         }
-        Ok(Table {
+        Ok(StateTable {
             states,
             pending: vec![in alloc; false; places]?,
             low: 0,

@@ -13,7 +13,7 @@ use crate::analysis::Analysis;
 use crate::edges::Step;
 use crate::end::FlowEnd;
 use crate::scratch::Scratch;
-use crate::table::Table;
+use crate::table::StateTable;
 use std::alloc::Global;
 
 impl Analysis<'_> {
@@ -21,7 +21,7 @@ impl Analysis<'_> {
     pub fn visit(
         &self,
         alloc: Global,
-        table: &mut Table,
+        table: &mut StateTable,
         place: u16,
         before: &mut Scratch,
         after: &mut Scratch,
@@ -59,7 +59,7 @@ impl Analysis<'_> {
     pub fn settle(
         &self,
         alloc: Global,
-        table: &mut Table,
+        table: &mut StateTable,
         before: &mut Scratch,
         after: &mut Scratch,
     ) -> Result<(), FlowEnd>

@@ -47,7 +47,8 @@ role_fault cs first throwable (k, c) = if fits_role cs first throwable k c then 
 -- ---- object has no superclass, and every other class has one
 
 unfoldable pub root_fault : ℕ → ℕ × NamedClass → Option LinkFault
-root_fault object (c, r) = if not r.interface && (if c == object then is_some r.parent else is_none r.parent) then Some (NoSuper c) else None
+root_fault object (c, r) = if not r.interface && (if c == object then is_some r.parent else is_none r.parent)
+    then Some (NoSuper c) else None
 
 -- ---- what a class implements and an interface extends are interfaces
 

@@ -22,4 +22,5 @@ mark_all = fold mark
 
 -- whether all that a record names directly above it is settled, where it is told of each number whether that is
 abbrev pub rests_on : List Bool → NamedClass → Bool
-rests_on settled r = if r.interface then list_all (λ i. slice_index_or settled i.class false) r.interfaces else list_all (λ p. slice_index_or settled p false) (option_to_list r.parent)
+rests_on settled r = if r.interface then list_all (λ i. slice_index_or settled i.class false) r.interfaces
+    else list_all (λ p. slice_index_or settled p false) (option_to_list r.parent)

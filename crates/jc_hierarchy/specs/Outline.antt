@@ -6,7 +6,16 @@ use Rattle.jc_resolve.specs.declared.named.NamedClass.{NamedClass}
 
 -- a class or an interface, without cells, interfaces and dispatch lists
 abbrev pub outlined : NamedClass → ClassRec
-outlined r = record { «package» = r.«package»; interface = r.interface; parent = r.parent; cells = 0; own = []; implements = []; public = []; visible = [] }
+outlined r = record {
+  «package» = r.«package»;
+  interface = r.interface;
+  parent = r.parent;
+  cells = 0;
+  own = [];
+  implements = [];
+  public = [];
+  visible = [];
+}
 
 abbrev pub outline : List NamedClass → List ℕ → ClassTable
 outline cs roles = record { records = map outlined cs; roles = roles }

@@ -14,7 +14,7 @@ use Rattle.jc_base.specs.declared.record.StaticRec.{StaticRec}
 use Rattle.jc_base.specs.Class.{ClassTable}
 use Rattle.jc_base.specs.Dispatch.{public_of, visible_of, entry_at}
 use Rattle.jc_base.specs.Linked.{IsMember}
-use Rattle.jc_resolve.specs.declared.place.Place.{Place}
+use Rattle.jc_resolve.specs.declared.place.RecordPlace.{RecordPlace}
 use Rattle.jc_resolve.specs.Counts.{class_total}
 use Rattle.jc_resolve.proofs.Totals.{classes_total}
 use Rattle.jc_resolve.specs.Numbering.{numbered_classes, numbered_methods, class_at, method_at, is_at, method_places}
@@ -26,7 +26,7 @@ use Rattle.jc_members.specs.Members.{static_site, static_sites, static_at}
 
 -- ---- classes and methods
 
-below_by : (ps : List PackageRecord) (o : Option Place) → IfSome (option_and_then (class_at ps) o) (λ c. c < length (numbered_classes ps))
+below_by : (ps : List PackageRecord) (o : Option RecordPlace) → IfSome (option_and_then (class_at ps) o) (λ c. c < length (numbered_classes ps))
 below_by ps None = tt
 below_by ps (Some place) = class_below ps place (class_at ps place) refl
 
@@ -34,7 +34,7 @@ pub class-below : (ps : List PackageRecord) (k reference : ℕ) → IfSome (clas
 unfolding class_named
 class-below ps k reference = below_by ps (place_named ps k reference)
 
-pub method_there : (ps : List PackageRecord) (place : Place) (o : Option ℕ) → o ≡ method_at ps place → IfSome o (λ n. n < length (numbered_methods ps))
+pub method_there : (ps : List PackageRecord) (place : RecordPlace) (o : Option ℕ) → o ≡ method_at ps place → IfSome o (λ n. n < length (numbered_methods ps))
 unfolding method_at
 method_there ps place None e = tt
 method_there ps place (Some n) e = subst (λ len. n < len) (length-map (numbered_methods ps) _) (position_below (is_at place) (method_places ps) n (sym e))
@@ -111,7 +111,7 @@ is-member : (t : ClassTable) (methods : List MethodRec) (statics : List StaticRe
 unfolding IsSite
 is-member t methods statics m (f, (k, lt, at), e) = subst (IsMember t methods statics) e (k, f, lt, at, record { slot = refl; kind = refl; ty = refl })
 
-pub static_there : (t : ClassTable) (methods : List MethodRec) (statics : List StaticRec) (place : Place) → IfSome (static_at statics place) (IsMember t methods statics)
+pub static_there : (t : ClassTable) (methods : List MethodRec) (statics : List StaticRec) (place : RecordPlace) → IfSome (static_at statics place) (IsMember t methods statics)
 unfolding static_at
 static_there t methods statics place =
     only-has (IsMember t methods statics) (standing (static_sites statics) (record { owner = place.package; number = place.offset })) (λ m h. is-member t methods statics m (standing-sites statics _ m h))

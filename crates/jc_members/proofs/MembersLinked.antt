@@ -11,7 +11,7 @@ use Rattle.jc_base.specs.declared.record.StaticRec.{StaticRec}
 use Rattle.jc_base.specs.Class.{ClassTable, AreClasses, IsClass, is_interface, parent_of}
 use Rattle.jc_base.specs.Dispatch.{entry_at, public_of, visible_of}
 use Rattle.jc_base.specs.Linked.{AreLinkedClasses, IsMember}
-use Rattle.jc_resolve.specs.declared.place.Place.{Place}
+use Rattle.jc_resolve.specs.declared.place.RecordPlace.{RecordPlace}
 use Rattle.jc_resolve.specs.Numbering.{numbered_methods, method_at}
 use Rattle.jc_resolve.specs.References.{class_named}
 use Rattle.jc_resolve.specs.declared.named.NamedClass.{NamedClass}
@@ -99,7 +99,7 @@ module _ (ps : List PackageRecord) (object packages : ℕ) (t : ClassTable) (met
   unfolding static_member
   static_linked k e = if_any (IsMember t methods statics) (static_at statics) (field_place ps k e) (λ place. static_there t methods statics place)
 
-  method_known : (place : Place) → IfSome (method_at ps place) (λ n. n < length methods)
+  method_known : (place : RecordPlace) → IfSome (method_at ps place) (λ n. n < length methods)
   method_known place = subst (λ len. IfSome (method_at ps place) (λ n. n < len)) (sym many) (method_there ps place (method_at ps place) refl)
 
   call_linked : (k : ℕ) (e : Entry) → IfSome (call_member ps k e) (IsMember t methods statics)

@@ -9,7 +9,7 @@ use Rattle.jc_base.specs.declared.record.Member.TheVariants.{ClassOf, Virtual, S
 use Rattle.jc_base.specs.declared.record.StaticRec.{StaticRec}
 use Rattle.jc_base.specs.Class.{ClassTable, is_interface, parent_of}
 use Rattle.jc_base.specs.Dispatch.{entry_at, package_of}
-use Rattle.jc_resolve.specs.declared.place.Place.{Place}
+use Rattle.jc_resolve.specs.declared.place.RecordPlace.{RecordPlace}
 use Rattle.jc_resolve.specs.NamedMethods.{reference_in}
 use Rattle.jc_resolve.specs.Numbering.{method_at}
 use Rattle.jc_resolve.specs.References.{met_by, class_named, Refers}
@@ -65,8 +65,8 @@ right-true false b h = h
 module _ (ps : List PackageRecord) (k : ℕ) (e : Entry) where
   -- ---- places
 
-  module _ (exported : ℕ → ℕ → ℕ → Option ℕ) (place : Place) where
-    abbrev placed : Bool → Option Place
+  module _ (exported : ℕ → ℕ → ℕ → Option ℕ) (place : RecordPlace) where
+    abbrev placed : Bool → Option RecordPlace
     placed b = cond b (Some (own_place k e)) (exported_place ps exported k e)
 
     place_by : (b : Bool) → ltb (slice_index e.bytes 0) 128 ≡ b → placed b ≡ Some place → StandsAt ps exported k e place
@@ -87,19 +87,19 @@ module _ (ps : List PackageRecord) (k : ℕ) (e : Entry) where
         ∙ ap (λ o. option_map (λ n. record { «package» = j; offset = n }) o) out
         ∙ ap Some (sym same)
 
-  field_place-from : (place : Place) → field_place ps k e ≡ Some place → StandsAt ps (exported_field ps) k e place
+  field_place-from : (place : RecordPlace) → field_place ps k e ≡ Some place → StandsAt ps (exported_field ps) k e place
   unfolding field_place
   field_place-from place h = place-from (exported_field ps) place h
 
-  field_place-to : (place : Place) → StandsAt ps (exported_field ps) k e place → field_place ps k e ≡ Some place
+  field_place-to : (place : RecordPlace) → StandsAt ps (exported_field ps) k e place → field_place ps k e ≡ Some place
   unfolding field_place
   field_place-to place h = place-to (exported_field ps) place h
 
-  method_place-from : (place : Place) → method_place ps k e ≡ Some place → StandsAt ps (exported_method ps) k e place
+  method_place-from : (place : RecordPlace) → method_place ps k e ≡ Some place → StandsAt ps (exported_method ps) k e place
   unfolding method_place
   method_place-from place h = place-from (exported_method ps) place h
 
-  method_place-to : (place : Place) → StandsAt ps (exported_method ps) k e place → method_place ps k e ≡ Some place
+  method_place-to : (place : RecordPlace) → StandsAt ps (exported_method ps) k e place → method_place ps k e ≡ Some place
   unfolding method_place
   method_place-to place h = place-to (exported_method ps) place h
 

@@ -4,7 +4,7 @@ use Rattle.cap_pool.specs.PoolFormat.{Entry}
 use Rattle.cap_pool.specs.Export.{field_in, method_in}
 use Rattle.cap_package.specs.Agreement.{or_none}
 use Rattle.cap_package.specs.PackageRecord.{PackageRecord}
-use Rattle.jc_resolve.specs.declared.place.Place.{Place}
+use Rattle.jc_resolve.specs.declared.place.RecordPlace.{RecordPlace}
 use Rattle.jc_resolve.specs.NamedMethods.{reference_in}
 use Rattle.jc_resolve.specs.References.{class_named, met_by}
 
@@ -27,18 +27,20 @@ abbrev pub exported_method : List PackageRecord → ℕ → ℕ → ℕ → Opti
 exported_method ps j class token = option_and_then (λ (p : PackageRecord). method_in (or_none p.export) class token) (slice_get ps j)
 
 -- where an entry's member stands in its own package
-abbrev pub own_place : ℕ → Entry → Place
+abbrev pub own_place : ℕ → Entry → RecordPlace
 own_place k e = record { «package» = k; offset = slice_index e.bytes 1 * 256 + slice_index e.bytes 2 }
 
 -- where it stands in the package that meets an import, when the offset is told that the package exports
-abbrev pub exported_place : List PackageRecord → (ℕ → ℕ → ℕ → Option ℕ) → ℕ → Entry → Option Place
+abbrev pub exported_place : List PackageRecord → (ℕ → ℕ → ℕ → Option ℕ) → ℕ → Entry → Option RecordPlace
 exported_place ps exported k e =
-    option_and_then (λ j. option_map (λ offset. record { «package» = j; offset = offset }) (exported j (slice_index e.bytes 1) (slice_index e.bytes 2))) (met_by ps k (slice_index e.bytes 0 - 128))
+    option_and_then (λ j. option_map (λ offset. record { «package» = j; offset = offset })
+    (exported j (slice_index e.bytes 1) (slice_index e.bytes 2)))
+    (met_by ps k (slice_index e.bytes 0 - 128))
 
 -- where the static field or the method stands that an entry of a package names: the high bit of its
 -- first byte tells that it is of another package
-unfoldable pub field_place : List PackageRecord → ℕ → Entry → Option Place
+unfoldable pub field_place : List PackageRecord → ℕ → Entry → Option RecordPlace
 field_place ps k e = if nat_lt (slice_index e.bytes 0) 128 then Some (own_place k e) else exported_place ps (exported_field ps) k e
 
-unfoldable pub method_place : List PackageRecord → ℕ → Entry → Option Place
+unfoldable pub method_place : List PackageRecord → ℕ → Entry → Option RecordPlace
 method_place ps k e = if nat_lt (slice_index e.bytes 0) 128 then Some (own_place k e) else exported_place ps (exported_method ps) k e

@@ -32,7 +32,8 @@ fields_in ps object k d offset c = if describes offset c then filter_map (own_fi
 
 -- the fields of a class of its own; an interface has none
 unfoldable pub own_fields : List PackageRecord → ℕ → ℕ → PackageRecord → Class → List OwnField
-own_fields ps object k p c = if is_interface c.flags then [] else flat_map (fields_in ps object k p.description c.offset) p.description.items.classes
+own_fields ps object k p c = if is_interface c.flags then []
+    else flat_map (fields_in ps object k p.description c.offset) p.description.items.classes
 
 abbrev pub cells_taken : List OwnField → ℕ
 cells_taken = sum_by (λ (f : OwnField). width f.kind)
@@ -46,7 +47,10 @@ cells_before fields token = cells_taken (filter (λ (f : OwnField). nat_lt f.tok
 -- a field of the class c, whose superclass has so many cells: its first cell lies after those of
 -- the superclass and of the fields of lesser tokens
 abbrev pub field_site : ℕ → ℕ → List OwnField → OwnField → Site
-field_site above c fields f = record { spot = record { owner = c; number = f.token }; member = Field c (above + cells_before fields f.token) f.kind f.ty }
+field_site above c fields f = record {
+  spot = record { owner = c; number = f.token };
+  member = Field c (above + cells_before fields f.token) f.kind f.ty;
+}
 
 abbrev pub class_sites : ClassTable → ℕ → List OwnField → List Site
 class_sites t c fields = map (field_site (cells_above t (parent_of t c)) c fields) fields

@@ -8,7 +8,7 @@ use Rattle.jc_base.specs.declared.record.Member.TheVariants.{ClassOf, Field, Sta
 use Rattle.jc_base.specs.declared.record.StaticRec.{StaticRec}
 use Rattle.jc_base.specs.Class.{ClassTable, is_interface, parent_of, chain}
 use Rattle.jc_base.specs.Dispatch.{entry_at, package_of}
-use Rattle.jc_resolve.specs.declared.place.Place.{Place}
+use Rattle.jc_resolve.specs.declared.place.RecordPlace.{RecordPlace}
 use Rattle.jc_resolve.specs.Numbering.{method_at}
 use Rattle.jc_members.specs.declared.sites.Spot.{Spot}
 use Rattle.jc_members.specs.Sites.{Site, only, is_there, standing, kept_at}
@@ -60,7 +60,7 @@ abbrev pub static_sites : List StaticRec → List Site
 static_sites = map static_site
 
 -- a StaticFieldref names the static field at a place
-unfoldable pub static_at : List StaticRec → Place → Option Member
+unfoldable pub static_at : List StaticRec → RecordPlace → Option Member
 static_at statics place = only (standing (static_sites statics) (record { owner = place.package; number = place.offset }))
 
 unfoldable pub static_member : List PackageRecord → List StaticRec → ℕ → Entry → Option Member
@@ -88,14 +88,17 @@ as_of c m = m
 
 -- the field that a class has with a token
 unfoldable pub field_of : List Site → ClassTable → ℕ → ℕ → Option Member
-field_of sites t token c = option_map (as_of c) (option_and_then (λ h. only (standing sites (token_of_class h token))) (holder_of sites t token c))
+field_of sites t token c = option_map (as_of c)
+    (option_and_then (λ h. only (standing sites (token_of_class h token))) (holder_of sites t token c))
 
 -- the same by a table of the fields
 abbrev pub kept_holder : List (Spot × Option Member) → ClassTable → ℕ → ℕ → Option ℕ
 kept_holder entries t token c = find (λ h. is_some (kept_at entries (token_of_class h token))) (chain t c)
 
 abbrev pub kept_field : List (Spot × Option Member) → ClassTable → ℕ → ℕ → Option Member
-kept_field entries t token c = option_map (as_of c) (option_and_then (λ h. option_flatten (kept_at entries (token_of_class h token))) (kept_holder entries t token c))
+kept_field entries t token c = option_map (as_of c)
+    (option_and_then (λ h. option_flatten (kept_at entries (token_of_class h token)))
+    (kept_holder entries t token c))
 
 -- an InstanceFieldref names the field that a class has with a token
 unfoldable pub field_member : List PackageRecord → ClassTable → ℕ → Entry → Option Member

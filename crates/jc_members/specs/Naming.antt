@@ -12,7 +12,7 @@ use Rattle.jc_resolve.specs.declared.fault.LinkFault.{LinkFault}
 use Rattle.jc_resolve.specs.declared.fault.LinkFault.TheVariants.{NoMember}
 use Rattle.jc_resolve.specs.declared.fault.LinkEnd.{LinkEnd}
 use Rattle.jc_resolve.specs.declared.fault.LinkEnd.TheVariants.{Fault, Memory}
-use Rattle.jc_resolve.specs.declared.place.Place.{Place}
+use Rattle.jc_resolve.specs.declared.place.RecordPlace.{RecordPlace}
 use Rattle.jc_resolve.specs.NamedMethods.{reference_in}
 use Rattle.jc_resolve.specs.Numbering.{method_at}
 use Rattle.jc_resolve.specs.References.{met_by, Refers}
@@ -23,7 +23,7 @@ use Rattle.jc_members.specs.Sites.{standing}
 
 -- where the static field or the method without dispatch stands that an entry of the package k names: in
 -- the package itself at an offset, or in the package that meets an import where this one exports it
-pub data StandsAt (ps : List PackageRecord) (exported : ℕ → ℕ → ℕ → Option ℕ) (k : ℕ) (e : Entry) (place : Place) : Type 0 where
+pub data StandsAt (ps : List PackageRecord) (exported : ℕ → ℕ → ℕ → Option ℕ) (k : ℕ) (e : Entry) (place : RecordPlace) : Type 0 where
   internal : slice_index e.bytes 0 < 128 → place ≡ own_place k e → StandsAt ps exported k e place
   imported :
       (j offset : ℕ)
@@ -76,14 +76,14 @@ pub data NamesMember (ps : List PackageRecord) (t : ClassTable) (statics : List 
       → NamesMember ps t statics k e m
   -- a StaticFieldref: the one static field at a place
   static_fieldref :
-      (place : Place)
+      (place : RecordPlace)
       → e.tag ≡ 5
       → StandsAt ps (exported_field ps) k e place
       → standing (static_sites statics) (record { owner = place.package; number = place.offset }) ≡ m ∷ []
       → NamesMember ps t statics k e m
   -- a StaticMethodref: the method at a place
   static_methodref :
-      (place : Place) (n : ℕ)
+      (place : RecordPlace) (n : ℕ)
       → e.tag ≡ 6
       → StandsAt ps (exported_method ps) k e place
       → method_at ps place ≡ Some n

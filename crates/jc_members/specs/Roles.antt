@@ -24,7 +24,8 @@ visible_bodies t methods c a = list_all (has_body methods) (visible_in t (packag
 -- abstract, which are its public list and, for each package that has the class or a superclass of
 -- it, the package-visible list of the nearest such class
 unfoldable pub is_concrete : ClassTable → List MethodRec → ℕ → Bool
-is_concrete t methods c = not (is_interface t c) && (list_all (has_body methods) (public_of t c) && list_all (visible_bodies t methods c) (chain t c))
+is_concrete t methods c = not (is_interface t c) &&
+    (list_all (has_body methods) (public_of t c) && list_all (visible_bodies t methods c) (chain t c))
 
 unfoldable pub role_fault : ClassTable → List MethodRec → ℕ → Option LinkFault
 role_fault t methods k = if is_concrete t methods (slice_index t.roles k) then None else Some (RoleAbstract k)

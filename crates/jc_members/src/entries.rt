@@ -11,7 +11,7 @@ use crate::sites::{Sites, Spot};
 use cap_package::Packages;
 use cap_pool::PoolEntry;
 use jc_base::{Classes, Dispatch, Member, Statics};
-use jc_resolve::{Names, Place};
+use jc_resolve::{Names, RecordPlace};
 
 /// The class or interface that the first two bytes of an entry name.
 #[tactic(auto, unfolding(crate::specs::Entries::class_in))]
@@ -165,10 +165,10 @@ fn exported_method(packages: &Packages<'_, '_>, home: u16, class: u8, token: u8)
 }
 
 /// Where an entry's member stands in its own package.
-fn own_place(package: u16, entry: PoolEntry) -> Place
+fn own_place(package: u16, entry: PoolEntry) -> RecordPlace
     ensures { result ≡ own_place «package» (entry_seen entry) }
 {
-    Place {
+    RecordPlace {
         package,
         offset: entry.bytes[1] as u16 * 256 + entry.bytes[2] as u16,
     }
@@ -176,7 +176,7 @@ fn own_place(package: u16, entry: PoolEntry) -> Place
 
 /// Where the static field stands that an entry names.
 #[tactic(auto, unfolding(crate::specs::Entries::field_place))]
-fn field_place(names: &Names<'_, '_, '_>, package: u16, entry: PoolEntry) -> Option<Place>
+fn field_place(names: &Names<'_, '_, '_>, package: u16, entry: PoolEntry) -> Option<RecordPlace>
     ensures { result ≡ field_place names.now.packages «package» (entry_seen entry) }
 {
     if entry.bytes[0] < 128 {
@@ -184,7 +184,7 @@ fn field_place(names: &Names<'_, '_, '_>, package: u16, entry: PoolEntry) -> Opt
     }
     let home = names.import_met(package, entry.bytes[0] - 128)?;
     let offset = exported_field(names.packages(), home, entry.bytes[1], entry.bytes[2])?;
-    Some(Place {
+    Some(RecordPlace {
         package: home,
         offset,
     })
@@ -192,7 +192,7 @@ fn field_place(names: &Names<'_, '_, '_>, package: u16, entry: PoolEntry) -> Opt
 
 /// Where the method stands that an entry names.
 #[tactic(auto, unfolding(crate::specs::Entries::method_place))]
-fn method_place(names: &Names<'_, '_, '_>, package: u16, entry: PoolEntry) -> Option<Place>
+fn method_place(names: &Names<'_, '_, '_>, package: u16, entry: PoolEntry) -> Option<RecordPlace>
     ensures { result ≡ method_place names.now.packages «package» (entry_seen entry) }
 {
     if entry.bytes[0] < 128 {
@@ -200,7 +200,7 @@ fn method_place(names: &Names<'_, '_, '_>, package: u16, entry: PoolEntry) -> Op
     }
     let home = names.import_met(package, entry.bytes[0] - 128)?;
     let offset = exported_method(names.packages(), home, entry.bytes[1], entry.bytes[2])?;
-    Some(Place {
+    Some(RecordPlace {
         package: home,
         offset,
     })
@@ -208,7 +208,7 @@ fn method_place(names: &Names<'_, '_, '_>, package: u16, entry: PoolEntry) -> Op
 
 /// The static field at a place.
 #[tactic(auto, unfolding(crate::specs::Members::static_at), using(crate::proofs::SiteLaws::only_kept))]
-fn static_at(statics: &Statics, sites: &Sites, place: Place) -> Option<Member>
+fn static_at(statics: &Statics, sites: &Sites, place: RecordPlace) -> Option<Member>
     requires { sites.now ≡ all_entered [] (static_sites statics.now) }
     ensures { result ≡ static_at statics.now place }
 {

@@ -56,7 +56,9 @@ fn push_fields(
 ) -> Result<(), AllocError>
     ensures { OnOk result
         (own.new.items
-        ≡ own.old.items ++ filter_map (own_field names.now.packages (slice_index names.now.roles 0) «package» (description descriptor.now)) (fields_left fields.entry)) }
+        ≡ own.old.items ++ filter_map
+        (own_field names.now.packages (slice_index names.now.roles 0) «package»
+        (description descriptor.now)) (fields_left fields.entry)) }
 {
     'fields: for field in fields {
         if let Some(field) = own_field(names, package, descriptor, field) {
@@ -77,7 +79,8 @@ fn push_record(
 ) -> Result<(), AllocError>
     ensures { OnOk result
         (own.new.items
-        ≡ own.old.items ++ fields_in names.now.packages (slice_index names.now.roles 0) «package» (description descriptor.now) offset (class_seen described.entry)) }
+        ≡ own.old.items ++ fields_in names.now.packages (slice_index names.now.roles 0) «package»
+        (description descriptor.now) offset (class_seen described.entry)) }
 {
     if offset < 0x8000 && described.class_ref() == offset {
         return push_fields(own, names, package, descriptor, described.fields());

@@ -25,7 +25,7 @@ use std::alloc::{AllocError, Global};
 
 /// Members by where they are described.
 #[derive(Drop)]
-struct Tables {
+struct MemberSites {
     statics: Sites,
     fields: Sites,
 }
@@ -36,7 +36,7 @@ fn member_by_tag(
     names: &Names<'_, '_, '_>,
     classes: &Classes,
     statics: &Statics,
-    tables: &Tables,
+    tables: &MemberSites,
     package: u16,
     entry: PoolEntry,
 ) -> Option<Member>
@@ -60,7 +60,7 @@ fn member_of(
     names: &Names<'_, '_, '_>,
     classes: &Classes,
     statics: &Statics,
-    tables: &Tables,
+    tables: &MemberSites,
     package: u16,
     entry: PoolEntry,
 ) -> Option<Member>
@@ -107,7 +107,7 @@ fn pool_members(
     names: &Names<'_, '_, '_>,
     classes: &Classes,
     statics: &Statics,
-    tables: &Tables,
+    tables: &MemberSites,
     package: u16,
     pool: &Pool<'_>,
     least: Option<LinkFault>,
@@ -150,7 +150,7 @@ fn named(
     names: &Names<'_, '_, '_>,
     classes: &Classes,
     statics: &Statics,
-    tables: &Tables,
+    tables: &MemberSites,
 ) -> Result<(Pools, Option<LinkFault>), AllocError>
     requires cells { HasCellsOf names.now.classes (slice_index names.now.roles 0) classes.now }
     requires linked { AreLinkedClasses (length names.now.packages) classes.now names.now.methods }
@@ -194,7 +194,7 @@ fn pools_of(
     ensures few { IfOk result (λ pools. All (λ pool. length pool ≤ 65535) pools) }
 {
     let _classes = names.classes();
-    let tables = Tables {
+    let tables = MemberSites {
         statics: static_sites(alloc, statics)?,
         fields: field_sites(alloc, names, classes)?,
     };

@@ -16,10 +16,10 @@ use Rattle.cap_package.specs.Descriptions.{Description, field_type}
 use Rattle.cap_package.specs.PackageRecord.{PackageRecord}
 use Rattle.cap_desc.specs.declared.type_item.TypeItem.{TypeItem}
 use Rattle.jc_resolve.specs.declared.named.NamedClass.{NamedClass}
-use Rattle.jc_resolve.specs.declared.place.Place.{Place}
+use Rattle.jc_resolve.specs.declared.place.RecordPlace.{RecordPlace}
 use Rattle.jc_resolve.specs.Numbering.{NumberedClass, numbered_class, classes_of, classes_behind, numbered_classes, numbered_methods, same_place, place_of_class, class_places, class_at, method_at}
 use Rattle.jc_resolve.specs.References.{meets, met_by, import_of, class_named, Refers, internal, imported}
-use Rattle.jc_resolve.specs.NamedClasses.{by_token, cells_by, cells_of_field, cells_of_fields, instance_fields, entry_of, table_of, interface_named, interfaces_named, parent_named, named_interface, named_proper, named_class, named_classes}
+use Rattle.jc_resolve.specs.NamedClasses.{by_token, cells_by, cells_of_field, cells_of_fields, instance_fields, entry_of, table_of, interface_named, implemented_interfaces, parent_named, named_interface, named_proper, named_class, named_classes}
 use Rattle.jc_resolve.specs.Named.{package_by, package_of, IsDeclared, AreEntries, IsSized, IsNamedClass}
 use Rattle.jc_resolve.proofs.NumberLaws.{same-equal, position_below, method_below}
 use Rattle.jc_resolve.proofs.ReferenceLaws.{named-refers}
@@ -47,21 +47,21 @@ home_named : (ps : List PackageRecord) (object : ℕ) (c : NumberedClass) → (n
 unfolding named_class
 home_named ps object c = either (λ (k : NamedClass). k.package ≡ c.home) (format.is_interface c.record_of.flags) (named_interface ps c) (named_proper ps object c) refl refl
 
-home_by : (ps : List PackageRecord) (object : ℕ) (o : Option NumberedClass) (place : Place) → option_map place_of_class o ≡ Some place → package_by (option_map (named_class ps object) o) ≡ place.package
+home_by : (ps : List PackageRecord) (object : ℕ) (o : Option NumberedClass) (place : RecordPlace) → option_map place_of_class o ≡ Some place → package_by (option_map (named_class ps object) o) ≡ place.package
 home_by ps object None place e = absurd cc
 home_by ps object (Some c) place e =
     let same : place_of_class c ≡ place = cc in
-    home_named ps object c ∙ ap (λ (q : Place). q.package) same
+    home_named ps object c ∙ ap (λ (q : RecordPlace). q.package) same
 
 -- the class at a place is of the place's package
-package_at : (ps : List PackageRecord) (object : ℕ) (place : Place) (c : ℕ) → class_at ps place ≡ Some c → package_of (named_classes ps object) c ≡ place.package
+package_at : (ps : List PackageRecord) (object : ℕ) (place : RecordPlace) (c : ℕ) → class_at ps place ≡ Some c → package_of (named_classes ps object) c ≡ place.package
 unfolding class_at package_of named_classes
 package_at ps object place c h =
     let f = found (same_place place) (class_places ps) c h in
     let same : f.0 ≡ place = sym (same-equal place f.0 f.2) in
     ap package_by (slice_get-map (named_class ps object) (numbered_classes ps) c)
     ∙ home_by ps object (slice_get (numbered_classes ps) c) f.0 (sym (slice_get-map place_of_class (numbered_classes ps) c) ∙ f.1)
-    ∙ ap (λ (q : Place). q.package) same
+    ∙ ap (λ (q : RecordPlace). q.package) same
 
 met_by_earlier : (ps : List PackageRecord) (k j : ℕ) (o : Option Package) → option_and_then (λ asked. position (meets asked) (take k ps)) o ≡ Some j → j < k
 met_by_earlier ps k j None h = absurd cc
@@ -116,10 +116,10 @@ module _ (ps : List PackageRecord) (object : ℕ) where
   interface_by i None others h all = all
   interface_by i (Some c) others h all = All-cons IsWithin (record { class = c; tokens = i.tokens }) others h all
 
-  interfaces_within : (k : ℕ) (is : List Interface) → All IsWithin (interfaces_named ps k is)
+  interfaces_within : (k : ℕ) (is : List Interface) → All IsWithin (implemented_interfaces ps k is)
   unfolding interface_named
   interfaces_within k [] = All-nil IsWithin
-  interfaces_within k (i ∷ is) = interface_by i (class_named ps k i.class_ref) (interfaces_named ps k is) (named_within k i.class_ref) (interfaces_within k is)
+  interfaces_within k (i ∷ is) = interface_by i (class_named ps k i.class_ref) (implemented_interfaces ps k is) (named_within k i.class_ref) (interfaces_within k is)
 
   -- ---- tables
 
@@ -129,7 +129,7 @@ module _ (ps : List PackageRecord) (object : ℕ) where
   entry_within : (k offset : ℕ) → IsEntry (entry_of ps k offset)
   unfolding entry_of
   entry_within k offset =
-      let place : Place = record { «package» = k; offset = offset } in
+      let place : RecordPlace = record { «package» = k; offset = offset } in
       either IsEntry (eqb offset 0xFFFF) None (method_at ps place) tt (method_below ps place (method_at ps place) refl)
 
   table_within : (k base : ℕ) (offsets : List ℕ) → AreEntries (length (numbered_methods ps)) (table_of ps k base offsets)

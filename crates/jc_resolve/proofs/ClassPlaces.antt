@@ -10,7 +10,7 @@ use Rattle.cap_bytes.specs.declared.format.Format.{Format}
 use Rattle.cap_bytes.specs.Spelling.{Spells, Stands}
 use Rattle.cap_class.specs.ClassFormat.{Class, record_info, is_behind, behind_first, is_interface, class_flags, wrong_record, signature_pool, classes_info}
 use Rattle.cap_package.specs.PackageRecord.{PackageRecord}
-use Rattle.jc_resolve.specs.declared.place.Place.{Place}
+use Rattle.jc_resolve.specs.declared.place.RecordPlace.{RecordPlace}
 use Rattle.jc_resolve.specs.Named.{IsAgreed}
 use Rattle.jc_resolve.specs.Numbering.{NumberedClass, numbered_class, classes_of, classes_behind, numbered_classes, place_of_class, class_places}
 use Rattle.jc_resolve.proofs.Pairwise.{Each, each-append, each-weaker, each-map, Pairwise, pairwise-append, one-place}
@@ -127,21 +127,21 @@ classes_before k (p ∷ ps) agreed =
     across [] = tt {0}
     across (c ∷ cs) = (each-weaker (λ (d : NumberedClass). k + 1 ≤ d.home) (IsBefore (numbered_class k p c)) (λ d le. inl (omega arith)) (classes_behind (k + 1) ps) (homes_from (k + 1) ps), across cs)
 
-never_before : (c d : NumberedClass) (place : Place) → place_of_class c ≡ place → place_of_class d ≡ place → IsBefore c d → ⊥
+never_before : (c d : NumberedClass) (place : RecordPlace) → place_of_class c ≡ place → place_of_class d ≡ place → IsBefore c d → ⊥
 never_before c d place e f (inl lt) =
-    let home : c.home ≡ d.home = ap (λ (q : Place). q.package) (e ∙ sym f) in
+    let home : c.home ≡ d.home = ap (λ (q : RecordPlace). q.package) (e ∙ sym f) in
     omega arith
 never_before c d place e f (inr both) =
-    let offset : c.record_of.offset ≡ d.record_of.offset = ap (λ (q : Place). q.offset) (e ∙ sym f) in
+    let offset : c.record_of.offset ≡ d.record_of.offset = ap (λ (q : RecordPlace). q.offset) (e ∙ sym f) in
     let lt = both.1 in
     omega arith
 
-at_place : (o : Option NumberedClass) (place : Place) → option_map place_of_class o ≡ Some place → (c : NumberedClass) × (o ≡ Some c) × (place_of_class c ≡ place)
+at_place : (o : Option NumberedClass) (place : RecordPlace) → option_map place_of_class o ≡ Some place → (c : NumberedClass) × (o ≡ Some c) × (place_of_class c ≡ place)
 at_place None place h = absurd cc
 at_place (Some c) place h = (c, refl, cc)
 
 -- no two classes stand at one place
-pub classes_apart : (ps : List PackageRecord) → All IsAgreed ps → (i j : ℕ) (place : Place) → slice_get (class_places ps) i ≡ Some place → slice_get (class_places ps) j ≡ Some place → i ≡ j
+pub classes_apart : (ps : List PackageRecord) → All IsAgreed ps → (i j : ℕ) (place : RecordPlace) → slice_get (class_places ps) i ≡ Some place → slice_get (class_places ps) j ≡ Some place → i ≡ j
 classes_apart ps agreed i j place e f =
     let c = at_place (slice_get (numbered_classes ps) i) place (sym (slice_get-map place_of_class (numbered_classes ps) i) ∙ e) in
     let d = at_place (slice_get (numbered_classes ps) j) place (sym (slice_get-map place_of_class (numbered_classes ps) j) ∙ f) in

@@ -12,7 +12,7 @@ use Rattle.cap_desc.specs.declared.type_item.TypeItem.{TypeItem}
 use Rattle.cap_package.specs.Descriptions.{Description}
 use Rattle.cap_package.specs.PackageRecord.{PackageRecord}
 use Rattle.jc_resolve.specs.declared.named.NamedClass.{NamedClass}
-use Rattle.jc_resolve.specs.declared.place.Place.{Place}
+use Rattle.jc_resolve.specs.declared.place.RecordPlace.{RecordPlace}
 use Rattle.jc_resolve.specs.Numbering.{NumberedClass, numbered_classes, class_at, flagged_interface, is_interface_number}
 use Rattle.jc_resolve.specs.References.{place_named, class_named}
 use Rattle.jc_resolve.specs.WorldTypes.{class_or_object, type_class, type_of, cells_of_type, arguments_before, result_after, signature_in, types_named, signature_of}
@@ -54,7 +54,7 @@ interface_numbered ps object c = ap interface_by (slice_get-map (named_class ps 
 
 -- ---- what is named is a number
 
-named_at : (ps : List PackageRecord) (o : Option Place) → IfSome (option_and_then (class_at ps) o) (λ c. c < length (numbered_classes ps))
+named_at : (ps : List PackageRecord) (o : Option RecordPlace) → IfSome (option_and_then (class_at ps) o) (λ c. c < length (numbered_classes ps))
 named_at ps None = tt
 named_at ps (Some place) = class_below ps place (class_at ps place) refl
 

@@ -16,7 +16,7 @@ use Rattle.cap_package.specs.PackageRecord.{PackageRecord, classes_from, describ
 use Rattle.cap_package.specs.Pairs.{pairs}
 use Rattle.cap_package.proofs.HeaderLaws.{ends-within}
 use Rattle.jc_base.specs.declared.record.MethodRec.{MethodRec}
-use Rattle.jc_resolve.specs.declared.place.Place.{Place}
+use Rattle.jc_resolve.specs.declared.place.RecordPlace.{RecordPlace}
 use Rattle.jc_resolve.specs.Named.{IsAgreed}
 use Rattle.jc_resolve.specs.NamedMethods.{named_method, named_methods}
 use Rattle.jc_resolve.specs.Numbering.{NumberedMethod, numbered, is_placed, methods_of_class, methods_of_classes, methods_behind, numbered_methods, place_of_method, method_places}
@@ -81,24 +81,24 @@ described_apart p agreed =
 
 -- ---- methods at places
 
-abbrev At : Place → NumberedMethod → Type 0
+abbrev At : RecordPlace → NumberedMethod → Type 0
 At place m = place_of_method m ≡ Some place
 
 -- no place is that of both
 abbrev Differ : NumberedMethod → NumberedMethod → Type 0
-Differ m n = (place : Place) → At place m → At place n → ⊥
+Differ m n = (place : RecordPlace) → At place m → At place n → ⊥
 
-offset_by : (b : Bool) (k : ℕ) (m : Method) (place : Place) → cond b (Some (record { «package» = k; offset = m.method_offset })) None ≡ Some place → m.method_offset ≡ place.offset
-offset_by true k m place h = let same : record { «package» = k; offset = m.method_offset } ≡ place = cc in ap (λ (q : Place). q.offset) same
+offset_by : (b : Bool) (k : ℕ) (m : Method) (place : RecordPlace) → cond b (Some (record { «package» = k; offset = m.method_offset })) None ≡ Some place → m.method_offset ≡ place.offset
+offset_by true k m place h = let same : record { «package» = k; offset = m.method_offset } ≡ place = cc in ap (λ (q : RecordPlace). q.offset) same
 offset_by false k m place h = absurd cc
 
-home_by : (b : Bool) (k offset : ℕ) (place : Place) → cond b (Some (record { «package» = k; offset = offset })) None ≡ Some place → k ≡ place.package
-home_by true k offset place h = let same : record { «package» = k; offset = offset } ≡ place = cc in ap (λ (q : Place). q.package) same
+home_by : (b : Bool) (k offset : ℕ) (place : RecordPlace) → cond b (Some (record { «package» = k; offset = offset })) None ≡ Some place → k ≡ place.package
+home_by true k offset place h = let same : record { «package» = k; offset = offset } ≡ place = cc in ap (λ (q : RecordPlace). q.package) same
 home_by false k offset place h = absurd cc
 
 -- a method whose offset is not that of another, if it stands in the component
 abbrev IsElsewhere : Method → NumberedMethod → Type 0
-IsElsewhere a n = (place : Place) → At place n → a.method_offset ≡ place.offset → ⊥
+IsElsewhere a n = (place : RecordPlace) → At place n → a.method_offset ≡ place.offset → ⊥
 
 in_class : (a : Method) (k : ℕ) (p : PackageRecord) (number : ℕ) (c : described.Class) (i : ℕ) (ms : List Method) → Each (IsApart a) ms → Each (IsElsewhere a) (methods_of_class k p number c i ms)
 in_class a k p number c i [] h = tt {0}
@@ -110,7 +110,7 @@ not_placed a k p number c i [] e = tt {0}
 not_placed a k p number c i (m ∷ ms) e =
     (λ place at same. nowhere (record { «package» = k; offset = m.method_offset }) place (is_placed p c) e at, not_placed a k p number c (i + 1) ms e)
   where
-    nowhere : (here place : Place) (b : Bool) → b ≡ false → cond b (Some here) None ≡ Some place → ⊥
+    nowhere : (here place : RecordPlace) (b : Bool) → b ≡ false → cond b (Some here) None ≡ Some place → ⊥
     nowhere here place true f h = true≢false f
     nowhere here place false f h = cc
 
@@ -133,7 +133,7 @@ module _ (k : ℕ) (p : PackageRecord) where
   class_differs : (number : ℕ) (c : described.Class) (i : ℕ) (ms : List Method) (others : List NumberedMethod) → Pairwise IsApart ms → Each (λ a. Each (IsElsewhere a) others) ms → Pairwise Differ others → Pairwise Differ (methods_of_class k p number c i ms ++ others)
   class_differs number c i [] others a b d = d
   class_differs number c i (m ∷ ms) others a b d =
-      let P = λ (n : NumberedMethod) (f : IsElsewhere m n) (place : Place) (here : At place (numbered k p number c i m)) (there : At place n). f place there (offset_by (is_placed p c) k m place here) in
+      let P = λ (n : NumberedMethod) (f : IsElsewhere m n) (place : RecordPlace) (here : At place (numbered k p number c i m)) (there : At place n). f place there (offset_by (is_placed p c) k m place here) in
       let front = each-weaker (IsElsewhere m) (Differ (numbered k p number c i m)) P (methods_of_class k p number c (i + 1) ms) (in_class m k p number c (i + 1) ms a.0) in
       let back = each-weaker (IsElsewhere m) (Differ (numbered k p number c i m)) P others b.0 in
       (each-append (Differ (numbered k p number c i m)) (methods_of_class k p number c (i + 1) ms) others front back, class_differs number c (i + 1) ms others a.1 b.1 d)
@@ -143,7 +143,7 @@ module _ (k : ℕ) (p : PackageRecord) where
   unplaced_differs number c i [] others e d = d
   unplaced_differs number c i (m ∷ ms) others e d = (all_differ (methods_of_class k p number c (i + 1) ms ++ others), unplaced_differs number c (i + 1) ms others e d)
     where
-      nowhere : (here place : Place) (b : Bool) → b ≡ false → cond b (Some here) None ≡ Some place → ⊥
+      nowhere : (here place : RecordPlace) (b : Bool) → b ≡ false → cond b (Some here) None ≡ Some place → ⊥
       nowhere here place true f h = true≢false f
       nowhere here place false f h = cc
 
@@ -241,11 +241,11 @@ packages_earlier k (p ∷ ps) =
     (packages_earlier (k + 1) ps)
     (each-weaker (IsOf k 0) (λ m. Each (IsEarlier m) (methods_behind (k + 1) ps)) (λ m h. let same = h.home in each-weaker (λ (n : NumberedMethod). k + 1 ≤ n.home) (IsEarlier m) (λ n le. inl (omega arith)) (methods_behind (k + 1) ps) (homes_from (k + 1) ps)) own (of_classes k p 0 p.description.items.classes))
 
-at_place : (o : Option NumberedMethod) (place : Place) → option_map place_of_method o ≡ Some (Some place) → (m : NumberedMethod) × (o ≡ Some m) × At place m
+at_place : (o : Option NumberedMethod) (place : RecordPlace) → option_map place_of_method o ≡ Some (Some place) → (m : NumberedMethod) × (o ≡ Some m) × At place m
 at_place None place h = absurd cc
 at_place (Some m) place h = (m, refl, cc)
 
-headers_apart : (ps : List PackageRecord) → All IsAgreed ps → (i j : ℕ) (place : Place) → slice_get (method_places ps) i ≡ Some (Some place) → slice_get (method_places ps) j ≡ Some (Some place) → i ≡ j
+headers_apart : (ps : List PackageRecord) → All IsAgreed ps → (i j : ℕ) (place : RecordPlace) → slice_get (method_places ps) i ≡ Some (Some place) → slice_get (method_places ps) j ≡ Some (Some place) → i ≡ j
 headers_apart ps agreed i j place e f =
     let m = at_place (slice_get (numbered_methods ps) i) place (sym (slice_get-map place_of_method (numbered_methods ps) i) ∙ e) in
     let n = at_place (slice_get (numbered_methods ps) j) place (sym (slice_get-map place_of_method (numbered_methods ps) j) ∙ f) in

@@ -11,7 +11,7 @@ use Rattle.indexmap.proofs.MapLemmas.{absent_from_lookup, insert_entry-absent}
 use Rattle.cap_class.specs.ClassFormat.{Class, is_interface}
 use Rattle.cap_desc.specs.DescriptorFormat as described
 use Rattle.cap_package.specs.PackageRecord.{PackageRecord, classes_from}
-use Rattle.jc_resolve.specs.declared.place.Place.{Place}
+use Rattle.jc_resolve.specs.declared.place.RecordPlace.{RecordPlace}
 use Rattle.jc_resolve.specs.Numbering.{NumberedClass, same_place, is_at, classes_of, classes_behind, numbered_classes, place_of_class, class_places, class_at, flagged_interface, is_interface_number, is_placed, methods_of_class, methods_of_classes, methods_behind, numbered_methods, place_of_method, method_places, method_at}
 use Rattle.jc_resolve.specs.Numbers.{Numbered, none_numbered, number_at, entered, with_next, with_all, spot_of_class, class_spots, class_flags, spot_of_method, spots_of_classes, method_spots, AreIndexed}
 
@@ -22,7 +22,7 @@ both true true h = (refl, refl)
 both true false h = absurd cc
 both false y h = absurd cc
 
-pub same-equal : (a b : Place) → same_place a b ≡ true → a ≡ b
+pub same-equal : (a b : RecordPlace) → same_place a b ≡ true → a ≡ b
 same-equal a b h =
     let p = both (eqb a.package b.package) (eqb a.offset b.offset) h in
     let e = eqb-true a.package b.package p.0 in
@@ -40,7 +40,7 @@ unfolding or_else
 or_none None = refl
 or_none (Some x) = refl
 
-lookup_behind : (t : Place → Bool) (es : List (Place × ℕ)) (q : Place) (n : ℕ) → lookup t (es ++ (q, n) ∷ []) ≡ or_else (lookup t es) (cond (t q) (Some n) None)
+lookup_behind : (t : RecordPlace → Bool) (es : List (RecordPlace × ℕ)) (q : RecordPlace) (n : ℕ) → lookup t (es ++ (q, n) ∷ []) ≡ or_else (lookup t es) (cond (t q) (Some n) None)
 unfolding or_else
 lookup_behind t [] q n = refl
 lookup_behind t (e ∷ es) q n = by (t e.0) (lookup_behind t es q n)
@@ -55,7 +55,7 @@ joined None true n rest = refl
 joined None false n rest = refl
 joined (Some x) b n rest = refl
 
-after : (es : List (Place × ℕ)) (q : Place) (n : ℕ) (place : Place) (rest o : Option ℕ) → number_at es q ≡ o → (b : Bool) → same_place place q ≡ b → or_else (number_at (entered es q n) place) rest ≡ or_else (number_at es place) (cond b (Some n) rest)
+after : (es : List (RecordPlace × ℕ)) (q : RecordPlace) (n : ℕ) (place : RecordPlace) (rest o : Option ℕ) → number_at es q ≡ o → (b : Bool) → same_place place q ≡ b → or_else (number_at (entered es q n) place) rest ≡ or_else (number_at es place) (cond b (Some n) rest)
 unfolding entered or_else
 after es q n place rest (Some m) e false f = ap (λ (x : Option ℕ). or_else (number_at (if is_some x then es else insert_entry same_place es q n) place) rest) e
 after es q n place rest (Some m) e true f =
@@ -71,7 +71,7 @@ after es q n place rest None e b f =
     ∙ ap (λ c. or_else (number_at es place) (cond c (Some n) rest)) f
 
 -- the number that is kept at a place is that of the first thing there
-numbered-all : (spots : List (Option Place)) (t : Numbered) (place : Place) → number_at (with_all t spots).entries place ≡ or_else (number_at t.entries place) (position_from (is_at place) t.next spots)
+numbered-all : (spots : List (Option RecordPlace)) (t : Numbered) (place : RecordPlace) → number_at (with_all t spots).entries place ≡ or_else (number_at t.entries place) (position_from (is_at place) t.next spots)
 unfolding with_next
 numbered-all [] t place = or_none (number_at t.entries place)
 numbered-all (None ∷ spots) t place = numbered-all spots (record { entries = t.entries; next = t.next + 1 }) place
@@ -79,7 +79,7 @@ numbered-all (Some q ∷ spots) t place =
     numbered-all spots (record { entries = entered t.entries q t.next; next = t.next + 1 }) place
     ∙ after t.entries q t.next place (position_from (is_at place) (t.next + 1) spots) (number_at t.entries q) refl (same_place place q) refl
 
-pub numbered-first : (spots : List (Option Place)) (place : Place) → number_at (with_all none_numbered spots).entries place ≡ position (is_at place) spots
+pub numbered-first : (spots : List (Option RecordPlace)) (place : RecordPlace) → number_at (with_all none_numbered spots).entries place ≡ position (is_at place) spots
 unfolding or_else
 numbered-first spots place = numbered-all spots none_numbered place ∙ sym (position_from-zero (is_at place) spots)
 
@@ -95,11 +95,11 @@ spots-are k (p ∷ ps) =
     spots_of [] = refl
     spots_of (c ∷ cs) = ap (λ l. spot_of_class k c ∷ l) (spots_of cs)
 
-position_of : (place : Place) (n : ℕ) (cs : List NumberedClass) → position_from (is_at place) n (map (λ c. Some (place_of_class c)) cs) ≡ position_from (same_place place) n (map place_of_class cs)
+position_of : (place : RecordPlace) (n : ℕ) (cs : List NumberedClass) → position_from (is_at place) n (map (λ c. Some (place_of_class c)) cs) ≡ position_from (same_place place) n (map place_of_class cs)
 position_of place n [] = refl
 position_of place n (c ∷ cs) = ap (λ o. cond (same_place place (place_of_class c)) (Some n) o) (position_of place (n + 1) cs)
 
-pub class_numbered : (ps : List PackageRecord) (t : Numbered) (flags : List Bool) (m : Numbered) (place : Place) → AreIndexed ps t flags m → number_at t.entries place ≡ class_at ps place
+pub class_numbered : (ps : List PackageRecord) (t : Numbered) (flags : List Bool) (m : Numbered) (place : RecordPlace) → AreIndexed ps t flags m → number_at t.entries place ≡ class_at ps place
 unfolding class_at
 class_numbered ps t flags m place h =
     ap (λ (x : Numbered). number_at x.entries place) h.numbers
@@ -122,7 +122,7 @@ position_within t n (x ∷ xs) i h = within_by n (length xs) i (position_from t 
 pub position_below : {X : Type 0} (t : X → Bool) (xs : List X) (i : ℕ) → position t xs ≡ Some i → i < length xs
 position_below t xs i h = let k = position_within t 0 xs i (sym (position_from-zero t xs) ∙ h) in omega arith
 
-pub class_below : (ps : List PackageRecord) (place : Place) (o : Option ℕ) → o ≡ class_at ps place → IfSome o (λ c. c < length (numbered_classes ps))
+pub class_below : (ps : List PackageRecord) (place : RecordPlace) (o : Option ℕ) → o ≡ class_at ps place → IfSome o (λ c. c < length (numbered_classes ps))
 unfolding class_at
 class_below ps place None h = tt
 class_below ps place (Some c) h = subst (λ n. c < n) (length-map (numbered_classes ps) place_of_class) (position_below (same_place place) (class_places ps) c (sym h))
@@ -172,14 +172,14 @@ method_spots_are k (p ∷ ps) =
     ap₂ ◌++◌ (spots_of k p 0 p.description.items.classes) (method_spots_are (k + 1) ps)
     ∙ sym (map-append place_of_method (methods_of_classes k p 0 p.description.items.classes) (methods_behind (k + 1) ps))
 
-pub method_numbered : (ps : List PackageRecord) (t : Numbered) (flags : List Bool) (m : Numbered) (place : Place) → AreIndexed ps t flags m → number_at m.entries place ≡ method_at ps place
+pub method_numbered : (ps : List PackageRecord) (t : Numbered) (flags : List Bool) (m : Numbered) (place : RecordPlace) → AreIndexed ps t flags m → number_at m.entries place ≡ method_at ps place
 unfolding method_at
 method_numbered ps t flags m place h =
     ap (λ (x : Numbered). number_at x.entries place) h.methods
     ∙ numbered-first (method_spots 0 ps) place
     ∙ ap (position (is_at place)) (method_spots_are 0 ps)
 
-pub method_below : (ps : List PackageRecord) (place : Place) (o : Option ℕ) → o ≡ method_at ps place → IfSome o (λ n. n < length (numbered_methods ps))
+pub method_below : (ps : List PackageRecord) (place : RecordPlace) (o : Option ℕ) → o ≡ method_at ps place → IfSome o (λ n. n < length (numbered_methods ps))
 unfolding method_at
 method_below ps place None h = tt
 method_below ps place (Some n) h = subst (λ i. n < i) (length-map (numbered_methods ps) place_of_method) (position_below (is_at place) (method_places ps) n (sym h))

@@ -76,11 +76,13 @@ abbrev pub references_of_method : Description → described.Method → List ℕ
 references_of_method d m = flat_map reference_of_type (types_named d m.type_offset)
 
 abbrev pub references_of_types : Description → List ℕ
-references_of_types d = flat_map (references_of_field_type d) (fields_of d.items.classes) ++ flat_map (references_of_method d) (methods_from 0 d.items.classes)
+references_of_types d = flat_map (references_of_field_type d) (fields_of d.items.classes)
+    ++ flat_map (references_of_method d) (methods_from 0 d.items.classes)
 
 -- the class references of a package
 unfoldable pub class_references : PackageRecord → List ℕ
-class_references p = flat_map references_of_class p.classes ++ (flat_map references_of_record p.description.items.classes ++ references_of_types p.description)
+class_references p = flat_map references_of_class p.classes
+    ++ (flat_map references_of_record p.description.items.classes ++ references_of_types p.description)
 
 -- a class reference names no class
 unfoldable pub no_class_fault : List PackageRecord → ℕ × ℕ → Option LinkFault

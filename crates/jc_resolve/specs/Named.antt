@@ -10,7 +10,7 @@ use Rattle.jc_base.specs.declared.record.MethodRec.{MethodRec}
 use Rattle.jc_base.specs.Cell.{AreWhole, IsFirstCell}
 use Rattle.jc_base.specs.Linked.{receiver_words, list_at, IsCodeLength}
 use Rattle.jc_resolve.specs.declared.named.NamedClass.{NamedClass}
-use Rattle.jc_resolve.specs.declared.named.Table.{Table}
+use Rattle.jc_resolve.specs.declared.named.DispatchTable.{DispatchTable}
 
 -- ---- packages
 
@@ -65,11 +65,11 @@ IsDeclared classes object Top = ⊥
 -- ---- classes
 
 -- each entry of a table is the number of a method, or none
-abbrev pub AreEntries : ℕ → Table → Type 0
+abbrev pub AreEntries : ℕ → DispatchTable → Type 0
 AreEntries methods table = All (λ entry. IfSome entry (λ n. n < methods)) table.entries
 
 -- a table whose numbers are bytes
-pub record IsByteTable (table : Table) : Type 0 where
+pub record IsByteTable (table : DispatchTable) : Type 0 where
   pub base : table.base ≤ 255
   pub count : length table.entries ≤ 255
 

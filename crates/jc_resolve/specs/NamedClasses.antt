@@ -11,7 +11,7 @@ use Rattle.cap_package.specs.PackageRecord.{PackageRecord}
 use Rattle.jc_base.specs.declared.ty.Ty.{Ty}
 use Rattle.jc_base.specs.declared.record.Iface.{Iface}
 use Rattle.jc_resolve.specs.declared.named.NamedClass.{NamedClass}
-use Rattle.jc_resolve.specs.declared.named.Table.{Table}
+use Rattle.jc_resolve.specs.declared.named.DispatchTable.{DispatchTable}
 use Rattle.jc_resolve.specs.Numbering.{NumberedClass, numbered_classes, method_at}
 use Rattle.jc_resolve.specs.References.{class_named, is_internal}
 use Rattle.jc_resolve.specs.WorldTypes.{cells_of_type}
@@ -63,10 +63,10 @@ cells_of_fields ps object k d fields = flat_map (cells_of_field ps object k d) (
 unfoldable pub entry_of : List PackageRecord → ℕ → ℕ → Option ℕ
 entry_of ps k offset = if offset == 0xFFFF then None else method_at ps (record { «package» = k; offset = offset })
 
-abbrev pub table_of : List PackageRecord → ℕ → ℕ → List ℕ → Table
+abbrev pub table_of : List PackageRecord → ℕ → ℕ → List ℕ → DispatchTable
 table_of ps k base offsets = record { base = base; entries = map (entry_of ps k) offsets }
 
-abbrev pub no_table : Table
+abbrev pub no_table : DispatchTable
 no_table = record { base = 0; entries = [] }
 
 -- ---- classes
@@ -74,8 +74,8 @@ no_table = record { base = 0; entries = [] }
 unfoldable pub interface_named : List PackageRecord → ℕ → Interface → Option Iface
 interface_named ps k i = option_map (λ c. record { class = c; tokens = i.tokens }) (class_named ps k i.class_ref)
 
-abbrev pub interfaces_named : List PackageRecord → ℕ → List Interface → List Iface
-interfaces_named ps k = filter_map (interface_named ps k)
+abbrev pub implemented_interfaces : List PackageRecord → ℕ → List Interface → List Iface
+implemented_interfaces ps k = filter_map (interface_named ps k)
 
 -- 0xFFFF is no superclass
 abbrev pub parent_named : List PackageRecord → ℕ → ℕ → Option ℕ
@@ -87,7 +87,7 @@ interface_in ps k r = record {
   «package» = k;
   interface = true;
   parent = None;
-  interfaces = interfaces_named ps k r.interfaces;
+  interfaces = implemented_interfaces ps k r.interfaces;
   public = no_table;
   visible = no_table;
   own = [];
@@ -101,10 +101,11 @@ named_proper ps object c = record {
   «package» = c.home;
   interface = false;
   parent = parent_named ps c.home c.record_of.super_ref;
-  interfaces = interfaces_named ps c.home c.record_of.interfaces;
+  interfaces = implemented_interfaces ps c.home c.record_of.interfaces;
   public = table_of ps c.home c.record_of.public_base c.record_of.public;
   visible = table_of ps c.home c.record_of.package_base c.record_of.visible;
-  own = cells_of_fields ps object c.home c.of_package.description (instance_fields c.of_package.description.items.classes c.record_of.offset);
+  own = cells_of_fields ps object c.home c.of_package.description
+      (instance_fields c.of_package.description.items.classes c.record_of.offset);
 }
 
 unfoldable pub named_class : List PackageRecord → ℕ → NumberedClass → NamedClass

@@ -80,7 +80,8 @@ body_by ps throwable k p m sig None = no_body m.flags sig
 body_by ps throwable k p m sig (Some h) = body_behind ps throwable k p m h (offset_in_info (m.method_offset + h.size))
 
 unfoldable pub body_of : List PackageRecord → ℕ → ℕ → PackageRecord → Method → Sig → Bool → Body
-body_of ps throwable k p m sig has_header = if has_header then body_by ps throwable k p m sig (header_in p.methods.info m.method_offset) else no_body m.flags sig
+body_of ps throwable k p m sig has_header = if has_header
+    then body_by ps throwable k p m sig (header_in p.methods.info m.method_offset) else no_body m.flags sig
 
 -- ---- methods
 
@@ -121,11 +122,13 @@ method_with m class sig body = record {
 
 -- a method with a signature
 abbrev pub method_as : List PackageRecord → ℕ → NumberedMethod → Sig → MethodRec
-method_as ps throwable m sig = method_with m (class_described ps m.home m.class) sig (body_of ps throwable m.home m.of_package m.record_of sig (have_headers ps m.home m.of_package m.class))
+method_as ps throwable m sig = method_with m (class_described ps m.home m.class) sig
+    (body_of ps throwable m.home m.of_package m.record_of sig (have_headers ps m.home m.of_package m.class))
 
 -- role 0 is the number of class object, role 1 that of class throwable
 unfoldable pub named_method : List PackageRecord → List ℕ → NumberedMethod → MethodRec
-named_method ps roles m = method_as ps (slice_index roles 1) m (signature_of ps (slice_index roles 0) m.home m.of_package.description m.record_of.type_offset)
+named_method ps roles m = method_as ps (slice_index roles 1) m
+    (signature_of ps (slice_index roles 0) m.home m.of_package.description m.record_of.type_offset)
 
 -- the methods of all packages by number
 unfoldable pub named_methods : List PackageRecord → List ℕ → List MethodRec

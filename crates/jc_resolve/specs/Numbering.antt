@@ -5,7 +5,7 @@ use Rattle.std.specs.Prelude.{ℕ, ◌+◌, Bool, false, if◌then◌else◌, Li
 use Rattle.cap_class.specs.ClassFormat.{Class, is_interface}
 use Rattle.cap_desc.specs.DescriptorFormat as described
 use Rattle.cap_package.specs.PackageRecord.{PackageRecord, classes_from}
-use Rattle.jc_resolve.specs.declared.place.Place.{Place}
+use Rattle.jc_resolve.specs.declared.place.RecordPlace.{RecordPlace}
 
 -- ---- classes
 
@@ -30,18 +30,18 @@ abbrev pub numbered_classes : List PackageRecord → List NumberedClass
 numbered_classes = classes_behind 0
 
 -- where a class stands: its package, and its offset in the Class component
-abbrev pub place_of_class : NumberedClass → Place
+abbrev pub place_of_class : NumberedClass → RecordPlace
 place_of_class c = record { «package» = c.home; offset = c.record_of.offset }
 
 -- where the classes stand; a class's number is its position
-abbrev pub class_places : List PackageRecord → List Place
+abbrev pub class_places : List PackageRecord → List RecordPlace
 class_places ps = map place_of_class (numbered_classes ps)
 
-abbrev pub same_place : Place → Place → Bool
+abbrev pub same_place : RecordPlace → RecordPlace → Bool
 same_place a b = a.package == b.package && a.offset == b.offset
 
 -- the number of the class that stands at a place
-unfoldable pub class_at : List PackageRecord → Place → Option ℕ
+unfoldable pub class_at : List PackageRecord → RecordPlace → Option ℕ
 class_at ps place = position (same_place place) (class_places ps)
 
 abbrev pub flagged_interface : Option NumberedClass → Bool
@@ -71,7 +71,15 @@ abbrev pub is_placed : PackageRecord → described.Class → Bool
 is_placed p c = nat_le (classes_from p.classes) c.class_ref
 
 abbrev pub numbered : ℕ → PackageRecord → ℕ → described.Class → ℕ → described.Method → NumberedMethod
-numbered k p class_no c method_no m = record { home = k; of_package = p; class_no = class_no; class = c; method_no = method_no; record_of = m; placed = is_placed p c }
+numbered k p class_no c method_no m = record {
+  home = k;
+  of_package = p;
+  class_no = class_no;
+  class = c;
+  method_no = method_no;
+  record_of = m;
+  placed = is_placed p c;
+}
 
 abbrev pub methods_of_class : ℕ → PackageRecord → ℕ → described.Class → ℕ → List described.Method → List NumberedMethod
 methods_of_class k p class_no c method_no [] = []
@@ -92,17 +100,17 @@ abbrev pub numbered_methods : List PackageRecord → List NumberedMethod
 numbered_methods = methods_behind 0
 
 -- where a method stands: its package, and its offset in the Method component
-abbrev pub place_of_method : NumberedMethod → Option Place
+abbrev pub place_of_method : NumberedMethod → Option RecordPlace
 place_of_method m = if m.placed then Some (record { «package» = m.home; offset = m.record_of.method_offset }) else None
 
 -- where the methods stand; a method's number is its position
-abbrev pub method_places : List PackageRecord → List (Option Place)
+abbrev pub method_places : List PackageRecord → List (Option RecordPlace)
 method_places ps = map place_of_method (numbered_methods ps)
 
-abbrev pub is_at : Place → Option Place → Bool
+abbrev pub is_at : RecordPlace → Option RecordPlace → Bool
 is_at place None = false
 is_at place (Some other) = same_place place other
 
 -- the number of the method that stands at a place
-unfoldable pub method_at : List PackageRecord → Place → Option ℕ
+unfoldable pub method_at : List PackageRecord → RecordPlace → Option ℕ
 method_at ps place = position (is_at place) (method_places ps)

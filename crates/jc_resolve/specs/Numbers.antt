@@ -5,40 +5,40 @@ use Rattle.indexmap.specs.IndexMap.{insert_entry}
 use Rattle.cap_class.specs.ClassFormat.{Class, is_interface}
 use Rattle.cap_desc.specs.DescriptorFormat as described
 use Rattle.cap_package.specs.PackageRecord.{PackageRecord, classes_from}
-use Rattle.jc_resolve.specs.declared.place.Place.{Place}
+use Rattle.jc_resolve.specs.declared.place.RecordPlace.{RecordPlace}
 use Rattle.jc_resolve.specs.Numbering.{same_place}
 use Rattle.jc_resolve.specs.Counts.{class_total, method_total}
 
 -- the numbers that are kept, and the next one
 pub record Numbered : Type 0 where
-  pub entries : List (Place × ℕ)
+  pub entries : List (RecordPlace × ℕ)
   pub next : ℕ
 
 abbrev pub none_numbered : Numbered
 none_numbered = record { entries = []; next = 0 }
 
 -- the number at a place
-abbrev pub number_at : List (Place × ℕ) → Place → Option ℕ
+abbrev pub number_at : List (RecordPlace × ℕ) → RecordPlace → Option ℕ
 number_at entries place = lookup (same_place place) entries
 
-unfoldable pub entered : List (Place × ℕ) → Place → ℕ → List (Place × ℕ)
+unfoldable pub entered : List (RecordPlace × ℕ) → RecordPlace → ℕ → List (RecordPlace × ℕ)
 entered entries place n = if is_some (number_at entries place) then entries else insert_entry same_place entries place n
 
 -- the next thing is numbered, which stands at a place or at none
-unfoldable pub with_next : Numbered → Option Place → Numbered
+unfoldable pub with_next : Numbered → Option RecordPlace → Numbered
 with_next t None = record { entries = t.entries; next = t.next + 1 }
 with_next t (Some place) = record { entries = entered t.entries place t.next; next = t.next + 1 }
 
 -- the things are numbered one after the other
-abbrev pub with_all : Numbered → List (Option Place) → Numbered
+abbrev pub with_all : Numbered → List (Option RecordPlace) → Numbered
 with_all = fold with_next
 
 -- ---- classes and methods as they are numbered
 
-abbrev pub spot_of_class : ℕ → Class → Option Place
+abbrev pub spot_of_class : ℕ → Class → Option RecordPlace
 spot_of_class k c = Some (record { «package» = k; offset = c.offset })
 
-abbrev pub class_spots : ℕ → List PackageRecord → List (Option Place)
+abbrev pub class_spots : ℕ → List PackageRecord → List (Option RecordPlace)
 class_spots k [] = []
 class_spots k (p ∷ ps) = map (spot_of_class k) p.classes ++ class_spots (k + 1) ps
 
@@ -46,14 +46,14 @@ abbrev pub class_flags : List PackageRecord → List Bool
 class_flags [] = []
 class_flags (p ∷ ps) = map (λ (c : Class). is_interface c.flags) p.classes ++ class_flags ps
 
-abbrev pub spot_of_method : ℕ → Bool → described.Method → Option Place
+abbrev pub spot_of_method : ℕ → Bool → described.Method → Option RecordPlace
 spot_of_method k placed m = if placed then Some (record { «package» = k; offset = m.method_offset }) else None
 
-abbrev pub spots_of_classes : ℕ → ℕ → List described.Class → List (Option Place)
+abbrev pub spots_of_classes : ℕ → ℕ → List described.Class → List (Option RecordPlace)
 spots_of_classes k start [] = []
 spots_of_classes k start (c ∷ cs) = map (spot_of_method k (nat_le start c.class_ref)) c.methods ++ spots_of_classes k start cs
 
-abbrev pub method_spots : ℕ → List PackageRecord → List (Option Place)
+abbrev pub method_spots : ℕ → List PackageRecord → List (Option RecordPlace)
 method_spots k [] = []
 method_spots k (p ∷ ps) = spots_of_classes k (classes_from p.classes) p.description.items.classes ++ method_spots (k + 1) ps
 

@@ -3,15 +3,19 @@
 use Rattle.std.specs.Prelude.{◌≡◌, ℕ, List, Some, slice_get}
 use Rattle.cap_package.specs.PackageRecord.{PackageRecord}
 use Rattle.jc_base.specs.declared.record.MethodRec.{MethodRec}
-use Rattle.jc_resolve.specs.declared.place.Place.{Place}
+use Rattle.jc_resolve.specs.declared.place.RecordPlace.{RecordPlace}
 use Rattle.jc_resolve.specs.Numbering.{class_places, method_places}
 
 pub record HaveOwnPlaces (ps : List PackageRecord) (methods : List MethodRec) : Type 0 where
   -- no two classes of a package stand at one offset
-  pub classes : (c d : ℕ) (place : Place) → slice_get (class_places ps) c ≡ Some place → slice_get (class_places ps) d ≡ Some place → c ≡ d
+  pub classes :
+      (c d : ℕ) (place : RecordPlace)
+      → slice_get (class_places ps) c ≡ Some place
+      → slice_get (class_places ps) d ≡ Some place
+      → c ≡ d
   -- no two methods that stand in the Method component of a package stand at one offset
   pub headers :
-      (m n : ℕ) (place : Place)
+      (m n : ℕ) (place : RecordPlace)
       → slice_get (method_places ps) m ≡ Some (Some place)
       → slice_get (method_places ps) n ≡ Some (Some place)
       → m ≡ n

@@ -4,7 +4,7 @@ use Rattle.cap_frame.specs.PackageFormat.{Package}
 use Rattle.cap_pool.specs.ExportFormat.{Exported}
 use Rattle.cap_package.specs.PackageRecord.{PackageRecord, aid, minor, major}
 use Rattle.cap_package.specs.Agreement.{or_none}
-use Rattle.jc_resolve.specs.declared.place.Place.{Place}
+use Rattle.jc_resolve.specs.declared.place.RecordPlace.{RecordPlace}
 use Rattle.jc_resolve.specs.Numbering.{class_at}
 
 -- ---- imports
@@ -41,11 +41,11 @@ class_token reference = reference % 256
 abbrev pub exported_offset : List PackageRecord → ℕ → ℕ → Option ℕ
 exported_offset ps k token = option_map (λ (c : Exported). c.class_offset) (exported_class ps k token)
 
-abbrev pub exported_place : List PackageRecord → ℕ → ℕ → Option Place
+abbrev pub exported_place : List PackageRecord → ℕ → ℕ → Option RecordPlace
 exported_place ps k token = option_map (λ offset. record { «package» = k; offset = offset }) (exported_offset ps k token)
 
 -- where the class stands that a reference names
-abbrev pub place_named : List PackageRecord → ℕ → ℕ → Option Place
+abbrev pub place_named : List PackageRecord → ℕ → ℕ → Option RecordPlace
 place_named ps k reference =
     if is_internal reference then Some (record { «package» = k; offset = reference })
     else option_and_then (λ j. exported_place ps j (class_token reference)) (met_by ps k (import_token reference))

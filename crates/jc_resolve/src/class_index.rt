@@ -9,7 +9,7 @@ ghost use Rattle.jc_resolve.specs.References.{class_named};
 use crate::imports::{exported_offset, met_by};
 use crate::method_index::number_methods;
 use crate::numbers::Numbers;
-use crate::place::Place;
+use crate::place::RecordPlace;
 use cap_class::Classes;
 use cap_package::Packages;
 use std::alloc::{AllocError, Global};
@@ -53,7 +53,7 @@ fn number_package(
     ensures next { OnOk result (numbers.new.next ≡ numbers.old.next + length (classes_left classes.entry)) }
 {
     'classes: for class in classes {
-        numbers.push(Some(Place {
+        numbers.push(Some(RecordPlace {
             package,
             offset: class.offset(),
         }))?;
@@ -123,7 +123,7 @@ impl<'n, 'p, 'a> Index<'n, 'p, 'a> {
 
     /// The number of the class at a place.
     #[tactic(auto, using(crate::proofs::NumberLaws::class_numbered))]
-    fn class_at(&self, place: Place) -> Option<u16>
+    fn class_at(&self, place: RecordPlace) -> Option<u16>
         ensures is { result ≡ class_at self.now place }
         ensures below { IfSome result (λ c. c < length (numbered_classes self.now)) }
     {
@@ -137,7 +137,7 @@ impl<'n, 'p, 'a> Index<'n, 'p, 'a> {
         ensures below { IfSome result (λ c. c < length (numbered_classes self.now)) }
     {
         if reference < 0x8000 {
-            return self.class_at(Place {
+            return self.class_at(RecordPlace {
                 package,
                 offset: reference,
             });
@@ -145,7 +145,7 @@ impl<'n, 'p, 'a> Index<'n, 'p, 'a> {
         let import = ((reference - 0x8000) / 256) as u8;
         let home = met_by(self.packages, package, import)?;
         let offset = exported_offset(self.packages, home, (reference % 256) as u8)?;
-        self.class_at(Place {
+        self.class_at(RecordPlace {
             package: home,
             offset,
         })
@@ -153,7 +153,7 @@ impl<'n, 'p, 'a> Index<'n, 'p, 'a> {
 
     /// The number of the method at a place.
     #[tactic(auto, using(crate::proofs::NumberLaws::method_numbered))]
-    pub(crate) fn method_at(&self, place: Place) -> Option<u16>
+    pub(crate) fn method_at(&self, place: RecordPlace) -> Option<u16>
         ensures is { result ≡ method_at self.now place }
         ensures below { IfSome result (λ n. n < length (numbered_methods self.now)) }
     {

@@ -6,13 +6,13 @@ ghost use Rattle.cap_desc.specs.MemberLists.{fields_left};
 ghost use Rattle.cap_desc.specs.MemberRecords.{field_seen};
 ghost use Rattle.cap_package.specs.Descriptions.{description};
 ghost use Rattle.jc_resolve.specs.Named.{IsByteTable, IsSized};
-ghost use Rattle.jc_resolve.specs.NamedClasses.{is_instance, instance_fields, with_token, cells_of_field, cells_of_fields, entry_of, table_of, no_table, interfaces_named, interface_in, named_proper, named_class};
+ghost use Rattle.jc_resolve.specs.NamedClasses.{is_instance, instance_fields, with_token, cells_of_field, cells_of_fields, entry_of, table_of, no_table, implemented_interfaces, interface_in, named_proper, named_class};
 ghost use Rattle.jc_resolve.specs.Numbering.{numbered_class, numbered_classes, classes_of};
 
 use crate::class_index::Index;
 use crate::home::Home;
-use crate::named::{NamedClass, Table};
-use crate::place::Place;
+use crate::named::{DispatchTable, NamedClass};
+use crate::place::RecordPlace;
 use crate::world_types::push_cells;
 use cap_class::{ClassInfo, Interfaces};
 use cap_desc::{DescFields, DescPart, FieldInfo};
@@ -31,7 +31,7 @@ fn entry_of(index: &Index<'_, '_, '_>, package: u16, offset: u16) -> Option<u16>
     if offset == 0xFFFF {
         return None;
     }
-    index.method_at(Place { package, offset })
+    index.method_at(RecordPlace { package, offset })
 }
 
 /// A dispatch table of a class.
@@ -41,7 +41,7 @@ fn table_of(
     package: u16,
     base: u8,
     offsets: cap_bytes::Table<'_>,
-) -> Result<Table, AllocError>
+) -> Result<DispatchTable, AllocError>
     requires { length (numbers offsets) ≤ 255 }
     ensures is { IfOk result (λ t. t ≡ table_of index.now «package» base (numbers offsets.entry)) }
     ensures sized { IfOk result IsByteTable }
@@ -50,7 +50,7 @@ fn table_of(
     'entries: for offset in offsets {
         entries.push(entry_of(index, package, offset))?;
     }
-    Ok(Table {
+    Ok(DispatchTable {
         base,
         entries: Items::of(entries),
     })
@@ -58,13 +58,13 @@ fn table_of(
 
 /// The interfaces of a record.
 #[tactic(auto, unfolding(crate::specs::NamedClasses::interface_named))]
-fn interfaces_named(
+fn implemented_interfaces(
     alloc: Global,
     index: &Index<'_, '_, '_>,
     package: u16,
     interfaces: Interfaces<'_>,
 ) -> Result<Vec<Iface>, AllocError>
-    ensures { IfOk result (λ v. v.items ≡ interfaces_named index.now «package» (interfaces_left interfaces.entry)) }
+    ensures { IfOk result (λ v. v.items ≡ implemented_interfaces index.now «package» (interfaces_left interfaces.entry)) }
 {
     let mut named = Vec::new(alloc);
     'interfaces: for interface in interfaces {
@@ -142,7 +142,9 @@ fn push_token(
 ) -> Result<(), AllocError>
     ensures { OnOk result
         (cells.new.items
-        ≡ cells.old.items ++ flat_map (cells_of_field index.now object «package» (description descriptor.now)) (with_token (map field_seen fields.now) token)) }
+        ≡ cells.old.items ++ flat_map
+        (cells_of_field index.now object «package» (description descriptor.now))
+        (with_token (map field_seen fields.now) token)) }
 {
     'fields: for field in fields {
         if field.bytes[2] as u16 == token {
@@ -177,10 +179,10 @@ fn cells_of_fields(
     Ok(cells)
 }
 
-fn no_table(alloc: Global) -> Table
+fn no_table(alloc: Global) -> DispatchTable
     ensures { result ≡ no_table }
 {
-    Table {
+    DispatchTable {
         base: 0,
         entries: Items::of(Vec::new(alloc)),
     }
@@ -196,7 +198,7 @@ fn interface_in(
     ensures is { IfOk result (λ c. c ≡ interface_in index.now «package» (class_seen class.entry)) }
     ensures sized { IfOk result IsSized }
 {
-    let interfaces = interfaces_named(alloc, index, package, class.interfaces())?;
+    let interfaces = implemented_interfaces(alloc, index, package, class.interfaces())?;
     Ok(NamedClass {
         package,
         interface: true,
@@ -227,9 +229,15 @@ fn named_proper(
     let number = home.number;
     let object = home.roles[0] as u16;
     let descriptor = home.of_package.descriptor();
-    let interfaces = interfaces_named(alloc, index, number, class.interfaces())?;
+    let interfaces = implemented_interfaces(alloc, index, number, class.interfaces())?;
     let public = table_of(alloc, index, number, class.public_base(), class.publics())?;
-    let visible = table_of(alloc, index, number, class.package_base(), class.packages())?;
+    let visible = table_of(
+        alloc,
+        index,
+        number,
+        class.package_base(),
+        class.package_table(),
+    )?;
     let fields = instance_fields(alloc, &descriptor, class.offset())?;
     let own = cells_of_fields(alloc, index, object, number, &descriptor, fields.as_slice())?;
     let super_ref = class.super_ref();
@@ -281,7 +289,8 @@ fn push_classes(
     requires { All IsSized named.old.items }
     ensures is { OnOk result
         (named.new.items
-        ≡ named.old.items ++ map (named_class home.entry.index.now (slice_index home.entry.roles 0)) (classes_of home.entry.number home.entry.of_package.now)) }
+        ≡ named.old.items ++ map (named_class home.entry.index.now (slice_index home.entry.roles 0))
+        (classes_of home.entry.number home.entry.of_package.now)) }
     ensures sized { OnOk result (All IsSized named.new.items) }
 {
     'classes: for class in home.of_package.classes().iter() {

@@ -24,8 +24,8 @@ mod world_types;
 
 pub use fault::{LinkEnd, LinkFault};
 pub use least::{lesser, refuse};
-pub use named::{NamedClass, NamedClasses, Table};
+pub use named::{DispatchTable, NamedClass, NamedClasses};
 pub use names_type::Names;
 pub use naming::names;
-pub use place::Place;
+pub use place::RecordPlace;
 pub use world_types::{kind_of, width};

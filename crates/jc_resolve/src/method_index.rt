@@ -7,7 +7,7 @@ ghost use Rattle.jc_resolve.specs.Counts.{method_count, method_total};
 ghost use Rattle.jc_resolve.specs.Numbers.{none_numbered, method_spots, spot_of_method, spots_of_classes, with_all};
 
 use crate::numbers::Numbers;
-use crate::place::Place;
+use crate::place::RecordPlace;
 use cap_class::ClassPart;
 use cap_desc::{DescClasses, DescMethods};
 use cap_package::Packages;
@@ -41,7 +41,7 @@ fn number_class(
 {
     'methods: for method in methods {
         let place = if placed {
-            Some(Place {
+            Some(RecordPlace {
                 package,
                 offset: method.method_offset,
             })

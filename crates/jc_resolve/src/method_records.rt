@@ -292,7 +292,9 @@ fn push_class(
 ) -> Result<(), AllocError>
     ensures { OnOk result
         (methods.new.items
-        ≡ methods.old.items ++ map (named_method home.entry.index.now home.entry.roles) (methods_of_class home.entry.number home.entry.of_package.now class_no (class_seen class.entry) 0 (class_seen class.entry).methods)) }
+        ≡ methods.old.items ++ map (named_method home.entry.index.now home.entry.roles)
+        (methods_of_class home.entry.number home.entry.of_package.now class_no (class_seen class.entry) 0
+        (class_seen class.entry).methods)) }
 {
     let has_header = have_headers(home, class);
     // Their number is one that `method_count` can answer.
@@ -314,7 +316,8 @@ fn push_package(
 ) -> Result<(), AllocError>
     ensures named { OnOk result
         (methods.new.items
-        ≡ methods.old.items ++ map (named_method home.entry.index.now home.entry.roles) (methods_of_classes home.entry.number home.entry.of_package.now 0 home.entry.of_package.now.description.items.classes)) }
+        ≡ methods.old.items ++ map (named_method home.entry.index.now home.entry.roles)
+        (methods_of_classes home.entry.number home.entry.of_package.now 0 home.entry.of_package.now.description.items.classes)) }
     ensures agreed { IsAgreed home.entry.of_package.now }
     ensures few { HasFewHandlers home.entry.of_package.now }
 {

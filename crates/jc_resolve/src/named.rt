@@ -2,7 +2,7 @@ use jc_base::{Ifaces, Items, Tys};
 
 /// A dispatch table of a class's own (JCVM 2.2, section 6.8.2).
 #[derive(Drop)]
-pub struct Table {
+pub struct DispatchTable {
     /// The token of the first entry.
     pub base: u8,
     /// From that token on the numbers of methods; `None` keeps the entry of the superclass.
@@ -19,8 +19,8 @@ pub struct NamedClass {
     /// The interfaces that a class implements, with the public tokens that serve them, or those that an
     /// interface extends, without tokens.
     pub interfaces: Ifaces,
-    pub public: Table,
-    pub visible: Table,
+    pub public: DispatchTable,
+    pub visible: DispatchTable,
     /// One type for each cell of its own instance fields, in the order of their tokens.
     pub own: Tys,
 }

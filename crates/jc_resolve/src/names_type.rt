@@ -9,7 +9,7 @@ ghost use Rattle.jc_resolve.specs.WorldTypes.{type_of};
 use crate::class_index::Index;
 use crate::imports::met_by;
 use crate::named::NamedClasses;
-use crate::place::Place;
+use crate::place::RecordPlace;
 use crate::world_types::type_of;
 use cap_desc::TypeItem;
 use cap_package::Packages;
@@ -92,7 +92,7 @@ impl<'n, 'p, 'a> Names<'n, 'p, 'a> {
         ensures is { result ≡ method_at self.now.packages (record { «package» = «package»; offset = offset }) }
         ensures below { IfSome result (λ n. n < length (numbered_methods self.now.packages)) }
     {
-        self.index.method_at(Place { package, offset })
+        self.index.method_at(RecordPlace { package, offset })
     }
 
     /// The type of the world that an item of a type descriptor in a package stands for; void has none.

@@ -1,7 +1,7 @@
 ghost use Rattle.std.specs.Prelude.{◌≡◌, ◌+◌, ◌<◌, OnOk};
 ghost use Rattle.jc_resolve.specs.Numbers.{none_numbered, number_at, entered, with_next};
 
-use crate::place::Place;
+use crate::place::RecordPlace;
 use indexmap::IndexMap;
 use std::alloc::{AllocError, Global};
 use std::marker::Model;
@@ -9,7 +9,7 @@ use std::marker::Model;
 /// The numbers of things by their places, in the order in which they were numbered.
 #[derive(Drop)]
 pub(crate) struct Numbers {
-    map: IndexMap<Place, u16>,
+    map: IndexMap<RecordPlace, u16>,
     next: u16,
 }
 
@@ -34,7 +34,7 @@ impl Numbers {
 
     /// Keeps a number at a place where none is kept.
     #[tactic(auto, unfolding(crate::specs::Numbers::entered))]
-    fn enter(&mut self, place: Place) -> Result<(), AllocError>
+    fn enter(&mut self, place: RecordPlace) -> Result<(), AllocError>
         ensures { OnOk result (self.new ≡ record { entries = entered self.old.entries place self.old.next; next = self.old.next }) }
     {
         if self.map.contains_key(&place) {
@@ -46,7 +46,7 @@ impl Numbers {
 
     /// Numbers the next thing, which stands at a place or at none.
     #[tactic(auto, unfolding(crate::specs::Numbers::with_next))]
-    pub(crate) fn push(&mut self, place: Option<Place>) -> Result<(), AllocError>
+    pub(crate) fn push(&mut self, place: Option<RecordPlace>) -> Result<(), AllocError>
         requires { self.old.next < 65535 }
         ensures numbers { OnOk result (self.new ≡ with_next self.old place) }
         ensures next { OnOk result (self.new.next ≡ self.old.next + 1) }
@@ -59,7 +59,7 @@ impl Numbers {
     }
 
     /// The number of the first thing at a place.
-    pub(crate) fn at(&self, place: Place) -> Option<u16>
+    pub(crate) fn at(&self, place: RecordPlace) -> Option<u16>
         ensures { result ≡ number_at self.now.entries place }
     {
         self.map.get(&place).copied()

@@ -44,7 +44,7 @@ pub(crate) fn reference_in(bytes: [u8; 3]) -> u16
 }
 
 /// The least fault so far, when the interfaces of a record were looked at.
-fn interfaces_named(
+fn least_of_interfaces(
     index: &Index<'_, '_, '_>,
     package: u16,
     interfaces: Interfaces<'_>,
@@ -63,7 +63,7 @@ fn interfaces_named(
 }
 
 /// The least fault so far, when a record of the Class component was looked at.
-fn class_whole(
+fn least_of_class(
     index: &Index<'_, '_, '_>,
     package: u16,
     class: ClassInfo<'_>,
@@ -73,15 +73,15 @@ fn class_whole(
 {
     let super_ref = class.super_ref();
     if super_ref == 0xFFFF {
-        return interfaces_named(index, package, class.interfaces(), least);
+        return least_of_interfaces(index, package, class.interfaces(), least);
     }
     let least = lesser(least, reference_fault(index, package, super_ref));
-    interfaces_named(index, package, class.interfaces(), least)
+    least_of_interfaces(index, package, class.interfaces(), least)
 }
 
 /// The least fault so far, when the Class component was looked at.
 #[tactic(auto, using(crate::proofs::NamedFaults::least_classes))]
-fn classes_whole(
+fn least_of_classes(
     index: &Index<'_, '_, '_>,
     package: u16,
     classes: Classes<'_>,
@@ -94,7 +94,7 @@ fn classes_whole(
 {
     let mut least = least;
     'classes: for class in classes {
-        least = class_whole(index, package, class, least);
+        least = least_of_class(index, package, class, least);
     }
     least
 }
@@ -163,7 +163,7 @@ fn record_whole(
 
 /// The least fault so far, when the records of the Descriptor were looked at.
 #[tactic(auto, using(crate::proofs::NamedFaults::least_records))]
-fn records_whole(
+fn least_of_records(
     index: &Index<'_, '_, '_>,
     package: u16,
     records: DescClasses<'_>,
@@ -275,8 +275,8 @@ fn package_whole(
     ensures { result ≡ least_from place_of least (reference_fault index.now number) (class_references «package».now) }
 {
     let descriptor = package.descriptor();
-    let classes = classes_whole(index, number, package.classes().iter(), least);
-    let records = records_whole(index, number, descriptor.classes(), classes);
+    let classes = least_of_classes(index, number, package.classes().iter(), least);
+    let records = least_of_records(index, number, descriptor.classes(), classes);
     let fields = field_types_named(index, number, &descriptor, records);
     method_types_named(index, number, &descriptor, fields)
 }

@@ -17,7 +17,7 @@ use Rattle.cap_desc.specs.Members.{fields_of}
 use Rattle.cap_desc.specs.MembersLeft.{fields_of_left}
 use Rattle.cap_package.specs.declared.places.StaticPlaces.{StaticPlaces}
 use Rattle.cap_package.specs.Descriptions.{description}
-use Rattle.cap_package.specs.StaticChecks.{Place, place_in}
+use Rattle.cap_package.specs.StaticChecks.{ImagePlace, place_in}
 use Rattle.cap_package.specs.CountChecks.{array_bytes}
 use Rattle.cap_package.specs.PackageRecord.{PackageRecord}
 use Rattle.cap_package.specs.StaticPlaces.{static_places, places_left}
@@ -46,7 +46,7 @@ width_few Byte = omega arith
 width_few Short = omega arith
 width_few Int = omega arith
 
-cells_few : (places : List Place) → sum_by cells_at places ≤ 2 * length places
+cells_few : (places : List ImagePlace) → sum_by cells_at places ≤ 2 * length places
 cells_few [] = omega arith
 cells_few (p ∷ places) = omega (arith, sum_by-cons cells_at p places, width_few (kind_of p.ty), cells_few places)
 

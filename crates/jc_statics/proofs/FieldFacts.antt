@@ -18,7 +18,7 @@ use Rattle.jc_base.specs.Linked.{IsStatic}
 use Rattle.cap_method.specs.StaticFormat.{Array, Statics}
 use Rattle.cap_desc.specs.declared.type_item.TypeItem.{TypeItem}
 use Rattle.cap_desc.specs.TypeFormat.{is_type}
-use Rattle.cap_package.specs.StaticChecks.{Place, is_in_image}
+use Rattle.cap_package.specs.StaticChecks.{ImagePlace, is_in_image}
 use Rattle.cap_package.specs.PackageRecord.{PackageRecord}
 use Rattle.cap_package.specs.StaticPlaces.{static_places, IsStaticPlace}
 use Rattle.jc_resolve.specs.WorldTypes.{kind_of}
@@ -80,7 +80,7 @@ reference_type (suc (suc (suc (suc zero)))) r k typed void = absurd cc
 reference_type (suc (suc (suc (suc (suc zero))))) r k typed void = absurd cc
 reference_type (suc (suc (suc (suc (suc (suc n)))))) r k typed void = omega arith
 
-even_place : (s : Statics) (p : Place) → 6 ≤ p.ty.nibble → is_in_image s p ≡ true → p.offset % 2 ≡ 0
+even_place : (s : Statics) (p : ImagePlace) → 6 ≤ p.ty.nibble → is_in_image s p ≡ true → p.offset % 2 ≡ 0
 even_place s p le h =
     let i : (eqb (p.offset % 2) 0 && leb (p.offset + 2) (2 * s.reference_count)) ≡ true = rw (le-leb 6 p.ty.nibble le) at h in
     eqb-true _ _ (and_first _ _ i)

@@ -8,7 +8,7 @@ use Rattle.jc_base.specs.Cell.{width}
 use Rattle.jc_base.specs.Linked.{AreSlots}
 use Rattle.cap_desc.specs.declared.type_item.TypeItem.{TypeItem}
 use Rattle.cap_method.specs.StaticFormat.{Statics}
-use Rattle.cap_package.specs.StaticChecks.{Place}
+use Rattle.cap_package.specs.StaticChecks.{ImagePlace}
 use Rattle.cap_package.specs.PackageRecord.{PackageRecord}
 use Rattle.cap_package.specs.StaticPlaces.{static_places}
 use Rattle.jc_statics.specs.Statics.{Site, site, sites, sites_behind, cells_at, static_cells, static_record, type_at, records_from, static_records}
@@ -18,7 +18,7 @@ use Rattle.jc_statics.proofs.Steps.{next_item}
 abbrev pub cells_in : List Site → ℕ
 cells_in = sum_by (λ (s : Site). cells_at s.place)
 
-cells_at_home : (home first : ℕ) (s : Statics) (places : List Place) → cells_in (map (site home first s) places) ≡ sum_by cells_at places
+cells_at_home : (home first : ℕ) (s : Statics) (places : List ImagePlace) → cells_in (map (site home first s) places) ≡ sum_by cells_at places
 cells_at_home home first s [] = refl
 cells_at_home home first s (p ∷ places) =
     omega (arith, sum_by-cons (λ (x : Site). cells_at x.place) (site home first s p) (map (site home first s) places), sum_by-cons cells_at p places, cells_at_home home first s places)

@@ -6,7 +6,7 @@ use Rattle.jc_base.specs.declared.ty.Ty.{Ty}
 use Rattle.jc_base.specs.declared.record.StaticRec.{StaticRec}
 use Rattle.cap_desc.specs.declared.type_item.TypeItem.{TypeItem}
 use Rattle.cap_method.specs.StaticFormat.{Statics}
-use Rattle.cap_package.specs.StaticChecks.{Place}
+use Rattle.cap_package.specs.StaticChecks.{ImagePlace}
 use Rattle.cap_package.specs.PackageRecord.{PackageRecord}
 use Rattle.cap_package.specs.StaticPlaces.{static_places, AreApart}
 use Rattle.jc_statics.specs.Statics.{Site, site, sites, sites_behind, cells_at, static_record, type_at, records_from, static_records}
@@ -30,7 +30,7 @@ homes_from home first (p ∷ ps) =
     (All-weaker (λ (s : Site). home + 1 ≤ s.home) P (λ s le. omega arith) rest (homes_from (home + 1) (first + length p.statics.arrays) ps))
 
 -- the fields of one package, before those of later ones
-package_apart : (home first : ℕ) (st : Statics) (places : List Place) (rest : List Site) → AreApart places → All (λ (s : Site). home + 1 ≤ s.home) rest → AreSitesApart rest → AreSitesApart (map (site home first st) places ++ rest)
+package_apart : (home first : ℕ) (st : Statics) (places : List ImagePlace) (rest : List Site) → AreApart places → All (λ (s : Site). home + 1 ≤ s.home) rest → AreSitesApart rest → AreSitesApart (map (site home first st) places ++ rest)
 package_apart home first st [] rest apart later others = others
 package_apart home first st (p ∷ places) rest apart later others =
     let here = site home first st p in (

@@ -6,14 +6,14 @@ use Rattle.jc_base.specs.declared.record.StaticRec.{StaticRec}
 use Rattle.jc_base.specs.Cell.{width}
 use Rattle.cap_method.specs.StaticFormat.{Statics}
 use Rattle.cap_desc.specs.declared.type_item.TypeItem.{TypeItem}
-use Rattle.cap_package.specs.StaticChecks.{Place}
+use Rattle.cap_package.specs.StaticChecks.{ImagePlace}
 use Rattle.cap_package.specs.PackageRecord.{PackageRecord}
 use Rattle.cap_package.specs.StaticPlaces.{static_places}
 use Rattle.jc_resolve.specs.WorldTypes.{kind_of}
 use Rattle.jc_statics.specs.Image.{words_at}
 
 -- the cells of the field at a place
-abbrev pub cells_at : Place → ℕ
+abbrev pub cells_at : ImagePlace → ℕ
 cells_at p = width (kind_of p.ty)
 
 -- the static cells of all packages
@@ -27,15 +27,16 @@ pub record Site : Type 0 where
   pub home : ℕ
   pub first : ℕ
   pub statics : Statics
-  pub place : Place
+  pub place : ImagePlace
 
-abbrev pub site : ℕ → ℕ → Statics → Place → Site
+abbrev pub site : ℕ → ℕ → Statics → ImagePlace → Site
 site home first s place = record { home = home; first = first; statics = s; place = place }
 
 -- the fields of packages, the first of which has a number, and whose initial arrays have handles from a first one on
 abbrev pub sites_behind : ℕ → ℕ → List PackageRecord → List Site
 sites_behind home first [] = []
-sites_behind home first (p ∷ ps) = map (site home first p.statics) (static_places p) ++ sites_behind (home + 1) (first + length p.statics.arrays) ps
+sites_behind home first (p ∷ ps) = map (site home first p.statics) (static_places p)
+    ++ sites_behind (home + 1) (first + length p.statics.arrays) ps
 
 -- the static fields of all packages; handles count from 1
 abbrev pub sites : List PackageRecord → List Site

@@ -78,7 +78,8 @@ fn push_statics(
     ensures is { IfOk result
         (λ _.
         records.new.items
-        ≡ records.old.items ++ records_from (type_of names.now.packages (slice_index names.now.roles 0)) slot (map (site home.«package» home.first «package».now.statics) (static_places «package».now))) }
+        ≡ records.old.items ++ records_from (type_of names.now.packages (slice_index names.now.roles 0)) slot
+        (map (site home.«package» home.first «package».now.statics) (static_places «package».now))) }
     ensures next { IfOk result (λ next. next ≡ slot + sum_by cells_at (static_places «package».now)) }
     ensures known { IfOk result (λ _. AreStaticsKnown «package».now) }
 {

@@ -26,7 +26,8 @@ pub data HasType (t : ClassTable) (kinds : List ObjectKind) : Cell → Ty → Ty
   high : {n : ℕ} → HasType t kinds (cells.High n) IntHigh
   low : {n : ℕ} → HasType t kinds (cells.Low n) IntLow
   null : {ty : Ty} → Below t Null ty → HasType t kinds (cells.Ref 0) ty
-  reference : {h : ℕ} {k : ObjectKind} {ty : Ty} → slice_get kinds h ≡ Some k → Below t (type_of_kind t k) ty → HasType t kinds (cells.Ref (suc h)) ty
+  reference : {h : ℕ} {k : ObjectKind} {ty : Ty} → slice_get kinds h ≡ Some k → Below t (type_of_kind t k) ty
+      → HasType t kinds (cells.Ref (suc h)) ty
   fresh : {h p c : ℕ} → slice_get kinds h ≡ Some (Instance c) → HasType t kinds (cells.Fresh (suc h) p) (Fresh p c)
 
 -- the type of a reference to an object that is there

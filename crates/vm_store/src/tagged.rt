@@ -48,9 +48,14 @@ impl Model for TaggedStore {
     ghost use Rattle.vm_store.specs.Layout.{objects_in};
     ghost use Rattle.vm_store.specs.Tagged.{IsInOrder};
 
-    ghost view = { λ s. record { frames = reverse (take s.live s.frames.items); heap = objects_in s.cells.items s.headers.items; statics = s.statics.items } };
+    ghost view = { λ s. record {
+      frames = reverse (take s.live s.frames.items);
+      heap = objects_in s.cells.items s.headers.items;
+      statics = s.statics.items;
+    } };
 
-    ghost invariant = { λ s. IsInOrder (length s.frames.items) s.live s.headers.items (vec_capacity s.headers) (length s.cells.items) s.used };
+    ghost invariant = { λ s. IsInOrder (length s.frames.items) s.live s.headers.items
+        (vec_capacity s.headers) (length s.cells.items) s.used };
 }
 
 impl TaggedStore {

@@ -1,7 +1,7 @@
 use Rattle.std.proofs.Common.{◌≡◌, ◌<◌, length, sym, ap, subst, ◌∙◌, ◌++◌, arith}
 use Rattle.jc_resolve.specs.Fault.{place_of}
 use Rattle.jc_resolve.specs.FirstFault.{least_from}
-use Rattle.jc_classes.specs.declared.layout.Layout.{Layout}
+use Rattle.jc_classes.specs.declared.layout.ClassLayout.{ClassLayout}
 use Rattle.jc_classes.specs.Layout.{layout_of}
 use Rattle.jc_classes.specs.Slots.{IsShort}
 use Rattle.jc_classes.specs.Conditions.{hole_fault, entries_from, entries_in}
@@ -20,7 +20,7 @@ classes-preserved c =
     let fault = hole_fault c.args.lineage.now c.args.methods.now in
     let at : c.index-all-c.result ≡ layout_of c.args.lineage.now c.args.classes.now c.classes.c = layout_at c.args.lineage.now c.args.classes.now c.args.all.now c.classes.c c.index-all-c.result c.requires.layouts low c.index-all-c.is in (
       c.holes_of-least.ensures.is
-          ∙ ap (λ (l : Layout). least_from place_of c.classes.least fault (entries_from c.classes.c 0 l.public ++ entries_from c.classes.c 128 l.visible)) at
+          ∙ ap (λ (l : ClassLayout). least_from place_of c.classes.least fault (entries_from c.classes.c 0 l.public ++ entries_from c.classes.c 128 l.visible)) at
           ∙ least_next fault (entries_in c.args.lineage.now c.args.classes.now) c.classes.c c.classes.least c.classes.invariant.0,
       c.holes_of-least.ensures.room,
       c.holes_of-least.ensures.none,

@@ -2,7 +2,7 @@ use Rattle.std.proofs.Common.{◌≡◌, ◌<◌, ◌≤◌, length, refl, ◌�
 use Rattle.jc_classes.specs.Tables.{records_from}
 use Rattle.jc_classes.proofs.Folds.{layout_at}
 use Rattle.jc_classes.proofs.Lines.{records_next}
-use Rattle.jc_classes.proofs.Agreed.{layout_cells_short, records_whole, table_classes}
+use Rattle.jc_classes.proofs.Agreed.{layout_cells_short, least_of_records, table_classes}
 use Rattle.jc_classes.proofs.tabling.build.Goals as goal
 
 pub record_from-requires : goal.record_from-requires
@@ -20,13 +20,13 @@ classes-preserved c =
 pub of-requires-2 : goal.of-requires-2
 of-requires-2 c =
     let high : length c.args.classes.now ≤ c.classes.c = omega (arith, c.len-c-end.ensures, c.classes-test.false) in
-    let whole : c.of.result ≡ records_from c.args.lineage.now c.args.classes.now 0 c.args.classes.now = c.of.ensures ∙ records_whole c.args.lineage.now c.args.classes.now c.classes.c c.classes.records.items high c.classes.invariant in
+    let whole : c.of.result ≡ records_from c.args.lineage.now c.args.classes.now 0 c.args.classes.now = c.of.ensures ∙ least_of_records c.args.lineage.now c.args.classes.now c.classes.c c.classes.records.items high c.classes.invariant in
     let roles = c.roles.ensures in
     rw roles (table_classes c.args.lineage.now c.args.classes.now c.of.result c.requires.outline c.records.ensures.chains whole)
 
 pub returns : goal.returns
 returns c =
     let high : length c.args.classes.now ≤ c.classes.c = omega (arith, c.len-c-end.ensures, c.classes-test.false) in
-    let whole : c.of.result ≡ records_from c.args.lineage.now c.args.classes.now 0 c.args.classes.now = c.of.ensures ∙ records_whole c.args.lineage.now c.args.classes.now c.classes.c c.classes.records.items high c.classes.invariant in
+    let whole : c.of.result ≡ records_from c.args.lineage.now c.args.classes.now 0 c.args.classes.now = c.of.ensures ∙ least_of_records c.args.lineage.now c.args.classes.now c.classes.c c.classes.records.items high c.classes.invariant in
     let roles = c.roles.ensures in
     c.of-2.ensures ∙ rw (roles, whole) refl

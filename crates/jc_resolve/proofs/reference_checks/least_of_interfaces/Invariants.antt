@@ -4,7 +4,7 @@ use Rattle.cap_class.specs.Lists.{interfaces_left}
 use Rattle.jc_resolve.specs.Fault.{place_of}
 use Rattle.jc_resolve.specs.FirstFault.{least_from}
 use Rattle.jc_resolve.specs.Conditions.{reference_fault}
-use Rattle.jc_resolve.proofs.reference_checks.interfaces_named.Given as goal
+use Rattle.jc_resolve.proofs.reference_checks.least_of_interfaces.Given as goal
 
 abbrev pub invariant-interfaces : goal.invariant-interfaces
 invariant-interfaces l =

@@ -4,7 +4,7 @@ use crate::view::View;
 
 /// The items of a component's info, taken one after the other from the first on.
 #[derive(Clone, Copy)]
-pub struct Items<'a> {
+pub struct Cursor<'a> {
     pub info: View<'a>,
     /// The component's tag, which a fault names.
     pub part: u8,

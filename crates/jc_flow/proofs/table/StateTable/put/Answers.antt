@@ -2,7 +2,7 @@ use Rattle.std.proofs.Common.{◌≡◌, ◌<◌, IsSomeAnd, IfSome, length, opt
 use Rattle.jc_rules.specs.Typing.{state_at, Clashes}
 use Rattle.jc_flow.specs.Found.{Found, HasKnown, Lands}
 use Rattle.jc_flow.proofs.Landing.{there, some_there, lands_same, lands_risen, lands_not}
-use Rattle.jc_flow.proofs.table.Table.put.Goals as goal
+use Rattle.jc_flow.proofs.table.StateTable.put.Goals as goal
 
 pub merge-requires-clause-there : goal.merge-requires-clause-there
 merge-requires-clause-there c =
