@@ -50,7 +50,7 @@ fn read(info: View<'_>) -> Result<BareMethod<'_>, FormFault>
     ensures compact { IfOk result (λ m. IsCompact m.bare) }
     ensures length { IfOk result (λ m. length m.code.bytes.now ≤ 65535) }
 {
-    let mut items = Items::of(info, METHOD);
+    let mut items = Cursor::of(info, METHOD);
     let place = items;
     if items.u1()? != 0 {
         return Err(place.fault(FormKind::BadValue));
@@ -63,7 +63,7 @@ fn read(info: View<'_>) -> Result<BareMethod<'_>, FormFault>
     })
 }
 
-fn header(items: &mut Items<'_>) -> Result<Bare, FormFault>
+fn header(items: &mut Cursor<'_>) -> Result<Bare, FormFault>
     ensures value { Takes same compact_header items.old result items.new }
     ensures compact { IfOk result (λ bare. IsCompact bare) }
 {
