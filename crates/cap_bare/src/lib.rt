@@ -13,8 +13,6 @@ mod frame;
 mod instruction;
 mod method;
 mod run;
-#[cfg(test)]
-mod tests;
 mod verify;
 
 pub use bare::Bare;

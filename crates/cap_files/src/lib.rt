@@ -25,8 +25,6 @@ mod sink;
 mod sure_folder;
 mod sure_sink;
 mod tape;
-#[cfg(test)]
-mod tests;
 mod transfer;
 mod words;
 
