@@ -13,9 +13,9 @@ use Rattle.cap_files.specs.Counts.{Rose, CountsFault}
 -- the bytes of each part that is held, by the part's number and its folder's word
 abbrev pub Parts : Type 0
 Parts = map.FinMap (slice_cmp nat_cmp) (List ℕ)
-    -- folders: what they hold, and the parts whose loads failed, in order, where the device tells either;
-    and how often a load and a store failed
 
+-- folders: what they hold, and the parts whose loads failed, in order, where the device tells either;
+-- and how often a load and a store failed
 pub record Folders : Type 0 where
   pub held : Option Parts
   pub failed : Option (List (List ℕ))
