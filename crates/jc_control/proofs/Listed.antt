@@ -10,6 +10,7 @@ use Rattle.jc_decode.specs.Listing.{listing, listing_end, end_from, Lists}
 use Rattle.jc_decode.proofs.Decoded.{IsWithin-decoded, ok-same}
 use Rattle.jc_decode.proofs.Listing.{Lists-listing_from, listing_from-start}
 use Rattle.jc_control.specs.WellFormed.{Stands, IsPlace, IsTargetPlace}
+use Rattle.jc_control.specs.Laws.{InstructionsAreListed}
 use Rattle.jc_control.proofs.Elements.{contained-in, nothing-in, Contains-either, Contains-slice_get}
 
 module _ (code : List ℕ) where
@@ -74,6 +75,14 @@ module _ (code : List ℕ) where
 
   pub ends-after : (i : Placed) → Stands code i → i.place < listing_end code
   ends-after i s = before-end 0 (listing code) i all-listed s
+
+pub instructions-are-listed : InstructionsAreListed
+instructions-are-listed code = record {
+  decodes = decoded-Stands code;
+  inside = λ i s. place-inside code i.place (i, s, refl);
+  one = one-at code;
+  rising = rising code;
+}
 
 -- after the last instruction none is decoded
 none-at-end : (code : List ℕ) (at : ℕ) (ps : List Placed) → Lists code at ps → IsErr (decoded code (end_from at ps))
