@@ -10,7 +10,7 @@ use Rattle.jc_decode.specs.Listing.{listing, listing_end, end_from, Lists}
 use Rattle.jc_decode.proofs.Decoded.{IsWithin-decoded, ok-same}
 use Rattle.jc_decode.proofs.Listing.{Lists-listing_from, listing_from-start}
 use Rattle.jc_control.specs.WellFormed.{Stands, IsPlace, IsTargetPlace}
-use Rattle.jc_control.specs.Laws.{InstructionsAreListed}
+use Rattle.jc_control.specs.Laws.{InstructionsAreListed, AreInOrder, InstructionsStandInOrder}
 use Rattle.jc_control.proofs.Elements.{contained-in, nothing-in, Contains-either, Contains-slice_get}
 
 module _ (code : List ℕ) where
@@ -57,6 +57,27 @@ module _ (code : List ℕ) where
   one-at i j s t same =
       let insn : i.insn ≡ j.insn = ok-same i.insn j.insn (decoded code i.place) (decoded-Stands i s) (ap (decoded code) same ∙ decoded-Stands j t) in
       ap (λ (p : ℕ). record { place = p; insn = i.insn }) same ∙ ap (λ (n : Insn). record { place = j.place; insn = n }) insn
+
+  after-in : (at : ℕ) (ps : List Placed) (i j : Placed) → Lists code at ps → Contains ps i → Contains ps j → i.place < j.place → i.place + i.insn.len ≤ j.place
+  after-in at [] i j l c d lt = absurd (nothing-in i c)
+  after-in at (p ∷ ps) i j l c d lt =
+      ⊎_elim
+      (λ here. ⊎_elim (λ both. absurd (omega (arith, ap (λ (q : Placed). q.place) (sym here ∙ both))))
+      (λ later. subst (λ (q : Placed). q.place + q.insn.len ≤ j.place) here (omega (arith, l.0, (listed-in (at + p.insn.len) ps j l.2 later).from))) (Contains-either p ps j d))
+      (λ there. ⊎_elim
+      (λ here. absurd (omega (arith, l.0, ap (λ (q : Placed). q.place) here, (listed-in (at + p.insn.len) ps i l.2 there).from, lt)))
+      (λ later. after-in (at + p.insn.len) ps i j l.2 there later lt) (Contains-either p ps j d))
+      (Contains-either p ps i c)
+
+  pub in-order : AreInOrder code
+  in-order = record {
+    lists = all-listed;
+    long = λ at i d. (IsWithin-decoded code at i d).one;
+    within = λ i s. let w = within-Stands i s in omega (arith, w.reaches);
+    found = decoded-Stands;
+    after = λ i j s t lt. after-in 0 (listing code) i j all-listed s t lt;
+    one = one-at;
+  }
 
   -- and before the place where they end
   ends-later : (from : ℕ) (qs : List Placed) → from ≤ end_from from qs
@@ -109,3 +130,6 @@ target-range code (negsuc n) h short = absurd h
 
 pub target-place : (code : List ℕ) (p : ℕ) (t : ℤ) → IsTargetPlace code t → pos p ≡ t → p < length code
 target-place code p t h same = place-inside code p (subst (IsTargetPlace code) (sym same) h)
+
+pub instructions-stand-in-order : InstructionsStandInOrder
+instructions-stand-in-order code = in-order code

@@ -1,9 +1,10 @@
 -- Laws of flaws and of reached places.
-use Rattle.std.specs.Prelude.{◌≡◌, ◌↔◌, ℕ, ◌+◌, ◌<◌, List, length, Some, Ok, slice_get}
+use Rattle.std.specs.Prelude.{◌≡◌, ◌↔◌, ℕ, ◌+◌, ◌<◌, List, length, Some, Ok, slice_get, ◌≤◌}
 use Rattle.jc_base.specs.declared.record.Handler.{Handler}
+use Rattle.jc_decode.specs.declared.insn.Insn.{Insn}
 use Rattle.jc_decode.specs.declared.insn.Placed.{Placed}
 use Rattle.jc_decode.specs.Decoding.{decoded}
-use Rattle.jc_decode.specs.Listing.{listing}
+use Rattle.jc_decode.specs.Listing.{listing, Lists}
 use Rattle.jc_control.specs.Method.{Method}
 use Rattle.jc_control.specs.WellFormed.{Stands, IsPlace, IsBoundary, IsWellFormed}
 use Rattle.jc_control.specs.Control.{IsReached, IsLeader, IsLive}
@@ -52,3 +53,15 @@ LiveHandlersLead = (m : Method) (h : Handler) → IsLive m h → IsReached m h.e
 -- each leader is reached
 abbrev pub LeadersAreReached : Type 0
 LeadersAreReached = (m : Method) (q : ℕ) → IsLeader m q → IsReached m q
+
+-- the instructions of a code stand one after the other, each of them a byte long at least
+pub record AreInOrder (code : List ℕ) : Type 0 where
+  pub lists : Lists code 0 (listing code)
+  pub long : (at : ℕ) (i : Insn) → decoded code at ≡ Ok i → 0 < i.len
+  pub within : (i : Placed) → Stands code i → i.place + i.insn.len ≤ length code
+  pub found : (i : Placed) → Stands code i → decoded code i.place ≡ Ok i.insn
+  pub after : (i j : Placed) → Stands code i → Stands code j → i.place < j.place → i.place + i.insn.len ≤ j.place
+  pub one : (i j : Placed) → Stands code i → Stands code j → i.place ≡ j.place → i ≡ j
+
+abbrev pub InstructionsStandInOrder : Type 0
+InstructionsStandInOrder = (code : List ℕ) → AreInOrder code

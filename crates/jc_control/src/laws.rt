@@ -1,4 +1,4 @@
-ghost use Rattle.jc_control.specs.Laws.{FlawsDecide, FirstFlawIsOne, InstructionsArePlaced, InstructionsAreListed, LiveHandlersLead, LeadersAreReached};
+ghost use Rattle.jc_control.specs.Laws.{FlawsDecide, FirstFlawIsOne, InstructionsArePlaced, InstructionsAreListed, LiveHandlersLead, LeadersAreReached, InstructionsStandInOrder};
 
 /// A method is well formed exactly where it has no flaw.
 pub fn flaws_decide()
@@ -22,4 +22,9 @@ pub fn instructions_are_placed()
 pub fn leaders_are_reached()
     ensures live { LiveHandlersLead }
     ensures leaders { LeadersAreReached }
+{}
+
+/// The instructions of a code stand one after the other.
+pub fn instructions_stand_in_order()
+    ensures { InstructionsStandInOrder }
 {}
