@@ -7,7 +7,7 @@ use Rattle.jc_base.specs.Class.{ClassTable, IsClass, object}
 use Rattle.jc_base.specs.Order.{Below}
 use Rattle.jc_base.specs.Dispatch.{IsConcrete, is_concrete, public_of, cells_of, signature_of}
 use Rattle.jc_base.specs.Linked.{IsInherited}
-use Rattle.jc_base.specs.Interface.{extended, Implements, implements, extended_count}
+use Rattle.jc_base.specs.Interface.{extended, IsOrExtends, Implements, is_or_extends, implements, extended_count}
 
 -- every class is object or a subclass of it
 abbrev pub ClassesAreObjects : ClassTable → Type 0
@@ -44,6 +44,9 @@ ConcreteDecides t methods = (c : ℕ) → IsTrue (is_concrete t methods c) ↔ I
 
 abbrev pub ImplementsDecides : ClassTable → Type 0
 ImplementsDecides t = (c j : ℕ) → IsTrue (implements t c j) ↔ Implements t c j
+
+abbrev pub ExtendsDecides : ClassTable → Type 0
+ExtendsDecides t = (i j : ℕ) → IsTrue (is_or_extends t i j) ↔ IsOrExtends t i j
 
 -- a search along the interfaces that others extend ends: each of them extends fewer
 pub record ExtendsEnds (t : ClassTable) : Type 0 where

@@ -1,4 +1,4 @@
-ghost use Rattle.jc_base.specs.Laws.{ClassesAreObjects, InstancesExtend, PublicMethodsRun, ConcreteDecides, ImplementsDecides, ExtendsEnds};
+ghost use Rattle.jc_base.specs.Laws.{ClassesAreObjects, InstancesExtend, PublicMethodsRun, ConcreteDecides, ImplementsDecides, ExtendsDecides, ExtendsEnds};
 
 use crate::class::Classes;
 use crate::world::World;
@@ -23,10 +23,11 @@ pub fn concrete_decides(world: &World<'_>)
     ensures { ConcreteDecides world.now.classes world.now.methods }
 {}
 
-/// Whether a class implements an interface is decided, and a search along the interfaces that others extend
-/// ends.
+/// Whether a class implements an interface and whether an interface extends another are decided, and a search
+/// along the interfaces that others extend ends.
 pub fn interfaces_decide(world: &World<'_>)
     ensures implements { ImplementsDecides world.now.classes }
+    ensures extends { ExtendsDecides world.now.classes }
     ensures ends { ExtendsEnds world.now.classes }
 {
     let _ = world.classes().records();
