@@ -8,6 +8,7 @@ use Rattle.jc_base.specs.Class.{ClassTable, IsClass, height, object}
 use Rattle.jc_base.specs.Cell.{IsDeclared}
 use Rattle.jc_base.specs.Order.{Below, IsJoin, IsKnown, AreApart, rises_left, is_below, join_of}
 use Rattle.jc_base.specs.Dispatch.{IsConcrete, is_concrete, public_of, cells_of, signature_of}
+use Rattle.jc_base.specs.SameType.{same_type}
 use Rattle.jc_base.specs.Linked.{IsInherited}
 use Rattle.jc_base.specs.Interface.{extended, IsOrExtends, Implements, is_or_extends, implements, extended_count}
 
@@ -24,6 +25,10 @@ pub record IsOrderOfTypes (t : ClassTable) : Type 0 where
 -- the types of signatures and fields name classes of the table
 abbrev pub DeclaredAreKnown : ClassTable → Type 0
 DeclaredAreKnown t = (ty : Ty) → IsDeclared t ty → IsKnown t ty
+
+-- whether two types are equal is decided
+abbrev pub SameTypeDecides : Type 0
+SameTypeDecides = (a b : Ty) → IsTrue (same_type a b) ↔ (a ≡ b)
 
 -- every class is object or a subclass of it
 abbrev pub ClassesAreObjects : ClassTable → Type 0

@@ -1,12 +1,13 @@
-ghost use Rattle.jc_base.specs.Laws.{IsOrderOfTypes, DeclaredAreKnown, ClassesAreObjects, InstancesExtend, PublicMethodsRun, ConcreteIsDecided, ImplementsDecides, ExtendsEnds, ConcreteDecides, ExtendsDecides};
+ghost use Rattle.jc_base.specs.Laws.{IsOrderOfTypes, DeclaredAreKnown, ClassesAreObjects, InstancesExtend, PublicMethodsRun, ConcreteIsDecided, ImplementsDecides, ExtendsEnds, ConcreteDecides, ExtendsDecides, SameTypeDecides};
 
 use crate::class::Classes;
 use crate::world::World;
 
-/// The order of types and its joins are decided, and declared types name classes.
+/// The order of types and its joins are decided, and so is whether two are equal; declared types name classes.
 pub fn types_are_ordered(classes: &Classes)
     ensures order { IsOrderOfTypes classes.now }
     ensures declared { DeclaredAreKnown classes.now }
+    ensures same { SameTypeDecides }
 {
     let _ = classes.records();
 }
