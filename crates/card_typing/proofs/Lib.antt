@@ -1,0 +1,5 @@
+pub mod Own
+pub mod Flowing
+pub mod Sound
+pub mod Below
+pub mod Quiet
