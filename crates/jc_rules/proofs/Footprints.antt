@@ -2,12 +2,12 @@
 use Rattle.std.proofs.Common.{◌≡◌, ℕ, zero, suc, ◌+◌, ◌-◌, ◌<◌, ◌≤◌, ◌==◌, ◌⊎◌, inl, inr, max, false, if◌then◌else◌, List, [], ◌∷◌, ◌++◌, length, reverse, drop, get_or, set, Option, Some, None, IsSomeAnd, slice_get, refl, sym, ◌∙◌, ap, subst, arith}
 use Rattle.std.specs.Bool.{⊤}
 use Rattle.std.proofs.lemmas.List.{get_or-set_other}
+use Rattle.std.proofs.lemmas.Option.{slice_get_within}
 use Rattle.jc_base.specs.declared.ty.Ty.{Ty}
 use Rattle.jc_base.specs.declared.ty.Ty.TheVariants.{Bottom, Short, IntHigh, IntLow, Null, Class, ArrBool, ArrByte, ArrShort, ArrInt, ArrRef, Fresh, Top}
 use Rattle.jc_base.specs.declared.ty.Kind.TheVariants as kinds
 use Rattle.jc_base.specs.Class.{ClassTable}
 use Rattle.jc_base.specs.World.{Linked, IsWorld}
-use Rattle.jc_base.proofs.Lists.{slice_get-below}
 use Rattle.jc_ops.specs.declared.want.Want.{Want}
 use Rattle.jc_ops.specs.declared.want.Want.TheVariants.{Value, Storable, ByteArray, AnyArray, Whole, Receiver}
 use Rattle.jc_ops.specs.declared.operation.Sort.TheVariants as sorts
@@ -41,7 +41,7 @@ use Rattle.jc_rules.proofs.Effects.{Suits, suits, sound-known, length-changed}
 
 read-there : (xs : List Ty) (n : ℕ) (P : Ty → Type 0) (o : Option Ty) → slice_get xs n ≡ o → IsSomeAnd o P → n < length xs
 read-there xs n P None e h = absurd h
-read-there xs n P (Some ty) e h = slice_get-below xs n ty e
+read-there xs n P (Some ty) e h = slice_get_within xs n ty e
 
 met-there : (t : ClassTable) (f : Frame) (d : Demand) → Holds t f d → IsThere (length f.regs) (length f.stack) d
 met-there t f (Registers x n) h = h

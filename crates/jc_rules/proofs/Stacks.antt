@@ -153,10 +153,3 @@ cells-map f s r d h e =
 pub length-cells : (s : List Ty) (d : ℕ) → d ≤ length s → length (cells s d) ≡ d
 unfolding cells
 length-cells s d h = length-reverse (take d s) ∙ length-take d s ∙ omega arith
-
--- what holds of each cell of the slice holds of each cell of the stack
-pub All-cells : (P : Ty → Type 0) (s : List Ty) (d : ℕ) → All P (take d s) → All P (cells s d)
-unfolding cells
-All-cells P s d all k e lt =
-    let inside : k < length (take d s) = omega (arith, lt, length-reverse (take d s)) in
-    subst P (sym (get_or-reverse (take d s) k e inside)) (all (length (take d s) - 1 - k) e (omega arith))
