@@ -1,5 +1,5 @@
 -- Each met state is below every card typing, and where something is wrong with one there is none.
-use Rattle.std.proofs.Common.{◌≡◌, ◌≢◌, ℕ, ◌+◌, ◌<◌, ◌≤◌, ◌⊎◌, inl, inr, Bool, true, false, List, [], ◌∷◌, length, All, refl, sym, ◌∙◌, ap, subst, arith, Contains, IsTrue}
+use Rattle.std.proofs.Common.{◌≡◌, ℕ, ◌+◌, ◌≤◌, inl, inr, true, List, [], ◌∷◌, length, All, refl, sym, ◌∙◌, ap, subst, arith, IsTrue}
 use Rattle.std.proofs.lemmas.List.Elements.{All-contains}
 use Rattle.std.proofs.lemmas.Bool.{false≢true}
 use Rattle.jc_base.specs.declared.ty.Ty.{Ty}
@@ -10,22 +10,22 @@ use Rattle.jc_decode.specs.declared.insn.Placed.{Placed}
 use Rattle.jc_decode.specs.Listing.{falls}
 use Rattle.jc_control.specs.Method.{Method, IsMethodOf}
 use Rattle.jc_control.specs.WellFormed.{Stands, IsPlace, IsHandlerOf}
-use Rattle.jc_control.specs.Flaw.{IsFirstFlaw}
 use Rattle.jc_control.specs.Laws.{FlawsDecide}
 use Rattle.jc_rules.specs.declared.effect.Mode.TheVariants.{Card}
 use Rattle.jc_rules.specs.declared.rule.Outcome.{Outcome}
 use Rattle.jc_rules.specs.Demand.{Frame, AreKnown}
 use Rattle.jc_rules.specs.Apply.{Applies}
-use Rattle.jc_rules.specs.Flow.{CellsBelow, no_cells, more_cells, FrameBelow, IsNotTop, site_of, start_frame}
+use Rattle.jc_rules.specs.Flow.{CellsBelow, no_cells, more_cells, FrameBelow, site_of, start_frame}
 use Rattle.jc_rules.specs.FlowLaws.{AreRules}
 use Rattle.jc_rules.specs.Laws.{IsNotBottom, FallsTo, RuleFallsOnCard, RuleStays}
-use Rattle.card_typing.specs.declared.fault.CardFault.{CardFault}
 use Rattle.card_typing.specs.declared.fault.CardKind.{CardKind}
 use Rattle.card_typing.specs.Place.{IsEntry, IsFallenInto, fallen_first, fallen_from, CatchesAt}
-use Rattle.card_typing.specs.Typing.{frame_at, CardTyping, HasCardTyping}
-use Rattle.card_typing.specs.Met.{Arrives, arrives_falling, arrives_empty, arrives_caught, arrives_full, IsPassed, GoesTo, goes_there, goes_again, IsMet, met_start, met_next}
-use Rattle.card_typing.specs.Refusal.{IsWrong, wrong_entry, wrong_room, wrong_target, wrong_rule, wrong_branch, wrong_end, IsRefused, refused_flaw, refused_state}
-use Rattle.card_typing.specs.Laws.{MetIsBelow, RefusalDenies}
+use Rattle.card_typing.specs.Typing.{frame_at, CardTyping}
+use Rattle.card_typing.specs.Met.{Arrives, arrives_falling, arrives_empty, arrives_caught, arrives_full, GoesTo, goes_there, goes_again, IsMet, met_start, met_next}
+use Rattle.jc_control.specs.declared.flaw.Flaw.{Flaw}
+use Rattle.jc_control.specs.declared.flaw.Flaw.TheVariants as flaws
+use Rattle.card_typing.specs.Refusal.{fault_of, IsFlawKind, IsWrong, wrong_entry, wrong_room, wrong_target, wrong_rule, wrong_branch, wrong_end, refused_flaw, refused_state}
+use Rattle.card_typing.specs.Laws.{MetIsBelow, RefusalDenies, FlawsAreTold}
 use Rattle.card_typing.proofs.Own.{all_none, all_more, of_world, start-length, start-known}
 use Rattle.card_typing.proofs.Flowing.{IsSolid, none-solid, entered-solid, given-solid}
 
@@ -183,3 +183,22 @@ pub refusal-denies : (w : Linked) → AreCardRules w → FlawsDecide → Refusal
 refusal-denies w is flaws m _ _ mo (refused_flaw flaw kept first) has = (flaws m).0 has.typing.formed first.spot flaw first.flaw
 refusal-denies w is flaws m _ _ mo (refused_state i before kept kind formed there met wrong) has =
     wrong-never w is m mo has.regs has.stacks has.typing i before kept kind there (held w is m mo has.regs has.stacks has.typing i.place before met) wrong
+
+-- ---- what a refusal tells
+
+fault-kind : (flaw : Flaw) → IsFlawKind (fault_of flaw).kind
+fault-kind (flaws.Code place end) = tt
+fault-kind (flaws.BadTarget place target) = tt
+fault-kind (flaws.BadHandler entry number) = tt
+
+wrong-kind : (w : Linked) (m : Method) (i : Placed) (before kept : Frame) (kind : CardKind) → IsWrong w m i before kind kept → ¬ (IsFlawKind kind)
+wrong-kind w m i before _ _ (wrong_entry e from) = λ h. h
+wrong-kind w m i before _ _ (wrong_room e free none) = λ h. h
+wrong-kind w m i before _ _ (wrong_target free target fallen deep) = λ h. h
+wrong-kind w m i before _ _ (wrong_rule fault suits refuses) = λ h. h
+wrong-kind w m i before _ _ (wrong_branch after o suits applies jumps deep) = λ h. h
+wrong-kind w m i before _ _ (wrong_end after o suits applies branch goes end) = λ h. h
+
+pub flaws-are-told : (w : Linked) → FlawsDecide → FlawsAreTold w
+flaws-are-told w decide m _ _ (refused_flaw flaw kept first) = (λ h formed. (decide m).0 formed first.spot flaw first.flaw, λ h. fault-kind flaw)
+flaws-are-told w decide m _ _ (refused_state i before kept kind formed there met wrong) = (λ h. absurd (wrong-kind w m i before kept kind wrong h), λ h. absurd (h formed))

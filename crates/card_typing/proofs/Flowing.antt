@@ -1,5 +1,5 @@
 -- A card typing gives a dataflow typing in which unset registers hold no value.
-use Rattle.std.proofs.Common.{◌≡◌, ℕ, ◌+◌, ◌<◌, ◌≤◌, ⊎_elim, Bool, true, false, if◌then◌else◌, List, [], ◌∷◌, length, All, Option, Some, refl, sym, ◌∙◌, subst, arith, Contains, IsTrue}
+use Rattle.std.proofs.Common.{◌≡◌, ℕ, ◌+◌, ◌<◌, ◌≤◌, ⊎_elim, Bool, true, false, if◌then◌else◌, List, [], ◌∷◌, length, All, Some, refl, sym, subst, arith, Contains}
 use Rattle.std.specs.Prelude.{ℤ, pos, map}
 use Rattle.std.proofs.lemmas.List.Elements.{All-contains}
 use Rattle.jc_base.specs.declared.ty.Ty.{Ty}
@@ -13,13 +13,13 @@ use Rattle.jc_decode.specs.Listing.{jumps, target, targets}
 use Rattle.jc_control.specs.Method.{Method, IsMethodOf}
 use Rattle.jc_control.specs.WellFormed.{Stands, IsPlace, IsTargetPlace, IsBoundary, IsHandlerOf}
 use Rattle.jc_control.specs.Control.{IsSuccessor, falls_through, jumped, IsReached, begins, follows, caught, IsLeader, led_to, entered}
-use Rattle.jc_control.specs.Laws.{ArePlaced, InstructionsArePlaced}
+use Rattle.jc_control.specs.Laws.{InstructionsArePlaced}
 use Rattle.jc_rules.specs.declared.effect.Mode.TheVariants.{Flow}
-use Rattle.jc_rules.specs.Demand.{Frame, AreKnown}
-use Rattle.jc_rules.specs.Flow.{CellsBelow, no_cells, more_cells, FrameBelow, IsNotFresh, IsNotTop, caught_frame, site_of, FlowTyping, HasFlowTyping}
+use Rattle.jc_rules.specs.Demand.{AreKnown}
+use Rattle.jc_rules.specs.Flow.{CellsBelow, no_cells, more_cells, FrameBelow, IsNotFresh, IsNotTop, caught_frame, site_of, FlowTyping}
 use Rattle.jc_rules.specs.FlowLaws.{AreRules}
 use Rattle.card_typing.specs.Place.{IsEntry, IsTarget}
-use Rattle.card_typing.specs.Typing.{frame_at, IsTyped, IsEntered, CardTyping, HasCardTyping}
+use Rattle.card_typing.specs.Typing.{frame_at, IsTyped, IsEntered, CardTyping}
 use Rattle.card_typing.specs.Laws.{CardIsFlow}
 use Rattle.card_typing.proofs.Own.{all_none, all_more, of_world, start-length}
 

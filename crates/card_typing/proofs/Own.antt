@@ -1,5 +1,5 @@
 -- What holds of a method of the world, of its start and of the classes that its handlers catch.
-use Rattle.std.proofs.Common.{◌≡◌, ℕ, zero, suc, ◌+◌, ◌<◌, ◌≤◌, ◌||◌, Bool, true, false, if◌then◌else◌, List, [], ◌∷◌, ◌++◌, length, replicate, All, MatchBool, refl, sym, ◌∙◌, ap, subst, arith, length-append, length-take}
+use Rattle.std.proofs.Common.{◌≡◌, ℕ, zero, suc, ◌+◌, ◌<◌, ◌||◌, Bool, true, false, if◌then◌else◌, List, [], ◌∷◌, ◌++◌, length, replicate, All, MatchBool, refl, ◌∙◌, ap, arith, length-append, length-take}
 use Rattle.std.specs.List.{Contains}
 use Rattle.std.proofs.lemmas.List.{length-replicate}
 use Rattle.std.proofs.lemmas.List.Elements.{All-append, All-contains}
@@ -13,9 +13,7 @@ use Rattle.jc_base.specs.Linked.{IsMethod, IsHandler, IsCodeLength, list_at, lac
 use Rattle.jc_base.specs.World.{Linked, IsWorld}
 use Rattle.jc_base.proofs.Lists.{All-slice_get}
 use Rattle.jc_control.specs.Method.{Method, IsMethodOf}
-use Rattle.jc_rules.specs.Demand.{Frame, AreKnown}
-use Rattle.jc_rules.specs.Flow.{start_frame, receiver_of, IsNotFresh, IsNotTop}
-use Rattle.jc_rules.specs.Laws.{IsNotBottom}
+use Rattle.jc_rules.specs.Flow.{start_frame, receiver_of, IsNotFresh}
 
 -- ---- lists
 

@@ -7,17 +7,12 @@ use Rattle.jc_base.specs.declared.ty.Ty.{Ty}
 use Rattle.jc_base.specs.declared.ty.Ty.TheVariants.{Bottom, Class}
 use Rattle.jc_base.specs.Order.{IsKnown}
 use Rattle.jc_base.specs.World.{Linked}
-use Rattle.jc_decode.specs.declared.insn.Insn.{Insn}
 use Rattle.jc_decode.specs.declared.insn.Placed.{Placed}
-use Rattle.jc_decode.specs.Decoding.{decoded}
 use Rattle.jc_decode.specs.Listing.{falls, targets, listing, Lists, end_from}
 use Rattle.jc_control.specs.Method.{Method, IsMethodOf}
 use Rattle.jc_control.specs.WellFormed.{Stands, IsPlace, IsTargetPlace, IsHandlerOf, IsWellFormed}
 use Rattle.jc_control.specs.Laws.{InstructionsArePlaced, InstructionsStandInOrder}
-use Rattle.jc_rules.specs.declared.effect.Mode.TheVariants.{Card, Flow}
 use Rattle.jc_rules.specs.declared.rule.Outcome.{Outcome}
-use Rattle.jc_rules.specs.Demand.{Frame}
-use Rattle.jc_rules.specs.Apply.{Applies}
 use Rattle.jc_rules.specs.Flow.{CellsBelow, IsNotFresh, site_of, start_frame}
 use Rattle.jc_rules.specs.Laws.{RuleRests}
 use Rattle.jc_base.specs.declared.record.MethodRec.{MethodRec}
@@ -25,8 +20,7 @@ use Rattle.card_typing.specs.Place.{IsTarget, IsEntry, IsFallenInto, fallen_firs
 use Rattle.card_typing.specs.Typing.{frame_at, GoesOn, IsTyped, IsEntered, CardTyping}
 use Rattle.card_typing.specs.Met.{Arrives, arrives_falling, arrives_empty, arrives_caught, arrives_full, IsOpenTo, IsPassed}
 use Rattle.card_typing.specs.Pass.{IsQuiet, quiet_end, quiet_more}
-use Rattle.card_typing.specs.Laws.{QuietIsTyped}
-use Rattle.card_typing.proofs.Own.{all_none}
+use Rattle.card_typing.specs.Laws.{MetIsBelow, MetIsSound, QuietIsLeast}
 
 -- ---- lists
 
@@ -247,6 +241,13 @@ module _ (w : Linked) (rests : RuleRests w) (placed : InstructionsArePlaced) (or
     typed = typed-at;
   }
 
-pub quiet-is-typed : (w : Linked) → RuleRests w → InstructionsArePlaced → InstructionsStandInOrder → QuietIsTyped w
-quiet-is-typed w rests placed ordered m regs mo formed known ready declared u =
-    (stacks w rests placed ordered m mo formed regs u, quiet-typing w rests placed ordered m mo formed regs u known ready declared)
+pub quiet-is-least : (w : Linked) → RuleRests w → InstructionsArePlaced → InstructionsStandInOrder → MetIsSound w → MetIsBelow w → QuietIsLeast w
+quiet-is-least w rests placed ordered sound below m regs mo formed met u =
+    let free = no-entry w rests placed ordered m mo formed regs u 0 fallen_first in
+    let begun = met [] (arrives_falling free refl) in
+    let s = sound m 0 (record { regs = regs; stack = [] }) mo begun in
+    record {
+      stacks = stacks w rests placed ordered m mo formed regs u;
+      typing = quiet-typing w rests placed ordered m mo formed regs u s.known.regs s.ready s.raised;
+      least = λ others other_stacks ty. (below m others other_stacks 0 (record { regs = regs; stack = [] }) mo ty begun).regs;
+    }

@@ -1,8 +1,7 @@
 -- Laws of card typings.
-use Rattle.std.specs.Prelude.{◌≡◌, ℕ, List, [], Option, Some, All, true}
+use Rattle.std.specs.Prelude.{ℕ, ◌↔◌, List, [], All, true}
 use Rattle.jc_base.specs.declared.ty.Ty.{Ty}
 use Rattle.jc_base.specs.declared.ty.Ty.TheVariants.{Bottom}
-use Rattle.jc_base.specs.Order.{IsKnown}
 use Rattle.jc_base.specs.World.{Linked}
 use Rattle.jc_decode.specs.Listing.{listing}
 use Rattle.jc_control.specs.Method.{Method, IsMethodOf}
@@ -10,9 +9,9 @@ use Rattle.jc_control.specs.WellFormed.{IsWellFormed}
 use Rattle.jc_rules.specs.Demand.{Frame, AreKnown}
 use Rattle.jc_rules.specs.Flow.{CellsBelow, FrameBelow, IsNotFresh, start_frame, HasFlowTyping}
 use Rattle.card_typing.specs.declared.fault.CardFault.{CardFault}
-use Rattle.card_typing.specs.Typing.{frame_at, CardTyping, HasCardTyping}
-use Rattle.card_typing.specs.Met.{IsMet}
-use Rattle.card_typing.specs.Refusal.{IsRefused}
+use Rattle.card_typing.specs.Typing.{frame_at, CardTyping, HasCardTyping, IsLeastCardTyping}
+use Rattle.card_typing.specs.Met.{Arrives, IsMet}
+use Rattle.card_typing.specs.Refusal.{IsFlawKind, IsRefused}
 use Rattle.card_typing.specs.Pass.{IsQuiet}
 
 -- a method that the card accepts has a dataflow typing in which unset registers hold no value
@@ -41,14 +40,16 @@ MetIsSound w = (m : Method) (place : ℕ) (met : Frame) → IsMethodOf w m → I
 abbrev pub RefusalDenies : Linked → Type 0
 RefusalDenies w = (m : Method) (fault : CardFault) (kept : Frame) → IsMethodOf w m → IsRefused w m fault kept → ¬ (HasCardTyping w m)
 
--- the registers of a pass that raises none are those of a card typing
-abbrev pub QuietIsTyped : Linked → Type 0
-QuietIsTyped w =
+-- a refusal tells a flaw exactly where the method is not well formed
+abbrev pub FlawsAreTold : Linked → Type 0
+FlawsAreTold w = (m : Method) (fault : CardFault) (kept : Frame) → IsRefused w m fault kept → IsFlawKind fault.kind ↔ ¬ (IsWellFormed m)
+
+-- registers that are met at the start of a pass, which raises none of them, are those of the least card typing
+abbrev pub QuietIsLeast : Linked → Type 0
+QuietIsLeast w =
     (m : Method) (regs : List Ty)
     → IsMethodOf w m
     → IsWellFormed m
-    → All (IsKnown w.classes) regs
-    → All IsNotFresh regs
-    → CellsBelow w.classes (start_frame m.rec Bottom).regs regs
+    → ((given : List Ty) → Arrives w m true [] 0 given → IsMet w m 0 (record { regs = regs; stack = given }))
     → IsQuiet w m regs true [] (listing m.code)
-    → (stacks : ℕ → List Ty) × CardTyping w m regs stacks
+    → IsLeastCardTyping w m regs

@@ -1,4 +1,4 @@
-ghost use Rattle.card_typing.specs.Laws.{CardIsFlow, MetIsBelow, MetIsSound, RefusalDenies, QuietIsTyped};
+ghost use Rattle.card_typing.specs.Laws.{CardIsFlow, MetIsBelow, MetIsSound, RefusalDenies, FlawsAreTold, QuietIsLeast};
 
 use jc_base::World;
 use jc_control::{flaws_decide, instructions_are_placed, instructions_stand_in_order};
@@ -11,7 +11,8 @@ pub fn card_laws(world: &World<'_>)
     ensures met { MetIsBelow world.now }
     ensures sound { MetIsSound world.now }
     ensures refused { RefusalDenies world.now }
-    ensures quiet { QuietIsTyped world.now }
+    ensures told { FlawsAreTold world.now }
+    ensures quiet { QuietIsLeast world.now }
 {
     rule_laws(world);
     rule_falls(world);

@@ -9,6 +9,7 @@ mod edge;
 mod flags;
 mod flaw;
 mod laws;
+mod places;
 mod reached;
 mod scan;
 mod subject;
@@ -24,5 +25,7 @@ pub use laws::{
     leaders_are_reached,
 };
 pub use reached::ControlFlow;
-pub use scan::{instruction_places, mark_places};
+pub use places::Places;
+pub use scan::{find_flaw, instruction_places, mark_places};
+pub use subject::Subject;
 pub use targets::Targets;
