@@ -11,7 +11,7 @@ use Rattle.jc_decode.specs.declared.insn.Placed.{Placed}
 use Rattle.jc_decode.specs.Listing.{falls, targets, listing, Lists, end_from}
 use Rattle.jc_control.specs.Method.{Method, IsMethodOf}
 use Rattle.jc_control.specs.WellFormed.{Stands, IsPlace, IsTargetPlace, IsHandlerOf, IsWellFormed}
-use Rattle.jc_control.specs.Laws.{InstructionsArePlaced, InstructionsStandInOrder}
+use Rattle.jc_control.specs.Laws.{InstructionsArePlaced, InstructionsAreListed}
 use Rattle.jc_rules.specs.declared.rule.Outcome.{Outcome}
 use Rattle.jc_rules.specs.Flow.{CellsBelow, IsNotFresh, site_of, start_frame}
 use Rattle.jc_rules.specs.Laws.{RuleRests}
@@ -95,7 +95,7 @@ module _ (w : Linked) (m : Method) (regs : List Ty) where
       some-same : {x y : MethodRec} → ◌≡◌ {A = Option MethodRec} (Some x) (Some y) → x ≡ y
       some-same e = cc
 
-  module _ (mo : IsMethodOf w m) (ordered : InstructionsStandInOrder) (stacks : ℕ → List Ty) where
+  module _ (mo : IsMethodOf w m) (ordered : InstructionsAreListed) (stacks : ℕ → List Ty) where
     after-room : (i : Placed) {stack after : List Ty} {o : Outcome} → IsPassed w m i (record { regs = regs; stack = stack }) (record { regs = regs; stack = after }) o → length after ≤ m.rec.max_stack
     after-room i {stack} {after} {o} p =
         subst (λ (r : MethodRec). length after ≤ r.max_stack) (rec-same mo p.applies.method p.applies.is_method) p.applies.rule.does.room
@@ -154,7 +154,7 @@ module _ (w : Linked) (m : Method) (regs : List Ty) where
 
 -- ---- the typing
 
-module _ (w : Linked) (rests : RuleRests w) (placed : InstructionsArePlaced) (ordered : InstructionsStandInOrder) (m : Method) (mo : IsMethodOf w m) (formed : IsWellFormed m) (regs : List Ty) (u : IsQuiet w m regs true [] (listing m.code)) where
+module _ (w : Linked) (rests : RuleRests w) (placed : InstructionsArePlaced) (ordered : InstructionsAreListed) (m : Method) (mo : IsMethodOf w m) (formed : IsWellFormed m) (regs : List Ty) (u : IsQuiet w m regs true [] (listing m.code)) where
   abbrev pub stacks : ℕ → List Ty
   stacks = stack-in w m regs true [] (listing m.code) u
 
@@ -241,7 +241,7 @@ module _ (w : Linked) (rests : RuleRests w) (placed : InstructionsArePlaced) (or
     typed = typed-at;
   }
 
-pub quiet-is-least : (w : Linked) → RuleRests w → InstructionsArePlaced → InstructionsStandInOrder → MetIsSound w → MetIsBelow w → QuietIsLeast w
+pub quiet-is-least : (w : Linked) → RuleRests w → InstructionsArePlaced → InstructionsAreListed → MetIsSound w → MetIsBelow w → QuietIsLeast w
 quiet-is-least w rests placed ordered sound below m regs mo formed met u =
     let free = no-entry w rests placed ordered m mo formed regs u 0 fallen_first in
     let begun = met [] (arrives_falling free refl) in

@@ -1,7 +1,7 @@
 ghost use Rattle.card_typing.specs.Laws.{CardIsFlow, MetIsBelow, MetIsSound, RefusalDenies, FlawsAreTold, QuietIsLeast};
 
 use jc_base::World;
-use jc_control::{flaws_decide, instructions_are_placed, instructions_stand_in_order};
+use jc_control::{flaws_decide, instructions_are_placed};
 use jc_rules::{rule_falls, rule_laws, rule_raises};
 
 /// What card typings have to do with dataflow typings, with the states that the verifier on the card meets, with its
@@ -19,6 +19,5 @@ pub fn card_laws(world: &World<'_>)
     rule_raises(world);
     flaws_decide();
     instructions_are_placed();
-    instructions_stand_in_order();
     let _object = world.classes().at(world.role(0));
 }

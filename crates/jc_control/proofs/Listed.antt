@@ -10,7 +10,7 @@ use Rattle.jc_decode.specs.Listing.{listing, listing_end, end_from, Lists}
 use Rattle.jc_decode.proofs.Decoded.{IsWithin-decoded, ok-same}
 use Rattle.jc_decode.proofs.Listing.{Lists-listing_from, listing_from-start}
 use Rattle.jc_control.specs.WellFormed.{Stands, IsPlace, IsTargetPlace}
-use Rattle.jc_control.specs.Laws.{InstructionsAreListed, AreInOrder, InstructionsStandInOrder}
+use Rattle.jc_control.specs.Laws.{InstructionsAreListed}
 use Rattle.jc_control.proofs.Elements.{contained-in, nothing-in, Contains-either, Contains-slice_get}
 
 module _ (code : List ℕ) where
@@ -69,16 +69,6 @@ module _ (code : List ℕ) where
       (λ later. after-in (at + p.insn.len) ps i j l.2 there later lt) (Contains-either p ps j d))
       (Contains-either p ps i c)
 
-  pub in-order : AreInOrder code
-  in-order = record {
-    lists = all-listed;
-    long = λ at i d. (IsWithin-decoded code at i d).one;
-    within = λ i s. let w = within-Stands i s in omega (arith, w.reaches);
-    found = decoded-Stands;
-    after = λ i j s t lt. after-in 0 (listing code) i j all-listed s t lt;
-    one = one-at;
-  }
-
   -- and before the place where they end
   ends-later : (from : ℕ) (qs : List Placed) → from ≤ end_from from qs
   ends-later from [] = omega arith
@@ -99,9 +89,13 @@ module _ (code : List ℕ) where
 
 pub instructions-are-listed : InstructionsAreListed
 instructions-are-listed code = record {
+  lists = all-listed code;
   decodes = decoded-Stands code;
+  long = λ at i d. (IsWithin-decoded code at i d).one;
   inside = λ i s. place-inside code i.place (i, s, refl);
+  within = λ i s. let w = within-Stands code i s in omega (arith, w.reaches);
   one = one-at code;
+  after = λ i j s t lt. after-in code 0 (listing code) i j (all-listed code) s t lt;
   rising = rising code;
 }
 
@@ -130,6 +124,3 @@ target-range code (negsuc n) h short = absurd h
 
 pub target-place : (code : List ℕ) (p : ℕ) (t : ℤ) → IsTargetPlace code t → pos p ≡ t → p < length code
 target-place code p t h same = place-inside code p (subst (IsTargetPlace code) (sym same) h)
-
-pub instructions-stand-in-order : InstructionsStandInOrder
-instructions-stand-in-order code = in-order code

@@ -27,12 +27,16 @@ pub record ArePlaced (m : Method) : Type 0 where
   pub reached : (p : ℕ) → IsReached m p → IsBoundary m.code p
   pub decoded : (i : Placed) → IsReached m i.place → decoded m.code i.place ≡ Ok i.insn → Stands m.code i
 
--- each instruction of a code is the one that is decoded at its place, which lies in the code; no two stand at one place, and in the listing
--- places rise
+-- the instructions of a code: each is the one that is decoded at its place and ends in the code, and is a byte long at least; no two stand at
+-- one place, the next begins where one ends or later, and in the listing places rise
 pub record AreListed (code : List ℕ) : Type 0 where
+  pub lists : Lists code 0 (listing code)
   pub decodes : (i : Placed) → Stands code i → decoded code i.place ≡ Ok i.insn
+  pub long : (at : ℕ) (i : Insn) → decoded code at ≡ Ok i → 0 < i.len
   pub inside : (i : Placed) → Stands code i → i.place < length code
+  pub within : (i : Placed) → Stands code i → i.place + i.insn.len ≤ length code
   pub one : (i j : Placed) → Stands code i → Stands code j → i.place ≡ j.place → i ≡ j
+  pub after : (i j : Placed) → Stands code i → Stands code j → i.place < j.place → i.place + i.insn.len ≤ j.place
   pub rising :
       (a b : ℕ) (i j : Placed)
       → slice_get (listing code) a ≡ Some i
@@ -53,15 +57,3 @@ LiveHandlersLead = (m : Method) (h : Handler) → IsLive m h → IsReached m h.e
 -- each leader is reached
 abbrev pub LeadersAreReached : Type 0
 LeadersAreReached = (m : Method) (q : ℕ) → IsLeader m q → IsReached m q
-
--- the instructions of a code stand one after the other, each of them a byte long at least
-pub record AreInOrder (code : List ℕ) : Type 0 where
-  pub lists : Lists code 0 (listing code)
-  pub long : (at : ℕ) (i : Insn) → decoded code at ≡ Ok i → 0 < i.len
-  pub within : (i : Placed) → Stands code i → i.place + i.insn.len ≤ length code
-  pub found : (i : Placed) → Stands code i → decoded code i.place ≡ Ok i.insn
-  pub after : (i j : Placed) → Stands code i → Stands code j → i.place < j.place → i.place + i.insn.len ≤ j.place
-  pub one : (i j : Placed) → Stands code i → Stands code j → i.place ≡ j.place → i ≡ j
-
-abbrev pub InstructionsStandInOrder : Type 0
-InstructionsStandInOrder = (code : List ℕ) → AreInOrder code

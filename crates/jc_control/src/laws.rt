@@ -1,4 +1,4 @@
-ghost use Rattle.jc_control.specs.Laws.{FlawsDecide, FirstFlawIsOne, InstructionsArePlaced, InstructionsAreListed, LiveHandlersLead, LeadersAreReached, InstructionsStandInOrder};
+ghost use Rattle.jc_control.specs.Laws.{FlawsDecide, FirstFlawIsOne, InstructionsArePlaced, InstructionsAreListed, LiveHandlersLead, LeadersAreReached};
 
 /// A method is well formed exactly where it has no flaw.
 pub fn flaws_decide()
@@ -11,8 +11,8 @@ pub fn first_flaw_is_one()
 {}
 
 /// Where a method is well formed, an instruction is found at its first place, after each other, and at each place
-/// that control reaches, unless the code ends there. In any code one instruction stands at a place, which is decoded
-/// there.
+/// that control reaches, unless the code ends there. In any code the instructions stand one after the
+/// other, and each is the one that is decoded at its place.
 pub fn instructions_are_placed()
     ensures placed { InstructionsArePlaced }
     ensures listed { InstructionsAreListed }
@@ -22,9 +22,4 @@ pub fn instructions_are_placed()
 pub fn leaders_are_reached()
     ensures live { LiveHandlersLead }
     ensures leaders { LeadersAreReached }
-{}
-
-/// The instructions of a code stand one after the other.
-pub fn instructions_stand_in_order()
-    ensures { InstructionsStandInOrder }
 {}

@@ -20,12 +20,9 @@ pub use control::control_flow;
 pub use edge::{covers, place_of};
 pub use flags::Flags;
 pub use flaw::{ControlEnd, Flaw};
-pub use laws::{
-    first_flaw_is_one, flaws_decide, instructions_are_placed, instructions_stand_in_order,
-    leaders_are_reached,
-};
-pub use reached::ControlFlow;
+pub use laws::{first_flaw_is_one, flaws_decide, instructions_are_placed, leaders_are_reached};
 pub use places::Places;
+pub use reached::ControlFlow;
 pub use scan::{find_flaw, instruction_places, mark_places};
 pub use subject::Subject;
 pub use targets::Targets;

@@ -29,4 +29,4 @@ pub returns-clause-keeps_whole : goal.returns-clause-keeps_whole
 returns-clause-keeps_whole c = operation-keeps-whole c.args.world.now c.classes.ensures.links
 
 pub returns-clause-rests : goal.returns-clause-rests
-returns-clause-rests c = operation-rests c.args.world.now (subst AreClasses c.classes.ensures.is c.at-object.ensures.chains)
+returns-clause-rests c = operation-rests c.args.world.now (subst IsOrderOfTypes c.classes.ensures.is c.types_are_ordered.ensures.order)
