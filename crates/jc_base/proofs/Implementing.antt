@@ -16,7 +16,6 @@ use Rattle.jc_base.specs.Order.{Below, is_below, is_on_chain}
 use Rattle.jc_base.specs.Linked.{AreLinkedClasses, IsLinkedClass, IsExtended, IsImplemented}
 use Rattle.jc_base.specs.Interface.{extended, extended_in, implemented, IsOrExtends, Implements, NoneExtendsItself, is_or_extends, implements, extended_count}
 use Rattle.jc_base.specs.Laws.{ImplementsDecides, ExtendsEnds, ExtendsDecides}
-use Rattle.jc_base.proofs.Lists.{slice_get-below}
 use Rattle.jc_base.proofs.Leading.{either, left, right, leads-sound, leads-complete}
 use Rattle.jc_base.proofs.Eaching.{Contains-from_IsAmong, IsAmong-from_Contains}
 use Rattle.jc_base.proofs.Tests.{some-from_test, test-from_some}

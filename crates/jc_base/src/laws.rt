@@ -1,4 +1,4 @@
-ghost use Rattle.jc_base.specs.Laws.{IsOrderOfTypes, DeclaredAreKnown, ClassesAreObjects, InstancesExtend, PublicMethodsRun, ConcreteIsDecided, ImplementsDecides, ExtendsEnds, ConcreteDecides, ExtendsDecides, SameTypeDecides};
+ghost use Rattle.jc_base.specs.Laws.{IsOrderOfTypes, DeclaredAreKnown, ClassesAreObjects, InstancesExtend, PublicMethodsRun, ConcreteIsDecided, ImplementsDecides, ExtendsEnds, ExtendsDecides, SameTypeDecides};
 
 use crate::class::Classes;
 use crate::world::World;
