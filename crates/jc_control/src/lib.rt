@@ -24,8 +24,8 @@ pub use laws::{
     first_flaw_is_one, flaws_decide, instructions_are_placed, instructions_stand_in_order,
     leaders_are_reached,
 };
-pub use reached::ControlFlow;
 pub use places::Places;
+pub use reached::ControlFlow;
 pub use scan::{find_flaw, instruction_places, mark_places};
 pub use subject::Subject;
 pub use targets::Targets;

@@ -109,11 +109,7 @@ fn check_end(code: View<'_>) -> Result<(), Flaw>
 }
 
 /// Whether each handler is well formed.
-fn check_handlers(
-    code: View<'_>,
-    handlers: &Handlers,
-    places: Places<'_>,
-) -> Result<(), Flaw>
+fn check_handlers(code: View<'_>, handlers: &Handlers, places: Places<'_>) -> Result<(), Flaw>
     requires short { length code.bytes.now ≤ 32767 }
     requires known { KnowPlaces code.bytes.now places }
     requires few { length handlers.now ≤ 255 }
