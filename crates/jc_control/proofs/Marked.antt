@@ -1,12 +1,11 @@
 -- Flags as the set of the flagged places.
 use Rattle.std.proofs.Common.{◌≡◌, ◌<◌, ◌≤◌, ◌⊎◌, inl, inr, ⊎_elim, ℕ, Bool, true, false, List, [], ◌∷◌, ◌++◌, length, sym, ap, ◌∙◌, subst, arith}
-use Rattle.std.specs.Prelude.{ℤ, pos, negsuc, replicate}
+use Rattle.std.specs.Prelude.{replicate}
 use Rattle.std.proofs.Math.ListN.{set}
 use Rattle.std.proofs.lemmas.Bool.{cases_eq, cases_lt, false≢true}
 use Rattle.std.proofs.lemmas.List.{get_or-replicate, get_or_past, length-replicate, get_or-set_same, get_or-set_other}
 use Rattle.std.proofs.lemmas.List.Elements.{Contains-append_left, Contains-push, Contains-push_cases}
 use Rattle.jc_decode.specs.declared.insn.Placed.{Placed}
-use Rattle.jc_control.specs.WellFormed.{IsPlace, IsTargetPlace}
 use Rattle.jc_control.specs.Flags.{flag, IsFlagged, Marks}
 use Rattle.jc_control.specs.Places.{BeginsIn}
 use Rattle.jc_control.proofs.Elements.{nothing-in}
