@@ -6,10 +6,9 @@ use Rattle.jc_base.specs.declared.ty.Kind.{Kind}
 use Rattle.jc_base.specs.declared.record.Member.{Member}
 use Rattle.jc_base.specs.declared.record.Member.TheVariants.{ClassOf, Field, Static, Virtual, Super, StaticCall}
 use Rattle.jc_base.specs.declared.record.MethodRec.{MethodRec}
-use Rattle.jc_base.specs.Class.{ClassTable, is_interface, object}
+use Rattle.jc_base.specs.Class.{ClassTable, is_interface}
 use Rattle.jc_base.specs.Dispatch.{IsConcrete, entry_at, is_concrete}
 use Rattle.jc_base.specs.Laws.{ConcreteDecides}
-use Rattle.jc_base.specs.Linked.{lacks_code}
 use Rattle.jc_base.specs.World.{Linked, member_at}
 use Rattle.jc_decode.specs.declared.insn.Insn.{Insn}
 use Rattle.jc_ops.specs.declared.fault.RuleFault.{RuleFault}
@@ -19,12 +18,11 @@ use Rattle.jc_ops.specs.declared.operation.Sort.{Sort}
 use Rattle.jc_ops.specs.declared.operation.Choice.{Choice}
 use Rattle.jc_ops.specs.declared.operation.Operation.{Operation}
 use Rattle.jc_ops.specs.declared.operation.Operation.TheVariants as ops
-use Rattle.jc_ops.specs.declared.row.Invocation.{Invocation}
 use Rattle.jc_ops.specs.declared.row.Invocation.TheVariants as invocations
 use Rattle.jc_ops.specs.declared.row.Row.{Row}
 use Rattle.jc_ops.specs.declared.row.Row.TheVariants as rows
 use Rattle.jc_ops.specs.Row.{row_at}
-use Rattle.jc_ops.specs.Resolve.{byte_of, short_of, taken_if, on, same_kind, static_field, instance_field, callee_if, entry_callee, virtual_callee, special_callee, static_callee, only, described, described_callee, interface_callee, callee, class_type, array_of, tested_type, returns, returned, result_type, result_returned, new_object, resolved, Resolves}
+use Rattle.jc_ops.specs.Resolve.{byte_of, short_of, taken_if, on, same_kind, static_field, instance_field, callee_if, entry_callee, virtual_callee, special_callee, static_callee, only, described, described_callee, interface_callee, class_type, array_of, tested_type, returns, returned, result_type, result_returned, new_object, resolved, Resolves}
 use Rattle.std.proofs.lemmas.Bool.{false≢true}
 use Rattle.jc_ops.specs.Sound.{RefusesAbstract}
 use Rattle.jc_ops.specs.Entry.{entry_of, entry_named, RestsOnEntry, FaultNamesEntry}

@@ -1,6 +1,5 @@
 -- An operation falls and jumps as its instruction does.
-use Rattle.std.proofs.Common.{◌≡◌, ℕ, zero, suc, ◌+◌, ◌<◌, Bool, true, false, if◌then◌else◌, List, [], ◌∷◌, length, map, get_or, Option, Some, None, Result, Ok, Err, refl, sym, ◌∙◌, ap, subst, arith}
-use Rattle.std.specs.Prelude.{slice_index_or}
+use Rattle.std.proofs.Common.{◌≡◌, ℕ, zero, suc, ◌+◌, ◌<◌, Bool, true, false, if◌then◌else◌, List, [], ◌∷◌, length, map, get_or, Option, Some, Result, Ok, Err, refl, ◌∙◌, ap, subst, arith}
 use Rattle.std.specs.List.{range_with_len}
 use Rattle.std.proofs.lemmas.List.FromFn.{get_or-range_with_len}
 use Rattle.jc_base.specs.declared.record.Member.{Member}
@@ -18,8 +17,8 @@ use Rattle.jc_ops.specs.declared.operation.Operation.TheVariants as ops
 use Rattle.jc_ops.specs.declared.row.Row.{Row}
 use Rattle.jc_ops.specs.declared.row.Row.TheVariants as rows
 use Rattle.jc_ops.specs.Row.{table, row_at, unused, by_sort, by_width, by_kind, first_four, by_register, literals, binary, orders_all, branching}
-use Rattle.jc_ops.specs.Resolve.{byte_of, short_of, on, static_field, instance_field, callee, class_type, tested_type, result_returned, new_object, resolved, Resolves}
-use Rattle.jc_ops.specs.Next.{falls_from, jumps_from, GoesAlike, OperationsGoAlike}
+use Rattle.jc_ops.specs.Resolve.{byte_of, short_of, on, static_field, instance_field, callee, class_type, tested_type, result_returned, new_object, resolved}
+use Rattle.jc_ops.specs.Next.{falls_from, jumps_from, OperationsGoAlike}
 
 -- as the row of an opcode has it
 row_falls : Row → Bool

@@ -1,5 +1,5 @@
 -- What the operation of an instruction speaks of is in the world.
-use Rattle.std.proofs.Common.{◌≡◌, ℕ, ◌+◌, ◌/◌, ◌%◌, ◌<◌, ◌≤◌, ◌==◌, ◌&&◌, not, ◌||◌, if◌then◌else◌, cond, zero, suc, Bool, true, false, List, [], ◌∷◌, ◌++◌, length, Option, Some, None, IfSome, IsSomeAnd, Result, Ok, Err, IfOk, slice_get, slice_index_or, filter, All, Contains, refl, sym, ◌∙◌, ap, subst, arith}
+use Rattle.std.proofs.Common.{◌≡◌, ℕ, ◌+◌, ◌/◌, ◌%◌, ◌<◌, ◌≤◌, ◌==◌, ◌&&◌, not, ◌||◌, if◌then◌else◌, cond, zero, suc, Bool, true, false, List, [], ◌∷◌, ◌++◌, length, Option, Some, None, IfSome, IsSomeAnd, Result, Ok, Err, IfOk, slice_get, slice_index_or, filter, All, Contains, refl, sym, ◌∙◌, subst, arith}
 use Rattle.std.specs.List.{range_with_len}
 use Rattle.std.proofs.lemmas.Bool.Decides.{nat_tests}
 use Rattle.jc_base.specs.declared.ty.Ty.{Ty}
@@ -8,8 +8,8 @@ use Rattle.jc_base.specs.declared.ty.Kind.{Kind}
 use Rattle.jc_base.specs.declared.record.Member.{Member}
 use Rattle.jc_base.specs.declared.record.Member.TheVariants.{ClassOf, Field, Static, Virtual, Super, StaticCall}
 use Rattle.jc_base.specs.declared.record.MethodRec.{MethodRec}
-use Rattle.jc_base.specs.Class.{ClassTable, IsClass, is_interface, object, parent_of}
-use Rattle.jc_base.specs.Order.{Below, joined, same, subclass, IsArray, of_booleans, of_bytes, of_shorts, of_ints, of_references}
+use Rattle.jc_base.specs.Class.{IsClass, is_interface, object, parent_of}
+use Rattle.jc_base.specs.Order.{joined, same, subclass, IsArray, of_booleans, of_bytes, of_shorts, of_ints, of_references}
 use Rattle.jc_base.specs.Cell.{IsDeclared, IsOfKind}
 use Rattle.jc_base.specs.Dispatch.{is_concrete, entry_at, cells_of, public_of, visible_of}
 use Rattle.jc_base.specs.Laws.{ConcreteDecides}
@@ -26,7 +26,6 @@ use Rattle.jc_ops.specs.declared.operation.Sort.TheVariants as sorts
 use Rattle.jc_ops.specs.declared.operation.Move.TheVariants as moves
 use Rattle.jc_ops.specs.declared.operation.Choice.{Choice}
 use Rattle.jc_ops.specs.declared.operation.Choice.TheVariants as choices
-use Rattle.jc_ops.specs.declared.operation.Callee.{Callee}
 use Rattle.jc_ops.specs.declared.operation.Operation.{Operation}
 use Rattle.jc_ops.specs.declared.operation.Operation.TheVariants as ops
 use Rattle.jc_ops.specs.declared.row.Invocation.{Invocation}
@@ -35,7 +34,7 @@ use Rattle.jc_ops.specs.declared.row.Row.{Row}
 use Rattle.jc_ops.specs.declared.row.Row.TheVariants as rows
 use Rattle.jc_ops.specs.Row.{table, row_at, unused, by_sort, by_width, by_kind, first_four, by_register, literals, binary, orders_all, branching}
 use Rattle.jc_ops.specs.Resolve.{byte_of, short_of, taken_if, on, same_kind, static_field, instance_field, callee_if, entry_callee, virtual_callee, own_receiver, special_callee, static_callee, is_described, passes, described, only, described_callee, interface_callee, callee, class_type, array_of, tested_type, returns, returned, result_type, result_returned, new_object, resolved, Resolves}
-use Rattle.jc_ops.specs.Sound.{IsKnownWant, receiver_count, IsStaticOf, IsFieldOf, IsVirtualCall, IsReceiverOf, IsSpecialCall, IsStaticCall, IsInterfaceCall, IsCalleeOf, IsNamedType, IsResult, IsSound, OperationsAreSound}
+use Rattle.jc_ops.specs.Sound.{IsKnownWant, IsStaticOf, IsFieldOf, IsReceiverOf, IsCalleeOf, IsNamedType, IsResult, IsSound, OperationsAreSound}
 use Rattle.jc_ops.proofs.Members.{argument_room, entry-inherits, super-inherits, static-known, cells-declared}
 
 -- ---- rows whose opcode says all
