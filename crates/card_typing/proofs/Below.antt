@@ -14,8 +14,8 @@ use Rattle.jc_control.specs.Laws.{FlawsDecide}
 use Rattle.jc_rules.specs.declared.effect.Mode.TheVariants.{Card}
 use Rattle.jc_rules.specs.declared.rule.Outcome.{Outcome}
 use Rattle.jc_rules.specs.Demand.{Frame, AreKnown}
-use Rattle.jc_rules.specs.Apply.{Applies}
-use Rattle.jc_rules.specs.Flow.{CellsBelow, no_cells, more_cells, FrameBelow, site_of, start_frame}
+use Rattle.jc_rules.specs.Apply.{RuleApplies}
+use Rattle.jc_rules.specs.Flow.{CellsBelow, no_cells, more_cells, FrameBelow, start_frame}
 use Rattle.jc_rules.specs.FlowLaws.{AreRules}
 use Rattle.jc_rules.specs.Laws.{IsNotBottom, FallsTo, RuleFallsOnCard, RuleStays}
 use Rattle.card_typing.specs.declared.fault.CardKind.{CardKind}
@@ -26,6 +26,7 @@ use Rattle.jc_control.specs.declared.flaw.Flaw.{Flaw}
 use Rattle.jc_control.specs.declared.flaw.Flaw.TheVariants as flaws
 use Rattle.card_typing.specs.Refusal.{fault_of, IsFlawKind, IsWrong, wrong_entry, wrong_room, wrong_target, wrong_rule, wrong_branch, wrong_end, refused_flaw, refused_state}
 use Rattle.card_typing.specs.Laws.{MetIsBelow, RefusalDenies, FlawsAreTold}
+use Rattle.card_typing.proofs.Sites.{site_of, at-site, refuses-at-site}
 use Rattle.card_typing.proofs.Own.{all_none, all_more, of_world, start-length, start-known}
 use Rattle.card_typing.proofs.Flowing.{IsSolid, none-solid, entered-solid, given-solid}
 
@@ -61,15 +62,15 @@ module _ (w : Linked) (is : AreCardRules w) (m : Method) (mo : IsMethodOf w m) (
       → FallsTo w (site_of m i.place) i.insn Card before (record { regs = regs; stack = (ty.typed i there).after.stack })
   fallen i there before h =
       let t = ty.typed i there in
-      let card = is.stays (site_of m i.place) i.insn (frame_at regs stacks i.place) t.after t.applies.0 t.applies.1 t.stored in
+      let card = is.stays (site_of m i.place) i.insn (frame_at regs stacks i.place) t.after t.applies.0 (at-site w m mo t.applies.1) t.stored in
       is.falls (site_of m i.place) i.insn (frame_at regs stacks i.place) before (record { regs = regs; stack = t.after.stack }) t.applies.0 h.known h.below h.solid.no_top h.full card
 
   given : (i : Placed) (there : Stands m.code i) (before after : Frame) (o : Outcome) → IsHeld i.place before
-      → Applies w (site_of m i.place) i.insn Card before after o → IsGiven i there after
+      → RuleApplies w m.rec i.place i.insn Card before after o → IsGiven i there after
   given i there before after o h a =
       let f = fallen i there before h in
-      let same : f.below ≡ after = (is.rules.decides (site_of m i.place) i.insn Card before).one f.applies a in
-      let k = is.rules.keeps (site_of m i.place) i.insn Card before after o h.known a in
+      let same : f.below ≡ after = (is.rules.decides (site_of m i.place) i.insn Card before).one f.applies (at-site w m mo a) in
+      let k = is.rules.keeps (site_of m i.place) i.insn Card before after o h.known (at-site w m mo a) in
       record {
         below = subst (λ g. FrameBelow w.classes g (record { regs = regs; stack = (ty.typed i there).after.stack })) same f.lower;
         known = k.known;
@@ -171,7 +172,7 @@ module _ (w : Linked) (is : AreCardRules w) (m : Method) (mo : IsMethodOf w m) (
   wrong-never i before _ _ there h (wrong_room e free none) = entry-room i.place e none
   wrong-never i before _ _ there h (wrong_target free target fallen deep) = deep (below-empty h.below.stack (ty.targets i.place target).1)
   wrong-never i before _ _ there h (wrong_rule fault suits refuses) =
-      (is.rules.decides (site_of m i.place) i.insn Card before).never_both (fallen i there before h).applies refuses
+      (is.rules.decides (site_of m i.place) i.insn Card before).never_both (fallen i there before h).applies (refuses-at-site w m mo refuses)
   wrong-never i before _ _ there h (wrong_branch after o suits applies jumps deep) =
       deep (below-empty (given i there before after o h applies).below.stack ((ty.typed i there).branch jumps))
   wrong-never i before _ _ there h (wrong_end after o suits applies branch goes end) = absurd (omega (arith, ((ty.typed i there).goes_on goes).inside, end))

@@ -16,11 +16,12 @@ use Rattle.jc_control.specs.Control.{IsSuccessor, falls_through, jumped, IsReach
 use Rattle.jc_control.specs.Laws.{InstructionsArePlaced}
 use Rattle.jc_rules.specs.declared.effect.Mode.TheVariants.{Flow}
 use Rattle.jc_rules.specs.Demand.{AreKnown}
-use Rattle.jc_rules.specs.Flow.{CellsBelow, no_cells, more_cells, FrameBelow, IsNotFresh, IsNotTop, caught_frame, site_of, FlowTyping}
+use Rattle.jc_rules.specs.Flow.{CellsBelow, no_cells, more_cells, FrameBelow, IsNotFresh, IsNotTop, caught_frame, FlowTyping}
 use Rattle.jc_rules.specs.FlowLaws.{AreRules}
 use Rattle.card_typing.specs.Place.{IsEntry, IsTarget}
 use Rattle.card_typing.specs.Typing.{frame_at, IsTyped, IsEntered, CardTyping}
 use Rattle.card_typing.specs.Laws.{CardIsFlow}
+use Rattle.card_typing.proofs.Sites.{site_of, at-site}
 use Rattle.card_typing.proofs.Own.{all_none, all_more, of_world, start-length}
 
 nothing-in : {X : Type 0} (x : X) → Contains [] x → ⊥
@@ -58,7 +59,7 @@ module _ (w : Linked) (is : AreRules w) (m : Method) (mo : IsMethodOf w m) (regs
 
   pub given-solid : (i : Placed) (t : IsTyped w m regs stacks i) → IsSolid w (stacks i.place) → IsSolid w t.after.stack
   given-solid i t s =
-      let k = is.keeps (site_of m i.place) i.insn Flow (frame_at regs stacks i.place) t.after t.applies.0 (known-with (stacks i.place) s.known) t.applies.1 in
+      let k = is.keeps (site_of m i.place) i.insn Flow (frame_at regs stacks i.place) t.after t.applies.0 (known-with (stacks i.place) s.known) (at-site w m mo t.applies.1) in
       record { known = k.known.stack; no_top = k.no_top s.no_top }
 
   entry-of : (h : Handler) → Contains m.rec.handlers h → IsEntry m h.entry

@@ -1,3 +1,4 @@
+pub mod Sites
 pub mod Own
 pub mod Flowing
 pub mod Sound

@@ -13,9 +13,10 @@ use Rattle.jc_control.specs.Method.{Method, IsMethodOf}
 use Rattle.jc_control.specs.WellFormed.{Stands, IsPlace, IsTargetPlace, IsHandlerOf, IsWellFormed}
 use Rattle.jc_control.specs.Laws.{InstructionsArePlaced, InstructionsAreListed}
 use Rattle.jc_rules.specs.declared.rule.Outcome.{Outcome}
-use Rattle.jc_rules.specs.Flow.{CellsBelow, IsNotFresh, site_of, start_frame}
+use Rattle.jc_rules.specs.Flow.{CellsBelow, IsNotFresh, start_frame}
 use Rattle.jc_rules.specs.Laws.{RuleRests}
 use Rattle.jc_base.specs.declared.record.MethodRec.{MethodRec}
+use Rattle.card_typing.proofs.Sites.{site_of, at-site, of-site}
 use Rattle.card_typing.specs.Place.{IsTarget, IsEntry, IsFallenInto, fallen_first, fallen_from, CatchesAt}
 use Rattle.card_typing.specs.Typing.{frame_at, GoesOn, IsTyped, IsEntered, CardTyping}
 use Rattle.card_typing.specs.Met.{Arrives, arrives_falling, arrives_empty, arrives_caught, arrives_full, IsOpenTo, IsPassed}
@@ -89,16 +90,10 @@ module _ (w : Linked) (m : Method) (regs : List Ty) where
     passed : IsPassed w m i (record { regs = regs; stack = stacks i.place }) (record { regs = regs; stack = after }) outcome
     next : Arrives w m (falls i.insn.op) after (i.place + i.insn.len) (stacks (i.place + i.insn.len)) ⊎ ((i.place + i.insn.len ≡ length m.code) × (stacks (i.place + i.insn.len) ≡ []))
 
-  rec-same : (mo : IsMethodOf w m) (r : MethodRec) → slice_get w.methods m.number ≡ Some r → r ≡ m.rec
-  rec-same mo r e = some-same (sym e ∙ mo.rec)
-    where
-      some-same : {x y : MethodRec} → ◌≡◌ {A = Option MethodRec} (Some x) (Some y) → x ≡ y
-      some-same e = cc
-
   module _ (mo : IsMethodOf w m) (ordered : InstructionsAreListed) (stacks : ℕ → List Ty) where
     after-room : (i : Placed) {stack after : List Ty} {o : Outcome} → IsPassed w m i (record { regs = regs; stack = stack }) (record { regs = regs; stack = after }) o → length after ≤ m.rec.max_stack
     after-room i {stack} {after} {o} p =
-        subst (λ (r : MethodRec). length after ≤ r.max_stack) (rec-same mo p.applies.method p.applies.is_method) p.applies.rule.does.room
+        p.applies.does.room
 
     -- what the pass has at the place where it goes on
     onward : (at : ℕ) (is : List Placed) (b : Bool) (given : List Ty) (u : IsQuiet w m regs b given is) → Lists m.code at is → end_from at is ≡ length m.code
@@ -218,10 +213,10 @@ module _ (w : Linked) (rests : RuleRests w) (placed : InstructionsArePlaced) (or
   typed-at : (i : Placed) → Stands m.code i → IsTyped w m regs stacks i
   typed-at i there =
       let v = visit i there in
-      let r = rests (site_of m i.place) i.insn (frame_at regs stacks i.place) (record { regs = regs; stack = v.after }) v.outcome v.passed.applies refl in
+      let r = rests (site_of m i.place) i.insn (frame_at regs stacks i.place) (record { regs = regs; stack = v.after }) v.outcome (at-site w m mo v.passed.applies) refl in
       record {
         after = record { regs = r.stored; stack = v.after };
-        applies = (v.outcome, r.applies);
+        applies = (v.outcome, of-site w m mo r.applies);
         stored = r.below;
         branch = v.passed.branch;
         goes_on = λ goes. goes-on i there goes;

@@ -7,11 +7,12 @@ use Rattle.jc_base.specs.World.{Linked}
 use Rattle.jc_control.specs.Method.{Method, IsMethodOf}
 use Rattle.jc_rules.specs.declared.effect.Mode.TheVariants.{Card}
 use Rattle.jc_rules.specs.Demand.{Frame}
-use Rattle.jc_rules.specs.Flow.{site_of, start_frame}
+use Rattle.jc_rules.specs.Flow.{start_frame}
 use Rattle.jc_rules.specs.FlowLaws.{AreRules}
 use Rattle.jc_rules.specs.Laws.{RuleRaises}
 use Rattle.card_typing.specs.Met.{Arrives, arrives_falling, arrives_empty, arrives_caught, arrives_full, IsMet, met_start, met_next}
 use Rattle.card_typing.specs.Laws.{IsSoundState, MetIsSound}
+use Rattle.card_typing.proofs.Sites.{site_of, at-site}
 use Rattle.card_typing.proofs.Own.{all_none, all_more, of_world, start-length, start-known, start-ready}
 
 -- a stack that arrives has types of the world where the given one has
@@ -38,7 +39,7 @@ module _ (w : Linked) (is : AreRules w) (raises : RuleRaises w) (m : Method) (mo
   sound _ _ (met_start stack a) = start-sound stack (arrives-known w m a (all_none (IsKnown w.classes)))
   sound _ _ (met_next i q before after o stack met passed goes a) =
       let s = sound i.place before met in
-      let k = is.keeps (site_of m i.place) i.insn Card before after o s.known passed.applies in
+      let k = is.keeps (site_of m i.place) i.insn Card before after o s.known (at-site w m mo passed.applies) in
       record {
         known = record {
           few = k.known.few;
@@ -47,7 +48,7 @@ module _ (w : Linked) (is : AreRules w) (raises : RuleRaises w) (m : Method) (mo
           object = k.known.object;
         };
         ready = k.no_fresh s.ready;
-        raised = is.order.through s.raised (raises (site_of m i.place) i.insn before after o passed.applies);
+        raised = is.order.through s.raised (raises (site_of m i.place) i.insn before after o (at-site w m mo passed.applies));
       }
 
 pub met-is-sound : (w : Linked) → AreRules w → RuleRaises w → MetIsSound w

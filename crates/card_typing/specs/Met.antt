@@ -10,8 +10,8 @@ use Rattle.jc_control.specs.WellFormed.{Stands}
 use Rattle.jc_rules.specs.declared.effect.Mode.TheVariants.{Card}
 use Rattle.jc_rules.specs.declared.rule.Outcome.{Outcome}
 use Rattle.jc_rules.specs.Demand.{Frame}
-use Rattle.jc_rules.specs.Apply.{Applies}
-use Rattle.jc_rules.specs.Flow.{site_of, start_frame}
+use Rattle.jc_rules.specs.Apply.{RuleApplies}
+use Rattle.jc_rules.specs.Flow.{start_frame}
 use Rattle.card_typing.specs.Place.{IsTarget, IsEntry, IsFallenInto, CatchesAt}
 
 -- The stack before a place, where the instruction before it may fall through and gives a stack: that stack, or the empty one where it doesn't;
@@ -34,7 +34,7 @@ pub record IsOpenTo (m : Method) (q : ℕ) (stack : List Ty) : Type 0 where
 pub record IsPassed (w : Linked) (m : Method) (i : Placed) (before after : Frame) (o : Outcome) : Type 0 where
   pub stands : Stands m.code i
   pub suits : IsOpenTo m i.place before.stack
-  pub applies : Applies w (site_of m i.place) i.insn Card before after o
+  pub applies : RuleApplies w m.rec i.place i.insn Card before after o
   pub branch : IsTrue (jumps i.insn.op) → after.stack ≡ []
   pub goes_on : IsTrue (falls i.insn.op) → i.place + i.insn.len < length m.code
 

@@ -13,8 +13,7 @@ use Rattle.jc_control.specs.declared.flaw.Flaw.TheVariants as flaws
 use Rattle.jc_rules.specs.declared.effect.Mode.TheVariants.{Card}
 use Rattle.jc_rules.specs.declared.rule.Outcome.{Outcome}
 use Rattle.jc_rules.specs.Demand.{Frame}
-use Rattle.jc_rules.specs.Apply.{Applies, Refuses}
-use Rattle.jc_rules.specs.Flow.{site_of}
+use Rattle.jc_rules.specs.Apply.{RuleApplies, RuleRefuses}
 use Rattle.card_typing.specs.declared.fault.CardFault.{CardFault}
 use Rattle.card_typing.specs.declared.fault.CardKind.{CardKind}
 use Rattle.card_typing.specs.declared.fault.CardKind.TheVariants.{Code, Rule, StackAtTarget, StackAtBranch, HandlerEntered, BadTarget, FallsOff, BadHandler}
@@ -40,19 +39,19 @@ pub data IsWrong (w : Linked) (m : Method) (i : Placed) (before : Frame) : CardK
   wrong_rule :
       (fault : RuleFault)
       → IsOpenTo m i.place before.stack
-      → Refuses w (site_of m i.place) i.insn before fault
+      → RuleRefuses w m.rec i.place i.insn before fault
       → IsWrong w m i before (Rule fault) before
   wrong_branch :
       (after : Frame) (o : Outcome)
       → IsOpenTo m i.place before.stack
-      → Applies w (site_of m i.place) i.insn Card before after o
+      → RuleApplies w m.rec i.place i.insn Card before after o
       → IsTrue (jumps i.insn.op)
       → after.stack ≢ []
       → IsWrong w m i before StackAtBranch after
   wrong_end :
       (after : Frame) (o : Outcome)
       → IsOpenTo m i.place before.stack
-      → Applies w (site_of m i.place) i.insn Card before after o
+      → RuleApplies w m.rec i.place i.insn Card before after o
       → (IsTrue (jumps i.insn.op) → after.stack ≡ [])
       → IsTrue (falls i.insn.op)
       → i.place + i.insn.len ≡ length m.code
