@@ -7,7 +7,6 @@ use Rattle.jc_base.specs.Laws.{IsOrderOfTypes}
 use Rattle.jc_base.specs.World.{Linked}
 use Rattle.jc_decode.specs.declared.insn.Insn.{Insn}
 use Rattle.jc_ops.specs.declared.fault.RuleFault.{RuleFault}
-use Rattle.jc_ops.specs.declared.fault.RuleFault.TheVariants.{Overflow}
 use Rattle.jc_ops.specs.declared.operation.Operation.{Operation}
 use Rattle.jc_ops.specs.declared.site.Site.{Site}
 use Rattle.jc_ops.specs.Resolve.{Resolves}
@@ -20,7 +19,7 @@ use Rattle.jc_rules.specs.declared.effect.Cells.{Cells}
 use Rattle.jc_rules.specs.declared.effect.Cells.TheVariants as given
 use Rattle.jc_rules.specs.Effect.{changed, reg, IsStored, Writes, WritesCells}
 use Rattle.jc_rules.specs.Demand.{Frame, AllHold, Breaks, here, later}
-use Rattle.jc_rules.specs.Rule.{demands, effect}
+use Rattle.jc_rules.specs.Rule.{effect}
 use Rattle.jc_rules.specs.Apply.{OperationApplies, OperationRefuses, unmet, full, RuleApplies, RuleRefuses, unresolved, refused_by, Applies, Refuses}
 use Rattle.jc_rules.specs.Laws.{OperationDecides, RuleDecides}
 

@@ -36,7 +36,7 @@ use Rattle.jc_ops.specs.declared.operation.Operation.TheVariants as ops
 use Rattle.jc_ops.specs.declared.want.Want.{Want}
 use Rattle.jc_ops.specs.declared.want.Want.TheVariants.{Value, Storable, ByteArray, AnyArray, Whole, Receiver}
 use Rattle.jc_ops.specs.declared.operation.Callee.{Callee}
-use Rattle.jc_ops.specs.Sound.{IsKnownWant, IsMove, IsNamedType, IsCalleeOf, IsResult, receiver_count, IsSound}
+use Rattle.jc_ops.specs.Sound.{IsKnownWant, IsNamedType, IsCalleeOf, IsResult, receiver_count, IsSound}
 use Rattle.jc_rules.specs.declared.demand.Demand.{Demand}
 use Rattle.jc_rules.specs.declared.demand.Demand.TheVariants.{Cell, Held}
 use Rattle.jc_rules.specs.declared.effect.Cells.{Cells}

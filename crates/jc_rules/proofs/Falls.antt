@@ -26,15 +26,14 @@ use Rattle.jc_rules.specs.declared.effect.Effect.{Effect}
 use Rattle.jc_rules.specs.declared.effect.Store.{Store}
 use Rattle.jc_rules.specs.declared.effect.Mode.{Mode}
 use Rattle.jc_rules.specs.declared.effect.Mode.TheVariants.{Card, Flow}
-use Rattle.jc_ops.specs.declared.site.Site.{Site}
 use Rattle.jc_rules.specs.declared.rule.Outcome.{Outcome}
 use Rattle.jc_rules.specs.Effect.{listed, ready, changed, reg, IsStored, Writes, WritesCells, Stores, rises}
 use Rattle.jc_rules.specs.Demand.{Frame, IsArrayOrNull, IsHalf, IsFreshOf, Meets, Holds, AllHold}
 use Rattle.jc_ops.specs.Next.{falls_from, ends_at}
 use Rattle.jc_rules.specs.Rule.{cell, or_null, element, ready_with, call_demands, call_effect, cells_wanted, args_at, result_at, result_given, load_demands, load_effect, store_effect, array_read_demands, array_read_effect, wrote, demands, effect}
 use Rattle.jc_rules.specs.Flow.{CellsBelow, no_cells, more_cells, FrameBelow, IsNotTop, IsNotFresh}
-use Rattle.jc_rules.specs.Laws.{IsNotBottom, OperationFalls, OperationFallsTo, RuleFalls, FallsTo}
-use Rattle.jc_rules.specs.Apply.{OperationApplies, Applies}
+use Rattle.jc_rules.specs.Laws.{IsNotBottom, OperationFalls, OperationFallsTo, RuleFalls}
+use Rattle.jc_rules.specs.Apply.{OperationApplies}
 use Rattle.jc_rules.proofs.CellLists.{Each, each-from_All, each-at, PairAt, cells-at, cells-or, cells-length, cells-same, cells-append, cells-take, cells-drop, cells-set}
 use Rattle.jc_rules.proofs.Demands.{AllHold-rest}
 

@@ -11,7 +11,6 @@ use Rattle.jc_base.specs.Order.{Below, IsJoin, IsKnown, nothing}
 use Rattle.jc_base.specs.Linked.{IsMethod}
 use Rattle.jc_base.specs.World.{Linked, IsWorld}
 use Rattle.jc_decode.specs.declared.insn.Insn.{Insn}
-use Rattle.jc_base.specs.declared.record.MethodRec.{MethodRec}
 use Rattle.jc_ops.specs.declared.site.Site.{Site}
 use Rattle.jc_ops.specs.Sound.{IsSound, OperationsAreSound}
 use Rattle.jc_rules.specs.declared.effect.Cells.{Cells}
@@ -21,12 +20,11 @@ use Rattle.jc_rules.specs.declared.effect.Mode.TheVariants.{Card, Flow}
 use Rattle.jc_rules.specs.Effect.{IsStored, Writes, WritesCells, reg}
 use Rattle.jc_rules.specs.Rule.{effect}
 use Rattle.jc_rules.specs.Flow.{IsNotFresh, IsNotTop}
-use Rattle.jc_rules.specs.Apply.{OperationApplies, Applies}
+use Rattle.jc_rules.specs.Apply.{Applies}
 use Rattle.jc_rules.specs.Laws.{IsNotBottom, OperationKeeps, RuleKeeps}
 use Rattle.jc_rules.proofs.Falls.{bottom-least, fresh_is_bottom, fresh_not_below_bottom}
 use Rattle.jc_rules.specs.declared.rule.Outcome.{Outcome}
-use Rattle.jc_rules.specs.Demand.{Frame, AllHold}
-use Rattle.jc_rules.specs.Rule.{demands}
+use Rattle.jc_rules.specs.Demand.{Frame}
 use Rattle.jc_rules.proofs.Effects.{CellsKept, CellsFull, Suits, suits, sound-known, stored-full, changed-known, changed-full, changed-topless}
 
 -- what is read, or Top

@@ -1,6 +1,6 @@
 -- Raising the cells of a list, one after another, to the join with those of another list.
-use Rattle.std.proofs.Common.{◌≡◌, ℕ, zero, suc, ◌+◌, ◌-◌, ◌<◌, ◌≤◌, ◌||◌, if◌then◌else◌, Bool, true, false, ◌⊎◌, inl, inr, List, [], ◌∷◌, ◌++◌, length, reverse, get_or, set, All, sum_by, refl, sym, ◌∙◌, ap, subst, arith, MatchBool}
-use Rattle.std.proofs.lemmas.List.{length-set, length-reverse, reverse-append, reverse-reverse, get_or-reverse, get_or-set_same, get_or-set_other, get_or_default}
+use Rattle.std.proofs.Common.{◌≡◌, ℕ, zero, suc, ◌+◌, ◌<◌, ◌≤◌, ◌||◌, if◌then◌else◌, Bool, true, false, ◌⊎◌, inl, inr, List, [], ◌∷◌, ◌++◌, length, reverse, get_or, set, All, sum_by, refl, sym, ◌∙◌, ap, subst, arith, MatchBool}
+use Rattle.std.proofs.lemmas.List.{length-set, length-reverse, reverse-append, get_or-set_same, get_or-set_other, get_or_default}
 use Rattle.std.proofs.lemmas.List.Elements.{All-set}
 use Rattle.std.proofs.lemmas.List.Sorted.{IsPermutation-reverse, sum_by-IsPermutation}
 use Rattle.std.proofs.lemmas.List.Sums.{sum_by-set}

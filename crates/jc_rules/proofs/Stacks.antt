@@ -1,6 +1,6 @@
 -- Lemmas on the stack that a slice with a depth holds.
-use Rattle.std.proofs.Common.{◌≡◌, ℕ, ◌+◌, ◌-◌, ◌<◌, ◌≤◌, List, [], ◌∷◌, ◌++◌, length, take, drop, reverse, map, set, refl, sym, ◌∙◌, ap, subst, arith, append_assoc, length-append, length-take, length-drop, All}
-use Rattle.std.proofs.lemmas.List.{reverse-append, take-append-drop, take_more_set, length-reverse, get_or-reverse, drop-take, take-append-le, drop-append-le, map-append, length-map, take-take}
+use Rattle.std.proofs.Common.{◌≡◌, ℕ, ◌+◌, ◌-◌, ◌<◌, ◌≤◌, List, [], ◌∷◌, ◌++◌, length, take, drop, reverse, map, set, refl, sym, ◌∙◌, ap, subst, arith, append_assoc, length-append, length-take, length-drop}
+use Rattle.std.proofs.lemmas.List.{reverse-append, take-append-drop, take_more_set, length-reverse, drop-take, take-append-le, drop-append-le, map-append, length-map, take-take}
 use Rattle.std.proofs.lemmas.List.Edits.{take-paste}
 use Rattle.std.proofs.lemmas.Slice.{take-put_mid}
 use Rattle.std.proofs.Math.Seq.{take-append_seam, drop-append_seam, take-add, paste}

@@ -1,5 +1,5 @@
 -- Operations keep stacks whole.
-use Rattle.std.proofs.Common.{◌≡◌, ℕ, zero, suc, ◌+◌, ◌-◌, ◌<◌, ◌≤◌, Bool, true, false, cond, ◌==◌, inl, inr, List, [], ◌∷◌, ◌++◌, length, take, drop, map, reverse, All, Option, Some, None, IsSomeAnd, IfSome, slice_get, get_or, refl, sym, ◌∙◌, ap, subst, arith}
+use Rattle.std.proofs.Common.{◌≡◌, ℕ, zero, suc, ◌+◌, ◌-◌, Bool, true, false, cond, ◌==◌, inl, inr, List, [], ◌∷◌, ◌++◌, length, take, drop, map, reverse, All, Option, Some, None, IsSomeAnd, IfSome, slice_get, refl, sym, ◌∙◌, ap, subst, arith}
 use Rattle.std.proofs.lemmas.List.{length-reverse, reverse-append, reverse-reverse}
 use Rattle.jc_base.specs.declared.ty.Ty.{Ty}
 use Rattle.jc_base.specs.declared.ty.Ty.TheVariants.{Bottom, Short, IntHigh, IntLow, Null, Class, ArrBool, ArrByte, ArrShort, ArrInt, ArrRef, Fresh, Top}
@@ -40,12 +40,9 @@ use Rattle.jc_rules.specs.declared.demand.Demand.{Demand}
 use Rattle.jc_rules.specs.declared.demand.Demand.TheVariants.{Cell, Held}
 use Rattle.jc_rules.specs.declared.effect.Cells.{Cells}
 use Rattle.jc_rules.specs.declared.effect.Cells.TheVariants as given
-use Rattle.jc_rules.specs.declared.effect.Change.{Change}
-use Rattle.jc_rules.specs.declared.effect.Change.TheVariants.{Replace, CopyUnder, Exchange, MakeReady}
 use Rattle.jc_rules.specs.Effect.{listed, ready, changed, reg}
-use Rattle.jc_rules.specs.Demand.{Frame, IsHalf, IsArrayOrNull, IsFreshOf, Meets, Splits, Holds, AllHold}
+use Rattle.jc_rules.specs.Demand.{Frame, IsHalf, IsArrayOrNull, IsFreshOf, Meets, Splits, AllHold}
 use Rattle.jc_rules.specs.Rule.{constant_effect, load_demands, load_effect, store_demands, store_effect, increment_effect, move_demands, move_effect, arithmetic_demands, arithmetic_effect, array_read_demands, array_read_effect, array_write_demands, array_write_effect, branch_demands, branch_effect, field_read_demands, field_read_effect, field_write_demands, field_write_effect, type_test_effect, return_demands, return_effect, cell, number, two_numbers, size, number_given, value_given, value_wanted, value_size, or_null, element, array_wanted, a_reference, ready_with, cells_wanted, call_demands, call_effect, result_given, args_at, result_at, seen, demands, effect}
-use Rattle.jc_rules.specs.Apply.{OperationApplies}
 use Rattle.jc_rules.specs.Whole.{OperationKeepsWhole}
 use Rattle.jc_rules.specs.Flow.{IsNotTop}
 use Rattle.jc_rules.proofs.Falls.{low-up, LowUp, half-up, some-or}

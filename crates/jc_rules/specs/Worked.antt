@@ -1,5 +1,5 @@
 -- Worked cases of the rules, against the operand stack lines of JCVM 2.2, section 7.5.
-use Rattle.std.specs.Prelude.{◌≡◌, ℕ, ℤ, pos, [], ◌∷◌, ◌++◌, map, replicate, Result, Ok, Err}
+use Rattle.std.specs.Prelude.{◌≡◌, ℕ, pos, [], ◌∷◌, ◌++◌, map, replicate, Result, Ok, Err}
 use Rattle.std.specs.List.{range_with_len}
 use Rattle.std.proofs.Common.{refl}
 use Rattle.jc_base.specs.declared.ty.Ty.{Ty}

@@ -11,8 +11,7 @@ use Rattle.jc_ops.specs.Resolve.{Resolves}
 use Rattle.jc_rules.specs.declared.effect.Mode.TheVariants.{Card}
 use Rattle.jc_rules.specs.Stack.{cells}
 use Rattle.jc_rules.specs.Effect.{needed, listed, depth_after, Stores, rises}
-use Rattle.jc_rules.specs.Demand.{Frame, AreKnown}
-use Rattle.jc_rules.specs.Known.{IsKnownOperation}
+use Rattle.jc_rules.specs.Demand.{Frame}
 use Rattle.jc_rules.specs.Apply.{frame_of, HasRoom, Refuses, unresolved, refused_by}
 use Rattle.jc_rules.proofs.Stacks.{length-cells}
 use Rattle.jc_rules.proofs.Effects.{cells-kept, changed-known, length-changed}
