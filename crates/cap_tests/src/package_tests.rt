@@ -173,7 +173,7 @@ static COUNTS: [Case; 10] = [
     ),
 ];
 
-static MEMBERS: [Case; 12] = [
+static MEMBERS: [Case; 13] = [
     // where a method begins, its length, and its handlers
     (
         &[Change::Byte(DESCRIPTOR, 27, 5)],
@@ -190,6 +190,14 @@ static MEMBERS: [Case; 12] = [
     (
         &[Change::Byte(DESCRIPTOR, 29, 1)],
         ("HandlerOutside", 0, 0, 0),
+    ),
+    // a class reference that names no record: its methods are asked as those of a class
+    (
+        &[
+            Change::Byte(DESCRIPTOR, 7, 1),
+            Change::Splice(DESCRIPTOR, 26, 28, &[0xFF, 0xFF]),
+        ],
+        ("MethodOutside", 0xFFFF, 0, 0),
     ),
     // an extended header with 2 argument words and 254 locals
     (
