@@ -1,12 +1,9 @@
 -- The set of the offsets at which records of interfaces stand, record by record.
-use Rattle.std.proofs.Common.{◌≡◌, ℕ, Bool, true, false, ◌||◌, ◌&&◌, eqb, List, [], ◌∷◌, refl, sym, ap, ◌∙◌}
+use Rattle.std.proofs.Common.{◌≡◌, ℕ, Bool, true, false, ◌||◌, ◌&&◌, eqb, List, [], ◌∷◌, refl}
 use mathlib.Core.Path.{fun_ext}
 use Rattle.cap_class.specs.ClassFormat.{Class, is_interface}
-use Rattle.offset_set.specs.Sets.{nowhere, also, either}
+use Rattle.offset_set.specs.Sets.{also, either}
 use Rattle.cap_components.specs.PackageRecord.{names_interface}
-
-pub no_interface : (set : ℕ → Bool) → either nowhere set ≡ set
-no_interface set = refl
 
 or_false : (b : Bool) → (b || false) ≡ b
 or_false true = refl
@@ -33,5 +30,3 @@ passed false b c = refl
 pub one_class : (set : ℕ → Bool) (c : Class) (cs : List Class) → is_interface c.flags ≡ false → either set (names_interface cs) ≡ either set (names_interface (c ∷ cs))
 unfolding names_interface
 one_class set c cs e = fun_ext (λ offset. rw e (passed (eqb c.offset offset) (set offset) (names_interface cs offset)))
-
-pub ruleset filling = (no_class, one_interface, one_class)

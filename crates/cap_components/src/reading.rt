@@ -1,4 +1,5 @@
 ghost use Rattle.std.specs.Prelude.{◌≡◌, Ok, IfOk};
+ghost use Rattle.offset_set.specs.Bits.{holds};
 ghost use Rattle.cap_frame.specs.Header.{header_items};
 ghost use Rattle.cap_class.specs.ClassPart.{records};
 ghost use Rattle.cap_components.specs.Components.{Answers, info_in};
@@ -68,9 +69,8 @@ fn read_after<'p, 'a>(
 }
 
 /// Where the records of interfaces stand.
-#[tactic(auto, using(crate::proofs::InterfaceSets::filling))]
 pub fn interface_offsets(classes: &ClassPart<'_>) -> Offsets
-    ensures { result ≡ names_interface (records classes.now) }
+    ensures { holds result ≡ names_interface (records classes.now) }
 {
     let mut offsets = Offsets::none();
     'classes: for class in classes.iter() {

@@ -1,5 +1,6 @@
 -- What is left of the fields and methods of several classes.
 use Rattle.std.specs.Prelude.{List, ◌++◌}
+use Rattle.offset_set.specs.Bits.{holds}
 use Rattle.cap_desc.specs.declared.members.MethodsOf.{MethodsOf}
 use Rattle.cap_desc.specs.declared.members.MethodsBut.{MethodsBut}
 use Rattle.cap_desc.specs.declared.members.FieldsOf.{FieldsOf}
@@ -12,7 +13,7 @@ abbrev pub methods_of_left : MethodsOf → List Method
 methods_of_left x = methods_left x.methods ++ methods_of (classes_left x.classes)
 
 abbrev pub methods_but_left : MethodsBut → List Method
-methods_but_left x = methods_left x.methods ++ methods_but x.set.now (classes_left x.classes)
+methods_but_left x = methods_left x.methods ++ methods_but (holds x.set.now) (classes_left x.classes)
 
 abbrev pub fields_of_left : FieldsOf → List Field
 fields_of_left x = fields_left x.fields ++ fields_of (classes_left x.classes)

@@ -1,4 +1,5 @@
 ghost use Rattle.std.specs.Prelude.{◌≡◌, ◌+◌, List, [], ◌∷◌, length, option_map, IfSome, IfNone};
+ghost use Rattle.offset_set.specs.Bits.{holds};
 ghost use Rattle.std.specs.List.{slice_get};
 ghost use Rattle.cap_desc.specs.TypeFormat.{types_at, type_at, descriptor_nibbles};
 ghost use Rattle.cap_desc.specs.Nibbles.{nibbles_in};
@@ -58,7 +59,7 @@ impl<'a> DescPart<'a> {
     /// The methods of the classes whose references are not in a set, class after class.
     #[tactic(auto, unfolding(cap_bytes::specs::Taking::gives, cap_bytes::specs::Taking::given))]
     pub fn methods_but<'s>(&self, set: &'s Offsets) -> MethodsBut<'a, 's>
-        ensures { methods_but_left result ≡ methods_but set.now (descriptor_seen self.now).classes }
+        ensures { methods_but_left result ≡ methods_but (holds set.now) (descriptor_seen self.now).classes }
     {
         MethodsBut {
             methods: DescMethods {

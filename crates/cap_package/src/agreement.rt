@@ -1,4 +1,5 @@
 ghost use Rattle.std.specs.Prelude.{◌≡◌};
+ghost use Rattle.offset_set.specs.Bits.{holds};
 ghost use Rattle.cap_class.specs.ClassPart.{records};
 ghost use Rattle.cap_components.specs.PackageRecord.{names_interface};
 ghost use Rattle.cap_package.specs.NameChecks.{no_method_fault, exported_methods};
@@ -24,7 +25,7 @@ pub(crate) fn places_agree(
     all: &Components<'_, '_>,
     interfaces: &Offsets,
 ) -> Result<(), PackFault>
-    requires { interfaces.now ≡ names_interface (records all.now.classes) }
+    requires { holds interfaces.now ≡ names_interface (records all.now.classes) }
     ensures { result ≡ places_agree (components_seen all.now) }
 {
     let described = all.descriptor.methods_but(interfaces);
@@ -40,7 +41,7 @@ pub(crate) fn counts_agree(
     all: &Components<'_, '_>,
     interfaces: &Offsets,
 ) -> Result<(), PackFault>
-    requires { interfaces.now ≡ names_interface (records all.now.classes) }
+    requires { holds interfaces.now ≡ names_interface (records all.now.classes) }
     ensures { result ≡ counts_agree (components_seen all.now) }
 {
     let described = all.descriptor.methods_but(interfaces);
@@ -88,7 +89,7 @@ fn export_names(
 ) -> Option<PackFault>
     ensures { result
         ≡ least_from least
-        (no_method_fault described.now)
+        (no_method_fault (holds described.now))
         (exported_methods (or_none (components_seen all.now).export)) }
 {
     match &all.export {
@@ -99,7 +100,7 @@ fn export_names(
 
 /// Dispatch tables, exports and applets name described methods.
 fn names_agree(all: &Components<'_, '_>, interfaces: &Offsets) -> Result<(), PackFault>
-    requires { interfaces.now ≡ names_interface (records all.now.classes) }
+    requires { holds interfaces.now ≡ names_interface (records all.now.classes) }
     ensures { result ≡ refused (named_condition (components_seen all.now)) }
 {
     let described = method_offsets(all.descriptor.methods_but(interfaces));
@@ -140,7 +141,7 @@ pub(crate) fn members_agree(
     all: &Components<'_, '_>,
     interfaces: &Offsets,
 ) -> Result<(), PackFault>
-    requires { interfaces.now ≡ names_interface (records all.now.classes) }
+    requires { holds interfaces.now ≡ names_interface (records all.now.classes) }
     ensures { result ≡ members_agree (components_seen all.now) }
 {
     let described = all.descriptor.methods_but(interfaces);

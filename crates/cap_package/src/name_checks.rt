@@ -1,4 +1,5 @@
 ghost use Rattle.std.specs.Prelude.{◌≡◌, map};
+ghost use Rattle.offset_set.specs.Bits.{holds};
 ghost use Rattle.cap_bytes.specs.Table.{numbers};
 ghost use Rattle.cap_frame.specs.AppletFormat.{Applet};
 ghost use Rattle.cap_frame.specs.Applets.{applets_of, applets_left};
@@ -17,7 +18,7 @@ use offset_set::Offsets;
 
 #[tactic(auto, unfolding(crate::specs::NameChecks::no_method_fault))]
 fn no_method_fault(described: &Offsets, offset: u16) -> Option<PackFault>
-    ensures { result ≡ no_method_fault described.now offset }
+    ensures { result ≡ no_method_fault (holds described.now) offset }
 {
     if described.has(offset) {
         None
@@ -28,7 +29,7 @@ fn no_method_fault(described: &Offsets, offset: u16) -> Option<PackFault>
 
 #[tactic(auto, unfolding(crate::specs::NameChecks::no_entry_fault))]
 fn no_entry_fault(described: &Offsets, offset: u16) -> Option<PackFault>
-    ensures { result ≡ no_entry_fault described.now offset }
+    ensures { result ≡ no_entry_fault (holds described.now) offset }
 {
     if offset == 0xFFFF {
         return None;
@@ -42,7 +43,7 @@ fn entries_of_table(
     table: Table<'_>,
     least: Option<PackFault>,
 ) -> Option<PackFault>
-    ensures { result ≡ least_from least (no_entry_fault described.now) (numbers table.entry) }
+    ensures { result ≡ least_from least (no_entry_fault (holds described.now)) (numbers table.entry) }
 {
     let mut least = least;
     'entries: for offset in table {
@@ -57,7 +58,7 @@ fn methods_of_table(
     table: Table<'_>,
     least: Option<PackFault>,
 ) -> Option<PackFault>
-    ensures { result ≡ least_from least (no_method_fault described.now) (numbers table.entry) }
+    ensures { result ≡ least_from least (no_method_fault (holds described.now)) (numbers table.entry) }
 {
     let mut least = least;
     'entries: for offset in table {
@@ -69,7 +70,7 @@ fn methods_of_table(
 /// The least fault of the dispatch tables.
 #[tactic(auto, using(crate::proofs::TableFaults::least_entries))]
 pub(crate) fn entries_named(described: &Offsets, classes: &ClassPart<'_>) -> Option<PackFault>
-    ensures { result ≡ least_of (no_entry_fault described.now) (table_entries (records classes.now)) }
+    ensures { result ≡ least_of (no_entry_fault (holds described.now)) (table_entries (records classes.now)) }
 {
     let mut least = None;
     'classes: for class in classes.iter() {
@@ -86,7 +87,7 @@ pub(crate) fn exports_named(
     export: &Export<'_>,
     least: Option<PackFault>,
 ) -> Option<PackFault>
-    ensures { result ≡ least_from least (no_method_fault described.now) (exported_methods (exported export.now)) }
+    ensures { result ≡ least_from least (no_method_fault (holds described.now)) (exported_methods (exported export.now)) }
 {
     let mut least = least;
     'classes: for class in export.iter() {
@@ -103,7 +104,7 @@ pub(crate) fn installs_named(
 ) -> Option<PackFault>
     ensures { result
         ≡ least_from least
-        (no_method_fault described.now)
+        (no_method_fault (holds described.now))
         (map (λ (a : Applet). a.install) (applets_of applets.now)) }
 {
     let mut least = least;
@@ -115,7 +116,7 @@ pub(crate) fn installs_named(
 
 #[tactic(auto, unfolding(crate::specs::StaticChecks::no_static_fault))]
 fn no_static_fault(fields: &Offsets, offset: u16) -> Option<PackFault>
-    ensures { result ≡ no_static_fault fields.now offset }
+    ensures { result ≡ no_static_fault (holds fields.now) offset }
 {
     if fields.has(offset) {
         None
@@ -130,7 +131,7 @@ fn statics_of_table(
     table: Table<'_>,
     least: Option<PackFault>,
 ) -> Option<PackFault>
-    ensures { result ≡ least_from least (no_static_fault fields.now) (numbers table.entry) }
+    ensures { result ≡ least_from least (no_static_fault (holds fields.now)) (numbers table.entry) }
 {
     let mut least = least;
     'entries: for offset in table {
@@ -142,7 +143,7 @@ fn statics_of_table(
 /// The least fault of the exported static fields.
 #[tactic(auto, using(crate::proofs::TableFaults::least_exported_fields))]
 pub(crate) fn statics_named(fields: &Offsets, export: &Export<'_>) -> Option<PackFault>
-    ensures { result ≡ least_of (no_static_fault fields.now) (exported_fields (exported export.now)) }
+    ensures { result ≡ least_of (no_static_fault (holds fields.now)) (exported_fields (exported export.now)) }
 {
     let mut least = None;
     'classes: for class in export.iter() {

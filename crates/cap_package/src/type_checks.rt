@@ -1,4 +1,5 @@
 ghost use Rattle.std.specs.Prelude.{◌≡◌};
+ghost use Rattle.offset_set.specs.Bits.{holds};
 ghost use Rattle.cap_desc.specs.ClassRecords.{classes_left};
 ghost use Rattle.cap_desc.specs.MemberLists.{methods_left};
 ghost use Rattle.cap_desc.specs.MemberRecords.{field_seen, method_seen};
@@ -90,7 +91,7 @@ fn interface_types(
     ensures { result
         ≡ least_from least
         (method_type_fault (description descriptor.now) 254)
-        (methods_in interfaces.now (description descriptor.now).items.classes) }
+        (methods_in (holds interfaces.now) (description descriptor.now).items.classes) }
 {
     let mut least = least;
     'classes: for class in descriptor.classes() {
@@ -108,7 +109,7 @@ pub(crate) fn types_fit(descriptor: &DescPart<'_>, interfaces: &Offsets) -> Resu
         (least_from
         (least_of (field_type_fault (description descriptor.now)) (fields_of (description descriptor.now).items.classes))
         (method_type_fault (description descriptor.now) 510) (methods_of (description descriptor.now).items.classes))
-        (method_type_fault (description descriptor.now) 254) (methods_in interfaces.now (description descriptor.now).items.classes)) }
+        (method_type_fault (description descriptor.now) 254) (methods_in (holds interfaces.now) (description descriptor.now).items.classes)) }
 {
     let fields = field_types(descriptor);
     let methods = method_types(descriptor, fields);

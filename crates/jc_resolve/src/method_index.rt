@@ -1,4 +1,5 @@
 ghost use Rattle.std.specs.Prelude.{◌≡◌, ◌+◌, ◌≤◌, ◌<◌, length, map, IfOk, OnOk};
+ghost use Rattle.offset_set.specs.Bits.{holds};
 ghost use Rattle.cap_desc.specs.ClassRecords.{classes_left};
 ghost use Rattle.cap_desc.specs.MemberLists.{methods_left};
 ghost use Rattle.jc_resolve.specs.Counts.{method_count, method_total};
@@ -47,7 +48,10 @@ fn number_classes(
     classes: DescClasses<'_>,
 ) -> Result<(), AllocError>
     requires { numbers.old.next + method_count (classes_left classes) < 65535 }
-    ensures numbers { OnOk result (numbers.new ≡ with_all numbers.old (spots_of_classes «package» interfaces.now (classes_left classes.entry))) }
+    ensures numbers { OnOk result
+        (numbers.new
+        ≡ with_all numbers.old
+        (spots_of_classes «package» (holds interfaces.now) (classes_left classes.entry))) }
     ensures next { OnOk result (numbers.new.next ≡ numbers.old.next + method_count (classes_left classes.entry)) }
 {
     'classes: for class in classes {

@@ -1,4 +1,5 @@
 ghost use Rattle.std.specs.Prelude.{◌≡◌, ◌+◌, ◌≤◌, ◌++◌, length, map, take, drop, slice_index, All, IfOk, OnOk};
+ghost use Rattle.offset_set.specs.Bits.{holds};
 ghost use Rattle.cap_desc.specs.ClassRecords.{class_seen, classes_left};
 ghost use Rattle.cap_desc.specs.MemberLists.{methods_left};
 ghost use Rattle.cap_desc.specs.MemberRecords.{method_seen};
@@ -220,7 +221,7 @@ fn have_headers(
     interfaces: &Offsets,
     class: DescClass<'_>,
 ) -> bool
-    requires { interfaces.now ≡ names_interface home.of_package.now.classes }
+    requires { holds interfaces.now ≡ names_interface home.of_package.now.classes }
     ensures { result ≡ have_headers home.entry.index.now home.entry.number home.entry.of_package.now (class_seen class.entry) }
 {
     if interfaces.has(class.class_ref()) {
@@ -295,7 +296,7 @@ fn push_class(
     class_no: u16,
     class: DescClass<'_>,
 ) -> Result<(), AllocError>
-    requires { interfaces.now ≡ names_interface home.of_package.now.classes }
+    requires { holds interfaces.now ≡ names_interface home.of_package.now.classes }
     ensures { OnOk result
         (methods.new.items
         ≡ methods.old.items ++ map (named_method home.entry.index.now home.entry.roles)

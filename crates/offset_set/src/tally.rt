@@ -1,9 +1,8 @@
 ghost use Rattle.std.specs.Prelude.{◌≡◌};
-ghost use Rattle.offset_set.specs.Sets.{IsNext};
-ghost use Rattle.offset_set.specs.Tallies.{none_counted, with_one};
+ghost use Rattle.offset_set.specs.Bits.{holds};
+ghost use Rattle.offset_set.specs.Tallies.{none_counted, with_one, once, tallied, IsNearest};
 
 use crate::offsets::Offsets;
-use std::marker::Model;
 
 /// Which offsets were counted, and which of them more than once.
 #[derive(Drop)]
@@ -12,18 +11,10 @@ pub struct Tally {
     repeated: Offsets,
 }
 
-impl Model for Tally {
-    ghost use Rattle.offset_set.specs.Tallies.{Tallied};
-
-    ghost Value = { Tallied };
-
-    ghost view = { λ t. record { met = t.met; repeated = t.repeated } };
-}
-
 impl Tally {
     /// No offset was counted.
     pub fn none() -> Tally
-        ensures { result ≡ none_counted }
+        ensures { tallied result ≡ none_counted }
     {
         Tally {
             met: Offsets::none(),
@@ -34,7 +25,7 @@ impl Tally {
     /// Counts an offset.
     #[tactic(auto, unfolding(crate::specs::Tallies::with_one))]
     pub fn count(&mut self, offset: u16)
-        ensures { self.new ≡ with_one self.old offset }
+        ensures { tallied self.new ≡ with_one (tallied self.old) offset }
     {
         if self.met.has(offset) {
             self.repeated.insert(offset);
@@ -42,24 +33,27 @@ impl Tally {
         self.met.insert(offset);
     }
 
-    /// Whether an offset was counted.
-    pub fn has(&self, offset: u16) -> bool
-        ensures { result ≡ self.now.met offset }
+    /// The offsets that were counted.
+    pub fn offsets(&self) -> &Offsets
+        ensures { holds result.now ≡ (tallied self.now).met }
     {
-        self.met.has(offset)
+        &self.met
     }
 
-    /// Whether an offset was counted more than once.
-    pub fn is_repeated(&self, offset: u16) -> bool
-        ensures { result ≡ self.now.repeated offset }
+    /// Whether an offset was counted once.
+    pub fn has_once(&self, offset: u16) -> bool
+        ensures { result ≡ once (tallied self.now) offset }
     {
-        self.repeated.has(offset)
+        self.met.has(offset) && !self.repeated.has(offset)
     }
 
-    /// The least offset above one that was counted.
-    pub fn next_after(&self, offset: u16) -> Option<u16>
-        ensures { IsNext self.now.met offset result }
+    /// The nearest other offset that was counted, from an offset on.
+    pub fn nearest(&self, offset: u16) -> Option<u16>
+        ensures { IsNearest (tallied self.now) offset result }
     {
+        if self.repeated.has(offset) {
+            return Some(offset);
+        }
         self.met.next_after(offset)
     }
 }

@@ -1,5 +1,6 @@
 -- The flags that are set are those of the methods so far.
 use Rattle.std.proofs.Common.{ℕ, Bool, List, ap, sym, ◌∙◌}
+use Rattle.offset_set.specs.Bits.{holds}
 use Rattle.cap_desc.specs.declared.members.MethodsBut.{MethodsBut}
 use Rattle.cap_desc.specs.DescriptorFormat.{Method}
 use Rattle.cap_desc.specs.MemberRecords.{method_seen}
@@ -17,12 +18,12 @@ methods-init c =
 pub methods-preserved : goal.methods-preserved
 methods-preserved c =
     ap (λ (these : ℕ → Bool). either these (is_method_at (methods_but_left c.next.new.self))) c.insert.ensures
-    ∙ more_methods c.methods.offsets (method_seen c.in-Some.method) (methods_but_left c.next.new.self)
-    ∙ ap (λ (ms : List Method). either c.methods.offsets (is_method_at ms)) (sym c.in-Some.ensures.steps)
+    ∙ more_methods (holds c.methods.offsets) (method_seen c.in-Some.method) (methods_but_left c.next.new.self)
+    ∙ ap (λ (ms : List Method). either (holds c.methods.offsets) (is_method_at ms)) (sym c.in-Some.ensures.steps)
     ∙ c.methods.invariant
 
 pub returns : goal.returns
 returns c =
-    sym (all_methods c.methods.offsets)
-    ∙ ap (λ (ms : List Method). either c.methods.offsets (is_method_at ms)) (sym c.in-None.ensures.steps.0)
+    sym (all_methods (holds c.methods.offsets))
+    ∙ ap (λ (ms : List Method). either (holds c.methods.offsets) (is_method_at ms)) (sym c.in-None.ensures.steps.0)
     ∙ c.methods.invariant

@@ -1,5 +1,6 @@
 -- The flags that are set are those of the static fields so far.
 use Rattle.std.proofs.Common.{ℕ, Bool, List, ap, sym, ◌∙◌, rules}
+use Rattle.offset_set.specs.Bits.{holds}
 use Rattle.cap_desc.specs.declared.members.FieldsOf.{FieldsOf}
 use Rattle.cap_desc.specs.DescriptorFormat.{Field}
 use Rattle.cap_desc.specs.MemberRecords.{field_seen}
@@ -16,13 +17,13 @@ fields-init c =
 
 pub fields-preserved-then-is_static : goal.fields-preserved-then-is_static
 fields-preserved-then-is_static c =
-    ap (λ (these : ℕ → Bool). either these (is_static_at (fields_of_left c.next.new.self))) (c.insert.ensures ∙ ap (λ (n : ℕ). also n c.fields.offsets) c.image_offset.ensures)
-    ∙ more_statics c.fields.offsets (field_seen c.in-Some.field) (fields_of_left c.next.new.self) (search rules)
-    ∙ ap (λ (fs : List Field). either c.fields.offsets (is_static_at fs)) (sym c.in-Some.ensures.steps)
+    ap (λ (these : ℕ → Bool). either these (is_static_at (fields_of_left c.next.new.self))) (c.insert.ensures ∙ ap (λ (n : ℕ). also n (holds c.fields.offsets)) c.image_offset.ensures)
+    ∙ more_statics (holds c.fields.offsets) (field_seen c.in-Some.field) (fields_of_left c.next.new.self) (search rules)
+    ∙ ap (λ (fs : List Field). either (holds c.fields.offsets) (is_static_at fs)) (sym c.in-Some.ensures.steps)
     ∙ c.fields.invariant
 
 pub returns : goal.returns
 returns c =
-    sym (all_statics c.fields.offsets)
-    ∙ ap (λ (fs : List Field). either c.fields.offsets (is_static_at fs)) (sym c.in-None.ensures.steps.0)
+    sym (all_statics (holds c.fields.offsets))
+    ∙ ap (λ (fs : List Field). either (holds c.fields.offsets) (is_static_at fs)) (sym c.in-None.ensures.steps.0)
     ∙ c.fields.invariant
