@@ -15,7 +15,7 @@ use Rattle.jc_base.specs.Class.{ClassTable, AreClasses, chain}
 use Rattle.jc_base.specs.Order.{Below, is_below, is_on_chain}
 use Rattle.jc_base.specs.Linked.{AreLinkedClasses, IsLinkedClass, IsExtended, IsImplemented}
 use Rattle.jc_base.specs.Interface.{extended, extended_in, implemented, IsOrExtends, Implements, NoneExtendsItself, is_or_extends, implements, extended_count}
-use Rattle.jc_base.specs.Laws.{ImplementsDecides, ExtendsEnds}
+use Rattle.jc_base.specs.Laws.{ImplementsDecides, ExtendsEnds, ExtendsDecides}
 use Rattle.jc_base.proofs.Leading.{either, left, right, leads-sound, leads-complete}
 use Rattle.jc_base.proofs.Eaching.{Contains-from_IsAmong, IsAmong-from_Contains}
 use Rattle.jc_base.proofs.Tests.{some-from_test, test-from_some}
@@ -49,6 +49,9 @@ or_extends-complete : (t : ClassTable) (i j : ℕ) → IsOrExtends t i j → is_
 unfolding is_or_extends
 or_extends-complete t i j (inl same) = left (i == j) (leads_below (extended t) (length t.records) i j) (eq-eqb i j same)
 or_extends-complete t i j (inr more) = right (i == j) (leads_below (extended t) (length t.records) i j) (leads-decided t i j more)
+
+pub extends-decides : (t : ClassTable) → ExtendsDecides t
+extends-decides t = λ i j. (or_extends-sound t i j, or_extends-complete t i j)
 
 -- ---- what a class implements
 

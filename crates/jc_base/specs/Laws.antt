@@ -10,7 +10,7 @@ use Rattle.jc_base.specs.Order.{Below, IsJoin, IsKnown, AreApart, rises_left, is
 use Rattle.jc_base.specs.Dispatch.{IsConcrete, is_concrete, public_of, cells_of, signature_of}
 use Rattle.jc_base.specs.SameType.{same_type}
 use Rattle.jc_base.specs.Linked.{IsInherited}
-use Rattle.jc_base.specs.Interface.{extended, Implements, implements, extended_count}
+use Rattle.jc_base.specs.Interface.{extended, IsOrExtends, Implements, is_or_extends, implements, extended_count}
 
 -- the order of types is decided, and so are its joins; no two types are below each other, and none rises for ever
 pub record IsOrderOfTypes (t : ClassTable) : Type 0 where
@@ -69,6 +69,9 @@ ConcreteIsDecided = (t : ClassTable) (methods : List MethodRec) → ConcreteDeci
 
 abbrev pub ImplementsDecides : ClassTable → Type 0
 ImplementsDecides t = (c j : ℕ) → IsTrue (implements t c j) ↔ Implements t c j
+
+abbrev pub ExtendsDecides : ClassTable → Type 0
+ExtendsDecides t = (i j : ℕ) → IsTrue (is_or_extends t i j) ↔ IsOrExtends t i j
 
 -- a search along the interfaces that others extend ends: each of them extends fewer
 pub record ExtendsEnds (t : ClassTable) : Type 0 where

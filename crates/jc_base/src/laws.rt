@@ -1,4 +1,4 @@
-ghost use Rattle.jc_base.specs.Laws.{IsOrderOfTypes, DeclaredAreKnown, SameTypeDecides, ClassesAreObjects, InstancesExtend, PublicMethodsRun, ConcreteIsDecided, ImplementsDecides, ExtendsEnds};
+ghost use Rattle.jc_base.specs.Laws.{IsOrderOfTypes, DeclaredAreKnown, ClassesAreObjects, InstancesExtend, PublicMethodsRun, ConcreteIsDecided, ImplementsDecides, ExtendsEnds, ExtendsDecides, SameTypeDecides};
 
 use crate::class::Classes;
 use crate::world::World;
@@ -32,10 +32,11 @@ pub fn concrete_decides()
     ensures { ConcreteIsDecided }
 {}
 
-/// Whether a class implements an interface is decided, and a search along the interfaces that others extend
-/// ends.
+/// Whether a class implements an interface and whether an interface extends another are decided, and a search
+/// along the interfaces that others extend ends.
 pub fn interfaces_decide(world: &World<'_>)
     ensures implements { ImplementsDecides world.now.classes }
+    ensures extends { ExtendsDecides world.now.classes }
     ensures ends { ExtendsEnds world.now.classes }
 {
     let _ = world.classes().records();

@@ -11,8 +11,8 @@ pub fn first_flaw_is_one()
 {}
 
 /// Where a method is well formed, an instruction is found at its first place, after each other, and at each place
-/// that control reaches, unless the code ends there. In any code one instruction stands at a place, which is decoded
-/// there.
+/// that control reaches, unless the code ends there. In any code the instructions stand one after the
+/// other, and each is the one that is decoded at its place.
 pub fn instructions_are_placed()
     ensures placed { InstructionsArePlaced }
     ensures listed { InstructionsAreListed }

@@ -16,7 +16,7 @@ use Rattle.jc_rules.specs.declared.effect.Mode.TheVariants.{Card, Flow}
 use Rattle.jc_rules.specs.Effect.{Writes, WritesInt, WritesCells, reg, rises_at, cells_rise}
 use Rattle.jc_rules.specs.Rule.{effect}
 use Rattle.jc_rules.specs.Flow.{CellsBelow, no_cells, more_cells}
-use Rattle.jc_rules.specs.Laws.{OperationFallsTo, OperationFallsOnCard, OperationRaises, OperationStays, RuleFallsOnCard, RuleRaises, RuleRises, RuleStays}
+use Rattle.jc_rules.specs.Laws.{OperationFallsTo, OperationFallsOnCard, OperationRaises, OperationStays, OperationRests, RuleFallsOnCard, RuleRaises, RuleRises, RuleStays, RuleRests}
 use Rattle.jc_rules.proofs.Effects.{CellsKept, Suits, suits, sound-known}
 use Rattle.jc_rules.proofs.Raising.{RoseTo}
 use Rattle.jc_rules.proofs.Types.{below-computed, below-told}
@@ -79,6 +79,33 @@ module _ (t : ClassTable) where
   store-stays x given.Int regs after u ps =
       let both = below-two x regs after u ps in
       record { between = regs; high = write-stays regs x both.0; low = write-stays regs (x + 1) both.1 }
+
+  -- ---- registers that stay as they are
+
+  -- what is stored where the registers stay, and lies below them
+  record IsRested (x : ℕ) (cells : Cells) (regs : List Ty) : Type 0 where
+    stored : List Ty
+    writes : WritesCells t Flow x cells regs stored
+    below : CellsBelow t stored regs
+
+  store-rests : (x : ℕ) (cells : Cells) (regs : List Ty) → WritesCells t Card x cells regs regs → IsRested x cells regs
+  store-rests x given.Nothing regs u = record { stored = regs; writes = refl; below = cells-same t regs }
+  store-rests x (given.One ty) regs u = record {
+    stored = set regs x ty;
+    writes = record { value = ty; stored = refl; after_is = refl };
+    below = subst (CellsBelow t (set regs x ty)) (sym u.after_is) (cells-set t x u.stored.right (cells-same t regs));
+  }
+  store-rests x given.Int regs u =
+      let high : CellsBelow t (set regs x IntHigh) u.between = subst (CellsBelow t (set regs x IntHigh)) (sym u.high.after_is) (cells-set t x u.high.stored.right (cells-same t regs)) in
+      record {
+        stored = set (set regs x IntHigh) (x + 1) IntLow;
+        writes = record {
+          between = set regs x IntHigh;
+          high = record { value = IntHigh; stored = refl; after_is = refl };
+          low = record { value = IntLow; stored = refl; after_is = refl };
+        };
+        below = subst (CellsBelow t (set (set regs x IntHigh) (x + 1) IntLow)) (sym u.low.after_is) (cells-set t (x + 1) u.low.stored.right high);
+      }
 
   -- ---- a register that rises
 
@@ -206,6 +233,37 @@ pub rule-stays : (w : Linked) → IsOrderOfTypes w.classes → RuleStays w
 rule-stays w are site i before after o a ps =
     let r = a.rule in
     record { method = a.method; is_method = a.is_method; rule = record { operation = r.operation; resolves = r.resolves; does = operation-stays w are a.method.max_stack r.operation before after o r.does ps } }
+
+pub operation-rests : (w : Linked) → IsOrderOfTypes w.classes → OperationRests w
+operation-rests w are limit op before after o a still =
+    let e = effect w op before in
+    let writes : WritesCells w.classes Card e.store.register e.store.cells before.regs before.regs = subst (WritesCells w.classes Card e.store.register e.store.cells before.regs) still a.regs in
+    let r = store-rests w.classes e.store.register e.store.cells before.regs writes in
+    record {
+      stored = r.stored;
+      applies = record {
+        asked = a.asked;
+        regs = r.writes;
+        stack = a.stack;
+        room = a.room;
+        falls = a.falls;
+        ends = a.ends;
+        depth = a.depth;
+        wrote_is = a.wrote_is;
+        rose_is = a.rose_is ∙ none-rises w.classes are e.store.register e.store.cells before.regs r.stored r.writes r.below;
+      };
+      below = r.below;
+    }
+
+pub rule-rests : (w : Linked) → IsOrderOfTypes w.classes → RuleRests w
+rule-rests w are site i before after o a still =
+    let r = a.rule in
+    let rests = operation-rests w are a.method.max_stack r.operation before after o r.does still in
+    record {
+      stored = rests.stored;
+      applies = record { method = a.method; is_method = a.is_method; rule = record { operation = r.operation; resolves = r.resolves; does = rests.applies } };
+      below = rests.below;
+    }
 
 pub operation-falls-on-card : (w : Linked) → IsWorld w → IsOrderOfTypes w.classes → OperationFallsOnCard w
 operation-falls-on-card w is are limit m place op greater lesser after o sound k below no_top no_bottom a =

@@ -2,7 +2,7 @@ ghost use Rattle.jc_rules.specs.Demand.{AreDecided};
 ghost use Rattle.jc_rules.specs.FlowLaws.{AreRules, IsOrderOfCells, JoinsStayReady, LeastIsOne, TopIsBottom};
 ghost use Rattle.jc_rules.specs.Footprint.{MetIsThere, AskedIsThere, OperationReads, FootprintIsOne, OperationLeaves, OperationNamesNone, AlikeLeaveAlike};
 ghost use Rattle.jc_rules.specs.Whole.{OperationKeepsWhole};
-ghost use Rattle.jc_rules.specs.Laws.{OperationDecides, OperationKeeps, OperationFalls, OperationFallsOnCard, OperationRaises, OperationStays, RuleDecides, RuleKeeps, RuleFalls, RuleFallsOnCard, RuleRaises, RuleRises, RuleStays};
+ghost use Rattle.jc_rules.specs.Laws.{OperationDecides, OperationKeeps, OperationFalls, OperationFallsOnCard, OperationRaises, OperationStays, OperationRests, RuleDecides, RuleKeeps, RuleFalls, RuleFallsOnCard, RuleRaises, RuleRises, RuleStays, RuleRests};
 
 use jc_base::{World, types_are_ordered};
 use jc_control::instructions_are_placed;
@@ -35,11 +35,12 @@ pub fn rule_falls(world: &World<'_>)
 }
 
 /// On the card the rules of a world raise registers, as they tell, and those that are above all that is stored
-/// stay.
+/// stay; where all registers stay, the rule stores nothing above them in the dataflow.
 pub fn rule_raises(world: &World<'_>)
     ensures raises { RuleRaises world.now }
     ensures rises { RuleRises world.now }
     ensures stays { RuleStays world.now }
+    ensures rests { RuleRests world.now }
 {
     types_are_ordered(world.classes());
 }
@@ -53,6 +54,7 @@ pub fn operation_laws(world: &World<'_>)
     ensures falls_on_card { OperationFallsOnCard world.now }
     ensures raises { OperationRaises world.now }
     ensures stays { OperationStays world.now }
+    ensures rests { OperationRests world.now }
 {
     types_are_ordered(world.classes());
 }

@@ -10,3 +10,5 @@ pub mod SeenClasses
 mod TaggedHeaps
 pub mod CellTypes
 pub mod TypedHeaps
+pub mod NewObjects
+pub mod Erasing

@@ -9,3 +9,5 @@ pub mod Layout
 pub mod Tagged
 pub mod Calls
 pub mod Laws
+pub mod NewObjects
+pub mod Erasing

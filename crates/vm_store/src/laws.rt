@@ -1,6 +1,8 @@
 ghost use Rattle.vm_store.specs.Laws.{LeastTypesAreLeast, TypesFallWithObjects, WordsEraseCells, WritesKeepKinds, TypedReads, TypedWrites};
+ghost use Rattle.vm_store.specs.NewObjects.{NewInstancesAreTyped, NewArraysAreTyped};
+ghost use Rattle.vm_store.specs.Erasing.{StatesErase};
 
-use jc_base::Classes;
+use jc_base::{Classes, World};
 
 /// The least type of a cell is the least of the types that it has.
 pub fn least_types_are_least(classes: &Classes)
@@ -30,3 +32,18 @@ pub fn typed_heaps_stay_typed(classes: &Classes)
     ensures reads { TypedReads classes.now }
     ensures writes { TypedWrites classes.now }
 {}
+
+/// A heap of typed objects stays one where an object is made.
+pub fn new_objects_are_typed(world: &World<'_>)
+    ensures instances { NewInstancesAreTyped world.now.classes }
+    ensures arrays { NewArraysAreTyped world.now.classes }
+{
+    let _ = world.classes().records();
+}
+
+/// Every change of a state of tagged cells is the same change of the state of their words.
+pub fn states_erase(world: &World<'_>)
+    ensures { StatesErase world.now.methods world.now.classes }
+{
+    let _ = world.classes().records();
+}

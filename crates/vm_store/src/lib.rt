@@ -23,8 +23,8 @@ pub use form::CellForm;
 pub use header::Header;
 pub use kind::ObjectKind;
 pub use laws::{
-    least_types_are_least, typed_heaps_stay_typed, types_fall_with_objects, words_erase_cells,
-    writes_keep_kinds,
+    least_types_are_least, new_objects_are_typed, states_erase, typed_heaps_stay_typed,
+    types_fall_with_objects, words_erase_cells, writes_keep_kinds,
 };
 pub use registers::register_count;
 pub use stack::rotate_cells;

@@ -2,9 +2,8 @@ use Rattle.std.proofs.Common.{◌≡◌}
 use Rattle.cap_bytes.specs.Table.{numbers}
 use Rattle.cap_components.specs.Order.{least_from}
 use Rattle.cap_package.specs.StaticChecks.{no_static_fault}
-use Rattle.cap_package.specs.OffsetSets.{stands}
 use Rattle.cap_package.proofs.name_checks.statics_of_table.Given as goal
 
 abbrev pub invariant-entries : goal.invariant-entries
 invariant-entries l =
-    least_from l.least (no_static_fault (stands l.fields)) (numbers l.offset-iterator) ≡ least_from l.initial.least (no_static_fault (stands l.fields)) (numbers l.fn.table)
+    least_from l.least (no_static_fault l.fields) (numbers l.offset-iterator) ≡ least_from l.initial.least (no_static_fault l.fields) (numbers l.fn.table)

@@ -4,7 +4,7 @@ use Rattle.jc_rules.proofs.Decides.{operation-decides}
 use Rattle.jc_rules.proofs.Falls.{operation-falls}
 use Rattle.jc_rules.proofs.Keeps.{operation-keeps}
 use Rattle.jc_rules.proofs.Wholes.{operation-keeps-whole}
-use Rattle.jc_rules.proofs.Cards.{operation-falls-on-card, operation-raises, operation-stays}
+use Rattle.jc_rules.proofs.Cards.{operation-falls-on-card, operation-raises, operation-stays, operation-rests}
 use Rattle.jc_rules.proofs.laws.operation_laws.Goals as goal
 
 pub returns-clause-decides : goal.returns-clause-decides
@@ -27,3 +27,6 @@ returns-clause-stays c = operation-stays c.args.world.now (subst IsOrderOfTypes 
 
 pub returns-clause-keeps_whole : goal.returns-clause-keeps_whole
 returns-clause-keeps_whole c = operation-keeps-whole c.args.world.now c.classes.ensures.links
+
+pub returns-clause-rests : goal.returns-clause-rests
+returns-clause-rests c = operation-rests c.args.world.now (subst IsOrderOfTypes c.classes.ensures.is c.types_are_ordered.ensures.order)

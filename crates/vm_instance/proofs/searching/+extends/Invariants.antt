@@ -1,0 +1,14 @@
+use Rattle.std.proofs.Common.{◌≡◌, false, ℕ, take}
+use Rattle.std.specs.List.{list_any}
+use Rattle.jc_base.specs.declared.record.Iface.{Iface}
+use Rattle.jc_base.specs.Interface.{is_or_extends, extended_count}
+use Rattle.vm_instance.specs.Searched.{AreLeft}
+use Rattle.vm_instance.proofs.Search.{NoneExtends}
+use Rattle.vm_instance.proofs.searching.+extends.Given as goal
+
+abbrev pub decreases-extends : goal.decreases-extends
+decreases-extends l = extended_count l.world.now.classes l.interface
+
+-- none of the interfaces so far leads to the one that is sought
+abbrev pub invariant-extended : goal.invariant-extended
+invariant-extended l = record { none : NoneExtends l.world.classes l.sought (take l.extended-index l.extended-items); left : AreLeft l.world.classes l.sought l.searched }

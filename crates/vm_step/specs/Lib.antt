@@ -1,0 +1,15 @@
+pub mod Numbers
+pub mod Act
+pub mod Values
+pub mod Branching
+pub mod Fields
+pub mod Objects
+pub mod Calls
+pub mod Performed
+pub mod Methods
+pub mod Tests
+pub mod Raising
+pub mod Settled
+pub mod Step
+pub mod Run
+pub mod Laws
