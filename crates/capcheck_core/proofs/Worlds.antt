@@ -7,8 +7,8 @@ use Rattle.cap_package.specs.PackageRecord.{PackageRecord}
 use Rattle.cap_package.specs.StandsFor.{HavePackage}
 use Rattle.jc_base.specs.World.{Linked}
 use Rattle.jc_link.specs.World.{LinkTells}
-use Rattle.jc_resolve.specs.declared.fault.LinkEnd.{LinkEnd}
-use Rattle.jc_resolve.specs.declared.fault.LinkEnd.TheVariants as ends
+use Rattle.jc_link.specs.LinkEnd.{LinkEnd}
+use Rattle.jc_link.specs.LinkEnd.TheVariants as ends
 use Rattle.capcheck_core.specs.declared.verdict.Verdict.{Verdict}
 use Rattle.capcheck_core.specs.declared.verdict.Verdict.TheVariants.{Malformed, Memory}
 use Rattle.capcheck_core.specs.Outside.{Outside, Untouched}

@@ -5,7 +5,7 @@ use Rattle.cap_files.specs.Folder.{Folders}
 use Rattle.cap_components.specs.declared.fault.PackFault.{PackFault}
 use Rattle.cap_package.specs.Parts.{Lent}
 use Rattle.cap_text.specs.Line.{malformed_line, not_linked_line}
-use Rattle.jc_resolve.specs.declared.fault.LinkFault.TheVariants.{TooManyPackages}
+use Rattle.jc_link.specs.LinkFault.TheVariants.{TooManyPackages}
 use Rattle.capcheck_core.specs.declared.verdict.Verdict.{Verdict}
 use Rattle.capcheck_core.specs.declared.verdict.Verdict.TheVariants.{Malformed, ReadFault, Memory}
 use Rattle.capcheck_core.specs.Outside.{Outside, Untouched}

@@ -8,7 +8,7 @@ use Rattle.cap_package.specs.Parts.{Lent}
 use Rattle.cap_package.specs.FirstFault.{Tells}
 use Rattle.cap_package.specs.StandsFor.{HavePackage}
 use Rattle.cap_text.specs.Line.{malformed_line, not_linked_line}
-use Rattle.jc_resolve.specs.declared.fault.LinkFault.TheVariants.{TooManyPackages}
+use Rattle.jc_link.specs.LinkFault.TheVariants.{TooManyPackages}
 use Rattle.capcheck_core.specs.declared.packages.Loaded.{Loaded}
 use Rattle.capcheck_core.specs.declared.packages.PackagesStop.{PackagesStop}
 use Rattle.capcheck_core.specs.declared.packages.PackagesStop.TheVariants.{TooMany, Malformed, Failed, Memory}

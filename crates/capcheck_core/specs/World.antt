@@ -6,11 +6,11 @@ use Rattle.cap_package.specs.PackageRecord.{PackageRecord}
 use Rattle.cap_package.specs.StandsFor.{StandsFor}
 use Rattle.cap_text.specs.Line.{not_linked_line}
 use Rattle.jc_base.specs.World.{Linked}
-use Rattle.jc_resolve.specs.declared.fault.LinkEnd.{LinkEnd}
-use Rattle.jc_resolve.specs.declared.fault.LinkEnd.TheVariants as ends
-use Rattle.jc_resolve.specs.declared.fault.LinkFault.{LinkFault}
-use Rattle.jc_resolve.specs.Fault.{place_of}
-use Rattle.jc_resolve.specs.FirstFault.{IsFirst}
+use Rattle.jc_link.specs.LinkEnd.{LinkEnd}
+use Rattle.jc_link.specs.LinkEnd.TheVariants as ends
+use Rattle.jc_link.specs.LinkFault.{LinkFault}
+use Rattle.jc_link.specs.Fault.{place_of}
+use Rattle.first_fault.specs.First.{IsFirst}
 use Rattle.jc_link.specs.World.{IsLinked, conditions}
 use Rattle.capcheck_core.specs.declared.verdict.Verdict.{Verdict}
 use Rattle.capcheck_core.specs.declared.verdict.Verdict.TheVariants.{Malformed, Memory}

@@ -9,7 +9,7 @@ use cap_bytes::{FormFault, FormKind, Part};
 use cap_files::{Folder, LoadEnd, WordsIter};
 use cap_package::{OwnedParts, PackFault, Parts, package};
 use cap_text::{malformed, not_linked};
-use jc_resolve::LinkFault;
+use jc_link::LinkFault;
 use std::alloc::{AllocError, Global};
 
 /// The file of the roles.

@@ -13,8 +13,7 @@ use crate::verdict::Verdict;
 use cap_files::{Folder, WordsIter};
 use cap_package::{OwnedParts, Packages, Parts, agreed_package};
 use cap_text::not_linked;
-use jc_link::link;
-use jc_resolve::LinkEnd;
+use jc_link::{LinkEnd, link};
 use std::alloc::{AllocError, Global};
 
 /// A command over the packages in folders: it loads them with the roles, links them, and takes the

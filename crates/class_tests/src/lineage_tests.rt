@@ -1,8 +1,7 @@
 use crate::faults::{Told, named};
 use crate::known::are_known;
 use crate::lines::{Line, ROOT, below, classes, implementing, interface};
-use jc_base::Classes;
-use jc_hierarchy::lineage;
+use jc_hierarchy::{Lineage, lineage};
 use jc_resolve::LinkEnd;
 use std::alloc::Global;
 use std::process::Abort;
@@ -19,7 +18,7 @@ fn lineage_of(
     alloc: Global,
     lines: &[Line<'_>],
     roles: [u8; 8],
-) -> Result<Classes, LinkEnd> {
+) -> Result<Lineage, LinkEnd> {
     let classes = classes(alloc, lines)?;
     assert!(rt; classes.len() <= 4096);
     assert!(rt; are_known(&classes));
@@ -47,10 +46,10 @@ fn a_table_has_superclasses_interfaces_and_roles(rt: HostRuntime) {
     match lineage_of(&rt, rt.alloc(), &lines, ROLES) {
         Ok(table) => {
             assert_eq!(rt; table.len(), 5);
-            assert_eq!(rt; table.role(7), 1);
-            assert!(rt; table.is_interface(3));
-            assert!(rt; table.is_class(4));
+            assert_eq!(rt; table.roles()[7], 1);
+            assert_eq!(rt; table.parent(3), None);
             assert_eq!(rt; table.parent(4), Some(2));
+            assert_eq!(rt; table.package_of(4), 0);
         }
         Err(end) => assert_eq!(rt; named(end), TABLE),
     }

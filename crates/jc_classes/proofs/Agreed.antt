@@ -14,9 +14,10 @@ use Rattle.jc_resolve.specs.declared.fault.LinkEnd.TheVariants.{Fault, Memory}
 use Rattle.jc_resolve.specs.Due.{IsDue}
 use Rattle.jc_resolve.specs.declared.named.NamedClass.{NamedClass}
 use Rattle.jc_resolve.specs.Fault.{place_of}
-use Rattle.jc_resolve.specs.FirstFault.{◌>>=◌, IsFirst, AllEmpty}
+use Rattle.first_fault.specs.Least.{◌>>=◌}
+use Rattle.first_fault.specs.First.{IsFirst, AllEmpty}
 use Rattle.jc_resolve.proofs.Faultless.{faultless_at}
-use Rattle.jc_resolve.proofs.FirstTold.{IsTold, things-told, step, last, refused-first, accepted-empty}
+use Rattle.first_fault.proofs.FirstTold.{IsTold, things-told, step, last, refused-first, accepted-empty}
 use Rattle.jc_classes.specs.declared.layout.ClassLayout.{ClassLayout}
 use Rattle.jc_hierarchy.specs.Outline.{outline}
 use Rattle.jc_classes.specs.Layout.{instance_cells, layouts}

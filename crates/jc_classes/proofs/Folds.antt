@@ -16,7 +16,7 @@ use Rattle.jc_resolve.specs.declared.named.DispatchTable.{DispatchTable}
 use Rattle.jc_resolve.specs.declared.named.NamedClass.{NamedClass}
 use Rattle.jc_resolve.specs.Named.{IsByteTable, IsSized}
 use Rattle.jc_resolve.specs.Fault.{place_of}
-use Rattle.jc_resolve.specs.FirstFault.{least_from, least_of, lesser}
+use Rattle.first_fault.specs.Least.{least_from, least_of, lesser}
 use Rattle.jc_classes.specs.Known.{AreKnown}
 use Rattle.jc_classes.specs.declared.layout.ClassLayout.{ClassLayout}
 use Rattle.jc_classes.specs.Entries.{reach, reach_from, reach_of}

@@ -12,7 +12,7 @@ use Rattle.jc_resolve.specs.declared.fault.LinkFault.{LinkFault}
 use Rattle.jc_resolve.specs.declared.fault.LinkFault.TheVariants.{InterfaceType}
 use Rattle.jc_resolve.specs.declared.named.NamedClass.{NamedClass}
 use Rattle.jc_resolve.specs.Fault.{place_of}
-use Rattle.jc_resolve.specs.FirstFault.{least_from, lesser}
+use Rattle.first_fault.specs.Least.{least_from, lesser}
 use Rattle.jc_classes.specs.Layout.{public_entries}
 use Rattle.jc_classes.specs.Conditions.{Implementation, serves, serves_all, interface_fault, implemented_by, implementations_in}
 use Rattle.jc_classes.specs.Groups.{AreGroups, methods_of}

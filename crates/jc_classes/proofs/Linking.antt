@@ -25,7 +25,7 @@ use Rattle.jc_resolve.specs.declared.fault.LinkEnd.{LinkEnd}
 use Rattle.jc_resolve.specs.declared.named.NamedClass.{NamedClass}
 use Rattle.jc_resolve.specs.Due.{IsDue}
 use Rattle.jc_resolve.specs.Named as named
-use Rattle.jc_resolve.specs.FirstFault.{AllEmpty}
+use Rattle.first_fault.specs.First.{AllEmpty}
 use Rattle.jc_hierarchy.specs.Lines.{HaveLines}
 use Rattle.jc_hierarchy.specs.Outline.{outline, outlined}
 use Rattle.jc_classes.specs.Known.{AreKnown}

@@ -9,7 +9,7 @@ use Rattle.jc_base.specs.Order.{is_on_chain}
 use Rattle.jc_resolve.specs.declared.fault.LinkFault.{LinkFault}
 use Rattle.jc_resolve.specs.declared.fault.LinkFault.TheVariants.{Hole, OverrideType, InterfaceType, InstanceLong}
 use Rattle.jc_resolve.specs.declared.named.NamedClass.{NamedClass}
-use Rattle.jc_resolve.specs.FirstFault.{at_fault}
+use Rattle.first_fault.specs.First.{at_fault}
 use Rattle.jc_classes.specs.declared.layout.ClassLayout.{ClassLayout}
 use Rattle.jc_classes.specs.Layout.{public_entries, visible_entries, instance_cells, layout_of, above_or_nothing, at_home}
 use Rattle.jc_classes.specs.Signatures.{method_in, signature_in, same_signature}

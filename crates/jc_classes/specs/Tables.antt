@@ -11,7 +11,8 @@ use Rattle.jc_resolve.specs.declared.fault.LinkEnd.{LinkEnd}
 use Rattle.jc_resolve.specs.declared.fault.LinkEnd.TheVariants.{Fault, Memory}
 use Rattle.jc_resolve.specs.declared.named.NamedClass.{NamedClass}
 use Rattle.jc_resolve.specs.Fault.{place_of}
-use Rattle.jc_resolve.specs.FirstFault.{◌>>=◌, least_of, refused, IsFirst, AllEmpty}
+use Rattle.first_fault.specs.Least.{◌>>=◌, least_of, refused}
+use Rattle.first_fault.specs.First.{IsFirst, AllEmpty}
 use Rattle.jc_classes.specs.declared.layout.ClassLayout.{ClassLayout}
 use Rattle.jc_classes.specs.Layout.{layout_of}
 use Rattle.jc_classes.specs.Conditions.{hole_fault, entries_in, override_fault, replacements_in, interface_fault, implementations_in, long_fault, class_numbers, conditions}

@@ -3,7 +3,7 @@ ghost use Rattle.std.specs.List.{range_with_len};
 ghost use Rattle.jc_base.specs.Class.{chain, list_of};
 ghost use Rattle.jc_base.specs.Order.{is_on_chain};
 ghost use Rattle.jc_resolve.specs.Fault.{place_of};
-ghost use Rattle.jc_resolve.specs.FirstFault.{least_of, least_from, refused};
+ghost use Rattle.first_fault.specs.Least.{least_of, least_from, refused};
 ghost use Rattle.jc_classes.specs.Known.{AreKnown};
 ghost use Rattle.jc_classes.specs.Layout.{layout_of, layouts};
 ghost use Rattle.jc_classes.specs.Signatures.{method_in};
@@ -12,14 +12,14 @@ ghost use Rattle.jc_classes.specs.Conditions.{may_stand, entries_from, entries_i
 
 use crate::layout::ClassLayout;
 use crate::signatures::method_in;
-use crate::slots::parent;
-use jc_base::{Classes, MethodRec, Methods};
+use jc_base::{MethodRec, Methods};
+use jc_hierarchy::Lineage;
 use jc_resolve::{LinkFault, NamedClasses, lesser, refuse};
 
 /// A class with a mark for each class that is one of its superclasses or the class itself.
 #[derive(Clone, Copy)]
 struct Line<'a> {
-    lineage: &'a Classes,
+    lineage: &'a Lineage,
     class: u16,
     marks: &'a [bool],
     ghost marked: { marks.now ≡ map (λ d. is_on_chain lineage.now d class) (range_with_len 0 (length lineage.now.records)) },
@@ -40,7 +40,7 @@ fn clear(marks: &mut [bool])
 
 /// Marks a class and its superclasses, where nothing is marked.
 #[tactic(auto, using(crate::proofs::Marks::marking))]
-fn mark(lineage: &Classes, c: u16, marks: &mut [bool])
+fn mark(lineage: &Lineage, c: u16, marks: &mut [bool])
     requires known { c < length lineage.now.records }
     requires room { length marks.now ≡ length lineage.now.records }
     requires none { (k : ℕ) → k < length marks.now → slice_index_or marks.now k false ≡ false }
@@ -50,13 +50,13 @@ fn mark(lineage: &Classes, c: u16, marks: &mut [bool])
     let mut above = Some(c);
     'climb: while let Some(a) = above {
         marks[a as usize] = true;
-        above = parent(lineage, a);
+        above = lineage.parent(a);
     }
 }
 
 /// Takes the marks of a class and its superclasses away.
 #[tactic(auto, using(crate::proofs::Marks::unmarking))]
-fn unmark(lineage: &Classes, c: u16, marks: &mut [bool])
+fn unmark(lineage: &Lineage, c: u16, marks: &mut [bool])
     requires known { c < length lineage.now.records }
     requires marked { marks.now ≡ map (λ d. is_on_chain lineage.now d c) (range_with_len 0 (length lineage.now.records)) }
     ensures room { length marks.new ≡ length lineage.now.records }
@@ -65,7 +65,7 @@ fn unmark(lineage: &Classes, c: u16, marks: &mut [bool])
     let mut above = Some(c);
     'climb: while let Some(a) = above {
         marks[a as usize] = false;
-        above = parent(lineage, a);
+        above = lineage.parent(a);
     }
 }
 
@@ -135,7 +135,7 @@ impl<'a> Line<'a> {
 /// The least fault so far, when the lists of a class were seen.
 #[tactic(auto, using(crate::proofs::Folds::folds))]
 fn holes_of(
-    lineage: &Classes,
+    lineage: &Lineage,
     methods: &Methods,
     layout: &ClassLayout,
     c: u16,
@@ -170,7 +170,7 @@ fn holes_of(
 /// room for a mark a class.
 #[tactic(auto, using(crate::proofs::Folds::folds))]
 pub(crate) fn no_holes(
-    lineage: &Classes,
+    lineage: &Lineage,
     classes: &NamedClasses,
     methods: &Methods,
     all: &[ClassLayout],

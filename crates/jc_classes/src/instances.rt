@@ -1,13 +1,13 @@
 ghost use Rattle.std.specs.Prelude.{◌≡◌, nat_lt, if◌then◌else◌, Some, None};
 ghost use Rattle.jc_resolve.specs.declared.fault.LinkFault.TheVariants.{InstanceLong};
 ghost use Rattle.jc_resolve.specs.Fault.{place_of};
-ghost use Rattle.jc_resolve.specs.FirstFault.{least_of, refused};
+ghost use Rattle.first_fault.specs.Least.{least_of, refused};
 ghost use Rattle.jc_classes.specs.Known.{AreKnown};
 ghost use Rattle.jc_classes.specs.Layout.{layouts};
 ghost use Rattle.jc_classes.specs.Conditions.{long_fault, class_numbers};
 
 use crate::layout::ClassLayout;
-use jc_base::Classes;
+use jc_hierarchy::Lineage;
 use jc_resolve::{LinkFault, NamedClasses, lesser, refuse};
 
 /// What is wrong with an instance of so many cells.
@@ -24,7 +24,7 @@ fn long_fault(c: u16, cells: u32) -> Option<LinkFault>
 /// No instance has more than 32,767 cells.
 #[tactic(auto, using(crate::proofs::Folds::long_folds))]
 pub(crate) fn instances_fit(
-    lineage: &Classes,
+    lineage: &Lineage,
     classes: &NamedClasses,
     all: &[ClassLayout],
 ) -> Result<(), LinkFault>

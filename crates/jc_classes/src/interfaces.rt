@@ -2,7 +2,7 @@ ghost use Rattle.std.specs.Prelude.{◌≡◌, ◌≤◌, ◌<◌, ◌+◌, ◌=
 ghost use Rattle.std.specs.List.{list_all};
 ghost use Rattle.jc_base.specs.declared.record.Iface.{Iface};
 ghost use Rattle.jc_resolve.specs.Fault.{place_of};
-ghost use Rattle.jc_resolve.specs.FirstFault.{least_of, least_from, refused};
+ghost use Rattle.first_fault.specs.Least.{least_of, least_from, refused};
 ghost use Rattle.jc_classes.specs.Known.{AreInRange, AreKnown};
 ghost use Rattle.jc_classes.specs.Layout.{layouts};
 ghost use Rattle.jc_classes.specs.Conditions.{Implementation, serves, interface_fault, implemented_by, implementations_in, class_numbers};
@@ -12,7 +12,8 @@ use crate::groups::Group;
 use crate::layout::ClassLayout;
 use crate::overlay::entry_at;
 use crate::signatures::{method_in, same_sig};
-use jc_base::{Classes, Iface, MethodRec, Methods};
+use jc_base::{Iface, MethodRec, Methods};
+use jc_hierarchy::Lineage;
 use jc_resolve::{LinkFault, NamedClass, NamedClasses, lesser, refuse};
 
 /// Whether a class has a public method of its signature at the token that serves a method of an interface.
@@ -123,7 +124,7 @@ fn unserved_by(
 /// Each method of an implemented interface has a public token, with its signature.
 #[tactic(auto, using(crate::proofs::Folds::folds))]
 pub(crate) fn interfaces_served(
-    lineage: &Classes,
+    lineage: &Lineage,
     classes: &NamedClasses,
     methods: &Methods,
     all: &[ClassLayout],

@@ -1,15 +1,16 @@
 ghost use Rattle.std.specs.Prelude.{◌≡◌, ◌≤◌, ◌<◌, ◌+◌, ◌++◌, length, flat_map, option_map};
 ghost use Rattle.jc_base.specs.Class.{parent_of};
 ghost use Rattle.jc_resolve.specs.Fault.{place_of};
-ghost use Rattle.jc_resolve.specs.FirstFault.{least_of, least_from, refused};
+ghost use Rattle.first_fault.specs.Least.{least_of, least_from, refused};
 ghost use Rattle.jc_classes.specs.Known.{AreKnown};
 ghost use Rattle.jc_classes.specs.Layout.{layout_of, layouts};
 ghost use Rattle.jc_classes.specs.Conditions.{Replacement, override_fault, replacements_from, replacements_in, class_numbers};
 
 use crate::layout::ClassLayout;
 use crate::signatures::same_signature;
-use crate::slots::{at_home, parent, public_above, visible_above};
-use jc_base::{Classes, Methods};
+use crate::slots::{at_home, public_above, visible_above};
+use jc_base::Methods;
+use jc_hierarchy::Lineage;
 use jc_resolve::{LinkFault, NamedClasses, lesser, refuse};
 
 /// What is wrong with an entry that replaces an inherited one.
@@ -57,7 +58,7 @@ fn overrides_in(
 /// The lists of the superclass of a class, among those of all classes.
 #[tactic(auto, using(crate::proofs::Folds::above_in_all))]
 fn layout_above<'a>(
-    lineage: &Classes,
+    lineage: &Lineage,
     classes: &NamedClasses,
     all: &'a [ClassLayout],
     c: u16,
@@ -67,7 +68,7 @@ fn layout_above<'a>(
     requires class { c < length classes.now }
     ensures { option_map (λ l. l.now) result ≡ option_map (layout_of lineage.now classes.now) (parent_of lineage.now c) }
 {
-    match parent(lineage, c) {
+    match lineage.parent(c) {
         Some(p) => Some(&all[p as usize]),
         None => None,
     }
@@ -76,7 +77,7 @@ fn layout_above<'a>(
 /// The least fault so far, when the lists of a class were compared with those of its superclass.
 #[tactic(auto, using(crate::proofs::Folds::compares))]
 fn overrides_of(
-    lineage: &Classes,
+    lineage: &Lineage,
     classes: &NamedClasses,
     methods: &Methods,
     all: &[ClassLayout],
@@ -89,7 +90,7 @@ fn overrides_of(
     ensures { result ≡ least_from place_of least (override_fault methods.now) (replacements_in lineage.now classes.now c) }
 {
     let up = layout_above(lineage, classes, all, c);
-    let home = at_home(lineage, parent(lineage, c), c);
+    let home = at_home(lineage, lineage.parent(c), c);
     let own = &all[c as usize];
     let public = own.public.as_slice();
     let visible = own.visible.as_slice();
@@ -100,7 +101,7 @@ fn overrides_of(
 /// Each entry that replaces an inherited one has its signature.
 #[tactic(auto, using(crate::proofs::Folds::folds))]
 pub(crate) fn overrides_agree(
-    lineage: &Classes,
+    lineage: &Lineage,
     classes: &NamedClasses,
     methods: &Methods,
     all: &[ClassLayout],

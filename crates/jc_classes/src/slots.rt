@@ -9,7 +9,7 @@ ghost use Rattle.jc_classes.specs.Slots.{IsFilled, AreSlots, IsMade, IsClimb, sl
 
 use crate::layout::ClassLayout;
 use crate::overlay::overlay;
-use jc_base::Classes;
+use jc_hierarchy::Lineage;
 use jc_resolve::{NamedClass, NamedClasses};
 use std::alloc::{AllocError, Global};
 
@@ -18,20 +18,6 @@ use std::alloc::{AllocError, Global};
 struct UnmadeClasses {
     path: Vec<u16>,
     above: Option<u16>,
-}
-
-/// The superclass of a class; an interface has none.
-pub(crate) fn parent(lineage: &Classes, c: u16) -> Option<u16>
-    requires { c < length lineage.now.records }
-    ensures is { result ≡ parent_of lineage.now c }
-    ensures known { IfSome result (λ p. p < length lineage.now.records) }
-    ensures step { chain lineage.now c ≡ c ∷ list_of (chain lineage.now) result }
-{
-    if lineage.is_interface(c) {
-        None
-    } else {
-        lineage.parent(c)
-    }
 }
 
 /// The layout in the slot of a class.
@@ -50,7 +36,7 @@ fn slot_at(slots: &Vec<Option<ClassLayout>>, c: u16) -> Option<&ClassLayout>
 #[tactic(auto, using(crate::proofs::Climbs::climbed_more))]
 fn climb_from(
     alloc: Global,
-    lineage: &Classes,
+    lineage: &Lineage,
     slots: &Vec<Option<ClassLayout>>,
     c: u16,
 ) -> Result<UnmadeClasses, AllocError>
@@ -64,30 +50,22 @@ fn climb_from(
             return Ok(UnmadeClasses { path, above });
         }
         path.push(a)?;
-        above = parent(lineage, a);
+        above = lineage.parent(a);
     }
     Ok(UnmadeClasses { path, above: None })
 }
 
 /// Whether the superclass, where there is one, is of the package of a class.
 #[tactic(auto, unfolding(crate::specs::Layout::at_home))]
-pub(crate) fn at_home(lineage: &Classes, above: Option<u16>, c: u16) -> bool
+pub(crate) fn at_home(lineage: &Lineage, above: Option<u16>, c: u16) -> bool
     requires known { c < length lineage.now.records }
     requires above_known { IfSome above (λ p. p < length lineage.now.records) }
     ensures { result ≡ at_home lineage.now above c }
 {
     match above {
-        Some(p) => package_of(lineage, p) == package_of(lineage, c),
+        Some(p) => lineage.package_of(p) == lineage.package_of(c),
         None => false,
     }
-}
-
-#[tactic(auto, unfolding(jc_base::specs::Dispatch::package_of))]
-fn package_of(lineage: &Classes, c: u16) -> u16
-    requires { c < length lineage.now.records }
-    ensures { result ≡ package_of lineage.now c }
-{
-    lineage.at(c).package
 }
 
 pub(crate) fn public_above<'a>(up: Option<&'a ClassLayout>) -> &'a [Option<u16>]
@@ -153,7 +131,7 @@ fn slot_above<'a>(
 #[tactic(auto, using(crate::proofs::Fills::makes))]
 fn make(
     alloc: Global,
-    lineage: &Classes,
+    lineage: &Lineage,
     classes: &NamedClasses,
     slots: &mut Vec<Option<ClassLayout>>,
     above: Option<u16>,
@@ -178,7 +156,7 @@ fn make(
 #[tactic(auto, using(crate::proofs::Fills::fills))]
 fn fill(
     alloc: Global,
-    lineage: &Classes,
+    lineage: &Lineage,
     classes: &NamedClasses,
     slots: &mut Vec<Option<ClassLayout>>,
     c: u16,
@@ -191,7 +169,7 @@ fn fill(
     let climb = climb_from(alloc, lineage, slots, c)?;
     let mut path = climb.path;
     let mut above = climb.above;
-    let _ = lineage.records();
+    lineage.chains_end();
     'descent: while let Some(next) = path.pop() {
         make(alloc, lineage, classes, slots, above, next)?;
         above = Some(next);
@@ -231,7 +209,7 @@ fn layouts_of(
 #[tactic(auto, using(crate::proofs::Fills::filled_in_turn))]
 pub(crate) fn layouts(
     alloc: Global,
-    lineage: &Classes,
+    lineage: &Lineage,
     classes: &NamedClasses,
 ) -> Result<Vec<ClassLayout>, AllocError>
     requires known { AreKnown lineage.now classes.now }

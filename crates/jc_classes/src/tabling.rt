@@ -18,13 +18,14 @@ use crate::layout::ClassLayout;
 use crate::overrides::overrides_agree;
 use crate::slots::layouts;
 use jc_base::{Classes, Items, Methods};
+use jc_hierarchy::Lineage;
 use jc_resolve::{LinkEnd, LinkFault, NamedClasses};
 use std::alloc::{AllocError, Global};
 
 /// Asks the conditions on classes in the order of their numbers. `marks` is room for a mark a class.
 #[tactic(auto, unfolding(crate::specs::Tables::classes_agree))]
 fn agree(
-    lineage: &Classes,
+    lineage: &Lineage,
     classes: &NamedClasses,
     methods: &Methods,
     all: &[ClassLayout],
@@ -49,7 +50,7 @@ fn agree(
 #[tactic(auto, using(crate::proofs::Agreed::building))]
 fn build(
     alloc: Global,
-    lineage: &Classes,
+    lineage: &Lineage,
     classes: &NamedClasses,
     all: &[ClassLayout],
 ) -> Result<Classes, AllocError>
@@ -58,7 +59,7 @@ fn build(
     requires short { long_instances lineage.now classes.now ≡ [] }
     ensures { IfOk result (λ t. t ≡ class_tables lineage.now classes.now) }
 {
-    let _ = lineage.records();
+    lineage.chains_end();
     let mut records = Vec::with_capacity(alloc, classes.len())?;
     'classes: for c in 0..classes.len() {
         records.push(record_from(alloc, classes.at(c), &all[c])?)?;
@@ -78,7 +79,7 @@ fn no_marks(alloc: Global, count: usize) -> Result<Vec<bool>, AllocError>
 #[tactic(auto, using(crate::proofs::Agreed::telling), unfolding(crate::specs::Tables::tables_of))]
 fn tables_or_fault(
     alloc: Global,
-    lineage: &Classes,
+    lineage: &Lineage,
     classes: &NamedClasses,
     methods: &Methods,
 ) -> Result<Classes, LinkEnd>
@@ -106,7 +107,7 @@ fn tables_or_fault(
 /// table.
 pub fn tables(
     alloc: Global,
-    lineage: &Classes,
+    lineage: &Lineage,
     classes: &NamedClasses,
     methods: &Methods,
 ) -> Result<Classes, LinkEnd>
@@ -125,6 +126,6 @@ pub fn tables(
     ensures signatures { TellsSame }
 {
     // Every chain of superclasses ends.
-    let _ = lineage.records();
+    lineage.chains_end();
     tables_or_fault(alloc, lineage, classes, methods)
 }

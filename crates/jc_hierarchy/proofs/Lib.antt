@@ -9,3 +9,4 @@ pub mod Settled
 pub mod Kinship
 pub mod SameLines
 pub mod Naming
+pub mod Outlines

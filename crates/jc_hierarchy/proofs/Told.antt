@@ -14,9 +14,10 @@ use Rattle.jc_resolve.specs.declared.fault.LinkEnd.{LinkEnd}
 use Rattle.jc_resolve.specs.declared.fault.LinkEnd.TheVariants.{Fault, Memory}
 use Rattle.jc_resolve.specs.declared.named.NamedClass.{NamedClass}
 use Rattle.jc_resolve.specs.Fault.{place_of}
-use Rattle.jc_resolve.specs.FirstFault.{◌>>=◌, AllEmpty}
+use Rattle.first_fault.specs.Least.{◌>>=◌}
+use Rattle.first_fault.specs.First.{AllEmpty}
 use Rattle.jc_resolve.specs.Named.{package_of, package_by}
-use Rattle.jc_resolve.proofs.FirstTold.{IsTold, things-told, step, last, refused-first, accepted-empty}
+use Rattle.first_fault.proofs.FirstTold.{IsTold, things-told, step, last, refused-first, accepted-empty}
 use Rattle.jc_resolve.specs.Due.{IsDue}
 use Rattle.jc_hierarchy.specs.Known.{HasKnownLine}
 use Rattle.jc_hierarchy.specs.Conditions.{numbered, names_class, class_in, super_fault, cycle_fault, role_fault, root_fault, named_interfaces, interface_fault, conditions}

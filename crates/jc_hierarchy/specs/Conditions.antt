@@ -6,7 +6,7 @@ use Rattle.jc_resolve.specs.declared.fault.LinkFault.{LinkFault}
 use Rattle.jc_resolve.specs.declared.fault.LinkFault.TheVariants.{SuperIsInterface, Cycle, NoRole, NoSuper, NotInterface}
 use Rattle.jc_resolve.specs.declared.named.NamedClass.{NamedClass}
 use Rattle.jc_resolve.specs.Named.{is_interface}
-use Rattle.jc_resolve.specs.FirstFault.{at_fault}
+use Rattle.first_fault.specs.First.{at_fault}
 use Rattle.jc_hierarchy.specs.Ancestor.{is_above}
 
 -- the classes and interfaces with their numbers, and the role bytes with theirs

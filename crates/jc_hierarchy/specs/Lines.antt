@@ -10,7 +10,8 @@ use Rattle.jc_resolve.specs.declared.fault.LinkEnd.{LinkEnd}
 use Rattle.jc_resolve.specs.declared.fault.LinkEnd.TheVariants.{Fault, Memory}
 use Rattle.jc_resolve.specs.declared.named.NamedClass.{NamedClass}
 use Rattle.jc_resolve.specs.Fault.{place_of}
-use Rattle.jc_resolve.specs.FirstFault.{◌>>=◌, least_of, refused, IsFirst, AllEmpty}
+use Rattle.first_fault.specs.Least.{◌>>=◌, least_of, refused}
+use Rattle.first_fault.specs.First.{IsFirst, AllEmpty}
 use Rattle.jc_hierarchy.specs.Ancestor.{IsAncestor, IsSuperinterface}
 use Rattle.jc_hierarchy.specs.Conditions.{numbered, super_fault, cycle_fault, role_fault, root_fault, named_interfaces, interface_fault, conditions}
 use Rattle.jc_hierarchy.specs.Outline.{outline}

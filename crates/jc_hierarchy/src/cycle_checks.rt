@@ -1,7 +1,7 @@
 ghost use Rattle.std.specs.Prelude.{◌≡◌, ◌≤◌, length, false, IfOk, IsTrue, All, slice_index_or};
 ghost use Rattle.std.specs.List.{list_all};
 ghost use Rattle.jc_resolve.specs.Fault.{place_of};
-ghost use Rattle.jc_resolve.specs.FirstFault.{least_of};
+ghost use Rattle.first_fault.specs.Least.{least_of};
 ghost use Rattle.jc_hierarchy.specs.Known.{HasKnownLine};
 ghost use Rattle.jc_hierarchy.specs.Ancestor.{is_above};
 ghost use Rattle.jc_hierarchy.specs.Conditions.{numbered, cycle_fault};

@@ -6,9 +6,11 @@
 
 mod climb;
 mod cycle_checks;
+mod lineage_type;
 mod lines;
 mod named_checks;
 mod outlining;
 mod role_checks;
 
+pub use lineage_type::Lineage;
 pub use lines::lineage;

@@ -6,10 +6,10 @@ ghost use Rattle.jc_hierarchy.specs.Ancestor.{TellsAbove};
 ghost use Rattle.jc_hierarchy.specs.Lines.{lines_agree, lineage_of, Tells, HaveLines};
 
 use crate::cycle_checks::least_cycle;
+use crate::lineage_type::Lineage;
 use crate::named_checks::{classes_have_supers, named_are_interfaces, supers_are_classes};
 use crate::outlining::outline;
 use crate::role_checks::least_role;
-use jc_base::Classes;
 use jc_resolve::{LinkEnd, NamedClasses, refuse};
 use std::alloc::Global;
 
@@ -48,7 +48,7 @@ fn outlined(
     classes: &NamedClasses,
     first: u16,
     roles: [u8; 8],
-) -> Result<Classes, LinkEnd>
+) -> Result<Lineage, LinkEnd>
     requires few { length classes.now ≤ 4096 }
     requires known { All (HasKnownLine classes.now) classes.now }
     ensures value { IsDue (lineage_of classes.now first roles) result }
@@ -56,18 +56,18 @@ fn outlined(
     ensures eight { IfOk result (λ t. length t.roles ≡ 8) }
 {
     lines_agree(alloc, classes, first, &roles)?;
-    let records = outline(alloc, classes)?;
-    Ok(Classes::of(records, numbers(roles)))
+    let lines = outline(alloc, classes)?;
+    Ok(Lineage::of(lines, numbers(roles)))
 }
 
-/// The classes with their superclasses alone: a table without cells, interfaces and dispatch lists, in
-/// which every chain of superclasses ends with object. The first package has the first so many classes.
+/// The classes with their superclasses alone, in which every chain of superclasses ends with object. The
+/// first package has the first so many classes.
 pub fn lineage(
     alloc: Global,
     classes: &NamedClasses,
     first: u16,
     roles: [u8; 8],
-) -> Result<Classes, LinkEnd>
+) -> Result<Lineage, LinkEnd>
     requires few { length classes.now ≤ 4096 }
     requires known { All (HasKnownLine classes.now) classes.now }
     ensures value { IsDue (lineage_of classes.now first roles) result }

@@ -1,7 +1,7 @@
 ghost use Rattle.std.specs.Prelude.{◌≡◌, ◌≤◌, length, map, slice_get};
 ghost use Rattle.jc_resolve.specs.Fault.{place_of};
 ghost use Rattle.jc_resolve.specs.Named.{is_interface};
-ghost use Rattle.jc_resolve.specs.FirstFault.{least_of, least_from, refused};
+ghost use Rattle.first_fault.specs.Least.{least_of, least_from, refused};
 ghost use Rattle.jc_hierarchy.specs.Conditions.{numbered, names_class, super_fault, root_fault, named_interfaces, interface_fault};
 
 use jc_base::{Iface, Ifaces};

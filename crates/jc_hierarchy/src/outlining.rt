@@ -1,33 +1,29 @@
 ghost use Rattle.std.specs.Prelude.{◌≡◌, map, IfOk};
-ghost use Rattle.jc_hierarchy.specs.Outline.{outlined};
+ghost use Rattle.jc_hierarchy.specs.Outline.{outlined, record_of};
 
-use jc_base::{ClassRec, ClassRecs, Items};
+use crate::lineage_type::Line;
 use jc_resolve::{NamedClass, NamedClasses};
 use std::alloc::{AllocError, Global};
 
-/// A class or an interface without cells, interfaces and dispatch lists.
-fn outlined(alloc: Global, class: &NamedClass) -> ClassRec
-    ensures { result ≡ outlined class.now }
+/// A class or an interface with its superclass alone.
+fn line_of(class: &NamedClass) -> Line
+    ensures { record_of result ≡ outlined class.now }
 {
-    ClassRec {
+    Line {
         package: class.package,
         interface: class.interface,
         parent: class.parent,
-        cells: 0,
-        own: Items::of(Vec::new(alloc)),
-        implements: Items::of(Vec::new(alloc)),
-        public: Items::of(Vec::new(alloc)),
-        visible: Items::of(Vec::new(alloc)),
     }
 }
 
 /// All classes, by number.
-pub(crate) fn outline(alloc: Global, classes: &NamedClasses) -> Result<ClassRecs, AllocError>
-    ensures { IfOk result (λ records. records ≡ map outlined classes.now) }
+#[tactic(auto, using(crate::proofs::Outlines::lined_more))]
+pub(crate) fn outline(alloc: Global, classes: &NamedClasses) -> Result<Vec<Line>, AllocError>
+    ensures { IfOk result (λ lines. map record_of lines.items ≡ map outlined classes.now) }
 {
-    let mut records = Vec::with_capacity(alloc, classes.len())?;
+    let mut lines = Vec::with_capacity(alloc, classes.len())?;
     'classes: for class in classes.as_slice() {
-        records.push(outlined(alloc, class))?;
+        lines.push(line_of(class))?;
     }
-    Ok(Items::of(records))
+    Ok(lines)
 }

@@ -13,7 +13,8 @@ use Rattle.jc_resolve.specs.declared.fault.LinkEnd.{LinkEnd}
 use Rattle.jc_resolve.specs.declared.fault.LinkEnd.TheVariants.{Fault, Memory}
 use Rattle.jc_resolve.specs.Fault.{place_of}
 use Rattle.jc_resolve.specs.Names.{NamesRecord}
-use Rattle.jc_resolve.specs.FirstFault.{least_of, refused, IsLeast, IsFirst, AllEmpty}
+use Rattle.first_fault.specs.Least.{least_of, refused}
+use Rattle.first_fault.specs.First.{IsLeast, IsFirst, AllEmpty}
 use Rattle.jc_resolve.proofs.ConditionLists.{things-refused, things-none, one-refused, one-none}
 use Rattle.jc_statics.specs.Room.{statics_fault, arrays_fault}
 use Rattle.jc_members.specs.Pools.{pools, missing_members}

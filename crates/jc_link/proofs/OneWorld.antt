@@ -8,8 +8,8 @@ use Rattle.jc_base.specs.World.{Linked}
 use Rattle.jc_resolve.specs.declared.fault.LinkFault.{LinkFault}
 use Rattle.jc_resolve.specs.declared.fault.LinkFault.TheVariants.{TooManyPackages}
 use Rattle.jc_resolve.specs.Fault.{place_of}
-use Rattle.jc_resolve.specs.FirstFault.{IsFirst}
-use Rattle.jc_resolve.proofs.FirstTold.{none_first}
+use Rattle.first_fault.specs.First.{IsFirst}
+use Rattle.first_fault.proofs.FirstTold.{none_first}
 use Rattle.jc_link.specs.World.{conditions, IsLinked}
 
 pub linked_faultless : (ps : List PackageRecord) (roles : List ℕ) (w : Linked) (f : LinkFault) → IsLinked ps roles w → IsFirst place_of (conditions ps roles) f → ⊥

@@ -6,8 +6,7 @@ use Rattle.jc_base.specs.declared.record.MethodRec.{MethodRec}
 use Rattle.jc_base.specs.Class.{ClassTable, IsClass}
 use Rattle.jc_base.specs.World.{AreRoles}
 use Rattle.jc_resolve.specs.declared.fault.LinkFault.TheVariants.{RoleAbstract}
-use Rattle.jc_resolve.specs.FirstFault.{IsOneOf}
-use Rattle.jc_resolve.proofs.Faultless.{faultless}
+use Rattle.jc_resolve.proofs.Faultless.{IsOneOf, faultless}
 use Rattle.jc_members.specs.Roles.{is_concrete, role_fault, thrown_roles, abstract_roles}
 use Rattle.jc_members.proofs.Concretes.{concrete-from}
 use Rattle.jc_link.specs.World.{table_of, methods_of}

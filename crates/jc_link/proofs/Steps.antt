@@ -11,7 +11,8 @@ use Rattle.jc_resolve.specs.declared.fault.LinkEnd.{LinkEnd}
 use Rattle.jc_resolve.specs.declared.fault.LinkEnd.TheVariants.{Fault, Memory}
 use Rattle.jc_resolve.specs.declared.named.NamedClass.{NamedClass}
 use Rattle.jc_resolve.specs.Fault.{place_of}
-use Rattle.jc_resolve.specs.FirstFault.{◌>>=◌, IsFirst, AllEmpty}
+use Rattle.first_fault.specs.Least.{◌>>=◌}
+use Rattle.first_fault.specs.First.{IsFirst, AllEmpty}
 use Rattle.jc_resolve.specs.Named.{AreNamed, IsSized, infos_of}
 use Rattle.jc_resolve.specs.Conditions as names
 use Rattle.jc_resolve.specs.Due.{IsDue}

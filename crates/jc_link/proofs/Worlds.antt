@@ -12,7 +12,7 @@ use Rattle.jc_base.specs.Cell.{IsDeclared, width, AreElementsOf}
 use Rattle.jc_base.specs.Linked.{IsMember, IsStatic, AreSlots}
 use Rattle.jc_base.specs.World.{Linked, IsWorld}
 use Rattle.jc_resolve.specs.Named.{AreNamed, infos_of}
-use Rattle.jc_resolve.specs.FirstFault.{AllEmpty}
+use Rattle.first_fault.specs.First.{AllEmpty}
 use Rattle.jc_resolve.specs.Names.{NamesRecord}
 use Rattle.jc_statics.specs.Arrays.{array_records, cells_of}
 use Rattle.jc_members.specs.Pools.{pools}

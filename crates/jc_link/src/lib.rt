@@ -10,5 +10,6 @@ mod method_infos;
 mod naming;
 mod tabling;
 
+pub use jc_resolve::{LinkEnd, LinkFault};
 pub use linking::link;
 pub use tabling::class_table;

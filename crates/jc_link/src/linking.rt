@@ -1,5 +1,5 @@
 ghost use Rattle.std.specs.Prelude.{◌≤◌, length, IfOk, OnOk};
-ghost use Rattle.jc_resolve.specs.FirstFault.{AllEmpty};
+ghost use Rattle.first_fault.specs.First.{AllEmpty};
 ghost use Rattle.jc_statics.specs.Arrays.{array_records, cells_of};
 ghost use Rattle.jc_link.specs.World.{TellsFirst, LinkTells, table_conditions, member_conditions, rest_conditions};
 ghost use Rattle.jc_link.specs.Known.{AreNamesOf, IsTableOf, AreResolved};

@@ -25,7 +25,7 @@ pub(crate) fn table(
     let methods = names.methods();
     let first = first_classes(packages);
     let lineage = lineage(alloc, classes, first, roles)?;
-    let _ = lineage.records();
+    lineage.chains_end();
     let table = tables(alloc, &lineage, classes, methods)?;
     Ok(table)
 }

@@ -1,6 +1,6 @@
 -- Each entry of the pools names one member, which the pools have; or an entry that names none is told.
 use Rattle.std.proofs.Common.{◌≡◌, ℕ, zero, suc, ◌+◌, ◌⊎◌, Bool, true, false, cond, List, [], ◌∷◌, ◌++◌, Option, Some, None, Result, Ok, Err, refl, sym, ap, subst, ◌∙◌, arith, inl, inr}
-use Rattle.std.specs.Prelude.{All, slice_get, nat_lt, is_none}
+use Rattle.std.specs.Prelude.{All, slice_get, is_none}
 use Rattle.std.proofs.lemmas.List.Elements.{All-nil, All-cons, All-append}
 use Rattle.cap_pool.specs.PoolFormat.{Entry}
 use Rattle.cap_package.specs.PackageRecord.{PackageRecord}
@@ -15,7 +15,8 @@ use Rattle.jc_resolve.specs.declared.fault.LinkEnd.{LinkEnd}
 use Rattle.jc_resolve.specs.declared.fault.LinkEnd.TheVariants.{Fault, Memory}
 use Rattle.jc_resolve.specs.Due.{IsDue}
 use Rattle.jc_resolve.specs.Fault.{place_of}
-use Rattle.jc_resolve.specs.FirstFault.{◌>>=◌, lesser, least_from, least_of, refused}
+use Rattle.first_fault.specs.Order.{comes_before}
+use Rattle.first_fault.specs.Least.{◌>>=◌, lesser, least_from, least_of, refused}
 use Rattle.jc_resolve.specs.Named.{IsAgreed}
 use Rattle.jc_members.specs.Members.{member_of}
 use Rattle.jc_members.specs.Naming.{NamesMember, NamesOnly, IsEntry, AreNamed, NamesNone, IsMissing, NamesEach}
@@ -35,7 +36,7 @@ lesser_one : (a b : Option LinkFault) (f : LinkFault) → lesser place_of a b �
 unfolding lesser
 lesser_one a None f h = inl h
 lesser_one None (Some g) f h = inr h
-lesser_one (Some a) (Some g) f h = chosen a g f (nat_lt (place_of g) (place_of a)) h
+lesser_one (Some a) (Some g) f h = chosen a g f (comes_before (place_of g) (place_of a)) h
 
 from_one : {X : Type 0} (fault : X → Option LinkFault) (xs : List X) (before : Option LinkFault) (f : LinkFault) → least_from place_of before fault xs ≡ Some f
     → (before ≡ Some f) ⊎ ((i : ℕ) × (x : X) × (slice_get xs i ≡ Some x) × (fault x ≡ Some f))

@@ -1,13 +1,13 @@
 -- The first of the roles that the machine throws whose class is not concrete.
 use Rattle.std.proofs.Common.{◌≡◌, ℕ, zero, suc, ◌+◌, ◌<◌, ◌≤◌, Bool, true, false, ltb, List, length, Option, Some, None, Result, Ok, Err, slice_index, refl, sym, ap, subst, ◌∙◌, arith}
 use Rattle.std.specs.List.{range_with_len}
-use Rattle.std.proofs.lemmas.Bool.{ltb-true, ltb-false, le-ltb, false≢true}
+use Rattle.std.proofs.lemmas.Bool.{ltb-true, ltb-false, le-ltb, ne_eqb, false≢true}
 use Rattle.jc_base.specs.declared.record.MethodRec.{MethodRec}
 use Rattle.jc_base.specs.Class.{ClassTable}
 use Rattle.jc_resolve.specs.declared.fault.LinkFault.{LinkFault}
 use Rattle.jc_resolve.specs.declared.fault.LinkFault.TheVariants.{RoleAbstract}
 use Rattle.jc_resolve.specs.Fault.{place_of}
-use Rattle.jc_resolve.specs.FirstFault.{lesser, least_from, least_of, refused}
+use Rattle.first_fault.specs.Least.{lesser, least_from, least_of, refused}
 use Rattle.jc_members.specs.Roles.{is_concrete, role_fault, thrown_roles, IsFirstAbstract, IsRoleFault, Tells}
 use Rattle.jc_members.proofs.Concretes.{concrete-from, concrete-to}
 
@@ -37,7 +37,7 @@ module _ (t : ClassTable) (methods : List MethodRec) where
   later : (m k : ℕ) (b : Bool) → m < k → concrete k ≡ b → lesser place_of (Some (RoleAbstract m)) (role_fault t methods k) ≡ Some (RoleAbstract m)
   unfolding role_fault lesser place_of
   later m k true lt e = rw e refl
-  later m k false lt e = rw (e, le-ltb k m (omega arith)) refl
+  later m k false lt e = rw (e, le-ltb k m (omega arith), ne_eqb k m (λ same. absurd (omega (arith, same, lt)))) refl
 
   kept : (n k m : ℕ) → m < k → least_from place_of (Some (RoleAbstract m)) (role_fault t methods) (range_with_len k n) ≡ Some (RoleAbstract m)
   kept zero k m lt = refl

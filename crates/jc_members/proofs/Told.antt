@@ -11,8 +11,8 @@ use Rattle.jc_resolve.specs.declared.fault.LinkEnd.{LinkEnd}
 use Rattle.jc_resolve.specs.declared.fault.LinkEnd.TheVariants.{Fault, Memory}
 use Rattle.jc_resolve.specs.Fault.{place_of}
 use Rattle.jc_resolve.specs.Due.{IsDue}
-use Rattle.jc_resolve.specs.FirstFault.{◌>>=◌, least_of, refused}
-use Rattle.jc_resolve.proofs.LeastFaults.{least-at_fault, least-found, least-none}
+use Rattle.first_fault.specs.Least.{◌>>=◌, least_of, refused}
+use Rattle.first_fault.proofs.LeastFaults.{least-at_fault, least-found, least-none}
 use Rattle.jc_members.specs.Members.{member_of}
 use Rattle.jc_members.specs.Pools.{pool_places, member_fault, missing_members, pools_behind, pools, pools_of, Tells}
 

@@ -8,7 +8,7 @@ use Rattle.jc_base.specs.Class.{ClassTable, is_interface, throwable}
 use Rattle.jc_base.specs.Order.{is_below}
 use Rattle.jc_resolve.specs.declared.fault.LinkFault.{LinkFault}
 use Rattle.jc_resolve.specs.declared.fault.LinkFault.TheVariants.{BadCatch}
-use Rattle.jc_resolve.specs.FirstFault.{at_fault}
+use Rattle.first_fault.specs.First.{at_fault}
 use Rattle.jc_members.specs.Entries.{class_in}
 
 -- the class or interface that an entry names, if it is a Classref

@@ -10,7 +10,8 @@ use Rattle.jc_resolve.specs.declared.fault.LinkFault.TheVariants.{NoMember}
 use Rattle.jc_resolve.specs.declared.fault.LinkEnd.{LinkEnd}
 use Rattle.jc_resolve.specs.declared.fault.LinkEnd.TheVariants.{Fault, Memory}
 use Rattle.jc_resolve.specs.Fault.{place_of}
-use Rattle.jc_resolve.specs.FirstFault.{◌>>=◌, least_of, refused, at_fault, IsLeast}
+use Rattle.first_fault.specs.Least.{◌>>=◌, least_of, refused}
+use Rattle.first_fault.specs.First.{at_fault, IsLeast}
 use Rattle.jc_members.specs.Members.{member_of}
 
 -- an entry with the numbers of its package and of itself

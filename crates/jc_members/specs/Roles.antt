@@ -6,7 +6,7 @@ use Rattle.jc_base.specs.Class.{ClassTable, is_interface, chain}
 use Rattle.jc_base.specs.Dispatch.{package_of, public_of, visible_in, IsConcrete}
 use Rattle.jc_resolve.specs.declared.fault.LinkFault.{LinkFault}
 use Rattle.jc_resolve.specs.declared.fault.LinkFault.TheVariants.{RoleAbstract}
-use Rattle.jc_resolve.specs.FirstFault.{at_fault}
+use Rattle.first_fault.specs.First.{at_fault}
 
 abbrev pub has_body_by : Option MethodRec → Bool
 has_body_by None = false

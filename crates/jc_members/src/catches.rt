@@ -4,7 +4,7 @@ ghost use Rattle.cap_pool.specs.Pool.{entries};
 ghost use Rattle.jc_base.specs.Class.{IsClass, throwable};
 ghost use Rattle.jc_resolve.specs.Numbering.{numbered_classes};
 ghost use Rattle.jc_resolve.specs.Fault.{place_of};
-ghost use Rattle.jc_resolve.specs.FirstFault.{least_from, least_of, refused};
+ghost use Rattle.first_fault.specs.Least.{least_from, least_of, refused};
 ghost use Rattle.jc_members.specs.Catches.{caught_by, thrown_by, catches, handlers_from, handler_places, catch_fault};
 
 use crate::entries::class_in;

@@ -6,7 +6,7 @@ ghost use Rattle.jc_resolve.specs.Counts.{class_total};
 ghost use Rattle.jc_resolve.specs.Due.{IsDue};
 ghost use Rattle.jc_resolve.specs.declared.fault.LinkFault.TheVariants.{NoMember};
 ghost use Rattle.jc_resolve.specs.Fault.{place_of};
-ghost use Rattle.jc_resolve.specs.FirstFault.{least_from, least_of};
+ghost use Rattle.first_fault.specs.Least.{least_from, least_of};
 ghost use Rattle.jc_members.specs.Fields.{HasCellsOf, field_sites};
 ghost use Rattle.jc_members.specs.Sites.{all_entered};
 ghost use Rattle.jc_members.specs.Members.{static_sites, member_of};

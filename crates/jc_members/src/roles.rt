@@ -1,7 +1,7 @@
 ghost use Rattle.std.specs.Prelude.{◌≡◌, ◌<◌, ℕ, length, slice_index};
 ghost use Rattle.jc_base.specs.Linked.{AreLinkedClasses};
 ghost use Rattle.jc_resolve.specs.Fault.{place_of};
-ghost use Rattle.jc_resolve.specs.FirstFault.{least_of, refused};
+ghost use Rattle.first_fault.specs.Least.{least_of, refused};
 ghost use Rattle.jc_members.specs.Roles.{Tells, is_concrete, role_fault, thrown_roles};
 
 use jc_base::{Classes, Methods};

@@ -1,27 +1,29 @@
 -- The first condition that is broken, of lists of conditions one after the other, and of a condition that is asked alone.
-use Rattle.std.proofs.Common.{◌≡◌, ℕ, List, [], ◌∷◌, ◌++◌, Option, Some, None, Ok, Err, sym, ap, ◌∙◌, inl, inr}
+use Rattle.std.proofs.Common.{◌≡◌, List, [], ◌∷◌, ◌++◌, Option, Some, None, Ok, Err, sym, ap, ◌∙◌, inl, inr}
 use Rattle.std.specs.List.{filter_map}
 use Rattle.std.specs.Option.{option_to_list}
-use Rattle.jc_resolve.specs.FirstFault.{least_of, refused, IsLeast, IsFirst, AllEmpty}
-use Rattle.jc_resolve.proofs.LeastFaults.{least_in, least-at_fault, least-one, least-found, least-none}
+use Rattle.first_fault.specs.declared.place.Place.{Place}
+use Rattle.first_fault.specs.Least.{least_of, refused}
+use Rattle.first_fault.specs.First.{IsLeast, IsFirst, AllEmpty}
+use Rattle.first_fault.proofs.LeastFaults.{least_in, least-at_fault, least-one, least-found, least-none}
 
 module _ {F : Type 0} where
   pub AllEmpty-append : (xs ys : List (List F)) → AllEmpty xs → AllEmpty ys → AllEmpty (xs ++ ys)
   AllEmpty-append [] ys none others = others
   AllEmpty-append (x ∷ xs) ys none others = (none.0, AllEmpty-append xs ys none.1 others)
 
-  pub IsFirst-append_left : (place : F → ℕ) (xs ys : List (List F)) (f : F) → IsFirst place xs f → IsFirst place (xs ++ ys) f
+  pub IsFirst-append_left : (place : F → Place) (xs ys : List (List F)) (f : F) → IsFirst place xs f → IsFirst place (xs ++ ys) f
   IsFirst-append_left place [] ys f h = absurd h
   IsFirst-append_left place (x ∷ xs) ys f (inl least) = inl least
   IsFirst-append_left place (x ∷ xs) ys f (inr later) = inr (later.0, IsFirst-append_left place xs ys f later.1)
 
-  pub IsFirst-append_right : (place : F → ℕ) (xs ys : List (List F)) (f : F) → AllEmpty xs → IsFirst place ys f → IsFirst place (xs ++ ys) f
+  pub IsFirst-append_right : (place : F → Place) (xs ys : List (List F)) (f : F) → AllEmpty xs → IsFirst place ys f → IsFirst place (xs ++ ys) f
   IsFirst-append_right place [] ys f none h = h
   IsFirst-append_right place (x ∷ xs) ys f none h = inr (none.0, IsFirst-append_right place xs ys f none.1 h)
 
 -- ---- what one condition tells that is asked alone
 
-module _ {F : Type 0} (place : F → ℕ) where
+module _ {F : Type 0} (place : F → Place) where
   least_refused : (faults : List F) (o : Option F) (f : F) → least_in place None faults ≡ o → Err f ≡ refused o → IsLeast place faults f
   least_refused faults None f e h = absurd cc
   least_refused faults (Some g) f e h = let same : g ≡ f = cc in least-found place faults f (e ∙ ap Some same)

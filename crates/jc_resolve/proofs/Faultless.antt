@@ -1,11 +1,14 @@
 -- Where nothing of a list is at fault, nothing is wrong with a thing of it.
-use Rattle.std.proofs.Common.{◌≡◌, ℕ, zero, suc, List, [], ◌∷◌, ◌++◌, flat_map, Option, Some, None, refl, sym, ap, subst, ◌∙◌, inl, inr}
+use Rattle.std.proofs.Common.{◌≡◌, ℕ, zero, suc, List, [], ◌∷◌, ◌++◌, flat_map, Option, Some, None, refl, sym, ap, subst, ◌∙◌, ◌⊎◌, inl, inr}
 use Rattle.std.specs.Prelude.{slice_get}
 use Rattle.std.specs.List.{filter_map, cons_option}
 use Rattle.std.proofs.lemmas.List.Elements.{filter_map-append}
-use Rattle.jc_resolve.specs.FirstFault.{IsOneOf}
 
 -- ---- things of lists
+
+abbrev pub IsOneOf : {F : Type 0} → List F → F → Type 0
+IsOneOf [] one = ⊥
+IsOneOf (other ∷ others) one = (one ≡ other) ⊎ IsOneOf others one
 
 pub one_of_front : {X : Type 0} (xs ys : List X) (x : X) → IsOneOf xs x → IsOneOf (xs ++ ys) x
 one_of_front [] ys x h = absurd h

@@ -1,7 +1,5 @@
-pub mod LeastFaults
-pub mod FirstTold
-pub mod Totals
 pub mod ConditionLists
+pub mod Totals
 pub mod NumberLaws
 pub mod NamedFaults
 pub mod Parts

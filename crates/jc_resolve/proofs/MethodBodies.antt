@@ -14,7 +14,7 @@ use Rattle.cap_package.specs.StandsFor.{StandsFor}
 use Rattle.jc_base.specs.declared.record.Sig.{Sig}
 use Rattle.jc_base.specs.Linked.{receiver_words, IsCodeLength}
 use Rattle.jc_resolve.specs.declared.method_records.Body.{Body}
-use Rattle.jc_resolve.specs.FirstFault.{IsOneOf}
+use Rattle.jc_resolve.proofs.Faultless.{IsOneOf}
 use Rattle.jc_resolve.specs.Named.{IsHandlerIn}
 use Rattle.jc_resolve.specs.NamedMethods.{handler_named, offset_in_info, no_body, body_behind, body_by, body_of, is_class, have_headers}
 use Rattle.jc_resolve.specs.References.{class_named}

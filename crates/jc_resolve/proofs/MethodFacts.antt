@@ -18,8 +18,7 @@ use Rattle.cap_package.specs.StandsFor.{StandsFor}
 use Rattle.cap_package.proofs.HeaderLaws.{HasHeader, has-header, ends-within}
 use Rattle.cap_package.proofs.InfoLaws.{info-short}
 use Rattle.jc_base.specs.Linked.{IsCodeLength}
-use Rattle.jc_resolve.specs.FirstFault.{IsOneOf}
-use Rattle.jc_resolve.proofs.Faultless.{faultless, both_empty}
+use Rattle.jc_resolve.proofs.Faultless.{IsOneOf, faultless, both_empty}
 use Rattle.jc_resolve.proofs.OwnedHandlers.{LiesIn, handlers-lie}
 
 -- ---- tests of one method

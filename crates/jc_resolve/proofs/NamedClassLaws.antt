@@ -4,12 +4,12 @@ use Rattle.std.specs.Prelude.{slice_get, is_none}
 use Rattle.cap_desc.specs.DescriptorFormat as described
 use Rattle.cap_package.specs.PackageRecord.{PackageRecord}
 use Rattle.jc_resolve.specs.declared.fault.LinkFault.TheVariants.{NoClass}
-use Rattle.jc_resolve.specs.FirstFault.{IsOneOf, AllEmpty}
+use Rattle.first_fault.specs.First.{AllEmpty}
 use Rattle.jc_resolve.specs.Conditions.{named_behind, named_in, references_of_class, references_of_record, references_of_types, class_references, no_class_fault, conditions}
 use Rattle.jc_resolve.specs.Numbering.{numbered_classes}
 use Rattle.jc_resolve.specs.NamedMethods.{class_described}
 use Rattle.jc_resolve.specs.References.{class_named}
-use Rattle.jc_resolve.proofs.Faultless.{faultless, one_of_front, one_of_behind, one_of_flat}
+use Rattle.jc_resolve.proofs.Faultless.{IsOneOf, faultless, one_of_front, one_of_behind, one_of_flat}
 use Rattle.jc_resolve.proofs.DeclaredTypes.{named_below}
 
 one_paired : (k : ℕ) (ns : List ℕ) (n : ℕ) → IsOneOf ns n → IsOneOf {F = ℕ × ℕ} (map (λ i. (k, i)) ns) (k, n)

@@ -11,7 +11,7 @@ use Rattle.cap_package.specs.Descriptions.{Description}
 use Rattle.cap_package.specs.PackageRecord.{PackageRecord}
 use Rattle.jc_resolve.specs.declared.fault.LinkFault.{LinkFault}
 use Rattle.jc_resolve.specs.Fault.{place_of}
-use Rattle.jc_resolve.specs.FirstFault.{lesser, least_from}
+use Rattle.first_fault.specs.Least.{lesser, least_from}
 use Rattle.jc_resolve.specs.Conditions.{named_behind, import_tokens, no_package_fault, import_fault, reference_fault, references_of_class, reference_of_field, references_of_record, reference_of_type, references_of_field_type, references_of_method, references_of_types, class_references, no_class_fault}
 
 pub range_step : (a n : ℕ) → a < n → range_with_len a (n - a) ≡ a ∷ range_with_len (a + 1) (n - (a + 1))

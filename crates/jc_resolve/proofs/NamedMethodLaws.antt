@@ -11,7 +11,7 @@ use Rattle.jc_base.specs.Linked.{receiver_words, list_at, IsCodeLength}
 use Rattle.jc_base.proofs.Lists.{All-slice_get, list_at-slice_get}
 use Rattle.jc_resolve.specs.declared.method_records.Body.{Body}
 use Rattle.jc_resolve.specs.Conditions.{conditions}
-use Rattle.jc_resolve.specs.FirstFault.{AllEmpty}
+use Rattle.first_fault.specs.First.{AllEmpty}
 use Rattle.jc_resolve.specs.Named.{infos_of, IsAgreed, is_interface, IsNamedMethod}
 use Rattle.jc_resolve.specs.NamedClasses.{named_classes}
 use Rattle.jc_resolve.specs.NamedMethods.{HasFewHandlers, body_of, class_described, is_class, have_headers, named_method, named_methods}

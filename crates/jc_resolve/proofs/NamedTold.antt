@@ -6,7 +6,8 @@ use Rattle.cap_package.specs.PackageRecord.{PackageRecord}
 use Rattle.jc_resolve.specs.declared.fault.LinkFault.{LinkFault}
 use Rattle.jc_resolve.specs.declared.fault.LinkEnd.{LinkEnd}
 use Rattle.jc_resolve.specs.Conditions.{conditions}
-use Rattle.jc_resolve.specs.FirstFault.{◌>>=◌, AllEmpty}
+use Rattle.first_fault.specs.Least.{◌>>=◌}
+use Rattle.first_fault.specs.First.{AllEmpty}
 use Rattle.jc_resolve.specs.Named.{IsAgreed, IsSized, IsNamedClass, AreNamed, infos_of}
 use Rattle.jc_resolve.specs.NamedClasses.{named_classes}
 use Rattle.jc_resolve.specs.NamedMethods.{HasFewHandlers, named_methods}

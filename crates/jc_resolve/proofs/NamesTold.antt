@@ -5,11 +5,11 @@ use Rattle.jc_resolve.specs.declared.fault.LinkFault.{LinkFault}
 use Rattle.jc_resolve.specs.declared.fault.LinkEnd.{LinkEnd}
 use Rattle.jc_resolve.specs.declared.fault.LinkEnd.TheVariants.{Fault, Memory}
 use Rattle.jc_resolve.specs.Fault.{place_of}
-use Rattle.jc_resolve.specs.FirstFault.{◌>>=◌}
+use Rattle.first_fault.specs.Least.{◌>>=◌}
 use Rattle.jc_resolve.specs.Conditions.{packages_fault, classes_fault, methods_fault, no_package_fault, no_class_fault, named_in, import_tokens, class_references, conditions}
 use Rattle.jc_resolve.specs.Due.{IsDue}
 use Rattle.jc_resolve.specs.Names.{NamesRecord, named, checked, names_of, Tells}
-use Rattle.jc_resolve.proofs.FirstTold.{IsTold, things-told, one-told, step, last, refused-first, accepted-empty}
+use Rattle.first_fault.proofs.FirstTold.{IsTold, things-told, one-told, step, last, refused-first, accepted-empty}
 
 checked-told : (ps : List PackageRecord) → IsTold place_of (checked ps) (conditions ps)
 unfolding checked

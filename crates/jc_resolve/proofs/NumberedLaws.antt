@@ -7,9 +7,8 @@ use Rattle.cap_desc.specs.DescriptorFormat as described
 use Rattle.cap_desc.specs.DescriptorFormat.{Method}
 use Rattle.cap_desc.specs.Members.{methods_of, methods_in, methods_but}
 use Rattle.cap_package.specs.PackageRecord.{PackageRecord}
-use Rattle.jc_resolve.specs.FirstFault.{IsOneOf}
 use Rattle.jc_resolve.specs.Numbering.{NumberedMethod, numbered, methods_of_class, methods_of_classes, methods_behind, numbered_methods}
-use Rattle.jc_resolve.proofs.Faultless.{one_of_front, one_of_behind}
+use Rattle.jc_resolve.proofs.Faultless.{IsOneOf, one_of_front, one_of_behind}
 
 -- ---- the methods of classes
 

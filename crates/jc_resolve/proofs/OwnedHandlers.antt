@@ -10,8 +10,7 @@ use Rattle.cap_components.specs.declared.fault.PackFault.{PackFault}
 use Rattle.cap_components.specs.declared.fault.PackFault.TheVariants.{HandlerOutside}
 use Rattle.cap_package.specs.MethodChecks.{code_start, code_end}
 use Rattle.cap_package.specs.HandlerChecks.{claims, owners, is_within, has_home, entry_fault, numbered, numbered_fault}
-use Rattle.jc_resolve.specs.FirstFault.{IsOneOf}
-use Rattle.jc_resolve.proofs.Faultless.{faultless}
+use Rattle.jc_resolve.proofs.Faultless.{IsOneOf, faultless}
 
 -- a handler in the code of a method
 pub record LiesIn (info : List ℕ) (m : Method) (h : HandlerInfo) : Type 0 where

@@ -14,7 +14,7 @@ use Rattle.cap_package.specs.HeaderChecks.{is_static}
 use Rattle.cap_package.specs.PackageRecord.{PackageRecord}
 use Rattle.jc_resolve.specs.declared.fault.LinkFault.{LinkFault}
 use Rattle.jc_resolve.specs.declared.fault.LinkFault.TheVariants.{TooManyPackages, TooManyClasses, TooManyMethods, NoPackage, NoClass}
-use Rattle.jc_resolve.specs.FirstFault.{at_fault}
+use Rattle.first_fault.specs.First.{at_fault}
 use Rattle.jc_resolve.specs.Numbering.{numbered_classes, numbered_methods}
 use Rattle.jc_resolve.specs.References.{met_by, class_named}
 use Rattle.jc_resolve.specs.WorldTypes.{types_named}

@@ -1,4 +1,3 @@
-pub mod FirstFault
 pub mod Fault
 pub mod Due
 pub mod Numbering

@@ -2,7 +2,7 @@ ghost use Rattle.std.specs.Prelude.{◌≡◌, ◌≤◌, ◌*◌, length, OnOk}
 ghost use Rattle.cap_package.specs.Descriptions.{description};
 ghost use Rattle.jc_resolve.specs.Conditions.{packages_fault, classes_fault, methods_fault};
 ghost use Rattle.jc_resolve.specs.Counts.{method_count, class_total, method_total};
-ghost use Rattle.jc_resolve.specs.FirstFault.{refused};
+ghost use Rattle.first_fault.specs.Least.{refused};
 
 use crate::fault::LinkFault;
 use cap_desc::DescPart;

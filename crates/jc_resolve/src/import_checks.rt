@@ -2,7 +2,7 @@ ghost use Rattle.std.specs.Prelude.{◌≡◌, ◌≤◌, length};
 ghost use Rattle.std.specs.List.{range_with_len};
 ghost use Rattle.jc_resolve.specs.Conditions.{import_tokens, import_fault, no_package_fault, named_in};
 ghost use Rattle.jc_resolve.specs.Fault.{place_of};
-ghost use Rattle.jc_resolve.specs.FirstFault.{least_from, least_of, refused};
+ghost use Rattle.first_fault.specs.Least.{least_from, least_of, refused};
 
 use crate::fault::LinkFault;
 use crate::imports::met_by;

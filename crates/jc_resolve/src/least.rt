@@ -1,66 +1,53 @@
-ghost use Rattle.std.specs.Prelude.{◌≡◌, ◌+◌, ◌*◌};
-ghost use Rattle.jc_resolve.specs.Fault.{place_of};
-ghost use Rattle.jc_resolve.specs.FirstFault.{lesser, refused};
+ghost use Rattle.std.specs.Prelude.{◌≡◌};
+ghost use Rattle.first_fault.specs.Least.{lesser, refused};
+ghost use Rattle.jc_resolve.specs.Fault.{place_of as link_place};
 
 use crate::fault::LinkFault;
+use first_fault::{Fault, Place};
 
-/// Two numbers in order: the first decides.
-fn pair(first: u16, second: u32) -> u64
-    ensures { result ≡ first * 4294967296 + second }
-{
-    first as u64 * 4_294_967_296 + second as u64
-}
+impl Fault for LinkFault {
+    ghost place_of = { link_place };
 
-/// By what the faults of one condition are in order.
-#[tactic(auto, unfolding(crate::specs::Fault::place_of))]
-fn place_of(fault: LinkFault) -> u64
-    ensures { result ≡ place_of fault }
-{
-    match fault {
-        LinkFault::TooManyPackages(n) => n as u64,
-        LinkFault::TooManyClasses(n) => n as u64,
-        LinkFault::TooManyMethods(n) => n as u64,
-        LinkFault::NoPackage(package, import) => pair(package, import as u32),
-        LinkFault::NoClass(package, reference) => pair(package, reference as u32),
-        LinkFault::SuperIsInterface(class) => class as u64,
-        LinkFault::Cycle(class) => class as u64,
-        LinkFault::NoRole(role) => role as u64,
-        LinkFault::NoSuper(class) => class as u64,
-        LinkFault::NotInterface(class, interface) => pair(class, interface as u32),
-        LinkFault::Hole(class, token) => pair(class, token as u32),
-        LinkFault::OverrideType(class, token) => pair(class, token as u32),
-        LinkFault::InterfaceType(class, interface) => pair(class, interface as u32),
-        LinkFault::InstanceLong(class, cells) => pair(class, cells),
-        LinkFault::TooManyStatics(cells) => cells as u64,
-        LinkFault::NoMember(package, entry) => pair(package, entry as u32),
-        LinkFault::BadCatch(package, handler) => pair(package, handler as u32),
-        LinkFault::NoRoom(n) => n as u64,
-        LinkFault::RoleAbstract(role) => role as u64,
+    #[tactic(auto, unfolding(crate::specs::Fault::place_of))]
+    fn place(self) -> Place {
+        match self {
+            LinkFault::TooManyPackages(n) => Place::one(n),
+            LinkFault::TooManyClasses(n) => Place::one(n),
+            LinkFault::TooManyMethods(n) => Place::one(n),
+            LinkFault::NoPackage(package, import) => Place::two(package as u32, import as u32),
+            LinkFault::NoClass(package, reference) => Place::two(package as u32, reference as u32),
+            LinkFault::SuperIsInterface(class) => Place::one(class as u32),
+            LinkFault::Cycle(class) => Place::one(class as u32),
+            LinkFault::NoRole(role) => Place::one(role as u32),
+            LinkFault::NoSuper(class) => Place::one(class as u32),
+            LinkFault::NotInterface(class, interface) => {
+                Place::two(class as u32, interface as u32)
+            }
+            LinkFault::Hole(class, token) => Place::two(class as u32, token as u32),
+            LinkFault::OverrideType(class, token) => Place::two(class as u32, token as u32),
+            LinkFault::InterfaceType(class, interface) => {
+                Place::two(class as u32, interface as u32)
+            }
+            LinkFault::InstanceLong(class, cells) => Place::two(class as u32, cells),
+            LinkFault::TooManyStatics(cells) => Place::one(cells),
+            LinkFault::NoMember(package, entry) => Place::two(package as u32, entry as u32),
+            LinkFault::BadCatch(package, handler) => Place::two(package as u32, handler as u32),
+            LinkFault::NoRoom(n) => Place::one(n),
+            LinkFault::RoleAbstract(role) => Place::one(role as u32),
+        }
     }
 }
 
-/// The fault that is named, when one more thing was seen that may be at fault: the least so far stays
-/// where it is as low.
-#[tactic(auto, unfolding(crate::specs::FirstFault::lesser))]
+/// The fault that is named, when one more thing was seen that may be at fault.
 pub fn lesser(least: Option<LinkFault>, fault: Option<LinkFault>) -> Option<LinkFault>
-    ensures { result ≡ lesser place_of least fault }
+    ensures { result ≡ lesser link_place least fault }
 {
-    let found = match fault {
-        Some(found) => found,
-        None => return least,
-    };
-    match least {
-        Some(least) if place_of(found) >= place_of(least) => Some(least),
-        _ => Some(found),
-    }
+    first_fault::lesser(least, fault)
 }
 
 /// A condition holds unless a fault of it is named.
 pub fn refuse(least: Option<LinkFault>) -> Result<(), LinkFault>
     ensures { result ≡ refused least }
 {
-    match least {
-        Some(fault) => Err(fault),
-        None => Ok(()),
-    }
+    first_fault::refuse(least)
 }

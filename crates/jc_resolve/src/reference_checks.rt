@@ -10,7 +10,7 @@ ghost use Rattle.cap_desc.specs.TypeLists.{types_left};
 ghost use Rattle.cap_package.specs.Descriptions.{description};
 ghost use Rattle.jc_resolve.specs.Conditions.{reference_fault, references_of_class, reference_of_field, references_of_record, reference_of_type, references_of_field_type, references_of_method, references_of_types, class_references, no_class_fault, named_in};
 ghost use Rattle.jc_resolve.specs.Fault.{place_of};
-ghost use Rattle.jc_resolve.specs.FirstFault.{least_from, least_of, refused};
+ghost use Rattle.first_fault.specs.Least.{least_from, least_of, refused};
 ghost use Rattle.jc_resolve.specs.NamedMethods.{reference_in};
 
 use crate::class_index::Index;

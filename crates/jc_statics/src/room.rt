@@ -1,7 +1,7 @@
 ghost use Rattle.std.specs.Prelude.{◌≡◌, ◌≤◌, length, map, sum_by, OnOk};
 ghost use Rattle.cap_method.specs.StaticPart.{array_seen, statics_seen};
 ghost use Rattle.cap_package.specs.StaticPlaces.{static_places};
-ghost use Rattle.jc_resolve.specs.FirstFault.{refused};
+ghost use Rattle.first_fault.specs.Least.{refused};
 ghost use Rattle.jc_statics.specs.Words.{element_words};
 ghost use Rattle.jc_statics.specs.Arrays.{array_record, array_records, cells_of};
 ghost use Rattle.jc_statics.specs.Statics.{cells_at, static_cells};

@@ -2,7 +2,7 @@ use Rattle.std.proofs.Common.{◌≡◌, ◌<◌, ℕ, false, length, get_or}
 use Rattle.std.specs.Prelude.{flat_map}
 use Rattle.std.specs.List.{range_with_len}
 use Rattle.jc_resolve.specs.Fault.{place_of}
-use Rattle.jc_resolve.specs.FirstFault.{least_of}
+use Rattle.first_fault.specs.Least.{least_of}
 use Rattle.jc_classes.specs.Conditions.{hole_fault, entries_in}
 use Rattle.jc_classes.proofs.holes.no_holes.Given as goal
 

@@ -1,7 +1,7 @@
 use Rattle.std.proofs.Common.{◌≡◌}
 use Rattle.std.specs.List.{range_with_len}
 use Rattle.jc_resolve.specs.Fault.{place_of}
-use Rattle.jc_resolve.specs.FirstFault.{least_of}
+use Rattle.first_fault.specs.Least.{least_of}
 use Rattle.jc_classes.specs.Conditions.{long_fault}
 use Rattle.jc_classes.proofs.instances.instances_fit.Given as goal
 

@@ -1,6 +1,6 @@
 use Rattle.std.proofs.Common.{◌≡◌, ◌<◌, length, sym, ap, ◌∙◌, arith}
 use Rattle.jc_resolve.specs.Fault.{place_of}
-use Rattle.jc_resolve.specs.FirstFault.{least_from}
+use Rattle.first_fault.specs.Least.{least_from}
 use Rattle.jc_classes.specs.Layout.{public_entries}
 use Rattle.jc_classes.specs.Conditions.{interface_fault, implementations_in}
 use Rattle.jc_classes.proofs.Folds.{public_at, least_next}

@@ -2,7 +2,7 @@ use Rattle.std.proofs.Common.{◌≡◌}
 use Rattle.std.specs.Prelude.{flat_map}
 use Rattle.std.specs.List.{range_with_len}
 use Rattle.jc_resolve.specs.Fault.{place_of}
-use Rattle.jc_resolve.specs.FirstFault.{least_of}
+use Rattle.first_fault.specs.Least.{least_of}
 use Rattle.jc_classes.specs.Conditions.{interface_fault, implementations_in}
 use Rattle.jc_classes.proofs.interfaces.interfaces_served.Given as goal
 

@@ -1,6 +1,6 @@
 use Rattle.std.proofs.Common.{◌≡◌, length}
 use Rattle.jc_resolve.specs.Fault.{place_of}
-use Rattle.jc_resolve.specs.FirstFault.{least_of, least_from}
+use Rattle.first_fault.specs.Least.{least_of, least_from}
 use Rattle.jc_hierarchy.specs.Conditions.{numbered, cycle_fault}
 use Rattle.jc_hierarchy.proofs.Numbered.{numbered_from}
 use Rattle.jc_hierarchy.proofs.Settled.{AreSettled}

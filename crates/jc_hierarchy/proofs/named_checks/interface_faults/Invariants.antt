@@ -1,6 +1,6 @@
 use Rattle.std.proofs.Common.{◌≡◌, map, drop}
 use Rattle.jc_resolve.specs.Fault.{place_of}
-use Rattle.jc_resolve.specs.FirstFault.{least_from}
+use Rattle.first_fault.specs.Least.{least_from}
 use Rattle.jc_hierarchy.specs.Conditions.{interface_fault}
 use Rattle.jc_hierarchy.proofs.named_checks.interface_faults.Given as goal
 

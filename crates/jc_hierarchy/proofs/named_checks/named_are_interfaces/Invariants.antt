@@ -1,6 +1,6 @@
 use Rattle.std.proofs.Common.{◌≡◌}
 use Rattle.jc_resolve.specs.Fault.{place_of}
-use Rattle.jc_resolve.specs.FirstFault.{least_of, least_from}
+use Rattle.first_fault.specs.Least.{least_of, least_from}
 use Rattle.jc_hierarchy.specs.Conditions.{interfaces_of, named_interfaces, interface_fault}
 use Rattle.jc_hierarchy.proofs.Numbered.{numbered_from}
 use Rattle.jc_hierarchy.proofs.named_checks.named_are_interfaces.Given as goal

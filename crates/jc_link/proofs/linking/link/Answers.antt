@@ -1,7 +1,7 @@
 use Rattle.std.proofs.lemmas.Result.{err_from_is_err_and}
 use Rattle.std.specs.Prelude.{List, ℕ, Err}
 use Rattle.cap_package.specs.PackageRecord.{PackageRecord}
-use Rattle.jc_resolve.specs.FirstFault.{AllEmpty}
+use Rattle.first_fault.specs.First.{AllEmpty}
 use Rattle.jc_link.specs.declared.linking.Resolved.{Resolved}
 use Rattle.jc_link.specs.World.{TellsFirst, LinkTells, table_conditions, member_conditions}
 use Rattle.jc_link.specs.Known.{AreNamesOf, IsTableOf}

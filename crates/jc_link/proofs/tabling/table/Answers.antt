@@ -35,5 +35,5 @@ returns-clause-first c =
 
 pub returns-clause-known : goal.returns-clause-known
 returns-clause-known c =
-    table_known c.args.packages.now c.args.roles c.args.names.now c.requires c.classes-classes.result.now c.methods-methods.result.now c.in_ok-lineage.lineage c.in_ok-table.table c.classes-classes.ensures.is c.methods-methods.ensures.is c.classes-classes.ensures.few c.in_ok-lineage.ensures.eight c.in_ok-lineage.ensures.tells.0 c.records.ensures.chains
+    table_known c.args.packages.now c.args.roles c.args.names.now c.requires c.classes-classes.result.now c.methods-methods.result.now c.in_ok-lineage.lineage c.in_ok-table.table c.classes-classes.ensures.is c.methods-methods.ensures.is c.classes-classes.ensures.few c.in_ok-lineage.ensures.eight c.in_ok-lineage.ensures.tells.0 c.chains_end.ensures
     c.in_ok-lineage.ensures.lines c.in_ok-table.ensures.tells.0 c.in_ok-table.ensures.linked

@@ -2,7 +2,7 @@ use Rattle.std.proofs.Common.{◌≡◌, ◌+◌, ◌≤◌, length}
 use Rattle.cap_method.specs.MethodPart.{handlers_left}
 use Rattle.cap_pool.specs.Pool.{entries}
 use Rattle.jc_resolve.specs.Fault.{place_of}
-use Rattle.jc_resolve.specs.FirstFault.{least_from}
+use Rattle.first_fault.specs.Least.{least_from}
 use Rattle.jc_members.specs.Catches.{handlers_from, catch_fault}
 use Rattle.jc_members.proofs.catches.handlers_catch.Given as goal
 

@@ -1,6 +1,6 @@
 use Rattle.std.proofs.Common.{◌≡◌, drop}
 use Rattle.jc_resolve.specs.Fault.{place_of}
-use Rattle.jc_resolve.specs.FirstFault.{least_from, least_of}
+use Rattle.first_fault.specs.Least.{least_from, least_of}
 use Rattle.jc_members.specs.Catches.{handlers_behind, handler_places, catch_fault}
 use Rattle.jc_members.proofs.catches.handlers_fit.Given as goal
 

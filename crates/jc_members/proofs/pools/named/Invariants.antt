@@ -1,7 +1,7 @@
 use Rattle.std.proofs.Common.{◌≡◌, ◌≤◌, ◌++◌, All, drop, length}
 use Rattle.jc_base.specs.Linked.{IsMember}
 use Rattle.jc_resolve.specs.Fault.{place_of}
-use Rattle.jc_resolve.specs.FirstFault.{least_from, least_of}
+use Rattle.first_fault.specs.Least.{least_from, least_of}
 use Rattle.jc_members.specs.Members.{member_of}
 use Rattle.jc_members.specs.Pools.{places_behind, pool_places, member_fault, pools_behind, pools}
 use Rattle.jc_members.proofs.pools.named.Given as goal

@@ -2,7 +2,7 @@ use Rattle.std.proofs.Common.{◌≡◌, ◌+◌, ◌≤◌, ◌++◌, All, filt
 use Rattle.cap_pool.specs.Pool.{entries, entries_left}
 use Rattle.jc_base.specs.Linked.{IsMember}
 use Rattle.jc_resolve.specs.Fault.{place_of}
-use Rattle.jc_resolve.specs.FirstFault.{least_from}
+use Rattle.first_fault.specs.Least.{least_from}
 use Rattle.jc_members.specs.Members.{member_of}
 use Rattle.jc_members.specs.Pools.{places_from, member_fault}
 use Rattle.jc_members.proofs.pools.pool_members.Given as goal

@@ -1,5 +1,5 @@
 use Rattle.std.proofs.Common.{ap, ◌∙◌}
-use Rattle.jc_resolve.specs.FirstFault.{refused}
+use Rattle.first_fault.specs.Least.{refused}
 use Rattle.jc_members.proofs.RoleLaws.{roles_told}
 use Rattle.jc_members.proofs.roles.roles_fit.Goals as goal
 

@@ -1,7 +1,7 @@
 use Rattle.std.proofs.Common.{◌≡◌, ◌-◌}
 use Rattle.std.specs.List.{range_with_len}
 use Rattle.jc_resolve.specs.Fault.{place_of}
-use Rattle.jc_resolve.specs.FirstFault.{least_from}
+use Rattle.first_fault.specs.Least.{least_from}
 use Rattle.jc_resolve.specs.Conditions.{import_fault}
 use Rattle.jc_resolve.proofs.import_checks.imports_of.Given as goal
 

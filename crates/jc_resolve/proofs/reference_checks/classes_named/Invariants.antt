@@ -1,6 +1,6 @@
 use Rattle.std.proofs.Common.{◌≡◌, drop}
 use Rattle.jc_resolve.specs.Fault.{place_of}
-use Rattle.jc_resolve.specs.FirstFault.{least_from, least_of}
+use Rattle.first_fault.specs.Least.{least_from, least_of}
 use Rattle.jc_resolve.specs.Conditions.{no_class_fault, class_references, named_behind, named_in}
 use Rattle.jc_resolve.proofs.reference_checks.classes_named.Given as goal
 

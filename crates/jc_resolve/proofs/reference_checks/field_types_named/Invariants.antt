@@ -3,7 +3,7 @@ use Rattle.cap_desc.specs.Members.{fields_of}
 use Rattle.cap_desc.specs.MembersLeft.{fields_of_left}
 use Rattle.cap_package.specs.Descriptions.{description}
 use Rattle.jc_resolve.specs.Fault.{place_of}
-use Rattle.jc_resolve.specs.FirstFault.{least_from}
+use Rattle.first_fault.specs.Least.{least_from}
 use Rattle.jc_resolve.specs.Conditions.{reference_fault, references_of_field_type}
 use Rattle.jc_resolve.proofs.reference_checks.field_types_named.Given as goal
 

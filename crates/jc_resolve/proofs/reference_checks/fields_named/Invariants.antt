@@ -1,7 +1,7 @@
 use Rattle.std.proofs.Common.{◌≡◌, flat_map}
 use Rattle.cap_desc.specs.MemberLists.{fields_left}
 use Rattle.jc_resolve.specs.Fault.{place_of}
-use Rattle.jc_resolve.specs.FirstFault.{least_from}
+use Rattle.first_fault.specs.Least.{least_from}
 use Rattle.jc_resolve.specs.Conditions.{reference_fault, reference_of_field}
 use Rattle.jc_resolve.proofs.reference_checks.fields_named.Given as goal
 

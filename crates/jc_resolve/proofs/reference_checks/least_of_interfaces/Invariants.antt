@@ -2,7 +2,7 @@ use Rattle.std.proofs.Common.{◌≡◌, map}
 use Rattle.cap_class.specs.ClassFormat.{Interface}
 use Rattle.cap_class.specs.Lists.{interfaces_left}
 use Rattle.jc_resolve.specs.Fault.{place_of}
-use Rattle.jc_resolve.specs.FirstFault.{least_from}
+use Rattle.first_fault.specs.Least.{least_from}
 use Rattle.jc_resolve.specs.Conditions.{reference_fault}
 use Rattle.jc_resolve.proofs.reference_checks.least_of_interfaces.Given as goal
 
