@@ -203,7 +203,7 @@ static MEMBERS: [Case; 13] = [
     (
         &[
             Change::Byte(DESCRIPTOR, 7, 1),
-            Change::Splice(DESCRIPTOR, 26, 28, &[0xFF, 0xFF]),
+            Change::Splice(DESCRIPTOR, 22, 24, &[0xFF, 0xFF]),
         ],
         ("MethodOutside", 0xFFFF, 0, 0),
     ),
