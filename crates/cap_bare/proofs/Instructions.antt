@@ -15,7 +15,7 @@ use Rattle.cap_bare.specs.Walk.{at_most, ahead, instructions_from}
 -- an instruction stands at its place, has a byte at least, and ends within the code
 pub record IsInside (code : List ℕ) (at : ℕ) (i : Placed) : Type 0 where
   pub place : i.place ≡ at
-  pub behind : at < i.next
+  pub farther : at < i.next
   pub inside : i.next ≤ length code
 
 inside-placed : (code : List ℕ) (at : ℕ) (f : Format) (r : Result Insn CodeEnd) (i : Placed) → decoded code at ≡ r → placed_from at f r ≡ Ok i
@@ -23,7 +23,7 @@ inside-placed : (code : List ℕ) (at : ℕ) (f : Format) (r : Result Insn CodeE
 inside-placed code at f (Ok insn) i e h =
     let within = IsWithin-decoded code at insn e in
     let same : placed at f insn ≡ i = cc in
-    subst (IsInside code at) same (record { place = refl; behind = omega arith; inside = within.reaches })
+    subst (IsInside code at) same (record { place = refl; farther = omega arith; inside = within.reaches })
 inside-placed code at f (Err end) i e h = absurd (cc)
 
 inside-format : (code : List ℕ) (at op : ℕ) (f : Option Format) (i : Placed) → of_format code at op f ≡ Ok i → IsInside code at i
@@ -48,13 +48,13 @@ lists-ahead : (code : List ℕ) (at n : ℕ) (r : Result Placed CodeEnd) → fet
 lists-ahead code at n (Ok i) e more = (e, more i e)
 lists-ahead code at n (Err end) e more = (end, e)
 
-none-behind : (code : List ℕ) (at : ℕ) (r : Result Placed CodeEnd) → fetched code at ≡ r → length code ≤ at → Lists code at []
-none-behind code at (Ok i) e h = let inside = fetched-inside code at i e in absurd (omega arith)
-none-behind code at (Err end) e h = (end, e)
+none-farther : (code : List ℕ) (at : ℕ) (r : Result Placed CodeEnd) → fetched code at ≡ r → length code ≤ at → Lists code at []
+none-farther code at (Ok i) e h = let inside = fetched-inside code at i e in absurd (omega arith)
+none-farther code at (Err end) e h = (end, e)
 
 lists-at_most : (code : List ℕ) (n at : ℕ) → length code ≤ n + at → Lists code at (at_most n code at)
 unfolding at_most
-lists-at_most code zero at h = none-behind code at (fetched code at) refl (omega arith)
+lists-at_most code zero at h = none-farther code at (fetched code at) refl (omega arith)
 lists-at_most code (suc n) at h =
     lists-ahead code at n (fetched code at) refl
     (λ i e. let inside = fetched-inside code at i e in lists-at_most code n i.next (omega arith))
@@ -86,7 +86,7 @@ instructions-none code at end h =
 -- as is after the last byte
 pub instructions-past : (code : List ℕ) (at : ℕ) → length code ≤ at → instructions_from code at ≡ []
 instructions-past code at h =
-    lists-one code at (instructions_from code at) [] (lists-instructions code at) (none-behind code at (fetched code at) refl h)
+    lists-one code at (instructions_from code at) [] (lists-instructions code at) (none-farther code at (fetched code at) refl h)
 
 pub ruleset walking = (instructions-found, instructions-none, instructions-past)
 

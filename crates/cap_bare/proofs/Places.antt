@@ -16,11 +16,11 @@ module _ (code : List ℕ) where
       let e = (fetched-inside code at i h).place in
       record { reached = subst (IsReached code) (sym e) r; found = subst (λ p. fetched code p ≡ Ok i) (sym e) h }
 
-  pub reached-behind : (i : Placed) → Stands code i → IsReached code i.next
-  reached-behind i s = reached_next i s.reached s.found
+  pub reached-farther : (i : Placed) → Stands code i → IsReached code i.next
+  reached-farther i s = reached_next i s.reached s.found
 
   pub reached-after : (at : ℕ) (i : Placed) → IsReached code at → fetched code at ≡ Ok i → IsReached code i.next
-  reached-after at i r h = reached-behind i (stands-at at i r h)
+  reached-after at i r h = reached-farther i (stands-at at i r h)
 
   -- every instruction of the list stands in the code
   pub all-stand : (is : List Placed) (at : ℕ) → IsReached code at → Lists code at is → AllByRecursion (Stands code) is

@@ -17,7 +17,7 @@ use Rattle.cap_bare.specs.Typing.{Kind, shorts, register_count, IsTyped, CardTyp
 use Rattle.cap_bare.specs.Walk.{is_place}
 use Rattle.cap_bare.specs.Machine.{Frame, State, Outcome, running, returned, faulted, jump_fault, local_fault, stack_fault, Lead, leads, gives, frame, top, second, acted, has_register, at_place, settled, performed, step, go_on, after, entered, IsFault, IsSafe, IsFaultFree}
 use Rattle.cap_bare.proofs.Instructions.{fetched-inside}
-use Rattle.cap_bare.proofs.Places.{stands-at, reached-behind, ends-once, place-true}
+use Rattle.cap_bare.proofs.Places.{stands-at, reached-farther, ends-once, place-true}
 use Rattle.cap_bare.proofs.WellFormed.{none-at-end}
 use Rattle.cap_bare.proofs.Rule.{shorts-length}
 
@@ -182,7 +182,7 @@ module _ (code : List ℕ) (bare : Bare) where
 
     next-falls : (i : Placed) (k : IsTyped code bare t.registers t.stacks i) → Stands code i → (b : Bool) → b ≡ true
         → MatchBool b ((i.next < length code) × (t.stacks i.next ≡ k.after)) (t.stacks i.next ≡ []) → Next k.after (pos i.next)
-    next-falls i k s true e h = record { place = i.next; is = refl; there = there i.next (reached-behind code i s) h.0; stack = ap length h.1 }
+    next-falls i k s true e h = record { place = i.next; is = refl; there = there i.next (reached-farther code i s) h.0; stack = ap length h.1 }
     next-falls i k s false e h = absurd (cc)
 
     branching : (o : Option ℤ) (to : ℤ) → o ≡ Some to → is_some o ≡ true

@@ -74,12 +74,12 @@ module _ (code : List ℕ) where
   target-none at place end r f t le = stops code at t.from.place t.from end r t.stands.reached f t.stands.found le
 
   -- a step of the instruction that trails
-  pub trails-on : (behind at : ℕ) (i : Placed) → IsTrailing code behind at → fetched code behind ≡ Ok i → i.next + 128 ≤ at → IsTrailing code i.next at
-  trails-on behind at i h f le = record { reached = reached-after code behind i h.reached f; far = inr le }
+  pub trails-on : (farther at : ℕ) (i : Placed) → IsTrailing code farther at → fetched code farther ≡ Ok i → i.next + 128 ≤ at → IsTrailing code i.next at
+  trails-on farther at i h f le = record { reached = reached-after code farther i h.reached f; far = inr le }
 
-  pub trails-later : (behind at later : ℕ) → IsTrailing code behind at → at ≤ later → IsTrailing code behind later
-  trails-later behind at later h le =
-      record { reached = h.reached; far = elim h.far as (λ _. (behind ≡ 0) ⊎ (behind + 128 ≤ later)) [ inl e ↦ inl e | inr far ↦ inr (omega arith) ] }
+  pub trails-later : (farther at later : ℕ) → IsTrailing code farther at → at ≤ later → IsTrailing code farther later
+  trails-later farther at later h le =
+      record { reached = h.reached; far = elim h.far as (λ _. (farther ≡ 0) ⊎ (farther + 128 ≤ later)) [ inl e ↦ inl e | inr far ↦ inr (omega arith) ] }
 
   -- what the answers mean
   pub place-means : (place : ℤ) (r : Bool) → r ≡ is_place code place → IsTrue r ↔ IsTargetPlace code place

@@ -55,7 +55,7 @@ module _ (code : List ℕ) (bare : Bare) (s : State) (safe : IsSafe code bare s)
     going-at : (to : ℤ) (f : Frame) → IsTargetPlace code to → step code bare s ≡ running (state_at (at_place to) f) → Going to f
     going-at (pos p) f h e =
         let inside = fetched-inside code h.0.place h.0 h.2.found in
-        let small : p < length code = omega (arith, h.1, inside.behind, inside.inside) in
+        let small : p < length code = omega (arith, h.1, inside.farther, inside.inside) in
         record { place = p; is = refl; small = small; stepped = e }
     going-at (negsuc n) f h e = absurd h
 

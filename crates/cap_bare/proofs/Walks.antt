@@ -65,19 +65,19 @@ module _ (code : List ℕ) (bare : Bare) where
   depth_at depth (i ∷ is) place = if i.place == place then depth else depth_at (next_depth (passed code bare i depth)) is place
 
   -- the places of a list rise
-  record IsBehind (at : ℕ) (i : Placed) : Type 0 where
+  record IsAfter (at : ℕ) (i : Placed) : Type 0 where
     from : at ≤ i.place
     more : i.place < i.next
 
-  behind-more : (at next : ℕ) (is : List Placed) → at ≤ next → AllByRecursion (IsBehind next) is → AllByRecursion (IsBehind at) is
-  behind-more at next [] le h = tt
-  behind-more at next (i ∷ is) le h = let b = h.0 in (record { from = omega (arith, b.from, le); more = b.more }, behind-more at next is le h.1)
+  farther-more : (at next : ℕ) (is : List Placed) → at ≤ next → AllByRecursion (IsAfter next) is → AllByRecursion (IsAfter at) is
+  farther-more at next [] le h = tt
+  farther-more at next (i ∷ is) le h = let b = h.0 in (record { from = omega (arith, b.from, le); more = b.more }, farther-more at next is le h.1)
 
-  behind : (is : List Placed) (at : ℕ) → Lists code at is → AllByRecursion (IsBehind at) is
-  behind [] at l = tt
-  behind (i ∷ is) at l =
+  farther : (is : List Placed) (at : ℕ) → Lists code at is → AllByRecursion (IsAfter at) is
+  farther [] at l = tt
+  farther (i ∷ is) at l =
       let inside = fetched-inside code at i l.0 in
-      (record { from = omega arith; more = omega arith }, behind-more at i.next is (omega arith) (behind is i.next l.1))
+      (record { from = omega arith; more = omega arith }, farther-more at i.next is (omega arith) (farther is i.next l.1))
 
   depth-here : (depth : ℕ) (i : Placed) (is : List Placed) (p : ℕ) → i.place ≡ p → depth_at depth (i ∷ is) p ≡ depth
   depth-here depth i is p e = let t : (i.place == p) ≡ true = eq-eqb i.place p e in rw t refl
@@ -117,7 +117,7 @@ module _ (code : List ℕ) (bare : Bare) where
     FitsIn depth is i = Fits i (depth_at depth is i.place) (depth_at depth is i.next)
 
     fits-more : (depth next : ℕ) (i : Placed) (is : List Placed) → passed code bare i depth ≡ Ok next → i.place < i.next
-        → (j : Placed) → FitsIn next is j → IsBehind i.next j → FitsIn depth (i ∷ is) j
+        → (j : Placed) → FitsIn next is j → IsAfter i.next j → FitsIn depth (i ∷ is) j
     fits-more depth next i is p lt j f b =
         let e : next_depth (passed code bare i depth) ≡ next = ap next_depth p in
         let here : depth_at depth (i ∷ is) j.place ≡ depth_at next is j.place =
@@ -137,7 +137,7 @@ module _ (code : List ℕ) (bare : Bare) where
         let none = λ (none : is ≡ []). nothing-left i k.after next (falls_through i.instruction) k.leaves
         (none-left i.next is (reached-after code i.place i s.reached s.found) l none) in
         let ahead : depth_at depth (i ∷ is) i.next ≡ next =
-        depth-there depth i is i.next (omega (arith, inside.behind)) ∙ ap (λ (n : ℕ). depth_at n is i.next) e ∙ depth-next is i.next next l none in
+        depth-there depth i is i.next (omega (arith, inside.farther)) ∙ ap (λ (n : ℕ). depth_at n is i.next) e ∙ depth-next is i.next next l none in
         let f : Fits i depth next = record {
           target = λ t. k.target (target-true code i.place t);
           after = k.after;
@@ -159,9 +159,9 @@ module _ (code : List ℕ) (bare : Bare) where
         by_answer (Err kind) e more h = absurd (cc)
         by_answer (Ok next) e more h =
             let inside = fetched-inside code at i l.0 in
-            let lt : i.place < i.next = omega (arith, inside.place, inside.behind) in (
+            let lt : i.place < i.next = omega (arith, inside.place, inside.farther) in (
               fits-head i is depth next (stands-at code at i r l.0) l.1 e,
-              all-map2 (FitsIn next is) (IsBehind i.next) (FitsIn depth (i ∷ is)) (fits-more depth next i is e lt) is (more next h) (behind is i.next l.1),
+              all-map2 (FitsIn next is) (IsAfter i.next) (FitsIn depth (i ∷ is)) (fits-more depth next i is e lt) is (more next h) (farther is i.next l.1),
             )
 
     -- so the stacks that are read off it make a card typing, with a register list of shorts

@@ -76,8 +76,8 @@ module _ (code : List ℕ) where
   flaw-reached _ (flaw_target j t k e astray) = k.reached
 
   -- so a flaw from such a place on is after the instruction
-  flaw-behind : (f : BareFault) (i : Placed) → IsFlaw code f → Stands code i → led code (target_of i.instruction) ≡ Ok tt → i.place ≤ f.place → i.next ≤ f.place
-  flaw-behind f i flaw s h le = by_order (f.place == i.place) refl
+  flaw-farther : (f : BareFault) (i : Placed) → IsFlaw code f → Stands code i → led code (target_of i.instruction) ≡ Ok tt → i.place ≤ f.place → i.next ≤ f.place
+  flaw-farther f i flaw s h le = by_order (f.place == i.place) refl
     where
       by_order : (b : Bool) → (f.place == i.place) ≡ b → i.next ≤ f.place
       by_order true e = absurd (flaw-at f i flaw s (eqb-true f.place i.place e) h)
@@ -118,7 +118,7 @@ module _ (code : List ℕ) where
           let k = more h in
           record {
             flaw = k.flaw;
-            least = λ other flaw le. k.least other flaw (flaw-behind other i flaw s e (subst (λ (n : ℕ). n ≤ other.place) (sym place) le));
+            least = λ other flaw le. k.least other flaw (flaw-farther other i flaw s e (subst (λ (n : ℕ). n ≤ other.place) (sym place) le));
           }
       by_lead (Err kind) e more h =
           let stray = led-err (target_of i.instruction) kind e in

@@ -55,7 +55,7 @@ fn find_flaw(code: View<'_>) -> Result<(), BareFault>
     ensures { result ≡ first_flaw code.entry.bytes.now 0 (instructions code.entry.bytes.now) }
 {
     let mut at = 0;
-    let mut behind = 0;
+    let mut farther = 0;
     'walk: while usize::from(at) < code.bytes.len() {
         let placed = match fetch(code, at) {
             Ok(placed) => placed,
@@ -64,8 +64,8 @@ fn find_flaw(code: View<'_>) -> Result<(), BareFault>
                 kind: BareKind::Code(end),
             }),
         };
-        behind = trailed(code, behind, at);
-        if let Err(kind) = lead(code, behind, placed) {
+        farther = trailed(code, farther, at);
+        if let Err(kind) = lead(code, farther, placed) {
             return Err(BareFault {
                 place: placed.place,
                 kind,
@@ -77,15 +77,15 @@ fn find_flaw(code: View<'_>) -> Result<(), BareFault>
 }
 
 /// Whether a branch leads to the place of an instruction.
-fn lead(code: View<'_>, behind: u16, placed: Placed) -> Result<(), BareKind>
+fn lead(code: View<'_>, farther: u16, placed: Placed) -> Result<(), BareKind>
     requires short { length code.bytes.now ≤ 32767 }
     requires stands { Stands code.bytes.now placed }
-    requires trailing { IsTrailing code.bytes.now behind placed.place }
+    requires trailing { IsTrailing code.bytes.now farther placed.place }
     ensures { result ≡ led code.entry.bytes.now (target_of placed.instruction) }
 {
     are_bytes(code.bytes);
     match placed.instruction.target() {
-        Some(target) if !is_place(code, behind, target) => Err(BareKind::BadTarget(target)),
+        Some(target) if !is_place(code, farther, target) => Err(BareKind::BadTarget(target)),
         _ => Ok(()),
     }
 }
@@ -96,14 +96,14 @@ fn trailed(code: View<'_>, from: u16, at: u16) -> u16
     requires trailing { IsTrailing code.bytes.now from at }
     ensures { IsTrailing code.entry.bytes.now result at }
 {
-    let mut behind = from;
-    'walk: while let Ok(placed) = fetch(code, behind) {
+    let mut farther = from;
+    'walk: while let Ok(placed) = fetch(code, farther) {
         if u32::from(placed.next) + 128 > u32::from(at) {
-            return behind;
+            return farther;
         }
-        behind = placed.next;
+        farther = placed.next;
     }
-    behind
+    farther
 }
 
 /// Whether an instruction of the code begins at this place, which may lie before the code; it is sought from an
@@ -140,14 +140,14 @@ fn begins(code: View<'_>, from: u16, place: u32) -> bool
 
 /// Whether an instruction of the code branches to this place; those that may stand in the 128 bytes before it and
 /// after it, and are sought from an instruction on that trails it.
-fn is_target(code: View<'_>, behind: u16, place: u16) -> bool
+fn is_target(code: View<'_>, farther: u16, place: u16) -> bool
     requires short { length code.bytes.now ≤ 32767 }
-    requires trailing { IsTrailing code.bytes.now behind place }
+    requires trailing { IsTrailing code.bytes.now farther place }
     ensures value { result ≡ is_target code.entry.bytes.now place }
     ensures meaning { IsTrue result ↔ IsTarget code.entry.bytes.now place }
 {
     are_bytes(code.bytes);
-    let mut at = behind;
+    let mut at = farther;
     'walk: while let Ok(placed) = fetch(code, at) {
         if branches_to(placed.instruction, place) {
             return true;
@@ -203,17 +203,17 @@ fn applied(bare: Bare, instruction: Instruction, depth: usize) -> Result<usize, 
 fn passed(
     code: View<'_>,
     bare: Bare,
-    behind: u16,
+    farther: u16,
     placed: Placed,
     depth: usize,
 ) -> Result<usize, BareKind>
     requires short { length code.bytes.now ≤ 32767 }
-    requires trailing { IsTrailing code.bytes.now behind placed.place }
+    requires trailing { IsTrailing code.bytes.now farther placed.place }
     requires low { depth ≤ 30 }
     ensures value { result ≡ passed code.entry.bytes.now bare placed depth }
     ensures room { IfOk result (λ after. after ≤ bare.max_stack) }
 {
-    if depth > 0 && is_target(code, behind, placed.place) {
+    if depth > 0 && is_target(code, farther, placed.place) {
         return Err(BareKind::StackAtTarget);
     }
     let after = applied(bare, placed.instruction, depth)?;
@@ -241,11 +241,11 @@ fn find_wrong(code: View<'_>, bare: Bare) -> Result<(), BareFault>
     ensures { result ≡ first_wrong code.entry.bytes.now bare 0 (instructions code.entry.bytes.now) }
 {
     let mut at = 0;
-    let mut behind = 0;
+    let mut farther = 0;
     let mut depth = 0;
     'walk: while let Ok(placed) = fetch(code, at) {
-        behind = trailed(code, behind, at);
-        depth = match passed(code, bare, behind, placed, depth) {
+        farther = trailed(code, farther, at);
+        depth = match passed(code, bare, farther, placed, depth) {
             Ok(after) => after,
             Err(kind) => return Err(BareFault {
                 place: placed.place,

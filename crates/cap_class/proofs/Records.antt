@@ -10,18 +10,18 @@ use Rattle.cap_bytes.specs.Spelling.{Spells}
 use Rattle.cap_bytes.proofs.Laws.{read-spells, spelled-read}
 use Rattle.cap_bytes.proofs.EachLoops.{ReadsAll}
 use Rattle.cap_bytes.proofs.UntilLoops.{HasPassedUntil, moves, until_taken}
-use Rattle.cap_class.specs.ClassFormat.{Class, wrong_record, behind_first, is_interface, is_remote, class_flags, record_info, any_record, is_behind}
+use Rattle.cap_class.specs.ClassFormat.{Class, wrong_record, beyond_first, is_interface, is_remote, class_flags, record_info, any_record, is_after}
 
 -- so many records from `start` on are passed up to `now`, and no more than the bytes before it
-pub record HavePassed (start : Cursor) (count : ℕ) (now : Cursor) (behind_class : Bool) : Type 0 where
-  pub passed : HasPassedUntil record_info is_behind start false count now behind_class
+pub record HavePassed (start : Cursor) (count : ℕ) (now : Cursor) (after_class : Bool) : Type 0 where
+  pub passed : HasPassedUntil record_info is_after start false count now after_class
   pub few : count ≤ now.at
 
 -- a record takes a byte or more
-pub advances : (behind_class : Bool) (now : Cursor) (x : Class) (after : Cursor) → Taken (record_info behind_class) now x after → now.at < after.at
+pub advances : (after_class : Bool) (now : Cursor) (x : Class) (after : Cursor) → Taken (record_info after_class) now x after → now.at < after.at
 unfolding record_info
-advances behind_class now x after t =
-    let m = moves 1 (wrong_record behind_class) (λ first. behind_first (is_interface (class_flags first)) now.at first) now x after (record { value = t.value; info = t.info; part = t.part }) in
+advances after_class now x after t =
+    let m = moves 1 (wrong_record after_class) (λ first. beyond_first (is_interface (class_flags first)) now.at first) now x after (record { value = t.value; info = t.info; part = t.part }) in
     omega arith
 
 pub ruleset advancing = (advances)
@@ -41,8 +41,8 @@ reads_all s from bytes at x after h =
     spelled-read from any_record bytes at x after (r.0, r.1, r.2, (t.0, t.1, (t.2.0, first, t.2.2), t.3))
 
 -- so many records up to the end are so many that may stand anywhere
-pub counted : (n : ℕ) (now : Cursor) (xs : List Class) (after : Cursor) → Taken (until_end record_info is_behind false) now xs after → length xs ≡ n → Taken (repeat n any_record) now xs after
-counted n now xs after t e = subst (λ (k : ℕ). Taken (repeat k any_record) now xs after) e (until_taken record_info is_behind any_record reads_all false now xs after t)
+pub counted : (n : ℕ) (now : Cursor) (xs : List Class) (after : Cursor) → Taken (until_end record_info is_after false) now xs after → length xs ≡ n → Taken (repeat n any_record) now xs after
+counted n now xs after t e = subst (λ (k : ℕ). Taken (repeat k any_record) now xs after) e (until_taken record_info is_after any_record reads_all false now xs after t)
 
 -- a table of no entries is always there
 pub never_fails : (now : Cursor) (fault : FormFault) → Fails (table 0) now fault → ⊥

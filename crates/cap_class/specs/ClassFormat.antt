@@ -42,8 +42,8 @@ is_remote flags = bit_and flags 2 == 2
 
 -- no interface stands after a class, and none is remote
 abbrev pub wrong_record : Bool → ℕ → Option FormKind
-wrong_record behind_class first =
-    if behind_class && is_interface (class_flags first) then Some BadValue
+wrong_record after_class first =
+    if after_class && is_interface (class_flags first) then Some BadValue
     else (if is_remote (class_flags first) then Some Remote else None)
 
 -- ---- the parts of a record
@@ -129,11 +129,11 @@ of_class offset first i t interfaces = record {
 }
 
 -- what stands after the first byte of an interface, and of a class
-abbrev pub behind_first : Bool → ℕ → ℕ → Grammar Class
-behind_first true offset first = do
+abbrev pub beyond_first : Bool → ℕ → ℕ → Grammar Class
+beyond_first true offset first = do
   interfaces ← repeat (first % 16) (interface_info true)
   give (of_interface offset first interfaces)
-behind_first false offset first = do
+beyond_first false offset first = do
   i ← instance_info
   t ← tables_info
   interfaces ← repeat (first % 16) (interface_info false)
@@ -141,18 +141,18 @@ behind_first false offset first = do
 
 -- a record, after a class or not
 unfoldable pub record_info : Bool → Grammar Class
-record_info behind_class = do
+record_info after_class = do
   offset ← place
-  first ← number 1 (wrong_record behind_class)
-  behind_first (is_interface (class_flags first)) offset first
+  first ← number 1 (wrong_record after_class)
+  beyond_first (is_interface (class_flags first)) offset first
 
 -- a record that may stand anywhere
 abbrev pub any_record : Grammar Class
 any_record = record_info false
 
 -- whether a class stands before what comes next
-abbrev pub is_behind : Bool → Class → Bool
-is_behind behind_class c = behind_class || not (is_interface c.flags)
+abbrev pub is_after : Bool → Class → Bool
+is_after after_class c = after_class || not (is_interface c.flags)
 
 -- the signature pool, which format 2.1 does not have
 abbrev pub signature_pool : Format → Grammar (List ℕ)
@@ -165,4 +165,4 @@ signature_pool V22 = do
 abbrev pub classes_info : Format → Grammar (List Class)
 classes_info format = do
   pool ← signature_pool format
-  until_end record_info is_behind false
+  until_end record_info is_after false

@@ -11,7 +11,7 @@ use Rattle.cap_class.specs.declared.class_info.ClassInfo.{ClassInfo}
 use Rattle.cap_class.specs.declared.class_list.Classes.{Classes}
 use Rattle.cap_class.specs.declared.class_part.ClassPart.{ClassPart}
 use Rattle.cap_class.specs.ClassFormat as format
-use Rattle.cap_class.specs.ClassFormat.{any_record, record_info, is_behind}
+use Rattle.cap_class.specs.ClassFormat.{any_record, record_info, is_after}
 use Rattle.cap_class.specs.Lists.{interfaces_left}
 
 abbrev pub instance_seen : Instance → format.Instance
@@ -57,6 +57,6 @@ records x = classes_left x.classes
 -- breaks the format gives the fault
 abbrev pub PassesRecords : Cursor → Result ℕ FormFault → Cursor → Type 0
 PassesRecords before (Ok count) after = (xs : List format.Class)
-    × Taken (until_end record_info is_behind false) before xs after
+    × Taken (until_end record_info is_after false) before xs after
     × Taken (repeat count any_record) before xs after
-PassesRecords before (Err fault) after = Fails (until_end record_info is_behind false) before fault
+PassesRecords before (Err fault) after = Fails (until_end record_info is_after false) before fault

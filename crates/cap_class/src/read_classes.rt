@@ -4,7 +4,7 @@ ghost use Rattle.cap_bytes.specs.Grammar.{until_end};
 ghost use Rattle.cap_bytes.specs.Exact.{IsExact};
 ghost use Rattle.cap_bytes.specs.Spelling.{info_of, Stands, Breaks};
 ghost use Rattle.cap_bytes.specs.Taking.{Takes, Reads, bytes};
-ghost use Rattle.cap_class.specs.ClassFormat.{record_info, is_behind, signature_pool, classes_info};
+ghost use Rattle.cap_class.specs.ClassFormat.{record_info, is_after, signature_pool, classes_info};
 ghost use Rattle.cap_bytes.specs.Table.{numbers};
 ghost use Rattle.cap_class.specs.Lists.{interface_seen, interfaces_left};
 ghost use Rattle.cap_class.specs.ClassPart.{class_seen, classes_left, records, PassesRecords};
@@ -22,10 +22,10 @@ use cap_bytes::{Cursor, FormFault, Format, Table, View};
 const CLASS: u8 = 6;
 
 /// Whether a class stands before what follows a record.
-fn is_behind(behind_class: bool, class: ClassInfo<'_>) -> bool
-    ensures { result ≡ is_behind behind_class (class_seen class.entry) }
+fn is_after(after_class: bool, class: ClassInfo<'_>) -> bool
+    ensures { result ≡ is_after after_class (class_seen class.entry) }
 {
-    behind_class || !class.flags.is_interface()
+    after_class || !class.flags.is_interface()
 }
 
 /// How many records there are up to the end.
@@ -33,11 +33,11 @@ fn is_behind(behind_class: bool, class: ClassInfo<'_>) -> bool
 fn pass_records(items: &mut Cursor<'_>) -> Result<u16, FormFault>
     ensures { PassesRecords items.old result items.new }
 {
-    let mut behind_class = false;
+    let mut after_class = false;
     let mut count = 0u16;
     'records: while items.remaining() > 0 {
-        let class = record(items, behind_class)?;
-        behind_class = is_behind(behind_class, class);
+        let class = record(items, after_class)?;
+        after_class = is_after(after_class, class);
         count += 1;
     }
     Ok(count)
@@ -46,7 +46,7 @@ fn pass_records(items: &mut Cursor<'_>) -> Result<u16, FormFault>
 /// The records up to the end.
 #[tactic(auto, using(cap_bytes::proofs::Loops::yielding))]
 fn records<'a>(items: &mut Cursor<'a>) -> Result<Classes<'a>, FormFault>
-    ensures { Takes classes_left (until_end record_info is_behind false) items.old result items.new }
+    ensures { Takes classes_left (until_end record_info is_after false) items.old result items.new }
 {
     let first = *items;
     let left = pass_records(items)?;

@@ -3,7 +3,7 @@ ghost use Rattle.std.specs.Iterator.{YieldsFirstBy, item_count};
 ghost use Rattle.cap_bytes.specs.Grammar.{repeat, table};
 ghost use Rattle.cap_bytes.specs.Table.{numbers};
 ghost use Rattle.cap_bytes.specs.Taking.{Takes, Passes};
-ghost use Rattle.cap_class.specs.ClassFormat.{interface_info, instance_info, tables_info, record_info, behind_first, is_interface, class_flags};
+ghost use Rattle.cap_class.specs.ClassFormat.{interface_info, instance_info, tables_info, record_info, beyond_first, is_interface, class_flags};
 ghost use Rattle.cap_class.specs.Lists.{interface_seen, interfaces_left};
 ghost use Rattle.cap_class.specs.ClassPart.{instance_seen, tables_seen, class_seen};
 
@@ -125,12 +125,12 @@ fn no_tables<'a>(items: &Cursor<'a>) -> DispatchTables<'a>
 }
 
 /// A record after its first byte, which stands at this offset.
-fn behind_first<'a>(
+fn beyond_first<'a>(
     items: &mut Cursor<'a>,
     offset: u16,
     first: u8,
 ) -> Result<ClassInfo<'a>, FormFault>
-    ensures { Takes class_seen (behind_first (is_interface (class_flags first)) offset first) items.old result items.new }
+    ensures { Takes class_seen (beyond_first (is_interface (class_flags first)) offset first) items.old result items.new }
 {
     let flags = ClassFlags::of(first);
     if flags.is_interface() {
@@ -166,20 +166,20 @@ fn behind_first<'a>(
 #[tactic(auto, unfolding(crate::specs::ClassFormat::record_info))]
 pub(crate) fn record<'a>(
     items: &mut Cursor<'a>,
-    behind_class: bool,
+    after_class: bool,
 ) -> Result<ClassInfo<'a>, FormFault>
-    ensures { Takes class_seen (record_info behind_class) items.old result items.new }
+    ensures { Takes class_seen (record_info after_class) items.old result items.new }
 {
     let place = *items;
     let first = items.u1()?;
     let flags = ClassFlags::of(first);
-    if behind_class && flags.is_interface() {
+    if after_class && flags.is_interface() {
         return Err(place.fault(FormKind::BadValue));
     }
     if flags.is_remote() {
         return Err(place.fault(FormKind::Remote));
     }
-    behind_first(items, place.at as u16, first)
+    beyond_first(items, place.at as u16, first)
 }
 
 impl<'a> Iterator for Interfaces<'a> {

@@ -164,9 +164,9 @@ pub record AreRead (parts : List Lent) (p : PackageRecord) : Type 0 where
   pub export : read_if_held export_info 10 parts ≡ Ok p.export
   pub description : read_description parts ≡ Ok p.description
 
-read_behind : (parts : List Lent) (header : HeaderItems) (p : PackageRecord) → read_part header_info 1 parts ≡ Ok header → read_after parts header ≡ Ok p → AreRead parts p
+read_beyond : (parts : List Lent) (header : HeaderItems) (p : PackageRecord) → read_part header_info 1 parts ≡ Ok header → read_after parts header ≡ Ok p → AreRead parts p
 unfolding read_after
-read_behind parts header p there h =
+read_beyond parts header p there h =
     let b = then_ok (read_part (directory_info header.format) 2 parts) _ p h in
     let c = then_ok (read_if_held applets_info 3 parts) _ p b.2 in
     let d = then_ok (read_part imports_info 4 parts) _ p c.2 in
@@ -212,7 +212,7 @@ are_read : (parts : List Lent) (p : PackageRecord) → read_package parts ≡ Ok
 unfolding read_package
 are_read parts p h =
     let a = then_ok (read_part header_info 1 parts) (read_after parts) p h in
-    read_behind parts a.0 p a.1 a.2
+    read_beyond parts a.0 p a.1 a.2
 
 -- what the components of parts that are read say
 pub read-said : (parts : List Lent) (p : PackageRecord) → read_package parts ≡ Ok p → AreSaid parts p

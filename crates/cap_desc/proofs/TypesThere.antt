@@ -82,16 +82,16 @@ only [] = None
 only (t ∷ []) = Some t
 only (t ∷ u ∷ ts) = None
 
-behind : (b : Bool) (ns : List ℕ) (at c after : ℕ) → Spells (when b 0 class_nibbles) ns at c after → at ≤ after
+farther : (b : Bool) (ns : List ℕ) (at c after : ℕ) → Spells (when b 0 class_nibbles) ns at c after → at ≤ after
 unfolding Spells
-behind true ns at c after h = omega (arith, h.2.2, h.3.2.2, h.3.3.2.2, h.3.3.3.2.2, h.3.3.3.3.1)
-behind false ns at c after h = omega (arith, h.1)
+farther true ns at c after h = omega (arith, h.2.2, h.3.2.2, h.3.3.2.2, h.3.3.3.2.2, h.3.3.3.3.1)
+farther false ns at c after h = omega (arith, h.1)
 
 type-rises : (ns : List ℕ) (at : ℕ) (t : TypeItem) (after : ℕ) → nibbles_read type_item ns at ≡ Ok (t, after) → at < after
 unfolding Spells
 type-rises ns at t after e =
     let h = read-spells (info_of 11) type_item ns at t after e in
-    omega (arith, h.2.2, behind (names_class h.0) ns h.1 h.3.0 h.3.1 h.3.2, h.3.3.1)
+    omega (arith, h.2.2, farther (names_class h.0) ns h.1 h.3.0 h.3.1 h.3.2, h.3.3.1)
 
 none_more : (t : TypeItem) (r : Reading (List TypeItem)) → result_ok r ≡ None → option_and_then only (value_of (with_front (t ∷ []) r)) ≡ None
 none_more t (Ok x) h = absurd cc

@@ -45,28 +45,28 @@ pub are_texts_before : (xs ys : List ℕ) (spans : List Span) → IsUtf8 ys → 
 are_texts_before xs ys spans text all k d l = is_text_before xs ys _ text (all k d l)
 
 -- a span after what stood there
-pub behind : List ℕ → List ℕ → Span
-behind xs ys = record { start = length xs; end = length (xs ++ ys) }
+pub farther : List ℕ → List ℕ → Span
+farther xs ys = record { start = length xs; end = length (xs ++ ys) }
 
-pub is_text_behind : (xs ys : List ℕ) → IsUtf8 ys → IsText (xs ++ ys) (record { start = length xs; end = length (xs ++ ys) })
-is_text_behind xs ys text = record {
+pub is_text_after : (xs ys : List ℕ) → IsUtf8 ys → IsText (xs ++ ys) (record { start = length xs; end = length (xs ++ ys) })
+is_text_after xs ys text = record {
   rises = omega (arith, length-append xs ys);
   begins = IsCharBoundary-at_seam (xs ++ ys) xs ys refl text;
   ends = IsCharBoundary-end (xs ++ ys);
 }
 
-pub text_behind : (xs ys : List ℕ) → text_at (xs ++ ys) (record { start = length xs; end = length (xs ++ ys) }) ≡ ys
-text_behind xs ys = rw (drop-append_seam xs ys) (grind (arith, common_steps, length-append xs ys))
+pub text_after : (xs ys : List ℕ) → text_at (xs ++ ys) (record { start = length xs; end = length (xs ++ ys) }) ≡ ys
+text_after xs ys = rw (drop-append_seam xs ys) (grind (arith, common_steps, length-append xs ys))
 
 pub texts_pushed : (xs ys : List ℕ) (spans : List Span) → AreTexts xs spans
     → texts (xs ++ ys) (spans ++ record { start = length xs; end = length (xs ++ ys) } ∷ []) ≡ texts xs spans ++ ys ∷ []
-texts_pushed xs ys spans all = rw (map-append, texts_before xs ys spans all, text_behind xs ys) refl
+texts_pushed xs ys spans all = rw (map-append, texts_before xs ys spans all, text_after xs ys) refl
 
 pub are_texts_pushed : (xs ys : List ℕ) (spans : List Span) → IsUtf8 ys → AreTexts xs spans
     → AreTexts (xs ++ ys) (spans ++ record { start = length xs; end = length (xs ++ ys) } ∷ [])
 are_texts_pushed xs ys spans text all =
     All-append (IsText (xs ++ ys)) spans _ (are_texts_before xs ys spans text all)
     (λ k d l. elim k as (λ k. k < 1 → IsText (xs ++ ys) (slice_index_or (record { start = length xs; end = length (xs ++ ys) } ∷ []) k d)) [
-      | zero ↦ λ _. is_text_behind xs ys text
+      | zero ↦ λ _. is_text_after xs ys text
       | suc k ↦ λ l. absurd (omega arith)
     ] l)

@@ -12,9 +12,9 @@ taken_then (Some x) (Some y) (Some z) g h before now = now ∙ ap (λ t. t ++ h)
 
 pub taken_on : (a b c : Option (List ℕ)) (piece left given after : List ℕ) (k : ℕ) → piece ≡ given ++ left → Taken a given b → Taken b (take k left) c → after ≡ drop k left
     → (x : List ℕ) × (piece ≡ x ++ after) × Taken a x c
-taken_on a b c piece left given after k whole before now behind = (
+taken_on a b c piece left given after k whole before now farther = (
   given ++ take k left,
-  whole ∙ ap (λ xs. given ++ xs) (sym (take-append-drop k left)) ∙ sym (append_assoc given (take k left) (drop k left)) ∙ ap (λ xs. (given ++ take k left) ++ xs) (sym behind),
+  whole ∙ ap (λ xs. given ++ xs) (sym (take-append-drop k left)) ∙ sym (append_assoc given (take k left) (drop k left)) ∙ ap (λ xs. (given ++ take k left) ++ xs) (sym farther),
   taken_then a b c given (take k left) before now,
 )
 

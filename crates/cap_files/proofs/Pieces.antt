@@ -40,17 +40,17 @@ records-append (e ∷ es) fs xs ys laid =
     rw (take-append-le e.size xs ys reach, drop-append-le e.size xs ys reach, rest) refl
 
 pub laid-append : (es fs : List Entry) (xs ys : List ℕ) → IsLaid es xs → IsLaid fs ys → IsLaid (es ++ fs) (xs ++ ys)
-laid-append [] fs [] ys laid behind = behind
-laid-append [] fs (x ∷ xs) ys laid behind = absurd (omega arith)
-laid-append (e ∷ es) fs xs ys laid behind =
+laid-append [] fs [] ys laid farther = farther
+laid-append [] fs (x ∷ xs) ys laid farther = absurd (omega arith)
+laid-append (e ∷ es) fs xs ys laid farther =
     let reach : e.size ≤ length xs = laid.1 in
-    (laid.0, omega (arith, length-append xs ys), rw (drop-append-le e.size xs ys reach) (laid-append es fs (drop e.size xs) ys laid.2 behind))
+    (laid.0, omega (arith, length-append xs ys), rw (drop-append-le e.size xs ys reach) (laid-append es fs (drop e.size xs) ys laid.2 farther))
 
 head_kept : (k : ℕ) (bs xs : List ℕ) → k ≤ length bs → take k (take k bs ++ xs) ≡ take k bs
 head_kept k bs xs reach = subst (λ n. take n (take k bs ++ xs) ≡ take k bs) (length-take-le k bs reach) (take-append_seam (take k bs) xs)
 
-behind_kept : (k : ℕ) (bs xs : List ℕ) → k ≤ length bs → drop k (take k bs ++ xs) ≡ xs
-behind_kept k bs xs reach = subst (λ n. drop n (take k bs ++ xs) ≡ xs) (length-take-le k bs reach) (drop-append_seam (take k bs) xs)
+after_kept : (k : ℕ) (bs xs : List ℕ) → k ≤ length bs → drop k (take k bs ++ xs) ≡ xs
+after_kept k bs xs reach = subst (λ n. drop n (take k bs ++ xs) ≡ xs) (length-take-le k bs reach) (drop-append_seam (take k bs) xs)
 
 end_of-cons : (e : Entry) (es : List Entry) → end_of (e ∷ es) ≡ e.size + end_of es
 end_of-cons e es = sum_by-cons (λ (e : Entry). e.size) e es
@@ -76,16 +76,16 @@ cut-taken (e ∷ es) (suc n) d bs laid l =
     let before = end_of (take n es) in
     let size = (slice_index_or es n d).size in
     let front : take (end_of (e ∷ take n es)) bs ≡ take e.size bs ++ take before (drop e.size bs) = ap (λ k. take k bs) (end_of-cons e (take n es)) ∙ take-add e.size before bs in
-    let behind : drop (end_of (e ∷ take n es) + size) bs ≡ drop (before + size) (drop e.size bs) =
+    let farther : drop (end_of (e ∷ take n es) + size) bs ≡ drop (before + size) (drop e.size bs) =
     ap (λ k. drop (k + size) bs) (end_of-cons e (take n es)) ∙ ap (λ k. drop k bs) (add_assoc e.size before size) ∙ sym (drop-drop (before + size) e.size bs) in
-    rw (front, behind, append_assoc) (ap (λ xs. take e.size bs ++ xs) rest)
+    rw (front, farther, append_assoc) (ap (λ xs. take e.size bs ++ xs) rest)
 
 pub records-cut : (es : List Entry) (n : ℕ) (bs : List ℕ) → IsLaid es bs → n < length es → records (remove es n) (cut es n bs) ≡ remove (records es bs) n
 records-cut [] n bs laid l = absurd (omega arith)
 records-cut (e ∷ es) zero bs laid l = refl
 records-cut (e ∷ es) (suc n) bs laid l =
     let rest = records-cut es n (drop e.size bs) laid.2 (omega arith) in
-    rw (head_kept e.size bs (cut es n (drop e.size bs)) laid.1, behind_kept e.size bs (cut es n (drop e.size bs)) laid.1, rest) refl
+    rw (head_kept e.size bs (cut es n (drop e.size bs)) laid.1, after_kept e.size bs (cut es n (drop e.size bs)) laid.1, rest) refl
 
 pub laid-cut : (es : List Entry) (n : ℕ) (bs : List ℕ) → IsLaid es bs → n < length es → IsLaid (remove es n) (cut es n bs)
 laid-cut [] n bs laid l = absurd (omega arith)
@@ -94,7 +94,7 @@ laid-cut (e ∷ es) (suc n) bs laid l =
     let rest = laid-cut es n (drop e.size bs) laid.2 (omega arith) in (
       laid.0,
       omega (arith, laid.1, length-append (take e.size bs) (cut es n (drop e.size bs)), length-take-le e.size bs laid.1),
-      rw (behind_kept e.size bs (cut es n (drop e.size bs)) laid.1) rest,
+      rw (after_kept e.size bs (cut es n (drop e.size bs)) laid.1) rest,
     )
 
 pub end_within : (es : List Entry) (n : ℕ) (d : Entry) (bs : List ℕ) → IsLaid es bs → n < length es → end_of (take n es) + (slice_index_or es n d).size ≤ length bs

@@ -14,9 +14,9 @@ written_no_more a b c bytes left given whole before now =
 
 pub written_on : (a b c : Option (List ℕ)) (bytes left given after : List ℕ) (k : ℕ) → bytes ≡ given ++ left → Appends a b given → Appends b c (take k left) → after ≡ drop k left
     → (x : List ℕ) × (bytes ≡ x ++ after) × Appends a c x
-written_on a b c bytes left given after k whole before now behind = (
+written_on a b c bytes left given after k whole before now farther = (
   given ++ take k left,
-  whole ∙ ap (λ xs. given ++ xs) (sym (take-append-drop k left)) ∙ sym (append_assoc given (take k left) (drop k left)) ∙ ap (λ xs. (given ++ take k left) ++ xs) (sym behind),
+  whole ∙ ap (λ xs. given ++ xs) (sym (take-append-drop k left)) ∙ sym (append_assoc given (take k left) (drop k left)) ∙ ap (λ xs. (given ++ take k left) ++ xs) (sym farther),
   Appends-trans a b c given (take k left) before now,
 )
 

@@ -10,7 +10,7 @@ use Rattle.cap_bytes.specs.declared.cursor.Cursor.{Cursor}
 use Rattle.cap_bytes.specs.Grammar.{that, each, repeat}
 use Rattle.cap_bytes.specs.Taking.{Taken, Fails}
 use Rattle.cap_bytes.proofs.EachLoops.{ReadsAll, each_taken, loose_first, HasPassedEach, each_none, each_more, each_fault, each_all}
-use Rattle.cap_frame.specs.DirectoryFormat.{Custom, custom_info, behind_tag, is_new_tag, and_that_of, none}
+use Rattle.cap_frame.specs.DirectoryFormat.{Custom, custom_info, after_tag, is_new_tag, and_that_of, none}
 use Rattle.cap_frame.specs.Tags.{named_in}
 
 -- ---- the iterator asks less of a tag
@@ -23,7 +23,7 @@ less_strict : (named : ℕ → Bool) (tag : ℕ) → that (is_new_tag named) tag
 less_strict named tag e = both (nat_le 128 tag) (not (named tag)) _ e
 
 all_loose : ReadsAll custom_info (custom_info none)
-all_loose = loose_first 1 (λ named. that (is_new_tag named)) (that (is_new_tag none)) behind_tag less_strict
+all_loose = loose_first 1 (λ named. that (is_new_tag named)) (that (is_new_tag none)) after_tag less_strict
 
 pub customs_known : (n : ℕ) (now : Cursor) (xs : List Custom) (after : Cursor) → Taken (each n custom_info and_that_of none) now xs after → Taken (repeat n (custom_info none)) now xs after
 customs_known n now xs after t = each_taken custom_info and_that_of (custom_info none) all_loose n none now xs after t

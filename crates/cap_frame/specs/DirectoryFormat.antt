@@ -25,8 +25,8 @@ abbrev pub is_new_tag : (ℕ → Bool) → ℕ → Bool
 is_new_tag named tag = nat_le 128 tag && not (named tag)
 
 -- a custom component after its tag
-abbrev pub behind_tag : ℕ → Grammar Custom
-behind_tag tag = do
+abbrev pub after_tag : ℕ → Grammar Custom
+after_tag tag = do
   size ← u2
   identifier ← aid
   give (record { tag = tag; size = size; aid = identifier })
@@ -34,7 +34,7 @@ behind_tag tag = do
 abbrev pub custom_info : (ℕ → Bool) → Grammar Custom
 custom_info named = do
   tag ← number 1 (that (is_new_tag named))
-  behind_tag tag
+  after_tag tag
 
 -- no tag
 abbrev pub none : ℕ → Bool

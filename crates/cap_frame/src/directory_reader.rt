@@ -4,7 +4,7 @@ ghost use Rattle.cap_bytes.specs.Exact.{IsExact};
 ghost use Rattle.cap_bytes.specs.Spelling.{info_of, Stands, Breaks};
 ghost use Rattle.cap_bytes.specs.Taking.{Takes, Passes, Reads};
 ghost use Rattle.cap_frame.specs.Directory.{custom_seen, customs_left, image_sizes_seen, directory_items};
-ghost use Rattle.cap_frame.specs.DirectoryFormat.{custom_info, behind_tag, customs_info, and_that_of, none, size_count, image_sizes_info, directory_info};
+ghost use Rattle.cap_frame.specs.DirectoryFormat.{custom_info, after_tag, customs_info, and_that_of, none, size_count, image_sizes_info, directory_info};
 ghost use Rattle.cap_frame.specs.Tags.{named_in};
 
 use crate::directory_record::{CustomEntry, Directory, ImageSizes};
@@ -107,7 +107,7 @@ fn new_custom<'a>(items: &mut Cursor<'a>, named: &[bool; 256]) -> Result<CustomE
     if tag < 128 || named[tag as usize] {
         return Err(place.fault(FormKind::BadValue));
     }
-    behind_tag(items, tag)
+    after_tag(items, tag)
 }
 
 /// The next custom component, where nothing is asked of its tag but that it is from 128.
@@ -119,12 +119,12 @@ pub(crate) fn custom_info<'a>(items: &mut Cursor<'a>) -> Result<CustomEntry<'a>,
     if tag < 128 {
         return Err(place.fault(FormKind::BadValue));
     }
-    behind_tag(items, tag)
+    after_tag(items, tag)
 }
 
 /// What stands after a custom component's tag.
-fn behind_tag<'a>(items: &mut Cursor<'a>, tag: u8) -> Result<CustomEntry<'a>, FormFault>
-    ensures { Takes custom_seen (behind_tag tag) items.old result items.new }
+fn after_tag<'a>(items: &mut Cursor<'a>, tag: u8) -> Result<CustomEntry<'a>, FormFault>
+    ensures { Takes custom_seen (after_tag tag) items.old result items.new }
 {
     let size = items.u2()?;
     let aid = items.aid()?;

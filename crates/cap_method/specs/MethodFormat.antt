@@ -45,10 +45,10 @@ compact_header first = do
   second ← u1
   give (record { flags = method_flags first; size = 2; max_stack = first % 16; nargs = second / 16; max_locals = second % 16 })
 
-abbrev pub header_behind : Bool → ℕ → Grammar Header
-header_behind true first = extended_header first
-header_behind false first = compact_header first
+abbrev pub header_after : Bool → ℕ → Grammar Header
+header_after true first = extended_header first
+header_after false first = compact_header first
 
 -- the highest bit of the first byte tells the two apart
 abbrev pub header_info : Grammar Header
-header_info = u1 >>= λ first. header_behind (nat_le 128 first) first
+header_info = u1 >>= λ first. header_after (nat_le 128 first) first

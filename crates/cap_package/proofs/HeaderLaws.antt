@@ -4,7 +4,7 @@ use Rattle.std.proofs.lemmas.Bool.{false≢true, le-leb, ltb-false}
 use Rattle.cap_bytes.specs.Number.{number_at}
 use Rattle.cap_bytes.specs.Spelling.{Spells, info_of}
 use Rattle.cap_bytes.proofs.Laws.{spelled-read}
-use Rattle.cap_method.specs.MethodFormat.{Header, method_flags, header_behind, header_info}
+use Rattle.cap_method.specs.MethodFormat.{Header, method_flags, header_after, header_info}
 use Rattle.cap_desc.specs.DescriptorFormat.{Method}
 use Rattle.cap_components.specs.declared.fault.PackFault.TheVariants.{MethodOutside}
 use Rattle.cap_package.specs.HeaderChecks.{header_in}
@@ -36,20 +36,20 @@ header_by info offset first true e at h =
     let fourth = byte_at info (offset + 1 + 1 + 1) (omega arith) in
     let found : Header = record { flags = method_flags first; size = 4; max_stack = second.0; nargs = third.0; max_locals = fourth.0 } in
     let end = offset + 1 + 1 + 1 + 1 in
-    let behind : Spells (header_behind true first) info (offset + 1) found end = (second.0, offset + 1 + 1, (second.1, refl, refl), (third.0, offset + 1 + 1 + 1, (third.1, refl, refl), (fourth.0, end, (fourth.1, refl, refl), (refl, refl)))) in
+    let farther : Spells (header_after true first) info (offset + 1) found end = (second.0, offset + 1 + 1, (second.1, refl, refl), (third.0, offset + 1 + 1 + 1, (third.1, refl, refl), (fourth.0, end, (fourth.1, refl, refl), (refl, refl)))) in
     record {
       header = found;
-      there = header_found info offset end found (first, offset + 1, (at, refl, refl), subst (λ k. Spells (header_behind k first) info (offset + 1) found end) (sym e) behind);
+      there = header_found info offset end found (first, offset + 1, (at, refl, refl), subst (λ k. Spells (header_after k first) info (offset + 1) found end) (sym e) farther);
       size = rw (at, e) refl;
     }
 header_by info offset first false e at h =
     let second = byte_at info (offset + 1) (omega arith) in
     let found : Header = record { flags = method_flags first; size = 2; max_stack = first % 16; nargs = second.0 / 16; max_locals = second.0 % 16 } in
     let end = offset + 1 + 1 in
-    let behind : Spells (header_behind false first) info (offset + 1) found end = (second.0, end, (second.1, refl, refl), (refl, refl)) in
+    let farther : Spells (header_after false first) info (offset + 1) found end = (second.0, end, (second.1, refl, refl), (refl, refl)) in
     record {
       header = found;
-      there = header_found info offset end found (first, offset + 1, (at, refl, refl), subst (λ k. Spells (header_behind k first) info (offset + 1) found end) (sym e) behind);
+      there = header_found info offset end found (first, offset + 1, (at, refl, refl), subst (λ k. Spells (header_after k first) info (offset + 1) found end) (sym e) farther);
       size = rw (at, e) refl;
     }
 

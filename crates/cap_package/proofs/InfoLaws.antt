@@ -7,8 +7,8 @@ use Rattle.cap_frame.specs.Frame.{component}
 pub info-short : (tag : ℕ) (file info : List ℕ) → Stands (component tag) file info → length info ≤ 65535
 unfolding Stands Spells
 info-short tag file info h =
-    let behind = h.1.3 in
-    let whole : info ≡ behind.0 = behind.3.3.0 in
-    let part : behind.0 ≡ take (h.1.0 % 65536) (drop h.1.1 file) = behind.2.1 in
+    let farther = h.1.3 in
+    let whole : info ≡ farther.0 = farther.3.3.0 in
+    let part : farther.0 ≡ take (h.1.0 % 65536) (drop h.1.1 file) = farther.2.1 in
     let size = ap length whole ∙ ap length part ∙ length-take (h.1.0 % 65536) (drop h.1.1 file) in
     omega (arith, size)

@@ -42,9 +42,9 @@ none_front : {X Y : Type 0} (f : X → Option Y) (xs ys : List X) → NoneOf f (
 none_front f [] ys h = tt {0}
 none_front f (x ∷ xs) ys h = (h.0, none_front f xs ys h.1)
 
-none_behind : {X Y : Type 0} (f : X → Option Y) (xs ys : List X) → NoneOf f (xs ++ ys) → NoneOf f ys
-none_behind f [] ys h = h
-none_behind f (x ∷ xs) ys h = none_behind f xs ys h.1
+none_after : {X Y : Type 0} (f : X → Option Y) (xs ys : List X) → NoneOf f (xs ++ ys) → NoneOf f ys
+none_after f [] ys h = h
+none_after f (x ∷ xs) ys h = none_after f xs ys h.1
 
 none_map : {W X Y : Type 0} (f : X → Option Y) (g : W → X) (ws : List W) → NoneOf f (map g ws) → NoneOf (λ w. f (g w)) ws
 none_map f g [] h = tt {0}
@@ -161,7 +161,7 @@ all_apart : (d : Description) (fs : List Field) → NoneOf (share_pair d) (pairs
 all_apart d [] none = tt {0}
 all_apart d (f ∷ fs) none =
     first_apart d fs (place_in d f) (none_map (share_pair d) (λ g. (f, g)) fs (none_front (share_pair d) (map (λ g. (f, g)) fs) (pairs fs) none))
-    (all_apart d fs (none_behind (share_pair d) (map (λ g. (f, g)) fs) (pairs fs) none))
+    (all_apart d fs (none_after (share_pair d) (map (λ g. (f, g)) fs) (pairs fs) none))
 
 -- the static fields of a package share no byte
 pub statics_apart : (p : PackageRecord) → IsPackage p → AreApart (static_places p)

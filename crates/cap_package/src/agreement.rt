@@ -21,10 +21,7 @@ use offset_set::Offsets;
 
 /// The sizes of the parts and the places of the methods agree.
 #[tactic(auto, unfolding(crate::specs::Agreement::places_agree))]
-pub(crate) fn places_agree(
-    all: &Components<'_, '_>,
-    interfaces: &Offsets,
-) -> Result<(), PackFault>
+pub(crate) fn places_agree(all: &Components<'_, '_>, interfaces: &Offsets) -> Result<(), PackFault>
     requires { holds interfaces.now ≡ names_interface (records all.now.classes) }
     ensures { result ≡ places_agree (components_seen all.now) }
 {
@@ -37,10 +34,7 @@ pub(crate) fn places_agree(
 
 /// The numbers that two components tell are equal.
 #[tactic(auto, unfolding(crate::specs::Agreement::counts_agree))]
-pub(crate) fn counts_agree(
-    all: &Components<'_, '_>,
-    interfaces: &Offsets,
-) -> Result<(), PackFault>
+pub(crate) fn counts_agree(all: &Components<'_, '_>, interfaces: &Offsets) -> Result<(), PackFault>
     requires { holds interfaces.now ≡ names_interface (records all.now.classes) }
     ensures { result ≡ counts_agree (components_seen all.now) }
 {
@@ -137,10 +131,7 @@ fn exports_agree(all: &Components<'_, '_>) -> Result<(), PackFault>
 
 /// Handlers, static fields, names, classes, headers and types agree.
 #[tactic(auto, unfolding(crate::specs::Agreement::members_agree))]
-pub(crate) fn members_agree(
-    all: &Components<'_, '_>,
-    interfaces: &Offsets,
-) -> Result<(), PackFault>
+pub(crate) fn members_agree(all: &Components<'_, '_>, interfaces: &Offsets) -> Result<(), PackFault>
     requires { holds interfaces.now ≡ names_interface (records all.now.classes) }
     ensures { result ≡ members_agree (components_seen all.now) }
 {

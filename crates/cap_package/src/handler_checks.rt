@@ -43,7 +43,12 @@ fn is_within(info: View<'_>, handler: HandlerInfo, method: &MethodInfo) -> bool
 }
 
 /// Whether exactly one method owns an entry, in whose code it lies.
-fn has_home(info: View<'_>, handler: HandlerInfo, number: u32, described: MethodsBut<'_, '_>) -> bool
+fn has_home(
+    info: View<'_>,
+    handler: HandlerInfo,
+    number: u32,
+    described: MethodsBut<'_, '_>,
+) -> bool
     ensures { result ≡ has_home info.entry.bytes.now handler (filter (claims number) (methods_but_left described.entry)) }
 {
     let mut rest = described;

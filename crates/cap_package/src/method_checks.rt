@@ -31,14 +31,14 @@ fn overlap_fault(info: View<'_>, a: &MethodInfo, b: &MethodInfo) -> Option<PackF
 fn overlaps_with(
     info: View<'_>,
     method: &MethodInfo,
-    behind: MethodsBut<'_, '_>,
+    farther: MethodsBut<'_, '_>,
     least: Option<PackFault>,
 ) -> Option<PackFault>
     requires { length info.bytes.now ≤ 65535 }
-    ensures { result ≡ least_from least (overlap_fault info.entry.bytes.now (method_seen method.now)) (methods_but_left behind.entry) }
+    ensures { result ≡ least_from least (overlap_fault info.entry.bytes.now (method_seen method.now)) (methods_but_left farther.entry) }
 {
     let mut least = least;
-    'methods: for other in behind {
+    'methods: for other in farther {
         least = lesser(least, overlap_fault(info, method, &other));
     }
     least

@@ -75,16 +75,16 @@ fn share_fault(
 fn shares_with(
     descriptor: &DescPart<'_>,
     place: Option<StaticPlace>,
-    behind: FieldsOf<'_>,
+    farther: FieldsOf<'_>,
     least: Option<PackFault>,
 ) -> Option<PackFault>
     ensures { result
         ≡ least_from least
         (share_fault (description descriptor.now) (option_map place_seen place))
-        (fields_of_left behind.entry) }
+        (fields_of_left farther.entry) }
 {
     let mut least = least;
-    'fields: for other in behind {
+    'fields: for other in farther {
         least = lesser(least, share_fault(descriptor, place, &other));
     }
     least

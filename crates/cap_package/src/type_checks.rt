@@ -109,7 +109,8 @@ pub(crate) fn types_fit(descriptor: &DescPart<'_>, interfaces: &Offsets) -> Resu
         (least_from
         (least_of (field_type_fault (description descriptor.now)) (fields_of (description descriptor.now).items.classes))
         (method_type_fault (description descriptor.now) 510) (methods_of (description descriptor.now).items.classes))
-        (method_type_fault (description descriptor.now) 254) (methods_in (holds interfaces.now) (description descriptor.now).items.classes)) }
+        (method_type_fault (description descriptor.now) 254)
+        (methods_in (holds interfaces.now) (description descriptor.now).items.classes)) }
 {
     let fields = field_types(descriptor);
     let methods = method_types(descriptor, fields);

@@ -90,11 +90,11 @@ fn run_words(rt: &HostRuntime, words: &Words) -> Result<u8, NoStart> {
 
 fn words(rt: &HostRuntime) -> Result<Words, NoStart> {
     let arguments = env::args(rt).map_err(no_words)?;
-    Ok(behind_name(rt.alloc(), arguments)?)
+    Ok(after_name(rt.alloc(), arguments)?)
 }
 
 /// The words after the program's name, which comes first.
-fn behind_name(alloc: Global, arguments: Args) -> Result<Words, AllocError>
+fn after_name(alloc: Global, arguments: Args) -> Result<Words, AllocError>
     ensures { IfOk result (λ w. w ≡ map string_bytes (drop 1 (into_iter_items arguments))) }
 {
     let mut left = arguments;

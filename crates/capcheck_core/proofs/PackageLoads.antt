@@ -111,10 +111,10 @@ module _ (before : Folders) where
   stopped_others after dir dirs parts roles old new Memory few w r one loads = tt {0}
   stopped_others after dir dirs parts roles old new (TooMany count) few w r one loads = absurd loads
 
-  pub stopped_behind : (now after : Folders) (dir : List ℕ) (dirs : List (List ℕ)) (parts : List Lent) (roles : List ℕ) (old new : List (List Lent)) (stop : PackagesStop)
+  pub stopped_after : (now after : Folders) (dir : List ℕ) (dirs : List (List ℕ)) (parts : List Lent) (roles : List ℕ) (old new : List (List Lent)) (stop : PackagesStop)
       → now ≡ before → length dirs ≤ 15 → IsWhole before dir parts → AreRolesIn before dir roles → old ≡ parts ∷ []
       → LoadsOthers now after dirs old new (Err stop) → LoadsPackages before after (dir ∷ dirs) (Err stop)
-  stopped_behind now after dir dirs parts roles old new stop same few w r one loads =
+  stopped_after now after dir dirs parts roles old new stop same few w r one loads =
       stopped_others after dir dirs parts roles old new stop few w r one (subst (λ f. LoadsOthers f after dirs old new (Err stop)) same loads)
 
   -- with the first package and its roles the others are all

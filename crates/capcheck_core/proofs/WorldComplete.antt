@@ -141,7 +141,7 @@ stop_rose : (before after : Folders) (dirs : List (List ℕ))
 stop_rose before after [] stop = absurd stop
 stop_rose before after (dir ∷ dirs) (inl here) = here.1.holds.rose
 stop_rose before after (dir ∷ dirs) (inr (inl at)) = at.holds.rose
-stop_rose before after (dir ∷ dirs) (inr (inr behind)) = first_rose before after 1 dirs behind.first
+stop_rose before after (dir ∷ dirs) (inr (inr farther)) = first_rose before after 1 dirs farther.first
 
 -- ---- all of it
 

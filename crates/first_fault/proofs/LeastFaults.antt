@@ -45,16 +45,16 @@ module _ {F : Type 0} (place : F → Place) where
 
   least-before : (x : F) (xs : List F) (f : F) → IsLeast place (x ∷ xs) f → IsUpTo (place f) (place x)
   least-before x xs f (inl here) = rw here.0 (up_to-refl (place x))
-  least-before x xs f (inr behind) = before-up_to (place f) (place x) behind.0
+  least-before x xs f (inr farther) = before-up_to (place f) (place x) farther.0
 
   -- another fault that is not before the first of a list leaves the least where it is
   least-kept : (g x : F) (xs : List F) (f : F) → IsUpTo (place g) (place x) → IsLeast place (g ∷ xs) f → IsLeast place (g ∷ x ∷ xs) f
   least-kept g x xs f le (inl here) =
       let m : IsUpTo (place f) (place x) = rw here.0 le in
       inl (here.0, (m, here.1))
-  least-kept g x xs f le (inr behind) =
-      let m : IsBefore (place f) (place x) = before-then (place f) (place g) (place x) behind.0 le in
-      inr (behind.0, inr (m, behind.1))
+  least-kept g x xs f le (inr farther) =
+      let m : IsBefore (place f) (place x) = before-then (place f) (place g) (place x) farther.0 le in
+      inr (farther.0, inr (m, farther.1))
 
   chosen_least : (g x : F) (xs : List F) (f : F) (b : Bool) → comes_before (place x) (place g) ≡ b → (least_in (Some x) xs ≡ Some f → IsLeast place (x ∷ xs) f) → (least_in (Some g) xs ≡ Some f → IsLeast place (g ∷ xs) f) → least_in (lesser place (Some g) (Some x)) xs ≡ Some f → IsLeast place (g ∷ x ∷ xs) f
   unfolding lesser

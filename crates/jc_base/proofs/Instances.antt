@@ -30,8 +30,8 @@ module _ (packages : ℕ) (t : ClassTable) (methods : List MethodRec) (are : Are
   cells-own c = own_by c (parent_of t c) refl
 
 -- an instance begins with the cells of each class on its chain
-pub cells-on_chain : (t : ClassTable) → AreClasses t → (c h : ℕ) → is_on_chain t h c ≡ true → (behind : List Ty) × (cells_of t c ≡ cells_of t h ++ behind)
-cells-on_chain t are = climb t are (λ c. (h : ℕ) → is_on_chain t h c ≡ true → (behind : List Ty) × (cells_of t c ≡ cells_of t h ++ behind))
+pub cells-on_chain : (t : ClassTable) → AreClasses t → (c h : ℕ) → is_on_chain t h c ≡ true → (farther : List Ty) × (cells_of t c ≡ cells_of t h ++ farther)
+cells-on_chain t are = climb t are (λ c. (h : ℕ) → is_on_chain t h c ≡ true → (farther : List Ty) × (cells_of t c ≡ cells_of t h ++ farther))
     (λ c top alone h on. ([], ap (cells_of t) (on_alone t h c alone on) ∙ sym (append-nil (cells_of t h))))
     (λ c p link next before h on. elim (on_next t h c p next on) [
       | inl here ↦ ([], ap (cells_of t) here ∙ sym (append-nil (cells_of t h)))

@@ -35,14 +35,14 @@ slice_get-front [] ys n x e = absurd cc
 slice_get-front (y ∷ xs) ys zero x e = e
 slice_get-front (y ∷ xs) ys (suc n) x e = slice_get-front xs ys n x e
 
-pub slice_get-behind : {X : Type 0} (xs ys : List X) (k n : ℕ) → n ≡ length xs + k → slice_get (xs ++ ys) n ≡ slice_get ys k
-slice_get-behind [] ys k n e =
+pub slice_get-farther : {X : Type 0} (xs ys : List X) (k n : ℕ) → n ≡ length xs + k → slice_get (xs ++ ys) n ≡ slice_get ys k
+slice_get-farther [] ys k n e =
     let same : n ≡ k = omega arith in
     ap (slice_get ys) same
-slice_get-behind (x ∷ xs) ys k zero e = absurd (omega arith)
-slice_get-behind (x ∷ xs) ys k (suc n) e =
+slice_get-farther (x ∷ xs) ys k zero e = absurd (omega arith)
+slice_get-farther (x ∷ xs) ys k (suc n) e =
     let less : n ≡ length xs + k = omega arith in
-    slice_get-behind xs ys k n less
+    slice_get-farther xs ys k n less
 
 -- what holds of each element, last first
 pub All-reverse : {X : Type 0} (P : X → Type 0) (xs : List X) → All P xs → All P (reverse xs)

@@ -27,8 +27,9 @@ pub record ArePlaced (m : Method) : Type 0 where
   pub reached : (p : ℕ) → IsReached m p → IsBoundary m.code p
   pub decoded : (i : Placed) → IsReached m i.place → decoded m.code i.place ≡ Ok i.insn → Stands m.code i
 
--- the instructions of a code: each is the one that is decoded at its place and ends in the code, and is a byte long at least; no two stand at
--- one place, the next begins where one ends or later, and in the listing places rise
+-- the instructions of a code: each is the one that is decoded at its place, ends in the code, and is a byte
+-- long at least; no two stand at one place, the next begins where one ends or later, and in the listing
+-- places rise
 pub record AreListed (code : List ℕ) : Type 0 where
   pub lists : Lists code 0 (listing code)
   pub decodes : (i : Placed) → Stands code i → decoded code i.place ≡ Ok i.insn

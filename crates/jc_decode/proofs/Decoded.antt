@@ -79,7 +79,7 @@ Begins-decoded xs at i h =
     from_bind (table_end l xs table y z) _ i h6 (λ end end_is h7.
     let place = reached-ok xs (at + 1 + total_width l) table table_is in
     let inside = table_end-ok l l.cases xs table y z end end_is place.1 in
-    let behind : at + (end - at) ≡ end = omega (arith, place.0, inside.0) in
+    let farther : at + (end - at) ≡ end = omega (arith, place.0, inside.0) in
     let at_table : table_end l xs (at + 1 + total_width l) y z ≡ Ok end = rw (← place.0) end_is in
     subst (Begins xs at) (ok-same _ i _ refl h7) (record {
       opcode = or_cut-ok _ _ op_is;
@@ -89,7 +89,7 @@ Begins-decoded xs at i h =
       x = x_is;
       y = y_is;
       z = z_is;
-      ends = at_table ∙ ap Ok (sym behind);
+      ends = at_table ∙ ap Ok (sym farther);
     }))))))))
 
 -- and what begins there is decoded

@@ -1,4 +1,4 @@
--- Behind the end of a code nothing is decoded.
+-- After the end of a code nothing is decoded.
 use Rattle.std.proofs.Common.{◌≡◌, ◌≤◌, ◌+◌, ℕ, false, List, length, Err, refl, arith}
 use Rattle.std.specs.Prelude.{nat_le}
 use Rattle.std.proofs.lemmas.Bool.Decides.{nat_tests}

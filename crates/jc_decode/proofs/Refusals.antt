@@ -35,8 +35,8 @@ err-same d e r h k = cc
 -- a chain fails at its first step, or after it
 from_failed : {A B C : Type 0} (r : Result A CodeEnd) (f : A → Result B CodeEnd) (e : CodeEnd)
     → (r >>= f) ≡ Err e → (r ≡ Err e → C) → ((x : A) → r ≡ Ok x → f x ≡ Err e → C) → C
-from_failed (Ok x) f e h first behind = behind x refl h
-from_failed (Err d) f e h first behind = first (ap Err (err-same d e _ refl h))
+from_failed (Ok x) f e h first farther = farther x refl h
+from_failed (Err d) f e h first farther = first (ap Err (err-same d e _ refl h))
 
 or_cut-failed : {A : Type 0} (o : Option A) (e : CodeEnd) → or_cut o ≡ Err e → (o ≡ None) × (Cut ≡ e)
 or_cut-failed None e h = (refl, cc)

@@ -188,14 +188,14 @@ pub record SetCase (xs : List ℕ) (at : ℕ) (i : Insn) (n p : ℕ) (offset : �
 -- an instruction begins where it did, if its table ends where it did
 Begins-written : (xs : List ℕ) (at p : ℕ) (i : Insn) (offset : ℤ) → (b : Begins xs at i) → Written xs p offset → at + 1 + total_width b.layout ≤ p
     → table_end b.layout (with_offset xs p offset) (at + 1 + total_width b.layout) i.y i.z ≡ Ok (at + i.len) → Begins (with_offset xs p offset) at i
-Begins-written xs at p i offset b w behind ends = record {
-  opcode = number_at-alike 1 at at (with_offset xs p offset) xs (alike-before xs p offset at 1 w (omega (arith, behind))) ∙ b.opcode;
+Begins-written xs at p i offset b w farther ends = record {
+  opcode = number_at-alike 1 at at (with_offset xs p offset) xs (alike-before xs p offset at 1 w (omega (arith, farther))) ∙ b.opcode;
   layout = b.layout;
   is_layout = b.is_layout;
   reaches = omega (arith, b.reaches, length-written xs p offset w);
-  x = operand_at-alike b.layout.x _ _ (with_offset xs p offset) xs (alike-before xs p offset _ _ w (omega (arith, behind))) ∙ b.x;
-  y = operand_at-alike b.layout.y _ _ (with_offset xs p offset) xs (alike-before xs p offset _ _ w (omega (arith, behind))) ∙ b.y;
-  z = operand_at-alike b.layout.z _ _ (with_offset xs p offset) xs (alike-before xs p offset _ _ w (omega (arith, behind))) ∙ b.z;
+  x = operand_at-alike b.layout.x _ _ (with_offset xs p offset) xs (alike-before xs p offset _ _ w (omega (arith, farther))) ∙ b.x;
+  y = operand_at-alike b.layout.y _ _ (with_offset xs p offset) xs (alike-before xs p offset _ _ w (omega (arith, farther))) ∙ b.y;
+  z = operand_at-alike b.layout.z _ _ (with_offset xs p offset) xs (alike-before xs p offset _ _ w (omega (arith, farther))) ∙ b.z;
   ends = ends;
 }
 

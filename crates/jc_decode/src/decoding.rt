@@ -200,7 +200,7 @@ impl Operand {
 fn end_of_table(layout: Layout, code: View, table: u32, y: i32, z: i32) -> Result<u32, CodeEnd>
     requires short { length code.bytes.now ≤ 65535 }
     requires inside { table ≤ length code.bytes.now }
-    requires behind { width layout.z ≤ table }
+    requires farther { width layout.z ≤ table }
     ensures value { result ≡ table_end layout code.entry.bytes.now table y z }
     ensures within { IfOk result (λ e. (table ≤ e) × (e ≤ length code.entry.bytes.now)) }
 {

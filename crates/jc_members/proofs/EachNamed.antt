@@ -20,7 +20,7 @@ use Rattle.first_fault.specs.Least.{◌>>=◌, lesser, least_from, least_of, ref
 use Rattle.jc_resolve.specs.Named.{IsAgreed}
 use Rattle.jc_members.specs.Members.{member_of}
 use Rattle.jc_members.specs.Naming.{NamesMember, NamesOnly, IsEntry, AreNamed, NamesNone, IsMissing, NamesEach}
-use Rattle.jc_members.specs.Pools.{PoolPlace, places_from, places_behind, pool_places, member_fault, missing_members, pools, pools_of}
+use Rattle.jc_members.specs.Pools.{PoolPlace, places_from, places_after, pool_places, member_fault, missing_members, pools, pools_of}
 use Rattle.jc_members.proofs.Faultless.{pools-some}
 use Rattle.jc_members.proofs.NamingLaws.{member-names, names-member, names-only}
 use Rattle.jc_members.proofs.PoolTags.{tag-known}
@@ -73,12 +73,12 @@ module _ (ps : List PackageRecord) where
       (record { home = p; there = at; entry = first })
       (in_pool k p at (n + 1) es (λ i x h. let next : (n + 1) + i ≡ n + suc i = omega arith in rw next (all (suc i) x h)))
 
-  in_pools : (k : ℕ) (qs : List PackageRecord) → ((j : ℕ) (q : PackageRecord) → slice_get qs j ≡ Some q → slice_get ps (k + j) ≡ Some q) → All IsPlace (places_behind k qs)
+  in_pools : (k : ℕ) (qs : List PackageRecord) → ((j : ℕ) (q : PackageRecord) → slice_get qs j ≡ Some q → slice_get ps (k + j) ≡ Some q) → All IsPlace (places_after k qs)
   in_pools k [] all = All-nil IsPlace
   in_pools k (q ∷ qs) all =
       let here : k + 0 ≡ k = omega arith in
       let first : slice_get ps k ≡ Some q = rw here at (all 0 q refl) in
-      All-append IsPlace (places_from k 0 q.pool) (places_behind (k + 1) qs)
+      All-append IsPlace (places_from k 0 q.pool) (places_after (k + 1) qs)
       (in_pool k q first 0 q.pool (λ i e h. let same : 0 + i ≡ i = omega arith in rw same h))
       (in_pools (k + 1) qs (λ j r e. let next : (k + 1) + j ≡ k + suc j = omega arith in rw next (all (suc j) r e)))
 

@@ -14,8 +14,8 @@ use Rattle.jc_base.specs.Linked.{list_at}
 use Rattle.jc_resolve.specs.declared.fault.LinkFault.TheVariants.{NoMember, BadCatch}
 use Rattle.jc_resolve.proofs.Faultless.{faultless_first, both_faultless}
 use Rattle.jc_members.specs.Members.{member_of}
-use Rattle.jc_members.specs.Pools.{PoolPlace, places_from, places_behind, member_fault, pools_behind}
-use Rattle.jc_members.specs.Catches.{HandlerPlace, handlers_from, handlers_behind, catches, catch_fault}
+use Rattle.jc_members.specs.Pools.{PoolPlace, places_from, places_after, member_fault, pools_after}
+use Rattle.jc_members.specs.Catches.{HandlerPlace, handlers_from, handlers_after, catches, catch_fault}
 
 -- ---- pool entries
 
@@ -62,21 +62,21 @@ module _ (all : List PackageRecord) (t : ClassTable) (statics : List StaticRec) 
       have_more (member_of all t statics k) x xs (member_of all t statics k x) refl (there_by place (is_none (member_of all t statics k x)) refl both.0) (pool-members k (n + 1) xs both.1)
 
   -- the members of a pool
-  pub pools-at : (k : ℕ) (ps : List PackageRecord) (n : ℕ) (p : PackageRecord) → filter_map (member_fault all t statics) (places_behind k ps) ≡ [] → slice_get ps n ≡ Some p
-      → (i : ℕ) → slice_get (list_at (pools_behind (member_of all t statics) k ps) n) i ≡ option_and_then (member_of all t statics (k + n)) (slice_get p.pool i)
+  pub pools-at : (k : ℕ) (ps : List PackageRecord) (n : ℕ) (p : PackageRecord) → filter_map (member_fault all t statics) (places_after k ps) ≡ [] → slice_get ps n ≡ Some p
+      → (i : ℕ) → slice_get (list_at (pools_after (member_of all t statics) k ps) n) i ≡ option_and_then (member_of all t statics (k + n)) (slice_get p.pool i)
   pools-at k [] n p e at = absurd cc
   pools-at k (q ∷ qs) zero p e at =
       let same : q ≡ p = cc in
-      let both = both_faultless (member_fault all t statics) (places_from k 0 q.pool) (places_behind (k + 1) qs) e in
+      let both = both_faultless (member_fault all t statics) (places_from k 0 q.pool) (places_after (k + 1) qs) e in
       let k-is : k ≡ k + 0 = omega arith in
       λ i. (pool-members k 0 q.pool both.0).at i ∙ ap (λ (r : PackageRecord). option_and_then (member_of all t statics k) (slice_get r.pool i)) same ∙ ap (λ (j : ℕ). option_and_then (member_of all t statics j) (slice_get p.pool i)) k-is
   pools-at k (q ∷ qs) (suc n) p e at =
-      let both = both_faultless (member_fault all t statics) (places_from k 0 q.pool) (places_behind (k + 1) qs) e in
+      let both = both_faultless (member_fault all t statics) (places_from k 0 q.pool) (places_after (k + 1) qs) e in
       let k-is : k + 1 + n ≡ k + suc n = omega arith in
       λ i. pools-at (k + 1) qs n p both.1 at i ∙ ap (λ (j : ℕ). option_and_then (member_of all t statics j) (slice_get p.pool i)) k-is
 
   -- an entry of a pool and its member
-  pools-entry : (k : ℕ) (ps : List PackageRecord) (n : ℕ) (p : PackageRecord) → filter_map (member_fault all t statics) (places_behind k ps) ≡ [] → slice_get ps n ≡ Some p
+  pools-entry : (k : ℕ) (ps : List PackageRecord) (n : ℕ) (p : PackageRecord) → filter_map (member_fault all t statics) (places_after k ps) ≡ [] → slice_get ps n ≡ Some p
       → (i : ℕ) (x : Entry) → slice_get p.pool i ≡ Some x → (m : Member) × (member_of all t statics (k + n) x ≡ Some m)
   pools-entry k [] n p e at i x h = absurd (past_end p at)
     where
@@ -84,20 +84,20 @@ module _ (all : List PackageRecord) (t : ClassTable) (statics : List StaticRec) 
       past_end p h = cc
   pools-entry k (q ∷ qs) zero p e at i x h =
       let same : q ≡ p = cc in
-      let both = both_faultless (member_fault all t statics) (places_from k 0 q.pool) (places_behind (k + 1) qs) e in
+      let both = both_faultless (member_fault all t statics) (places_from k 0 q.pool) (places_after (k + 1) qs) e in
       let k-is : k ≡ k + 0 = omega arith in
       let here : slice_get q.pool i ≡ Some x = ap (λ (r : PackageRecord). slice_get r.pool i) same ∙ h in
       let m = (pool-members k 0 q.pool both.0).there i x here in
       (m.0, ap (λ (j : ℕ). member_of all t statics j x) (sym k-is) ∙ m.1)
   pools-entry k (q ∷ qs) (suc n) p e at i x h =
-      let both = both_faultless (member_fault all t statics) (places_from k 0 q.pool) (places_behind (k + 1) qs) e in
+      let both = both_faultless (member_fault all t statics) (places_from k 0 q.pool) (places_after (k + 1) qs) e in
       let k-is : k + 1 + n ≡ k + suc n = omega arith in
       let m = pools-entry (k + 1) qs n p both.1 at i x h in
       (m.0, ap (λ (j : ℕ). member_of all t statics j x) (sym k-is) ∙ m.1)
 
-  pub pools-some : (k : ℕ) (ps : List PackageRecord) (n : ℕ) (p : PackageRecord) → filter_map (member_fault all t statics) (places_behind k ps) ≡ [] → slice_get ps n ≡ Some p
+  pub pools-some : (k : ℕ) (ps : List PackageRecord) (n : ℕ) (p : PackageRecord) → filter_map (member_fault all t statics) (places_after k ps) ≡ [] → slice_get ps n ≡ Some p
       → (i : ℕ) (x : Entry) → slice_get p.pool i ≡ Some x
-      → (m : Member) × (slice_get (list_at (pools_behind (member_of all t statics) k ps) n) i ≡ Some m) × (member_of all t statics (k + n) x ≡ Some m)
+      → (m : Member) × (slice_get (list_at (pools_after (member_of all t statics) k ps) n) i ≡ Some m) × (member_of all t statics (k + n) x ≡ Some m)
   pools-some k ps n p e at i x h =
       let m = pools-entry k ps n p e at i x h in
       (m.0, pools-at k ps n p e at i ∙ ap (option_and_then (member_of all t statics (k + n))) h ∙ m.1, m.1)
@@ -124,14 +124,14 @@ module _ (all : List PackageRecord) (t : ClassTable) where
       let both = faultless_first (catch_fault all t place) (filter_map (catch_fault all t) (handlers_from k pool (n + 1) hs)) e in
       All-cons (IsCatching k pool) h hs (catches_by place (catches all t k pool h.index) refl both.0) (table-catches k (n + 1) pool hs both.1)
 
-  pub handlers-at : (k : ℕ) (ps : List PackageRecord) (n : ℕ) (p : PackageRecord) → filter_map (catch_fault all t) (handlers_behind k ps) ≡ [] → slice_get ps n ≡ Some p → All (IsCatching (k + n) p.pool) p.methods.handlers
+  pub handlers-at : (k : ℕ) (ps : List PackageRecord) (n : ℕ) (p : PackageRecord) → filter_map (catch_fault all t) (handlers_after k ps) ≡ [] → slice_get ps n ≡ Some p → All (IsCatching (k + n) p.pool) p.methods.handlers
   handlers-at k [] n p e at = absurd cc
   handlers-at k (q ∷ qs) zero p e at =
       let same : q ≡ p = cc in
-      let both = both_faultless (catch_fault all t) (handlers_from k q.pool 0 q.methods.handlers) (handlers_behind (k + 1) qs) e in
+      let both = both_faultless (catch_fault all t) (handlers_from k q.pool 0 q.methods.handlers) (handlers_after (k + 1) qs) e in
       let k-is : k ≡ k + 0 = omega arith in
       subst (λ (r : PackageRecord). All (IsCatching (k + 0) r.pool) r.methods.handlers) same (subst (λ (j : ℕ). All (IsCatching j q.pool) q.methods.handlers) k-is (table-catches k 0 q.pool q.methods.handlers both.0))
   handlers-at k (q ∷ qs) (suc n) p e at =
-      let both = both_faultless (catch_fault all t) (handlers_from k q.pool 0 q.methods.handlers) (handlers_behind (k + 1) qs) e in
+      let both = both_faultless (catch_fault all t) (handlers_from k q.pool 0 q.methods.handlers) (handlers_after (k + 1) qs) e in
       let k-is : k + 1 + n ≡ k + suc n = omega arith in
       subst (λ (j : ℕ). All (IsCatching j p.pool) p.methods.handlers) k-is (handlers-at (k + 1) qs n p both.1 at)

@@ -24,7 +24,7 @@ use Rattle.jc_base.specs.Order.{is_on_chain}
 use Rattle.jc_base.specs.Cell.{IsOfKind}
 use Rattle.jc_base.specs.Dispatch.{own_cells, cells_of}
 use Rattle.jc_base.specs.Linked.{AreLinkedClasses, cells_above, HasLowHalf, IsField, IsMember}
-use Rattle.jc_base.proofs.Lists.{slice_get-behind}
+use Rattle.jc_base.proofs.Lists.{slice_get-farther}
 use Rattle.jc_base.proofs.Instances.{cells-own, cells-on_chain}
 use Rattle.jc_resolve.specs.Numbering.{NumberedClass, numbered_classes}
 use Rattle.jc_resolve.specs.NamedClasses.{fields_described, named_classes}
@@ -69,18 +69,18 @@ module _ (ps : List PackageRecord) (object_is : ℕ) where
 first_there : (xs front cells : List Ty) (n k : ℕ) → length front ≡ n → cells ≡ front ++ xs → slice_get cells (n + k) ≡ slice_get xs k
 first_there xs front cells n k many whole =
     let place : n + k ≡ length front + k = ap (λ (m : ℕ). m + k) (sym many) in
-    ap (λ (ys : List Ty). slice_get ys (n + k)) whole ∙ slice_get-behind front xs k (n + k) place
+    ap (λ (ys : List Ty). slice_get ys (n + k)) whole ∙ slice_get-farther front xs k (n + k) place
 
 at_first : (xs front cells : List Ty) (n : ℕ) → length front ≡ n → cells ≡ front ++ xs → slice_get cells n ≡ slice_get xs 0
 at_first xs front cells n many whole =
     let same : n ≡ n + 0 = omega arith in
     ap (slice_get cells) same ∙ first_there xs front cells n 0 many whole
 
-cells_there : (k : Kind) (ty : Ty) (front behind cells : List Ty) (n : ℕ) → length front ≡ n → cells ≡ front ++ (cells_by k ty ++ behind) → (slice_get cells n ≡ Some ty) × HasLowHalf k cells n
-cells_there Ref ty front behind cells n many whole = (at_first (ty ∷ behind) front cells n many whole, tt)
-cells_there Byte ty front behind cells n many whole = (at_first (ty ∷ behind) front cells n many whole, tt)
-cells_there Short ty front behind cells n many whole = (at_first (ty ∷ behind) front cells n many whole, tt)
-cells_there Int ty front behind cells n many whole = (at_first (ty ∷ IntLow ∷ behind) front cells n many whole, first_there (ty ∷ IntLow ∷ behind) front cells n 1 many whole)
+cells_there : (k : Kind) (ty : Ty) (front farther cells : List Ty) (n : ℕ) → length front ≡ n → cells ≡ front ++ (cells_by k ty ++ farther) → (slice_get cells n ≡ Some ty) × HasLowHalf k cells n
+cells_there Ref ty front farther cells n many whole = (at_first (ty ∷ farther) front cells n many whole, tt)
+cells_there Byte ty front farther cells n many whole = (at_first (ty ∷ farther) front cells n many whole, tt)
+cells_there Short ty front farther cells n many whole = (at_first (ty ∷ farther) front cells n many whole, tt)
+cells_there Int ty front farther cells n many whole = (at_first (ty ∷ IntLow ∷ farther) front cells n many whole, first_there (ty ∷ IntLow ∷ farther) front cells n 1 many whole)
 
 regrouped : (a b c d e : List Ty) → (a ++ (b ++ (c ++ d))) ++ e ≡ (a ++ b) ++ (c ++ (d ++ e))
 regrouped a b c d e = simp append_assoc
@@ -115,12 +115,12 @@ module _ (ps : List PackageRecord) (object_is packages : ℕ) (t : ClassTable) (
       let down = cells-on_chain t are c h on in
       record {
         front = up.above ++ own.front;
-        behind = own.behind ++ down.0;
+        farther = own.farther ++ down.0;
         many = length-append up.above own.front ∙ ap₂ ◌+◌ up.many own.many;
         whole =
             down.1
             ∙ ap (λ (xs : List Ty). xs ++ down.0) (up.whole ∙ ap (λ (xs : List Ty). up.above ++ xs) (own_is h n there ∙ own.whole))
-            ∙ regrouped up.above own.front (cells_of_own f) own.behind down.0;
+            ∙ regrouped up.above own.front (cells_of_own f) own.farther down.0;
       }
 
   has_token : (token : ℕ) (own : List OwnField) (f : OwnField) → with own token ≡ f ∷ [] → f.token ≡ token
@@ -137,7 +137,7 @@ module _ (ps : List PackageRecord) (object_is packages : ℕ) (t : ClassTable) (
       → IsField t c (cells_above t (parent_of t h) + cells_before (own_of ps (object t) n) token) f.kind f.ty
   field_of_class c h token n f is there on lt one =
       let stands = stands_among c h token n f there on lt one in
-      let at = cells_there f.kind f.ty stands.front stands.behind (cells_of t c) (cells_above t (parent_of t h) + cells_before (own_of ps (object t) n) token) stands.many stands.whole in
+      let at = cells_there f.kind f.ty stands.front stands.farther (cells_of t c) (cells_above t (parent_of t h) + cells_before (own_of ps (object t) n) token) stands.many stands.whole in
       record { class = is; kind = kindly token n f one; first = at.0; second = at.1 }
 
   pub field_linked : (statics : List StaticRec) (token c : ℕ) → token < 256 → IsClass t c → IfSome (field_of (field_sites ps t) t token c) (IsMember t methods statics)

@@ -4,7 +4,7 @@ pub mod Rooms
 pub mod Known
 pub mod Counted
 pub mod Told
-pub mod Behind
+pub mod Leasts
 pub mod Concretes
 pub mod RoleLaws
 pub mod TokenCells

@@ -10,12 +10,12 @@ use Rattle.jc_base.specs.declared.record.ClassRec.{ClassRec}
 use Rattle.jc_base.specs.declared.record.MethodRec.{MethodRec}
 use Rattle.jc_base.specs.Class.{ClassTable, parent_of, object}
 use Rattle.jc_base.specs.Linked.{AreLinkedClasses, IsLinkedClass, cells_above}
-use Rattle.jc_base.proofs.Lists.{IfSome-is, slice_get-front, slice_get-behind}
+use Rattle.jc_base.proofs.Lists.{IfSome-is, slice_get-front, slice_get-farther}
 use Rattle.jc_resolve.specs.declared.named.NamedClass.{NamedClass}
-use Rattle.jc_resolve.specs.Numbering.{NumberedClass, numbered_class, classes_of, classes_behind, numbered_classes}
+use Rattle.jc_resolve.specs.Numbering.{NumberedClass, numbered_class, classes_of, classes_after, numbered_classes}
 use Rattle.jc_resolve.specs.Names.{NamesRecord}
 use Rattle.jc_resolve.specs.NamedClasses.{named_class, named_classes}
-use Rattle.jc_members.specs.Fields.{cells_before, HasRoom, HaveRoomIn, HaveRoomBehind, HaveRoom, HasCellsOf}
+use Rattle.jc_members.specs.Fields.{cells_before, HasRoom, HaveRoomIn, HaveRoomAfter, HaveRoom, HasCellsOf}
 use Rattle.jc_members.proofs.Counted.{records_counted}
 use Rattle.jc_members.proofs.TokenCells.{cells_over, cells_first}
 use Rattle.jc_members.proofs.OwnCells.{own_of, own_named}
@@ -71,21 +71,21 @@ module _ (ps : List PackageRecord) (object_is : ℕ) (t : ClassTable) (cells : H
               subst (λ (j : ℕ). HasRoom t j (own_of ps (object t) n)) next (each (suc i) n e)),
         )
 
-    rooms_behind : (c k : ℕ) (qs : List PackageRecord) → ((i : ℕ) (n : NumberedClass) → slice_get (classes_behind k qs) i ≡ Some n → HasRoom t (c + i) (own_of ps (object t) n)) → HaveRoomBehind ps t c k qs
-    rooms_behind c k [] each = tt
-    rooms_behind c k (q ∷ qs) each = (
-      rooms_in k q c q.classes (λ i n e. each i n (slice_get-front (classes_of k q) (classes_behind (k + 1) qs) i n e)),
-      rooms_behind (c + length q.classes) (k + 1) qs (λ i n e.
+    rooms_after : (c k : ℕ) (qs : List PackageRecord) → ((i : ℕ) (n : NumberedClass) → slice_get (classes_after k qs) i ≡ Some n → HasRoom t (c + i) (own_of ps (object t) n)) → HaveRoomAfter ps t c k qs
+    rooms_after c k [] each = tt
+    rooms_after c k (q ∷ qs) each = (
+      rooms_in k q c q.classes (λ i n e. each i n (slice_get-front (classes_of k q) (classes_after (k + 1) qs) i n e)),
+      rooms_after (c + length q.classes) (k + 1) qs (λ i n e.
           let many : length (classes_of k q) ≡ length q.classes = length-map q.classes (numbered_class k q) in
           let place : length q.classes + i ≡ length (classes_of k q) + i = ap (λ (m : ℕ). m + i) (sym many) in
           let next : c + (length q.classes + i) ≡ (c + length q.classes) + i = omega arith in
           subst (λ (j : ℕ). HasRoom t j (own_of ps (object t) n)) next
-          (each (length q.classes + i) n (slice_get-behind (classes_of k q) (classes_behind (k + 1) qs) i (length q.classes + i) place ∙ e))),
+          (each (length q.classes + i) n (slice_get-farther (classes_of k q) (classes_after (k + 1) qs) i (length q.classes + i) place ∙ e))),
     )
 
     -- an instance of each class has room for its fields
     pub have_room : HaveRoom ps t
-    have_room = rooms_behind 0 0 ps (λ i n e.
+    have_room = rooms_after 0 0 ps (λ i n e.
         let same : i ≡ 0 + i = omega arith in
         subst (λ (j : ℕ). HasRoom t j (own_of ps (object t) n)) same (has_room i n e))
 

@@ -121,9 +121,9 @@ cells_split own (suc m) a n (suc k) e =
 -- the cells of a field stand in a list from a place on
 pub record Stands (cells : List Ty) (at : ℕ) (f : OwnField) : Type 0 where
   pub front : List Ty
-  pub behind : List Ty
+  pub farther : List Ty
   pub many : length front ≡ at
-  pub whole : cells ≡ front ++ (cells_of_own f ++ behind)
+  pub whole : cells ≡ front ++ (cells_of_own f ++ farther)
 
 alone : (own : List OwnField) (token : ℕ) (f : OwnField) → with own token ≡ f ∷ [] → flat_map cells_of_own (with own token) ≡ cells_of_own f
 alone own token f one = ap (λ (fs : List OwnField). flat_map cells_of_own fs) one ∙ append-nil (cells_of_own f)
@@ -135,7 +135,7 @@ only_stands own n token f lt one =
     let from : 0 + token ≡ token = omega arith in
     record {
       front = cells_over own 0 token;
-      behind = cells_over own (token + 1) (n - (token + 1));
+      farther = cells_over own (token + 1) (n - (token + 1));
       many = cells_first own token;
       whole =
           cells_split own token 0 (suc (n - (token + 1))) n rest

@@ -14,10 +14,10 @@ use Rattle.jc_resolve.specs.Due.{IsDue}
 use Rattle.first_fault.specs.Least.{◌>>=◌, least_of, refused}
 use Rattle.first_fault.proofs.LeastFaults.{least-at_fault, least-found, least-none}
 use Rattle.jc_members.specs.Members.{member_of}
-use Rattle.jc_members.specs.Pools.{pool_places, member_fault, missing_members, pools_behind, pools, pools_of, Tells}
+use Rattle.jc_members.specs.Pools.{pool_places, member_fault, missing_members, pools_after, pools, pools_of, Tells}
 
 -- there are as many pools as packages
-pools-each : (named : ℕ → Entry → Option Member) (k : ℕ) (ps : List PackageRecord) → length (pools_behind named k ps) ≡ length ps
+pools-each : (named : ℕ → Entry → Option Member) (k : ℕ) (ps : List PackageRecord) → length (pools_after named k ps) ≡ length ps
 pools-each named k [] = refl
 pools-each named k (p ∷ ps) = ap suc (pools-each named (k + 1) ps)
 

@@ -36,12 +36,12 @@ abbrev pub handlers_from : ℕ → List Entry → ℕ → List HandlerInfo → L
 handlers_from k pool n [] = []
 handlers_from k pool n (h ∷ hs) = record { home = k; pool = pool; number = n; handler = h } ∷ handlers_from k pool (n + 1) hs
 
-abbrev pub handlers_behind : ℕ → List PackageRecord → List HandlerPlace
-handlers_behind k [] = []
-handlers_behind k (p ∷ ps) = handlers_from k p.pool 0 p.methods.handlers ++ handlers_behind (k + 1) ps
+abbrev pub handlers_after : ℕ → List PackageRecord → List HandlerPlace
+handlers_after k [] = []
+handlers_after k (p ∷ ps) = handlers_from k p.pool 0 p.methods.handlers ++ handlers_after (k + 1) ps
 
 abbrev pub handler_places : List PackageRecord → List HandlerPlace
-handler_places = handlers_behind 0
+handler_places = handlers_after 0
 
 unfoldable pub catch_fault : List PackageRecord → ClassTable → HandlerPlace → Option LinkFault
 catch_fault ps t at = if catches ps t at.home at.pool at.handler.index then None else Some (BadCatch at.home at.number)

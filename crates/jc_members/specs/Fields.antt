@@ -61,12 +61,12 @@ sites_of_classes ps t k p c [] = []
 sites_of_classes ps t k p c (r ∷ rs) = class_sites t c (own_fields ps (object t) k p r) ++ sites_of_classes ps t k p (c + 1) rs
 
 -- those of packages from a number on
-abbrev pub sites_behind : List PackageRecord → ClassTable → ℕ → ℕ → List PackageRecord → List Site
-sites_behind ps t c k [] = []
-sites_behind ps t c k (p ∷ others) = sites_of_classes ps t k p c p.classes ++ sites_behind ps t (c + length p.classes) (k + 1) others
+abbrev pub sites_after : List PackageRecord → ClassTable → ℕ → ℕ → List PackageRecord → List Site
+sites_after ps t c k [] = []
+sites_after ps t c k (p ∷ others) = sites_of_classes ps t k p c p.classes ++ sites_after ps t (c + length p.classes) (k + 1) others
 
 abbrev pub field_sites : List PackageRecord → ClassTable → List Site
-field_sites ps t = sites_behind ps t 0 0 ps
+field_sites ps t = sites_after ps t 0 0 ps
 
 -- ---- an instance of each class has room for its fields
 
@@ -78,12 +78,12 @@ abbrev pub HaveRoomIn : List PackageRecord → ClassTable → ℕ → PackageRec
 HaveRoomIn ps t k p c [] = Unit {0}
 HaveRoomIn ps t k p c (r ∷ rs) = HasRoom t c (own_fields ps (object t) k p r) × HaveRoomIn ps t k p (c + 1) rs
 
-abbrev pub HaveRoomBehind : List PackageRecord → ClassTable → ℕ → ℕ → List PackageRecord → Type 0
-HaveRoomBehind ps t c k [] = Unit {0}
-HaveRoomBehind ps t c k (p ∷ others) = HaveRoomIn ps t k p c p.classes × HaveRoomBehind ps t (c + length p.classes) (k + 1) others
+abbrev pub HaveRoomAfter : List PackageRecord → ClassTable → ℕ → ℕ → List PackageRecord → Type 0
+HaveRoomAfter ps t c k [] = Unit {0}
+HaveRoomAfter ps t c k (p ∷ others) = HaveRoomIn ps t k p c p.classes × HaveRoomAfter ps t (c + length p.classes) (k + 1) others
 
 abbrev pub HaveRoom : List PackageRecord → ClassTable → Type 0
-HaveRoom ps t = HaveRoomBehind ps t 0 0 ps
+HaveRoom ps t = HaveRoomAfter ps t 0 0 ps
 
 -- ---- the records of a table have the own cells of the named classes, and its object is theirs
 

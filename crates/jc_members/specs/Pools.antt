@@ -25,12 +25,12 @@ places_from k n [] = []
 places_from k n (e ∷ es) = record { home = k; number = n; entry = e } ∷ places_from k (n + 1) es
 
 -- the entries of the pools of packages, from a package's number on
-abbrev pub places_behind : ℕ → List PackageRecord → List PoolPlace
-places_behind k [] = []
-places_behind k (p ∷ ps) = places_from k 0 p.pool ++ places_behind (k + 1) ps
+abbrev pub places_after : ℕ → List PackageRecord → List PoolPlace
+places_after k [] = []
+places_after k (p ∷ ps) = places_from k 0 p.pool ++ places_after (k + 1) ps
 
 abbrev pub pool_places : List PackageRecord → List PoolPlace
-pool_places = places_behind 0
+pool_places = places_after 0
 
 -- an entry has not exactly one member
 unfoldable pub member_fault : List PackageRecord → ClassTable → List StaticRec → PoolPlace → Option LinkFault
@@ -40,12 +40,12 @@ abbrev pub missing_members : List PackageRecord → ClassTable → List StaticRe
 missing_members ps t statics = at_fault (member_fault ps t statics) (pool_places ps)
 
 -- what the entries of the pools name, by package and pool number
-abbrev pub pools_behind : (ℕ → Entry → Option Member) → ℕ → List PackageRecord → List (List Member)
-pools_behind named k [] = []
-pools_behind named k (p ∷ ps) = filter_map (named k) p.pool ∷ pools_behind named (k + 1) ps
+abbrev pub pools_after : (ℕ → Entry → Option Member) → ℕ → List PackageRecord → List (List Member)
+pools_after named k [] = []
+pools_after named k (p ∷ ps) = filter_map (named k) p.pool ∷ pools_after named (k + 1) ps
 
 abbrev pub pools : List PackageRecord → ClassTable → List StaticRec → List (List Member)
-pools ps t statics = pools_behind (member_of ps t statics) 0 ps
+pools ps t statics = pools_after (member_of ps t statics) 0 ps
 
 -- the members where each entry has exactly one, and else the first entry that has not
 unfoldable pub pools_of : List PackageRecord → ClassTable → List StaticRec → Result (List (List Member)) LinkFault

@@ -116,7 +116,7 @@ fn handlers_catch(
 }
 
 /// Each handler catches all, or a class below throwable.
-#[tactic(auto, using(crate::proofs::Behind::least_handlers))]
+#[tactic(auto, using(crate::proofs::Leasts::least_handlers))]
 pub fn handlers_fit(names: &Names<'_, '_, '_>, classes: &Classes) -> Result<(), LinkFault>
     requires count { length classes.now.records ≡ length names.now.classes }
     requires throwable { IsClass classes.now (throwable classes.now) }

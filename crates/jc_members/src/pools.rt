@@ -144,7 +144,7 @@ fn pool_members(
 }
 
 /// What the entries of all pools name, and the least entry that has not exactly one member.
-#[tactic(auto, using(crate::proofs::Behind::least_entries))]
+#[tactic(auto, using(crate::proofs::Leasts::least_entries))]
 fn named(
     alloc: Global,
     names: &Names<'_, '_, '_>,

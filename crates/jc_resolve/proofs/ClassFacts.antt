@@ -17,7 +17,7 @@ use Rattle.cap_package.specs.PackageRecord.{PackageRecord}
 use Rattle.cap_desc.specs.declared.type_item.TypeItem.{TypeItem}
 use Rattle.jc_resolve.specs.declared.named.NamedClass.{NamedClass}
 use Rattle.jc_resolve.specs.declared.place.RecordPlace.{RecordPlace}
-use Rattle.jc_resolve.specs.Numbering.{NumberedClass, numbered_class, classes_of, classes_behind, numbered_classes, numbered_methods, same_place, place_of_class, class_places, class_at, method_at}
+use Rattle.jc_resolve.specs.Numbering.{NumberedClass, numbered_class, classes_of, classes_after, numbered_classes, numbered_methods, same_place, place_of_class, class_places, class_at, method_at}
 use Rattle.jc_resolve.specs.References.{meets, met_by, import_of, class_named, Refers, internal, imported}
 use Rattle.jc_resolve.specs.NamedClasses.{by_token, cells_by, cells_of_field, cells_of_fields, instance_fields, entry_of, table_of, interface_named, implemented_interfaces, parent_named, named_interface, named_proper, named_class, named_classes}
 use Rattle.jc_resolve.specs.Named.{package_by, package_of, IsDeclared, AreEntries, IsSized, IsNamedClass}
@@ -27,12 +27,12 @@ use Rattle.jc_resolve.proofs.DeclaredTypes.{either, named-length, named_below, c
 
 -- ---- homes
 
-homes_behind : (n k : ℕ) (ps : List PackageRecord) → k + length ps ≤ n → All (λ (c : NumberedClass). c.home < n) (classes_behind k ps)
-homes_behind n k [] le = All-nil (λ (c : NumberedClass). c.home < n)
-homes_behind n k (p ∷ ps) le =
-    All-append (λ (c : NumberedClass). c.home < n) (classes_of k p) (classes_behind (k + 1) ps)
+homes_after : (n k : ℕ) (ps : List PackageRecord) → k + length ps ≤ n → All (λ (c : NumberedClass). c.home < n) (classes_after k ps)
+homes_after n k [] le = All-nil (λ (c : NumberedClass). c.home < n)
+homes_after n k (p ∷ ps) le =
+    All-append (λ (c : NumberedClass). c.home < n) (classes_of k p) (classes_after (k + 1) ps)
     (All-map (λ (c : NumberedClass). c.home < n) (numbered_class k p) p.classes (λ i d lt. omega arith))
-    (homes_behind n (k + 1) ps (omega arith))
+    (homes_after n (k + 1) ps (omega arith))
 
 -- ---- the package of a class that is named
 
@@ -201,4 +201,4 @@ module _ (ps : List PackageRecord) (object : ℕ) where
   -- the named classes of packages, where they are no larger than their components can tell
   pub classes-named : All IsSized (named_classes ps object) → All (IsNamedClass (length ps) (length (numbered_methods ps)) (named_classes ps object) object) (named_classes ps object)
   unfolding named_classes
-  classes-named sized = each_class (numbered_classes ps) (homes_behind (length ps) 0 ps (omega arith)) sized
+  classes-named sized = each_class (numbered_classes ps) (homes_after (length ps) 0 ps (omega arith)) sized

@@ -8,11 +8,11 @@ use Rattle.cap_bytes.specs.Grammar.{at_most, when, give, ◌>>=◌}
 use Rattle.cap_bytes.specs.Number.{number_at}
 use Rattle.cap_bytes.specs.declared.format.Format.{Format}
 use Rattle.cap_bytes.specs.Spelling.{Spells, Stands}
-use Rattle.cap_class.specs.ClassFormat.{Class, record_info, is_behind, behind_first, is_interface, class_flags, wrong_record, signature_pool, classes_info}
+use Rattle.cap_class.specs.ClassFormat.{Class, record_info, is_after, beyond_first, is_interface, class_flags, wrong_record, signature_pool, classes_info}
 use Rattle.cap_package.specs.PackageRecord.{PackageRecord}
 use Rattle.jc_resolve.specs.declared.place.RecordPlace.{RecordPlace}
 use Rattle.jc_resolve.specs.Named.{IsAgreed}
-use Rattle.jc_resolve.specs.Numbering.{NumberedClass, numbered_class, classes_of, classes_behind, numbered_classes, place_of_class, class_places}
+use Rattle.jc_resolve.specs.Numbering.{NumberedClass, numbered_class, classes_of, classes_after, numbered_classes, place_of_class, class_places}
 use Rattle.jc_resolve.proofs.Pairwise.{Each, each-append, each-weaker, each-map, Pairwise, pairwise-append, one-place}
 use Rattle.jc_resolve.proofs.Repeats.{LiesWithin, goes_on}
 
@@ -30,7 +30,7 @@ none_rising : (at : ℕ) (cs : List Class) → cs ≡ [] → AreRising at cs
 none_rising at cs e = subst (AreRising at) (sym e) (record { from = tt {0}; rising = tt {0} })
 
 -- a record stands at the place from which it is read
-at_offset : (interface : Bool) (offset first : ℕ) (bytes : List ℕ) (at : ℕ) (c : Class) (after : ℕ) → Spells (behind_first interface offset first) bytes at c after → c.offset ≡ offset
+at_offset : (interface : Bool) (offset first : ℕ) (bytes : List ℕ) (at : ℕ) (c : Class) (after : ℕ) → Spells (beyond_first interface offset first) bytes at c after → c.offset ≡ offset
 unfolding Spells
 at_offset true offset first bytes at c after h = ap (λ (x : Class). x.offset) h.3.0
 at_offset false offset first bytes at c after h = ap (λ (x : Class). x.offset) h.3.3.3.0
@@ -51,7 +51,7 @@ record_at s bytes at c after h =
     let start : h.1 ≡ at = h.2.1 in
     let next : h.3.1 ≡ h.1 + 1 = h.3.2.2 in
     let reach = reach_by _ _ h.1 first bytes refl h.3.2.0 in
-    let go = goes_on (behind_first (is_interface (class_flags first)) h.0 first) bytes h.3.1 c after (omega (arith, next, reach)) h.3.3 in
+    let go = goes_on (beyond_first (is_interface (class_flags first)) h.0 first) bytes h.3.1 c after (omega (arith, next, reach)) h.3.3 in
     let room = go.room in
     record { here = at_offset (is_interface (class_flags first)) h.0 first bytes h.3.1 c after h.3.3 ∙ offset; moves = omega arith }
 
@@ -65,16 +65,16 @@ one_more at mid c cs xs here rest e =
     })
 
 rises_when : (n : ℕ) (s b : Bool) (bytes : List ℕ) (at : ℕ) (xs : List Class) (after : ℕ)
-    → ((s' : Bool) (at' : ℕ) (ys : List Class) (end : ℕ) → at' ≤ length bytes → Spells (at_most n record_info is_behind s') bytes at' ys end → AreRising at' ys)
-    → at ≤ length bytes → Spells (when b [] (record_info s >>= λ x. at_most n record_info is_behind (is_behind s x) >>= λ ys. give (x ∷ ys))) bytes at xs after → AreRising at xs
+    → ((s' : Bool) (at' : ℕ) (ys : List Class) (end : ℕ) → at' ≤ length bytes → Spells (at_most n record_info is_after s') bytes at' ys end → AreRising at' ys)
+    → at ≤ length bytes → Spells (when b [] (record_info s >>= λ x. at_most n record_info is_after (is_after s x) >>= λ ys. give (x ∷ ys))) bytes at xs after → AreRising at xs
 unfolding Spells
 rises_when n s false bytes at xs after others le h = none_rising at xs h.0
 rises_when n s true bytes at xs after others le h =
     let here = record_at s bytes at h.0 h.1 h.2 in
     let reach = (goes_on (record_info s) bytes at h.0 h.1 le h.2).reach in
-    one_more at h.1 h.0 h.3.0 xs here (others (is_behind s h.0) h.1 h.3.0 h.3.1 reach h.3.2) h.3.3.0
+    one_more at h.1 h.0 h.3.0 xs here (others (is_after s h.0) h.1 h.3.0 h.3.1 reach h.3.2) h.3.3.0
 
-rises : (n : ℕ) (s : Bool) (bytes : List ℕ) (at : ℕ) (xs : List Class) (after : ℕ) → at ≤ length bytes → Spells (at_most n record_info is_behind s) bytes at xs after → AreRising at xs
+rises : (n : ℕ) (s : Bool) (bytes : List ℕ) (at : ℕ) (xs : List Class) (after : ℕ) → at ≤ length bytes → Spells (at_most n record_info is_after s) bytes at xs after → AreRising at xs
 unfolding Spells
 rises zero s bytes at xs after le h = none_rising at xs h.0
 rises (suc n) s bytes at xs after le h =
@@ -99,12 +99,12 @@ classes_rise p agreed = let said = agreed.said.classes in component_rises p.head
 abbrev IsBefore : NumberedClass → NumberedClass → Type 0
 IsBefore c d = (c.home < d.home) ⊎ ((c.home ≡ d.home) × (c.record_of.offset < d.record_of.offset))
 
-homes_from : (k : ℕ) (ps : List PackageRecord) → Each (λ (c : NumberedClass). k ≤ c.home) (classes_behind k ps)
+homes_from : (k : ℕ) (ps : List PackageRecord) → Each (λ (c : NumberedClass). k ≤ c.home) (classes_after k ps)
 homes_from k [] = tt {0}
 homes_from k (p ∷ ps) =
     let P = λ (c : NumberedClass). k ≤ c.home in
-    each-append P (classes_of k p) (classes_behind (k + 1) ps) (of_one p.classes)
-    (each-weaker (λ (c : NumberedClass). k + 1 ≤ c.home) P (λ c le. omega arith) (classes_behind (k + 1) ps) (homes_from (k + 1) ps))
+    each-append P (classes_of k p) (classes_after (k + 1) ps) (of_one p.classes)
+    (each-weaker (λ (c : NumberedClass). k + 1 ≤ c.home) P (λ c le. omega arith) (classes_after (k + 1) ps) (homes_from (k + 1) ps))
   where
     of_one : (cs : List Class) → Each (λ (c : NumberedClass). k ≤ c.home) (map (numbered_class k p) cs)
     of_one [] = tt {0}
@@ -115,17 +115,17 @@ in_package k p [] h = tt {0}
 in_package k p (c ∷ cs) h =
     (each-map (IsBefore (numbered_class k p c)) (numbered_class k p) cs (each-weaker (IsLower c) (λ d. IsBefore (numbered_class k p c) (numbered_class k p d)) (λ d lt. inr (refl, lt)) cs h.0), in_package k p cs h.1)
 
-classes_before : (k : ℕ) (ps : List PackageRecord) → All IsAgreed ps → Pairwise IsBefore (classes_behind k ps)
+classes_before : (k : ℕ) (ps : List PackageRecord) → All IsAgreed ps → Pairwise IsBefore (classes_after k ps)
 classes_before k [] agreed = tt {0}
 classes_before k (p ∷ ps) agreed =
-    pairwise-append IsBefore (classes_of k p) (classes_behind (k + 1) ps)
+    pairwise-append IsBefore (classes_of k p) (classes_after (k + 1) ps)
     (in_package k p p.classes (classes_rise p (All-head IsAgreed p ps agreed)))
     (classes_before (k + 1) ps (All-tail IsAgreed p ps agreed))
     (across p.classes)
   where
-    across : (cs : List Class) → Each (λ (c : NumberedClass). Each (IsBefore c) (classes_behind (k + 1) ps)) (map (numbered_class k p) cs)
+    across : (cs : List Class) → Each (λ (c : NumberedClass). Each (IsBefore c) (classes_after (k + 1) ps)) (map (numbered_class k p) cs)
     across [] = tt {0}
-    across (c ∷ cs) = (each-weaker (λ (d : NumberedClass). k + 1 ≤ d.home) (IsBefore (numbered_class k p c)) (λ d le. inl (omega arith)) (classes_behind (k + 1) ps) (homes_from (k + 1) ps), across cs)
+    across (c ∷ cs) = (each-weaker (λ (d : NumberedClass). k + 1 ≤ d.home) (IsBefore (numbered_class k p c)) (λ d le. inl (omega arith)) (classes_after (k + 1) ps) (homes_from (k + 1) ps), across cs)
 
 never_before : (c d : NumberedClass) (place : RecordPlace) → place_of_class c ≡ place → place_of_class d ≡ place → IsBefore c d → ⊥
 never_before c d place e f (inl lt) =

@@ -15,14 +15,14 @@ one_of_front [] ys x h = absurd h
 one_of_front (y ∷ xs) ys x (inl e) = inl e
 one_of_front (y ∷ xs) ys x (inr h) = inr (one_of_front xs ys x h)
 
-pub one_of_behind : {X : Type 0} (xs ys : List X) (x : X) → IsOneOf ys x → IsOneOf (xs ++ ys) x
-one_of_behind [] ys x h = h
-one_of_behind (y ∷ xs) ys x h = inr (one_of_behind xs ys x h)
+pub one_of_after : {X : Type 0} (xs ys : List X) (x : X) → IsOneOf ys x → IsOneOf (xs ++ ys) x
+one_of_after [] ys x h = h
+one_of_after (y ∷ xs) ys x h = inr (one_of_after xs ys x h)
 
 pub one_of_flat : {X Y : Type 0} (f : X → List Y) (xs : List X) (x : X) (y : Y) → IsOneOf xs x → IsOneOf (f x) y → IsOneOf (flat_map f xs) y
 one_of_flat f [] x y h k = absurd h
 one_of_flat f (z ∷ xs) x y (inl e) k = one_of_front (f z) (flat_map f xs) y (subst (λ u. IsOneOf (f u) y) e k)
-one_of_flat f (z ∷ xs) x y (inr h) k = one_of_behind (f z) (flat_map f xs) y (one_of_flat f xs x y h k)
+one_of_flat f (z ∷ xs) x y (inr h) k = one_of_after (f z) (flat_map f xs) y (one_of_flat f xs x y h k)
 
 pub one_of_get : {X : Type 0} (xs : List X) (i : ℕ) (x : X) → slice_get xs i ≡ Some x → IsOneOf xs x
 one_of_get [] i x at = absurd cc

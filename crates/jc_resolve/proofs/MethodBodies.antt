@@ -16,7 +16,7 @@ use Rattle.jc_base.specs.Linked.{receiver_words, IsCodeLength}
 use Rattle.jc_resolve.specs.declared.method_records.Body.{Body}
 use Rattle.jc_resolve.proofs.Faultless.{IsOneOf}
 use Rattle.jc_resolve.specs.Named.{IsHandlerIn}
-use Rattle.jc_resolve.specs.NamedMethods.{handler_named, offset_in_info, no_body, body_behind, body_by, body_of, is_class, have_headers}
+use Rattle.jc_resolve.specs.NamedMethods.{handler_named, offset_in_info, no_body, body_after, body_by, body_of, is_class, have_headers}
 use Rattle.jc_resolve.specs.References.{class_named}
 use Rattle.jc_resolve.specs.WorldTypes.{signature_of}
 use Rattle.jc_resolve.proofs.MethodFacts.{HasWords, IsPlaced, interface-words, is-placed}
@@ -81,8 +81,8 @@ module _ (ps : List PackageRecord) (throwable k : ℕ) (p : PackageRecord) (m : 
   unfolding code_end
   ends_in x code_at at = let ends = x.ends in omega arith
 
-  behind : (x : IsPlaced p m) → length p.methods.handlers ≤ 255 → length sig.args ≡ x.words → IsBody p.methods.info (length sig.args + receiver_words (is_static m.flags)) true (body_behind ps throwable k p m x.header (offset_in_info (m.method_offset + x.header.size)))
-  behind x few counted =
+  farther : (x : IsPlaced p m) → length p.methods.handlers ≤ 255 → length sig.args ≡ x.words → IsBody p.methods.info (length sig.args + receiver_words (is_static m.flags)) true (body_after ps throwable k p m x.header (offset_in_info (m.method_offset + x.header.size)))
+  farther x few counted =
       let code_at = offset_in_info (m.method_offset + x.header.size) in
       record {
         words = x.nargs ∙ ap (λ n. n + receiver_words (is_static m.flags)) (sym counted);
@@ -95,7 +95,7 @@ module _ (ps : List PackageRecord) (throwable k : ℕ) (p : PackageRecord) (m : 
       }
 
   body_there : (x : IsPlaced p m) → length p.methods.handlers ≤ 255 → length sig.args ≡ x.words → IsBody p.methods.info (length sig.args + receiver_words (is_static m.flags)) true (body_by ps throwable k p m sig (header_in p.methods.info m.method_offset))
-  body_there x few counted = rw x.there (behind x few counted)
+  body_there x few counted = rw x.there (farther x few counted)
 
   few_words : (x : IsPlaced p m) → length sig.args ≡ x.words → length sig.args + receiver_words (is_static m.flags) ≤ 255
   few_words x counted =

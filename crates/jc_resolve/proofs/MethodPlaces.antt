@@ -19,7 +19,7 @@ use Rattle.jc_base.specs.declared.record.MethodRec.{MethodRec}
 use Rattle.jc_resolve.specs.declared.place.RecordPlace.{RecordPlace}
 use Rattle.jc_resolve.specs.Named.{IsAgreed}
 use Rattle.jc_resolve.specs.NamedMethods.{named_method, named_methods}
-use Rattle.jc_resolve.specs.Numbering.{NumberedMethod, numbered, is_placed, methods_of_class, methods_of_classes, methods_behind, numbered_methods, place_of_method, method_places}
+use Rattle.jc_resolve.specs.Numbering.{NumberedMethod, numbered, is_placed, methods_of_class, methods_of_classes, methods_after, numbered_methods, place_of_method, method_places}
 use Rattle.jc_resolve.specs.OwnPlaces.{HaveOwnPlaces}
 use Rattle.jc_resolve.proofs.ClassPlaces.{classes_apart}
 use Rattle.jc_resolve.proofs.Faultless.{faultless_first, both_faultless}
@@ -209,13 +209,13 @@ classes_earlier k p number (c ∷ cs) = class_earlier k p number c 0 c.methods (
 
 -- ---- all packages
 
-homes_from : (k : ℕ) (ps : List PackageRecord) → Each (λ (n : NumberedMethod). k ≤ n.home) (methods_behind k ps)
+homes_from : (k : ℕ) (ps : List PackageRecord) → Each (λ (n : NumberedMethod). k ≤ n.home) (methods_after k ps)
 homes_from k [] = tt {0}
 homes_from k (p ∷ ps) =
     let P = λ (n : NumberedMethod). k ≤ n.home in
-    each-append P (methods_of_classes k p 0 p.description.items.classes) (methods_behind (k + 1) ps)
+    each-append P (methods_of_classes k p 0 p.description.items.classes) (methods_after (k + 1) ps)
     (each-weaker (IsOf k 0) P (λ n h. let same = h.home in omega arith) (methods_of_classes k p 0 p.description.items.classes) (of_classes k p 0 p.description.items.classes))
-    (each-weaker (λ (n : NumberedMethod). k + 1 ≤ n.home) P (λ n le. omega arith) (methods_behind (k + 1) ps) (homes_from (k + 1) ps))
+    (each-weaker (λ (n : NumberedMethod). k + 1 ≤ n.home) P (λ n le. omega arith) (methods_after (k + 1) ps) (homes_from (k + 1) ps))
 
 other_homes : (m n : NumberedMethod) → m.home < n.home → Differ m n
 other_homes m n lt place here there =
@@ -223,23 +223,23 @@ other_homes m n lt place here there =
     let second = home_by n.placed n.home n.record_of.method_offset place there in
     omega arith
 
-packages_differ : (k : ℕ) (ps : List PackageRecord) → All IsAgreed ps → Pairwise Differ (methods_behind k ps)
+packages_differ : (k : ℕ) (ps : List PackageRecord) → All IsAgreed ps → Pairwise Differ (methods_after k ps)
 packages_differ k [] agreed = tt {0}
 packages_differ k (p ∷ ps) agreed =
     let own = methods_of_classes k p 0 p.description.items.classes in
-    pairwise-append Differ own (methods_behind (k + 1) ps)
+    pairwise-append Differ own (methods_after (k + 1) ps)
     (classes_differ k p 0 p.description.items.classes (described_apart p (All-head IsAgreed p ps agreed)))
     (packages_differ (k + 1) ps (All-tail IsAgreed p ps agreed))
-    (each-weaker (IsOf k 0) (λ m. Each (Differ m) (methods_behind (k + 1) ps)) (λ m h. let same = h.home in each-weaker (λ (n : NumberedMethod). k + 1 ≤ n.home) (Differ m) (λ n le. other_homes m n (omega arith)) (methods_behind (k + 1) ps) (homes_from (k + 1) ps)) own (of_classes k p 0 p.description.items.classes))
+    (each-weaker (IsOf k 0) (λ m. Each (Differ m) (methods_after (k + 1) ps)) (λ m h. let same = h.home in each-weaker (λ (n : NumberedMethod). k + 1 ≤ n.home) (Differ m) (λ n le. other_homes m n (omega arith)) (methods_after (k + 1) ps) (homes_from (k + 1) ps)) own (of_classes k p 0 p.description.items.classes))
 
-packages_earlier : (k : ℕ) (ps : List PackageRecord) → Pairwise IsEarlier (methods_behind k ps)
+packages_earlier : (k : ℕ) (ps : List PackageRecord) → Pairwise IsEarlier (methods_after k ps)
 packages_earlier k [] = tt {0}
 packages_earlier k (p ∷ ps) =
     let own = methods_of_classes k p 0 p.description.items.classes in
-    pairwise-append IsEarlier own (methods_behind (k + 1) ps)
+    pairwise-append IsEarlier own (methods_after (k + 1) ps)
     (classes_earlier k p 0 p.description.items.classes)
     (packages_earlier (k + 1) ps)
-    (each-weaker (IsOf k 0) (λ m. Each (IsEarlier m) (methods_behind (k + 1) ps)) (λ m h. let same = h.home in each-weaker (λ (n : NumberedMethod). k + 1 ≤ n.home) (IsEarlier m) (λ n le. inl (omega arith)) (methods_behind (k + 1) ps) (homes_from (k + 1) ps)) own (of_classes k p 0 p.description.items.classes))
+    (each-weaker (IsOf k 0) (λ m. Each (IsEarlier m) (methods_after (k + 1) ps)) (λ m h. let same = h.home in each-weaker (λ (n : NumberedMethod). k + 1 ≤ n.home) (IsEarlier m) (λ n le. inl (omega arith)) (methods_after (k + 1) ps) (homes_from (k + 1) ps)) own (of_classes k p 0 p.description.items.classes))
 
 at_place : (o : Option NumberedMethod) (place : RecordPlace) → option_map place_of_method o ≡ Some (Some place) → (m : NumberedMethod) × (o ≡ Some m) × At place m
 at_place None place h = absurd cc

@@ -5,11 +5,11 @@ use Rattle.cap_desc.specs.DescriptorFormat as described
 use Rattle.cap_package.specs.PackageRecord.{PackageRecord}
 use Rattle.jc_resolve.specs.declared.fault.LinkFault.TheVariants.{NoClass}
 use Rattle.first_fault.specs.First.{AllEmpty}
-use Rattle.jc_resolve.specs.Conditions.{named_behind, named_in, references_of_class, references_of_record, references_of_types, class_references, no_class_fault, conditions}
+use Rattle.jc_resolve.specs.Conditions.{named_after, named_in, references_of_class, references_of_record, references_of_types, class_references, no_class_fault, conditions}
 use Rattle.jc_resolve.specs.Numbering.{numbered_classes}
 use Rattle.jc_resolve.specs.NamedMethods.{class_described}
 use Rattle.jc_resolve.specs.References.{class_named}
-use Rattle.jc_resolve.proofs.Faultless.{IsOneOf, faultless, one_of_front, one_of_behind, one_of_flat}
+use Rattle.jc_resolve.proofs.Faultless.{IsOneOf, faultless, one_of_front, one_of_after, one_of_flat}
 use Rattle.jc_resolve.proofs.DeclaredTypes.{named_below}
 
 one_paired : (k : ℕ) (ns : List ℕ) (n : ℕ) → IsOneOf ns n → IsOneOf {F = ℕ × ℕ} (map (λ i. (k, i)) ns) (k, n)
@@ -17,15 +17,15 @@ one_paired k [] n h = absurd h
 one_paired k (i ∷ ns) n (inl e) = inl (ap (λ j. (k, j)) e)
 one_paired k (i ∷ ns) n (inr h) = inr (one_paired k ns n h)
 
-named_further : (f : PackageRecord → List ℕ) (j : ℕ) (ps : List PackageRecord) (k : ℕ) (p : PackageRecord) (n : ℕ) → slice_get ps k ≡ Some p → IsOneOf (f p) n → IsOneOf {F = ℕ × ℕ} (named_behind f j ps) (j + k, n)
+named_further : (f : PackageRecord → List ℕ) (j : ℕ) (ps : List PackageRecord) (k : ℕ) (p : PackageRecord) (n : ℕ) → slice_get ps k ≡ Some p → IsOneOf (f p) n → IsOneOf {F = ℕ × ℕ} (named_after f j ps) (j + k, n)
 named_further f j [] k p n e h = absurd cc
 named_further f j (q ∷ ps) zero p n e h =
     let same : p ≡ q = cc in
     let here : j + 0 ≡ j = omega arith in
-    rw here (one_of_front (map (λ i. (j, i)) (f q)) (named_behind f (j + 1) ps) (j, n) (one_paired j (f q) n (subst (λ r. IsOneOf (f r) n) same h)))
+    rw here (one_of_front (map (λ i. (j, i)) (f q)) (named_after f (j + 1) ps) (j, n) (one_paired j (f q) n (subst (λ r. IsOneOf (f r) n) same h)))
 named_further f j (q ∷ ps) (suc k) p n e h =
     let next : j + suc k ≡ (j + 1) + k = omega arith in
-    rw next (one_of_behind (map (λ i. (j, i)) (f q)) (named_behind f (j + 1) ps) ((j + 1) + k, n) (named_further f (j + 1) ps k p n e h))
+    rw next (one_of_after (map (λ i. (j, i)) (f q)) (named_after f (j + 1) ps) ((j + 1) + k, n) (named_further f (j + 1) ps k p n e h))
 
 -- ---- a class reference names a class
 
@@ -53,7 +53,7 @@ names-class ps k p reference none at one =
 reference_described : (p : PackageRecord) (d : described.Class) → IsOneOf p.description.items.classes d → IsOneOf (class_references p) d.class_ref
 unfolding class_references
 reference_described p d one =
-    one_of_behind (flat_map references_of_class p.classes) (flat_map references_of_record p.description.items.classes ++ references_of_types p.description) d.class_ref
+    one_of_after (flat_map references_of_class p.classes) (flat_map references_of_record p.description.items.classes ++ references_of_types p.description) d.class_ref
     (one_of_front (flat_map references_of_record p.description.items.classes) (references_of_types p.description) d.class_ref
     (one_of_flat references_of_record p.description.items.classes d d.class_ref one (inl refl)))
 

@@ -12,7 +12,7 @@ use Rattle.cap_package.specs.PackageRecord.{PackageRecord}
 use Rattle.jc_resolve.specs.declared.fault.LinkFault.{LinkFault}
 use Rattle.jc_resolve.specs.Fault.{place_of}
 use Rattle.first_fault.specs.Least.{lesser, least_from}
-use Rattle.jc_resolve.specs.Conditions.{named_behind, import_tokens, no_package_fault, import_fault, reference_fault, references_of_class, reference_of_field, references_of_record, reference_of_type, references_of_field_type, references_of_method, references_of_types, class_references, no_class_fault}
+use Rattle.jc_resolve.specs.Conditions.{named_after, import_tokens, no_package_fault, import_fault, reference_fault, references_of_class, reference_of_field, references_of_record, reference_of_type, references_of_field_type, references_of_method, references_of_types, class_references, no_class_fault}
 
 pub range_step : (a n : ℕ) → a < n → range_with_len a (n - a) ≡ a ∷ range_with_len (a + 1) (n - (a + 1))
 range_step a n lt = let e : n - a ≡ suc (n - (a + 1)) = omega arith in ap (range_with_len a) e
@@ -22,16 +22,16 @@ least_pairs : (fault : ℕ × ℕ → Option LinkFault) (k : ℕ) (ns : List ℕ
 least_pairs fault k [] before = refl
 least_pairs fault k (n ∷ ns) before = least_pairs fault k ns (lesser place_of before (fault (k, n)))
 
-least_behind : (fault : ℕ × ℕ → Option LinkFault) (g : PackageRecord → List ℕ) (k : ℕ) (p : PackageRecord) (ps : List PackageRecord) (before : Option LinkFault) → least_from place_of before fault (named_behind g k (p ∷ ps)) ≡ least_from place_of (least_from place_of before (λ n. fault (k, n)) (g p)) fault (named_behind g (k + 1) ps)
-least_behind fault g k p ps before =
-    fold-append _ before (map (λ n. (k, n)) (g p)) (named_behind g (k + 1) ps)
-    ∙ ap (λ b. least_from place_of b fault (named_behind g (k + 1) ps)) (least_pairs fault k (g p) before)
+least_after : (fault : ℕ × ℕ → Option LinkFault) (g : PackageRecord → List ℕ) (k : ℕ) (p : PackageRecord) (ps : List PackageRecord) (before : Option LinkFault) → least_from place_of before fault (named_after g k (p ∷ ps)) ≡ least_from place_of (least_from place_of before (λ n. fault (k, n)) (g p)) fault (named_after g (k + 1) ps)
+least_after fault g k p ps before =
+    fold-append _ before (map (λ n. (k, n)) (g p)) (named_after g (k + 1) ps)
+    ∙ ap (λ b. least_from place_of b fault (named_after g (k + 1) ps)) (least_pairs fault k (g p) before)
 
-pub least_imports : (all : List PackageRecord) (k : ℕ) (p : PackageRecord) (ps : List PackageRecord) (before : Option LinkFault) → least_from place_of before (no_package_fault all) (named_behind import_tokens k (p ∷ ps)) ≡ least_from place_of (least_from place_of before (import_fault all k) (import_tokens p)) (no_package_fault all) (named_behind import_tokens (k + 1) ps)
-least_imports all k p ps before = least_behind (no_package_fault all) import_tokens k p ps before
+pub least_imports : (all : List PackageRecord) (k : ℕ) (p : PackageRecord) (ps : List PackageRecord) (before : Option LinkFault) → least_from place_of before (no_package_fault all) (named_after import_tokens k (p ∷ ps)) ≡ least_from place_of (least_from place_of before (import_fault all k) (import_tokens p)) (no_package_fault all) (named_after import_tokens (k + 1) ps)
+least_imports all k p ps before = least_after (no_package_fault all) import_tokens k p ps before
 
-pub least_references : (all : List PackageRecord) (k : ℕ) (p : PackageRecord) (ps : List PackageRecord) (before : Option LinkFault) → least_from place_of before (no_class_fault all) (named_behind class_references k (p ∷ ps)) ≡ least_from place_of (least_from place_of before (reference_fault all k) (class_references p)) (no_class_fault all) (named_behind class_references (k + 1) ps)
-least_references all k p ps before = least_behind (no_class_fault all) class_references k p ps before
+pub least_references : (all : List PackageRecord) (k : ℕ) (p : PackageRecord) (ps : List PackageRecord) (before : Option LinkFault) → least_from place_of before (no_class_fault all) (named_after class_references k (p ∷ ps)) ≡ least_from place_of (least_from place_of before (reference_fault all k) (class_references p)) (no_class_fault all) (named_after class_references (k + 1) ps)
+least_references all k p ps before = least_after (no_class_fault all) class_references k p ps before
 
 module _ (all : List PackageRecord) (k : ℕ) where
   -- the least fault of references, beside one that was seen before

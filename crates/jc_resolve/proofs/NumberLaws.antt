@@ -12,7 +12,7 @@ use Rattle.cap_class.specs.ClassFormat.{Class, is_interface}
 use Rattle.cap_desc.specs.DescriptorFormat as described
 use Rattle.cap_package.specs.PackageRecord.{PackageRecord, names_interface}
 use Rattle.jc_resolve.specs.declared.place.RecordPlace.{RecordPlace}
-use Rattle.jc_resolve.specs.Numbering.{NumberedClass, same_place, is_at, classes_of, classes_behind, numbered_classes, place_of_class, class_places, class_at, flagged_interface, is_interface_number, is_placed, methods_of_class, methods_of_classes, methods_behind, numbered_methods, place_of_method, method_places, method_at}
+use Rattle.jc_resolve.specs.Numbering.{NumberedClass, same_place, is_at, classes_of, classes_after, numbered_classes, place_of_class, class_places, class_at, flagged_interface, is_interface_number, is_placed, methods_of_class, methods_of_classes, methods_after, numbered_methods, place_of_method, method_places, method_at}
 use Rattle.jc_resolve.specs.Numbers.{Numbered, none_numbered, number_at, entered, with_next, with_all, spot_of_class, class_spots, class_flags, spot_of_method, spots_of_classes, method_spots, AreIndexed}
 
 -- ---- places
@@ -40,10 +40,10 @@ unfolding or_else
 or_none None = refl
 or_none (Some x) = refl
 
-lookup_behind : (t : RecordPlace → Bool) (es : List (RecordPlace × ℕ)) (q : RecordPlace) (n : ℕ) → lookup t (es ++ (q, n) ∷ []) ≡ or_else (lookup t es) (cond (t q) (Some n) None)
+lookup_after : (t : RecordPlace → Bool) (es : List (RecordPlace × ℕ)) (q : RecordPlace) (n : ℕ) → lookup t (es ++ (q, n) ∷ []) ≡ or_else (lookup t es) (cond (t q) (Some n) None)
 unfolding or_else
-lookup_behind t [] q n = refl
-lookup_behind t (e ∷ es) q n = by (t e.0) (lookup_behind t es q n)
+lookup_after t [] q n = refl
+lookup_after t (e ∷ es) q n = by (t e.0) (lookup_after t es q n)
   where
     by : (b : Bool) → lookup t (es ++ (q, n) ∷ []) ≡ or_else (lookup t es) (cond (t q) (Some n) None) → cond b (Some e.1) (lookup t (es ++ (q, n) ∷ [])) ≡ or_else (cond b (Some e.1) (lookup t es)) (cond (t q) (Some n) None)
     by true h = refl
@@ -66,7 +66,7 @@ after es q n place rest (Some m) e true f =
 after es q n place rest None e b f =
     ap (λ (x : Option ℕ). or_else (number_at (if is_some x then es else insert_entry same_place es q n) place) rest) e
     ∙ ap (λ l. or_else (number_at l place) rest) (insert_entry-absent same_place q n es (absent_from_lookup (same_place q) es e))
-    ∙ ap (λ x. or_else x rest) (lookup_behind (same_place place) es q n)
+    ∙ ap (λ x. or_else x rest) (lookup_after (same_place place) es q n)
     ∙ joined (number_at es place) (same_place place q) n rest
     ∙ ap (λ c. or_else (number_at es place) (cond c (Some n) rest)) f
 
@@ -85,11 +85,11 @@ numbered-first spots place = numbered-all spots none_numbered place ∙ sym (pos
 
 -- ---- classes
 
-spots-are : (k : ℕ) (ps : List PackageRecord) → class_spots k ps ≡ map (λ c. Some (place_of_class c)) (classes_behind k ps)
+spots-are : (k : ℕ) (ps : List PackageRecord) → class_spots k ps ≡ map (λ c. Some (place_of_class c)) (classes_after k ps)
 spots-are k [] = refl
 spots-are k (p ∷ ps) =
     ap₂ ◌++◌ (spots_of p.classes) (spots-are (k + 1) ps)
-    ∙ sym (map-append (λ c. Some (place_of_class c)) (classes_of k p) (classes_behind (k + 1) ps))
+    ∙ sym (map-append (λ c. Some (place_of_class c)) (classes_of k p) (classes_after (k + 1) ps))
   where
     spots_of : (cs : List Class) → map (spot_of_class k) cs ≡ map (λ c. Some (place_of_class c)) (map (λ c. record { home = k; of_package = p; record_of = c }) cs)
     spots_of [] = refl
@@ -129,11 +129,11 @@ class_below ps place (Some c) h = subst (λ n. c < n) (length-map (numbered_clas
 
 -- ---- flags
 
-flags-are : (k : ℕ) (ps : List PackageRecord) → class_flags ps ≡ map (λ (c : NumberedClass). is_interface c.record_of.flags) (classes_behind k ps)
+flags-are : (k : ℕ) (ps : List PackageRecord) → class_flags ps ≡ map (λ (c : NumberedClass). is_interface c.record_of.flags) (classes_after k ps)
 flags-are k [] = refl
 flags-are k (p ∷ ps) =
     ap₂ ◌++◌ (flags_of p.classes) (flags-are (k + 1) ps)
-    ∙ sym (map-append (λ (c : NumberedClass). is_interface c.record_of.flags) (classes_of k p) (classes_behind (k + 1) ps))
+    ∙ sym (map-append (λ (c : NumberedClass). is_interface c.record_of.flags) (classes_of k p) (classes_after (k + 1) ps))
   where
     flags_of : (cs : List Class) → map (λ (c : Class). is_interface c.flags) cs ≡ map (λ (c : NumberedClass). is_interface c.record_of.flags) (map (λ c. record { home = k; of_package = p; record_of = c }) cs)
     flags_of [] = refl
@@ -166,11 +166,11 @@ spots_of k p n (c ∷ cs) =
     ap₂ ◌++◌ (spots_in k p n c 0 c.methods) (spots_of k p (n + 1) cs)
     ∙ sym (map-append place_of_method (methods_of_class k p n c 0 c.methods) (methods_of_classes k p (n + 1) cs))
 
-method_spots_are : (k : ℕ) (ps : List PackageRecord) → method_spots k ps ≡ map place_of_method (methods_behind k ps)
+method_spots_are : (k : ℕ) (ps : List PackageRecord) → method_spots k ps ≡ map place_of_method (methods_after k ps)
 method_spots_are k [] = refl
 method_spots_are k (p ∷ ps) =
     ap₂ ◌++◌ (spots_of k p 0 p.description.items.classes) (method_spots_are (k + 1) ps)
-    ∙ sym (map-append place_of_method (methods_of_classes k p 0 p.description.items.classes) (methods_behind (k + 1) ps))
+    ∙ sym (map-append place_of_method (methods_of_classes k p 0 p.description.items.classes) (methods_after (k + 1) ps))
 
 pub method_numbered : (ps : List PackageRecord) (t : Numbered) (flags : List Bool) (m : Numbered) (place : RecordPlace) → AreIndexed ps t flags m → number_at m.entries place ≡ method_at ps place
 unfolding method_at

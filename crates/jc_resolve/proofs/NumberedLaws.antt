@@ -7,8 +7,8 @@ use Rattle.cap_desc.specs.DescriptorFormat as described
 use Rattle.cap_desc.specs.DescriptorFormat.{Method}
 use Rattle.cap_desc.specs.Members.{methods_of, methods_in, methods_but}
 use Rattle.cap_package.specs.PackageRecord.{PackageRecord}
-use Rattle.jc_resolve.specs.Numbering.{NumberedMethod, numbered, methods_of_class, methods_of_classes, methods_behind, numbered_methods}
-use Rattle.jc_resolve.proofs.Faultless.{IsOneOf, one_of_front, one_of_behind}
+use Rattle.jc_resolve.specs.Numbering.{NumberedMethod, numbered, methods_of_class, methods_of_classes, methods_after, numbered_methods}
+use Rattle.jc_resolve.proofs.Faultless.{IsOneOf, one_of_front, one_of_after}
 
 -- ---- the methods of classes
 
@@ -17,7 +17,7 @@ in_both true xs ys x e h = one_of_front xs ys x h
 in_both false xs ys x e h = absurd (false≢true e)
 
 in_rest : {X : Type 0} (b : Bool) (xs ys : List X) (x : X) → IsOneOf ys x → IsOneOf (cond b (xs ++ ys) ys) x
-in_rest true xs ys x h = one_of_behind xs ys x h
+in_rest true xs ys x h = one_of_after xs ys x h
 in_rest false xs ys x h = h
 
 in_else : {X : Type 0} (b : Bool) (xs ys : List X) (x : X) → b ≡ false → IsOneOf xs x → IsOneOf (cond b ys (xs ++ ys)) x
@@ -26,12 +26,12 @@ in_else false xs ys x e h = one_of_front xs ys x h
 
 in_later : {X : Type 0} (b : Bool) (xs ys : List X) (x : X) → IsOneOf ys x → IsOneOf (cond b ys (xs ++ ys)) x
 in_later true xs ys x h = h
-in_later false xs ys x h = one_of_behind xs ys x h
+in_later false xs ys x h = one_of_after xs ys x h
 
 pub from-any : (cs : List described.Class) (c : described.Class) (m : Method) → IsOneOf cs c → IsOneOf c.methods m → IsOneOf (methods_of cs) m
 from-any [] c m one h = absurd one
 from-any (d ∷ ds) c m (inl same) h = one_of_front d.methods (methods_of ds) m (subst (λ (x : described.Class). IsOneOf x.methods m) same h)
-from-any (d ∷ ds) c m (inr one) h = one_of_behind d.methods (methods_of ds) m (from-any ds c m one h)
+from-any (d ∷ ds) c m (inr one) h = one_of_after d.methods (methods_of ds) m (from-any ds c m one h)
 
 module _ (interfaces : ℕ → Bool) where
   pub from-class : (cs : List described.Class) (c : described.Class) (m : Method) → IsOneOf cs c → interfaces c.class_ref ≡ false → IsOneOf c.methods m → IsOneOf (methods_but interfaces cs) m
@@ -71,11 +71,11 @@ module _ (ps : List PackageRecord) where
       (in_class k p n c at (all c (inl refl)) 0 c.methods (λ m h. h))
       (in_classes k p at (n + 1) cs (λ d h. all d (inr h)))
 
-  in_packages : (k : ℕ) (qs : List PackageRecord) → ((j : ℕ) (q : PackageRecord) → slice_get qs j ≡ Some q → slice_get ps (k + j) ≡ Some q) → All (IsDescribed ps) (methods_behind k qs)
+  in_packages : (k : ℕ) (qs : List PackageRecord) → ((j : ℕ) (q : PackageRecord) → slice_get qs j ≡ Some q → slice_get ps (k + j) ≡ Some q) → All (IsDescribed ps) (methods_after k qs)
   in_packages k [] all = All-nil (IsDescribed ps)
   in_packages k (q ∷ qs) all =
       let here : k + 0 ≡ k = omega arith in
-      All-append (IsDescribed ps) (methods_of_classes k q 0 q.description.items.classes) (methods_behind (k + 1) qs)
+      All-append (IsDescribed ps) (methods_of_classes k q 0 q.description.items.classes) (methods_after (k + 1) qs)
       (in_classes k q (rw here at (all 0 q refl)) 0 q.description.items.classes (λ c h. h))
       (in_packages (k + 1) qs (λ j r e. let next : (k + 1) + j ≡ k + suc j = omega arith in rw next (all (suc j) r e)))
 

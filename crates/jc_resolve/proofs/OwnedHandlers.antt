@@ -36,14 +36,14 @@ kept_by : {X : Type 0} (t : X → Bool) (y : X) (ys : List X) (b : Bool) (x : X)
 kept_by t y ys true x e same h = inl same
 kept_by t y ys false x e same h = absurd (false≢true (sym e ∙ ap t (sym same) ∙ h))
 
-kept_behind : {X : Type 0} (y : X) (ys : List X) (b : Bool) (x : X) → IsOneOf ys x → IsOneOf (cond b (y ∷ ys) ys) x
-kept_behind y ys true x h = inr h
-kept_behind y ys false x h = h
+kept_after : {X : Type 0} (y : X) (ys : List X) (b : Bool) (x : X) → IsOneOf ys x → IsOneOf (cond b (y ∷ ys) ys) x
+kept_after y ys true x h = inr h
+kept_after y ys false x h = h
 
 one_kept : {X : Type 0} (t : X → Bool) (xs : List X) (x : X) → IsOneOf xs x → t x ≡ true → IsOneOf (filter t xs) x
 one_kept t [] x h e = absurd h
 one_kept t (y ∷ ys) x (inl same) e = kept_by t y (filter t ys) (t y) x refl same e
-one_kept t (y ∷ ys) x (inr h) e = kept_behind y (filter t ys) (t y) x (one_kept t ys x h e)
+one_kept t (y ∷ ys) x (inr h) e = kept_after y (filter t ys) (t y) x (one_kept t ys x h e)
 
 only_home : (info : List ℕ) (h : HandlerInfo) (ms : List Method) (m : Method) → IsOneOf ms m → has_home info h ms ≡ true → is_within info h m ≡ true
 only_home info h [] m one e = absurd one

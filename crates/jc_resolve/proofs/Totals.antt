@@ -4,14 +4,14 @@ use Rattle.std.proofs.lemmas.List.{length-map}
 use Rattle.std.proofs.lemmas.List.Sums.{sum_by-cons}
 use Rattle.cap_desc.specs.DescriptorFormat as described
 use Rattle.cap_package.specs.PackageRecord.{PackageRecord}
-use Rattle.jc_resolve.specs.Numbering.{classes_of, classes_behind, numbered_classes, methods_of_class, methods_of_classes, methods_behind, numbered_methods}
+use Rattle.jc_resolve.specs.Numbering.{classes_of, classes_after, numbered_classes, methods_of_class, methods_of_classes, methods_after, numbered_methods}
 use Rattle.jc_resolve.specs.NamedMethods.{named_method, named_methods}
 use Rattle.jc_resolve.specs.Counts.{class_total, method_count, method_total}
 
-pub length_classes : (k : ℕ) (ps : List PackageRecord) → length (classes_behind k ps) ≡ class_total ps
+pub length_classes : (k : ℕ) (ps : List PackageRecord) → length (classes_after k ps) ≡ class_total ps
 length_classes k [] = refl
 length_classes k (p ∷ ps) =
-    length-append (classes_of k p) (classes_behind (k + 1) ps)
+    length-append (classes_of k p) (classes_after (k + 1) ps)
     ∙ ap₂ ◌+◌ (length-map p.classes _) (length_classes (k + 1) ps)
     ∙ sym (sum_by-cons (λ (q : PackageRecord). length q.classes) p ps)
 
@@ -29,10 +29,10 @@ length_in k p n (c ∷ cs) =
     ∙ ap₂ ◌+◌ (length_class k p n c 0 c.methods) (length_in k p (n + 1) cs)
     ∙ sym (sum_by-cons (λ (d : described.Class). length d.methods) c cs)
 
-pub length_methods : (k : ℕ) (ps : List PackageRecord) → length (methods_behind k ps) ≡ method_total ps
+pub length_methods : (k : ℕ) (ps : List PackageRecord) → length (methods_after k ps) ≡ method_total ps
 length_methods k [] = refl
 length_methods k (p ∷ ps) =
-    length-append (methods_of_classes k p 0 p.description.items.classes) (methods_behind (k + 1) ps)
+    length-append (methods_of_classes k p 0 p.description.items.classes) (methods_after (k + 1) ps)
     ∙ ap₂ ◌+◌ (length_in k p 0 p.description.items.classes) (length_methods (k + 1) ps)
     ∙ sym (sum_by-cons (λ (q : PackageRecord). method_count q.description.items.classes) p ps)
 

@@ -34,12 +34,12 @@ methods_fault ps = if nat_lt 32768 (length (numbered_methods ps)) then Some (Too
 -- ---- names, each a package and what it names there
 
 -- what the packages name, from a package's number on
-abbrev pub named_behind : (PackageRecord → List ℕ) → ℕ → List PackageRecord → List (ℕ × ℕ)
-named_behind f k [] = []
-named_behind f k (p ∷ ps) = map (λ n. (k, n)) (f p) ++ named_behind f (k + 1) ps
+abbrev pub named_after : (PackageRecord → List ℕ) → ℕ → List PackageRecord → List (ℕ × ℕ)
+named_after f k [] = []
+named_after f k (p ∷ ps) = map (λ n. (k, n)) (f p) ++ named_after f (k + 1) ps
 
 abbrev pub named_in : (PackageRecord → List ℕ) → List PackageRecord → List (ℕ × ℕ)
-named_in f = named_behind f 0
+named_in f = named_after f 0
 
 -- the tokens of a package's imports
 abbrev pub import_tokens : PackageRecord → List ℕ

@@ -64,8 +64,8 @@ no_body flags sig = record {
 }
 
 -- the code of a method stands after its header
-abbrev pub body_behind : List PackageRecord → ℕ → ℕ → PackageRecord → Method → Header → ℕ → Body
-body_behind ps throwable k p m h code_at = record {
+abbrev pub body_after : List PackageRecord → ℕ → ℕ → PackageRecord → Method → Header → ℕ → Body
+body_after ps throwable k p m h code_at = record {
   is_abstract = is_abstract h;
   nargs = h.nargs;
   max_locals = h.max_locals;
@@ -77,7 +77,7 @@ body_behind ps throwable k p m h code_at = record {
 
 abbrev pub body_by : List PackageRecord → ℕ → ℕ → PackageRecord → Method → Sig → Option Header → Body
 body_by ps throwable k p m sig None = no_body m.flags sig
-body_by ps throwable k p m sig (Some h) = body_behind ps throwable k p m h (offset_in_info (m.method_offset + h.size))
+body_by ps throwable k p m sig (Some h) = body_after ps throwable k p m h (offset_in_info (m.method_offset + h.size))
 
 unfoldable pub body_of : List PackageRecord → ℕ → ℕ → PackageRecord → Method → Sig → Bool → Body
 body_of ps throwable k p m sig has_header = if has_header

@@ -21,13 +21,13 @@ numbered_class k p c = record { home = k; of_package = p; record_of = c }
 abbrev pub classes_of : ℕ → PackageRecord → List NumberedClass
 classes_of k p = map (numbered_class k p) p.classes
 
-abbrev pub classes_behind : ℕ → List PackageRecord → List NumberedClass
-classes_behind k [] = []
-classes_behind k (p ∷ ps) = classes_of k p ++ classes_behind (k + 1) ps
+abbrev pub classes_after : ℕ → List PackageRecord → List NumberedClass
+classes_after k [] = []
+classes_after k (p ∷ ps) = classes_of k p ++ classes_after (k + 1) ps
 
 -- the classes of all packages, in the order of their numbers
 abbrev pub numbered_classes : List PackageRecord → List NumberedClass
-numbered_classes = classes_behind 0
+numbered_classes = classes_after 0
 
 -- where a class stands: its package, and its offset in the Class component
 abbrev pub place_of_class : NumberedClass → RecordPlace
@@ -90,13 +90,13 @@ abbrev pub methods_of_classes : ℕ → PackageRecord → ℕ → List described
 methods_of_classes k p class_no [] = []
 methods_of_classes k p class_no (c ∷ cs) = methods_of_class k p class_no c 0 c.methods ++ methods_of_classes k p (class_no + 1) cs
 
-abbrev pub methods_behind : ℕ → List PackageRecord → List NumberedMethod
-methods_behind k [] = []
-methods_behind k (p ∷ ps) = methods_of_classes k p 0 p.description.items.classes ++ methods_behind (k + 1) ps
+abbrev pub methods_after : ℕ → List PackageRecord → List NumberedMethod
+methods_after k [] = []
+methods_after k (p ∷ ps) = methods_of_classes k p 0 p.description.items.classes ++ methods_after (k + 1) ps
 
 -- the methods of all packages, in the order of their numbers; those of interfaces count
 abbrev pub numbered_methods : List PackageRecord → List NumberedMethod
-numbered_methods = methods_behind 0
+numbered_methods = methods_after 0
 
 -- where a method stands: its package, and its offset in the Method component
 abbrev pub place_of_method : NumberedMethod → Option RecordPlace

@@ -7,7 +7,7 @@ ghost use Rattle.cap_method.specs.MethodPart.{handlers_left, header_seen};
 ghost use Rattle.cap_package.specs.PackageRecord.{PackageRecord, names_interface};
 ghost use Rattle.cap_pool.specs.Pool.{entries};
 ghost use Rattle.jc_resolve.specs.Named.{IsAgreed};
-ghost use Rattle.jc_resolve.specs.NamedMethods.{HasFewHandlers, caught, handler_named, offset_in_info, no_body, body_behind, body_of, class_described, have_headers, is_init, named_method};
+ghost use Rattle.jc_resolve.specs.NamedMethods.{HasFewHandlers, caught, handler_named, offset_in_info, no_body, body_after, body_of, class_described, have_headers, is_init, named_method};
 ghost use Rattle.jc_resolve.specs.Numbering.{numbered, numbered_methods, methods_of_class, methods_of_classes};
 
 use crate::class_index::Index;
@@ -74,7 +74,7 @@ fn handler_named(
 
 /// The handlers after so many.
 #[tactic(auto, using(crate::proofs::Parts::drop_step))]
-fn handlers_behind<'a>(handlers: Handlers<'a>, count: u16) -> Handlers<'a>
+fn handlers_after<'a>(handlers: Handlers<'a>, count: u16) -> Handlers<'a>
     ensures { handlers_left result ≡ drop count (handlers_left handlers.entry) }
 {
     let mut rest = handlers;
@@ -152,7 +152,7 @@ fn no_body(alloc: Global, flags: AccessFlags, sig: &Sig) -> Body
 }
 
 /// What the header of a method tells.
-fn body_behind(
+fn body_after(
     alloc: Global,
     home: Home<'_, '_, '_, '_>,
     method: &MethodInfo,
@@ -161,15 +161,15 @@ fn body_behind(
     ensures { IfOk result
         (λ b.
         b
-        ≡ body_behind home.entry.index.now
+        ≡ body_after home.entry.index.now
         (slice_index home.entry.roles 1) home.entry.number home.entry.of_package.now
         (method_seen method.now) (header_seen header)
         (offset_in_info (method.now.method_offset + header.size))) }
 {
     let code_at = method.method_offset.saturating_add(header.size as u16);
-    let behind = handlers_behind(home.of_package.methods().handlers(), method.handler_index);
+    let farther = handlers_after(home.of_package.methods().handlers(), method.handler_index);
     let pool = home.of_package.pool();
-    let handlers = handlers_named(alloc, home, &pool, code_at, behind, method.handler_count)?;
+    let handlers = handlers_named(alloc, home, &pool, code_at, farther, method.handler_count)?;
     Ok(Body {
         is_abstract: header.flags.is_abstract(),
         nargs: header.nargs,
@@ -201,7 +201,7 @@ fn body_of(
         return Ok(no_body(alloc, method.flags, sig));
     }
     match header(&home.of_package.methods(), method.method_offset) {
-        Some(header) => body_behind(alloc, home, method, header),
+        Some(header) => body_after(alloc, home, method, header),
         None => Ok(no_body(alloc, method.flags, sig)),
     }
 }
@@ -216,11 +216,7 @@ fn class_described(index: &Index<'_, '_, '_>, package: u16, class: DescClass<'_>
 
 /// Whether the methods of a record of the Descriptor have headers.
 #[tactic(auto, unfolding(crate::specs::NamedMethods::have_headers))]
-fn have_headers(
-    home: Home<'_, '_, '_, '_>,
-    interfaces: &Offsets,
-    class: DescClass<'_>,
-) -> bool
+fn have_headers(home: Home<'_, '_, '_, '_>, interfaces: &Offsets, class: DescClass<'_>) -> bool
     requires { holds interfaces.now ≡ names_interface home.of_package.now.classes }
     ensures { result ≡ have_headers home.entry.index.now home.entry.number home.entry.of_package.now (class_seen class.entry) }
 {
@@ -345,7 +341,7 @@ fn push_package(
 
 /// The methods of packages.
 #[tactic(auto, using(crate::proofs::Steps::methods_step))]
-pub(crate) fn methods_behind<'x, 'n, 'p, 'a>(
+pub(crate) fn methods_after<'x, 'n, 'p, 'a>(
     alloc: Global,
     index: &'x Index<'n, 'p, 'a>,
     packages: &'x Packages<'p, 'a>,

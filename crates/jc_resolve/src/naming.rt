@@ -10,7 +10,7 @@ use crate::class_records::class_records;
 use crate::counts::{classes_few, methods_few, packages_few};
 use crate::fault::LinkEnd;
 use crate::import_checks::imports_met;
-use crate::method_records::methods_behind;
+use crate::method_records::methods_after;
 use crate::names_type::Names;
 use crate::reference_checks::classes_named;
 use cap_package::Packages;
@@ -47,7 +47,7 @@ fn names_or_fault<'n, 'p, 'a>(
     ensures few { IfOk result (λ _. All HasFewHandlers packages.now) }
 {
     let index = checked(alloc, packages)?;
-    let methods = methods_behind(alloc, &index, &*packages, roles)?;
+    let methods = methods_after(alloc, &index, &*packages, roles)?;
     let classes = class_records(alloc, &index, &*packages, roles)?;
     Ok(Names {
         index,

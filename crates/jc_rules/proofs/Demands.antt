@@ -51,13 +51,13 @@ Breaks-front t f [] es fault b = elim b [ ]
 Breaks-front t f (d ∷ ds) es fault (here no_d is) = here no_d is
 Breaks-front t f (d ∷ ds) es fault (later h b) = later h (Breaks-front t f ds es fault b)
 
-pub Breaks-behind : (t : ClassTable) (f : Frame) (ds es : List Demand) (fault : RuleFault) → AllHold t f ds → Breaks t f es fault → Breaks t f (ds ++ es) fault
-Breaks-behind t f [] es fault h b = b
-Breaks-behind t f (d ∷ ds) es fault h b = later h.0 (Breaks-behind t f ds es fault h.1 b)
+pub Breaks-farther : (t : ClassTable) (f : Frame) (ds es : List Demand) (fault : RuleFault) → AllHold t f ds → Breaks t f es fault → Breaks t f (ds ++ es) fault
+Breaks-farther t f [] es fault h b = b
+Breaks-farther t f (d ∷ ds) es fault h b = later h.0 (Breaks-farther t f ds es fault h.1 b)
 
-pub judged-behind : (t : ClassTable) (f : Frame) (ds es : List Demand) (r : Result (Unit {0}) RuleFault) → AllHold t f ds → MatchResult r (λ _. AllHold t f es) (Breaks t f es) → MatchResult r (λ _. AllHold t f (ds ++ es)) (Breaks t f (ds ++ es))
-judged-behind t f ds es (Ok u) h k = AllHold-append t f ds es h k
-judged-behind t f ds es (Err fault) h b = Breaks-behind t f ds es fault h b
+pub judged-farther : (t : ClassTable) (f : Frame) (ds es : List Demand) (r : Result (Unit {0}) RuleFault) → AllHold t f ds → MatchResult r (λ _. AllHold t f es) (Breaks t f es) → MatchResult r (λ _. AllHold t f (ds ++ es)) (Breaks t f (ds ++ es))
+judged-farther t f ds es (Ok u) h k = AllHold-append t f ds es h k
+judged-farther t f ds es (Err fault) h b = Breaks-farther t f ds es fault h b
 
 -- the cells of arguments, of which the first n are met
 pub record Wanted (t : ClassTable) (f : Frame) (tys : List Ty) (n : ℕ) : Type 0 where

@@ -22,7 +22,7 @@ pub record RaisedTo (t : ClassTable) (old others : List Ty) (n : ℕ) (now : Lis
   pub count : length now ≡ length old
   pub known : All (IsKnown t) now
   pub joined : (k : ℕ) → k < n → IsJoin t (get_or old k Top) (get_or others k Top) (get_or now k Top)
-  pub behind : (k : ℕ) → n ≤ k → get_or now k Top ≡ get_or old k Top
+  pub farther : (k : ℕ) → n ≤ k → get_or now k Top ≡ get_or old k Top
   pub rose : RoseTo t old now rises
 
 pub CellsJoin-by_index : (t : ClassTable) (xs ys js : List Ty) → length xs ≡ length ys → length js ≡ length xs → ((k : ℕ) → k < length xs → IsJoin t (get_or xs k Top) (get_or ys k Top) (get_or js k Top)) → CellsJoin t xs ys js
@@ -45,7 +45,7 @@ split_last (suc k) (suc n) h = suc_cases (split_last k n (omega arith))
 
 module _ (t : ClassTable) (old others : List Ty) (n : ℕ) (now : List Ty) (b : Bool) (r : RaisedTo t old others n now b) (lt : n < length others) (len : length old ≡ length others) where
   private_held : (a : Ty) → a ≡ get_or now n a → a ≡ get_or old n Top
-  private_held a e = e ∙ get_or_default now n a Top (omega (arith, r.count)) ∙ r.behind n (omega arith)
+  private_held a e = e ∙ get_or_default now n a Top (omega (arith, r.count)) ∙ r.farther n (omega arith)
 
   private_join : (a d j : Ty) → a ≡ get_or now n a → IsJoin t a (get_or others n d) j → IsJoin t (get_or old n Top) (get_or others n Top) j
   private_join a d j e is = subst (λ x. IsJoin t x (get_or others n Top) j) (private_held a e) (subst (λ x. IsJoin t a x j) (get_or_default others n d Top lt) is)
@@ -60,7 +60,7 @@ module _ (t : ClassTable) (old others : List Ty) (n : ℕ) (now : List Ty) (b : 
       | inr here ↦ subst (λ m. IsJoin t (get_or old m Top) (get_or others m Top) (get_or now m Top)) (sym here)
           (subst (IsJoin t (get_or old n Top) (get_or others n Top)) (e ∙ get_or_default now n a Top (omega (arith, r.count))) (private_join a d a e is))
     ];
-    behind = λ k le. r.behind k (omega arith);
+    farther = λ k le. r.farther k (omega arith);
     rose = r.rose;
   }
 
@@ -78,7 +78,7 @@ module _ (t : ClassTable) (old others : List Ty) (n : ℕ) (now : List Ty) (b : 
       | inr here ↦ subst (λ m. IsJoin t (get_or old m Top) (get_or others m Top) (get_or (set now n j) m Top)) (sym here)
           (subst (IsJoin t (get_or old n Top) (get_or others n Top)) (sym (get_or-set_same now n j Top (omega (arith, r.count)))) (private_join a d j e is))
     ];
-    behind = λ k le. get_or-set_other now n k j Top (λ same. absurd (omega arith)) ∙ r.behind k (omega arith);
+    farther = λ k le. get_or-set_other now n k j Top (λ same. absurd (omega arith)) ∙ r.farther k (omega arith);
     rose = private_less b r.rose j (subst (λ x. rises_left t j < rises_left t x) (e ∙ get_or_default now n a Top (omega (arith, r.count))) less);
   }
 

@@ -12,7 +12,7 @@ use Rattle.jc_base.specs.declared.record.ArrayRec.{ArrayRec}
 use Rattle.jc_base.specs.declared.record.StaticRec.{StaticRec}
 use Rattle.jc_base.specs.Class.{ClassTable}
 use Rattle.jc_base.specs.Order.{Below, same}
-use Rattle.jc_base.proofs.Lists.{All-slice_get, slice_get-front, slice_get-behind}
+use Rattle.jc_base.proofs.Lists.{All-slice_get, slice_get-front, slice_get-farther}
 use Rattle.jc_base.specs.Cell.{IsDeclared, IsInitialHandle, AreWordsOf}
 use Rattle.jc_base.specs.Linked.{IsStatic}
 use Rattle.cap_method.specs.StaticFormat.{Array, Statics}
@@ -24,7 +24,7 @@ use Rattle.cap_package.specs.StaticPlaces.{static_places, IsStaticPlace}
 use Rattle.jc_resolve.specs.WorldTypes.{kind_of}
 use Rattle.jc_statics.specs.Arrays.{array_type, array_record, array_records}
 use Rattle.jc_statics.specs.Image.{image, references, words_at}
-use Rattle.jc_statics.specs.Statics.{Site, site, sites, sites_behind, cells_at, static_record, type_at, records_from, static_records}
+use Rattle.jc_statics.specs.Statics.{Site, site, sites, sites_after, cells_at, static_record, type_at, records_from, static_records}
 use Rattle.jc_statics.specs.Known.{IsPrimitive, AreTold, AreStaticsKnown}
 use Rattle.jc_statics.proofs.ArrayLists.{one_package, signed_is}
 use Rattle.jc_statics.proofs.ImageBytes.{handle_in, handle_past}
@@ -42,10 +42,10 @@ record IsSite (n : ℕ) (arrays : List ArrayRec) (s : Site) : Type 0 where
 
 handle_of : (before : List ArrayRec) (arrays : List Array) (rest : List ArrayRec) (k : ℕ) (a : Array) → slice_get arrays k ≡ Some a → slice_get (before ++ (map array_record arrays ++ rest)) (length before + k) ≡ Some (array_record a)
 handle_of before arrays rest k a e =
-    slice_get-behind before (map array_record arrays ++ rest) k (length before + k) refl
+    slice_get-farther before (map array_record arrays ++ rest) k (length before + k) refl
     ∙ slice_get-front (map array_record arrays) rest k (array_record a) (slice_get-map array_record arrays k ∙ ap (λ (o : Option Array). option_map array_record o) e)
 
-sites_known : (n : ℕ) (arrays : List ArrayRec) (qs : List PackageRecord) (home first : ℕ) (before : List ArrayRec) → arrays ≡ before ++ array_records qs → first ≡ suc (length before) → home + length qs ≤ n → All AreStaticsKnown qs → All (IsSite n arrays) (sites_behind home first qs)
+sites_known : (n : ℕ) (arrays : List ArrayRec) (qs : List PackageRecord) (home first : ℕ) (before : List ArrayRec) → arrays ≡ before ++ array_records qs → first ≡ suc (length before) → home + length qs ≤ n → All AreStaticsKnown qs → All (IsSite n arrays) (sites_after home first qs)
 sites_known n arrays [] home first before e f le known = All-nil (IsSite n arrays)
 sites_known n arrays (p ∷ qs) home first before e f le known =
     let p_known = All-head AreStaticsKnown p qs known in
@@ -62,7 +62,7 @@ sites_known n arrays (p ∷ qs) home first before e f le known =
     }) in
     let there = sites_known n arrays qs (home + 1) (first + length p.statics.arrays) (before ++ map array_record p.statics.arrays)
     (split ∙ sym (append_assoc before (map array_record p.statics.arrays) (array_records qs))) (omega (arith, longer, f)) (omega arith) (All-tail AreStaticsKnown p qs known) in
-    All-append (IsSite n arrays) (map (site home first p.statics) (static_places p)) (sites_behind (home + 1) (first + length p.statics.arrays) qs) here there
+    All-append (IsSite n arrays) (map (site home first p.statics) (static_places p)) (sites_after (home + 1) (first + length p.statics.arrays) qs) here there
 
 -- ---- references
 

@@ -11,7 +11,7 @@ use Rattle.cap_method.specs.StaticFormat.{Statics}
 use Rattle.cap_package.specs.StaticChecks.{ImagePlace}
 use Rattle.cap_package.specs.PackageRecord.{PackageRecord}
 use Rattle.cap_package.specs.StaticPlaces.{static_places}
-use Rattle.jc_statics.specs.Statics.{Site, site, sites, sites_behind, cells_at, static_cells, static_record, type_at, records_from, static_records}
+use Rattle.jc_statics.specs.Statics.{Site, site, sites, sites_after, cells_at, static_cells, static_record, type_at, records_from, static_records}
 use Rattle.jc_statics.proofs.Steps.{next_item}
 
 -- the cells of fields
@@ -31,17 +31,17 @@ records_both told slot (x ∷ xs) ys =
 
 -- a step of going over the packages
 pub statics_more : (told : ℕ → TypeItem → Ty) (before after all : List StaticRec) (ps : List PackageRecord) (n first slot next last : ℕ) (p : PackageRecord) → slice_get ps n ≡ Some p
-    → before ++ records_from told slot (sites_behind n first (drop n ps)) ≡ all
+    → before ++ records_from told slot (sites_after n first (drop n ps)) ≡ all
     → after ≡ before ++ records_from told slot (map (site n first p.statics) (static_places p))
     → next ≡ slot + sum_by cells_at (static_places p)
     → last ≡ first + length p.statics.arrays
-    → after ++ records_from told next (sites_behind (n + 1) last (drop (n + 1) ps)) ≡ all
+    → after ++ records_from told next (sites_after (n + 1) last (drop (n + 1) ps)) ≡ all
 statics_more told before after all ps n first slot next last p e h pushed to others =
     let here = map (site n first p.statics) (static_places p) in
-    let rest = sites_behind (n + 1) (first + length p.statics.arrays) (drop (n + 1) ps) in
+    let rest = sites_after (n + 1) (first + length p.statics.arrays) (drop (n + 1) ps) in
     let slots : slot + cells_in here ≡ next = omega (arith, cells_at_home n first p.statics (static_places p), to) in
-    let both : records_from told slot (sites_behind n first (drop n ps)) ≡ records_from told slot here ++ records_from told next rest =
-    ap (λ qs. records_from told slot (sites_behind n first qs)) (next_item ps n p e) ∙ records_both told slot here rest ∙ ap (λ k. records_from told slot here ++ records_from told k rest) slots in
+    let both : records_from told slot (sites_after n first (drop n ps)) ≡ records_from told slot here ++ records_from told next rest =
+    ap (λ qs. records_from told slot (sites_after n first qs)) (next_item ps n p e) ∙ records_both told slot here rest ∙ ap (λ k. records_from told slot here ++ records_from told k rest) slots in
     rw (pushed, others) (append_assoc before (records_from told slot here) (records_from told next rest) ∙ ap (λ zs. before ++ zs) (sym both) ∙ h)
 
 -- ---- slots and cells
@@ -55,10 +55,10 @@ records_cells told slot [] = refl
 records_cells told slot (x ∷ xs) =
     omega (arith, sum_by-cons (λ (f : StaticRec). width f.kind) (static_record slot x (type_at told x)) (records_from told (slot + cells_at x.place) xs), sum_by-cons (λ (s : Site). cells_at s.place) x xs, records_cells told (slot + cells_at x.place) xs)
 
-sites_cells : (home first : ℕ) (ps : List PackageRecord) → cells_in (sites_behind home first ps) ≡ static_cells ps
+sites_cells : (home first : ℕ) (ps : List PackageRecord) → cells_in (sites_after home first ps) ≡ static_cells ps
 sites_cells home first [] = refl
 sites_cells home first (p ∷ ps) =
-    let rest = sites_behind (home + 1) (first + length p.statics.arrays) ps in
+    let rest = sites_after (home + 1) (first + length p.statics.arrays) ps in
     omega (
       arith,
       sum_by-append (λ (s : Site). cells_at s.place) (map (site home first p.statics) (static_places p)) rest,

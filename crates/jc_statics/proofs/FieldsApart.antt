@@ -9,7 +9,7 @@ use Rattle.cap_method.specs.StaticFormat.{Statics}
 use Rattle.cap_package.specs.StaticChecks.{ImagePlace}
 use Rattle.cap_package.specs.PackageRecord.{PackageRecord}
 use Rattle.cap_package.specs.StaticPlaces.{static_places, AreApart}
-use Rattle.jc_statics.specs.Statics.{Site, site, sites, sites_behind, cells_at, static_record, type_at, records_from, static_records}
+use Rattle.jc_statics.specs.Statics.{Site, site, sites, sites_after, cells_at, static_record, type_at, records_from, static_records}
 use Rattle.jc_statics.specs.Known.{AreStaticsKnown, StandApart}
 
 abbrev IsApart : Site → Site → Type 0
@@ -20,11 +20,11 @@ AreSitesApart [] = Unit {0}
 AreSitesApart (s ∷ others) = All (IsApart s) others × AreSitesApart others
 
 -- the fields of packages from a number on are of those packages
-homes_from : (home first : ℕ) (ps : List PackageRecord) → All (λ (s : Site). home ≤ s.home) (sites_behind home first ps)
+homes_from : (home first : ℕ) (ps : List PackageRecord) → All (λ (s : Site). home ≤ s.home) (sites_after home first ps)
 homes_from home first [] = All-nil (λ (s : Site). home ≤ s.home)
 homes_from home first (p ∷ ps) =
     let P = λ (s : Site). home ≤ s.home in
-    let rest = sites_behind (home + 1) (first + length p.statics.arrays) ps in
+    let rest = sites_after (home + 1) (first + length p.statics.arrays) ps in
     All-append P (map (site home first p.statics) (static_places p)) rest
     (All-map P (site home first p.statics) (static_places p) (λ k d lt. omega arith))
     (All-weaker (λ (s : Site). home + 1 ≤ s.home) P (λ s le. omega arith) rest (homes_from (home + 1) (first + length p.statics.arrays) ps))
@@ -40,10 +40,10 @@ package_apart home first st (p ∷ places) rest apart later others =
       package_apart home first st places rest apart.1 later others,
     )
 
-sites_apart : (home first : ℕ) (ps : List PackageRecord) → All AreStaticsKnown ps → AreSitesApart (sites_behind home first ps)
+sites_apart : (home first : ℕ) (ps : List PackageRecord) → All AreStaticsKnown ps → AreSitesApart (sites_after home first ps)
 sites_apart home first [] known = tt {0}
 sites_apart home first (p ∷ ps) known =
-    package_apart home first p.statics (static_places p) (sites_behind (home + 1) (first + length p.statics.arrays) ps) (All-head AreStaticsKnown p ps known).apart
+    package_apart home first p.statics (static_places p) (sites_after (home + 1) (first + length p.statics.arrays) ps) (All-head AreStaticsKnown p ps known).apart
     (homes_from (home + 1) (first + length p.statics.arrays) ps)
     (sites_apart (home + 1) (first + length p.statics.arrays) ps (All-tail AreStaticsKnown p ps known))
 

@@ -13,16 +13,16 @@ zero_before zero k xs h = absurd (omega arith)
 zero_before (suc n) zero xs h = refl
 zero_before (suc n) (suc k) xs h = zero_before n k xs (omega arith)
 
-value_behind : (n k : ℕ) (xs : List ℕ) → n ≤ k → get_or (replicate n 0 ++ xs) k 0 ≡ get_or xs (k - n) 0
-value_behind zero k xs h = let e : k - 0 ≡ k = omega arith in rw e refl
-value_behind (suc n) zero xs h = absurd (omega arith)
-value_behind (suc n) (suc k) xs h = let e : suc k - suc n ≡ k - n = omega arith in rw e (value_behind n k xs (omega arith))
+value_after : (n k : ℕ) (xs : List ℕ) → n ≤ k → get_or (replicate n 0 ++ xs) k 0 ≡ get_or xs (k - n) 0
+value_after zero k xs h = let e : k - 0 ≡ k = omega arith in rw e refl
+value_after (suc n) zero xs h = absurd (omega arith)
+value_after (suc n) (suc k) xs h = let e : suc k - suc n ≡ k - n = omega arith in rw e (value_after n k xs (omega arith))
 
 pub byte_in_zeros : (s : Statics) (offset : ℕ) → offset < 2 * s.reference_count + s.default_value_count → get_or (image s) offset 0 ≡ 0
 byte_in_zeros s offset h = zero_before (2 * s.reference_count + s.default_value_count) offset s.values h
 
 pub byte_in_values : (s : Statics) (offset : ℕ) → 2 * s.reference_count + s.default_value_count ≤ offset → get_or (image s) offset 0 ≡ get_or s.values (offset - (2 * s.reference_count + s.default_value_count)) 0
-byte_in_values s offset h = value_behind (2 * s.reference_count + s.default_value_count) offset s.values h
+byte_in_values s offset h = value_after (2 * s.reference_count + s.default_value_count) offset s.values h
 
 handle_at : (first : ℕ) (arrays : List Array) (m k : ℕ) → k < length arrays → get_or (handles first arrays ++ replicate m 0) k 0 ≡ min (first + k) 65535
 handle_at first [] m k h = absurd (omega arith)

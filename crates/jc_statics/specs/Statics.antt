@@ -33,14 +33,14 @@ abbrev pub site : ℕ → ℕ → Statics → ImagePlace → Site
 site home first s place = record { home = home; first = first; statics = s; place = place }
 
 -- the fields of packages, the first of which has a number, and whose initial arrays have handles from a first one on
-abbrev pub sites_behind : ℕ → ℕ → List PackageRecord → List Site
-sites_behind home first [] = []
-sites_behind home first (p ∷ ps) = map (site home first p.statics) (static_places p)
-    ++ sites_behind (home + 1) (first + length p.statics.arrays) ps
+abbrev pub sites_after : ℕ → ℕ → List PackageRecord → List Site
+sites_after home first [] = []
+sites_after home first (p ∷ ps) = map (site home first p.statics) (static_places p)
+    ++ sites_after (home + 1) (first + length p.statics.arrays) ps
 
 -- the static fields of all packages; handles count from 1
 abbrev pub sites : List PackageRecord → List Site
-sites = sites_behind 0 1
+sites = sites_after 0 1
 
 -- ---- records
 

@@ -5,7 +5,7 @@ use class_tests::Told;
 use std::alloc::{AllocError, Global};
 
 /// What is told of package T with so many packages of one interface after it.
-fn told_behind(alloc: Global, sizes: Sizes, times: u8) -> Result<Told, AllocError> {
+fn told_after(alloc: Global, sizes: Sizes, times: u8) -> Result<Told, AllocError> {
     let mut packages = Vec::new(alloc);
     packages.push(changed(alloc, &PLAIN, &[])?)?;
     for _ in 0..times {
@@ -52,7 +52,7 @@ fn the_limits_of_a_world_are_named(rt: HostRuntime) -> Result<(), AllocError> {
         (arrays(4097, 8), 1, ("NoRoom", 4097, 0)),
     ];
     for (sizes, times, want) in cases {
-        assert_eq!(rt; told_behind(rt.alloc(), sizes, times)?, want);
+        assert_eq!(rt; told_after(rt.alloc(), sizes, times)?, want);
     }
     Ok(())
 }
@@ -65,7 +65,7 @@ fn too_many_static_cells_are_named(rt: HostRuntime) -> Result<(), AllocError> {
         fields: 1093,
         ..NOTHING
     };
-    let told = told_behind(rt.alloc(), fields, 15)?;
+    let told = told_after(rt.alloc(), fields, 15)?;
     assert_eq!(rt; told, ("TooManyStatics", 32791, 0));
     Ok(())
 }

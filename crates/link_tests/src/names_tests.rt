@@ -61,7 +61,7 @@ fn classes_and_methods_are_numbered_over_all_packages(rt: HostRuntime) -> Result
 }
 
 #[test]
-fn a_package_that_imports_another_is_numbered_behind_it(rt: HostRuntime) -> Result<(), Fail> {
+fn a_package_that_imports_another_is_numbered_after_it(rt: HostRuntime) -> Result<(), Fail> {
     let alloc = rt.alloc();
     let owned = [
         changed(alloc, &PLAIN, &[])?,

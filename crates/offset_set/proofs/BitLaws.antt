@@ -146,7 +146,7 @@ module _ (words : List ℕ) (offset : ℕ) where
 
   -- the lowest bit of the first word that has one
   first_in : (word : ℕ) → offset < 64 * word → IsFree words offset (64 * word) → 0 < get_or words word 0 → get_or words word 0 < 2 ^ 64 → FirstIn word (get_or words word 0)
-  first_in word behind before some short =
+  first_in word farther before some short =
       let lowest = bit_at-trailing_zeros w64 (get_or words word 0) some short in
       record {
         within = lowest.0;
@@ -166,8 +166,8 @@ module _ (words : List ℕ) (offset : ℕ) where
           free_at words other word (omega arith) (ap (bit_at (get_or words word 0)) place ∙ none (other - word * 64) (omega arith))
 
   pub first-in : (word bits : ℕ) → bits ≡ get_or words word 0 → offset < 64 * word → IsFree words offset (64 * word) → (bits ≡ 0 → ⊥) → bits < 2 ^ 64 → FirstIn word bits
-  first-in word bits e behind before =
-      subst (λ b. (b ≡ 0 → ⊥) → b < 2 ^ 64 → FirstIn word b) (sym e) (λ some short. first_in word behind before (omega (arith, some)) short)
+  first-in word bits e farther before =
+      subst (λ b. (b ≡ 0 → ⊥) → b < 2 ^ 64 → FirstIn word b) (sym e) (λ some short. first_in word farther before (omega (arith, some)) short)
 
   -- no word is left
   pub none-left : (word : ℕ) → length words ≡ 1024 → IsFree words offset (64 * word) → 1024 ≤ word → IsNext (is_set words) offset None

@@ -37,7 +37,9 @@ lesser_of offset (Some other) = min offset other
 -- the least offset of a list above an offset
 abbrev pub least_above : ℕ → List ℕ → Option ℕ
 least_above offset [] = None
-least_above offset (one ∷ others) = if nat_lt offset one then Some (lesser_of one (least_above offset others)) else least_above offset others
+least_above offset (one ∷ others) =
+    if nat_lt offset one then Some (lesser_of one (least_above offset others))
+    else least_above offset others
 
 -- the nearest other offset of a list from an offset on: itself where it is repeated, else the least above it
 abbrev pub nearest : List ℕ → ℕ → Option ℕ

@@ -96,9 +96,9 @@ not-extends t decides i sought r at interface other h =
     let p : ℕ → Bool = λ x. is_or_extends t x sought in
     let leads : Leads (extended t) i sought → ⊥ = λ l. elim l [
       | at_once step ↦
-        false≢true (sym h.none ∙ any-contains p r.implements sought (subst (λ xs. Contains xs sought) (extended-is t i r at interface) step) ((decides sought sought).1 (inl refl)))
+          false≢true (sym h.none ∙ any-contains p r.implements sought (subst (λ xs. Contains xs sought) (extended-is t i r at interface) step) ((decides sought sought).1 (inl refl)))
       | further {b = b} step more ↦
-        false≢true (sym h.none ∙ any-contains p r.implements b (subst (λ xs. Contains xs b) (extended-is t i r at interface) step) ((decides b sought).1 (inr more)))
+          false≢true (sym h.none ∙ any-contains p r.implements b (subst (λ xs. Contains xs b) (extended-is t i r at interface) step) ((decides b sought).1 (inr more)))
     ] in
     false_from_ne_true (is_or_extends t i sought) (λ yes. elim ((decides i sought).0 yes) [ inl same ↦ other same | inr more ↦ leads more ])
 

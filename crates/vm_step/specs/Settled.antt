@@ -22,7 +22,7 @@ use Rattle.vm_step.specs.Raising.{Outcome, running, ends, thrown, raised}
 abbrev pub is_over : {A : Type 0} → Linked → State A → ℕ → Bool
 is_over w s depth = nat_lt (max_stack_of w (top s).method) depth
 
--- a place behind the code of the method on top
+-- a place after the code of the method on top
 abbrev pub is_past : {A : Type 0} → Linked → State A → ℕ → Bool
 is_past w s place = nat_le (length (code_at w (top s).method)) place
 

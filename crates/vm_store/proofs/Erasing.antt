@@ -79,8 +79,8 @@ reads s = record {
   kinds_are = kinds-erased s.heap;
   cells = object-erased s;
   room = λ count.
-    ap (λ n. nat_lt n 4096 && nat_le (cell_count (erased s) + count) 32768) (length-map s.heap (map_object word_of))
-    ∙ ap (λ n. nat_lt (length s.heap) 4096 && nat_le (n + count) 32768) (count-erased s.heap);
+      ap (λ n. nat_lt n 4096 && nat_le (cell_count (erased s) + count) 32768) (length-map s.heap (map_object word_of))
+      ∙ ap (λ n. nat_lt (length s.heap) 4096 && nat_le (n + count) 32768) (count-erased s.heap);
 }
 
 -- ---- frames
@@ -100,26 +100,26 @@ frames : (methods : List MethodRec) (s : State Cell) → FramesErase methods s
 frames methods s = record {
   frame = frame-erased s;
   place = λ p.
-    frame-erased s (record (top s) { place = p })
-    ∙ ap (λ (f : Frame ℕ). with_top (erased s) (record f { place = p })) (first-erased s.frames);
+      frame-erased s (record (top s) { place = p })
+      ∙ ap (λ (f : Frame ℕ). with_top (erased s) (record f { place = p })) (first-erased s.frames);
   stack = λ cells.
-    frame-erased s (record (top s) { stack = cells })
-    ∙ ap (λ (f : Frame ℕ). with_top (erased s) (record f { stack = map word_of cells })) (first-erased s.frames);
+      frame-erased s (record (top s) { stack = cells })
+      ∙ ap (λ (f : Frame ℕ). with_top (erased s) (record f { stack = map word_of cells })) (first-erased s.frames);
   register = λ x c.
-    frame-erased s (record (top s) { registers = set (top s).registers x c })
-    ∙ (ap (λ rs. with_top (erased s) (record (map_frame word_of (top s)) { registers = rs })) (map-set word_of (top s).registers x c)
-    ∙ ap (λ (f : Frame ℕ). with_top (erased s) (record f { registers = set f.registers x (word_of c) })) (first-erased s.frames));
+      frame-erased s (record (top s) { registers = set (top s).registers x c })
+      ∙ (ap (λ rs. with_top (erased s) (record (map_frame word_of (top s)) { registers = rs })) (map-set word_of (top s).registers x c)
+      ∙ ap (λ (f : Frame ℕ). with_top (erased s) (record f { registers = set f.registers x (word_of c) })) (first-erased s.frames));
   call = λ m count.
-    ap (λ f. record (erased s) { frames = f ∷ (map_frame word_of (record (top s) { stack = drop count (top s).stack }) ∷ map (map_frame word_of) (other_frames s.frames)) })
-    (entered-erased methods m (arguments count (top s).stack) ∙ ap (entered words methods m) (arguments-erased count (top s).stack))
-    ∙ (ap (λ cells. record (erased s) { frames = entered words methods m (arguments count (map word_of (top s).stack)) ∷ (record (map_frame word_of (top s)) { stack = cells } ∷ map (map_frame word_of) (other_frames s.frames)) })
-    (sym (drop-map word_of count (top s).stack))
-    ∙ (ap (λ (f : Frame ℕ). record (erased s) { frames = entered words methods m (arguments count f.stack) ∷ (record f { stack = drop count f.stack } ∷ map (map_frame word_of) (other_frames s.frames)) })
-    (first-erased s.frames)
-    ∙ ap (λ fs. let caller = top (erased s) in record (erased s) { frames = entered words methods m (arguments count caller.stack) ∷ (record caller { stack = drop count caller.stack } ∷ fs) })
-    (others-erased s.frames)));
+      ap (λ f. record (erased s) { frames = f ∷ (map_frame word_of (record (top s) { stack = drop count (top s).stack }) ∷ map (map_frame word_of) (other_frames s.frames)) })
+      (entered-erased methods m (arguments count (top s).stack) ∙ ap (entered words methods m) (arguments-erased count (top s).stack))
+      ∙ (ap (λ cells. record (erased s) { frames = entered words methods m (arguments count (map word_of (top s).stack)) ∷ (record (map_frame word_of (top s)) { stack = cells } ∷ map (map_frame word_of) (other_frames s.frames)) })
+      (sym (drop-map word_of count (top s).stack))
+      ∙ (ap (λ (f : Frame ℕ). record (erased s) { frames = entered words methods m (arguments count f.stack) ∷ (record f { stack = drop count f.stack } ∷ map (map_frame word_of) (other_frames s.frames)) })
+      (first-erased s.frames)
+      ∙ ap (λ fs. let caller = top (erased s) in record (erased s) { frames = entered words methods m (arguments count caller.stack) ∷ (record caller { stack = drop count caller.stack } ∷ fs) })
+      (others-erased s.frames)));
   entry = λ m.
-    ap (λ f. record (erased s) { frames = f ∷ map (map_frame word_of) s.frames }) (entered-erased methods m []);
+      ap (λ f. record (erased s) { frames = f ∷ map (map_frame word_of) s.frames }) (entered-erased methods m []);
   left = ap (λ fs. record (erased s) { frames = fs }) (others-erased s.frames);
   ended = refl;
 }

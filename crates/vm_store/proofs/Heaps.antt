@@ -138,7 +138,7 @@ added {A} xs ys news hs end h follow enough is here width =
     let same : take end ys ≡ take end xs = ap (take end) is ∙ take_at (take end xs) (news ++ rest) end front in
     let same' : take (end - 0) ys ≡ take (end - 0) xs = ap (λ n. take n ys) whole ∙ (same ∙ ap (λ n. take n xs) (sym whole)) in
     let old : objects_in ys hs ≡ objects_in xs hs = same_objects ys xs 0 hs end follow same' in
-    let behind : drop h.start ys ≡ news ++ rest = ap (λ n. drop n ys) here ∙ (ap (drop end) is ∙ drop_at (take end xs) (news ++ rest) end front) in
-    let cells : take (size h) (drop h.start ys) ≡ news = ap (take (size h)) behind ∙ take_at news rest (size h) (sym width) in
+    let farther : drop h.start ys ≡ news ++ rest = ap (λ n. drop n ys) here ∙ (ap (drop end) is ∙ drop_at (take end xs) (news ++ rest) end front) in
+    let cells : take (size h) (drop h.start ys) ≡ news = ap (take (size h)) farther ∙ take_at news rest (size h) (sym width) in
     map-append (object_in ys) hs (h ∷ [])
     ∙ (ap (λ os. os ++ object_in ys h ∷ []) old ∙ ap (λ cs. objects_in xs hs ++ build cs ∷ []) cells)

@@ -41,8 +41,8 @@ IsTooLong items = (forms : List Form) → AreForms items forms → Fit forms →
 abbrev ahead : ℕ → List Form
 ahead n = Jump 1 false ∷ Fixed n ∷ Mark 1 ∷ []
 
-abbrev behind : ℕ → List Form
-behind n = Mark 1 ∷ Fixed n ∷ Jump 1 false ∷ []
+abbrev farther : ℕ → List Form
+farther n = Mark 1 ∷ Fixed n ∷ Jump 1 false ∷ []
 
 near_ahead : is_near (distance (ahead 125) 0 1) ≡ true
 near_ahead = refl
@@ -50,8 +50,8 @@ near_ahead = refl
 far_ahead : is_near (distance (ahead 126) 0 1) ≡ false
 far_ahead = refl
 
-near_behind : is_near (distance (behind 128) 2 1) ≡ true
-near_behind = refl
+near_after : is_near (distance (farther 128) 2 1) ≡ true
+near_after = refl
 
-far_behind : is_near (distance (behind 129) 2 1) ≡ false
-far_behind = refl
+far_after : is_near (distance (farther 129) 2 1) ≡ false
+far_after = refl

@@ -29,6 +29,6 @@ walk-preserved c =
           rw (more, sym c.lead.ensures ∙ c.in_default.is) refl in
           sym on ∙ c.walk.invariant.same;
       reached = reached-after c.args.code.bytes.now c.walk.at c.in-Ok.placed c.walk.invariant.reached found;
-      trailing = trails-later c.args.code.bytes.now c.trailed-behind.result c.walk.at c.in-Ok.placed.next c.trailed-behind.ensures (omega (arith, next.1));
+      trailing = trails-later c.args.code.bytes.now c.trailed-farther.result c.walk.at c.in-Ok.placed.next c.trailed-farther.ensures (omega (arith, next.1));
       inside = next.2;
     }

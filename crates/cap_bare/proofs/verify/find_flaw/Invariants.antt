@@ -8,7 +8,7 @@ abbrev pub invariant-walk : goal.invariant-walk
 invariant-walk l = record {
   same : first_flaw l.code.bytes.now l.at (instructions_from l.code.bytes.now l.at) ≡ first_flaw l.code.bytes.now 0 (instructions l.code.bytes.now);
   reached : IsReached l.code.bytes.now l.at;
-  trailing : IsTrailing l.code.bytes.now l.behind l.at;
+  trailing : IsTrailing l.code.bytes.now l.farther l.at;
   inside : l.at ≤ length l.code.bytes.now;
 }
 

@@ -29,6 +29,6 @@ walk-preserved c =
           rw (more, ← c.in-Ok-passed.ensures.value) refl in
           sym on ∙ c.walk.invariant.same;
       reached = reached-after c.args.code.bytes.now c.walk.at c.in-Ok.placed c.walk.invariant.reached found;
-      trailing = trails-later c.args.code.bytes.now c.trailed-behind.result c.walk.at c.in-Ok.placed.next c.trailed-behind.ensures (omega (arith, next.1));
+      trailing = trails-later c.args.code.bytes.now c.trailed-farther.result c.walk.at c.in-Ok.placed.next c.trailed-farther.ensures (omega (arith, next.1));
       low = omega (arith, c.in-Ok-passed.ensures.room, c.requires.stack);
     }

@@ -9,7 +9,7 @@ invariant-walk l = record {
   same : first_wrong l.code.bytes.now l.bare l.depth (instructions_from l.code.bytes.now l.at)
       ≡ first_wrong l.code.bytes.now l.bare 0 (instructions l.code.bytes.now);
   reached : IsReached l.code.bytes.now l.at;
-  trailing : IsTrailing l.code.bytes.now l.behind l.at;
+  trailing : IsTrailing l.code.bytes.now l.farther l.at;
   low : l.depth ≤ 15;
 }
 

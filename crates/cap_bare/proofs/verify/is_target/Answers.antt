@@ -7,7 +7,7 @@ use Rattle.cap_bare.proofs.verify.is_target.Goals as goal
 pub walk-init : goal.walk-init
 walk-init c =
     let bytes = c.are_bytes.ensures in
-    record { reached = c.requires.trailing.reached; ahead = target-trails c.args.code.bytes.now bytes c.args.behind c.args.place c.requires.trailing }
+    record { reached = c.requires.trailing.reached; ahead = target-trails c.args.code.bytes.now bytes c.args.farther c.args.place c.requires.trailing }
 
 pub returns-then-branches_to-clause-value : goal.returns-then-branches_to-clause-value
 returns-then-branches_to-clause-value c =

@@ -8,4 +8,4 @@ use Rattle.cap_package.proofs.method_checks.overlaps_with.Given as goal
 abbrev pub invariant-methods : goal.invariant-methods
 invariant-methods l =
     least_from l.least (overlap_fault l.info.bytes.now (method_seen l.method)) (methods_but_left l.other-iterator)
-    ≡ least_from l.initial.least (overlap_fault l.info.bytes.now (method_seen l.method)) (methods_but_left l.behind)
+    ≡ least_from l.initial.least (overlap_fault l.info.bytes.now (method_seen l.method)) (methods_but_left l.farther)

@@ -10,4 +10,4 @@ use Rattle.cap_package.proofs.static_checks.shares_with.Given as goal
 abbrev pub invariant-fields : goal.invariant-fields
 invariant-fields l =
     least_from l.least (share_fault (description l.descriptor) (option_map place_seen l.place)) (fields_of_left l.other-iterator)
-    ≡ least_from l.initial.least (share_fault (description l.descriptor) (option_map place_seen l.place)) (fields_of_left l.behind)
+    ≡ least_from l.initial.least (share_fault (description l.descriptor) (option_map place_seen l.place)) (fields_of_left l.farther)

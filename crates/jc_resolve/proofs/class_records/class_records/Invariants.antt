@@ -2,10 +2,10 @@ use Rattle.std.proofs.Common.{◌≡◌, ◌++◌, All, drop, map}
 use Rattle.std.specs.Prelude.{slice_index}
 use Rattle.jc_resolve.specs.Named.{IsSized}
 use Rattle.jc_resolve.specs.NamedClasses.{named_class}
-use Rattle.jc_resolve.specs.Numbering.{classes_behind, numbered_classes}
+use Rattle.jc_resolve.specs.Numbering.{classes_after, numbered_classes}
 use Rattle.jc_resolve.proofs.class_records.class_records.Given as goal
 
 abbrev pub invariant-packages : goal.invariant-packages
 invariant-packages l =
-    (l.named.items ++ map (named_class l.index (slice_index l.roles 0)) (classes_behind l.k (drop l.k l.packages)) ≡ map (named_class l.index (slice_index l.roles 0)) (numbered_classes l.packages))
+    (l.named.items ++ map (named_class l.index (slice_index l.roles 0)) (classes_after l.k (drop l.k l.packages)) ≡ map (named_class l.index (slice_index l.roles 0)) (numbered_classes l.packages))
     × All IsSized l.named.items

@@ -3,7 +3,7 @@ use Rattle.std.proofs.lemmas.Result.{err_from_is_err_and}
 use Rattle.jc_rules.specs.declared.demand.Demand.TheVariants.{Cell}
 use Rattle.jc_rules.specs.Demand.{frame, AllHold, Breaks}
 use Rattle.jc_rules.specs.Rule.{cells_wanted, call_demands, receiver_wanted}
-use Rattle.jc_rules.proofs.Demands.{Breaks-front, judged-behind}
+use Rattle.jc_rules.proofs.Demands.{Breaks-front, judged-farther}
 use Rattle.jc_rules.proofs.demand.Before.check_call.Goals as goal
 
 pub returns-in_err-check_arguments : goal.returns-in_err-check_arguments
@@ -19,6 +19,6 @@ returns-in-Some c =
     let f = frame c.args.self.now in
     let args = c.args.sig.now.args in
     subst (λ o. MatchResult c.check.result (λ _. AllHold t f (call_demands args o)) (Breaks t f (call_demands args o))) (sym c.in-Some.is)
-    (judged-behind t f (cells_wanted 0 (reverse args)) (Cell (length args) c.in-Some.want ∷ []) c.check.result
+    (judged-farther t f (cells_wanted 0 (reverse args)) (Cell (length args) c.in-Some.want ∷ []) c.check.result
     (subst (λ tys. AllHold t f (cells_wanted 0 (reverse tys))) c.as_slice.ensures c.in_ok-check_arguments.ensures)
     (subst (λ n. MatchResult c.check.result (λ _. AllHold t f (Cell n c.in-Some.want ∷ [])) (Breaks t f (Cell n c.in-Some.want ∷ []))) c.len.ensures c.check.ensures))

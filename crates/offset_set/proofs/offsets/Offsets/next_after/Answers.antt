@@ -20,7 +20,7 @@ returns-then-bits-ne0 c =
 
 pub words-preserved : goal.words-preserved
 words-preserved c =
-    let behind = c.words.invariant.1 in
+    let farther = c.words.invariant.1 in
     (none-in c.args.self.now.words c.args.offset c.words.word c.bits-bits.result c.bits-bits.ensures.value c.words.invariant.0 c.if-bits-ne0.false, omega arith, omega arith)
 
 pub returns : goal.returns

@@ -6,7 +6,7 @@ use Rattle.cap_package.specs.PackageRecord.{PackageRecord}
 use Rattle.jc_resolve.specs.Named.{IsAgreed}
 use Rattle.jc_resolve.specs.NamedMethods.{HasFewHandlers}
 use Rattle.jc_resolve.proofs.Steps.{methods_step}
-use Rattle.jc_resolve.proofs.method_records.methods_behind.Goals as goal
+use Rattle.jc_resolve.proofs.method_records.methods_after.Goals as goal
 
 -- one more package, where the packages are gone over as a list of the same elements
 one_more : (P : PackageRecord → Type 0) (items ps : List PackageRecord) (k : ℕ) (p : PackageRecord) → items ≡ ps → k < length items → p ≡ get_or items k p → All P (take k ps) → P p → All P (take (k + 1) ps)

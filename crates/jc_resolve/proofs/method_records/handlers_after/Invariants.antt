@@ -1,6 +1,6 @@
 use Rattle.std.proofs.Common.{◌≡◌, ◌-◌, drop}
 use Rattle.cap_method.specs.MethodPart.{handlers_left}
-use Rattle.jc_resolve.proofs.method_records.handlers_behind.Given as goal
+use Rattle.jc_resolve.proofs.method_records.handlers_after.Given as goal
 
 abbrev pub invariant-passed : goal.invariant-passed
 invariant-passed l = drop (l.count - l.counter) (handlers_left l.rest) ≡ drop l.count (handlers_left l.fn.handlers)
