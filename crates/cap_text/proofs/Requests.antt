@@ -7,7 +7,8 @@ use Rattle.cap_text.specs.Word.{IsArgWord, AreArgWords}
 use Rattle.cap_text.specs.Probe.{ProbeRequest, IsProbe}
 use Rattle.cap_text.specs.Show.{ShowRequest, IsShow}
 use Rattle.cap_text.specs.Check.{CheckRequest, IsCheck}
-use Rattle.cap_text.specs.Request.{probe, show, check, IsUsage, OneRequest}
+use Rattle.cap_text.specs.Verify.{VerifyRequest, IsVerify}
+use Rattle.cap_text.specs.Request.{probe, show, check, verify, IsUsage, OneRequest}
 use Rattle.cap_text.specs.declared.word.Arg.{Arg}
 use Rattle.cap_text.specs.declared.word.Arg.TheVariants.{Number, Null}
 
@@ -52,6 +53,9 @@ one_show (dir ∷ more ∷ rest) s t is_s is_t = absurd is_s
 one_check : (operands : List (List ℕ)) (c d : CheckRequest) → IsCheck operands c → IsCheck operands d → c ≡ d
 one_check operands c d is_c is_d = let same : c.dirs ≡ d.dirs = is_c.0 ∙ sym is_d.0 in λ i. record { dirs = same i }
 
+one_verify : (operands : List (List ℕ)) (v w : VerifyRequest) → IsVerify operands v → IsVerify operands w → v ≡ w
+one_verify operands v w is_v is_w = let same : v.dirs ≡ w.dirs = is_v.0 ∙ sym is_w.0 in λ i. record { dirs = same i }
+
 probe_show : (name : List ℕ) → name ≡ codes "probe" → name ≡ codes "show" → ⊥
 unfolding first
 probe_show name is_probe is_show = let differ : 112 ≡ 115 = ap first (sym is_probe ∙ is_show) in omega (arith, differ)
@@ -63,6 +67,18 @@ probe_check name is_probe is_check = let differ : 112 ≡ 99 = ap first (sym is_
 show_check : (name : List ℕ) → name ≡ codes "show" → name ≡ codes "check" → ⊥
 unfolding first
 show_check name is_show is_check = let differ : 115 ≡ 99 = ap first (sym is_show ∙ is_check) in omega (arith, differ)
+
+probe_verify : (name : List ℕ) → name ≡ codes "probe" → name ≡ codes "verify" → ⊥
+unfolding first
+probe_verify name is_probe is_verify = let differ : 112 ≡ 118 = ap first (sym is_probe ∙ is_verify) in omega (arith, differ)
+
+show_verify : (name : List ℕ) → name ≡ codes "show" → name ≡ codes "verify" → ⊥
+unfolding first
+show_verify name is_show is_verify = let differ : 115 ≡ 118 = ap first (sym is_show ∙ is_verify) in omega (arith, differ)
+
+check_verify : (name : List ℕ) → name ≡ codes "check" → name ≡ codes "verify" → ⊥
+unfolding first
+check_verify name is_check is_verify = let differ : 99 ≡ 118 = ap first (sym is_check ∙ is_verify) in omega (arith, differ)
 
 first_word : List (List ℕ) → List ℕ
 first_word [] = []
@@ -80,6 +96,16 @@ no_check [] name operands is called none r is_r = is_r
 no_check (word ∷ words) name operands is called none (probe p) is_r = absurd (probe_check word is_r.0 (ap first_word is ∙ called))
 no_check (word ∷ words) name operands is called none (show s) is_r = absurd (show_check word is_r.0 (ap first_word is ∙ called))
 no_check (word ∷ words) name operands is called none (check c) is_r = none c (subst (λ ws. IsCheck ws c) (ap others is) is_r.1)
+no_check (word ∷ words) name operands is called none (verify v) is_r = absurd (check_verify word (ap first_word is ∙ called) is_r.0)
+
+pub no_verify : (words : List (List ℕ)) (name : List ℕ) (operands : List (List ℕ)) → words ≡ name ∷ operands → name ≡ codes "verify"
+    → ((v : VerifyRequest) → IsVerify operands v → ⊥) → IsUsage words
+unfolding first_word others
+no_verify [] name operands is called none r is_r = is_r
+no_verify (word ∷ words) name operands is called none (probe p) is_r = absurd (probe_verify word is_r.0 (ap first_word is ∙ called))
+no_verify (word ∷ words) name operands is called none (show s) is_r = absurd (show_verify word is_r.0 (ap first_word is ∙ called))
+no_verify (word ∷ words) name operands is called none (check c) is_r = absurd (check_verify word is_r.0 (ap first_word is ∙ called))
+no_verify (word ∷ words) name operands is called none (verify v) is_r = none v (subst (λ ws. IsVerify ws v) (ap others is) is_r.1)
 
 pub one_request : (words : List (List ℕ)) → OneRequest words
 one_request [] r s is_r is_s = absurd is_r
@@ -92,3 +118,10 @@ one_request (name ∷ operands) (check c) (probe p) is_r is_s = absurd (probe_ch
 one_request (name ∷ operands) (show s) (check c) is_r is_s = absurd (show_check name is_r.0 is_s.0)
 one_request (name ∷ operands) (check c) (show s) is_r is_s = absurd (show_check name is_s.0 is_r.0)
 one_request (name ∷ operands) (check c) (check d) is_r is_s = ap check (one_check operands c d is_r.1 is_s.1)
+one_request (name ∷ operands) (probe p) (verify v) is_r is_s = absurd (probe_verify name is_r.0 is_s.0)
+one_request (name ∷ operands) (verify v) (probe p) is_r is_s = absurd (probe_verify name is_s.0 is_r.0)
+one_request (name ∷ operands) (show s) (verify v) is_r is_s = absurd (show_verify name is_r.0 is_s.0)
+one_request (name ∷ operands) (verify v) (show s) is_r is_s = absurd (show_verify name is_s.0 is_r.0)
+one_request (name ∷ operands) (check c) (verify v) is_r is_s = absurd (check_verify name is_r.0 is_s.0)
+one_request (name ∷ operands) (verify v) (check c) is_r is_s = absurd (check_verify name is_s.0 is_r.0)
+one_request (name ∷ operands) (verify v) (verify w) is_r is_s = ap verify (one_verify operands v w is_r.1 is_s.1)

@@ -2,12 +2,14 @@ pub mod Word
 pub mod Probe
 pub mod Show
 pub mod Check
+pub mod Verify
 pub mod Request
 pub mod Fault
 pub mod Bare
 pub mod Linked
 pub mod Rule
 pub mod Flow
+pub mod Card
 pub mod Start
 pub mod Line
 pub mod Table

@@ -13,7 +13,9 @@ use Rattle.cap_text.specs.Start.{start_fault_text}
 use Rattle.cap_text.specs.Linked.{link_fault_text}
 use Rattle.jc_resolve.specs.declared.fault.LinkFault.{LinkFault}
 use Rattle.cap_text.specs.declared.line.MethodNumber.{MethodNumber}
+use Rattle.cap_text.specs.Card.{card_fault_text}
 use Rattle.cap_text.specs.Flow.{flow_end_text}
+use Rattle.card_typing.specs.declared.fault.CardFault.{CardFault}
 use Rattle.jc_flow.specs.declared.end.FlowEnd.{FlowEnd}
 use Rattle.jc_flow.specs.declared.end.FlowEnd.TheVariants.{Memory}
 
@@ -58,6 +60,14 @@ method_text m = concat (codes "package " ∷ decimal m.package ∷ codes " metho
 abbrev pub refused_flow_line : MethodNumber → FlowEnd → List ℕ
 refused_flow_line method Memory = []
 refused_flow_line method end = concat (codes "refused " ∷ method_text method ∷ codes " " ∷ flow_end_text end ∷ codes "\n" ∷ [])
+
+-- each method with code of all packages has a card typing, and there are so many
+abbrev pub accepted_line : ℕ → List ℕ
+accepted_line count = concat (codes "accepted " ∷ decimal count ∷ codes " methods\n" ∷ [])
+
+-- the method has no card typing
+abbrev pub refused_card_line : MethodNumber → CardFault → List ℕ
+refused_card_line method fault = concat (codes "refused " ∷ method_text method ∷ codes " " ∷ card_fault_text fault ∷ codes "\n" ∷ [])
 
 -- how a run of a bare method ends
 abbrev pub bare_ending_line : BareEnd → List ℕ

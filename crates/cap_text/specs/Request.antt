@@ -3,14 +3,16 @@ use Rattle.std.specs.Prelude.{◌≡◌, ℕ, List, [], ◌∷◌, codes}
 use Rattle.cap_text.specs.Probe.{ProbeRequest, IsProbe, probe_request}
 use Rattle.cap_text.specs.Show.{ShowRequest, IsShow, show_request}
 use Rattle.cap_text.specs.Check.{CheckRequest, IsCheck, check_request}
+use Rattle.cap_text.specs.Verify.{VerifyRequest, IsVerify, verify_request}
 use Rattle.cap_text.specs.declared.command.Command.{Command}
-use Rattle.cap_text.specs.declared.command.Command.TheVariants.{Probe, Show, Check}
+use Rattle.cap_text.specs.declared.command.Command.TheVariants.{Probe, Show, Check, Verify}
 
 -- a command with its operands
 pub data Request : Type 0 where
   probe : ProbeRequest → Request
   show : ShowRequest → Request
   check : CheckRequest → Request
+  verify : VerifyRequest → Request
 
 -- the words are the command's name and then operands of its grammar
 abbrev pub IsRequest : List (List ℕ) → Request → Type 0
@@ -18,6 +20,7 @@ IsRequest [] r = ⊥
 IsRequest (name ∷ operands) (probe p) = (name ≡ codes "probe") × IsProbe operands p
 IsRequest (name ∷ operands) (show s) = (name ≡ codes "show") × IsShow operands s
 IsRequest (name ∷ operands) (check c) = (name ≡ codes "check") × IsCheck operands c
+IsRequest (name ∷ operands) (verify v) = (name ≡ codes "verify") × IsVerify operands v
 
 -- the words are outside the grammar
 abbrev pub IsUsage : List (List ℕ) → Type 0
@@ -28,6 +31,7 @@ abbrev pub request_of : Command → Request
 request_of (Probe p) = probe (probe_request p)
 request_of (Show s) = show (show_request s)
 request_of (Check c) = check (check_request c)
+request_of (Verify v) = verify (verify_request v)
 
 -- a list of words asks for one thing
 abbrev pub OneRequest : List (List ℕ) → Type 0

@@ -7,7 +7,9 @@ use Rattle.cap_bare.specs.declared.fault.BareKind.TheVariants.{BadTarget}
 use Rattle.cap_bare.specs.declared.run.BareEnd.TheVariants.{Returned}
 use Rattle.cap_text.specs.declared.start.StartFault.TheVariants.{ArgCount}
 use Rattle.cap_text.specs.Table.{component_line}
-use Rattle.cap_text.specs.Line.{malformed_line, not_linked_line, not_started_line, refused_bare_line, typed_line, refused_flow_line, bare_ending_line}
+use Rattle.cap_text.specs.Line.{malformed_line, not_linked_line, not_started_line, refused_bare_line, typed_line, refused_flow_line, bare_ending_line, accepted_line, refused_card_line}
+use Rattle.card_typing.specs.declared.fault.CardKind.TheVariants as cards
+use Rattle.card_typing.specs.declared.fault.CardKind.TheVariants.{StackAtBranch}
 use Rattle.cap_text.specs.Rule.{rule_fault_text}
 use Rattle.jc_base.specs.declared.ty.Ty.TheVariants.{Short, Class, Top}
 use Rattle.jc_decode.specs.declared.insn.CodeEnd.TheVariants.{NoOpcode}
@@ -67,6 +69,20 @@ handler_within_instruction : refused_flow_line (record { «package» = 0; class_
     ≡ codes "refused package 0 method 2.1 place 9 BadHandler 4\n"
 unfolding digits
 handler_within_instruction = refl
+
+two_accepted : accepted_line 2 ≡ codes "accepted 2 methods\n"
+unfolding digits
+two_accepted = refl
+
+full_at_a_branch : refused_card_line (record { «package» = 0; class_no = 0; method_no = 1 }) (record { place = 2; depth = 1; kind = StackAtBranch })
+    ≡ codes "refused package 0 method 0.1 place 2 StackAtBranch\n"
+unfolding digits
+full_at_a_branch = refl
+
+handler_on_the_card : refused_card_line (record { «package» = 0; class_no = 2; method_no = 1 }) (record { place = 9; depth = 0; kind = cards.BadHandler 4 })
+    ≡ codes "refused package 0 method 2.1 place 9 BadHandler 4\n"
+unfolding digits
+handler_on_the_card = refl
 
 returned : bare_ending_line (Returned (negsuc 32767)) ≡ codes "returned short -32768\n"
 unfolding digits

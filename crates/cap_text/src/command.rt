@@ -4,6 +4,7 @@ ghost use Rattle.cap_text.specs.Request.{Request, IsRequest, IsUsage, request_of
 use crate::check::Check;
 use crate::probe::Probe;
 use crate::show::Show;
+use crate::verify::Verify;
 use cap_files::Words;
 use std::alloc::{AllocError, Global};
 
@@ -13,6 +14,7 @@ pub enum Command<'a> {
     Probe(Probe<'a>),
     Show(Show<'a>),
     Check(Check<'a>),
+    Verify(Verify<'a>),
 }
 
 /// The command that the words spell, where they spell one. The arguments of a run take memory.
@@ -34,6 +36,9 @@ pub fn read_command<'a>(alloc: Global, words: &'a Words) -> Result<Option<Comman
     }
     if name == "check" {
         return Ok(Check::read(operands).map(Command::Check));
+    }
+    if name == "verify" {
+        return Ok(Verify::read(operands).map(Command::Verify));
     }
     Ok(None)
 }

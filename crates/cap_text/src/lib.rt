@@ -4,6 +4,7 @@
 #![tactic(auto)]
 
 mod bare;
+mod card;
 mod check;
 mod command;
 mod fault;
@@ -15,17 +16,19 @@ mod rule;
 mod show;
 mod start;
 mod table;
+mod verify;
 mod word;
 
 pub use check::Check;
 pub use command::{Command, read_command};
 pub use fault::Shown;
 pub use line::{
-    MethodNumber, bare_ending, malformed, not_linked, not_started, refused_bare, refused_flow,
-    typed,
+    MethodNumber, accepted, bare_ending, malformed, not_linked, not_started, refused_bare,
+    refused_card, refused_flow, typed,
 };
 pub use probe::Probe;
 pub use show::Show;
 pub use start::StartFault;
 pub use table::component_table;
+pub use verify::Verify;
 pub use word::{Arg, argument, folder_word, folder_words, number};

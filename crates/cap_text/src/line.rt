@@ -1,10 +1,11 @@
 ghost use Rattle.std.specs.Prelude.{◌≡◌, IfOk, Some, string_bytes};
-ghost use Rattle.cap_text.specs.Line.{malformed_line, not_linked_line, not_started_line, refused_bare_line, typed_line, method_text, refused_flow_line, bare_ending_line};
+ghost use Rattle.cap_text.specs.Line.{malformed_line, not_linked_line, not_started_line, refused_bare_line, typed_line, method_text, refused_flow_line, accepted_line, refused_card_line, bare_ending_line};
 
 use crate::fault::Shown;
 use crate::start::StartFault;
 use cap_bare::{BareEnd, BareFault};
 use cap_package::PackFault;
+use card_typing::CardFault;
 use jc_flow::FlowEnd;
 use jc_resolve::LinkFault;
 use std::alloc::{AllocError, Global};
@@ -75,6 +76,20 @@ pub fn refused_flow(alloc: Global, method: MethodNumber, end: FlowEnd) -> Result
         FlowEnd::Memory => Ok(String::new(alloc)),
         _ => format!(in alloc; "refused {} {}\n", Shown(method), Shown(end)),
     }
+}
+
+/// The line for packages whose methods with code, of which there are `count`, all have a card typing.
+pub fn accepted(alloc: Global, count: u16) -> Result<String, AllocError>
+    ensures { IfOk result (λ t. string_bytes t ≡ accepted_line count) }
+{
+    format!(in alloc; "accepted {count} methods\n")
+}
+
+/// The line for a method without a card typing.
+pub fn refused_card(alloc: Global, method: MethodNumber, fault: CardFault) -> Result<String, AllocError>
+    ensures { IfOk result (λ t. string_bytes t ≡ refused_card_line method fault) }
+{
+    format!(in alloc; "refused {} {}\n", Shown(method), Shown(fault))
 }
 
 /// The line for how a run of a bare method ends.

@@ -11,14 +11,16 @@ use Rattle.cap_text.specs.declared.start.StartFault.TheVariants.{NoEntry, NotSta
 use Rattle.cap_text.specs.Probe.{ProbeRequest}
 use Rattle.cap_text.specs.Show.{ShowRequest}
 use Rattle.cap_text.specs.Check.{CheckRequest}
-use Rattle.cap_text.specs.Request.{Request, probe, show, check}
+use Rattle.cap_text.specs.Verify.{VerifyRequest}
+use Rattle.cap_text.specs.Request.{Request, probe, show, check, verify}
 use Rattle.capcheck_core.specs.declared.verdict.Verdict.{Verdict}
 use Rattle.capcheck_core.specs.declared.verdict.Verdict.TheVariants.{Done, Refused, Limit, Malformed, Usage, ReadFault, StoreFault, Memory}
 use Rattle.capcheck_core.specs.Verdict.{status_of}
 use Rattle.capcheck_core.specs.Check.{ChecksWorld, Checks}
+use Rattle.capcheck_core.specs.Verify.{AreCarded, VerifiesWorld, Verifies}
 use Rattle.capcheck_core.specs.Outside.{Outside}
 use Rattle.capcheck_core.specs.Answers.{Answers, IsVerdict}
-use Rattle.capcheck_core.specs.Completeness.{CanProbe, CanShow, CanCheck, CanDo, NoFault, Completes}
+use Rattle.capcheck_core.specs.Completeness.{CanProbe, CanShow, CanCheck, CanVerify, CanDo, NoFault, Completes}
 use Rattle.capcheck_core.specs.MethodFile.{IsMethodFile}
 use Rattle.capcheck_core.specs.Probe.{ProbesFolder, FailsMethodPart, Probes, OfMethodPart, OfMethod, IsRefusal, IsUnstarted, IsNoMethod, method_key}
 use Rattle.capcheck_core.specs.Report.{Seen, IsReported}
@@ -133,7 +135,7 @@ can_show s before after sink put verdict can calm (inr fails) = absurd (unloaded
 types : (w : Linked) (before after : Outside) (verdict : Verdict) → AreTyped w → ChecksWorld w before after verdict → (status_of verdict ≡ 0) ⊎ (status_of verdict ≡ 6)
 types w before after (Done text) typed checks = inl refl
 types w before after Memory typed checks = inr refl
-types w before after (Refused text) typed checks = absurd (checks.1.untyped (typed checks.1.method checks.1.of_last))
+types w before after (Refused text) typed checks = absurd (checks.1.first.lacks (typed checks.1.method checks.1.first.asked))
 types w before after (Malformed text) typed checks = absurd checks.1
 types w before after (Limit text) typed checks = absurd checks.1
 types w before after Usage typed checks = absurd checks.1
@@ -148,11 +150,31 @@ can_check c before after sink put verdict can calm checks =
       | inr own ↦ types can.world before after verdict can.typed own
     ]
 
+-- the last step of a verifying refuses no world in which all methods have card typings
+cards : (w : Linked) (before after : Outside) (verdict : Verdict) → AreCarded w → VerifiesWorld w before after verdict → (status_of verdict ≡ 0) ⊎ (status_of verdict ≡ 6)
+cards w before after (Done text) carded verifies = inl refl
+cards w before after Memory carded verifies = inr refl
+cards w before after (Refused text) carded verifies = absurd (verifies.1.first.lacks (carded verifies.1.method verifies.1.first.asked))
+cards w before after (Malformed text) carded verifies = absurd verifies.1
+cards w before after (Limit text) carded verifies = absurd verifies.1
+cards w before after Usage carded verifies = absurd verifies.1
+cards w before after ReadFault carded verifies = absurd verifies.1
+cards w before after StoreFault carded verifies = absurd verifies.1
+
+can_verify : (v : VerifyRequest) (before after : Outside) (sink put : Seen) (verdict : Verdict) → CanVerify v before.folders → NoFault before.folders after.folders sink put
+    → Verifies v before after verdict → (status_of verdict ≡ 0) ⊎ (status_of verdict ≡ 6)
+can_verify v before after sink put verdict can calm verifies =
+    elim (reaches VerifiesWorld v.dirs before after can.world verdict can.links calm.loads verifies) [
+      | inl memory ↦ inr memory
+      | inr own ↦ cards can.world before after verdict can.carded own
+    ]
+
 can_do : (r : Request) (before after : Outside) (sink put : Seen) (verdict : Verdict) → CanDo r before.folders → NoFault before.folders after.folders sink put
     → Answers r before after verdict → (status_of verdict ≡ 0) ⊎ (status_of verdict ≡ 6)
 can_do (probe p) before after sink put verdict can calm answers = can_probe p before.folders after.folders sink put verdict can calm answers.0
 can_do (show s) before after sink put verdict can calm answers = can_show s before.folders after.folders sink put verdict can calm answers.0
 can_do (check c) before after sink put verdict can calm answers = can_check c before after sink put verdict can calm answers
+can_do (verify v) before after sink put verdict can calm answers = can_verify v before after sink put verdict can calm answers
 
 reported : (verdict : Verdict) (before after : Folders) (sink put : Seen) (status : ℕ) → NoFault before after sink put → IsReported verdict sink put status
     → (status_of verdict ≡ 0) ⊎ (status_of verdict ≡ 6) → (status ≡ 0) ⊎ (status ≡ 6)

@@ -3,6 +3,7 @@ pub mod MethodFiles
 pub mod Loads
 pub mod PackageLoads
 pub mod Typings
+pub mod Cardings
 pub mod Worlds
 pub mod WorldComplete
 pub mod Complete

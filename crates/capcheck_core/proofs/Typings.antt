@@ -50,7 +50,7 @@ both true b e = (refl, e)
 both false b e = absurd cc
 
 -- code of no bytes has no byte
-has_code : (infos : List (List ℕ)) (rec : MethodRec) → 0 < length (code_of infos rec) → 0 < rec.code_len
+pub has_code : (infos : List (List ℕ)) (rec : MethodRec) → 0 < length (code_of infos rec) → 0 < rec.code_len
 has_code infos rec filled =
     let few = length-take rec.code_len (drop rec.code_at (list_at infos rec.package)) in omega (arith, few, filled)
 
@@ -113,7 +113,7 @@ at_get [] n x d e = absurd cc
 at_get (y ∷ ys) zero x d e = cc
 at_get (y ∷ ys) (suc n) x d e = at_get ys n x d e
 
-counted : (p : MethodRec → Bool) (xs : List MethodRec) (n : ℕ) (o : Option MethodRec) (asked : Bool) → slice_get xs n ≡ o → option_map p o ≡ Some asked
+pub counted : (p : MethodRec → Bool) (xs : List MethodRec) (n : ℕ) (o : Option MethodRec) (asked : Bool) → slice_get xs n ≡ o → option_map p o ≡ Some asked
     → count_by p (take (n + 1) xs) ≡ count_by p (take n xs) + from_bool asked
 counted p xs n None asked at e = absurd cc
 counted p xs n (Some x) true at e =
@@ -149,9 +149,11 @@ first_untyped w n end number text earlier f known named prints =
     let numbers : number ≡ number_of f.method.rec = cc in
     record {
       method = f.method;
-      of_last = f.of_last;
-      earlier = subst (AreTypedBelow w) (sym f.number) earlier;
-      untyped = no_typing w f.method end known f.none;
+      first = record {
+        asked = f.of_last;
+        earlier = subst (AreTypedBelow w) (sym f.number) earlier;
+        lacks = no_typing w f.method end known f.none;
+      };
       end = end;
       known = known;
       tells = f.tells;

@@ -1,18 +1,20 @@
 -- What each command may answer, and what it leaves as it was.
 use Rattle.std.specs.Prelude.{◌≡◌, ℕ, List}
-use Rattle.cap_text.specs.Request.{Request, probe, show, check, IsRequest, IsUsage}
+use Rattle.cap_text.specs.Request.{Request, probe, show, check, verify, IsRequest, IsUsage}
 use Rattle.capcheck_core.specs.declared.verdict.Verdict.{Verdict}
 use Rattle.capcheck_core.specs.declared.verdict.Verdict.TheVariants.{Usage, Memory}
 use Rattle.capcheck_core.specs.Outside.{Outside, Untouched}
 use Rattle.capcheck_core.specs.Probe.{Probes}
 use Rattle.capcheck_core.specs.Show.{Shows}
 use Rattle.capcheck_core.specs.Check.{Checks}
+use Rattle.capcheck_core.specs.Verify.{Verifies}
 
 -- the verdicts of each command, and what it makes of the outside
 abbrev pub Answers : Request → Outside → Outside → Verdict → Type 0
 Answers (probe p) before after verdict = Probes p before.folders after.folders verdict × (after.card ≡ before.card)
 Answers (show s) before after verdict = Shows s before.folders after.folders verdict × (after.card ≡ before.card)
 Answers (check c) before after verdict = Checks c before after verdict
+Answers (verify v) before after verdict = Verifies v before after verdict
 
 -- the verdicts where the words ask for nothing
 abbrev pub SaysUsage : Verdict → Type 0

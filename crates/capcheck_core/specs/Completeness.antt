@@ -7,7 +7,8 @@ use Rattle.cap_bare.specs.Typing.{CardTyping}
 use Rattle.cap_text.specs.Probe.{ProbeRequest}
 use Rattle.cap_text.specs.Show.{ShowRequest}
 use Rattle.cap_text.specs.Check.{CheckRequest}
-use Rattle.cap_text.specs.Request.{Request, probe, show, check, IsRequest}
+use Rattle.cap_text.specs.Verify.{VerifyRequest}
+use Rattle.cap_text.specs.Request.{Request, probe, show, check, verify, IsRequest}
 use Rattle.cap_package.specs.Parts.{Lent}
 use Rattle.cap_package.specs.PackageRecord.{PackageRecord}
 use Rattle.cap_package.specs.StandsFor.{StandsFor}
@@ -19,6 +20,7 @@ use Rattle.capcheck_core.specs.Probe.{method_key}
 use Rattle.capcheck_core.specs.Report.{Seen}
 use Rattle.capcheck_core.specs.Shorts.{AreShorts}
 use Rattle.capcheck_core.specs.Typed.{AreTyped}
+use Rattle.capcheck_core.specs.Verify.{AreCarded}
 use Rattle.capcheck_core.specs.World.{MakeWorld}
 
 -- no load, store or put failed
@@ -65,11 +67,18 @@ pub record CanCheck (c : CheckRequest) (before : Folders) : Type 0 where
   pub links : CanLink c.dirs before world
   pub typed : AreTyped world
 
+-- the folders make a world, and every method with code of all packages has a card typing
+pub record CanVerify (v : VerifyRequest) (before : Folders) : Type 0 where
+  pub world : Linked
+  pub links : CanLink v.dirs before world
+  pub carded : AreCarded world
+
 -- what a command needs is there
 abbrev pub CanDo : Request → Folders → Type 0
 CanDo (probe p) before = CanProbe p before
 CanDo (show s) before = CanShow s before
 CanDo (check c) before = CanCheck c before
+CanDo (verify v) before = CanVerify v before
 
 -- where the words ask for something, what it needs is there and no device failed, the work is done or there was no memory
 abbrev pub Completes : List (List ℕ) → Folders → Folders → Seen → Seen → ℕ → Type 0

@@ -12,8 +12,10 @@ pub mod Packages
 pub mod PackageEnds
 pub mod OverFolders
 pub mod World
+pub mod Asked
 pub mod Typed
 pub mod Check
+pub mod Verify
 pub mod CheckEnds
 pub mod Step
 pub mod Answers

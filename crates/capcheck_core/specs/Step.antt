@@ -1,11 +1,13 @@
 -- The last steps of the commands over a world.
 use Rattle.jc_base.specs.World.{Linked}
 use Rattle.capcheck_core.specs.declared.step.Step.{Step}
-use Rattle.capcheck_core.specs.declared.step.Step.TheVariants.{Check}
+use Rattle.capcheck_core.specs.declared.step.Step.TheVariants.{Check, Verify}
 use Rattle.capcheck_core.specs.declared.verdict.Verdict.{Verdict}
 use Rattle.capcheck_core.specs.Outside.{Outside}
 use Rattle.capcheck_core.specs.Check.{ChecksWorld}
+use Rattle.capcheck_core.specs.Verify.{VerifiesWorld}
 
 -- what the last step of a command answers of a world, and makes of the outside
 abbrev pub OwnAnswers : Step → Linked → Outside → Outside → Verdict → Type 0
 OwnAnswers Check w before after verdict = ChecksWorld w before after verdict
+OwnAnswers Verify w before after verdict = VerifiesWorld w before after verdict

@@ -9,6 +9,7 @@ use Rattle.jc_flow.specs.declared.end.FlowEnd.{FlowEnd}
 use Rattle.jc_flow.specs.declared.end.FlowEnd.TheVariants.{Memory}
 use Rattle.jc_flow.specs.Infer.{TellsEnd}
 use Rattle.cap_text.specs.declared.line.MethodNumber.{MethodNumber}
+use Rattle.capcheck_core.specs.Asked.{AllHave, AllHaveBelow, IsFirstWithout}
 use Rattle.cap_text.specs.Line.{typed_line, refused_flow_line}
 
 -- a method with code, of the last package
@@ -22,11 +23,11 @@ is_of_last packages rec = rec.package + 1 == packages && nat_lt 0 rec.code_len
 
 -- every method with code of the last package has a typing, in which each register that is no argument starts as Top
 abbrev pub AreTyped : Linked → Type 0
-AreTyped w = (m : Method) → IsOfLast w m → HasFlowTyping w m Top
+AreTyped w = AllHave (IsOfLast w) (λ m. HasFlowTyping w m Top)
 
 -- the same of those that are numbered below this
 abbrev pub AreTypedBelow : Linked → ℕ → Type 0
-AreTypedBelow w n = (m : Method) → IsOfLast w m → m.number < n → HasFlowTyping w m Top
+AreTypedBelow w n = AllHaveBelow (IsOfLast w) (λ m. HasFlowTyping w m Top) n
 
 -- how many methods with code the last package has
 abbrev pub count_of_last : Linked → ℕ
@@ -41,12 +42,10 @@ pub record IsTyped (w : Linked) (text : List ℕ) : Type 0 where
 abbrev pub number_of : MethodRec → MethodNumber
 number_of rec = record { «package» = rec.package; class_no = rec.class_no; method_no = rec.method_no }
 
--- one of them has no typing, all before it have one, and the text names it, with a place and a reason that hold
+-- one of them is the first without a typing, and the text names it, with a place and a reason that hold
 pub record IsUntyped (w : Linked) (text : List ℕ) : Type 0 where
   pub method : Method
-  pub of_last : IsOfLast w method
-  pub earlier : AreTypedBelow w method.number
-  pub untyped : HasFlowTyping w method Top → ⊥
+  pub first : IsFirstWithout (IsOfLast w) (λ m. HasFlowTyping w m Top) method
   pub end : FlowEnd
   pub known : end ≢ Memory
   pub tells : TellsEnd w method end

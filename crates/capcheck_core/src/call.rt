@@ -89,5 +89,14 @@ fn perform<F: Folder>(
             heap,
             statics,
         ),
+        Command::Verify(operands) => over_folders(
+            alloc,
+            Step::Verify,
+            operands.dirs,
+            folder,
+            ram,
+            heap,
+            statics,
+        ),
     }
 }

@@ -4,6 +4,7 @@
 #![tactic(auto)]
 
 mod call;
+mod carding;
 mod load;
 mod method_file;
 mod packages;

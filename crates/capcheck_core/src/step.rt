@@ -1,6 +1,7 @@
 ghost use Rattle.capcheck_core.specs.Outside.{outside, card};
 ghost use Rattle.capcheck_core.specs.Step.{OwnAnswers};
 
+use crate::carding::verify_methods;
 use crate::typing::type_methods;
 use crate::verdict::Verdict;
 use cap_files::Folder;
@@ -12,6 +13,8 @@ use std::alloc::Global;
 pub enum Step {
     /// Types each method with code of the last package.
     Check,
+    /// Verifies each method with code of all packages as a card does.
+    Verify,
 }
 
 /// Takes a command's last step. It is handed all that a command may change.
@@ -30,5 +33,6 @@ pub(crate) fn take_step<F: Folder>(
 {
     match step {
         Step::Check => type_methods(alloc, world),
+        Step::Verify => verify_methods(alloc, world),
     }
 }

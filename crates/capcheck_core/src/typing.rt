@@ -61,7 +61,7 @@ fn untyped(alloc: Global, world: &World<'_>, number: u16, end: FlowEnd) -> Verdi
 }
 
 // A method by the numbers of its Descriptor.
-fn number_of(world: &World<'_>, number: u16) -> MethodNumber
+pub(crate) fn number_of(world: &World<'_>, number: u16) -> MethodNumber
     requires { number < length world.now.methods }
     ensures { option_map number_of (slice_get world.now.methods number) ≡ Some result }
 {

@@ -1,0 +1,24 @@
+-- Why the verifier on the card refuses a method, as capcheck prints it: the place and what is wrong there.
+use Rattle.std.specs.Prelude.{ℕ, List, [], ◌∷◌, codes}
+use Rattle.std.specs.Fmt.{signed_decimal}
+use Rattle.std.specs.List.{concat}
+use Rattle.card_typing.specs.declared.fault.CardFault.{CardFault}
+use Rattle.card_typing.specs.declared.fault.CardKind.{CardKind}
+use Rattle.card_typing.specs.declared.fault.CardKind.TheVariants.{Code, Rule, StackAtTarget, StackAtBranch, HandlerEntered, BadTarget, FallsOff, BadHandler}
+use Rattle.cap_text.specs.Fault.{name_1}
+use Rattle.cap_text.specs.Bare.{code_end_text}
+use Rattle.cap_text.specs.Rule.{rule_fault_text}
+use Rattle.cap_text.specs.Flow.{at_place}
+
+abbrev pub card_kind_text : CardKind → List ℕ
+card_kind_text (Code end) = code_end_text end
+card_kind_text (Rule fault) = rule_fault_text fault
+card_kind_text StackAtTarget = codes "StackAtTarget"
+card_kind_text StackAtBranch = codes "StackAtBranch"
+card_kind_text HandlerEntered = codes "HandlerEntered"
+card_kind_text (BadTarget target) = concat (codes "BadTarget " ∷ signed_decimal target ∷ [])
+card_kind_text FallsOff = codes "FallsOff"
+card_kind_text (BadHandler number) = name_1 (codes "BadHandler") number
+
+abbrev pub card_fault_text : CardFault → List ℕ
+card_fault_text fault = at_place fault.place (card_kind_text fault.kind)

@@ -1,0 +1,80 @@
+-- The methods with code of all packages, as the verifier on the card answers for them.
+use Rattle.std.proofs.Common.{◌≡◌, ℕ, ◌+◌, ◌<◌, ◌≤◌, Bool, List, length, take, Option, Some, None, option_map, slice_get, count_by, refl, sym, ap, subst, ◌∙◌, arith}
+use Rattle.std.specs.Prelude.{IfSome}
+use Rattle.std.specs.Int.{from_bool}
+use Rattle.std.proofs.lemmas.List.{take_all}
+use Rattle.std.proofs.lemmas.Option.{slice_get_within}
+use Rattle.jc_base.specs.declared.record.MethodRec.{MethodRec}
+use Rattle.jc_base.specs.World.{Linked, code_of}
+use Rattle.jc_control.specs.Method.{Method, IsMethodOf, method_with}
+use Rattle.card_typing.specs.declared.fault.CardFault.{CardFault}
+use Rattle.card_typing.specs.Typing.{HasCardTyping}
+use Rattle.card_verify.specs.Answers.{AreAccepted, AreAcceptedBefore, IsFirstRefused}
+use Rattle.cap_text.specs.declared.line.MethodNumber.{MethodNumber}
+use Rattle.cap_text.specs.Line.{accepted_line, refused_card_line}
+use Rattle.capcheck_core.specs.Asked.{AllHaveBelow}
+use Rattle.capcheck_core.specs.Typed.{number_of}
+use Rattle.capcheck_core.specs.Verify.{has_code, count_of_world, AreCarded, IsCarded, IsUncarded}
+use Rattle.capcheck_core.proofs.Typings as typings
+use Rattle.capcheck_core.proofs.Typings.{counted}
+
+-- a method of the world is the one of its number and record
+same_method : (w : Linked) (m : Method) → IsMethodOf w m → method_with w m.number m.rec ≡ m
+same_method w m is = let code = sym is.code in λ i. record { number = m.number; rec = m.rec; code = code i }
+
+below_carded : (w : Linked) (n : ℕ) → AreAcceptedBefore w n → AllHaveBelow (IsMethodOf w) (HasCardTyping w) n
+below_carded w n all m is below =
+    let code : 0 < m.rec.code_len = typings.has_code w.infos m.rec (subst (λ c. 0 < length c) is.code is.filled) in
+    subst (HasCardTyping w) (same_method w m is) (all m.number m.rec below is.rec code).card
+
+all_carded : (w : Linked) → AreAccepted w → AreCarded w
+all_carded w all m is = below_carded w (length w.methods) all m is (slice_get_within w.methods m.number m.rec is.rec)
+
+-- the text says how many are accepted
+pub carded : (w : Linked) (count : ℕ) (text : List ℕ) → AreAccepted w → count ≡ count_of_world w → text ≡ accepted_line count → IsCarded w text
+carded w count text all counts prints = record { carded = all_carded w all; prints = prints ∙ ap accepted_line counts }
+
+-- ---- the count of them
+
+pub one_counted : (w : Linked) (n count one : ℕ) (asked : Bool) → option_map has_code (slice_get w.methods n) ≡ Some asked → one ≡ from_bool asked
+    → count ≡ count_by has_code (take n w.methods) → count + one ≡ count_by has_code (take (n + 1) w.methods)
+one_counted w n count one asked e is before =
+    let step = counted has_code w.methods n (slice_get w.methods n) asked refl e in
+    omega (arith, step, is, before)
+
+pub all_counted : (w : Linked) (n count : ℕ) → length w.methods ≤ n → count ≡ count_by has_code (take n w.methods) → count ≡ count_of_world w
+all_counted w n count past counts = counts ∙ ap (count_by has_code) (take_all n w.methods past)
+
+-- ---- the first that is refused
+
+filled : (w : Linked) (o : Option MethodRec) (rec : MethodRec) (code : List ℕ) → o ≡ Some rec → option_map (code_of w.infos) o ≡ Some code
+    → IfSome o (λ m. length code ≡ m.code_len) → 0 < rec.code_len → 0 < length (code_of w.infos rec)
+filled w None rec code at is long some = absurd cc
+filled w (Some r) rec code at is long some =
+    let same : r ≡ rec = cc in
+    let bytes : code_of w.infos r ≡ code = cc in
+    let size : length (code_of w.infos r) ≡ r.code_len = ap length bytes ∙ long in
+    let own : 0 < r.code_len = subst (λ (m : MethodRec). 0 < m.code_len) (sym same) some in
+    subst (λ m. 0 < length (code_of w.infos m)) same (omega (arith, size, own))
+
+pub first_uncarded : (w : Linked) (n : ℕ) (fault : CardFault) (code : List ℕ) (number : MethodNumber) (text : List ℕ) → IsFirstRefused w n fault
+    → option_map (code_of w.infos) (slice_get w.methods n) ≡ Some code → IfSome (slice_get w.methods n) (λ m. length code ≡ m.code_len)
+    → option_map number_of (slice_get w.methods n) ≡ Some number → text ≡ refused_card_line number fault → IsUncarded w text
+first_uncarded w n fault code number text f is long named prints =
+    let same : Some (number_of f.rec) ≡ Some number = sym (ap (option_map number_of) f.is) ∙ named in
+    let numbers : number ≡ number_of f.rec = cc in
+    record {
+      method = method_with w n f.rec;
+      first = record {
+        asked = record { rec = f.is; code = refl; filled = filled w (slice_get w.methods n) f.rec code f.is is long f.has_code };
+        earlier = below_carded w n f.before;
+        lacks = f.refused.none;
+      };
+      fault = fault;
+      kept = f.refused.kept;
+      tells = f.refused.refused;
+      prints = prints ∙ ap (λ k. refused_card_line k fault) numbers;
+    }
+
+pub number_below : (w : Linked) (n : ℕ) (fault : CardFault) → IsFirstRefused w n fault → n < length w.methods
+number_below w n fault f = slice_get_within w.methods n f.rec f.is

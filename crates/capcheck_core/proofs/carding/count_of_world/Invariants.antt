@@ -1,0 +1,9 @@
+use Rattle.std.proofs.Common.{◌≡◌, ◌≤◌, take, count_by}
+use Rattle.capcheck_core.specs.Verify.{has_code}
+use Rattle.capcheck_core.proofs.carding.count_of_world.Given as goal
+
+abbrev pub invariant-methods : goal.invariant-methods
+invariant-methods l = record {
+  counts : l.count ≡ count_by has_code (take l.number l.world.methods);
+  most : l.count ≤ l.number;
+}

@@ -1,0 +1,59 @@
+-- What `verify` may answer, by the packages and the roles in its folders (Leroy 2002, section 3).
+use Rattle.std.specs.Prelude.{◌≡◌, ℕ, Bool, List, count_by, nat_lt, string_bytes}
+use Rattle.jc_base.specs.declared.record.MethodRec.{MethodRec}
+use Rattle.jc_base.specs.World.{Linked}
+use Rattle.jc_control.specs.Method.{Method, IsMethodOf}
+use Rattle.jc_rules.specs.Demand.{Frame}
+use Rattle.card_typing.specs.declared.fault.CardFault.{CardFault}
+use Rattle.card_typing.specs.Typing.{HasCardTyping}
+use Rattle.card_typing.specs.Refusal.{IsRefused}
+use Rattle.cap_text.specs.Line.{accepted_line, refused_card_line}
+use Rattle.cap_text.specs.Verify.{VerifyRequest}
+use Rattle.capcheck_core.specs.declared.verdict.Verdict.{Verdict}
+use Rattle.capcheck_core.specs.declared.verdict.Verdict.TheVariants.{Done, Refused, Memory}
+use Rattle.capcheck_core.specs.Asked.{AllHave, IsFirstWithout}
+use Rattle.capcheck_core.specs.Outside.{Outside, Untouched}
+use Rattle.capcheck_core.specs.OverFolders.{OverFolders}
+use Rattle.capcheck_core.specs.Typed.{number_of}
+use Rattle.capcheck_core.specs.World.{OverWorld}
+
+-- a method with code
+abbrev pub has_code : MethodRec → Bool
+has_code rec = nat_lt 0 rec.code_len
+
+-- how many methods with code all packages have
+abbrev pub count_of_world : Linked → ℕ
+count_of_world w = count_by has_code w.methods
+
+-- every method with code of all packages has a card typing
+abbrev pub AreCarded : Linked → Type 0
+AreCarded w = AllHave (IsMethodOf w) (HasCardTyping w)
+
+-- each of them has one, and the text says how many they are
+pub record IsCarded (w : Linked) (text : List ℕ) : Type 0 where
+  pub carded : AreCarded w
+  pub prints : text ≡ accepted_line (count_of_world w)
+
+-- one of them is the first without a card typing, and the text names it, with a place and a reason that hold
+pub record IsUncarded (w : Linked) (text : List ℕ) : Type 0 where
+  pub method : Method
+  pub first : IsFirstWithout (IsMethodOf w) (HasCardTyping w) method
+  pub fault : CardFault
+  pub kept : Frame
+  pub tells : IsRefused w method fault kept
+  pub prints : text ≡ refused_card_line (number_of method.rec) fault
+
+-- the answers of a world
+abbrev pub CardsWorld : Linked → Verdict → Type 0
+CardsWorld w (Done text) = IsCarded w (string_bytes text)
+CardsWorld w (Refused text) = IsUncarded w (string_bytes text)
+CardsWorld w Memory = Unit {0}
+CardsWorld w _ = ⊥
+
+-- its last step: it verifies the world, and changes nothing
+abbrev pub VerifiesWorld : Linked → Outside → Outside → Verdict → Type 0
+VerifiesWorld w before after verdict = Untouched before after × CardsWorld w verdict
+
+-- the outside is as it was when the verifying began, and as it is afterwards
+abbrev pub Verifies : VerifyRequest → Outside → Outside → Verdict → Type 0
+Verifies v before after verdict = OverFolders (OverWorld VerifiesWorld) v.dirs before after verdict

@@ -1,0 +1,58 @@
+ghost use Rattle.std.specs.Prelude.{◌≡◌, ◌<◌, length, Some, option_map, slice_get};
+ghost use Rattle.card_verify.specs.Answers.{AreAccepted, IsFirstRefused};
+ghost use Rattle.capcheck_core.specs.Verify.{has_code, count_of_world, CardsWorld};
+
+use crate::typing::number_of;
+use crate::verdict::Verdict;
+use cap_text::{accepted, refused_card};
+use card_typing::CardFault;
+use card_verify::{CardRoom, accept};
+use jc_base::World;
+use std::alloc::Global;
+
+/// Verifies each method with code of all packages of a world, in the room of a card.
+pub fn verify_methods(alloc: Global, world: &World<'_>) -> Verdict
+    ensures { CardsWorld world.now result }
+{
+    let mut room = CardRoom::new();
+    match accept(world, &mut room) {
+        Ok(_) => counted(alloc, world),
+        Err((number, fault)) => uncarded(alloc, world, number, fault),
+    }
+}
+
+// The verdict for a world whose methods are all accepted: how many they are.
+fn counted(alloc: Global, world: &World<'_>) -> Verdict
+    requires { AreAccepted world.now }
+    ensures { CardsWorld world.now result }
+{
+    Verdict::done(accepted(alloc, count_of_world(world)))
+}
+
+// How many methods with code a world has.
+fn count_of_world(world: &World<'_>) -> u16
+    ensures { result ≡ count_of_world world.now }
+{
+    let mut count = 0u16;
+    'methods: for number in 0..world.method_count() {
+        count += u16::from(has_code(world, number));
+    }
+    count
+}
+
+// Whether a method has code.
+fn has_code(world: &World<'_>, number: u16) -> bool
+    requires { number < length world.now.methods }
+    ensures { option_map has_code (slice_get world.now.methods number) ≡ Some result }
+{
+    world.method(number).code_len > 0
+}
+
+// The verdict for the first method that is refused.
+fn uncarded(alloc: Global, world: &World<'_>, number: u16, fault: CardFault) -> Verdict
+    requires { IsFirstRefused world.now number fault }
+    ensures { CardsWorld world.now result }
+{
+    let _code = world.code(number);
+    Verdict::refused(refused_card(alloc, number_of(world, number), fault))
+}
