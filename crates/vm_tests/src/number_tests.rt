@@ -528,19 +528,12 @@ static INTS: [IntRow; 41] = [
     },
 ];
 
-/// The number of the first row that is wrong, and the number of rows where none is.
-fn first_wrong_short(rows: &[ShortRow]) -> usize {
-    match rows.iter().position(|row| of_shorts(row.operator, row.first, row.second) != row.result) {
-        Some(n) => n,
-        None => rows.len(),
-    }
+fn is_short(row: &ShortRow) -> bool {
+    of_shorts(row.operator, row.first, row.second) == row.result
 }
 
-fn first_wrong_int(rows: &[IntRow]) -> usize {
-    match rows.iter().position(|row| of_ints(row.operator, row.first, row.second) != row.result) {
-        Some(n) => n,
-        None => rows.len(),
-    }
+fn is_int(row: &IntRow) -> bool {
+    of_ints(row.operator, row.first, row.second) == row.result
 }
 
 /// Numbers with their bytes and shorts.
@@ -606,12 +599,12 @@ fn orders_are_right() -> bool {
 
 #[test]
 fn shorts_at_their_edges(rt: HostRuntime) {
-    assert_eq!(rt; first_wrong_short(&SHORTS), SHORTS.len());
+    assert_eq!(rt; SHORTS.iter().position(|row| !is_short(row)), None);
 }
 
 #[test]
 fn ints_at_their_edges(rt: HostRuntime) {
-    assert_eq!(rt; first_wrong_int(&INTS), INTS.len());
+    assert_eq!(rt; INTS.iter().position(|row| !is_int(row)), None);
 }
 
 #[test]

@@ -1,4 +1,4 @@
-use std::alloc::AllocError;
+use std::alloc::{AllocError, Global};
 use vm_store::{Cell, CellForm, ObjectKind, Store, TaggedStore};
 
 /// Whether 4,096 objects have room, and no other.
@@ -25,17 +25,16 @@ fn cells_reach_their_limit<S: Store>(store: &mut S) -> bool
     store.has_room(0) && !store.has_room(1)
 }
 
-#[test]
-fn objects_have_a_limit(rt: HostRuntime) -> Result<(), AllocError> {
-    let mut store = TaggedStore::new(rt.alloc(), 0)?;
-    assert!(rt; objects_reach_their_limit(&mut store));
-    Ok(())
+/// Whether a store has room for so many objects, and so many cells.
+fn reach_their_limits(alloc: Global) -> Result<bool, AllocError> {
+    let mut objects = TaggedStore::new(alloc, 0)?;
+    let mut cells = TaggedStore::new(alloc, 0)?;
+    Ok(objects_reach_their_limit(&mut objects) && cells_reach_their_limit(&mut cells))
 }
 
 #[test]
-fn cells_have_a_limit(rt: HostRuntime) -> Result<(), AllocError> {
-    let mut store = TaggedStore::new(rt.alloc(), 0)?;
-    assert!(rt; cells_reach_their_limit(&mut store));
+fn objects_and_cells_have_a_limit(rt: HostRuntime) -> Result<(), AllocError> {
+    assert!(rt; reach_their_limits(rt.alloc())?);
     Ok(())
 }
 
