@@ -1,11 +1,11 @@
 use crate::faults::{Told, named};
 use crate::known::are_known;
-use crate::lines::{Line, ROOT, below, classes, implementing, interface};
+use crate::lines::Head::{Below, Implementing, Interface, Root};
+use crate::lines::{Head, headed};
 use jc_base::Classes;
 use jc_hierarchy::lineage;
-use jc_resolve::LinkEnd;
-use std::alloc::Global;
-use std::process::Abort;
+use jc_resolve::NamedClasses;
+use std::alloc::{AllocError, Global};
 
 /// Object, throwable and a subclass of it, which has most roles.
 const ROLES: [u8; 8] = [0, 1, 2, 2, 2, 2, 2, 1];
@@ -13,130 +13,172 @@ const ROLES: [u8; 8] = [0, 1, 2, 2, 2, 2, 2, 1];
 /// No fault.
 const TABLE: Told = ("table", 0, 0);
 
-/// The table of the lines, of which the first package has five.
-fn lineage_of(
-    rt: &impl Abort,
-    alloc: Global,
-    lines: &[Line<'_>],
-    roles: [u8; 8],
-) -> Result<Classes, LinkEnd> {
-    let classes = classes(alloc, lines)?;
-    assert!(rt; classes.len() <= 4096);
-    assert!(rt; are_known(&classes));
-    lineage(alloc, &classes, 5, roles)
+/// What is told of classes that name more than there are.
+const UNKNOWN: Told = ("unknown", 0, 0);
+
+/// Three classes below each other, an interface, and a class that implements it.
+static FIVE: [Head<'static>; 5] = [
+    Root,
+    Below(0),
+    Below(1),
+    Interface(&[]),
+    Implementing(2, &[3]),
+];
+
+/// Whether a table is that of these five.
+fn is_of_five(table: &Classes) -> bool {
+    table.len() == 5
+        && table.role(7) == 1
+        && table.is_interface(3)
+        && table.is_class(4)
+        && table.parent(4) == Some(2)
 }
 
-/// What is told of the lines: the fault, or `TABLE`.
-fn is_told(rt: &impl Abort, alloc: Global, lines: &[Line<'_>], roles: [u8; 8], want: Told) {
-    let told = match lineage_of(rt, alloc, lines, roles) {
+/// Why classes have another table than those five, or the empty text.
+fn wrong_of(alloc: Global, classes: &NamedClasses) -> &'static str {
+    if classes.len() > 4096 || !are_known(classes) {
+        return UNKNOWN.0;
+    }
+    match lineage(alloc, classes, 5, ROLES) {
+        Ok(table) => { if is_of_five(&table) { "" } else { TABLE.0 } }
+        Err(end) => named(end).0,
+    }
+}
+
+fn wrong_of_five(alloc: Global) -> Result<&'static str, AllocError> {
+    let classes = headed(alloc, &FIVE)?;
+    Ok(wrong_of(alloc, &classes))
+}
+
+#[test]
+fn a_table_has_superclasses_interfaces_and_roles(rt: HostRuntime) -> Result<(), AllocError> {
+    assert_eq!(rt; wrong_of_five(rt.alloc())?, "");
+    Ok(())
+}
+
+/// What is told of classes, of which the first package has five: the fault, or `TABLE`.
+fn told_of(alloc: Global, classes: &NamedClasses, roles: [u8; 8]) -> Told {
+    if classes.len() > 4096 || !are_known(classes) {
+        return UNKNOWN;
+    }
+    match lineage(alloc, classes, 5, roles) {
         Ok(_) => TABLE,
         Err(end) => named(end),
-    };
-    assert_eq!(rt; told, want);
+    }
 }
 
-#[test]
-fn a_table_has_superclasses_interfaces_and_roles(rt: HostRuntime) {
-    let lines = [
-        ROOT,
-        below(0),
-        below(1),
-        interface(&[]),
-        implementing(2, &[3]),
-    ];
-    match lineage_of(&rt, rt.alloc(), &lines, ROLES) {
-        Ok(table) => {
-            assert_eq!(rt; table.len(), 5);
-            assert_eq!(rt; table.role(7), 1);
-            assert!(rt; table.is_interface(3));
-            assert!(rt; table.is_class(4));
-            assert_eq!(rt; table.parent(4), Some(2));
+/// Classes and interfaces, the roles, and what is told of them.
+type Case = (&'static [Head<'static>], [u8; 8], Told);
+
+fn is_told(alloc: Global, case: &Case) -> Result<bool, AllocError> {
+    let (heads, roles, want) = case;
+    let classes = headed(alloc, heads)?;
+    Ok(told_of(alloc, &classes, *roles) == *want)
+}
+
+/// The first of the cases that is told otherwise.
+fn first_wrong(alloc: Global, cases: &[Case]) -> Result<Option<usize>, AllocError> {
+    for (n, case) in cases.iter().enumerate() {
+        if !is_told(alloc, case)? {
+            return Ok(Some(n));
         }
-        Err(end) => assert_eq!(rt; named(end), TABLE),
     }
+    Ok(None)
 }
 
-#[test]
-fn the_first_fault_of_superclasses_is_named(rt: HostRuntime) {
-    let alloc = rt.alloc();
-    let cases: [(&[Line<'_>], Told); 9] = [
-        // a superclass that is an interface
-        (
-            &[ROOT, below(0), below(0), interface(&[]), below(3)],
-            ("SuperIsInterface", 4, 0),
-        ),
-        // a class that is its own superclass, two below each other, and one below these
-        (&[ROOT, below(0), below(0), below(3)], ("Cycle", 3, 0)),
-        (
-            &[ROOT, below(0), below(0), below(4), below(3)],
-            ("Cycle", 3, 0),
-        ),
-        (
-            &[ROOT, below(0), below(0), below(4), below(4)],
-            ("Cycle", 4, 0),
-        ),
-        // an interface that extends itself, also through others
-        (
-            &[ROOT, below(0), below(1), interface(&[3])],
-            ("Cycle", 3, 0),
-        ),
-        (
-            &[
-                ROOT,
-                below(0),
-                below(1),
-                interface(&[]),
-                interface(&[3, 5]),
-                interface(&[6]),
-                interface(&[3, 4]),
-            ],
-            ("Cycle", 4, 0),
-        ),
-        // a second root, and object with a superclass
-        (&[ROOT, below(0), below(1), ROOT], ("NoSuper", 3, 0)),
-        (&[below(3), below(0), below(1), ROOT], ("NoSuper", 0, 0)),
-        // a class among the interfaces: the least of the least class
-        (
-            &[
-                ROOT,
-                below(0),
-                below(1),
-                interface(&[]),
-                implementing(1, &[3, 2, 1]),
-                implementing(1, &[0]),
-            ],
-            ("NotInterface", 4, 1),
-        ),
-    ];
-    for (lines, want) in cases {
-        is_told(&rt, alloc, lines, ROLES, want);
-    }
-}
+static SUPERCLASSES: [Case; 9] = [
+    // a superclass that is an interface
+    (
+        &[Root, Below(0), Below(0), Interface(&[]), Below(3)],
+        ROLES,
+        ("SuperIsInterface", 4, 0),
+    ),
+    // a class that is its own superclass, two below each other, and one below these
+    (
+        &[Root, Below(0), Below(0), Below(3)],
+        ROLES,
+        ("Cycle", 3, 0),
+    ),
+    (
+        &[Root, Below(0), Below(0), Below(4), Below(3)],
+        ROLES,
+        ("Cycle", 3, 0),
+    ),
+    (
+        &[Root, Below(0), Below(0), Below(4), Below(4)],
+        ROLES,
+        ("Cycle", 4, 0),
+    ),
+    // an interface that extends itself, also through others
+    (
+        &[Root, Below(0), Below(1), Interface(&[3])],
+        ROLES,
+        ("Cycle", 3, 0),
+    ),
+    (
+        &[
+            Root,
+            Below(0),
+            Below(1),
+            Interface(&[]),
+            Interface(&[3, 5]),
+            Interface(&[6]),
+            Interface(&[3, 4]),
+        ],
+        ROLES,
+        ("Cycle", 4, 0),
+    ),
+    // a second root, and object with a superclass
+    (&[Root, Below(0), Below(1), Root], ROLES, ("NoSuper", 3, 0)),
+    (
+        &[Below(3), Below(0), Below(1), Root],
+        ROLES,
+        ("NoSuper", 0, 0),
+    ),
+    // a class among the interfaces: the least of the least class
+    (
+        &[
+            Root,
+            Below(0),
+            Below(1),
+            Interface(&[]),
+            Implementing(1, &[3, 2, 1]),
+            Implementing(1, &[0]),
+        ],
+        ROLES,
+        ("NotInterface", 4, 1),
+    ),
+];
 
 #[test]
-fn the_first_role_without_its_class_is_named(rt: HostRuntime) {
-    let alloc = rt.alloc();
-    let cases: [(&[Line<'_>], [u8; 8], Told); 4] = [
-        // subclasses before their superclasses
-        (&[ROOT, below(2), below(0)], [0, 2, 1, 1, 1, 1, 1, 2], TABLE),
-        // roles of other packages, of interfaces, and not below throwable
-        (
-            &[ROOT, below(0), below(1)],
-            [0, 1, 2, 2, 2, 5, 2, 2],
-            ("NoRole", 5, 0),
-        ),
-        (
-            &[ROOT, below(0), interface(&[])],
-            [0, 1, 2, 1, 1, 1, 1, 1],
-            ("NoRole", 2, 0),
-        ),
-        (
-            &[ROOT, below(0), below(0)],
-            [0, 1, 1, 1, 1, 1, 1, 2],
-            ("NoRole", 7, 0),
-        ),
-    ];
-    for (lines, roles, want) in cases {
-        is_told(&rt, alloc, lines, roles, want);
-    }
+fn the_first_fault_of_superclasses_is_named(rt: HostRuntime) -> Result<(), AllocError> {
+    assert_eq!(rt; first_wrong(rt.alloc(), &SUPERCLASSES)?, None);
+    Ok(())
+}
+
+static WITH_ROLES: [Case; 4] = [
+    // subclasses before their superclasses
+    (&[Root, Below(2), Below(0)], [0, 2, 1, 1, 1, 1, 1, 2], TABLE),
+    // roles of other packages, of interfaces, and not below throwable
+    (
+        &[Root, Below(0), Below(1)],
+        [0, 1, 2, 2, 2, 5, 2, 2],
+        ("NoRole", 5, 0),
+    ),
+    (
+        &[Root, Below(0), Interface(&[])],
+        [0, 1, 2, 1, 1, 1, 1, 1],
+        ("NoRole", 2, 0),
+    ),
+    (
+        &[Root, Below(0), Below(0)],
+        [0, 1, 1, 1, 1, 1, 1, 2],
+        ("NoRole", 7, 0),
+    ),
+];
+
+#[test]
+fn the_first_role_without_its_class_is_named(rt: HostRuntime) -> Result<(), AllocError> {
+    assert_eq!(rt; first_wrong(rt.alloc(), &WITH_ROLES)?, None);
+    Ok(())
 }

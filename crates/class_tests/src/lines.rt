@@ -29,27 +29,34 @@ pub(crate) const ROOT: Line<'static> = Line {
     cells: 0,
 };
 
-/// A class that implements nothing.
-pub(crate) fn below(parent: u16) -> Line<'static> {
-    Line {
-        parent: Some(parent),
-        ..ROOT
-    }
+/// What a class or an interface without tables and cells names by number: a superclass, and interfaces.
+#[derive(Clone, Copy)]
+pub(crate) enum Head<'a> {
+    /// A class without superclass.
+    Root,
+    /// A class that implements nothing.
+    Below(u16),
+    Implementing(u16, &'a [u16]),
+    Interface(&'a [u16]),
 }
 
-pub(crate) fn implementing(parent: u16, interfaces: &[u16]) -> Line<'_> {
-    Line {
-        parent: Some(parent),
-        interfaces,
-        ..ROOT
-    }
-}
-
-pub(crate) fn interface(interfaces: &[u16]) -> Line<'_> {
-    Line {
-        interface: true,
-        interfaces,
-        ..ROOT
+pub(crate) fn line_of(head: Head<'_>) -> Line<'_> {
+    match head {
+        Head::Root => ROOT,
+        Head::Below(parent) => Line {
+            parent: Some(parent),
+            ..ROOT
+        },
+        Head::Implementing(parent, interfaces) => Line {
+            parent: Some(parent),
+            interfaces,
+            ..ROOT
+        },
+        Head::Interface(interfaces) => Line {
+            interface: true,
+            interfaces,
+            ..ROOT
+        },
     }
 }
 
@@ -71,19 +78,32 @@ fn served(alloc: Global, line: Line<'_>) -> Result<Ifaces, AllocError> {
     Ok(Items::of(items))
 }
 
+fn class(alloc: Global, line: Line<'_>) -> Result<NamedClass, AllocError> {
+    Ok(NamedClass {
+        package: 0,
+        interface: line.interface,
+        parent: line.parent,
+        interfaces: served(alloc, line)?,
+        public: table(alloc, line.public)?,
+        visible: table(alloc, line.visible)?,
+        own: Items::of(vec![in alloc; Ty::Short; line.cells]?),
+    })
+}
+
 /// The classes and interfaces of these lines, all of one package.
 pub(crate) fn classes(alloc: Global, lines: &[Line<'_>]) -> Result<NamedClasses, AllocError> {
     let mut items = Vec::new(alloc);
     for line in lines {
-        items.push(NamedClass {
-            package: 0,
-            interface: line.interface,
-            parent: line.parent,
-            interfaces: served(alloc, *line)?,
-            public: table(alloc, line.public)?,
-            visible: table(alloc, line.visible)?,
-            own: Items::of(vec![in alloc; Ty::Short; line.cells]?),
-        })?;
+        items.push(class(alloc, *line)?)?;
+    }
+    Ok(Items::of(items))
+}
+
+/// The classes and interfaces with these heads, all of one package.
+pub(crate) fn headed(alloc: Global, heads: &[Head<'_>]) -> Result<NamedClasses, AllocError> {
+    let mut items = Vec::new(alloc);
+    for head in heads {
+        items.push(class(alloc, line_of(*head))?)?;
     }
     Ok(Items::of(items))
 }
