@@ -39,9 +39,8 @@ fn offset_of(sizes: Sizes, field: u16) -> usize {
     2 * sizes.arrays as usize + 4 * field as usize
 }
 
-/// The info of a StaticField component.
-fn statics(alloc: Global, sizes: Sizes) -> Result<Vec<u8>, AllocError> {
-    let mut info = Vec::new(alloc);
+/// Writes the info of a StaticField component.
+fn put_statics(info: &mut Vec<u8>, sizes: Sizes) -> Result<(), AllocError> {
     info.extend_from_slice(&two(offset_of(sizes, sizes.fields)))?;
     info.extend_from_slice(&sizes.arrays.to_be_bytes())?;
     info.extend_from_slice(&sizes.arrays.to_be_bytes())?;
@@ -53,13 +52,11 @@ fn statics(alloc: Global, sizes: Sizes) -> Result<Vec<u8>, AllocError> {
         }
     }
     info.extend_from_slice(&two(4 * sizes.fields as usize))?;
-    info.extend_from_slice(&[0x00, 0x00])?;
-    Ok(info)
+    info.extend_from_slice(&[0x00, 0x00])
 }
 
-/// The info of a Descriptor component, with the type of a method without arguments and result.
-fn descriptor(alloc: Global, sizes: Sizes) -> Result<Vec<u8>, AllocError> {
-    let mut info = Vec::new(alloc);
+/// Writes the info of a Descriptor component, with the type of a method without arguments and result.
+fn put_descriptor(info: &mut Vec<u8>, sizes: Sizes) -> Result<(), AllocError> {
     info.extend_from_slice(&[0x01, 0x00, 0x81, 0x00, 0x02, 0x00])?;
     info.extend_from_slice(&sizes.fields.to_be_bytes())?;
     info.extend_from_slice(&sizes.methods.to_be_bytes())?;
@@ -72,31 +69,45 @@ fn descriptor(alloc: Global, sizes: Sizes) -> Result<Vec<u8>, AllocError> {
         info.extend_from_slice(&[0x00, 0x41, 0xFF, 0xFF, 0x00, 0x02])?;
         info.extend_from_slice(&[0x00, 0x00, 0x00, 0x00, 0x00, 0x00])?;
     }
-    info.extend_from_slice(&[0x00, 0x00, 0x01, 0x10])?;
-    Ok(info)
+    info.extend_from_slice(&[0x00, 0x00, 0x01, 0x10])
 }
 
 /// The bytes of the image, the initial arrays and the bytes of these, as a Directory tells them.
-fn image(alloc: Global, sizes: Sizes) -> Result<Vec<u8>, AllocError> {
+fn image(sizes: Sizes) -> [u8; 6] {
     let arrays = sizes.arrays as usize;
-    let mut image = Vec::new(alloc);
-    image.extend_from_slice(&two(offset_of(sizes, sizes.fields)))?;
-    image.extend_from_slice(&two(arrays))?;
-    image.extend_from_slice(&two(arrays.wrapping_mul(sizes.each as usize)))?;
-    Ok(image)
+    let [size_high, size_low] = two(offset_of(sizes, sizes.fields));
+    let [count_high, count_low] = two(arrays);
+    let [bytes_high, bytes_low] = two(arrays.wrapping_mul(sizes.each as usize));
+    [
+        size_high, size_low, count_high, count_low, bytes_high, bytes_low,
+    ]
+}
+
+/// A package of one interface without imports, with these two components.
+fn with_components(
+    alloc: Global,
+    sizes: Sizes,
+    statics: &[u8],
+    descriptor: &[u8],
+) -> Result<OwnedParts, AllocError> {
+    let image = image(sizes);
+    let changes = [
+        Change::Sized(CLASS, &ONE_INTERFACE),
+        Change::Sized(METHOD, &NO_METHODS),
+        Change::Sized(STATIC_FIELD, statics),
+        Change::Sized(DESCRIPTOR, descriptor),
+        Change::Splice(DIRECTORY, 27, 33, &image),
+    ];
+    changed(alloc, &PLAIN, &changes)
 }
 
 /// A package of one interface, without imports.
 pub(crate) fn interface_package(alloc: Global, sizes: Sizes) -> Result<OwnedParts, AllocError> {
-    let statics = component(alloc, STATIC_FIELD, &statics(alloc, sizes)?)?;
-    let descriptor = component(alloc, DESCRIPTOR, &descriptor(alloc, sizes)?)?;
-    let image = image(alloc, sizes)?;
-    let changes = [
-        Change::Sized(CLASS, &ONE_INTERFACE),
-        Change::Sized(METHOD, &NO_METHODS),
-        Change::Sized(STATIC_FIELD, &statics),
-        Change::Sized(DESCRIPTOR, &descriptor),
-        Change::Splice(DIRECTORY, 27, 33, &image),
-    ];
-    changed(alloc, &PLAIN, &changes)
+    let mut statics = Vec::new(alloc);
+    put_statics(&mut statics, sizes)?;
+    let mut descriptor = Vec::new(alloc);
+    put_descriptor(&mut descriptor, sizes)?;
+    let statics = component(alloc, STATIC_FIELD, &statics)?;
+    let descriptor = component(alloc, DESCRIPTOR, &descriptor)?;
+    with_components(alloc, sizes, &statics, &descriptor)
 }

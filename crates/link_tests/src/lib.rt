@@ -3,14 +3,10 @@
 //! a member of each kind.
 #![tactic(auto)]
 
-mod lending;
-mod library_and_user;
-
-pub use lending::lent;
-pub use library_and_user::{LIBRARY, LIBRARY_ROLES, USER};
-
 #[cfg(test)]
 mod interface_package;
+#[cfg(test)]
+mod library_and_user;
 #[cfg(test)]
 mod limit_tests;
 #[cfg(test)]

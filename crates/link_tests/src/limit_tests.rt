@@ -5,7 +5,7 @@ use class_tests::Told;
 use std::alloc::{AllocError, Global};
 
 /// What is told of package T with so many packages of one interface after it.
-fn told_behind(alloc: Global, sizes: Sizes, times: u8) -> Result<Told, AllocError> {
+fn told_after(alloc: Global, sizes: Sizes, times: u8) -> Result<Told, AllocError> {
     let mut packages = Vec::new(alloc);
     packages.push(changed(alloc, &PLAIN, &[])?)?;
     for _ in 0..times {
@@ -22,50 +22,103 @@ const NOTHING: Sizes = Sizes {
     methods: 0,
 };
 
-fn arrays(arrays: u16, each: u16) -> Sizes {
-    Sizes {
-        arrays,
-        each,
-        fields: 1,
-        ..NOTHING
+/// One that has a static field.
+const ONE_FIELD: Sizes = Sizes {
+    fields: 1,
+    ..NOTHING
+};
+
+/// One that has 4,681 methods.
+const METHODS: Sizes = Sizes {
+    methods: 4681,
+    ..NOTHING
+};
+
+/// How much each package of one interface has, how many they are, and what is told of the world.
+type Limit = (Sizes, u8, Told);
+
+static LIMITS: [Limit; 8] = [
+    // 1 + 15 and 1 + 16 packages
+    (NOTHING, 15, ("world", 23, 2)),
+    (NOTHING, 16, ("TooManyPackages", 17, 0)),
+    // 2 + 7 * 4681 methods
+    (METHODS, 7, ("TooManyMethods", 32769, 0)),
+    // initial arrays
+    (
+        Sizes {
+            arrays: 4096,
+            ..ONE_FIELD
+        },
+        1,
+        ("world", 9, 2),
+    ),
+    (
+        Sizes {
+            arrays: 4097,
+            ..ONE_FIELD
+        },
+        1,
+        ("NoRoom", 4097, 0),
+    ),
+    // their cells, which are named only where the arrays are not too many
+    (
+        Sizes {
+            arrays: 2,
+            each: 16384,
+            ..ONE_FIELD
+        },
+        1,
+        ("world", 9, 2),
+    ),
+    (
+        Sizes {
+            arrays: 1,
+            each: 32769,
+            ..ONE_FIELD
+        },
+        1,
+        ("NoRoom", 32769, 0),
+    ),
+    (
+        Sizes {
+            arrays: 4097,
+            each: 8,
+            ..ONE_FIELD
+        },
+        1,
+        ("NoRoom", 4097, 0),
+    ),
+];
+
+/// The first of the limits that is told otherwise.
+fn first_wrong(alloc: Global) -> Result<Option<usize>, AllocError> {
+    for (n, (sizes, times, want)) in LIMITS.iter().enumerate() {
+        if told_after(alloc, *sizes, *times)? != *want {
+            return Ok(Some(n));
+        }
     }
+    Ok(None)
 }
 
 #[test]
 fn the_limits_of_a_world_are_named(rt: HostRuntime) -> Result<(), AllocError> {
-    let methods = Sizes {
-        methods: 4681,
-        ..NOTHING
-    };
-    let cases: [(Sizes, u8, Told); 8] = [
-        // 1 + 15 and 1 + 16 packages
-        (NOTHING, 15, ("world", 23, 2)),
-        (NOTHING, 16, ("TooManyPackages", 17, 0)),
-        // 2 + 7 * 4681 methods
-        (methods, 7, ("TooManyMethods", 32769, 0)),
-        // initial arrays
-        (arrays(4096, 0), 1, ("world", 9, 2)),
-        (arrays(4097, 0), 1, ("NoRoom", 4097, 0)),
-        // their cells, which are named only where the arrays are not too many
-        (arrays(2, 16384), 1, ("world", 9, 2)),
-        (arrays(1, 32769), 1, ("NoRoom", 32769, 0)),
-        (arrays(4097, 8), 1, ("NoRoom", 4097, 0)),
-    ];
-    for (sizes, times, want) in cases {
-        assert_eq!(rt; told_behind(rt.alloc(), sizes, times)?, want);
-    }
+    assert_eq!(rt; first_wrong(rt.alloc())?, None);
     Ok(())
 }
+
+/// One that has 1,093 static fields of type int.
+const FIELDS: Sizes = Sizes {
+    fields: 1093,
+    ..NOTHING
+};
 
 // Each package compares its fields in pairs, so this takes long where it is not built by LLVM.
 #[test]
 fn too_many_static_cells_are_named(rt: HostRuntime) -> Result<(), AllocError> {
     // 1 + 15 * 1093 * 2 cells
-    let fields = Sizes {
-        fields: 1093,
-        ..NOTHING
-    };
-    let told = told_behind(rt.alloc(), fields, 15)?;
-    assert_eq!(rt; told, ("TooManyStatics", 32791, 0));
+    assert_eq!(rt;
+        told_after(rt.alloc(), FIELDS, 15)?,
+        ("TooManyStatics", 32791, 0)
+    );
     Ok(())
 }

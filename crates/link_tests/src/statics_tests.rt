@@ -1,14 +1,10 @@
-ghost use Rattle.std.specs.Prelude.{◌≤◌};
-ghost use Rattle.jc_statics.specs.Statics.{static_cells};
-
-use crate::lending::lent;
-use crate::reading::read;
-use cap_tests::{Change, DESCRIPTOR, DIRECTORY, PLAIN, PLAIN_ROLES, STATIC_FIELD, changed};
-use jc_base::{Kind, Ty};
+use crate::reading::{lent, plain_packages, read};
+use cap_package::Packages;
+use cap_tests::{Change, DESCRIPTOR, DIRECTORY, PLAIN_ROLES, STATIC_FIELD};
+use jc_base::{ArrayRec, Kind, StaticRec, Ty};
 use jc_resolve::{Names, names};
 use jc_statics::{arrays, arrays_fit, statics, statics_fit};
 use std::alloc::{AllocError, Global};
-use std::test::Fail;
 
 /// Two initial arrays, three references, two zero bytes and seven values.
 const IMAGE: [u8; 32] = [
@@ -41,7 +37,8 @@ const STATICS: [Change<'static>; 7] = [
     Change::Splice(DESCRIPTOR, 13, 20, &FIELDS),
 ];
 
-fn type_number(ty: Ty) -> u16 {
+/// A number for each type of a static field or of an array's elements, to compare by.
+fn type_number(ty: Ty) -> u8 {
     match ty {
         Ty::Short => 1,
         Ty::IntHigh => 2,
@@ -53,7 +50,7 @@ fn type_number(ty: Ty) -> u16 {
     }
 }
 
-fn kind_number(kind: Kind) -> u16 {
+fn kind_number(kind: Kind) -> u8 {
     match kind {
         Kind::Ref => 1,
         Kind::Byte => 2,
@@ -62,75 +59,99 @@ fn kind_number(kind: Kind) -> u16 {
     }
 }
 
-/// Package, offset, kind, type, slot and initial words of each static field.
-fn push_fields(
-    alloc: Global,
-    names: &Names<'_, '_, '_>,
-    told: &mut Vec<u16>,
-) -> Result<(), AllocError>
-    requires { static_cells names.now.packages ≤ 32768 }
-{
-    for field in statics(alloc, names)?.as_slice() {
-        told.push(field.package)?;
-        told.push(field.offset)?;
-        told.push(kind_number(field.kind))?;
-        told.push(type_number(field.ty))?;
-        told.push(field.slot)?;
-        for word in field.initial.as_slice() {
-            told.push(*word)?;
-        }
-    }
-    Ok(())
-}
+/// The type and the initial words of an array.
+type Array = (Ty, &'static [u16]);
 
-/// How many packages there are, their initial arrays, and their static fields.
-fn told(alloc: Global, names: &Names<'_, '_, '_>) -> Result<Vec<u16>, AllocError> {
-    let packages = names.packages();
-    let mut told = Vec::new(alloc);
-    told.push(packages.len() as u16)?;
-    if statics_fit(packages).is_err() || arrays_fit(packages).is_err() {
-        return Ok(told);
-    }
-    for array in arrays(alloc, packages)?.as_slice() {
-        told.push(type_number(array.kind))?;
-        for word in array.initial.as_slice() {
-            told.push(*word)?;
-        }
-    }
-    push_fields(alloc, names, &mut told)?;
-    Ok(told)
-}
-
-/// What is told of the package twice, as two packages.
-const WANTED: [u16; 99] = [
-    2, // two packages
-    4, 0x0001, 0xFFFF, // bytes
-    6, 0x0001, 0xFFFE, // an int
-    4, 0x0001, 0xFFFF, 6, 0x0001, 0xFFFE, // and again
-    0, 8, 2, 1, 0, 0xFF80, // a byte
-    0, 0, 1, 4, 1, 1, // the first array
-    0, 11, 4, 2, 2, 0x0001, 0x8000, // an int
-    0, 4, 1, 4, 4, 0, // null
-    0, 9, 3, 1, 5, 0x1234, // a short
-    0, 6, 2, 1, 6, 0, // a boolean
-    0, 2, 1, 6, 7, 2, // the second array
-    1, 8, 2, 1, 8, 0xFF80, 1, 0, 1, 4, 9, 3, 1, 11, 4, 2, 10, 0x0001, 0x8000, 1, 4, 1, 4, 12, 0, 1,
-    9, 3, 1, 13, 0x1234, 1, 6, 2, 1, 14, 0, 1, 2, 1, 6, 15, 4,
+/// The initial arrays of the package twice, as two packages.
+static ARRAYS: [Array; 4] = [
+    (Ty::ArrByte, &[0x0001, 0xFFFF]),
+    (Ty::ArrInt, &[0x0001, 0xFFFE]),
+    (Ty::ArrByte, &[0x0001, 0xFFFF]),
+    (Ty::ArrInt, &[0x0001, 0xFFFE]),
 ];
 
-#[test]
-fn statics_and_arrays_have_their_initial_words(rt: HostRuntime) -> Result<(), Fail> {
-    let alloc = rt.alloc();
-    let owned = [
-        changed(alloc, &PLAIN, &STATICS)?,
-        changed(alloc, &PLAIN, &STATICS)?,
-    ];
+fn is_array(array: &ArrayRec, want: &Array) -> bool {
+    type_number(array.kind) == type_number(want.0) && array.initial.as_slice() == want.1
+}
+
+fn are_arrays(arrays: &[ArrayRec]) -> bool {
+    arrays.len() == ARRAYS.len()
+        && arrays
+            .iter()
+            .zip(ARRAYS.iter())
+            .all(|(array, want)| is_array(array, want))
+}
+
+/// Whether the packages have these initial arrays.
+fn has_arrays(alloc: Global, packages: &Packages<'_, '_>) -> Result<bool, AllocError> {
+    let arrays = arrays(alloc, packages)?;
+    Ok(are_arrays(arrays.as_slice()))
+}
+
+/// Package, offset, kind, type, slot and initial words of a static field.
+type Field = (u16, u16, Kind, Ty, u16, &'static [u16]);
+
+/// The static fields of the two packages. The first package has the first two initial arrays, and the second has
+/// the other two.
+static STATIC_FIELDS: [Field; 14] = [
+    (0, 8, Kind::Byte, Ty::Short, 0, &[0xFF80]),
+    (0, 0, Kind::Ref, Ty::ArrByte, 1, &[1]),
+    (0, 11, Kind::Int, Ty::IntHigh, 2, &[0x0001, 0x8000]),
+    (0, 4, Kind::Ref, Ty::ArrByte, 4, &[0]),
+    (0, 9, Kind::Short, Ty::Short, 5, &[0x1234]),
+    (0, 6, Kind::Byte, Ty::Short, 6, &[0]),
+    (0, 2, Kind::Ref, Ty::ArrInt, 7, &[2]),
+    (1, 8, Kind::Byte, Ty::Short, 8, &[0xFF80]),
+    (1, 0, Kind::Ref, Ty::ArrByte, 9, &[3]),
+    (1, 11, Kind::Int, Ty::IntHigh, 10, &[0x0001, 0x8000]),
+    (1, 4, Kind::Ref, Ty::ArrByte, 12, &[0]),
+    (1, 9, Kind::Short, Ty::Short, 13, &[0x1234]),
+    (1, 6, Kind::Byte, Ty::Short, 14, &[0]),
+    (1, 2, Kind::Ref, Ty::ArrInt, 15, &[4]),
+];
+
+fn is_field(field: &StaticRec, want: &Field) -> bool {
+    let (package, offset, kind, ty, slot, initial) = want;
+    (field.package, field.offset, field.slot) == (*package, *offset, *slot)
+        && kind_number(field.kind) == kind_number(*kind)
+        && type_number(field.ty) == type_number(*ty)
+        && field.initial.as_slice() == *initial
+}
+
+fn are_fields(fields: &[StaticRec]) -> bool {
+    fields.len() == STATIC_FIELDS.len()
+        && fields
+            .iter()
+            .zip(STATIC_FIELDS.iter())
+            .all(|(field, want)| is_field(field, want))
+}
+
+/// Whether the packages of the names have these static fields, and with their arrays room in a world.
+fn has_fields(alloc: Global, names: &Names<'_, '_, '_>) -> Result<bool, AllocError> {
+    let packages = names.packages();
+    if packages.len() != 2 || arrays_fit(packages).is_err() || statics_fit(packages).is_err() {
+        return Ok(false);
+    }
+    let fields = statics(alloc, names)?;
+    Ok(are_fields(fields.as_slice()))
+}
+
+fn has_named_fields(alloc: Global, packages: &Packages<'_, '_>) -> Result<bool, AllocError> {
+    match names(alloc, packages, PLAIN_ROLES) {
+        Ok(names) => has_fields(alloc, &names),
+        Err(_) => Ok(false),
+    }
+}
+
+fn have_initial_words(alloc: Global) -> Result<bool, AllocError> {
+    let owned = plain_packages(alloc, &[&STATICS, &STATICS])?;
     let parts = lent(alloc, &owned)?;
     let packages = read(alloc, &parts)?;
-    let told = match names(alloc, &packages, PLAIN_ROLES) {
-        Ok(names) => told(alloc, &names)?,
-        Err(_) => Vec::new(alloc),
-    };
-    assert_eq!(&rt; told.as_slice(), WANTED.as_slice());
+    Ok(has_arrays(alloc, &packages)? && has_named_fields(alloc, &packages)?)
+}
+
+#[test]
+fn statics_and_arrays_have_their_initial_words(rt: HostRuntime) -> Result<(), AllocError> {
+    assert!(rt; have_initial_words(rt.alloc())?);
     Ok(())
 }

@@ -1,20 +1,18 @@
-use crate::lending::lent;
-use crate::reading::read;
-use crate::{LIBRARY, LIBRARY_ROLES, USER};
+use crate::library_and_user::LIBRARY_ROLES;
+use crate::link_tests::both;
+use crate::reading::{lent, plain_packages, read};
 use cap_package::Packages;
-use cap_tests::{PLAIN, PLAIN_ROLES, changed};
+use cap_tests::PLAIN_ROLES;
 use class_tests::named;
-use jc_base::{Kind, Member, World};
+use jc_base::{Handler, Kind, Member, StaticRec, World};
 use jc_link::{class_table, link};
-use std::alloc::Global;
-use std::process::Abort;
-use std::test::Fail;
+use std::alloc::{AllocError, Global};
 
 /// The kind of a member, and what it names.
 type Named = (&'static str, u32, u32);
 
 /// What the entries of the user's pool name.
-const MEMBERS: [Named; 10] = [
+static MEMBERS: [Named; 10] = [
     ("ClassOf", 2, 0),
     ("Virtual", 3, 0),
     ("Virtual", 3, 1),
@@ -38,96 +36,129 @@ fn names_of(member: Member) -> Named {
     }
 }
 
-/// The members of the user's pool.
-fn has_members(rt: &impl Abort, world: &World<'_>) {
-    assert!(rt; world.package_count() == 2);
-    assert_eq!(rt; world.pool_count(1) as usize, MEMBERS.len());
-    for (n, want) in MEMBERS.iter().enumerate() {
-        assert!(rt; n < world.pool_count(1) as usize);
-        assert_eq!(rt; names_of(world.member(1, n as u16)), *want);
+/// Whether the n-th entry of the user's pool names this.
+fn is_named(world: &World<'_>, n: usize, want: &Named) -> bool {
+    world.package_count() == 2
+        && n < world.pool_count(1) as usize
+        && names_of(world.member(1, n as u16)) == *want
+}
+
+/// Whether the user's pool has these members and no others.
+fn has_members(world: &World<'_>) -> bool {
+    world.package_count() == 2
+        && world.pool_count(1) as usize == MEMBERS.len()
+        && MEMBERS
+            .iter()
+            .enumerate()
+            .all(|(n, want)| is_named(world, n, want))
+}
+
+/// Whether the dispatch lists of a class are these.
+fn has_lists(world: &World<'_>, class: u16, public: &[u16], visible: &[u16]) -> bool {
+    class < world.class_count()
+        && world.class(class).public.as_slice() == public
+        && world.class(class).visible.as_slice() == visible
+}
+
+/// Whether the user's class has its place below throwable.
+fn has_class(world: &World<'_>) -> bool {
+    has_lists(world, 2, &[1], &[2])
+        && has_lists(world, 3, &[4, 5], &[6])
+        && world.class_count() == 4
+        && world.class(3).cells == 1
+        && world.is_concrete(3)
+}
+
+fn is_caught(handler: &Handler) -> bool {
+    (handler.start, handler.end, handler.entry, handler.class) == (0, 2, 2, 2)
+}
+
+/// Whether the user's method has its code and its one handler.
+fn has_handler(world: &World<'_>) -> bool {
+    world.method_count() == 7
+        && world.code(5) == [0x04, 0x78, 0x3B, 0x03, 0x78].as_slice()
+        && world.method(5).handlers.len() == 1
+        && world.method(5).handlers.as_slice().iter().all(is_caught)
+}
+
+/// What is wrong first with the world of the library and its user, or the empty text.
+fn first_wrong(world: &World<'_>) -> &'static str {
+    if !has_members(world) {
+        "members"
+    } else if !has_class(world) {
+        "class"
+    } else if !has_handler(world) {
+        "handler"
+    } else {
+        ""
     }
 }
 
-/// The dispatch lists of a class are these.
-fn has_lists(rt: &impl Abort, world: &World<'_>, class: u16, public: &[u16], visible: &[u16]) {
-    assert!(rt; class < world.class_count());
-    let record = world.class(class);
-    assert!(rt; record.public.as_slice() == public);
-    assert!(rt; record.visible.as_slice() == visible);
-}
-
-/// The user's method with a handler.
-fn has_handler(rt: &impl Abort, world: &World<'_>) {
-    assert!(rt; world.method_count() == 7);
-    let code: [u8; 5] = [0x04, 0x78, 0x3B, 0x03, 0x78];
-    assert!(rt; world.code(5) == code.as_slice());
-    let handlers = world.method(5).handlers.as_slice();
-    assert!(rt; handlers.len() == 1);
-    assert_eq!(rt;
-        (handlers[0].start, handlers[0].end, handlers[0].entry),
-        (0, 2, 2)
-    );
-    assert_eq!(rt; handlers[0].class, 2);
-}
-
-/// The user's class, below throwable.
-fn has_class(rt: &impl Abort, world: &World<'_>) {
-    has_lists(rt, world, 2, &[1], &[2]);
-    has_lists(rt, world, 3, &[4, 5], &[6]);
-    assert!(rt; world.class_count() == 4);
-    assert_eq!(rt; world.class(3).cells, 1);
-    assert!(rt; world.is_concrete(3));
-}
-
-/// The world of the library and its user, and the table of its classes.
-fn are_linked(rt: &impl Abort, alloc: Global, packages: &Packages<'_, '_>) {
+/// The same, or why there is no world.
+fn wrong_in_world(alloc: Global, packages: &Packages<'_, '_>) -> &'static str {
     match link(alloc, packages, LIBRARY_ROLES) {
-        Ok(world) => {
-            has_members(rt, &world);
-            has_class(rt, &world);
-            has_handler(rt, &world);
-        }
-        Err(end) => assert_eq!(rt; named(end), ("world", 4, 7)),
+        Ok(world) => first_wrong(&world),
+        Err(end) => named(end).0,
     }
+}
+
+/// Whether the class table of the packages has four classes.
+fn has_table(alloc: Global, packages: &Packages<'_, '_>) -> bool {
     match class_table(alloc, packages, LIBRARY_ROLES) {
-        Ok(table) => assert_eq!(rt; table.len(), 4),
-        Err(end) => assert_eq!(rt; named(end), ("table", 4, 0)),
+        Ok(table) => table.len() == 4,
+        Err(_) => false,
     }
+}
+
+fn wrong_of_both(alloc: Global) -> Result<&'static str, AllocError> {
+    let owned = both(alloc, &[], &[])?;
+    let parts = lent(alloc, &owned)?;
+    let packages = read(alloc, &parts)?;
+    if !has_table(alloc, &packages) {
+        return Ok("table");
+    }
+    Ok(wrong_in_world(alloc, &packages))
 }
 
 #[test]
 fn a_library_and_its_user_have_their_members_classes_and_handlers(
     rt: HostRuntime,
-) -> Result<(), Fail> {
-    let alloc = rt.alloc();
-    let both = [changed(alloc, &LIBRARY, &[])?, changed(alloc, &USER, &[])?];
-    let parts = lent(alloc, &both)?;
-    let packages = read(alloc, &parts)?;
-    are_linked(&rt, alloc, &packages);
+) -> Result<(), AllocError> {
+    assert_eq!(rt; wrong_of_both(rt.alloc())?, "");
     Ok(())
 }
 
-/// The world of package T: eight classes, two methods and one static cell, that of a short.
-fn is_plain(rt: &impl Abort, world: &World<'_>) {
-    assert_eq!(rt; world.class_count(), 8);
-    assert_eq!(rt; world.method_count(), 2);
-    assert_eq!(rt; world.static_count(), 1);
-    let field = world.static_field(0);
-    assert!(rt; matches!(field.kind, Kind::Short));
-    assert_eq!(rt; field.slot, 0);
-    let words: [u16; 1] = [7];
-    assert!(rt; field.initial.as_slice() == words.as_slice());
+/// Whether a static field is a short in the first cell that starts as 7.
+fn is_seven(field: &StaticRec) -> bool {
+    matches!(field.kind, Kind::Short)
+        && field.slot == 0
+        && field.initial.as_slice() == [7].as_slice()
+}
+
+/// Whether the world is that of package T: eight classes, two methods and one static field.
+fn is_plain(world: &World<'_>) -> bool {
+    world.class_count() == 8
+        && world.method_count() == 2
+        && world.static_count() == 1
+        && is_seven(world.static_field(0))
+}
+
+fn links_plainly(alloc: Global, packages: &Packages<'_, '_>) -> bool {
+    match link(alloc, packages, PLAIN_ROLES) {
+        Ok(world) => is_plain(&world),
+        Err(_) => false,
+    }
+}
+
+fn has_plain_world(alloc: Global) -> Result<bool, AllocError> {
+    let owned = plain_packages(alloc, &[&[]])?;
+    let parts = lent(alloc, &owned)?;
+    let packages = read(alloc, &parts)?;
+    Ok(links_plainly(alloc, &packages))
 }
 
 #[test]
-fn a_plain_package_has_its_static_field(rt: HostRuntime) -> Result<(), Fail> {
-    let alloc = rt.alloc();
-    let plain = [changed(alloc, &PLAIN, &[])?];
-    let parts = lent(alloc, &plain)?;
-    let packages = read(alloc, &parts)?;
-    match link(alloc, &packages, PLAIN_ROLES) {
-        Ok(world) => is_plain(&rt, &world),
-        Err(end) => assert_eq!(rt; named(end), ("world", 8, 2)),
-    }
+fn a_plain_package_has_its_static_field(rt: HostRuntime) -> Result<(), AllocError> {
+    assert!(rt; has_plain_world(rt.alloc())?);
     Ok(())
 }
