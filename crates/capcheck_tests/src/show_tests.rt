@@ -1,10 +1,11 @@
-use crate::put_package::put_package;
-use crate::run::run;
+use crate::filling::{put_package, put_plain};
+use crate::run::{Failing, gives, gives_failing};
+use crate::small_packages::CUT_METHOD;
 use cap_bytes::Part;
-use cap_files::{MemFolder, MemSink, SureFolder, SureSink};
+use cap_files::{MemFolder, SureFolder};
 use cap_tests::{
     APPLET, CLASS, CONSTANT_POOL, Change, DEBUG, DIRECTORY, EXPORT, File, HEADER, METHOD, OLDER,
-    PLAIN, PLAIN_METHOD, WHOLE, changed,
+    PLAIN, WHOLE,
 };
 use std::alloc::{AllocError, Global};
 
@@ -26,18 +27,8 @@ const OLDER_TABLE: &str =
      Class 6 80\nMethod 7 19\nStaticField 8 12\n\
      RefLocation 9 4\nExport 10 absent\nDescriptor 11 111\nDebug 12 absent\n";
 
-/// Whether `show T` gives this text and this status where package T is changed so.
+/// Whether `show T` gives this text and this status where a package with these files is changed so.
 fn shows(
-    alloc: Global,
-    changes: &[Change<'_>],
-    text: &str,
-    status: u8,
-) -> Result<bool, AllocError> {
-    shows_of(alloc, &PLAIN, changes, text, status)
-}
-
-/// The same of a package with these files.
-fn shows_of(
     alloc: Global,
     files: &[File<'_>],
     changes: &[Change<'_>],
@@ -45,27 +36,22 @@ fn shows_of(
     status: u8,
 ) -> Result<bool, AllocError> {
     let mut folder = SureFolder::new(alloc, 16, 70_000)?;
-    let parts = changed(alloc, files, changes)?;
-    let fits = put_package(&mut folder, "T", &parts);
-    let mut out = SureSink::new(alloc, 400)?;
-    let answer = run(alloc, "show T", &mut folder, &mut out)?;
-    Ok(fits && answer == status && out.received() == text.as_bytes())
+    Ok(
+        put_package(alloc, &mut folder, "T", files, changes)?
+            && gives(alloc, "show T", &mut folder, text, status)?,
+    )
 }
 
-#[test]
-fn show_prints_the_table_of_a_package(rt: HostRuntime) -> Result<(), AllocError> {
-    let alloc = rt.alloc();
-    assert!(rt; shows(alloc, &[], TABLE, 0)?);
-    assert!(rt; shows_of(alloc, &OLDER, &[], OLDER_TABLE, 0)?);
-    // parts that the Directory gives no size, and Debug, are not read
-    let unread = [
-        Change::File(APPLET, b"?"),
-        Change::File(EXPORT, b"?"),
-        Change::File(DEBUG, b"?"),
-        Change::File(Part(128), b"?"),
-    ];
-    assert!(rt; shows(alloc, &unread, TABLE, 0)?);
-    // every component, Debug of four bytes and a second custom one of three
+/// Parts that the Directory gives no size, and Debug, which are not read.
+const UNREAD: [Change<'static>; 4] = [
+    Change::File(APPLET, b"?"),
+    Change::File(EXPORT, b"?"),
+    Change::File(DEBUG, b"?"),
+    Change::File(Part(128), b"?"),
+];
+
+/// Whether the table has every component, Debug of four bytes and a second custom one of three.
+fn shows_whole(alloc: Global) -> Result<bool, AllocError> {
     let whole = [
         WHOLE[0],
         WHOLE[1],
@@ -75,11 +61,26 @@ fn show_prints_the_table_of_a_package(rt: HostRuntime) -> Result<(), AllocError>
         Change::Byte(DIRECTORY, 47, 3),
         Change::File(Part(129), b"\x81\x00\x03\x01\x02\x03"),
     ];
-    assert!(rt; shows(alloc, &whole, WHOLE_TABLE, 0)?);
+    shows(alloc, &PLAIN, &whole, WHOLE_TABLE, 0)
+}
+
+fn shows_tables(alloc: Global) -> Result<bool, AllocError> {
+    Ok(
+        shows(alloc, &PLAIN, &[], TABLE, 0)?
+            && shows(alloc, &OLDER, &[], OLDER_TABLE, 0)?
+            && shows(alloc, &PLAIN, &UNREAD, TABLE, 0)?
+            && shows_whole(alloc)?,
+    )
+}
+
+#[test]
+fn show_prints_the_table_of_a_package(rt: HostRuntime) -> Result<(), AllocError> {
+    assert!(rt; shows_tables(rt.alloc())?);
     Ok(())
 }
 
-const MALFORMED: [(&'static [Change<'static>], &'static str); 6] = [
+/// Changes of package T, and what `show T` prints then.
+static MALFORMED: [(&'static [Change<'static>], &'static str); 7] = [
     // there is no format 2.3; with no format no size is asked, and no part that may be absent is loaded
     (
         &[Change::Byte(HEADER, 7, 3)],
@@ -109,53 +110,81 @@ const MALFORMED: [(&'static [Change<'static>], &'static str); 6] = [
         &[Change::File(CONSTANT_POOL, b"\x05\x00\x06\x00\x01\x01\x00\x00\x00")],
         "malformed package 0 SizeDisagrees 5 2 6\n",
     ),
+    (
+        &[Change::File(METHOD, &CUT_METHOD)],
+        "malformed package 0 Form 7 21 Cut\n",
+    ),
 ];
+
+/// The text of the first package that is shown otherwise, or the empty text.
+fn first_wrong(alloc: Global) -> Result<&'static str, AllocError> {
+    for (changes, text) in MALFORMED.iter() {
+        if !shows(alloc, &PLAIN, changes, text, 7)? {
+            return Ok(text);
+        }
+    }
+    Ok("")
+}
 
 #[test]
 fn show_names_what_is_wrong_with_the_package(rt: HostRuntime) -> Result<(), AllocError> {
-    let alloc = rt.alloc();
-    for (changes, text) in MALFORMED {
-        assert!(rt; shows(alloc, changes, text, 7)?, "for {text}");
-    }
-    let directory = [WHOLE[0]];
-    assert!(rt; shows(alloc, &directory, "malformed package 0 MissingPart 3\n", 7)?);
-    let cut = [Change::File(METHOD, &PLAIN_METHOD[..21])];
-    assert!(rt; shows(alloc, &cut, "malformed package 0 Form 7 21 Cut\n", 7)?);
+    assert_eq!(rt; first_wrong(rt.alloc())?, "");
+    Ok(())
+}
+
+/// Whether a Class part longer than any part is named.
+fn names_long_class(alloc: Global) -> Result<bool, AllocError> {
     let long = vec![in alloc; 7u8; 65_539]?;
     let too_long = [Change::File(DIRECTORY, b""), Change::File(CLASS, &long)];
-    assert!(rt; shows(alloc, &too_long, "malformed package 0 PartTooLong 6\n", 7)?);
+    let text = "malformed package 0 PartTooLong 6\n";
+    shows(alloc, &PLAIN, &too_long, text, 7)
+}
+
+/// Whether the first part of an empty folder is named as absent.
+fn names_empty_folder(alloc: Global) -> Result<bool, AllocError> {
     let mut folder = SureFolder::new(alloc, 1, 100)?;
-    let mut out = SureSink::new(alloc, 100)?;
-    assert_eq!(rt; run(alloc, "show E", &mut folder, &mut out)?, 7);
-    assert!(rt; out.received() == "malformed package 0 MissingPart 1\n".as_bytes());
+    let text = "malformed package 0 MissingPart 1\n";
+    gives(alloc, "show E", &mut folder, text, 7)
+}
+
+/// Whether the first part is named that only the Directory tells of, and that is absent.
+fn names_absent(alloc: Global) -> Result<bool, AllocError> {
+    let text = "malformed package 0 MissingPart 3\n";
+    Ok(shows(alloc, &PLAIN, &[WHOLE[0]], text, 7)? && names_empty_folder(alloc)?)
+}
+
+#[test]
+fn show_names_parts_that_are_absent_or_too_long(rt: HostRuntime) -> Result<(), AllocError> {
+    assert!(rt; names_absent(rt.alloc())? && names_long_class(rt.alloc())?);
     Ok(())
+}
+
+/// Nine parts are loaded.
+static FAILING: [Failing; 5] = [
+    ("show T", 1, 0, 0, "read fault\n", 3),
+    ("show T", 9, 0, 0, "read fault\n", 3),
+    ("show T", 10, 0, 0, TABLE, 0),
+    ("show T", 0, 1, 0, "", 8),
+    ("show T", 0, 1, 7, "package", 8),
+];
+
+fn fails_so(alloc: Global, failing: &Failing) -> Result<bool, AllocError> {
+    let mut folder = MemFolder::new(alloc, 9, 1000)?;
+    Ok(put_plain(&mut folder) && gives_failing(alloc, &mut folder, failing)?)
+}
+
+/// The first of the failures that is answered otherwise.
+fn first_missed(alloc: Global) -> Result<Option<usize>, AllocError> {
+    for (n, failing) in FAILING.iter().enumerate() {
+        if !fails_so(alloc, failing)? {
+            return Ok(Some(n));
+        }
+    }
+    Ok(None)
 }
 
 #[test]
 fn show_names_the_device_that_fails(rt: HostRuntime) -> Result<(), AllocError> {
-    let alloc = rt.alloc();
-    // which of the nine loads fails, which put, and after how many bytes; the text that is received and the status
-    let cases = [
-        (1, 0, 0, "read fault\n", 3),
-        (9, 0, 0, "read fault\n", 3),
-        (10, 0, 0, TABLE, 0),
-        (0, 1, 0, "", 8),
-        (0, 1, 7, "package", 8),
-    ];
-    for (load, put, keep, text, status) in cases {
-        let mut folder = MemFolder::new(alloc, 9, 1000)?;
-        for (part, bytes) in &PLAIN {
-            assert!(rt; folder.set("T", *part, bytes));
-        }
-        assert!(rt; folder.fail_load(load));
-        let mut out = MemSink::new(alloc, 400)?;
-        assert!(rt; out.fail_put(put, keep));
-        let answer = run(alloc, "show T", &mut folder, &mut out)?;
-        assert_eq!(rt; answer, status, "where load {load} and put {put} fail");
-        assert!(rt;
-            out.received() == text.as_bytes(),
-            "where load {load} and put {put} fail"
-        );
-    }
+    assert_eq!(rt; first_missed(rt.alloc())?, None);
     Ok(())
 }

@@ -5,7 +5,7 @@ use cap_tests::{
 
 /// A package of two classes, the second below the first: it overrides the method of token 1, which
 /// has no argument, by one that has a short.
-pub const OVERRIDING: [File<'static>; 9] = [
+pub(crate) const OVERRIDING: [File<'static>; 9] = [
     (
         HEADER,
         b"\x01\x00\x10\xDE\xCA\xFF\xED\x02\x02\x00\x00\x01\x05\xF0\x01\x02\x03\x04\x00",
@@ -40,7 +40,7 @@ pub const OVERRIDING: [File<'static>; 9] = [
 ];
 
 /// A package of one class and one method: its class is below the one that package T exports.
-pub const BELOW: [File<'static>; 9] = [
+pub(crate) const BELOW: [File<'static>; 9] = [
     (
         HEADER,
         b"\x01\x00\x10\xDE\xCA\xFF\xED\x02\x02\x00\x00\x01\x05\xF0\x01\x02\x03\x05\x00",
@@ -70,7 +70,7 @@ pub const BELOW: [File<'static>; 9] = [
 ];
 
 /// The same in format 2.1.
-pub const OLDER_BELOW: [File<'static>; 9] = [
+pub(crate) const OLDER_BELOW: [File<'static>; 9] = [
     (
         HEADER,
         b"\x01\x00\x0F\xDE\xCA\xFF\xED\x01\x02\x00\x00\x01\x05\xF0\x01\x02\x03\x05",
@@ -97,4 +97,10 @@ pub const OLDER_BELOW: [File<'static>; 9] = [
         b"\x0B\x00\x1A\x01\x00\x00\x00\x00\x00\x00\x00\x00\x01\x00\x08\x00\x01\x00\x02\x00\x01\
           \x00\x00\x00\x00\x00\x00\x01\x10",
     ),
+];
+
+/// The Method component of package T without its last byte.
+pub(crate) const CUT_METHOD: [u8; 21] = [
+    0x07, 0x00, 0x13, 0x00, 0x02, 0x10, 0x1C, 0x04, 0x41, 0x78, 0x02, 0x20, 0x1C, 0x1D, 0x60, 0x05,
+    0x04, 0x70, 0x03, 0x05, 0x41,
 ];
