@@ -86,7 +86,11 @@ pub fn accepted(alloc: Global, count: u16) -> Result<String, AllocError>
 }
 
 /// The line for a method without a card typing.
-pub fn refused_card(alloc: Global, method: MethodNumber, fault: CardFault) -> Result<String, AllocError>
+pub fn refused_card(
+    alloc: Global,
+    method: MethodNumber,
+    fault: CardFault,
+) -> Result<String, AllocError>
     ensures { IfOk result (λ t. string_bytes t ≡ refused_card_line method fault) }
 {
     format!(in alloc; "refused {} {}\n", Shown(method), Shown(fault))

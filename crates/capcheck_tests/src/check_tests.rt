@@ -42,7 +42,7 @@ pub(crate) fn fill(
 }
 
 /// A command, the roles, the changes of package T in its two folders, and the text and the status that it gives.
-type Check = (
+pub(crate) type Check = (
     &'static str,
     &'static [u8],
     &'static [Change<'static>],
@@ -61,7 +61,10 @@ fn is_given(alloc: Global, check: &Check) -> Result<bool, AllocError> {
 }
 
 /// The text of the first check that gives another, or the empty text.
-fn first_wrong(alloc: Global, checks: &'static [Check]) -> Result<&'static str, AllocError> {
+pub(crate) fn first_wrong(
+    alloc: Global,
+    checks: &'static [Check],
+) -> Result<&'static str, AllocError> {
     for check in checks {
         if !is_given(alloc, check)? {
             return Ok(check.4);

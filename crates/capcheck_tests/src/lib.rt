@@ -1,4 +1,4 @@
-//! Worked commands: what `capcheck_core` prints for `probe`, `show` and `check` over folders in memory,
+//! Worked commands: what `capcheck_core` prints for `probe`, `show`, `check` and `verify` over folders in memory,
 //! with package T of `cap_tests` and two more small packages, and where a device fails.
 #![tactic(auto)]
 
@@ -16,3 +16,5 @@ mod show_tests;
 mod small_packages;
 #[cfg(test)]
 mod typing_tests;
+#[cfg(test)]
+mod verify_tests;

@@ -5,7 +5,7 @@ use cap_tests::{CONSTANT_POOL, Change, DESCRIPTOR, METHOD, PLAIN_ROLES};
 use std::alloc::{AllocError, Global};
 
 /// The second method of package T: its type descriptor, its header and its code.
-type Second<'a> = (&'a [u8], &'a [u8], &'a [u8]);
+pub(crate) type Second<'a> = (&'a [u8], &'a [u8], &'a [u8]);
 
 /// Fills folders with package T with another second method, and where it is wanted with a constant: its first
 /// class.
@@ -41,8 +41,8 @@ fn fill_with(
     fill(alloc, folder, &PLAIN_ROLES, &changes, &[])
 }
 
-/// The second method, whether the pool has a constant, and what `check T` prints, with its status.
-type Method = (Second<'static>, bool, &'static str, u8);
+/// The second method, whether the pool has a constant, and what a command over `T` prints, with its status.
+pub(crate) type Method = (Second<'static>, bool, &'static str, u8);
 
 static METHODS: [Method; 7] = [
     // one argument of class 0 or 3, void, and one local, which no place sets before it is read
@@ -109,19 +109,23 @@ static METHODS: [Method; 7] = [
     ),
 ];
 
-fn is_answered(alloc: Global, method: &Method) -> Result<bool, AllocError> {
+fn is_answered(alloc: Global, line: &str, method: &Method) -> Result<bool, AllocError> {
     let (second, constant, text, status) = method;
     let mut folder = SureFolder::new(alloc, 48, 70_000)?;
     Ok(
         fill_with(alloc, &mut folder, *second, *constant)?
-            && gives(alloc, "check T", &mut folder, text, *status)?,
+            && gives(alloc, line, &mut folder, text, *status)?,
     )
 }
 
-/// The first of the methods that is answered otherwise.
-fn first_wrong(alloc: Global) -> Result<Option<usize>, AllocError> {
-    for (n, method) in METHODS.iter().enumerate() {
-        if !is_answered(alloc, method)? {
+/// The first of the methods of which the command gives another answer.
+pub(crate) fn first_other(
+    alloc: Global,
+    line: &str,
+    methods: &'static [Method],
+) -> Result<Option<usize>, AllocError> {
+    for (n, method) in methods.iter().enumerate() {
+        if !is_answered(alloc, line, method)? {
             return Ok(Some(n));
         }
     }
@@ -130,6 +134,6 @@ fn first_wrong(alloc: Global) -> Result<Option<usize>, AllocError> {
 
 #[test]
 fn check_names_the_method_without_a_typing(rt: HostRuntime) -> Result<(), AllocError> {
-    assert_eq!(rt; first_wrong(rt.alloc())?, None);
+    assert_eq!(rt; first_other(rt.alloc(), "check T", &METHODS)?, None);
     Ok(())
 }

@@ -1,0 +1,124 @@
+use crate::check_tests::{Check, first_wrong};
+use crate::typing_tests::{Method, first_other};
+use cap_tests::PLAIN_ROLES;
+use std::alloc::AllocError;
+
+static VERIFIED: [Check; 7] = [
+    // the stack is not empty at a branch
+    (
+        "verify T",
+        &PLAIN_ROLES,
+        &[],
+        &[],
+        "refused package 0 method 0.1 place 2 StackAtBranch\n",
+        1,
+    ),
+    (
+        "verify T U",
+        &PLAIN_ROLES,
+        &[],
+        &[],
+        "not linked NoSuper 8\n",
+        7,
+    ),
+    ("verify", &PLAIN_ROLES, &[], &[], "usage\n", 2),
+    ("verify T --", &PLAIN_ROLES, &[], &[], "usage\n", 2),
+    (
+        "verify E",
+        &PLAIN_ROLES,
+        &[],
+        &[],
+        "malformed package 0 MissingPart 1\n",
+        7,
+    ),
+    (
+        "verify U",
+        &PLAIN_ROLES,
+        &[],
+        &[],
+        "malformed package 0 MissingPart 0\n",
+        7,
+    ),
+    (
+        "verify T T T T T T T T T T T T T T T T T",
+        &PLAIN_ROLES,
+        &[],
+        &[],
+        "not linked TooManyPackages 17\n",
+        7,
+    ),
+];
+
+#[test]
+fn verify_answers_for_all_packages(rt: HostRuntime) -> Result<(), AllocError> {
+    assert_eq!(rt; first_wrong(rt.alloc(), &VERIFIED)?, "");
+    Ok(())
+}
+
+static METHODS: [Method; 6] = [
+    // nothing but `return`
+    (
+        (b"\x01\x10", b"\x06\x00", b"\x7A"),
+        false,
+        "accepted 2 methods\n",
+        0,
+    ),
+    // the first pass raises register 1 to the type of the argument, class 0, at the last store; the second finds it
+    // at the `athrow`, which wants a throwable
+    (
+        (
+            b"\x06\x60\x00\x21",
+            b"\x01\x11",
+            b"\x19\x66\x04\x19\x93\x18\x2C\x70\xF9",
+        ),
+        false,
+        "refused package 0 method 0.1 place 4 Mismatch found class 0 wanted class 1\n",
+        1,
+    ),
+    // the same with an argument of class 3, a throwable
+    (
+        (
+            b"\x06\x60\x02\x01",
+            b"\x01\x11",
+            b"\x19\x66\x04\x19\x93\x18\x2C\x70\xF9",
+        ),
+        false,
+        "accepted 2 methods\n",
+        0,
+    ),
+    // a local that holds a short and then a reference
+    (
+        (
+            b"\x06\x60\x00\x23",
+            b"\x01\x11",
+            b"\x04\x30\x1D\x3B\x18\x2C\x19\x3B\x03\x78",
+        ),
+        false,
+        "refused package 0 method 0.1 place 6 Mismatch found top wanted class 0\n",
+        1,
+    ),
+    // new, dup, a condition, and only then the constructor
+    (
+        (
+            b"\x02\x41",
+            b"\x03\x10",
+            b"\x8F\x00\x00\x3D\x1C\x60\x05\x04\x70\x03\x03\x8C\x00\x00\x3B\x7A",
+        ),
+        true,
+        "refused package 0 method 0.1 place 5 StackAtBranch\n",
+        1,
+    ),
+    // code that ends in the middle of an instruction, after the last branch
+    (
+        (b"\x01\x10", b"\x06\x00", b"\x7A\x11\x00"),
+        false,
+        "refused package 0 method 0.1 place 1 Cut\n",
+        1,
+    ),
+];
+
+#[test]
+fn verify_names_the_method_without_a_card_typing(rt: HostRuntime) -> Result<(), AllocError> {
+    assert_eq!(rt; first_other(rt.alloc(), "verify T", &METHODS)?, None);
+    Ok(())
+}
