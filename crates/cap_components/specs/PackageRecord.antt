@@ -1,5 +1,6 @@
 -- A package: what its components say (JCVM 2.2, chapter 6).
-use Rattle.std.specs.Prelude.{ℕ, List, [], ◌∷◌, Option, take, drop, if◌then◌else◌}
+use Rattle.std.specs.Prelude.{ℕ, Bool, List, Option, take, drop, ◌==◌, ◌&&◌}
+use Rattle.std.specs.List.{list_any}
 use Rattle.cap_frame.specs.PackageFormat.{Package}
 use Rattle.cap_frame.specs.HeaderFormat.{HeaderItems}
 use Rattle.cap_frame.specs.DirectoryFormat.{DirectoryItems}
@@ -11,7 +12,7 @@ use Rattle.cap_class.specs.ClassFormat.{Class, is_interface}
 use Rattle.cap_method.specs.StaticFormat.{Statics, Array}
 use Rattle.cap_method.specs.declared.handler.HandlerInfo.{HandlerInfo}
 use Rattle.cap_desc.specs.DescriptorFormat.{Method, Field}
-use Rattle.cap_desc.specs.Members.{methods_from, fields_of}
+use Rattle.cap_desc.specs.Members.{methods_in, methods_but, fields_of}
 use Rattle.cap_components.specs.MethodPlaces.{code_start}
 use Rattle.cap_components.specs.Parts.{Lent}
 use Rattle.cap_components.specs.Descriptions.{Description}
@@ -45,14 +46,18 @@ major p = p.header.package_of.major
 abbrev pub initial_arrays : PackageRecord → List Array
 initial_arrays p = p.statics.arrays
 
--- where the classes begin: interfaces stand before them, so a class reference below is one to an interface
-abbrev pub classes_from : List Class → ℕ
-classes_from [] = 0xFFFF
-classes_from (c ∷ cs) = if is_interface c.flags then classes_from cs else c.offset
+-- a reference names the record of an interface of the Class component
+unfoldable pub names_interface : List Class → ℕ → Bool
+names_interface classes reference = list_any (λ (c : Class). c.offset == reference && is_interface c.flags) classes
 
--- the methods that the Descriptor describes with a place in the Method component: those of classes
+-- the methods that the Descriptor describes with a place in the Method component: those of classes. A method is one of a
+-- class unless the reference of its class names an interface, also where it names no record.
 abbrev pub described : PackageRecord → List Method
-described p = methods_from (classes_from p.classes) p.description.items.classes
+described p = methods_but (names_interface p.classes) p.description.items.classes
+
+-- the methods of interfaces
+abbrev pub interface_methods : PackageRecord → List Method
+interface_methods p = methods_in (names_interface p.classes) p.description.items.classes
 
 -- the fields that it describes
 abbrev pub fields : PackageRecord → List Field

@@ -21,4 +21,4 @@ pub use method_places::{code_end, code_start};
 pub use part_checks::{customs_formed, none_missing, sizes_agree};
 pub use parts::{OwnedParts, Parts};
 pub use read::info_in;
-pub use reading::{classes_from, read_package};
+pub use reading::{interface_offsets, read_package};

@@ -1,10 +1,11 @@
 ghost use Rattle.std.specs.Prelude.{◌≡◌, Ok, IfOk};
+ghost use Rattle.offset_set.specs.Bits.{holds};
 ghost use Rattle.cap_frame.specs.Header.{header_items};
 ghost use Rattle.cap_class.specs.ClassPart.{records};
 ghost use Rattle.cap_components.specs.Components.{Answers, info_in};
 ghost use Rattle.cap_components.specs.ComponentsSeen.{components_seen};
 ghost use Rattle.cap_components.specs.Infos.{HaveInfos};
-ghost use Rattle.cap_components.specs.PackageRecord.{classes_from};
+ghost use Rattle.cap_components.specs.PackageRecord.{names_interface};
 ghost use Rattle.cap_components.specs.ReadPackage.{read_after, read_package};
 
 use crate::components::Components;
@@ -16,6 +17,7 @@ use crate::read::{
 };
 use cap_class::ClassPart;
 use cap_frame::Header;
+use offset_set::Offsets;
 
 /// The components of a package, in the order of their tags.
 #[tactic(auto, unfolding(crate::specs::ReadPackage::read_package))]
@@ -66,14 +68,15 @@ fn read_after<'p, 'a>(
     })
 }
 
-/// Where the classes begin after the interfaces.
-pub fn classes_from(classes: &ClassPart<'_>) -> u16
-    ensures { result ≡ classes_from (records classes.now) }
+/// Where the records of interfaces stand.
+pub fn interface_offsets(classes: &ClassPart<'_>) -> Offsets
+    ensures { holds result ≡ names_interface (records classes.now) }
 {
+    let mut offsets = Offsets::none();
     'classes: for class in classes.iter() {
-        if !class.flags().is_interface() {
-            return class.offset();
+        if class.flags().is_interface() {
+            offsets.insert(class.offset());
         }
     }
-    0xFFFF
+    offsets
 }

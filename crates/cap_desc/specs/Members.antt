@@ -1,11 +1,21 @@
 -- The fields and methods of several classes, one class after the other.
-use Rattle.std.specs.Prelude.{ℕ, List, [], ◌∷◌, ◌++◌, nat_le, if◌then◌else◌}
+use Rattle.std.specs.Prelude.{ℕ, Bool, List, [], ◌∷◌, ◌++◌, if◌then◌else◌}
 use Rattle.cap_desc.specs.DescriptorFormat.{Class, Field, Method}
 
--- the methods of the classes whose reference is at least this one
-abbrev pub methods_from : ℕ → List Class → List Method
-methods_from start [] = []
-methods_from start (c ∷ cs) = if nat_le start c.class_ref then c.methods ++ methods_from start cs else methods_from start cs
+-- the methods of the classes
+abbrev pub methods_of : List Class → List Method
+methods_of [] = []
+methods_of (c ∷ cs) = c.methods ++ methods_of cs
+
+-- the methods of the classes whose references are in a set
+abbrev pub methods_in : (ℕ → Bool) → List Class → List Method
+methods_in set [] = []
+methods_in set (c ∷ cs) = if set c.class_ref then c.methods ++ methods_in set cs else methods_in set cs
+
+-- those of the other classes
+abbrev pub methods_but : (ℕ → Bool) → List Class → List Method
+methods_but set [] = []
+methods_but set (c ∷ cs) = if set c.class_ref then methods_but set cs else c.methods ++ methods_but set cs
 
 -- the fields of the classes
 abbrev pub fields_of : List Class → List Field

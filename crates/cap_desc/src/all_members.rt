@@ -1,16 +1,16 @@
-use crate::members::{FieldsOf, MethodsFrom};
+use crate::members::{FieldsOf, MethodsBut, MethodsOf};
 use crate::records::{FieldInfo, MethodInfo};
 
-impl Iterator for MethodsFrom<'_> {
+impl Iterator for MethodsOf<'_> {
     type Item = MethodInfo;
 
     ghost use Rattle.std.specs.Iterator.{YieldsFirstBy, item_count};
     ghost use Rattle.cap_desc.specs.MemberRecords.{method_seen};
-    ghost use Rattle.cap_desc.specs.MembersLeft.{methods_from_left};
+    ghost use Rattle.cap_desc.specs.MembersLeft.{methods_of_left};
 
-    ghost next_gives = { YieldsFirstBy method_seen methods_from_left };
+    ghost next_gives = { YieldsFirstBy method_seen methods_of_left };
 
-    ghost remaining = { item_count methods_from_left };
+    ghost remaining = { item_count methods_of_left };
 
     fn next(&mut self) -> Option<MethodInfo> {
         'classes: loop {
@@ -18,7 +18,29 @@ impl Iterator for MethodsFrom<'_> {
                 return Some(method);
             }
             let class = self.classes.next()?;
-            if class.class_ref() >= self.start {
+            self.methods = class.methods();
+        }
+    }
+}
+
+impl Iterator for MethodsBut<'_, '_> {
+    type Item = MethodInfo;
+
+    ghost use Rattle.std.specs.Iterator.{YieldsFirstBy, item_count};
+    ghost use Rattle.cap_desc.specs.MemberRecords.{method_seen};
+    ghost use Rattle.cap_desc.specs.MembersLeft.{methods_but_left};
+
+    ghost next_gives = { YieldsFirstBy method_seen methods_but_left };
+
+    ghost remaining = { item_count methods_but_left };
+
+    fn next(&mut self) -> Option<MethodInfo> {
+        'classes: loop {
+            if let Some(method) = self.methods.next() {
+                return Some(method);
+            }
+            let class = self.classes.next()?;
+            if !self.set.has(class.class_ref()) {
                 self.methods = class.methods();
             }
         }

@@ -1,21 +1,23 @@
 ghost use Rattle.std.specs.Prelude.{◌≡◌, ◌+◌, List, [], ◌∷◌, length, option_map, IfSome, IfNone};
+ghost use Rattle.offset_set.specs.Bits.{holds};
 ghost use Rattle.std.specs.List.{slice_get};
 ghost use Rattle.cap_desc.specs.TypeFormat.{types_at, type_at, descriptor_nibbles};
 ghost use Rattle.cap_desc.specs.Nibbles.{nibbles_in};
 ghost use Rattle.cap_bytes.specs.Table.{numbers};
 ghost use Rattle.cap_desc.specs.ClassRecords.{classes_left};
 ghost use Rattle.cap_desc.specs.TypeLists.{types_left};
-ghost use Rattle.cap_desc.specs.Members.{methods_from, fields_of};
-ghost use Rattle.cap_desc.specs.MembersLeft.{methods_from_left, fields_of_left};
+ghost use Rattle.cap_desc.specs.Members.{methods_of, methods_but, fields_of};
+ghost use Rattle.cap_desc.specs.MembersLeft.{methods_of_left, methods_but_left, fields_of_left};
 ghost use Rattle.cap_desc.specs.Descriptors.{descriptor_seen, HasTypes};
 
 use crate::desc_part::DescPart;
 use crate::lists::{DescClasses, DescFields, DescMethods};
-use crate::members::{FieldsOf, MethodsFrom};
+use crate::members::{FieldsOf, MethodsBut, MethodsOf};
 use crate::nibbles::Nibbles;
 use crate::type_item::TypeItem;
 use crate::types::Types;
 use cap_bytes::{Table, View};
+use offset_set::Offsets;
 
 impl<'a> DescPart<'a> {
     /// The info that the component was read from.
@@ -40,18 +42,32 @@ impl<'a> DescPart<'a> {
         self.classes.left
     }
 
-    /// The methods of the classes whose reference is at least `start`, class after class.
+    /// The methods of the classes and interfaces, class after class.
     #[tactic(auto, unfolding(cap_bytes::specs::Taking::gives, cap_bytes::specs::Taking::given))]
-    pub fn methods_from(&self, start: u16) -> MethodsFrom<'a>
-        ensures { methods_from_left result ≡ methods_from start (descriptor_seen self.now).classes }
+    pub fn methods(&self) -> MethodsOf<'a>
+        ensures { methods_of_left result ≡ methods_of (descriptor_seen self.now).classes }
     {
-        MethodsFrom {
+        MethodsOf {
             methods: DescMethods {
                 items: self.classes.items,
                 left: 0,
             },
             classes: self.classes,
-            start,
+        }
+    }
+
+    /// The methods of the classes whose references are not in a set, class after class.
+    #[tactic(auto, unfolding(cap_bytes::specs::Taking::gives, cap_bytes::specs::Taking::given))]
+    pub fn methods_but<'s>(&self, set: &'s Offsets) -> MethodsBut<'a, 's>
+        ensures { methods_but_left result ≡ methods_but (holds set.now) (descriptor_seen self.now).classes }
+    {
+        MethodsBut {
+            methods: DescMethods {
+                items: self.classes.items,
+                left: 0,
+            },
+            classes: self.classes,
+            set,
         }
     }
 

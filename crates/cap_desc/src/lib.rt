@@ -1,6 +1,6 @@
 //! The Descriptor component (Java Card 2.2 VM Specification, section 6.13): what a package tells of
-//! its classes, fields and methods, and its type descriptors. It stands on `cap_bytes`, and takes no
-//! memory.
+//! its classes, fields and methods, and its type descriptors. It stands on `cap_bytes` and on
+//! `offset_set`, and takes no memory.
 #![tactic(auto)]
 
 mod access_flags;
@@ -25,7 +25,7 @@ pub use access_flags::AccessFlags;
 pub use class::DescClass;
 pub use desc_part::DescPart;
 pub use lists::{DescClasses, DescFields, DescMethods};
-pub use members::{FieldsOf, MethodsFrom};
+pub use members::{FieldsOf, MethodsBut, MethodsOf};
 pub use read::descriptor;
 pub use records::{FieldInfo, MethodInfo};
 pub use type_item::TypeItem;

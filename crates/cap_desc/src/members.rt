@@ -1,11 +1,19 @@
 use crate::lists::{DescClasses, DescFields, DescMethods};
+use offset_set::Offsets;
 
-/// The methods that are left of the classes whose reference is at least a given one.
+/// The methods that are left of the classes.
 #[derive(Clone, Copy, Drop)]
-pub struct MethodsFrom<'a> {
+pub struct MethodsOf<'a> {
     pub(crate) methods: DescMethods<'a>,
     pub(crate) classes: DescClasses<'a>,
-    pub(crate) start: u16,
+}
+
+/// The methods that are left of the classes whose references are not in a set.
+#[derive(Clone, Copy, Drop)]
+pub struct MethodsBut<'a, 's> {
+    pub(crate) methods: DescMethods<'a>,
+    pub(crate) classes: DescClasses<'a>,
+    pub(crate) set: &'s Offsets,
 }
 
 /// The fields that are left of the classes.

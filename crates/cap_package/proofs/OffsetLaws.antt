@@ -1,22 +1,11 @@
--- Flags by offset are the set of the offsets at which things stand.
+-- The sets of the offsets at which methods and static fields stand, one after the other.
 use Rattle.std.proofs.Common.{◌≡◌, ℕ, ◌<◌, Bool, true, false, ◌||◌, eqb, List, [], ◌∷◌, length, refl, ◌∙◌, inl, inr, arith}
 use mathlib.Core.Path.{fun_ext}
-use Rattle.std.specs.Prelude.{replicate, slice_set, slice_index_or}
-use Rattle.std.proofs.lemmas.Bool.{cases_lt}
-use Rattle.std.proofs.lemmas.List.{get_or-set_other, get_or-set_same, get_or-replicate, get_or_past, length-replicate}
 use Rattle.cap_desc.specs.DescriptorFormat.{Method, Field}
 use Rattle.cap_package.specs.HeaderChecks.{is_static}
 use Rattle.cap_package.specs.NameChecks.{is_method_at}
 use Rattle.cap_package.specs.StaticChecks.{image_offset, is_static_at, stands_at}
-use Rattle.cap_package.specs.OffsetSets.{nowhere, also, either}
-
-pub none_stands : (n : ℕ) → (λ offset. slice_index_or (replicate n false) offset false) ≡ nowhere
-none_stands n = fun_ext (λ offset. elim (cases_lt offset n) [ inl lt ↦ get_or-replicate n offset false false lt | inr le ↦ get_or_past (replicate n false) offset false (let same = length-replicate n false in omega (arith, same, le)) ])
-
-pub one_more_stands : (marks : List Bool) (one : ℕ) → one < length marks → (λ offset. slice_index_or (slice_set marks one true) offset false) ≡ also one (λ offset. slice_index_or marks offset false)
-one_more_stands marks one lt = fun_ext (λ offset. grind (arith, get_or-set_other, get_or-set_same))
-
--- ---- filling
+use Rattle.offset_set.specs.Sets.{also, either}
 
 or_false : (b : Bool) → (b || false) ≡ b
 or_false true = refl

@@ -4,13 +4,13 @@ use Rattle.std.specs.Prelude.{◌≡◌, List, [], length, Option, Some, None, R
 use Rattle.cap_frame.specs.AppletFormat.{Applet}
 use Rattle.cap_pool.specs.ExportFormat.{Exported}
 use Rattle.cap_desc.specs.DescriptorFormat as described
-use Rattle.cap_desc.specs.Members.{methods_from}
+use Rattle.cap_desc.specs.Members.{methods_of}
 use Rattle.cap_components.specs.declared.fault.PackFault.{PackFault}
 use Rattle.cap_components.specs.Parts.{Lent}
 use Rattle.cap_components.specs.Order.{least_of, least_from, refused}
 use Rattle.cap_package.specs.Pairs.{pairs}
 use Rattle.cap_components.specs.Components.{◌>>=◌, read_directory}
-use Rattle.cap_components.specs.PackageRecord.{PackageRecord, classes_from, described, fields}
+use Rattle.cap_components.specs.PackageRecord.{PackageRecord, described, interface_methods, fields}
 use Rattle.cap_components.specs.ReadPackage.{read_package}
 use Rattle.cap_components.specs.PartChecks.{missing, form_fault, size_fault, components, custom_tags}
 use Rattle.cap_package.specs.MethodChecks.{overlap_pair, outside_fault}
@@ -18,7 +18,7 @@ use Rattle.cap_package.specs.HeaderChecks.{registers_fault, length_fault, argume
 use Rattle.cap_package.specs.HandlerChecks.{numbered, numbered_fault, claim_fault}
 use Rattle.cap_package.specs.StaticChecks.{share_pair, image_fault, array_kinds, filled_fault, is_static_at, no_static_fault}
 use Rattle.cap_package.specs.NameChecks.{is_method_at, no_method_fault, no_entry_fault, table_entries, exported_methods, exported_fields, undescribed_fault, no_class_fault}
-use Rattle.cap_package.specs.TypeChecks.{field_type_fault, method_type_fault, interface_methods}
+use Rattle.cap_package.specs.TypeChecks.{field_type_fault, method_type_fault}
 use Rattle.cap_package.specs.CountChecks.{differ, array_bytes, image_bytes, instance_fault, count_if}
 
 abbrev pub or_none : {X : Type 0} → Option (List X) → List X
@@ -79,8 +79,8 @@ abbrev pub type_condition : PackageRecord → Option PackFault
 type_condition p =
     least_from
     (least_from (least_of (field_type_fault p.description) (fields p)) (method_type_fault p.description 510)
-    (methods_from 0 p.description.items.classes))
-    (method_type_fault p.description 254) (interface_methods (classes_from p.classes) p.description.items.classes)
+    (methods_of p.description.items.classes))
+    (method_type_fault p.description 254) (interface_methods p)
 
 abbrev pub image_condition : PackageRecord → Option PackFault
 image_condition p = least_from (least_of (image_fault p.statics p.description) (fields p))

@@ -7,13 +7,13 @@ use Rattle.cap_frame.specs.AppletFormat.{Applet}
 use Rattle.cap_frame.specs.DirectoryFormat.{DirectoryItems}
 use Rattle.cap_pool.specs.ExportFormat.{Exported}
 use Rattle.cap_desc.specs.DescriptorFormat as described
-use Rattle.cap_desc.specs.Members.{methods_from}
+use Rattle.cap_desc.specs.Members.{methods_of}
 use Rattle.cap_components.specs.declared.fault.PackFault.{PackFault}
 use Rattle.cap_components.specs.Parts.{Lent}
 use Rattle.cap_components.specs.Order.{place_of}
 use Rattle.cap_package.specs.Pairs.{pairs}
 use Rattle.cap_components.specs.Components.{read_directory}
-use Rattle.cap_components.specs.PackageRecord.{PackageRecord, classes_from, described, fields}
+use Rattle.cap_components.specs.PackageRecord.{PackageRecord, described, interface_methods, fields}
 use Rattle.cap_components.specs.Saying.{AreSaid, IsFirstFailing}
 use Rattle.cap_components.specs.PartChecks.{required, optional, absent_fault, sized_fault, form_fault, size_fault, components, custom_tags}
 use Rattle.cap_package.specs.MethodChecks.{overlap_pair, outside_fault}
@@ -21,7 +21,7 @@ use Rattle.cap_package.specs.HeaderChecks.{registers_fault, length_fault, argume
 use Rattle.cap_package.specs.HandlerChecks.{numbered, numbered_fault, claim_fault}
 use Rattle.cap_package.specs.StaticChecks.{share_pair, image_fault, array_kinds, filled_fault, is_static_at, no_static_fault}
 use Rattle.cap_package.specs.NameChecks.{is_method_at, no_method_fault, no_entry_fault, table_entries, exported_methods, exported_fields, undescribed_fault, no_class_fault}
-use Rattle.cap_package.specs.TypeChecks.{field_type_fault, method_type_fault, interface_methods}
+use Rattle.cap_package.specs.TypeChecks.{field_type_fault, method_type_fault}
 use Rattle.cap_package.specs.CountChecks.{differ, array_bytes, image_bytes, instance_fault, count_if}
 use Rattle.cap_package.specs.Agreement.{or_none}
 
@@ -80,8 +80,8 @@ member_lists p =
     ∷ at_fault (registers_fault p.methods.info) (described p)
     -- types
     ∷ ((at_fault (field_type_fault p.description) (fields p)
-    ++ at_fault (method_type_fault p.description 510) (methods_from 0 p.description.items.classes))
-    ++ at_fault (method_type_fault p.description 254) (interface_methods (classes_from p.classes) p.description.items.classes))
+    ++ at_fault (method_type_fault p.description 510) (methods_of p.description.items.classes))
+    ++ at_fault (method_type_fault p.description 254) (interface_methods p))
     -- static fields in the image
     ∷ (at_fault (image_fault p.statics p.description) (fields p)
     ++ at_fault (filled_fault (array_kinds p.statics.arrays) p.description) (fields p))

@@ -4,7 +4,6 @@ pub use Rattle.cap_components.specs.Order
 pub mod Pairs
 pub mod MethodChecks
 pub use Rattle.cap_components.specs.Descriptions
-pub mod OffsetSets
 pub mod HeaderChecks
 pub mod HandlerChecks
 pub mod StaticChecks

@@ -1,7 +1,7 @@
 -- The type descriptors that fields and methods name (JCVM 2.2, section 6.13).
-use Rattle.std.specs.Prelude.{ℕ, List, [], ◌∷◌, ◌++◌, Option, Some, None, nat_le, nat_lt, if◌then◌else◌}
+use Rattle.std.specs.Prelude.{ℕ, Option, Some, None, nat_lt, if◌then◌else◌}
 use Rattle.cap_desc.specs.declared.type_item.TypeItem.{TypeItem}
-use Rattle.cap_desc.specs.DescriptorFormat.{Class, Method, Field}
+use Rattle.cap_desc.specs.DescriptorFormat.{Method, Field}
 use Rattle.cap_components.specs.Descriptions.{Description, field_type, argument_words}
 use Rattle.cap_components.specs.declared.fault.PackFault.{PackFault}
 use Rattle.cap_components.specs.declared.fault.PackFault.TheVariants.{BadType}
@@ -28,8 +28,3 @@ any_words = 510
 
 abbrev pub interface_words : ℕ
 interface_words = 254
-
--- the methods of interfaces: of the classes whose reference is below this one
-abbrev pub interface_methods : ℕ → List Class → List Method
-interface_methods start [] = []
-interface_methods start (c ∷ cs) = if nat_le start c.class_ref then interface_methods start cs else c.methods ++ interface_methods start cs

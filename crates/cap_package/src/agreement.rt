@@ -1,6 +1,8 @@
 ghost use Rattle.std.specs.Prelude.{◌≡◌};
+ghost use Rattle.offset_set.specs.Bits.{holds};
+ghost use Rattle.cap_class.specs.ClassPart.{records};
+ghost use Rattle.cap_components.specs.PackageRecord.{names_interface};
 ghost use Rattle.cap_package.specs.NameChecks.{no_method_fault, exported_methods};
-ghost use Rattle.cap_package.specs.OffsetSets.{stands};
 ghost use Rattle.cap_package.specs.Agreement.{or_none, places_agree, counts_agree, members_agree, named_condition, class_condition, export_condition};
 ghost use Rattle.cap_components.specs.ComponentsSeen.{components_seen};
 ghost use Rattle.cap_components.specs.Order.{least_from, refused};
@@ -11,17 +13,22 @@ use crate::handler_checks::handlers_at_home;
 use crate::header_checks::{abstract_without_code, arguments_agree, lengths_fit, registers_few};
 use crate::method_checks::{methods_apart, methods_inside};
 use crate::name_checks::{entries_named, exports_named, installs_named, statics_named};
-use crate::offsets::{Offsets, method_offsets, static_offsets};
+use crate::offsets::{method_offsets, static_offsets};
 use crate::static_checks::{statics_apart, statics_in_image};
 use crate::type_checks::types_fit;
-use cap_components::{Components, PackFault, classes_from, refuse, sizes_agree};
+use cap_components::{Components, PackFault, refuse, sizes_agree};
+use offset_set::Offsets;
 
 /// The sizes of the parts and the places of the methods agree.
 #[tactic(auto, unfolding(crate::specs::Agreement::places_agree))]
-pub(crate) fn places_agree(all: &Components<'_, '_>) -> Result<(), PackFault>
+pub(crate) fn places_agree(
+    all: &Components<'_, '_>,
+    interfaces: &Offsets,
+) -> Result<(), PackFault>
+    requires { holds interfaces.now ≡ names_interface (records all.now.classes) }
     ensures { result ≡ places_agree (components_seen all.now) }
 {
-    let described = all.descriptor.methods_from(classes_from(&all.classes));
+    let described = all.descriptor.methods_but(interfaces);
     let info = all.methods.info();
     sizes_agree(all.parts, &all.directory)?;
     methods_apart(info, described)?;
@@ -30,10 +37,14 @@ pub(crate) fn places_agree(all: &Components<'_, '_>) -> Result<(), PackFault>
 
 /// The numbers that two components tell are equal.
 #[tactic(auto, unfolding(crate::specs::Agreement::counts_agree))]
-pub(crate) fn counts_agree(all: &Components<'_, '_>) -> Result<(), PackFault>
+pub(crate) fn counts_agree(
+    all: &Components<'_, '_>,
+    interfaces: &Offsets,
+) -> Result<(), PackFault>
+    requires { holds interfaces.now ≡ names_interface (records all.now.classes) }
     ensures { result ≡ counts_agree (components_seen all.now) }
 {
-    let described = all.descriptor.methods_from(classes_from(&all.classes));
+    let described = all.descriptor.methods_but(interfaces);
     let directory = &all.directory;
     let statics = &all.statics;
     let applets = match all.applets {
@@ -78,7 +89,7 @@ fn export_names(
 ) -> Option<PackFault>
     ensures { result
         ≡ least_from least
-        (no_method_fault (stands described.now))
+        (no_method_fault (holds described.now))
         (exported_methods (or_none (components_seen all.now).export)) }
 {
     match &all.export {
@@ -88,10 +99,11 @@ fn export_names(
 }
 
 /// Dispatch tables, exports and applets name described methods.
-fn names_agree(all: &Components<'_, '_>) -> Result<(), PackFault>
+fn names_agree(all: &Components<'_, '_>, interfaces: &Offsets) -> Result<(), PackFault>
+    requires { holds interfaces.now ≡ names_interface (records all.now.classes) }
     ensures { result ≡ refused (named_condition (components_seen all.now)) }
 {
-    let described = method_offsets(all.descriptor.methods_from(classes_from(&all.classes)));
+    let described = method_offsets(all.descriptor.methods_but(interfaces));
     let entries = entries_named(&described, &all.classes);
     let exports = export_names(all, &described, entries);
     match &all.applets {
@@ -125,18 +137,21 @@ fn exports_agree(all: &Components<'_, '_>) -> Result<(), PackFault>
 
 /// Handlers, static fields, names, classes, headers and types agree.
 #[tactic(auto, unfolding(crate::specs::Agreement::members_agree))]
-pub(crate) fn members_agree(all: &Components<'_, '_>) -> Result<(), PackFault>
+pub(crate) fn members_agree(
+    all: &Components<'_, '_>,
+    interfaces: &Offsets,
+) -> Result<(), PackFault>
+    requires { holds interfaces.now ≡ names_interface (records all.now.classes) }
     ensures { result ≡ members_agree (components_seen all.now) }
 {
-    let start = classes_from(&all.classes);
-    let described = all.descriptor.methods_from(start);
+    let described = all.descriptor.methods_but(interfaces);
     let fields = all.descriptor.fields();
     handlers_at_home(&all.methods, described)?;
     statics_apart(&all.descriptor, fields)?;
-    names_agree(all)?;
+    names_agree(all, interfaces)?;
     classes_agree(all)?;
     registers_few(&all.methods, described)?;
-    types_fit(&all.descriptor, start)?;
+    types_fit(&all.descriptor, interfaces)?;
     statics_in_image(&all.statics, &all.descriptor, fields)?;
     lengths_fit(&all.methods, described)?;
     exports_agree(all)

@@ -1,13 +1,13 @@
 ghost use Rattle.std.specs.Prelude.{◌≡◌, ◌≤◌, ◌∷◌, [], length, filter, MatchOption};
 ghost use Rattle.cap_method.specs.MethodPart.{handlers_left, handlers};
 ghost use Rattle.cap_desc.specs.MemberRecords.{method_seen};
-ghost use Rattle.cap_desc.specs.MembersLeft.{methods_from_left};
+ghost use Rattle.cap_desc.specs.MembersLeft.{methods_but_left};
 ghost use Rattle.cap_components.specs.Order.{least_of, least_from, refused};
 ghost use Rattle.cap_package.specs.HandlerChecks.{claims, is_within, has_home, owners, entry_fault, claim_fault, numbered, numbered_fault};
 
 use cap_bytes::View;
 use cap_components::{PackFault, code_end, code_start, lesser, refuse};
-use cap_desc::{MethodInfo, MethodsFrom};
+use cap_desc::{MethodInfo, MethodsBut};
 use cap_method::{HandlerInfo, MethodPart};
 
 /// Whether a method claims an entry of the handler table.
@@ -19,9 +19,9 @@ fn claims(number: u32, method: &MethodInfo) -> bool
 }
 
 /// The next of the methods that owns an entry.
-fn next_owner(number: u32, rest: &mut MethodsFrom<'_>) -> Option<MethodInfo>
-    ensures { MatchOption result (filter (claims number) (methods_from_left rest.old) ≡ [])
-        (λ m. filter (claims number) (methods_from_left rest.old) ≡ method_seen m ∷ filter (claims number) (methods_from_left rest.new)) }
+fn next_owner(number: u32, rest: &mut MethodsBut<'_, '_>) -> Option<MethodInfo>
+    ensures { MatchOption result (filter (claims number) (methods_but_left rest.old) ≡ [])
+        (λ m. filter (claims number) (methods_but_left rest.old) ≡ method_seen m ∷ filter (claims number) (methods_but_left rest.new)) }
 {
     'methods: while let Some(method) = rest.next() {
         if claims(number, &method) {
@@ -43,8 +43,8 @@ fn is_within(info: View<'_>, handler: HandlerInfo, method: &MethodInfo) -> bool
 }
 
 /// Whether exactly one method owns an entry, in whose code it lies.
-fn has_home(info: View<'_>, handler: HandlerInfo, number: u32, described: MethodsFrom<'_>) -> bool
-    ensures { result ≡ has_home info.entry.bytes.now handler (filter (claims number) (methods_from_left described.entry)) }
+fn has_home(info: View<'_>, handler: HandlerInfo, number: u32, described: MethodsBut<'_, '_>) -> bool
+    ensures { result ≡ has_home info.entry.bytes.now handler (filter (claims number) (methods_but_left described.entry)) }
 {
     let mut rest = described;
     let owner = match next_owner(number, &mut rest) {
@@ -60,11 +60,11 @@ fn has_home(info: View<'_>, handler: HandlerInfo, number: u32, described: Method
 #[tactic(auto, unfolding(crate::specs::HandlerChecks::entry_fault, crate::specs::HandlerChecks::owners))]
 fn entry_fault(
     info: View<'_>,
-    described: MethodsFrom<'_>,
+    described: MethodsBut<'_, '_>,
     number: u32,
     handler: HandlerInfo,
 ) -> Option<PackFault>
-    ensures { result ≡ entry_fault info.entry.bytes.now (methods_from_left described.entry) number handler }
+    ensures { result ≡ entry_fault info.entry.bytes.now (methods_but_left described.entry) number handler }
 {
     if has_home(info, handler, number, described) {
         None
@@ -86,10 +86,10 @@ fn claim_fault(count: u8, method: &MethodInfo) -> Option<PackFault>
 }
 
 /// The least fault of the entries of the table.
-fn entry_faults(methods: &MethodPart<'_>, described: MethodsFrom<'_>) -> Option<PackFault>
+fn entry_faults(methods: &MethodPart<'_>, described: MethodsBut<'_, '_>) -> Option<PackFault>
     ensures { result
         ≡ least_of
-        (numbered_fault methods.now.info.bytes.now (methods_from_left described.entry))
+        (numbered_fault methods.now.info.bytes.now (methods_but_left described.entry))
         (numbered 0 (handlers methods.now)) }
 {
     let count = methods.handler_count();
@@ -110,11 +110,11 @@ fn entry_faults(methods: &MethodPart<'_>, described: MethodsFrom<'_>) -> Option<
 /// entry after the table.
 pub(crate) fn handlers_at_home(
     methods: &MethodPart<'_>,
-    described: MethodsFrom<'_>,
+    described: MethodsBut<'_, '_>,
 ) -> Result<(), PackFault>
     ensures { result ≡ refused (least_from
-        (least_of (numbered_fault methods.now.info.bytes.now (methods_from_left described.entry)) (numbered 0 (handlers methods.now)))
-        (claim_fault (length (handlers methods.now))) (methods_from_left described.entry)) }
+        (least_of (numbered_fault methods.now.info.bytes.now (methods_but_left described.entry)) (numbered 0 (handlers methods.now)))
+        (claim_fault (length (handlers methods.now))) (methods_but_left described.entry)) }
 {
     let count = methods.handler_count();
     let mut least = entry_faults(methods, described);

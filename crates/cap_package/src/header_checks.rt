@@ -2,13 +2,13 @@ ghost use Rattle.std.specs.Prelude.{◌≡◌, IfSome, IfNone, option_map};
 ghost use Rattle.cap_method.specs.MethodFormat.{Header};
 ghost use Rattle.cap_method.specs.MethodPart.{header_seen, HeaderAt};
 ghost use Rattle.cap_desc.specs.MemberRecords.{method_seen};
-ghost use Rattle.cap_desc.specs.MembersLeft.{methods_from_left};
+ghost use Rattle.cap_desc.specs.MembersLeft.{methods_but_left};
 ghost use Rattle.cap_components.specs.Order.{least_of, refused};
 ghost use Rattle.cap_components.specs.Descriptions.{description};
 ghost use Rattle.cap_package.specs.HeaderChecks.{header_in, registers_fault, length_fault, arguments_fault, abstract_fault};
 
 use cap_components::{PackFault, argument_words, lesser, refuse};
-use cap_desc::{DescPart, MethodInfo, MethodsFrom};
+use cap_desc::{DescPart, MethodInfo, MethodsBut};
 use cap_method::{MethodHeader, MethodPart};
 
 /// The header of a method, where its bytes reach.
@@ -36,9 +36,9 @@ fn registers_fault(methods: &MethodPart<'_>, method: &MethodInfo) -> Option<Pack
 /// No described method has more than 255 registers.
 pub(crate) fn registers_few(
     methods: &MethodPart<'_>,
-    described: MethodsFrom<'_>,
+    described: MethodsBut<'_, '_>,
 ) -> Result<(), PackFault>
-    ensures { result ≡ refused (least_of (registers_fault methods.now.info.bytes.now) (methods_from_left described.entry)) }
+    ensures { result ≡ refused (least_of (registers_fault methods.now.info.bytes.now) (methods_but_left described.entry)) }
 {
     let mut least = None;
     'methods: for method in described {
@@ -62,9 +62,9 @@ fn length_fault(methods: &MethodPart<'_>, method: &MethodInfo) -> Option<PackFau
 /// Each described method with code has 1 to 32,767 bytes of it.
 pub(crate) fn lengths_fit(
     methods: &MethodPart<'_>,
-    described: MethodsFrom<'_>,
+    described: MethodsBut<'_, '_>,
 ) -> Result<(), PackFault>
-    ensures { result ≡ refused (least_of (length_fault methods.now.info.bytes.now) (methods_from_left described.entry)) }
+    ensures { result ≡ refused (least_of (length_fault methods.now.info.bytes.now) (methods_but_left described.entry)) }
 {
     let mut least = None;
     'methods: for method in described {
@@ -95,13 +95,13 @@ fn arguments_fault(
 pub(crate) fn arguments_agree(
     methods: &MethodPart<'_>,
     descriptor: &DescPart<'_>,
-    described: MethodsFrom<'_>,
+    described: MethodsBut<'_, '_>,
 ) -> Result<(), PackFault>
     ensures { result
         ≡ refused
         (least_of
         (arguments_fault methods.now.info.bytes.now (description descriptor.now))
-        (methods_from_left described.entry)) }
+        (methods_but_left described.entry)) }
 {
     let mut least = None;
     'methods: for method in described {
@@ -124,9 +124,9 @@ fn abstract_fault(methods: &MethodPart<'_>, method: &MethodInfo) -> Option<PackF
 /// No abstract method has code.
 pub(crate) fn abstract_without_code(
     methods: &MethodPart<'_>,
-    described: MethodsFrom<'_>,
+    described: MethodsBut<'_, '_>,
 ) -> Result<(), PackFault>
-    ensures { result ≡ refused (least_of (abstract_fault methods.now.info.bytes.now) (methods_from_left described.entry)) }
+    ensures { result ≡ refused (least_of (abstract_fault methods.now.info.bytes.now) (methods_but_left described.entry)) }
 {
     let mut least = None;
     'methods: for method in described {

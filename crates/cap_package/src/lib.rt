@@ -22,7 +22,7 @@ mod static_place;
 mod static_places;
 mod type_checks;
 
-pub use cap_components::{OwnedParts, PackFault, Parts, field_type};
+pub use cap_components::{OwnedParts, PackFault, Parts, field_type, interface_offsets};
 pub use custom::Custom;
 pub use header_checks::header;
 pub use package_type::Package;

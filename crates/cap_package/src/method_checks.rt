@@ -1,13 +1,13 @@
 ghost use Rattle.std.specs.Prelude.{◌≡◌, ◌≤◌, length};
 ghost use Rattle.cap_desc.specs.MemberRecords.{method_seen};
-ghost use Rattle.cap_desc.specs.MembersLeft.{methods_from_left};
+ghost use Rattle.cap_desc.specs.MembersLeft.{methods_but_left};
 ghost use Rattle.cap_components.specs.Order.{least_of, least_from, refused};
 ghost use Rattle.cap_package.specs.Pairs.{pairs};
 ghost use Rattle.cap_package.specs.MethodChecks.{overlap_fault, overlap_pair, outside_fault};
 
 use cap_bytes::View;
 use cap_components::{PackFault, code_end, lesser, refuse};
-use cap_desc::{MethodInfo, MethodsFrom};
+use cap_desc::{MethodInfo, MethodsBut};
 
 /// Whether two methods share a byte of the info.
 #[tactic(auto, unfolding(crate::specs::MethodChecks::overlap_fault))]
@@ -31,11 +31,11 @@ fn overlap_fault(info: View<'_>, a: &MethodInfo, b: &MethodInfo) -> Option<PackF
 fn overlaps_with(
     info: View<'_>,
     method: &MethodInfo,
-    behind: MethodsFrom<'_>,
+    behind: MethodsBut<'_, '_>,
     least: Option<PackFault>,
 ) -> Option<PackFault>
     requires { length info.bytes.now ≤ 65535 }
-    ensures { result ≡ least_from least (overlap_fault info.entry.bytes.now (method_seen method.now)) (methods_from_left behind.entry) }
+    ensures { result ≡ least_from least (overlap_fault info.entry.bytes.now (method_seen method.now)) (methods_but_left behind.entry) }
 {
     let mut least = least;
     'methods: for other in behind {
@@ -46,9 +46,9 @@ fn overlaps_with(
 
 /// No two described methods share a byte of the info.
 #[tactic(auto, using(crate::proofs::PairFaults::least_pairs))]
-pub(crate) fn methods_apart(info: View<'_>, described: MethodsFrom<'_>) -> Result<(), PackFault>
+pub(crate) fn methods_apart(info: View<'_>, described: MethodsBut<'_, '_>) -> Result<(), PackFault>
     requires { length info.bytes.now ≤ 65535 }
-    ensures { result ≡ refused (least_of (overlap_pair info.entry.bytes.now) (pairs (methods_from_left described.entry))) }
+    ensures { result ≡ refused (least_of (overlap_pair info.entry.bytes.now) (pairs (methods_but_left described.entry))) }
 {
     let mut rest = described;
     let mut least = None;
@@ -78,10 +78,10 @@ fn outside_fault(info: View<'_>, handler_count: u8, method: &MethodInfo) -> Opti
 pub(crate) fn methods_inside(
     info: View<'_>,
     handler_count: u8,
-    described: MethodsFrom<'_>,
+    described: MethodsBut<'_, '_>,
 ) -> Result<(), PackFault>
     requires { length info.bytes.now ≤ 65535 }
-    ensures { result ≡ refused (least_of (outside_fault info.entry.bytes.now handler_count) (methods_from_left described.entry)) }
+    ensures { result ≡ refused (least_of (outside_fault info.entry.bytes.now handler_count) (methods_but_left described.entry)) }
 {
     let mut least = None;
     'methods: for method in described {

@@ -1,4 +1,5 @@
 ghost use Rattle.std.specs.Prelude.{◌≡◌, map};
+ghost use Rattle.offset_set.specs.Bits.{holds};
 ghost use Rattle.cap_bytes.specs.Table.{numbers};
 ghost use Rattle.cap_frame.specs.AppletFormat.{Applet};
 ghost use Rattle.cap_frame.specs.Applets.{applets_of, applets_left};
@@ -7,18 +8,17 @@ ghost use Rattle.cap_class.specs.ClassPart.{records, classes_left};
 ghost use Rattle.cap_components.specs.Order.{least_of, least_from, refused};
 ghost use Rattle.cap_package.specs.NameChecks.{no_method_fault, no_entry_fault, table_entries, exported_methods, exported_fields};
 ghost use Rattle.cap_package.specs.StaticChecks.{no_static_fault};
-ghost use Rattle.cap_package.specs.OffsetSets.{stands};
 
-use crate::offsets::Offsets;
 use cap_bytes::Table;
 use cap_class::ClassPart;
 use cap_components::{PackFault, lesser};
 use cap_frame::Applets;
 use cap_pool::Export;
+use offset_set::Offsets;
 
 #[tactic(auto, unfolding(crate::specs::NameChecks::no_method_fault))]
 fn no_method_fault(described: &Offsets, offset: u16) -> Option<PackFault>
-    ensures { result ≡ no_method_fault (stands described.now) offset }
+    ensures { result ≡ no_method_fault (holds described.now) offset }
 {
     if described.has(offset) {
         None
@@ -29,7 +29,7 @@ fn no_method_fault(described: &Offsets, offset: u16) -> Option<PackFault>
 
 #[tactic(auto, unfolding(crate::specs::NameChecks::no_entry_fault))]
 fn no_entry_fault(described: &Offsets, offset: u16) -> Option<PackFault>
-    ensures { result ≡ no_entry_fault (stands described.now) offset }
+    ensures { result ≡ no_entry_fault (holds described.now) offset }
 {
     if offset == 0xFFFF {
         return None;
@@ -43,7 +43,7 @@ fn entries_of_table(
     table: Table<'_>,
     least: Option<PackFault>,
 ) -> Option<PackFault>
-    ensures { result ≡ least_from least (no_entry_fault (stands described.now)) (numbers table.entry) }
+    ensures { result ≡ least_from least (no_entry_fault (holds described.now)) (numbers table.entry) }
 {
     let mut least = least;
     'entries: for offset in table {
@@ -58,7 +58,7 @@ fn methods_of_table(
     table: Table<'_>,
     least: Option<PackFault>,
 ) -> Option<PackFault>
-    ensures { result ≡ least_from least (no_method_fault (stands described.now)) (numbers table.entry) }
+    ensures { result ≡ least_from least (no_method_fault (holds described.now)) (numbers table.entry) }
 {
     let mut least = least;
     'entries: for offset in table {
@@ -70,7 +70,7 @@ fn methods_of_table(
 /// The least fault of the dispatch tables.
 #[tactic(auto, using(crate::proofs::TableFaults::least_entries))]
 pub(crate) fn entries_named(described: &Offsets, classes: &ClassPart<'_>) -> Option<PackFault>
-    ensures { result ≡ least_of (no_entry_fault (stands described.now)) (table_entries (records classes.now)) }
+    ensures { result ≡ least_of (no_entry_fault (holds described.now)) (table_entries (records classes.now)) }
 {
     let mut least = None;
     'classes: for class in classes.iter() {
@@ -87,7 +87,7 @@ pub(crate) fn exports_named(
     export: &Export<'_>,
     least: Option<PackFault>,
 ) -> Option<PackFault>
-    ensures { result ≡ least_from least (no_method_fault (stands described.now)) (exported_methods (exported export.now)) }
+    ensures { result ≡ least_from least (no_method_fault (holds described.now)) (exported_methods (exported export.now)) }
 {
     let mut least = least;
     'classes: for class in export.iter() {
@@ -104,7 +104,7 @@ pub(crate) fn installs_named(
 ) -> Option<PackFault>
     ensures { result
         ≡ least_from least
-        (no_method_fault (stands described.now))
+        (no_method_fault (holds described.now))
         (map (λ (a : Applet). a.install) (applets_of applets.now)) }
 {
     let mut least = least;
@@ -116,7 +116,7 @@ pub(crate) fn installs_named(
 
 #[tactic(auto, unfolding(crate::specs::StaticChecks::no_static_fault))]
 fn no_static_fault(fields: &Offsets, offset: u16) -> Option<PackFault>
-    ensures { result ≡ no_static_fault (stands fields.now) offset }
+    ensures { result ≡ no_static_fault (holds fields.now) offset }
 {
     if fields.has(offset) {
         None
@@ -131,7 +131,7 @@ fn statics_of_table(
     table: Table<'_>,
     least: Option<PackFault>,
 ) -> Option<PackFault>
-    ensures { result ≡ least_from least (no_static_fault (stands fields.now)) (numbers table.entry) }
+    ensures { result ≡ least_from least (no_static_fault (holds fields.now)) (numbers table.entry) }
 {
     let mut least = least;
     'entries: for offset in table {
@@ -143,7 +143,7 @@ fn statics_of_table(
 /// The least fault of the exported static fields.
 #[tactic(auto, using(crate::proofs::TableFaults::least_exported_fields))]
 pub(crate) fn statics_named(fields: &Offsets, export: &Export<'_>) -> Option<PackFault>
-    ensures { result ≡ least_of (no_static_fault (stands fields.now)) (exported_fields (exported export.now)) }
+    ensures { result ≡ least_of (no_static_fault (holds fields.now)) (exported_fields (exported export.now)) }
 {
     let mut least = None;
     'classes: for class in export.iter() {

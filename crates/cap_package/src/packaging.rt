@@ -9,7 +9,9 @@ ghost use Rattle.cap_components.specs.PackageRecord.{PackageRecord};
 
 use crate::agreement::{counts_agree, members_agree, places_agree};
 use crate::package_type::Package;
-use cap_components::{Components, PackFault, Parts, customs_formed, none_missing, read_package};
+use cap_components::{
+    Components, PackFault, Parts, customs_formed, interface_offsets, none_missing, read_package,
+};
 
 /// The components of the package that the parts stand for.
 #[tactic(auto, unfolding(crate::specs::Agreement::package_of))]
@@ -21,9 +23,10 @@ fn agreeing<'p, 'a>(parts: &'p Parts<'a>) -> Result<Components<'p, 'a>, PackFaul
     none_missing(parts)?;
     let all = read_package(parts)?;
     customs_formed(parts, &all.directory)?;
-    places_agree(&all)?;
-    counts_agree(&all)?;
-    members_agree(&all)?;
+    let interfaces = interface_offsets(&all.classes);
+    places_agree(&all, &interfaces)?;
+    counts_agree(&all, &interfaces)?;
+    members_agree(&all, &interfaces)?;
     Ok(all)
 }
 

@@ -1,15 +1,17 @@
 ghost use Rattle.std.specs.Prelude.{◌≡◌};
+ghost use Rattle.offset_set.specs.Bits.{holds};
 ghost use Rattle.cap_desc.specs.ClassRecords.{classes_left};
 ghost use Rattle.cap_desc.specs.MemberLists.{methods_left};
 ghost use Rattle.cap_desc.specs.MemberRecords.{field_seen, method_seen};
-ghost use Rattle.cap_desc.specs.Members.{methods_from, fields_of};
-ghost use Rattle.cap_desc.specs.MembersLeft.{methods_from_left, fields_of_left};
+ghost use Rattle.cap_desc.specs.Members.{methods_of, methods_in, fields_of};
+ghost use Rattle.cap_desc.specs.MembersLeft.{methods_of_left, fields_of_left};
 ghost use Rattle.cap_components.specs.Order.{least_of, least_from, refused};
 ghost use Rattle.cap_components.specs.Descriptions.{description};
-ghost use Rattle.cap_package.specs.TypeChecks.{field_type_fault, method_type_fault, interface_methods};
+ghost use Rattle.cap_package.specs.TypeChecks.{field_type_fault, method_type_fault};
 
 use cap_components::{PackFault, argument_words, field_type, lesser, refuse};
 use cap_desc::{DescMethods, DescPart, FieldInfo, MethodInfo};
+use offset_set::Offsets;
 
 /// The argument words that a type descriptor can tell at all.
 const ANY_WORDS: u16 = 510;
@@ -52,10 +54,10 @@ fn method_types(descriptor: &DescPart<'_>, least: Option<PackFault>) -> Option<P
     ensures { result
         ≡ least_from least
         (method_type_fault (description descriptor.now) 510)
-        (methods_from 0 (description descriptor.now).items.classes) }
+        (methods_of (description descriptor.now).items.classes) }
 {
     let mut least = least;
-    'methods: for method in descriptor.methods_from(0) {
+    'methods: for method in descriptor.methods() {
         least = lesser(least, method_type_fault(descriptor, ANY_WORDS, &method));
     }
     least
@@ -83,17 +85,17 @@ fn types_of_interface(
 #[tactic(auto, using(crate::proofs::InterfaceFaults::least_interface, crate::proofs::InterfaceFaults::least_class))]
 fn interface_types(
     descriptor: &DescPart<'_>,
-    start: u16,
+    interfaces: &Offsets,
     least: Option<PackFault>,
 ) -> Option<PackFault>
     ensures { result
         ≡ least_from least
         (method_type_fault (description descriptor.now) 254)
-        (interface_methods start (description descriptor.now).items.classes) }
+        (methods_in (holds interfaces.now) (description descriptor.now).items.classes) }
 {
     let mut least = least;
     'classes: for class in descriptor.classes() {
-        if class.class_ref() < start {
+        if interfaces.has(class.class_ref()) {
             least = types_of_interface(descriptor, class.methods(), least);
         }
     }
@@ -101,15 +103,15 @@ fn interface_types(
 }
 
 /// Each field and method names a well-formed type descriptor of its shape.
-pub(crate) fn types_fit(descriptor: &DescPart<'_>, start: u16) -> Result<(), PackFault>
+pub(crate) fn types_fit(descriptor: &DescPart<'_>, interfaces: &Offsets) -> Result<(), PackFault>
     ensures { result ≡ refused
         (least_from
         (least_from
         (least_of (field_type_fault (description descriptor.now)) (fields_of (description descriptor.now).items.classes))
-        (method_type_fault (description descriptor.now) 510) (methods_from 0 (description descriptor.now).items.classes))
-        (method_type_fault (description descriptor.now) 254) (interface_methods start (description descriptor.now).items.classes)) }
+        (method_type_fault (description descriptor.now) 510) (methods_of (description descriptor.now).items.classes))
+        (method_type_fault (description descriptor.now) 254) (methods_in (holds interfaces.now) (description descriptor.now).items.classes)) }
 {
     let fields = field_types(descriptor);
     let methods = method_types(descriptor, fields);
-    refuse(interface_types(descriptor, start, methods))
+    refuse(interface_types(descriptor, interfaces, methods))
 }

@@ -1,6 +1,3 @@
-ghost use Rattle.std.specs.Prelude.{All, IfOk, IsTrue};
-ghost use Rattle.cap_tests.specs.Changes.{Keeps, AreKept};
-
 use crate::components::DIRECTORY;
 use cap_bytes::Part;
 use cap_package::OwnedParts;
@@ -68,6 +65,23 @@ fn spliced(
     Ok(whole)
 }
 
+/// Makes a change in the file of a component, where it is a change in this one.
+fn make_change(
+    alloc: Global,
+    part: Part,
+    file: &mut Vec<u8>,
+    change: &Change<'_>,
+) -> Result<(), AllocError> {
+    match change {
+        Change::Byte(of, at, byte) if of.0 == part.0 => set_byte(file, *at, *byte),
+        Change::Splice(of, from, to, piece) if of.0 == part.0 => {
+            *file = spliced(alloc, file, *from, *to, piece)?;
+        }
+        _ => {}
+    }
+    Ok(())
+}
+
 /// The file of a component after the changes in it.
 fn changed_file(
     alloc: Global,
@@ -77,19 +91,7 @@ fn changed_file(
     let (part, bytes) = file;
     let mut own = Vec::from_slice(alloc, bytes)?;
     for change in changes {
-        match change {
-            Change::Byte(of, at, byte) => {
-                if of.0 == part.0 {
-                    set_byte(&mut own, *at, *byte);
-                }
-            }
-            Change::Splice(of, from, to, piece) => {
-                if of.0 == part.0 {
-                    own = spliced(alloc, &own, *from, *to, piece)?;
-                }
-            }
-            _ => {}
-        }
+        make_change(alloc, part, &mut own, change)?;
     }
     Ok(own)
 }
@@ -111,37 +113,8 @@ fn set_sizes(directory: &mut Vec<u8>, parts: &OwnedParts, changes: &[Change<'_>]
     }
 }
 
-fn is_kept(changes: &[Change<'_>], part: Part) -> bool
-    ensures { IsTrue result → All (Keeps part.0) changes.now }
-{
-    'changes: for change in changes {
-        if let Change::Without(of) = change {
-            if of.0 == part.0 {
-                return false;
-            }
-        }
-    }
-    true
-}
-
-/// Puts a file, where the component is not there and changes keep it.
-#[tactic(auto, using(crate::proofs::Kept::kept_behind))]
-fn put_kept(
-    parts: &mut OwnedParts,
-    part: Part,
-    file: Vec<u8>,
-    changes: &[Change<'_>],
-) -> Result<(), AllocError>
-    requires { AreKept changes.now parts.old }
-    ensures { IfOk result (λ _. AreKept changes.now parts.new) }
-{
-    if !is_kept(changes, part) {
-        return Ok(());
-    }
-    if parts.get(part).is_some() {
-        return Ok(());
-    }
-    parts.put(part, file)
+fn is_kept(changes: &[Change<'_>], part: Part) -> bool {
+    changes.iter().all(|change| !matches!(change, Change::Without(of) if of.0 == part.0))
 }
 
 /// Puts a component's file after the changes, where the component is not there and changes keep it:
@@ -152,19 +125,19 @@ fn put(
     file: File<'_>,
     changes: &[Change<'_>],
     directory: bool,
-) -> Result<(), AllocError>
-    requires { AreKept changes.now parts.old }
-    ensures { IfOk result (λ _. AreKept changes.now parts.new) }
-{
+) -> Result<(), AllocError> {
     let (part, _) = file;
-    if (part.0 == DIRECTORY.0) != directory {
+    if (part.0 == DIRECTORY.0) != directory || !is_kept(changes, part) {
+        return Ok(());
+    }
+    if parts.get(part).is_some() {
         return Ok(());
     }
     let mut own = changed_file(alloc, file, changes)?;
     if directory {
         set_sizes(&mut own, parts, changes);
     }
-    put_kept(parts, part, own, changes)
+    parts.put(part, own)
 }
 
 /// Puts the file that a change gives for a component.
@@ -174,10 +147,7 @@ fn put_given(
     change: Change<'_>,
     changes: &[Change<'_>],
     directory: bool,
-) -> Result<(), AllocError>
-    requires { AreKept changes.now parts.old }
-    ensures { IfOk result (λ _. AreKept changes.now parts.new) }
-{
+) -> Result<(), AllocError> {
     match change {
         Change::File(part, bytes) | Change::Sized(part, bytes) => {
             put(alloc, parts, (part, bytes), changes, directory)
@@ -193,14 +163,11 @@ fn put_all(
     files: &[File<'_>],
     changes: &[Change<'_>],
     directory: bool,
-) -> Result<(), AllocError>
-    requires { AreKept changes.now parts.old }
-    ensures { IfOk result (λ _. AreKept changes.now parts.new) }
-{
-    'changes: for change in changes {
+) -> Result<(), AllocError> {
+    for change in changes {
         put_given(alloc, parts, *change, changes, directory)?;
     }
-    'files: for file in files {
+    for file in files {
         put(alloc, parts, *file, changes, directory)?;
     }
     Ok(())
@@ -211,9 +178,7 @@ pub fn changed(
     alloc: Global,
     files: &[File<'_>],
     changes: &[Change<'_>],
-) -> Result<OwnedParts, AllocError>
-    ensures { IfOk result (λ parts. AreKept changes.now parts) }
-{
+) -> Result<OwnedParts, AllocError> {
     let mut parts = OwnedParts::new(alloc);
     put_all(alloc, &mut parts, files, changes, false)?;
     put_all(alloc, &mut parts, files, changes, true)?;

@@ -70,7 +70,7 @@ fn may_go_on() -> bool {
 }
 
 #[test]
-fn a_component_without_a_count_may_end_behind_its_records(rt: HostRuntime) {
+fn a_component_without_a_count_may_end_after_its_records(rt: HostRuntime) {
     let wrong = PREFIXES.iter().position(|prefix| !may_end(prefix));
     assert!(rt; wrong.is_none() && may_go_on());
 }

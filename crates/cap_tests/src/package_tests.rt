@@ -48,15 +48,23 @@ fn told(alloc: Global, owned: &OwnedParts) -> Result<Told, AllocError> {
     }
 }
 
-/// Whether of changes of a package each is told so.
-fn are_told(alloc: Global, files: &[File<'_>], cases: &[Case]) -> Result<bool, AllocError> {
-    for (changes, want) in cases {
-        let owned = changed(alloc, files, changes)?;
-        if told(alloc, &owned)? != *want {
-            return Ok(false);
+fn told_of(alloc: Global, files: &[File<'_>], case: &Case) -> Result<Told, AllocError> {
+    let owned = changed(alloc, files, case.0)?;
+    told(alloc, &owned)
+}
+
+/// The first of the cases that is told otherwise, of changes of the package with these files.
+fn first_wrong(
+    alloc: Global,
+    files: &[File<'_>],
+    cases: &[Case],
+) -> Result<Option<usize>, AllocError> {
+    for (n, case) in cases.iter().enumerate() {
+        if told_of(alloc, files, case)? != case.1 {
+            return Ok(Some(n));
         }
     }
-    Ok(true)
+    Ok(None)
 }
 
 /// What is after the 35 bytes of a Directory's file: one custom component, of tag 130 and two bytes.
@@ -173,7 +181,7 @@ static COUNTS: [Case; 10] = [
     ),
 ];
 
-static MEMBERS: [Case; 12] = [
+static MEMBERS: [Case; 13] = [
     // where a method begins, its length, and its handlers
     (
         &[Change::Byte(DESCRIPTOR, 27, 5)],
@@ -190,6 +198,14 @@ static MEMBERS: [Case; 12] = [
     (
         &[Change::Byte(DESCRIPTOR, 29, 1)],
         ("HandlerOutside", 0, 0, 0),
+    ),
+    // a class reference that names no record: its methods are asked as those of a class
+    (
+        &[
+            Change::Byte(DESCRIPTOR, 7, 1),
+            Change::Splice(DESCRIPTOR, 26, 28, &[0xFF, 0xFF]),
+        ],
+        ("MethodOutside", 0xFFFF, 0, 0),
     ),
     // an extended header with 2 argument words and 254 locals
     (
@@ -233,15 +249,26 @@ static MEMBERS: [Case; 12] = [
 ];
 
 #[test]
-fn a_package_without_a_fault_is_one_and_else_the_first_is_named(
-    rt: HostRuntime,
-) -> Result<(), AllocError> {
-    let alloc = rt.alloc();
-    let right = are_told(alloc, &PLAIN, &PARTS)?
-        && are_told(alloc, &PLAIN, &COUNTS)?
-        && are_told(alloc, &PLAIN, &MEMBERS)?
-        && are_told(alloc, &OLDER, &OLDER_PARTS)?;
-    assert!(rt; right);
+fn the_first_fault_of_parts_is_named(rt: HostRuntime) -> Result<(), AllocError> {
+    assert_eq!(rt; first_wrong(rt.alloc(), &PLAIN, &PARTS)?, None);
+    Ok(())
+}
+
+#[test]
+fn the_first_fault_of_parts_in_format_2_1_is_named(rt: HostRuntime) -> Result<(), AllocError> {
+    assert_eq!(rt; first_wrong(rt.alloc(), &OLDER, &OLDER_PARTS)?, None);
+    Ok(())
+}
+
+#[test]
+fn the_first_count_that_disagrees_is_named(rt: HostRuntime) -> Result<(), AllocError> {
+    assert_eq!(rt; first_wrong(rt.alloc(), &PLAIN, &COUNTS)?, None);
+    Ok(())
+}
+
+#[test]
+fn the_first_fault_of_members_is_named(rt: HostRuntime) -> Result<(), AllocError> {
+    assert_eq!(rt; first_wrong(rt.alloc(), &PLAIN, &MEMBERS)?, None);
     Ok(())
 }
 
@@ -305,10 +332,13 @@ fn is_whole(alloc: Global, owned: &OwnedParts) -> Result<bool, AllocError> {
     )
 }
 
+fn has_whole(alloc: Global) -> Result<bool, AllocError> {
+    let owned = changed(alloc, &PLAIN, &WHOLE)?;
+    is_whole(alloc, &owned)
+}
+
 #[test]
 fn a_package_has_its_optional_and_custom_parts(rt: HostRuntime) -> Result<(), AllocError> {
-    let alloc = rt.alloc();
-    let whole = is_whole(alloc, &changed(alloc, &PLAIN, &WHOLE)?)?;
-    assert!(rt; whole);
+    assert!(rt; has_whole(rt.alloc())?);
     Ok(())
 }

@@ -5,8 +5,8 @@ use Rattle.std.proofs.lemmas.Bool.{eq-eqb, eqb-true, lt-ltb, ltb-true}
 use Rattle.std.proofs.lemmas.List.{length-take, take_all}
 use Rattle.std.proofs.lemmas.List.Sums.{count_by_more_yes, count_by_more_no}
 use Rattle.std.specs.Int.{from_bool}
-use Rattle.jc_base.proofs.Lists.{slice_get-below}
 use Rattle.std.proofs.Math.Nat.{eq-or-lt_of_le}
+use Rattle.std.proofs.lemmas.Option.{slice_get_within}
 use Rattle.jc_base.specs.declared.ty.Ty.TheVariants.{Top}
 use Rattle.jc_base.specs.declared.record.MethodRec.{MethodRec}
 use Rattle.jc_base.specs.World.{Linked, code_of}
@@ -118,10 +118,10 @@ counted : (p : MethodRec → Bool) (xs : List MethodRec) (n : ℕ) (o : Option M
 counted p xs n None asked at e = absurd cc
 counted p xs n (Some x) true at e =
     let test : p x ≡ true = cc in
-    count_by_more_yes p xs n x (slice_get-below xs n x at) (ap p (at_get xs n x x at) ∙ test)
+    count_by_more_yes p xs n x (slice_get_within xs n x at) (ap p (at_get xs n x x at) ∙ test)
 counted p xs n (Some x) false at e =
     let test : p x ≡ false = cc in
-    let same = count_by_more_no p xs n x (slice_get-below xs n x at) (ap p (at_get xs n x x at) ∙ test) in
+    let same = count_by_more_no p xs n x (slice_get_within xs n x at) (ap p (at_get xs n x x at) ∙ test) in
     same ∙ omega arith
 
 pub one_counted : (w : Linked) (n count one : ℕ) (asked : Bool) → option_map (is_of_last (length w.infos)) (slice_get w.methods n) ≡ Some asked → one ≡ from_bool asked
@@ -164,6 +164,6 @@ pub all_typed : (w : Linked) (n count : ℕ) (text : List ℕ) → AreTypedBelow
 all_typed w n count text typed past counts prints =
     let whole : count ≡ count_of_last w = counts ∙ ap (count_by (is_of_last (length w.infos))) (take_all n w.methods past) in
     record {
-      typed = λ m of_last. let below = slice_get-below w.methods m.number m.rec of_last.method.rec in typed m of_last (omega (arith, below, past));
+      typed = λ m of_last. let below = slice_get_within w.methods m.number m.rec of_last.method.rec in typed m of_last (omega (arith, below, past));
       prints = prints ∙ ap typed_line whole;
     }

@@ -4,10 +4,8 @@
 //! It stands on `jc_control` and `jc_flow`, whose tests these are.
 #![tactic(auto)]
 
+#[cfg(test)]
 mod caught;
-
-pub use caught::{Range, handler};
-
 #[cfg(test)]
 mod one_method;
 #[cfg(test)]

@@ -52,11 +52,12 @@ fn class(alloc: Global, parent: Option<u16>) -> Result<ClassRec, AllocError>
 fn records(alloc: Global) -> Result<ClassRecs, AllocError>
     ensures { IfOk result (λ l. l ≡ classes.records) }
 {
-    let object = class(alloc, None)?;
-    let throwable = class(alloc, Some(0))?;
-    let first = class(alloc, Some(1))?;
-    let second = class(alloc, Some(1))?;
-    Ok(Items::of(vec![in alloc; object, throwable, first, second]?))
+    let mut records = Vec::new(alloc);
+    records.push(class(alloc, None)?)?;
+    records.push(class(alloc, Some(0))?)?;
+    records.push(class(alloc, Some(1))?)?;
+    records.push(class(alloc, Some(1))?)?;
+    Ok(Items::of(records))
 }
 
 fn table(alloc: Global) -> Result<Classes, AllocError>

@@ -3,10 +3,10 @@ use Rattle.std.proofs.Common.{◌≡◌, ℕ, zero, suc, ◌+◌, ◌<◌, ◌�
 use Rattle.std.specs.Prelude.{◌==◌, ◌||◌, slice_get}
 use Rattle.std.proofs.lemmas.Bool.{eqb-true, eq-eqb, false≢true, false_from_ne_true, cases_lt}
 use Rattle.std.proofs.Math.Bool.{or-true}
+use Rattle.std.proofs.lemmas.Option.{slice_get_within}
 use Rattle.jc_base.specs.declared.record.ClassRec.{ClassRec}
 use Rattle.jc_base.specs.Class.{ClassTable, IsClass, AreClasses, IsNextOnChain, is_interface, parent_of, parent_in_record, chain_over, chain, height, height_below, list_of, object}
 use Rattle.jc_base.specs.Order.{is_on_chain}
-use Rattle.jc_base.proofs.Lists.{slice_get-below}
 use Rattle.jc_base.proofs.Chains.{chain_over-front, chain_alone, next_on_chain, end_of_chain}
 
 list_of-length : (f : ℕ → List ℕ) (n : ℕ) (o : Option ℕ) → ((p : ℕ) → length (f p) ≤ n) → length (list_of f o) ≤ n
@@ -39,7 +39,7 @@ has_parent t c p (Some r) e h = plain r.interface refl where
   plain true i = absurd (no_parent (rw i at h)) where
     no_parent : None ≡ Some p → ⊥
     no_parent q = cc
-  plain false i = record { number = slice_get-below t.records c r e; class = rw e i }
+  plain false i = record { number = slice_get_within t.records c r e; class = rw e i }
 
 pub parent_of-class : (t : ClassTable) (c p : ℕ) → parent_of t c ≡ Some p → IsClass t c
 unfolding parent_of

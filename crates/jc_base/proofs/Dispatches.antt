@@ -4,6 +4,7 @@ use Rattle.std.specs.Prelude.{◌==◌, nat_lt, IfSome, IsSomeAnd, slice_get, fl
 use Rattle.std.proofs.lemmas.Bool.{eqb-true, eq-eqb}
 use Rattle.std.proofs.lemmas.List.{append-nil, reverse-append, length-append}
 use Rattle.std.proofs.lemmas.List.Concat.{flat_map-append, flat_map-cons}
+use Rattle.std.proofs.lemmas.Option.{slice_get_within}
 use Rattle.jc_base.specs.declared.ty.Ty.{Ty}
 use Rattle.jc_base.specs.declared.ty.Ty.TheVariants.{Class}
 use Rattle.jc_base.specs.declared.record.ClassRec.{ClassRec}
@@ -12,7 +13,7 @@ use Rattle.jc_base.specs.Class.{ClassTable, AreClasses, IsNextOnChain, parent_of
 use Rattle.jc_base.specs.Order.{Below, joined, subclass, is_below, is_on_chain}
 use Rattle.jc_base.specs.Dispatch.{package_of, public_of, visible_of, cell_count, own_cells, cells_of, entry_at, nearest_of, visible_in, dispatched, signature_of, signature_at}
 use Rattle.jc_base.specs.Linked.{AreLinkedClasses, IsLinkedClass, IsDispatch, IsInherited, Dispatches, AreDispatched, cells_above, visible_from}
-use Rattle.jc_base.proofs.Lists.{All-slice_get, slice_get-below}
+use Rattle.jc_base.proofs.Lists.{All-slice_get}
 use Rattle.jc_base.proofs.Subtypes.{is_below-from_Below}
 use Rattle.jc_base.proofs.Climbs.{climb, chain-front, on_alone, on_next}
 
@@ -125,8 +126,8 @@ slice_get-some (x ∷ xs) (suc n) h = slice_get-some xs n (omega arith)
 from_inherited : (t : ClassTable) (methods : List MethodRec) (r : ℕ) (from list : List ℕ) (token m n : ℕ) → IsDispatch t methods r from list → slice_get from token ≡ Some m → signature_of methods m ≡ signature_of methods n
     → Runs t methods r list token n
 from_inherited t methods r from list token m n is at same =
-    let entry = slice_get-some list token (omega (arith, slice_get-below from token m at, is.longer)) in
-    let whole : signature_at methods list token ≡ signature_at methods from token = is.signatures token (slice_get-below from token m at) in
+    let entry = slice_get-some list token (omega (arith, slice_get_within from token m at, is.longer)) in
+    let whole : signature_at methods list token ≡ signature_at methods from token = is.signatures token (slice_get_within from token m at) in
     let left : signature_at methods list token ≡ signature_of methods entry.0 = ap (option_and_then (signature_of methods)) entry.1 in
     let right : signature_at methods from token ≡ signature_of methods m = ap (option_and_then (signature_of methods)) at in
     record {

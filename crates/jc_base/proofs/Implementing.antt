@@ -4,6 +4,7 @@ use Rattle.std.specs.Prelude.{All, Contains, IfSome, MatchBool, slice_get}
 use Rattle.std.specs.List.{list_any, range_with_len}
 use Rattle.std.proofs.lemmas.Bool.{eqb-true, eq-eqb, false_from_ne_true}
 use Rattle.std.proofs.lemmas.List.Elements.{All-contains, All-map, All-nil, All-weaker}
+use Rattle.std.proofs.lemmas.Option.{slice_get_within}
 use Rattle.jc_base.specs.declared.ty.Ty.TheVariants.{Class}
 use Rattle.jc_base.specs.declared.record.Iface.{Iface}
 use Rattle.jc_base.specs.declared.record.ClassRec.{ClassRec}
@@ -14,8 +15,7 @@ use Rattle.jc_base.specs.Class.{ClassTable, AreClasses, chain}
 use Rattle.jc_base.specs.Order.{Below, is_below, is_on_chain}
 use Rattle.jc_base.specs.Linked.{AreLinkedClasses, IsLinkedClass, IsExtended, IsImplemented}
 use Rattle.jc_base.specs.Interface.{extended, extended_in, implemented, IsOrExtends, Implements, NoneExtendsItself, is_or_extends, implements, extended_count}
-use Rattle.jc_base.specs.Laws.{ImplementsDecides, ExtendsDecides, ExtendsEnds}
-use Rattle.jc_base.proofs.Lists.{slice_get-below}
+use Rattle.jc_base.specs.Laws.{ImplementsDecides, ExtendsEnds, ExtendsDecides}
 use Rattle.jc_base.proofs.Leading.{either, left, right, leads-sound, leads-complete}
 use Rattle.jc_base.proofs.Eaching.{Contains-from_IsAmong, IsAmong-from_Contains}
 use Rattle.jc_base.proofs.Tests.{some-from_test, test-from_some}
@@ -29,7 +29,7 @@ nothing b A h = absurd (omega (arith, h.1))
 
 from-record : (t : ClassTable) (i j : ℕ) (o : Option ClassRec) → slice_get t.records i ≡ o → Contains (extended_in o) j → i < length t.records
 from-record t i j None e h = nothing j (i < length t.records) h
-from-record t i j (Some r) e h = slice_get-below t.records i r e
+from-record t i j (Some r) e h = slice_get_within t.records i r e
 
 pub extends-from : (t : ClassTable) (i j : ℕ) → Contains (extended t i) j → i < length t.records
 unfolding extended

@@ -10,6 +10,7 @@ pub mod Meets
 pub mod Subtypes
 pub mod Joins
 pub mod JoinsOfAll
+pub mod Orders
 pub mod Dispatches
 pub mod Bodies
 pub mod Concreteness

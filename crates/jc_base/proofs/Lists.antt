@@ -1,10 +1,11 @@
 -- Reading what holds of the elements of a list at one of them.
-use Rattle.std.proofs.Common.{◌≡◌, ℕ, zero, suc, ◌+◌, ◌<◌, ◌≤◌, List, [], ◌∷◌, ◌++◌, length, Option, Some, None, ap, subst, arith}
+use Rattle.std.proofs.Common.{◌≡◌, ℕ, zero, suc, ◌+◌, ◌-◌, ◌<◌, ◌≤◌, List, [], ◌∷◌, ◌++◌, length, reverse, Option, Some, None, sym, ap, subst, arith}
 use Rattle.std.specs.Prelude.{All, IfSome, slice_get, sum_by}
 use Rattle.jc_base.specs.declared.ty.Kind.{Kind}
 use Rattle.jc_base.specs.declared.ty.Kind.TheVariants.{Ref, Byte, Short, Int}
 use Rattle.jc_base.specs.declared.record.StaticRec.{StaticRec}
 use Rattle.jc_base.specs.Cell.{width}
+use Rattle.std.proofs.lemmas.List.{length-reverse, reverse-reverse, get_or-reverse}
 use Rattle.std.proofs.lemmas.List.Sums.{sum_by-cons}
 use Rattle.std.proofs.lemmas.List.Elements.{All-head, All-tail}
 use Rattle.jc_base.specs.Linked.{list_at}
@@ -28,11 +29,6 @@ list_at-slice_get [] n xs e = absurd cc
 list_at-slice_get (ys ∷ yss) zero xs e = cc
 list_at-slice_get (ys ∷ yss) (suc n) xs e = list_at-slice_get yss n xs e
 
-pub slice_get-below : {X : Type 0} (xs : List X) (n : ℕ) (x : X) → slice_get xs n ≡ Some x → n < length xs
-slice_get-below [] n x e = absurd cc
-slice_get-below (y ∷ ys) zero x e = omega arith
-slice_get-below (y ∷ ys) (suc n) x e = omega (arith, slice_get-below ys n x e)
-
 -- what stands in the first of two lists, and after it
 pub slice_get-front : {X : Type 0} (xs ys : List X) (n : ℕ) (x : X) → slice_get xs n ≡ Some x → slice_get (xs ++ ys) n ≡ Some x
 slice_get-front [] ys n x e = absurd cc
@@ -47,6 +43,15 @@ slice_get-behind (x ∷ xs) ys k zero e = absurd (omega arith)
 slice_get-behind (x ∷ xs) ys k (suc n) e =
     let less : n ≡ length xs + k = omega arith in
     slice_get-behind xs ys k n less
+
+-- what holds of each element, last first
+pub All-reverse : {X : Type 0} (P : X → Type 0) (xs : List X) → All P xs → All P (reverse xs)
+All-reverse P xs all k d lt =
+    let inside : k < length xs = omega (arith, lt, length-reverse xs) in
+    subst P (sym (get_or-reverse xs k d inside)) (all (length xs - 1 - k) d (omega arith))
+
+pub All-turned : {X : Type 0} (P : X → Type 0) (xs : List X) → All P (reverse xs) → All P xs
+All-turned P xs all = subst (All P) (reverse-reverse xs) (All-reverse P (reverse xs) all)
 
 one_at_least : (k : Kind) → 1 ≤ width k
 one_at_least Ref = omega arith

@@ -1,13 +1,34 @@
--- Laws of classes: what is above them, the cells of their instances, what these run, and the interfaces that they implement.
-use Rattle.std.specs.Prelude.{◌≡◌, ℕ, ◌<◌, ◌≤◌, ◌↔◌, ◌++◌, List, length, Some, IsSomeAnd, IsTrue, Contains, slice_get}
+-- Laws of types and classes: the order of types and its joins, what is above a class, the cells of its instances, what these run, and the
+-- interfaces that it implements.
+use Rattle.std.specs.Prelude.{◌≡◌, ℕ, ◌<◌, ◌≤◌, ◌↔◌, ◌+◌, ◌++◌, List, length, Some, IsSomeAnd, IsTrue, Contains, slice_get}
 use Rattle.jc_base.specs.declared.ty.Ty.{Ty}
 use Rattle.jc_base.specs.declared.ty.Ty.TheVariants.{Class}
 use Rattle.jc_base.specs.declared.record.MethodRec.{MethodRec}
-use Rattle.jc_base.specs.Class.{ClassTable, IsClass, object}
-use Rattle.jc_base.specs.Order.{Below}
+use Rattle.jc_base.specs.Class.{ClassTable, IsClass, height, object}
+use Rattle.jc_base.specs.Cell.{IsDeclared}
+use Rattle.jc_base.specs.Order.{Below, IsJoin, IsKnown, AreApart, rises_left, is_below, join_of}
 use Rattle.jc_base.specs.Dispatch.{IsConcrete, is_concrete, public_of, cells_of, signature_of}
+use Rattle.jc_base.specs.SameType.{same_type}
 use Rattle.jc_base.specs.Linked.{IsInherited}
 use Rattle.jc_base.specs.Interface.{extended, IsOrExtends, Implements, is_or_extends, implements, extended_count}
+
+-- the order of types is decided, and so are its joins; no two types are below each other, and none rises for ever
+pub record IsOrderOfTypes (t : ClassTable) : Type 0 where
+  pub decided : (a b : Ty) → IsTrue (is_below t a b) ↔ Below t a b
+  pub apart : (a b : Ty) → AreApart t a b
+  pub seldom : (a : Ty) → rises_left t a ≤ height t + 3
+  pub joins : (a b : Ty) → IsKnown t a → IsKnown t b → IsJoin t a b (join_of t a b)
+  pub one_join : {a b j k : Ty} → IsJoin t a b j → IsJoin t a b k → j ≡ k
+  pub known : {a b j : Ty} → IsKnown t a → IsKnown t b → IsJoin t a b j → IsKnown t j
+  pub rises : {a b j : Ty} → IsJoin t a b j → ¬ (Below t b a) → rises_left t j < rises_left t a
+
+-- the types of signatures and fields name classes of the table
+abbrev pub DeclaredAreKnown : ClassTable → Type 0
+DeclaredAreKnown t = (ty : Ty) → IsDeclared t ty → IsKnown t ty
+
+-- whether two types are equal is decided
+abbrev pub SameTypeDecides : Type 0
+SameTypeDecides = (a b : Ty) → IsTrue (same_type a b) ↔ (a ≡ b)
 
 -- every class is object or a subclass of it
 abbrev pub ClassesAreObjects : ClassTable → Type 0
@@ -41,6 +62,10 @@ PublicMethodsRun t methods =
 -- the computed answer is that of the definition
 abbrev pub ConcreteDecides : ClassTable → List MethodRec → Type 0
 ConcreteDecides t methods = (c : ℕ) → IsTrue (is_concrete t methods c) ↔ IsConcrete t methods c
+
+-- whatever the classes and methods are
+abbrev pub ConcreteIsDecided : Type 0
+ConcreteIsDecided = (t : ClassTable) (methods : List MethodRec) → ConcreteDecides t methods
 
 abbrev pub ImplementsDecides : ClassTable → Type 0
 ImplementsDecides t = (c j : ℕ) → IsTrue (implements t c j) ↔ Implements t c j

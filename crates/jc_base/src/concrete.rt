@@ -1,6 +1,6 @@
 ghost use Rattle.std.specs.Prelude.{◌≡◌, ◌↔◌, ◌<◌, ℕ, false, length, IsTrue, All, slice_get, Some};
 ghost use Rattle.jc_base.specs.Class.{IsClass};
-ghost use Rattle.jc_base.specs.Dispatch.{IsConcrete, HasBody, package_of, public_of, visible_of, visible_in};
+ghost use Rattle.jc_base.specs.Dispatch.{IsConcrete, is_concrete, HasBody, package_of, public_of, visible_of, visible_in};
 ghost use Rattle.jc_base.specs.Linked.{AreLinkedClasses, IsLinkedClass};
 
 use crate::class::Classes;
@@ -10,6 +10,16 @@ use crate::record::ClassRec;
 /// Whether objects can be made of a class: it is no interface, and no entry of its dispatch lists is
 /// abstract.
 pub fn is_concrete(classes: &Classes, methods: &Methods, class: u16) -> bool
+    requires known { class < length classes.now.records }
+    requires links { AreLinkedClasses 16 classes.now methods.now }
+    ensures is { IsTrue result ↔ IsConcrete classes.now methods.now class }
+    ensures computed { result ≡ is_concrete classes.now methods.now class }
+{
+    have_bodies(classes, methods, class)
+}
+
+/// Whether it is no interface, and each method of its lists has a body.
+fn have_bodies(classes: &Classes, methods: &Methods, class: u16) -> bool
     requires known { class < length classes.now.records }
     requires links { AreLinkedClasses 16 classes.now methods.now }
     ensures { IsTrue result ↔ IsConcrete classes.now methods.now class }

@@ -1,7 +1,16 @@
-ghost use Rattle.jc_base.specs.Laws.{ClassesAreObjects, InstancesExtend, PublicMethodsRun, ConcreteDecides, ImplementsDecides, ExtendsDecides, ExtendsEnds};
+ghost use Rattle.jc_base.specs.Laws.{IsOrderOfTypes, DeclaredAreKnown, ClassesAreObjects, InstancesExtend, PublicMethodsRun, ConcreteIsDecided, ImplementsDecides, ExtendsEnds, ExtendsDecides, SameTypeDecides};
 
 use crate::class::Classes;
 use crate::world::World;
+
+/// The order of types and its joins are decided, and so is whether two are equal; declared types name classes.
+pub fn types_are_ordered(classes: &Classes)
+    ensures order { IsOrderOfTypes classes.now }
+    ensures declared { DeclaredAreKnown classes.now }
+    ensures same { SameTypeDecides }
+{
+    let _ = classes.records();
+}
 
 /// Every class is object or a subclass of it, and its instances begin with the cells of each superclass.
 pub fn subclasses_extend(classes: &Classes)
@@ -19,8 +28,8 @@ pub fn public_methods_run(world: &World<'_>)
 }
 
 /// Whether a class is concrete is decided, and the answer is the computed one.
-pub fn concrete_decides(world: &World<'_>)
-    ensures { ConcreteDecides world.now.classes world.now.methods }
+pub fn concrete_decides()
+    ensures { ConcreteIsDecided }
 {}
 
 /// Whether a class implements an interface and whether an interface extends another are decided, and a search

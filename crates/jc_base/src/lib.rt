@@ -17,7 +17,9 @@ mod world;
 pub use class::Classes;
 pub use concrete::is_concrete;
 pub use infos::Infos;
-pub use laws::{concrete_decides, interfaces_decide, public_methods_run, subclasses_extend};
+pub use laws::{
+    concrete_decides, interfaces_decide, public_methods_run, subclasses_extend, types_are_ordered,
+};
 pub use list::{
     Arrays, ClassRecs, Dispatch, Handlers, Ifaces, Initial, Items, Members, Methods, Pools,
     Statics, Tokens, Tys,

@@ -4,8 +4,9 @@ use Rattle.std.specs.Prelude.{◌==◌, ◌||◌, ◌&&◌, not, IfSome, slice_g
 use Rattle.std.specs.List.{list_all}
 use Rattle.std.proofs.lemmas.Bool.{eqb-true, eq-eqb, false_from_ne_true}
 use Rattle.std.proofs.lemmas.List.{length-set, length-replicate, take_more}
+use Rattle.std.proofs.lemmas.Option.{slice_get_within}
 use Rattle.jc_base.specs.declared.record.MethodRec.{MethodRec}
-use Rattle.jc_base.proofs.Lists.{IfSome-is, slice_get-below}
+use Rattle.jc_base.proofs.Lists.{IfSome-is}
 use Rattle.jc_classes.specs.Groups.{AreGroups, IsAdded, methods_of}
 use Rattle.jc_classes.proofs.Fills.{slice_get-set_here, slice_get-set_other, same_or_other}
 
@@ -40,7 +41,7 @@ groups_more n methods m old new are is = record {
   each = λ d. elim (same_or_other m.class d) [
     | inl e ↦
         let before : is.before ≡ methods_of methods m.class = IfSome-is (λ g. g ≡ methods_of methods m.class) (slice_get old m.class) is.before (are.each m.class) is.found in
-        let here : slice_get new m.class ≡ Some (is.before ++ (m ∷ [])) = ap (λ (gs : List (List MethodRec)). slice_get gs m.class) is.set_is ∙ slice_get-set_here old m.class (is.before ++ (m ∷ [])) (slice_get-below old m.class is.before is.found) in
+        let here : slice_get new m.class ≡ Some (is.before ++ (m ∷ [])) = ap (λ (gs : List (List MethodRec)). slice_get gs m.class) is.set_is ∙ slice_get-set_here old m.class (is.before ++ (m ∷ [])) (slice_get_within old m.class is.before is.found) in
         let right : is.before ++ (m ∷ []) ≡ methods_of (methods ++ (m ∷ [])) m.class = ap (λ (g : List MethodRec). g ++ (m ∷ [])) before ∙ sym (methods_by methods m m.class true (eq-eqb m.class m.class refl)) in
         subst (λ (k : ℕ). IfSome (slice_get new k) (λ g. g ≡ methods_of (methods ++ (m ∷ [])) k)) e (subst (λ (o : Option (List MethodRec)). IfSome o (λ g. g ≡ methods_of (methods ++ (m ∷ [])) m.class)) (sym here) right)
     | inr ne ↦

@@ -6,7 +6,7 @@ use Rattle.std.specs.Option.{option_flatten}
 use Rattle.std.proofs.lemmas.Bool.{false≢true, and_parts, eq-eqb}
 use Rattle.std.proofs.lemmas.List.Elements.{All-nil, All-cons, All-weaker}
 use Rattle.std.proofs.lemmas.List.FromFn.{length-map-range_with_len}
-use Rattle.std.proofs.lemmas.Option.{slice_get_cases}
+use Rattle.std.proofs.lemmas.Option.{slice_get_cases, slice_get_within}
 use Rattle.jc_base.specs.declared.ty.Ty.{Ty}
 use Rattle.jc_base.specs.declared.ty.Ty.TheVariants.{Bottom, Short, IntHigh, IntLow, Null, Class, ArrBool, ArrByte, ArrShort, ArrInt, ArrRef, Fresh, Top}
 use Rattle.jc_base.specs.declared.record.Iface.{Iface}
@@ -20,7 +20,7 @@ use Rattle.jc_base.specs.Linked.{IsInherited, IsDispatch, IsExtended, IsImplemen
 use Rattle.jc_base.proofs.Chains.{next_on_chain}
 use Rattle.jc_base.proofs.Climbs.{parent_of-class}
 use Rattle.jc_base.proofs.Subtypes.{Below-from_is_below}
-use Rattle.jc_base.proofs.Lists.{All-slice_get, IfSome-is, slice_get-below}
+use Rattle.jc_base.proofs.Lists.{All-slice_get, IfSome-is}
 use Rattle.jc_resolve.specs.declared.fault.LinkEnd.{LinkEnd}
 use Rattle.jc_resolve.specs.declared.named.NamedClass.{NamedClass}
 use Rattle.jc_resolve.specs.Due.{IsDue}
@@ -285,7 +285,7 @@ class_linked : (packages : ℕ) (t : ClassTable) (classes : List NamedClass) (me
     → IsLinkedClass packages (class_tables t classes) methods c (record_from k (layout_of t classes c))
 unfolding record_from
 class_linked packages t classes methods c k s e =
-    let low : c < length classes = slice_get-below classes c k e in
+    let low : c < length classes = slice_get_within classes c k e in
     let u = class_tables t classes in
     let alike = tables-alike t classes s.outline in
     let parents = parents_counted t classes c (parent_of t c) s.are s.known refl in

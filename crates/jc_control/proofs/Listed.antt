@@ -10,6 +10,7 @@ use Rattle.jc_decode.specs.Listing.{listing, listing_end, end_from, Lists}
 use Rattle.jc_decode.proofs.Decoded.{IsWithin-decoded, ok-same}
 use Rattle.jc_decode.proofs.Listing.{Lists-listing_from, listing_from-start}
 use Rattle.jc_control.specs.WellFormed.{Stands, IsPlace, IsTargetPlace}
+use Rattle.jc_control.specs.Laws.{InstructionsAreListed}
 use Rattle.jc_control.proofs.Elements.{contained-in, nothing-in, Contains-either, Contains-slice_get}
 
 module _ (code : List ℕ) where
@@ -57,6 +58,17 @@ module _ (code : List ℕ) where
       let insn : i.insn ≡ j.insn = ok-same i.insn j.insn (decoded code i.place) (decoded-Stands i s) (ap (decoded code) same ∙ decoded-Stands j t) in
       ap (λ (p : ℕ). record { place = p; insn = i.insn }) same ∙ ap (λ (n : Insn). record { place = j.place; insn = n }) insn
 
+  after-in : (at : ℕ) (ps : List Placed) (i j : Placed) → Lists code at ps → Contains ps i → Contains ps j → i.place < j.place → i.place + i.insn.len ≤ j.place
+  after-in at [] i j l c d lt = absurd (nothing-in i c)
+  after-in at (p ∷ ps) i j l c d lt =
+      ⊎_elim
+      (λ here. ⊎_elim (λ both. absurd (omega (arith, ap (λ (q : Placed). q.place) (sym here ∙ both))))
+      (λ later. subst (λ (q : Placed). q.place + q.insn.len ≤ j.place) here (omega (arith, l.0, (listed-in (at + p.insn.len) ps j l.2 later).from))) (Contains-either p ps j d))
+      (λ there. ⊎_elim
+      (λ here. absurd (omega (arith, l.0, ap (λ (q : Placed). q.place) here, (listed-in (at + p.insn.len) ps i l.2 there).from, lt)))
+      (λ later. after-in (at + p.insn.len) ps i j l.2 there later lt) (Contains-either p ps j d))
+      (Contains-either p ps i c)
+
   -- and before the place where they end
   ends-later : (from : ℕ) (qs : List Placed) → from ≤ end_from from qs
   ends-later from [] = omega arith
@@ -74,6 +86,18 @@ module _ (code : List ℕ) where
 
   pub ends-after : (i : Placed) → Stands code i → i.place < listing_end code
   ends-after i s = before-end 0 (listing code) i all-listed s
+
+pub instructions-are-listed : InstructionsAreListed
+instructions-are-listed code = record {
+  lists = all-listed code;
+  decodes = decoded-Stands code;
+  long = λ at i d. (IsWithin-decoded code at i d).one;
+  inside = λ i s. place-inside code i.place (i, s, refl);
+  within = λ i s. let w = within-Stands code i s in omega (arith, w.reaches);
+  one = one-at code;
+  after = λ i j s t lt. after-in code 0 (listing code) i j (all-listed code) s t lt;
+  rising = rising code;
+}
 
 -- after the last instruction none is decoded
 none-at-end : (code : List ℕ) (at : ℕ) (ps : List Placed) → Lists code at ps → IsErr (decoded code (end_from at ps))

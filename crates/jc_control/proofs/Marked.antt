@@ -1,13 +1,12 @@
 -- Flags as the set of the flagged places.
 use Rattle.std.proofs.Common.{◌≡◌, ◌<◌, ◌≤◌, ◌⊎◌, inl, inr, ⊎_elim, ℕ, Bool, true, false, List, [], ◌∷◌, ◌++◌, length, sym, ap, ◌∙◌, subst, arith}
-use Rattle.std.specs.Prelude.{ℤ, pos, negsuc, replicate}
+use Rattle.std.specs.Prelude.{replicate}
 use Rattle.std.proofs.Math.ListN.{set}
 use Rattle.std.proofs.lemmas.Bool.{cases_eq, cases_lt, false≢true}
 use Rattle.std.proofs.lemmas.List.{get_or-replicate, get_or_past, length-replicate, get_or-set_same, get_or-set_other}
 use Rattle.std.proofs.lemmas.List.Elements.{Contains-append_left, Contains-push, Contains-push_cases}
 use Rattle.jc_decode.specs.declared.insn.Placed.{Placed}
-use Rattle.jc_control.specs.WellFormed.{IsPlace, IsTargetPlace}
-use Rattle.jc_control.specs.Flags.{flag, IsFlagged, Marks, target_flag}
+use Rattle.jc_control.specs.Flags.{flag, IsFlagged, Marks}
 use Rattle.jc_control.specs.Places.{BeginsIn}
 use Rattle.jc_control.proofs.Elements.{nothing-in}
 
@@ -55,12 +54,3 @@ marks-more is i fs inside m p = (
       (λ here. let same : i.place ≡ p = ap (λ (j : Placed). j.place) here ∙ b.2 in subst (IsFlagged (set fs i.place true)) same (flag-here fs i.place inside))
       (Contains-push_cases is i b.0 b.1),
 )
-
--- the flag of a target tells whether it is a place of an instruction
-pub target-flagged : (code : List ℕ) (fs : List Bool) (t : ℤ) → Marks (IsPlace code) fs → target_flag fs t ≡ true → IsTargetPlace code t
-target-flagged code fs (pos p) m h = (m p).0 h
-target-flagged code fs (negsuc n) m h = absurd (false≢true h)
-
-pub target-unflagged : (code : List ℕ) (fs : List Bool) (t : ℤ) → Marks (IsPlace code) fs → target_flag fs t ≡ false → ¬ IsTargetPlace code t
-target-unflagged code fs (pos p) m h place = false≢true (sym h ∙ (m p).1 place)
-target-unflagged code fs (negsuc n) m h place = place

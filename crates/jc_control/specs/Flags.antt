@@ -1,5 +1,5 @@
 -- A yes or no for each place of a method's code, and for its end.
-use Rattle.std.specs.Prelude.{◌≡◌, ◌↔◌, ℕ, ℤ, pos, negsuc, Bool, true, false, List, slice_index_or}
+use Rattle.std.specs.Prelude.{◌≡◌, ◌↔◌, ℕ, Bool, true, false, List, slice_index_or}
 
 -- the flag of a place; past the last flag it is no
 abbrev pub flag : List Bool → ℕ → Bool
@@ -11,8 +11,3 @@ IsFlagged flags place = flag flags place ≡ true
 -- the flagged places are those of a set
 abbrev pub Marks : (ℕ → Type 0) → List Bool → Type 0
 Marks P flags = (place : ℕ) → IsFlagged flags place ↔ P place
-
--- the flag of a place that may lie before the code
-abbrev pub target_flag : List Bool → ℤ → Bool
-target_flag flags (pos place) = flag flags place
-target_flag flags (negsuc n) = false

@@ -4,6 +4,7 @@ pub mod Control
 pub mod Flaw
 pub mod Laws
 pub mod Flags
+pub mod Known
 pub mod ControlFlow
 pub mod Subject
 pub mod Places

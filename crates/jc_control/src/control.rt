@@ -3,6 +3,7 @@ ghost use Rattle.jc_control.specs.Method.{IsMethodOf, method_in};
 ghost use Rattle.jc_control.specs.ControlFlow.{IsControlFlow, TellsFlaw};
 
 use crate::flaw::ControlEnd;
+use crate::places::Places;
 use crate::reached::ControlFlow;
 use crate::scan::{find_flaw, instruction_places};
 use crate::subject::Subject;
@@ -30,6 +31,6 @@ pub fn control_flow(
         code,
     };
     let places = instruction_places(alloc, code)?;
-    find_flaw(subject, &places)?;
+    find_flaw(subject, Places::Marked(&places))?;
     Ok(ControlFlow::of(Traversal::of(alloc, subject)?))
 }

@@ -1,5 +1,5 @@
 ghost use Rattle.std.specs.Prelude.{◌≡◌, ◌<◌, length, replicate, slice_set, true, false, IfOk};
-ghost use Rattle.jc_control.specs.Flags.{flag, target_flag};
+ghost use Rattle.jc_control.specs.Flags.{flag};
 
 use std::alloc::{AllocError, Global};
 use std::marker::Model;
@@ -42,16 +42,6 @@ impl Flags {
         match self.items.get(place as usize) {
             Some(flag) => *flag,
             None => false,
-        }
-    }
-
-    /// The flag of a place that may lie before the code.
-    pub fn has_target(&self, target: i32) -> bool
-        ensures { result ≡ target_flag self.now target }
-    {
-        match u32::try_from(target) {
-            Ok(place) => self.has(place),
-            Err(_) => false,
         }
     }
 

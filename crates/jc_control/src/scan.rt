@@ -3,6 +3,7 @@ ghost use Rattle.jc_decode.specs.Decoding.{decoded};
 ghost use Rattle.jc_decode.specs.Listing.{listing, listing_end, targets};
 ghost use Rattle.jc_control.specs.WellFormed.{IsPlace, IsTargetPlace, IsHandlerOf, IsWellFormed};
 ghost use Rattle.jc_control.specs.Flags.{Marks};
+ghost use Rattle.jc_control.specs.Known.{KnowPlaces};
 ghost use Rattle.jc_control.specs.Subject.{method};
 ghost use Rattle.jc_control.specs.Flaw.{IsFirstFlaw};
 ghost use Rattle.jc_control.specs.FirstFailing.{IsFirstFailing};
@@ -10,6 +11,7 @@ ghost use Rattle.jc_control.specs.Scan.{LeadsToPlaces, IsFirstStray, IsStop, IsF
 
 use crate::flags::Flags;
 use crate::flaw::Flaw;
+use crate::places::Places;
 use crate::subject::Subject;
 use crate::targets::Targets;
 use cap_bytes::View;
@@ -43,9 +45,10 @@ pub fn instruction_places(alloc: Global, code: View<'_>) -> Result<Flags, AllocE
     Ok(Flags::of(flags))
 }
 
-/// Whether a method is well formed, or else its first flaw.
-pub fn find_flaw(subject: Subject<'_>, places: &Flags) -> Result<(), Flaw>
-    requires marks { Marks (IsPlace subject.code.bytes.now) places.now }
+/// Whether a method is well formed, or else its first flaw: first each target, then the end of the code, then each
+/// handler in the table's order.
+pub fn find_flaw(subject: Subject<'_>, places: Places<'_>) -> Result<(), Flaw>
+    requires known { KnowPlaces subject.code.bytes.now places }
     requires few { length subject.rec.now.handlers ≤ 255 }
     ensures formed { OnOk result (IsWellFormed (method subject.entry)) }
     ensures flawed { IfErr result (λ flaw. IsFirstFlaw (method subject.entry) flaw) }
@@ -56,9 +59,9 @@ pub fn find_flaw(subject: Subject<'_>, places: &Flags) -> Result<(), Flaw>
 }
 
 /// Whether each target is the place of an instruction.
-fn check_targets(code: View<'_>, places: &Flags) -> Result<(), Flaw>
+fn check_targets(code: View<'_>, places: Places<'_>) -> Result<(), Flaw>
     requires short { length code.bytes.now ≤ 32767 }
-    requires marks { Marks (IsPlace code.bytes.now) places.now }
+    requires known { KnowPlaces code.bytes.now places }
     ensures formed { OnOk result (All (LeadsToPlaces code.entry.bytes.now) (listing code.entry.bytes.now)) }
     ensures flawed { IfErr result (λ flaw. IsFirstStray code.entry.bytes.now flaw) }
 {
@@ -71,10 +74,10 @@ fn check_targets(code: View<'_>, places: &Flags) -> Result<(), Flaw>
 }
 
 /// The first target of an instruction that is no place of one.
-fn stray_target(code: View<'_>, placed: Placed, places: &Flags) -> Option<i32>
+fn stray_target(code: View<'_>, placed: Placed, places: Places<'_>) -> Option<i32>
     requires short { length code.bytes.now ≤ 32767 }
     requires decoded { decoded code.bytes.now placed.place ≡ Ok placed.insn }
-    requires marks { Marks (IsPlace code.bytes.now) places.now }
+    requires known { KnowPlaces code.bytes.now places }
     ensures none { IfNone result (All (IsTargetPlace code.entry.bytes.now) (targets code.entry.bytes.now placed)) }
     ensures some { IfSome result
         (λ t.
@@ -84,7 +87,7 @@ fn stray_target(code: View<'_>, placed: Placed, places: &Flags) -> Option<i32>
         (targets code.entry.bytes.now placed) n t) }
 {
     'targets: for target in Targets::of(code, placed) {
-        if !places.has_target(target) {
+        if !places.has_target(code, target) {
             return Some(target);
         }
     }
@@ -106,8 +109,9 @@ fn check_end(code: View<'_>) -> Result<(), Flaw>
 }
 
 /// Whether each handler is well formed.
-fn check_handlers(code: View<'_>, handlers: &Handlers, places: &Flags) -> Result<(), Flaw>
-    requires marks { Marks (IsPlace code.bytes.now) places.now }
+fn check_handlers(code: View<'_>, handlers: &Handlers, places: Places<'_>) -> Result<(), Flaw>
+    requires short { length code.bytes.now ≤ 32767 }
+    requires known { KnowPlaces code.bytes.now places }
     requires few { length handlers.now ≤ 255 }
     ensures formed { OnOk result (All (IsHandlerOf code.entry.bytes.now) handlers.now) }
     ensures flawed { IfErr result (λ flaw. IsFirstBadHandler code.entry.bytes.now handlers.now flaw) }
@@ -121,13 +125,14 @@ fn check_handlers(code: View<'_>, handlers: &Handlers, places: &Flags) -> Result
 }
 
 /// Whether a handler's range is not empty and lies between instructions, and its entry is one.
-fn is_formed(code: View<'_>, handler: Handler, places: &Flags) -> bool
-    requires { Marks (IsPlace code.bytes.now) places.now }
+fn is_formed(code: View<'_>, handler: Handler, places: Places<'_>) -> bool
+    requires short { length code.bytes.now ≤ 32767 }
+    requires known { KnowPlaces code.bytes.now places }
     ensures { IsTrue result ↔ IsHandlerOf code.entry.bytes.now handler }
 {
     let end = u32::from(handler.end);
-    places.has(u32::from(handler.start))
+    places.has(code, u32::from(handler.start))
         && handler.start < handler.end
-        && (end as usize == code.bytes.len() || places.has(end))
-        && places.has(u32::from(handler.entry))
+        && (end as usize == code.bytes.len() || places.has(code, end))
+        && places.has(code, u32::from(handler.entry))
 }

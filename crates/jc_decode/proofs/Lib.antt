@@ -20,3 +20,5 @@ pub mod Sized
 pub mod Labels
 pub mod JumpForms
 pub mod Defaults
+pub mod Shorter
+pub mod PastTheEnd

@@ -1,10 +1,12 @@
 -- Laws of instructions and of listings.
-use Rattle.std.specs.Prelude.{◌≡◌, ◌+◌, ℕ, List, [], ◌∷◌, length, Ok, Err, ◌++◌, All, false}
+use Rattle.std.specs.Prelude.{◌≡◌, ◌≤◌, ◌+◌, ℕ, List, [], ◌∷◌, length, Ok, Err, ◌++◌, All, false}
 use Rattle.std.specs.List.{filter}
 use Rattle.jc_decode.specs.declared.insn.Insn.{Insn}
 use Rattle.jc_decode.specs.declared.insn.CodeEnd.{CodeEnd}
+use Rattle.jc_decode.specs.declared.insn.CodeEnd.TheVariants.{Cut}
 use Rattle.jc_decode.specs.declared.symbols.Item.{Item}
 use Rattle.jc_decode.specs.declared.symbols.Item.TheVariants.{Label}
+use Rattle.jc_decode.specs.Forms.{length_of, plain_length, short_form}
 use Rattle.jc_decode.specs.Symbols.{place_of, is_label, is_instruction}
 use Rattle.jc_decode.specs.Decoding.{decoded}
 use Rattle.jc_decode.specs.Encoding.{ReadsBack}
@@ -25,3 +27,11 @@ pub record ListingIsOne : Type 0 where
 abbrev pub LabelsStandBetween : Type 0
 LabelsStandBetween = (before after : List Item) (l : ℕ) → All (λ i. is_label l i ≡ false) before
     → place_of l (before ++ (Label l ∷ after)) ≡ length (filter is_instruction before)
+
+-- after the end of the code nothing is decoded
+abbrev pub NothingPastTheEnd : Type 0
+NothingPastTheEnd = (code : List ℕ) (at : ℕ) → length code ≤ at → decoded code at ≡ Err Cut
+
+-- the short form of an instruction is no longer than its plain length
+abbrev pub ShortIsNoLonger : Type 0
+ShortIsNoLonger = (i : Insn) → length_of (short_form i) ≤ plain_length i

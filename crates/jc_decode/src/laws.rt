@@ -1,4 +1,4 @@
-ghost use Rattle.jc_decode.specs.Laws.{BytesReadBack, LabelsStandBetween, ListingIsOne};
+ghost use Rattle.jc_decode.specs.Laws.{BytesReadBack, LabelsStandBetween, ListingIsOne, NothingPastTheEnd, ShortIsNoLonger};
 
 use crate::decoding::are_bytes;
 
@@ -17,4 +17,14 @@ pub fn listing_is_one()
 /// A label stands between instructions: for the number of those before it.
 pub fn labels_stand_between()
     ensures { LabelsStandBetween }
+{}
+
+/// After the end of a code nothing is decoded.
+pub fn nothing_past_the_end()
+    ensures { NothingPastTheEnd }
+{}
+
+/// The short form of an instruction is no longer than its plain length.
+pub fn short_is_no_longer()
+    ensures { ShortIsNoLonger }
 {}

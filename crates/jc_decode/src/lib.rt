@@ -23,7 +23,9 @@ pub use decoding::decode;
 pub use encoding::encode;
 pub use insn::{Case, CodeEnd, Insn, Placed};
 pub use instructions::{Instructions, code_end};
-pub use laws::{bytes_read_back, labels_stand_between, listing_is_one};
+pub use laws::{
+    bytes_read_back, labels_stand_between, listing_is_one, nothing_past_the_end, short_is_no_longer,
+};
 pub use layout::{Cases, Layout, Operand};
 pub use pool_index::{IndexWidth, PoolIndex};
 pub use setting::set_case;

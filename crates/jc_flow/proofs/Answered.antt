@@ -1,11 +1,11 @@
 -- What is answered for a method of the world.
 use Rattle.std.proofs.Common.{◌≡◌, ℕ, ◌<◌, ◌≤◌, Bool, true, false, List, length, Option, Some, option_map, IsSomeAnd, MatchBool, slice_get, sym, ◌∙◌, ap, subst, arith, length-take}
+use Rattle.std.proofs.lemmas.Option.{slice_get_within}
 use Rattle.jc_base.specs.declared.ty.Ty.TheVariants.{Top}
 use Rattle.jc_base.specs.declared.record.MethodRec.{MethodRec}
 use Rattle.jc_base.specs.Linked.{IsCodeLength, lacks_code}
 use Rattle.jc_base.specs.World.{Linked, code_of}
 use Rattle.jc_rules.specs.FlowLaws.{AreRules}
-use Rattle.jc_base.proofs.Lists.{slice_get-below}
 use Rattle.jc_control.specs.Method.{Method, IsMethodOf, method_in, method_with}
 use Rattle.jc_rules.specs.Flow.{HasFlowTyping}
 use Rattle.jc_control.specs.declared.flaw.Flaw.{Flaw}
@@ -14,7 +14,7 @@ use Rattle.jc_control.specs.declared.flaw.ControlEnd.{ControlEnd}
 use Rattle.jc_control.specs.declared.flaw.ControlEnd.TheVariants.{Flawed, Memory as NoControl}
 use Rattle.jc_control.specs.Flaw.{IsFirstFlaw}
 use Rattle.jc_control.specs.ControlFlow.{TellsFlaw}
-use Rattle.jc_control.proofs.FlawLaws.{first-flaw-refuses}
+use Rattle.jc_control.specs.Laws.{FlawsDecide}
 use Rattle.jc_flow.proofs.Derived.{some_to, some_at, at_some, some_map, of_world}
 use Rattle.jc_flow.specs.declared.end.FlowEnd.{FlowEnd}
 use Rattle.jc_flow.specs.declared.end.FlowEnd.TheVariants.{NoTyping, Code, BadTarget, FallsOff, BadHandler, Memory}
@@ -23,7 +23,7 @@ use Rattle.jc_flow.specs.Infer.{HasNone, unformed_as}
 use Rattle.jc_flow.proofs.Never.{none-where-fails, none-where-falls}
 
 pub number-below : {X : Type 0} (P : X → Type 0) (xs : List X) (n : ℕ) → IsSomeAnd (slice_get xs n) P → n < length xs
-number-below P xs n h = some_to P (n < length xs) (slice_get xs n) (λ x e p. slice_get-below xs n x e) h
+number-below P xs n h = some_to P (n < length xs) (slice_get xs n) (λ x e p. slice_get_within xs n x e) h
 
 some-same : {X : Type 0} {a b : X} → ◌≡◌ {A = Option X} (Some a) (Some b) → a ≡ b
 some-same e = cc
@@ -51,17 +51,17 @@ module _ (w : Linked) (n : ℕ) (rec : MethodRec) (code : List ℕ) (here : slic
       let size : length code ≡ _ = ap length mo.code ∙ length-take rec.code_len _ in
       omega arith
 
-flaw-none : (w : Linked) (m : Method) (f : Flaw) → IsFirstFlaw m f → ¬ (HasFlowTyping w m Top)
-flaw-none w m f first has = first-flaw-refuses m f first has.typing.formed
+flaw-none : FlawsDecide → (w : Linked) (m : Method) (f : Flaw) → IsFirstFlaw m f → ¬ (HasFlowTyping w m Top)
+flaw-none decide w m f first has = (decide m).0 has.typing.formed first.spot f first.flaw
 
-unformed-none : (w : Linked) (m : Method) (end : ControlEnd) → TellsFlaw m end → HasNone w m (unformed_as end)
-unformed-none w m (Flawed (flaws.Code p e)) h = flaw-none w m (flaws.Code p e) h
-unformed-none w m (Flawed (flaws.BadTarget p t)) h = flaw-none w m (flaws.BadTarget p t) h
-unformed-none w m (Flawed (flaws.BadHandler p k)) h = flaw-none w m (flaws.BadHandler p k) h
-unformed-none w m NoControl h = tt
+unformed-none : FlawsDecide → (w : Linked) (m : Method) (end : ControlEnd) → TellsFlaw m end → HasNone w m (unformed_as end)
+unformed-none decide w m (Flawed (flaws.Code p e)) h = flaw-none decide w m (flaws.Code p e) h
+unformed-none decide w m (Flawed (flaws.BadTarget p t)) h = flaw-none decide w m (flaws.BadTarget p t) h
+unformed-none decide w m (Flawed (flaws.BadHandler p k)) h = flaw-none decide w m (flaws.BadHandler p k) h
+unformed-none decide w m NoControl h = tt
 
-pub none-unformed : (w : Linked) (o : Option Method) (end : ControlEnd) (r : FlowEnd) → r ≡ unformed_as end → IsSomeAnd o (λ m. TellsFlaw m end) → IsSomeAnd o (λ m. HasNone w m r)
-none-unformed w o end r e h = some_map (λ m. TellsFlaw m end) (λ m. HasNone w m r) o (λ m t. subst (HasNone w m) (sym e) (unformed-none w m end t)) h
+pub none-unformed : FlawsDecide → (w : Linked) (o : Option Method) (end : ControlEnd) (r : FlowEnd) → r ≡ unformed_as end → IsSomeAnd o (λ m. TellsFlaw m end) → IsSomeAnd o (λ m. HasNone w m r)
+none-unformed decide w o end r e h = some_map (λ m. TellsFlaw m end) (λ m. HasNone w m r) o (λ m t. subst (HasNone w m) (sym e) (unformed-none decide w m end t)) h
 
 pub none-failed : (w : Linked) → AreRules w → (m : Method) → IsMethodOf w m → (end : FlowEnd) → IsFailure w m end → HasNone w m end
 none-failed w is m mo (NoTyping p fault) h = none-where-fails w is m mo p fault h

@@ -15,7 +15,7 @@ use Rattle.jc_flow.specs.Progress.{IsHeld, AreHeld, IsClosed, AreClosed}
 use Rattle.jc_flow.proofs.Frames.{all_none}
 use Rattle.jc_flow.specs.Fails.{IsFailure}
 use Rattle.jc_flow.specs.Visit.{Goes, broken_at}
-use Rattle.jc_control.proofs.Closing.{place-first}
+use Rattle.jc_control.specs.Laws.{InstructionsArePlaced}
 
 abbrev pub empty : ℕ → Found
 empty n = record { states = replicate n None; pending = replicate n false }
@@ -38,10 +38,10 @@ module _ (w : Linked) (m : Method) where
     held = λ p f h. absurd (no-frame (sym (nothing-at (length m.code) p) ∙ h));
   })
 
-  pub start-held : IsMethodOf w m → IsWellFormed m → IsHeld w m 0 (start_frame m.rec Top)
-  start-held mo formed = record {
+  pub start-held : InstructionsArePlaced → IsMethodOf w m → IsWellFormed m → IsHeld w m 0 (start_frame m.rec Top)
+  start-held placed mo formed = record {
     derived = derived_start;
-    place = place-first m formed mo.filled;
+    place = (placed m formed).first mo.filled;
     room = omega arith;
     no_top = all_none IsNotTop;
     ready = λ l. all_none IsNotFresh;

@@ -13,17 +13,15 @@ use Rattle.jc_base.specs.Linked.{IsMethod, IsHandler, IsCodeLength, list_at, lac
 use Rattle.jc_base.specs.World.{Linked}
 use Rattle.jc_rules.specs.FlowLaws.{AreRules}
 use Rattle.jc_base.proofs.Lists.{All-slice_get}
-use Rattle.jc_base.proofs.Joins.{IsJoin-known}
 use Rattle.jc_decode.specs.declared.insn.Placed.{Placed}
-use Rattle.jc_ops.proofs.Members.{declared-known}
 use Rattle.jc_rules.specs.declared.effect.Mode.TheVariants.{Flow}
 use Rattle.jc_rules.specs.Demand.{Frame, AreKnown}
 use Rattle.jc_control.specs.Method.{Method, IsMethodOf}
 use Rattle.jc_control.specs.WellFormed.{Stands}
 use Rattle.jc_control.specs.Control.{IsReached, begins, follows, caught}
-use Rattle.jc_rules.specs.Flow.{IsFit, FrameBelow, At, Merges, Steps, site_of, start_frame, caught_frame, receiver_of, IsNotFresh, IsDerived, derived_start, derived_caught, derived_next, derived_joined, FlowTyping, IsFollowed}
+use Rattle.jc_rules.specs.Flow.{IsFit, FrameBelow, At, Merges, Steps, start_frame, caught_frame, receiver_of, IsNotFresh, IsDerived, derived_start, derived_caught, derived_next, derived_joined, FlowTyping, IsFollowed}
 use Rattle.jc_rules.specs.Laws.{IsNotBottom, Keeps, FallsTo}
-use Rattle.jc_rules.proofs.CellLists.{cells-same}
+use Rattle.jc_flow.proofs.Steps.{site_of, at-site}
 use Rattle.jc_flow.proofs.Frames.{all_none, all_more, all_same, frame-trans, join-least, join-length, join-all, full-join}
 
 -- ---- elements
@@ -122,7 +120,7 @@ module _ (w : Linked) (is : AreRules w) (m : Method) (mo : IsMethodOf w m) where
   start-fine = record {
     known = record {
       few = omega (arith, start-length, of_world.registers);
-      regs = start-all (IsKnown w.classes) own_class (declared-known w.classes) tt;
+      regs = start-all (IsKnown w.classes) own_class is.declared tt;
       stack = all_none (IsKnown w.classes);
       object = is.world.chains.objects;
     };
@@ -145,7 +143,7 @@ module _ (w : Linked) (is : AreRules w) (m : Method) (mo : IsMethodOf w m) where
   }
 
   pub step-keeps : (i : Placed) (f g : Frame) → IsFine f → Steps w m i f g → Keeps w f g
-  step-keeps i f g fine s = is.keeps (site_of m i.place) i.insn Flow f g s.0 fine.known s.1
+  step-keeps i f g fine s = is.keeps (site_of m i.place) i.insn Flow f g s.0 fine.known (at-site w m mo s.1)
 
   pub step-fine : (i : Placed) (f g : Frame) → IsFine f → Steps w m i f g → IsFine g
   step-fine i f g fine s = let k = step-keeps i f g fine s in record {
@@ -158,14 +156,14 @@ module _ (w : Linked) (is : AreRules w) (m : Method) (mo : IsMethodOf w m) where
   pub joined-fine : (f g j : Frame) → IsFine f → IsFine g → Merges w.classes f g j → IsFine j
   joined-fine f g j a b merges = record {
     known = record {
-      few = omega (arith, join-length w.classes merges.regs, a.known.few);
-      regs = join-all w.classes (IsKnown w.classes) (λ a b j known others join. IsJoin-known w.classes is.world.chains known others join) merges.regs a.known.regs b.known.regs;
-      stack = join-all w.classes (IsKnown w.classes) (λ a b j known others join. IsJoin-known w.classes is.world.chains known others join) merges.stack a.known.stack b.known.stack;
+      few = omega (arith, join-length w.classes is.order merges.regs, a.known.few);
+      regs = join-all w.classes (IsKnown w.classes) (λ a b j known others join. is.types.known known others join) merges.regs a.known.regs b.known.regs;
+      stack = join-all w.classes (IsKnown w.classes) (λ a b j known others join. is.types.known known others join) merges.stack a.known.stack b.known.stack;
       object = a.known.object;
     };
-    count = join-length w.classes merges.regs ∙ a.count;
+    count = join-length w.classes is.order merges.regs ∙ a.count;
     no_fresh = join-all w.classes IsNotFresh (is.ready) merges.regs a.no_fresh b.no_fresh;
-    no_bottom = join-all w.classes IsNotBottom (full-join w.classes is.world.chains) merges.stack a.no_bottom b.no_bottom;
+    no_bottom = join-all w.classes IsNotBottom (full-join w.classes is.types) merges.stack a.no_bottom b.no_bottom;
   }
 
   pub derived-fine : {p : ℕ} {f : Frame} → IsDerived w m Top p f → IsFine f
@@ -196,12 +194,12 @@ module _ (w : Linked) (is : AreRules w) (m : Method) (mo : IsMethodOf w m) where
           above = le;
           there = there;
           followed = followed;
-          fallen = is.falls (site_of m i.place) i.insn Flow g f followed.after followed.steps.0 le fit.no_top fine.no_bottom followed.steps.1;
+          fallen = is.falls (site_of m i.place) i.insn Flow g f followed.after followed.steps.0 le fit.no_top fine.no_bottom (at-site w m mo followed.steps.1);
         }) below
 
     -- what the rule gives for the lesser frame is below what it gives for the greater one
     pub step-below : (i : Placed) (f g : Frame) → (s : Follows i f) → Steps w m i f g → FrameBelow w.classes g s.followed.after
-    step-below i f g s steps = subst (λ x. FrameBelow w.classes x s.followed.after) ((is.decides (site_of m i.place) i.insn Flow f).one s.fallen.applies steps.1) s.fallen.lower
+    step-below i f g s steps = subst (λ x. FrameBelow w.classes x s.followed.after) ((is.decides (site_of m i.place) i.insn Flow f).one s.fallen.applies (at-site w m mo steps.1)) s.fallen.lower
 
     pub record IsUnder (p : ℕ) (f : Frame) : Type 0 where
       pub reached : IsReached m p
@@ -213,7 +211,7 @@ module _ (w : Linked) (is : AreRules w) (m : Method) (mo : IsMethodOf w m) where
       reached = caught u.reached c cov;
       below = some_to (FrameBelow w.classes f) (At frames h.entry (FrameBelow w.classes (caught_frame h f))) (frames p)
           (λ g there le. some_map (FrameBelow w.classes (caught_frame h g)) (FrameBelow w.classes (caught_frame h f)) (frames h.entry)
-          (λ k above. frame-trans w.classes (record { regs = le.regs; stack = cells-same w.classes (Class h.class ∷ []) }) above)
+          (λ k above. frame-trans w.classes is.order (record { regs = le.regs; stack = is.order.self (Class h.class ∷ []) }) above)
           (some_at (λ g. At frames h.entry (FrameBelow w.classes (caught_frame h g))) there (ty.handlers p h u.reached c cov))) u.below;
     }
     derived-under (derived_next {i} {q} {f} {g} d st s to) =
@@ -221,7 +219,7 @@ module _ (w : Linked) (is : AreRules w) (m : Method) (mo : IsMethodOf w m) where
         let follow = followed-below i f (derived-fine d) u.reached st u.below in
         record {
           reached = follows st u.reached to;
-          below = some_map (FrameBelow w.classes follow.followed.after) (FrameBelow w.classes g) (frames q) (λ k above. frame-trans w.classes (step-below i f g follow s) above) (follow.followed.below q to);
+          below = some_map (FrameBelow w.classes follow.followed.after) (FrameBelow w.classes g) (frames q) (λ k above. frame-trans w.classes is.order (step-below i f g follow s) above) (follow.followed.below q to);
         }
     derived-under (derived_joined {p} {f} {g} {j} d e merges) =
         let u = derived-under d in

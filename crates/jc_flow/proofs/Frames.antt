@@ -2,13 +2,13 @@
 use Rattle.std.proofs.Common.{◌≡◌, ℕ, zero, suc, true, List, [], ◌∷◌, length, replicate, All, sym, arith}
 use Rattle.jc_base.specs.declared.ty.Ty.{Ty}
 use Rattle.jc_base.specs.declared.ty.Ty.TheVariants.{Bottom, Short, IntHigh, IntLow, Null, Class, ArrBool, ArrByte, ArrShort, ArrInt, ArrRef, Fresh, Top}
-use Rattle.jc_base.specs.Class.{ClassTable, AreClasses}
+use Rattle.jc_base.specs.Class.{ClassTable}
+use Rattle.jc_base.specs.Laws.{IsOrderOfTypes}
 use Rattle.jc_base.specs.Order.{Below, IsJoin, is_below}
-use Rattle.jc_base.proofs.Subtypes.{is_below-from_Below}
 use Rattle.jc_rules.specs.Demand.{Frame}
 use Rattle.jc_rules.specs.Flow.{CellsBelow, no_cells, more_cells, FrameBelow, CellsJoin, none_joined, more_joined, IsNotFresh, IsNotTop}
 use Rattle.jc_rules.specs.Laws.{IsNotBottom}
-use Rattle.jc_rules.proofs.CellLists.{cells-same, cells-trans, cells-length}
+use Rattle.jc_rules.specs.FlowLaws.{IsOrderOfCells}
 
 -- ---- all cells of a list
 
@@ -37,11 +37,11 @@ IsReady ty = IsNotFresh ty × IsNotTop ty
 -- ---- the order
 
 module _ (t : ClassTable) where
-  pub frame-same : (f : Frame) → FrameBelow t f f
-  frame-same f = record { regs = cells-same t f.regs; stack = cells-same t f.stack }
+  pub frame-same : IsOrderOfCells t → (f : Frame) → FrameBelow t f f
+  frame-same order f = record { regs = order.self f.regs; stack = order.self f.stack }
 
-  pub frame-trans : {f g h : Frame} → FrameBelow t f g → FrameBelow t g h → FrameBelow t f h
-  frame-trans p q = record { regs = cells-trans t p.regs q.regs; stack = cells-trans t p.stack q.stack }
+  pub frame-trans : IsOrderOfCells t → {f g h : Frame} → FrameBelow t f g → FrameBelow t g h → FrameBelow t f h
+  frame-trans order p q = record { regs = order.through p.regs q.regs; stack = order.through p.stack q.stack }
 
   -- what holds of what is below something of which it holds
   module _ (P Q : Ty → Type 0) (falls : (a b : Ty) → Below t a b → Q b → P a) where
@@ -63,8 +63,8 @@ module _ (t : ClassTable) where
   join-least none_joined p q = p
   join-least (more_joined h j) (more_cells p ps) (more_cells q qs) = more_cells (h.least _ p q) (join-least j ps qs)
 
-  pub join-length : {xs ys js : List Ty} → CellsJoin t xs ys js → length js ≡ length xs
-  join-length j = sym (cells-length t (join-left j))
+  pub join-length : IsOrderOfCells t → {xs ys js : List Ty} → CellsJoin t xs ys js → length js ≡ length xs
+  join-length order j = sym (order.lengths (join-left j))
 
   -- what holds of a join of types of which it holds
   module _ (P : Ty → Type 0) (joins : (a b j : Ty) → P a → P b → IsJoin t a b j → P j) where
@@ -73,7 +73,7 @@ module _ (t : ClassTable) where
     join-all (more_joined {a} {b} {j} {xs} {ys} {js} h rest) p q =
         all_more P j js (joins a b j (all_first P a xs p) (all_first P b ys q) h) (join-all rest (all_rest P a xs p) (all_rest P b ys q))
 
-  module _ (are : AreClasses t) where
+  module _ (are : IsOrderOfTypes t) where
     -- ---- Bottom, Top and uninitialised objects
 
     under_bottom : (a : Ty) → is_below t a Bottom ≡ true → IsNotBottom a → ⊥
@@ -94,7 +94,7 @@ module _ (t : ClassTable) where
 
     -- what is above a type that is not Bottom is not Bottom
     pub full-rises : (a b : Ty) → Below t a b → IsNotBottom a → IsNotBottom b
-    full-rises a Bottom h n = under_bottom a (is_below-from_Below t are h) n
+    full-rises a Bottom h n = under_bottom a ((are.decided a Bottom).1 h) n
     full-rises a Short h n = tt
     full-rises a IntHigh h n = tt
     full-rises a IntLow h n = tt
@@ -129,7 +129,7 @@ module _ (t : ClassTable) where
 
     -- what is below a type that is not Top is not Top
     pub topless-falls : (a b : Ty) → Below t a b → IsNotTop b → IsNotTop a
-    topless-falls Top b h n = over_top b (is_below-from_Below t are h) n
+    topless-falls Top b h n = over_top b ((are.decided Top b).1 h) n
     topless-falls Bottom b h n = tt
     topless-falls Short b h n = tt
     topless-falls IntHigh b h n = tt
@@ -161,7 +161,7 @@ module _ (t : ClassTable) where
 
     -- what is below a type that is neither is no uninitialised object
     pub ready-falls : (a b : Ty) → Below t a b → IsReady b → IsNotFresh a
-    ready-falls (Fresh p c) b h n = over_fresh p c b (is_below-from_Below t are h) n.0 n.1
+    ready-falls (Fresh p c) b h n = over_fresh p c b ((are.decided (Fresh p c) b).1 h) n.0 n.1
     ready-falls Top b h n = tt
     ready-falls Bottom b h n = tt
     ready-falls Short b h n = tt

@@ -8,7 +8,7 @@ use Rattle.jc_rules.specs.Demand.{Frame}
 use Rattle.jc_control.specs.Method.{Method}
 use Rattle.jc_rules.specs.Flow.{FrameBelow, At, Merges, derived_joined, IsNotFresh, caught_frame}
 use Rattle.jc_rules.specs.Typing.{state_at, rises_of}
-use Rattle.jc_rules.specs.FlowLaws.{JoinsStayReady}
+use Rattle.jc_rules.specs.FlowLaws.{JoinsStayReady, IsOrderOfCells}
 use Rattle.jc_flow.specs.Found.{Found, IsPending, with_state, taken, Lands, comes_first, stays, rises}
 use Rattle.jc_flow.specs.Progress.{IsHeld, AreHeld, IsClosed, AreClosed, rises_there, one_if, work, Grown}
 use Rattle.jc_flow.proofs.Frames.{frame-same, frame-trans, join-left, join-right, join-length, join-all}
@@ -64,10 +64,10 @@ pending-left found p q n h = get_or-set_other found.pending p q false false n �
 
 -- ---- growing
 
-module _ (t : ClassTable) (most : ℕ) where
+module _ (t : ClassTable) (order : IsOrderOfCells t) (most : ℕ) where
   pub grown-same : (found : Found) → Grown t most found found
   grown-same found = record {
-    above = λ p f e. at_some (FrameBelow t f) e (frame-same t f);
+    above = λ p f e. at_some (FrameBelow t f) e (frame-same t order f);
     stays = λ p. inl refl;
     keeps = λ p h. h;
     less = omega arith;
@@ -76,7 +76,7 @@ module _ (t : ClassTable) (most : ℕ) where
   pub at-above : (old new : Found) (f : Frame) → ((p : ℕ) (f : Frame) → state_at old.states p ≡ Some f → At (state_at new.states) p (FrameBelow t f)) → (p : ℕ) → At (state_at old.states) p (FrameBelow t f) → At (state_at new.states) p (FrameBelow t f)
   at-above old new f above p h =
       some_to (FrameBelow t f) (At (state_at new.states) p (FrameBelow t f)) (state_at old.states p)
-      (λ g e le. some_map (FrameBelow t g) (FrameBelow t f) (state_at new.states p) (λ k up. frame-trans t le up) (above p g e)) h
+      (λ g e le. some_map (FrameBelow t g) (FrameBelow t f) (state_at new.states p) (λ k up. frame-trans t order le up) (above p g e)) h
 
   pub at-grown : (old new : Found) (f : Frame) → Grown t most old new → (p : ℕ) → At (state_at old.states) p (FrameBelow t f) → At (state_at new.states) p (FrameBelow t f)
   at-grown old new f g p h = at-above old new f g.above p h
@@ -111,7 +111,7 @@ module _ (t : ClassTable) (most : ℕ) where
     set-grown o e lt below = record {
       above = λ p f h. elim (same_or_not place p) [
         | inl here ↦ subst (λ q. At (state_at (with_state old place j).states) q (FrameBelow t f)) (sym here) (at_some (FrameBelow t f) (state_at-here old.states place j inside) (below f (sym e ∙ ap (state_at old.states) (sym here) ∙ h)))
-        | inr n ↦ at_some (FrameBelow t f) (state_at-other old.states place p j n ∙ h) (frame-same t f)
+        | inr n ↦ at_some (FrameBelow t f) (state_at-other old.states place p j n ∙ h) (frame-same t order f)
       ];
       stays = λ p. elim (same_or_not place p) [
         | inl here ↦ inr (subst (IsPending (with_state old place j)) (sym here) (pending-here old place j flag))
@@ -136,7 +136,7 @@ module _ (t : ClassTable) (most : ℕ) where
 
   pub lands-above : {old new : Found} {place : ℕ} {f : Frame} → place < length old.states → Lands t old place f new → At (state_at new.states) place (FrameBelow t f)
   lands-above {old} {new} {place} {f} inside (comes_first e is) =
-      subst (λ x. At (state_at x.states) place (FrameBelow t f)) (sym is) (at_some (FrameBelow t f) (state_at-here old.states place f inside) (frame-same t f))
+      subst (λ x. At (state_at x.states) place (FrameBelow t f)) (sym is) (at_some (FrameBelow t f) (state_at-here old.states place f inside) (frame-same t order f))
   lands-above {old} {new} {place} {f} inside (stays g e merges is) =
       subst (λ x. At (state_at x.states) place (FrameBelow t f)) (sym is) (at_some (FrameBelow t f) e (record { regs = join-right t merges.regs; stack = join-right t merges.stack }))
   lands-above {old} {new} {place} {f} inside (rises g j e merges lt is) =
@@ -152,12 +152,12 @@ module _ (t : ClassTable) (most : ℕ) where
 
 -- ---- frames that may stand where they stand
 
-module _ (w : Linked) (ready_joins : JoinsStayReady w.classes) (m : Method) where
+module _ (w : Linked) (order : IsOrderOfCells w.classes) (ready_joins : JoinsStayReady w.classes) (m : Method) where
   pub joined-held : (p : ℕ) (g f j : Frame) → IsHeld w m p g → IsHeld w m p f → Merges w.classes g f j → IsHeld w m p j
   joined-held p g f j a b merges = record {
     derived = derived_joined a.derived b.derived merges;
     place = a.place;
-    room = omega (arith, join-length w.classes merges.stack, a.room);
+    room = omega (arith, join-length w.classes order merges.stack, a.room);
     no_top = merges.no_top;
     ready = λ l. join-all w.classes IsNotFresh ready_joins merges.stack (a.ready l) (b.ready l);
   }
@@ -188,8 +188,8 @@ module _ (w : Linked) (ready_joins : JoinsStayReady w.classes) (m : Method) wher
 
   pub closed-raised : (old new : Found) (p : ℕ) (f : Frame) → ((q : ℕ) (g : Frame) → state_at old.states q ≡ Some g → At (state_at new.states) q (FrameBelow w.classes g)) → IsClosed w m old p f → IsClosed w m new p f
   closed-raised old new p f above c = record {
-    handlers = λ h k cov. at-above w.classes 0 old new (caught_frame h f) above h.entry (c.handlers h k cov);
-    rule = λ i st e. let r = c.rule i st e in record { after = r.after; steps = r.steps; below = λ q to. at-above w.classes 0 old new r.after above q (r.below q to); ready = r.ready };
+    handlers = λ h k cov. at-above w.classes order 0 old new (caught_frame h f) above h.entry (c.handlers h k cov);
+    rule = λ i st e. let r = c.rule i st e in record { after = r.after; steps = r.steps; below = λ q to. at-above w.classes order 0 old new r.after above q (r.below q to); ready = r.ready };
     stays = c.stays;
   }
 

@@ -1,12 +1,13 @@
 -- Where the instruction at the place of a frame leads: what it gives may stand there, or the place fails.
-use Rattle.std.proofs.Common.{◌≡◌, ℕ, ◌+◌, ◌≤◌, Bool, true, false, List, [], ◌∷◌, length, All, IsTrue, Option, Some, refl, ◌∙◌, ap, subst, arith, if◌then◌else◌, map}
-use Rattle.std.specs.Prelude.{ℤ, pos, ◌≤ℤ◌, ◌<ℤ◌}
+use Rattle.std.proofs.Common.{◌≡◌, ℕ, ◌+◌, ◌<◌, ◌≤◌, inl, inr, Bool, true, false, List, [], ◌∷◌, length, All, IsTrue, refl, ◌∙◌, ap, subst, arith, if◌then◌else◌, map}
+use Rattle.std.specs.Prelude.{ℤ, pos, negsuc, ◌≤ℤ◌, ◌<ℤ◌}
 use Rattle.std.specs.List.{Contains}
+use Rattle.std.proofs.lemmas.Int.{ints}
 use Rattle.jc_base.specs.declared.ty.Ty.{Ty}
 use Rattle.jc_base.specs.declared.ty.Ty.TheVariants.{Class}
 use Rattle.jc_base.specs.declared.record.Handler.{Handler}
 use Rattle.jc_base.specs.World.{Linked}
-use Rattle.jc_rules.specs.FlowLaws.{AreRules}
+use Rattle.jc_rules.specs.FlowLaws.{AreRules, IsOrderOfCells}
 use Rattle.jc_decode.specs.declared.insn.Insn.{Insn}
 use Rattle.jc_decode.specs.declared.insn.Placed.{Placed}
 use Rattle.jc_decode.specs.Cases.{cases}
@@ -14,12 +15,11 @@ use Rattle.jc_decode.specs.Listing.{falls, jumps, target, targets}
 use Rattle.jc_ops.specs.declared.fault.RuleFault.TheVariants.{FreshKept, StackMerge, Overflow}
 use Rattle.jc_rules.specs.Demand.{Frame}
 use Rattle.jc_control.specs.Method.{Method, IsMethodOf}
-use Rattle.jc_control.specs.WellFormed.{IsWellFormed, Stands, IsPlace, IsTargetPlace, IsHandlerOf}
+use Rattle.jc_control.specs.WellFormed.{IsWellFormed, Stands, IsPlace, IsBoundary, IsTargetPlace, IsHandlerOf}
+use Rattle.jc_control.specs.Laws.{AreListed}
 use Rattle.jc_control.specs.Control.{IsSuccessor, falls_through, jumped, IsLeader, Covers}
 use Rattle.jc_rules.specs.Flow.{IsNotFresh, IsNotTop, caught_frame, derived_next, derived_caught}
 use Rattle.jc_rules.specs.Typing.{state_at, Clashes}
-use Rattle.jc_control.proofs.Elements.{nothing-in}
-use Rattle.jc_control.proofs.Listed.{target-range}
 use Rattle.jc_flow.specs.declared.table.PutEnd.{PutEnd}
 use Rattle.jc_flow.specs.declared.table.PutEnd.TheVariants.{Clash, Memory}
 use Rattle.jc_flow.specs.Found.{Found, Prevents}
@@ -30,7 +30,6 @@ use Rattle.jc_flow.proofs.Growth.{grown-same}
 use Rattle.jc_flow.specs.Fails.{FailsAt, fails_leader, fails_merge, fails_caught, fails_handler, IsFailure}
 use Rattle.jc_flow.specs.Visit.{HasStepped, Goes, broken_at}
 use Rattle.jc_flow.proofs.Steps.{stands-here}
-use Rattle.jc_control.proofs.Closing.{place-after}
 
 pub frame-is : (regs stack : List Ty) (f : Frame) → regs ≡ f.regs → stack ≡ f.stack → ◌≡◌ {A = Frame} (record { regs = regs; stack = stack }) f
 frame-is regs stack f e h =
@@ -38,36 +37,48 @@ frame-is regs stack f e h =
     let of_stack : List Ty → Frame = λ xs. record { regs = f.regs; stack = xs } in
     ap of_regs e ∙ ap of_stack h
 
-pub goes-same : (w : Linked) (m : Method) (found : Found) → AreHeld w m found → Goes w m found found
-goes-same w m found h = record { grown = grown-same w.classes (most_rises w.classes m) found; held = h }
-
-some-same : {X : Type 0} {a b : X} {o : Option X} → o ≡ Some a → o ≡ Some b → a ≡ b
-some-same e f = cc
+pub goes-same : (w : Linked) → IsOrderOfCells w.classes → (m : Method) (found : Found) → AreHeld w m found → Goes w m found found
+goes-same w order m found h = record { grown = grown-same w.classes order (most_rises w.classes m) found; held = h }
 
 -- what has targets is a branch or a switch
 if-jumps : (b : Bool) (xs : List ℤ) (t : ℤ) → Contains (if b then xs else []) t → b ≡ true
 if-jumps true xs t c = refl
-if-jumps false xs t c = absurd (nothing-in t c)
+if-jumps false xs t c = absurd (omega (arith, c.1))
 
 pub targets-jump : (code : List ℕ) (i : Placed) (t : ℤ) → Contains (targets code i) t → IsTrue (jumps i.insn.op)
 unfolding targets
 targets-jump code i t c = if-jumps (jumps i.insn.op) (target i.place i.insn.x ∷ map (λ c. target i.place c.offset) (cases code i.place i.insn)) t c
 
+-- a target that is a place is a number that fits in sixteen bits
+target-range : (code : List ℕ) → AreListed code → (t : ℤ) → IsTargetPlace code t → length code ≤ 32767 → (pos 0 ≤ℤ t) × (t <ℤ pos 65536)
+target-range code listed (pos p) h short =
+    let inside : p < length code = subst (λ q. q < length code) h.2 (listed.inside h.0 h.1) in
+    (omega (arith, ints), omega (arith, ints))
+target-range code listed (negsuc n) h short = absurd h
+
+-- where the code goes on after an instruction one stands
+inside-code : (code : List ℕ) → ((i : Placed) → Stands code i → IsBoundary code (i.place + i.insn.len)) → (i : Placed) → Stands code i → i.place + i.insn.len < length code → IsPlace code (i.place + i.insn.len)
+inside-code code next i st lt = by (next i st)
+  where
+    by : IsBoundary code (i.place + i.insn.len) → IsPlace code (i.place + i.insn.len)
+    by (inl end) = absurd (omega (arith, lt, end))
+    by (inr place) = place
+
 module _ (w : Linked) (is : AreRules w) (m : Method) (mo : IsMethodOf w m) (formed : IsWellFormed m) (p : ℕ) (f g : Frame) (insn : Insn) (here : IsHeld w m p f) (st : HasStepped w m p f g insn) where
   stands : Stands m.code (record { place = p; insn = insn })
-  stands = stands-here m.code p here.place insn st.decodes
+  stands = stands-here m.code (is.listed m.code) p here.place insn st.decodes
 
   step-held : (q : ℕ) → IsSuccessor m.code (record { place = p; insn = insn }) q → IsPlace m.code q → (IsLeader m q → All IsNotFresh g.stack) → IsHeld w m q g
   step-held q to place ready = record {
     derived = derived_next here.derived stands st.steps to;
     place = place;
-    room = subst (λ r. length g.stack ≤ r.max_stack) (some-same st.steps.1.is_method mo.rec) st.steps.1.rule.does.room;
+    room = st.steps.1.does.room;
     no_top = (step-keeps w is m mo (record { place = p; insn = insn }) f g (derived-fine w is m mo here.derived) st.steps).no_top here.no_top;
     ready = ready;
   }
 
   pub next-held : IsTrue (falls insn.op) → (IsLeader m (p + insn.len) → All IsNotFresh g.stack) → IsHeld w m (p + insn.len) g
-  next-held on ready = step-held (p + insn.len) (falls_through on) (place-after m formed (record { place = p; insn = insn }) stands (st.stays on)) ready
+  next-held on ready = step-held (p + insn.len) (falls_through on) (inside-code m.code (is.placed m formed).next (record { place = p; insn = insn }) stands (st.stays on)) ready
 
   pub target-there : (t : ℤ) → Contains (targets m.code (record { place = p; insn = insn })) t → IsTargetPlace m.code t
   target-there t c = all_contained (IsTargetPlace m.code) (targets m.code (record { place = p; insn = insn })) t (formed.targets (record { place = p; insn = insn }) stands) c
@@ -76,7 +87,7 @@ module _ (w : Linked) (is : AreRules w) (m : Method) (mo : IsMethodOf w m) (form
   target-held q c = step-held q (jumped c) (target-there (pos q) c) (λ l. st.ready (targets-jump m.code (record { place = p; insn = insn }) (pos q) c))
 
   pub target-ranges : (t : ℤ) → length m.code ≤ 32767 → Contains (targets m.code (record { place = p; insn = insn })) t → (pos 0 ≤ℤ t) × (t <ℤ pos 65536)
-  target-ranges t short c = target-range m.code t (target-there t c) short
+  target-ranges t short c = target-range m.code (is.listed m.code) t (target-there t c) short
 
   pub caught-held : (h : Handler) → Contains m.rec.handlers h → Covers h p → ¬ (m.rec.max_stack ≡ 0) → IsHeld w m h.entry (caught_frame h f)
   caught-held h c cov n = record {

@@ -5,17 +5,17 @@ use Rattle.std.proofs.lemmas.List.Sums.{sum_by-cons}
 use Rattle.jc_base.specs.declared.ty.Ty.{Ty}
 use Rattle.jc_base.specs.Class.{ClassTable, height}
 use Rattle.jc_base.specs.Order.{rises_left}
-use Rattle.jc_base.proofs.Joins.{rises-bound}
+use Rattle.jc_base.specs.Laws.{IsOrderOfTypes}
 use Rattle.jc_rules.specs.Demand.{Frame}
 use Rattle.jc_control.specs.Method.{Method}
 use Rattle.jc_rules.specs.Typing.{rises_of}
 use Rattle.jc_flow.specs.Progress.{most_rises}
 
-cells-rise : (t : ClassTable) (xs : List Ty) → sum_by (rises_left t) xs ≤ length xs * (height t + 3)
-cells-rise t [] = omega arith
-cells-rise t (x ∷ xs) =
-    let rest = cells-rise t xs in
-    let here = rises-bound t x in
+cells-rise : (t : ClassTable) → IsOrderOfTypes t → (xs : List Ty) → sum_by (rises_left t) xs ≤ length xs * (height t + 3)
+cells-rise t order [] = omega arith
+cells-rise t order (x ∷ xs) =
+    let rest = cells-rise t order xs in
+    let here = order.seldom x in
     let sum = sum_by-cons (rises_left t) x xs in
     let more : suc (length xs) * (height t + 3) ≡ length xs * (height t + 3) + (height t + 3) = suc-mul (length xs) (height t + 3) in
     omega arith
@@ -27,9 +27,9 @@ bounded a b n c k e le =
     let less : b * k ≤ c * k = mul-le-mul_right k le in
     omega arith
 
-pub frame-rises : (t : ClassTable) (m : Method) (f : Frame) → length f.regs ≡ m.rec.nargs + m.rec.max_locals → length f.stack ≤ m.rec.max_stack → rises_of t f < most_rises t m
-frame-rises t m f e le =
-    let regs = cells-rise t f.regs in
-    let stack = cells-rise t f.stack in
+pub frame-rises : (t : ClassTable) → IsOrderOfTypes t → (m : Method) (f : Frame) → length f.regs ≡ m.rec.nargs + m.rec.max_locals → length f.stack ≤ m.rec.max_stack → rises_of t f < most_rises t m
+frame-rises t order m f e le =
+    let regs = cells-rise t order f.regs in
+    let stack = cells-rise t order f.stack in
     let both = bounded (length f.regs) (length f.stack) (m.rec.nargs + m.rec.max_locals) m.rec.max_stack (height t + 3) e le in
     omega arith

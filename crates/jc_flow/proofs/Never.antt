@@ -4,30 +4,31 @@ use Rattle.std.specs.Prelude.{ℤ, pos, negsuc, map}
 use Rattle.std.proofs.lemmas.List.Elements.{All-head}
 use Rattle.jc_base.specs.declared.ty.Ty.{Ty}
 use Rattle.jc_base.specs.declared.ty.Ty.TheVariants.{Top}
-use Rattle.jc_base.specs.Class.{ClassTable, AreClasses}
+use Rattle.jc_base.specs.Class.{ClassTable}
+use Rattle.jc_base.specs.Laws.{IsOrderOfTypes}
 use Rattle.jc_base.specs.World.{Linked}
-use Rattle.jc_rules.specs.FlowLaws.{AreRules}
+use Rattle.jc_rules.specs.FlowLaws.{AreRules, IsOrderOfCells}
 use Rattle.jc_decode.specs.declared.insn.Placed.{Placed}
 use Rattle.jc_decode.specs.Cases.{cases}
 use Rattle.jc_decode.specs.Listing.{jumps, target, targets}
 use Rattle.jc_ops.specs.declared.fault.RuleFault.{RuleFault}
 use Rattle.jc_rules.specs.declared.effect.Mode.TheVariants.{Flow}
 use Rattle.jc_rules.specs.Demand.{Frame}
-use Rattle.jc_rules.specs.Apply.{Refuses}
+use Rattle.jc_rules.specs.Apply.{RuleRefuses}
 use Rattle.jc_control.specs.Method.{Method, IsMethodOf}
 use Rattle.jc_control.specs.WellFormed.{Stands, IsTargetPlace}
 use Rattle.jc_control.specs.Control.{IsReached, follows, jumped}
-use Rattle.jc_rules.specs.Flow.{IsNotFresh, IsNotTop, FrameBelow, IsFit, site_of, caught_frame, IsDerived, derived_next, derived_caught, FlowTyping, HasFlowTyping}
+use Rattle.jc_rules.specs.Flow.{IsNotFresh, IsNotTop, FrameBelow, IsFit, caught_frame, IsDerived, derived_next, derived_caught, FlowTyping, HasFlowTyping}
 use Rattle.jc_rules.specs.Typing.{Clashes, depths, cells}
 use Rattle.jc_flow.proofs.Frames.{IsReady, cells-fall, join-least, topless-falls, ready-falls}
-use Rattle.jc_rules.proofs.CellLists.{cells-length}
+use Rattle.jc_flow.proofs.Steps.{site_of, refuses-at-site}
 use Rattle.jc_flow.proofs.Derived.{derived-fine, derived-under, followed-below, step-below, some_to, some_at, Follows}
 use Rattle.jc_flow.specs.Fails.{Fails, fails_rule, fails_jump, fails_leader, fails_merge, fails_caught, fails_handler, FailsAt, FallsPast}
 
 -- frames below one without Top do not clash
-clash-never : (t : ClassTable) → AreClasses t → (a b u : Frame) → All IsNotTop u.stack → FrameBelow t a u → FrameBelow t b u → Clashes t a b → ⊥
-clash-never t are a b u none p q (depths n) = n (cells-length t p.stack ∙ sym (cells-length t q.stack))
-clash-never t are a b u none p q (cells {joined} j n) = n (cells-fall t IsNotTop IsNotTop (topless-falls t are) (join-least t j p.stack q.stack) none)
+clash-never : (t : ClassTable) → IsOrderOfTypes t → IsOrderOfCells t → (a b u : Frame) → All IsNotTop u.stack → FrameBelow t a u → FrameBelow t b u → Clashes t a b → ⊥
+clash-never t are order a b u none p q (depths n) = n (order.lengths p.stack ∙ sym (order.lengths q.stack))
+clash-never t are order a b u none p q (cells {joined} j n) = n (cells-fall t IsNotTop IsNotTop (topless-falls t are) (join-least t j p.stack q.stack) none)
 
 -- a branch or switch of a well-formed method has a target in the code
 jump-leads : (code : List ℕ) (i : Placed) → All (IsTargetPlace code) (targets code i) → IsTrue (jumps i.insn.op) → (q : ℕ) × Contains (targets code i) (pos q)
@@ -74,16 +75,16 @@ module _ (w : Linked) (is : AreRules w) (m : Method) (mo : IsMethodOf w m) (fram
       let u = derived-under w is m mo frames ty d in
       let fit = ty.fit to.0 (follows st u.reached (jumped to.1)) in
       some_to (FrameBelow w.classes s.followed.after) (All IsNotTop s.followed.after.stack) (frames to.0)
-      (λ g there le. cells-fall w.classes IsNotTop IsNotTop (topless-falls w.classes is.world.chains) le.stack (some_at (IsFit m) there fit).no_top)
+      (λ g there le. cells-fall w.classes IsNotTop IsNotTop (topless-falls w.classes is.types) le.stack (some_at (IsFit m) there fit).no_top)
       (s.followed.below to.0 (jumped to.1))
 
   no-fresh : (g u : Frame) → FrameBelow w.classes g u → All IsNotFresh u.stack → All IsNotTop u.stack → All IsNotFresh g.stack
-  no-fresh g u le ready topless = cells-fall w.classes IsNotFresh IsReady (ready-falls w.classes is.world.chains) le.stack (both IsNotFresh IsNotTop u.stack ready topless)
+  no-fresh g u le ready topless = cells-fall w.classes IsNotFresh IsReady (ready-falls w.classes is.types) le.stack (both IsNotFresh IsNotTop u.stack ready topless)
 
   pub fails-never : (p : ℕ) (f : Frame) (fault : RuleFault) → IsDerived w m Top p f → Fails w m p f fault → ⊥
   fails-never p f fault d (fails_rule i st e r) =
       let s = follow i f (at-instruction i p f e d) st in
-      (is.decides (site_of m i.place) i.insn Flow f).never_both s.fallen.applies (subst (λ q. Refuses w (site_of m q) i.insn f fault) (sym e) r)
+      (is.decides (site_of m i.place) i.insn Flow f).never_both s.fallen.applies (refuses-at-site w m mo (subst (λ q. RuleRefuses w m.rec q i.insn f fault) (sym e) r))
   fails-never p f fault d (fails_jump i g st e steps j n) =
       let here = at-instruction i p f e d in
       let s = follow i f here st in
@@ -94,14 +95,14 @@ module _ (w : Linked) (is : AreRules w) (m : Method) (mo : IsMethodOf w m) (fram
   fails-never p f fault d (fails_merge i g other q st e steps to od clash) =
       let u = above q g (derived_next (at-instruction i p f e d) st steps to) in
       let v = derived-under w is m mo frames ty od in
-      clash-never w.classes is.world.chains other g u.frame u.fit.no_top (some_at (FrameBelow w.classes other) u.there v.below) u.below clash
+      clash-never w.classes is.types is.order other g u.frame u.fit.no_top (some_at (FrameBelow w.classes other) u.there v.below) u.below clash
   fails-never p f fault d (fails_caught h other c cov od clash) =
       let u = above h.entry (caught_frame h f) (derived_caught d c cov) in
       let v = derived-under w is m mo frames ty od in
-      clash-never w.classes is.world.chains other (caught_frame h f) u.frame u.fit.no_top (some_at (FrameBelow w.classes other) u.there v.below) u.below clash
+      clash-never w.classes is.types is.order other (caught_frame h f) u.frame u.fit.no_top (some_at (FrameBelow w.classes other) u.there v.below) u.below clash
   fails-never p f fault d (fails_handler h c cov e) =
       let u = above h.entry (caught_frame h f) (derived_caught d c cov) in
-      absurd (omega (arith, cells-length w.classes u.below.stack, u.fit.room, e))
+      absurd (omega (arith, is.order.lengths u.below.stack, u.fit.room, e))
 
   pub falls-never : (p : ℕ) → FallsPast w m p → ⊥
   falls-never p h =

@@ -6,7 +6,6 @@ use Rattle.jc_rules.specs.FlowLaws.{AreRules}
 use Rattle.jc_rules.specs.Demand.{Frame}
 use Rattle.jc_control.specs.Method.{Method, IsMethodOf}
 use Rattle.jc_rules.specs.Typing.{state_at}
-use Rattle.jc_control.proofs.Listed.{place-inside}
 use Rattle.jc_flow.specs.declared.table.PutEnd.{PutEnd}
 use Rattle.jc_flow.specs.Found.{Found, HasKnown, Lands, Prevents}
 use Rattle.jc_base.specs.Class.{ClassTable}
@@ -18,11 +17,14 @@ use Rattle.jc_flow.specs.Visit.{Raised}
 
 module _ (w : Linked) (is : AreRules w) (m : Method) (mo : IsMethodOf w m) where
   module _ (found : Found) (held : AreHeld w m found) (to : ℕ) (f : Frame) (h : IsHeld w m to f) where
+    in-code : to < length m.code
+    in-code = subst (λ q. q < length m.code) h.place.2 ((is.listed m.code).inside h.place.0 h.place.1)
+
     pub place-there : to < length found.states
-    place-there = let inside : to < length m.code = place-inside m.code to h.place in omega (arith, held.places)
+    place-there = let inside : to < length m.code = in-code in omega (arith, held.places)
 
     flag-there : to < length found.pending
-    flag-there = let inside : to < length m.code = place-inside m.code to h.place in omega (arith, held.flags)
+    flag-there = let inside : to < length m.code = in-code in omega (arith, held.flags)
 
     pub regs-known : All (IsKnown w.classes) f.regs
     regs-known = (derived-fine w is m mo h.derived).known.regs
@@ -42,10 +44,10 @@ module _ (w : Linked) (is : AreRules w) (m : Method) (mo : IsMethodOf w m) where
     pub raised : (new : Found) → Lands w.classes found to f new → Raised w m found new to f
     raised new lands = record {
       goes = record {
-        grown = lands-grown w.classes _ place-there flag-there (frame-rises w.classes m f (derived-fine w is m mo h.derived).count h.room) lands;
-        held = lands-held w is.ready m place-there held h lands;
+        grown = lands-grown w.classes is.order _ place-there flag-there (frame-rises w.classes is.types m f (derived-fine w is m mo h.derived).count h.room) lands;
+        held = lands-held w is.order is.ready m place-there held h lands;
       };
-      above = lands-above w.classes 0 place-there lands;
+      above = lands-above w.classes is.order 0 place-there lands;
     }
 
     pub raise-result : (t : ClassTable) (new : Found) (r : Result (Unit {0}) PutEnd) → t ≡ w.classes → MatchResult r (λ _. Lands t found to f new) (Prevents t found to f) → MatchResult r (λ _. Raised w m found new to f) (Prevents w.classes found to f)

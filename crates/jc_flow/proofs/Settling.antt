@@ -2,7 +2,7 @@
 use Rattle.std.proofs.Common.{◌≡◌, ℕ, ◌+◌, ◌<◌, Option, Some, None, IsSome, IfSome, length, refl, subst, sym, arith}
 use Rattle.jc_base.specs.declared.ty.Ty.TheVariants.{Top}
 use Rattle.jc_base.specs.World.{Linked}
-use Rattle.jc_rules.specs.FlowLaws.{AreRules}
+use Rattle.jc_rules.specs.FlowLaws.{AreRules, IsOrderOfCells}
 use Rattle.jc_rules.specs.Demand.{Frame, AreKnown}
 use Rattle.jc_control.specs.Method.{Method, IsMethodOf}
 use Rattle.jc_control.specs.WellFormed.{IsWellFormed}
@@ -18,14 +18,14 @@ use Rattle.jc_flow.specs.Visit.{IsVisited}
 
 module _ (w : Linked) (is : AreRules w) (m : Method) (p : ℕ) (old new : Found) (v : IsVisited w m p (taken old p) new) where
   pub still-closed : AreClosed w m old → AreClosed w m new
-  still-closed closed = visited w is.ready m (most_rises w.classes m) old new p v.goes.grown closed v.closed
+  still-closed closed = visited w is.order is.ready m (most_rises w.classes m) old new p v.goes.grown closed v.closed
 
-module _ (w : Linked) (m : Method) (p : ℕ) (old new : Found) (v : IsVisited w m p (taken old p) new) where
+module _ (w : Linked) (order : IsOrderOfCells w.classes) (m : Method) (p : ℕ) (old new : Found) (v : IsVisited w m p (taken old p) new) where
   pub still-started : At (state_at old.states) 0 (FrameBelow w.classes (start_frame m.rec Top)) → At (state_at new.states) 0 (FrameBelow w.classes (start_frame m.rec Top))
-  still-started start = at-grown w.classes (most_rises w.classes m) (taken old p) new (start_frame m.rec Top) v.goes.grown 0 start
+  still-started start = at-grown w.classes order (most_rises w.classes m) (taken old p) new (start_frame m.rec Top) v.goes.grown 0 start
 
   pub still-less : IsPending old p → work w.classes (most_rises w.classes m) new < work w.classes (most_rises w.classes m) old
-  still-less waits = let less = taken-less w.classes (most_rises w.classes m) old p waits in omega (arith, v.goes.grown.less)
+  still-less waits = let less = taken-less w.classes order (most_rises w.classes m) old p waits in omega (arith, v.goes.grown.less)
 
 pub least-found : (w : Linked) → AreRules w → (m : Method) → IsMethodOf w m → IsWellFormed m → (found end : Found) → end ≡ found → AreHeld w m found → AreClosed w m found → NonePending found
     → At (state_at found.states) 0 (FrameBelow w.classes (start_frame m.rec Top)) → IsLeastTyping w m Top (state_at end.states)

@@ -1,5 +1,5 @@
 -- What the instruction at the place of a frame does.
-use Rattle.std.proofs.Common.{◌≡◌, ℕ, ◌+◌, ◌≤◌, List, length, reverse, All, IsTrue, Result, Ok, Err, refl, sym, ◌∙◌, ap, subst}
+use Rattle.std.proofs.Common.{◌≡◌, ℕ, ◌+◌, ◌≤◌, List, length, reverse, All, IsTrue, Option, Some, Result, Ok, Err, refl, sym, ◌∙◌, ap, subst}
 use Rattle.jc_base.specs.declared.ty.Ty.{Ty}
 use Rattle.jc_base.specs.World.{Linked}
 use Rattle.jc_decode.specs.declared.insn.Insn.{Insn}
@@ -9,12 +9,15 @@ use Rattle.jc_decode.specs.Listing.{falls, jumps}
 use Rattle.jc_ops.specs.declared.fault.RuleFault.{RuleFault}
 use Rattle.jc_ops.specs.declared.fault.RuleFault.TheVariants.{FreshKept}
 use Rattle.jc_rules.specs.Demand.{Frame}
-use Rattle.jc_rules.specs.Apply.{Refuses}
-use Rattle.jc_control.specs.Method.{Method}
+use Rattle.jc_ops.specs.declared.site.Site.{Site}
+use Rattle.jc_rules.specs.declared.effect.Mode.TheVariants.{Flow}
+use Rattle.jc_rules.specs.declared.rule.Outcome.{Outcome}
+use Rattle.jc_rules.specs.Apply.{Applies, Refuses, RuleApplies, RuleRefuses}
+use Rattle.jc_control.specs.Method.{Method, IsMethodOf}
 use Rattle.jc_control.specs.WellFormed.{Stands, IsPlace}
-use Rattle.jc_rules.specs.Flow.{IsNotFresh, Steps, site_of}
-use Rattle.jc_rules.proofs.Raising.{All-turned, All-reverse}
-use Rattle.jc_control.proofs.Listed.{decoded-Stands}
+use Rattle.jc_rules.specs.Flow.{IsNotFresh, Steps}
+use Rattle.jc_base.proofs.Lists.{All-turned, All-reverse}
+use Rattle.jc_control.specs.Laws.{AreListed}
 use Rattle.jc_flow.specs.Progress.{IsHeld}
 use Rattle.jc_flow.specs.Fails.{FailsAt, FallsPast, fails_rule, fails_jump}
 
@@ -28,9 +31,30 @@ all-of_slice P slice stack e all = subst (All P) e (All-reverse P slice all)
 pub all-to_slice : (P : Ty → Type 0) (slice stack : List Ty) → reverse slice ≡ stack → All P stack → All P slice
 all-to_slice P slice stack e all = All-turned P slice (subst (All P) (sym e) all)
 
-module _ (code : List ℕ) (p : ℕ) (here : IsPlace code p) where
+-- ---- the rule at the site of a method of the world
+
+abbrev pub site_of : Method → ℕ → Site
+site_of m place = record { method = m.number; place = place }
+
+some-same : {X : Type 0} {a b : X} {o : Option X} → o ≡ Some a → o ≡ Some b → a ≡ b
+some-same e f = cc
+
+module _ (w : Linked) (m : Method) (mo : IsMethodOf w m) where
+  pub at-site : {p : ℕ} {i : Insn} {f g : Frame} {o : Outcome} → RuleApplies w m.rec p i Flow f g o → Applies w (site_of m p) i Flow f g o
+  at-site a = record { method = m.rec; is_method = mo.rec; rule = a }
+
+  pub of-site : {p : ℕ} {i : Insn} {f g : Frame} {o : Outcome} → Applies w (site_of m p) i Flow f g o → RuleApplies w m.rec p i Flow f g o
+  of-site {p} {i} {f} {g} {o} a = subst (λ r. RuleApplies w r p i Flow f g o) (some-same a.is_method mo.rec) a.rule
+
+  pub refuses-at-site : {p : ℕ} {i : Insn} {f : Frame} {fault : RuleFault} → RuleRefuses w m.rec p i f fault → Refuses w (site_of m p) i f fault
+  refuses-at-site r = record { method = m.rec; is_method = mo.rec; rule = r }
+
+  pub refuses-of-site : {p : ℕ} {i : Insn} {f : Frame} {fault : RuleFault} → Refuses w (site_of m p) i f fault → RuleRefuses w m.rec p i f fault
+  refuses-of-site {p} {i} {f} {fault} r = subst (λ rec. RuleRefuses w rec p i f fault) (some-same r.is_method mo.rec) r.rule
+
+module _ (code : List ℕ) (listed : AreListed code) (p : ℕ) (here : IsPlace code p) where
   pub decoded-here : decoded code p ≡ Ok here.0.insn
-  decoded-here = ap (decoded code) (sym here.2) ∙ decoded-Stands code here.0 here.1
+  decoded-here = ap (decoded code) (sym here.2) ∙ listed.decodes here.0 here.1
 
   pub decodes-always : {end : CodeEnd} → decoded code p ≡ Err end → ⊥
   decodes-always e = let same = decoded-here in absurd (cc)
@@ -40,19 +64,19 @@ module _ (code : List ℕ) (p : ℕ) (here : IsPlace code p) where
       let same : here.0.insn ≡ insn = ok-same (sym decoded-here ∙ e) in
       subst (Stands code) (ap (λ q. record { place = q; insn = here.0.insn }) here.2 ∙ ap (λ i. record { place = p; insn = i }) same) here.1
 
-module _ (w : Linked) (m : Method) (p : ℕ) (f : Frame) (h : IsHeld w m p f) (insn : Insn) (d : decoded m.code p ≡ Ok insn) where
-  pub fail-rule : (fault : RuleFault) → Refuses w (site_of m p) insn f fault → FailsAt w m p fault
-  fail-rule fault r = record { frame = f; derived = h.derived; fails = fails_rule (record { place = p; insn = insn }) (stands-here m.code p h.place insn d) refl r }
+module _ (w : Linked) (m : Method) (listed : AreListed m.code) (p : ℕ) (f : Frame) (h : IsHeld w m p f) (insn : Insn) (d : decoded m.code p ≡ Ok insn) where
+  pub fail-rule : (fault : RuleFault) → RuleRefuses w m.rec p insn f fault → FailsAt w m p fault
+  fail-rule fault r = record { frame = f; derived = h.derived; fails = fails_rule (record { place = p; insn = insn }) (stands-here m.code listed p h.place insn d) refl r }
 
   pub fail-jump : (g : Frame) → Steps w m (record { place = p; insn = insn }) f g → IsTrue (jumps insn.op) → ¬ (All IsNotFresh g.stack) → FailsAt w m p FreshKept
-  fail-jump g s j n = record { frame = f; derived = h.derived; fails = fails_jump (record { place = p; insn = insn }) g (stands-here m.code p h.place insn d) refl s j n }
+  fail-jump g s j n = record { frame = f; derived = h.derived; fails = fails_jump (record { place = p; insn = insn }) g (stands-here m.code listed p h.place insn d) refl s j n }
 
   pub fall-past : (g : Frame) → Steps w m (record { place = p; insn = insn }) f g → (IsTrue (jumps insn.op) → All IsNotFresh g.stack) → IsTrue (falls insn.op) → length m.code ≤ p + insn.len → FallsPast w m p
   fall-past g s ready on past = record {
     frame = f;
     derived = h.derived;
     instruction = record { place = p; insn = insn };
-    stands = stands-here m.code p h.place insn d;
+    stands = stands-here m.code listed p h.place insn d;
     at = refl;
     after = g;
     steps = s;

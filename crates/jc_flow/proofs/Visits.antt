@@ -5,7 +5,7 @@ use Rattle.std.proofs.lemmas.List.{take_all}
 use Rattle.std.proofs.lemmas.List.Elements.{All-more}
 use Rattle.jc_base.specs.declared.record.Handler.{Handler}
 use Rattle.jc_base.specs.World.{Linked}
-use Rattle.jc_rules.specs.FlowLaws.{AreRules}
+use Rattle.jc_rules.specs.FlowLaws.{AreRules, IsOrderOfCells}
 use Rattle.jc_decode.specs.declared.insn.Insn.{Insn}
 use Rattle.jc_decode.specs.declared.insn.Placed.{Placed}
 use Rattle.jc_decode.specs.Listing.{falls, targets}
@@ -15,7 +15,6 @@ use Rattle.jc_control.specs.WellFormed.{Stands}
 use Rattle.jc_control.specs.Control.{IsSuccessor, falls_through, jumped}
 use Rattle.jc_rules.specs.Flow.{At, FrameBelow, IsFollowed, caught_frame}
 use Rattle.jc_rules.specs.Typing.{state_at}
-use Rattle.jc_control.proofs.Listed.{one-at}
 use Rattle.jc_flow.specs.Found.{Found}
 use Rattle.jc_flow.specs.Progress.{IsHeld, IsClosed, most_rises}
 use Rattle.jc_flow.proofs.Derived.{derived-fine, all_contained}
@@ -25,12 +24,12 @@ use Rattle.jc_flow.specs.Scratch.{Scratched, SuitsMethod}
 use Rattle.jc_flow.specs.Visit.{HasStepped, IsStep, Goes, IsCaught, IsAtTarget, IsVisited}
 use Rattle.jc_flow.proofs.Steps.{stands-here}
 
-module _ (w : Linked) (m : Method) where
+module _ (w : Linked) (order : IsOrderOfCells w.classes) (m : Method) where
   pub goes-on : (a b c : Found) → Goes w m a b → Goes w m b c → Goes w m a c
-  goes-on a b c g h = record { grown = grown-trans w.classes (most_rises w.classes m) g.grown h.grown; held = h.held }
+  goes-on a b c g h = record { grown = grown-trans w.classes order (most_rises w.classes m) g.grown h.grown; held = h.held }
 
   pub goes-above : (a b : Found) (f : Frame) → Goes w m a b → (q : ℕ) → At (state_at a.states) q (FrameBelow w.classes f) → At (state_at b.states) q (FrameBelow w.classes f)
-  goes-above a b f g q h = at-grown w.classes (most_rises w.classes m) a b f g.grown q h
+  goes-above a b f g q h = at-grown w.classes order (most_rises w.classes m) a b f g.grown q h
 
   -- ---- handlers
 
@@ -85,17 +84,17 @@ module _ (w : Linked) (is : AreRules w) (m : Method) (mo : IsMethodOf w m) (p : 
 
 -- ---- a visit
 
-module _ (w : Linked) (m : Method) (t0 t1 t2 t3 : Found) (p : ℕ) (f g : Frame) (insn : Insn) (here : IsHeld w m p f) (stepped : HasStepped w m p f g insn) (g1 : Goes w m t0 t1) (g2 : Goes w m t1 t2) (g3 : Goes w m t2 t3) (caught : All (IsCaught w p f t1) m.rec.handlers) (on : IsTrue (falls insn.op) → At (state_at t2.states) (p + insn.len) (FrameBelow w.classes g)) (reached : All (IsAtTarget w g t3) (targets m.code (record { place = p; insn = insn }))) where
+module _ (w : Linked) (is : AreRules w) (m : Method) (t0 t1 t2 t3 : Found) (p : ℕ) (f g : Frame) (insn : Insn) (here : IsHeld w m p f) (stepped : HasStepped w m p f g insn) (g1 : Goes w m t0 t1) (g2 : Goes w m t1 t2) (g3 : Goes w m t2 t3) (caught : All (IsCaught w p f t1) m.rec.handlers) (on : IsTrue (falls insn.op) → At (state_at t2.states) (p + insn.len) (FrameBelow w.classes g)) (reached : All (IsAtTarget w g t3) (targets m.code (record { place = p; insn = insn }))) where
   to-successor : (q : ℕ) → IsSuccessor m.code (record { place = p; insn = insn }) q → At (state_at t3.states) q (FrameBelow w.classes g)
-  to-successor q (falls_through falls_on) = goes-above w m t2 t3 g g3 q (on falls_on)
+  to-successor q (falls_through falls_on) = goes-above w is.order m t2 t3 g g3 q (on falls_on)
   to-successor q (jumped c) = all_contained (IsAtTarget w g t3) (targets m.code (record { place = p; insn = insn })) (pos q) reached c
 
   same-instruction : (i : Placed) → Stands m.code i → i.place ≡ p → record { place = p; insn = insn } ≡ i
-  same-instruction i st e = one-at m.code (record { place = p; insn = insn }) i (stands-here m.code p here.place insn stepped.decodes) st (sym e)
+  same-instruction i st e = (is.listed m.code).one (record { place = p; insn = insn }) i (stands-here m.code (is.listed m.code) p here.place insn stepped.decodes) st (sym e)
 
   visit-closed : IsClosed w m t3 p f
   visit-closed = record {
-    handlers = λ h c cov. goes-above w m t1 t3 (caught_frame h f) (goes-on w m t1 t2 t3 g2 g3) h.entry (all_contained (IsCaught w p f t1) m.rec.handlers h caught c cov);
+    handlers = λ h c cov. goes-above w is.order m t1 t3 (caught_frame h f) (goes-on w is.order m t1 t2 t3 g2 g3) h.entry (all_contained (IsCaught w p f t1) m.rec.handlers h caught c cov);
     rule = λ i st e. subst (λ j. IsFollowed w m (state_at t3.states) j f) (same-instruction i st e)
         (record { after = g; steps = stepped.steps; below = to-successor; ready = stepped.ready });
     stays = λ i st e. subst (λ j. IsTrue (falls j.insn.op) → j.place + j.insn.len < length m.code) (same-instruction i st e) stepped.stays;
@@ -106,7 +105,7 @@ module _ (w : Linked) (m : Method) (t0 t1 t2 t3 : Found) (p : ℕ) (f g : Frame)
 
   pub visit-over : state_at t0.states p ≡ Some f → IsVisited w m p t0 t3
   visit-over at = record {
-    goes = goes-on w m t0 t1 t3 g1 (goes-on w m t1 t2 t3 g2 g3);
+    goes = goes-on w is.order m t0 t1 t3 g1 (goes-on w is.order m t1 t2 t3 g2 g3);
     closed = λ x ex. subst (IsClosed w m t3 p) (some-same (sym at ∙ ex)) visit-closed;
   }
 

@@ -8,11 +8,11 @@ use Rattle.jc_decode.specs.Listing.{falls, jumps}
 use Rattle.jc_ops.specs.declared.fault.RuleFault.{RuleFault}
 use Rattle.jc_ops.specs.declared.fault.RuleFault.TheVariants.{Overflow, FreshKept, StackMerge}
 use Rattle.jc_rules.specs.Demand.{Frame}
-use Rattle.jc_rules.specs.Apply.{Refuses}
+use Rattle.jc_rules.specs.Apply.{RuleRefuses}
 use Rattle.jc_control.specs.Method.{Method}
 use Rattle.jc_control.specs.WellFormed.{Stands}
 use Rattle.jc_control.specs.Control.{IsSuccessor, IsLeader, Covers}
-use Rattle.jc_rules.specs.Flow.{IsNotFresh, Steps, site_of, caught_frame, IsDerived}
+use Rattle.jc_rules.specs.Flow.{IsNotFresh, Steps, caught_frame, IsDerived}
 use Rattle.jc_rules.specs.Typing.{Clashes}
 use Rattle.jc_flow.specs.declared.end.FlowEnd.{FlowEnd}
 use Rattle.jc_flow.specs.declared.end.FlowEnd.TheVariants.{NoTyping, Code, BadTarget, FallsOff, BadHandler, Memory}
@@ -25,7 +25,7 @@ pub data Fails (w : Linked) (m : Method) (p : ℕ) (f : Frame) : RuleFault → T
       {fault : RuleFault} (i : Placed)
       → Stands m.code i
       → i.place ≡ p
-      → Refuses w (site_of m p) i.insn f fault
+      → RuleRefuses w m.rec p i.insn f fault
       → Fails w m p f fault
   fails_jump :
       (i : Placed) (g : Frame)

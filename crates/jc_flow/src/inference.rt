@@ -15,7 +15,7 @@ use crate::scratch::Scratch;
 use crate::table::StateTable;
 use cap_bytes::View;
 use jc_base::{MethodRec, Ty, World};
-use jc_control::{ControlEnd, Flaw, control_flow};
+use jc_control::{ControlEnd, Flaw, control_flow, flaws_decide};
 use jc_rules::{Typing, rule_laws};
 use std::alloc::{AllocError, Global};
 
@@ -40,8 +40,9 @@ pub fn infer(alloc: Global, world: &World<'_>, method: u16) -> Result<Typing, Fl
     ensures none { IsSomeAnd (method_in world.now method) (λ m. IfErr result (HasNone world.now m)) }
     ensures end { IsSomeAnd (method_in world.now method) (λ m. IfErr result (TellsEnd world.now m)) }
 {
-    // The facts that hold of each world and of its rules.
+    // The facts that hold of each world and of its rules, and of each method.
     rule_laws(world);
+    flaws_decide();
     let control = match control_flow(alloc, world, method) {
         Ok(control) => control,
         Err(end) => return Err(unformed(end)),

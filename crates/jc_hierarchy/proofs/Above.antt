@@ -3,7 +3,8 @@ use Rattle.std.proofs.Common.{◌≡◌, ℕ, ◌<◌, Bool, true, false, List, 
 use Rattle.std.specs.Prelude.{All, Contains, IfSome, slice_get}
 use Rattle.std.specs.Option.{option_to_list}
 use Rattle.std.proofs.lemmas.List.Elements.{All-contains, All-map, All-cons, All-nil}
-use Rattle.jc_base.proofs.Lists.{All-slice_get, slice_get-below}
+use Rattle.std.proofs.lemmas.Option.{slice_get_within}
+use Rattle.jc_base.proofs.Lists.{All-slice_get}
 use Rattle.jc_base.specs.declared.record.Iface.{Iface}
 use Rattle.jc_resolve.specs.declared.named.NamedClass.{NamedClass}
 use Rattle.jc_hierarchy.specs.Known.{HasKnownLine}
@@ -18,11 +19,11 @@ nothing b A h = absurd (omega (arith, h.1))
 
 superclass-from : (cs : List NamedClass) (a b : ℕ) (o : Option NamedClass) → slice_get cs a ≡ o → Contains (superclass_in o) b → a < length cs
 superclass-from cs a b None e h = nothing b (a < length cs) h
-superclass-from cs a b (Some r) e h = slice_get-below cs a r e
+superclass-from cs a b (Some r) e h = slice_get_within cs a r e
 
 extended-from : (cs : List NamedClass) (a b : ℕ) (o : Option NamedClass) → slice_get cs a ≡ o → Contains (extended_in o) b → a < length cs
 extended-from cs a b None e h = nothing b (a < length cs) h
-extended-from cs a b (Some r) e h = slice_get-below cs a r e
+extended-from cs a b (Some r) e h = slice_get_within cs a r e
 
 pub above-from : (cs : List NamedClass) (interfaces : Bool) (a b : ℕ) → Contains (above cs interfaces a) b → a < length cs
 unfolding superclass extended

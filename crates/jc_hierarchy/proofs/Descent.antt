@@ -3,14 +3,14 @@ use Rattle.std.proofs.Common.{◌≡◌, ℕ, zero, suc, ◌<◌, ◌≤◌, inl
 use Rattle.std.specs.Prelude.{◌==◌, ◌||◌, ◌&&◌, nat_lt, All, Contains, slice_get, slice_index}
 use Rattle.std.specs.Option.{option_map, option_to_list}
 use Rattle.std.proofs.lemmas.Bool.{false≢true, eqb-true, ltb-true}
-use Rattle.std.proofs.lemmas.Option.{slice_get-map, slice_get-get_or}
+use Rattle.std.proofs.lemmas.Option.{slice_get-map, slice_get-get_or, slice_get_within}
 use Rattle.std.proofs.lemmas.List.{length-map}
 use Rattle.std.proofs.lemmas.List.Elements.{All-nil, All-cons, Contains-push, Contains-push_cases}
 use Rattle.jc_base.specs.Class.{ClassTable, IsClass, AreClasses, is_interface_record, is_interface as interface_in_table, parent_of, parent_in_record, object, chain, chain_over, last}
 use Rattle.jc_base.specs.declared.ty.Ty.TheVariants.{Class}
 use Rattle.jc_base.specs.Order.{Below, same as same_type, joined, subclass}
 use Rattle.jc_base.proofs.Chains.{chain_alone, chain_above, chain_over-front, last-cons}
-use Rattle.jc_base.proofs.Lists.{All-slice_get, slice_get-below, IfSome-is}
+use Rattle.jc_base.proofs.Lists.{All-slice_get, IfSome-is}
 use Rattle.jc_resolve.specs.declared.named.NamedClass.{NamedClass}
 use Rattle.jc_resolve.specs.Named.{is_interface}
 use Rattle.jc_hierarchy.specs.Known.{HasKnownLine}
@@ -40,7 +40,7 @@ outline-past cs c e = slice_get-map outlined cs c ∙ ap (option_map outlined) e
 pub class-made : (cs : List NamedClass) (roles : List ℕ) (c : ℕ) → IsPlain cs c → IsClass (outline cs roles) c
 unfolding interface_in_table
 class-made cs roles c is =
-    let h : c < length cs = slice_get-below cs c is.r is.at in
+    let h : c < length cs = slice_get_within cs c is.r is.at in
     let n : length (map outlined cs) ≡ length cs = length-map cs outlined in
     record { number = omega arith; class = ap is_interface_record (outline-at cs c is.r is.at) ∙ is.plain }
 
@@ -140,7 +140,7 @@ ends-by cs first roles known sound m c None e is h above =
 ends-by cs first roles known sound m c (Some p) e is h above =
     let t = outline cs roles in
     let up = parent-plain cs first roles known sound c p e in
-    let falls : rank cs p < rank cs c = rank-falls cs c p (parent-above cs roles c p e) (slice_get-below cs p up.r up.at) (no_cycle cs first roles sound p up) in
+    let falls : rank cs p < rank cs c = rank-falls cs c p (parent-above cs roles c p e) (slice_get_within cs p up.r up.at) (no_cycle cs first roles sound p up) in
     further m refl (λ k. above k p) falls up where
       further : (n : ℕ) → m ≡ n → ((k : ℕ) → m ≡ suc k → IsPlain cs p → rank cs p ≤ k → Ends (outline cs roles) (chain_over (outline cs roles) k p)) → rank cs p < rank cs c → IsPlain cs p
           → Ends (outline cs roles) (chain_over (outline cs roles) m c)

@@ -6,9 +6,9 @@ use Rattle.jc_base.specs.declared.ty.Kind.{Kind}
 use Rattle.jc_base.specs.declared.record.Member.{Member}
 use Rattle.jc_base.specs.declared.record.Member.TheVariants.{ClassOf, Field, Static, Virtual, Super, StaticCall}
 use Rattle.jc_base.specs.declared.record.MethodRec.{MethodRec}
-use Rattle.jc_base.specs.Class.{ClassTable, is_interface, object}
-use Rattle.jc_base.specs.Dispatch.{entry_at}
-use Rattle.jc_base.specs.Linked.{lacks_code}
+use Rattle.jc_base.specs.Class.{ClassTable, is_interface}
+use Rattle.jc_base.specs.Dispatch.{IsConcrete, entry_at, is_concrete}
+use Rattle.jc_base.specs.Laws.{ConcreteDecides}
 use Rattle.jc_base.specs.World.{Linked, member_at}
 use Rattle.jc_decode.specs.declared.insn.Insn.{Insn}
 use Rattle.jc_ops.specs.declared.fault.RuleFault.{RuleFault}
@@ -18,12 +18,13 @@ use Rattle.jc_ops.specs.declared.operation.Sort.{Sort}
 use Rattle.jc_ops.specs.declared.operation.Choice.{Choice}
 use Rattle.jc_ops.specs.declared.operation.Operation.{Operation}
 use Rattle.jc_ops.specs.declared.operation.Operation.TheVariants as ops
-use Rattle.jc_ops.specs.declared.row.Invocation.{Invocation}
 use Rattle.jc_ops.specs.declared.row.Invocation.TheVariants as invocations
 use Rattle.jc_ops.specs.declared.row.Row.{Row}
 use Rattle.jc_ops.specs.declared.row.Row.TheVariants as rows
 use Rattle.jc_ops.specs.Row.{row_at}
-use Rattle.jc_ops.specs.Resolve.{byte_of, short_of, taken_if, on, same_kind, static_field, instance_field, callee_if, entry_callee, virtual_callee, special_callee, static_callee, only, described, described_callee, interface_callee, callee, class_type, array_of, tested_type, returns, returned, result_type, result_returned, resolved, ResolvesNew, ResolvesRow, Resolves}
+use Rattle.jc_ops.specs.Resolve.{byte_of, short_of, taken_if, on, same_kind, static_field, instance_field, callee_if, entry_callee, virtual_callee, special_callee, static_callee, only, described, described_callee, interface_callee, class_type, array_of, tested_type, returns, returned, result_type, result_returned, new_object, resolved, Resolves}
+use Rattle.std.proofs.lemmas.Bool.{false≢true}
+use Rattle.jc_ops.specs.Sound.{RefusesAbstract}
 use Rattle.jc_ops.specs.Entry.{entry_of, entry_named, RestsOnEntry, FaultNamesEntry}
 
 -- ---- the same entry gives the same operation
@@ -39,7 +40,7 @@ tested-rests atype pool at other h = go (atype == 0) (atype == 14) h
     go false false e = refl
 
 module _ (w : Linked) (m n : MethodRec) (place : ℕ) (i : Insn) (r : Result Operation RuleFault) (same_result : m.sig.result ≡ n.sig.result) where
-  row-rests : (row : Row) → IfSome (entry_of i row) (λ entry. member_at w m.package entry ≡ member_at w n.package entry) → ResolvesRow w m place i row r → ResolvesRow w n place i row r
+  row-rests : (row : Row) → IfSome (entry_of i row) (λ entry. member_at w m.package entry ≡ member_at w n.package entry) → r ≡ resolved w m place i row → r ≡ resolved w n place i row
   row-rests (rows.StaticRead k) e h = h ∙ ap (λ o. on ops.StaticRead (static_field (short_of i.x) k o)) e
   row-rests (rows.StaticWrite k) e h = h ∙ ap (λ o. on ops.StaticWrite (static_field (short_of i.x) k o)) e
   row-rests (rows.FieldRead k holder) e h = h ∙ ap (λ o. on (λ f. ops.FieldRead f holder) (instance_field w.classes (short_of i.x) k o)) e
@@ -48,7 +49,7 @@ module _ (w : Linked) (m n : MethodRec) (place : ℕ) (i : Insn) (r : Result Ope
   row-rests (rows.Call invocations.Special) e h = h ∙ ap (λ o. on ops.Call (special_callee w (short_of i.x) o)) e
   row-rests (rows.Call invocations.Static) e h = h ∙ ap (λ o. on ops.Call (static_callee w (short_of i.x) o)) e
   row-rests (rows.Call invocations.Interface) e h = h ∙ ap (λ o. on ops.Call (interface_callee w (short_of i.y) (byte_of i.x) (byte_of i.z) o)) e
-  row-rests rows.New e h = subst (λ o. ResolvesNew w place (short_of i.x) o r) e h
+  row-rests rows.New e h = h ∙ ap (new_object w place (short_of i.x)) e
   row-rests rows.NewReferences e h = h ∙ ap (λ o. on ops.NewArray (class_type ArrRef (short_of i.x) o)) e
   row-rests (rows.TypeTest test) e h = h ∙ ap (on (ops.TypeTest test)) (tested-rests (byte_of i.x) (short_of i.y) (member_at w m.package) (member_at w n.package) e)
   row-rests (rows.Return sort) e h = h ∙ ap (λ result. on ops.Return (result_returned w.classes sort result)) same_result
@@ -121,62 +122,76 @@ class-faults : (make : ℕ → Ty) (pool : ℕ) (o : Option Member) → Faults p
 class-faults make pool (Some (ClassOf c)) = tt
 class-faults make pool _ = refl
 
--- the entry of a fault
-named-by : {X : Type 0} (op : X → Operation) (pool entry : ℕ) (r : Result X RuleFault) → Faults pool r → ◌≡◌ {A = Result Operation RuleFault} (Err (BadMember entry)) (on op r) → ◌≡◌ {A = Option ℕ} (Some pool) (Some entry)
-named-by op pool entry (Ok x) f e = absurd (cc)
-named-by op pool entry (Err fault) f e = cc
+-- ---- what a fault tells
 
-no-fault : {op : Operation} {entry : ℕ} {A : Type 0} → ◌≡◌ {A = Result Operation RuleFault} (Err (BadMember entry)) (Ok op) → A
-no-fault e = absurd (cc)
+-- the entry that it names is the one that is named; a class that it names is not concrete
+abbrev Tells : Linked → Option ℕ → RuleFault → Type 0
+Tells w named (BadMember entry) = named ≡ Some entry
+Tells w named (NotConcrete c) = ¬ (IsConcrete w.classes w.methods c)
+Tells w named _ = Unit {0}
 
-tested-names : (test : Ty → Operation) (atype pool entry : ℕ) (o : Option Member) → ◌≡◌ {A = Result Operation RuleFault} (Err (BadMember entry)) (on test (tested_type atype pool o)) → (if atype == 0 || atype == 14 then Some pool else None) ≡ Some entry
-tested-names test atype pool entry o h = go (atype == 0) (atype == 14) h
-  where
-    go : (b c : Bool) → ◌≡◌ {A = Result Operation RuleFault} (Err (BadMember entry)) (on test (if b then class_type Class pool o else if c then class_type ArrRef pool o else Ok (array_of atype)))
-        → (if b || c then Some pool else None) ≡ Some entry
-    go true c e = named-by test pool entry (class_type Class pool o) (class-faults Class pool o) e
-    go false true e = named-by test pool entry (class_type ArrRef pool o) (class-faults ArrRef pool o) e
-    go false false e = no-fault e
+module _ (w : Linked) (decides : ConcreteDecides w.classes w.methods) where
+  named-by : {X : Type 0} (op : X → Operation) (pool : ℕ) (r : Result X RuleFault) → Faults pool r → IfErr (on op r) (Tells w (Some pool))
+  named-by op pool (Ok x) f = tt
+  named-by op pool (Err fault) f = subst (Tells w (Some pool)) (sym f) refl
 
-return-names : (t : ClassTable) (sort : Option Sort) (result : Option Ty) (entry : ℕ) {A : Type 0} → ◌≡◌ {A = Result Operation RuleFault} (Err (BadMember entry)) (on ops.Return (result_returned t sort result)) → A
-return-names t sort result entry {A = A} h = go (returns sort result) h
-  where
-    go : (b : Bool) → ◌≡◌ {A = Result Operation RuleFault} (Err (BadMember entry)) (on ops.Return (if b then Ok result else Err (Mismatch (returned t sort) (result_type result)))) → A
-    go true e = absurd (cc)
-    go false e = absurd (cc)
+  tested-tells : (test : Ty → Operation) (atype pool : ℕ) (o : Option Member) → IfErr (on test (tested_type atype pool o)) (Tells w (if atype == 0 || atype == 14 then Some pool else None))
+  tested-tells test atype pool o = go (atype == 0) (atype == 14)
+    where
+      go : (b c : Bool) → IfErr (on test (if b then class_type Class pool o else if c then class_type ArrRef pool o else Ok (array_of atype))) (Tells w (if b || c then Some pool else None))
+      go true c = named-by test pool (class_type Class pool o) (class-faults Class pool o)
+      go false true = named-by test pool (class_type ArrRef pool o) (class-faults ArrRef pool o)
+      go false false = tt
 
-new-names : (w : Linked) (place pool entry : ℕ) (o : Option Member) → ResolvesNew w place pool o (Err (BadMember entry)) → ◌≡◌ {A = Option ℕ} (Some pool) (Some entry)
-new-names w place pool entry (Some (ClassOf c)) h = absurd (never h.1)
-  where
-    never : BadMember entry ≡ NotConcrete c → ⊥
-    never e = absurd (cc)
-new-names w place pool entry _ h = cc
+  return-tells : (t : ClassTable) (sort : Option Sort) (result : Option Ty) → IfErr (on ops.Return (result_returned t sort result)) (Tells w None)
+  return-tells t sort result = go (returns sort result)
+    where
+      go : (b : Bool) → IfErr (on ops.Return (if b then Ok result else Err (Mismatch (returned t sort) (result_type result)))) (Tells w None)
+      go true = tt
+      go false = tt
 
-module _ (w : Linked) (m : MethodRec) (place : ℕ) (i : Insn) (entry : ℕ) where
-  row-names : (row : Row) → ResolvesRow w m place i row (Err (BadMember entry)) → entry_of i row ≡ Some entry
-  row-names (rows.StaticRead k) h = named-by ops.StaticRead (short_of i.x) entry (static_field (short_of i.x) k (member_at w m.package (short_of i.x))) (static-faults (short_of i.x) k (member_at w m.package (short_of i.x))) h
-  row-names (rows.StaticWrite k) h = named-by ops.StaticWrite (short_of i.x) entry (static_field (short_of i.x) k (member_at w m.package (short_of i.x))) (static-faults (short_of i.x) k (member_at w m.package (short_of i.x))) h
-  row-names (rows.FieldRead k holder) h = named-by (λ f. ops.FieldRead f holder) (short_of i.x) entry (instance_field w.classes (short_of i.x) k (member_at w m.package (short_of i.x))) (field-faults w.classes (short_of i.x) k (member_at w m.package (short_of i.x))) h
-  row-names (rows.FieldWrite k holder) h = named-by (λ f. ops.FieldWrite f holder) (short_of i.x) entry (instance_field w.classes (short_of i.x) k (member_at w m.package (short_of i.x))) (field-faults w.classes (short_of i.x) k (member_at w m.package (short_of i.x))) h
-  row-names (rows.Call invocations.Virtual) h = named-by ops.Call (short_of i.x) entry (virtual_callee w (short_of i.x) (member_at w m.package (short_of i.x))) (virtual-faults w (short_of i.x) (member_at w m.package (short_of i.x))) h
-  row-names (rows.Call invocations.Special) h = named-by ops.Call (short_of i.x) entry (special_callee w (short_of i.x) (member_at w m.package (short_of i.x))) (special-faults w (short_of i.x) (member_at w m.package (short_of i.x))) h
-  row-names (rows.Call invocations.Static) h = named-by ops.Call (short_of i.x) entry (static_callee w (short_of i.x) (member_at w m.package (short_of i.x))) (static_call-faults w (short_of i.x) (member_at w m.package (short_of i.x))) h
-  row-names (rows.Call invocations.Interface) h =
-      named-by ops.Call (short_of i.y) entry (interface_callee w (short_of i.y) (byte_of i.x) (byte_of i.z) (member_at w m.package (short_of i.y)))
-      (interface-faults w (short_of i.y) (byte_of i.x) (byte_of i.z) (member_at w m.package (short_of i.y))) h
-  row-names rows.New h = new-names w place (short_of i.x) entry (member_at w m.package (short_of i.x)) h
-  row-names rows.NewReferences h = named-by ops.NewArray (short_of i.x) entry (class_type ArrRef (short_of i.x) (member_at w m.package (short_of i.x))) (class-faults ArrRef (short_of i.x) (member_at w m.package (short_of i.x))) h
-  row-names (rows.TypeTest test) h = tested-names (ops.TypeTest test) (byte_of i.x) (short_of i.y) entry (member_at w m.package (short_of i.y)) h
-  row-names (rows.Return sort) h = return-names w.classes sort m.sig.result entry h
-  row-names (rows.Plain op) h = no-fault h
-  row-names rows.PushShort h = no-fault h
-  row-names rows.PushInt h = no-fault h
-  row-names (rows.Load s) h = no-fault h
-  row-names (rows.Store s) h = no-fault h
-  row-names (rows.Increment width) h = no-fault h
-  row-names rows.CopyUnder h = no-fault h
-  row-names rows.Exchange h = no-fault h
-  row-names rows.NewNumbers h = no-fault h
+  new-tells : (place pool : ℕ) (o : Option Member) → IfErr (new_object w place pool o) (Tells w (Some pool))
+  new-tells place pool (Some (ClassOf c)) = go (is_concrete w.classes w.methods c) refl
+    where
+      go : (b : Bool) → is_concrete w.classes w.methods c ≡ b → IfErr (if b then Ok (ops.New place c) else Err (NotConcrete c)) (Tells w (Some pool))
+      go true e = tt
+      go false e = λ concrete. false≢true (sym e ∙ (decides c).1 concrete)
+  new-tells place pool _ = refl
 
-pub fault-names-entry : (w : Linked) → FaultNamesEntry w
-fault-names-entry w m place i entry h = row-names w m place i entry (row_at i.op) h
+  row-tells : (m : MethodRec) (place : ℕ) (i : Insn) (row : Row) → IfErr (resolved w m place i row) (Tells w (entry_of i row))
+  row-tells m place i (rows.StaticRead k) = named-by ops.StaticRead (short_of i.x) (static_field (short_of i.x) k (member_at w m.package (short_of i.x))) (static-faults (short_of i.x) k (member_at w m.package (short_of i.x)))
+  row-tells m place i (rows.StaticWrite k) = named-by ops.StaticWrite (short_of i.x) (static_field (short_of i.x) k (member_at w m.package (short_of i.x))) (static-faults (short_of i.x) k (member_at w m.package (short_of i.x)))
+  row-tells m place i (rows.FieldRead k holder) =
+      named-by (λ f. ops.FieldRead f holder) (short_of i.x) (instance_field w.classes (short_of i.x) k (member_at w m.package (short_of i.x)))
+      (field-faults w.classes (short_of i.x) k (member_at w m.package (short_of i.x)))
+  row-tells m place i (rows.FieldWrite k holder) =
+      named-by (λ f. ops.FieldWrite f holder) (short_of i.x) (instance_field w.classes (short_of i.x) k (member_at w m.package (short_of i.x)))
+      (field-faults w.classes (short_of i.x) k (member_at w m.package (short_of i.x)))
+  row-tells m place i (rows.Call invocations.Virtual) = named-by ops.Call (short_of i.x) (virtual_callee w (short_of i.x) (member_at w m.package (short_of i.x))) (virtual-faults w (short_of i.x) (member_at w m.package (short_of i.x)))
+  row-tells m place i (rows.Call invocations.Special) = named-by ops.Call (short_of i.x) (special_callee w (short_of i.x) (member_at w m.package (short_of i.x))) (special-faults w (short_of i.x) (member_at w m.package (short_of i.x)))
+  row-tells m place i (rows.Call invocations.Static) = named-by ops.Call (short_of i.x) (static_callee w (short_of i.x) (member_at w m.package (short_of i.x))) (static_call-faults w (short_of i.x) (member_at w m.package (short_of i.x)))
+  row-tells m place i (rows.Call invocations.Interface) =
+      named-by ops.Call (short_of i.y) (interface_callee w (short_of i.y) (byte_of i.x) (byte_of i.z) (member_at w m.package (short_of i.y)))
+      (interface-faults w (short_of i.y) (byte_of i.x) (byte_of i.z) (member_at w m.package (short_of i.y)))
+  row-tells m place i rows.New = new-tells place (short_of i.x) (member_at w m.package (short_of i.x))
+  row-tells m place i rows.NewReferences = named-by ops.NewArray (short_of i.x) (class_type ArrRef (short_of i.x) (member_at w m.package (short_of i.x))) (class-faults ArrRef (short_of i.x) (member_at w m.package (short_of i.x)))
+  row-tells m place i (rows.TypeTest test) = tested-tells (ops.TypeTest test) (byte_of i.x) (short_of i.y) (member_at w m.package (short_of i.y))
+  row-tells m place i (rows.Return sort) = return-tells w.classes sort m.sig.result
+  row-tells m place i (rows.Plain op) = tt
+  row-tells m place i rows.PushShort = tt
+  row-tells m place i rows.PushInt = tt
+  row-tells m place i (rows.Load s) = tt
+  row-tells m place i (rows.Store s) = tt
+  row-tells m place i (rows.Increment width) = tt
+  row-tells m place i rows.CopyUnder = tt
+  row-tells m place i rows.Exchange = tt
+  row-tells m place i rows.NewNumbers = tt
+
+  fault-tells : (m : MethodRec) (place : ℕ) (i : Insn) (fault : RuleFault) → Resolves w m place i (Err fault) → Tells w (entry_named i) fault
+  fault-tells m place i fault h = subst (λ r. IfErr r (Tells w (entry_named i))) (sym h) (row-tells m place i (row_at i.op))
+
+pub fault-names-entry : (w : Linked) → ConcreteDecides w.classes w.methods → FaultNamesEntry w
+fault-names-entry w decides m place i entry h = fault-tells w decides m place i (BadMember entry) h
+
+pub refuses-abstract : (w : Linked) → ConcreteDecides w.classes w.methods → RefusesAbstract w
+refuses-abstract w decides m place i c h = fault-tells w decides m place i (NotConcrete c) h

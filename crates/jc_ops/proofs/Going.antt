@@ -1,23 +1,24 @@
 -- An operation falls and jumps as its instruction does.
-use Rattle.std.proofs.Common.{◌≡◌, ℕ, zero, suc, ◌+◌, ◌<◌, Bool, true, false, List, [], ◌∷◌, length, map, get_or, Option, Some, None, Result, Ok, Err, refl, sym, ◌∙◌, ap, subst, arith}
-use Rattle.std.specs.Prelude.{slice_index_or}
+use Rattle.std.proofs.Common.{◌≡◌, ℕ, zero, suc, ◌+◌, ◌<◌, Bool, true, false, if◌then◌else◌, List, [], ◌∷◌, length, map, get_or, Option, Some, Result, Ok, Err, refl, ◌∙◌, ap, subst, arith}
 use Rattle.std.specs.List.{range_with_len}
 use Rattle.std.proofs.lemmas.List.FromFn.{get_or-range_with_len}
 use Rattle.jc_base.specs.declared.record.Member.{Member}
 use Rattle.jc_base.specs.declared.record.Member.TheVariants.{ClassOf}
 use Rattle.jc_base.specs.declared.record.MethodRec.{MethodRec}
+use Rattle.jc_base.specs.Dispatch.{is_concrete}
 use Rattle.jc_base.specs.World.{Linked, member_at}
 use Rattle.jc_decode.specs.declared.insn.Insn.{Insn}
 use Rattle.jc_decode.specs.Layout.{layout_of, opcode}
 use Rattle.jc_decode.specs.Listing.{falls, jumps}
 use Rattle.jc_ops.specs.declared.fault.RuleFault.{RuleFault}
+use Rattle.jc_ops.specs.declared.fault.RuleFault.TheVariants.{NotConcrete}
 use Rattle.jc_ops.specs.declared.operation.Operation.{Operation}
 use Rattle.jc_ops.specs.declared.operation.Operation.TheVariants as ops
 use Rattle.jc_ops.specs.declared.row.Row.{Row}
 use Rattle.jc_ops.specs.declared.row.Row.TheVariants as rows
 use Rattle.jc_ops.specs.Row.{table, row_at, unused, by_sort, by_width, by_kind, first_four, by_register, literals, binary, orders_all, branching}
-use Rattle.jc_ops.specs.Resolve.{byte_of, short_of, on, static_field, instance_field, callee, class_type, tested_type, result_returned, ResolvesNew, ResolvesRow, Resolves}
-use Rattle.jc_ops.specs.Next.{falls_from, jumps_from, GoesAlike, OperationsGoAlike}
+use Rattle.jc_ops.specs.Resolve.{byte_of, short_of, on, static_field, instance_field, callee, class_type, tested_type, result_returned, new_object, resolved}
+use Rattle.jc_ops.specs.Next.{falls_from, jumps_from, OperationsGoAlike}
 
 -- as the row of an opcode has it
 row_falls : Row → Bool
@@ -67,12 +68,16 @@ on-made P make (Err fault) op all e = absurd (cc)
 ok-made : (P : Operation → Type 0) (made op : Operation) → P made → ◌≡◌ {A = Result Operation RuleFault} (Ok op) (Ok made) → P op
 ok-made P made op h e = let is_op : made ≡ op = cc in subst P is_op h
 
-new-made : (P : Operation → Type 0) (w : Linked) (place pool : ℕ) (o : Option Member) (op : Operation) → ((c : ℕ) → P (ops.New place c)) → ResolvesNew w place pool o (Ok op) → P op
-new-made P w place pool (Some (ClassOf c)) op all h = subst P (sym h.1) (all c)
+new-made : (P : Operation → Type 0) (w : Linked) (place pool : ℕ) (o : Option Member) (op : Operation) → ((c : ℕ) → P (ops.New place c)) → ◌≡◌ {A = Result Operation RuleFault} (Ok op) (new_object w place pool o) → P op
+new-made P w place pool (Some (ClassOf c)) op all h = go (is_concrete w.classes w.methods c) h
+  where
+    go : (b : Bool) → ◌≡◌ {A = Result Operation RuleFault} (Ok op) (if b then Ok (ops.New place c) else Err (NotConcrete c)) → P op
+    go true e = ok-made P (ops.New place c) op (all c) e
+    go false e = absurd (cc)
 new-made P w place pool _ op all h = absurd (cc)
 
 module _ (w : Linked) (m : MethodRec) (place : ℕ) (i : Insn) (op : Operation) where
-  goes : (row : Row) → ResolvesRow w m place i row (Ok op) → (falls_from op ≡ row_falls row) × (jumps_from op ≡ row_jumps row)
+  goes : (row : Row) → ◌≡◌ {A = Result Operation RuleFault} (Ok op) (resolved w m place i row) → (falls_from op ≡ row_falls row) × (jumps_from op ≡ row_jumps row)
   unfolding row_falls row_jumps
   goes (rows.Plain made) h = ok-made (λ x. (falls_from x ≡ falls_from made) × (jumps_from x ≡ jumps_from made)) made op (refl, refl) h
   goes rows.PushShort h = ok-made (λ x. (falls_from x ≡ true) × (jumps_from x ≡ false)) _ op (refl, refl) h

@@ -2,37 +2,20 @@
 use Rattle.std.proofs.Common.{◌≡◌, ℕ, ◌+◌, ◌-◌, ◌<◌, ◌≤◌, true, false, nat_lt, List, [], ◌∷◌, ◌++◌, length, refl, subst, arith, All, Option, Some, None, IfSome, IsSomeAnd, slice_get, cond, Contains, flat_map, reverse, get_or}
 use Rattle.std.proofs.lemmas.List.Elements.{All-contains, All-append}
 use Rattle.std.proofs.lemmas.Bool.Decides.{nat_tests}
-use Rattle.jc_base.proofs.Lists.{All-slice_get, slice_get-below}
-use Rattle.jc_base.specs.declared.ty.Ty.{Ty}
-use Rattle.jc_base.specs.declared.ty.Ty.TheVariants.{Bottom, Short, IntHigh, IntLow, Null, Class, ArrBool, ArrByte, ArrShort, ArrInt, ArrRef, Fresh, Top}
+use Rattle.std.proofs.lemmas.Option.{slice_get_within}
+use Rattle.jc_base.proofs.Lists.{All-slice_get}
 use Rattle.jc_base.specs.declared.record.Member.{Member}
 use Rattle.jc_base.specs.declared.record.Member.TheVariants.{ClassOf, Field, Static, Virtual, Super, StaticCall}
 use Rattle.jc_base.specs.declared.record.ClassRec.{ClassRec}
 use Rattle.jc_base.specs.declared.record.MethodRec.{MethodRec}
 use Rattle.jc_base.specs.declared.record.StaticRec.{StaticRec}
 use Rattle.jc_base.specs.Class.{ClassTable, parent_of, chain}
-use Rattle.jc_base.specs.Order.{IsKnown}
+use Rattle.jc_base.specs.Laws.{DeclaredAreKnown}
 use Rattle.jc_base.specs.Cell.{IsDeclared}
 use Rattle.jc_base.specs.Dispatch.{of_record, public_of, visible_of, entry_at, cells_of, own_cells}
 use Rattle.jc_base.specs.Linked.{IsInherited, IsMethod, IsMember, IsLinkedClass, receiver_words, IsStatic}
 use Rattle.jc_base.specs.World.{Linked, IsWorld}
 use Rattle.jc_ops.specs.Sound.{TakesReceiver, IsKnownMember}
-
--- a declared type is known
-pub declared-known : (t : ClassTable) (ty : Ty) → IsDeclared t ty → IsKnown t ty
-declared-known t Bottom h = absurd h
-declared-known t Short h = h
-declared-known t IntHigh h = h
-declared-known t IntLow h = h
-declared-known t Null h = absurd h
-declared-known t (Class c) h = h
-declared-known t ArrBool h = h
-declared-known t ArrByte h = h
-declared-known t ArrShort h = h
-declared-known t ArrInt h = h
-declared-known t (ArrRef c) h = h
-declared-known t (Fresh place c) h = absurd h
-declared-known t Top h = absurd h
 
 -- the arguments of a method that is not static leave room for its receiver
 pub argument_room : (infos : List (List ℕ)) (pools : List (List Member)) (t : ClassTable) (m : MethodRec) → IsMethod infos pools t m → m.is_static ≡ false → length m.sig.args + 1 ≤ 255
@@ -49,7 +32,7 @@ module _ (w : Linked) (is : IsWorld w) where
 
   in_list : (n : ℕ) (o : Option MethodRec) (P : MethodRec → Type 0) → slice_get w.methods n ≡ o → IsSomeAnd o P → n < length w.methods
   in_list n None P e h = absurd h
-  in_list n (Some m) P e h = slice_get-below w.methods n m e
+  in_list n (Some m) P e h = slice_get_within w.methods n m e
 
   pub inherited-receives : (c n : ℕ) → IsSomeAnd (slice_get w.methods n) (IsInherited w.classes c) → TakesReceiver w.methods n
   inherited-receives c n h = record {
@@ -131,13 +114,13 @@ module _ (w : Linked) (is : IsWorld w) where
   super-receives c n None h = absurd h
   super-receives c n (Some p) h = inherited-receives p n (super-inherits p n h)
 
-  pub member-known : (m : Member) → IsMember w.classes w.methods w.statics m → IsKnownMember w m
-  member-known (ClassOf c) h = h
-  member-known (Field c cell kind ty) h = (h.class, declared-known w.classes ty (All-slice_get (IsDeclared w.classes) (cells_of w.classes c) cell ty (cells-declared c) h.first))
-  member-known (Static slot kind ty) (k, f, lt, at, slot_of) = declared-known w.classes ty (subst (IsDeclared w.classes) slot_of.ty (static-known f k lt at).ty)
-  member-known (Virtual c token) h = (h.0, entry-receives c token)
-  member-known (Super c n) h = (h.0, super-receives c n (parent_of w.classes c) h.1)
-  member-known (StaticCall n) h = h
+  pub member-known : DeclaredAreKnown w.classes → (m : Member) → IsMember w.classes w.methods w.statics m → IsKnownMember w m
+  member-known known (ClassOf c) h = h
+  member-known known (Field c cell kind ty) h = (h.class, known ty (All-slice_get (IsDeclared w.classes) (cells_of w.classes c) cell ty (cells-declared c) h.first))
+  member-known known (Static slot kind ty) (k, f, lt, at, slot_of) = known ty (subst (IsDeclared w.classes) slot_of.ty (static-known f k lt at).ty)
+  member-known known (Virtual c token) h = (h.0, entry-receives c token)
+  member-known known (Super c n) h = (h.0, super-receives c n (parent_of w.classes c) h.1)
+  member-known known (StaticCall n) h = h
 
 lt_true : (a b : ℕ) → a < b → nat_lt a b ≡ true
 lt_true a b h = grind (arith, nat_tests)

@@ -1,5 +1,5 @@
 -- What the operation of an instruction speaks of is in the world.
-use Rattle.std.proofs.Common.{◌≡◌, ℕ, ◌+◌, ◌/◌, ◌%◌, ◌<◌, ◌≤◌, ◌==◌, ◌&&◌, not, ◌||◌, if◌then◌else◌, cond, zero, suc, Bool, true, false, List, [], ◌∷◌, ◌++◌, length, Option, Some, None, IfSome, IsSomeAnd, Result, Ok, Err, IfOk, slice_get, slice_index_or, filter, All, Contains, refl, sym, ◌∙◌, ap, subst, arith}
+use Rattle.std.proofs.Common.{◌≡◌, ℕ, ◌+◌, ◌/◌, ◌%◌, ◌<◌, ◌≤◌, ◌==◌, ◌&&◌, not, ◌||◌, if◌then◌else◌, cond, zero, suc, Bool, true, false, List, [], ◌∷◌, ◌++◌, length, Option, Some, None, IfSome, IsSomeAnd, Result, Ok, Err, IfOk, slice_get, slice_index_or, filter, All, Contains, refl, sym, ◌∙◌, subst, arith}
 use Rattle.std.specs.List.{range_with_len}
 use Rattle.std.proofs.lemmas.Bool.Decides.{nat_tests}
 use Rattle.jc_base.specs.declared.ty.Ty.{Ty}
@@ -8,16 +8,17 @@ use Rattle.jc_base.specs.declared.ty.Kind.{Kind}
 use Rattle.jc_base.specs.declared.record.Member.{Member}
 use Rattle.jc_base.specs.declared.record.Member.TheVariants.{ClassOf, Field, Static, Virtual, Super, StaticCall}
 use Rattle.jc_base.specs.declared.record.MethodRec.{MethodRec}
-use Rattle.jc_base.specs.Class.{ClassTable, IsClass, is_interface, object, parent_of}
-use Rattle.jc_base.specs.Order.{Below, joined, same, subclass, IsArray, of_booleans, of_bytes, of_shorts, of_ints, of_references}
+use Rattle.jc_base.specs.Class.{IsClass, is_interface, object, parent_of}
+use Rattle.jc_base.specs.Order.{joined, same, subclass, IsArray, of_booleans, of_bytes, of_shorts, of_ints, of_references}
 use Rattle.jc_base.specs.Cell.{IsDeclared, IsOfKind}
-use Rattle.jc_base.specs.Dispatch.{entry_at, cells_of, public_of, visible_of}
+use Rattle.jc_base.specs.Dispatch.{is_concrete, entry_at, cells_of, public_of, visible_of}
+use Rattle.jc_base.specs.Laws.{ConcreteDecides}
 use Rattle.jc_base.specs.Linked.{IsInherited, IsMember, IsMethod, IsStatic, list_at, lacks_code}
 use Rattle.jc_base.specs.World.{Linked, IsWorld, member_at}
 use Rattle.jc_base.proofs.Lists.{All-slice_get}
 use Rattle.jc_decode.specs.declared.insn.Insn.{Insn}
 use Rattle.jc_ops.specs.declared.fault.RuleFault.{RuleFault}
-use Rattle.jc_ops.specs.declared.fault.RuleFault.TheVariants.{BadMember, Mismatch}
+use Rattle.jc_ops.specs.declared.fault.RuleFault.TheVariants.{BadMember, NotConcrete, Mismatch}
 use Rattle.jc_ops.specs.declared.want.Want.{Want}
 use Rattle.jc_ops.specs.declared.want.Want.TheVariants.{Value, Receiver}
 use Rattle.jc_ops.specs.declared.operation.Sort.{Sort}
@@ -25,7 +26,6 @@ use Rattle.jc_ops.specs.declared.operation.Sort.TheVariants as sorts
 use Rattle.jc_ops.specs.declared.operation.Move.TheVariants as moves
 use Rattle.jc_ops.specs.declared.operation.Choice.{Choice}
 use Rattle.jc_ops.specs.declared.operation.Choice.TheVariants as choices
-use Rattle.jc_ops.specs.declared.operation.Callee.{Callee}
 use Rattle.jc_ops.specs.declared.operation.Operation.{Operation}
 use Rattle.jc_ops.specs.declared.operation.Operation.TheVariants as ops
 use Rattle.jc_ops.specs.declared.row.Invocation.{Invocation}
@@ -33,8 +33,8 @@ use Rattle.jc_ops.specs.declared.row.Invocation.TheVariants as invocations
 use Rattle.jc_ops.specs.declared.row.Row.{Row}
 use Rattle.jc_ops.specs.declared.row.Row.TheVariants as rows
 use Rattle.jc_ops.specs.Row.{table, row_at, unused, by_sort, by_width, by_kind, first_four, by_register, literals, binary, orders_all, branching}
-use Rattle.jc_ops.specs.Resolve.{byte_of, short_of, taken_if, on, same_kind, static_field, instance_field, callee_if, entry_callee, virtual_callee, own_receiver, special_callee, static_callee, is_described, passes, described, only, described_callee, interface_callee, callee, class_type, array_of, tested_type, returns, returned, result_type, result_returned, resolved, ResolvesNew, ResolvesRow, Resolves}
-use Rattle.jc_ops.specs.Sound.{IsKnownWant, receiver_count, IsStaticOf, IsFieldOf, IsVirtualCall, IsReceiverOf, IsSpecialCall, IsStaticCall, IsInterfaceCall, IsCalleeOf, IsNamedType, IsResult, IsSound, OperationsAreSound}
+use Rattle.jc_ops.specs.Resolve.{byte_of, short_of, taken_if, on, same_kind, static_field, instance_field, callee_if, entry_callee, virtual_callee, own_receiver, special_callee, static_callee, is_described, passes, described, only, described_callee, interface_callee, callee, class_type, array_of, tested_type, returns, returned, result_type, result_returned, new_object, resolved, Resolves}
+use Rattle.jc_ops.specs.Sound.{IsKnownWant, IsStaticOf, IsFieldOf, IsReceiverOf, IsCalleeOf, IsNamedType, IsResult, IsSound, OperationsAreSound}
 use Rattle.jc_ops.proofs.Members.{argument_room, entry-inherits, super-inherits, static-known, cells-declared}
 
 -- ---- rows whose opcode says all
@@ -137,7 +137,7 @@ described-is methods c token n m h e =
     let r = both_true (m.class == c) (m.token == token) q in
     (equal-true m.class c r.0, equal-true m.token token r.1)
 
-module _ (w : Linked) (is : IsWorld w) where
+module _ (w : Linked) (is : IsWorld w) (decides : ConcreteDecides w.classes w.methods) where
   method-is : (n : ℕ) (m : MethodRec) → slice_get w.methods n ≡ Some m → IsMethod w.infos w.pools w.classes m
   method-is n m e = All-slice_get (IsMethod w.infos w.pools w.classes) w.methods n m is.methods e
 
@@ -375,15 +375,15 @@ module _ (w : Linked) (is : IsWorld w) where
     byte-small : (i : Insn) → byte_of i.x < 256
     byte-small i = omega arith
 
-    new-sound : (pool : ℕ) (o : Option Member) (r : Result Operation RuleFault) → ResolvesNew w place pool o r → IfOk r (IsSound w m place)
-    new-sound pool (Some (ClassOf c)) (Ok op) h = subst (IsSound w m place) (sym h.1) (refl, h.0)
-    new-sound pool o (Err fault) h = tt
-    new-sound pool _ (Ok op) h = absurd (cc)
+    new-sound : (pool : ℕ) (o : Option Member) → IfOk (new_object w place pool o) (IsSound w m place)
+    new-sound pool (Some (ClassOf c)) =
+        if-sound (IsSound w m place) (is_concrete w.classes w.methods c) (Ok (ops.New place c)) (Err (NotConcrete c)) (λ concrete. (refl, (decides c).0 concrete)) (λ abstract. tt)
+    new-sound pool _ = tt
 
     from_equal : {r s : Result Operation RuleFault} → r ≡ s → IfOk s (IsSound w m place) → IfOk r (IsSound w m place)
     from_equal e h = subst (λ x. IfOk x (IsSound w m place)) (sym e) h
 
-    row-sound : (i : Insn) (row : Row) (r : Result Operation RuleFault) → is_fine row ≡ true → IfSome m.sig.result (IsDeclared w.classes) → ResolvesRow w m place i row r → IfOk r (IsSound w m place)
+    row-sound : (i : Insn) (row : Row) (r : Result Operation RuleFault) → is_fine row ≡ true → IfSome m.sig.result (IsDeclared w.classes) → r ≡ resolved w m place i row → IfOk r (IsSound w m place)
     unfolding is_fine
     row-sound i (rows.Plain op) r fine q e = from_equal e (plain-sound op fine)
     row-sound i rows.PushShort r fine q e = from_equal e tt
@@ -406,7 +406,7 @@ module _ (w : Linked) (is : IsWorld w) where
         from_equal e (on-sound (IsSound w m place) (λ f. ops.FieldWrite f h) (instance_field w.classes (short_of i.x) k (member_at w m.package (short_of i.x)))
         (field-sound (short_of i.x) k (member_at w m.package (short_of i.x)) (member-at m.package (short_of i.x))))
     row-sound i (rows.Call by) r fine q e = from_equal e (on-sound (IsSound w m place) ops.Call (callee w m.package i by) (callee-sound m.package i by))
-    row-sound i rows.New r fine q e = new-sound (short_of i.x) (member_at w m.package (short_of i.x)) r e
+    row-sound i rows.New r fine q e = from_equal e (new-sound (short_of i.x) (member_at w m.package (short_of i.x)))
     row-sound i rows.NewNumbers r fine q e = from_equal e (array-of (λ ty. IsArray ty × IsNamedType w.classes ty) (of_booleans, tt) (of_bytes, tt) (of_shorts, tt) (of_ints, tt) (byte_of i.x))
     row-sound i rows.NewReferences r fine q e =
         from_equal e (on-sound (IsSound w m place) ops.NewArray (class_type ArrRef (short_of i.x) (member_at w m.package (short_of i.x)))
@@ -420,5 +420,5 @@ module _ (w : Linked) (is : IsWorld w) where
   pub resolved-sound : (m : MethodRec) (place : ℕ) (i : Insn) (r : Result Operation RuleFault) → IfSome m.sig.result (IsDeclared w.classes) → Resolves w m place i r → IfOk r (IsSound w m place)
   resolved-sound m place i r q h = row-sound m place i (row_at i.op) r (row-fine i.op) q h
 
-pub operations-are-sound : (w : Linked) → IsWorld w → OperationsAreSound w
-operations-are-sound w is m place i op q h = resolved-sound w is m place i (Ok op) q h
+pub operations-are-sound : (w : Linked) → IsWorld w → ConcreteDecides w.classes w.methods → OperationsAreSound w
+operations-are-sound w is decides m place i op q h = resolved-sound w is decides m place i (Ok op) q h

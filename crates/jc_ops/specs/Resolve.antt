@@ -11,7 +11,7 @@ use Rattle.jc_base.specs.declared.record.Member.TheVariants.{ClassOf, Field, Sta
 use Rattle.jc_base.specs.declared.record.MethodRec.{MethodRec}
 use Rattle.jc_base.specs.Class.{ClassTable, is_interface, object}
 use Rattle.jc_base.specs.Order.{is_reference}
-use Rattle.jc_base.specs.Dispatch.{IsConcrete, entry_at}
+use Rattle.jc_base.specs.Dispatch.{is_concrete, entry_at}
 use Rattle.jc_base.specs.Linked.{lacks_code}
 use Rattle.jc_base.specs.World.{Linked, member_at}
 use Rattle.jc_decode.specs.declared.insn.Insn.{Insn}
@@ -198,43 +198,38 @@ result_returned t sort result = if returns sort result then Ok result else Err (
 
 -- ---- the operation
 
--- the operation of an instruction of this row, in code of a method m; an object that is made is another matter
-abbrev pub resolved : Linked → MethodRec → Insn → Row → Result Operation RuleFault
-resolved w m i (rows.Plain op) = Ok op
-resolved w m i rows.PushShort = Ok (ops.Constant (constants.Short i.x))
-resolved w m i rows.PushInt = Ok (ops.Constant (constants.Int i.x))
-resolved w m i (rows.Load s) = Ok (ops.Load s (byte_of i.x))
-resolved w m i (rows.Store s) = Ok (ops.Store s (byte_of i.x))
-resolved w m i (rows.Increment width) = Ok (ops.Increment width (byte_of i.x) i.y)
-resolved w m i rows.CopyUnder = Ok (ops.Move (moves.CopyUnder (byte_of i.x / 16) (byte_of i.x % 16)))
-resolved w m i rows.Exchange = Ok (ops.Move (moves.Exchange (byte_of i.x / 16) (byte_of i.x % 16)))
-resolved w m i (rows.StaticRead k) = on ops.StaticRead (static_field (short_of i.x) k (member_at w m.package (short_of i.x)))
-resolved w m i (rows.StaticWrite k) = on ops.StaticWrite (static_field (short_of i.x) k (member_at w m.package (short_of i.x)))
-resolved w m i (rows.FieldRead k h) =
-    on (λ f. ops.FieldRead f h) (instance_field w.classes (short_of i.x) k (member_at w m.package (short_of i.x)))
-resolved w m i (rows.FieldWrite k h) =
-    on (λ f. ops.FieldWrite f h) (instance_field w.classes (short_of i.x) k (member_at w m.package (short_of i.x)))
-resolved w m i (rows.Call c) = on ops.Call (callee w m.package i c)
-resolved w m i rows.NewNumbers = Ok (ops.NewArray (array_of (byte_of i.x)))
-resolved w m i rows.NewReferences = on ops.NewArray (class_type ArrRef (short_of i.x) (member_at w m.package (short_of i.x)))
-resolved w m i (rows.TypeTest test) =
-    on (ops.TypeTest test) (tested_type (byte_of i.x) (short_of i.y) (member_at w m.package (short_of i.y)))
-resolved w m i (rows.Return sort) = on ops.Return (result_returned w.classes sort m.sig.result)
-resolved w m i rows.New = Err (BadMember (short_of i.x))
-
 -- an object of a concrete class, which the instruction at the place makes
-abbrev pub ResolvesNew : Linked → ℕ → ℕ → Option Member → Result Operation RuleFault → Type 0
-ResolvesNew w place pool (Some (ClassOf c)) (Ok op) = IsConcrete w.classes w.methods c × (op ≡ ops.New place c)
-ResolvesNew w place pool (Some (ClassOf c)) (Err fault) = (¬ (IsConcrete w.classes w.methods c)) × (fault ≡ NotConcrete c)
-ResolvesNew w place pool _ r = r ≡ Err (BadMember pool)
+abbrev pub new_object : Linked → ℕ → ℕ → Option Member → Result Operation RuleFault
+new_object w place pool (Some (ClassOf c)) = if is_concrete w.classes w.methods c then Ok (ops.New place c) else Err (NotConcrete c)
+new_object w place pool _ = Err (BadMember pool)
 
-abbrev pub ResolvesRow : Linked → MethodRec → ℕ → Insn → Row → Result Operation RuleFault → Type 0
-ResolvesRow w m place i rows.New r = ResolvesNew w place (short_of i.x) (member_at w m.package (short_of i.x)) r
-ResolvesRow w m place i row r = r ≡ resolved w m i row
+-- the operation of an instruction of this row, at a place of the code of a method m
+abbrev pub resolved : Linked → MethodRec → ℕ → Insn → Row → Result Operation RuleFault
+resolved w m place i (rows.Plain op) = Ok op
+resolved w m place i rows.PushShort = Ok (ops.Constant (constants.Short i.x))
+resolved w m place i rows.PushInt = Ok (ops.Constant (constants.Int i.x))
+resolved w m place i (rows.Load s) = Ok (ops.Load s (byte_of i.x))
+resolved w m place i (rows.Store s) = Ok (ops.Store s (byte_of i.x))
+resolved w m place i (rows.Increment width) = Ok (ops.Increment width (byte_of i.x) i.y)
+resolved w m place i rows.CopyUnder = Ok (ops.Move (moves.CopyUnder (byte_of i.x / 16) (byte_of i.x % 16)))
+resolved w m place i rows.Exchange = Ok (ops.Move (moves.Exchange (byte_of i.x / 16) (byte_of i.x % 16)))
+resolved w m place i (rows.StaticRead k) = on ops.StaticRead (static_field (short_of i.x) k (member_at w m.package (short_of i.x)))
+resolved w m place i (rows.StaticWrite k) = on ops.StaticWrite (static_field (short_of i.x) k (member_at w m.package (short_of i.x)))
+resolved w m place i (rows.FieldRead k h) =
+    on (λ f. ops.FieldRead f h) (instance_field w.classes (short_of i.x) k (member_at w m.package (short_of i.x)))
+resolved w m place i (rows.FieldWrite k h) =
+    on (λ f. ops.FieldWrite f h) (instance_field w.classes (short_of i.x) k (member_at w m.package (short_of i.x)))
+resolved w m place i (rows.Call c) = on ops.Call (callee w m.package i c)
+resolved w m place i rows.New = new_object w place (short_of i.x) (member_at w m.package (short_of i.x))
+resolved w m place i rows.NewNumbers = Ok (ops.NewArray (array_of (byte_of i.x)))
+resolved w m place i rows.NewReferences = on ops.NewArray (class_type ArrRef (short_of i.x) (member_at w m.package (short_of i.x)))
+resolved w m place i (rows.TypeTest test) =
+    on (ops.TypeTest test) (tested_type (byte_of i.x) (short_of i.y) (member_at w m.package (short_of i.y)))
+resolved w m place i (rows.Return sort) = on ops.Return (result_returned w.classes sort m.sig.result)
 
 -- the operation of the instruction at a place of a method's code, or the fault where its operands name nothing that it takes
 abbrev pub Resolves : Linked → MethodRec → ℕ → Insn → Result Operation RuleFault → Type 0
-Resolves w m place i r = ResolvesRow w m place i (row_at i.op) r
+Resolves w m place i r = r ≡ resolved w m place i (row_at i.op)
 
 -- of the method that the site names
 abbrev pub ResolvesAt : Linked → Site → Insn → Result Operation RuleFault → Type 0

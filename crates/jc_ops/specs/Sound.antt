@@ -1,6 +1,6 @@
 -- What holds of a resolved operation: what it speaks of is in the world, so that nothing else of the constant pool
 -- and of the place is needed to run it (JCVM 2.2, sections 6.7 and 7.5).
-use Rattle.std.specs.Prelude.{◌≡◌, ℕ, ◌+◌, ◌<◌, ◌≤◌, true, false, List, length, Option, Some, None, IsSomeAnd, IfSome, Result, Ok, Any, slice_get, ⊤}
+use Rattle.std.specs.Prelude.{◌≡◌, ℕ, ◌+◌, ◌<◌, ◌≤◌, true, false, List, length, Option, Some, None, IsSomeAnd, IfSome, Result, Ok, Err, Any, slice_get, ⊤}
 use Rattle.jc_base.specs.declared.ty.Ty.{Ty}
 use Rattle.jc_base.specs.declared.ty.Ty.TheVariants.{IntLow, Class, ArrBool, ArrByte, ArrShort, ArrInt, ArrRef}
 use Rattle.jc_base.specs.declared.record.Member.{Member}
@@ -14,6 +14,7 @@ use Rattle.jc_base.specs.Linked.{IsField, IsInherited, IsSlotOf, lacks_code}
 use Rattle.jc_base.specs.World.{Linked}
 use Rattle.jc_decode.specs.declared.insn.Insn.{Insn}
 use Rattle.jc_ops.specs.declared.fault.RuleFault.{RuleFault}
+use Rattle.jc_ops.specs.declared.fault.RuleFault.TheVariants.{NotConcrete}
 use Rattle.jc_ops.specs.declared.want.Want.{Want}
 use Rattle.jc_ops.specs.declared.want.Want.TheVariants.{Value, Receiver}
 use Rattle.jc_ops.specs.declared.operation.Move.{Move}
@@ -149,6 +150,13 @@ OperationsAreDecided w =
     → Resolves w m place i r
     → Resolves w m place i s
     → r ≡ s
+
+-- an instruction is refused for a class only where no objects can be made of it
+abbrev pub RefusesAbstract : Linked → Type 0
+RefusesAbstract w =
+    (m : MethodRec) (place : ℕ) (i : Insn) (c : ℕ)
+    → Resolves w m place i (Err (NotConcrete c))
+    → ¬ (IsConcrete w.classes w.methods c)
 
 -- ---- what a linked world says of the entries of a constant pool
 

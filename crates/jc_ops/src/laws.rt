@@ -1,14 +1,17 @@
-ghost use Rattle.jc_ops.specs.Sound.{OperationsAreSound, OperationsAreDecided};
+ghost use Rattle.jc_ops.specs.Sound.{OperationsAreSound, OperationsAreDecided, RefusesAbstract};
 ghost use Rattle.jc_ops.specs.Next.{OperationsGoAlike};
 ghost use Rattle.jc_ops.specs.Entry.{RestsOnEntry, FaultNamesEntry};
 
-use jc_base::World;
+use jc_base::{World, concrete_decides};
 
-/// What the operations of instructions speak of is in the world, and an instruction has one operation.
+/// What the operations of instructions speak of is in the world, an instruction has one operation, and is refused
+/// for a class only where no objects can be made of it.
 pub fn operations_are_sound(world: &World<'_>)
     ensures sound { OperationsAreSound world.now }
     ensures decided { OperationsAreDecided world.now }
+    ensures refused { RefusesAbstract world.now }
 {
+    concrete_decides();
     let _classes = world.classes();
 }
 
@@ -17,6 +20,7 @@ pub fn entries_are_named(world: &World<'_>)
     ensures rests { RestsOnEntry world.now }
     ensures faults { FaultNamesEntry world.now }
 {
+    concrete_decides();
     let _classes = world.classes();
 }
 

@@ -6,7 +6,7 @@ ghost use Rattle.jc_ops.specs.Sound.{IsKnownMember};
 
 use crate::fault::RuleFault;
 use crate::operation::{InstanceField, Sort, StaticField};
-use jc_base::{Kind, Member, Ty, World, is_reference};
+use jc_base::{Kind, Member, Ty, World, is_reference, types_are_ordered};
 
 /// An operand read as an unsigned byte.
 pub(crate) fn byte_of(x: i32) -> u8
@@ -28,7 +28,7 @@ pub(crate) fn member(world: &World<'_>, package: u16, pool: u16) -> Option<Membe
     ensures is { result ≡ member_at world.now «package» pool }
     ensures known { IfSome result (IsKnownMember world.now) }
 {
-    let _classes = world.classes();
+    types_are_ordered(world.classes());
     if pool < world.pool_count(package) {
         Some(world.member(package, pool))
     } else {

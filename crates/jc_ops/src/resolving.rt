@@ -1,6 +1,6 @@
 ghost use Rattle.std.specs.Prelude.{◌≡◌, ◌<◌, length, IfOk, IsSomeAnd, slice_get};
 ghost use Rattle.jc_base.specs.World.{member_at};
-ghost use Rattle.jc_ops.specs.Resolve.{Resolves, ResolvesAt, ResolvesNew, ResolvesRow};
+ghost use Rattle.jc_ops.specs.Resolve.{Resolves, ResolvesAt, new_object};
 ghost use Rattle.jc_ops.specs.Sound.{IsSound};
 
 use crate::calls::callee;
@@ -12,7 +12,7 @@ use crate::named::{
 use crate::operation::{Constant, Move, Operation};
 use crate::row::Row;
 use crate::site::Site;
-use jc_base::{Member, MethodRec, World};
+use jc_base::{Member, MethodRec, World, concrete_decides};
 use jc_decode::Insn;
 
 /// The object that the `new` at the place makes, of a concrete class.
@@ -23,7 +23,7 @@ fn new_object(
     pool: u16,
 ) -> Result<Operation, RuleFault>
     requires { «package» < length world.now.infos }
-    ensures { ResolvesNew world.now place pool (member_at world.now «package» pool) result }
+    ensures { result ≡ new_object world.now place pool (member_at world.now «package» pool) }
 {
     match member(world, package, pool) {
         Some(Member::ClassOf { class }) if world.is_concrete(class) => {
@@ -99,5 +99,6 @@ pub fn resolve(world: &World<'_>, site: Site, insn: Insn) -> Result<Operation, R
         (λ m. IfOk result (IsSound world.now m site.place)) }
 {
     let _classes = world.classes();
+    concrete_decides();
     resolved(world, world.method(site.method), site.place, insn)
 }

@@ -1,7 +1,7 @@
 -- What a method's header and its code tell, since the parts of its package agree.
-use Rattle.std.proofs.Common.{◌≡◌, ℕ, ◌+◌, ◌≤◌, Bool, true, false, ◌&&◌, leb, List, length, map, drop, refl, sym, ap, ◌∙◌, arith}
+use Rattle.std.proofs.Common.{◌≡◌, ℕ, ◌+◌, ◌≤◌, Bool, true, false, not, ◌&&◌, List, length, map, drop, refl, sym, ap, ◌∙◌, arith}
 use Rattle.std.specs.Prelude.{All, MatchBool}
-use Rattle.std.proofs.lemmas.Bool.{le-leb, false≢true}
+use Rattle.std.proofs.lemmas.Bool.{false≢true}
 use Rattle.std.proofs.lemmas.List.{length-map, length-take, length-drop}
 use Rattle.std.proofs.lemmas.List.Elements.{All-nil, All-map, All-weaker}
 use Rattle.cap_method.specs.declared.handler.HandlerInfo.{HandlerInfo}
@@ -9,7 +9,7 @@ use Rattle.cap_desc.specs.DescriptorFormat as described
 use Rattle.cap_desc.specs.DescriptorFormat.{Method}
 use Rattle.cap_package.specs.HeaderChecks.{is_static, header_in}
 use Rattle.cap_package.specs.MethodChecks.{code_start, code_end}
-use Rattle.cap_package.specs.PackageRecord.{PackageRecord, classes_from, handlers_of}
+use Rattle.cap_package.specs.PackageRecord.{PackageRecord, names_interface, handlers_of}
 use Rattle.cap_package.specs.StandsFor.{StandsFor}
 use Rattle.jc_base.specs.declared.record.Sig.{Sig}
 use Rattle.jc_base.specs.Linked.{receiver_words, IsCodeLength}
@@ -20,7 +20,7 @@ use Rattle.jc_resolve.specs.NamedMethods.{handler_named, offset_in_info, no_body
 use Rattle.jc_resolve.specs.References.{class_named}
 use Rattle.jc_resolve.specs.WorldTypes.{signature_of}
 use Rattle.jc_resolve.proofs.MethodFacts.{HasWords, IsPlaced, interface-words, is-placed}
-use Rattle.jc_resolve.proofs.NumberedLaws.{from-class, from-interface}
+use Rattle.jc_resolve.proofs.NumberedLaws.{from-any, from-class, from-interface}
 use Rattle.jc_resolve.proofs.OwnedHandlers.{LiesIn}
 use Rattle.jc_resolve.proofs.WordLaws.{words-counted}
 
@@ -124,16 +124,16 @@ module _ (ps : List PackageRecord) (object throwable k : ℕ) (p : PackageRecord
   abbrev sig_of : Sig
   sig_of = signature_of ps object k p.description m.type_offset
 
-  body_by_place : (placed class : Bool) → leb (classes_from p.classes) c.class_ref ≡ placed → StandsFor p.parts p → length p.methods.handlers ≤ 255 → IsOneOf p.description.items.classes c → IsOneOf c.methods m
-      → IsBody p.methods.info (length (sig_of).args + receiver_words (is_static m.flags)) class (body_of ps throwable k p m sig_of (placed && class))
-  body_by_place true class e agreed few one of_class =
-      let x = is-placed p agreed m (from-class (classes_from p.classes) p.description.items.classes c m one e of_class) (from-class 0 p.description.items.classes c m one (le-leb 0 c.class_ref (omega arith)) of_class) in
-      body_placed ps throwable k p m sig_of class x few (words-counted ps object k p.description m.type_offset x.words x.told)
+  body_by_place : (interface class : Bool) → names_interface p.classes c.class_ref ≡ interface → StandsFor p.parts p → length p.methods.handlers ≤ 255 → IsOneOf p.description.items.classes c → IsOneOf c.methods m
+      → IsBody p.methods.info (length (sig_of).args + receiver_words (is_static m.flags)) class (body_of ps throwable k p m sig_of (not interface && class))
   body_by_place false class e agreed few one of_class =
-      let x = interface-words p agreed m (from-interface (classes_from p.classes) p.description.items.classes c m one e of_class) in
+      let x = is-placed p agreed m (from-class (names_interface p.classes) p.description.items.classes c m one e of_class) (from-any p.description.items.classes c m one of_class) in
+      body_placed ps throwable k p m sig_of class x few (words-counted ps object k p.description m.type_offset x.words x.told)
+  body_by_place true class e agreed few one of_class =
+      let x = interface-words p agreed m (from-interface (names_interface p.classes) p.description.items.classes c m one e of_class) in
       body_else ps throwable k p m sig_of class x (words-counted ps object k p.description m.type_offset x.words x.told)
 
   pub body-known : StandsFor p.parts p → length p.methods.handlers ≤ 255 → IsOneOf p.description.items.classes c → IsOneOf c.methods m
       → IsBody p.methods.info (length (signature_of ps object k p.description m.type_offset).args + receiver_words (is_static m.flags)) (is_class ps (class_named ps k c.class_ref)) (body_of ps throwable k p m (signature_of ps object k p.description m.type_offset) (have_headers ps k p c))
   unfolding have_headers
-  body-known agreed few one of_class = body_by_place (leb (classes_from p.classes) c.class_ref) (is_class ps (class_named ps k c.class_ref)) refl agreed few one of_class
+  body-known agreed few one of_class = body_by_place (names_interface p.classes c.class_ref) (is_class ps (class_named ps k c.class_ref)) refl agreed few one of_class

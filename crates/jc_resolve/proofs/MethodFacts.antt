@@ -5,15 +5,15 @@ use Rattle.std.specs.List.{filter_map}
 use Rattle.std.proofs.lemmas.Bool.{ltb-false, eqb-true, eqb-false}
 use Rattle.cap_method.specs.MethodFormat.{Header}
 use Rattle.cap_desc.specs.DescriptorFormat.{Method}
-use Rattle.cap_desc.specs.Members.{methods_from}
+use Rattle.cap_desc.specs.Members.{methods_of}
 use Rattle.cap_components.specs.declared.fault.PackFault.{PackFault}
 use Rattle.cap_components.specs.declared.fault.PackFault.TheVariants.{TooManyRegisters, MethodLength, CountDisagrees, BadType}
 use Rattle.cap_package.specs.Descriptions.{Description, argument_words}
 use Rattle.cap_package.specs.HandlerChecks.{claim_fault, numbered, numbered_fault}
 use Rattle.cap_package.specs.HeaderChecks.{header_in, is_abstract, registers_fault, length_fault, this_words, arguments_fault, abstract_fault}
 use Rattle.cap_package.specs.MethodChecks.{code_start, code_end, outside_fault}
-use Rattle.cap_package.specs.TypeChecks.{method_type_by, method_type_fault, interface_methods, field_type_fault}
-use Rattle.cap_package.specs.PackageRecord.{PackageRecord, classes_from, described as described_methods, handlers_of, fields}
+use Rattle.cap_package.specs.TypeChecks.{method_type_by, method_type_fault, field_type_fault}
+use Rattle.cap_package.specs.PackageRecord.{PackageRecord, described as described_methods, interface_methods, handlers_of, fields}
 use Rattle.cap_package.specs.StandsFor.{StandsFor}
 use Rattle.cap_package.proofs.HeaderLaws.{HasHeader, has-header, ends-within}
 use Rattle.cap_package.proofs.InfoLaws.{info-short}
@@ -103,26 +103,26 @@ begins_at info m x = ap (λ n. m.method_offset + n) (sym x.size)
 
 module _ (p : PackageRecord) (agreed : StandsFor p.parts p) where
   -- the types of all methods have the shape of a method's
-  types : filter_map (method_type_fault p.description 510) (methods_from 0 p.description.items.classes) ≡ []
+  types : filter_map (method_type_fault p.description 510) (methods_of p.description.items.classes) ≡ []
   types =
       let all = agreed.agree.1.1.1.1.1.1.1.1.1.1.1.1.1.1.1.1.1.1.1.0 in
-      let first = both_empty (filter_map (field_type_fault p.description) (fields p) ++ filter_map (method_type_fault p.description 510) (methods_from 0 p.description.items.classes)) (filter_map (method_type_fault p.description 254) (interface_methods (classes_from p.classes) p.description.items.classes)) all in
-      (both_empty (filter_map (field_type_fault p.description) (fields p)) (filter_map (method_type_fault p.description 510) (methods_from 0 p.description.items.classes)) first.0).1
+      let first = both_empty (filter_map (field_type_fault p.description) (fields p) ++ filter_map (method_type_fault p.description 510) (methods_of p.description.items.classes)) (filter_map (method_type_fault p.description 254) (interface_methods p)) all in
+      (both_empty (filter_map (field_type_fault p.description) (fields p)) (filter_map (method_type_fault p.description 510) (methods_of p.description.items.classes)) first.0).1
 
-  interface_types : filter_map (method_type_fault p.description 254) (interface_methods (classes_from p.classes) p.description.items.classes) ≡ []
+  interface_types : filter_map (method_type_fault p.description 254) (interface_methods p) ≡ []
   interface_types =
       let all = agreed.agree.1.1.1.1.1.1.1.1.1.1.1.1.1.1.1.1.1.1.1.0 in
-      (both_empty (filter_map (field_type_fault p.description) (fields p) ++ filter_map (method_type_fault p.description 510) (methods_from 0 p.description.items.classes)) (filter_map (method_type_fault p.description 254) (interface_methods (classes_from p.classes) p.description.items.classes)) all).1
+      (both_empty (filter_map (field_type_fault p.description) (fields p) ++ filter_map (method_type_fault p.description 510) (methods_of p.description.items.classes)) (filter_map (method_type_fault p.description 254) (interface_methods p)) all).1
 
   entries_owned : filter_map (numbered_fault p.methods.info (described_methods p)) (numbered 0 p.methods.handlers) ≡ []
   entries_owned =
       let all = agreed.agree.1.1.1.1.1.1.1.1.1.1.1.1.1.1.0 in
       (both_empty (filter_map (numbered_fault p.methods.info (described_methods p)) (numbered 0 p.methods.handlers)) (filter_map (claim_fault (length p.methods.handlers)) (described_methods p)) all).0
 
-  pub interface-words : (m : Method) → IsOneOf (interface_methods (classes_from p.classes) p.description.items.classes) m → HasWords p.description m 254
+  pub interface-words : (m : Method) → IsOneOf (interface_methods p) m → HasWords p.description m 254
   interface-words m one = words_told p.description m 254 (faultless (method_type_fault p.description 254) _ m interface_types one)
 
-  pub is-placed : (m : Method) → IsOneOf (described_methods p) m → IsOneOf (methods_from 0 p.description.items.classes) m → IsPlaced p m
+  pub is-placed : (m : Method) → IsOneOf (described_methods p) m → IsOneOf (methods_of p.description.items.classes) m → IsPlaced p m
   is-placed m one any =
       let info = p.methods.info in
       let outside = faultless (outside_fault info (length p.methods.handlers)) (described_methods p) m agreed.agree.1.1.1.0 one in
@@ -130,7 +130,7 @@ module _ (p : PackageRecord) (agreed : StandsFor p.parts p) where
       let abstract = faultless (abstract_fault info) (described_methods p) m agreed.agree.1.1.1.1.1.1.1.1.1.1.1.1.1.0 one in
       let registers = faultless (registers_fault info) (described_methods p) m agreed.agree.1.1.1.1.1.1.1.1.1.1.1.1.1.1.1.1.1.1.0 one in
       let lengths = faultless (length_fault info) (described_methods p) m agreed.agree.1.1.1.1.1.1.1.1.1.1.1.1.1.1.1.1.1.1.1.1.1.0 one in
-      let words = words_told p.description m 510 (faultless (method_type_fault p.description 510) (methods_from 0 p.description.items.classes) m types any) in
+      let words = words_told p.description m 510 (faultless (method_type_fault p.description 510) (methods_of p.description.items.classes) m types any) in
       let ends = ends-within info (length p.methods.handlers) m outside in
       let h = has-header info m ends in
       record {

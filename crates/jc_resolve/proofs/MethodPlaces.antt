@@ -1,5 +1,5 @@
 -- No two methods stand at one place of a Method component, and no two of a package have the same two numbers.
-use Rattle.std.proofs.Common.{◌≡◌, ℕ, zero, suc, ◌+◌, ◌<◌, ◌≤◌, ◌⊎◌, Bool, true, false, ltb, leb, max, min, cond, List, [], ◌∷◌, ◌++◌, length, map, Option, Some, None, refl, sym, ap, subst, ◌∙◌, arith, inl, inr}
+use Rattle.std.proofs.Common.{◌≡◌, ℕ, zero, suc, ◌+◌, ◌<◌, ◌≤◌, ◌⊎◌, Bool, true, false, not, ltb, leb, max, min, cond, List, [], ◌∷◌, ◌++◌, length, map, Option, Some, None, refl, sym, ap, subst, ◌∙◌, arith, inl, inr}
 use Rattle.std.specs.Prelude.{All, slice_get, option_map}
 use Rattle.std.specs.List.{filter_map}
 use Rattle.std.proofs.lemmas.Bool.{lt-ltb, true≢false}
@@ -10,9 +10,9 @@ use Rattle.cap_components.specs.declared.fault.PackFault.{PackFault}
 use Rattle.cap_components.specs.declared.fault.PackFault.TheVariants.{MethodOverlaps}
 use Rattle.cap_desc.specs.DescriptorFormat as described
 use Rattle.cap_desc.specs.DescriptorFormat.{Method}
-use Rattle.cap_desc.specs.Members.{methods_from}
+use Rattle.cap_desc.specs.Members.{methods_but}
 use Rattle.cap_package.specs.MethodChecks.{size_by, code_start, code_end, overlap_fault, overlap_pair, outside_fault}
-use Rattle.cap_package.specs.PackageRecord.{PackageRecord, classes_from, described as described_methods}
+use Rattle.cap_package.specs.PackageRecord.{PackageRecord, names_interface, described as described_methods}
 use Rattle.cap_package.specs.Pairs.{pairs}
 use Rattle.cap_package.proofs.HeaderLaws.{ends-within}
 use Rattle.jc_base.specs.declared.record.MethodRec.{MethodRec}
@@ -115,19 +115,19 @@ not_placed a k p number c i (m ∷ ms) e =
     nowhere here place false f h = cc
 
 module _ (k : ℕ) (p : PackageRecord) where
-  abbrev start : ℕ
-  start = classes_from p.classes
+  abbrev interfaces : ℕ → Bool
+  interfaces = names_interface p.classes
 
-  elsewhere : (a : Method) (number : ℕ) (cs : List described.Class) → Each (IsApart a) (methods_from start cs) → Each (IsElsewhere a) (methods_of_classes k p number cs)
+  elsewhere : (a : Method) (number : ℕ) (cs : List described.Class) → Each (IsApart a) (methods_but interfaces cs) → Each (IsElsewhere a) (methods_of_classes k p number cs)
   elsewhere a number [] h = tt {0}
-  elsewhere a number (c ∷ cs) h = by (leb start c.class_ref) refl h (λ g. elsewhere a (number + 1) cs g)
+  elsewhere a number (c ∷ cs) h = by (interfaces c.class_ref) refl h (λ g. elsewhere a (number + 1) cs g)
     where
-      by : (b : Bool) → leb start c.class_ref ≡ b → Each (IsApart a) (cond b (c.methods ++ methods_from start cs) (methods_from start cs)) → (Each (IsApart a) (methods_from start cs) → Each (IsElsewhere a) (methods_of_classes k p (number + 1) cs))
+      by : (b : Bool) → interfaces c.class_ref ≡ b → Each (IsApart a) (cond b (methods_but interfaces cs) (c.methods ++ methods_but interfaces cs)) → (Each (IsApart a) (methods_but interfaces cs) → Each (IsElsewhere a) (methods_of_classes k p (number + 1) cs))
           → Each (IsElsewhere a) (methods_of_class k p number c 0 c.methods ++ methods_of_classes k p (number + 1) cs)
-      by true e g rest =
-          let both = each-split (IsApart a) c.methods (methods_from start cs) g in
+      by false e g rest =
+          let both = each-split (IsApart a) c.methods (methods_but interfaces cs) g in
           each-append (IsElsewhere a) (methods_of_class k p number c 0 c.methods) (methods_of_classes k p (number + 1) cs) (in_class a k p number c 0 c.methods both.0) (rest both.1)
-      by false e g rest = each-append (IsElsewhere a) (methods_of_class k p number c 0 c.methods) (methods_of_classes k p (number + 1) cs) (not_placed a k p number c 0 c.methods e) (rest g)
+      by true e g rest = each-append (IsElsewhere a) (methods_of_class k p number c 0 c.methods) (methods_of_classes k p (number + 1) cs) (not_placed a k p number c 0 c.methods (ap not e)) (rest g)
 
   -- the methods of a class, before others
   class_differs : (number : ℕ) (c : described.Class) (i : ℕ) (ms : List Method) (others : List NumberedMethod) → Pairwise IsApart ms → Each (λ a. Each (IsElsewhere a) others) ms → Pairwise Differ others → Pairwise Differ (methods_of_class k p number c i ms ++ others)
@@ -151,17 +151,17 @@ module _ (k : ℕ) (p : PackageRecord) where
       all_differ [] = tt {0}
       all_differ (n ∷ ns) = (λ place at there. nowhere (record { «package» = k; offset = m.method_offset }) place (is_placed p c) e at, all_differ ns)
 
-  classes_differ : (number : ℕ) (cs : List described.Class) → Pairwise IsApart (methods_from start cs) → Pairwise Differ (methods_of_classes k p number cs)
+  classes_differ : (number : ℕ) (cs : List described.Class) → Pairwise IsApart (methods_but interfaces cs) → Pairwise Differ (methods_of_classes k p number cs)
   classes_differ number [] h = tt {0}
-  classes_differ number (c ∷ cs) h = by (leb start c.class_ref) refl h (λ g. classes_differ (number + 1) cs g)
+  classes_differ number (c ∷ cs) h = by (interfaces c.class_ref) refl h (λ g. classes_differ (number + 1) cs g)
     where
-      by : (b : Bool) → leb start c.class_ref ≡ b → Pairwise IsApart (cond b (c.methods ++ methods_from start cs) (methods_from start cs)) → (Pairwise IsApart (methods_from start cs) → Pairwise Differ (methods_of_classes k p (number + 1) cs))
+      by : (b : Bool) → interfaces c.class_ref ≡ b → Pairwise IsApart (cond b (methods_but interfaces cs) (c.methods ++ methods_but interfaces cs)) → (Pairwise IsApart (methods_but interfaces cs) → Pairwise Differ (methods_of_classes k p (number + 1) cs))
           → Pairwise Differ (methods_of_class k p number c 0 c.methods ++ methods_of_classes k p (number + 1) cs)
-      by true e g rest =
-          let s = pairwise-split IsApart c.methods (methods_from start cs) g in
+      by false e g rest =
+          let s = pairwise-split IsApart c.methods (methods_but interfaces cs) g in
           class_differs number c 0 c.methods (methods_of_classes k p (number + 1) cs) s.front
-          (each-weaker (λ a. Each (IsApart a) (methods_from start cs)) (λ a. Each (IsElsewhere a) (methods_of_classes k p (number + 1) cs)) (λ a f. elsewhere a (number + 1) cs f) c.methods s.across) (rest s.back)
-      by false e g rest = unplaced_differs number c 0 c.methods (methods_of_classes k p (number + 1) cs) e (rest g)
+          (each-weaker (λ a. Each (IsApart a) (methods_but interfaces cs)) (λ a. Each (IsElsewhere a) (methods_of_classes k p (number + 1) cs)) (λ a f. elsewhere a (number + 1) cs f) c.methods s.across) (rest s.back)
+      by true e g rest = unplaced_differs number c 0 c.methods (methods_of_classes k p (number + 1) cs) (ap not e) (rest g)
 
 -- ---- numbers
 

@@ -6,7 +6,7 @@ use Rattle.cap_class.specs.ClassFormat.{Class}
 use Rattle.cap_desc.specs.declared.type_item.TypeItem.{TypeItem}
 use Rattle.cap_desc.specs.DescriptorFormat as described
 use Rattle.cap_desc.specs.DescriptorFormat.{Field, Method}
-use Rattle.cap_desc.specs.Members.{fields_of, methods_from}
+use Rattle.cap_desc.specs.Members.{fields_of, methods_of}
 use Rattle.cap_package.specs.Descriptions.{Description}
 use Rattle.cap_package.specs.PackageRecord.{PackageRecord}
 use Rattle.jc_resolve.specs.declared.fault.LinkFault.{LinkFault}
@@ -61,9 +61,9 @@ module _ (all : List PackageRecord) (k : ℕ) where
 
   pub least_package : (p : PackageRecord) (before : Option LinkFault) → in_order before (class_references p) ≡
       in_order (in_order (in_order (in_order before (flat_map references_of_class p.classes)) (flat_map references_of_record p.description.items.classes))
-      (flat_map (references_of_field_type p.description) (fields_of p.description.items.classes))) (flat_map (references_of_method p.description) (methods_from 0 p.description.items.classes))
+      (flat_map (references_of_field_type p.description) (fields_of p.description.items.classes))) (flat_map (references_of_method p.description) (methods_of p.description.items.classes))
   unfolding class_references
   least_package p before =
       fold-append _ before (flat_map references_of_class p.classes) (flat_map references_of_record p.description.items.classes ++ references_of_types p.description)
       ∙ fold-append _ (in_order before (flat_map references_of_class p.classes)) (flat_map references_of_record p.description.items.classes) (references_of_types p.description)
-      ∙ fold-append _ (in_order (in_order before (flat_map references_of_class p.classes)) (flat_map references_of_record p.description.items.classes)) (flat_map (references_of_field_type p.description) (fields_of p.description.items.classes)) (flat_map (references_of_method p.description) (methods_from 0 p.description.items.classes))
+      ∙ fold-append _ (in_order (in_order before (flat_map references_of_class p.classes)) (flat_map references_of_record p.description.items.classes)) (flat_map (references_of_field_type p.description) (fields_of p.description.items.classes)) (flat_map (references_of_method p.description) (methods_of p.description.items.classes))

@@ -10,7 +10,7 @@ use Rattle.indexmap.specs.IndexMap.{insert_entry}
 use Rattle.indexmap.proofs.MapLemmas.{absent_from_lookup, insert_entry-absent}
 use Rattle.cap_class.specs.ClassFormat.{Class, is_interface}
 use Rattle.cap_desc.specs.DescriptorFormat as described
-use Rattle.cap_package.specs.PackageRecord.{PackageRecord, classes_from}
+use Rattle.cap_package.specs.PackageRecord.{PackageRecord, names_interface}
 use Rattle.jc_resolve.specs.declared.place.RecordPlace.{RecordPlace}
 use Rattle.jc_resolve.specs.Numbering.{NumberedClass, same_place, is_at, classes_of, classes_behind, numbered_classes, place_of_class, class_places, class_at, flagged_interface, is_interface_number, is_placed, methods_of_class, methods_of_classes, methods_behind, numbered_methods, place_of_method, method_places, method_at}
 use Rattle.jc_resolve.specs.Numbers.{Numbered, none_numbered, number_at, entered, with_next, with_all, spot_of_class, class_spots, class_flags, spot_of_method, spots_of_classes, method_spots, AreIndexed}
@@ -160,7 +160,7 @@ spots_in : (k : ℕ) (p : PackageRecord) (n : ℕ) (c : described.Class) (i : �
 spots_in k p n c i [] = refl
 spots_in k p n c i (m ∷ ms) = ap (λ l. spot_of_method k (is_placed p c) m ∷ l) (spots_in k p n c (i + 1) ms)
 
-spots_of : (k : ℕ) (p : PackageRecord) (n : ℕ) (cs : List described.Class) → spots_of_classes k (classes_from p.classes) cs ≡ map place_of_method (methods_of_classes k p n cs)
+spots_of : (k : ℕ) (p : PackageRecord) (n : ℕ) (cs : List described.Class) → spots_of_classes k (names_interface p.classes) cs ≡ map place_of_method (methods_of_classes k p n cs)
 spots_of k p n [] = refl
 spots_of k p n (c ∷ cs) =
     ap₂ ◌++◌ (spots_in k p n c 0 c.methods) (spots_of k p (n + 1) cs)

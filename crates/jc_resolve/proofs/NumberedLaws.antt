@@ -1,12 +1,11 @@
 -- Each numbered method is one that the Descriptor of its package describes.
-use Rattle.std.proofs.Common.{◌≡◌, ℕ, suc, ◌+◌, Bool, true, false, leb, cond, List, [], ◌∷◌, ◌++◌, Some, refl, sym, ap, subst, ◌∙◌, inl, inr, arith}
+use Rattle.std.proofs.Common.{◌≡◌, ℕ, suc, ◌+◌, Bool, true, false, cond, List, [], ◌∷◌, ◌++◌, Some, refl, sym, ap, subst, ◌∙◌, inl, inr, arith}
 use Rattle.std.specs.Prelude.{All, slice_get}
 use Rattle.std.proofs.lemmas.Bool.{false≢true}
 use Rattle.std.proofs.lemmas.List.Elements.{All-nil, All-cons, All-append}
 use Rattle.cap_desc.specs.DescriptorFormat as described
 use Rattle.cap_desc.specs.DescriptorFormat.{Method}
-use Rattle.cap_desc.specs.Members.{methods_from}
-use Rattle.cap_package.specs.TypeChecks.{interface_methods}
+use Rattle.cap_desc.specs.Members.{methods_of, methods_in, methods_but}
 use Rattle.cap_package.specs.PackageRecord.{PackageRecord}
 use Rattle.jc_resolve.specs.FirstFault.{IsOneOf}
 use Rattle.jc_resolve.specs.Numbering.{NumberedMethod, numbered, methods_of_class, methods_of_classes, methods_behind, numbered_methods}
@@ -22,13 +21,6 @@ in_rest : {X : Type 0} (b : Bool) (xs ys : List X) (x : X) → IsOneOf ys x → 
 in_rest true xs ys x h = one_of_behind xs ys x h
 in_rest false xs ys x h = h
 
-pub from-class : (start : ℕ) (cs : List described.Class) (c : described.Class) (m : Method) → IsOneOf cs c → leb start c.class_ref ≡ true → IsOneOf c.methods m → IsOneOf (methods_from start cs) m
-from-class start [] c m one e h = absurd one
-from-class start (d ∷ ds) c m (inl same) e h =
-    let ref = sym (ap (λ (x : described.Class). leb start x.class_ref) same) ∙ e in
-    in_both (leb start d.class_ref) d.methods (methods_from start ds) m ref (subst (λ (x : described.Class). IsOneOf x.methods m) same h)
-from-class start (d ∷ ds) c m (inr one) e h = in_rest (leb start d.class_ref) d.methods (methods_from start ds) m (from-class start ds c m one e h)
-
 in_else : {X : Type 0} (b : Bool) (xs ys : List X) (x : X) → b ≡ false → IsOneOf xs x → IsOneOf (cond b ys (xs ++ ys)) x
 in_else true xs ys x e h = absurd (false≢true (sym e))
 in_else false xs ys x e h = one_of_front xs ys x h
@@ -37,12 +29,25 @@ in_later : {X : Type 0} (b : Bool) (xs ys : List X) (x : X) → IsOneOf ys x →
 in_later true xs ys x h = h
 in_later false xs ys x h = one_of_behind xs ys x h
 
-pub from-interface : (start : ℕ) (cs : List described.Class) (c : described.Class) (m : Method) → IsOneOf cs c → leb start c.class_ref ≡ false → IsOneOf c.methods m → IsOneOf (interface_methods start cs) m
-from-interface start [] c m one e h = absurd one
-from-interface start (d ∷ ds) c m (inl same) e h =
-    let ref = sym (ap (λ (x : described.Class). leb start x.class_ref) same) ∙ e in
-    in_else (leb start d.class_ref) d.methods (interface_methods start ds) m ref (subst (λ (x : described.Class). IsOneOf x.methods m) same h)
-from-interface start (d ∷ ds) c m (inr one) e h = in_later (leb start d.class_ref) d.methods (interface_methods start ds) m (from-interface start ds c m one e h)
+pub from-any : (cs : List described.Class) (c : described.Class) (m : Method) → IsOneOf cs c → IsOneOf c.methods m → IsOneOf (methods_of cs) m
+from-any [] c m one h = absurd one
+from-any (d ∷ ds) c m (inl same) h = one_of_front d.methods (methods_of ds) m (subst (λ (x : described.Class). IsOneOf x.methods m) same h)
+from-any (d ∷ ds) c m (inr one) h = one_of_behind d.methods (methods_of ds) m (from-any ds c m one h)
+
+module _ (interfaces : ℕ → Bool) where
+  pub from-class : (cs : List described.Class) (c : described.Class) (m : Method) → IsOneOf cs c → interfaces c.class_ref ≡ false → IsOneOf c.methods m → IsOneOf (methods_but interfaces cs) m
+  from-class [] c m one e h = absurd one
+  from-class (d ∷ ds) c m (inl same) e h =
+      let ref = sym (ap (λ (x : described.Class). interfaces x.class_ref) same) ∙ e in
+      in_else (interfaces d.class_ref) d.methods (methods_but interfaces ds) m ref (subst (λ (x : described.Class). IsOneOf x.methods m) same h)
+  from-class (d ∷ ds) c m (inr one) e h = in_later (interfaces d.class_ref) d.methods (methods_but interfaces ds) m (from-class ds c m one e h)
+
+  pub from-interface : (cs : List described.Class) (c : described.Class) (m : Method) → IsOneOf cs c → interfaces c.class_ref ≡ true → IsOneOf c.methods m → IsOneOf (methods_in interfaces cs) m
+  from-interface [] c m one e h = absurd one
+  from-interface (d ∷ ds) c m (inl same) e h =
+      let ref = sym (ap (λ (x : described.Class). interfaces x.class_ref) same) ∙ e in
+      in_both (interfaces d.class_ref) d.methods (methods_in interfaces ds) m ref (subst (λ (x : described.Class). IsOneOf x.methods m) same h)
+  from-interface (d ∷ ds) c m (inr one) e h = in_rest (interfaces d.class_ref) d.methods (methods_in interfaces ds) m (from-interface ds c m one e h)
 
 -- ---- numbered methods
 

@@ -26,7 +26,7 @@ value_all : {X : Type 0} (P : X → Type 0) (r : Reading (List X)) → ((xs : Li
 value_all P (Ok x) known h = known x.0 x.1 refl
 value_all P (Err e) known h = absurd cc
 
-pub given_all : {X : Type 0} (P : X → Type 0) (g : Grammar X) → OfEach P g → (n : ℕ) (items : Items) → IsTrue (gives (repeat n g) items) → All P (given [] (repeat n g) items)
+pub given_all : {X : Type 0} (P : X → Type 0) (g : Grammar X) → OfEach P g → (n : ℕ) (items : Cursor) → IsTrue (gives (repeat n g) items) → All P (given [] (repeat n g) items)
 unfolding gives given
 given_all P g each n items h =
     value_all P (next (repeat n g) items) (λ xs after e. spelled_all P g each n items.info.bytes.now items.at xs after (read-spells (info_of items.part) (repeat n g) items.info.bytes.now items.at xs after e)) h
@@ -76,7 +76,7 @@ value_within : {X : Type 0} (f : X → ℕ) (bytes : List ℕ) (at : ℕ) (r : R
 value_within f bytes at (Ok x) known = let w = known x.0 x.1 refl in omega (arith, w.room, w.reach)
 value_within f bytes at (Err e) known = omega arith
 
-pub given_within : {X : Type 0} (f : X → ℕ) (g : Grammar X) → TakesEach f g → (n : ℕ) (items : Items) → sum_by f (given [] (repeat n g) items) ≤ length items.info.bytes.now
+pub given_within : {X : Type 0} (f : X → ℕ) (g : Grammar X) → TakesEach f g → (n : ℕ) (items : Cursor) → sum_by f (given [] (repeat n g) items) ≤ length items.info.bytes.now
 unfolding given
 given_within f g each n items =
     value_within f items.info.bytes.now items.at (next (repeat n g) items)

@@ -7,7 +7,7 @@ use Rattle.cap_class.specs.ClassFormat.{Class, Interface}
 use Rattle.cap_desc.specs.declared.type_item.TypeItem.{TypeItem}
 use Rattle.cap_desc.specs.DescriptorFormat as described
 use Rattle.cap_desc.specs.DescriptorFormat.{Field}
-use Rattle.cap_desc.specs.Members.{methods_from, fields_of}
+use Rattle.cap_desc.specs.Members.{methods_of, fields_of}
 use Rattle.cap_desc.specs.TypeFormat.{names_class}
 use Rattle.cap_package.specs.Descriptions.{Description, field_type}
 use Rattle.cap_package.specs.HeaderChecks.{is_static}
@@ -77,7 +77,7 @@ references_of_method d m = flat_map reference_of_type (types_named d m.type_offs
 
 abbrev pub references_of_types : Description → List ℕ
 references_of_types d = flat_map (references_of_field_type d) (fields_of d.items.classes)
-    ++ flat_map (references_of_method d) (methods_from 0 d.items.classes)
+    ++ flat_map (references_of_method d) (methods_of d.items.classes)
 
 -- the class references of a package
 unfoldable pub class_references : PackageRecord → List ℕ

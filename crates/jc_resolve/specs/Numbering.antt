@@ -1,10 +1,10 @@
 -- The numbers of classes and methods over all packages: classes by package and then in the order of
 -- the Class component, methods by package and then in the order of the Descriptor (JCVM 2.2,
 -- sections 6.8 and 6.13).
-use Rattle.std.specs.Prelude.{ℕ, ◌+◌, Bool, false, if◌then◌else◌, List, [], ◌∷◌, ◌++◌, map, Option, Some, None, position, slice_get, nat_le, ◌==◌, ◌&&◌}
+use Rattle.std.specs.Prelude.{ℕ, ◌+◌, Bool, false, not, if◌then◌else◌, List, [], ◌∷◌, ◌++◌, map, Option, Some, None, position, slice_get, ◌==◌, ◌&&◌}
 use Rattle.cap_class.specs.ClassFormat.{Class, is_interface}
 use Rattle.cap_desc.specs.DescriptorFormat as described
-use Rattle.cap_package.specs.PackageRecord.{PackageRecord, classes_from}
+use Rattle.cap_package.specs.PackageRecord.{PackageRecord, names_interface}
 use Rattle.jc_resolve.specs.declared.place.RecordPlace.{RecordPlace}
 
 -- ---- classes
@@ -66,9 +66,8 @@ pub record NumberedMethod : Type 0 where
   pub record_of : described.Method
   pub placed : Bool
 
--- the class records of interfaces stand before those of classes
 abbrev pub is_placed : PackageRecord → described.Class → Bool
-is_placed p c = nat_le (classes_from p.classes) c.class_ref
+is_placed p c = not (names_interface p.classes c.class_ref)
 
 abbrev pub numbered : ℕ → PackageRecord → ℕ → described.Class → ℕ → described.Method → NumberedMethod
 numbered k p class_no c method_no m = record {

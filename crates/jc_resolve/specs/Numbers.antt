@@ -1,10 +1,10 @@
 -- A table of numbers by places: of several things at one place it keeps the number of the first.
-use Rattle.std.specs.Prelude.{◌≡◌, ℕ, ◌+◌, ◌≤◌, Bool, List, [], ◌∷◌, ◌++◌, length, map, Option, Some, None, fold, is_some, nat_le, if◌then◌else◌}
+use Rattle.std.specs.Prelude.{◌≡◌, ℕ, ◌+◌, ◌≤◌, Bool, List, [], ◌∷◌, ◌++◌, length, map, Option, Some, None, fold, is_some, not, if◌then◌else◌}
 use Rattle.std.specs.Map.{lookup}
 use Rattle.indexmap.specs.IndexMap.{insert_entry}
 use Rattle.cap_class.specs.ClassFormat.{Class, is_interface}
 use Rattle.cap_desc.specs.DescriptorFormat as described
-use Rattle.cap_package.specs.PackageRecord.{PackageRecord, classes_from}
+use Rattle.cap_package.specs.PackageRecord.{PackageRecord, names_interface}
 use Rattle.jc_resolve.specs.declared.place.RecordPlace.{RecordPlace}
 use Rattle.jc_resolve.specs.Numbering.{same_place}
 use Rattle.jc_resolve.specs.Counts.{class_total, method_total}
@@ -49,13 +49,14 @@ class_flags (p ∷ ps) = map (λ (c : Class). is_interface c.flags) p.classes ++
 abbrev pub spot_of_method : ℕ → Bool → described.Method → Option RecordPlace
 spot_of_method k placed m = if placed then Some (record { «package» = k; offset = m.method_offset }) else None
 
-abbrev pub spots_of_classes : ℕ → ℕ → List described.Class → List (Option RecordPlace)
-spots_of_classes k start [] = []
-spots_of_classes k start (c ∷ cs) = map (spot_of_method k (nat_le start c.class_ref)) c.methods ++ spots_of_classes k start cs
+-- the methods of classes, some of which, by their references, are interfaces
+abbrev pub spots_of_classes : ℕ → (ℕ → Bool) → List described.Class → List (Option RecordPlace)
+spots_of_classes k interfaces [] = []
+spots_of_classes k interfaces (c ∷ cs) = map (spot_of_method k (not (interfaces c.class_ref))) c.methods ++ spots_of_classes k interfaces cs
 
 abbrev pub method_spots : ℕ → List PackageRecord → List (Option RecordPlace)
 method_spots k [] = []
-method_spots k (p ∷ ps) = spots_of_classes k (classes_from p.classes) p.description.items.classes ++ method_spots (k + 1) ps
+method_spots k (p ∷ ps) = spots_of_classes k (names_interface p.classes) p.description.items.classes ++ method_spots (k + 1) ps
 
 -- the numbers and the flags of the classes and methods of packages, which are so few
 pub record AreIndexed (ps : List PackageRecord) (t : Numbered) (flags : List Bool) (m : Numbered) : Type 0 where

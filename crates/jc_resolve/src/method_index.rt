@@ -1,6 +1,5 @@
 ghost use Rattle.std.specs.Prelude.{◌≡◌, ◌+◌, ◌≤◌, ◌<◌, length, map, IfOk, OnOk};
-ghost use Rattle.cap_class.specs.ClassPart.{records};
-ghost use Rattle.cap_package.specs.PackageRecord.{classes_from};
+ghost use Rattle.offset_set.specs.Bits.{holds};
 ghost use Rattle.cap_desc.specs.ClassRecords.{classes_left};
 ghost use Rattle.cap_desc.specs.MemberLists.{methods_left};
 ghost use Rattle.jc_resolve.specs.Counts.{method_count, method_total};
@@ -8,22 +7,10 @@ ghost use Rattle.jc_resolve.specs.Numbers.{none_numbered, method_spots, spot_of_
 
 use crate::numbers::Numbers;
 use crate::place::RecordPlace;
-use cap_class::ClassPart;
 use cap_desc::{DescClasses, DescMethods};
-use cap_package::Packages;
+use cap_package::{Packages, interface_offsets};
+use offset_set::Offsets;
 use std::alloc::{AllocError, Global};
-
-/// Where the classes begin in the Class component: interfaces stand before them.
-pub(crate) fn classes_from(classes: &ClassPart<'_>) -> u16
-    ensures { result ≡ classes_from (records classes.now) }
-{
-    'classes: for class in classes.iter() {
-        if !class.flags().is_interface() {
-            return class.offset();
-        }
-    }
-    0xFFFF
-}
 
 /// Numbers the methods of a class.
 fn number_class(
@@ -53,22 +40,25 @@ fn number_class(
     Ok(())
 }
 
-/// Numbers the methods of the classes of one package, whose classes stand from an offset on.
+/// Numbers the methods of the classes of one package, some of which are interfaces.
 fn number_classes(
     numbers: &mut Numbers,
     package: u16,
-    start: u16,
+    interfaces: &Offsets,
     classes: DescClasses<'_>,
 ) -> Result<(), AllocError>
     requires { numbers.old.next + method_count (classes_left classes) < 65535 }
-    ensures numbers { OnOk result (numbers.new ≡ with_all numbers.old (spots_of_classes «package» start (classes_left classes.entry))) }
+    ensures numbers { OnOk result
+        (numbers.new
+        ≡ with_all numbers.old
+        (spots_of_classes «package» (holds interfaces.now) (classes_left classes.entry))) }
     ensures next { OnOk result (numbers.new.next ≡ numbers.old.next + method_count (classes_left classes.entry)) }
 {
     'classes: for class in classes {
         number_class(
             numbers,
             package,
-            class.class_ref() >= start,
+            !interfaces.has(class.class_ref()),
             class.methods(),
         )?;
     }
@@ -86,11 +76,11 @@ pub(crate) fn number_methods(
 {
     let mut numbers = Numbers::new(alloc);
     'packages: for (k, package) in packages.as_slice().iter().enumerate() {
-        let start = classes_from(&package.classes());
+        let interfaces = interface_offsets(&package.classes());
         number_classes(
             &mut numbers,
             k as u16,
-            start,
+            &interfaces,
             package.descriptor().classes(),
         )?;
     }

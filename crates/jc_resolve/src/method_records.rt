@@ -1,10 +1,10 @@
 ghost use Rattle.std.specs.Prelude.{◌≡◌, ◌+◌, ◌≤◌, ◌++◌, length, map, take, drop, slice_index, All, IfOk, OnOk};
-ghost use Rattle.cap_class.specs.ClassPart.{records};
+ghost use Rattle.offset_set.specs.Bits.{holds};
 ghost use Rattle.cap_desc.specs.ClassRecords.{class_seen, classes_left};
 ghost use Rattle.cap_desc.specs.MemberLists.{methods_left};
 ghost use Rattle.cap_desc.specs.MemberRecords.{method_seen};
 ghost use Rattle.cap_method.specs.MethodPart.{handlers_left, header_seen};
-ghost use Rattle.cap_package.specs.PackageRecord.{PackageRecord};
+ghost use Rattle.cap_package.specs.PackageRecord.{PackageRecord, names_interface};
 ghost use Rattle.cap_pool.specs.Pool.{entries};
 ghost use Rattle.jc_resolve.specs.Named.{IsAgreed};
 ghost use Rattle.jc_resolve.specs.NamedMethods.{HasFewHandlers, caught, handler_named, offset_in_info, no_body, body_behind, body_of, class_described, have_headers, is_init, named_method};
@@ -12,14 +12,14 @@ ghost use Rattle.jc_resolve.specs.Numbering.{numbered, numbered_methods, methods
 
 use crate::class_index::Index;
 use crate::home::Home;
-use crate::method_index::classes_from;
 use crate::reference_checks::reference_in;
 use crate::world_types::signature_of;
 use cap_desc::{AccessFlags, DescClass, MethodInfo};
 use cap_method::{HandlerInfo, Handlers, MethodHeader};
-use cap_package::{Packages, header};
+use cap_package::{Packages, header, interface_offsets};
 use cap_pool::Pool;
 use jc_base::{Handler, Items, MethodRec, Sig};
+use offset_set::Offsets;
 use std::alloc::{AllocError, Global};
 
 /// The tag of a Classref.
@@ -216,10 +216,15 @@ fn class_described(index: &Index<'_, '_, '_>, package: u16, class: DescClass<'_>
 
 /// Whether the methods of a record of the Descriptor have headers.
 #[tactic(auto, unfolding(crate::specs::NamedMethods::have_headers))]
-fn have_headers(home: Home<'_, '_, '_, '_>, class: DescClass<'_>) -> bool
+fn have_headers(
+    home: Home<'_, '_, '_, '_>,
+    interfaces: &Offsets,
+    class: DescClass<'_>,
+) -> bool
+    requires { holds interfaces.now ≡ names_interface home.of_package.now.classes }
     ensures { result ≡ have_headers home.entry.index.now home.entry.number home.entry.of_package.now (class_seen class.entry) }
 {
-    if class.class_ref() < classes_from(&home.of_package.classes()) {
+    if interfaces.has(class.class_ref()) {
         return false;
     }
     match home.index.class_named(home.number, class.class_ref()) {
@@ -287,16 +292,18 @@ fn push_class(
     methods: &mut Vec<MethodRec>,
     alloc: Global,
     home: Home<'_, '_, '_, '_>,
+    interfaces: &Offsets,
     class_no: u16,
     class: DescClass<'_>,
 ) -> Result<(), AllocError>
+    requires { holds interfaces.now ≡ names_interface home.of_package.now.classes }
     ensures { OnOk result
         (methods.new.items
         ≡ methods.old.items ++ map (named_method home.entry.index.now home.entry.roles)
         (methods_of_class home.entry.number home.entry.of_package.now class_no (class_seen class.entry) 0
         (class_seen class.entry).methods)) }
 {
-    let has_header = have_headers(home, class);
+    let has_header = have_headers(home, interfaces, class);
     // Their number is one that `method_count` can answer.
     let _count = class.method_count();
     let mut method_no: u16 = 0;
@@ -324,12 +331,13 @@ fn push_package(
     // Its parts stand for it, and the number of its handlers is one that `handler_count` can answer.
     let _parts = home.of_package.parts();
     let _handlers = home.of_package.methods().handlers();
+    let interfaces = interface_offsets(&home.of_package.classes());
     let descriptor = home.of_package.descriptor();
     // Their number is one that `class_count` can answer.
     let _count = descriptor.class_count();
     let mut class_no: u16 = 0;
     'classes: for class in descriptor.classes() {
-        push_class(methods, alloc, home, class_no, class)?;
+        push_class(methods, alloc, home, &interfaces, class_no, class)?;
         class_no += 1;
     }
     Ok(())

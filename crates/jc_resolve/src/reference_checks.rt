@@ -4,7 +4,7 @@ ghost use Rattle.cap_class.specs.ClassFormat.{Interface};
 ghost use Rattle.cap_class.specs.ClassPart.{class_seen, classes_left};
 ghost use Rattle.cap_class.specs.Lists.{interfaces_left};
 ghost use Rattle.cap_desc.specs.ClassRecords.{class_seen as record_seen, classes_left as records_left};
-ghost use Rattle.cap_desc.specs.Members.{fields_of, methods_from};
+ghost use Rattle.cap_desc.specs.Members.{fields_of, methods_of};
 ghost use Rattle.cap_desc.specs.MemberLists.{fields_left};
 ghost use Rattle.cap_desc.specs.TypeLists.{types_left};
 ghost use Rattle.cap_package.specs.Descriptions.{description};
@@ -253,10 +253,10 @@ fn method_types_named(
         (reference_fault index.now «package»)
         (flat_map
         (references_of_method (description descriptor.now))
-        (methods_from 0 (description descriptor.now).items.classes)) }
+        (methods_of (description descriptor.now).items.classes)) }
 {
     let mut least = least;
-    'methods: for method in descriptor.methods_from(0) {
+    'methods: for method in descriptor.methods() {
         if let Some(types) = descriptor.types_at(method.type_offset) {
             least = types_named(index, package, types, least);
         }

@@ -4,11 +4,10 @@ use Rattle.std.proofs.lemmas.List.{get_or-set_other}
 use Rattle.std.proofs.lemmas.List.Sums.{sum_by-set}
 use Rattle.jc_base.specs.declared.ty.Ty.{Ty}
 use Rattle.jc_base.specs.declared.ty.Ty.TheVariants.{IntHigh, IntLow, Top}
-use Rattle.jc_base.specs.Class.{ClassTable, AreClasses}
-use Rattle.jc_base.specs.Order.{Below, IsJoin, IsKnown, same, anything, is_below, join_of, rises_left}
-use Rattle.jc_base.proofs.Subtypes.{is_below-from_Below, Below-from_is_below}
+use Rattle.jc_base.specs.Class.{ClassTable}
+use Rattle.jc_base.specs.Laws.{IsOrderOfTypes}
+use Rattle.jc_base.specs.Order.{Below, IsJoin, IsKnown, same, joined, anything, is_below, join_of, rises_left}
 use Rattle.jc_base.specs.World.{Linked, IsWorld}
-use Rattle.jc_base.proofs.Joins.{join_of-is, IsJoin-known, IsJoin-monotone, IsJoin-above, IsJoin-rises, IsJoin-unique}
 use Rattle.std.proofs.lemmas.List.Elements.{All-set}
 use Rattle.jc_ops.specs.Sound.{OperationsAreSound}
 use Rattle.jc_rules.specs.declared.effect.Cells.{Cells}
@@ -17,9 +16,10 @@ use Rattle.jc_rules.specs.declared.effect.Mode.TheVariants.{Card, Flow}
 use Rattle.jc_rules.specs.Effect.{Writes, WritesInt, WritesCells, reg, rises_at, cells_rise}
 use Rattle.jc_rules.specs.Rule.{effect}
 use Rattle.jc_rules.specs.Flow.{CellsBelow, no_cells, more_cells}
-use Rattle.jc_rules.specs.Laws.{OperationFallsTo, OperationFallsOnCard, OperationRaises, OperationStays, RuleFallsOnCard, RuleRaises, RuleRises, RuleStays}
+use Rattle.jc_rules.specs.Laws.{OperationFallsTo, OperationFallsOnCard, OperationRaises, OperationStays, OperationRests, RuleFallsOnCard, RuleRaises, RuleRises, RuleStays, RuleRests}
 use Rattle.jc_rules.proofs.Effects.{CellsKept, Suits, suits, sound-known}
 use Rattle.jc_rules.proofs.Raising.{RoseTo}
+use Rattle.jc_rules.proofs.Types.{below-computed, below-told}
 use Rattle.jc_rules.proofs.CellLists.{cells-or, cells-same, cells-trans, cells-set}
 use Rattle.jc_rules.proofs.Falls.{GivenBelow, EffectBelow, StoresBelow, asked-falls, doing-falls, applies-falls}
 use Rattle.jc_rules.proofs.Keeps.{all-or, site-sound}
@@ -56,8 +56,12 @@ module _ (t : ClassTable) where
   under-two (x ∷ xs) zero (more_cells p ps) = (p, under-one xs 0 ps)
   under-two (x ∷ xs) (suc n) (more_cells p ps) = under-two xs n ps
 
+  -- a type that is above another is their join
+  join-above : {a b : Ty} → Below t b a → IsJoin t a b a
+  join-above h = record { left = same; right = h; least = λ u p q. p }
+
   write-stays : (regs : List Ty) (x : ℕ) {ty : Ty} → Below t ty (reg regs x) → Writes t Card x ty regs regs
-  write-stays regs x h = record { value = reg regs x; stored = IsJoin-above t h; after_is = set-read regs x }
+  write-stays regs x h = record { value = reg regs x; stored = join-above h; after_is = set-read regs x }
 
   below-one : (x : ℕ) (ty : Ty) (regs after : List Ty) → Writes t Flow x ty regs after → CellsBelow t after regs → Below t ty (reg regs x)
   below-one x ty regs after u ps = under-one regs x (subst (λ ys. CellsBelow t ys regs) (u.after_is ∙ ap (set regs x) u.stored) ps)
@@ -75,6 +79,33 @@ module _ (t : ClassTable) where
   store-stays x given.Int regs after u ps =
       let both = below-two x regs after u ps in
       record { between = regs; high = write-stays regs x both.0; low = write-stays regs (x + 1) both.1 }
+
+  -- ---- registers that stay as they are
+
+  -- what is stored where the registers stay, and lies below them
+  record IsRested (x : ℕ) (cells : Cells) (regs : List Ty) : Type 0 where
+    stored : List Ty
+    writes : WritesCells t Flow x cells regs stored
+    below : CellsBelow t stored regs
+
+  store-rests : (x : ℕ) (cells : Cells) (regs : List Ty) → WritesCells t Card x cells regs regs → IsRested x cells regs
+  store-rests x given.Nothing regs u = record { stored = regs; writes = refl; below = cells-same t regs }
+  store-rests x (given.One ty) regs u = record {
+    stored = set regs x ty;
+    writes = record { value = ty; stored = refl; after_is = refl };
+    below = subst (CellsBelow t (set regs x ty)) (sym u.after_is) (cells-set t x u.stored.right (cells-same t regs));
+  }
+  store-rests x given.Int regs u =
+      let high : CellsBelow t (set regs x IntHigh) u.between = subst (CellsBelow t (set regs x IntHigh)) (sym u.high.after_is) (cells-set t x u.high.stored.right (cells-same t regs)) in
+      record {
+        stored = set (set regs x IntHigh) (x + 1) IntLow;
+        writes = record {
+          between = set regs x IntHigh;
+          high = record { value = IntHigh; stored = refl; after_is = refl };
+          low = record { value = IntLow; stored = refl; after_is = refl };
+        };
+        below = subst (CellsBelow t (set (set regs x IntHigh) (x + 1) IntLow)) (sym u.low.after_is) (cells-set t (x + 1) u.low.stored.right high);
+      }
 
   -- ---- a register that rises
 
@@ -99,17 +130,17 @@ module _ (t : ClassTable) where
     lower : CellsBelow t below zs
     known : All (IsKnown t) below
 
-  module _ (are : AreClasses t) where
+  module _ (are : IsOrderOfTypes t) where
     write-falls : {xs ys zs : List Ty} (x y : ℕ) (a b : Ty) → x ≡ y → Below t a b → IsKnown t a → All (IsKnown t) xs → CellsBelow t xs ys → Writes t Card y b ys zs → WritesBelow x a xs zs
     write-falls {xs} {ys} {zs} x y a b e le known all ps u =
         let held = all-or (IsKnown t) xs x tt all in
-        let least = join_of-is t are (reg xs x) a held known in
+        let least = are.joins (reg xs x) a held known in
         let high : IsJoin t (reg ys x) b u.value = subst (λ n. IsJoin t (reg ys n) b u.value) (sym e) u.stored in
         record {
           below = set xs x (join_of t (reg xs x) a);
           writes = record { value = join_of t (reg xs x) a; stored = least; after_is = refl };
-          lower = subst (CellsBelow t (set xs x (join_of t (reg xs x) a))) (ap (λ n. set ys n u.value) e ∙ sym u.after_is) (cells-set t x (IsJoin-monotone t (cells-or t x ps) le least high) ps);
-          known = All-set (IsKnown t) xs x (join_of t (reg xs x) a) (IsJoin-known t are held known least) all;
+          lower = subst (CellsBelow t (set xs x (join_of t (reg xs x) a))) (ap (λ n. set ys n u.value) e ∙ sym u.after_is) (cells-set t x (least.least u.value (joined (cells-or t x ps) high.left) (joined le high.right)) ps);
+          known = All-set (IsKnown t) xs x (join_of t (reg xs x) a) (are.known held known least) all;
         }
 
     store-card : (xs ys zs : List Ty) (x y : ℕ) (c d : Cells) → x ≡ y → GivenBelow t c d → CellsKept t c → All (IsKnown t) xs → CellsBelow t xs ys → WritesCells t Card y d ys zs → StoresBelow t Card (record { register = x; cells = c }) xs zs
@@ -131,17 +162,17 @@ module _ (t : ClassTable) where
 
 -- ---- whether a register rose
 
-module _ (t : ClassTable) (are : AreClasses t) where
+module _ (t : ClassTable) (are : IsOrderOfTypes t) where
   not-below : (a b : Ty) → is_below t a b ≡ false → Below t a b → ⊥
-  not-below a b e h = let q : is_below t a b ≡ true = is_below-from_Below t are h in absurd (cc)
+  not-below a b e h = let q : is_below t a b ≡ true = below-computed t are h in absurd (cc)
 
   -- one register is written: it stays where the stored type is below, and else it rises
   write-rises : (x : ℕ) (ty : Ty) (regs after : List Ty) (b : Bool) → is_below t ty (reg regs x) ≡ b → Writes t Card x ty regs after → RoseTo t regs after (not b)
   write-rises x ty regs after true e u =
-      let le : Below t ty (reg regs x) = Below-from_is_below t are ty (reg regs x) e in
-      u.after_is ∙ ap (set regs x) (IsJoin-unique t are u.stored (IsJoin-above t le)) ∙ sym (set-read t regs x)
+      let le : Below t ty (reg regs x) = below-told t are ty (reg regs x) e in
+      u.after_is ∙ ap (set regs x) (are.one_join u.stored (join-above t le)) ∙ sym (set-read t regs x)
   write-rises x ty regs after false e u =
-      let less : rises_left t u.value < rises_left t (reg regs x) = IsJoin-rises t are u.stored (not-below ty (reg regs x) e) in
+      let less : rises_left t u.value < rises_left t (reg regs x) = are.rises u.stored (not-below ty (reg regs x) e) in
       subst (λ zs. sum_by (rises_left t) zs < sum_by (rises_left t) regs) (sym u.after_is) (set-less t regs x u.value less)
 
   both-rise : (xs ys zs : List Ty) (a b : Bool) → RoseTo t xs ys a → RoseTo t ys zs b → RoseTo t xs zs (a || b)
@@ -162,14 +193,14 @@ module _ (t : ClassTable) (are : AreClasses t) where
   -- where what is stored is below, none rises
   none-rises : (x : ℕ) (cells : Cells) (regs after : List Ty) → WritesCells t Flow x cells regs after → CellsBelow t after regs → cells_rise t regs x cells ≡ false
   none-rises x given.Nothing regs after u ps = refl
-  none-rises x (given.One ty) regs after u ps = ap not (is_below-from_Below t are (below-one t x ty regs after u ps))
+  none-rises x (given.One ty) regs after u ps = ap not (below-computed t are (below-one t x ty regs after u ps))
   none-rises x given.Int regs after u ps =
       let both = below-two t x regs after u ps in
-      ap (λ b. not b || rises_at t regs (x + 1) IntLow) (is_below-from_Below t are both.0) ∙ ap not (is_below-from_Below t are both.1)
+      ap (λ b. not b || rises_at t regs (x + 1) IntLow) (below-computed t are both.0) ∙ ap not (below-computed t are both.1)
 
 -- ---- the rule
 
-pub operation-raises : (w : Linked) → AreClasses w.classes → OperationRaises w
+pub operation-raises : (w : Linked) → IsOrderOfTypes w.classes → OperationRaises w
 operation-raises w are limit op before after o a =
     let e = effect w op before in
     record {
@@ -177,13 +208,13 @@ operation-raises w are limit op before after o a =
       rises = subst (RoseTo w.classes before.regs after.regs) (sym a.rose_is) (store-rises w.classes are e.store.register e.store.cells before.regs after.regs a.regs);
     }
 
-pub rule-raises : (w : Linked) → AreClasses w.classes → RuleRaises w
+pub rule-raises : (w : Linked) → IsOrderOfTypes w.classes → RuleRaises w
 rule-raises w are site i before after o a = (operation-raises w are a.method.max_stack a.rule.operation before after o a.rule.does).below
 
-pub rule-rises : (w : Linked) → AreClasses w.classes → RuleRises w
+pub rule-rises : (w : Linked) → IsOrderOfTypes w.classes → RuleRises w
 rule-rises w are site i before after o a = (operation-raises w are a.method.max_stack a.rule.operation before after o a.rule.does).rises
 
-pub operation-stays : (w : Linked) → AreClasses w.classes → OperationStays w
+pub operation-stays : (w : Linked) → IsOrderOfTypes w.classes → OperationStays w
 operation-stays w are limit op before after o a ps =
     let e = effect w op before in
     record {
@@ -198,12 +229,43 @@ operation-stays w are limit op before after o a ps =
       rose_is = a.rose_is ∙ sym (none-rises w.classes are e.store.register e.store.cells before.regs after.regs a.regs ps);
     }
 
-pub rule-stays : (w : Linked) → AreClasses w.classes → RuleStays w
+pub rule-stays : (w : Linked) → IsOrderOfTypes w.classes → RuleStays w
 rule-stays w are site i before after o a ps =
     let r = a.rule in
     record { method = a.method; is_method = a.is_method; rule = record { operation = r.operation; resolves = r.resolves; does = operation-stays w are a.method.max_stack r.operation before after o r.does ps } }
 
-pub operation-falls-on-card : (w : Linked) → IsWorld w → AreClasses w.classes → OperationFallsOnCard w
+pub operation-rests : (w : Linked) → IsOrderOfTypes w.classes → OperationRests w
+operation-rests w are limit op before after o a still =
+    let e = effect w op before in
+    let writes : WritesCells w.classes Card e.store.register e.store.cells before.regs before.regs = subst (WritesCells w.classes Card e.store.register e.store.cells before.regs) still a.regs in
+    let r = store-rests w.classes e.store.register e.store.cells before.regs writes in
+    record {
+      stored = r.stored;
+      applies = record {
+        asked = a.asked;
+        regs = r.writes;
+        stack = a.stack;
+        room = a.room;
+        falls = a.falls;
+        ends = a.ends;
+        depth = a.depth;
+        wrote_is = a.wrote_is;
+        rose_is = a.rose_is ∙ none-rises w.classes are e.store.register e.store.cells before.regs r.stored r.writes r.below;
+      };
+      below = r.below;
+    }
+
+pub rule-rests : (w : Linked) → IsOrderOfTypes w.classes → RuleRests w
+rule-rests w are site i before after o a still =
+    let r = a.rule in
+    let rests = operation-rests w are a.method.max_stack r.operation before after o r.does still in
+    record {
+      stored = rests.stored;
+      applies = record { method = a.method; is_method = a.is_method; rule = record { operation = r.operation; resolves = r.resolves; does = rests.applies } };
+      below = rests.below;
+    }
+
+pub operation-falls-on-card : (w : Linked) → IsWorld w → IsOrderOfTypes w.classes → OperationFallsOnCard w
 operation-falls-on-card w is are limit m place op greater lesser after o sound k below no_top no_bottom a =
     let d = effect w op lesser in
     let e = effect w op greater in
@@ -213,7 +275,7 @@ operation-falls-on-card w is are limit m place op greater lesser after o sound k
     applies-falls w are limit op Card greater lesser after o below no_top no_bottom a Card
     (store-card w.classes are lesser.regs greater.regs after.regs d.store.register e.store.register d.store.cells e.store.cells less.register less.cells fits.stored k.regs below.regs a.regs)
 
-pub rule-falls-on-card : (w : Linked) → IsWorld w → AreClasses w.classes → OperationsAreSound w → RuleFallsOnCard w
+pub rule-falls-on-card : (w : Linked) → IsWorld w → IsOrderOfTypes w.classes → OperationsAreSound w → RuleFallsOnCard w
 rule-falls-on-card w is are sound site i greater lesser after o k below no_top no_bottom a =
     let r = a.rule in
     let falls : OperationFallsTo w a.method.max_stack r.operation Card lesser after =

@@ -1,12 +1,12 @@
 -- A want and a demand are decided.
-use Rattle.std.proofs.Common.{◌≡◌, ℕ, ◌+◌, ◌-◌, ◌≤◌, ◌⊎◌, inl, inr, Bool, true, false, not, ◌&&◌, ◌||◌, ◌==◌, nat_le, MatchBool, List, length, Option, Some, None, IsSomeAnd, slice_get, refl, arith}
-use Rattle.std.specs.Bool.{⊤}
+use Rattle.std.proofs.Common.{◌≡◌, ℕ, ◌+◌, ◌-◌, ◌≤◌, ◌⊎◌, inl, inr, Bool, true, false, not, ◌&&◌, ◌||◌, ◌==◌, nat_le, MatchBool, length, Option, Some, None, IsSomeAnd, slice_get, refl, arith}
 use Rattle.std.proofs.lemmas.Bool.Decides.{nat_tests}
 use Rattle.jc_base.specs.declared.ty.Ty.{Ty}
 use Rattle.jc_base.specs.declared.ty.Ty.TheVariants.{Bottom, Short, IntHigh, IntLow, Null, Class, ArrBool, ArrByte, ArrShort, ArrInt, ArrRef, Fresh, Top}
-use Rattle.jc_base.specs.Class.{ClassTable, AreClasses, object}
+use Rattle.jc_base.specs.Class.{ClassTable, object}
+use Rattle.jc_base.specs.Laws.{IsOrderOfTypes}
 use Rattle.jc_base.specs.Order.{Below, is_below}
-use Rattle.jc_base.proofs.Subtypes.{is_below-from_Below, Below-from_is_below}
+use Rattle.jc_rules.proofs.Types.{below-computed, below-told}
 use Rattle.jc_ops.specs.declared.want.Want.{Want}
 use Rattle.jc_ops.specs.declared.want.Want.TheVariants.{Value, Storable, ByteArray, AnyArray, Whole, Receiver}
 use Rattle.jc_rules.specs.declared.demand.Demand.{Demand}
@@ -122,13 +122,13 @@ high-decided (Some (ArrRef c)) = λ h. absurd (cc)
 high-decided (Some (Fresh place c)) = λ h. absurd (cc)
 high-decided (Some Top) = λ h. absurd (cc)
 
-module _ (t : ClassTable) (are : AreClasses t) where
+module _ (t : ClassTable) (are : IsOrderOfTypes t) where
   below-decided : (a b : Ty) → MatchBool (is_below t a b) (Below t a b) (¬ (Below t a b))
   below-decided a b = go (is_below t a b) refl
     where
       go : (x : Bool) → is_below t a b ≡ x → MatchBool x (Below t a b) (¬ (Below t a b))
-      go true e = Below-from_is_below t are a b e
-      go false e = λ h. let q : is_below t a b ≡ true = is_below-from_Below t are h in absurd (cc)
+      go true e = below-told t are a b e
+      go false e = λ h. let q : is_below t a b ≡ true = below-computed t are h in absurd (cc)
 
   want-decided : (want : Want) (found : Ty) → MatchBool (meets t want found) (Meets t want found) (¬ (Meets t want found))
   want-decided (Value wanted) found = below-decided found wanted

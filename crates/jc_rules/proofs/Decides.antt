@@ -2,12 +2,11 @@
 use Rattle.std.proofs.Common.{◌≡◌, ℕ, ◌≤◌, List, length, Option, Some, Result, Ok, Err, slice_get, slice_set, refl, sym, ◌∙◌, ap, subst, arith}
 use Rattle.jc_base.specs.declared.record.MethodRec.{MethodRec}
 use Rattle.jc_base.specs.declared.ty.Ty.{Ty}
-use Rattle.jc_base.specs.Class.{ClassTable, AreClasses}
-use Rattle.jc_base.proofs.Joins.{IsJoin-unique}
+use Rattle.jc_base.specs.Class.{ClassTable}
+use Rattle.jc_base.specs.Laws.{IsOrderOfTypes}
 use Rattle.jc_base.specs.World.{Linked}
 use Rattle.jc_decode.specs.declared.insn.Insn.{Insn}
 use Rattle.jc_ops.specs.declared.fault.RuleFault.{RuleFault}
-use Rattle.jc_ops.specs.declared.fault.RuleFault.TheVariants.{Overflow}
 use Rattle.jc_ops.specs.declared.operation.Operation.{Operation}
 use Rattle.jc_ops.specs.declared.site.Site.{Site}
 use Rattle.jc_ops.specs.Resolve.{Resolves}
@@ -20,7 +19,7 @@ use Rattle.jc_rules.specs.declared.effect.Cells.{Cells}
 use Rattle.jc_rules.specs.declared.effect.Cells.TheVariants as given
 use Rattle.jc_rules.specs.Effect.{changed, reg, IsStored, Writes, WritesCells}
 use Rattle.jc_rules.specs.Demand.{Frame, AllHold, Breaks, here, later}
-use Rattle.jc_rules.specs.Rule.{demands, effect}
+use Rattle.jc_rules.specs.Rule.{effect}
 use Rattle.jc_rules.specs.Apply.{OperationApplies, OperationRefuses, unmet, full, RuleApplies, RuleRefuses, unresolved, refused_by, Applies, Refuses}
 use Rattle.jc_rules.specs.Laws.{OperationDecides, RuleDecides}
 
@@ -45,10 +44,10 @@ err-same e = cc
 
 -- ---- what is stored
 
-module _ (t : ClassTable) (are : AreClasses t) (mode : Mode) where
+module _ (t : ClassTable) (are : IsOrderOfTypes t) (mode : Mode) where
   stored-unique : (mode : Mode) (held ty a b : Ty) → IsStored t mode held ty a → IsStored t mode held ty b → a ≡ b
   stored-unique Flow held ty a b e f = e ∙ sym f
-  stored-unique Card held ty a b j k = IsJoin-unique t are j k
+  stored-unique Card held ty a b j k = are.one_join j k
 
   writes-unique : {x : ℕ} {ty : Ty} {regs others f g : List Ty} → regs ≡ others → Writes t mode x ty regs f → Writes t mode x ty others g → f ≡ g
   writes-unique {x} {ty} {regs} {others} {f} {g} e u v =
@@ -73,7 +72,7 @@ outcome-eta o p falls ends depth wrote rose =
 
 -- ---- an operation
 
-module _ (w : Linked) (are : AreClasses w.classes) (limit : ℕ) (op : Operation) (mode : Mode) (before : Frame) where
+module _ (w : Linked) (are : IsOrderOfTypes w.classes) (limit : ℕ) (op : Operation) (mode : Mode) (before : Frame) where
   frames-agree : {f g : Frame} {o p : Outcome} → OperationApplies w limit op mode before f o → OperationApplies w limit op mode before g p → f ≡ g
   frames-agree {f} {g} a b =
       let e = (effect w op before).store in
@@ -98,7 +97,7 @@ module _ (w : Linked) (are : AreClasses w.classes) (limit : ℕ) (op : Operation
       let room : length f.stack ≤ limit = a.room in
       absurd (omega arith)
 
-pub operation-decides : (w : Linked) → AreClasses w.classes → OperationDecides w
+pub operation-decides : (w : Linked) → IsOrderOfTypes w.classes → OperationDecides w
 operation-decides w are limit op mode before = record {
   one = λ {f} {g} {o} {p} a b. frames-agree w are limit op mode before a b;
   one_outcome = λ {f} {g} {o} {p} a b. outcomes-agree w are limit op mode before a b;
@@ -108,7 +107,7 @@ operation-decides w are limit op mode before = record {
 
 -- ---- an instruction at a site
 
-module _ (w : Linked) (are : AreClasses w.classes) (decided : OperationsAreDecided w) (site : Site) (i : Insn) (mode : Mode) (before : Frame) where
+module _ (w : Linked) (are : IsOrderOfTypes w.classes) (decided : OperationsAreDecided w) (site : Site) (i : Insn) (mode : Mode) (before : Frame) where
   -- the rule by the other's method and operation
   same-rule : {f g : Frame} {o p : Outcome} → (a : Applies w site i mode before f o) → (b : Applies w site i mode before g p) → OperationApplies w a.method.max_stack a.rule.operation mode before g p
   same-rule {g = g} {p = p} a b =
@@ -136,7 +135,7 @@ module _ (w : Linked) (are : AreClasses w.classes) (decided : OperationsAreDecid
       not-both w are m.max_stack a.operation mode before a.does
       (subst (λ x. OperationRefuses w m.max_stack x before fault) (ok-same (decided m site.place i (Ok op) (Ok a.operation) h a.resolves)) b)
 
-pub rule-decides : (w : Linked) → AreClasses w.classes → OperationsAreDecided w → RuleDecides w
+pub rule-decides : (w : Linked) → IsOrderOfTypes w.classes → OperationsAreDecided w → RuleDecides w
 rule-decides w are decided site i mode before = record {
   one = λ {f} {g} {o} {p} a b. frames-agree w are a.method.max_stack a.rule.operation mode before a.rule.does (same-rule w are decided site i mode before a b);
   one_outcome = λ {f} {g} {o} {p} a b. outcomes-agree w are a.method.max_stack a.rule.operation mode before a.rule.does (same-rule w are decided site i mode before a b);

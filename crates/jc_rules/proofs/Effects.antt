@@ -3,6 +3,7 @@ use Rattle.std.proofs.Common.{◌≡◌, ℕ, zero, suc, ◌+◌, ◌-◌, ◌<�
 use Rattle.std.specs.Bool.{⊤}
 use Rattle.std.proofs.lemmas.List.{length-map, length-reverse}
 use Rattle.std.proofs.lemmas.List.Elements.{All-append, All-take, All-drop, All-map, All-get_or}
+use Rattle.std.proofs.lemmas.Option.{slice_get_within}
 use Rattle.jc_base.specs.declared.ty.Ty.{Ty}
 use Rattle.jc_base.specs.declared.ty.Ty.TheVariants.{Bottom, Short, IntHigh, IntLow, Null, Class, ArrBool, ArrByte, ArrShort, ArrInt, ArrRef, Fresh, Top}
 use Rattle.jc_base.specs.declared.ty.Kind.{Kind}
@@ -13,7 +14,7 @@ use Rattle.jc_base.specs.Order.{Below, IsKnown}
 use Rattle.jc_base.specs.Cell.{IsDeclared}
 use Rattle.jc_base.specs.Linked.{IsMethod}
 use Rattle.jc_base.specs.World.{Linked, IsWorld}
-use Rattle.jc_base.proofs.Lists.{All-slice_get, slice_get-below}
+use Rattle.jc_base.proofs.Lists.{All-slice_get}
 use Rattle.jc_ops.specs.declared.operation.Sort.{Sort}
 use Rattle.jc_ops.specs.declared.operation.Sort.TheVariants as sorts
 use Rattle.jc_ops.specs.declared.operation.Width.{Width}
@@ -35,7 +36,7 @@ use Rattle.jc_ops.specs.declared.operation.Operation.TheVariants as ops
 use Rattle.jc_ops.specs.declared.want.Want.{Want}
 use Rattle.jc_ops.specs.declared.want.Want.TheVariants.{Value, Storable, ByteArray, AnyArray, Whole, Receiver}
 use Rattle.jc_ops.specs.declared.operation.Callee.{Callee}
-use Rattle.jc_ops.specs.Sound.{IsKnownWant, IsMove, IsNamedType, IsCalleeOf, IsResult, receiver_count, IsSound}
+use Rattle.jc_ops.specs.Sound.{IsKnownWant, IsNamedType, IsCalleeOf, IsResult, receiver_count, IsSound}
 use Rattle.jc_rules.specs.declared.demand.Demand.{Demand}
 use Rattle.jc_rules.specs.declared.demand.Demand.TheVariants.{Cell, Held}
 use Rattle.jc_rules.specs.declared.effect.Cells.{Cells}
@@ -249,7 +250,7 @@ pub record Suits (t : ClassTable) (f : Frame) (e : Effect) : Type 0 where
 
 cell_there_at : (xs : List Ty) (n : ℕ) (P : Ty → Type 0) (o : Option Ty) → slice_get xs n ≡ o → IsSomeAnd o P → n + 1 ≤ length xs
 cell_there_at xs n P None e h = absurd h
-cell_there_at xs n P (Some ty) e h = let lt : n < length xs = slice_get-below xs n ty e in omega arith
+cell_there_at xs n P (Some ty) e h = let lt : n < length xs = slice_get_within xs n ty e in omega arith
 
 module _ (t : ClassTable) (f : Frame) where
   pub cell-there : (xs : List Ty) (n : ℕ) (P : Ty → Type 0) → IsSomeAnd (slice_get xs n) P → n + 1 ≤ length xs

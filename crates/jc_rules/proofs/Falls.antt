@@ -5,9 +5,10 @@ use Rattle.jc_base.specs.declared.ty.Ty.{Ty}
 use Rattle.jc_base.specs.declared.ty.Ty.TheVariants.{Bottom, Short, IntHigh, IntLow, Null, Class, ArrBool, ArrByte, ArrShort, ArrInt, ArrRef, Fresh, Top}
 use Rattle.jc_base.specs.declared.ty.Kind.{Kind}
 use Rattle.jc_base.specs.declared.ty.Kind.TheVariants as kinds
-use Rattle.jc_base.specs.Class.{ClassTable, AreClasses, object}
+use Rattle.jc_base.specs.Class.{ClassTable, object}
+use Rattle.jc_base.specs.Laws.{IsOrderOfTypes}
 use Rattle.jc_base.specs.Order.{Below, same, joined, nothing, anything, null_object, null_array, subclass, array_object, array_array, of_booleans, of_bytes, of_shorts, of_ints, of_references, is_below}
-use Rattle.jc_base.proofs.Subtypes.{is_below-from_Below, Below-from_is_below}
+use Rattle.jc_rules.proofs.Types.{below-computed, below-told}
 use Rattle.jc_base.specs.World.{Linked}
 use Rattle.jc_ops.specs.declared.operation.Sort.{Sort}
 use Rattle.jc_ops.specs.declared.operation.Sort.TheVariants as sorts
@@ -25,15 +26,14 @@ use Rattle.jc_rules.specs.declared.effect.Effect.{Effect}
 use Rattle.jc_rules.specs.declared.effect.Store.{Store}
 use Rattle.jc_rules.specs.declared.effect.Mode.{Mode}
 use Rattle.jc_rules.specs.declared.effect.Mode.TheVariants.{Card, Flow}
-use Rattle.jc_ops.specs.declared.site.Site.{Site}
 use Rattle.jc_rules.specs.declared.rule.Outcome.{Outcome}
 use Rattle.jc_rules.specs.Effect.{listed, ready, changed, reg, IsStored, Writes, WritesCells, Stores, rises}
 use Rattle.jc_rules.specs.Demand.{Frame, IsArrayOrNull, IsHalf, IsFreshOf, Meets, Holds, AllHold}
 use Rattle.jc_ops.specs.Next.{falls_from, ends_at}
 use Rattle.jc_rules.specs.Rule.{cell, or_null, element, ready_with, call_demands, call_effect, cells_wanted, args_at, result_at, result_given, load_demands, load_effect, store_effect, array_read_demands, array_read_effect, wrote, demands, effect}
 use Rattle.jc_rules.specs.Flow.{CellsBelow, no_cells, more_cells, FrameBelow, IsNotTop, IsNotFresh}
-use Rattle.jc_rules.specs.Laws.{IsNotBottom, OperationFalls, OperationFallsTo, RuleFalls, FallsTo}
-use Rattle.jc_rules.specs.Apply.{OperationApplies, Applies}
+use Rattle.jc_rules.specs.Laws.{IsNotBottom, OperationFalls, OperationFallsTo, RuleFalls}
+use Rattle.jc_rules.specs.Apply.{OperationApplies}
 use Rattle.jc_rules.proofs.CellLists.{Each, each-from_All, each-at, PairAt, cells-at, cells-or, cells-length, cells-same, cells-append, cells-take, cells-drop, cells-set}
 use Rattle.jc_rules.proofs.Demands.{AllHold-rest}
 
@@ -324,21 +324,21 @@ module _ (t : ClassTable) where
   fresh_not_below_bottom p c x = fresh-up t p c x (refl, refl)
 
 -- below Bottom is nothing else
-pub bottom-least : (t : ClassTable) (are : AreClasses t) (a : Ty) → Below t a Bottom → Bottom ≡ a
+pub bottom-least : (t : ClassTable) (are : IsOrderOfTypes t) (a : Ty) → Below t a Bottom → Bottom ≡ a
 unfolding is_below
 bottom-least t are Bottom h = refl
-bottom-least t are Short h = let e : false ≡ true = is_below-from_Below t are h in absurd (cc)
-bottom-least t are IntHigh h = let e : false ≡ true = is_below-from_Below t are h in absurd (cc)
-bottom-least t are IntLow h = let e : false ≡ true = is_below-from_Below t are h in absurd (cc)
-bottom-least t are Null h = let e : false ≡ true = is_below-from_Below t are h in absurd (cc)
-bottom-least t are (Class c) h = let e : false ≡ true = is_below-from_Below t are h in absurd (cc)
-bottom-least t are ArrBool h = let e : false ≡ true = is_below-from_Below t are h in absurd (cc)
-bottom-least t are ArrByte h = let e : false ≡ true = is_below-from_Below t are h in absurd (cc)
-bottom-least t are ArrShort h = let e : false ≡ true = is_below-from_Below t are h in absurd (cc)
-bottom-least t are ArrInt h = let e : false ≡ true = is_below-from_Below t are h in absurd (cc)
-bottom-least t are (ArrRef c) h = let e : false ≡ true = is_below-from_Below t are h in absurd (cc)
-bottom-least t are (Fresh p c) h = let e : false ≡ true = is_below-from_Below t are h in absurd (cc)
-bottom-least t are Top h = let e : false ≡ true = is_below-from_Below t are h in absurd (cc)
+bottom-least t are Short h = let e : false ≡ true = below-computed t are h in absurd (cc)
+bottom-least t are IntHigh h = let e : false ≡ true = below-computed t are h in absurd (cc)
+bottom-least t are IntLow h = let e : false ≡ true = below-computed t are h in absurd (cc)
+bottom-least t are Null h = let e : false ≡ true = below-computed t are h in absurd (cc)
+bottom-least t are (Class c) h = let e : false ≡ true = below-computed t are h in absurd (cc)
+bottom-least t are ArrBool h = let e : false ≡ true = below-computed t are h in absurd (cc)
+bottom-least t are ArrByte h = let e : false ≡ true = below-computed t are h in absurd (cc)
+bottom-least t are ArrShort h = let e : false ≡ true = below-computed t are h in absurd (cc)
+bottom-least t are ArrInt h = let e : false ≡ true = below-computed t are h in absurd (cc)
+bottom-least t are (ArrRef c) h = let e : false ≡ true = below-computed t are h in absurd (cc)
+bottom-least t are (Fresh p c) h = let e : false ≡ true = below-computed t are h in absurd (cc)
+bottom-least t are Top h = let e : false ≡ true = below-computed t are h in absurd (cc)
 
 -- ---- demands
 
@@ -410,7 +410,7 @@ pub record StoresBelow (t : ClassTable) (mode : Mode) (s : Store) (before after 
   pub stores : Stores t mode s before below
   pub lower : CellsBelow t below after
 
-module _ (t : ClassTable) (are : AreClasses t) where
+module _ (t : ClassTable) (are : IsOrderOfTypes t) where
   given-same : (cells : Cells) → GivenBelow t cells cells
   unfolding GivenBelow
   given-same given.Nothing = tt
@@ -590,12 +590,12 @@ module _ (t : ClassTable) (are : AreClasses t) where
 
   classes-below : (c d : ℕ) → Below t (ArrRef c) (ArrRef d) → Below t (Class c) (Class d)
   unfolding is_below
-  classes-below c d p = Below-from_is_below t are (Class c) (Class d) (is_below-from_Below t are p)
+  classes-below c d p = below-told t are (Class c) (Class d) (below-computed t are p)
 
   array-not : (c : ℕ) (b : Ty) → IsNullDown b → Below t (ArrRef c) b → ⊥
   unfolding is_below IsNullDown
-  array-not c Bottom h p = absurd (let e : false ≡ true = is_below-from_Below t are p in cc)
-  array-not c Null h p = absurd (let e : false ≡ true = is_below-from_Below t are p in cc)
+  array-not c Bottom h p = absurd (let e : false ≡ true = below-computed t are p in cc)
+  array-not c Null h p = absurd (let e : false ≡ true = below-computed t are p in cc)
   array-not c _ h p = absurd h
 
   -- what is below an array of references has null's elements or those of a lesser class
@@ -658,7 +658,7 @@ each-or P [] n top h = top
 each-or P (x ∷ xs) zero top h = h.0
 each-or P (x ∷ xs) (suc n) top h = each-or P xs n top h.1
 
-module _ (w : Linked) (are : AreClasses w.classes) (f g : Frame) (regs : CellsBelow w.classes f.regs g.regs) (stack : CellsBelow w.classes f.stack g.stack) (no_bottom : Each IsNotBottom f.stack) where
+module _ (w : Linked) (are : IsOrderOfTypes w.classes) (f g : Frame) (regs : CellsBelow w.classes f.regs g.regs) (stack : CellsBelow w.classes f.stack g.stack) (no_bottom : Each IsNotBottom f.stack) where
   load-falls : (s : Sort) (x : ℕ) → AllHold w.classes g (load_demands w.classes s x) → EffectBelow w.classes (load_effect s x f) (load_effect s x g)
   unfolding ChangeBelow GivenBelow ReferenceDown
   load-falls sorts.Reference x h = record {
@@ -732,7 +732,7 @@ module _ (w : Linked) (are : AreClasses w.classes) (f g : Frame) (regs : CellsBe
   effect-falls (ops.Return result) h = effect-same w.classes are (effect w (ops.Return result) g)
 
 -- an operation applies to a frame, and here is a lesser one
-module _ (w : Linked) (are : AreClasses w.classes) (limit : ℕ) (op : Operation) (mode : Mode) (greater lesser after : Frame) (o : Outcome) (below : FrameBelow w.classes lesser greater)
+module _ (w : Linked) (are : IsOrderOfTypes w.classes) (limit : ℕ) (op : Operation) (mode : Mode) (greater lesser after : Frame) (o : Outcome) (below : FrameBelow w.classes lesser greater)
     (no_top : All IsNotTop greater.stack) (no_bottom : All IsNotBottom lesser.stack) (a : OperationApplies w limit op mode greater after o) where
   -- what is asked is met
   pub asked-falls : AllHold w.classes lesser (demands w op)
@@ -765,7 +765,7 @@ module _ (w : Linked) (are : AreClasses w.classes) (limit : ℕ) (op : Operation
         lower = record { regs = s.lower; stack = stack };
       }
 
-pub operation-falls : (w : Linked) → AreClasses w.classes → OperationFalls w
+pub operation-falls : (w : Linked) → IsOrderOfTypes w.classes → OperationFalls w
 operation-falls w are limit op mode greater lesser after o below no_top no_bottom a =
     let d = effect w op lesser in
     let e = effect w op greater in
@@ -773,7 +773,7 @@ operation-falls w are limit op mode greater lesser after o below no_top no_botto
     applies-falls w are limit op mode greater lesser after o below no_top no_bottom a Flow
     (store-flow w.classes are mode lesser.regs greater.regs after.regs d.store.register e.store.register d.store.cells e.store.cells less.register less.cells below.regs a.regs)
 
-pub rule-falls : (w : Linked) → AreClasses w.classes → RuleFalls w
+pub rule-falls : (w : Linked) → IsOrderOfTypes w.classes → RuleFalls w
 rule-falls w are site i mode greater lesser after o below no_top no_bottom a =
     let r = a.rule in
     let falls : OperationFallsTo w a.method.max_stack r.operation Flow lesser after =

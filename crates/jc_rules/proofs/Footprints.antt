@@ -1,13 +1,12 @@
 -- What an operation asks and leaves, as numbers.
-use Rattle.std.proofs.Common.{◌≡◌, ℕ, zero, suc, ◌+◌, ◌-◌, ◌<◌, ◌≤◌, ◌==◌, ◌⊎◌, inl, inr, max, false, if◌then◌else◌, List, [], ◌∷◌, ◌++◌, length, reverse, drop, get_or, set, Option, Some, None, IsSomeAnd, slice_get, refl, sym, ◌∙◌, ap, subst, arith}
-use Rattle.std.specs.Bool.{⊤}
+use Rattle.std.proofs.Common.{◌≡◌, ℕ, zero, suc, ◌+◌, ◌-◌, ◌<◌, ◌≤◌, ◌==◌, ◌⊎◌, inl, inr, false, if◌then◌else◌, List, [], ◌∷◌, length, Option, Some, None, IsSomeAnd, slice_get, refl, sym, ◌∙◌, ap, subst, arith}
 use Rattle.std.proofs.lemmas.List.{get_or-set_other}
+use Rattle.std.proofs.lemmas.Option.{slice_get_within}
 use Rattle.jc_base.specs.declared.ty.Ty.{Ty}
 use Rattle.jc_base.specs.declared.ty.Ty.TheVariants.{Bottom, Short, IntHigh, IntLow, Null, Class, ArrBool, ArrByte, ArrShort, ArrInt, ArrRef, Fresh, Top}
 use Rattle.jc_base.specs.declared.ty.Kind.TheVariants as kinds
 use Rattle.jc_base.specs.Class.{ClassTable}
 use Rattle.jc_base.specs.World.{Linked, IsWorld}
-use Rattle.jc_base.proofs.Lists.{slice_get-below}
 use Rattle.jc_ops.specs.declared.want.Want.{Want}
 use Rattle.jc_ops.specs.declared.want.Want.TheVariants.{Value, Storable, ByteArray, AnyArray, Whole, Receiver}
 use Rattle.jc_ops.specs.declared.operation.Sort.TheVariants as sorts
@@ -20,20 +19,18 @@ use Rattle.jc_ops.specs.declared.operation.Branch.TheVariants as branches
 use Rattle.jc_ops.specs.declared.operation.TypeTest.TheVariants as tests
 use Rattle.jc_ops.specs.declared.operation.Operation.{Operation}
 use Rattle.jc_ops.specs.declared.operation.Operation.TheVariants as ops
-use Rattle.jc_ops.specs.Alike.{IsAlike, equal, loads, stores, increments}
+use Rattle.jc_ops.specs.Alike.{equal, loads, stores, increments}
 use Rattle.jc_rules.specs.declared.demand.Demand.{Demand}
 use Rattle.jc_rules.specs.declared.demand.Demand.TheVariants.{Registers, Depth, Cell, Cut, Held}
 use Rattle.jc_rules.specs.declared.effect.Cells.{Cells}
 use Rattle.jc_rules.specs.declared.effect.Cells.TheVariants as given
 use Rattle.jc_rules.specs.declared.effect.Change.{Change}
 use Rattle.jc_rules.specs.declared.effect.Change.TheVariants.{Replace, CopyUnder, Exchange, MakeReady}
-use Rattle.jc_rules.specs.declared.effect.Effect.{Effect}
 use Rattle.jc_rules.specs.declared.effect.Mode.{Mode}
 use Rattle.jc_rules.specs.declared.effect.Mode.TheVariants.{Card, Flow}
 use Rattle.jc_rules.specs.Effect.{listed, changed, needed, depth_after, reg, Writes, WritesCells, Stores, rises}
 use Rattle.jc_rules.specs.Demand.{Frame, Meets, Holds, AllHold}
-use Rattle.jc_rules.specs.Rule.{cell, on_stack, replacing, or_null, ready_with, call_effect, cells_wanted, receiver_wanted, call_demands, args_at, result_at, result_given, wrote, demands, effect}
-use Rattle.jc_rules.specs.Apply.{OperationApplies}
+use Rattle.jc_rules.specs.Rule.{cell, on_stack, replacing, or_null, ready_with, call_effect, args_at, result_at, result_given, wrote, demands, effect}
 use Rattle.jc_rules.specs.Footprint.{cells_asked, registers_asked, registers_read, IsThere, AreThere, Footprint, footprint_of, footprint, cells_taken, cells_given, MetIsThere, AskedIsThere, AgreeOn, OperationReads, written_by, OperationLeaves, FootprintIsOne, OperationNamesNone, LeavesAlike, AlikeLeaveAlike}
 use Rattle.jc_rules.proofs.Effects.{Suits, suits, sound-known, length-changed}
 
@@ -41,7 +38,7 @@ use Rattle.jc_rules.proofs.Effects.{Suits, suits, sound-known, length-changed}
 
 read-there : (xs : List Ty) (n : ℕ) (P : Ty → Type 0) (o : Option Ty) → slice_get xs n ≡ o → IsSomeAnd o P → n < length xs
 read-there xs n P None e h = absurd h
-read-there xs n P (Some ty) e h = slice_get-below xs n ty e
+read-there xs n P (Some ty) e h = slice_get_within xs n ty e
 
 met-there : (t : ClassTable) (f : Frame) (d : Demand) → Holds t f d → IsThere (length f.regs) (length f.stack) d
 met-there t f (Registers x n) h = h

@@ -3,15 +3,14 @@ use Rattle.std.proofs.Common.{◌≡◌, ℕ, zero, suc, ◌≤◌, List, [], �
 use Rattle.std.proofs.lemmas.List.{length-set}
 use Rattle.std.proofs.lemmas.List.Elements.{All-set}
 use Rattle.jc_base.proofs.Lists.{All-slice_get}
-use Rattle.jc_base.proofs.Joins.{IsJoin-known}
 use Rattle.jc_base.specs.declared.ty.Ty.{Ty}
 use Rattle.jc_base.specs.declared.ty.Ty.TheVariants.{Bottom, Short, IntHigh, IntLow, Null, Class, ArrBool, ArrByte, ArrShort, ArrInt, ArrRef, Fresh, Top}
-use Rattle.jc_base.specs.Class.{ClassTable, AreClasses}
+use Rattle.jc_base.specs.Class.{ClassTable}
+use Rattle.jc_base.specs.Laws.{IsOrderOfTypes}
 use Rattle.jc_base.specs.Order.{Below, IsJoin, IsKnown, nothing}
 use Rattle.jc_base.specs.Linked.{IsMethod}
 use Rattle.jc_base.specs.World.{Linked, IsWorld}
 use Rattle.jc_decode.specs.declared.insn.Insn.{Insn}
-use Rattle.jc_base.specs.declared.record.MethodRec.{MethodRec}
 use Rattle.jc_ops.specs.declared.site.Site.{Site}
 use Rattle.jc_ops.specs.Sound.{IsSound, OperationsAreSound}
 use Rattle.jc_rules.specs.declared.effect.Cells.{Cells}
@@ -21,12 +20,11 @@ use Rattle.jc_rules.specs.declared.effect.Mode.TheVariants.{Card, Flow}
 use Rattle.jc_rules.specs.Effect.{IsStored, Writes, WritesCells, reg}
 use Rattle.jc_rules.specs.Rule.{effect}
 use Rattle.jc_rules.specs.Flow.{IsNotFresh, IsNotTop}
-use Rattle.jc_rules.specs.Apply.{OperationApplies, Applies}
+use Rattle.jc_rules.specs.Apply.{Applies}
 use Rattle.jc_rules.specs.Laws.{IsNotBottom, OperationKeeps, RuleKeeps}
 use Rattle.jc_rules.proofs.Falls.{bottom-least, fresh_is_bottom, fresh_not_below_bottom}
 use Rattle.jc_rules.specs.declared.rule.Outcome.{Outcome}
-use Rattle.jc_rules.specs.Demand.{Frame, AllHold}
-use Rattle.jc_rules.specs.Rule.{demands}
+use Rattle.jc_rules.specs.Demand.{Frame}
 use Rattle.jc_rules.proofs.Effects.{CellsKept, CellsFull, Suits, suits, sound-known, stored-full, changed-known, changed-full, changed-topless}
 
 -- what is read, or Top
@@ -35,7 +33,7 @@ all-or P [] n top h = top
 all-or P (x ∷ xs) zero top h = h 0 x (omega arith)
 all-or P (x ∷ xs) (suc n) top h = all-or P xs n top (λ k d lt. h (suc k) d (omega arith))
 
-module _ (t : ClassTable) (are : AreClasses t) where
+module _ (t : ClassTable) (are : IsOrderOfTypes t) where
   -- the join of two types is an uninitialised object only where one of them is
   pub join-not_fresh : (a b j : Ty) → IsNotFresh a → IsNotFresh b → IsJoin t a b j → IsNotFresh j
   join-not_fresh a b (Fresh p c) h k is =
@@ -57,7 +55,7 @@ module _ (t : ClassTable) (are : AreClasses t) where
 
   stored-known : (mode : Mode) (held ty now : Ty) → IsStored t mode held ty now → IsKnown t held → IsKnown t ty → IsKnown t now
   stored-known Flow held ty now e h k = subst (IsKnown t) (sym e) k
-  stored-known Card held ty now is h k = IsJoin-known t are h k is
+  stored-known Card held ty now is h k = are.known h k is
 
   stored-not_fresh : (mode : Mode) (held ty now : Ty) → IsStored t mode held ty now → IsNotFresh held → IsNotFresh ty → IsNotFresh now
   stored-not_fresh Flow held ty now e n m = subst IsNotFresh (sym e) m
@@ -88,7 +86,7 @@ module _ (t : ClassTable) (are : AreClasses t) where
     stores-not_fresh x given.Int regs after u k none = writes-keeps IsNotFresh tt (stored-not_fresh mode) u.low tt (writes-keeps IsNotFresh tt (stored-not_fresh mode) u.high tt none)
 
 -- a type of which Bottom is no upper bound
-full-below : (t : ClassTable) (are : AreClasses t) (a b : Ty) → Below t a b → IsNotBottom a → IsNotBottom b
+full-below : (t : ClassTable) (are : IsOrderOfTypes t) (a b : Ty) → Below t a b → IsNotBottom a → IsNotBottom b
 full-below t are a Bottom le n = subst IsNotBottom (sym (bottom-least t are a le)) n
 full-below t are a Short le n = tt
 full-below t are a IntHigh le n = tt
@@ -103,7 +101,7 @@ full-below t are a (ArrRef c) le n = tt
 full-below t are a (Fresh p c) le n = tt
 full-below t are a Top le n = tt
 
-module _ (t : ClassTable) (are : AreClasses t) where
+module _ (t : ClassTable) (are : IsOrderOfTypes t) where
   kept-full : (mode : Mode) (held ty now : Ty) → IsStored t mode held ty now → IsNotBottom held → IsNotBottom ty → IsNotBottom now
   kept-full Flow held ty now e h n = subst IsNotBottom (sym e) n
   kept-full Card held ty now is h n = full-below t are held now is.left h
@@ -114,7 +112,7 @@ module _ (t : ClassTable) (are : AreClasses t) where
     stores-full x (given.One ty) regs after u k none = writes-keeps t are mode IsNotBottom tt (kept-full mode) u k none
     stores-full x given.Int regs after u k none = writes-keeps t are mode IsNotBottom tt (kept-full mode) u.low tt (writes-keeps t are mode IsNotBottom tt (kept-full mode) u.high tt none)
 
-pub operation-keeps : (w : Linked) → IsWorld w → AreClasses w.classes → OperationKeeps w
+pub operation-keeps : (w : Linked) → IsWorld w → IsOrderOfTypes w.classes → OperationKeeps w
 operation-keeps w is are limit m place op mode before after o sound k a =
     let e = effect w op before in
     let fits : Suits w.classes before e = suits w is before k op (sound-known w m place op sound) a.asked in
@@ -138,6 +136,6 @@ pub site-sound : (w : Linked) (is : IsWorld w) → OperationsAreSound w → {sit
 site-sound w is sound {site = site} {i = i} a =
     sound a.method site.place i a.rule.operation (All-slice_get (IsMethod w.infos w.pools w.classes) w.methods site.method a.method is.methods a.is_method).result a.rule.resolves
 
-pub rule-keeps : (w : Linked) → IsWorld w → AreClasses w.classes → OperationsAreSound w → RuleKeeps w
+pub rule-keeps : (w : Linked) → IsWorld w → IsOrderOfTypes w.classes → OperationsAreSound w → RuleKeeps w
 rule-keeps w is are sound site i mode before after o k a =
     operation-keeps w is are a.method.max_stack a.method site.place a.rule.operation mode before after o (site-sound w is sound a) k a.rule.does

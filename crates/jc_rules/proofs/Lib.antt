@@ -1,4 +1,5 @@
 pub mod Demands
+pub mod Types
 pub mod Decided
 pub mod Stacks
 pub mod CellLists

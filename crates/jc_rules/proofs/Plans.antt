@@ -1,6 +1,7 @@
 -- What is planned suits the frame, and is what the rule says.
 use Rattle.std.proofs.Common.{◌≡◌, ℕ, ◌+◌, ◌<◌, ◌≤◌, List, length, Option, Some, None, IsSomeAnd, slice_get, All, refl, sym, ◌∙◌, ap, subst, arith}
-use Rattle.jc_base.proofs.Lists.{All-slice_get, slice_get-below}
+use Rattle.std.proofs.lemmas.Option.{slice_get_within}
+use Rattle.jc_base.proofs.Lists.{All-slice_get}
 use Rattle.jc_base.specs.declared.ty.Ty.{Ty}
 use Rattle.jc_base.specs.declared.record.MethodRec.{MethodRec}
 use Rattle.jc_base.specs.Order.{IsKnown}
@@ -45,7 +46,7 @@ module _ (w : Linked) (is : IsWorld w) (n : ℕ) (regs slice : List Ty) (depth :
 
 in_list : (w : Linked) (n : ℕ) (P : MethodRec → Type 0) (o : Option MethodRec) → slice_get w.methods n ≡ o → IsSomeAnd o P → n < length w.methods
 in_list w n P None e h = absurd h
-in_list w n P (Some m) e h = slice_get-below w.methods n m e
+in_list w n P (Some m) e h = slice_get_within w.methods n m e
 
 pub method-inside : (w : Linked) (n : ℕ) (P : MethodRec → Type 0) → IsSomeAnd (slice_get w.methods n) P → n < length w.methods
 method-inside w n P h = in_list w n P (slice_get w.methods n) refl h

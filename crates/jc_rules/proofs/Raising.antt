@@ -1,12 +1,13 @@
 -- Raising the cells of a list, one after another, to the join with those of another list.
-use Rattle.std.proofs.Common.{◌≡◌, ℕ, zero, suc, ◌+◌, ◌-◌, ◌<◌, ◌≤◌, ◌||◌, if◌then◌else◌, Bool, true, false, ◌⊎◌, inl, inr, List, [], ◌∷◌, ◌++◌, length, reverse, get_or, set, All, sum_by, refl, sym, ◌∙◌, ap, subst, arith, MatchBool}
-use Rattle.std.proofs.lemmas.List.{length-set, length-reverse, reverse-append, reverse-reverse, get_or-reverse, get_or-set_same, get_or-set_other, get_or_default}
+use Rattle.std.proofs.Common.{◌≡◌, ℕ, zero, suc, ◌+◌, ◌<◌, ◌≤◌, ◌||◌, if◌then◌else◌, Bool, true, false, ◌⊎◌, inl, inr, List, [], ◌∷◌, ◌++◌, length, reverse, get_or, set, All, sum_by, refl, sym, ◌∙◌, ap, subst, arith, MatchBool}
+use Rattle.std.proofs.lemmas.List.{length-set, length-reverse, reverse-append, get_or-set_same, get_or-set_other, get_or_default}
 use Rattle.std.proofs.lemmas.List.Elements.{All-set}
 use Rattle.std.proofs.lemmas.List.Sorted.{IsPermutation-reverse, sum_by-IsPermutation}
 use Rattle.std.proofs.lemmas.List.Sums.{sum_by-set}
 use Rattle.jc_base.specs.declared.ty.Ty.{Ty}
 use Rattle.jc_base.specs.declared.ty.Ty.TheVariants.{Top}
 use Rattle.jc_base.specs.Class.{ClassTable}
+use Rattle.jc_base.proofs.Lists.{All-reverse, All-turned}
 use Rattle.jc_base.specs.Order.{IsJoin, IsKnown, rises_left}
 use Rattle.jc_rules.specs.declared.state.Merged.TheVariants.{Same, Risen}
 use Rattle.jc_rules.specs.Flow.{CellsJoin, none_joined, more_joined, IsNotTop}
@@ -96,14 +97,6 @@ CellsJoin-reverse t (more_joined {a} {b} {j} {xs} {ys} {js} h p) =
     subst (λ us. CellsJoin t us (reverse (b ∷ ys)) (reverse (j ∷ js))) (sym (reverse-append (a ∷ []) xs))
     (subst (λ us. CellsJoin t (reverse xs ++ a ∷ []) us (reverse (j ∷ js))) (sym (reverse-append (b ∷ []) ys))
     (subst (CellsJoin t (reverse xs ++ a ∷ []) (reverse ys ++ b ∷ [])) (sym (reverse-append (j ∷ []) js)) turned))
-
-pub All-reverse : (P : Ty → Type 0) (xs : List Ty) → All P xs → All P (reverse xs)
-All-reverse P xs all k d lt =
-    let inside : k < length xs = omega (arith, lt, length-reverse xs) in
-    subst P (sym (get_or-reverse xs k d inside)) (all (length xs - 1 - k) d (omega arith))
-
-pub All-turned : (P : Ty → Type 0) (xs : List Ty) → All P (reverse xs) → All P xs
-All-turned P xs all = subst (All P) (reverse-reverse xs) (All-reverse P (reverse xs) all)
 
 sum_by-reverse : (f : Ty → ℕ) (xs : List Ty) → sum_by f (reverse xs) ≡ sum_by f xs
 sum_by-reverse f xs = sum_by-IsPermutation f xs (reverse xs) (IsPermutation-reverse xs)

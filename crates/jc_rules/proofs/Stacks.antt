@@ -1,6 +1,6 @@
 -- Lemmas on the stack that a slice with a depth holds.
-use Rattle.std.proofs.Common.{◌≡◌, ℕ, ◌+◌, ◌-◌, ◌<◌, ◌≤◌, List, [], ◌∷◌, ◌++◌, length, take, drop, reverse, map, set, refl, sym, ◌∙◌, ap, subst, arith, append_assoc, length-append, length-take, length-drop, All}
-use Rattle.std.proofs.lemmas.List.{reverse-append, take-append-drop, take_more_set, length-reverse, get_or-reverse, drop-take, take-append-le, drop-append-le, map-append, length-map, take-take}
+use Rattle.std.proofs.Common.{◌≡◌, ℕ, ◌+◌, ◌-◌, ◌<◌, ◌≤◌, List, [], ◌∷◌, ◌++◌, length, take, drop, reverse, map, set, refl, sym, ◌∙◌, ap, subst, arith, append_assoc, length-append, length-take, length-drop}
+use Rattle.std.proofs.lemmas.List.{reverse-append, take-append-drop, take_more_set, length-reverse, drop-take, take-append-le, drop-append-le, map-append, length-map, take-take}
 use Rattle.std.proofs.lemmas.List.Edits.{take-paste}
 use Rattle.std.proofs.lemmas.Slice.{take-put_mid}
 use Rattle.std.proofs.Math.Seq.{take-append_seam, drop-append_seam, take-add, paste}
@@ -153,10 +153,3 @@ cells-map f s r d h e =
 pub length-cells : (s : List Ty) (d : ℕ) → d ≤ length s → length (cells s d) ≡ d
 unfolding cells
 length-cells s d h = length-reverse (take d s) ∙ length-take d s ∙ omega arith
-
--- what holds of each cell of the slice holds of each cell of the stack
-pub All-cells : (P : Ty → Type 0) (s : List Ty) (d : ℕ) → All P (take d s) → All P (cells s d)
-unfolding cells
-All-cells P s d all k e lt =
-    let inside : k < length (take d s) = omega (arith, lt, length-reverse (take d s)) in
-    subst P (sym (get_or-reverse (take d s) k e inside)) (all (length (take d s) - 1 - k) e (omega arith))

@@ -1,6 +1,6 @@
 -- Operations keep stacks whole.
-use Rattle.std.proofs.Common.{◌≡◌, ℕ, zero, suc, ◌+◌, ◌-◌, ◌<◌, ◌≤◌, Bool, true, false, cond, ◌==◌, inl, inr, List, [], ◌∷◌, ◌++◌, length, take, drop, map, reverse, All, Option, Some, None, IsSomeAnd, IfSome, slice_get, get_or, refl, sym, ◌∙◌, ap, subst, arith}
-use Rattle.std.proofs.lemmas.List.{length-reverse}
+use Rattle.std.proofs.Common.{◌≡◌, ℕ, zero, suc, ◌+◌, ◌-◌, Bool, true, false, cond, ◌==◌, inl, inr, List, [], ◌∷◌, ◌++◌, length, take, drop, map, reverse, All, Option, Some, None, IsSomeAnd, IfSome, slice_get, refl, sym, ◌∙◌, ap, subst, arith}
+use Rattle.std.proofs.lemmas.List.{length-reverse, reverse-append, reverse-reverse}
 use Rattle.jc_base.specs.declared.ty.Ty.{Ty}
 use Rattle.jc_base.specs.declared.ty.Ty.TheVariants.{Bottom, Short, IntHigh, IntLow, Null, Class, ArrBool, ArrByte, ArrShort, ArrInt, ArrRef, Fresh, Top}
 use Rattle.jc_base.specs.declared.ty.Kind.{Kind}
@@ -8,10 +8,10 @@ use Rattle.jc_base.specs.declared.ty.Kind.TheVariants as kinds
 use Rattle.jc_base.specs.declared.record.MethodRec.{MethodRec}
 use Rattle.jc_base.specs.Class.{ClassTable, object, throwable}
 use Rattle.jc_base.specs.Order.{Below}
-use Rattle.jc_base.specs.Cell.{IsDeclared, IsOfKind, IsReference}
+use Rattle.jc_base.specs.Cell.{IsDeclared, IsOfKind, IsReference, IsNoHalf, IsFirstCell, AreWhole, no_cells, whole_int, one_cell}
 use Rattle.jc_base.specs.Linked.{IsMethod}
 use Rattle.jc_base.specs.World.{Linked, IsWorld}
-use Rattle.jc_base.proofs.Lists.{All-slice_get}
+use Rattle.jc_base.proofs.Lists.{All-slice_get, All-reverse}
 use Rattle.jc_ops.specs.declared.want.Want.{Want}
 use Rattle.jc_ops.specs.declared.want.Want.TheVariants.{Value, Storable, ByteArray, AnyArray, Whole, Receiver}
 use Rattle.jc_ops.specs.declared.operation.Sort.{Sort}
@@ -40,49 +40,97 @@ use Rattle.jc_rules.specs.declared.demand.Demand.{Demand}
 use Rattle.jc_rules.specs.declared.demand.Demand.TheVariants.{Cell, Held}
 use Rattle.jc_rules.specs.declared.effect.Cells.{Cells}
 use Rattle.jc_rules.specs.declared.effect.Cells.TheVariants as given
-use Rattle.jc_rules.specs.declared.effect.Change.{Change}
-use Rattle.jc_rules.specs.declared.effect.Change.TheVariants.{Replace, CopyUnder, Exchange, MakeReady}
 use Rattle.jc_rules.specs.Effect.{listed, ready, changed, reg}
-use Rattle.jc_rules.specs.Demand.{Frame, IsHalf, IsArrayOrNull, IsFreshOf, Meets, Splits, Holds, AllHold}
+use Rattle.jc_rules.specs.Demand.{Frame, IsHalf, IsArrayOrNull, IsFreshOf, Meets, Splits, AllHold}
 use Rattle.jc_rules.specs.Rule.{constant_effect, load_demands, load_effect, store_demands, store_effect, increment_effect, move_demands, move_effect, arithmetic_demands, arithmetic_effect, array_read_demands, array_read_effect, array_write_demands, array_write_effect, branch_demands, branch_effect, field_read_demands, field_read_effect, field_write_demands, field_write_effect, type_test_effect, return_demands, return_effect, cell, number, two_numbers, size, number_given, value_given, value_wanted, value_size, or_null, element, array_wanted, a_reference, ready_with, cells_wanted, call_demands, call_effect, result_given, args_at, result_at, seen, demands, effect}
-use Rattle.jc_rules.specs.Apply.{OperationApplies}
-use Rattle.jc_rules.specs.Whole.{IsWhole, whole_empty, whole_int, whole_cell, IsWholeSig, CallsWhole, OperationKeepsWhole}
+use Rattle.jc_rules.specs.Whole.{OperationKeepsWhole}
 use Rattle.jc_rules.specs.Flow.{IsNotTop}
 use Rattle.jc_rules.proofs.Falls.{low-up, LowUp, half-up, some-or}
 use Rattle.jc_rules.proofs.Demands.{AllHold-front, AllHold-rest, AllHold-append}
-use Rattle.jc_rules.proofs.Raising.{All-reverse}
 
 -- ---- lists
 
-whole-append : {xs ys : List Ty} → IsWhole xs → IsWhole ys → IsWhole (xs ++ ys)
-whole-append whole_empty h = h
-whole-append (whole_int g) h = whole_int (whole-append g h)
-whole-append (whole_cell n g) h = whole_cell n (whole-append g h)
+-- a stack, its top first: each low half of an int stands on its high half, and no half stands alone
+data IsPaired : List Ty → Type 0 where
+  paired_empty : IsPaired []
+  paired_int : {s : List Ty} → IsPaired s → IsPaired (IntLow ∷ IntHigh ∷ s)
+  paired_cell : {ty : Ty} {s : List Ty} → ¬ (IsHalf ty) → IsPaired s → IsPaired (ty ∷ s)
 
-whole-rest : {ty : Ty} {s : List Ty} → ¬ (IsHalf ty) → IsWhole (ty ∷ s) → IsWhole s
-whole-rest n (whole_int h) = absurd (n tt)
-whole-rest n (whole_cell k h) = h
+whole-append : {xs ys : List Ty} → IsPaired xs → IsPaired ys → IsPaired (xs ++ ys)
+whole-append paired_empty h = h
+whole-append (paired_int g) h = paired_int (whole-append g h)
+whole-append (paired_cell n g) h = paired_cell n (whole-append g h)
+
+-- the same from the bottom
+no-half : (a : Ty) → IsNoHalf a → ¬ (IsHalf a)
+no-half IntHigh n = λ k. n
+no-half IntLow n = λ k. n
+no-half Bottom n = λ k. k
+no-half Short n = λ k. k
+no-half Null n = λ k. k
+no-half (Class c) n = λ k. k
+no-half ArrBool n = λ k. k
+no-half ArrByte n = λ k. k
+no-half ArrShort n = λ k. k
+no-half ArrInt n = λ k. k
+no-half (ArrRef c) n = λ k. k
+no-half (Fresh p c) n = λ k. k
+no-half Top n = λ k. k
+
+half-not : (a : Ty) → ¬ (IsHalf a) → IsNoHalf a
+half-not IntHigh n = n tt
+half-not IntLow n = n tt
+half-not Bottom n = tt
+half-not Short n = tt
+half-not Null n = tt
+half-not (Class c) n = tt
+half-not ArrBool n = tt
+half-not ArrByte n = tt
+half-not ArrShort n = tt
+half-not ArrInt n = tt
+half-not (ArrRef c) n = tt
+half-not (Fresh p c) n = tt
+half-not Top n = tt
+
+whole-join : {xs ys : List Ty} → AreWhole xs → AreWhole ys → AreWhole (xs ++ ys)
+whole-join no_cells h = h
+whole-join (whole_int g) h = whole_int (whole-join g h)
+whole-join (one_cell n g) h = one_cell n (whole-join g h)
+
+paired-from : {xs : List Ty} → AreWhole xs → IsPaired (reverse xs)
+paired-from no_cells = paired_empty
+paired-from (whole_int {types = xs} h) = subst IsPaired (sym (reverse-append (IntHigh ∷ IntLow ∷ []) xs)) (whole-append (paired-from h) (paired_int paired_empty))
+paired-from (one_cell {a = a} {types = xs} n h) = subst IsPaired (sym (reverse-append (a ∷ []) xs)) (whole-append (paired-from h) (paired_cell (no-half a n) paired_empty))
+
+whole-from : {s : List Ty} → IsPaired s → AreWhole (reverse s)
+whole-from paired_empty = no_cells
+whole-from (paired_int {s = s} h) = subst AreWhole (sym (reverse-append (IntLow ∷ IntHigh ∷ []) s)) (whole-join (whole-from h) (whole_int no_cells))
+whole-from (paired_cell {ty = ty} {s = s} n h) = subst AreWhole (sym (reverse-append (ty ∷ []) s)) (whole-join (whole-from h) (one_cell (half-not ty n) no_cells))
+
+whole-rest : {ty : Ty} {s : List Ty} → ¬ (IsHalf ty) → IsPaired (ty ∷ s) → IsPaired s
+whole-rest n (paired_int h) = absurd (n tt)
+whole-rest n (paired_cell k h) = h
 
 -- the low half of an int stands at a place and the high half under it
 Pair : List Ty → ℕ → Type 0
 Pair s k = (slice_get s k ≡ Some IntLow) × (slice_get s (suc k) ≡ Some IntHigh)
 
 record IsCut (s : List Ty) (n : ℕ) : Type 0 where
-  front : IsWhole (take n s)
-  rest : IsWhole (drop n s)
+  front : IsPaired (take n s)
+  rest : IsPaired (drop n s)
 
-cut-after : {s : List Ty} → IsWhole s → (k : ℕ) → ¬ (Pair s k) → IsCut s (suc k)
+cut-after : {s : List Ty} → IsPaired s → (k : ℕ) → ¬ (Pair s k) → IsCut s (suc k)
 unfolding Pair
-cut-after whole_empty k n = record { front = whole_empty; rest = whole_empty }
-cut-after (whole_int h) zero n = absurd (n (refl, refl))
-cut-after (whole_int h) (suc zero) n = record { front = whole_int whole_empty; rest = h }
-cut-after (whole_int h) (suc (suc k)) n = let c = cut-after h k n in record { front = whole_int c.front; rest = c.rest }
-cut-after (whole_cell c h) zero n = record { front = whole_cell c whole_empty; rest = h }
-cut-after (whole_cell c h) (suc k) n = let r = cut-after h k n in record { front = whole_cell c r.front; rest = r.rest }
+cut-after paired_empty k n = record { front = paired_empty; rest = paired_empty }
+cut-after (paired_int h) zero n = absurd (n (refl, refl))
+cut-after (paired_int h) (suc zero) n = record { front = paired_int paired_empty; rest = h }
+cut-after (paired_int h) (suc (suc k)) n = let c = cut-after h k n in record { front = paired_int c.front; rest = c.rest }
+cut-after (paired_cell c h) zero n = record { front = paired_cell c paired_empty; rest = h }
+cut-after (paired_cell c h) (suc k) n = let r = cut-after h k n in record { front = paired_cell c r.front; rest = r.rest }
 
-cut-at : {s : List Ty} → IsWhole s → (n : ℕ) → ¬ (Splits s n) → IsCut s n
+cut-at : {s : List Ty} → IsPaired s → (n : ℕ) → ¬ (Splits s n) → IsCut s n
 unfolding Pair
-cut-at h zero n = record { front = whole_empty; rest = h }
+cut-at h zero n = record { front = paired_empty; rest = h }
 cut-at {s = s} h (suc k) n = cut-after h k (λ p. n (subst (λ j. slice_get s j ≡ Some IntLow) (sym (before k)) p.0, p.1))
   where
     before : (k : ℕ) → suc k - 1 ≡ k
@@ -94,8 +142,8 @@ read-dropped [] (suc n) k = let e : suc n + k ≡ suc (n + k) = omega arith in s
 read-dropped (x ∷ s) (suc n) k = let e : suc n + k ≡ suc (n + k) = omega arith in read-dropped s n k ∙ sym (ap (slice_get (x ∷ s)) e)
 
 -- a cut of what lies under another
-cut-under : (s : List Ty) (n m : ℕ) → IsWhole (drop n s) → ¬ (Splits s (n + m)) → IsWhole (take m (drop n s))
-cut-under s n zero h apart = whole_empty
+cut-under : (s : List Ty) (n m : ℕ) → IsPaired (drop n s) → ¬ (Splits s (n + m)) → IsPaired (take m (drop n s))
+cut-under s n zero h apart = paired_empty
 cut-under s n (suc k) h apart =
     (cut-at h (suc k) (λ p. apart (
       subst (λ o. o ≡ Some IntLow) (read-dropped s n (suc k - 1) ∙ ap (slice_get s) (same_place n k)) p.0,
@@ -124,10 +172,10 @@ ready-half place class ArrInt n = n
 ready-half place class (ArrRef c) n = n
 ready-half place class Top n = n
 
-whole-ready : (place class : ℕ) {s : List Ty} → IsWhole s → IsWhole (map (ready place class) s)
-whole-ready place class whole_empty = whole_empty
-whole-ready place class (whole_int h) = whole_int (whole-ready place class h)
-whole-ready place class (whole_cell {ty = ty} n h) = whole_cell (ready-half place class ty n) (whole-ready place class h)
+whole-ready : (place class : ℕ) {s : List Ty} → IsPaired s → IsPaired (map (ready place class) s)
+whole-ready place class paired_empty = paired_empty
+whole-ready place class (paired_int h) = paired_int (whole-ready place class h)
+whole-ready place class (paired_cell {ty = ty} n h) = paired_cell (ready-half place class ty n) (whole-ready place class h)
 
 -- ---- what is wanted
 
@@ -186,41 +234,41 @@ module _ (t : ClassTable) where
   low-not_high h = low-up t h tt
 
   -- an int on top goes as a whole
-  int-rest : {a b : Ty} {s : List Ty} → Below t a IntLow → Below t b IntHigh → IsWhole (a ∷ b ∷ s) → IsWhole s
-  int-rest p q (whole_int h) = h
-  int-rest p q (whole_cell n h) = under q h
+  int-rest : {a b : Ty} {s : List Ty} → Below t a IntLow → Below t b IntHigh → IsPaired (a ∷ b ∷ s) → IsPaired s
+  int-rest p q (paired_int h) = h
+  int-rest p q (paired_cell n h) = under q h
     where
-      under : {b : Ty} {s : List Ty} → Below t b IntHigh → IsWhole (b ∷ s) → IsWhole s
-      under q (whole_int h) = absurd (low-not_high q)
-      under q (whole_cell n h) = h
+      under : {b : Ty} {s : List Ty} → Below t b IntHigh → IsPaired (b ∷ s) → IsPaired s
+      under q (paired_int h) = absurd (low-not_high q)
+      under q (paired_cell n h) = h
 
   -- ---- cells that go
 
-  peel-one : (s : List Ty) (n : ℕ) (want : Want) → TakesNoHalf want → IsSomeAnd (slice_get s n) (Meets t want) → IsWhole (drop n s) → IsWhole (drop (n + 1) s)
+  peel-one : (s : List Ty) (n : ℕ) (want : Want) → TakesNoHalf want → IsSomeAnd (slice_get s n) (Meets t want) → IsPaired (drop n s) → IsPaired (drop (n + 1) s)
   peel-one [] n want k m h = absurd m
   peel-one (x ∷ s) zero want k m h = whole-rest (met-half want x k m) h
-  peel-one (x ∷ s) (suc n) want k m h = let e : suc n + 1 ≡ suc (n + 1) = omega arith in subst (λ j. IsWhole (drop j (x ∷ s))) (sym e) (peel-one s n want k m h)
+  peel-one (x ∷ s) (suc n) want k m h = let e : suc n + 1 ≡ suc (n + 1) = omega arith in subst (λ j. IsPaired (drop j (x ∷ s))) (sym e) (peel-one s n want k m h)
 
-  int-top : (s : List Ty) → IsSomeAnd (slice_get s 0) (Meets t (Value IntLow)) → IsSomeAnd (slice_get s 1) (Meets t (Value IntHigh)) → IsWhole s → IsWhole (drop 2 s)
+  int-top : (s : List Ty) → IsSomeAnd (slice_get s 0) (Meets t (Value IntLow)) → IsSomeAnd (slice_get s 1) (Meets t (Value IntHigh)) → IsPaired s → IsPaired (drop 2 s)
   int-top [] m k h = absurd m
   int-top (x ∷ []) m k h = absurd k
   int-top (x ∷ y ∷ s) m k h = int-rest m k h
 
-  peel-int : (s : List Ty) (n : ℕ) → IsSomeAnd (slice_get s n) (Meets t (Value IntLow)) → IsSomeAnd (slice_get s (n + 1)) (Meets t (Value IntHigh)) → IsWhole (drop n s) → IsWhole (drop (n + 2) s)
+  peel-int : (s : List Ty) (n : ℕ) → IsSomeAnd (slice_get s n) (Meets t (Value IntLow)) → IsSomeAnd (slice_get s (n + 1)) (Meets t (Value IntHigh)) → IsPaired (drop n s) → IsPaired (drop (n + 2) s)
   peel-int s zero m k h = int-top s m k h
   peel-int [] (suc n) m k h = absurd m
   peel-int (x ∷ s) (suc n) m k h =
       let e : suc n + 2 ≡ suc (n + 2) = omega arith in
       let f : suc n + 1 ≡ suc (n + 1) = omega arith in
-      subst (λ j. IsWhole (drop j (x ∷ s))) (sym e) (peel-int s n m (subst (λ j. IsSomeAnd (slice_get (x ∷ s) j) (Meets t (Value IntHigh))) f k) h)
+      subst (λ j. IsPaired (drop j (x ∷ s))) (sym e) (peel-int s n m (subst (λ j. IsSomeAnd (slice_get (x ∷ s) j) (Meets t (Value IntHigh))) f k) h)
 
-  peel-number : (s : Frame) (width : Width) (n : ℕ) → AllHold t s (number width n) → IsWhole (drop n s.stack) → IsWhole (drop (n + size width) s.stack)
+  peel-number : (s : Frame) (width : Width) (n : ℕ) → AllHold t s (number width n) → IsPaired (drop n s.stack) → IsPaired (drop (n + size width) s.stack)
   unfolding TakesNoHalf
   peel-number s widths.Short n all h = peel-one s.stack n (Value Short) ((λ k. k), tt) all.0 h
   peel-number s widths.Int n all h = peel-int s.stack n all.0 all.1.0 h
 
   -- the type of a value that a frame has is no low half
-  value-rest : (f : Frame) (ty : Ty) (rest : List Demand) → IsNotTop ty → ¬ (ty ≡ IntLow) → AllHold t f (value_wanted ty ++ rest) → IsWhole f.stack → IsWhole (drop (value_size ty) f.stack)
+  value-rest : (f : Frame) (ty : Ty) (rest : List Demand) → IsNotTop ty → ¬ (ty ≡ IntLow) → AllHold t f (value_wanted ty ++ rest) → IsPaired f.stack → IsPaired (drop (value_size ty) f.stack)
   unfolding TakesNoHalf
   value-rest f IntHigh rest top low all h = peel-int f.stack 0 all.0 all.1.0 h
   value-rest f IntLow rest top low all h = absurd (low refl)
@@ -238,30 +286,30 @@ module _ (t : ClassTable) where
 
   -- ---- cells that come
 
-  whole-given : (ty : Ty) → ¬ (ty ≡ IntLow) → IsWhole (listed (value_given ty))
-  whole-given IntHigh low = whole_int whole_empty
+  whole-given : (ty : Ty) → ¬ (ty ≡ IntLow) → IsPaired (listed (value_given ty))
+  whole-given IntHigh low = paired_int paired_empty
   whole-given IntLow low = absurd (low refl)
-  whole-given Bottom low = whole_cell (λ k. k) whole_empty
-  whole-given Short low = whole_cell (λ k. k) whole_empty
-  whole-given Null low = whole_cell (λ k. k) whole_empty
-  whole-given (Class c) low = whole_cell (λ k. k) whole_empty
-  whole-given ArrBool low = whole_cell (λ k. k) whole_empty
-  whole-given ArrByte low = whole_cell (λ k. k) whole_empty
-  whole-given ArrShort low = whole_cell (λ k. k) whole_empty
-  whole-given ArrInt low = whole_cell (λ k. k) whole_empty
-  whole-given (ArrRef c) low = whole_cell (λ k. k) whole_empty
-  whole-given (Fresh p c) low = whole_cell (λ k. k) whole_empty
-  whole-given Top low = whole_cell (λ k. k) whole_empty
+  whole-given Bottom low = paired_cell (λ k. k) paired_empty
+  whole-given Short low = paired_cell (λ k. k) paired_empty
+  whole-given Null low = paired_cell (λ k. k) paired_empty
+  whole-given (Class c) low = paired_cell (λ k. k) paired_empty
+  whole-given ArrBool low = paired_cell (λ k. k) paired_empty
+  whole-given ArrByte low = paired_cell (λ k. k) paired_empty
+  whole-given ArrShort low = paired_cell (λ k. k) paired_empty
+  whole-given ArrInt low = paired_cell (λ k. k) paired_empty
+  whole-given (ArrRef c) low = paired_cell (λ k. k) paired_empty
+  whole-given (Fresh p c) low = paired_cell (λ k. k) paired_empty
+  whole-given Top low = paired_cell (λ k. k) paired_empty
 
-  whole-one : (ty : Ty) → ¬ (IsHalf ty) → IsWhole (listed (given.One ty))
-  whole-one ty n = whole_cell n whole_empty
+  whole-one : (ty : Ty) → ¬ (IsHalf ty) → IsPaired (listed (given.One ty))
+  whole-one ty n = paired_cell n paired_empty
 
-  short-one : IsWhole (listed (given.One Short))
-  short-one = whole_cell (λ k. k) whole_empty
+  short-one : IsPaired (listed (given.One Short))
+  short-one = paired_cell (λ k. k) paired_empty
 
-  whole-number : (width : Width) → IsWhole (listed (number_given width))
+  whole-number : (width : Width) → IsPaired (listed (number_given width))
   whole-number widths.Short = short-one
-  whole-number widths.Int = whole_int whole_empty
+  whole-number widths.Int = paired_int paired_empty
 
   or_null-half : (ty : Ty) → ¬ (IsHalf ty) → ¬ (IsHalf (or_null ty))
   or_null-half Bottom n = λ k. k
@@ -342,7 +390,7 @@ receiver-takes w n m receiver choices.Static h = subst (λ o. IfSome o TakesNoHa
 receiver-takes w n m receiver (choices.Interface c token words) h = takes-class receiver (object w.classes) h.receiver_is
 
 -- what a receiver that is found makes ready leaves halves as they are
-ready-keeps : (taken : ℕ) (cells : Cells) (found : Ty) (want : Want) (s : List Ty) → IsWhole (listed cells) → IsWhole (drop taken s) → IsWhole (changed (ready_with taken cells found want) s)
+ready-keeps : (taken : ℕ) (cells : Cells) (found : Ty) (want : Want) (s : List Ty) → IsPaired (listed cells) → IsPaired (drop taken s) → IsPaired (changed (ready_with taken cells found want) s)
 ready-keeps taken cells (Fresh p c) (Receiver d) s g h = whole-append g (whole-ready p d h)
 ready-keeps taken cells (Fresh p c) (Value ty) s g h = whole-append g h
 ready-keeps taken cells (Fresh p c) Storable s g h = whole-append g h
@@ -362,54 +410,54 @@ ready-keeps taken cells ArrInt want s g h = whole-append g h
 ready-keeps taken cells (ArrRef c) want s g h = whole-append g h
 ready-keeps taken cells Top want s g h = whole-append g h
 
-top-one : (t : ClassTable) (s : List Ty) → IsSomeAnd (slice_get s 0) (Meets t Whole) → IsWhole (take 1 s)
+top-one : (t : ClassTable) (s : List Ty) → IsSomeAnd (slice_get s 0) (Meets t Whole) → IsPaired (take 1 s)
 top-one t [] m = absurd m
-top-one t (x ∷ s) m = whole_cell m whole_empty
+top-one t (x ∷ s) m = paired_cell m paired_empty
 
-module _ (t : ClassTable) (f : Frame) (whole : IsWhole f.stack) where
+module _ (t : ClassTable) (f : Frame) (whole : IsPaired f.stack) where
   -- the arguments go
-  peel-args : (tys : List Ty) (n : ℕ) → IsWhole tys → All IsNotTop tys → AllHold t f (cells_wanted n tys) → IsWhole (drop n f.stack) → IsWhole (drop (n + length tys) f.stack)
+  peel-args : (tys : List Ty) (n : ℕ) → IsPaired tys → All IsNotTop tys → AllHold t f (cells_wanted n tys) → IsPaired (drop n f.stack) → IsPaired (drop (n + length tys) f.stack)
   unfolding TakesNoHalf
-  peel-args _ n whole_empty top all h = let e : n + 0 ≡ n = omega arith in subst (λ j. IsWhole (drop j f.stack)) (sym e) h
-  peel-args _ n (whole_int {s = rest} g) top all h =
+  peel-args _ n paired_empty top all h = let e : n + 0 ≡ n = omega arith in subst (λ j. IsPaired (drop j f.stack)) (sym e) h
+  peel-args _ n (paired_int {s = rest} g) top all h =
       let two : n + 1 + 1 ≡ n + 2 = omega arith in
       let e : n + 1 + 1 + length rest ≡ n + suc (suc (length rest)) = omega arith in
-      subst (λ j. IsWhole (drop j f.stack)) e
+      subst (λ j. IsPaired (drop j f.stack)) e
       (peel-args rest (n + 1 + 1) g (λ k d lt. top (suc (suc k)) d (omega arith)) all.1.1
-      (subst (λ j. IsWhole (drop j f.stack)) (sym two) (peel-int t f.stack n all.0 all.1.0 h)))
-  peel-args _ n (whole_cell {ty = ty} {s = rest} c g) top all h =
+      (subst (λ j. IsPaired (drop j f.stack)) (sym two) (peel-int t f.stack n all.0 all.1.0 h)))
+  peel-args _ n (paired_cell {ty = ty} {s = rest} c g) top all h =
       let e : n + 1 + length rest ≡ n + suc (length rest) = omega arith in
-      subst (λ j. IsWhole (drop j f.stack)) e
+      subst (λ j. IsPaired (drop j f.stack)) e
       (peel-args rest (n + 1) g (λ k d lt. top (suc k) d (omega arith)) all.1
       (peel-one t f.stack n (Value ty) (c, top 0 ty (omega arith)) all.0 h))
 
-  args-rest : (args : List Ty) (ds : List Demand) → IsWhole (reverse args) → All IsNotTop (reverse args) → AllHold t f (cells_wanted 0 (reverse args) ++ ds) → IsWhole (drop (length args) f.stack)
+  args-rest : (args : List Ty) (ds : List Demand) → IsPaired (reverse args) → All IsNotTop (reverse args) → AllHold t f (cells_wanted 0 (reverse args) ++ ds) → IsPaired (drop (length args) f.stack)
   args-rest args ds g top all =
       let e : 0 + length (reverse args) ≡ length args = omega (arith, length-reverse args) in
-      subst (λ j. IsWhole (drop j f.stack)) e (peel-args (reverse args) 0 g top (AllHold-front t f (cells_wanted 0 (reverse args)) ds all) whole)
+      subst (λ j. IsPaired (drop j f.stack)) e (peel-args (reverse args) 0 g top (AllHold-front t f (cells_wanted 0 (reverse args)) ds all) whole)
 
-  keep-call : (args : List Ty) (result : Option Ty) (receiver : Option Want) → IsWhole (reverse args) → All IsNotTop (reverse args) → IfSome result (λ ty. ¬ (ty ≡ IntLow)) → IfSome receiver TakesNoHalf
-      → AllHold t f (call_demands args receiver) → IsWhole (changed (call_effect args result receiver f).change f.stack)
+  keep-call : (args : List Ty) (result : Option Ty) (receiver : Option Want) → IsPaired (reverse args) → All IsNotTop (reverse args) → IfSome result (λ ty. ¬ (ty ≡ IntLow)) → IfSome receiver TakesNoHalf
+      → AllHold t f (call_demands args receiver) → IsPaired (changed (call_effect args result receiver f).change f.stack)
   keep-call args result None g top low k all = whole-append (result-whole result low) (args-rest args [] g top all)
     where
-      result-whole : (o : Option Ty) → IfSome o (λ ty. ¬ (ty ≡ IntLow)) → IsWhole (listed (result_given o))
-      result-whole None h = whole_empty
+      result-whole : (o : Option Ty) → IfSome o (λ ty. ¬ (ty ≡ IntLow)) → IsPaired (listed (result_given o))
+      result-whole None h = paired_empty
       result-whole (Some ty) h = whole-given t ty h
   keep-call args result (Some want) g top low k all =
       ready-keeps (length args + 1) (result_given result) (cell f.stack (length args)) want f.stack (result-whole result low)
       (peel-one t f.stack (length args) want k (AllHold-rest t f (cells_wanted 0 (reverse args)) (Cell (length args) want ∷ []) all).0
       (args-rest args (Cell (length args) want ∷ []) g top all))
     where
-      result-whole : (o : Option Ty) → IfSome o (λ ty. ¬ (ty ≡ IntLow)) → IsWhole (listed (result_given o))
-      result-whole None h = whole_empty
+      result-whole : (o : Option Ty) → IfSome o (λ ty. ¬ (ty ≡ IntLow)) → IsPaired (listed (result_given o))
+      result-whole None h = paired_empty
       result-whole (Some ty) h = whole-given t ty h
 
   -- ---- kinds
 
-  one-gone : (want : Want) → TakesNoHalf want → IsSomeAnd (slice_get f.stack 0) (Meets t want) → IsWhole (drop 1 f.stack)
+  one-gone : (want : Want) → TakesNoHalf want → IsSomeAnd (slice_get f.stack 0) (Meets t want) → IsPaired (drop 1 f.stack)
   one-gone want k m = peel-one t f.stack 0 want k m whole
 
-  next-gone : (n : ℕ) (want : Want) → TakesNoHalf want → IsSomeAnd (slice_get f.stack n) (Meets t want) → IsWhole (drop n f.stack) → IsWhole (drop (n + 1) f.stack)
+  next-gone : (n : ℕ) (want : Want) → TakesNoHalf want → IsSomeAnd (slice_get f.stack n) (Meets t want) → IsPaired (drop n f.stack) → IsPaired (drop (n + 1) f.stack)
   next-gone n want k m h = peel-one t f.stack n want k m h
 
   a_short : TakesNoHalf (Value Short)
@@ -431,15 +479,15 @@ module _ (t : ClassTable) (f : Frame) (whole : IsWhole f.stack) where
   unfolding TakesNoHalf
   plain_want = (tt, tt, tt)
 
-  number-gone : (width : Width) → AllHold t f (number width 0) → IsWhole (drop (size width) f.stack)
+  number-gone : (width : Width) → AllHold t f (number width 0) → IsPaired (drop (size width) f.stack)
   number-gone widths.Short all = one-gone (Value Short) a_short all.0
   number-gone widths.Int all = peel-int t f.stack 0 all.0 all.1.0 whole
 
-  two-gone : (width : Width) → AllHold t f (two_numbers width) → IsWhole (drop (size width + size width) f.stack)
+  two-gone : (width : Width) → AllHold t f (two_numbers width) → IsPaired (drop (size width + size width) f.stack)
   two-gone widths.Short all = next-gone 1 (Value Short) a_short all.1.0 (one-gone (Value Short) a_short all.0)
   two-gone widths.Int all = peel-int t f.stack 2 all.1.1.0 all.1.1.1.0 (peel-int t f.stack 0 all.0 all.1.0 whole)
 
-  keep-move : (m : Move) → AllHold t f (move_demands m) → IsWhole (changed (move_effect m).change f.stack)
+  keep-move : (m : Move) → AllHold t f (move_demands m) → IsPaired (changed (move_effect m).change f.stack)
   keep-move moves.Pop all = one-gone Whole plain_want.2 all.0
   keep-move moves.PopTwo all = (cut-at whole 2 all.1.0).rest
   keep-move moves.Duplicate all = whole-append (top-one t f.stack all.0) whole
@@ -453,7 +501,7 @@ module _ (t : ClassTable) (f : Frame) (whole : IsWhole f.stack) where
       let b = cut-at whole (m + n) all.1.1.1.0 in
       whole-append (cut-under f.stack m n a.rest all.1.1.1.0) (whole-append a.front b.rest)
 
-  keep-arithmetic : (a : Arithmetic) → AllHold t f (arithmetic_demands a) → IsWhole (changed (arithmetic_effect a).change f.stack)
+  keep-arithmetic : (a : Arithmetic) → AllHold t f (arithmetic_demands a) → IsPaired (changed (arithmetic_effect a).change f.stack)
   keep-arithmetic (arithmetic.Binary o widths.Short) all = whole-append (short-one t) (two-gone widths.Short all)
   keep-arithmetic (arithmetic.Binary o widths.Int) all = whole-append (whole-number t widths.Int) (two-gone widths.Int all)
   keep-arithmetic (arithmetic.Negate width) all = whole-append (whole-number t width) (number-gone width all)
@@ -463,60 +511,60 @@ module _ (t : ClassTable) (f : Frame) (whole : IsWhole f.stack) where
   keep-arithmetic arithmetic.IntToShort all = whole-append (short-one t) (number-gone widths.Int all)
   keep-arithmetic arithmetic.CompareInts all = whole-append (short-one t) (two-gone widths.Int all)
 
-  keep-array_read : (k : Kind) → AllHold t f (array_read_demands t k) → IsWhole (changed (array_read_effect k f).change f.stack)
+  keep-array_read : (k : Kind) → AllHold t f (array_read_demands t k) → IsPaired (changed (array_read_effect k f).change f.stack)
   keep-array_read kinds.Ref all = whole-append (whole-one t (element (cell f.stack 1)) (element-half t (cell f.stack 1))) (next-gone 1 (array_wanted t kinds.Ref) (an_array kinds.Ref) all.1.0 (one-gone (Value Short) a_short all.0))
   keep-array_read kinds.Byte all = whole-append (short-one t) (next-gone 1 (array_wanted t kinds.Byte) (an_array kinds.Byte) all.1.0 (one-gone (Value Short) a_short all.0))
   keep-array_read kinds.Short all = whole-append (short-one t) (next-gone 1 (array_wanted t kinds.Short) (an_array kinds.Short) all.1.0 (one-gone (Value Short) a_short all.0))
   keep-array_read kinds.Int all = whole-append (whole-number t widths.Int) (next-gone 1 (array_wanted t kinds.Int) (an_array kinds.Int) all.1.0 (one-gone (Value Short) a_short all.0))
 
-  keep-array_write : (k : Kind) → AllHold t f (array_write_demands t k) → IsWhole (changed (array_write_effect k).change f.stack)
+  keep-array_write : (k : Kind) → AllHold t f (array_write_demands t k) → IsPaired (changed (array_write_effect k).change f.stack)
   keep-array_write kinds.Ref all = next-gone 2 (array_wanted t kinds.Ref) (an_array kinds.Ref) all.1.1.0 (next-gone 1 (Value Short) a_short all.1.0 (one-gone (a_reference t) (a_class (object t)) all.0))
   keep-array_write kinds.Byte all = next-gone 2 (array_wanted t kinds.Byte) (an_array kinds.Byte) all.1.1.0 (next-gone 1 (Value Short) a_short all.1.0 (one-gone (Value Short) a_short all.0))
   keep-array_write kinds.Short all = next-gone 2 (array_wanted t kinds.Short) (an_array kinds.Short) all.1.1.0 (next-gone 1 (Value Short) a_short all.1.0 (one-gone (Value Short) a_short all.0))
   keep-array_write kinds.Int all = next-gone 3 (array_wanted t kinds.Int) (an_array kinds.Int) all.1.1.1.0 (next-gone 2 (Value Short) a_short all.1.1.0 (peel-int t f.stack 0 all.0 all.1.0 whole))
 
-  keep-branch : (b : Branch) → AllHold t f (branch_demands t b) → IsWhole (changed (branch_effect b).change f.stack)
+  keep-branch : (b : Branch) → AllHold t f (branch_demands t b) → IsPaired (changed (branch_effect b).change f.stack)
   keep-branch branches.Always all = whole
   keep-branch (branches.Zero o) all = one-gone (Value Short) a_short all.0
   keep-branch (branches.Null q) all = one-gone (a_reference t) (a_class (object t)) all.0
   keep-branch (branches.References q) all = next-gone 1 (a_reference t) (a_class (object t)) all.1.0 (one-gone (a_reference t) (a_class (object t)) all.0)
   keep-branch (branches.Shorts o) all = two-gone widths.Short all
 
-  keep-constant : (c : Constant) → IsWhole (changed (constant_effect c).change f.stack)
+  keep-constant : (c : Constant) → IsPaired (changed (constant_effect c).change f.stack)
   keep-constant constants.Nothing = whole
   keep-constant constants.Null = whole-append (whole-one t Null (λ k. k)) whole
   keep-constant (constants.Short n) = whole-append (short-one t) whole
   keep-constant (constants.Int n) = whole-append (whole-number t widths.Int) whole
 
-  keep-load : (s : Sort) (x : ℕ) → AllHold t f (load_demands t s x) → IsWhole (changed (load_effect s x f).change f.stack)
+  keep-load : (s : Sort) (x : ℕ) → AllHold t f (load_demands t s x) → IsPaired (changed (load_effect s x f).change f.stack)
   keep-load sorts.Reference x all =
       whole-append (whole-one t (or_null (reg f.regs x)) (or_null-half t (reg f.regs x) (below-half t (reg f.regs x) (Class (object t)) (some-or (λ ty. Below t ty (Class (object t))) f.regs x all.1.0) (λ k. k) tt))) whole
   keep-load sorts.Short x all = whole-append (short-one t) whole
   keep-load sorts.Int x all = whole-append (whole-number t widths.Int) whole
 
-  keep-store : (s : Sort) (x : ℕ) → AllHold t f (store_demands s x) → IsWhole (changed (store_effect s x f).change f.stack)
+  keep-store : (s : Sort) (x : ℕ) → AllHold t f (store_demands s x) → IsPaired (changed (store_effect s x f).change f.stack)
   keep-store sorts.Reference x all = one-gone Storable plain_want.0 all.1.0
   keep-store sorts.Short x all = one-gone (Value Short) a_short all.1.0
   keep-store sorts.Int x all = peel-int t f.stack 0 all.1.0 all.1.1.0 whole
 
-  keep-increment : (width : Width) (x : ℕ) → IsWhole (changed (increment_effect width x).change f.stack)
+  keep-increment : (width : Width) (x : ℕ) → IsPaired (changed (increment_effect width x).change f.stack)
   keep-increment widths.Short x = whole
   keep-increment widths.Int x = whole
 
-  value-gone : (ty : Ty) (rest : List Demand) → IsNotTop ty → ¬ (ty ≡ IntLow) → AllHold t f (value_wanted ty ++ rest) → IsWhole (drop (value_size ty) f.stack)
+  value-gone : (ty : Ty) (rest : List Demand) → IsNotTop ty → ¬ (ty ≡ IntLow) → AllHold t f (value_wanted ty ++ rest) → IsPaired (drop (value_size ty) f.stack)
   value-gone ty rest top low all = value-rest t f ty rest top low all whole
 
-  keep-read : (h : Holder) (c : ℕ) (ty : Ty) → ¬ (ty ≡ IntLow) → AllHold t f (field_read_demands h c) → IsWhole (changed (field_read_effect h ty).change f.stack)
+  keep-read : (h : Holder) (c : ℕ) (ty : Ty) → ¬ (ty ≡ IntLow) → AllHold t f (field_read_demands h c) → IsPaired (changed (field_read_effect h ty).change f.stack)
   keep-read holders.Stack c ty low all = whole-append (whole-given t ty low) (one-gone (Value (Class c)) (a_class c) all.0)
   keep-read holders.This c ty low all = whole-append (whole-given t ty low) whole
 
-  keep-write : (h : Holder) (c : ℕ) (ty : Ty) → IsNotTop ty → ¬ (ty ≡ IntLow) → AllHold t f (field_write_demands h c ty) → IsWhole (changed (field_write_effect h ty).change f.stack)
+  keep-write : (h : Holder) (c : ℕ) (ty : Ty) → IsNotTop ty → ¬ (ty ≡ IntLow) → AllHold t f (field_write_demands h c ty) → IsPaired (changed (field_write_effect h ty).change f.stack)
   keep-write holders.Stack c ty top low all =
       next-gone (value_size ty) (Value (Class c)) (a_class c) (AllHold-rest t f (value_wanted ty) (Cell (value_size ty) (Value (Class c)) ∷ []) all).0
       (value-gone ty (Cell (value_size ty) (Value (Class c)) ∷ []) top low all)
   keep-write holders.This c ty top low all = value-gone ty (Held 0 (Class c) ∷ []) top low all.1
 
-  keep-test : (test : TypeTest) (ty : Ty) → ¬ (IsHalf ty) → IsWhole (drop 1 f.stack) → IsWhole (changed (type_test_effect test ty).change f.stack)
+  keep-test : (test : TypeTest) (ty : Ty) → ¬ (IsHalf ty) → IsPaired (drop 1 f.stack) → IsPaired (changed (type_test_effect test ty).change f.stack)
   keep-test tests.Cast ty n h = whole-append (whole-one t ty n) h
   keep-test tests.InstanceOf ty n h = whole-append (short-one t) h
 
@@ -525,49 +573,54 @@ module _ (t : ClassTable) (f : Frame) (whole : IsWhole f.stack) where
 declared-args : (w : Linked) (m : MethodRec) → IsMethod w.infos w.pools w.classes m → All IsNotTop (reverse m.sig.args)
 declared-args w m is = λ k d lt. declared-topless w.classes _ (All-reverse (IsDeclared w.classes) m.sig.args is.arguments k d lt)
 
-module _ (w : Linked) (is : IsWorld w) (f : Frame) (whole : IsWhole f.stack) (m : MethodRec) (place : ℕ) where
-  keep-called : (c : Callee) (o : Option MethodRec) → slice_get w.methods c.method ≡ o → IsCalleeOf w c → ((r : MethodRec) → slice_get w.methods c.method ≡ Some r → IsWholeSig r.sig)
-      → AllHold w.classes f (call_demands (args_at o) c.receiver) → IsWhole (changed (call_effect (args_at o) (result_at o) c.receiver f).change f.stack)
-  keep-called c None e h sig all = absurd (no-method (h.is_method) e)
+-- the first cell of a result is no low half
+first-no_low : (result : Option Ty) → IfSome result IsFirstCell → IfSome result (λ ty. ¬ (ty ≡ IntLow))
+first-no_low None h = tt
+first-no_low (Some ty) h = λ e. subst IsFirstCell e h
+
+module _ (w : Linked) (is : IsWorld w) (f : Frame) (whole : IsPaired f.stack) (m : MethodRec) (place : ℕ) where
+  keep-called : (c : Callee) (o : Option MethodRec) → slice_get w.methods c.method ≡ o → IsCalleeOf w c → AllHold w.classes f (call_demands (args_at o) c.receiver) → IsPaired (changed (call_effect (args_at o) (result_at o) c.receiver f).change f.stack)
+  keep-called c None e h all = absurd (no-method (h.is_method) e)
     where
       no-method : slice_get w.methods c.method ≡ Some h.rec → slice_get w.methods c.method ≡ None → ⊥
       no-method p q = absurd (cc)
-  keep-called c (Some r) e h sig all =
-      keep-call w.classes f whole r.sig.args r.sig.result c.receiver (sig r e).args
-      (declared-args w r (All-slice_get (IsMethod w.infos w.pools w.classes) w.methods c.method r is.methods e))
-      (sig r e).result (receiver-takes w c.method h.rec c.receiver c.choice h.chosen) all
+  keep-called c (Some r) e h all =
+      let method : IsMethod w.infos w.pools w.classes r = All-slice_get (IsMethod w.infos w.pools w.classes) w.methods c.method r is.methods e in
+      keep-call w.classes f whole r.sig.args r.sig.result c.receiver (paired-from method.whole) (declared-args w r method)
+      (first-no_low r.sig.result method.first) (receiver-takes w c.method h.rec c.receiver c.choice h.chosen) all
 
-  keep-return : (result : Option Ty) → IfSome result (IsResult w.classes) → AllHold w.classes f (return_demands result) → IsWhole (changed (return_effect result).change f.stack)
+  keep-return : (result : Option Ty) → IfSome result (IsResult w.classes) → AllHold w.classes f (return_demands result) → IsPaired (changed (return_effect result).change f.stack)
   keep-return None h all = whole
   keep-return (Some ty) h all = value-gone w.classes f whole ty [] (declared-topless w.classes ty h.declared) h.no_low (AllHold-append w.classes f (value_wanted ty) [] all tt)
 
-  keeps-whole : (op : Operation) → IsSound w m place op → CallsWhole w op → AllHold w.classes f (demands w op) → IsWhole (changed (effect w op f).change f.stack)
-  keeps-whole (ops.Constant c) sound calls all = keep-constant w.classes f whole c
-  keeps-whole (ops.Load s x) sound calls all = keep-load w.classes f whole s x all
-  keeps-whole (ops.Store s x) sound calls all = keep-store w.classes f whole s x all
-  keeps-whole (ops.Increment width x amount) sound calls all = keep-increment w.classes f whole width x
-  keeps-whole (ops.Move move) sound calls all = keep-move w.classes f whole move all
-  keeps-whole (ops.Arithmetic a) sound calls all = keep-arithmetic w.classes f whole a all
-  keeps-whole (ops.ArrayRead k) sound calls all = keep-array_read w.classes f whole k all
-  keeps-whole (ops.ArrayWrite k) sound calls all = keep-array_write w.classes f whole k all
-  keeps-whole ops.ArrayLength sound calls all = whole-append (short-one w.classes) (one-gone w.classes f whole AnyArray (plain_want w.classes f whole).1 all.0)
-  keeps-whole (ops.Branch b) sound calls all = keep-branch w.classes f whole b all
-  keeps-whole (ops.Switch width) sound calls all = number-gone w.classes f whole width all
-  keeps-whole (ops.StaticRead field) sound calls all = whole-append (whole-given w.classes field.ty (kind-low field.kind field.ty sound.kind)) whole
-  keeps-whole (ops.StaticWrite field) sound calls all =
+  keeps-whole : (op : Operation) → IsSound w m place op → AllHold w.classes f (demands w op) → IsPaired (changed (effect w op f).change f.stack)
+  keeps-whole (ops.Constant c) sound all = keep-constant w.classes f whole c
+  keeps-whole (ops.Load s x) sound all = keep-load w.classes f whole s x all
+  keeps-whole (ops.Store s x) sound all = keep-store w.classes f whole s x all
+  keeps-whole (ops.Increment width x amount) sound all = keep-increment w.classes f whole width x
+  keeps-whole (ops.Move move) sound all = keep-move w.classes f whole move all
+  keeps-whole (ops.Arithmetic a) sound all = keep-arithmetic w.classes f whole a all
+  keeps-whole (ops.ArrayRead k) sound all = keep-array_read w.classes f whole k all
+  keeps-whole (ops.ArrayWrite k) sound all = keep-array_write w.classes f whole k all
+  keeps-whole ops.ArrayLength sound all = whole-append (short-one w.classes) (one-gone w.classes f whole AnyArray (plain_want w.classes f whole).1 all.0)
+  keeps-whole (ops.Branch b) sound all = keep-branch w.classes f whole b all
+  keeps-whole (ops.Switch width) sound all = number-gone w.classes f whole width all
+  keeps-whole (ops.StaticRead field) sound all = whole-append (whole-given w.classes field.ty (kind-low field.kind field.ty sound.kind)) whole
+  keeps-whole (ops.StaticWrite field) sound all =
       value-gone w.classes f whole field.ty [] (declared-topless w.classes field.ty sound.ty) (kind-low field.kind field.ty sound.kind) (AllHold-append w.classes f (value_wanted field.ty) [] all tt)
-  keeps-whole (ops.FieldRead field h) sound calls all = keep-read w.classes f whole h field.class field.ty (kind-low field.kind field.ty sound.cells.kind) all
-  keeps-whole (ops.FieldWrite field h) sound calls all =
+  keeps-whole (ops.FieldRead field h) sound all = keep-read w.classes f whole h field.class field.ty (kind-low field.kind field.ty sound.cells.kind) all
+  keeps-whole (ops.FieldWrite field h) sound all =
       keep-write w.classes f whole h field.class field.ty (declared-topless w.classes field.ty sound.ty) (kind-low field.kind field.ty sound.cells.kind) all
-  keeps-whole (ops.Call c) sound calls all = keep-called c (slice_get w.methods c.method) refl sound calls all
-  keeps-whole (ops.New p c) sound calls all = whole-append (whole-one w.classes (Fresh p c) (λ k. k)) whole
-  keeps-whole (ops.NewArray ty) sound calls all =
+  keeps-whole (ops.Call c) sound all = keep-called c (slice_get w.methods c.method) refl sound all
+  keeps-whole (ops.New p c) sound all = whole-append (whole-one w.classes (Fresh p c) (λ k. k)) whole
+  keeps-whole (ops.NewArray ty) sound all =
       whole-append (whole-one w.classes (seen w.classes ty) (seen-half w.classes ty sound.1)) (one-gone w.classes f whole (Value Short) (a_short w.classes f whole) all.0)
-  keeps-whole ops.Throw sound calls all = one-gone w.classes f whole (Value (Class (throwable w.classes))) (a_class w.classes f whole (throwable w.classes)) all.0
-  keeps-whole (ops.TypeTest test ty) sound calls all =
+  keeps-whole ops.Throw sound all = one-gone w.classes f whole (Value (Class (throwable w.classes))) (a_class w.classes f whole (throwable w.classes)) all.0
+  keeps-whole (ops.TypeTest test ty) sound all =
       keep-test w.classes f whole test (seen w.classes ty) (seen-half w.classes ty sound) (one-gone w.classes f whole (a_reference w.classes) (a_class w.classes f whole (object w.classes)) all.0)
-  keeps-whole (ops.Return result) sound calls all = keep-return result sound.1 all
+  keeps-whole (ops.Return result) sound all = keep-return result sound.1 all
 
 pub operation-keeps-whole : (w : Linked) → IsWorld w → OperationKeepsWhole w
-operation-keeps-whole w is limit m place op mode before after o sound calls k whole a =
-    subst IsWhole (sym a.stack) (keeps-whole w is before whole m place op sound calls a.asked)
+operation-keeps-whole w is limit m place op mode before after o sound whole a =
+    let paired : IsPaired before.stack = subst IsPaired (reverse-reverse before.stack) (paired-from whole) in
+    whole-from (subst IsPaired (sym a.stack) (keeps-whole w is before paired m place op sound a.asked))

@@ -1,6 +1,6 @@
 -- Dataflow typings of a method (Leroy 2002, section 2.3; JCVM 2.2, section 7.5; the data-flow analysis of the class file verifier):
 -- registers and a stack at every reached place at once, that meet the rule of every instruction.
-use Rattle.std.specs.Prelude.{◌≡◌, ℕ, ◌+◌, ◌<◌, ◌≤◌, if◌then◌else◌, ⊤, List, [], ◌∷◌, ◌++◌, length, replicate, All, Contains, Option, IsSomeAnd, IsTrue}
+use Rattle.std.specs.Prelude.{ℕ, ◌+◌, ◌<◌, ◌≤◌, if◌then◌else◌, ⊤, List, [], ◌∷◌, ◌++◌, length, replicate, All, Contains, Option, IsSomeAnd, IsTrue}
 use Rattle.jc_base.specs.declared.ty.Ty.{Ty}
 use Rattle.jc_base.specs.declared.ty.Ty.TheVariants.{Class, Fresh, Top}
 use Rattle.jc_base.specs.declared.record.Handler.{Handler}
@@ -14,10 +14,9 @@ use Rattle.jc_control.specs.Method.{Method}
 use Rattle.jc_control.specs.WellFormed.{Stands, IsWellFormed}
 use Rattle.jc_control.specs.Control.{IsSuccessor, Covers, IsReached, IsLeader}
 use Rattle.jc_rules.specs.declared.effect.Mode.TheVariants.{Flow}
-use Rattle.jc_ops.specs.declared.site.Site.{Site}
 use Rattle.jc_rules.specs.declared.rule.Outcome.{Outcome}
 use Rattle.jc_rules.specs.Demand.{Frame}
-use Rattle.jc_rules.specs.Apply.{Applies}
+use Rattle.jc_rules.specs.Apply.{RuleApplies}
 
 -- ---- frames
 
@@ -55,12 +54,9 @@ At frames place P = IsSomeAnd (frames place) P
 
 -- ---- flow typings
 
-abbrev pub site_of : Method → ℕ → Site
-site_of m place = record { method = m.number; place = place }
-
 -- the rule of the instruction applies to the frame with this result, in the dataflow
 abbrev pub Steps : Linked → Method → Placed → Frame → Frame → Type 0
-Steps w m i before after = (o : Outcome) × Applies w (site_of m i.place) i.insn Flow before after o
+Steps w m i before after = (o : Outcome) × RuleApplies w m.rec i.place i.insn Flow before after o
 
 -- the rule applies, its result is below the frame at each successor, and under the operands of a
 -- branch or switch no object is uninitialised

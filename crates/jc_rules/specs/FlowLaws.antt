@@ -4,7 +4,9 @@ use Rattle.jc_base.specs.declared.ty.Ty.{Ty}
 use Rattle.jc_base.specs.declared.ty.Ty.TheVariants.{Bottom, Top}
 use Rattle.jc_base.specs.Class.{ClassTable}
 use Rattle.jc_base.specs.Order.{IsJoin}
+use Rattle.jc_base.specs.Laws.{IsOrderOfTypes, DeclaredAreKnown}
 use Rattle.jc_base.specs.World.{Linked, IsWorld}
+use Rattle.jc_control.specs.Laws.{InstructionsArePlaced, InstructionsAreListed}
 use Rattle.jc_control.specs.Method.{Method}
 use Rattle.jc_control.specs.Control.{IsReached}
 use Rattle.jc_rules.specs.Demand.{Frame}
@@ -40,9 +42,13 @@ TopIsBottom w =
     → FlowTyping w m Top frames
     → FlowTyping w m Bottom frames
 
--- what dataflow analyses rest on: a world, and the laws of its rules
+-- what dataflow analyses rest on: a world, where instructions stand, the order of types, and the laws of rules
 pub record AreRules (w : Linked) : Type 0 where
   pub world : IsWorld w
+  pub placed : InstructionsArePlaced
+  pub listed : InstructionsAreListed
+  pub types : IsOrderOfTypes w.classes
+  pub declared : DeclaredAreKnown w.classes
   pub decides : RuleDecides w
   pub keeps : RuleKeeps w
   pub falls : RuleFalls w

@@ -1,8 +1,8 @@
 -- What the rule of an operation rests on: types, classes and numbers that are there.
-use Rattle.std.specs.Prelude.{◌≡◌, ℕ, ◌+◌, ◌≤◌, length, IsSomeAnd, IfSome, slice_get, ⊤}
+use Rattle.std.specs.Prelude.{◌+◌, ◌≤◌, length, IsSomeAnd, IfSome, slice_get, ⊤}
 use Rattle.jc_base.specs.declared.ty.Ty.{Ty}
 use Rattle.jc_base.specs.declared.ty.Ty.TheVariants.{Bottom, Top}
-use Rattle.jc_base.specs.Class.{ClassTable, IsClass}
+use Rattle.jc_base.specs.Class.{IsClass}
 use Rattle.jc_base.specs.Order.{IsKnown}
 use Rattle.jc_base.specs.World.{Linked}
 use Rattle.jc_ops.specs.declared.operation.Callee.{Callee}

@@ -1,7 +1,7 @@
 -- Laws of the rule: it has one result, it keeps frames well formed, and it is monotone (Leroy 2002, section 2.3: the transfer
 -- functions of a dataflow analysis are monotone, so that least solutions exist). On the card it raises one list of registers
 -- (Leroy 2002, section 3). Each is said of an operation, and of the instruction at a site.
-use Rattle.std.specs.Prelude.{◌≡◌, ℕ, ◌<◌, ⊤, length, All, sum_by, MatchBool}
+use Rattle.std.specs.Prelude.{◌≡◌, ℕ, ◌<◌, ⊤, List, length, All, sum_by, MatchBool}
 use Rattle.jc_base.specs.declared.ty.Ty.{Ty}
 use Rattle.jc_base.specs.declared.ty.Ty.TheVariants.{Bottom}
 use Rattle.jc_base.specs.declared.record.MethodRec.{MethodRec}
@@ -166,6 +166,33 @@ RuleStays w =
     → Applies w site i Flow before after o
     → CellsBelow w.classes after.regs before.regs
     → Applies w site i Card before (record { regs = before.regs; stack = after.stack }) o
+
+-- what an operation that leaves the registers as they are on the card gives in the dataflow: the same stack, and registers below them
+pub record OperationRestsAt (w : Linked) (limit : ℕ) (op : Operation) (before after : Frame) (o : Outcome) : Type 0 where
+  pub stored : List Ty
+  pub applies : OperationApplies w limit op Flow before (record { regs = stored; stack = after.stack }) o
+  pub below : CellsBelow w.classes stored before.regs
+
+-- an operation that leaves the registers as they are on the card stores nothing above them, and applies in the dataflow
+abbrev pub OperationRests : Linked → Type 0
+OperationRests w =
+    (limit : ℕ) (op : Operation) (before after : Frame) (o : Outcome)
+    → OperationApplies w limit op Card before after o
+    → after.regs ≡ before.regs
+    → OperationRestsAt w limit op before after o
+
+-- so does a rule
+pub record RestsAt (w : Linked) (site : Site) (i : Insn) (before after : Frame) (o : Outcome) : Type 0 where
+  pub stored : List Ty
+  pub applies : Applies w site i Flow before (record { regs = stored; stack = after.stack }) o
+  pub below : CellsBelow w.classes stored before.regs
+
+abbrev pub RuleRests : Linked → Type 0
+RuleRests w =
+    (site : Site) (i : Insn) (before after : Frame) (o : Outcome)
+    → Applies w site i Card before after o
+    → after.regs ≡ before.regs
+    → RestsAt w site i before after o
 
 -- ---- well-formed frames
 

@@ -1,5 +1,5 @@
 -- Worked cases of the rules, against the operand stack lines of JCVM 2.2, section 7.5.
-use Rattle.std.specs.Prelude.{◌≡◌, ℕ, ℤ, pos, [], ◌∷◌, ◌++◌, map, replicate, Result, Ok, Err}
+use Rattle.std.specs.Prelude.{◌≡◌, ℕ, pos, [], ◌∷◌, ◌++◌, map, replicate, Result, Ok, Err}
 use Rattle.std.specs.List.{range_with_len}
 use Rattle.std.proofs.Common.{refl}
 use Rattle.jc_base.specs.declared.ty.Ty.{Ty}
@@ -33,7 +33,7 @@ module _ (w : Linked) (m : MethodRec) (f : Frame) where
 
   -- of an instruction of an opcode that names no pool entry, with operands 0
   counts_at : ℕ → ℕ × ℕ
-  counts_at op = counts_of (resolved w m (instruction op) (row_at op))
+  counts_at op = counts_of (resolved w m 0 (instruction op) (row_at op))
 
   -- nop, constants, loads, array reads, stores, array writes
   first_counts : map counts_at (range_with_len 0 59) ≡
@@ -67,13 +67,13 @@ module _ (w : Linked) (m : MethodRec) (f : Frame) where
 
   -- dup_x and swap_x have their numbers in two nibbles
   moves_named :
-      map (λ op. resolved w m (record { op = op; x = pos 18; y = pos 0; z = pos 0; len = 2 }) (row_at op)) (63 ∷ 64 ∷ [])
+      map (λ op. resolved w m 0 (record { op = op; x = pos 18; y = pos 0; z = pos 0; len = 2 }) (row_at op)) (63 ∷ 64 ∷ [])
       ≡ Ok (ops.Move (moves.CopyUnder 1 2)) ∷ Ok (ops.Move (moves.Exchange 1 2)) ∷ []
   unfolding row_at table by_sort by_width by_kind first_four by_register literals binary orders_all branching unused
   moves_named = refl
 
   -- istore_1 names two registers, and takes the low half first
-  istore_named : resolved w m (instruction 52) (row_at 52) ≡ Ok (ops.Store sorts.Int 1)
+  istore_named : resolved w m 0 (instruction 52) (row_at 52) ≡ Ok (ops.Store sorts.Int 1)
   unfolding row_at table by_sort by_width by_kind first_four by_register literals binary orders_all branching unused
   istore_named = refl
 

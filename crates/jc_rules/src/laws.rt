@@ -2,9 +2,10 @@ ghost use Rattle.jc_rules.specs.Demand.{AreDecided};
 ghost use Rattle.jc_rules.specs.FlowLaws.{AreRules, IsOrderOfCells, JoinsStayReady, LeastIsOne, TopIsBottom};
 ghost use Rattle.jc_rules.specs.Footprint.{MetIsThere, AskedIsThere, OperationReads, FootprintIsOne, OperationLeaves, OperationNamesNone, AlikeLeaveAlike};
 ghost use Rattle.jc_rules.specs.Whole.{OperationKeepsWhole};
-ghost use Rattle.jc_rules.specs.Laws.{OperationDecides, OperationKeeps, OperationFalls, OperationFallsOnCard, OperationRaises, OperationStays, RuleDecides, RuleKeeps, RuleFalls, RuleFallsOnCard, RuleRaises, RuleRises, RuleStays};
+ghost use Rattle.jc_rules.specs.Laws.{OperationDecides, OperationKeeps, OperationFalls, OperationFallsOnCard, OperationRaises, OperationStays, OperationRests, RuleDecides, RuleKeeps, RuleFalls, RuleFallsOnCard, RuleRaises, RuleRises, RuleStays, RuleRests};
 
-use jc_base::World;
+use jc_base::{World, types_are_ordered};
+use jc_control::instructions_are_placed;
 use jc_ops::operations_are_sound;
 
 /// A rule of a world has one result, and none where it refuses; it refuses with one fault.
@@ -12,7 +13,7 @@ pub fn rule_decides(world: &World<'_>)
     ensures { RuleDecides world.now }
 {
     operations_are_sound(world);
-    let _object = world.classes().at(world.role(0));
+    types_are_ordered(world.classes());
 }
 
 /// The rules of a world keep frames well formed.
@@ -20,7 +21,7 @@ pub fn rule_keeps(world: &World<'_>)
     ensures { RuleKeeps world.now }
 {
     operations_are_sound(world);
-    let _object = world.classes().at(world.role(0));
+    types_are_ordered(world.classes());
 }
 
 /// The rules of a world are monotone: where one applies, it applies to each lesser frame with a lesser result,
@@ -30,17 +31,18 @@ pub fn rule_falls(world: &World<'_>)
     ensures card { RuleFallsOnCard world.now }
 {
     operations_are_sound(world);
-    let _object = world.classes().at(world.role(0));
+    types_are_ordered(world.classes());
 }
 
 /// On the card the rules of a world raise registers, as they tell, and those that are above all that is stored
-/// stay.
+/// stay; where all registers stay, the rule stores nothing above them in the dataflow.
 pub fn rule_raises(world: &World<'_>)
     ensures raises { RuleRaises world.now }
     ensures rises { RuleRises world.now }
     ensures stays { RuleStays world.now }
+    ensures rests { RuleRests world.now }
 {
-    let _object = world.classes().at(world.role(0));
+    types_are_ordered(world.classes());
 }
 
 /// The same of operations, in any method.
@@ -52,8 +54,9 @@ pub fn operation_laws(world: &World<'_>)
     ensures falls_on_card { OperationFallsOnCard world.now }
     ensures raises { OperationRaises world.now }
     ensures stays { OperationStays world.now }
+    ensures rests { OperationRests world.now }
 {
-    let _object = world.classes().at(world.role(0));
+    types_are_ordered(world.classes());
 }
 
 /// What operations ask and leave as numbers, whatever the types are.
@@ -73,7 +76,7 @@ pub fn footprint_laws(world: &World<'_>)
 pub fn demands_are_decided(world: &World<'_>)
     ensures { AreDecided world.now.classes }
 {
-    let _object = world.classes().at(world.role(0));
+    types_are_ordered(world.classes());
 }
 
 /// The order of frames, and what dataflow typings have of it.
@@ -83,13 +86,14 @@ pub fn typing_laws(world: &World<'_>)
     ensures least { LeastIsOne world.now }
     ensures unset { TopIsBottom world.now }
 {
-    let _object = world.classes().at(world.role(0));
+    types_are_ordered(world.classes());
 }
 
-/// What dataflow analyses rest on: a world, and the laws of its rules.
+/// What dataflow analyses rest on: a world, where instructions stand, the order of types, and the laws of rules.
 pub fn rule_laws(world: &World<'_>)
     ensures { AreRules world.now }
 {
+    instructions_are_placed();
     operations_are_sound(world);
-    let _object = world.classes().at(world.role(0));
+    types_are_ordered(world.classes());
 }

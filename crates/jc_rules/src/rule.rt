@@ -16,7 +16,7 @@ use crate::demand::Before;
 use crate::effect::{Cells, Effect, Mode, Store, change_regs, change_stack};
 use crate::objects::value_given;
 use crate::values::constant;
-use jc_base::{Ty, World};
+use jc_base::{Ty, World, types_are_ordered};
 use jc_decode::Insn;
 use jc_ops::{Callee, Operation, RuleFault, Site, resolve};
 
@@ -191,6 +191,7 @@ pub fn apply(
         (regs.new ≡ regs.old)) }
 {
     let classes = world.classes();
+    types_are_ordered(classes);
     let operation = resolve(world, site, insn)?;
     let max_stack = world.method(site.method).max_stack;
     let effect = plan(world, operation, regs, &stack[..depth as usize], max_stack)?;

@@ -4,7 +4,7 @@ ghost use Rattle.jc_rules.specs.Demand.{Frame};
 ghost use Rattle.jc_rules.specs.Flow.{CellsJoin, IsNotTop};
 ghost use Rattle.jc_rules.specs.Typing.{IsMerged};
 
-use jc_base::{Classes, Ty, below, join};
+use jc_base::{Classes, Ty, below, join, types_are_ordered};
 use std::marker::Model;
 
 /// The types of a method's registers and of its operand stack before the instruction at a place.
@@ -121,7 +121,7 @@ fn raised(classes: &Classes, held: Ty, other: Ty) -> Option<Ty>
         × IsKnown classes.now j
         × (rises_left classes.now j < rises_left classes.now held)) }
 {
-    let _chains = classes.records();
+    types_are_ordered(classes);
     if below(classes, other, held) {
         None
     } else {

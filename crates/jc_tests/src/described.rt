@@ -11,7 +11,7 @@ pub(crate) fn list<T: Copy>(alloc: Global, items: &[T]) -> Result<Items<T>, Allo
 }
 
 /// A class that implements no interface.
-pub fn class(
+pub(crate) fn class(
     alloc: Global,
     package: u16,
     parent: Option<u16>,
@@ -47,7 +47,7 @@ pub fn class(
 }
 
 /// A method that takes a short and gives one, with two bytes of code.
-pub fn instance_method(
+pub(crate) fn instance_method(
     alloc: Global,
     package: u16,
     class: u16,

@@ -5,8 +5,7 @@ ghost use Rattle.jc_decode.specs.Cases.{cases};
 use crate::compared::is_same_end;
 use cap_bytes::View;
 use jc_decode::*;
-use std::alloc::AllocError;
-use std::test::*;
+use std::alloc::{AllocError, Global};
 
 /// No instruction has this opcode.
 const NONE: u32 = 0;
@@ -43,9 +42,9 @@ static LENGTHS: [u32; 256] = [
 ];
 
 /// A short table switch: default 5, low -1, high 0, offsets 16 and -2.
-static TABLE: [u8; 11] = [115, 0, 5, 0xFF, 0xFF, 0, 0, 0, 16, 0xFF, 0xFE];
+const TABLE: [u8; 11] = [115, 0, 5, 0xFF, 0xFF, 0, 0, 0, 16, 0xFF, 0xFE];
 /// An int lookup switch: default -3, the pairs of -2 and 7, and of 65,536 and 9.
-static LOOKUP: [u8; 17] = [
+const LOOKUP: [u8; 17] = [
     118, 0xFF, 0xFD, 0, 2, 0xFF, 0xFF, 0xFF, 0xFE, 0, 7, 0, 1, 0, 0, 0, 9,
 ];
 
@@ -97,19 +96,28 @@ fn first_operand(op: u8) -> u8 {
     }
 }
 
+/// The number of bytes that an opcode is given, with `NONE` and `OUT`.
+fn length_of(op: u8) -> Option<u32> {
+    let bytes = [op, first_operand(op), 0, 0, 0, 0, 0, 0, 0, 0, 0, 0, 0];
+    match decode(View::of(&bytes), 0) {
+        Ok(insn) => Some(insn.len),
+        Err(CodeEnd::NoOpcode(byte)) if byte == op => Some(NONE),
+        Err(CodeEnd::OutOfScope(byte)) if byte == op => Some(OUT),
+        Err(_) => None,
+    }
+}
+
+/// The first opcode that is given another length.
+fn first_wrong_length() -> Option<usize> {
+    LENGTHS
+        .iter()
+        .enumerate()
+        .position(|(op, length)| length_of(op as u8) != Some(*length))
+}
+
 #[test]
 fn every_opcode_has_its_length(rt: HostRuntime) {
-    for op in 0..=255u8 {
-        let bytes = [op, first_operand(op), 0, 0, 0, 0, 0, 0, 0, 0, 0, 0, 0];
-        let expected = LENGTHS[op as usize];
-        let length = match decode(View::of(&bytes), 0) {
-            Ok(insn) => insn.len,
-            Err(CodeEnd::NoOpcode(byte)) if byte == op => NONE,
-            Err(CodeEnd::OutOfScope(byte)) if byte == op => OUT,
-            Err(_) => 1000,
-        };
-        assert_eq!(rt; length, expected, "at {op}");
-    }
+    assert_eq!(rt; first_wrong_length(), None);
 }
 
 /// Whether the instruction at the start of these bytes is read, or refused, so.
@@ -123,19 +131,37 @@ fn is_read(bytes: &[u8], expected: Result<(i32, i32, i32), CodeEnd>) -> bool {
     }
 }
 
+fn is_row(row: &Read) -> bool {
+    is_read(row.0, row.1)
+}
+
+/// Whether an instruction is cut at each length before its own.
+fn is_cut(bytes: &[u8]) -> bool {
+    (0..bytes.len()).all(|n| is_read(bytes.get(..n).unwrap_or(bytes), Err(CodeEnd::Cut)))
+}
+
+fn are_switches() -> bool {
+    is_read(&TABLE, Ok((5, -1, 0)))
+        && is_read(&LOOKUP, Ok((-3, 2, 0)))
+        && is_cut(&TABLE)
+        && is_cut(&LOOKUP)
+}
+
 #[test]
 fn operands_are_read_with_their_signs_or_named(rt: HostRuntime) {
-    for (bytes, expected) in READ {
-        assert!(rt; is_read(bytes, expected));
-    }
-    assert!(rt; is_read(&TABLE, Ok((5, -1, 0))));
-    assert!(rt; is_read(&LOOKUP, Ok((-3, 2, 0))));
-    for bytes in [&TABLE[..], &LOOKUP[..]] {
-        for n in 0..bytes.len() {
-            assert!(rt; is_read(&bytes[..n], Err(CodeEnd::Cut)), "at {n}");
-        }
-    }
+    assert_eq!(rt; READ.iter().position(|row| !is_row(row)), None);
 }
+
+#[test]
+fn switches_are_read_whole_or_cut(rt: HostRuntime) {
+    assert!(rt; are_switches());
+}
+
+/// `nop`, and the short table switch at place 1 with its default 5.
+const PLACED: [u8; 12] = [0, 115, 0, 5, 0xFF, 0xFF, 0, 0, 0, 16, 0xFF, 0xFE];
+
+/// Numbers of cases, with where the switch leads.
+static TARGETS: [(u32, Option<i32>); 4] = [(0, Some(6)), (1, Some(17)), (2, Some(-1)), (3, None)];
 
 /// The targets of a switch that stands at place 1.
 fn target_of(code: &[u8], n: u32) -> Option<i32>
@@ -148,30 +174,32 @@ fn target_of(code: &[u8], n: u32) -> Option<i32>
     }
 }
 
+fn is_led(row: &(u32, Option<i32>)) -> bool {
+    target_of(&PLACED, row.0) == row.1
+}
+
+/// Whether the lookup switch has its two cases and no third.
+fn has_cases() -> bool {
+    let code = View::of(&LOOKUP);
+    match decode(code, 0) {
+        Ok(insn) => {
+            matches!(case(code, 0, insn, 0), Some(Case { key: -2, offset: 7 }))
+                && matches!(
+                    case(code, 0, insn, 1),
+                    Some(Case {
+                        key: 65_536,
+                        offset: 9
+                    })
+                )
+                && case(code, 0, insn, 2).is_none()
+        }
+        Err(_) => false,
+    }
+}
+
 #[test]
 fn a_switch_leads_to_its_default_and_its_cases(rt: HostRuntime) {
-    let table = [0, 115, 0, 5, 0xFF, 0xFF, 0, 0, 0, 16, 0xFF, 0xFE];
-    for (n, place) in [(0, Some(6)), (1, Some(17)), (2, Some(-1)), (3, None)] {
-        assert!(rt; target_of(&table, n) == place, "{n}");
-    }
-    let code = View::of(&LOOKUP);
-    let keys = match decode(code, 0) {
-        Ok(insn) => (
-            case(code, 0, insn, 0),
-            case(code, 0, insn, 1),
-            case(code, 0, insn, 2),
-        ),
-        Err(_) => (None, None, None),
-    };
-    let first = matches!(keys.0, Some(Case { key: -2, offset: 7 }));
-    let second = matches!(
-        keys.1,
-        Some(Case {
-            key: 65_536,
-            offset: 9
-        })
-    );
-    assert!(rt; first && second && keys.2.is_none(), "ilookupswitch");
+    assert!(rt; TARGETS.iter().all(is_led) && has_cases());
 }
 
 /// Whether the switch at place 0 has a second case.
@@ -183,48 +211,85 @@ fn has_second(code: &[u8], insn: Insn) -> bool
     case(View::of(code), 0, insn, 1).is_some()
 }
 
-#[test]
-fn one_offset_is_set(rt: HostRuntime) {
+/// The lookup switch with another offset for its second case.
+fn with_offset() -> [u8; 17] {
     let mut code = LOOKUP;
     if let Ok(insn) = decode(View::of(&code), 0) {
         if has_second(&code, insn) {
             set_case(&mut code, 0, insn, 1, -2);
         }
     }
+    code
+}
+
+#[test]
+fn one_offset_is_set(rt: HostRuntime) {
     let mut expected = LOOKUP;
     expected[15] = 0xFF;
     expected[16] = 0xFE;
-    assert!(rt; code == expected, "ilookupswitch");
+    assert!(rt; with_offset() == expected);
+}
+
+/// `nop`, `sspush`, `goto`, and a byte that is no opcode.
+const LISTED: [u8; 8] = [0, 17, 1, 2, 112, 0xFC, 185, 0];
+
+fn next_place(walk: &mut Instructions<'_>) -> Option<u16> {
+    match walk.next() {
+        Some(placed) => Some(placed.place),
+        None => None,
+    }
+}
+
+fn are_listed() -> bool {
+    let mut walk = Instructions::of(View::of(&LISTED));
+    next_place(&mut walk) == Some(0)
+        && next_place(&mut walk) == Some(1)
+        && next_place(&mut walk) == Some(4)
+        && next_place(&mut walk).is_none()
+        && matches!(code_end(View::of(&LISTED)), (6, CodeEnd::NoOpcode(185)))
 }
 
 #[test]
 fn instructions_follow_one_another(rt: HostRuntime) {
-    let code = [0, 17, 1, 2, 112, 0xFC, 185, 0];
-    let mut walk = Instructions::of(View::of(&code));
-    for expected in [Some(0), Some(1), Some(4), None] {
-        let place = match walk.next() {
-            Some(placed) => Some(placed.place),
-            None => None,
-        };
-        assert!(rt; place == expected);
+    assert!(rt; are_listed());
+}
+
+/// Appends what the instruction at the start of these bytes is encoded as.
+fn encode_first(bytes: &[u8], to: &mut Vec<u8>) -> Result<(), AllocError> {
+    let code = View::of(bytes);
+    if bytes.len() < 100 {
+        if let Ok(insn) = decode(code, 0) {
+            return encode(insn, code, 0, to);
+        }
     }
-    let end = code_end(View::of(&code));
-    assert!(rt; matches!(end, (6, CodeEnd::NoOpcode(185))), "the end");
+    Ok(())
+}
+
+fn is_encoded(alloc: Global, bytes: &[u8]) -> Result<bool, AllocError> {
+    let mut to = Vec::new(alloc);
+    encode_first(bytes, &mut to)?;
+    Ok(to.as_slice() == bytes)
+}
+
+static ENCODED: [&[u8]; 4] = [
+    &[20, 1, 2, 3, 4],
+    &[142, 3, 0xFF, 0xFE, 200],
+    &TABLE,
+    &LOOKUP,
+];
+
+/// The first of them that is encoded otherwise.
+fn first_wrong_bytes(alloc: Global) -> Result<Option<usize>, AllocError> {
+    for (n, bytes) in ENCODED.iter().enumerate() {
+        if !is_encoded(alloc, bytes)? {
+            return Ok(Some(n));
+        }
+    }
+    Ok(None)
 }
 
 #[test]
 fn what_is_encoded_are_the_bytes_that_were_decoded(rt: HostRuntime) -> Result<(), AllocError> {
-    let push = [20, 1, 2, 3, 4];
-    let call = [142, 3, 0xFF, 0xFE, 200];
-    for bytes in [&push[..], &call[..], &TABLE[..], &LOOKUP[..]] {
-        let mut to = Vec::new(rt.alloc());
-        let code = View::of(bytes);
-        if bytes.len() < 100 {
-            if let Ok(insn) = decode(code, 0) {
-                encode(insn, code, 0, &mut to)?;
-            }
-        }
-        assert!(rt; to.as_slice() == bytes, "{}", bytes[0]);
-    }
+    assert_eq!(rt; first_wrong_bytes(rt.alloc())?, None);
     Ok(())
 }

@@ -4,12 +4,10 @@
 //! It stands on `jc_base`, `jc_decode`, `jc_ops` and `jc_rules`, whose tests these are.
 #![tactic(auto)]
 
-mod described;
-
-pub use described::{class, instance_method};
-
 #[cfg(test)]
 mod compared;
+#[cfg(test)]
+mod described;
 #[cfg(test)]
 mod instructions;
 #[cfg(test)]

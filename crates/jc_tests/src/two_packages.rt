@@ -1,5 +1,5 @@
 ghost use Rattle.std.specs.Prelude.{◌≡◌, ◌∷◌, [], IfOk};
-ghost use Rattle.jc_tests.specs.TwoPackages.{HasSampleSizes, interface_method, static_method, methods, derived_class, records, classes, first_pool, second_pool, statics, arrays};
+ghost use Rattle.jc_tests.specs.TwoPackages.{HasSampleSizes, interface_method, interface_record, static_method, methods, derived_class, records, classes, first_pool, second_pool, statics, arrays};
 
 use crate::described::{class, instance_method, list};
 use jc_base::*;
@@ -73,17 +73,25 @@ fn derived_class(alloc: Global) -> Result<ClassRec, AllocError>
     Ok(derived)
 }
 
+fn interface(alloc: Global) -> Result<ClassRec, AllocError>
+    ensures { IfOk result (λ r. r ≡ interface_record) }
+{
+    let mut interface = class(alloc, 0, None, 0, &[], &[], &[])?;
+    interface.interface = true;
+    Ok(interface)
+}
+
 fn records(alloc: Global) -> Result<ClassRecs, AllocError>
     ensures { IfOk result (λ l. l ≡ records) }
 {
-    let object = class(alloc, 0, None, 0, &[], &[0], &[])?;
-    let throwable = class(alloc, 0, Some(0), 0, &[], &[0], &[])?;
-    let mut interface = class(alloc, 0, None, 0, &[], &[], &[])?;
-    interface.interface = true;
-    let base = class(alloc, 0, Some(0), 1, &[Ty::Short], &[0, 2], &[3])?;
-    let derived = derived_class(alloc)?;
-    let last = class(alloc, 1, Some(4), 3, &[], &[0, 4], &[6])?;
-    Ok(Items::of(vec![in alloc; object, throwable, interface, base, derived, last]?))
+    let mut records = Vec::new(alloc);
+    records.push(class(alloc, 0, None, 0, &[], &[0], &[])?)?;
+    records.push(class(alloc, 0, Some(0), 0, &[], &[0], &[])?)?;
+    records.push(interface(alloc)?)?;
+    records.push(class(alloc, 0, Some(0), 1, &[Ty::Short], &[0, 2], &[3])?)?;
+    records.push(derived_class(alloc)?)?;
+    records.push(class(alloc, 1, Some(4), 3, &[], &[0, 4], &[6])?)?;
+    Ok(Items::of(records))
 }
 
 fn pools(alloc: Global) -> Result<Pools, AllocError>

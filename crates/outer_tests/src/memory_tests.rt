@@ -145,7 +145,7 @@ fn lists_failures(alloc: Global) -> Result<bool, AllocError> {
 
 fn sure_sink(alloc: Global) -> Result<bool, AllocError> {
     let mut sink = SureSink::new(alloc, 2)?;
-    Ok(sink.put(b"ab").is_ok() && sink.received() == b"ab" && sink.put(b"c").is_ok())
+    Ok(sink.put(b"ab").is_ok() && sink.received() == b"ab".as_slice() && sink.put(b"c").is_ok())
 }
 
 #[test]

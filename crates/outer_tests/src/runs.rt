@@ -5,7 +5,7 @@ use cap_bytes::View;
 
 /// How a worked run ends.
 #[derive(Clone, Copy, PartialEq)]
-pub enum Ends {
+pub(crate) enum Ends {
     Returned(i16),
     Spent,
     /// The info is no bare method, or it is refused, or the arguments do not fit.
@@ -13,7 +13,7 @@ pub enum Ends {
 }
 
 /// How the method of an info ends.
-pub fn end_of(info: &[u8], args: &[i16], budget: u64) -> Ends
+pub(crate) fn end_of(info: &[u8], args: &[i16], budget: u64) -> Ends
     requires { length info.now ≤ 65535 }
 {
     let method = match bare_method(View::of(info)) {

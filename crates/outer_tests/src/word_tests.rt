@@ -35,11 +35,16 @@ static NAMES: [(u8, &str); 5] = [
     (255, "Custom255"),
 ];
 
+/// Whether the file of a part has this name.
+fn is_named(alloc: Global, part: u8, name: &str) -> Result<bool, AllocError> {
+    let shown = format!(in alloc; "{}", file_name(Part(part)))?;
+    Ok(shown.as_str() == name)
+}
+
 /// The first name that a file is not given, or the empty text.
 fn first_misnamed(alloc: Global) -> Result<&'static str, AllocError> {
     for (part, name) in NAMES.iter() {
-        let shown = file_name(Part(*part));
-        if format!(in alloc; "{shown}")?.as_str() != *name {
+        if !is_named(alloc, *part, name)? {
             return Ok(name);
         }
     }

@@ -1,9 +1,9 @@
 use Rattle.std.proofs.Common.{◌≡◌}
-use Rattle.cap_desc.specs.MembersLeft.{methods_from_left}
+use Rattle.cap_desc.specs.MembersLeft.{methods_but_left}
 use Rattle.cap_components.specs.Order.{least_of, least_from}
 use Rattle.cap_components.specs.Descriptions.{description}
 use Rattle.cap_package.specs.HeaderChecks.{arguments_fault}
 use Rattle.cap_package.proofs.header_checks.arguments_agree.Given as goal
 
 abbrev pub invariant-methods : goal.invariant-methods
-invariant-methods l = least_from l.least (arguments_fault l.methods.info.bytes.now (description l.descriptor)) (methods_from_left l.method-iterator) ≡ least_of (arguments_fault l.methods.info.bytes.now (description l.descriptor)) (methods_from_left l.fn.described)
+invariant-methods l = least_from l.least (arguments_fault l.methods.info.bytes.now (description l.descriptor)) (methods_but_left l.method-iterator) ≡ least_of (arguments_fault l.methods.info.bytes.now (description l.descriptor)) (methods_but_left l.fn.described)

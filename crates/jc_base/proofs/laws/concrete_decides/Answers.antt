@@ -2,4 +2,4 @@ use Rattle.jc_base.proofs.Concreteness.{concrete-decides}
 use Rattle.jc_base.proofs.laws.concrete_decides.Goals as goal
 
 pub returns : goal.returns
-returns c = concrete-decides c.args.world.now.classes c.args.world.now.methods
+returns c = concrete-decides

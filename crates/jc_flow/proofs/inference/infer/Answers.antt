@@ -7,7 +7,7 @@ use Rattle.jc_flow.proofs.Answered.{number-below, of-method, to-method, code-sho
 use Rattle.jc_flow.proofs.inference.infer.Goals as goal
 
 pub returns-in-Err-clause-none : goal.returns-in-Err-clause-none
-returns-in-Err-clause-none c = none-unformed c.args.world.now (method_in c.args.world.now c.args.method) c.in-Err.end c.unformed.result c.unformed.ensures c.in-Err.ensures.flawed
+returns-in-Err-clause-none c = none-unformed c.flaws_decide.ensures c.args.world.now (method_in c.args.world.now c.args.method) c.in-Err.end c.unformed.result c.unformed.ensures c.in-Err.ensures.flawed
 
 pub method-requires : goal.method-requires
 method-requires c = number-below (λ m. 0 < m.code_len) c.args.world.now.methods c.args.method c.requires

@@ -1,6 +1,6 @@
 use Rattle.std.proofs.Common.{◌≡◌, flat_map}
-use Rattle.cap_desc.specs.Members.{methods_from}
-use Rattle.cap_desc.specs.MembersLeft.{methods_from_left}
+use Rattle.cap_desc.specs.Members.{methods_of}
+use Rattle.cap_desc.specs.MembersLeft.{methods_of_left}
 use Rattle.cap_package.specs.Descriptions.{description}
 use Rattle.jc_resolve.specs.Fault.{place_of}
 use Rattle.jc_resolve.specs.FirstFault.{least_from}
@@ -9,4 +9,4 @@ use Rattle.jc_resolve.proofs.reference_checks.method_types_named.Given as goal
 
 abbrev pub invariant-methods : goal.invariant-methods
 invariant-methods l =
-    least_from place_of l.least (reference_fault l.index l.«package») (flat_map (references_of_method (description l.descriptor)) (methods_from_left l.method-iterator)) ≡ least_from place_of l.initial.least (reference_fault l.index l.«package») (flat_map (references_of_method (description l.descriptor)) (methods_from 0 (description l.descriptor).items.classes))
+    least_from place_of l.least (reference_fault l.index l.«package») (flat_map (references_of_method (description l.descriptor)) (methods_of_left l.method-iterator)) ≡ least_from place_of l.initial.least (reference_fault l.index l.«package») (flat_map (references_of_method (description l.descriptor)) (methods_of (description l.descriptor).items.classes))

@@ -1,7 +1,7 @@
 use Rattle.std.proofs.Common.{subst}
-use Rattle.jc_base.specs.Class.{AreClasses}
+use Rattle.jc_base.specs.Laws.{IsOrderOfTypes}
 use Rattle.jc_rules.proofs.Decided.{are-decided}
 use Rattle.jc_rules.proofs.laws.demands_are_decided.Goals as goal
 
 pub returns : goal.returns
-returns c = are-decided c.args.world.now.classes (subst AreClasses c.classes.ensures.is c.at-object.ensures.chains)
+returns c = are-decided c.args.world.now.classes (subst IsOrderOfTypes c.classes.ensures.is c.types_are_ordered.ensures.order)

@@ -1,6 +1,6 @@
 use Rattle.std.proofs.Common.{◌≡◌, ◌≤◌, length, All, IsSomeAnd, Option, Some, None, Ok, Err, slice_get, refl, subst, sym, ◌∙◌, ap, arith}
 use Rattle.std.proofs.lemmas.Result.{err_from_is_err_and}
-use Rattle.jc_base.specs.Class.{AreClasses}
+use Rattle.jc_base.specs.Laws.{IsOrderOfTypes}
 use Rattle.jc_base.specs.Order.{IsKnown}
 use Rattle.jc_base.specs.declared.record.MethodRec.{MethodRec}
 use Rattle.jc_base.specs.World.{Linked}
@@ -11,8 +11,7 @@ use Rattle.jc_ops.specs.Resolve.{Resolves}
 use Rattle.jc_rules.specs.declared.effect.Mode.TheVariants.{Card}
 use Rattle.jc_rules.specs.Stack.{cells}
 use Rattle.jc_rules.specs.Effect.{needed, listed, depth_after, Stores, rises}
-use Rattle.jc_rules.specs.Demand.{Frame, AreKnown}
-use Rattle.jc_rules.specs.Known.{IsKnownOperation}
+use Rattle.jc_rules.specs.Demand.{Frame}
 use Rattle.jc_rules.specs.Apply.{frame_of, HasRoom, Refuses, unresolved, refused_by}
 use Rattle.jc_rules.proofs.Stacks.{length-cells}
 use Rattle.jc_rules.proofs.Effects.{cells-kept, changed-known, length-changed}
@@ -90,7 +89,7 @@ returns-clause-rises c = λ card.
     let rose : c.change_regs-rose.result ≡ rises t Card e.store c.args.regs.now =
     c.change_regs-rose.ensures.rose ∙ ap (λ x. rises x c.args.mode e.store c.args.regs.now) c.classes-classes.ensures.is ∙ ap (λ mode. rises t mode e.store c.args.regs.now) card in
     subst (RoseTo t c.args.regs.now c.change_regs-rose.new.regs) (sym rose)
-    (store-rises t c.classes-classes.ensures.links.chains e.store.register e.store.cells c.args.regs.now c.change_regs-rose.new.regs
+    (store-rises t (subst IsOrderOfTypes c.classes-classes.ensures.is c.types_are_ordered.ensures.order) e.store.register e.store.cells c.args.regs.now c.change_regs-rose.new.regs
     (subst (λ mode. Stores t mode e.store c.args.regs.now c.change_regs-rose.new.regs) card stored))
 
 pub returns-clause-applies : goal.returns-clause-applies

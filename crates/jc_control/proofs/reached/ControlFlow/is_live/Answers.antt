@@ -1,4 +1,3 @@
-use Rattle.std.proofs.Common.{sym}
 use Rattle.jc_control.proofs.Living.{live-from, live-to}
 use Rattle.jc_control.proofs.reached.ControlFlow.is_live.Goals as goal
 

@@ -1,7 +1,7 @@
 use Rattle.std.proofs.Common.{All, IfSome, length, reverse, subst, sym}
 use Rattle.jc_base.specs.Order.{IsKnown}
 use Rattle.jc_rules.specs.Typing.{state_at}
-use Rattle.jc_rules.proofs.Raising.{All-turned}
+use Rattle.jc_base.proofs.Lists.{All-turned}
 use Rattle.jc_flow.specs.Found.{HasKnown}
 use Rattle.jc_flow.specs.Visit.{analysed}
 use Rattle.jc_flow.proofs.Raise.{place-there, regs-known, stack-known, held-known, raise-result}

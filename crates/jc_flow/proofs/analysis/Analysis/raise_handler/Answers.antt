@@ -9,7 +9,7 @@ use Rattle.jc_flow.proofs.Leading.{goes-same, caught-held, no-room, caught-broke
 use Rattle.jc_flow.proofs.analysis.Analysis.raise_handler.Goals as goal
 
 pub returns-then-not-covers-clause-goes : goal.returns-then-not-covers-clause-goes
-returns-then-not-covers-clause-goes c = goes-same c.args.self.now.world.now (analysed c.args.self.now) c.args.table.now c.requires.held
+returns-then-not-covers-clause-goes c = goes-same c.args.self.now.world.now c.requires.analysis.rules.order (analysed c.args.self.now) c.args.table.now c.requires.held
 
 pub returns-then-self-eq0-clause-failed : goal.returns-then-self-eq0-clause-failed
 returns-then-self-eq0-clause-failed c = no-room c.args.self.now.world.now c.requires.analysis.rules (analysed c.args.self.now) c.requires.analysis.method c.requires.analysis.control.formed c.args.step.place c.args.step.before.now.frame c.args.step.after.now.frame c.args.step.insn c.requires.step.here c.requires.step.stepped c.args.handler c.requires.listed c.if-not-covers.ensures c.if-self-eq0.true

@@ -11,7 +11,7 @@ use Rattle.jc_flow.proofs.Leading.{frame-is, goes-same, next-held, next-fresh, e
 use Rattle.jc_flow.proofs.analysis.Analysis.raise_next.Goals as goal
 
 pub returns-then-not-falls-clause-goes : goal.returns-then-not-falls-clause-goes
-returns-then-not-falls-clause-goes c = goes-same c.args.self.now.world.now (analysed c.args.self.now) c.args.table.now c.requires.held
+returns-then-not-falls-clause-goes c = goes-same c.args.self.now.world.now c.requires.analysis.rules.order (analysed c.args.self.now) c.args.table.now c.requires.held
 
 pub returns-then-keeps_fresh-clause-failed : goal.returns-then-keeps_fresh-clause-failed
 returns-then-keeps_fresh-clause-failed c =

@@ -7,7 +7,7 @@ use Rattle.jc_flow.proofs.Settling.{still-closed, still-started, least-found, re
 use Rattle.jc_flow.proofs.analysis.Analysis.settle.Goals as goal
 
 pub visit-requires-clause-held : goal.visit-requires-clause-held
-visit-requires-clause-held c = subst (AreHeld c.args.self.now.world.now (analysed c.args.self.now)) (sym c.in-Some.ensures.1) (taken-held c.args.self.now.world.now c.requires.analysis.rules.ready (analysed c.args.self.now) c.places.table c.in-Some.place c.places.invariant.held)
+visit-requires-clause-held c = subst (AreHeld c.args.self.now.world.now (analysed c.args.self.now)) (sym c.in-Some.ensures.1) (taken-held c.args.self.now.world.now c.requires.analysis.rules.order c.requires.analysis.rules.ready (analysed c.args.self.now) c.places.table c.in-Some.place c.places.invariant.held)
 
 pub places-preserved : goal.places-preserved
 places-preserved c =
@@ -15,7 +15,7 @@ places-preserved c =
     record {
       held = v.goes.held;
       closed = still-closed c.args.self.now.world.now c.requires.analysis.rules (analysed c.args.self.now) c.in-Some.place c.places.table c.visit.new.table v c.places.invariant.closed;
-      start = still-started c.args.self.now.world.now (analysed c.args.self.now) c.in-Some.place c.places.table c.visit.new.table v c.places.invariant.start;
+      start = still-started c.args.self.now.world.now c.requires.analysis.rules.order (analysed c.args.self.now) c.in-Some.place c.places.table c.visit.new.table v c.places.invariant.start;
       before = c.in_default-visit.ensures.before;
       after = c.in_default-visit.ensures.after;
     }

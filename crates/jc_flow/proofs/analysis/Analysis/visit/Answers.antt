@@ -19,7 +19,7 @@ load-requires-in-Some-clause-room c = load-room c.args.self.now.world.now c.requ
 
 pub returns-in-None-clause-visited : goal.returns-in-None-clause-visited
 returns-in-None-clause-visited c = record {
-  goes = goes-same c.args.self.now.world.now (analysed c.args.self.now) c.args.table.now c.requires.held;
+  goes = goes-same c.args.self.now.world.now c.requires.analysis.rules.order (analysed c.args.self.now) c.args.table.now c.requires.held;
   closed = λ f e. absurd (nothing-there (c.in-None.ensures ∙ e));
 }
 
@@ -41,7 +41,7 @@ raise_targets-requires-clause-step c = is-step c.args.self.now.world.now c.requi
 pub returns-clause-visited : goal.returns-clause-visited
 returns-clause-visited c =
     let frame : c.load.new.self.frame ≡ c.in-Some.state.now = ap (λ (x : Scratched). x.frame) c.load.ensures in
-    visit-over c.args.self.now.world.now (analysed c.args.self.now) c.args.table.now c.raise_handlers.new.table c.raise_next.new.table c.raise_targets.new.table c.args.place c.load.new.self.frame c.step.new.frame.frame c.in_ok-insn.insn
+    visit-over c.args.self.now.world.now c.requires.analysis.rules (analysed c.args.self.now) c.args.table.now c.raise_handlers.new.table c.raise_next.new.table c.raise_targets.new.table c.args.place c.load.new.self.frame c.step.new.frame.frame c.in_ok-insn.insn
     (held-loaded c.args.self.now.world.now c.requires.analysis.rules (analysed c.args.self.now) c.requires.analysis.method c.args.place c.in-Some.state.now (c.requires.held.held c.args.place c.in-Some.state.now (sym c.in-Some.ensures)) c.args.before.now c.load.new.self c.load.ensures)
     (step-loaded c.args.self.now.world.now c.requires.analysis.rules (analysed c.args.self.now) c.requires.analysis.method c.args.place c.in-Some.state.now (c.requires.held.held c.args.place c.in-Some.state.now (sym c.in-Some.ensures)) c.load.new.self c.load-in-Some.new.self c.args.before.now c.args.after.now c.step.new.frame.frame c.in_ok-insn.insn c.load.ensures c.load-in-Some.ensures c.in_ok-insn.ensures.stepped)
     c.in_ok-raise_handlers.ensures.goes c.in_ok-raise_next.ensures.goes c.in_ok-raise_targets.ensures.goes c.in_ok-raise_handlers.ensures.caught c.in_ok-raise_next.ensures.next c.in_ok-raise_targets.ensures.reached

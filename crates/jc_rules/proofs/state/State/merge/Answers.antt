@@ -4,7 +4,8 @@ use Rattle.jc_rules.specs.declared.state.Merged.TheVariants.{Same, Risen}
 use Rattle.jc_rules.specs.Demand.{Frame}
 use Rattle.jc_rules.specs.Flow.{IsNotTop}
 use Rattle.jc_rules.specs.Typing.{Clashes, IsMerged}
-use Rattle.jc_rules.proofs.Raising.{All-turned, clash_cells, merged}
+use Rattle.jc_base.proofs.Lists.{All-turned}
+use Rattle.jc_rules.proofs.Raising.{clash_cells, merged}
 use Rattle.jc_rules.proofs.state.State.merge.Goals as goal
 
 pub raise-stack_rises-requires-clause-known : goal.raise-stack_rises-requires-clause-known

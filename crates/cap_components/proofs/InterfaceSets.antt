@@ -1,0 +1,32 @@
+-- The set of the offsets at which records of interfaces stand, record by record.
+use Rattle.std.proofs.Common.{◌≡◌, ℕ, Bool, true, false, ◌||◌, ◌&&◌, eqb, List, [], ◌∷◌, refl}
+use mathlib.Core.Path.{fun_ext}
+use Rattle.cap_class.specs.ClassFormat.{Class, is_interface}
+use Rattle.offset_set.specs.Sets.{also, either}
+use Rattle.cap_components.specs.PackageRecord.{names_interface}
+
+or_false : (b : Bool) → (b || false) ≡ b
+or_false true = refl
+or_false false = refl
+
+pub no_class : (set : ℕ → Bool) → either set (names_interface []) ≡ set
+unfolding names_interface
+no_class set = fun_ext (λ offset. or_false (set offset))
+
+turned : (a b c : Bool) → ((a || b) || c) ≡ (b || ((a && true) || c))
+turned true true c = refl
+turned true false c = refl
+turned false true c = refl
+turned false false c = refl
+
+pub one_interface : (set : ℕ → Bool) (c : Class) (cs : List Class) → is_interface c.flags ≡ true → either (also c.offset set) (names_interface cs) ≡ either set (names_interface (c ∷ cs))
+unfolding names_interface
+one_interface set c cs e = fun_ext (λ offset. rw e (turned (eqb c.offset offset) (set offset) (names_interface cs offset)))
+
+passed : (a b c : Bool) → (b || c) ≡ (b || ((a && false) || c))
+passed true b c = refl
+passed false b c = refl
+
+pub one_class : (set : ℕ → Bool) (c : Class) (cs : List Class) → is_interface c.flags ≡ false → either set (names_interface cs) ≡ either set (names_interface (c ∷ cs))
+unfolding names_interface
+one_class set c cs e = fun_ext (λ offset. rw e (passed (eqb c.offset offset) (set offset) (names_interface cs offset)))

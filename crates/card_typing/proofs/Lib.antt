@@ -1,0 +1,6 @@
+pub mod Sites
+pub mod Own
+pub mod Flowing
+pub mod Sound
+pub mod Below
+pub mod Quiet

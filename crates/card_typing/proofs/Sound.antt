@@ -1,0 +1,55 @@
+-- What holds of each met state.
+use Rattle.std.proofs.Common.{ℕ, Bool, List, [], All, arith}
+use Rattle.jc_base.specs.declared.ty.Ty.{Ty}
+use Rattle.jc_base.specs.declared.ty.Ty.TheVariants.{Bottom, Class}
+use Rattle.jc_base.specs.Order.{IsKnown}
+use Rattle.jc_base.specs.World.{Linked}
+use Rattle.jc_control.specs.Method.{Method, IsMethodOf}
+use Rattle.jc_rules.specs.declared.effect.Mode.TheVariants.{Card}
+use Rattle.jc_rules.specs.Demand.{Frame}
+use Rattle.jc_rules.specs.Flow.{start_frame}
+use Rattle.jc_rules.specs.FlowLaws.{AreRules}
+use Rattle.jc_rules.specs.Laws.{RuleRaises}
+use Rattle.card_typing.specs.Met.{Arrives, arrives_falling, arrives_empty, arrives_caught, arrives_full, IsMet, met_start, met_next}
+use Rattle.card_typing.specs.Laws.{IsSoundState, MetIsSound}
+use Rattle.card_typing.proofs.Sites.{site_of, at-site}
+use Rattle.card_typing.proofs.Own.{all_none, all_more, of_world, start-length, start-known, start-ready}
+
+-- a stack that arrives has types of the world where the given one has
+arrives-known : (w : Linked) (m : Method) {b : Bool} {given : List Ty} {q : ℕ} {stack : List Ty} → Arrives w m b given q stack → All (IsKnown w.classes) given → All (IsKnown w.classes) stack
+arrives-known w m (arrives_falling free e) all = all
+arrives-known w m (arrives_empty free e) all = all_none (IsKnown w.classes)
+arrives-known w m (arrives_caught c entry room catches) all = all_more (IsKnown w.classes) (Class c) [] catches.class (all_none (IsKnown w.classes))
+arrives-known w m (arrives_full entry none) all = all_none (IsKnown w.classes)
+
+module _ (w : Linked) (is : AreRules w) (raises : RuleRaises w) (m : Method) (mo : IsMethodOf w m) where
+  start-sound : (stack : List Ty) → All (IsKnown w.classes) stack → IsSoundState w m (record { regs = (start_frame m.rec Bottom).regs; stack = stack })
+  start-sound stack known = record {
+    known = record {
+      few = omega (arith, start-length w is.world m mo, (of_world w is.world m mo).registers);
+      regs = start-known w is.world m mo;
+      stack = known;
+      object = is.world.chains.objects;
+    };
+    ready = start-ready w is.world m mo;
+    raised = is.order.self (start_frame m.rec Bottom).regs;
+  }
+
+  sound : (q : ℕ) (met : Frame) → IsMet w m q met → IsSoundState w m met
+  sound _ _ (met_start stack a) = start-sound stack (arrives-known w m a (all_none (IsKnown w.classes)))
+  sound _ _ (met_next i q before after o stack met passed goes a) =
+      let s = sound i.place before met in
+      let k = is.keeps (site_of m i.place) i.insn Card before after o s.known (at-site w m mo passed.applies) in
+      record {
+        known = record {
+          few = k.known.few;
+          regs = k.known.regs;
+          stack = arrives-known w m a k.known.stack;
+          object = k.known.object;
+        };
+        ready = k.no_fresh s.ready;
+        raised = is.order.through s.raised (raises (site_of m i.place) i.insn before after o (at-site w m mo passed.applies));
+      }
+
+pub met-is-sound : (w : Linked) → AreRules w → RuleRaises w → MetIsSound w
+met-is-sound w is raises m place met mo h = sound w is raises m mo place met h

@@ -1,0 +1,28 @@
+use Rattle.card_typing.proofs.Flowing.{card-is-flow}
+use Rattle.card_typing.proofs.Sound.{met-is-sound}
+use Rattle.card_typing.proofs.Below.{met-is-below, refusal-denies, flaws-are-told}
+use Rattle.card_typing.proofs.Quiet.{quiet-is-least}
+use Rattle.card_typing.proofs.laws.card_laws.Goals as goal
+
+pub returns-clause-flow : goal.returns-clause-flow
+returns-clause-flow c = card-is-flow c.args.world.now c.rule_laws.ensures c.instructions_are_placed.ensures.placed
+
+pub returns-clause-met : goal.returns-clause-met
+returns-clause-met c = met-is-below c.args.world.now (record { rules = c.rule_laws.ensures; falls = c.rule_falls.ensures.card; stays = c.rule_raises.ensures.stays })
+
+pub returns-clause-refused : goal.returns-clause-refused
+returns-clause-refused c =
+    refusal-denies c.args.world.now (record { rules = c.rule_laws.ensures; falls = c.rule_falls.ensures.card; stays = c.rule_raises.ensures.stays }) c.flaws_decide.ensures
+
+pub returns-clause-told : goal.returns-clause-told
+returns-clause-told c = flaws-are-told c.args.world.now c.flaws_decide.ensures
+
+pub returns-clause-quiet : goal.returns-clause-quiet
+returns-clause-quiet c =
+    let w = c.args.world.now in
+    quiet-is-least w c.rule_raises.ensures.rests c.instructions_are_placed.ensures.placed c.instructions_are_placed.ensures.listed
+    (met-is-sound w c.rule_laws.ensures c.rule_raises.ensures.raises)
+    (met-is-below w (record { rules = c.rule_laws.ensures; falls = c.rule_falls.ensures.card; stays = c.rule_raises.ensures.stays }))
+
+pub returns-clause-sound : goal.returns-clause-sound
+returns-clause-sound c = met-is-sound c.args.world.now c.rule_laws.ensures c.rule_raises.ensures.raises

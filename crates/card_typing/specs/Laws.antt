@@ -1,0 +1,55 @@
+-- Laws of card typings.
+use Rattle.std.specs.Prelude.{ℕ, ◌↔◌, List, [], All, true}
+use Rattle.jc_base.specs.declared.ty.Ty.{Ty}
+use Rattle.jc_base.specs.declared.ty.Ty.TheVariants.{Bottom}
+use Rattle.jc_base.specs.World.{Linked}
+use Rattle.jc_decode.specs.Listing.{listing}
+use Rattle.jc_control.specs.Method.{Method, IsMethodOf}
+use Rattle.jc_control.specs.WellFormed.{IsWellFormed}
+use Rattle.jc_rules.specs.Demand.{Frame, AreKnown}
+use Rattle.jc_rules.specs.Flow.{CellsBelow, FrameBelow, IsNotFresh, start_frame, HasFlowTyping}
+use Rattle.card_typing.specs.declared.fault.CardFault.{CardFault}
+use Rattle.card_typing.specs.Typing.{frame_at, CardTyping, HasCardTyping, IsLeastCardTyping}
+use Rattle.card_typing.specs.Met.{Arrives, IsMet}
+use Rattle.card_typing.specs.Refusal.{IsFlawKind, IsRefused}
+use Rattle.card_typing.specs.Pass.{IsQuiet}
+
+-- a method that the card accepts has a dataflow typing in which unset registers hold no value
+abbrev pub CardIsFlow : Linked → Type 0
+CardIsFlow w = (m : Method) → IsMethodOf w m → HasCardTyping w m → HasFlowTyping w m Bottom
+
+-- each met state is below every card typing
+abbrev pub MetIsBelow : Linked → Type 0
+MetIsBelow w =
+    (m : Method) (regs : List Ty) (stacks : ℕ → List Ty) (place : ℕ) (met : Frame)
+    → IsMethodOf w m
+    → CardTyping w m regs stacks
+    → IsMet w m place met
+    → FrameBelow w.classes met (frame_at regs stacks place)
+
+-- what holds of each met state: its types are of the world, no register holds an uninitialised object, and none has fallen below what it starts as
+pub record IsSoundState (w : Linked) (m : Method) (met : Frame) : Type 0 where
+  pub known : AreKnown w.classes met
+  pub ready : All IsNotFresh met.regs
+  pub raised : CellsBelow w.classes (start_frame m.rec Bottom).regs met.regs
+
+abbrev pub MetIsSound : Linked → Type 0
+MetIsSound w = (m : Method) (place : ℕ) (met : Frame) → IsMethodOf w m → IsMet w m place met → IsSoundState w m met
+
+-- what a refusal tells denies every card typing
+abbrev pub RefusalDenies : Linked → Type 0
+RefusalDenies w = (m : Method) (fault : CardFault) (kept : Frame) → IsMethodOf w m → IsRefused w m fault kept → ¬ (HasCardTyping w m)
+
+-- a refusal tells a flaw exactly where the method is not well formed
+abbrev pub FlawsAreTold : Linked → Type 0
+FlawsAreTold w = (m : Method) (fault : CardFault) (kept : Frame) → IsRefused w m fault kept → IsFlawKind fault.kind ↔ ¬ (IsWellFormed m)
+
+-- registers that are met at the start of a pass, which raises none of them, are those of the least card typing
+abbrev pub QuietIsLeast : Linked → Type 0
+QuietIsLeast w =
+    (m : Method) (regs : List Ty)
+    → IsMethodOf w m
+    → IsWellFormed m
+    → ((given : List Ty) → Arrives w m true [] 0 given → IsMet w m 0 (record { regs = regs; stack = given }))
+    → IsQuiet w m regs true [] (listing m.code)
+    → IsLeastCardTyping w m regs

@@ -1,0 +1,19 @@
+-- A pass of the verifier on the card over the instructions of the code that raises no register.
+use Rattle.std.specs.Prelude.{Bool, List, [], ◌∷◌}
+use Rattle.jc_base.specs.declared.ty.Ty.{Ty}
+use Rattle.jc_base.specs.World.{Linked}
+use Rattle.jc_decode.specs.declared.insn.Placed.{Placed}
+use Rattle.jc_decode.specs.Listing.{falls}
+use Rattle.jc_control.specs.Method.{Method}
+use Rattle.jc_rules.specs.declared.rule.Outcome.{Outcome}
+use Rattle.card_typing.specs.Met.{Arrives, IsPassed}
+
+-- nothing is wrong at the instructions, one after another, and the registers stay as they are
+pub data IsQuiet (w : Linked) (m : Method) (regs : List Ty) : Bool → List Ty → List Placed → Type 0 where
+  quiet_end : (may_fall : Bool) (given : List Ty) → IsQuiet w m regs may_fall given []
+  quiet_more :
+      (may_fall : Bool) (given stack after : List Ty) (o : Outcome) (i : Placed) (is : List Placed)
+      → Arrives w m may_fall given i.place stack
+      → IsPassed w m i (record { regs = regs; stack = stack }) (record { regs = regs; stack = after }) o
+      → IsQuiet w m regs (falls i.insn.op) after is
+      → IsQuiet w m regs may_fall given (i ∷ is)

@@ -1,0 +1,23 @@
+ghost use Rattle.card_typing.specs.Laws.{CardIsFlow, MetIsBelow, MetIsSound, RefusalDenies, FlawsAreTold, QuietIsLeast};
+
+use jc_base::World;
+use jc_control::{flaws_decide, instructions_are_placed};
+use jc_rules::{rule_falls, rule_laws, rule_raises};
+
+/// What card typings have to do with dataflow typings, with the states that the verifier on the card meets, with its
+/// refusals, and with a pass that raises no register.
+pub fn card_laws(world: &World<'_>)
+    ensures flow { CardIsFlow world.now }
+    ensures met { MetIsBelow world.now }
+    ensures sound { MetIsSound world.now }
+    ensures refused { RefusalDenies world.now }
+    ensures told { FlawsAreTold world.now }
+    ensures quiet { QuietIsLeast world.now }
+{
+    rule_laws(world);
+    rule_falls(world);
+    rule_raises(world);
+    flaws_decide();
+    instructions_are_placed();
+    let _object = world.classes().at(world.role(0));
+}

@@ -1,0 +1,54 @@
+ghost use Rattle.std.specs.Prelude.{◌≡◌, ◌≤◌, ◌↔◌, length, IsTrue};
+ghost use Rattle.jc_control.specs.WellFormed.{IsPlace, IsTargetPlace};
+ghost use Rattle.jc_control.specs.Known.{KnowPlaces};
+
+use crate::flags::Flags;
+use cap_bytes::View;
+use jc_decode::Instructions;
+
+/// How it is known at which places of a code instructions begin: by flags that were made once, or by a walk along the
+/// code for each question, which takes no memory.
+#[derive(Clone, Copy)]
+pub enum Places<'a> {
+    Marked(&'a Flags),
+    Sought,
+}
+
+impl Places<'_> {
+    /// Whether an instruction of the code begins at the place.
+    pub fn has(self, code: View<'_>, place: u32) -> bool
+        requires short { length code.bytes.now ≤ 32767 }
+        requires known { KnowPlaces code.bytes.now self }
+        ensures { IsTrue result ↔ IsPlace code.entry.bytes.now place }
+    {
+        match self {
+            Places::Marked(flags) => flags.has(place),
+            Places::Sought => is_place(code, place),
+        }
+    }
+
+    /// The same of a place that may lie before the code.
+    pub fn has_target(self, code: View<'_>, target: i32) -> bool
+        requires short { length code.bytes.now ≤ 32767 }
+        requires known { KnowPlaces code.bytes.now self }
+        ensures { IsTrue result ↔ IsTargetPlace code.entry.bytes.now target }
+    {
+        match u32::try_from(target) {
+            Ok(place) => self.has(code, place),
+            Err(_) => false,
+        }
+    }
+}
+
+/// Whether an instruction of the code begins at the place, by a walk along the code.
+fn is_place(code: View<'_>, place: u32) -> bool
+    requires { length code.bytes.now ≤ 32767 }
+    ensures { IsTrue result ↔ IsPlace code.entry.bytes.now place }
+{
+    'walk: for placed in Instructions::of(code) {
+        if u32::from(placed.place) == place {
+            return true;
+        }
+    }
+    false
+}

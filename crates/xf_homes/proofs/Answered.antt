@@ -1,0 +1,132 @@
+-- What is answered for a method of the world.
+use Rattle.std.proofs.Common.{◌≡◌, ℕ, ◌+◌, ◌<◌, ◌≤◌, inl, inr, Bool, true, false, List, length, Option, Some, None, option_map, IsSome, IsSomeAnd, IfSome, Result, Ok, Err, IfOk, IfErr, MatchBool, slice_get, refl, sym, ◌∙◌, ap, subst, arith, length-take}
+use Rattle.std.specs.Prelude.{pos}
+use Rattle.std.proofs.lemmas.Option.{slice_get_within}
+use Rattle.std.proofs.lemmas.List.Elements.{All-contains}
+use Rattle.jc_base.specs.declared.ty.Ty.TheVariants.{Top}
+use Rattle.jc_base.specs.declared.record.MethodRec.{MethodRec}
+use Rattle.jc_base.specs.Laws.{SameTypeDecides}
+use Rattle.jc_base.specs.Linked.{IsMethod, IsCodeLength, lacks_code}
+use Rattle.jc_base.specs.World.{Linked, code_of}
+use Rattle.jc_decode.specs.declared.insn.Placed.{Placed}
+use Rattle.jc_decode.specs.Listing.{targets}
+use Rattle.jc_control.specs.Method.{Method, IsMethodOf, method_in, method_with}
+use Rattle.jc_control.specs.WellFormed.{IsPlace, IsBoundary, IsTargetPlace, IsHandlerOf, Stands}
+use Rattle.jc_control.specs.Control.{IsSuccessor, IsReached, begins, follows, caught, falls_through, jumped}
+use Rattle.jc_control.specs.ControlFlow.{Marked, IsControlFlow, TellsFlaw}
+use Rattle.jc_control.specs.Flaw.{IsFirstFlaw}
+use Rattle.jc_control.specs.declared.flaw.Flaw.{Flaw}
+use Rattle.jc_control.specs.declared.flaw.ControlEnd.{ControlEnd}
+use Rattle.jc_control.specs.declared.flaw.ControlEnd.TheVariants.{Flawed}
+use Rattle.jc_control.specs.Laws.{FlawsDecide, ArePlaced, AreListed}
+use Rattle.jc_rules.specs.Demand.{Frame}
+use Rattle.jc_rules.specs.Flow.{FlowTyping}
+use Rattle.jc_rules.specs.Typing.{state_at}
+use Rattle.xf_homes.specs.declared.home.Home.{Home}
+use Rattle.xf_homes.specs.declared.finding.HomeEnd.{HomeEnd}
+use Rattle.xf_homes.specs.declared.finding.HomeEnd.TheVariants.{Registers, Memory}
+use Rattle.xf_homes.specs.Order.{AreHomes}
+use Rattle.xf_homes.specs.Walk.{argument_homes, code_events, with_events, homes_found}
+use Rattle.xf_homes.specs.Answer.{IsTypingOf, IsCounted, TellsEnd}
+use Rattle.xf_homes.proofs.AllHomes.{IsTyped, are-homes}
+use Rattle.xf_homes.proofs.OwnRegisters.{declared-topless}
+
+-- ---- options
+
+pub number-below : {X : Type 0} (P : X → Type 0) (xs : List X) (n : ℕ) → IsSomeAnd (slice_get xs n) P → n < length xs
+number-below P xs n h = by (slice_get xs n) refl h
+  where
+    by : (o : Option _) → slice_get xs n ≡ o → IsSomeAnd o P → n < length xs
+    by None e h = absurd h
+    by (Some x) e h = slice_get_within xs n x e
+
+some-same : {X : Type 0} {a b : X} → ◌≡◌ {A = Option X} (Some a) (Some b) → a ≡ b
+some-same e = cc
+
+-- the method of a number, by its record and its code
+module _ (w : Linked) (n : ℕ) (rec : MethodRec) (code : List ℕ) (here : slice_get w.methods n ≡ Some rec) (bytes : option_map (code_of w.infos) (slice_get w.methods n) ≡ Some code) where
+  own-code : code_of w.infos rec ≡ code
+  own-code = some-same (ap (option_map (code_of w.infos)) (sym here) ∙ bytes)
+
+  method-is : method_in w n ≡ Some (record { number = n; rec = rec; code = code })
+  method-is = ap (option_map (method_with w n)) here ∙ ap (λ (c : List ℕ). Some (record { number = n; rec = rec; code = c })) own-code
+
+  pub of-method : (P : Method → Type 0) → IsSomeAnd (method_in w n) P → P (record { number = n; rec = rec; code = code })
+  of-method P h = subst (λ o. IsSomeAnd o P) method-is h
+
+  pub to-method : (P : Method → Type 0) → P (record { number = n; rec = rec; code = code }) → IsSomeAnd (method_in w n) P
+  to-method P h = subst (λ o. IsSomeAnd o P) (sym method-is) h
+
+-- ---- a method with a typing has no flaw
+
+pub flaw-never : FlawsDecide → (w : Linked) (typing : List (Option Frame)) (o : Option Method) (end : ControlEnd) (f : Flaw) → end ≡ Flawed f → IsSomeAnd o (λ m. IsTypingOf w m typing) → IsSomeAnd o (λ m. TellsFlaw m end) → ⊥
+flaw-never decide w typing None end f e typed flaw = typed
+flaw-never decide w typing (Some m) end f e typed flaw =
+    let first : IsFirstFlaw m f = subst (TellsFlaw m) e flaw in
+    (decide m).0 typed.least.typing.formed first.spot f first.flaw
+
+-- ---- reached places
+
+module _ (w : Linked) (m : Method) (frames : ℕ → Option Frame) (ty : FlowTyping w m Top frames) (placed : ArePlaced m) (filled : 0 < length m.code) where
+  next-placed : (i : Placed) {q : ℕ} → Stands m.code i → IsReached m i.place → IsSuccessor m.code i q → IsPlace m.code q
+  next-placed i st r (falls_through on) = by (placed.next i st)
+    where
+      by : IsBoundary m.code (i.place + i.insn.len) → IsPlace m.code (i.place + i.insn.len)
+      by (inl end) = absurd (omega (arith, ty.stays i st r on, end))
+      by (inr place) = place
+  next-placed i {q} st r (jumped c) = All-contains (IsTargetPlace m.code) (targets m.code i) (pos q) (ty.formed.targets i st) c
+
+  reached-placed : {p : ℕ} → IsReached m p → IsPlace m.code p
+  reached-placed begins = placed.first filled
+  reached-placed (follows {i = i} {q = q} st r to) = next-placed i st r to
+  reached-placed (caught {h = h} {p = p} r c cov) = (All-contains (IsHandlerOf m.code) m.rec.handlers h ty.formed.handlers c).entry
+
+some-there : {X : Type 0} (o : Option X) (x : X) → o ≡ Some x → IsSome o
+some-there None x e = absurd (cc)
+some-there (Some y) x e = refl
+
+is-there : {X : Type 0} (o : Option X) → IsSome o → (x : X) × (o ≡ Some x)
+is-there None h = absurd (cc)
+is-there (Some x) h = (x, refl)
+
+some-fact : {X : Type 0} (P : X → Type 0) (o : Option X) (x : X) → o ≡ Some x → IfSome o P → P x
+some-fact P o x e h = subst (λ r. IfSome r P) e h
+
+module _ (w : Linked) (m : Method) (typing : List (Option Frame)) (typed : IsTypingOf w m typing) (control : Marked) (flow : IsControlFlow m control) (placed : ArePlaced m) (listed : AreListed m.code)
+    (mo : IsMethodOf w m) (method : IsMethod w.infos w.pools w.classes m.rec) where
+  pub is-typed : IsTyped m (state_at typing) control.leaders
+  is-typed = record {
+    marks = flow.leaders;
+    listed = listed;
+    sizes = λ p f e. some-fact (λ g. length g.regs ≡ m.rec.nargs + m.rec.max_locals) (state_at typing p) f e (typed.registers p);
+    there = λ p f e. (typed.reached p).0 (some-there (state_at typing p) f e);
+    placed = λ p r. reached-placed w m (state_at typing) typed.least.typing placed mo.filled r;
+    framed = λ p r. is-there (state_at typing p) ((typed.reached p).1 r);
+    whole = method.whole;
+    topless = λ k d lt. declared-topless w.classes _ (method.arguments k d lt);
+    words = method.words;
+  }
+
+  module _ (same : SameTypeDecides) (found : List Home) (is : found ≡ with_events (argument_homes m.rec) (code_events w m (state_at typing) control.leaders)) where
+    found-homes : AreHomes w m (state_at typing) found
+    unfolding homes_found
+    found-homes = subst (AreHomes w m (state_at typing)) (sym is) (are-homes same w m (state_at typing) control.leaders is-typed)
+
+    pub answered-homes : (r : Result (List Home) HomeEnd) → IfOk r (λ homes. homes ≡ found) → IfOk r (AreHomes w m (state_at typing))
+    answered-homes (Ok homes) e = subst (AreHomes w m (state_at typing)) (sym e) found-homes
+    answered-homes (Err end) e = tt
+
+    pub answered-end : {X : Type 0} (r : Result X HomeEnd) → IfErr r (IsCounted found) → IfErr r (TellsEnd w m (state_at typing))
+    answered-end (Ok homes) h = tt
+    answered-end (Err (Registers n)) h = record { homes = found; are = found-homes; more = h.more; count = h.count }
+    answered-end (Err Memory) h = tt
+
+pub code-short : (w : Linked) (m : Method) → IsMethodOf w m → IsMethod w.infos w.pools w.classes m.rec → length m.code ≤ 65535
+code-short w m mo method =
+    let most : m.rec.code_len ≤ 32767 = by (lacks_code w.classes m.rec) m.rec.code_len method.code in
+    let size : length m.code ≡ _ = ap length mo.code ∙ length-take m.rec.code_len _ in
+    omega arith
+  where
+    by : (b : Bool) (n : ℕ) → MatchBool b (n ≡ 0) (IsCodeLength n) → n ≤ 32767
+    by true n h = omega (arith, h)
+    by false n h = h.most

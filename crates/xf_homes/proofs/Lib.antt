@@ -1,0 +1,10 @@
+pub mod Events
+pub mod Rising
+pub mod Meeting
+pub mod OwnRegisters
+pub mod AllHomes
+pub mod Steps
+pub mod Lists
+pub mod Answered
+pub mod Serving
+pub mod OneList

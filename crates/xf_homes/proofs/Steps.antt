@@ -1,0 +1,77 @@
+-- Steps along the events of a walk.
+use Rattle.std.proofs.Common.{◌≡◌, ℕ, zero, suc, ◌+◌, ◌-◌, ◌<◌, ◌≤◌, Bool, true, false, List, [], ◌∷◌, length, drop, flat_map, Option, MatchBool, refl, sym, ◌∙◌, ap, arith, drop-cons}
+use Rattle.std.specs.Prelude.{fold, get_or}
+use Rattle.std.proofs.lemmas.List.Sums.{fold-append}
+use Rattle.std.proofs.lemmas.List.Concat.{flat_map-cons}
+use Rattle.jc_base.specs.declared.ty.Ty.{Ty}
+use Rattle.jc_base.specs.declared.record.Handler.{Handler}
+use Rattle.jc_decode.specs.declared.insn.Placed.{Placed}
+use Rattle.jc_control.specs.Control.{Covers}
+use Rattle.jc_rules.specs.Demand.{Frame}
+use Rattle.xf_homes.specs.declared.home.Home.{Home}
+use Rattle.xf_homes.specs.Value.{value_at}
+use Rattle.xf_homes.specs.Walk.{Event, is_covered, caught_of, caught_events, local_events, locals_events, cells_events, with_value, with_event, with_events}
+use Rattle.xf_homes.proofs.Meeting.{covered, covers}
+
+pub cells-step : (homes : List Home) (p slot : ℕ) (cells : List Ty) (n len : ℕ) → n < len
+    → with_events homes (cells_events p slot cells n (len - n)) ≡ with_events (with_value homes (slot + n) (value_at cells n)) (cells_events p slot cells (n + 1) (len - (n + 1)))
+unfolding with_events
+cells-step homes p slot cells n len lt =
+    let e : len - n ≡ suc (len - (n + 1)) = omega arith in
+    let next : suc n ≡ n + 1 = omega arith in
+    ap (λ k. fold with_event homes (cells_events p slot cells n k)) e
+    ∙ ap (λ k. fold with_event (with_value homes (slot + n) (value_at cells n)) (cells_events p slot cells k (len - (n + 1)))) next
+
+pub locals-step : (homes : List Home) (frames : ℕ → Option Frame) (handlers : List Handler) (p x len : ℕ) → x < len
+    → with_events homes (locals_events frames handlers p x (len - x)) ≡ with_events (with_events homes (local_events frames handlers p x)) (locals_events frames handlers p (x + 1) (len - (x + 1)))
+unfolding with_events
+locals-step homes frames handlers p x len lt =
+    let e : len - x ≡ suc (len - (x + 1)) = omega arith in
+    let next : suc x ≡ x + 1 = omega arith in
+    ap (λ k. fold with_event homes (locals_events frames handlers p x k)) e
+    ∙ fold-append with_event homes (local_events frames handlers p x) (locals_events frames handlers p (suc x) (len - (x + 1)))
+    ∙ ap (λ k. fold with_event (fold with_event homes (local_events frames handlers p x)) (locals_events frames handlers p k (len - (x + 1)))) next
+
+pub handlers-step : (homes : List Home) (frames : ℕ → Option Frame) (p x n : ℕ) (handlers : List Handler) (d : Handler) (value : Option Ty) → n < length handlers → value ≡ caught_of frames p x (get_or handlers n d)
+    → with_events homes (caught_events frames p x n (drop n handlers)) ≡ with_events (with_value homes x value) (caught_events frames p x (n + 1) (drop (n + 1) handlers))
+unfolding with_events
+handlers-step homes frames p x n handlers d value lt is =
+    let next : suc n ≡ n + 1 = omega arith in
+    ap (λ hs. fold with_event homes (caught_events frames p x n hs)) (drop-cons handlers n d lt)
+    ∙ ap (λ v. fold with_event (with_value homes x v) (caught_events frames p x (suc n) (drop (suc n) handlers))) (sym is)
+    ∙ ap (λ k. fold with_event (with_value homes x value) (caught_events frames p x k (drop k handlers))) next
+
+pub handlers-end : (homes : List Home) (frames : ℕ → Option Frame) (p x n : ℕ) (handlers : List Handler) → length handlers ≤ n → with_events homes (caught_events frames p x n (drop n handlers)) ≡ homes
+unfolding with_events
+handlers-end homes frames p x n handlers le = ap (λ hs. fold with_event homes (caught_events frames p x n hs)) (drop-past handlers n le)
+  where
+    drop-past : (hs : List Handler) (n : ℕ) → length hs ≤ n → drop n hs ≡ []
+    drop-past [] zero le = refl
+    drop-past [] (suc n) le = refl
+    drop-past (h ∷ hs) zero le = absurd (omega arith)
+    drop-past (h ∷ hs) (suc n) le = drop-past hs n (omega arith)
+
+-- whether a handler covers a place
+pub covers-is : (h : Handler) (p : ℕ) (b : Bool) → MatchBool b (Covers h p) (¬ (Covers h p)) → b ≡ is_covered h p
+covers-is h p true c = sym (covers h p c)
+covers-is h p false n = by (is_covered h p) refl
+  where
+    by : (b : Bool) → is_covered h p ≡ b → false ≡ b
+    by true e = absurd (n (covered h p e))
+    by false e = refl
+
+pub places-step : (homes : List Home) (f : Placed → List Event) (rest : List Placed) (i : Placed) (after : List Placed) → rest ≡ i ∷ after
+    → with_events homes (flat_map f rest) ≡ with_events (with_events homes (f i)) (flat_map f after)
+unfolding with_events
+places-step homes f rest i after e =
+    ap (λ is. fold with_event homes (flat_map f is)) e
+    ∙ ap (fold with_event homes) (flat_map-cons f i after)
+    ∙ fold-append with_event homes (f i) (flat_map f after)
+
+pub places-end : (homes : List Home) (f : Placed → List Event) (rest : List Placed) → rest ≡ [] → homes ≡ with_events homes (flat_map f rest)
+unfolding with_events
+places-end homes f rest e = ap (λ is. fold with_event homes (flat_map f is)) (sym e)
+
+pub locals-end : (homes : List Home) (frames : ℕ → Option Frame) (handlers : List Handler) (p x len : ℕ) → len ≤ x → homes ≡ with_events homes (locals_events frames handlers p x (len - x))
+unfolding with_events
+locals-end homes frames handlers p x len le = let none : 0 ≡ len - x = omega arith in ap (λ k. fold with_event homes (locals_events frames handlers p x k)) none

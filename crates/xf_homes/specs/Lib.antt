@@ -1,0 +1,7 @@
+pub mod Value
+pub mod Home
+pub mod Order
+pub mod Answer
+pub mod Walk
+pub mod Subject
+pub mod Laws

@@ -1,0 +1,40 @@
+-- All homes of a method in the order of their registers.
+use Rattle.std.specs.Prelude.{◌≡◌, ◌↔◌, ℕ, ◌+◌, ◌≤◌, ◌++◌, ⊤, List, [], ◌∷◌, Option, sum_by}
+use Rattle.jc_base.specs.Each.{Each, IsAmong}
+use Rattle.jc_base.specs.World.{Linked}
+use Rattle.jc_control.specs.Method.{Method}
+use Rattle.jc_rules.specs.Demand.{Frame}
+use Rattle.xf_homes.specs.declared.home.Home.{Home}
+use Rattle.xf_homes.specs.Value.{width}
+use Rattle.xf_homes.specs.Home.{IsArgument, IsMet, IsMetBefore, Spot}
+
+-- each is met before those that follow
+abbrev pub AreInOrder : Linked → Method → (ℕ → Option Frame) → List Home → Type 0
+AreInOrder w m frames [] = ⊤
+AreInOrder w m frames (h ∷ hs) = Each (IsMetBefore w m frames h) hs × AreInOrder w m frames hs
+
+-- each argument stands where its register is
+abbrev pub StandFrom : ℕ → List Home → Type 0
+StandFrom n [] = ⊤
+StandFrom n (h ∷ hs) = (h.slot ≡ n) × StandFrom (n + width h.ty) hs
+
+-- how many registers homes take
+unfoldable pub register_sum : List Home → ℕ
+register_sum hs = sum_by (λ h. width h.ty) hs
+
+-- this many, which are numbers of one byte
+pub record IsCount (homes : List Home) (n : ℕ) : Type 0 where
+  pub sum : register_sum homes ≡ n
+  pub few : n ≤ 255
+
+-- the homes of a method: the arguments at their declared types, each in its own register, and then the others in the order in which they
+-- are first met
+pub record AreHomes (w : Linked) (m : Method) (frames : ℕ → Option Frame) (homes : List Home) : Type 0 where
+  pub arguments : List Home
+  pub others : List Home
+  pub parts : homes ≡ arguments ++ others
+  pub declared : (h : Home) → IsAmong h arguments ↔ IsArgument m.rec h
+  pub stand : StandFrom 0 arguments
+  pub filled : register_sum arguments ≡ m.rec.nargs
+  pub met : (h : Home) → IsAmong h others ↔ (((spot : Spot) × IsMet w m frames spot h) × ¬ (IsArgument m.rec h))
+  pub order : AreInOrder w m frames others

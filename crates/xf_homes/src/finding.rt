@@ -1,0 +1,93 @@
+ghost use Rattle.std.specs.Prelude.{◌≡◌, ◌<◌, min, IfOk, IfErr, IsSomeAnd, slice_get};
+ghost use Rattle.jc_control.specs.Method.{IsMethodOf, method_in};
+ghost use Rattle.jc_rules.specs.Typing.{state_at};
+ghost use Rattle.xf_homes.specs.Order.{AreHomes, register_sum};
+ghost use Rattle.xf_homes.specs.Answer.{IsTypingOf, IsCounted, TellsEnd};
+
+use crate::arguments::argument_homes;
+use crate::found::Homes;
+use crate::home::Home;
+use crate::walk::Walk;
+use cap_bytes::View;
+use jc_base::{World, types_are_ordered};
+use jc_control::{ControlEnd, control_flow, flaws_decide, instructions_are_placed};
+use jc_rules::Typing;
+use std::alloc::{AllocError, Global};
+
+/// Why a method has no homes.
+#[derive(Clone, Copy)]
+pub enum HomeEnd {
+    /// They would take this many registers, of which there are 255 at most.
+    Registers(u32),
+    Memory,
+}
+
+impl From<AllocError> for HomeEnd {
+    ghost use Rattle.xf_homes.specs.declared.finding.HomeEnd.TheVariants.{Memory};
+
+    ghost from_gives = { λ f e. e ≡ Memory };
+
+    fn from(_error: AllocError) -> HomeEnd {
+        HomeEnd::Memory
+    }
+}
+
+/// The homes of a method with code, by the typing that `infer` gives for it: the arguments at their declared types,
+/// each in its own register, and after them the others in the order in which they are first met.
+pub fn homes(
+    alloc: Global,
+    world: &World<'_>,
+    method: u16,
+    typing: &Typing,
+) -> Result<Homes, HomeEnd>
+    requires code { IsSomeAnd (slice_get world.now.methods method) (λ m. 0 < m.code_len) }
+    requires typing { IsSomeAnd (method_in world.now method) (λ m. IsTypingOf world.now m typing.now) }
+    ensures homes { IsSomeAnd (method_in world.now method)
+        (λ m. IfOk result (AreHomes world.now m (state_at typing.now))) }
+    ensures end { IsSomeAnd (method_in world.now method)
+        (λ m. IfErr result (TellsEnd world.now m (state_at typing.now))) }
+{
+    types_are_ordered(world.classes());
+    instructions_are_placed();
+    flaws_decide();
+    let control = match control_flow(alloc, world, method) {
+        Ok(control) => control,
+        Err(ControlEnd::Memory) => return Err(HomeEnd::Memory),
+        Err(ControlEnd::Flawed(_)) => unreachable!(),
+    };
+    let rec = world.method(method);
+    let walk = Walk {
+        world,
+        number: method,
+        rec,
+        code: View::of(world.code(method)),
+        typing,
+        control: &control,
+    };
+    let mut homes = argument_homes(alloc, rec)?;
+    walk.find(&mut homes)?;
+    counted(homes)
+}
+
+/// The number of registers that the homes take.
+fn register_sum(homes: &[Home]) -> u32
+    ensures { result ≡ min (register_sum homes.now) 4294967295 }
+{
+    let mut sum: u32 = 0;
+    'homes: for home in homes {
+        sum = sum.saturating_add(u32::from(home.width()));
+    }
+    sum
+}
+
+/// The homes, where there are registers for all.
+fn counted(homes: Vec<Home>) -> Result<Homes, HomeEnd>
+    ensures homes { IfOk result (λ found. found ≡ homes.items) }
+    ensures end { IfErr result (IsCounted homes.items) }
+{
+    let sum = register_sum(homes.as_slice());
+    if sum > 255 {
+        return Err(HomeEnd::Registers(sum));
+    }
+    Ok(Homes::of(homes, sum as u8))
+}

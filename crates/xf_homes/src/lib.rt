@@ -1,0 +1,20 @@
+//! The homes of a method: registers of their own for each value of one type that a local or a cell of the stack has to
+//! keep (Leroy 2002, section 4.1), by the method's least dataflow typing.
+//!
+//! Which pairs of a slot and a type are homes, and in which order they get their registers, is said by place, slot and
+//! type; the walk over the code finds them.
+//! It stands on the places of `jc_control`, the rules of `jc_rules` and the typings of `jc_flow`.
+#![tactic(auto)]
+
+mod arguments;
+mod finding;
+mod found;
+mod home;
+mod laws;
+mod value;
+mod walk;
+
+pub use finding::{HomeEnd, homes};
+pub use found::Homes;
+pub use home::Home;
+pub use laws::{homes_are_one, homes_serve};

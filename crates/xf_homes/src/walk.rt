@@ -1,0 +1,222 @@
+ghost use Rattle.std.specs.Prelude.{◌≡◌, ◌+◌, ◌≤◌, length, reverse, OnOk, Ok, slice_get, Some};
+ghost use Rattle.jc_base.specs.World.{Linked};
+ghost use Rattle.jc_control.specs.Method.{IsMethodOf};
+ghost use Rattle.jc_rules.specs.Footprint.{footprint};
+ghost use Rattle.xf_homes.specs.Home.{register_count};
+ghost use Rattle.xf_homes.specs.Walk.{local_of, is_covered, caught_of, local_events, locals_events, cells_events, operands_of, operands_at, keeps_stack, stack_events, place_events, code_events, has, with_home, with_value, with_events};
+ghost use Rattle.xf_homes.specs.Subject.{walked, frames_of};
+
+use crate::home::Home;
+use crate::value::value_at;
+use cap_bytes::View;
+use jc_base::{Handler, MethodRec, Ty, World};
+use jc_control::{ControlFlow, covers};
+use jc_decode::{Instructions, Placed};
+use jc_ops::{Branch, Operation, Site, Width, resolve};
+use jc_rules::{State, Typing};
+use std::alloc::AllocError;
+
+/// A walk over the code of a method, at whose reached places its types are asked for.
+#[derive(Clone, Copy)]
+pub(crate) struct Walk<'a> {
+    pub world: &'a World<'a>,
+    pub number: u16,
+    pub rec: &'a MethodRec,
+    pub code: View<'a>,
+    pub typing: &'a Typing,
+    pub control: &'a ControlFlow,
+}
+
+fn has(homes: &[Home], home: Home) -> bool
+    ensures { result ≡ has homes.now home }
+{
+    'kept: for kept in homes {
+        if kept.is(home) {
+            return true;
+        }
+    }
+    false
+}
+
+/// Keeps a pair that is not kept yet.
+fn keep(homes: &mut Vec<Home>, home: Home) -> Result<(), AllocError>
+    ensures { OnOk result (homes.new.items ≡ with_home homes.old.items home) }
+{
+    if has(homes.as_slice(), home) {
+        return Ok(());
+    }
+    homes.push(home)?;
+    Ok(())
+}
+
+/// Keeps the value of a slot, if it has one.
+fn keep_value(homes: &mut Vec<Home>, slot: u16, value: Option<Ty>) -> Result<(), AllocError>
+    ensures { OnOk result (homes.new.items ≡ with_value homes.old.items slot value) }
+{
+    match value {
+        Some(ty) => keep(homes, Home { slot, ty }),
+        None => Ok(()),
+    }
+}
+
+fn is_covered(handler: Handler, place: u16) -> bool
+    ensures { result ≡ is_covered handler place }
+{
+    covers(handler, place)
+}
+
+/// How many operands a conditional branch or a switch takes; another operation is neither.
+fn operands(world: &World<'_>, operation: Operation) -> Option<u8>
+    ensures { result ≡ operands_of world.now (Ok operation) }
+{
+    match operation {
+        Operation::Branch(Branch::Always) => None,
+        Operation::Branch(Branch::Zero(_) | Branch::Null(_)) => Some(1),
+        Operation::Branch(Branch::References(_) | Branch::Shorts(_)) => Some(2),
+        Operation::Switch(Width::Short) => Some(1),
+        Operation::Switch(Width::Int) => Some(2),
+        _ => None,
+    }
+}
+
+/// Keeps each value of a list of cells, at slots from a slot on.
+#[tactic(auto, unfolding(crate::specs::Walk::with_events))]
+fn keep_cells(homes: &mut Vec<Home>, slot: u16, place: u16, cells: &[Ty]) -> Result<(), AllocError>
+    requires few { slot + length cells.now ≤ 65535 }
+    ensures { OnOk result
+        (homes.new.items ≡ with_events homes.old.items (cells_events place slot cells.now 0 (length cells.now))) }
+{
+    'values: for n in 0..cells.len() as u16 {
+        if let Err(error) = keep_value(homes, slot + n, value_at(cells, n)) {
+            return Err(error);
+        }
+    }
+    Ok(())
+}
+
+impl Walk<'_> {
+    /// The value of a local at a place that control reaches.
+    fn local(&self, place: u16, x: u16) -> Option<Ty>
+        ensures { result ≡ local_of (frames_of self.now place) x }
+    {
+        match self.typing.state(place) {
+            Some(state) => value_at(state.regs(), x),
+            None => None,
+        }
+    }
+
+    /// The value of a local at the entry of a handler that covers the place.
+    fn caught(&self, place: u16, x: u16, handler: Handler) -> Option<Ty>
+        ensures { result ≡ caught_of (frames_of self.now) place x handler }
+    {
+        if is_covered(handler, place) {
+            self.local(handler.entry, x)
+        } else {
+            None
+        }
+    }
+
+    /// Keeps what is needed for a local at a place.
+    #[tactic(auto, unfolding(crate::specs::Walk::with_events, crate::specs::Walk::local_events))]
+    fn keep_local(&self, homes: &mut Vec<Home>, place: u16, x: u16) -> Result<(), AllocError>
+        ensures { OnOk result
+            (homes.new.items
+            ≡ with_events homes.old.items (local_events (frames_of self.now) self.now.rec.now.handlers place x)) }
+    {
+        keep_value(homes, x, self.local(place, x))?;
+        'handlers: for handler in self.rec.handlers.as_slice() {
+            if let Err(error) = keep_value(homes, x, self.caught(place, x, *handler)) {
+                return Err(error);
+            }
+        }
+        Ok(())
+    }
+
+    fn registers(&self) -> u16
+        ensures is { result ≡ register_count self.now.rec.now }
+        ensures few { result ≤ 510 }
+    {
+        u16::from(self.rec.nargs) + u16::from(self.rec.max_locals)
+    }
+
+    fn keep_locals(&self, homes: &mut Vec<Home>, place: u16) -> Result<(), AllocError>
+        ensures { OnOk result
+            (homes.new.items
+            ≡ with_events homes.old.items
+            (locals_events (frames_of self.now) self.now.rec.now.handlers place 0 (register_count self.now.rec.now))) }
+    {
+        'locals: for x in 0..self.registers() {
+            if let Err(error) = self.keep_local(homes, place, x) {
+                return Err(error);
+            }
+        }
+        Ok(())
+    }
+
+    /// The operands of the instruction at a place, if it is a conditional branch or a switch.
+    fn operands_at(&self, placed: Placed) -> Option<u8>
+        requires { IsMethodOf self.now.world.now (walked self.now) }
+        ensures { result ≡ operands_at self.now.world.now self.now.rec.now placed }
+    {
+        let site = Site {
+            method: self.number,
+            place: placed.place,
+        };
+        match resolve(self.world, site, placed.insn) {
+            Ok(operation) => operands(self.world, operation),
+            Err(_) => None,
+        }
+    }
+
+    /// Whether the stack is kept over a branch: at a leader, and where a conditional branch or a switch takes not all.
+    fn keeps_stack(&self, placed: Placed, depth: u8) -> bool
+        requires { IsMethodOf self.now.world.now (walked self.now) }
+        ensures { result ≡ keeps_stack self.now.world.now self.now.rec.now self.now.control.now.leaders placed depth }
+    {
+        if self.control.is_leader(placed.place) {
+            return true;
+        }
+        match self.operands_at(placed) {
+            Some(operands) => operands < depth,
+            None => false,
+        }
+    }
+
+    /// Keeps what is met at an instruction, if control reaches it.
+    #[tactic(auto, unfolding(crate::specs::Walk::place_events, crate::specs::Walk::with_events))]
+    fn keep_place(&self, homes: &mut Vec<Home>, placed: Placed) -> Result<(), AllocError>
+        requires { IsMethodOf self.now.world.now (walked self.now) }
+        ensures { OnOk result
+            (homes.new.items
+            ≡ with_events homes.old.items
+            (place_events self.now.world.now (walked self.now) (frames_of self.now) self.now.control.now.leaders placed)) }
+    {
+        let Some(state) = self.typing.state(placed.place) else {
+            return Ok(());
+        };
+        self.keep_locals(homes, placed.place)?;
+        let stack = state.stack();
+        if self.keeps_stack(placed, stack.len() as u8) {
+            return keep_cells(homes, self.registers(), placed.place, stack);
+        }
+        Ok(())
+    }
+
+    /// Keeps what is met anywhere in the code.
+    #[tactic(auto, unfolding(crate::specs::Walk::code_events, crate::specs::Walk::with_events))]
+    pub(crate) fn find(&self, homes: &mut Vec<Home>) -> Result<(), AllocError>
+        requires method { IsMethodOf self.now.world.now (walked self.now) }
+        requires short { length self.now.code.bytes.now ≤ 65535 }
+        ensures { OnOk result
+            (homes.new.items
+            ≡ with_events homes.old.items
+            (code_events self.now.world.now (walked self.now) (frames_of self.now) self.now.control.now.leaders)) }
+    {
+        'walk: for placed in Instructions::of(self.code) {
+            if let Err(error) = self.keep_place(homes, placed) {
+                return Err(error);
+            }
+        }
+        Ok(())
+    }
+}

@@ -1,0 +1,11 @@
+pub mod Below
+pub mod Turns
+pub mod Notes
+pub mod Sizes
+pub mod Least
+pub mod Pieces
+pub mod Stood
+pub mod Led
+pub mod Reached
+pub mod Adding
+pub mod Whole

@@ -1,0 +1,18 @@
+use Rattle.std.proofs.Common.{List, length}
+use Rattle.std.specs.Prelude.{count_by}
+use Rattle.xf_layout.specs.declared.form.Form.{Form}
+use Rattle.xf_layout.specs.Form.{AreForms}
+use Rattle.xf_layout.specs.Shortest.{Fit, NoWider}
+use Rattle.xf_layout.specs.Places.{HaveRoom}
+use Rattle.xf_layout.specs.Widening.{is_short}
+use Rattle.xf_layout.proofs.plan.Plan.of.Given as goal
+
+abbrev pub invariant-turns : goal.invariant-turns
+invariant-turns l = record {
+  forms : AreForms l.items l.forms.items;
+  least : (others : List Form) → AreForms l.items others → Fit others → NoWider l.forms.items others;
+  room : HaveRoom (length l.places) l.forms.items;
+}
+
+abbrev pub decreases-turns : goal.decreases-turns
+decreases-turns l = count_by is_short l.forms.items

@@ -1,0 +1,7 @@
+pub mod Form
+pub mod Shortest
+pub mod Widening
+pub mod Places
+pub mod Plan
+pub mod Laid
+pub mod Laws

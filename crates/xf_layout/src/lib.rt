@@ -1,0 +1,19 @@
+//! Code whose jumps go to labels, laid in bytes (JCVM 2.2, chapter 7): loads and stores of the first four registers in
+//! their forms without an operand, and each jump short but for the least set that must be wide. It stands on `jc_decode`,
+//! whose definitions say what such code is and what bytes stand for it.
+#![tactic(auto)]
+
+mod cases;
+mod distance;
+mod form;
+mod handlers;
+mod laws;
+mod laying;
+mod places;
+mod plan;
+mod symbols;
+mod widening;
+
+pub use form::Form;
+pub use laws::{laid_is_no_longer, shortest_is_one};
+pub use symbols::{LayEnd, lay};

@@ -1,0 +1,62 @@
+ghost use Rattle.std.specs.Prelude.{◌≡◌, ◌≤◌, ◌<◌, ◌^◌, ℕ, All, Err, IfOk, length};
+ghost use Rattle.jc_decode.specs.Symbols.{IsItem, IsRange, plain_size};
+ghost use Rattle.jc_decode.specs.Standing.{StandsFor};
+ghost use Rattle.xf_layout.specs.Shortest.{IsTooLong, StandsShortest};
+
+use crate::handlers::handlers;
+use crate::laying::lay_items;
+use crate::plan::{LONGEST_CODE, Plan};
+use cap_bytes::View;
+use jc_decode::{Laid, Sequence, Symbols, listing_is_one, nothing_past_the_end, plain_size};
+use std::alloc::{AllocError, Global};
+
+/// Why symbols are not laid.
+#[derive(Clone, Copy)]
+pub enum LayEnd {
+    /// The code is above the 32,767 bytes that a method may have; with the plain size of the symbols.
+    MethodLong(u32),
+    Memory,
+}
+
+impl From<AllocError> for LayEnd {
+    ghost use Rattle.xf_layout.specs.declared.symbols.LayEnd.TheVariants.{Memory};
+
+    ghost from_gives = { λ _ end. end ≡ Memory };
+
+    fn from(_error: AllocError) -> LayEnd {
+        LayEnd::Memory
+    }
+}
+
+/// Lays code whose jumps go to labels in bytes, in the shortest forms of its instructions: loads and stores of registers 0
+/// to 3 have no operand, and each jump an offset of one byte but for the least set that needs two. A switch is that of the
+/// source with other offsets. Each range becomes a handler, one that covers nothing too.
+///
+/// It takes time in proportion to the number of items, times the number of turns in which a jump becomes wide.
+pub fn lay(alloc: Global, source: View, symbols: &Symbols) -> Result<Laid, LayEnd>
+    requires short { length source.bytes.now ≤ 32767 }
+    requires items { All (IsItem source.bytes.now symbols.now.items) symbols.now.items }
+    requires ranges { All (IsRange symbols.now.items) symbols.now.ranges }
+    requires size { plain_size symbols.now.items < 2 ^ 32 }
+    ensures stands { IfOk result (λ laid. StandsFor source.entry.bytes.now symbols.now laid) }
+    ensures shortest { IfOk result (λ laid. StandsShortest source.entry.bytes.now symbols.now laid) }
+    ensures few { IfOk result (λ laid. length laid.code ≤ 32767) }
+    ensures long { (n : ℕ) → result ≡ Err (LayEnd.MethodLong n) → IsTooLong symbols.now.items × (n ≡ plain_size symbols.now.items) }
+{
+    listing_is_one();
+    nothing_past_the_end();
+    let items = symbols.items.as_slice();
+    let plan = Plan::of(alloc, items)?;
+    if plan.end > LONGEST_CODE {
+        return Err(LayEnd::MethodLong(plain_size(items)));
+    }
+    let code = lay_items(alloc, source, items, &plan)?;
+    let handlers = handlers(alloc, symbols.ranges.as_slice(), &plan.places)?;
+    Ok(Laid {
+        code: Sequence::of(code),
+        handlers: Sequence::of(handlers),
+        max_stack: symbols.max_stack,
+        nargs: symbols.nargs,
+        max_locals: symbols.max_locals,
+    })
+}
