@@ -14,7 +14,7 @@ use Rattle.jc_base.specs.declared.ty.Ty.TheVariants.{Class}
 use Rattle.jc_base.specs.Order.{is_below, is_on_chain}
 use Rattle.jc_base.specs.Linked.{IsLinkedClass, IsExtended, IsImplemented}
 use Rattle.jc_base.specs.Leads.{Leads, at_once, further}
-use Rattle.jc_base.specs.Interface.{extended, extended_in, implemented, implemented_in, IsOrExtends, is_or_extends, implements, extended_count}
+use Rattle.jc_base.specs.Interface.{extended, extended_in, implemented, implemented_in, is_or_extends, implements, extended_count}
 use Rattle.jc_base.specs.Laws.{ExtendsDecides, ExtendsEnds}
 use Rattle.vm_instance.specs.Instance.{is_subtype}
 use Rattle.vm_instance.specs.Searched.{AreLeft}
@@ -96,9 +96,9 @@ not-extends t decides i sought r at interface other h =
     let p : ℕ → Bool = λ x. is_or_extends t x sought in
     let leads : Leads (extended t) i sought → ⊥ = λ l. elim l [
       | at_once step ↦
-        false≢true (sym h.none ∙ any-contains p r.implements sought (subst (λ xs. Contains xs sought) (extended-is t i r at interface) step) ((decides sought sought).1 (inl refl)))
+          false≢true (sym h.none ∙ any-contains p r.implements sought (subst (λ xs. Contains xs sought) (extended-is t i r at interface) step) ((decides sought sought).1 (inl refl)))
       | further {b = b} step more ↦
-        false≢true (sym h.none ∙ any-contains p r.implements b (subst (λ xs. Contains xs b) (extended-is t i r at interface) step) ((decides b sought).1 (inr more)))
+          false≢true (sym h.none ∙ any-contains p r.implements b (subst (λ xs. Contains xs b) (extended-is t i r at interface) step) ((decides b sought).1 (inr more)))
     ] in
     false_from_ne_true (is_or_extends t i sought) (λ yes. elim ((decides i sought).0 yes) [ inl same ↦ other same | inr more ↦ leads more ])
 

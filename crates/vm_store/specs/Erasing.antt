@@ -39,7 +39,9 @@ pub record ObjectsErase (s : State Cell) : Type 0 where
 -- so does what is read of a list of cells, and what new objects have
 pub record CellsErase (t : ClassTable) : Type 0 where
   pub cell : (cells : List Cell) (n : ℕ) → word_of (nth tagged cells n) ≡ nth words (map word_of cells) n
-  pub read : (kind : Kind) (cells : List Cell) (at : ℕ) → map word_of (value_in tagged kind cells at) ≡ value_in words kind (map word_of cells) at
+  pub read :
+      (kind : Kind) (cells : List Cell) (at : ℕ)
+      → map word_of (value_in tagged kind cells at) ≡ value_in words kind (map word_of cells) at
   pub popped : (kind : Kind) (stack : List Cell) → map word_of (value_on tagged kind stack) ≡ value_on words kind (map word_of stack)
   pub stored : (kind : Kind) (value : List Cell) → map word_of (kept tagged kind value) ≡ kept words kind (map word_of value)
   pub instance : (c : ℕ) → map word_of (instance_cells tagged t c) ≡ instance_cells words t c
