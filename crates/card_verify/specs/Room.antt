@@ -1,0 +1,8 @@
+-- The room of the verifier.
+use Rattle.std.specs.Prelude.{◌≡◌, List, length}
+use Rattle.jc_base.specs.declared.ty.Ty.{Ty}
+
+-- each has as many cells as a method can declare
+pub record AreFull (regs stack : List Ty) : Type 0 where
+  pub registers : length regs ≡ 255
+  pub cells : length stack ≡ 255
