@@ -84,9 +84,11 @@ pub record IsMislanded (v : Verifier) (arrival : Arrival) (before after : List T
   pub within : fault.depth ≤ length after
 
 -- something is wrong at an instruction with this frame; what is kept stands in the slices
-pub record IsFailing (v : Verifier) (i : Placed) (regs stack : List Ty) (regs_after stack_after : List Ty) (fault : CardFault) : Type 0 where
+pub record IsFailing (v : Verifier) (i : Placed) (regs stack regs_after stack_after : List Ty) (fault : CardFault) : Type 0 where
   pub place : fault.place ≡ i.place
-  pub wrong : IsWrong (world_of v) (method v) i (record { regs = regs; stack = stack }) fault.kind (frame_of regs_after stack_after fault.depth)
+  pub wrong :
+      IsWrong (world_of v) (method v) i (record { regs = regs; stack = stack }) fault.kind
+      (frame_of regs_after stack_after fault.depth)
   pub within : fault.depth ≤ length stack_after
 
 -- what the rule of an instruction leaves is in order: no cells after a branch or switch, and the code goes on after what falls through
@@ -105,7 +107,9 @@ IsLeftWrong v i depth _ = ⊥
 
 -- the rule of an instruction has applied, and nothing is wrong
 pub record IsStepped (v : Verifier) (i : Placed) (regs stack regs_after stack_after : List Ty) (o : Outcome) : Type 0 where
-  pub passed : IsPassed (world_of v) (method v) i (record { regs = regs; stack = stack }) (frame_of regs_after stack_after o.depth) o
+  pub passed :
+      IsPassed (world_of v) (method v) i (record { regs = regs; stack = stack })
+      (frame_of regs_after stack_after o.depth) o
   pub rises :
       MatchBool o.rose
       (sum_by (rises_left (world_of v).classes) regs_after < sum_by (rises_left (world_of v).classes) regs)
@@ -142,8 +146,8 @@ pub record IsSettled (v : Verifier) (regs regs_after : List Ty) : Type 0 where
   pub same : regs_after ≡ regs
   pub quiet : IsQuiet (world_of v) (method v) regs true [] (listing (method v).code)
 
--- what stands in the registers after some instructions: a register rose; or none did, and if nothing is wrong at the others then nothing was
--- wrong at any
+-- what stands in the registers after some instructions: a register rose; or none did, and if nothing is wrong at the
+-- others then nothing was wrong at any
 abbrev pub IsProgress : Verifier → List Ty → Bool → List Ty → Bool → List Ty → List Placed → Type 0
 IsProgress v begun rose regs may_fall given yielded =
     MatchBool rose

@@ -45,7 +45,10 @@ impl Verifier<'_> {
             MatchBool rose
             (IsRaisedBy self.now regs.old regs.new stack.new)
             (IsSettled self.now regs.old regs.new)) }
-        ensures refused { IfErr result (λ fault. IsRefused (world_of self.now) (method self.now) fault (frame_of regs.new stack.new fault.depth)) }
+        ensures refused { IfErr result
+            (λ fault.
+            IsRefused (world_of self.now) (method self.now) fault
+            (frame_of regs.new stack.new fault.depth)) }
     {
         let mut ahead = Ahead::of(*self);
         let mut arrival = Arrival {
@@ -96,7 +99,9 @@ impl Verifier<'_> {
     fn land(&self, ahead: Ahead, arrival: Arrival, stack: &mut [Ty]) -> Result<u8, CardFault>
         requires verifier { IsVerifier self.now }
         requires ahead { IsAhead (method self.now) ahead }
-        requires fallen { MatchBool arrival.may_fall (IsFallenInto (method self.now) ahead.from) (¬ (IsFallenInto (method self.now) ahead.from)) }
+        requires fallen { MatchBool arrival.may_fall
+            (IsFallenInto (method self.now) ahead.from)
+            (¬ (IsFallenInto (method self.now) ahead.from)) }
         requires cells { length stack.old ≡ self.now.rec.now.max_stack }
         requires depth { arrival.depth ≤ self.now.rec.now.max_stack }
         ensures landed { IfOk result (λ depth. IsLanded self.now ahead.from arrival stack.old (cells stack.new depth)) }
@@ -138,7 +143,9 @@ impl Verifier<'_> {
         requires verifier { IsVerifier self.now }
         requires ahead { IsAhead (method self.now) ahead }
         requires entry { IsEntry (method self.now) ahead.from }
-        requires fallen { MatchBool arrival.may_fall (IsFallenInto (method self.now) ahead.from) (¬ (IsFallenInto (method self.now) ahead.from)) }
+        requires fallen { MatchBool arrival.may_fall
+            (IsFallenInto (method self.now) ahead.from)
+            (¬ (IsFallenInto (method self.now) ahead.from)) }
         requires cells { length stack.old ≡ self.now.rec.now.max_stack }
         ensures landed { IfOk result (λ depth. IsLanded self.now ahead.from arrival stack.old (cells stack.new depth)) }
         ensures depth { IfOk result (λ depth. depth ≤ self.now.rec.now.max_stack) }
@@ -175,7 +182,8 @@ impl Verifier<'_> {
         requires stands { Stands (method self.now).code placed }
         requires slices { HasSlices self.now regs.old stack.old }
         requires depth { depth ≤ self.now.rec.now.max_stack }
-        requires known { All (IsKnown (world_of self.now).classes) regs.old × All (IsKnown (world_of self.now).classes) (cells stack.old depth) }
+        requires known { All (IsKnown (world_of self.now).classes) regs.old
+            × All (IsKnown (world_of self.now).classes) (cells stack.old depth) }
         requires suits { IsOpenTo (method self.now) placed.place (cells stack.old depth) }
         ensures passed { IfOk result (λ o. IsStepped self.now placed regs.old (cells stack.old depth) regs.new stack.new o) }
         ensures fails { IfErr result (λ fault. IsFailing self.now placed regs.old (cells stack.old depth) regs.new stack.new fault) }

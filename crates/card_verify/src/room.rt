@@ -19,17 +19,23 @@ pub struct CardRoom {
 }
 
 impl Model for CardRoom {
+    ghost use Rattle.card_verify.specs.Room.{Room};
+
+    ghost Value = { Room };
+
+    ghost use Rattle.std.specs.Prelude.{length};
     ghost use Rattle.card_verify.specs.Room.{AreFull};
 
-    ghost Value = { Unit {0} };
-
-    ghost view = { λ r. tt };
+    ghost view = { λ r. record { registers = length r.regs.items; cells = length r.stack.items } };
 
     ghost invariant = { λ r. AreFull r.regs.items r.stack.items };
 }
 
 impl CardRoom {
-    pub fn new() -> CardRoom {
+    /// Room for as many registers and cells as a method can declare.
+    pub fn new() -> CardRoom
+        ensures { result ≡ record { registers = 255; cells = 255 } }
+    {
         CardRoom {
             regs: ArrayVec::from_array_in((), [Ty::Bottom; MOST]),
             stack: ArrayVec::from_array_in((), [Ty::Bottom; MOST]),
