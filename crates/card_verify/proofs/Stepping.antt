@@ -10,7 +10,7 @@ use Rattle.jc_rules.specs.declared.effect.Mode.TheVariants.{Card}
 use Rattle.jc_rules.specs.declared.rule.Outcome.{Outcome}
 use Rattle.jc_rules.specs.Stack.{cells}
 use Rattle.jc_rules.specs.Apply.{frame_of, HasRoom, Applies, Refuses}
-use Rattle.jc_rules.specs.Flow.{site_of}
+use Rattle.card_typing.proofs.Sites.{site_of, of-site, refuses-of-site}
 use Rattle.card_typing.specs.declared.fault.CardFault.{CardFault}
 use Rattle.card_typing.specs.declared.fault.CardKind.{CardKind}
 use Rattle.card_typing.specs.declared.fault.CardKind.TheVariants.{Code, Rule, StackAtTarget, StackAtBranch, HandlerEntered, BadTarget, FallsOff, BadHandler}
@@ -21,9 +21,6 @@ use Rattle.card_verify.specs.declared.pass.Arrival.{Arrival}
 use Rattle.card_verify.specs.Verifier.{method, world_of}
 use Rattle.card_verify.specs.Walk.{IsVerifier, HasSlices, IsLanded, IsMislanded, IsLeftWell, IsLeftWrong, IsFailing, IsStepped, IsVisited, IsStopped}
 use Rattle.card_verify.proofs.Landing.{no-cells}
-
-some-same : {x y : MethodRec} → ◌≡◌ {A = Option MethodRec} (Some x) (Some y) → x ≡ y
-some-same e = cc
 
 module _ (v : Verifier) (is : IsVerifier v) where
   pub has-room : (regs stack : List Ty) (depth : ℕ) → HasSlices v regs stack → depth ≤ v.rec.now.max_stack → IsSomeAnd (slice_get (world_of v).methods v.number) (λ m. HasRoom m regs stack depth)
@@ -38,16 +35,15 @@ module _ (v : Verifier) (is : IsVerifier v) where
     fail-rule fault le same refuses = record {
       place = refl;
       wrong = subst (λ (xs : List Ty). IsWrong (world_of v) (method v) i (frame_of regs stack depth) (Rule fault) (frame_of xs stack_after depth)) (sym same.0)
-          (subst (λ (ys : List Ty). IsWrong (world_of v) (method v) i (frame_of regs stack depth) (Rule fault) (frame_of regs ys depth)) (sym same.1) (wrong_rule fault suits refuses));
+          (subst (λ (ys : List Ty). IsWrong (world_of v) (method v) i (frame_of regs stack depth) (Rule fault) (frame_of regs ys depth)) (sym same.1) (wrong_rule fault suits (refuses-of-site (world_of v) (method v) is.known refuses)));
       within = omega (arith, le, long);
     }
 
     module _ (o : Outcome) (applies : Applies (world_of v) (site_of (method v) i.place) i.insn Card (frame_of regs stack depth) (frame_of regs_after stack_after o.depth) o) where
       shallow : o.depth ≤ v.rec.now.max_stack
       shallow =
-          let same : applies.method ≡ v.rec.now = some-same (sym applies.is_method ∙ is.known.rec) in
-          let room = subst (λ (r : MethodRec). length (cells stack_after o.depth) ≤ r.max_stack) same applies.rule.does.room in
-          omega (arith, room, applies.rule.does.depth)
+          let does = (of-site (world_of v) (method v) is.known applies).does in
+          omega (arith, does.room, does.depth)
 
       left-none : o.depth ≡ 0 → cells stack_after o.depth ≡ []
       left-none e = ap (cells stack_after) e ∙ no-cells stack_after
@@ -56,7 +52,7 @@ module _ (v : Verifier) (is : IsVerifier v) where
           → MatchBool o.rose (sum_by (rises_left (world_of v).classes) regs_after < sum_by (rises_left (world_of v).classes) regs) (regs_after ≡ regs)
           → IsStepped v i regs (cells stack depth) regs_after stack_after o
       stepped well count rises = record {
-        passed = record { stands = there; suits = suits; applies = applies; branch = λ j. left-none (well.branch j); goes_on = well.goes_on };
+        passed = record { stands = there; suits = suits; applies = of-site (world_of v) (method v) is.known applies; branch = λ j. left-none (well.branch j); goes_on = well.goes_on };
         rises = rises;
         slices = record { registers = count; cells = long };
         depth = shallow;
@@ -68,10 +64,10 @@ module _ (v : Verifier) (is : IsVerifier v) where
 
       pub fail-left : (kind : CardKind) → IsLeftWrong v i o.depth kind → IsFailing v i regs (cells stack depth) regs_after stack_after (record { place = i.place; depth = o.depth; kind = kind })
       fail-left StackAtBranch h =
-          failing StackAtBranch (wrong_branch (frame_of regs_after stack_after o.depth) o suits applies h.0 (λ e. h.1 (applies.rule.does.depth ∙ ap length e)))
+          failing StackAtBranch (wrong_branch (frame_of regs_after stack_after o.depth) o suits (of-site (world_of v) (method v) is.known applies) h.0 (λ e. h.1 (applies.rule.does.depth ∙ ap length e)))
       fail-left FallsOff h =
           let reach = (is.order (method v).code).within i there in
-          failing FallsOff (wrong_end (frame_of regs_after stack_after o.depth) o suits applies (λ j. left-none (h.0 j)) h.1 (omega (arith, reach, h.2)))
+          failing FallsOff (wrong_end (frame_of regs_after stack_after o.depth) o suits (of-site (world_of v) (method v) is.known applies) (λ j. left-none (h.0 j)) h.1 (omega (arith, reach, h.2)))
       fail-left (Code end) h = absurd h
       fail-left (Rule fault) h = absurd h
       fail-left StackAtTarget h = absurd h

@@ -10,7 +10,7 @@ use Rattle.jc_decode.specs.declared.insn.Placed.{Placed}
 use Rattle.jc_decode.specs.Listing.{falls, listing, Lists, end_from}
 use Rattle.jc_control.specs.Method.{Method}
 use Rattle.jc_control.specs.WellFormed.{Stands}
-use Rattle.jc_control.specs.Laws.{AreInOrder}
+use Rattle.jc_control.specs.Laws.{AreListed}
 use Rattle.jc_rules.specs.declared.rule.Outcome.{Outcome}
 use Rattle.jc_rules.specs.Demand.{AreKnown}
 use Rattle.jc_rules.specs.Stack.{cells}
@@ -39,9 +39,9 @@ end-after at (p ∷ ps) i = end-after (at + p.insn.len) ps i
 
 -- ---- places that are not fallen into
 
-module _ (m : Method) (order : AreInOrder m.code) (i : Placed) (there : Stands m.code i) where
+module _ (m : Method) (order : AreListed m.code) (i : Placed) (there : Stands m.code i) where
   long : 0 < i.insn.len
-  long = order.long i.place i.insn (order.found i there)
+  long = order.long i.place i.insn (order.decodes i there)
 
   pub inside : i.place < length m.code
   inside = let w = order.within i there in let l = long in omega (arith, w, l)
@@ -55,7 +55,7 @@ module _ (m : Method) (order : AreInOrder m.code) (i : Placed) (there : Stands m
       after : i.place < j.place → ⊥
       after lt =
           let a = order.after i j there here lt in
-          let l : 0 < j.insn.len = order.long j.place j.insn (order.found j here) in
+          let l : 0 < j.insn.len = order.long j.place j.insn (order.decodes j here) in
           absurd (omega (arith, a, l, e))
 
   -- after an instruction that doesn't fall through

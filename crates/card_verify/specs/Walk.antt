@@ -10,7 +10,7 @@ use Rattle.jc_decode.specs.declared.insn.Placed.{Placed}
 use Rattle.jc_decode.specs.Listing.{listing, falls, jumps}
 use Rattle.jc_control.specs.Method.{IsMethodOf}
 use Rattle.jc_control.specs.WellFormed.{IsWellFormed}
-use Rattle.jc_control.specs.Laws.{InstructionsStandInOrder}
+use Rattle.jc_control.specs.Laws.{InstructionsAreListed}
 use Rattle.jc_rules.specs.declared.rule.Outcome.{Outcome}
 use Rattle.jc_rules.specs.Stack.{cells}
 use Rattle.jc_rules.specs.Apply.{frame_of}
@@ -32,7 +32,7 @@ pub record IsVerifier (v : Verifier) : Type 0 where
   pub formed : IsWellFormed (method v)
   pub world : IsWorld (world_of v)
   pub sound : MetIsSound (world_of v)
-  pub order : InstructionsStandInOrder
+  pub order : InstructionsAreListed
 
 -- the lent slices have the lengths that the method declares
 pub record HasSlices (v : Verifier) (regs stack : List Ty) : Type 0 where

@@ -15,7 +15,7 @@ use crate::verifier::Verifier;
 use cap_bytes::View;
 use card_typing::{CardFault, CardKind, card_laws};
 use jc_base::{Ty, World};
-use jc_control::{Flaw, Places, Subject, find_flaw, instructions_stand_in_order};
+use jc_control::{Flaw, Places, Subject, find_flaw, instructions_are_placed};
 use jc_rules::rule_laws;
 
 /// Verifies a method with code as a verifier on the card does, in the registers and the stack that are lent: a cell for
@@ -115,7 +115,7 @@ impl Verifier<'_> {
     {
         card_laws(self.world);
         rule_laws(self.world);
-        instructions_stand_in_order();
+        instructions_are_placed();
         start(self.rec, regs);
         self.settle(regs, stack)
     }

@@ -16,7 +16,7 @@ settle-requires-clause-verifier c = record {
   formed = c.requires.formed;
   world = c.rule_laws.ensures.world;
   sound = c.card_laws.ensures.sound;
-  order = c.instructions_stand_in_order.ensures;
+  order = c.instructions_are_placed.ensures.listed;
 }
 
 pub settle-requires-clause-begun : goal.settle-requires-clause-begun
