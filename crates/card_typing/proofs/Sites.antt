@@ -34,3 +34,9 @@ module _ (w : Linked) (m : Method) (mo : IsMethodOf w m) where
       → RuleRefuses w m.rec p i f fault
       → Refuses w (site_of m p) i f fault
   refuses-at-site r = record { method = m.rec; is_method = mo.rec; rule = r }
+
+  pub refuses-of-site :
+      {p : ℕ} {i : Insn} {f : Frame} {fault : RuleFault}
+      → Refuses w (site_of m p) i f fault
+      → RuleRefuses w m.rec p i f fault
+  refuses-of-site {p} {i} {f} {fault} r = subst (λ rec. RuleRefuses w rec p i f fault) (some-same r.is_method mo.rec) r.rule

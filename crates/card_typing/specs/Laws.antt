@@ -27,7 +27,8 @@ MetIsBelow w =
     → IsMet w m place met
     → FrameBelow w.classes met (frame_at regs stacks place)
 
--- what holds of each met state: its types are of the world, no register holds an uninitialised object, and none has fallen below what it starts as
+-- what holds of each met state: its types are of the world, no register holds an uninitialised object, and none has fallen
+-- below what it starts as
 pub record IsSoundState (w : Linked) (m : Method) (met : Frame) : Type 0 where
   pub known : AreKnown w.classes met
   pub ready : All IsNotFresh met.regs

@@ -1,4 +1,5 @@
--- The states that the verifier on the card meets as it walks the instructions in the order of the code, pass after pass (Leroy 2002, section 3).
+-- The states that the verifier on the card meets as it walks the instructions in the order of the code, pass after pass
+-- (Leroy 2002, section 3).
 use Rattle.std.specs.Prelude.{◌≡◌, ℕ, ◌+◌, ◌<◌, Bool, true, false, List, [], ◌∷◌, length, IsTrue}
 use Rattle.jc_base.specs.declared.ty.Ty.{Ty}
 use Rattle.jc_base.specs.declared.ty.Ty.TheVariants.{Bottom, Class}
@@ -14,23 +15,23 @@ use Rattle.jc_rules.specs.Apply.{RuleApplies}
 use Rattle.jc_rules.specs.Flow.{start_frame}
 use Rattle.card_typing.specs.Place.{IsTarget, IsEntry, IsFallenInto, CatchesAt}
 
--- The stack before a place, where the instruction before it may fall through and gives a stack: that stack, or the empty one where it doesn't;
--- but where a handler begins, the object that is caught there, if the method has room for it.
+-- The stack before a place, where the instruction before it may fall through and gives a stack: that stack, or the empty
+-- one where it doesn't; but where a handler begins, the object that is caught there, if the method has room for it.
 pub data Arrives (w : Linked) (m : Method) (may_fall : Bool) (given : List Ty) (q : ℕ) : List Ty → Type 0 where
   arrives_falling : ¬ (IsEntry m q) → may_fall ≡ true → Arrives w m may_fall given q given
   arrives_empty : ¬ (IsEntry m q) → may_fall ≡ false → Arrives w m may_fall given q []
   arrives_caught : (c : ℕ) → IsEntry m q → ¬ (m.rec.max_stack ≡ 0) → CatchesAt w.classes m q c → Arrives w m may_fall given q (Class c ∷ [])
   arrives_full : IsEntry m q → m.rec.max_stack ≡ 0 → Arrives w m may_fall given q []
 
--- the place may have this stack: where a handler begins it is neither fallen into nor a target, and there is room for the caught object; a target
--- is fallen into with the empty stack alone
+-- the place may have this stack: where a handler begins it is neither fallen into nor a target, and there is room for the
+-- caught object; a target is fallen into with the empty stack alone
 pub record IsOpenTo (m : Method) (q : ℕ) (stack : List Ty) : Type 0 where
   pub entry : IsEntry m q → ¬ (IsFallenInto m q) × ¬ (IsTarget m q)
   pub caught : IsEntry m q → ¬ (m.rec.max_stack ≡ 0)
   pub target : IsTarget m q → IsFallenInto m q → stack ≡ []
 
--- nothing is wrong at an instruction with this frame: its place may have the stack, its rule applies on the card, a branch or switch leaves the stack
--- empty, and the code goes on where it falls through
+-- nothing is wrong at an instruction with this frame: its place may have the stack, its rule applies on the card, a branch
+-- or switch leaves the stack empty, and the code goes on where it falls through
 pub record IsPassed (w : Linked) (m : Method) (i : Placed) (before after : Frame) (o : Outcome) : Type 0 where
   pub stands : Stands m.code i
   pub suits : IsOpenTo m i.place before.stack
@@ -43,8 +44,8 @@ pub data GoesTo (m : Method) (at : ℕ) : ℕ → Type 0 where
   goes_there : at < length m.code → GoesTo m at at
   goes_again : at ≡ length m.code → GoesTo m at 0
 
--- The least set of places with frames that has the method's start, and after a member at which nothing is wrong the next place, with the registers as
--- the rule has raised them.
+-- The least set of places with frames that has the method's start, and after a member at which nothing is wrong the next
+-- place, with the registers as the rule has raised them.
 pub data IsMet (w : Linked) (m : Method) : ℕ → Frame → Type 0 where
   met_start :
       (stack : List Ty)

@@ -20,9 +20,10 @@ use Rattle.card_typing.specs.declared.fault.CardKind.TheVariants.{Code, Rule, St
 use Rattle.card_typing.specs.Place.{IsTarget, IsEntry, IsFallenInto}
 use Rattle.card_typing.specs.Met.{IsOpenTo, IsMet}
 
--- What is wrong first at an instruction with a frame, and the frame that is kept: this one, or what the rule gives where that is at fault. A
--- handler begins at the place, which is fallen into or a target; or there is no room for the object that it catches; a target is fallen into with
--- cells on the stack; the rule refuses; a branch or switch leaves cells on the stack; the last instruction falls through.
+-- What is wrong first at an instruction with a frame, and the frame that is kept: this one, or what the rule gives where
+-- that is at fault. A handler begins at the place, which is fallen into or a target; or there is no room for the object
+-- that it catches; a target is fallen into with cells on the stack; the rule refuses; a branch or switch leaves cells on
+-- the stack; the last instruction falls through.
 pub data IsWrong (w : Linked) (m : Method) (i : Placed) (before : Frame) : CardKind → Frame → Type 0 where
   wrong_entry : IsEntry m i.place → IsFallenInto m i.place ⊎ IsTarget m i.place → IsWrong w m i before HandlerEntered before
   wrong_room :

@@ -1,5 +1,6 @@
--- Card typings of a method: what a verifier on the card accepts (Leroy 2002, section 3). Its requirement R1: the stack is empty at every branch,
--- once its operands are popped, and at every branch target. Its requirement R2: each register has one type throughout the method.
+-- Card typings of a method: what a verifier on the card accepts (Leroy 2002, section 3). Its requirement R1: the stack is
+-- empty at every branch, once its operands are popped, and at every branch target. Its requirement R2: each register has
+-- one type throughout the method.
 use Rattle.std.specs.Prelude.{◌≡◌, ℕ, ◌+◌, ◌<◌, ◌≤◌, List, [], ◌∷◌, length, All, IsTrue, false}
 use Rattle.jc_base.specs.declared.ty.Ty.{Ty}
 use Rattle.jc_base.specs.declared.ty.Ty.TheVariants.{Bottom, Class}
@@ -23,9 +24,9 @@ pub record GoesOn (m : Method) (stacks : ℕ → List Ty) (i : Placed) (given : 
   pub no_entry : ¬ (IsEntry m (i.place + i.insn.len))
   pub next : stacks (i.place + i.insn.len) ≡ given
 
--- what an instruction, reached or not, asks of the registers and of the stacks: its rule applies, what it stores is below the type of its
--- register, and a branch or switch leaves the stack empty; the next place has the stack that it gives, or the empty one where it doesn't fall
--- through and no handler begins there
+-- what an instruction, reached or not, asks of the registers and of the stacks: its rule applies, what it stores is below
+-- the type of its register, and a branch or switch leaves the stack empty; the next place has the stack that it gives, or
+-- the empty one where it doesn't fall through and no handler begins there
 pub record IsTyped (w : Linked) (m : Method) (regs : List Ty) (stacks : ℕ → List Ty) (i : Placed) : Type 0 where
   pub after : Frame
   pub applies : Steps w m i (frame_at regs stacks i.place) after
@@ -40,9 +41,10 @@ pub record IsEntered (w : Linked) (m : Method) (stacks : ℕ → List Ty) (q : �
   pub catches : CatchesAt w.classes m q class
   pub stack : stacks q ≡ Class class ∷ []
 
--- one list of registers, and a stack before each place, for a well-formed method. The registers have types of the world, and none is an uninitialised
--- object; the receiver and the declared arguments are below them. The stack is empty at the method's start and at each target; where a handler
--- begins it is the caught object, and no target; and no stack is deeper than the method declares
+-- one list of registers, and a stack before each place, for a well-formed method. The registers have types of the world,
+-- and none is an uninitialised object; the receiver and the declared arguments are below them. The stack is empty at the
+-- method's start and at each target; where a handler begins it is the caught object, and no target; and no stack is deeper
+-- than the method declares
 pub record CardTyping (w : Linked) (m : Method) (regs : List Ty) (stacks : ℕ → List Ty) : Type 0 where
   pub formed : IsWellFormed m
   pub types : All (IsKnown w.classes) regs

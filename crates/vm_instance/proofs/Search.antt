@@ -14,7 +14,7 @@ use Rattle.jc_base.specs.declared.ty.Ty.TheVariants.{Class}
 use Rattle.jc_base.specs.Order.{is_below, is_on_chain}
 use Rattle.jc_base.specs.Linked.{IsLinkedClass, IsExtended, IsImplemented}
 use Rattle.jc_base.specs.Leads.{Leads, at_once, further}
-use Rattle.jc_base.specs.Interface.{extended, extended_in, implemented, implemented_in, IsOrExtends, is_or_extends, implements, extended_count}
+use Rattle.jc_base.specs.Interface.{extended, extended_in, implemented, implemented_in, is_or_extends, implements, extended_count}
 use Rattle.jc_base.specs.Laws.{ExtendsDecides, ExtendsEnds}
 use Rattle.vm_instance.specs.Instance.{is_subtype}
 use Rattle.vm_instance.specs.Searched.{AreLeft}

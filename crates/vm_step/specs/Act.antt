@@ -1,8 +1,10 @@
 -- What an operation comes to in a state that has what it asks (JCVM 2.2, section 3.5 and chapter 7).
-use Rattle.std.specs.Prelude.{ℕ, zero, suc, ℤ, List}
+use Rattle.std.specs.Prelude.{ℕ, ◌==◌, if◌then◌else◌, ℤ, List, Option, Some, None}
 use Rattle.vm_store.specs.declared.kind.ObjectKind.{ObjectKind}
 use Rattle.vm_store.specs.State.{State}
 use Rattle.vm_step.specs.declared.ending.Value.{Value}
+use Rattle.vm_step.specs.declared.exception.Exception.{Exception}
+use Rattle.vm_step.specs.declared.exception.Exception.TheVariants.{NullPointer, Arithmetic, ArrayIndex, NegativeSize, ClassCast, ArrayStore}
 
 pub data Act (A : Type 0) : Type 0 where
   -- on to the instruction after, in this state
@@ -15,34 +17,27 @@ pub data Act (A : Type 0) : Type 0 where
   calls : ℕ → ℕ → State A → Act A
   -- the method ends with this value, whose cells come on the stack of the caller
   gives : Value → List A → Act A
-  -- an object of the class of a role is thrown
-  raises : ℕ → Act A
+  -- an exception is thrown, of which an object is made first
+  raises : Exception → Act A
   -- the object of a handle is thrown
   throws : ℕ → Act A
   -- an object of this class has no method for that of an interface
   lacks : ℕ → Act A
 
--- ---- the roles of the exceptions that instructions raise
-
-abbrev pub null_pointer : ℕ
-null_pointer = 2
-
-abbrev pub arithmetic_exception : ℕ
-arithmetic_exception = 3
-
-abbrev pub array_index : ℕ
-array_index = 4
-
-abbrev pub negative_size : ℕ
-negative_size = 5
-
-abbrev pub class_cast : ℕ
-class_cast = 6
-
-abbrev pub array_store : ℕ
-array_store = 7
+-- the role of the class of an exception, among the eight of a world
+abbrev pub role_of : Exception → ℕ
+role_of NullPointer = 2
+role_of Arithmetic = 3
+role_of ArrayIndex = 4
+role_of NegativeSize = 5
+role_of ClassCast = 6
+role_of ArrayStore = 7
 
 -- what is done with the object of a handle; null is refused
 abbrev pub unless_null : {A : Type 0} → ℕ → (ℕ → Act A) → Act A
-unless_null zero act = raises null_pointer
-unless_null (suc h) act = act (suc h)
+unless_null h act = if h == 0 then raises NullPointer else act h
+
+-- what is done with a thing, where there is one; where there is none, an exception is thrown
+abbrev pub if_some : {A X : Type 0} → Exception → Option X → (X → Act A) → Act A
+if_some exception None act = raises exception
+if_some exception (Some x) act = act x

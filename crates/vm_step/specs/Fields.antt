@@ -17,8 +17,9 @@ use Rattle.vm_store.specs.Cells.{Cells}
 use Rattle.vm_store.specs.State.{State, Object, top}
 use Rattle.vm_store.specs.Objects.{kinds, object_at, object_cells, element_count}
 use Rattle.vm_store.specs.Value.{value_in, value_on, kept, with_object_value, with_static_value}
-use Rattle.vm_instance.specs.Instance.{is_instance}
-use Rattle.vm_step.specs.Act.{Act, goes, raises, unless_null, array_index, array_store}
+use Rattle.vm_step.specs.Objects.{kind_passes}
+use Rattle.vm_step.specs.declared.exception.Exception.TheVariants as exceptions
+use Rattle.vm_step.specs.Act.{Act, goes, raises, unless_null, if_some}
 use Rattle.vm_step.specs.Numbers.{handle_at, short_at, dropped, pushed, replaced}
 
 -- ---- static fields
@@ -64,10 +65,14 @@ elements_in (Some o) = element_count o
 abbrev pub elements_of : {A : Type 0} → State A → ℕ → ℕ
 elements_of s h = elements_in (object_at s h)
 
--- what is done with the element of an index, which an array of so many elements has to have
+-- the index of an element, which an array of so many elements has to have
+abbrev pub index_in : ℤ → ℕ → Option ℕ
+index_in (pos i) count = if nat_lt i count then Some i else None
+index_in (negsuc i) count = None
+
+-- what is done with that element
 abbrev pub at_element : {A : Type 0} → ℤ → ℕ → (ℕ → Act A) → Act A
-at_element (pos i) count act = if nat_lt i count then act i else raises array_index
-at_element (negsuc i) count act = raises array_index
+at_element index count act = if_some exceptions.ArrayIndex (index_in index count) act
 
 -- the index is on the array
 abbrev pub array_read_act : {A : Type 0} → Cells A → Kind → State A → Act A
@@ -76,12 +81,8 @@ array_read_act k kind s =
     (λ h. at_element (short_at k (top s).stack 0) (elements_of s h)
     (λ i. goes (replaced s 2 (value_in k kind (object_cells s h) (i * width kind)))))
 
-abbrev pub instance_in : ClassTable → ℕ → Option ObjectKind → Bool
-instance_in t class None = false
-instance_in t class (Some kind) = is_instance t kind (Class class)
-
 abbrev pub takes_element : ClassTable → List ObjectKind → Option ObjectKind → ℕ → Bool
-takes_element t ks (Some (References class)) value = value == 0 || instance_in t class (kind_of_handle ks value)
+takes_element t ks (Some (References class)) value = value == 0 || kind_passes t (Class class) (kind_of_handle ks value)
 takes_element t ks array value = true
 
 -- whether an array may keep a value: one of references keeps null and the instances of its class or interface
@@ -101,7 +102,7 @@ abbrev pub array_write_act : {A : Type 0} → Cells A → ClassTable → Kind �
 array_write_act k t kind s =
     unless_null (handle_at k (top s).stack (width kind + 1))
     (λ h. at_element (short_at k (top s).stack (width kind)) (elements_of s h)
-    (λ i. if keeps_kind k t kind s h then goes (with_element k kind h i s) else raises array_store))
+    (λ i. if keeps_kind k t kind s h then goes (with_element k kind h i s) else raises exceptions.ArrayStore))
 
 abbrev pub array_length_act : {A : Type 0} → Cells A → State A → Act A
 array_length_act k s =

@@ -13,3 +13,4 @@ pub mod Settled
 pub mod Step
 pub mod Run
 pub mod Laws
+pub mod Worked

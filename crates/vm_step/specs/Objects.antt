@@ -1,5 +1,5 @@
 -- New objects, and what an object is an instance of (JCVM 2.2, chapter 7).
-use Rattle.std.specs.Prelude.{ℕ, zero, suc, ℤ, pos, negsuc, Bool, true, false, if◌then◌else◌, List, [], ◌∷◌, Option, Some, None}
+use Rattle.std.specs.Prelude.{ℕ, ℤ, pos, negsuc, ◌==◌, ◌||◌, Bool, true, false, if◌then◌else◌, List, [], ◌∷◌, Option, Some, None}
 use Rattle.jc_base.specs.declared.ty.Ty.{Ty}
 use Rattle.jc_base.specs.declared.ty.Ty.TheVariants.{ArrBool, ArrByte, ArrShort, ArrInt, ArrRef}
 use Rattle.jc_base.specs.Class.{ClassTable}
@@ -12,7 +12,8 @@ use Rattle.vm_store.specs.Cells.{Cells}
 use Rattle.vm_store.specs.State.{State, top}
 use Rattle.vm_store.specs.Objects.{kinds, instance_cells, array_cells}
 use Rattle.vm_instance.specs.Instance.{is_instance}
-use Rattle.vm_step.specs.Act.{Act, goes, makes, raises, throws, unless_null, negative_size, class_cast}
+use Rattle.vm_step.specs.declared.exception.Exception.TheVariants as exceptions
+use Rattle.vm_step.specs.Act.{Act, goes, makes, raises, throws, unless_null}
 use Rattle.vm_step.specs.Numbers.{handle_at, short_at, dropped, replaced}
 
 -- an object on which no constructor was called yet
@@ -30,7 +31,7 @@ kind_of_type ty = Ints
 -- an array of so many elements; none of fewer than none
 abbrev pub array_of_count : {A : Type 0} → Cells A → ObjectKind → ℤ → State A → Act A
 array_of_count k kind (pos count) s = makes kind (array_cells k kind count) k.reference s
-array_of_count k kind (negsuc n) s = raises negative_size
+array_of_count k kind (negsuc n) s = raises exceptions.NegativeSize
 
 abbrev pub new_array_act : {A : Type 0} → Cells A → Ty → State A → Act A
 new_array_act k ty s = array_of_count k (kind_of_type ty) (short_at k (top s).stack 0) (dropped s 1)
@@ -48,13 +49,12 @@ passes t s ty h = kind_passes t ty (kind_of_handle (kinds s) h)
 
 -- null may be cast to every type, and is an instance of none
 abbrev pub may_cast : {A : Type 0} → ClassTable → State A → Ty → ℕ → Bool
-may_cast t s ty zero = true
-may_cast t s ty (suc h) = passes t s ty (suc h)
+may_cast t s ty h = h == 0 || passes t s ty h
 
 abbrev pub truth : Bool → ℤ
 truth true = pos 1
 truth false = pos 0
 
 abbrev pub type_test_act : {A : Type 0} → Cells A → ClassTable → TypeTest → Ty → State A → Act A
-type_test_act k t tests.Cast ty s = if may_cast t s ty (handle_at k (top s).stack 0) then goes s else raises class_cast
+type_test_act k t tests.Cast ty s = if may_cast t s ty (handle_at k (top s).stack 0) then goes s else raises exceptions.ClassCast
 type_test_act k t tests.InstanceOf ty s = goes (replaced s 1 (k.short (truth (passes t s ty (handle_at k (top s).stack 0))) ∷ []))

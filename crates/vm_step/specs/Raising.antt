@@ -12,6 +12,8 @@ use Rattle.vm_store.specs.Objects.{has_room, instance_cells, with_object}
 use Rattle.vm_step.specs.declared.ending.Plain.TheVariants.{Threw, HeapFull}
 use Rattle.vm_step.specs.declared.ending.Ending.{Ending}
 use Rattle.vm_step.specs.declared.ending.Ending.TheVariants.{Plain}
+use Rattle.vm_step.specs.declared.exception.Exception.{Exception}
+use Rattle.vm_step.specs.Act.{role_of}
 use Rattle.vm_step.specs.Methods.{handlers_of}
 use Rattle.vm_step.specs.Calls.{class_of}
 
@@ -49,10 +51,10 @@ unwound k w class handle s (f ∷ below) =
 abbrev pub thrown : {A : Type 0} → Cells A → Linked → ℕ → State A → Outcome A
 thrown k w handle s = unwound k w (class_of w.classes s handle) handle s s.frames
 
--- an object of the class of a role is made and thrown, where it has room
-abbrev pub raised : {A : Type 0} → Cells A → Linked → ℕ → State A → Outcome A
-raised k w role s =
-    let class = slice_index w.classes.roles role in
+-- an object of an exception's class is made and thrown, where it has room
+abbrev pub raised : {A : Type 0} → Cells A → Linked → Exception → State A → Outcome A
+raised k w exception s =
+    let class = slice_index w.classes.roles (role_of exception) in
     if has_room s (length (cells_of w.classes class))
     then thrown k w (length s.heap + 1) (with_object s (Instance class) (instance_cells k w.classes class))
     else ends (Plain HeapFull) s

@@ -102,6 +102,6 @@ settled k w next s (jumps to z) = jumps_to k w to z
 settled k w next s (makes kind cells reference z) = made k w next kind cells reference z
 settled k w next s (calls method count z) = entered_call k w method count z
 settled k w next s (gives value cells) = given_to k w value cells (without_top s)
-settled k w next s (raises role) = raised k w role s
+settled k w next s (raises exception) = raised k w exception s
 settled k w next s (throws handle) = thrown k w handle s
 settled k w next s (lacks class) = ends (Plain (InterfaceMissing class)) s

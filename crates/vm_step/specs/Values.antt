@@ -16,7 +16,8 @@ use Rattle.vm_arithmetic.specs.Arithmetic.{of_shorts, of_ints, short_to_byte, in
 use Rattle.vm_store.specs.declared.cell.CellKind.TheVariants as made
 use Rattle.vm_store.specs.Cells.{Cells}
 use Rattle.vm_store.specs.State.{State, top, nth, with_stack, with_register, rotated}
-use Rattle.vm_step.specs.Act.{Act, goes, raises, arithmetic_exception}
+use Rattle.vm_step.specs.declared.exception.Exception.TheVariants as exceptions
+use Rattle.vm_step.specs.Act.{Act, goes, if_some}
 use Rattle.vm_step.specs.Numbers.{short_at, int_on, int_in, number_on, number_under, number_cells, number_width, dropped, pushed, replaced}
 
 -- ---- constants
@@ -78,8 +79,7 @@ with_move move s = with_stack s (moved move (top s).stack)
 
 -- a result in place of so many cells; where there is none, the divisor is zero
 abbrev pub computed : {A : Type 0} → Cells A → Width → State A → ℕ → Option ℤ → Act A
-computed k width s taken None = raises arithmetic_exception
-computed k width s taken (Some n) = goes (replaced s taken (number_cells k width n))
+computed k width s taken result = if_some exceptions.Arithmetic result (λ n. goes (replaced s taken (number_cells k width n)))
 
 abbrev pub binary : {A : Type 0} → Cells A → Operator → Width → List A → Option ℤ
 binary k operator widths.Short stack = of_shorts operator (short_at k stack 1) (short_at k stack 0)

@@ -6,7 +6,9 @@
 #![tactic(auto)]
 
 mod ending;
+mod exception;
 mod laws;
 
 pub use ending::{Ending, Fault, Plain, Value};
+pub use exception::Exception;
 pub use laws::runs_are_runs_of_steps;

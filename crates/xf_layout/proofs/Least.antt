@@ -1,5 +1,5 @@
 -- The turns of widening, from the shortest form of each item to the least set of wide jumps with which every other one fits.
-use Rattle.std.proofs.Common.{◌≡◌, ◌<◌, ◌+◌, ℕ, true, false, Option, Some, None, List, [], ◌∷◌, length, refl, sym, ◌∙◌, arith, All, map}
+use Rattle.std.proofs.Common.{◌≡◌, ◌<◌, ◌+◌, ℕ, true, false, Option, Some, None, List, [], ◌∷◌, length, refl, sym, ◌∙◌, arith, All, map, ap}
 use Rattle.std.specs.Prelude.{slice_get, slice_index}
 use Rattle.std.specs.Option.{option_map}
 use Rattle.std.proofs.lemmas.Option.{slice_get-map}
@@ -37,16 +37,22 @@ shortest-least items others k l e = by_item (slice_get items k) (sym (slice_get-
     by_item (Some (Label m)) h = absurd (cc)
 
 -- where the labels are noted that are there once
-pub place-noted : (items : List Item) (fs : List Form) (ps : List ℕ) → AreForms items fs → HaveRoom (length ps) fs
+place-noted : (items : List Item) (fs : List Form) (ps : List ℕ) → AreForms items fs → HaveRoom (length ps) fs
     → (l : ℕ) → IsOnce items l → slice_index (noted fs 0 ps) l ≡ label_place fs l
 place-noted items fs ps forms room l once =
     let start : 0 + label_place fs l ≡ label_place fs l = omega arith in
     noted-once fs 0 ps l room (count-marks l items fs forms ∙ once) ∙ start
 
-pub jumps-placed : (source : List ℕ) (items : List Item) (fs : List Form) (ps : List ℕ) → All (IsItem source items) items
-    → AreForms items fs → HaveRoom (length ps) fs → ArePlaced (slice_index (noted fs 0 ps)) fs
-jumps-placed source items fs ps ok forms room =
-    record { at = λ k l w e. place-noted items fs ps forms room l (jump-once source items items fs ok forms k l w e) }
+-- the same of what a call noted
+pub places-after : (items : List Item) (fs gs : List Form) (ps new : List ℕ) → new ≡ noted gs 0 ps → gs ≡ fs → AreForms items fs
+    → HaveRoom (length ps) fs → (l : ℕ) → IsOnce items l → slice_index new l ≡ label_place fs l
+places-after items fs gs ps new is same forms room l once =
+    ap (λ (xs : List ℕ). slice_index xs l) (is ∙ ap (λ (hs : List Form). noted hs 0 ps) same) ∙ place-noted items fs ps forms room l once
+
+pub jumps-after : (source : List ℕ) (items : List Item) (fs gs : List Form) (ps new : List ℕ) → new ≡ noted gs 0 ps → gs ≡ fs
+    → All (IsItem source items) items → AreForms items fs → HaveRoom (length ps) fs → ArePlaced (slice_index new) fs
+jumps-after source items fs gs ps new is same ok forms room =
+    record { at = λ k l w e. places-after items fs gs ps new is same forms room l (jump-once source items items fs ok forms k l w e) }
 
 -- where the code is too long with as few wide jumps as there can be, it always is
 pub long-always : (items : List Item) (fs : List Form) → AreForms items fs

@@ -1,7 +1,9 @@
 -- Where labels stand in code that is not too long, and that its short jumps fit.
-use Rattle.std.proofs.Common.{◌≡◌, ◌≤◌, ◌+◌, ℕ, zero, suc, Bool, true, false, cond, Some, List, [], ◌∷◌, length, drop, refl, sym, ap, ◌∙◌, subst, arith, All}
+use Rattle.std.proofs.Common.{◌≡◌, ◌≤◌, ◌+◌, ℕ, zero, suc, Bool, true, false, cond, Some, List, [], ◌∷◌, length, drop, refl, sym, ap, ◌∙◌, subst, arith, All, ◌<◌, get_or}
 use Rattle.std.specs.Prelude.{pos, ◌-ℤ◌, ◌==◌, slice_get, slice_index, IsTrue}
-use Rattle.std.proofs.lemmas.List.Elements.{All-nil, All-cons, All-weaker}
+use Rattle.std.proofs.lemmas.List.Elements.{All-nil, All-cons, All-weaker, All-get_or}
+use Rattle.std.proofs.lemmas.Option.{slice_get_read}
+use Rattle.std.proofs.lemmas.Slice.Zip.{AllZip-long}
 use Rattle.jc_decode.specs.declared.symbols.Item.{Item}
 use Rattle.jc_decode.specs.declared.symbols.Item.TheVariants.{Plain, Branch, Switch, Label}
 use Rattle.jc_decode.specs.declared.symbols.Range.{Range}
@@ -106,3 +108,19 @@ items-end source place code here [] [] h = omega (arith, h)
 items-end source place code here (i ∷ is) (f ∷ fs) h = let e = items-end source place code (here + form_bytes f) is fs h.1 in omega (arith, e)
 items-end source place code here [] (f ∷ fs) h = absurd h
 items-end source place code here (i ∷ is) [] h = absurd h
+
+-- the k-th item and its form
+pub record Reads (source : List ℕ) (items : List Item) (fs : List Form) (k : ℕ) (i : Item) (f : Form) : Type 0 where
+  pub item : slice_get items k ≡ Some i
+  pub form : slice_get fs k ≡ Some f
+  pub is : IsItem source items i
+
+pub reads-at : (source : List ℕ) (items : List Item) (fs : List Form) (k : ℕ) (i : Item) (f : Form) → AreForms items fs
+    → All (IsItem source items) items → k < length items → i ≡ get_or items k i → f ≡ get_or fs k f → Reads source items fs k i f
+reads-at source items fs k i f forms ok inside item form =
+    let long = AllZip-long IsForm items fs forms in
+    record {
+      item = slice_get_read items (length items) k i refl inside item;
+      form = slice_get_read fs (length fs) k f refl (omega (arith, long, inside)) form;
+      is = subst (IsItem source items) (sym item) (All-get_or (IsItem source items) items k i inside ok);
+    }

@@ -3,6 +3,7 @@ use Rattle.std.proofs.Common.{◌≡◌, ◌+◌, ◌-◌, ℕ, Result, Ok, Err,
 use Rattle.std.specs.Prelude.{OnOk, is_ok, slice_index}
 use Rattle.std.proofs.lemmas.List.{append-nil, take_all, drop_all, length-drop}
 use Rattle.jc_decode.specs.declared.insn.Placed.{Placed}
+use Rattle.jc_decode.specs.declared.symbols.Item.{Item}
 use Rattle.jc_decode.specs.declared.symbols.Symbols.{Symbols}
 use Rattle.jc_decode.specs.declared.symbols.Laid.{Laid}
 use Rattle.jc_decode.specs.Laws.{ListingIsOne, NothingPastTheEnd}
@@ -27,6 +28,13 @@ appended-ok (Err x) new old xs e f = tt
 -- all but the first
 pub rest-is : {A : Type 0} (xs : List A) → take (length xs - 1) (drop 1 xs) ≡ drop 1 xs
 rest-is xs = take_all (length xs - 1) (drop 1 xs) (omega (arith, length-drop 1 xs))
+
+-- items of equal lists in an equal code
+pub laid-items : (source : List ℕ) (p : Plan) (xs items : List Item) (bytes code : List ℕ) → xs ≡ items → code ≡ bytes
+    → ItemsStand source (slice_index p.places) bytes 0 xs p.forms.items → ItemsStand source (slice_index p.places) code 0 items p.forms.items
+laid-items source p xs items bytes code same equal stands =
+    subst (λ (ys : List ℕ). ItemsStand source (slice_index p.places) ys 0 items p.forms.items) (sym equal)
+    (subst (λ (ys : List Item). ItemsStand source (slice_index p.places) bytes 0 ys p.forms.items) same stands)
 
 pub stands-at : (source : List ℕ) (symbols : Symbols) (p : Plan) (laid : Laid) → IsPlan symbols.items p → ListingIsOne → NothingPastTheEnd
     → All (IsItem source symbols.items) symbols.items → All (IsRange symbols.items) symbols.ranges

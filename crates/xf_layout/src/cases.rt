@@ -26,7 +26,8 @@ pub fn lay_switch(
     requires there { with_default insn.x (decoded source.bytes.now at) ≡ Ok insn }
     requires count { length labels.now ≡ length (cases source.bytes.now at insn) + 1 }
     requires reached { AreReached places.now labels.now }
-    ensures { OnOk result (AddsSwitch source.entry.bytes.now (slice_index places.now) insn at labels.now code.old.items code.new.items) }
+    ensures { OnOk result (AddsSwitch source.entry.bytes.now (slice_index places.now) insn at labels.now
+        code.old.items code.new.items) }
 {
     let here = code.len() as u32;
     let offset = distance(here, places.at(*labels.at(0)));
@@ -44,7 +45,7 @@ pub fn lay_switch(
     code.extend_from_slice(&bytes)
 }
 
-/// Leads the cases of a switch, whose bytes these are, to labels, seen from the place where it is laid.
+/// Leads the cases of a switch to labels, seen from the place where its bytes are laid.
 fn lead_cases(bytes: &mut [u8], switch: Insn, labels: &[u16], places: &Places, here: u32)
     requires short { length bytes.old ≤ 32767 }
     requires decoded { decoded bytes.old 0 ≡ Ok switch }
@@ -53,7 +54,8 @@ fn lead_cases(bytes: &mut [u8], switch: Insn, labels: &[u16], places: &Places, h
     requires here { here ≤ 32767 }
     requires reached { AreReached places.now labels.now }
     ensures decoded { decoded bytes.new 0 ≡ Ok switch }
-    ensures cases { cases bytes.new 0 switch ≡ led (slice_index places.now) here labels.now (cases bytes.old 0 switch) }
+    ensures cases { cases bytes.new 0 switch
+        ≡ led (slice_index places.now) here labels.now (cases bytes.old 0 switch) }
 {
     'cases: for (n, label) in labels.iter().enumerate() {
         let offset = distance(here, places.at(*label));

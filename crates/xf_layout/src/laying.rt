@@ -25,7 +25,8 @@ pub fn lay_items(
     requires plan { IsPlan items.now plan.now }
     requires few { plan.now.end ≤ 32767 }
     ensures { IfOk result (λ code.
-        ItemsStand source.entry.bytes.now (slice_index plan.now.places) code.items 0 items.now plan.now.forms.items) }
+        ItemsStand source.entry.bytes.now (slice_index plan.now.places) code.items 0
+        items.now plan.now.forms.items) }
 {
     let mut code = Vec::with_capacity(alloc, plan.end as usize)?;
     'items: for (k, item) in items.iter().enumerate() {
@@ -52,7 +53,8 @@ fn lay_item(
     requires here { length code.old.items ≤ 32767 }
     requires reached { AreReached places.now (labels_of item.now) }
     requires near { IsNearFrom (slice_index places.now) (length code.old.items) form }
-    ensures { OnOk result (Adds source.entry.bytes.now (slice_index places.now) item.now form code.old.items code.new.items) }
+    ensures { OnOk result (Adds source.entry.bytes.now (slice_index places.now) item.now form
+        code.old.items code.new.items) }
 {
     match item {
         Item::Plain(insn) => encode(insn.short_form(), source, 0, code),

@@ -21,8 +21,8 @@ pub struct Plan {
 }
 
 impl Plan {
-    /// Makes jumps wide until every other one fits, or until the code is too long. It goes over the items twice a
-    /// turn, and each turn but the last makes a jump wide.
+    /// Makes jumps wide until every other one fits, or until the code is too long. It goes over the
+    /// items twice a turn, and each turn but the last makes a jump wide.
     pub fn of(alloc: Global, items: &[Item]) -> Result<Plan, AllocError>
         requires items { (source : List ℕ) × All (IsItem source items.now) items.now }
         requires size { plain_size items.now < 2 ^ 32 }

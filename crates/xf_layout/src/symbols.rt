@@ -13,7 +13,7 @@ use std::alloc::{AllocError, Global};
 /// Why symbols are not laid.
 #[derive(Clone, Copy)]
 pub enum LayEnd {
-    /// The code is above the 32,767 bytes that a method may have; with the plain size of the symbols.
+    /// The code is above the 32,767 bytes that a method may have, with the symbols' plain size.
     MethodLong(u32),
     Memory,
 }
@@ -28,11 +28,13 @@ impl From<AllocError> for LayEnd {
     }
 }
 
-/// Lays code whose jumps go to labels in bytes, in the shortest forms of its instructions: loads and stores of registers 0
-/// to 3 have no operand, and each jump an offset of one byte but for the least set that needs two. A switch is that of the
-/// source with other offsets. Each range becomes a handler, one that covers nothing too.
+/// Lays code whose jumps go to labels in bytes, in the shortest forms of its instructions: loads and
+/// stores of registers 0 to 3 have no operand, and each jump has an offset of one byte but for the least
+/// set that needs two. A switch is that of the source with other offsets. Each range becomes a handler,
+/// one that covers nothing too. Places and lengths are in bytes.
 ///
-/// It takes time in proportion to the number of items, times the number of turns in which a jump becomes wide.
+/// It takes time in proportion to the number of items, times the number of turns in which a jump
+/// becomes wide: where each wide jump forces one more, as many as there are jumps.
 pub fn lay(alloc: Global, source: View, symbols: &Symbols) -> Result<Laid, LayEnd>
     requires short { length source.bytes.now ≤ 32767 }
     requires items { All (IsItem source.bytes.now symbols.now.items) symbols.now.items }
@@ -41,7 +43,8 @@ pub fn lay(alloc: Global, source: View, symbols: &Symbols) -> Result<Laid, LayEn
     ensures stands { IfOk result (λ laid. StandsFor source.entry.bytes.now symbols.now laid) }
     ensures shortest { IfOk result (λ laid. StandsShortest source.entry.bytes.now symbols.now laid) }
     ensures few { IfOk result (λ laid. length laid.code ≤ 32767) }
-    ensures long { (n : ℕ) → result ≡ Err (LayEnd.MethodLong n) → IsTooLong symbols.now.items × (n ≡ plain_size symbols.now.items) }
+    ensures long { (n : ℕ) → result ≡ Err (LayEnd.MethodLong n)
+        → IsTooLong symbols.now.items × (n ≡ plain_size symbols.now.items) }
 {
     listing_is_one();
     nothing_past_the_end();

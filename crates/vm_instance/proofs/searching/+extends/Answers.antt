@@ -1,5 +1,4 @@
-use Rattle.std.proofs.Common.{◌≡◌, ◌<◌, ◌≤◌, ℕ, false, length, get_or, sym, ap, ◌∙◌, subst, arith}
-use Rattle.jc_base.specs.declared.record.Iface.{Iface}
+use Rattle.std.proofs.Common.{◌≡◌, ◌<◌, length, get_or, sym, ap, ◌∙◌, subst, arith}
 use Rattle.vm_instance.proofs.Search.{NoneExtends, IsNext, left-more, none-all, not-extends, class-extends, yes-extends, next-extended}
 use Rattle.vm_instance.proofs.searching.+extends.Goals as goal
 

@@ -1,7 +1,5 @@
-use Rattle.std.proofs.Common.{◌≡◌, false, ℕ, take}
-use Rattle.std.specs.List.{list_any}
-use Rattle.jc_base.specs.declared.record.Iface.{Iface}
-use Rattle.jc_base.specs.Interface.{is_or_extends, extended_count}
+use Rattle.std.proofs.Common.{take}
+use Rattle.jc_base.specs.Interface.{extended_count}
 use Rattle.vm_instance.specs.Searched.{AreLeft}
 use Rattle.vm_instance.proofs.Search.{NoneExtends}
 use Rattle.vm_instance.proofs.searching.+extends.Given as goal

@@ -1,4 +1,4 @@
-use Rattle.std.proofs.Common.{◌≡◌, false, sym, ap, ◌∙◌, subst}
+use Rattle.std.proofs.Common.{sym, ◌∙◌, subst}
 use Rattle.jc_base.specs.Class.{ClassTable, IsNextOnChain, IsEndOfChain}
 use Rattle.vm_instance.proofs.Search.{implements-next, implements-end, implements-here, or-first}
 use Rattle.vm_instance.proofs.searching.implements.Goals as goal

@@ -1,0 +1,141 @@
+-- What the verifier answers.
+use Rattle.std.proofs.Common.{◌≡◌, ◌↔◌, ⊎_elim, ℕ, ◌+◌, ◌<◌, ◌≤◌, Bool, true, false, List, length, MatchBool, IsSomeAnd, IfSome, IfErr, OnOk, OnErr, Option, Some, option_map, Result, Ok, Err, slice_get, sym, ◌∙◌, ap, subst, arith}
+use Rattle.std.proofs.lemmas.Bool.{false≢true, cases_lt}
+use Rattle.jc_base.specs.declared.ty.Ty.{Ty}
+use Rattle.jc_base.specs.declared.ty.Ty.TheVariants.{Bottom}
+use Rattle.jc_base.specs.declared.record.MethodRec.{MethodRec}
+use Rattle.jc_base.specs.World.{Linked, code_of}
+use Rattle.jc_control.specs.Method.{Method, IsMethodOf, method_in, method_with}
+use Rattle.jc_control.specs.WellFormed.{IsWellFormed}
+use Rattle.jc_rules.specs.Apply.{frame_of}
+use Rattle.jc_rules.specs.Flow.{start_frame, HasFlowTyping}
+use Rattle.card_typing.specs.declared.fault.CardFault.{CardFault}
+use Rattle.card_typing.specs.Typing.{HasCardTyping, IsLeastCardTyping}
+use Rattle.card_typing.specs.Met.{IsMet, met_start}
+use Rattle.card_typing.specs.Refusal.{IsFlawKind, IsRefused, refused_flaw}
+use Rattle.card_typing.specs.Laws.{CardIsFlow, RefusalDenies, FlawsAreTold, QuietIsLeast}
+use Rattle.card_verify.specs.declared.verifier.Verifier.{Verifier}
+use Rattle.card_verify.specs.Answers.{IsAccepted, IsAcceptedAt, AreAcceptedBefore, AreAccepted, IsRefusedMethod, IsRefusedAt, TellsFlaw}
+use Rattle.card_verify.specs.Verifier.{method, world_of}
+use Rattle.card_verify.specs.Walk.{HasSlices, IsBegun, IsRaisedBy, IsSettled, IsFinished}
+
+-- ---- passes
+
+pub raised : (v : Verifier) (regs after stack : List Ty) (rose : Bool) → MatchBool rose (IsRaisedBy v regs after stack) (IsSettled v regs after) → rose ≡ true → IsRaisedBy v regs after stack
+raised v regs after stack true h e = h
+raised v regs after stack false h e = absurd (false≢true e)
+
+pub settled : (v : Verifier) (regs after stack : List Ty) (rose : Bool) → MatchBool rose (IsRaisedBy v regs after stack) (IsSettled v regs after) → rose ≡ false → IsSettled v regs after
+settled v regs after stack true h e = absurd (false≢true (sym e))
+settled v regs after stack false h e = h
+
+pub finished : (v : Verifier) (regs after stack : List Ty) → IsBegun v regs stack → IsSettled v regs after → IsFinished v after
+finished v regs after stack begun s = subst (IsFinished v) (sym s.same) (record { met = begun.met; quiet = s.quiet })
+
+-- ---- a well-formed method
+
+pub begun-start : (v : Verifier) (regs stack : List Ty) → regs ≡ (start_frame v.rec.now Bottom).regs → HasSlices v regs stack → IsBegun v regs stack
+begun-start v regs stack e slices = record {
+  met = λ given a. subst (λ (xs : List Ty). IsMet (world_of v) (method v) 0 (record { regs = xs; stack = given })) (sym e) (met_start given a);
+  slices = slices;
+}
+
+pub least-of : (v : Verifier) (regs : List Ty) → QuietIsLeast (world_of v) → IsMethodOf (world_of v) (method v) → IsWellFormed (method v) → IsFinished v regs → IsLeastCardTyping (world_of v) (method v) regs
+least-of v regs least known formed f = least (method v) regs known formed f.met f.quiet
+
+pub on-ok : {A B : Type 0} (P Q : Type 0) (r : Result A B) → (P → Q) → OnOk r P → OnOk r Q
+on-ok P Q (Ok a) f p = f p
+on-ok P Q (Err b) f p = p
+
+module _ (v : Verifier) where
+  -- ---- what follows of a refusal
+
+  has-typing : (regs : List Ty) → IsLeastCardTyping (world_of v) (method v) regs → HasCardTyping (world_of v) (method v)
+  has-typing regs least = record { regs = regs; stacks = least.stacks; typing = least.typing }
+
+  pub flow-of : (r : Result (Unit {0}) CardFault) (regs : List Ty) → CardIsFlow (world_of v) → IsMethodOf (world_of v) (method v) → OnOk r (IsLeastCardTyping (world_of v) (method v) regs) → OnOk r (HasFlowTyping (world_of v) (method v) Bottom)
+  flow-of r regs flow known h =
+      on-ok (IsLeastCardTyping (world_of v) (method v) regs) (HasFlowTyping (world_of v) (method v) Bottom) r (λ least. flow (method v) known (has-typing regs least)) h
+
+  module _ (regs stack : List Ty) (known : IsMethodOf (world_of v) (method v)) where
+    abbrev Refused : Result (Unit {0}) CardFault → Type 0
+    Refused r = IfErr r (λ (fault : CardFault). IsRefused (world_of v) (method v) fault (frame_of regs stack fault.depth))
+
+    pub none-of : (r : Result (Unit {0}) CardFault) → RefusalDenies (world_of v) → Refused r → OnErr r (¬ (HasCardTyping (world_of v) (method v)))
+    none-of (Ok t) denies h = tt
+    none-of (Err fault) denies h = denies (method v) fault (frame_of regs stack fault.depth) known h
+
+    pub told-of : (r : Result (Unit {0}) CardFault) → FlawsAreTold (world_of v) → Refused r → IfErr r (λ (fault : CardFault). IsFlawKind fault.kind ↔ ¬ (IsWellFormed (method v)))
+    told-of (Ok t) told h = tt
+    told-of (Err fault) told h = told (method v) fault (frame_of regs stack fault.depth) h
+
+    -- where the method is well formed no flaw is told
+    pub kept-of : (r : Result (Unit {0}) CardFault) (P : Type 0) → FlawsAreTold (world_of v) → IsWellFormed (method v) → Refused r → IfErr r (λ (fault : CardFault). IsFlawKind fault.kind → P)
+    kept-of (Ok t) P told formed h = tt
+    kept-of (Err fault) P told formed h = λ k. absurd ((told (method v) fault (frame_of regs stack fault.depth) h).0 k formed)
+
+    pub refused-flaw : (fault : CardFault) → TellsFlaw (method v) fault → IsRefused (world_of v) (method v) fault (frame_of regs stack fault.depth)
+    refused-flaw fault t =
+        subst (λ (f : CardFault). IsRefused (world_of v) (method v) f (frame_of regs stack fault.depth)) (sym t.2) (refused_flaw t.0 (frame_of regs stack fault.depth) t.1)
+
+-- ---- a method of the world
+
+some-same : {X : Type 0} {a b : X} → ◌≡◌ {A = Option X} (Some a) (Some b) → a ≡ b
+some-same e = cc
+
+module _ (w : Linked) (n : ℕ) (rec : MethodRec) (code : List ℕ) (here : slice_get w.methods n ≡ Some rec) (bytes : option_map (code_of w.infos) (slice_get w.methods n) ≡ Some code) where
+  own-code : code_of w.infos rec ≡ code
+  own-code = some-same (ap (option_map (code_of w.infos)) (sym here) ∙ bytes)
+
+  method-is : method_in w n ≡ Some (record { number = n; rec = rec; code = code })
+  method-is = ap (option_map (method_with w n)) here ∙ ap (λ (c : List ℕ). Some (record { number = n; rec = rec; code = c })) own-code
+
+  pub to-method : (P : Method → Type 0) → P (record { number = n; rec = rec; code = code }) → IsSomeAnd (method_in w n) P
+  to-method P h = subst (λ (o : Option Method). IsSomeAnd o P) (sym method-is) h
+
+  pub record-fact : (P : MethodRec → Type 0) → IsSomeAnd (slice_get w.methods n) P → P rec
+  record-fact P h = subst (λ (o : Option MethodRec). IsSomeAnd o P) here h
+
+  pub is-method : length code ≡ rec.code_len → IsSomeAnd (slice_get w.methods n) (λ m. 0 < m.code_len) → IsMethodOf w (record { number = n; rec = rec; code = code })
+  is-method len has = let filled = record-fact (λ m. 0 < m.code_len) has in record { rec = here; code = sym own-code; filled = omega (arith, len, filled) }
+
+pub own-length : (w : Linked) (n : ℕ) (rec : MethodRec) (code bytes : List ℕ) → slice_get w.methods n ≡ Some rec → code ≡ bytes → IfSome (slice_get w.methods n) (λ m. length bytes ≡ m.code_len) → length code ≡ rec.code_len
+own-length w n rec code bytes here same h = ap length same ∙ subst (λ (o : Option MethodRec). IfSome o (λ m. length bytes ≡ m.code_len)) here h
+
+-- ---- the methods of a world
+
+accepted-at : (w : Linked) (n : ℕ) (rec : MethodRec) (regs : List Ty) (r : Result (Unit {0}) CardFault) → OnOk r (IsLeastCardTyping w (method_with w n rec) regs) → OnOk r (HasFlowTyping w (method_with w n rec) Bottom) → OnOk r (IsAccepted w n rec)
+accepted-at w n rec regs (Ok t) least flow = record { card = record { regs = regs; stacks = least.stacks; typing = least.typing }; flow = flow }
+accepted-at w n rec regs (Err fault) least flow = tt
+
+refused-at : (w : Linked) (n : ℕ) (rec : MethodRec) (regs stack : List Ty) (r : Result (Unit {0}) CardFault) → OnErr r (¬ (HasCardTyping w (method_with w n rec)))
+    → IfErr r (λ (fault : CardFault). IsRefused w (method_with w n rec) fault (frame_of regs stack fault.depth)) → IfErr r (λ (fault : CardFault). IsRefusedMethod w n rec fault)
+refused-at w n rec regs stack (Ok t) none refused = tt
+refused-at w n rec regs stack (Err fault) none refused = record { none = none; kept = frame_of regs stack fault.depth; refused = refused }
+
+on-method : (w : Linked) (n : ℕ) (rec : MethodRec) (P : Method → Type 0) → slice_get w.methods n ≡ Some rec → IsSomeAnd (method_in w n) P → P (method_with w n rec)
+on-method w n rec P here h = subst (λ (o : Option Method). IsSomeAnd o P) (ap (option_map (method_with w n)) here) h
+
+module _ (w : Linked) (n : ℕ) (rec : MethodRec) (here : slice_get w.methods n ≡ Some rec) (r : Result (Unit {0}) CardFault) (regs stack : List Ty) where
+  pub accepted-of : IsSomeAnd (method_in w n) (λ m. OnOk r (IsLeastCardTyping w m regs)) → IsSomeAnd (method_in w n) (λ m. OnOk r (HasFlowTyping w m Bottom)) → OnOk r (IsAcceptedAt w n)
+  accepted-of least flow =
+      on-ok (IsAccepted w n rec) (IsAcceptedAt w n) r (λ a other is code. subst (IsAccepted w n) (some-same (sym here ∙ is)) a)
+      (accepted-at w n rec regs r (on-method w n rec (λ m. OnOk r (IsLeastCardTyping w m regs)) here least) (on-method w n rec (λ m. OnOk r (HasFlowTyping w m Bottom)) here flow))
+
+  pub refused-of : 0 < rec.code_len → IsSomeAnd (method_in w n) (λ m. OnErr r (¬ (HasCardTyping w m))) → IsSomeAnd (method_in w n) (λ m. IfErr r (λ (fault : CardFault). IsRefused w m fault (frame_of regs stack fault.depth)))
+      → IfErr r (λ (fault : CardFault). IsRefusedAt w n fault)
+  refused-of code none refused =
+      by r (refused-at w n rec regs stack r (on-method w n rec (λ m. OnErr r (¬ (HasCardTyping w m))) here none) (on-method w n rec (λ m. IfErr r (λ (fault : CardFault). IsRefused w m fault (frame_of regs stack fault.depth))) here refused))
+    where
+      by : (s : Result (Unit {0}) CardFault) → IfErr s (λ (fault : CardFault). IsRefusedMethod w n rec fault) → IfErr s (λ (fault : CardFault). IsRefusedAt w n fault)
+      by (Ok t) h = tt
+      by (Err fault) h = record { rec = rec; is = here; has_code = code; refused = h }
+
+pub accepted-bare : (w : Linked) (n : ℕ) (rec : MethodRec) → slice_get w.methods n ≡ Some rec → rec.code_len ≡ 0 → IsAcceptedAt w n
+accepted-bare w n rec here none other is code = let same : rec ≡ other = some-same (sym here ∙ is) in absurd (omega (arith, none, ap (λ (m : MethodRec). m.code_len) same, code))
+
+pub accepted-more : (w : Linked) (n : ℕ) → AreAcceptedBefore w n → IsAcceptedAt w n → AreAcceptedBefore w (n + 1)
+accepted-more w n before here k lt = ⊎_elim (λ lower. before k lower) (λ le. subst (IsAcceptedAt w) (omega (arith, le, lt)) here) (cases_lt k n)
+
+pub accepted-all : (w : Linked) (n : ℕ) → length w.methods ≤ n → AreAcceptedBefore w n → AreAccepted w
+accepted-all w n le before k lt = before k (omega (arith, lt, le))

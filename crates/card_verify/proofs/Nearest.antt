@@ -1,0 +1,171 @@
+-- The nearest place ahead is the least.
+use Rattle.std.proofs.Common.{◌≡◌, ℕ, zero, suc, ◌+◌, ◌<◌, ◌≤◌, ◌⊎◌, inl, inr, ⊎_elim, Bool, true, false, ◌&&◌, if◌then◌else◌, Option, Some, None, List, [], ◌∷◌, ◌++◌, length, slice_get, get_or, IsSomeAnd, MatchBool, refl, sym, ◌∙◌, ap, subst, arith, append_assoc, Contains}
+use Rattle.std.specs.Prelude.{ℤ, pos, negsuc, fold, nat_le, nat_lt}
+use Rattle.std.proofs.lemmas.Bool.{false≢true, cases_lt}
+use Rattle.std.proofs.lemmas.Bool.Decides.{nat_tests}
+use Rattle.std.proofs.lemmas.List.{append-nil}
+use Rattle.std.proofs.lemmas.Option.{slice_get_within, slice_get-get_or, get_or_from_slice_get}
+use Rattle.std.proofs.lemmas.List.Elements.{Contains-append_left, Contains-push, Contains-push_cases}
+use Rattle.jc_base.specs.declared.record.Handler.{Handler}
+use Rattle.jc_decode.specs.declared.insn.Placed.{Placed}
+use Rattle.jc_decode.specs.Listing.{listing, targets}
+use Rattle.jc_control.specs.Method.{Method}
+use Rattle.card_typing.specs.Place.{IsTarget, IsEntry}
+use Rattle.card_verify.specs.Ahead.{IsLeastFrom, is_nearer, nearer, nearer_target}
+
+le-true : (a b : ℕ) → nat_le a b ≡ true → a ≤ b
+le-true a b h = grind (arith, nat_tests)
+
+le-false : (a b : ℕ) → nat_le a b ≡ false → b < a
+le-false a b h = grind (arith, nat_tests)
+
+lt-true : (a b : ℕ) → nat_lt a b ≡ true → a < b
+lt-true a b h = grind (arith, nat_tests)
+
+lt-false : (a b : ℕ) → nat_lt a b ≡ false → b ≤ a
+lt-false a b h = grind (arith, nat_tests)
+
+-- a set of the same numbers
+pub least-same : (S T : ℕ → Type 0) (from : ℕ) (o : Option ℕ) → ((q : ℕ) → S q → T q) → ((q : ℕ) → T q → S q) → IsLeastFrom S from o → IsLeastFrom T from o
+least-same S T from None to back h = λ q t. h q (back q t)
+least-same S T from (Some least) to back h = (to least h.0, h.1, λ q t le. h.2 q (back q t) le)
+
+pos-same : (p q : ℕ) → pos p ≡ pos q → p ≡ q
+pos-same p q e = cc
+
+module _ (S : ℕ → Type 0) (from : ℕ) where
+  abbrev With : ℤ → ℕ → Type 0
+  With t q = S q ⊎ (t ≡ pos q)
+
+  -- a number before the code is in no set
+  step-before : (n : ℕ) (best : Option ℕ) → IsLeastFrom S from best → IsLeastFrom (With (negsuc n)) from best
+  step-before n best h = least-same S (With (negsuc n)) from best (λ q s. inl s) (λ q w. ⊎_elim (λ s. s) (λ e. absurd (cc)) w) h
+
+  step-past : (p : ℕ) (best : Option ℕ) → p < from → IsLeastFrom S from best → IsLeastFrom (With (pos p)) from best
+  step-past p None past h = λ q w. ⊎_elim (λ s. h q s) (λ e. omega (arith, pos-same p q e, past)) w
+  step-past p (Some b) past h = (inl h.0, h.1, λ q w le. ⊎_elim (λ s. h.2 q s le) (λ e. absurd (omega (arith, pos-same p q e, past, le))) w)
+
+  step-first : (p : ℕ) → from ≤ p → IsLeastFrom S from None → IsLeastFrom (With (pos p)) from (Some p)
+  step-first p le h = (inr refl, le, λ q w ge. ⊎_elim (λ s. let lt = h q s in absurd (omega (arith, lt, ge))) (λ e. omega (arith, pos-same p q e)) w)
+
+  step-nearer : (p b : ℕ) → from ≤ p → p < b → IsLeastFrom S from (Some b) → IsLeastFrom (With (pos p)) from (Some p)
+  step-nearer p b le lt h = (inr refl, le, λ q w ge. ⊎_elim (λ s. let ge2 = h.2 q s ge in omega (arith, ge2, lt)) (λ e. omega (arith, pos-same p q e)) w)
+
+  step-farther : (p b : ℕ) → b ≤ p → IsLeastFrom S from (Some b) → IsLeastFrom (With (pos p)) from (Some b)
+  step-farther p b le h = (inl h.0, h.1, λ q w ge. ⊎_elim (λ s. h.2 q s ge) (λ e. omega (arith, pos-same p q e, le)) w)
+
+  step-here : (p : ℕ) (best : Option ℕ) (a b : Bool) → nat_le from p ≡ a → is_nearer p best ≡ b → IsLeastFrom S from best → IsLeastFrom (With (pos p)) from (if a && b then Some p else best)
+  step-here p best false b e f h = step-past p best (le-false from p e) h
+  step-here p None true true e f h = step-first p (le-true from p e) h
+  step-here p None true false e f h = absurd (false≢true (sym f))
+  step-here p (Some b) true true e f h = step-nearer p b (le-true from p e) (lt-true p b f) h
+  step-here p (Some b) true false e f h = step-farther p b (lt-false p b f) h
+
+  pub nearer-step : (t : ℤ) (best : Option ℕ) → IsLeastFrom S from best → IsLeastFrom (With t) from (nearer_target from best t)
+  nearer-step (pos p) best h = step-here p best (nat_le from p) (is_nearer p best) refl refl h
+  nearer-step (negsuc n) best h = step-before n best h
+
+in-either : {X : Type 0} (y : X) (xs : List X) (x : X) → Contains (y ∷ xs) x → (y ≡ x) ⊎ Contains xs x
+in-either y xs x c = by c.0 c.1 c.2
+  where
+    by : (n : ℕ) → n < length (y ∷ xs) → get_or (y ∷ xs) n x ≡ x → (y ≡ x) ⊎ Contains xs x
+    by zero lt e = inl e
+    by (suc n) lt e = inr (n, omega arith, e)
+
+in-later : {X : Type 0} (y : X) (xs : List X) (x : X) → Contains xs x → Contains (y ∷ xs) x
+in-later y xs x c = (suc c.0, let lt = c.1 in omega (arith, lt), c.2)
+
+-- the targets of one instruction
+pub nearest-all : (S : ℕ → Type 0) (from : ℕ) (xs : List ℤ) (best : Option ℕ) → IsLeastFrom S from best → IsLeastFrom (λ q. S q ⊎ Contains xs (pos q)) from (fold (nearer_target from) best xs)
+nearest-all S from [] best h = least-same S (λ q. S q ⊎ Contains [] (pos q)) from best (λ q s. inl s) (λ q w. ⊎_elim (λ s. s) (λ c. absurd (omega (arith, c.1))) w) h
+nearest-all S from (x ∷ xs) best h =
+    least-same (λ q. (S q ⊎ (x ≡ pos q)) ⊎ Contains xs (pos q)) (λ q. S q ⊎ Contains (x ∷ xs) (pos q)) from (fold (nearer_target from) (nearer_target from best x) xs)
+    (λ q w. ⊎_elim (λ u. ⊎_elim (λ s. inl s) (λ e. inr (0, omega arith, e)) u) (λ c. inr (in-later x xs (pos q) c)) w)
+    (λ q w. ⊎_elim (λ s. inl (inl s)) (λ c. ⊎_elim (λ e. inl (inr e)) (λ later. inr later) (in-either x xs (pos q) c)) w)
+    (nearest-all (λ q. S q ⊎ (x ≡ pos q)) from xs (nearer_target from best x) (nearer-step S from x best h))
+
+-- ---- the targets of the instructions so far
+
+abbrev pub LedFrom : List ℕ → List Placed → ℕ → Type 0
+LedFrom code is q = (i : Placed) × Contains is i × Contains (targets code i) (pos q)
+
+pub led-none : (code : List ℕ) (from : ℕ) → IsLeastFrom (LedFrom code []) from None
+led-none code from = λ q l. absurd (omega (arith, l.1.1))
+
+pub led-more : (code : List ℕ) (from : ℕ) (is : List Placed) (i : Placed) (best : Option ℕ) → IsLeastFrom (LedFrom code is) from best → IsLeastFrom (LedFrom code (is ++ i ∷ [])) from (fold (nearer_target from) best (targets code i))
+led-more code from is i best h =
+    least-same (λ q. LedFrom code is q ⊎ Contains (targets code i) (pos q)) (LedFrom code (is ++ i ∷ [])) from (fold (nearer_target from) best (targets code i))
+    (λ q w. ⊎_elim (λ l. (l.0, Contains-append_left is (i ∷ []) l.0 l.1, l.2)) (λ c. (i, Contains-push is i, c)) w)
+    (λ q l. ⊎_elim (λ before. inl (l.0, before, l.2)) (λ e. inr (subst (λ (j : Placed). Contains (targets code j) (pos q)) (sym e) l.2)) (Contains-push_cases is i l.0 l.1))
+    (nearest-all (LedFrom code is) from (targets code i) best h)
+
+pub led-all : (m : Method) (from : ℕ) (is : List Placed) (best : Option ℕ) → is ≡ listing m.code → IsLeastFrom (LedFrom m.code is) from best → IsLeastFrom (IsTarget m) from best
+led-all m from is best e h =
+    least-same (LedFrom m.code is) (IsTarget m) from best
+    (λ q l. record { from = l.0; stands = subst (λ (ps : List Placed). Contains ps l.0) e l.1; leads = l.2 })
+    (λ q t. (t.from, subst (λ (ps : List Placed). Contains ps t.from) (sym e) t.stands, t.leads)) h
+
+-- ---- the entries of the handlers so far
+
+abbrev pub EntryBelow : List Handler → ℕ → ℕ → Type 0
+EntryBelow hs n q = (k : ℕ) × (k < n) × (h : Handler) × (slice_get hs k ≡ Some h) × (h.entry ≡ q)
+
+pub entry-none : (hs : List Handler) (from : ℕ) → IsLeastFrom (EntryBelow hs 0) from None
+entry-none hs from = λ q e. absurd (omega (arith, e.1))
+
+some-entry : (g h : Handler) (o : Option Handler) → o ≡ Some g → o ≡ Some h → g ≡ h
+some-entry g h o e f = cc
+
+pub entry-more : (hs : List Handler) (from n : ℕ) (h : Handler) (best : Option ℕ) → slice_get hs n ≡ Some h → IsLeastFrom (EntryBelow hs n) from best → IsLeastFrom (EntryBelow hs (n + 1)) from (nearer from best h.entry)
+entry-more hs from n h best is s =
+    least-same (λ q. EntryBelow hs n q ⊎ (pos h.entry ≡ pos q)) (EntryBelow hs (n + 1)) from (nearer from best h.entry)
+    (λ q w. ⊎_elim (λ e. (e.0, let lt = e.1 in omega (arith, lt), e.2, e.3, e.4)) (λ e. (n, omega arith, h, is, pos-same h.entry q e)) w)
+    (λ q e. ⊎_elim (λ before. inl (e.0, before, e.2, e.3, e.4)) (λ le. inr (last q e le)) (cases_lt e.0 n))
+    (nearer-step (EntryBelow hs n) from (pos h.entry) best s)
+  where
+    last : (q : ℕ) (e : EntryBelow hs (n + 1) q) → n ≤ e.0 → pos h.entry ≡ pos q
+    last q e le =
+        let same : e.0 ≡ n = let lt = e.1 in omega (arith, lt, le) in
+        let one : e.2 ≡ h = some-entry e.2 h (slice_get hs n) (ap (slice_get hs) (sym same) ∙ e.3) is in
+        ap pos (ap (λ (x : Handler). x.entry) (sym one) ∙ e.4)
+
+pub entry-all : (m : Method) (from n : ℕ) (best : Option ℕ) → length m.rec.handlers ≤ n → IsLeastFrom (EntryBelow m.rec.handlers n) from best → IsLeastFrom (IsEntry m) from best
+entry-all m from n best all s =
+    least-same (EntryBelow m.rec.handlers n) (IsEntry m) from best
+    (λ q e. record { handler = e.2; listed = (e.0, slice_get_within m.rec.handlers e.0 e.2 e.3, get_or_from_slice_get m.rec.handlers e.0 e.2 e.2 e.3); begins = e.4 })
+    (λ q e. (e.listed.0, let lt = e.listed.1 in omega (arith, lt, all), e.handler, slice_get-get_or m.rec.handlers e.listed.0 e.handler e.listed.1 ∙ ap Some e.listed.2, e.begins)) s
+
+-- ---- what is kept
+
+-- a place that is not passed stays the least
+pub least-kept : (S : ℕ → Type 0) (from place : ℕ) (o : Option ℕ) → from ≤ place → ¬ (IsSomeAnd o (λ q. q < place)) → IsLeastFrom S from o → IsLeastFrom S place o
+least-kept S from place None le none h = λ q s. let lt = h q s in omega (arith, lt, le)
+least-kept S from place (Some b) le none h = (h.0, ⊎_elim (λ lt. absurd (none lt)) (λ ge. ge) (cases_lt b place), λ q s ge. h.2 q s (omega (arith, le, ge)))
+
+-- the least one tells whether the first is in the set
+pub least-here : (S : ℕ → Type 0) (from : ℕ) (o : Option ℕ) → IsLeastFrom S from o → o ≡ Some from → S from
+least-here S from None h e = absurd (cc)
+least-here S from (Some b) h e = let same : b ≡ from = cc in subst S same h.0
+
+pub here-least : (S : ℕ → Type 0) (from : ℕ) (o : Option ℕ) → IsLeastFrom S from o → S from → o ≡ Some from
+here-least S from None h s = let lt = h from s in absurd (omega (arith, lt))
+here-least S from (Some b) h s = let le = h.2 from s (omega arith) in let ge = h.1 in ap Some (omega (arith, le, ge))
+
+-- the next of the handlers that a walk goes over
+pub entry-next : (hs items : List Handler) (from n : ℕ) (d : Handler) (best r : Option ℕ) (e : ℕ) → items ≡ hs → n < length items → e ≡ (get_or items n d).entry → r ≡ nearer from best e
+    → IsLeastFrom (EntryBelow hs n) from best → IsLeastFrom (EntryBelow hs (n + 1)) from r
+entry-next hs items from n d best r e same inside entry is s =
+    let here : slice_get hs n ≡ Some (get_or items n d) = ap (λ (xs : List Handler). slice_get xs n) (sym same) ∙ slice_get-get_or items n d inside in
+    subst (IsLeastFrom (EntryBelow hs (n + 1)) from) (ap (nearer from best) (sym entry) ∙ sym is) (entry-more hs from n (get_or items n d) best here s)
+
+-- a walk along a list
+pub next-whole : {A : Type 0} (before rest : List A) (x : A) (after whole : List A) → before ++ rest ≡ whole → rest ≡ x ∷ after → (before ++ x ∷ []) ++ after ≡ whole
+next-whole before rest x after whole h e = append_assoc before (x ∷ []) after ∙ ap (λ (r : List _). before ++ r) (sym e) ∙ h
+
+pub last-whole : {A : Type 0} (before rest whole : List A) → before ++ rest ≡ whole → rest ≡ [] → before ≡ whole
+last-whole before rest whole h e = sym (append-nil before) ∙ ap (λ (r : List _). before ++ r) (sym e) ∙ h
+
+-- whether the first is in the set, as the place that was found tells
+pub told-here : (S : ℕ → Type 0) (from : ℕ) (o : Option ℕ) (b : Bool) → IsLeastFrom S from o → MatchBool b (o ≡ Some from) (¬ (o ≡ Some from)) → MatchBool b (S from) (¬ (S from))
+told-here S from o true h e = least-here S from o h e
+told-here S from o false h e = λ s. e (here-least S from o h s)

@@ -1,0 +1,5 @@
+pub mod Verifier
+pub mod Ahead
+pub mod Walk
+pub mod Answers
+pub mod Room

@@ -1,0 +1,180 @@
+ghost use Rattle.std.specs.Prelude.{◌≡◌, ◌<◌, ◌≤◌, fold, length, IsSomeAnd, MatchBool, Some, Ok};
+ghost use Rattle.jc_decode.specs.Decoding.{decoded};
+ghost use Rattle.jc_decode.specs.Listing.{targets};
+ghost use Rattle.card_typing.specs.Place.{IsTarget, IsEntry};
+ghost use Rattle.card_verify.specs.Ahead.{IsAhead, IsLeastFrom, is_nearer, nearer, nearer_target};
+ghost use Rattle.card_verify.specs.Verifier.{method};
+
+use crate::verifier::Verifier;
+use cap_bytes::View;
+use jc_control::{Targets, instructions_are_placed};
+use jc_decode::{Instructions, Placed};
+
+/// The least target and the least entry of a handler from a place on. Both are kept while a walk goes up to them, and
+/// sought anew once it is beyond.
+#[derive(Clone, Copy)]
+pub struct Ahead {
+    pub from: u16,
+    pub target: Option<u32>,
+    pub entry: Option<u32>,
+}
+
+impl Ahead {
+    /// What is ahead of the method's first place.
+    pub fn of(verifier: Verifier<'_>) -> Ahead
+        ensures is { IsAhead (method verifier.entry) result }
+        ensures from { result.from ≡ 0 }
+    {
+        Ahead {
+            from: 0,
+            target: verifier.target_from(0),
+            entry: verifier.entry_from(0),
+        }
+    }
+
+    /// What is ahead of a place further on.
+    pub fn moved(self, verifier: Verifier<'_>, place: u16) -> Ahead
+        requires ahead { IsAhead (method verifier) self }
+        requires up { self.from ≤ place }
+        ensures is { IsAhead (method verifier.entry) result }
+        ensures from { result.from ≡ place }
+    {
+        Ahead {
+            from: place,
+            target: self.target_at(verifier, place),
+            entry: self.entry_at(verifier, place),
+        }
+    }
+
+    /// The least target from a place further on.
+    fn target_at(self, verifier: Verifier<'_>, place: u16) -> Option<u32>
+        requires ahead { IsAhead (method verifier) self }
+        requires up { self.from ≤ place }
+        ensures { IsLeastFrom (IsTarget (method verifier.entry)) place result }
+    {
+        if is_passed(self.target, place) {
+            verifier.target_from(place)
+        } else {
+            self.target
+        }
+    }
+
+    /// The least entry from a place further on.
+    fn entry_at(self, verifier: Verifier<'_>, place: u16) -> Option<u32>
+        requires ahead { IsAhead (method verifier) self }
+        requires up { self.from ≤ place }
+        ensures { IsLeastFrom (IsEntry (method verifier.entry)) place result }
+    {
+        if is_passed(self.entry, place) {
+            verifier.entry_from(place)
+        } else {
+            self.entry
+        }
+    }
+
+    /// Whether the place from which it looks is a target.
+    pub fn is_target(self, verifier: Verifier<'_>) -> bool
+        requires { IsAhead (method verifier) self }
+        ensures { MatchBool result (IsTarget (method verifier.entry) self.from) (¬ (IsTarget (method verifier.entry) self.from)) }
+    {
+        let _verifier = verifier;
+        is_here(self.target, self.from)
+    }
+
+    /// Whether a handler begins at the place from which it looks.
+    pub fn is_entry(self, verifier: Verifier<'_>) -> bool
+        requires { IsAhead (method verifier) self }
+        ensures { MatchBool result (IsEntry (method verifier.entry) self.from) (¬ (IsEntry (method verifier.entry) self.from)) }
+    {
+        let _verifier = verifier;
+        is_here(self.entry, self.from)
+    }
+}
+
+/// Whether a place is before another.
+fn is_passed(found: Option<u32>, place: u16) -> bool
+    ensures { MatchBool result (IsSomeAnd found (λ q. q < place)) (¬ (IsSomeAnd found (λ q. q < place))) }
+{
+    match found {
+        Some(q) => q < u32::from(place),
+        None => false,
+    }
+}
+
+/// Whether this is the place that was found.
+fn is_here(found: Option<u32>, place: u16) -> bool
+    ensures { MatchBool result (found ≡ Some place) (¬ (found ≡ Some place)) }
+{
+    match found {
+        Some(q) => q == u32::from(place),
+        None => false,
+    }
+}
+
+/// The nearer of the best place so far and another, if that is not before the first.
+fn nearer(from: u16, best: Option<u32>, place: u32) -> Option<u32>
+    ensures { result ≡ nearer from best place }
+{
+    if u32::from(from) <= place && is_nearer(place, best) {
+        Some(place)
+    } else {
+        best
+    }
+}
+
+/// The same of a target, which may lie before the code.
+fn nearer_target(from: u16, best: Option<u32>, target: i32) -> Option<u32>
+    ensures { result ≡ nearer_target from best target }
+{
+    match u32::try_from(target) {
+        Ok(place) => nearer(from, best, place),
+        Err(_) => best,
+    }
+}
+
+fn is_nearer(place: u32, best: Option<u32>) -> bool
+    ensures { result ≡ is_nearer place best }
+{
+    match best {
+        Some(best) => place < best,
+        None => true,
+    }
+}
+
+/// The nearest of the targets of an instruction and the best so far.
+fn nearest(code: View<'_>, placed: Placed, from: u16, so_far: Option<u32>) -> Option<u32>
+    requires short { length code.bytes.now ≤ 32767 }
+    requires decoded { decoded code.bytes.now placed.place ≡ Ok placed.insn }
+    ensures { result ≡ fold (nearer_target from) so_far (targets code.entry.bytes.now placed) }
+{
+    let mut best = so_far;
+    'targets: for target in Targets::of(code, placed) {
+        best = nearer_target(from, best, target);
+    }
+    best
+}
+
+impl Verifier<'_> {
+    /// The least target from a place on, reached or not.
+    fn target_from(&self, from: u16) -> Option<u32>
+        ensures { IsLeastFrom (IsTarget (method self.now)) from result }
+    {
+        instructions_are_placed();
+        let mut best = None;
+        'walk: for placed in Instructions::of(self.code) {
+            best = nearest(self.code, placed, from, best);
+        }
+        best
+    }
+
+    /// The least entry of a handler from a place on.
+    fn entry_from(&self, from: u16) -> Option<u32>
+        ensures { IsLeastFrom (IsEntry (method self.now)) from result }
+    {
+        let mut best = None;
+        'handlers: for handler in self.rec.handlers.as_slice() {
+            best = nearer(from, best, u32::from(handler.entry));
+        }
+        best
+    }
+}

@@ -1,0 +1,68 @@
+ghost use Rattle.std.specs.Prelude.{◌≤◌, take, length, IfSome};
+ghost use Rattle.jc_base.specs.Class.{IsClass};
+ghost use Rattle.jc_base.specs.Order.{IsJoin};
+ghost use Rattle.jc_base.specs.declared.ty.Ty.TheVariants.{Class};
+ghost use Rattle.card_typing.specs.Place.{IsEntry, CatchesAt};
+ghost use Rattle.card_verify.specs.Verifier.{method};
+ghost use Rattle.card_verify.specs.Walk.{IsVerifier, IsJoined, IsCaughtWith};
+
+use crate::verifier::Verifier;
+use jc_base::{Classes, Handler, Ty, join};
+
+impl Verifier<'_> {
+    /// The class of the object that is on the stack where handlers begin: the join of those that they catch.
+    pub fn caught(&self, place: u16) -> u16
+        requires verifier { IsVerifier self.now }
+        requires entry { IsEntry (method self.now) place }
+        ensures { CatchesAt self.now.world.now.classes (method self.now) place result }
+    {
+        let classes = self.world.classes();
+        let mut class = None;
+        'handlers: for handler in self.rec.handlers.as_slice() {
+            class = caught_with(classes, class, *handler, place);
+        }
+        match class {
+            Some(class) => class,
+            None => unreachable!(),
+        }
+    }
+}
+
+/// The join of the class so far and the one that a handler catches, if it begins at the place.
+fn caught_with(classes: &Classes, class: Option<u16>, handler: Handler, place: u16) -> Option<u16>
+    requires class { IfSome class (IsClass classes.now) }
+    requires handler { IsClass classes.now handler.class }
+    ensures { IsCaughtWith classes.now place handler class result }
+{
+    if handler.entry == place {
+        Some(joined(classes, class, handler.class))
+    } else {
+        class
+    }
+}
+
+/// The join of the class so far, if there is one, and another.
+fn joined(classes: &Classes, class: Option<u16>, other: u16) -> u16
+    requires class { IfSome class (IsClass classes.now) }
+    requires other { IsClass classes.now other }
+    ensures { IsJoined classes.now class other result }
+{
+    match class {
+        Some(class) => join_classes(classes, class, other),
+        None => other,
+    }
+}
+
+/// The nearest class that is above both.
+#[tactic(auto, unfolding(jc_base::specs::Order::join_of))]
+fn join_classes(classes: &Classes, class: u16, other: u16) -> u16
+    requires class { IsClass classes.now class }
+    requires other { IsClass classes.now other }
+    ensures class { IsClass classes.now result }
+    ensures join { IsJoin classes.now (Class class) (Class other) (Class result) }
+{
+    match join(classes, Ty::Class(class), Ty::Class(other)) {
+        Ty::Class(class) => class,
+        _ => unreachable!(),
+    }
+}

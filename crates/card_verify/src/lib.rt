@@ -1,0 +1,21 @@
+//! The verifier on the card (Leroy 2002, section 3): it accepts exactly the methods that have a card typing, and takes
+//! no memory but the registers and the stack that it is lent.
+//!
+//! It walks the instructions of a method in the order of the code and raises one list of registers in place, pass
+//! after pass, until a pass raises none. Targets are not remembered: the least one ahead is found by a walk and kept
+//! until the pass is beyond it. It stands on the definitions of `card_typing` and on the rules of `jc_rules`.
+#![tactic(auto)]
+
+mod acceptance;
+mod ahead;
+mod caught;
+mod pass;
+mod room;
+mod start;
+mod verifier;
+mod verify;
+
+pub use acceptance::{Accepted, accept};
+pub use card_typing::{CardFault, CardKind};
+pub use room::CardRoom;
+pub use verify::verify_method;

@@ -1,0 +1,161 @@
+ghost use Rattle.std.specs.Prelude.{◌≡◌, ◌↔◌, ◌+◌, ◌<◌, ◌≤◌, length, slice_get, IsSomeAnd, IfErr, OnOk, OnErr};
+ghost use Rattle.jc_base.specs.declared.ty.Ty.TheVariants.{Bottom};
+ghost use Rattle.jc_control.specs.Method.{IsMethodOf, method_in};
+ghost use Rattle.jc_control.specs.WellFormed.{IsWellFormed};
+ghost use Rattle.jc_rules.specs.Apply.{frame_of};
+ghost use Rattle.jc_rules.specs.Flow.{HasFlowTyping};
+ghost use Rattle.card_typing.specs.Typing.{HasCardTyping, IsLeastCardTyping};
+ghost use Rattle.card_typing.specs.Refusal.{IsFlawKind, IsRefused, fault_of};
+ghost use Rattle.card_verify.specs.Answers.{TellsFlaw};
+ghost use Rattle.card_verify.specs.Verifier.{method, world_of};
+ghost use Rattle.card_verify.specs.Walk.{IsVerifier, HasSlices, IsBegun, IsFinished};
+
+use crate::start::start;
+use crate::verifier::Verifier;
+use cap_bytes::View;
+use card_typing::{CardFault, CardKind, card_laws};
+use jc_base::{Ty, World};
+use jc_control::{Flaw, Places, Subject, find_flaw, instructions_are_placed};
+use jc_rules::rule_laws;
+
+/// Verifies a method with code as a verifier on the card does, in the registers and the stack that are lent: a cell for
+/// each argument word and local, and one for each cell of `max_stack`.
+///
+/// Where the method has a card typing the registers hold the least one afterwards. A method that is not well formed is
+/// refused at its first flaw, and the slices stay as they were. Any other refusal names what is wrong with a state that
+/// the verifier meets: the registers and the first `depth` cells of the stack, which the slices then hold.
+pub fn verify_method(
+    world: &World<'_>,
+    method: u16,
+    regs: &mut [Ty],
+    stack: &mut [Ty],
+) -> Result<(), CardFault>
+    requires code { IsSomeAnd (slice_get world.now.methods method) (λ m. 0 < m.code_len) }
+    requires registers { IsSomeAnd (slice_get world.now.methods method) (λ m. length regs.old ≡ m.nargs + m.max_locals) }
+    requires cells { IsSomeAnd (slice_get world.now.methods method) (λ m. length stack.old ≡ m.max_stack) }
+    ensures known { IsSomeAnd (method_in world.now method) (λ m. IsMethodOf world.now m) }
+    ensures typing { IsSomeAnd (method_in world.now method) (λ m. OnOk result (IsLeastCardTyping world.now m regs.new)) }
+    // A dataflow typing then exists too, in which unset registers hold no value.
+    ensures flow { IsSomeAnd (method_in world.now method) (λ m. OnOk result (HasFlowTyping world.now m Bottom)) }
+    ensures none { IsSomeAnd (method_in world.now method) (λ m. OnErr result (¬ (HasCardTyping world.now m))) }
+    ensures refused { IsSomeAnd (method_in world.now method)
+        (λ m.
+        IfErr result
+        (λ fault. IsRefused world.now m fault (frame_of regs.new stack.new fault.depth))) }
+    // A flaw is told exactly where the method is not well formed, and then nothing has changed.
+    ensures flawed { IsSomeAnd (method_in world.now method) (λ m. IfErr result (λ fault. IsFlawKind fault.kind ↔ ¬ (IsWellFormed m))) }
+    ensures as_before { IfErr result (λ fault. IsFlawKind fault.kind → (regs.new ≡ regs.old) × (stack.new ≡ stack.old)) }
+{
+    let rec = world.method(method);
+    let code = View::of(world.code(method));
+    let verifier = Verifier {
+        world,
+        number: method,
+        rec,
+        code,
+    };
+    verifier.verify(regs, stack)
+}
+
+/// The refusal that tells a flaw.
+fn fault_of(flaw: Flaw) -> CardFault
+    ensures { result ≡ fault_of flaw }
+{
+    match flaw {
+        Flaw::Code(place, end) => CardFault {
+            place,
+            depth: 0,
+            kind: CardKind::Code(end),
+        },
+        Flaw::BadTarget(place, target) => CardFault {
+            place,
+            depth: 0,
+            kind: CardKind::BadTarget(target),
+        },
+        Flaw::BadHandler(entry, number) => CardFault {
+            place: entry,
+            depth: 0,
+            kind: CardKind::BadHandler(number),
+        },
+    }
+}
+
+impl Verifier<'_> {
+    /// Verifies the method: first its form, then pass after pass its types.
+    fn verify(&self, regs: &mut [Ty], stack: &mut [Ty]) -> Result<(), CardFault>
+        requires method { IsMethodOf (world_of self.now) (method self.now) }
+        requires slices { HasSlices self.now regs.old stack.old }
+        ensures typing { OnOk result (IsLeastCardTyping (world_of self.now) (method self.now) regs.new) }
+        ensures flow { OnOk result (HasFlowTyping (world_of self.now) (method self.now) Bottom) }
+        ensures none { OnErr result (¬ (HasCardTyping (world_of self.now) (method self.now))) }
+        ensures refused { IfErr result
+            (λ fault.
+            IsRefused (world_of self.now) (method self.now) fault
+            (frame_of regs.new stack.new fault.depth)) }
+        ensures flawed { IfErr result (λ fault. IsFlawKind fault.kind ↔ ¬ (IsWellFormed (method self.now))) }
+        ensures as_before { IfErr result (λ fault. IsFlawKind fault.kind → (regs.new ≡ regs.old) × (stack.new ≡ stack.old)) }
+    {
+        card_laws(self.world);
+        match self.check_form() {
+            Ok(()) => self.verify_types(regs, stack),
+            Err(fault) => Err(fault),
+        }
+    }
+
+    /// Verifies the types of a well-formed method.
+    fn verify_types(&self, regs: &mut [Ty], stack: &mut [Ty]) -> Result<(), CardFault>
+        requires method { IsMethodOf (world_of self.now) (method self.now) }
+        requires formed { IsWellFormed (method self.now) }
+        requires slices { HasSlices self.now regs.old stack.old }
+        ensures typing { OnOk result (IsLeastCardTyping (world_of self.now) (method self.now) regs.new) }
+        ensures refused { IfErr result
+            (λ fault.
+            IsRefused (world_of self.now) (method self.now) fault
+            (frame_of regs.new stack.new fault.depth)) }
+    {
+        card_laws(self.world);
+        rule_laws(self.world);
+        instructions_are_placed();
+        start(self.rec, regs);
+        self.settle(regs, stack)
+    }
+
+    /// Whether the method is well formed, and else its first flaw.
+    fn check_form(&self) -> Result<(), CardFault>
+        requires { IsMethodOf (world_of self.now) (method self.now) }
+        ensures formed { OnOk result (IsWellFormed (method self.now)) }
+        ensures flawed { IfErr result (λ fault. TellsFlaw (method self.now) fault) }
+    {
+        rule_laws(self.world);
+        let subject = Subject {
+            number: self.number,
+            rec: self.rec,
+            code: self.code,
+        };
+        match find_flaw(subject, Places::Sought) {
+            Ok(()) => Ok(()),
+            Err(flaw) => Err(fault_of(flaw)),
+        }
+    }
+
+    /// Passes over the code until no register rises.
+    fn settle(&self, regs: &mut [Ty], stack: &mut [Ty]) -> Result<(), CardFault>
+        requires verifier { IsVerifier self.now }
+        requires begun { IsBegun self.now regs.old stack.old }
+        ensures finished { OnOk result (IsFinished self.now regs.new) }
+        ensures refused { IfErr result
+            (λ fault.
+            IsRefused (world_of self.now) (method self.now) fault
+            (frame_of regs.new stack.new fault.depth)) }
+    {
+        'passes: loop {
+            let rose = match self.pass(regs, stack) {
+                Ok(rose) => rose,
+                Err(fault) => return Err(fault),
+            };
+            if !rose {
+                return Ok(());
+            }
+        }
+    }
+}
