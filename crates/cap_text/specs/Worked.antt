@@ -74,12 +74,16 @@ two_accepted : accepted_line 2 ≡ codes "accepted 2 methods\n"
 unfolding digits
 two_accepted = refl
 
-full_at_a_branch : refused_card_line (record { «package» = 0; class_no = 0; method_no = 1 }) (record { place = 2; depth = 1; kind = StackAtBranch })
+full_at_a_branch :
+    refused_card_line (record { «package» = 0; class_no = 0; method_no = 1 })
+    (record { place = 2; depth = 1; kind = StackAtBranch })
     ≡ codes "refused package 0 method 0.1 place 2 StackAtBranch\n"
 unfolding digits
 full_at_a_branch = refl
 
-handler_on_the_card : refused_card_line (record { «package» = 0; class_no = 2; method_no = 1 }) (record { place = 9; depth = 0; kind = cards.BadHandler 4 })
+handler_on_the_card :
+    refused_card_line (record { «package» = 0; class_no = 2; method_no = 1 })
+    (record { place = 9; depth = 0; kind = cards.BadHandler 4 })
     ≡ codes "refused package 0 method 2.1 place 9 BadHandler 4\n"
 unfolding digits
 handler_on_the_card = refl
