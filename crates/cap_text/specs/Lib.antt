@@ -7,6 +7,7 @@ pub mod Fault
 pub mod Bare
 pub mod Linked
 pub mod Rule
+pub mod Printed
 pub mod Flow
 pub mod Start
 pub mod Line

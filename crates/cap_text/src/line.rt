@@ -6,7 +6,7 @@ use crate::start::StartFault;
 use cap_bare::{BareEnd, BareFault};
 use cap_package::PackFault;
 use jc_flow::FlowEnd;
-use jc_resolve::LinkFault;
+use jc_link::LinkFault;
 use std::alloc::{AllocError, Global};
 use std::fmt;
 
