@@ -8,6 +8,7 @@ pub mod Fault
 pub mod Bare
 pub mod Linked
 pub mod Rule
+pub mod Printed
 pub mod Flow
 pub mod Card
 pub mod Start

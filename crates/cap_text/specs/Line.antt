@@ -11,7 +11,7 @@ use Rattle.cap_text.specs.Fault.{pack_fault_text}
 use Rattle.cap_text.specs.Bare.{bare_kind_text}
 use Rattle.cap_text.specs.Start.{start_fault_text}
 use Rattle.cap_text.specs.Linked.{link_fault_text}
-use Rattle.jc_resolve.specs.declared.fault.LinkFault.{LinkFault}
+use Rattle.jc_link.specs.LinkFault.{LinkFault}
 use Rattle.cap_text.specs.declared.line.MethodNumber.{MethodNumber}
 use Rattle.cap_text.specs.Card.{card_fault_text}
 use Rattle.cap_text.specs.Flow.{flow_end_text}

@@ -14,7 +14,7 @@ use Rattle.cap_text.specs.Rule.{rule_fault_text}
 use Rattle.jc_base.specs.declared.ty.Ty.TheVariants.{Short, Class, Top}
 use Rattle.jc_decode.specs.declared.insn.CodeEnd.TheVariants.{NoOpcode}
 use Rattle.jc_flow.specs.declared.end.FlowEnd.TheVariants as flow
-use Rattle.jc_resolve.specs.declared.fault.LinkFault.TheVariants.{Hole}
+use Rattle.jc_link.specs.LinkFault.TheVariants.{Hole}
 use Rattle.jc_ops.specs.declared.fault.RuleFault.TheVariants.{Mismatch}
 
 malformed : malformed_line 0 (Form (record { part = 7; at = 21; kind = Cut })) ≡ codes "malformed package 0 Form 7 21 Cut\n"

@@ -1,7 +1,9 @@
-ghost use Rattle.std.specs.Prelude.{Some};
-ghost use Rattle.cap_text.specs.Fault.{form_kind_name, form_fault_text, pack_fault_text};
+ghost use Rattle.std.specs.Prelude.{◌≡◌, Some};
+ghost use Rattle.cap_text.specs.Fault.{form_kind_name, pack_fault_text};
+ghost use Rattle.cap_text.specs.Printed.{printed_text};
 
-use cap_bytes::{FormFault, FormKind};
+use crate::printed::Printed;
+use cap_bytes::FormKind;
 use cap_package::PackFault;
 use std::fmt;
 
@@ -10,69 +12,62 @@ use std::fmt;
 #[derive(Clone, Copy)]
 pub struct Shown<T>(pub T);
 
-impl fmt::Display for Shown<FormKind> {
-    ghost output = { λ x. Some (form_kind_name x.0) };
-
-    fn fmt<W: fmt::Write>(&self, f: &mut fmt::Formatter<W>) -> fmt::Result {
-        f.write_str(match self.0 {
-            FormKind::Cut => "Cut",
-            FormKind::WrongTag => "WrongTag",
-            FormKind::BadMagic => "BadMagic",
-            FormKind::BadVersion => "BadVersion",
-            FormKind::Trailing => "Trailing",
-            FormKind::BadValue => "BadValue",
-            FormKind::Remote => "Remote",
-        })
-    }
-}
-
-impl fmt::Display for Shown<FormFault> {
-    ghost output = { λ x. Some (form_fault_text x.0) };
-
-    fn fmt<W: fmt::Write>(&self, f: &mut fmt::Formatter<W>) -> fmt::Result {
-        write!(
-            f,
-            "Form {} {} {}",
-            self.0.part,
-            self.0.at,
-            Shown(self.0.kind)
-        )
-    }
-}
-
 impl fmt::Display for Shown<PackFault> {
     ghost output = { λ x. Some (pack_fault_text x.0) };
 
     fn fmt<W: fmt::Write>(&self, f: &mut fmt::Formatter<W>) -> fmt::Result {
-        match self.0 {
-            PackFault::Form(fault) => write!(f, "{}", Shown(fault)),
-            PackFault::MissingPart(part) => write!(f, "MissingPart {part}"),
-            PackFault::SizeDisagrees(part, said, found) => write!(
-                f,
-                "SizeDisagrees {part} {said} {found}"
-            ),
-            PackFault::MethodOverlaps(first, second) => write!(
-                f,
-                "MethodOverlaps {first} {second}"
-            ),
-            PackFault::MethodOutside(at) => write!(f, "MethodOutside {at}"),
-            PackFault::CountDisagrees(what, said, found) => write!(
-                f,
-                "CountDisagrees {what} {said} {found}"
-            ),
-            PackFault::HandlerOutside(number) => write!(f, "HandlerOutside {number}"),
-            PackFault::StaticOverlaps(first, second) => write!(
-                f,
-                "StaticOverlaps {first} {second}"
-            ),
-            PackFault::NoMethodAt(at) => write!(f, "NoMethodAt {at}"),
-            PackFault::ClassUndescribed(at) => write!(f, "ClassUndescribed {at}"),
-            PackFault::TooManyRegisters(at, n) => write!(f, "TooManyRegisters {at} {n}"),
-            PackFault::BadType(at) => write!(f, "BadType {at}"),
-            PackFault::StaticOutside(at) => write!(f, "StaticOutside {at}"),
-            PackFault::MethodLength(at, n) => write!(f, "MethodLength {at} {n}"),
-            PackFault::NoStaticAt(at) => write!(f, "NoStaticAt {at}"),
-            PackFault::PartTooLong(part) => write!(f, "PartTooLong {part}"),
+        write!(f, "{}", Shown(printed(self.0)))
+    }
+}
+
+fn printed(fault: PackFault) -> Printed
+    ensures { printed_text result ≡ pack_fault_text fault }
+{
+    match fault {
+        PackFault::Form(form) => {
+            Printed::Kind(
+                "Form",
+                form.part as u64,
+                form.at as u64,
+                kind_name(form.kind),
+            )
         }
+        PackFault::MissingPart(part) => Printed::One("MissingPart", part as u64),
+        PackFault::SizeDisagrees(part, said, found) => {
+            Printed::Three("SizeDisagrees", part as u64, said as u64, found as u64)
+        }
+        PackFault::MethodOverlaps(first, second) => {
+            Printed::Two("MethodOverlaps", first as u64, second as u64)
+        }
+        PackFault::MethodOutside(at) => Printed::One("MethodOutside", at as u64),
+        PackFault::CountDisagrees(what, said, found) => {
+            Printed::Three("CountDisagrees", what as u64, said as u64, found as u64)
+        }
+        PackFault::HandlerOutside(number) => Printed::One("HandlerOutside", number as u64),
+        PackFault::StaticOverlaps(first, second) => {
+            Printed::Two("StaticOverlaps", first as u64, second as u64)
+        }
+        PackFault::NoMethodAt(at) => Printed::One("NoMethodAt", at as u64),
+        PackFault::ClassUndescribed(at) => Printed::One("ClassUndescribed", at as u64),
+        PackFault::TooManyRegisters(at, n) => Printed::Two("TooManyRegisters", at as u64, n as u64),
+        PackFault::BadType(at) => Printed::One("BadType", at as u64),
+        PackFault::StaticOutside(at) => Printed::One("StaticOutside", at as u64),
+        PackFault::MethodLength(at, n) => Printed::Two("MethodLength", at as u64, n as u64),
+        PackFault::NoStaticAt(at) => Printed::One("NoStaticAt", at as u64),
+        PackFault::PartTooLong(part) => Printed::One("PartTooLong", part as u64),
+    }
+}
+
+fn kind_name(kind: FormKind) -> &'static str
+    ensures { result.now ≡ form_kind_name kind }
+{
+    match kind {
+        FormKind::Cut => "Cut",
+        FormKind::WrongTag => "WrongTag",
+        FormKind::BadMagic => "BadMagic",
+        FormKind::BadVersion => "BadVersion",
+        FormKind::Trailing => "Trailing",
+        FormKind::BadValue => "BadValue",
+        FormKind::Remote => "Remote",
     }
 }

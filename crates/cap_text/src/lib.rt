@@ -11,6 +11,7 @@ mod fault;
 mod flow;
 mod line;
 mod linked;
+mod printed;
 mod probe;
 mod rule;
 mod show;

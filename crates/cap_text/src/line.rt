@@ -7,7 +7,7 @@ use cap_bare::{BareEnd, BareFault};
 use cap_package::PackFault;
 use card_typing::CardFault;
 use jc_flow::FlowEnd;
-use jc_resolve::LinkFault;
+use jc_link::LinkFault;
 use std::alloc::{AllocError, Global};
 use std::fmt;
 

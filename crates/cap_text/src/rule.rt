@@ -1,9 +1,11 @@
-ghost use Rattle.std.specs.Prelude.{Some};
+ghost use Rattle.std.specs.Prelude.{◌≡◌, Some};
+ghost use Rattle.cap_text.specs.Printed.{printed_text};
 ghost use Rattle.cap_text.specs.Rule.{type_text, rule_fault_text};
 
 use crate::fault::Shown;
+use crate::printed::Printed;
 use jc_base::Ty;
-use jc_ops::RuleFault;
+use jc_rules::RuleFault;
 use std::fmt;
 
 impl fmt::Display for Shown<Ty> {
@@ -32,21 +34,22 @@ impl fmt::Display for Shown<RuleFault> {
     ghost output = { λ x. Some (rule_fault_text x.0) };
 
     fn fmt<W: fmt::Write>(&self, f: &mut fmt::Formatter<W>) -> fmt::Result {
-        match self.0 {
-            RuleFault::Underflow => f.write_str("Underflow"),
-            RuleFault::Overflow => f.write_str("Overflow"),
-            RuleFault::Mismatch { found, wanted } => write!(
-                f,
-                "Mismatch found {} wanted {}",
-                Shown(found),
-                Shown(wanted)
-            ),
-            RuleFault::NoLocal(register) => write!(f, "NoLocal {register}"),
-            RuleFault::SplitInt => f.write_str("SplitInt"),
-            RuleFault::FreshKept => f.write_str("FreshKept"),
-            RuleFault::BadMember(entry) => write!(f, "BadMember {entry}"),
-            RuleFault::NotConcrete(class) => write!(f, "NotConcrete {class}"),
-            RuleFault::StackMerge => f.write_str("StackMerge"),
-        }
+        write!(f, "{}", Shown(printed(self.0)))
+    }
+}
+
+fn printed(fault: RuleFault) -> Printed
+    ensures { printed_text result ≡ rule_fault_text fault }
+{
+    match fault {
+        RuleFault::Underflow => Printed::Alone("Underflow"),
+        RuleFault::Overflow => Printed::Alone("Overflow"),
+        RuleFault::Mismatch { found, wanted } => Printed::Found("Mismatch", found, wanted),
+        RuleFault::NoLocal(register) => Printed::One("NoLocal", register as u64),
+        RuleFault::SplitInt => Printed::Alone("SplitInt"),
+        RuleFault::FreshKept => Printed::Alone("FreshKept"),
+        RuleFault::BadMember(entry) => Printed::One("BadMember", entry as u64),
+        RuleFault::NotConcrete(class) => Printed::One("NotConcrete", class as u64),
+        RuleFault::StackMerge => Printed::Alone("StackMerge"),
     }
 }

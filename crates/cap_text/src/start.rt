@@ -1,7 +1,9 @@
-ghost use Rattle.std.specs.Prelude.{Some};
+ghost use Rattle.std.specs.Prelude.{◌≡◌, Some};
+ghost use Rattle.cap_text.specs.Printed.{printed_text};
 ghost use Rattle.cap_text.specs.Start.{start_fault_text};
 
 use crate::fault::Shown;
+use crate::printed::Printed;
 use std::fmt;
 
 /// Why an entry does not start with the arguments, tried in this order.
@@ -21,11 +23,19 @@ impl fmt::Display for Shown<StartFault> {
     ghost output = { λ x. Some (start_fault_text x.0) };
 
     fn fmt<W: fmt::Write>(&self, f: &mut fmt::Formatter<W>) -> fmt::Result {
-        match self.0 {
-            StartFault::NoEntry => f.write_str("NoEntry"),
-            StartFault::NotStatic => f.write_str("NotStatic"),
-            StartFault::ArgCount { said, wanted } => write!(f, "ArgCount {said} {wanted}"),
-            StartFault::ArgKind(number) => write!(f, "ArgKind {number}"),
+        write!(f, "{}", Shown(printed(self.0)))
+    }
+}
+
+fn printed(fault: StartFault) -> Printed
+    ensures { printed_text result ≡ start_fault_text fault }
+{
+    match fault {
+        StartFault::NoEntry => Printed::Alone("NoEntry"),
+        StartFault::NotStatic => Printed::Alone("NotStatic"),
+        StartFault::ArgCount { said, wanted } => {
+            Printed::Two("ArgCount", said as u64, wanted as u64)
         }
+        StartFault::ArgKind(number) => Printed::One("ArgKind", number as u64),
     }
 }

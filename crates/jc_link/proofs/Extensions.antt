@@ -8,14 +8,14 @@ use Rattle.jc_base.specs.Interface.{extended, extended_in, NoneExtendsItself}
 use Rattle.jc_base.proofs.Leading.{Leads-along}
 use Rattle.jc_resolve.specs.declared.named.NamedClass.{NamedClass}
 use Rattle.jc_hierarchy.specs.Ancestor as named
-use Rattle.jc_classes.specs.declared.layout.Layout.{Layout}
+use Rattle.jc_classes.specs.declared.layout.ClassLayout.{ClassLayout}
 use Rattle.jc_classes.specs.Layout.{layout_of}
 use Rattle.jc_classes.specs.Tables.{record_from, records_from, class_tables}
 use Rattle.jc_link.specs.World.{classes_of, lineage_of, table_of}
 use Rattle.jc_link.specs.Known.{IsTableOf}
 
 -- the record of a class names the interfaces that its component names
-record-extends : (k : NamedClass) (l : Layout) → extended_in (Some (record_from k l)) ≡ named.extended_in (Some k)
+record-extends : (k : NamedClass) (l : ClassLayout) → extended_in (Some (record_from k l)) ≡ named.extended_in (Some k)
 unfolding record_from
 record-extends k l = refl
 
