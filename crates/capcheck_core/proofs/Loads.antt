@@ -1,48 +1,189 @@
 -- The parts that are loaded have rising tags, and a folder that tells what it holds has one list of them.
-use Rattle.std.proofs.Common.{◌≡◌, ◌<◌, ◌+◌, ℕ, suc, List, [], ◌∷◌, ◌++◌, Option, Some, None, IsNone, true, false, true≢false, refl, sym, ap, subst, ◌∙◌, inl, inr, ◌⊎◌, arith, length}
-use Rattle.std.specs.Prelude.{Bool, Result, IfSome, IsSomeAnd, Ok, Err}
-use Rattle.std.specs.FinMap as map
-use Rattle.std.proofs.lemmas.Bool.{ne_eqb}
+use Rattle.std.proofs.Common.{◌≡◌, ◌<◌, ◌≤◌, ◌+◌, ℕ, zero, suc, List, [], ◌∷◌, ◌++◌, Option, Some, None, IsNone, Bool, true, false, true≢false, eqb, ltb, slice_index_or, map, refl, sym, ap, subst, ◌∙◌, inl, inr, ◌⊎◌, arith, length}
+use Rattle.std.specs.Prelude.{Result, IfSome, IsSomeAnd, is_some, Ok, Err, ◌&&◌, ◌||◌}
+use Rattle.std.specs.List.{range_with_len}
+use Rattle.std.specs.FinMap as fin_map
+use Rattle.std.proofs.lemmas.List.FromFn.{get_or-map-range_with_len, map-range_with_len_more}
+use Rattle.std.proofs.lemmas.Bool.{ne_eqb, eq-eqb, eqb-true, ltb-true, ltb-false}
 use Rattle.std.proofs.Math.Nat.{eq-or-lt_of_le}
+use Rattle.cap_bytes.specs.Grammar.{Grammar}
+use Rattle.cap_bytes.specs.Spelling.{info_of}
+use Rattle.cap_bytes.specs.Reading.{reading}
+use Rattle.cap_frame.specs.HeaderFormat.{HeaderItems, header_info}
+use Rattle.cap_frame.specs.DirectoryFormat.{directory_info}
 use Rattle.cap_files.specs.Folder.{Parts, Folders, Holds, IsTooLong, Loads}
 use Rattle.cap_files.specs.declared.folder.LoadEnd.{LoadEnd}
+use Rattle.cap_components.specs.declared.fault.PackFault.{PackFault}
+use Rattle.cap_components.specs.Components.{framed, formed, info_in, read_part, read_directory, ◌>>=◌}
 use Rattle.cap_package.specs.Parts.{Lent, held}
-use Rattle.cap_components.proofs.PartsLemmas.{held-other}
-use Rattle.capcheck_core.specs.Loads.{is_asked, Has, with_file, AreLoaded, loaded_none, loaded_unasked, loaded_asked, StopsAt, IsFirstLong}
+use Rattle.cap_components.proofs.PartsLemmas.{held-other, held-same}
+use Rattle.capcheck_core.specs.Loads.{is_required, is_optional, is_sized, is_asked, asked_tags, Has, with_file, Rise, AreLoaded, StopsAt, IsFirstLong}
 use Rattle.capcheck_core.specs.declared.load.LoadStop.{LoadStop}
 use Rattle.capcheck_core.specs.declared.load.LoadStop.TheVariants.{TooLong, Failed, Memory}
 use Rattle.capcheck_core.specs.LoadEnds.{LoadsParts, LoadsNext}
 
--- ---- each tag stands once
+none_some : (bytes : List ℕ) → ◌≡◌ {A = Option (List ℕ)} None (Some bytes) → ⊥
+none_some bytes e = cc
 
-abbrev AreBelow : ℕ → List Lent → Type 0
-AreBelow tag [] = Unit {0}
-AreBelow tag (lent ∷ parts) = (lent.part < tag) × AreBelow tag parts
+some_one : {x y : List ℕ} → Some x ≡ Some y → x ≡ y
+some_one e = cc
 
-below_suc : (tag : ℕ) (parts : List Lent) → AreBelow tag parts → AreBelow (suc tag) parts
-below_suc tag [] below = tt {0}
-below_suc tag (lent ∷ parts) below = (omega (arith, below.0), below_suc tag parts below.1)
+-- ---- tags rise
 
-below_push : (tag : ℕ) (parts : List Lent) (lent : Lent) → AreBelow tag parts → lent.part < tag → AreBelow tag (parts ++ lent ∷ [])
-below_push tag [] lent below one = (one, tt {0})
-below_push tag (l ∷ ls) lent below one = (below.0, below_push tag ls lent below.1 one)
+-- no part of a tag that no part can have
+above_none : (low top tag : ℕ) (parts : List Lent) → Rise low top parts → top ≤ tag → held parts tag ≡ None
+above_none low top tag [] rise le = refl
+above_none low top tag (lent ∷ parts) rise le =
+    let below = rise.1 in
+    held-other tag lent parts (ne_eqb lent.part tag (λ e. absurd (omega (arith, below, le, e)))) ∙ above_none (suc lent.part) top tag parts rise.2 le
 
-loaded_below : (before : Folders) (dir : List ℕ) (tag : ℕ) (parts : List Lent) → AreLoaded before dir tag parts → AreBelow tag parts
-loaded_below before dir _ _ loaded_none = tt {0}
-loaded_below before dir _ _ (loaded_unasked tag parts loaded unasked) = below_suc tag parts (loaded_below before dir tag parts loaded)
-loaded_below before dir _ _ (loaded_asked tag parts None loaded asked has) = below_suc tag parts (loaded_below before dir tag parts loaded)
-loaded_below before dir _ _ (loaded_asked tag parts (Some bytes) loaded asked has) =
-    below_push (suc tag) parts (record { part = tag; bytes = bytes }) (below_suc tag parts (loaded_below before dir tag parts loaded)) (omega arith)
+below_none : (low top tag : ℕ) (parts : List Lent) → Rise low top parts → tag < low → held parts tag ≡ None
+below_none low top tag [] rise lt = refl
+below_none low top tag (lent ∷ parts) rise lt =
+    let least = rise.0 in
+    held-other tag lent parts (ne_eqb lent.part tag (λ e. absurd (omega (arith, least, lt, e))))
+    ∙ below_none (suc lent.part) top tag parts rise.2 (omega (arith, least, lt))
 
-below_absent : (tag : ℕ) (parts : List Lent) → AreBelow tag parts → IsNone (held parts tag)
-below_absent tag [] below = refl
-below_absent tag (lent ∷ parts) below =
-    let first = below.0 in
-    rw (held-other tag lent parts (ne_eqb lent.part tag (λ e. absurd (omega (arith, first, e))))) (below_absent tag parts below.1)
+nothing : (o : Option (List ℕ)) → IsNone o → o ≡ None
+nothing None none = refl
+nothing (Some bytes) none = absurd cc
+
+rise_wider : (low top : ℕ) (parts : List Lent) → Rise low top parts → Rise low (suc top) parts
+rise_wider low top [] rise = tt {0}
+rise_wider low top (lent ∷ parts) rise = (rise.0, omega (arith, rise.1), rise_wider (suc lent.part) top parts rise.2)
+
+abbrev lent_of : ℕ → List ℕ → Lent
+lent_of tag bytes = record { part = tag; bytes = bytes }
+
+rise_push : (low top : ℕ) (parts : List Lent) (bytes : List ℕ) → Rise low top parts → low ≤ top → Rise low (suc top) (parts ++ lent_of top bytes ∷ [])
+rise_push low top [] bytes rise le = (le, omega arith, tt {0})
+rise_push low top (lent ∷ parts) bytes rise le =
+    let below = rise.1 in
+    (rise.0, omega (arith, below), rise_push (suc lent.part) top parts bytes rise.2 (omega (arith, below)))
+
+-- ---- what is held with one more part
+
+push_other : (tag : ℕ) (parts : List Lent) (lent : Lent) → eqb lent.part tag ≡ false → held (parts ++ lent ∷ []) tag ≡ held parts tag
+push_other tag [] lent other = held-other tag lent [] other
+push_other tag (l ∷ ls) lent other = by (eqb l.part tag) refl (push_other tag ls lent other)
+  where
+    by : (b : Bool) → eqb l.part tag ≡ b → held (ls ++ lent ∷ []) tag ≡ held ls tag → held (l ∷ (ls ++ lent ∷ [])) tag ≡ held (l ∷ ls) tag
+    by true e rest = held-same tag l (ls ++ lent ∷ []) e ∙ sym (held-same tag l ls e)
+    by false e rest = held-other tag l (ls ++ lent ∷ []) e ∙ rest ∙ sym (held-other tag l ls e)
+
+push_same : (tag : ℕ) (parts : List Lent) (bytes : List ℕ) → held parts tag ≡ None → held (parts ++ lent_of tag bytes ∷ []) tag ≡ Some bytes
+push_same tag [] bytes absent = held-same tag (lent_of tag bytes) [] (eq-eqb tag tag refl)
+push_same tag (l ∷ ls) bytes absent = by (eqb l.part tag) refl (push_same tag ls bytes)
+  where
+    by : (b : Bool) → eqb l.part tag ≡ b → (held ls tag ≡ None → held (ls ++ lent_of tag bytes ∷ []) tag ≡ Some bytes) → held (l ∷ (ls ++ lent_of tag bytes ∷ [])) tag ≡ Some bytes
+    by true e rest = absurd (none_some l.bytes (sym absent ∙ held-same tag l ls e))
+    by false e rest = held-other tag l (ls ++ lent_of tag bytes ∷ []) e ∙ rest (sym (held-other tag l ls e) ∙ absent)
+
+file_other : (tag top : ℕ) (parts : List Lent) (file : Option (List ℕ)) → eqb top tag ≡ false → held (with_file parts top file) tag ≡ held parts tag
+file_other tag top parts None other = refl
+file_other tag top parts (Some bytes) other = push_other tag parts (lent_of top bytes) other
+
+file_same : (tag : ℕ) (parts : List Lent) (file : Option (List ℕ)) → held parts tag ≡ None → held (with_file parts tag file) tag ≡ file
+file_same tag parts None absent = absent
+file_same tag parts (Some bytes) absent = push_same tag parts bytes absent
+
+file_rise : (top : ℕ) (parts : List Lent) (file : Option (List ℕ)) → Rise 0 top parts → Rise 0 (suc top) (with_file parts top file)
+file_rise top parts None rise = rise_wider 0 top parts rise
+file_rise top parts (Some bytes) rise = rise_push 0 top parts bytes rise (omega arith)
+
+-- ---- what is asked for goes by the Header and the Directory
+
+part_same : {X : Type 0} (g : Grammar X) (tag : ℕ) (xs ys : List Lent) → held xs tag ≡ held ys tag → read_part g tag xs ≡ read_part g tag ys
+unfolding read_part info_in
+part_same g tag xs ys same = ap (λ o. framed tag o >>= λ info. formed (reading (info_of tag) g info)) same
+
+directory_same : (xs ys : List Lent) → held xs 1 ≡ held ys 1 → held xs 2 ≡ held ys 2 → read_directory xs ≡ read_directory ys
+unfolding read_directory
+directory_same xs ys header directory =
+    ap (λ h. h >>= λ items. read_part (directory_info items.format) 2 xs) (part_same header_info 1 xs ys header)
+    ∙ by (read_part header_info 1 ys)
+  where
+    by : (h : Result HeaderItems PackFault) → (h >>= λ items. read_part (directory_info items.format) 2 xs) ≡ (h >>= λ items. read_part (directory_info items.format) 2 ys)
+    by (Ok items) = part_same (directory_info items.format) 2 xs ys directory
+    by (Err fault) = refl
+
+asked_by : (tag : ℕ) (xs ys : List Lent) → held xs 1 ≡ held ys 1 → held xs 2 ≡ held ys 2 → is_asked xs tag ≡ is_asked ys tag
+asked_by tag xs ys header directory = ap (λ d. is_required tag || (is_optional tag && is_sized d tag)) (directory_same xs ys header directory)
+
+-- of the first components the same is known whatever is held
+asked_first : (tag : ℕ) (xs ys : List Lent) → tag < 3 → is_asked xs tag ≡ is_asked ys tag
+asked_first zero xs ys lt = refl
+asked_first (suc zero) xs ys lt = refl
+asked_first (suc (suc zero)) xs ys lt = refl
+asked_first (suc (suc (suc n))) xs ys lt = absurd (omega (arith, lt))
+
+-- one more part after the Directory leaves what is asked for
+asked_kept : (tag top : ℕ) (parts : List Lent) (file : Option (List ℕ)) → (tag < 3) ⊎ (3 ≤ top) → is_asked (with_file parts top file) tag ≡ is_asked parts tag
+asked_kept tag top parts file (inl lt) = asked_first tag (with_file parts top file) parts lt
+asked_kept tag top parts file (inr from) =
+    asked_by tag (with_file parts top file) parts
+    (file_other 1 top parts file (ne_eqb top 1 (λ s. absurd (omega (arith, from, s)))))
+    (file_other 2 top parts file (ne_eqb top 2 (λ s. absurd (omega (arith, from, s)))))
+
+asked_more : (tag top : ℕ) (parts : List Lent) (file : Option (List ℕ)) → tag ≤ top → is_asked (with_file parts top file) tag ≡ is_asked parts tag
+asked_more tag top parts file le = by (ltb tag 3) refl
+  where
+    by : (b : Bool) → ltb tag 3 ≡ b → is_asked (with_file parts top file) tag ≡ is_asked parts tag
+    by true e = asked_kept tag top parts file (inl (ltb-true tag 3 e))
+    by false e = let from : 3 ≤ tag = ltb-false tag 3 e in asked_kept tag top parts file (inr (omega (arith, from, le)))
+
+-- the table of the tags up to one
+pub asked_next : (parts : List Lent) (tag : ℕ) → map (is_asked parts) (range_with_len 0 (tag + 1)) ≡ map (is_asked parts) (range_with_len 0 tag) ++ is_asked parts tag ∷ []
+asked_next parts tag = map-range_with_len_more (is_asked parts) 0 tag tag (omega arith)
+
+-- what the table of all tags tells
+pub wanted_at : (asked : List Bool) (parts : List Lent) (tag : ℕ) → asked ≡ asked_tags parts → tag < 256 → slice_index_or asked tag false ≡ is_asked parts tag
+wanted_at asked parts tag are byte = ap (λ xs. slice_index_or xs tag false) are ∙ get_or-map-range_with_len (is_asked parts) 0 256 tag tag false byte (omega arith)
+
+-- ---- the parts with one more
 
 -- no part of the next tag is loaded yet
 pub next_absent : (before : Folders) (dir : List ℕ) (tag : ℕ) (parts : List Lent) → AreLoaded before dir tag parts → IsNone (held parts tag)
-next_absent before dir tag parts loaded = below_absent tag parts (loaded_below before dir tag parts loaded)
+next_absent before dir tag parts loaded = ap is_some (above_none 0 tag tag parts loaded.rising (omega arith))
+
+split : (tag top : ℕ) → tag < suc top → (tag ≡ top) ⊎ (tag < top)
+split tag top below = eq-or-lt_of_le (omega (arith, below))
+
+loaded_none : (before : Folders) (dir : List ℕ) → AreLoaded before dir 0 []
+loaded_none before dir = record { rising = tt {0}; asked = λ tag below is. absurd (omega (arith, below)); unasked = λ tag below is. refl }
+
+module _ (before : Folders) (dir : List ℕ) (top : ℕ) (parts : List Lent) (loaded : AreLoaded before dir top parts) where
+  -- the next is not asked for
+  loaded_unasked : is_asked parts top ≡ false → AreLoaded before dir (suc top) parts
+  loaded_unasked unasked = record {
+    rising = rise_wider 0 top parts loaded.rising;
+    asked = λ tag below is. elim (split tag top below) [
+      | inl same ↦ absurd (true≢false (sym is ∙ ap (is_asked parts) same ∙ unasked))
+      | inr less ↦ loaded.asked tag less is
+    ];
+    unasked = λ tag below is. elim (split tag top below) [
+      | inl same ↦ ap is_some (above_none 0 top tag parts loaded.rising (omega (arith, same)))
+      | inr less ↦ loaded.unasked tag less is
+    ];
+  }
+
+  -- the next is asked for, and loaded as the folder has it
+  loaded_asked : (file : Option (List ℕ)) → is_asked parts top ≡ true → Has before dir top file → AreLoaded before dir (suc top) (with_file parts top file)
+  loaded_asked file wanted has = record {
+    rising = file_rise top parts file loaded.rising;
+    asked = λ tag below is. elim (split tag top below) [
+      | inl same ↦ subst (λ t. Has before dir t (held (with_file parts top file) t)) (sym same)
+          (subst (λ o. Has before dir top o) (sym (file_same top parts file (above_none 0 top top parts loaded.rising (omega arith)))) has)
+      | inr less ↦ subst (λ o. Has before dir tag o) (sym (others tag less)) (loaded.asked tag less (sym (asked_more tag top parts file (omega (arith, less))) ∙ is))
+    ];
+    unasked = λ tag below is. elim (split tag top below) [
+      | inl same ↦ absurd (true≢false (sym wanted ∙ sym (asked_more top top parts file (omega arith)) ∙ ap (is_asked (with_file parts top file)) (sym same) ∙ is))
+      | inr less ↦ ap is_some (others tag less) ∙ loaded.unasked tag less (sym (asked_more tag top parts file (omega (arith, less))) ∙ is)
+    ];
+  }
+    where
+      others : (tag : ℕ) → tag < top → held (with_file parts top file) tag ≡ held parts tag
+      others tag less = file_other tag top parts file (ne_eqb top tag (λ s. absurd (omega (arith, less, s))))
 
 -- ---- one more part
 
@@ -54,15 +195,15 @@ has_read before dir to tag r there is known loads =
 
 -- no part before the first
 pub begun : (before : Folders) (dir : List ℕ) (parts : List Lent) → parts ≡ [] → AreLoaded before dir 1 parts
-begun before dir parts none = subst (λ ps. AreLoaded before dir 1 ps) (sym none) (loaded_unasked 0 [] loaded_none refl)
+begun before dir parts none = subst (λ ps. AreLoaded before dir 1 ps) (sym none) (loaded_unasked before dir 0 [] (loaded_none before dir) refl)
 
 -- the parts with the next one
 next : (before after : Folders) (dir : List ℕ) (tag : ℕ) (parts more : List Lent) → AreLoaded before dir tag parts
     → LoadsNext before after dir tag parts more (Ok tt) → AreLoaded before dir (suc tag) more
 next before after dir tag parts more loaded (inl added) =
-    subst (λ ps. AreLoaded before dir (suc tag) ps) (sym added.adds) (loaded_asked tag parts added.file loaded added.asked added.has)
+    subst (λ ps. AreLoaded before dir (suc tag) ps) (sym added.adds) (loaded_asked before dir tag parts loaded added.file added.asked added.has)
 next before after dir tag parts more loaded (inr skipped) =
-    subst (λ ps. AreLoaded before dir (suc tag) ps) (sym skipped.same) (loaded_unasked tag parts loaded skipped.unasked)
+    subst (λ ps. AreLoaded before dir (suc tag) ps) (sym skipped.same) (loaded_unasked before dir tag parts loaded skipped.unasked)
 
 pub next_loaded : (before now after : Folders) (dir : List ℕ) (tag : ℕ) (parts more : List Lent) → AreLoaded before dir tag parts → now ≡ before
     → LoadsNext now after dir tag parts more (Ok tt) → AreLoaded before dir (tag + 1) more
@@ -70,6 +211,16 @@ next_loaded before now after dir tag parts more loaded same loads =
     let step : suc tag ≡ tag + 1 = omega arith in
     let here : LoadsNext before after dir tag parts more (Ok tt) = subst (λ f. LoadsNext f after dir tag parts more (Ok tt)) same loads in
     subst (λ n. AreLoaded before dir n more) step (next before after dir tag parts more loaded here)
+
+-- the next one leaves what is asked for, of the first tags and of those after the Directory
+pub next_known : (now after : Folders) (dir : List ℕ) (from to tag t : ℕ) (parts more : List Lent) → (to ≤ 3) ⊎ (3 ≤ from) → from ≤ tag → t < to
+    → LoadsNext now after dir tag parts more (Ok tt) → is_asked more t ≡ is_asked parts t
+next_known now after dir from to tag t parts more phase low below (inl added) = ap (λ ps. is_asked ps t) added.adds ∙ asked_kept t tag parts added.file (side phase)
+  where
+    side : (to ≤ 3) ⊎ (3 ≤ from) → (t < 3) ⊎ (3 ≤ tag)
+    side (inl few) = inl (omega (arith, few, below))
+    side (inr high) = inr (omega (arith, high, low))
+next_known now after dir from to tag t parts more phase low below (inr skipped) = ap (λ ps. is_asked ps t) skipped.same
 
 -- the loads stop at the next one
 stopped : (before after : Folders) (dir : List ℕ) (tag : ℕ) (parts more : List Lent) (stop : LoadStop) → tag < 256 → AreLoaded before dir tag parts
@@ -87,26 +238,87 @@ stopped_there before now after dir tag parts more stop byte loaded same loads =
 
 -- ---- a folder that tells has one list of parts
 
-told_file : (before : Folders) (parts : Parts) (dir : List ℕ) (tag : ℕ) (file : Option (List ℕ)) → before.held ≡ Some parts → Has before dir tag file → map.get parts (tag ∷ dir) ≡ file
-told_file before parts dir tag None told has = subst (λ held. IfSome held (λ ps. map.get ps (tag ∷ dir) ≡ None)) told has
+told_file : (before : Folders) (parts : Parts) (dir : List ℕ) (tag : ℕ) (file : Option (List ℕ)) → before.held ≡ Some parts → Has before dir tag file → fin_map.get parts (tag ∷ dir) ≡ file
+told_file before parts dir tag None told has = subst (λ held. IfSome held (λ ps. fin_map.get ps (tag ∷ dir) ≡ None)) told has
 told_file before parts dir tag (Some bytes) told has = subst (λ held. IfSome held (λ ps. Holds ps (tag ∷ dir) bytes)) told has.0
 
-both : (xs ys : List Lent) (tag : ℕ) → xs ≡ ys → is_asked xs tag ≡ false → is_asked ys tag ≡ true → ⊥
-both xs ys tag same unasked asked = true≢false (sym asked ∙ sym (ap (λ ps. is_asked ps tag) same) ∙ unasked)
+-- the lesser of two first tags is held by one list alone
+apart : (top : ℕ) (l m : Lent) (ls ms : List Lent) → Rise (suc m.part) top ms → l.part < m.part → held (l ∷ ls) l.part ≡ held (m ∷ ms) l.part → ⊥
+apart top l m ls ms rise lt one =
+    let none : held (m ∷ ms) l.part ≡ None
+    = held-other l.part m ms (ne_eqb m.part l.part (λ e. absurd (omega (arith, lt, e)))) ∙ below_none (suc m.part) top l.part ms rise (omega (arith, lt)) in
+    none_some l.bytes (sym none ∙ sym one ∙ held-same l.part l ls (eq-eqb l.part l.part refl))
+
+module _ (top : ℕ) (x y : Lent) (xs ys : List Lent) (rx : Rise (suc x.part) top xs) (ry : Rise (suc y.part) top ys) (same : (tag : ℕ) → held (x ∷ xs) tag ≡ held (y ∷ ys) tag) where
+  tails : x.part ≡ y.part → (tag : ℕ) → held xs tag ≡ held ys tag
+  tails e tag = of (eqb x.part tag) refl
+    where
+      of : (b : Bool) → eqb x.part tag ≡ b → held xs tag ≡ held ys tag
+      of true here =
+          let is = eqb-true x.part tag here in
+          below_none (suc x.part) top tag xs rx (omega (arith, is)) ∙ sym (below_none (suc y.part) top tag ys ry (omega (arith, is, e)))
+      of false other = sym (held-other tag x xs other) ∙ same tag ∙ held-other tag y ys (subst (λ n. eqb n tag ≡ false) e other)
+
+  first_one : x.part ≡ y.part → x ≡ y
+  first_one e =
+      let bytes : x.bytes ≡ y.bytes
+      = some_one (sym (held-same x.part x xs (eq-eqb x.part x.part refl)) ∙ same x.part ∙ held-same x.part y ys (eq-eqb y.part x.part (sym e))) in
+      ap (λ n. lent_of n x.bytes) e ∙ ap (lent_of y.part) bytes
+
+  one_by : (l g : Bool) → ltb x.part y.part ≡ l → ltb y.part x.part ≡ g → (x.part ≡ y.part → xs ≡ ys) → x ∷ xs ≡ y ∷ ys
+  one_by true g lt gt rest = absurd (apart top x y xs ys ry (ltb-true x.part y.part lt) (same x.part))
+  one_by false true lt gt rest = absurd (apart top y x ys xs rx (ltb-true y.part x.part gt) (sym (same y.part)))
+  one_by false false lt gt rest =
+      let up = ltb-false x.part y.part lt in
+      let down = ltb-false y.part x.part gt in
+      let e : x.part ≡ y.part = omega (arith, up, down) in
+      ap (λ l. l ∷ xs) (first_one e) ∙ ap (λ ls. y ∷ ls) (rest e)
+
+-- tags that rise and hold the same are one list
+rise_one : (low top : ℕ) (xs ys : List Lent) → Rise low top xs → Rise low top ys → ((tag : ℕ) → held xs tag ≡ held ys tag) → xs ≡ ys
+rise_one low top [] [] rx ry same = refl
+rise_one low top [] (y ∷ ys) rx ry same = absurd (none_some y.bytes (same y.part ∙ held-same y.part y ys (eq-eqb y.part y.part refl)))
+rise_one low top (x ∷ xs) [] rx ry same = absurd (none_some x.bytes (sym (same x.part) ∙ held-same x.part x xs (eq-eqb x.part x.part refl)))
+rise_one low top (x ∷ xs) (y ∷ ys) rx ry same =
+    one_by top x y xs ys rx.2 ry.2 same (ltb x.part y.part) (ltb y.part x.part) refl refl
+    (λ e. rise_one (suc x.part) top xs ys rx.2 (subst (λ n. Rise (suc n) top ys) (sym e) ry.2) (tails top x y xs ys rx.2 ry.2 same e))
+
+module _ (before : Folders) (parts : Parts) (dir : List ℕ) (told : before.held ≡ Some parts) where
+  -- two lists that are loaded have the same for a tag that both ask for
+  file_alike : (a b tag : ℕ) (xs ys : List Lent) → AreLoaded before dir a xs → AreLoaded before dir b ys → tag < a → tag < b → is_asked xs tag ≡ true → is_asked ys tag ≡ true → held xs tag ≡ held ys tag
+  file_alike a b tag xs ys l m below under asked wanted =
+      sym (told_file before parts dir tag (held xs tag) told (l.asked tag below asked)) ∙ told_file before parts dir tag (held ys tag) told (m.asked tag under wanted)
+
+  -- and ask for the same
+  asked_alike : (a b tag : ℕ) (xs ys : List Lent) → AreLoaded before dir a xs → AreLoaded before dir b ys → tag ≤ a → tag ≤ b → is_asked xs tag ≡ is_asked ys tag
+  asked_alike a b tag xs ys l m le less = by (ltb tag 3) refl
+    where
+      by : (c : Bool) → ltb tag 3 ≡ c → is_asked xs tag ≡ is_asked ys tag
+      by true e = asked_first tag xs ys (ltb-true tag 3 e)
+      by false e =
+          let from : 3 ≤ tag = ltb-false tag 3 e in
+          asked_by tag xs ys
+          (file_alike a b 1 xs ys l m (omega (arith, from, le)) (omega (arith, from, less)) refl refl)
+          (file_alike a b 2 xs ys l m (omega (arith, from, le)) (omega (arith, from, less)) refl refl)
+
+  held_alike : (top tag : ℕ) (xs ys : List Lent) → AreLoaded before dir top xs → AreLoaded before dir top ys → held xs tag ≡ held ys tag
+  held_alike top tag xs ys l m = by (ltb tag top) refl
+    where
+      under : tag < top → (b : Bool) → is_asked xs tag ≡ b → held xs tag ≡ held ys tag
+      under below true e = file_alike top top tag xs ys l m below below e (sym (asked_alike top top tag xs ys l m (omega (arith, below)) (omega (arith, below))) ∙ e)
+      under below false e =
+          nothing (held xs tag) (l.unasked tag below e)
+          ∙ sym (nothing (held ys tag) (m.unasked tag below (sym (asked_alike top top tag xs ys l m (omega (arith, below)) (omega (arith, below))) ∙ e)))
+
+      by : (b : Bool) → ltb tag top ≡ b → held xs tag ≡ held ys tag
+      by true e = under (ltb-true tag top e) (is_asked xs tag) refl
+      by false e =
+          let from : top ≤ tag = ltb-false tag top e in
+          above_none 0 top tag xs l.rising from ∙ sym (above_none 0 top tag ys m.rising from)
 
 pub one_list : (before : Folders) (parts : Parts) (dir : List ℕ) (tag : ℕ) (xs ys : List Lent) → before.held ≡ Some parts
     → AreLoaded before dir tag xs → AreLoaded before dir tag ys → xs ≡ ys
-one_list before parts dir _ _ ys told loaded_none loaded_none = refl
-one_list before parts dir _ _ _ told (loaded_unasked tag xs l u) (loaded_unasked _ ys m v) = one_list before parts dir tag xs ys told l m
-one_list before parts dir _ _ _ told (loaded_unasked tag xs l u) (loaded_asked _ ys g m b hg) = absurd (both xs ys tag (one_list before parts dir tag xs ys told l m) u b)
-one_list before parts dir _ _ _ told (loaded_asked tag xs f l a hf) (loaded_unasked _ ys m v) = absurd (both ys xs tag (sym (one_list before parts dir tag xs ys told l m)) v a)
-one_list before parts dir _ _ _ told (loaded_asked tag xs f l a hf) (loaded_asked _ ys g m b hg) =
-    let same = one_list before parts dir tag xs ys told l m in
-    let file : f ≡ g = sym (told_file before parts dir tag f told hf) ∙ told_file before parts dir tag g told hg in
-    ap (λ ps. with_file ps tag f) same ∙ ap (λ h. with_file ys tag h) file
-
-split : (tag top : ℕ) → tag < suc top → (tag ≡ top) ⊎ (tag < top)
-split tag top below = eq-or-lt_of_le (omega (arith, below))
+one_list before parts dir tag xs ys told l m = rise_one 0 tag xs ys l.rising m.rising (λ n. held_alike before parts dir told tag n xs ys l m)
 
 not_long : (before : Folders) (dir : List ℕ) (tag : ℕ) (file : Option (List ℕ)) → Has before dir tag file → IsSomeAnd file (λ bytes. 65538 < length bytes) → ⊥
 not_long before dir tag None has beyond = absurd beyond
@@ -116,23 +328,15 @@ not_long before dir tag (Some bytes) has beyond = let short = has.1 in absurd (o
 has_no_long : (before : Folders) (parts : Parts) (dir : List ℕ) (tag : ℕ) (file : Option (List ℕ)) → before.held ≡ Some parts → Has before dir tag file
     → IsTooLong before (tag ∷ dir) → ⊥
 has_no_long before parts dir tag file told has long =
-    let is : map.get parts (tag ∷ dir) ≡ file = told_file before parts dir tag file told has in
-    let beyond : IsSomeAnd (map.get parts (tag ∷ dir)) (λ bytes. 65538 < length bytes)
-    = subst (λ held. IfSome held (λ ps. IsSomeAnd (map.get ps (tag ∷ dir)) (λ bytes. 65538 < length bytes))) told long in
+    let is : fin_map.get parts (tag ∷ dir) ≡ file = told_file before parts dir tag file told has in
+    let beyond : IsSomeAnd (fin_map.get parts (tag ∷ dir)) (λ bytes. 65538 < length bytes)
+    = subst (λ held. IfSome held (λ ps. IsSomeAnd (fin_map.get ps (tag ∷ dir)) (λ bytes. 65538 < length bytes))) told long in
     not_long before dir tag file has (subst (λ found. IsSomeAnd found (λ bytes. 65538 < length bytes)) is beyond)
 
 -- no part below a tag is the first that is too long where the parts below it are loaded
 pub none_long : (before : Folders) (parts : Parts) (dir : List ℕ) (top tag : ℕ) (xs : List Lent) → before.held ≡ Some parts → AreLoaded before dir top xs → tag < top
     → IsFirstLong before dir tag → ⊥
-none_long before parts dir _ tag _ told loaded_none below first = absurd (omega (arith, below))
-none_long before parts dir _ tag _ told (loaded_unasked top xs l u) below first =
-    elim (split tag top below) [
-      | inr less ↦ none_long before parts dir top tag xs told l less first
-      | inl same ↦ both xs first.parts top (one_list before parts dir top xs first.parts told l (subst (λ t. AreLoaded before dir t first.parts) same first.loaded)) u
-          (subst (λ t. is_asked first.parts t ≡ true) same first.asked)
-    ]
-none_long before parts dir _ tag _ told (loaded_asked top xs f l a hf) below first =
-    elim (split tag top below) [
-      | inr less ↦ none_long before parts dir top tag xs told l less first
-      | inl same ↦ has_no_long before parts dir top f told hf (subst (λ t. IsTooLong before (t ∷ dir)) same first.holds)
-    ]
+none_long before parts dir top tag xs told l below first =
+    let asked : is_asked xs tag ≡ true
+    = asked_alike before parts dir told top tag tag xs first.parts l first.loaded (omega (arith, below)) (omega arith) ∙ first.asked in
+    has_no_long before parts dir tag (held xs tag) told (l.asked tag below asked) first.holds

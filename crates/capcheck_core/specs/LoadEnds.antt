@@ -4,7 +4,7 @@ use Rattle.cap_files.specs.Folder.{Folders, IsTooLong, LoadFails}
 use Rattle.cap_package.specs.Parts.{Lent}
 use Rattle.capcheck_core.specs.declared.load.LoadStop.{LoadStop}
 use Rattle.capcheck_core.specs.declared.load.LoadStop.TheVariants.{TooLong, Failed, Memory}
-use Rattle.capcheck_core.specs.Loads.{is_asked, AreParts, IsAdded, IsSkipped, IsFirstLong, FailsParts}
+use Rattle.capcheck_core.specs.Loads.{is_asked, AreLoaded, AreParts, IsAdded, IsSkipped, IsFirstLong, FailsParts}
 
 -- the loads of a folder's parts by their answer: all of them, or the first that stopped
 abbrev pub LoadsParts : Folders → Folders → List ℕ → Result (List Lent) LoadStop → Type 0
@@ -12,6 +12,11 @@ LoadsParts before after dir (Ok parts) = AreParts before dir parts
 LoadsParts before after dir (Err (TooLong part)) = IsFirstLong before dir part.0
 LoadsParts before after dir (Err Failed) = FailsParts before dir after
 LoadsParts before after dir (Err Memory) = Unit {0}
+
+-- the loads of the parts below a tag, by their answer
+abbrev pub LoadsBelow : Folders → Folders → List ℕ → ℕ → List Lent → Result (Unit {0}) LoadStop → Type 0
+LoadsBelow before after dir top parts (Ok done) = AreLoaded before dir top parts
+LoadsBelow before after dir top parts (Err stop) = LoadsParts before after dir (Err stop)
 
 -- the folders after loads: as before, unless one failed
 abbrev pub StopLeaves : Folders → Folders → LoadStop → Type 0

@@ -1,11 +1,11 @@
 -- The parts of a package's folder, as they are loaded: by rising tag, the components that every package has (JCVM 2.2, section 6.1),
 -- and the other ones to which the Directory gives a size that is not 0 (section 6.4). Where the
 -- Header or the Directory is absent or malformed, no sizes are told.
-use Rattle.std.specs.Prelude.{◌≡◌, ℕ, suc, ◌<◌, ◌≤◌, Bool, true, false, not, ◌&&◌, ◌||◌, ◌==◌, nat_le, List, [], ◌∷◌, ◌++◌, length, filter, Option, Some, None, Result, Ok, Err, refl}
+use Rattle.std.specs.Prelude.{◌≡◌, ℕ, suc, ◌<◌, ◌≤◌, Bool, true, false, not, ◌&&◌, ◌||◌, ◌==◌, nat_le, List, [], ◌∷◌, ◌++◌, length, filter, map, Option, Some, None, IsNone, Result, Ok, Err, refl}
 use Rattle.cap_frame.specs.DirectoryFormat.{DirectoryItems}
 use Rattle.cap_frame.specs.Directory.{size_in}
 use Rattle.cap_components.specs.declared.fault.PackFault.{PackFault}
-use Rattle.cap_package.specs.Parts.{Lent}
+use Rattle.cap_package.specs.Parts.{Lent, held}
 use Rattle.cap_package.specs.Components.{read_directory}
 use Rattle.cap_package.specs.PartChecks.{required}
 use Rattle.std.specs.List.{range_with_len}
@@ -36,6 +36,10 @@ is_sized (Err fault) tag = false
 abbrev pub is_asked : List Lent → ℕ → Bool
 is_asked parts tag = is_required tag || (is_optional tag && is_sized (read_directory parts) tag)
 
+-- for each tag whether it is asked for
+abbrev pub asked_tags : List Lent → List Bool
+asked_tags parts = map (is_asked parts) (range_with_len 0 256)
+
 -- what a folder has for a part: nothing, or a file that is not too long
 abbrev pub Has : Folders → List ℕ → ℕ → Option (List ℕ) → Type 0
 Has before dir tag None = IsAbsent before (tag ∷ dir)
@@ -46,13 +50,17 @@ abbrev pub with_file : List Lent → ℕ → Option (List ℕ) → List Lent
 with_file parts tag None = parts
 with_file parts tag (Some bytes) = parts ++ record { part = tag; bytes = bytes } ∷ []
 
--- the parts with a tag below this one that are asked for and are there, by rising tag
-pub data AreLoaded (before : Folders) (dir : List ℕ) : ℕ → List Lent → Type 0 where
-  loaded_none : AreLoaded before dir 0 []
-  loaded_unasked : (tag : ℕ) (parts : List Lent) → AreLoaded before dir tag parts → is_asked parts tag ≡ false
-      → AreLoaded before dir (suc tag) parts
-  loaded_asked : (tag : ℕ) (parts : List Lent) (file : Option (List ℕ)) → AreLoaded before dir tag parts → is_asked parts tag ≡ true
-      → Has before dir tag file → AreLoaded before dir (suc tag) (with_file parts tag file)
+-- the tags of parts rise, from `low` on and below `top`
+abbrev pub Rise : ℕ → ℕ → List Lent → Type 0
+Rise low top [] = Unit {0}
+Rise low top (lent ∷ parts) = (low ≤ lent.part) × (lent.part < top) × Rise (suc lent.part) top parts
+
+-- the parts with a tag below this one, by rising tag: what the Header and the Directory among them ask for is held exactly as
+-- the folder has it, and nothing else is held
+pub record AreLoaded (before : Folders) (dir : List ℕ) (top : ℕ) (parts : List Lent) : Type 0 where
+  pub rising : Rise 0 top parts
+  pub asked : (tag : ℕ) → tag < top → is_asked parts tag ≡ true → Has before dir tag (held parts tag)
+  pub unasked : (tag : ℕ) → tag < top → is_asked parts tag ≡ false → IsNone (held parts tag)
 
 -- what was loaded for a tag that was asked for, with the parts before and after it
 pub record IsAdded (before : Folders) (dir : List ℕ) (tag : ℕ) (parts more : List Lent) : Type 0 where

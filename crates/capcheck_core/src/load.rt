@@ -1,20 +1,23 @@
-ghost use Rattle.std.specs.Prelude.{◌≡◌, ◌≤◌, true, length, IsNone, IfOk};
+ghost use Rattle.std.specs.Prelude.{◌≡◌, ◌≤◌, ◌⊎◌, true, false, length, IsNone, IfOk, slice_index_or};
+ghost use Rattle.cap_components.specs.Components.{Answers, info_in, read_part, read_directory};
 ghost use Rattle.cap_frame.specs.Directory.{directory_items, size_in};
 ghost use Rattle.cap_frame.specs.DirectoryFormat.{directory_info};
 ghost use Rattle.cap_frame.specs.Framed.{info_bytes};
 ghost use Rattle.cap_frame.specs.Header.{header_items};
 ghost use Rattle.cap_frame.specs.HeaderFormat.{header_info};
-ghost use Rattle.cap_package.specs.Components.{Answers, info_in, read_part, read_directory};
 ghost use Rattle.cap_package.specs.Parts.{held};
-ghost use Rattle.capcheck_core.specs.Loads.{is_required, is_optional, is_some_size, is_sized, is_asked};
-ghost use Rattle.capcheck_core.specs.LoadEnds.{LoadsParts, LoadsAsked, LoadsNext, LoadsLeave};
+ghost use Rattle.capcheck_core.specs.Loads.{is_required, is_optional, is_some_size, is_sized, is_asked, asked_tags, AreLoaded};
+ghost use Rattle.capcheck_core.specs.LoadEnds.{LoadsParts, LoadsAsked, LoadsNext, LoadsBelow, LoadsLeave};
 
 use cap_bytes::{Format, Part, View};
 use cap_components::PackFault;
 use cap_files::{Folder, LoadEnd};
 use cap_frame::{Directory, Header, directory, frame, header};
 use cap_package::OwnedParts;
-use std::alloc::Global;
+use std::alloc::{AllocError, Global};
+
+/// The tag after that of the Directory, which stands after the Header.
+const AFTER_DIRECTORY: u16 = 3;
 
 /// Why the parts of a folder were not loaded.
 #[derive(Clone, Copy)]
@@ -27,9 +30,20 @@ pub enum LoadStop {
     Memory,
 }
 
+impl From<AllocError> for LoadStop {
+    ghost use Rattle.std.specs.Prelude.{◌≡◌};
+    ghost use Rattle.capcheck_core.specs.declared.load.LoadStop.TheVariants.{Memory};
+
+    ghost from_gives = { λ _ stop. stop ≡ Memory };
+
+    fn from(_error: AllocError) -> LoadStop {
+        LoadStop::Memory
+    }
+}
+
 /// The parts of a package's folder, by rising tag: those that every package has, and those that the
 /// Directory gives a size that is not 0, where they are there (sections 6.1 and 6.4 of the
-/// specification).
+/// specification). The Directory is read once, when it and the Header are loaded.
 pub fn load_parts<F: Folder>(
     alloc: Global,
     folder: &mut F,
@@ -40,13 +54,46 @@ pub fn load_parts<F: Folder>(
     ensures folders { LoadsLeave (F.folders folder.old) (F.folders folder.new) result }
 {
     let mut parts = OwnedParts::new(alloc);
-    'tags: for tag in 1..256u16 {
-        match load_next(alloc, folder, dir, Part(tag as u8), &mut parts) {
+    let first = asked(alloc, &parts)?;
+    load_tags(alloc, folder, dir, 1, AFTER_DIRECTORY, &first, &mut parts)?;
+    let all = asked(alloc, &parts)?;
+    load_tags(alloc, folder, dir, AFTER_DIRECTORY, 256, &all, &mut parts)?;
+    Ok(parts)
+}
+
+// Loads the parts from a tag on and below another, where they are asked for.
+fn load_tags<F: Folder>(
+    alloc: Global,
+    folder: &mut F,
+    dir: &str,
+    from: u16,
+    to: u16,
+    asked: &[bool],
+    parts: &mut OwnedParts,
+) -> Result<(), LoadStop>
+    requires low { from ≤ to }
+    requires high { to ≤ 256 }
+    requires phase { (to ≤ 3) ⊎ (3 ≤ from) }
+    requires asked { asked.now ≡ asked_tags parts.old }
+    requires loaded { AreLoaded (F.folders folder.old) dir.now from parts.old }
+    ensures loads { LoadsBelow (F.folders folder.old) (F.folders folder.new)
+        dir.now to parts.new result }
+    ensures folders { LoadsLeave (F.folders folder.old) (F.folders folder.new) result }
+{
+    'tags: for tag in from..to {
+        let wanted = is_wanted(asked, tag);
+        match load_next(alloc, folder, dir, Part(tag as u8), wanted, parts) {
             Ok(()) => {}
             Err(stop) => return Err(stop),
         }
     }
-    Ok(parts)
+    Ok(())
+}
+
+fn is_wanted(asked: &[bool], tag: u16) -> bool
+    ensures { result ≡ slice_index_or asked.now tag false }
+{
+    matches!(asked.get(tag as usize), Some(true))
 }
 
 // Loads the next part, where it is asked for.
@@ -55,14 +102,16 @@ fn load_next<F: Folder>(
     folder: &mut F,
     dir: &str,
     part: Part,
+    wanted: bool,
     parts: &mut OwnedParts,
 ) -> Result<(), LoadStop>
     requires absent { IsNone (held parts.old part.0) }
+    requires wanted { is_asked parts.old part.0 ≡ wanted }
     ensures loads { LoadsNext (F.folders folder.old) (F.folders folder.new)
         dir.now part.0 parts.old parts.new result }
     ensures folders { LoadsLeave (F.folders folder.old) (F.folders folder.new) result }
 {
-    if asks(parts, part.0) {
+    if wanted {
         load_asked(alloc, folder, dir, part, parts)
     } else {
         Ok(())
@@ -96,11 +145,25 @@ fn load_asked<F: Folder>(
     }
 }
 
-// Whether a part is asked for, by the parts that were loaded before it.
-fn asks(parts: &OwnedParts, tag: u8) -> bool
+// For each tag whether its part is asked for, by the parts that are loaded.
+#[tactic(auto, using(crate::proofs::Loads::asked_next))]
+fn asked(alloc: Global, parts: &OwnedParts) -> Result<Vec<bool>, AllocError>
+    ensures { IfOk result (λ asked. asked.items ≡ asked_tags parts.now) }
+{
+    let sizes = directory_of(parts);
+    let mut asked = Vec::with_capacity(alloc, 256)?;
+    'tags: for tag in 0..256u16 {
+        asked.push(asks(parts, &sizes, tag as u8))?;
+    }
+    Ok(asked)
+}
+
+// Whether a part is asked for, by the sizes that the loaded ones tell.
+fn asks(parts: &OwnedParts, sizes: &Result<Directory<'_>, PackFault>, tag: u8) -> bool
+    requires { Answers directory_items sizes.now (read_directory parts.now) }
     ensures { result ≡ is_asked parts.now tag }
 {
-    is_required(tag) || is_optional(tag) && gives_size(parts, tag)
+    is_required(tag) || is_optional(tag) && gives_size(parts, sizes, tag)
 }
 
 // Whether every package has the component.
@@ -118,27 +181,34 @@ fn is_optional(tag: u8) -> bool
 }
 
 // Whether the Directory, in the format that the Header names, gives the component a size that is not 0.
-#[tactic(auto, unfolding(cap_components::specs::Components::read_directory))]
-fn gives_size(parts: &OwnedParts, tag: u8) -> bool
+fn gives_size(parts: &OwnedParts, sizes: &Result<Directory<'_>, PackFault>, tag: u8) -> bool
+    requires { Answers directory_items sizes.now (read_directory parts.now) }
     ensures { result ≡ is_sized (read_directory parts.now) tag }
 {
-    match header_in(parts) {
-        Ok(header) => gives_size_in(parts, header.format(), tag),
+    match sizes {
+        Ok(directory) => has_size(directory, tag),
         Err(_) => false,
     }
 }
 
-// Whether the Directory gives the component a size that is not 0, in a format.
-#[tactic(auto, using(cap_bytes::proofs::Laws::reading_where, cap_bytes::proofs::Laws::refused_where), unfolding(cap_components::specs::Components::read_part))]
-fn gives_size_in(parts: &OwnedParts, format: Format, tag: u8) -> bool
-    ensures { result ≡ is_sized (read_part (directory_info format) 2 parts.now) tag }
+// The Directory component, in the format that the Header names.
+#[tactic(auto, unfolding(cap_components::specs::Components::read_directory))]
+fn directory_of(parts: &OwnedParts) -> Result<Directory<'_>, PackFault>
+    ensures { Answers directory_items result (read_directory parts.now) }
 {
-    let Ok(info) = info_in(parts, 2) else {
-        return false;
-    };
+    let header = header_in(parts)?;
+    directory_in(parts, header.format())
+}
+
+// The Directory component in a format.
+#[tactic(auto, using(cap_bytes::proofs::Laws::reading_where, cap_bytes::proofs::Laws::refused_where), unfolding(cap_components::specs::Components::read_part))]
+fn directory_in(parts: &OwnedParts, format: Format) -> Result<Directory<'_>, PackFault>
+    ensures { Answers directory_items result (read_part (directory_info format) 2 parts.now) }
+{
+    let info = info_in(parts, 2)?;
     match directory(info, format) {
-        Ok(directory) => has_size(&directory, tag),
-        Err(_) => false,
+        Ok(directory) => Ok(directory),
+        Err(fault) => Err(PackFault::Form(fault)),
     }
 }
 
