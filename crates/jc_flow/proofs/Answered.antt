@@ -1,13 +1,14 @@
 -- What is answered for a method of the world.
 use Rattle.std.proofs.Common.{◌≡◌, ℕ, ◌<◌, ◌≤◌, Bool, true, false, List, length, Option, Some, option_map, IsSomeAnd, MatchBool, slice_get, sym, ◌∙◌, ap, subst, arith, length-take}
 use Rattle.std.proofs.lemmas.Option.{slice_get_within}
-use Rattle.jc_base.specs.declared.ty.Ty.TheVariants.{Top}
+use Rattle.jc_base.specs.declared.ty.Ty.TheVariants.{Top, Bottom}
 use Rattle.jc_base.specs.declared.record.MethodRec.{MethodRec}
 use Rattle.jc_base.specs.Linked.{IsCodeLength, lacks_code}
 use Rattle.jc_base.specs.World.{Linked, code_of}
-use Rattle.jc_rules.specs.FlowLaws.{AreRules}
+use Rattle.jc_rules.specs.FlowLaws.{AreRules, TopIsBottom}
 use Rattle.jc_control.specs.Method.{Method, IsMethodOf, method_in, method_with}
-use Rattle.jc_rules.specs.Flow.{HasFlowTyping}
+use Rattle.jc_rules.specs.Demand.{Frame}
+use Rattle.jc_rules.specs.Flow.{HasFlowTyping, IsLeastTyping}
 use Rattle.jc_control.specs.declared.flaw.Flaw.{Flaw}
 use Rattle.jc_control.specs.declared.flaw.Flaw.TheVariants as flaws
 use Rattle.jc_control.specs.declared.flaw.ControlEnd.{ControlEnd}
@@ -70,3 +71,7 @@ none-failed w is m mo (Code p end) h = absurd h
 none-failed w is m mo (BadTarget p target) h = absurd h
 none-failed w is m mo (BadHandler entry number) h = absurd h
 none-failed w is m mo Memory h = tt
+
+-- a least typing is one whose unset registers hold no value
+pub unset-of : (w : Linked) → TopIsBottom w → (m : Method) (frames : ℕ → Option Frame) → IsLeastTyping w m Top frames → HasFlowTyping w m Bottom
+unset-of w unset m frames least = record { frames = frames; typing = unset m frames least.typing }

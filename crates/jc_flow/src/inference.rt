@@ -1,7 +1,7 @@
 ghost use Rattle.std.specs.Prelude.{◌≡◌, ◌<◌, ◌≤◌, None, false, length, replicate, IfOk, IfErr, OnOk, IsSomeAnd, slice_get};
-ghost use Rattle.jc_base.specs.declared.ty.Ty.TheVariants.{Top};
+ghost use Rattle.jc_base.specs.declared.ty.Ty.TheVariants.{Bottom, Top};
 ghost use Rattle.jc_control.specs.Method.{IsMethodOf, method_in};
-ghost use Rattle.jc_rules.specs.Flow.{IsLeastTyping, At, FrameBelow, start_frame, receiver_of};
+ghost use Rattle.jc_rules.specs.Flow.{IsLeastTyping, HasFlowTyping, At, FrameBelow, start_frame, receiver_of};
 ghost use Rattle.jc_rules.specs.Typing.{state_at};
 ghost use Rattle.jc_flow.specs.Progress.{AreHeld, AreClosed};
 ghost use Rattle.jc_flow.specs.Fails.{IsFailure};
@@ -16,7 +16,7 @@ use crate::table::StateTable;
 use cap_bytes::View;
 use jc_base::{MethodRec, Ty, World};
 use jc_control::{ControlEnd, Flaw, control_flow, flaws_decide};
-use jc_rules::{Typing, rule_laws};
+use jc_rules::{Typing, rule_laws, typing_laws};
 use std::alloc::{AllocError, Global};
 
 /// The least dataflow typing of a method with code, in which every register that is no argument starts as Top.
@@ -36,6 +36,8 @@ pub fn infer(alloc: Global, world: &World<'_>, method: u16) -> Result<Typing, Fl
     // Each state is a derived one: each other typing is above it. Its types name classes of the world.
     ensures derived { IsSomeAnd (method_in world.now method) (λ m. IfOk result (AreDerived world.now m)) }
     ensures types { IsSomeAnd (method_in world.now method) (λ m. IfOk result (HaveKnownTypes world.now)) }
+    // A typing then exists too in which unset registers hold no value.
+    ensures unset { IsSomeAnd (method_in world.now method) (λ m. OnOk result (HasFlowTyping world.now m Bottom)) }
     // But for one out of memory, an end says that there is no typing, and why.
     ensures none { IsSomeAnd (method_in world.now method) (λ m. IfErr result (HasNone world.now m)) }
     ensures end { IsSomeAnd (method_in world.now method) (λ m. IfErr result (TellsEnd world.now m)) }
@@ -43,6 +45,7 @@ pub fn infer(alloc: Global, world: &World<'_>, method: u16) -> Result<Typing, Fl
     // The facts that hold of each world and of its rules, and of each method.
     rule_laws(world);
     flaws_decide();
+    typing_laws(world);
     let control = match control_flow(alloc, world, method) {
         Ok(control) => control,
         Err(end) => return Err(unformed(end)),
