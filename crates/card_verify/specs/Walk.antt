@@ -118,13 +118,15 @@ pub record IsStepped (v : Verifier) (i : Placed) (regs stack regs_after stack_af
   pub depth : o.depth ≤ v.rec.now.max_stack
 
 -- nothing is wrong at an instruction
-pub record IsVisited (v : Verifier) (i : Placed) (arrival : Arrival) (regs stack regs_after stack_after : List Ty) (o : Outcome) : Type 0 where
+pub record IsVisited (v : Verifier) (i : Placed) (arrival : Arrival)
+    (regs stack regs_after stack_after : List Ty) (o : Outcome) : Type 0 where
   pub given : List Ty
   pub arrives : Arrives (world_of v) (method v) arrival.may_fall (cells stack arrival.depth) i.place given
   pub stepped : IsStepped v i regs given regs_after stack_after o
 
 -- or something is
-pub record IsStopped (v : Verifier) (i : Placed) (arrival : Arrival) (regs stack regs_after stack_after : List Ty) (fault : CardFault) : Type 0 where
+pub record IsStopped (v : Verifier) (i : Placed) (arrival : Arrival)
+    (regs stack regs_after stack_after : List Ty) (fault : CardFault) : Type 0 where
   pub given : List Ty
   pub arrives : Arrives (world_of v) (method v) arrival.may_fall (cells stack arrival.depth) i.place given
   pub fails : IsFailing v i regs given regs_after stack_after fault
