@@ -1,11 +1,12 @@
 #!/usr/bin/env python3
-"""Makes the largest worlds and the methods that take longest to type, and each of half the size, and times `check` on them.
+"""Makes the largest worlds and the methods that take longest to type, and each of half the size, and times
+`check` and `verify` on them.
 
     bench/make_worlds.py FOLDER [CAPCHECK [PERCENT]]
 
 Each shape becomes the folders FOLDER/SHAPE-full/NN and FOLDER/SHAPE-half/NN, one for each package, in
 their order; the file of roles stands in the first. With CAPCHECK, the path of the program or of the script
-`capcheck`, the time of `check` on both is printed side by side, with its first line. With PERCENT, the
+`capcheck`, the time of each command on both is printed side by side, with its first line. With PERCENT, the
 shapes have this much of the sizes below.
 
 The worlds have 16 packages (half: 8), with all the classes that 16 packages can have: 4,080 and not 4,096,
@@ -262,4 +263,4 @@ def make(shape, share, folder):
     return dirs
 
 
-run(__doc__, "check", SHAPES, make)
+run(__doc__, "check verify", SHAPES, make)

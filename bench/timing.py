@@ -12,17 +12,17 @@ def timed(words):
     return "%6.2f s status %d %s" % (time.monotonic() - begin, done.returncode, done.stdout.split("\n", 1)[0])
 
 
-def run(usage, command, shapes, make):
+def run(usage, commands, shapes, make):
     """Runs a maker on its own words, FOLDER [CAPCHECK [PERCENT]]. `make(shape, share, folder)` makes a shape of
-    this share of its full size in the folder, and gives the words that stand after the command's name."""
+    this share of its full size in the folder, and gives the words that stand after a command's name. Each of the
+    commands, words of one text, is timed on it."""
     words = sys.argv[1:]
     if not 1 <= len(words) <= 3:
         sys.exit(usage)
     share = int(words[2]) / 100 if len(words) == 3 else 1
     for shape in shapes:
-        row = []
-        for name, size in (("full", share), ("half", share / 2)):
-            words_after = make(shape, size, os.path.abspath(os.path.join(words[0], shape.__name__ + "-" + name)))
-            if len(words) > 1:
-                row.append(name + " " + timed([words[1], command, *words_after]))
-        print("%-13s %s" % (shape.__name__, "   ".join(row)), flush=True)
+        made = [(name, make(shape, size, os.path.abspath(os.path.join(words[0], shape.__name__ + "-" + name))))
+                for name, size in (("full", share), ("half", share / 2))]
+        for command in commands.split():
+            row = [name + " " + timed([words[1], command, *after]) for name, after in made] if len(words) > 1 else []
+            print("%-7s %-13s %s" % (command, shape.__name__, "   ".join(row)), flush=True)
