@@ -25,7 +25,7 @@ same_method w m is = let code = sym is.code in λ i. record { number = m.number;
 below_carded : (w : Linked) (n : ℕ) → AreAcceptedBefore w n → AllHaveBelow (IsMethodOf w) (HasCardTyping w) n
 below_carded w n all m is below =
     let code : 0 < m.rec.code_len = typings.has_code w.infos m.rec (subst (λ c. 0 < length c) is.code is.filled) in
-    subst (HasCardTyping w) (same_method w m is) (all m.number m.rec below is.rec code).card
+    subst (HasCardTyping w) (same_method w m is) (all m.number below m.rec is.rec code).card
 
 all_carded : (w : Linked) → AreAccepted w → AreCarded w
 all_carded w all m is = below_carded w (length w.methods) all m is (slice_get_within w.methods m.number m.rec is.rec)
@@ -61,20 +61,20 @@ pub first_uncarded : (w : Linked) (n : ℕ) (fault : CardFault) (code : List ℕ
     → option_map (code_of w.infos) (slice_get w.methods n) ≡ Some code → IfSome (slice_get w.methods n) (λ m. length code ≡ m.code_len)
     → option_map number_of (slice_get w.methods n) ≡ Some number → text ≡ refused_card_line number fault → IsUncarded w text
 first_uncarded w n fault code number text f is long named prints =
-    let same : Some (number_of f.rec) ≡ Some number = sym (ap (option_map number_of) f.is) ∙ named in
-    let numbers : number ≡ number_of f.rec = cc in
+    let same : Some (number_of f.rec) ≡ Some number = sym (ap (option_map number_of) f.here.is) ∙ named in
+    let numbers : number ≡ number_of f.here.rec = cc in
     record {
-      method = method_with w n f.rec;
+      method = method_with w n f.here.rec;
       first = record {
-        asked = record { rec = f.is; code = refl; filled = filled w (slice_get w.methods n) f.rec code f.is is long f.has_code };
+        asked = record { rec = f.here.is; code = refl; filled = filled w (slice_get w.methods n) f.here.rec code f.here.is is long f.here.has_code };
         earlier = below_carded w n f.before;
-        lacks = f.refused.none;
+        lacks = f.here.refused.none;
       };
       fault = fault;
-      kept = f.refused.kept;
-      tells = f.refused.refused;
+      kept = f.here.refused.kept;
+      tells = f.here.refused.refused;
       prints = prints ∙ ap (λ k. refused_card_line k fault) numbers;
     }
 
 pub number_below : (w : Linked) (n : ℕ) (fault : CardFault) → IsFirstRefused w n fault → n < length w.methods
-number_below w n fault f = slice_get_within w.methods n f.rec f.is
+number_below w n fault f = slice_get_within w.methods n f.here.rec f.here.is

@@ -49,6 +49,7 @@ fn has_code(world: &World<'_>, number: u16) -> bool
 }
 
 // The verdict for the first method that is refused.
+#[tactic(auto, using(crate::proofs::Cardings::number_below))]
 fn uncarded(alloc: Global, world: &World<'_>, number: u16, fault: CardFault) -> Verdict
     requires { IsFirstRefused world.now number fault }
     ensures { CardsWorld world.now result }
