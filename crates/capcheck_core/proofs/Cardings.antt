@@ -61,7 +61,7 @@ pub first_uncarded : (w : Linked) (n : ℕ) (fault : CardFault) (code : List ℕ
     → option_map (code_of w.infos) (slice_get w.methods n) ≡ Some code → IfSome (slice_get w.methods n) (λ m. length code ≡ m.code_len)
     → option_map number_of (slice_get w.methods n) ≡ Some number → text ≡ refused_card_line number fault → IsUncarded w text
 first_uncarded w n fault code number text f is long named prints =
-    let same : Some (number_of f.rec) ≡ Some number = sym (ap (option_map number_of) f.here.is) ∙ named in
+    let same : Some (number_of f.here.rec) ≡ Some number = sym (ap (option_map number_of) f.here.is) ∙ named in
     let numbers : number ≡ number_of f.here.rec = cc in
     record {
       method = method_with w n f.here.rec;
