@@ -1,22 +1,30 @@
 -- Steps and runs have one outcome, and follow one another.
-use Rattle.std.proofs.Common.{◌≡◌, ℕ, zero, suc, ◌+◌, Bool, true, refl, sym, ap, ◌∙◌, subst, arith}
+use Rattle.std.proofs.Common.{◌≡◌, ℕ, zero, suc, ◌+◌, Bool, true, List, [], refl, sym, ap, ◌∙◌, subst, arith}
 use Rattle.std.specs.Prelude.{Option, Some, None, Result, Ok, Err, slice_get}
 use Rattle.std.proofs.lemmas.Option.{same_Some}
 use Rattle.jc_base.specs.declared.record.MethodRec.{MethodRec}
-use Rattle.jc_base.specs.World.{Linked}
+use Rattle.jc_base.specs.World.{Linked, code_of}
 use Rattle.jc_decode.specs.declared.insn.Placed.{Placed}
+use Rattle.jc_decode.specs.Listing.{listing, listing_from, at_most}
 use Rattle.jc_ops.specs.declared.fault.RuleFault.{RuleFault}
 use Rattle.jc_ops.specs.declared.operation.Operation.{Operation}
-use Rattle.jc_ops.specs.Resolve.{Resolves}
+use Rattle.jc_ops.specs.Row.{row_at}
+use Rattle.jc_ops.specs.Resolve.{Resolves, resolved}
 use Rattle.jc_ops.specs.Sound.{OperationsAreDecided}
-use Rattle.vm_store.specs.Cells.{Cells}
-use Rattle.vm_store.specs.State.{State, top}
+use Rattle.vm_store.specs.Cells.{Cells, tagged}
+use Rattle.vm_store.specs.State.{State, IsRunning, top}
+use Rattle.vm_step.specs.declared.ending.Fault.TheVariants.{TypeFault, JumpFault}
 use Rattle.vm_step.specs.declared.ending.Ending.{Ending}
-use Rattle.vm_step.specs.Methods.{code_at, instruction_at}
-use Rattle.vm_step.specs.Raising.{Outcome, running, ended}
+use Rattle.vm_step.specs.declared.ending.Ending.TheVariants.{Faulted}
+use Rattle.vm_step.specs.Methods.{of_method, code_at, instruction_at}
+use Rattle.vm_step.specs.Raising.{Outcome, running, ended, ends}
 use Rattle.vm_step.specs.Step.{Steps, misplaced, unresolved, performs, performed, Fetches}
 use Rattle.vm_step.specs.Run.{Runs, stands, stops, steps, Continues}
-use Rattle.vm_step.specs.Laws.{StepsAreOne, RunsAreOne, RunsGoOn}
+use Rattle.vm_step.specs.Laws.{StepsAreOne, StepsExist, RunsAreOne, RunsGoOn}
+
+none-in-nothing : (place : ℕ) → instruction_at [] place ≡ None
+unfolding instruction_at listing listing_from at_most
+none-in-nothing place = refl
 
 module _ {A : Type 0} (k : Cells A) (w : Linked) where
   nothing-there : (s : State A) (m : MethodRec) (i : Placed) → instruction_at (code_at w (top s).method) (top s).place ≡ None → Fetches w s m i → ⊥
@@ -46,13 +54,13 @@ module _ {A : Type 0} (k : Cells A) (w : Linked) where
       is ∙ (ap (λ (x : Placed). performed k w x op s) same.0 ∙ (ap (λ x. performed k w j x s) same_op ∙ sym was))
 
   one-step : OperationsAreDecided w → (s : State A) {o p : Outcome A} → Steps k w s o → Steps k w s p → o ≡ p
-  one-step decided s (misplaced c e) (misplaced d f) = refl
-  one-step decided s (misplaced c e) (unresolved {m = m} {i = i} d f fault r) = absurd (nothing-there s m i e f)
-  one-step decided s (misplaced c e) (performs {m = m} {i = i} f op r is) = absurd (nothing-there s m i e f)
-  one-step decided s (unresolved {m = m} {i = i} c f fault r) (misplaced d e) = absurd (nothing-there s m i e f)
+  one-step decided s (misplaced c run e) (misplaced d going f) = refl
+  one-step decided s (misplaced c run e) (unresolved {m = m} {i = i} d f fault r) = absurd (nothing-there s m i e f)
+  one-step decided s (misplaced c run e) (performs {m = m} {i = i} f op r is) = absurd (nothing-there s m i e f)
+  one-step decided s (unresolved {m = m} {i = i} c f fault r) (misplaced d run e) = absurd (nothing-there s m i e f)
   one-step decided s (unresolved c f fault r) (unresolved d g other q) = refl
   one-step decided s (unresolved {m = m} {i = i} c f fault r) (performs {m = n} {i = j} g op q is) = absurd (one-answer s n m j i op fault decided g f q r)
-  one-step decided s (performs {m = m} {i = i} f op r is) (misplaced d e) = absurd (nothing-there s m i e f)
+  one-step decided s (performs {m = m} {i = i} f op r is) (misplaced d run e) = absurd (nothing-there s m i e f)
   one-step decided s (performs {m = n} {i = j} g op q is) (unresolved {m = m} {i = i} c f fault r) = absurd (one-answer s n m j i op fault decided g f q r)
   one-step decided s (performs {m = m} {i = i} {o = o} f op r is) (performs {m = n} {i = j} {o = p} g other q was) =
       same-act s m n i j op other o p decided f g r q is was
@@ -90,3 +98,33 @@ module _ {A : Type 0} (k : Cells A) (w : Linked) where
   pub continues-on : RunsGoOn k w
   continues-on m n (running s) y z a b = runs-on n z a b
   continues-on m n (ended e s) y z a b = let P : Outcome A → Type 0 = λ x. Continues k w n x z in subst P a b
+
+-- ---- each state in which a method runs has a step
+
+module _ {A : Type 0} (k : Cells A) (w : Linked) (checks : k.checks ≡ true) (s : State A) (runs : IsRunning s) where
+  HasStep : Type 0
+  HasStep = (o : Outcome A) × Steps k w s o
+
+  by-answer : (m : MethodRec) (i : Placed) → Fetches w s m i → (r : Result Operation RuleFault) → Resolves w m i.place i.insn r → HasStep
+  unfolding HasStep
+  by-answer m i fetched (Ok op) resolves = (performed k w i op s, performs fetched op resolves refl)
+  by-answer m i fetched (Err fault) resolves = (ends (Faulted TypeFault) s, unresolved checks fetched fault resolves)
+
+  by-place : (m : MethodRec) → slice_get w.methods (top s).method ≡ Some m → (p : Option Placed) → instruction_at (code_at w (top s).method) (top s).place ≡ p → HasStep
+  unfolding HasStep
+  by-place m is None e = (ends (Faulted JumpFault) s, misplaced checks runs e)
+  by-place m is (Some i) e = by-answer m i (record { runs = runs; method = is; instruction = e }) (resolved w m i.place i.insn (row_at i.insn.op)) refl
+
+  by-method : (o : Option MethodRec) → slice_get w.methods (top s).method ≡ o → HasStep
+  unfolding HasStep
+  by-method None e =
+      let empty : code_at w (top s).method ≡ [] = ap (of_method [] (code_of w.infos)) e in
+      (ends (Faulted JumpFault) s, misplaced checks runs (ap (λ code. instruction_at code (top s).place) empty ∙ none-in-nothing (top s).place))
+  by-method (Some m) e = by-place m e (instruction_at (code_at w (top s).method) (top s).place) refl
+
+  pub step-exists : (o : Outcome A) × Steps k w s o
+  unfolding HasStep
+  step-exists = by-method (slice_get w.methods (top s).method) refl
+
+pub steps-exist : (w : Linked) → StepsExist w
+steps-exist w s runs = step-exists tagged w refl s runs

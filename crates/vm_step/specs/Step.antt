@@ -8,7 +8,7 @@ use Rattle.jc_ops.specs.declared.fault.RuleFault.{RuleFault}
 use Rattle.jc_ops.specs.declared.operation.Operation.{Operation}
 use Rattle.jc_ops.specs.Resolve.{Resolves}
 use Rattle.vm_store.specs.Cells.{Cells}
-use Rattle.vm_store.specs.State.{State, top}
+use Rattle.vm_store.specs.State.{State, IsRunning, top}
 use Rattle.vm_step.specs.declared.ending.Fault.TheVariants.{TypeFault, JumpFault}
 use Rattle.vm_step.specs.declared.ending.Ending.TheVariants.{Faulted}
 use Rattle.vm_step.specs.Methods.{code_at, instruction_at}
@@ -24,14 +24,16 @@ performed k w i op s =
 
 -- what stands at the place of the frame on top
 pub record Fetches {A : Type 0} (w : Linked) (s : State A) (m : MethodRec) (i : Placed) : Type 0 where
+  pub runs : IsRunning s
   pub method : slice_get w.methods (top s).method ≡ Some m
   pub instruction : instruction_at (code_at w (top s).method) (top s).place ≡ Some i
 
--- a machine of tagged cells ends where no instruction is, or where one names nothing that it takes; every machine performs the operation
--- of an instruction that names what it takes
+-- a step of a state in which a method runs: a machine of tagged cells ends where no instruction is, or where one names nothing that it
+-- takes; every machine performs the operation of an instruction that names what it takes
 pub data Steps {A : Type 0} (k : Cells A) (w : Linked) (s : State A) : Outcome A → Type 0 where
   misplaced :
       k.checks ≡ true
+      → IsRunning s
       → instruction_at (code_at w (top s).method) (top s).place ≡ None
       → Steps k w s (ends (Faulted JumpFault) s)
   unresolved :

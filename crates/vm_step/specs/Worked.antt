@@ -31,7 +31,9 @@ difference : arithmetic_act tagged (arithmetic.Binary operators.Subtract widths.
 difference = refl
 
 -- the same in words
-difference_of_words : arithmetic_act words (arithmetic.Binary operators.Subtract widths.Short) (at [] (1 ∷ 32768 ∷ [])) ≡ goes (at [] (32767 ∷ []))
+difference_of_words :
+    arithmetic_act words (arithmetic.Binary operators.Subtract widths.Short) (at [] (1 ∷ 32768 ∷ []))
+    ≡ goes (at [] (32767 ∷ []))
 difference_of_words = refl
 
 -- an int has its low half on top
@@ -39,7 +41,9 @@ negated : arithmetic_act tagged (arithmetic.Negate widths.Int) (at [] (cells.Low
     ≡ goes (at [] (cells.Low 65535 ∷ cells.High 65535 ∷ []))
 negated = refl
 
-by_zero : arithmetic_act tagged (arithmetic.Binary operators.Divide widths.Short) (at [] (cells.Short (pos 0) ∷ cells.Short (pos 7) ∷ [])) ≡ raises Arithmetic
+by_zero :
+    arithmetic_act tagged (arithmetic.Binary operators.Divide widths.Short) (at [] (cells.Short (pos 0) ∷ cells.Short (pos 7) ∷ []))
+    ≡ raises Arithmetic
 by_zero = refl
 
 -- an empty register is read as zero or as null
@@ -50,7 +54,9 @@ empty_reference : with_load tagged sorts.Reference 0 (at (cells.Empty ∷ []) []
 empty_reference = refl
 
 -- the high half goes into the first register
-stored : with_store tagged sorts.Int 0 (at (cells.Empty ∷ cells.Empty ∷ []) (cells.Low 2 ∷ cells.High 1 ∷ [])) ≡ at (cells.High 1 ∷ cells.Low 2 ∷ []) []
+stored :
+    with_store tagged sorts.Int 0 (at (cells.Empty ∷ cells.Empty ∷ []) (cells.Low 2 ∷ cells.High 1 ∷ []))
+    ≡ at (cells.High 1 ∷ cells.Low 2 ∷ []) []
 stored = refl
 
 incremented : with_increment words widths.Short 0 (negsuc 0) (at (0 ∷ []) []) ≡ at (65535 ∷ []) []

@@ -11,4 +11,4 @@ mod laws;
 
 pub use ending::{Ending, Fault, Plain, Value};
 pub use exception::Exception;
-pub use laws::runs_are_runs_of_steps;
+pub use laws::{runs_are_runs_of_steps, runs_exist};
