@@ -12,12 +12,13 @@ use Rattle.vm_store.specs.Objects.{has_room, instance_cells, with_object}
 use Rattle.vm_store.specs.Value.{with_value}
 use Rattle.vm_step.specs.declared.ending.Plain.TheVariants.{Returned, TooDeep, HeapFull, InterfaceMissing}
 use Rattle.vm_step.specs.declared.ending.Ending.{Ending}
-use Rattle.vm_step.specs.declared.ending.Ending.TheVariants.{Plain}
+use Rattle.vm_step.specs.declared.ending.Ending.TheVariants.{Plain, Faulted}
 use Rattle.vm_step.specs.declared.ending.Fault.{Fault}
+use Rattle.vm_step.specs.declared.ending.Fault.TheVariants.{StackFault}
 use Rattle.vm_step.specs.Methods.{code_at, instruction_at}
 use Rattle.vm_step.specs.Calls.{class_of}
 use Rattle.vm_step.specs.Act.{Act, role_of, goes, jumps, makes, calls, gives, raises, throws, lacks}
-use Rattle.vm_step.specs.Raising.{Outcome, running, ended, ends, handler_for, caught_or, unwound, thrown, raised}
+use Rattle.vm_step.specs.Raising.{Outcome, running, ended, ends, handler_for, has_no_room, caught, caught_or, unwound, thrown, raised}
 use Rattle.vm_step.specs.Tests.{fault_before}
 use Rattle.vm_step.specs.Performed.{act}
 use Rattle.vm_step.specs.Settled.{unless_fault, fault_next, fault_target, place_of, place_after, goes_to, with_new, settled}
@@ -39,13 +40,17 @@ module _ {A : Type 0} where
   lasts-if true x y h g = h
   lasts-if false x y h g = g
 
-  lasts-caught : (k : Cells A) (n : ℕ) (s : State A) (f : Frame A) (below : List (Frame A)) (x : Outcome A) (o : Option Handler) → Lasts x → Lasts (caught_or k n s f below x o)
-  lasts-caught k n s f below x (Some h) g = omega arith
-  lasts-caught k n s f below x None g = g
+  lasts-caught :
+      (k : Cells A) (w : Linked) (n : ℕ) (s : State A) (f : Frame A) (below : List (Frame A)) (x : Outcome A) (o : Option Handler)
+      → Lasts x
+      → Lasts (caught_or k w n s f below x o)
+  lasts-caught k w n s f below x (Some h) g =
+      lasts-if (has_no_room k w f) (ends (Faulted StackFault) s) (running (record s { frames = caught k h n f ∷ below })) (tt {0}) (omega arith)
+  lasts-caught k w n s f below x None g = g
 
   lasts-unwound : (k : Cells A) (w : Linked) (class n : ℕ) (s : State A) (fs : List (Frame A)) → Lasts (unwound k w class n s fs)
   lasts-unwound k w class n s [] = tt {0}
-  lasts-unwound k w class n s (f ∷ fs) = lasts-caught k n s f fs (unwound k w class n s fs) (handler_for w class f) (lasts-unwound k w class n s fs)
+  lasts-unwound k w class n s (f ∷ fs) = lasts-caught k w n s f fs (unwound k w class n s fs) (handler_for w class f) (lasts-unwound k w class n s fs)
 
   lasts-goes : (k : Cells A) (w : Linked) (next : ℕ) (z : State A) → Lasts (goes_to k w next z)
   lasts-goes k w next z = lasts-unless z (fault_next k w z (length (top z).stack) next) (running (with_place z next)) (omega arith)

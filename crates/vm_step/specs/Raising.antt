@@ -11,10 +11,11 @@ use Rattle.vm_store.specs.State.{Frame, State, without_frames}
 use Rattle.vm_store.specs.Objects.{has_room, instance_cells, with_object}
 use Rattle.vm_step.specs.declared.ending.Plain.TheVariants.{Threw, HeapFull}
 use Rattle.vm_step.specs.declared.ending.Ending.{Ending}
-use Rattle.vm_step.specs.declared.ending.Ending.TheVariants.{Plain}
+use Rattle.vm_step.specs.declared.ending.Fault.TheVariants.{StackFault}
+use Rattle.vm_step.specs.declared.ending.Ending.TheVariants.{Plain, Faulted}
 use Rattle.vm_step.specs.declared.exception.Exception.{Exception}
 use Rattle.vm_step.specs.Act.{role_of}
-use Rattle.vm_step.specs.Methods.{handlers_of}
+use Rattle.vm_step.specs.Methods.{handlers_of, max_stack_of}
 use Rattle.vm_step.specs.Calls.{class_of}
 
 -- a step leads to a state, or ends the run; then there is no frame left
@@ -33,19 +34,30 @@ catches t place class h = (nat_le h.start place && nat_lt place h.end) && is_on_
 abbrev pub handler_for : {A : Type 0} → Linked → ℕ → Frame A → Option Handler
 handler_for w class f = find (catches w.classes f.place class) (handlers_of w f.method)
 
--- a frame in which an object is caught
+-- a frame in which an object is caught: its operand stack has one cell
 abbrev pub caught : {A : Type 0} → Cells A → Handler → ℕ → Frame A → Frame A
 caught k h handle f = record f { place = h.entry; stack = k.reference handle ∷ [] }
 
-abbrev pub caught_or : {A : Type 0} → Cells A → ℕ → State A → Frame A → List (Frame A) → Outcome A → Option Handler → Outcome A
-caught_or k handle s f below otherwise (Some h) = running (record s { frames = caught k h handle f ∷ below })
-caught_or k handle s f below otherwise None = otherwise
+-- a machine of tagged cells ends the run where the method's operand stack has no room for the reference
+abbrev pub has_no_room : {A : Type 0} → Cells A → Linked → Frame A → Bool
+has_no_room k w f = k.checks && nat_lt (max_stack_of w f.method) 1
+
+abbrev pub caught_by : {A : Type 0} → Cells A → Linked → Handler → ℕ → State A → Frame A → List (Frame A) → Outcome A
+caught_by k w h handle s f below =
+    if has_no_room k w f
+    then ends (Faulted StackFault) s
+    else running (record s { frames = caught k h handle f ∷ below })
+
+abbrev pub caught_or :
+    {A : Type 0} → Cells A → Linked → ℕ → State A → Frame A → List (Frame A) → Outcome A → Option Handler → Outcome A
+caught_or k w handle s f below otherwise (Some h) = caught_by k w h handle s f below
+caught_or k w handle s f below otherwise None = otherwise
 
 -- an object is thrown over these frames: those above the first that catches it are dropped
 abbrev pub unwound : {A : Type 0} → Cells A → Linked → ℕ → ℕ → State A → List (Frame A) → Outcome A
 unwound k w class handle s [] = ends (Plain (Threw class handle)) s
 unwound k w class handle s (f ∷ below) =
-    caught_or k handle s f below (unwound k w class handle s below) (handler_for w class f)
+    caught_or k w handle s f below (unwound k w class handle s below) (handler_for w class f)
 
 -- the object of a handle is thrown; an array counts as of class object
 abbrev pub thrown : {A : Type 0} → Cells A → Linked → ℕ → State A → Outcome A
