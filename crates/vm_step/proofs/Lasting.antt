@@ -52,11 +52,11 @@ module _ {A : Type 0} where
   lasts-unwound k w class n s [] = tt {0}
   lasts-unwound k w class n s (f ∷ fs) = lasts-caught k w n s f fs (unwound k w class n s fs) (handler_for w class f) (lasts-unwound k w class n s fs)
 
-  lasts-goes : (k : Cells A) (w : Linked) (next : ℕ) (z : State A) → Lasts (goes_to k w next z)
-  lasts-goes k w next z = lasts-unless z (fault_next k w z (length (top z).stack) next) (running (with_place z next)) (omega arith)
+  lasts-goes : (k : Cells A) (w : Linked) (next : ℕ) (s z : State A) → Lasts (goes_to k w next s z)
+  lasts-goes k w next s z = lasts-unless s (fault_next k w z (length (top z).stack) next) (running (with_place z next)) (omega arith)
 
   lasts-settled : (k : Cells A) (w : Linked) (next : ℕ) (s : State A) (a : Act A) → Lasts (settled k w next s a)
-  lasts-settled k w next s (goes z) = lasts-goes k w next z
+  lasts-settled k w next s (goes z) = lasts-goes k w next s z
   lasts-settled k w next s (jumps to z) = lasts-unless z (fault_target k w z to) (running (with_place z (place_of to))) (omega arith)
   lasts-settled k w next s (makes kind cells reference z) =
       let new : Outcome A = running (with_place (with_new z kind cells (reference (length z.heap + 1))) next) in
@@ -68,7 +68,7 @@ module _ {A : Type 0} where
       let z : State A = without_top s in
       let back : State A = with_stack z (with_value cells (top z).stack) in
       let after = place_after (instruction_at (code_at w (top z).method) (top z).place) in
-      lasts-if (nat_lt 0 (length z.frames)) (goes_to k w after back) (ends (Plain (Returned value)) z) (lasts-goes k w after back) (tt {0})
+      lasts-if (nat_lt 0 (length z.frames)) (goes_to k w after z back) (ends (Plain (Returned value)) z) (lasts-goes k w after z back) (tt {0})
   lasts-settled k w next s (raises exception) =
       let class = slice_index w.classes.roles (role_of exception) in
       let z : State A = with_object s (Instance class) (instance_cells k w.classes class) in

@@ -60,8 +60,9 @@ abbrev pub place_of : ℤ → ℕ
 place_of (pos place) = place
 place_of (negsuc n) = 0
 
-abbrev pub goes_to : {A : Type 0} → Cells A → Linked → ℕ → State A → Outcome A
-goes_to k w next s = unless_fault s (fault_next k w s (length (top s).stack) next) (running (with_place s next))
+-- on to the next place in the state z; a run that ends here ends with the heap and the static fields of the state s, before the step
+abbrev pub goes_to : {A : Type 0} → Cells A → Linked → ℕ → State A → State A → Outcome A
+goes_to k w next s z = unless_fault s (fault_next k w z (length (top z).stack) next) (running (with_place z next))
 
 abbrev pub jumps_to : {A : Type 0} → Cells A → Linked → ℤ → State A → Outcome A
 jumps_to k w to s = unless_fault s (fault_target k w s to) (running (with_place s (place_of to)))
@@ -92,12 +93,14 @@ place_after (Some i) = i.place + i.insn.len
 abbrev pub given_to : {A : Type 0} → Cells A → Linked → Value → List A → State A → Outcome A
 given_to k w value cells s =
     if nat_lt 0 (length s.frames)
-    then goes_to k w (place_after (instruction_at (code_at w (top s).method) (top s).place)) (with_stack s (with_value cells (top s).stack))
+    then
+    goes_to k w (place_after (instruction_at (code_at w (top s).method) (top s).place)) s
+    (with_stack s (with_value cells (top s).stack))
     else ends (Plain (Returned value)) s
 
 -- what the act of the instruction before `next` leads to
 abbrev pub settled : {A : Type 0} → Cells A → Linked → ℕ → State A → Act A → Outcome A
-settled k w next s (goes z) = goes_to k w next z
+settled k w next s (goes z) = goes_to k w next s z
 settled k w next s (jumps to z) = jumps_to k w to z
 settled k w next s (makes kind cells reference z) = made k w next kind cells reference z
 settled k w next s (calls method count z) = entered_call k w method count z
