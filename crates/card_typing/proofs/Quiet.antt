@@ -1,5 +1,5 @@
 -- A pass that raises no register is a card typing.
-use Rattle.std.proofs.Common.{◌≡◌, ℕ, zero, suc, ◌+◌, ◌<◌, ◌≤◌, ◌⊎◌, inl, inr, ⊎_elim, Bool, true, false, ◌==◌, if◌then◌else◌, Option, Some, slice_get, get_or, List, [], ◌∷◌, length, All, refl, sym, ◌∙◌, ap, subst, arith, Contains, IsTrue}
+use Rattle.std.proofs.Common.{◌≡◌, ℕ, zero, suc, ◌+◌, ◌<◌, ◌≤◌, ◌⊎◌, inl, inr, ⊎_elim, Bool, true, false, ◌==◌, if◌then◌else◌, get_or, List, [], ◌∷◌, length, All, refl, sym, ◌∙◌, ap, subst, arith, Contains, IsTrue}
 use Rattle.std.specs.Prelude.{pos}
 use Rattle.std.proofs.lemmas.List.Elements.{All-contains}
 use Rattle.std.proofs.lemmas.Bool.{false≢true}
@@ -11,11 +11,11 @@ use Rattle.jc_decode.specs.declared.insn.Placed.{Placed}
 use Rattle.jc_decode.specs.Listing.{falls, targets, listing, Lists, end_from}
 use Rattle.jc_control.specs.Method.{Method, IsMethodOf}
 use Rattle.jc_control.specs.WellFormed.{Stands, IsPlace, IsTargetPlace, IsHandlerOf, IsWellFormed}
-use Rattle.jc_control.specs.Laws.{InstructionsArePlaced, InstructionsAreListed}
+use Rattle.jc_decode.specs.Laws.{InstructionsAreListed}
+use Rattle.jc_control.specs.Laws.{InstructionsArePlaced}
 use Rattle.jc_rules.specs.declared.rule.Outcome.{Outcome}
 use Rattle.jc_rules.specs.Flow.{CellsBelow, IsNotFresh, start_frame}
 use Rattle.jc_rules.specs.Laws.{RuleRests}
-use Rattle.jc_base.specs.declared.record.MethodRec.{MethodRec}
 use Rattle.card_typing.proofs.Sites.{site_of, at-site, of-site}
 use Rattle.card_typing.specs.Place.{IsTarget, IsEntry, IsFallenInto, fallen_first, fallen_from, CatchesAt}
 use Rattle.card_typing.specs.Typing.{frame_at, GoesOn, IsTyped, IsEntered, CardTyping}

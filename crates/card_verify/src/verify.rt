@@ -15,7 +15,8 @@ use crate::verifier::Verifier;
 use cap_bytes::View;
 use card_typing::{CardFault, CardKind, card_laws};
 use jc_base::{Ty, World};
-use jc_control::{Flaw, Places, Subject, find_flaw, instructions_are_placed};
+use jc_control::{Flaw, Places, Subject, find_flaw};
+use jc_decode::instructions_are_listed;
 use jc_rules::rule_laws;
 
 /// Verifies a method with code as a verifier on the card does, in the registers and the stack that are lent: a cell for
@@ -115,7 +116,7 @@ impl Verifier<'_> {
     {
         card_laws(self.world);
         rule_laws(self.world);
-        instructions_are_placed();
+        instructions_are_listed();
         start(self.rec, regs);
         self.settle(regs, stack)
     }
@@ -127,6 +128,7 @@ impl Verifier<'_> {
         ensures flawed { IfErr result (λ fault. TellsFlaw (method self.now) fault) }
     {
         rule_laws(self.world);
+        instructions_are_listed();
         let subject = Subject {
             number: self.number,
             rec: self.rec,
