@@ -12,7 +12,7 @@ use Rattle.jc_rules.specs.Stack.{cells}
 use Rattle.jc_rules.specs.Apply.{frame_of, HasRoom, Applies, Refuses}
 use Rattle.card_typing.specs.declared.fault.CardFault.{CardFault}
 use Rattle.card_typing.specs.declared.fault.CardKind.{CardKind}
-use Rattle.card_typing.specs.declared.fault.CardKind.TheVariants.{Code, Rule, StackAtTarget, StackAtBranch, HandlerEntered, BadTarget, FallsOff, BadHandler}
+use Rattle.card_typing.specs.declared.fault.CardKind.TheVariants.{Code, Rule, StackAtTarget, StackAtBranch, HandlerEntered, BadTarget, FallsOff, BadHandler, BadIndex, NotIndexed}
 use Rattle.card_typing.specs.Met.{Arrives, IsOpenTo}
 use Rattle.card_typing.specs.Refusal.{IsWrong, wrong_rule, wrong_branch, wrong_end}
 use Rattle.card_verify.specs.declared.verifier.Verifier.{Verifier}
@@ -73,6 +73,8 @@ module _ (v : Verifier) (is : IsVerifier v) where
       fail-left HandlerEntered h = absurd h
       fail-left (BadTarget target) h = absurd h
       fail-left (BadHandler number) h = absurd h
+      fail-left (BadIndex entry) h = absurd h
+      fail-left (NotIndexed target) h = absurd h
 
   -- ---- what a visit comes to
 

@@ -168,7 +168,7 @@ impl Verifier<'_> {
     }
 
     /// The least entry of a handler from a place on.
-    fn entry_from(&self, from: u16) -> Option<u32>
+    pub fn entry_from(&self, from: u16) -> Option<u32>
         ensures { IsLeastFrom (IsEntry (method self.now)) from result }
     {
         let mut best = None;

@@ -3,7 +3,7 @@ ghost use Rattle.jc_base.specs.declared.ty.Ty.TheVariants.{Bottom};
 ghost use Rattle.jc_control.specs.Method.{IsMethodOf, method_in};
 ghost use Rattle.jc_control.specs.WellFormed.{IsWellFormed};
 ghost use Rattle.jc_rules.specs.Apply.{frame_of};
-ghost use Rattle.jc_rules.specs.Flow.{HasFlowTyping};
+ghost use Rattle.jc_rules.specs.Flow.{HasFlowTyping, start_frame};
 ghost use Rattle.card_typing.specs.Typing.{HasCardTyping, IsLeastCardTyping};
 ghost use Rattle.card_typing.specs.Refusal.{IsFlawKind, IsRefused, fault_of};
 ghost use Rattle.card_verify.specs.Answers.{TellsFlaw};
@@ -121,8 +121,16 @@ impl Verifier<'_> {
         self.settle(regs, stack)
     }
 
+    /// Gives the registers the types with which the method starts.
+    pub fn begin(&self, regs: &mut [Ty])
+        requires { length regs.old ≡ length (start_frame self.now.rec.now Bottom).regs }
+        ensures { regs.new ≡ (start_frame self.now.rec.now Bottom).regs }
+    {
+        start(self.rec, regs);
+    }
+
     /// Whether the method is well formed, and else its first flaw.
-    fn check_form(&self) -> Result<(), CardFault>
+    pub fn check_form(&self) -> Result<(), CardFault>
         requires { IsMethodOf (world_of self.now) (method self.now) }
         ensures formed { OnOk result (IsWellFormed (method self.now)) }
         ensures flawed { IfErr result (λ fault. TellsFlaw (method self.now) fault) }

@@ -8,6 +8,7 @@ use crate::method_infos::infos;
 use crate::tabling::{Tabled, with_table};
 use cap_package::Packages;
 use jc_base::{Classes, Pools, Statics, World};
+use jc_indexes::indexes;
 use jc_members::{handlers_fit, members, roles_fit};
 use jc_resolve::{LinkEnd, Names};
 use jc_statics::{arrays, arrays_fit, statics, statics_fit};
@@ -68,6 +69,7 @@ fn made<'a>(
     let packages = tabled.names.packages();
     let arrays = arrays(alloc, packages)?;
     let infos = infos(alloc, packages)?;
+    let indexes = indexes(alloc, packages, tabled.names.methods())?;
     let methods = tabled.names.into_methods();
     Ok(World::of(
         infos,
@@ -76,6 +78,7 @@ fn made<'a>(
         methods,
         resolved.statics,
         arrays,
+        indexes,
     ))
 }
 
