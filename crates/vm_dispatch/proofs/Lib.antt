@@ -1,1 +1,1 @@
-mod Climbing
+pub mod Climbing

@@ -1,7 +1,7 @@
 ghost use Rattle.std.specs.Prelude.{◌≡◌, ◌+◌, ◌≤◌, ◌++◌, length, take};
 ghost use Rattle.vm_store.specs.State.{IsRunning, top, with_stack};
 ghost use Rattle.vm_step.specs.Values.{with_move};
-ghost use Rattle.vm_values.specs.Moves.{move_asks, move_adds};
+ghost use Rattle.vm_values.specs.Moves.{move_asks, move_adds, move_drops};
 
 use jc_ops::Move;
 use vm_store::Store;
@@ -12,7 +12,7 @@ pub fn move_cells<S: Store>(store: &mut S, moved: Move)
     requires well { S.well store.old }
     requires running { IsRunning (S.state store.old) }
     requires cells { move_asks moved ≤ length (top (S.state store.old)).stack }
-    requires room { length (top (S.state store.old)).stack + move_adds moved ≤ S.stack_room }
+    requires room { length (top (S.state store.old)).stack + move_adds moved ≤ S.stack_room + move_drops moved }
     ensures state { S.state store.new ≡ with_move moved (S.state store.old) }
     ensures well { S.well store.new }
     ensures fixed { S.fixed store.new ≡ S.fixed store.old }
