@@ -1,0 +1,3 @@
+pub mod Frames
+pub mod State
+pub mod Laws
