@@ -1,5 +1,5 @@
-use Rattle.std.proofs.Common.{◌<◌, ◌≡◌, ◌+◌, length, ◌∙◌, ap, arith}
-use Rattle.xf_plan.specs.Plan.{cells_from, home_of}
+use Rattle.std.proofs.Common.{◌<◌, ◌+◌, length, ◌∙◌, ap, arith}
+use Rattle.xf_plan.specs.Plan.{home_of}
 use Rattle.xf_plan.proofs.Steps.{cells-next}
 use Rattle.xf_plan.proofs.plan.cells_from.Goals as goal
 
