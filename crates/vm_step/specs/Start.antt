@@ -1,7 +1,5 @@
 -- How a run begins (JCVM 2.2, sections 2.2, 3.1 to 3.5 and 6.10): what the world has from the start, what is handed to the first
 -- method, and why a run does not begin.
--- How a run begins (JCVM 2.2, sections 2.2, 3.1 to 3.5 and 6.10): what the world has from the start, what is handed to the first method, and
--- why a run does not begin.
 use Rattle.std.specs.Prelude.{◌≡◌, ℕ, ◌+◌, ℤ, pos, negsuc, Bool, true, false, not, ◌==◌, ◌&&◌, nat_lt, nat_le, if◌then◌else◌, List, [], ◌∷◌, ◌++◌, length, map, filter, flat_map, sum_by, Option, Some, None, option_map, slice_get}
 use Rattle.jc_base.specs.declared.ty.Ty.{Ty}
 use Rattle.jc_base.specs.declared.ty.Ty.TheVariants.{Short, IntHigh, IntLow, ArrByte}
