@@ -147,4 +147,5 @@ module _ (code : List ℕ) (handlers : List Handler) (filled : 0 < length code) 
         slots = tt;
         arrays = All-nil _;
         roles = record { count = refl; objects = is_object; throwables = is_throwable; others = all_thrown (only_method (length code) handlers ∷ []) };
+        one_index_each = refl;
       }

@@ -58,4 +58,5 @@ sample code handlers = record {
   methods = only_method (length code) handlers ∷ [];
   statics = [];
   arrays = [];
+  indexes = None ∷ [];
 }

@@ -128,5 +128,6 @@ pub(crate) fn world<'a>(
         methods,
         empty(alloc),
         empty(alloc),
+        Items::of(vec![in alloc; None]?),
     ))
 }
