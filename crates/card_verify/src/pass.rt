@@ -37,7 +37,7 @@ impl Arrival {
 
 impl Verifier<'_> {
     /// Walks the code once, raising registers in place, and tells whether one rose.
-    pub fn pass(&self, regs: &mut [Ty], stack: &mut [Ty]) -> Result<bool, CardFault>
+    pub(crate) fn pass(&self, regs: &mut [Ty], stack: &mut [Ty]) -> Result<bool, CardFault>
         requires verifier { IsVerifier self.now }
         requires begun { IsBegun self.now regs.old stack.old }
         ensures done { IfOk result
