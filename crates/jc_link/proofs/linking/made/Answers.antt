@@ -10,7 +10,7 @@ of-requires c =
     let e = c.packages-packages.ensures.is in
     world-made n.packages n.roles n c.requires.names c.args.tabled.classes c.requires.table c.args.resolved c.requires.resolved
     c.in_ok-infos.infos (c.in_ok-infos.ensures.are ∙ ap infos_of e) c.into_methods-methods.result c.into_methods-methods.ensures c.in_ok-arrays.arrays (c.in_ok-arrays.ensures.is ∙ ap array_records e)
-    c.requires.members c.in_ok-infos.ensures.few c.in_ok-arrays.ensures.elements
+    c.concrete_decides.ensures c.requires.members c.in_ok-infos.ensures.few c.in_ok-arrays.ensures.elements
 
 pub returns : goal.returns
 returns c =
