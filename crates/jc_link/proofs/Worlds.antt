@@ -10,6 +10,7 @@ use Rattle.jc_base.specs.declared.record.ArrayRec.{ArrayRec}
 use Rattle.jc_base.specs.Class.{ClassTable}
 use Rattle.jc_base.specs.Cell.{IsDeclared, width, AreElementsOf}
 use Rattle.jc_base.specs.Linked.{IsMember, IsStatic, AreSlots}
+use Rattle.jc_base.specs.Laws.{ConcreteIsDecided}
 use Rattle.jc_base.specs.World.{Linked, IsWorld}
 use Rattle.jc_resolve.specs.Named.{AreNamed, infos_of}
 use Rattle.first_fault.specs.First.{AllEmpty}
@@ -50,8 +51,8 @@ module _ (ps : List PackageRecord) (roles : List ℕ) where
   infos_count : length (infos_of ps) ≡ length ps
   infos_count = length-map ps _
 
-  made : (t : ClassTable) → IsTableOf ps roles t → AreNamed (infos_of ps) (slice_index roles 0) (classes_of ps roles) (methods_of ps roles) → AllEmpty (member_conditions ps roles) → AreKnownLists ps world_of → IsWorld world_of
-  made t is known none lists = record {
+  made : ConcreteIsDecided → (t : ClassTable) → IsTableOf ps roles t → AreNamed (infos_of ps) (slice_index roles 0) (classes_of ps roles) (methods_of ps roles) → AllEmpty (member_conditions ps roles) → AreKnownLists ps world_of → IsWorld world_of
+  made decided t is known none lists = record {
     limits = record {
       packages = rw infos_count lists.packages;
       bytes = lists.bytes;
@@ -73,6 +74,7 @@ module _ (ps : List PackageRecord) (roles : List ℕ) where
     arrays = lists.elements;
     roles = are-roles ps roles t is none.1.1.1.1.0;
     one_index_each = indexes-each ps (methods_of ps roles);
+    roles = are-roles decided ps roles t is none.1.1.1.1.0;
   }
 
   same_world : (w : Linked) → AreListsOf ps roles w → world_of ≡ w
@@ -86,10 +88,10 @@ module _ (ps : List PackageRecord) (roles : List ℕ) where
       ∙ ap (λ (x : List (Option (List ℕ))). record { infos = w.infos; pools = w.pools; classes = w.classes; methods = w.methods; statics = w.statics; arrays = w.arrays; indexes = x }) (sym l.indexes)
 
   -- the lists of packages and roles, of which nothing is at fault, are a world
-  pub are-world : (t : ClassTable) (w : Linked) → IsTableOf ps roles t → AreNamed (infos_of ps) (slice_index roles 0) (classes_of ps roles) (methods_of ps roles) → AllEmpty (member_conditions ps roles) → AreListsOf ps roles w → AreKnownLists ps w → IsWorld w
-  are-world t w is known none l lists =
+  pub are-world : ConcreteIsDecided → (t : ClassTable) (w : Linked) → IsTableOf ps roles t → AreNamed (infos_of ps) (slice_index roles 0) (classes_of ps roles) (methods_of ps roles) → AllEmpty (member_conditions ps roles) → AreListsOf ps roles w → AreKnownLists ps w → IsWorld w
+  are-world decided t w is known none l lists =
       let e : world_of ≡ w = same_world w l in
-      subst IsWorld e (made t is known none (subst (AreKnownLists ps) (sym e) lists))
+      subst IsWorld e (made decided t is known none (subst (AreKnownLists ps) (sym e) lists))
 
 -- ---- the lists that are made
 
@@ -139,6 +141,10 @@ module _ (ps : List PackageRecord) (roles : List ℕ) (n : NamesRecord) (of : Ar
       → IsWorld (record { infos = infos; pools = x.pools; classes = t; methods = methods; statics = x.statics; arrays = arrays; indexes = indexes })
   world-made none bytes elements =
       are-world ps roles t made_of is of.known (along ps roles n of (λ (xs : List PackageRecord) (rs : List ℕ). AllEmpty (member_conditions xs rs)) none) lists-are (known_lists bytes elements)
+  pub world-made : ConcreteIsDecided → AllEmpty (member_conditions n.packages n.roles) → All (λ info. length info ≤ 65535) infos → All (λ (b : ArrayRec). AreElementsOf b.kind b.initial) arrays
+      → IsWorld (record { infos = infos; pools = x.pools; classes = t; methods = methods; statics = x.statics; arrays = arrays })
+  world-made decided none bytes elements =
+      are-world ps roles decided t made_of is of.known (along ps roles n of (λ (xs : List PackageRecord) (rs : List ℕ). AllEmpty (member_conditions xs rs)) none) lists-are (known_lists bytes elements)
 
   pub linked-made : (w : Linked) → w ≡ record { infos = infos; pools = x.pools; classes = t; methods = methods; statics = x.statics; arrays = arrays; indexes = indexes } → AllEmpty (table_conditions ps roles) → AllEmpty (member_conditions n.packages n.roles) → IsLinked ps roles w
   linked-made w e none others = record {

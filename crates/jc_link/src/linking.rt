@@ -9,6 +9,7 @@ use crate::tabling::{Tabled, with_table};
 use cap_package::Packages;
 use jc_base::{Classes, Pools, Statics, World};
 use jc_indexes::indexes;
+use jc_base::{Classes, Pools, Statics, World, concrete_decides};
 use jc_members::{handlers_fit, members, roles_fit};
 use jc_resolve::{LinkEnd, Names};
 use jc_statics::{arrays, arrays_fit, statics, statics_fit};
@@ -66,6 +67,7 @@ fn made<'a>(
     requires members { AllEmpty (member_conditions tabled.names.packages tabled.names.roles) }
     ensures { LinkTells tabled.entry.names.packages tabled.entry.names.roles result }
 {
+    concrete_decides();
     let packages = tabled.names.packages();
     let arrays = arrays(alloc, packages)?;
     let infos = infos(alloc, packages)?;
