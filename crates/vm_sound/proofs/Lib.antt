@@ -28,4 +28,5 @@ pub mod Dispatching
 pub mod Receivers
 pub mod Calling
 pub mod Invoking
+pub mod Starting
 pub mod Sound

@@ -52,7 +52,7 @@ reference-ready ArrShort h = tt
 reference-ready ArrInt h = tt
 reference-ready (ArrRef c) h = tt
 
-null-reference : (t : ClassTable) (ty : Ty) → IsReference ty → Below t Null ty
+pub null-reference : (t : ClassTable) (ty : Ty) → IsReference ty → Below t Null ty
 null-reference t (Class c) h = null_object
 null-reference t ArrBool h = null_array of_booleans
 null-reference t ArrByte h = null_array of_bytes

@@ -25,6 +25,8 @@ use Rattle.vm_store.specs.Kind.{kind_of_handle}
 use Rattle.vm_store.specs.Typing.{least_type}
 use Rattle.vm_store.specs.Cells.{tagged, word_of}
 use Rattle.vm_store.specs.State.{Frame, Object, State, IsRunning}
+use Rattle.vm_step.specs.declared.ending.Fault.{Fault}
+use Rattle.vm_step.specs.declared.ending.Ending.TheVariants.{Faulted}
 use Rattle.vm_step.specs.Methods.{of_method, code_at, instruction_at}
 use Rattle.vm_step.specs.Performed.{act}
 use Rattle.vm_step.specs.Tests.{fault_before}
@@ -35,7 +37,7 @@ use Rattle.vm_step.specs.Settled.{settled, unless_fault}
 use Rattle.vm_step.specs.Step.{Steps, misplaced, unresolved, performs, performed}
 use Rattle.vm_step.specs.Run.{Runs, stands, stops, steps}
 use Rattle.vm_sound.specs.State.{IsTypedState}
-use Rattle.vm_sound.specs.Laws.{AreTypedMethods, IsSafe, StepsAreSafe, RunsAreSafe}
+use Rattle.vm_sound.specs.Laws.{AreTypedMethods, IsSafe, StepsAreSafe, RunsAreSafe, TypedCodeIsFaultFree}
 use Rattle.vm_sound.proofs.Entering.{method-known}
 use Rattle.vm_sound.proofs.Finish.{there-at}
 use Rattle.vm_sound.proofs.Handles.{kinds_of}
@@ -48,6 +50,7 @@ use Rattle.vm_sound.proofs.Branches.{branch-safe, switch-safe}
 use Rattle.vm_sound.proofs.Arrays.{array-read-safe}
 use Rattle.vm_sound.proofs.ArrayWrites.{array-write-safe, array-length-safe}
 use Rattle.vm_sound.proofs.Fields.{field-read-safe, field-write-safe}
+use Rattle.vm_sound.proofs.Starting.{starts-are-typed}
 use Rattle.vm_sound.proofs.Statics.{static-read-safe, static-write-safe}
 use Rattle.vm_sound.proofs.Objects.{new-safe, new-array-safe, throw-act-safe, type-test-safe}
 use Rattle.vm_sound.proofs.Returns.{return-safe}
@@ -234,3 +237,7 @@ steps-are-safe w world unset s o typings typed step = one-safe w world unset typ
 
 pub runs-are-safe : (w : Linked) → IsWorld w → RunsAreSafe w
 runs-are-safe w world unset n s o typings typed runs = all-safe w world unset typings typed runs
+
+pub typed-is-fault-free : (w : Linked) → IsWorld w → TypedCodeIsFaultFree w
+typed-is-fault-free w world unset typings entry args s z n fault starts runs =
+    runs-are-safe w world unset n s (ended (Faulted fault) z) typings (starts-are-typed w world unset entry args s typings starts) runs

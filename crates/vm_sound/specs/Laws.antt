@@ -1,5 +1,5 @@
 -- Typed code never goes wrong: from a typed state a machine that tests every cell comes to typed states and plain endings alone.
-use Rattle.std.specs.Prelude.{ℕ}
+use Rattle.std.specs.Prelude.{ℕ, List}
 use Rattle.jc_base.specs.declared.ty.Ty.{Ty}
 use Rattle.jc_base.specs.World.{Linked}
 use Rattle.jc_control.specs.Method.{Method, IsMethodOf}
@@ -11,6 +11,9 @@ use Rattle.vm_step.specs.declared.ending.Ending.TheVariants.{Plain, Faulted}
 use Rattle.vm_step.specs.Raising.{Outcome, running, ended}
 use Rattle.vm_step.specs.Step.{Steps}
 use Rattle.vm_step.specs.Run.{Runs}
+use Rattle.vm_step.specs.declared.ending.Fault.{Fault}
+use Rattle.vm_step.specs.Arguments.{Argument}
+use Rattle.vm_step.specs.Start.{Starts}
 use Rattle.vm_sound.specs.State.{IsTypedState}
 
 -- each method with code has a dataflow typing, where an unset register is of the type `unset`
@@ -34,3 +37,18 @@ abbrev pub RunsAreSafe : Linked → Type 0
 RunsAreSafe w =
     (unset : Ty) (n : ℕ) (s : State Cell) (o : Outcome Cell)
     → AreTypedMethods w unset → IsTypedState w unset s → Runs tagged w n s o → IsSafe w unset o
+
+-- a run begins in a typed state
+abbrev pub StartsAreTyped : Linked → Type 0
+StartsAreTyped w =
+    (unset : Ty) (entry : ℕ) (args : List Argument) (s : State Cell)
+    → AreTypedMethods w unset → Starts tagged w entry args s → IsTypedState w unset s
+
+-- no run that begins meets a fault: for every entry, all arguments with which it begins and any number of steps
+abbrev pub IsFaultFree : Linked → Type 0
+IsFaultFree w =
+    (entry : ℕ) (args : List Argument) (s z : State Cell) (n : ℕ) (fault : Fault)
+    → Starts tagged w entry args s → ¬ (Runs tagged w n s (ended (Faulted fault) z))
+
+abbrev pub TypedCodeIsFaultFree : Linked → Type 0
+TypedCodeIsFaultFree w = (unset : Ty) → AreTypedMethods w unset → IsFaultFree w
