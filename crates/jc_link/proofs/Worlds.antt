@@ -72,9 +72,8 @@ module _ (ps : List PackageRecord) (roles : List ℕ) where
     statics = rw infos_count (lists.fields lists.arrays (table_of ps roles) (statics-declared ps roles t is known));
     slots = lists.slots;
     arrays = lists.elements;
-    roles = are-roles ps roles t is none.1.1.1.1.0;
-    one_index_each = indexes-each ps (methods_of ps roles);
     roles = are-roles decided ps roles t is none.1.1.1.1.0;
+    one_index_each = indexes-each ps (methods_of ps roles);
   }
 
   same_world : (w : Linked) → AreListsOf ps roles w → world_of ≡ w
@@ -137,12 +136,8 @@ module _ (ps : List PackageRecord) (roles : List ℕ) (n : NamesRecord) (of : Ar
     elements = elements;
   }
 
-  pub world-made : AllEmpty (member_conditions n.packages n.roles) → All (λ info. length info ≤ 65535) infos → All (λ (b : ArrayRec). AreElementsOf b.kind b.initial) arrays
-      → IsWorld (record { infos = infos; pools = x.pools; classes = t; methods = methods; statics = x.statics; arrays = arrays; indexes = indexes })
-  world-made none bytes elements =
-      are-world ps roles t made_of is of.known (along ps roles n of (λ (xs : List PackageRecord) (rs : List ℕ). AllEmpty (member_conditions xs rs)) none) lists-are (known_lists bytes elements)
   pub world-made : ConcreteIsDecided → AllEmpty (member_conditions n.packages n.roles) → All (λ info. length info ≤ 65535) infos → All (λ (b : ArrayRec). AreElementsOf b.kind b.initial) arrays
-      → IsWorld (record { infos = infos; pools = x.pools; classes = t; methods = methods; statics = x.statics; arrays = arrays })
+      → IsWorld (record { infos = infos; pools = x.pools; classes = t; methods = methods; statics = x.statics; arrays = arrays; indexes = indexes })
   world-made decided none bytes elements =
       are-world ps roles decided t made_of is of.known (along ps roles n of (λ (xs : List PackageRecord) (rs : List ℕ). AllEmpty (member_conditions xs rs)) none) lists-are (known_lists bytes elements)
 

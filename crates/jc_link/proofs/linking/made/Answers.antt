@@ -18,7 +18,6 @@ of-requires c =
     world-made n.packages n.roles n c.requires.names c.args.tabled.classes c.requires.table c.args.resolved c.requires.resolved
     c.in_ok-infos.infos (c.in_ok-infos.ensures.are ∙ ap infos_of e) c.into_methods-methods.result c.into_methods-methods.ensures c.in_ok-arrays.arrays (c.in_ok-arrays.ensures.is ∙ ap array_records e)
     c.in_ok-indexes.indexes (c.in_ok-indexes.ensures ∙ ap (λ ps. indexes_of ps c.methods.result.now) e ∙ ap (indexes_of n.packages) c.methods.ensures.is)
-    c.requires.members c.in_ok-infos.ensures.few c.in_ok-arrays.ensures.elements
     c.concrete_decides.ensures c.requires.members c.in_ok-infos.ensures.few c.in_ok-arrays.ensures.elements
 
 pub returns : goal.returns
