@@ -58,6 +58,7 @@ world =
           ∷ record { «package» = 0; offset = 4; kind = fields.Byte; ty = Short; slot = 2; initial = 0 ∷ [] }
           ∷ [];
       arrays = [];
+      indexes = None ∷ [];
     }
 
 -- an empty register has the type of unset ones, null its own, and a reference that of its object
