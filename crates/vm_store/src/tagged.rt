@@ -98,7 +98,7 @@ impl Store for TaggedStore {
 
     ghost fixed = { λ _. record { world = None; loans = [] } };
 
-    ghost stack_room = { 260 };
+    ghost stack_room = { 510 };
 
     fn frame_count(&self) -> u16 {
         self.live as u16
