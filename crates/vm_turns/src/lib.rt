@@ -12,6 +12,7 @@ mod returning;
 mod turning;
 mod unwinding;
 
+pub use after::fault_next;
 pub use ending::finish;
 pub use known::{Known, fetch};
 pub use places::Places;
