@@ -36,9 +36,6 @@ pub some-is : {X : Type 0} (P : X → Type 0) (o : Option X) → IsSomeAnd o P �
 some-is P (Some x) h = (x, refl, h)
 some-is P None h = absurd h
 
-pub some-at : {X : Type 0} (P : X → Type 0) (o : Option X) (x : X) → o ≡ Some x → IsSomeAnd o P → P x
-some-at {X} P o x e h = subst (λ (p : Option X). IsSomeAnd p P) e h
-
 pub some-from : {X : Type 0} (P : X → Type 0) (o : Option X) (x : X) → o ≡ Some x → P x → IsSomeAnd o P
 some-from {X} P o x e h = subst (λ (p : Option X). IsSomeAnd p P) (sym e) h
 
@@ -173,11 +170,3 @@ ready-stacked w m ks (cells.High n) h = tt
 ready-stacked w m ks (cells.Low n) h = tt
 ready-stacked w m ks (cells.Ref n) h = tt
 ready-stacked w m ks (cells.Fresh n p) h = absurd h
-
-pub ready-filled : (c : Cell) → IsReadyCell c → IsFilled c
-ready-filled cells.Empty h = h
-ready-filled (cells.Short n) h = tt
-ready-filled (cells.High n) h = tt
-ready-filled (cells.Low n) h = tt
-ready-filled (cells.Ref n) h = tt
-ready-filled (cells.Fresh n p) h = tt

@@ -12,24 +12,10 @@ use Rattle.jc_rules.proofs.CellLists.{cells-same, cells-trans, cells-append}
 use Rattle.vm_store.specs.declared.cell.Cell.{Cell}
 use Rattle.vm_store.specs.declared.kind.ObjectKind.{ObjectKind}
 use Rattle.vm_store.specs.State.{Frame}
-use Rattle.vm_sound.specs.Frames.{least_types, types_in, types_with, IsStacked, IsTypedFrame, at_next, IsWaiting, result_of, AreWaiting, AreTypedFrames}
+use Rattle.vm_sound.specs.Frames.{least_types, types_with, IsStacked, at_next, IsWaiting, result_of, AreWaiting}
 use Rattle.vm_sound.proofs.CellTypes.{some-weaker, types-fall, stacked-falls}
 
 module _ (w : Linked) (unset : Ty) (ks more : List ObjectKind) where
-  pub frame-falls : (f : Frame Cell) → IsTypedFrame w unset ks f → IsTypedFrame w unset (ks ++ more) f
-  frame-falls f typed =
-      let st = typed.stands in
-      record {
-        stands = st;
-        below = some-weaker (FrameBelow w.classes (types_in w.classes unset ks f)) (FrameBelow w.classes (types_in w.classes unset (ks ++ more) f))
-            (λ g b. record {
-              regs = cells-trans w.classes (types-fall w.classes unset ks more f.registers) b.regs;
-              stack = cells-trans w.classes (types-fall w.classes unset ks more f.stack) b.stack;
-            })
-            (st.frames f.place) typed.below;
-        stacked = All-weaker (IsStacked w st.rec ks) (IsStacked w st.rec (ks ++ more)) (stacked-falls w st.rec ks more) f.stack typed.stacked;
-      }
-
   pub waiting-falls : (result : Option Ty) (f : Frame Cell) → IsWaiting w unset ks result f → IsWaiting w unset (ks ++ more) result f
   waiting-falls result f waits =
       let st = waits.stands in
@@ -54,7 +40,3 @@ module _ (w : Linked) (unset : Ty) (ks more : List ObjectKind) where
   pub all-waiting-fall : (result : Option Ty) (fs : List (Frame Cell)) → AreWaiting w unset ks result fs → AreWaiting w unset (ks ++ more) result fs
   all-waiting-fall result [] h = h
   all-waiting-fall result (f ∷ fs) h = (waiting-falls result f h.0, all-waiting-fall (result_of w f.method) fs h.1)
-
-  pub frames-fall : (fs : List (Frame Cell)) → AreTypedFrames w unset ks fs → AreTypedFrames w unset (ks ++ more) fs
-  frames-fall [] h = h
-  frames-fall (f ∷ fs) h = (frame-falls f h.0, all-waiting-fall (result_of w f.method) fs h.1)

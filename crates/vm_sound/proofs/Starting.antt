@@ -1,6 +1,6 @@
 -- A run begins in a typed state.
-use Rattle.std.proofs.Common.{◌≡◌, ℕ, zero, suc, ◌+◌, ◌*◌, ◌/◌, ◌%◌, ◌<◌, Bool, true, false, not, ◌&&◌, if◌then◌else◌, ◌==◌, cond, List, [], ◌∷◌, ◌++◌, length, map, filter, refl, sym, ap, ◌∙◌, subst, arith, lit<, append_assoc}
-use Rattle.std.specs.Prelude.{ℤ, pos, Option, Some, None, IsSomeAnd, All, slice_get, flat_map, option_map, ⊤}
+use Rattle.std.proofs.Common.{◌≡◌, ℕ, zero, suc, ◌+◌, ◌*◌, ◌/◌, ◌%◌, Bool, true, false, not, if◌then◌else◌, ◌==◌, List, [], ◌∷◌, ◌++◌, length, map, filter, refl, sym, ap, ◌∙◌, subst, arith, lit<, append_assoc}
+use Rattle.std.specs.Prelude.{ℤ, Option, Some, None, All, slice_get, flat_map, option_map}
 use Rattle.std.proofs.Math.Nat.{mul-div_cancel_left}
 use Rattle.std.proofs.lemmas.Bool.{false≢true, and_parts, eqb-true, not-true}
 use Rattle.std.proofs.lemmas.Option.{none-some}
@@ -14,7 +14,7 @@ use Rattle.jc_base.specs.declared.record.MethodRec.{MethodRec}
 use Rattle.jc_base.specs.declared.record.StaticRec.{StaticRec}
 use Rattle.jc_base.specs.declared.record.ArrayRec.{ArrayRec}
 use Rattle.jc_base.specs.Class.{ClassTable}
-use Rattle.jc_base.specs.Order.{Below, same, null_object, null_array, of_booleans, of_bytes, of_shorts, of_ints, of_references, is_reference}
+use Rattle.jc_base.specs.Order.{Below, same, null_object, null_array, of_booleans, of_bytes, of_shorts, of_ints, of_references}
 use Rattle.jc_base.specs.Cell.{IsReference, IsOfKind, AreWhole, no_cells as no_whole, whole_int, one_cell, IsNoHalf, IsInitialHandle, AreWordsOf, AreElementsOf}
 use Rattle.jc_base.specs.Linked.{IsStatic, lacks_code}
 use Rattle.jc_base.specs.World.{Linked, IsWorld}
@@ -28,16 +28,16 @@ use Rattle.vm_store.specs.declared.kind.ObjectKind.TheVariants as kinds
 use Rattle.vm_store.specs.Kind.{kind_of_handle, type_of_kind}
 use Rattle.vm_store.specs.Typing.{HasType, short, high, low, null, reference, least_type, type_of_handle}
 use Rattle.vm_store.specs.Cells.{tagged, short_of_word}
-use Rattle.vm_store.specs.State.{Frame, Object, State, entered}
-use Rattle.vm_store.specs.Objects.{repeated, with_object}
+use Rattle.vm_store.specs.State.{Object, State}
+use Rattle.vm_store.specs.Objects.{repeated}
 use Rattle.vm_store.specs.Value.{byte_of_word}
-use Rattle.vm_store.specs.Laws.{IsFilled, CellsHave, IsTypedObject, IsTypedHeap, cell_types}
+use Rattle.vm_store.specs.Laws.{CellsHave, IsTypedObject, cell_types}
 use Rattle.vm_step.specs.declared.start_fault.StartFault.{StartFault}
 use Rattle.vm_step.specs.Arguments.{Argument, number, null as no_object, bytes}
 use Rattle.vm_step.specs.Objects.{kind_of_type}
 use Rattle.vm_step.specs.Methods.{of_method}
-use Rattle.vm_step.specs.Start.{field_cells, int_cells, element_cells, initial_object, initial, with_arrays, argument_cells, arrays_made, cells_handed, can_begin, is_parameter, parameters, fits, first_misfit, or_room, method_fault, entry_fault, start_fault, entry_state, Starts}
-use Rattle.vm_sound.specs.Frames.{least_types, IsTypedFrame}
+use Rattle.vm_step.specs.Start.{field_cells, int_cells, element_cells, initial_object, with_arrays, argument_cells, cells_handed, can_begin, is_parameter, parameters, fits, first_misfit, or_room, entry_fault, entry_state}
+use Rattle.vm_sound.specs.Frames.{least_types}
 use Rattle.vm_sound.specs.State.{IsMade, field_types, static_types, IsTypedState}
 use Rattle.vm_sound.specs.Laws.{AreTypedMethods, StartsAreTyped}
 use Rattle.vm_sound.proofs.CellTypes.{some-is}

@@ -55,10 +55,6 @@ pub record Here (w : Linked) (unset : Ty) (f : Frame Cell) (below : List (Frame 
 module _ (w : Linked) (world : IsWorld w) (unset : Ty) (f : Frame Cell) (below : List (Frame Cell)) (heap : List (Object Cell)) (statics : List Cell)
     (here : Here w unset f below heap statics)
   where
-    -- the place after the instruction
-    abbrev pub next_place : ℕ
-    next_place = here.turn.stands.instruction.place + here.turn.stands.instruction.insn.len
-
     -- a frame whose cells are below what the rule gives is typed after the instruction, be the objects as they were or others
     pub typed-after :
         (ks : List ObjectKind) (registers stack : List Cell) → falls_from here.turn.operation ≡ true

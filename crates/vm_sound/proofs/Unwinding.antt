@@ -37,7 +37,7 @@ use Rattle.vm_step.specs.Methods.{of_method, max_stack_of}
 use Rattle.vm_step.specs.Calls.{class_in}
 use Rattle.vm_step.specs.Raising.{running, ends, catches, handler_for, caught_by, caught_or, unwound}
 use Rattle.vm_step.specs.Raising.{caught as caught_in}
-use Rattle.vm_sound.specs.Frames.{least_types, types_in, IsStacked, Standing, IsTypedFrame, result_of, AreWaiting, AreTypedFrames}
+use Rattle.vm_sound.specs.Frames.{least_types, IsStacked, Standing, IsTypedFrame, result_of, AreWaiting}
 use Rattle.vm_sound.specs.Laws.{IsSafe}
 use Rattle.vm_sound.proofs.CellTypes.{some-is, some-both, some-weaker}
 use Rattle.vm_sound.proofs.Places.{place-instruction}
@@ -63,14 +63,6 @@ module _ (w : Linked) (unset : Ty) (ks : List ObjectKind) where
     pub stands : Standing w unset f
     pub regs : At stands.frames f.place (λ (g : Types). CellsBelow w.classes (least_types w.classes unset ks f.registers) g.regs)
 
-  pub typed-catching : (f : Frame Cell) → IsTypedFrame w unset ks f → IsCatching f
-  typed-catching f typed =
-      record {
-        stands = typed.stands;
-        regs = some-weaker (FrameBelow w.classes (types_in w.classes unset ks f)) (λ (g : Types). CellsBelow w.classes (least_types w.classes unset ks f.registers) g.regs)
-            (λ g b. b.regs) (typed.stands.frames f.place) typed.below;
-      }
-
   unfoldable pub AreCatching : List (Frame Cell) → Type 0
   AreCatching [] = ⊤
   AreCatching (f ∷ fs) = IsCatching f × AreWaiting w unset ks (result_of w f.method) fs
@@ -79,11 +71,6 @@ module _ (w : Linked) (unset : Ty) (ks : List ObjectKind) where
   unfolding AreCatching
   waiting-catching result [] h = tt
   waiting-catching result (f ∷ fs) h = (record { stands = h.0.stands; regs = h.0.regs }, h.1)
-
-  pub frames-catching : (fs : List (Frame Cell)) → AreTypedFrames w unset ks fs → AreCatching fs
-  unfolding AreCatching
-  frames-catching [] h = tt
-  frames-catching (f ∷ fs) h = (typed-catching f h.0, h.1)
 
   -- ---- a frame in which an object is caught
 

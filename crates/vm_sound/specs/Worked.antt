@@ -1,13 +1,12 @@
 -- Worked cases of typed states.
-use Rattle.std.specs.Prelude.{◌≡◌, ℕ, pos, false, true, List, [], ◌∷◌, replicate, Some, None, ⊤}
+use Rattle.std.specs.Prelude.{◌≡◌, false, true, [], ◌∷◌, replicate, Some, None}
 use Rattle.std.proofs.Common.{refl}
-use Rattle.jc_base.specs.declared.ty.Ty.{Ty}
 use Rattle.jc_base.specs.declared.ty.Ty.TheVariants.{Bottom, Short, IntHigh, IntLow, Null, Class, ArrByte, Fresh, Top}
 use Rattle.jc_base.specs.declared.ty.Kind.TheVariants as fields
 use Rattle.jc_base.specs.declared.record.ClassRec.{ClassRec}
 use Rattle.jc_base.specs.declared.record.MethodRec.{MethodRec}
 use Rattle.jc_base.specs.declared.record.Member.TheVariants.{ClassOf}
-use Rattle.jc_base.specs.Class.{ClassTable, is_interface, parent_of, chain_over, chain}
+use Rattle.jc_base.specs.Class.{is_interface, parent_of, chain_over, chain}
 use Rattle.jc_base.specs.Dispatch.{is_concrete, package_of, public_of, visible_of, visible_in, nearest_of}
 use Rattle.jc_base.specs.World.{Linked}
 use Rattle.jc_decode.specs.Layout.{layout_of, opcode}
@@ -17,7 +16,7 @@ use Rattle.jc_ops.specs.Row.{table, row_at, unused, by_sort, by_width, by_kind, 
 use Rattle.vm_store.specs.declared.cell.Cell.TheVariants as cells
 use Rattle.vm_store.specs.declared.kind.ObjectKind.TheVariants.{Instance, Bytes}
 use Rattle.vm_step.specs.Methods.{instruction_at}
-use Rattle.vm_sound.specs.Frames.{least_types, types_with, class_made, IsStacked}
+use Rattle.vm_sound.specs.Frames.{least_types, types_with, class_made}
 use Rattle.vm_sound.specs.State.{static_types}
 
 -- object, which is throwable too
