@@ -88,7 +88,7 @@ impl TaggedStore {
     }
 }
 
-#[tactic(auto, using(crate::proofs::Tops::top_read, crate::proofs::Tops::top_written, crate::proofs::Tops::frames_counted, crate::proofs::Tops::top_entered, crate::proofs::Tops::top_left))]
+#[tactic(auto, using(crate::proofs::Tops::tops))]
 impl Store for TaggedStore {
     type Cell = Cell;
 
