@@ -13,9 +13,11 @@ mod field;
 mod group;
 mod handlers;
 mod jump;
+mod laws;
 mod moves;
 mod rewriting;
 mod stub;
 
 pub use edge::Origin;
+pub use laws::labels_stand_once;
 pub use rewriting::{RewriteEnd, rewrite};

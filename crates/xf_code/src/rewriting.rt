@@ -4,8 +4,11 @@ ghost use Rattle.jc_rules.specs.Typing.{state_at};
 ghost use Rattle.xf_homes.specs.Answer.{IsTypingOf};
 ghost use Rattle.xf_homes.specs.Order.{AreHomes};
 ghost use Rattle.xf_plan.specs.Subject.{source};
-ghost use Rattle.xf_code.specs.Emission.{IsRewritten, items, ranges, rewritten};
+ghost use Rattle.jc_decode.specs.Symbols.{plain_size};
+ghost use Rattle.xf_code.specs.Emission.{IsPlainSize, IsRewritten, items, ranges, rewritten};
 ghost use Rattle.xf_code.specs.Known.{IsSubject};
+ghost use Rattle.xf_code.specs.Live.{KeepsLive};
+ghost use Rattle.xf_code.specs.Numbers.{HasNumbers};
 
 use crate::edge::{Origin, Scratch, copies};
 use crate::group::groups;
@@ -93,6 +96,14 @@ pub fn rewrite<'a>(
     requires homes { IsSomeAnd (method_in world.now method) (λ m. AreHomes world.now m (state_at typing.now) homes.now) }
     ensures symbols { IsSomeAnd (method_in world.now method)
         (λ m. IfOk result (IsRewritten world.now m (state_at typing.now) homes.now)) }
+    // Each live handler has a range, and no other.
+    ensures live { IsSomeAnd (method_in world.now method)
+        (λ m. IfOk result (λ symbols. KeepsLive m m.rec.handlers symbols.ranges)) }
+    ensures numbers { IsSomeAnd (method_in world.now method)
+        (λ m. IfOk result (HasNumbers m.rec homes.now)) }
+    ensures size { IsSomeAnd (method_in world.now method)
+        (λ m. IfOk result (λ symbols.
+        IsPlainSize world.now m (state_at typing.now) homes.now (plain_size symbols.items))) }
     ensures limit { IsSomeAnd (slice_get world.now.methods method)
         (λ m. (result ≡ Err RewriteEnd.StackLimit) ↔ (m.max_stack ≡ 255)) }
 {
