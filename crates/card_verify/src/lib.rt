@@ -17,5 +17,7 @@ mod verify;
 
 pub use acceptance::{Accepted, accept};
 pub use card_typing::{CardFault, CardKind};
+pub use pass::{Arrival, either, put_alone};
 pub use room::CardRoom;
+pub use verifier::Verifier;
 pub use verify::verify_method;

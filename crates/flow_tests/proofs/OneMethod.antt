@@ -188,4 +188,5 @@ module _ (shape : Shape) (code : List ℕ) (handlers : List Handler) (filled : 0
         slots = tt;
         arrays = All-nil _;
         roles = record { count = refl; objects = is_object; throwables = is_throwable; others = all_thrown (only_method shape (length code) handlers ∷ []) };
+        one_index_each = refl;
       }

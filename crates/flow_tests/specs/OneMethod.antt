@@ -102,4 +102,5 @@ sample shape code handlers = record {
   methods = only_method shape (length code) handlers ∷ [];
   statics = [];
   arrays = [];
+  indexes = None ∷ [];
 }

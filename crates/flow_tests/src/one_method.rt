@@ -154,5 +154,6 @@ pub fn world<'a>(
         methods,
         empty(alloc),
         empty(alloc),
+        Items::of(vec![in alloc; None]?),
     ))
 }

@@ -13,4 +13,7 @@ pub mod Settled
 pub mod Step
 pub mod Run
 pub mod Laws
+pub mod Arguments
+pub mod Start
 pub mod Worked
+pub mod WorkedStart

@@ -5,10 +5,14 @@
 //! of `vm_arithmetic` and the instances of `vm_instance`.
 #![tactic(auto)]
 
+mod arguments;
 mod ending;
 mod exception;
 mod laws;
+mod start_fault;
 
+pub use arguments::{Arg, Args};
 pub use ending::{Ending, Fault, Plain, Value};
 pub use exception::Exception;
 pub use laws::{runs_are_runs_of_steps, runs_exist};
+pub use start_fault::StartFault;

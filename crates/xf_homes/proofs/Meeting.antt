@@ -21,7 +21,7 @@ use Rattle.jc_control.specs.Flags.{flag, Marks}
 use Rattle.jc_control.specs.Method.{Method}
 use Rattle.jc_control.specs.WellFormed.{Stands, IsPlace}
 use Rattle.jc_control.specs.Control.{IsReached, IsLeader, Covers}
-use Rattle.jc_control.specs.Laws.{AreListed}
+use Rattle.jc_decode.specs.Laws.{AreListed}
 use Rattle.jc_rules.specs.Demand.{Frame}
 use Rattle.jc_rules.specs.Footprint.{footprint}
 use Rattle.xf_homes.specs.declared.home.Home.{Home}

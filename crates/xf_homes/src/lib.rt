@@ -18,3 +18,5 @@ pub use finding::{HomeEnd, homes};
 pub use found::Homes;
 pub use home::Home;
 pub use laws::{homes_are_one, homes_serve};
+pub use value::{value_at, value_of};
+pub use walk::{Walk, has, operands};

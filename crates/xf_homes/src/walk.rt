@@ -19,7 +19,7 @@ use std::alloc::AllocError;
 
 /// A walk over the code of a method, at whose reached places its types are asked for.
 #[derive(Clone, Copy)]
-pub(crate) struct Walk<'a> {
+pub struct Walk<'a> {
     pub world: &'a World<'a>,
     pub number: u16,
     pub rec: &'a MethodRec,
@@ -28,7 +28,8 @@ pub(crate) struct Walk<'a> {
     pub control: &'a ControlFlow,
 }
 
-fn has(homes: &[Home], home: Home) -> bool
+/// Whether a home is among these.
+pub fn has(homes: &[Home], home: Home) -> bool
     ensures { result ≡ has homes.now home }
 {
     'kept: for kept in homes {
@@ -116,7 +117,7 @@ fn asked(handlers: &[Handler], place: u16, last: Option<u16>) -> &[Handler]
 }
 
 /// How many operands a conditional branch or a switch takes; another operation is neither.
-fn operands(world: &World<'_>, operation: Operation) -> Option<u8>
+pub fn operands(world: &World<'_>, operation: Operation) -> Option<u8>
     ensures { result ≡ operands_of world.now (Ok operation) }
 {
     match operation {
@@ -146,7 +147,7 @@ fn keep_cells(homes: &mut Vec<Home>, slot: u16, place: u16, cells: &[Ty]) -> Res
 
 impl Walk<'_> {
     /// The value of a local at a place that control reaches.
-    fn local(&self, place: u16, x: u16) -> Option<Ty>
+    pub fn local(&self, place: u16, x: u16) -> Option<Ty>
         ensures { result ≡ local_of (frames_of self.now place) x }
     {
         match self.typing.state(place) {
@@ -215,9 +216,10 @@ impl Walk<'_> {
         Ok(())
     }
 
-    /// Keeps what is needed for a local at a place.
+    /// Keeps what is needed for a local at a place: its type there, then those at the handlers that cover it, in the order of
+    /// the table. What is kept already stays as it is.
     #[tactic(auto, unfolding(crate::specs::Walk::with_events, crate::specs::Walk::local_events))]
-    fn keep_local(&self, homes: &mut Vec<Home>, place: u16, x: u16) -> Result<(), AllocError>
+    pub fn keep_local(&self, homes: &mut Vec<Home>, place: u16, x: u16) -> Result<(), AllocError>
         ensures { OnOk result
             (homes.new.items
             ≡ with_events homes.old.items (local_events (frames_of self.now) self.now.rec.now.handlers place x)) }
@@ -245,7 +247,8 @@ impl Walk<'_> {
         self.keep_caught(homes, place, x, handlers)
     }
 
-    fn registers(&self) -> u16
+    /// How many registers the method has.
+    pub fn registers(&self) -> u16
         ensures is { result ≡ register_count self.now.rec.now }
         ensures few { result ≤ 510 }
     {

@@ -1,0 +1,5 @@
+pub mod Steps
+pub mod Copying
+pub mod Leading
+pub mod Targets
+pub mod Subjects
