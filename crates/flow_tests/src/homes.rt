@@ -169,33 +169,45 @@ fn has_too_many(alloc: Global, world: &World<'_>, registers: u32) -> bool
     }
 }
 
-/// Whether a method whose 255 registers are all stored has as many homes.
+/// Some homes of a method whose 255 registers are all stored.
+static FULL: [Row; 3] = [
+    (0, SHORT, Some(0)),
+    (1, SHORT, Some(1)),
+    (254, SHORT, Some(254)),
+];
+
+/// Whether a method of this code has 255 homes.
+fn is_full(alloc: Global, code: &[u8]) -> bool {
+    if code.is_empty() || code.len() > 2000 {
+        return false;
+    }
+    match world(alloc, Shape::Wide, code, &[]) {
+        Ok(world) => has_homes(alloc, &world, 255, &FULL),
+        Err(_) => false,
+    }
+}
+
+/// Whether a method of this code has 256.
+fn is_past_full(alloc: Global, code: &[u8]) -> bool {
+    if code.is_empty() || code.len() > 2000 {
+        return false;
+    }
+    match world(alloc, Shape::Wide, code, &[]) {
+        Ok(world) => has_too_many(alloc, &world, 256),
+        Err(_) => false,
+    }
+}
+
+/// Whether a method that stores all registers has as many homes.
 fn fills_registers(alloc: Global) -> Result<bool, AllocError> {
     let code = stores(alloc, &[28, 120])?;
-    if code.is_empty() || code.len() > 2000 {
-        return Ok(false);
-    }
-    let world = world(alloc, Shape::Wide, code.as_slice(), &[])?;
-    Ok(has_homes(
-        alloc,
-        &world,
-        255,
-        &[
-            (0, SHORT, Some(0)),
-            (1, SHORT, Some(1)),
-            (254, SHORT, Some(254)),
-        ],
-    ))
+    Ok(is_full(alloc, code.as_slice()))
 }
 
 /// Whether it has one too many where one of them has another type too.
 fn passes_registers(alloc: Global) -> Result<bool, AllocError> {
     let code = stores(alloc, &[1, 44, 25, 59, 28, 120])?;
-    if code.is_empty() || code.len() > 2000 {
-        return Ok(false);
-    }
-    let world = world(alloc, Shape::Wide, code.as_slice(), &[])?;
-    Ok(has_too_many(alloc, &world, 256))
+    Ok(is_past_full(alloc, code.as_slice()))
 }
 
 #[test]

@@ -4,6 +4,7 @@ pub mod Meeting
 pub mod OwnRegisters
 pub mod AllHomes
 pub mod Steps
+pub mod Asking
 pub mod Lists
 pub mod Answered
 pub mod Serving
