@@ -24,4 +24,4 @@ rewritten-requires-clause-subject c =
     let bytes : option_map (code_of w.infos) (slice_get w.methods n) ≡ Some code = cc in
     let mo : IsMethodOf w m = of-method w n rec code c.method-rec.ensures.is bytes (IsMethodOf w) c.in-Ok.ensures.known in
     let typed : IsTypingOf w m c.args.typing.now = of-method w n rec code c.method-rec.ensures.is bytes (λ m. IsTypingOf w m c.args.typing.now) c.requires.typing in
-    is-subject _ mo c.method-rec.ensures.links typed.least.typing.formed (c.instructions_are_placed.ensures.listed code)
+    is-subject _ mo c.method-rec.ensures.links typed.least.typing.formed (c.instructions_are_listed.ensures code)
