@@ -6,7 +6,7 @@ use Rattle.jc_base.specs.World.{Linked}
 use Rattle.jc_decode.specs.Listing.{targets}
 use Rattle.jc_control.specs.Method.{Method, IsMethodOf}
 use Rattle.jc_control.specs.WellFormed.{IsWellFormed, IsTargetPlace}
-use Rattle.jc_control.specs.Laws.{AreListed}
+use Rattle.jc_decode.specs.Laws.{AreListed}
 use Rattle.xf_homes.specs.Subject.{walked}
 use Rattle.xf_plan.specs.declared.plan.Plan.{Plan}
 use Rattle.xf_code.specs.Jump.{IsNearBy}

@@ -17,8 +17,8 @@ use crate::moves::put;
 use crate::stub::stubs;
 use cap_bytes::View;
 use jc_base::World;
-use jc_control::{ControlEnd, control_flow, flaws_decide, instructions_are_placed};
-use jc_decode::{Item, Sequence, Symbols};
+use jc_control::{ControlEnd, control_flow, flaws_decide};
+use jc_decode::{Item, Sequence, Symbols, instructions_are_listed};
 use jc_rules::Typing;
 use std::alloc::{AllocError, Global};
 use xf_homes::{Homes, Walk};
@@ -107,7 +107,7 @@ pub fn rewrite<'a>(
     ensures limit { IsSomeAnd (slice_get world.now.methods method)
         (λ m. (result ≡ Err RewriteEnd.StackLimit) ↔ (m.max_stack ≡ 255)) }
 {
-    instructions_are_placed();
+    instructions_are_listed();
     flaws_decide();
     let rec = world.method(method);
     if rec.max_stack == 255 {

@@ -71,3 +71,4 @@ returns-in-Ok-rewritten-clause-size c =
     let flow : IsControlFlow m c.in-Ok.control = of-method w n rec code c.method-rec.ensures.is bytes (λ m. IsControlFlow m c.in-Ok.control) c.in-Ok.ensures.formed in
     to-method w n rec code c.method-rec.ensures.is bytes (λ m. IsPlainSize w m (state_at c.args.typing.now) c.args.homes.now (plain_size c.in-Ok-rewritten.symbols.items))
     (has-size w m (state_at c.args.typing.now) c.args.homes.now c.in-Ok-rewritten.symbols (record { leaders = c.in-Ok.control.leaders; marked = flow.leaders; are = c.in-Ok-rewritten.ensures }))
+    is-subject _ mo c.method-rec.ensures.links typed.least.typing.formed (c.instructions_are_listed.ensures code)
