@@ -15,6 +15,8 @@ since a Descriptor counts the classes of its package in one byte. The methods ar
 8,192 bytes (half: 4,096). That of `waves` grows with the third power: it has 2,048 bytes (half: 1,024).
 `verify` goes over the code once for each target of `branches`, and `rounds` has it do so in each of 255
 passes: it has 4,096 bytes (half: 2,048). Each place of `deep_handlers` takes as many steps as there are handlers, registers and superclasses,
+`stepping` has the most targets, and `indexed` the same code with a target index, which `verify` reads.
+Each place of `deep_handlers` takes as many steps as there are handlers, registers and superclasses,
 multiplied: it has 16 such places (half: 8).
 """
 import os
@@ -28,6 +30,7 @@ POOL = 5000         # entries of a full package: with its fields and methods the
 RETURN = bytes([0x7A])
 ACONST_NULL, ALOAD, ASTORE, SCONST_0, SCONST_1, SLOAD, SSTORE, SADD = 1, 21, 40, 3, 4, 22, 41, 65
 ALOAD_0, ASTORE_0, POP, GOTO, CHECKCAST, IFEQ_W, IFNE_W = 24, 43, 59, 112, 148, 152, 153
+ALOAD_0, ASTORE_0, POP, CHECKCAST, IFEQ, IFEQ_W, IFNE_W = 24, 43, 59, 148, 96, 152, 153
 
 
 def aid(number):
@@ -275,6 +278,21 @@ def rounds(share):
 
 
 SHAPES = [tree, chain, straight, covered, deep_handlers, climbing, waves, branches, rounds]
+def stepping(share):
+    """Every second instruction is a branch to the one after it: no target serves for two places of the code."""
+    code = bytes([SCONST_0, IFEQ, 2]) * ((part(share, 32767) - 1) // 3)
+    return with_method(code + RETURN, 1, 1)
+
+
+def indexed(share):
+    """The same with a target index, which lists the place after each branch."""
+    packages = stepping(share)
+    count = (part(share, 32767) - 1) // 3
+    packages[-1].index = [[3 * n for n in range(1, count + 1)]]
+    return packages
+
+
+SHAPES = [tree, chain, straight, covered, deep_handlers, climbing, waves, stepping, indexed]
 
 
 def make(shape, share, folder):
