@@ -10,3 +10,6 @@ pub mod TwoBytes
 pub mod Stubs
 pub mod Once
 pub mod Numbers
+pub mod Standing
+pub mod Landing
+pub mod Ranged

@@ -21,13 +21,13 @@ use Rattle.xf_code.proofs.Steps.{stands-next, moves-on}
 use Rattle.xf_code.specs.Live.{KeepsLive, none_left, live_kept, dead_left}
 
 -- what is found is the first place of those, or the one after them
-record IsFirst (frames : ℕ → Option Frame) (p n q : ℕ) : Type 0 where
-  from : p ≤ q
-  to : q ≤ p + n
-  there : q < p + n → is_some (frames q) ≡ true
-  none : (r : ℕ) → p ≤ r → r < q → is_some (frames r) ≡ false
+pub record IsFirst (frames : ℕ → Option Frame) (p n q : ℕ) : Type 0 where
+  pub from : p ≤ q
+  pub to : q ≤ p + n
+  pub there : q < p + n → is_some (frames q) ≡ true
+  pub none : (r : ℕ) → p ≤ r → r < q → is_some (frames r) ≡ false
 
-is-first : (frames : ℕ → Option Frame) (p n : ℕ) → IsFirst frames p n (first_of frames p n)
+pub is-first : (frames : ℕ → Option Frame) (p n : ℕ) → IsFirst frames p n (first_of frames p n)
 is-first frames p zero = record { from = omega arith; to = omega arith; there = λ lt. absurd (omega arith); none = λ r le lt. absurd (omega arith) }
 is-first frames p (suc n) = by (is_some (frames p)) refl (is-first frames (suc p) n)
   where

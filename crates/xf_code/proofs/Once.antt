@@ -109,7 +109,7 @@ module _ (s : Source) where
       by-frame None e = absurd (cc)
       by-frame (Some f) e = by-operation (operation s i) is
 
-  named-among : (l : ℕ) → IsLabelOf s l → IsAmong l (labels (items s))
+  pub named-among : (l : ℕ) → IsLabelOf s l → IsAmong l (labels (items s))
   named-among _ (of_place {i = i} st reached) = among-groups i.place (in-flat (group s) (listing s.method.code) i i.place st (in-group s i reached))
   named-among _ of_end = among-rest (length s.method.code) (inl refl)
   named-among _ (of_stub {i = i} {op = op} {n = n} {t = t} k st reached is asks at some) =

@@ -13,7 +13,7 @@ use Rattle.xf_code.specs.Jump.{IsNearBy}
 use Rattle.xf_code.specs.Known.{IsSubject}
 use Rattle.xf_code.proofs.Targets.{few-targets}
 
-code-short : (w : Linked) (m : Method) → IsMethodOf w m → IsMethod w.infos w.pools w.classes m.rec → length m.code ≤ 32767
+pub code-short : (w : Linked) (m : Method) → IsMethodOf w m → IsMethod w.infos w.pools w.classes m.rec → length m.code ≤ 32767
 code-short w m mo method =
     let most : m.rec.code_len ≤ 32767 = by (lacks_code w.classes m.rec) m.rec.code_len method.code in
     let size : length m.code ≡ _ = ap length mo.code ∙ length-take m.rec.code_len _ in

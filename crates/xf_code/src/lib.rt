@@ -19,5 +19,5 @@ mod rewriting;
 mod stub;
 
 pub use edge::Origin;
-pub use laws::labels_stand_once;
+pub use laws::{groups_stand, labels_stand_once, stubs_stand};
 pub use rewriting::{RewriteEnd, rewrite};

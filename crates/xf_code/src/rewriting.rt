@@ -1,10 +1,11 @@
-ghost use Rattle.std.specs.Prelude.{◌≡◌, ◌≤◌, ◌<◌, ◌⊎◌, ◌↔◌, IfOk, IfErr, OnOk, IsSomeAnd, Err, length, slice_get};
+ghost use Rattle.std.specs.Prelude.{◌≡◌, ◌≤◌, ◌<◌, ◌↔◌, All, IfOk, IsSomeAnd, Err, length, slice_get};
 ghost use Rattle.jc_control.specs.Method.{IsMethodOf, method_in};
 ghost use Rattle.jc_rules.specs.Typing.{state_at};
 ghost use Rattle.xf_homes.specs.Answer.{IsTypingOf};
 ghost use Rattle.xf_homes.specs.Order.{AreHomes};
 ghost use Rattle.xf_plan.specs.Subject.{source};
-ghost use Rattle.jc_decode.specs.Symbols.{plain_size};
+ghost use Rattle.jc_decode.specs.Decoding.{AreBytes};
+ghost use Rattle.jc_decode.specs.Symbols.{IsRange, plain_size};
 ghost use Rattle.xf_code.specs.Emission.{IsPlainSize, IsRewritten, items, ranges, rewritten};
 ghost use Rattle.xf_code.specs.Known.{IsSubject};
 ghost use Rattle.xf_code.specs.Live.{KeepsLive};
@@ -82,6 +83,13 @@ fn rewritten(alloc: Global, plan: &Plan<'_>) -> Result<Symbols, AllocError>
     })
 }
 
+/// The items of a list of bytes are bytes: a fact for proofs, and no work.
+fn are_bytes(bytes: &[u8])
+    ensures { AreBytes bytes.now }
+{
+    let _ = bytes;
+}
+
 /// The code of a method with homes in place of its locals, by the typing that `infer` gives for it and the homes that
 /// `homes` gives for that typing.
 pub fn rewrite<'a>(
@@ -99,6 +107,8 @@ pub fn rewrite<'a>(
     // Each live handler has a range, and no other.
     ensures live { IsSomeAnd (method_in world.now method)
         (λ m. IfOk result (λ symbols. KeepsLive m m.rec.handlers symbols.ranges)) }
+    // The ranges are such as `lay` takes.
+    ensures ranged { IfOk result (λ symbols. All (IsRange symbols.items) symbols.ranges) }
     ensures numbers { IsSomeAnd (method_in world.now method)
         (λ m. IfOk result (HasNumbers m.rec homes.now)) }
     ensures size { IsSomeAnd (method_in world.now method)
@@ -118,12 +128,14 @@ pub fn rewrite<'a>(
         Err(ControlEnd::Memory) => return Err(RewriteEnd::Memory),
         Err(ControlEnd::Flawed(_)) => unreachable!(),
     };
+    let code = View::of(world.code(method));
+    are_bytes(code.bytes);
     let plan = Plan {
         walk: Walk {
             world,
             number: method,
             rec,
-            code: View::of(world.code(method)),
+            code,
             typing,
             control: &control,
         },

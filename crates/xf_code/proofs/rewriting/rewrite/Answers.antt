@@ -12,6 +12,7 @@ use Rattle.xf_code.specs.Live.{KeepsLive}
 use Rattle.xf_code.specs.Numbers.{HasNumbers}
 use Rattle.xf_code.proofs.Numbers.{has-numbers, has-size}
 use Rattle.xf_code.proofs.Live.{live-kept-by}
+use Rattle.xf_code.proofs.Ranged.{ranged-by}
 use Rattle.xf_code.proofs.Subjects.{is-subject}
 use Rattle.xf_code.proofs.rewriting.rewrite.Goals as goal
 
@@ -28,7 +29,7 @@ rewritten-requires-clause-subject c =
     let w = c.args.world.now in
     let n = c.args.method in
     let rec = c.method-rec.result.now in
-    let code = c.of.result.bytes.now in
+    let code = c.of-code.result.bytes.now in
     let m : Method = record { number = n; rec = rec; code = code } in
     let bytes : option_map (code_of w.infos) (slice_get w.methods n) ≡ Some code = cc in
     let mo : IsMethodOf w m = of-method w n rec code c.method-rec.ensures.is bytes (IsMethodOf w) c.in-Ok.ensures.known in
@@ -40,7 +41,7 @@ returns-in-Ok-rewritten-clause-live c =
     let w = c.args.world.now in
     let n = c.args.method in
     let rec = c.method-rec.result.now in
-    let code = c.of.result.bytes.now in
+    let code = c.of-code.result.bytes.now in
     let m : Method = record { number = n; rec = rec; code = code } in
     let bytes : option_map (code_of w.infos) (slice_get w.methods n) ≡ Some code = cc in
     let typed : IsTypingOf w m c.args.typing.now = of-method w n rec code c.method-rec.ensures.is bytes (λ m. IsTypingOf w m c.args.typing.now) c.requires.typing in
@@ -52,7 +53,7 @@ returns-in-Ok-rewritten-clause-numbers c =
     let w = c.args.world.now in
     let n = c.args.method in
     let rec = c.method-rec.result.now in
-    let code = c.of.result.bytes.now in
+    let code = c.of-code.result.bytes.now in
     let m : Method = record { number = n; rec = rec; code = code } in
     let bytes : option_map (code_of w.infos) (slice_get w.methods n) ≡ Some code = cc in
     let flow : IsControlFlow m c.in-Ok.control = of-method w n rec code c.method-rec.ensures.is bytes (λ m. IsControlFlow m c.in-Ok.control) c.in-Ok.ensures.formed in
@@ -65,10 +66,24 @@ returns-in-Ok-rewritten-clause-size c =
     let w = c.args.world.now in
     let n = c.args.method in
     let rec = c.method-rec.result.now in
-    let code = c.of.result.bytes.now in
+    let code = c.of-code.result.bytes.now in
     let m : Method = record { number = n; rec = rec; code = code } in
     let bytes : option_map (code_of w.infos) (slice_get w.methods n) ≡ Some code = cc in
     let flow : IsControlFlow m c.in-Ok.control = of-method w n rec code c.method-rec.ensures.is bytes (λ m. IsControlFlow m c.in-Ok.control) c.in-Ok.ensures.formed in
     to-method w n rec code c.method-rec.ensures.is bytes (λ m. IsPlainSize w m (state_at c.args.typing.now) c.args.homes.now (plain_size c.in-Ok-rewritten.symbols.items))
     (has-size w m (state_at c.args.typing.now) c.args.homes.now c.in-Ok-rewritten.symbols (record { leaders = c.in-Ok.control.leaders; marked = flow.leaders; are = c.in-Ok-rewritten.ensures }))
     is-subject _ mo c.method-rec.ensures.links typed.least.typing.formed (c.instructions_are_listed.ensures code)
+
+pub returns-in-Ok-rewritten-clause-ranged : goal.returns-in-Ok-rewritten-clause-ranged
+returns-in-Ok-rewritten-clause-ranged c =
+    let w = c.args.world.now in
+    let n = c.args.method in
+    let rec = c.method-rec.result.now in
+    let code = c.of-code.result.bytes.now in
+    let m : Method = record { number = n; rec = rec; code = code } in
+    let bytes : option_map (code_of w.infos) (slice_get w.methods n) ≡ Some code = cc in
+    let mo : IsMethodOf w m = of-method w n rec code c.method-rec.ensures.is bytes (IsMethodOf w) c.in-Ok.ensures.known in
+    let flow : IsControlFlow m c.in-Ok.control = of-method w n rec code c.method-rec.ensures.is bytes (λ m. IsControlFlow m c.in-Ok.control) c.in-Ok.ensures.formed in
+    let typed : IsTypingOf w m c.args.typing.now = of-method w n rec code c.method-rec.ensures.is bytes (λ m. IsTypingOf w m c.args.typing.now) c.requires.typing in
+    ranged-by w m c.args.typing.now c.in-Ok.control c.args.homes.now typed flow (c.instructions_are_placed.ensures.placed m typed.least.typing.formed) (c.instructions_are_placed.ensures.listed code) mo
+    c.method-rec.ensures.links c.are_bytes.ensures c.in-Ok-rewritten.symbols c.in-Ok-rewritten.ensures
