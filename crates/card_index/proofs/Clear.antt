@@ -7,7 +7,8 @@ use Rattle.jc_decode.specs.declared.insn.Placed.{Placed}
 use Rattle.jc_decode.specs.Listing.{falls, listing, Lists}
 use Rattle.jc_control.specs.Method.{Method, IsMethodOf}
 use Rattle.jc_control.specs.WellFormed.{Stands, IsPlace, IsWellFormed}
-use Rattle.jc_control.specs.Laws.{InstructionsArePlaced, InstructionsAreListed}
+use Rattle.jc_control.specs.Laws.{InstructionsArePlaced}
+use Rattle.jc_decode.specs.Laws.{InstructionsAreListed}
 use Rattle.jc_rules.specs.Laws.{RuleRests}
 use Rattle.card_typing.specs.Place.{IsEntry}
 use Rattle.card_typing.specs.Typing.{IsLeastCardTyping}

@@ -8,7 +8,7 @@ use Rattle.jc_base.proofs.Lists.{slice_get-farther}
 use Rattle.jc_decode.specs.declared.insn.Placed.{Placed}
 use Rattle.jc_decode.specs.Listing.{listing}
 use Rattle.jc_control.specs.WellFormed.{Stands, IsPlace}
-use Rattle.jc_control.specs.Laws.{AreListed}
+use Rattle.jc_decode.specs.Laws.{AreListed}
 use Rattle.card_index.specs.IndexTyping.{IsAscending}
 use Rattle.card_index.specs.Refusal.{IsBadEntry, bad_place, bad_order, IsFirstBadEntry}
 use Rattle.card_index.specs.Seeking.{IsSought, HasNone}

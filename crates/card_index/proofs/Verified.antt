@@ -12,7 +12,8 @@ use Rattle.jc_base.proofs.Lists.{All-slice_get}
 use Rattle.jc_decode.specs.Listing.{listing, listing_end, targets}
 use Rattle.jc_control.specs.Method.{Method, IsMethodOf}
 use Rattle.jc_control.specs.WellFormed.{IsPlace, IsTargetPlace, IsHandlerOf, IsWellFormed}
-use Rattle.jc_control.specs.Laws.{InstructionsArePlaced, InstructionsAreListed}
+use Rattle.jc_control.specs.Laws.{InstructionsArePlaced}
+use Rattle.jc_decode.specs.Laws.{InstructionsAreListed}
 use Rattle.jc_rules.specs.Demand.{Frame}
 use Rattle.jc_rules.specs.Apply.{frame_of}
 use Rattle.jc_rules.specs.Flow.{start_frame}

@@ -8,8 +8,7 @@ ghost use Rattle.card_index.specs.Seeking.{IsSought, HasNone};
 use crate::search::entry;
 use cap_bytes::View;
 use jc_base::{Steps, TargetIndex};
-use jc_control::instructions_are_placed;
-use jc_decode::Instructions;
+use jc_decode::{Instructions, instructions_are_listed};
 use std::sync::ledger::Ledger;
 
 /// The first entry of an index, by its number, at which no instruction begins or which is not above the one before it.
@@ -26,7 +25,7 @@ pub(crate) fn bad_entry<L: Ledger>(
     // Each entry is read once at most.
     ensures cost { steps.new ≤ steps.old + length index.now }
 {
-    instructions_are_placed();
+    instructions_are_listed();
     let mut left = Instructions::of(code);
     let mut least = 0;
     'entries: for k in 0..index.len() {

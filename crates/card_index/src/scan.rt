@@ -8,8 +8,8 @@ ghost use Rattle.card_index.specs.Refusal.{IsListedTarget, LeadsToListed, IsFirs
 use crate::search::is_listed;
 use cap_bytes::View;
 use jc_base::{Steps, TargetIndex};
-use jc_control::{Targets, instructions_are_placed};
-use jc_decode::{Instructions, Placed};
+use jc_control::Targets;
+use jc_decode::{Instructions, Placed, instructions_are_listed};
 use std::sync::ledger::Ledger;
 
 /// A target that an index lacks, and the place of the instruction that leads to it.
@@ -35,7 +35,7 @@ pub(crate) fn first_lacking<L: Ledger>(
         → length index.now < 2 ^ b
         → steps.new ≤ steps.old + sum_by (λ i. length (targets code.entry.bytes.now i)) (listing code.entry.bytes.now) * b }
 {
-    instructions_are_placed();
+    instructions_are_listed();
     'walk: for placed in Instructions::of(code) {
         match first_lacking_of(code, index, placed, steps) {
             Some(target) => return Some(Lacking {

@@ -23,6 +23,7 @@ use card_typing::{CardFault, CardKind, card_laws};
 use card_verify::Verifier;
 use jc_base::{Steps, TargetIndex, Ty, World};
 use jc_control::instructions_are_placed;
+use jc_decode::instructions_are_listed;
 use jc_rules::{rule_laws, rule_raises};
 use std::sync::ledger::Ledger;
 
@@ -172,7 +173,7 @@ impl Indexed<'_, '_> {
             (λ fault.
             (kept : Frame) → IsRefusedOver (world_in self.now) (subject self.now) (listed self.now) fault kept) }
     {
-        instructions_are_placed();
+        instructions_are_listed();
         match self.verifier.check_form() {
             Ok(()) => Err(not_indexed(lacks)),
             Err(fault) => Err(fault),
@@ -224,6 +225,7 @@ impl Indexed<'_, '_> {
         rule_laws(self.verifier.world);
         rule_raises(self.verifier.world);
         instructions_are_placed();
+        instructions_are_listed();
         self.verifier.begin(regs);
         self.settle(regs, stack, steps)
     }

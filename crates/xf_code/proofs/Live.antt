@@ -9,7 +9,7 @@ use Rattle.jc_decode.specs.declared.symbols.Symbols.{Symbols}
 use Rattle.jc_control.specs.Method.{Method}
 use Rattle.jc_control.specs.WellFormed.{IsBoundary, IsHandlerOf, IsWellFormed}
 use Rattle.jc_control.specs.Control.{IsReached, IsLive}
-use Rattle.jc_control.specs.Laws.{AreListed}
+use Rattle.jc_decode.specs.Laws.{AreListed}
 use Rattle.jc_rules.specs.Demand.{Frame}
 use Rattle.jc_rules.specs.Typing.{state_at}
 use Rattle.jc_flow.specs.Infer.{AreReached}

@@ -15,7 +15,8 @@ use Rattle.jc_decode.specs.Decoding.{AreBytes}
 use Rattle.jc_decode.specs.Symbols.{place_of, IsOnce, IsRange}
 use Rattle.jc_control.specs.WellFormed.{IsPlace, IsBoundary, IsHandlerOf, Stands}
 use Rattle.jc_control.specs.ControlFlow.{Marked, IsControlFlow}
-use Rattle.jc_control.specs.Laws.{ArePlaced, AreListed}
+use Rattle.jc_control.specs.Laws.{ArePlaced}
+use Rattle.jc_decode.specs.Laws.{AreListed}
 use Rattle.jc_control.specs.Method.{Method, IsMethodOf}
 use Rattle.jc_control.proofs.Elements.{here-in, contained-in, go-on}
 use Rattle.jc_rules.specs.Demand.{Frame}

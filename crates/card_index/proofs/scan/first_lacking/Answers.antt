@@ -16,7 +16,7 @@ first_lacking_of-requires-clause-decoded g c =
     let code = c.args.code.bytes.now in
     let i = c.in-Some.placed in
     let whole = at-next c.walk.yielded (rest_of c.walk.placed-iterator) i (rest_of c.next.new.self) (listing code) c.walk.invariant.whole c.in-Some.ensures.steps in
-    (c.instructions_are_placed.ensures.listed code).decodes i (contained-in c.walk.yielded i (rest_of c.next.new.self) (listing code) whole)
+    (c.instructions_are_listed.ensures code).decodes i (contained-in c.walk.yielded i (rest_of c.next.new.self) (listing code) whole)
 
 pub returns-in-Some-first_lacking_of-clause-some : goal.returns-in-Some-first_lacking_of-clause-some
 returns-in-Some-first_lacking_of-clause-some g c =

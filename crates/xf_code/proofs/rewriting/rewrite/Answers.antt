@@ -34,7 +34,7 @@ rewritten-requires-clause-subject c =
     let bytes : option_map (code_of w.infos) (slice_get w.methods n) ≡ Some code = cc in
     let mo : IsMethodOf w m = of-method w n rec code c.method-rec.ensures.is bytes (IsMethodOf w) c.in-Ok.ensures.known in
     let typed : IsTypingOf w m c.args.typing.now = of-method w n rec code c.method-rec.ensures.is bytes (λ m. IsTypingOf w m c.args.typing.now) c.requires.typing in
-    is-subject _ mo c.method-rec.ensures.links typed.least.typing.formed (c.instructions_are_placed.ensures.listed code)
+    is-subject _ mo c.method-rec.ensures.links typed.least.typing.formed (c.instructions_are_listed.ensures code)
 
 pub returns-in-Ok-rewritten-clause-live : goal.returns-in-Ok-rewritten-clause-live
 returns-in-Ok-rewritten-clause-live c =
@@ -46,7 +46,7 @@ returns-in-Ok-rewritten-clause-live c =
     let bytes : option_map (code_of w.infos) (slice_get w.methods n) ≡ Some code = cc in
     let typed : IsTypingOf w m c.args.typing.now = of-method w n rec code c.method-rec.ensures.is bytes (λ m. IsTypingOf w m c.args.typing.now) c.requires.typing in
     to-method w n rec code c.method-rec.ensures.is bytes (λ m. KeepsLive m m.rec.handlers c.in-Ok-rewritten.symbols.ranges)
-    (live-kept-by w m c.args.typing.now c.in-Ok.control.leaders c.args.homes.now (c.instructions_are_placed.ensures.listed code) typed.least.typing.formed typed.reached c.in-Ok-rewritten.symbols c.in-Ok-rewritten.ensures)
+    (live-kept-by w m c.args.typing.now c.in-Ok.control.leaders c.args.homes.now (c.instructions_are_listed.ensures code) typed.least.typing.formed typed.reached c.in-Ok-rewritten.symbols c.in-Ok-rewritten.ensures)
 
 pub returns-in-Ok-rewritten-clause-numbers : goal.returns-in-Ok-rewritten-clause-numbers
 returns-in-Ok-rewritten-clause-numbers c =
@@ -72,7 +72,6 @@ returns-in-Ok-rewritten-clause-size c =
     let flow : IsControlFlow m c.in-Ok.control = of-method w n rec code c.method-rec.ensures.is bytes (λ m. IsControlFlow m c.in-Ok.control) c.in-Ok.ensures.formed in
     to-method w n rec code c.method-rec.ensures.is bytes (λ m. IsPlainSize w m (state_at c.args.typing.now) c.args.homes.now (plain_size c.in-Ok-rewritten.symbols.items))
     (has-size w m (state_at c.args.typing.now) c.args.homes.now c.in-Ok-rewritten.symbols (record { leaders = c.in-Ok.control.leaders; marked = flow.leaders; are = c.in-Ok-rewritten.ensures }))
-    is-subject _ mo c.method-rec.ensures.links typed.least.typing.formed (c.instructions_are_listed.ensures code)
 
 pub returns-in-Ok-rewritten-clause-ranged : goal.returns-in-Ok-rewritten-clause-ranged
 returns-in-Ok-rewritten-clause-ranged c =
@@ -85,5 +84,5 @@ returns-in-Ok-rewritten-clause-ranged c =
     let mo : IsMethodOf w m = of-method w n rec code c.method-rec.ensures.is bytes (IsMethodOf w) c.in-Ok.ensures.known in
     let flow : IsControlFlow m c.in-Ok.control = of-method w n rec code c.method-rec.ensures.is bytes (λ m. IsControlFlow m c.in-Ok.control) c.in-Ok.ensures.formed in
     let typed : IsTypingOf w m c.args.typing.now = of-method w n rec code c.method-rec.ensures.is bytes (λ m. IsTypingOf w m c.args.typing.now) c.requires.typing in
-    ranged-by w m c.args.typing.now c.in-Ok.control c.args.homes.now typed flow (c.instructions_are_placed.ensures.placed m typed.least.typing.formed) (c.instructions_are_placed.ensures.listed code) mo
+    ranged-by w m c.args.typing.now c.in-Ok.control c.args.homes.now typed flow (c.instructions_are_placed.ensures m typed.least.typing.formed) (c.instructions_are_listed.ensures code) mo
     c.method-rec.ensures.links c.are_bytes.ensures c.in-Ok-rewritten.symbols c.in-Ok-rewritten.ensures

@@ -20,7 +20,7 @@ settle-requires-clause-indexed g c = record {
     formed = c.requires.formed;
     world = c.rule_laws.ensures.world;
     sound = c.card_laws.ensures.sound;
-    order = c.instructions_are_placed.ensures.listed;
+    order = c.instructions_are_listed.ensures;
   };
   index = c.requires.index;
 }
@@ -34,7 +34,7 @@ pub returns-clause-typing : goal.returns-clause-typing
 returns-clause-typing g c =
     let x = c.args.self.now in
     on-ok (IsFinishedOver x c.settle.new.regs) (HasIndexTyping (world_in x) (subject x) (listed x)) c.settle.result
-    (finished-typing x c.requires.method c.requires.formed c.card_laws.ensures.quiet c.rule_raises.ensures.rests c.instructions_are_placed.ensures.placed c.instructions_are_placed.ensures.listed c.requires.index c.settle.new.regs)
+    (finished-typing x c.requires.method c.requires.formed c.card_laws.ensures.quiet c.rule_raises.ensures.rests c.instructions_are_placed.ensures c.instructions_are_listed.ensures c.requires.index c.settle.new.regs)
     c.settle.ensures.finished
 
 pub returns-clause-least : goal.returns-clause-least
