@@ -34,11 +34,11 @@ pub indexed-typed : (w : Linked) → IndexedIsTyped w
 indexed-typed w m index h = record { regs = h.regs; stacks = h.stacks; typing = h.typing.typing }
 
 -- an index with a bad entry is none
-no-bad : (m : Method) (index : List ℕ) → IsAscending index → All (IsPlace m.code) index → (k : ℕ) → IsBadEntry m.code index k → ⊥
+pub no-bad : (m : Method) (index : List ℕ) → IsAscending index → All (IsPlace m.code) index → (k : ℕ) → IsBadEntry m.code index k → ⊥
 no-bad m index up places _ (bad_place k p at none) = none (All-slice_get (IsPlace m.code) index k p places at)
 no-bad m index up places _ (bad_order k p q at next le) = let lt = up k p q at next in omega (arith, lt, le)
 
-lacking-target : (m : Method) (index : List ℕ) (place q : ℕ) → IsFirstLacking m.code index place (pos q) → IsTarget m q
+pub lacking-target : (m : Method) (index : List ℕ) (place q : ℕ) → IsFirstLacking m.code index place (pos q) → IsTarget m q
 lacking-target m index place q first = record {
   from = first.from;
   stands = contains-at (listing m.code) first.number first.from first.instruction.here;

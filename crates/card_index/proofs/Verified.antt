@@ -18,9 +18,14 @@ use Rattle.jc_rules.specs.Demand.{Frame}
 use Rattle.jc_rules.specs.Apply.{frame_of}
 use Rattle.jc_rules.specs.Flow.{start_frame}
 use Rattle.jc_rules.specs.Laws.{RuleRests}
+use Rattle.jc_control.specs.declared.flaw.Flaw.{Flaw}
+use Rattle.jc_control.specs.declared.flaw.Flaw.TheVariants as flaws
+use Rattle.jc_decode.specs.declared.insn.Placed.{Placed}
 use Rattle.card_typing.specs.declared.fault.CardFault.{CardFault}
+use Rattle.card_typing.specs.declared.fault.CardKind.{CardKind}
 use Rattle.card_typing.specs.Typing.{IsLeastCardTyping}
-use Rattle.card_typing.specs.Laws.{QuietIsLeast}
+use Rattle.card_typing.specs.Laws.{FlawsAreTold, QuietIsLeast}
+use Rattle.card_typing.specs.Refusal.{IsFlawKind, IsWrong, wrong_entry, wrong_room, wrong_target, wrong_rule, wrong_branch, wrong_end, refused_flaw, fault_of}
 use Rattle.card_verify.specs.Answers.{TellsFlaw}
 use Rattle.card_index.specs.declared.indexed.Indexed.{Indexed}
 use Rattle.card_index.specs.declared.scan.Lacking.{Lacking}
@@ -28,10 +33,10 @@ use Rattle.card_index.specs.Bound.{AreCounted, instruction_count, target_count, 
 use Rattle.card_index.specs.Indexed.{subject, world_in, listed}
 use Rattle.card_index.specs.IndexTyping.{IsAscending, IsIndex, HasIndexTyping}
 use Rattle.card_index.specs.Laws.{RefusalDeniesOver}
-use Rattle.card_index.specs.Refusal.{IsListedTarget, LeadsToListed, IsFirstLacking, IsRefusedOver, over_flaw, over_target}
+use Rattle.card_index.specs.Refusal.{IsListedTarget, LeadsToListed, IsFirstLacking, IsFormKind, IsWrongOver, wrong_anyway, wrong_listed_entry, wrong_listed_stack, IsRefusedOver, over_flaw, over_entry, over_target, over_state}
 use Rattle.card_index.specs.Walk.{IsFinishedOver, IsPlaceNumber, IsNotIndexed}
 use Rattle.card_index.proofs.Clear.{plain, index-typing}
-use Rattle.card_index.proofs.Denying.{contains-at}
+use Rattle.card_index.proofs.Denying.{contains-at, no-bad, lacking-target}
 use Rattle.card_index.proofs.Costs.{grow, most-rises, whole-bound}
 
 -- ---- the form of the method and the index
@@ -90,6 +95,36 @@ module _ (w : Linked) (m : Method) (index : List ℕ) where
   pub none-over : (regs stack : List Ty) (r : Result (Unit {0}) CardFault) → RefusalDeniesOver w → IsMethodOf w m → IfErr r (λ (fault : CardFault). IsRefusedOver w m index fault (frame_of regs stack fault.depth)) → OnErr r (¬ (HasIndexTyping w m index))
   none-over regs stack (Ok t) denies mo h = tt
   none-over regs stack (Err fault) denies mo h = denies m index fault (frame_of regs stack fault.depth) mo h
+
+  -- where the method is well formed and the index is one of it, no refusal tells its form
+  wrong-never : (i : Placed) (before : Frame) (kind : CardKind) (kept : Frame) → IsWrong w m i before kind kept → ¬ (IsFormKind kind)
+  wrong-never i before _ _ (wrong_entry e f) h = h
+  wrong-never i before _ _ (wrong_room e f n) h = h
+  wrong-never i before _ _ (wrong_target f t n d) h = h
+  wrong-never i before _ _ (wrong_rule fault s r) h = h
+  wrong-never i before _ _ (wrong_branch after o s a j d) h = h
+  wrong-never i before _ _ (wrong_end after o s a j f e) h = h
+
+  over-never : (i : Placed) (before : Frame) (kind : CardKind) (kept : Frame) → IsWrongOver w m index i before kind kept → ¬ (IsFormKind kind)
+  over-never i before _ _ (wrong_anyway kind kept wrong) h = wrong-never i before kind kept wrong h
+  over-never i before _ _ (wrong_listed_entry e l) h = h
+  over-never i before _ _ (wrong_listed_stack f l n d) h = h
+
+  told-flaw : (flaw : Flaw) → IsFlawKind (fault_of flaw).kind
+  told-flaw (flaws.Code place end) = tt
+  told-flaw (flaws.BadTarget place target) = tt
+  told-flaw (flaws.BadHandler entry number) = tt
+
+  form-never : (fault : CardFault) (kept : Frame) → FlawsAreTold w → IsWellFormed m → IsIndex m index → IsRefusedOver w m index fault kept → ¬ (IsFormKind fault.kind)
+  form-never _ _ told formed whole (over_flaw flaw kept first) h = (told m (fault_of flaw) kept (refused_flaw flaw kept first)).0 (told-flaw flaw) formed
+  form-never _ _ told formed whole (over_entry k kept f first) h = no-bad m index whole.ascending whole.places k first.bad
+  form-never _ _ told formed whole (over_target place q kept f up places first) h = first.lacks.fails (whole.complete q (lacking-target m index place q first))
+  form-never _ _ told formed whole (over_state i before kept kind f is there met wrong) h = over-never i before kind kept wrong h
+
+  pub kept-over : (regs stack : List Ty) (r : Result (Unit {0}) CardFault) (P : Type 0) → FlawsAreTold w → IsWellFormed m → IsIndex m index → IfErr r (λ (fault : CardFault). IsRefusedOver w m index fault (frame_of regs stack fault.depth))
+      → IfErr r (λ (fault : CardFault). IsFormKind fault.kind → P)
+  kept-over regs stack (Ok t) P told formed whole h = tt
+  kept-over regs stack (Err fault) P told formed whole h = λ k. absurd (form-never fault (frame_of regs stack fault.depth) told formed whole h k)
 
   -- ---- the bound
 

@@ -1,5 +1,5 @@
 -- Why the verifier on the card refuses a method over a target index (Leroy 2002, section 3).
-use Rattle.std.specs.Prelude.{◌≡◌, ◌≢◌, ℕ, ℤ, pos, negsuc, ◌+◌, ◌<◌, ◌≤◌, List, [], Some, All, slice_get, Contains}
+use Rattle.std.specs.Prelude.{◌≡◌, ◌≢◌, ℕ, ℤ, pos, negsuc, ◌+◌, ◌<◌, ◌≤◌, List, [], Some, All, slice_get, Contains, ⊤}
 use Rattle.jc_base.specs.World.{Linked}
 use Rattle.jc_decode.specs.declared.insn.Placed.{Placed}
 use Rattle.jc_decode.specs.Listing.{listing, targets}
@@ -11,7 +11,7 @@ use Rattle.jc_control.specs.declared.flaw.Flaw.{Flaw}
 use Rattle.jc_rules.specs.Demand.{Frame}
 use Rattle.card_typing.specs.declared.fault.CardFault.{CardFault}
 use Rattle.card_typing.specs.declared.fault.CardKind.{CardKind}
-use Rattle.card_typing.specs.declared.fault.CardKind.TheVariants.{StackAtTarget, HandlerEntered, BadIndex, NotIndexed}
+use Rattle.card_typing.specs.declared.fault.CardKind.TheVariants.{Code, StackAtTarget, HandlerEntered, BadTarget, BadHandler, BadIndex, NotIndexed}
 use Rattle.card_typing.specs.Place.{IsEntry, IsFallenInto}
 use Rattle.card_typing.specs.Met.{IsMet}
 use Rattle.card_typing.specs.Refusal.{IsWrong, fault_of, fault_at}
@@ -59,6 +59,15 @@ pub data IsWrongOver (w : Linked) (m : Method) (index : List ℕ) (i : Placed) (
       → IsFallenInto m i.place
       → before.stack ≢ []
       → IsWrongOver w m index i before StackAtTarget before
+
+-- the refusals that tell what is wrong with the form of the method or with the index, and none of a state
+abbrev pub IsFormKind : CardKind → Type 0
+IsFormKind (Code end) = ⊤
+IsFormKind (BadTarget target) = ⊤
+IsFormKind (BadHandler number) = ⊤
+IsFormKind (BadIndex entry) = ⊤
+IsFormKind (NotIndexed target) = ⊤
+IsFormKind _ = ⊥
 
 -- the reasons to refuse a method over an index, in the order in which they are looked for: its first flaw; the first bad
 -- entry of the index; the first target that it lacks; or what is wrong with a met state

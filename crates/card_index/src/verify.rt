@@ -10,7 +10,7 @@ ghost use Rattle.card_verify.specs.Walk.{HasSlices, IsBegun};
 ghost use Rattle.card_index.specs.Bound.{AreCounted, instruction_count, target_count, most_passes, step_bound};
 ghost use Rattle.card_index.specs.Indexed.{subject, world_in, listed};
 ghost use Rattle.card_index.specs.IndexTyping.{IsAscending, IsIndex, HasIndexTyping};
-ghost use Rattle.card_index.specs.Refusal.{IsFirstBadEntry, IsFirstLacking, LeadsToListed, IsRefusedOver};
+ghost use Rattle.card_index.specs.Refusal.{IsFirstBadEntry, IsFirstLacking, LeadsToListed, IsFormKind, IsRefusedOver};
 ghost use Rattle.card_index.specs.Walk.{IsIndexed, IsFinishedOver, IsPlaceNumber, IsNotIndexed};
 
 use crate::form::is_rest_formed;
@@ -53,6 +53,8 @@ pub fn verify_indexed<L: Ledger>(
         (λ m.
         IfErr result
         (λ fault. IsRefusedOver world.now m index.now fault (frame_of regs.new stack.new fault.depth))) }
+    // Where no state is at fault, nothing has changed.
+    ensures as_before { IfErr result (λ fault. IsFormKind fault.kind → (regs.new ≡ regs.old) × (stack.new ≡ stack.old)) }
     // What is applied is counted.
     ensures counted { IsSomeAnd (method_in world.now method) (λ m. OnOk result (AreCounted m regs.new steps.old steps.new)) }
     // Whatever the index lists, there are no more steps than this.
@@ -91,11 +93,13 @@ impl Indexed<'_, '_> {
             (λ fault.
             IsRefusedOver (world_in self.now) (subject self.now) (listed self.now) fault
             (frame_of regs.new stack.new fault.depth)) }
+        ensures as_before { IfErr result (λ fault. IsFormKind fault.kind → (regs.new ≡ regs.old) × (stack.new ≡ stack.old)) }
         ensures counted { OnOk result (AreCounted (subject self.now) regs.new steps.old steps.new) }
         ensures cost { (b : ℕ)
             → length (listed self.now) < 2 ^ b
             → steps.new ≤ steps.old + step_bound (world_in self.now) (subject self.now) (length (listed self.now)) b }
     {
+        card_laws(self.verifier.world);
         index_laws(self.verifier.world);
         match self.check(steps) {
             Ok(()) => self.verify_types(regs, stack, steps),

@@ -1,7 +1,7 @@
-use Rattle.std.proofs.Common.{arith}
+use Rattle.std.proofs.Common.{refl, arith}
 use Rattle.jc_rules.specs.Apply.{frame_of}
 use Rattle.card_index.specs.Indexed.{subject, world_in, listed}
-use Rattle.card_index.proofs.Verified.{none-over, bound-whole, counted-sooner}
+use Rattle.card_index.proofs.Verified.{none-over, kept-over, bound-whole, counted-sooner}
 use Rattle.card_index.proofs.indexed.Indexed.verify.Goals as goal
 
 pub returns-in-Ok-clause-none : goal.returns-in-Ok-clause-none
@@ -31,3 +31,11 @@ returns-in-Err-clause-cost g c = λ b lt.
 pub returns-in-Ok-clause-counted : goal.returns-in-Ok-clause-counted
 returns-in-Ok-clause-counted g c =
     counted-sooner (subject c.args.self.now) c.verify_types.new.regs c.args.steps.now c.check.new.steps c.verify_types.new.steps c.verify_types.result c.check.ensures.forward c.verify_types.ensures.counted
+
+pub returns-in-Ok-clause-as_before : goal.returns-in-Ok-clause-as_before
+returns-in-Ok-clause-as_before g c =
+    let x = c.args.self.now in
+    kept-over (world_in x) (subject x) (listed x) c.verify_types.new.regs c.verify_types.new.stack c.verify_types.result _ c.card_laws.ensures.told c.in-Ok.ensures.formed c.in-Ok.ensures.index c.verify_types.ensures.refused
+
+pub returns-in-Err-clause-as_before : goal.returns-in-Err-clause-as_before
+returns-in-Err-clause-as_before g c = λ h. (refl, refl)
