@@ -21,6 +21,7 @@ settle-requires-clause-indexed g c = record {
     world = c.rule_laws.ensures.world;
     sound = c.card_laws.ensures.sound;
     order = c.instructions_are_listed.ensures;
+    records = c.card_laws.ensures.records;
   };
   index = c.requires.index;
 }
