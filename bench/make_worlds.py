@@ -13,9 +13,10 @@ The worlds have 16 packages (half: 8), with all the classes that 16 packages can
 since a Descriptor counts the classes of its package in one byte. The methods are of 32,767 bytes (half:
 16,383), but for four shapes. The time of `climbing` grows with the square of its length, or more: it has
 8,192 bytes (half: 4,096). That of `waves` grows with the third power: it has 2,048 bytes (half: 1,024).
-`verify` goes over the code once for each target of `branches`, and `rounds` has it do so in each of 255
-passes: it has 4,096 bytes (half: 2,048). Each place of `deep_handlers` takes as many steps as there are handlers, registers and superclasses,
-multiplied: it has 16 such places (half: 8).
+`verify` goes over the code once for each target of `branches`, but not of `indexed`, the same code with a
+target index; and `rounds` has it do so in each of 255 passes: it has 4,096 bytes (half: 2,048). Each place of
+`deep_handlers` takes as many steps as there are handlers, registers and superclasses, multiplied: it has 16
+such places (half: 8).
 """
 import os
 
@@ -264,8 +265,15 @@ def branches(share):
     return with_method(to_next((size - 1) // 2) + RETURN, 0, 1)
 
 
+def indexed(share):
+    """The same with a target index, which lists the place after each branch."""
+    packages = branches(share)
+    packages[-1].index = [[2 * n for n in range(1, (part(share, 32767) - 1) // 2 + 1)]]
+    return packages
+
+
 def rounds(share):
-    """The same after moves of each register to the next, the last first: a class that comes to register 0 in the
+    """The code of `branches` after moves of each register to the next, the last first: a class that comes to register 0 in the
     first pass goes on by one register in each pass."""
     size, registers = part(share, 4096), part(share, 255)
     code = b"".join(bytes([ACONST_NULL, ASTORE, x]) for x in range(registers))
@@ -274,7 +282,7 @@ def rounds(share):
     return with_method(code + to_next((size - 1 - len(code)) // 2) + RETURN, 1, 1)
 
 
-SHAPES = [tree, chain, straight, covered, deep_handlers, climbing, waves, branches, rounds]
+SHAPES = [tree, chain, straight, covered, deep_handlers, climbing, waves, branches, rounds, indexed]
 
 
 def make(shape, share, folder):

@@ -74,7 +74,7 @@ module _ (w : Linked) (m : Method) where
 
 module _ (w : Linked) (m : Method) (regs : List Ty) where
   -- the stack that the pass has at a place
-  pub stack-in : (b : Bool) (given : List Ty) (is : List Placed) → IsQuiet w m regs b given is → ℕ → List Ty
+  unfoldable pub stack-in : (b : Bool) (given : List Ty) (is : List Placed) → IsQuiet w m regs b given is → ℕ → List Ty
   stack-in _ _ _ (quiet_end b given) q = []
   stack-in _ _ _ (quiet_more b given stack after o i is a p u) q = if q == i.place then stack else stack-in (falls i.insn.op) after is u q
 

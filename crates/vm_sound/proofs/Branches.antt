@@ -12,7 +12,7 @@ use Rattle.jc_decode.specs.Cases.{cases}
 use Rattle.jc_decode.specs.Listing.{jumps, target, targets}
 use Rattle.jc_control.specs.WellFormed.{IsTargetPlace}
 use Rattle.jc_control.specs.Control.{jumped}
-use Rattle.jc_control.proofs.Elements.{Contains-first, Contains-later}
+use Rattle.jc_decode.proofs.Elements.{Contains-first, Contains-later}
 use Rattle.jc_ops.specs.declared.operation.Width.{Width}
 use Rattle.jc_ops.specs.declared.operation.Width.TheVariants as widths
 use Rattle.jc_ops.specs.declared.operation.Branch.{Branch}

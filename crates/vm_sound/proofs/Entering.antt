@@ -14,6 +14,7 @@ use Rattle.jc_base.specs.World.{Linked, IsWorld, code_of}
 use Rattle.jc_base.proofs.Lists.{All-slice_get}
 use Rattle.jc_control.specs.Method.{Method, IsMethodOf, method_with}
 use Rattle.jc_control.specs.Control.{begins}
+use Rattle.jc_decode.proofs.Listed.{all-are-listed}
 use Rattle.jc_control.proofs.Closing.{instructions-are-placed}
 use Rattle.jc_control.proofs.Elements.{drop-here}
 use Rattle.jc_rules.specs.Demand.{Frame as Types, AllHold}
@@ -100,7 +101,7 @@ module _ (w : Linked) (world : IsWorld w) where
         let method : Method = method_with w n m in
         let code = has-code n m is lacks in
         let typing : HasFlowTyping w method unset = typings method code in
-        let placed = (instructions-are-placed method typing.typing.formed).first code.filled in
+        let placed = (instructions-are-placed all-are-listed method typing.typing.formed).first code.filled in
         let at = place-instruction (code_of w.infos m) 0 placed in
         let f : Frame Cell = entered tagged w.methods n args in
         let exact : Types = types_in w.classes unset ks f in

@@ -9,6 +9,7 @@ use Rattle.jc_base.specs.declared.ty.Ty.{Ty}
 use Rattle.jc_base.specs.declared.record.MethodRec.{MethodRec}
 use Rattle.jc_base.specs.World.{Linked, code_of}
 use Rattle.jc_control.specs.Method.{method_with}
+use Rattle.jc_decode.proofs.Listed.{all-are-listed}
 use Rattle.jc_control.proofs.Listed.{place-inside}
 use Rattle.jc_rules.specs.Demand.{Frame as Types}
 use Rattle.jc_rules.specs.Effect.{listed}
@@ -90,7 +91,7 @@ module _ (w : Linked) (unset : Ty) where
       (some-both (FrameBelow w.classes exact) (IsFit m) (st.frames f.place) typed.below (st.typing.fit f.place st.reached)) in
       let same : length f.stack ≡ length both.0.stack =
       sym (length-map f.stack (least_type w.classes unset ks)) ∙ cells-length w.classes both.2.0.stack in
-      let inside : f.place < length (code_of w.infos st.rec) = place-inside (code_of w.infos st.rec) f.place (st.instruction, there.stands, there.at) in
+      let inside : f.place < length (code_of w.infos st.rec) = place-inside (code_of w.infos st.rec) (all-are-listed (code_of w.infos st.rec)) f.place (st.instruction, there.stands, there.at) in
       record {
         room = subst (λ n. length f.stack ≤ n) (sym (stack-is f.method st.rec st.is_method)) (subst (λ n. n ≤ st.rec.max_stack) (sym same) both.2.1.room);
         inside = subst (λ (code : List ℕ). f.place < length code) (sym (code-is f.method st.rec st.is_method)) inside;

@@ -17,6 +17,7 @@ use Rattle.jc_decode.specs.Listing.{targets}
 use Rattle.jc_control.specs.Method.{method_with}
 use Rattle.jc_control.specs.WellFormed.{IsPlace, IsTargetPlace}
 use Rattle.jc_control.specs.Control.{IsSuccessor, falls_through, jumped, IsReached, follows}
+use Rattle.jc_decode.proofs.Listed.{all-are-listed}
 use Rattle.jc_control.proofs.Closing.{instructions-are-placed}
 use Rattle.jc_ops.specs.declared.operation.Operation.{Operation}
 use Rattle.jc_ops.specs.Resolve.{Resolves}
@@ -126,7 +127,7 @@ module _ (w : Linked) (world : IsWorld w) (unset : Ty) where
 
     successor-place : {q : ℕ} → IsSuccessor (code_of w.infos st.rec) st.instruction q → IsPlace (code_of w.infos st.rec) q
     successor-place (falls_through goes) =
-        let next = (instructions-are-placed (method_with w f.method st.rec) st.typing.formed).next st.instruction at-instruction.stands in
+        let next = (instructions-are-placed all-are-listed (method_with w f.method st.rec) st.typing.formed).next st.instruction at-instruction.stands in
         let inside = st.typing.stays st.instruction at-instruction.stands instruction-reached goes in
         ⊎_elim (λ end. absurd (omega (arith, end, inside))) (λ here. here) next
     successor-place (jumped {q = q} leads) =

@@ -68,17 +68,23 @@ first_types = refl
 
 -- a caller has an int under the result that it is given
 waiting_types :
-    (types_with world.classes Bottom [] (Some Short) (record { method = 0; place = 0; registers = cells.Empty ∷ []; stack = cells.Low 2 ∷ cells.High 1 ∷ [] })).stack
+    (types_with world.classes Bottom [] (Some Short)
+    (record { method = 0; place = 0; registers = cells.Empty ∷ []; stack = cells.Low 2 ∷ cells.High 1 ∷ [] })).stack
     ≡ Short ∷ IntLow ∷ IntHigh ∷ []
 waiting_types = refl
 
 -- the first instruction makes an object of class 0, the second none
 new_told : class_made world maker 0 ≡ Some 0
-unfolding instruction_at listing listing_from at_most decoded layout_of opcode row_at table by_sort by_width by_kind first_four by_register literals binary orders_all branching unused is_concrete is_interface chain chain_over parent_of package_of public_of visible_of visible_in nearest_of
+unfolding
+    instruction_at listing listing_from at_most decoded layout_of opcode row_at table by_sort by_width by_kind first_four by_register
+    literals binary orders_all branching unused is_concrete is_interface
+    chain chain_over parent_of package_of public_of visible_of visible_in nearest_of
 new_told = refl
 
 none_told : class_made world maker 3 ≡ None
-unfolding instruction_at listing listing_from at_most decoded layout_of opcode row_at table by_sort by_width by_kind first_four by_register literals binary orders_all branching unused
+unfolding
+    instruction_at listing listing_from at_most decoded layout_of opcode row_at table by_sort by_width by_kind first_four by_register
+    literals binary orders_all branching unused
 none_told = refl
 
 -- the halves of an int take two cells

@@ -10,7 +10,6 @@ use Rattle.jc_decode.specs.declared.layout.Layout.{Layout}
 use Rattle.jc_decode.specs.declared.layout.Cases.{Cases}
 use Rattle.jc_decode.specs.declared.layout.Cases.TheVariants.{Range, Pairs}
 use Rattle.jc_decode.specs.declared.layout.Cases.TheVariants.{Absent as NoCases}
-use Rattle.jc_decode.specs.Decoding.{decoded}
 use Rattle.jc_decode.specs.Layout.{layout_of, total_width}
 use Rattle.jc_decode.specs.Cases.{cases, cases_in, cases_by, is_table, has_cases, is_switch}
 use Rattle.jc_decode.specs.Listing.{is_branch, jumps, target, targets}
@@ -52,11 +51,12 @@ case-target code at i n c h =
     rw jump (slice_get-map (λ (x : Case). target at x.offset) (cases code at i) n ∙ ap (option_map (λ (x : Case). target at x.offset)) h)
 
 -- there are no more than 65,536
-pub few-cases : (code : List ℕ) (at : ℕ) (i : Insn) → length code ≤ 65535 → decoded code at ≡ Ok i → (n : ℕ) → 65536 ≤ n → slice_get (cases code at i) n ≡ None
-few-cases code at i short d n past = none (slice_get (cases code at i) n) refl
+pub few-cases : (code : List ℕ) (at : ℕ) (i : Insn) → length code ≤ 65535
+    → length (targets code (record { place = at; insn = i })) ≤ length code + 1 → (n : ℕ) → 65536 ≤ n → slice_get (cases code at i) n ≡ None
+few-cases code at i short few_targets n past = none (slice_get (cases code at i) n) refl
   where
     none : (o : Option Case) → slice_get (cases code at i) n ≡ o → o ≡ None
     none None h = refl
     none (Some c) h =
-        let few : suc n < 65536 = target-number code (record { place = at; insn = i }) (suc n) (target at c.offset) short d (case-target code at i n c h) in
+        let few : suc n < 65536 = target-number code (record { place = at; insn = i }) (suc n) (target at c.offset) short few_targets (case-target code at i n c h) in
         absurd (omega (arith, few, past))

@@ -7,7 +7,7 @@ ghost use Rattle.vm_step.specs.Branching.{has_key, case_offset};
 
 use crate::number::{int_on, short_on};
 use cap_bytes::View;
-use jc_decode::{Case, Insn, case};
+use jc_decode::{Case, Insn, case, targets_are_few};
 use jc_ops::Width;
 use vm_store::Store;
 
@@ -30,6 +30,7 @@ fn find_case(code: View<'_>, place: u16, insn: Insn, key: i32) -> Option<Case>
     requires decoded { decoded code.bytes.now place ≡ Ok insn }
     ensures { result ≡ find (has_key key) (cases code.entry.bytes.now place insn) }
 {
+    targets_are_few();
     'cases: for n in 0..65536_u32 {
         match case(code, place, insn, n) {
             Some(case) => {

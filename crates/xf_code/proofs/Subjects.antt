@@ -6,14 +6,14 @@ use Rattle.jc_base.specs.World.{Linked}
 use Rattle.jc_decode.specs.Listing.{targets}
 use Rattle.jc_control.specs.Method.{Method, IsMethodOf}
 use Rattle.jc_control.specs.WellFormed.{IsWellFormed, IsTargetPlace}
-use Rattle.jc_control.specs.Laws.{AreListed}
+use Rattle.jc_decode.specs.Laws.{AreListed}
 use Rattle.xf_homes.specs.Subject.{walked}
 use Rattle.xf_plan.specs.declared.plan.Plan.{Plan}
 use Rattle.xf_code.specs.Jump.{IsNearBy}
 use Rattle.xf_code.specs.Known.{IsSubject}
 use Rattle.xf_code.proofs.Targets.{few-targets}
 
-code-short : (w : Linked) (m : Method) → IsMethodOf w m → IsMethod w.infos w.pools w.classes m.rec → length m.code ≤ 32767
+pub code-short : (w : Linked) (m : Method) → IsMethodOf w m → IsMethod w.infos w.pools w.classes m.rec → length m.code ≤ 32767
 code-short w m mo method =
     let most : m.rec.code_len ≤ 32767 = by (lacks_code w.classes m.rec) m.rec.code_len method.code in
     let size : length m.code ≡ _ = ap length mo.code ∙ length-take m.rec.code_len _ in

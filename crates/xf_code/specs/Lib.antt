@@ -4,3 +4,6 @@ pub mod Jump
 pub mod Group
 pub mod Known
 pub mod Emission
+pub mod Live
+pub mod Numbers
+pub mod Laws

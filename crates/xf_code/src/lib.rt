@@ -13,9 +13,11 @@ mod field;
 mod group;
 mod handlers;
 mod jump;
+mod laws;
 mod moves;
 mod rewriting;
 mod stub;
 
 pub use edge::Origin;
+pub use laws::{groups_stand, labels_stand_once, stubs_stand};
 pub use rewriting::{RewriteEnd, rewrite};

@@ -1,11 +1,15 @@
-ghost use Rattle.std.specs.Prelude.{◌≡◌, ◌≤◌, ◌<◌, ◌⊎◌, ◌↔◌, IfOk, IfErr, OnOk, IsSomeAnd, Err, length, slice_get};
+ghost use Rattle.std.specs.Prelude.{◌≡◌, ◌≤◌, ◌<◌, ◌↔◌, All, IfOk, IsSomeAnd, Err, length, slice_get};
 ghost use Rattle.jc_control.specs.Method.{IsMethodOf, method_in};
 ghost use Rattle.jc_rules.specs.Typing.{state_at};
 ghost use Rattle.xf_homes.specs.Answer.{IsTypingOf};
 ghost use Rattle.xf_homes.specs.Order.{AreHomes};
 ghost use Rattle.xf_plan.specs.Subject.{source};
-ghost use Rattle.xf_code.specs.Emission.{IsRewritten, items, ranges, rewritten};
+ghost use Rattle.jc_decode.specs.Decoding.{AreBytes};
+ghost use Rattle.jc_decode.specs.Symbols.{IsRange, plain_size};
+ghost use Rattle.xf_code.specs.Emission.{IsPlainSize, IsRewritten, items, ranges, rewritten};
 ghost use Rattle.xf_code.specs.Known.{IsSubject};
+ghost use Rattle.xf_code.specs.Live.{KeepsLive};
+ghost use Rattle.xf_code.specs.Numbers.{HasNumbers};
 
 use crate::edge::{Origin, Scratch, copies};
 use crate::group::groups;
@@ -14,8 +18,8 @@ use crate::moves::put;
 use crate::stub::stubs;
 use cap_bytes::View;
 use jc_base::World;
-use jc_control::{ControlEnd, control_flow, flaws_decide, instructions_are_placed};
-use jc_decode::{Item, Sequence, Symbols};
+use jc_control::{ControlEnd, control_flow, flaws_decide};
+use jc_decode::{Item, Sequence, Symbols, instructions_are_listed};
 use jc_rules::Typing;
 use std::alloc::{AllocError, Global};
 use xf_homes::{Homes, Walk};
@@ -79,6 +83,13 @@ fn rewritten(alloc: Global, plan: &Plan<'_>) -> Result<Symbols, AllocError>
     })
 }
 
+/// The items of a list of bytes are bytes: a fact for proofs, and no work.
+fn are_bytes(bytes: &[u8])
+    ensures { AreBytes bytes.now }
+{
+    let _ = bytes;
+}
+
 /// The code of a method with homes in place of its locals, by the typing that `infer` gives for it and the homes that
 /// `homes` gives for that typing.
 pub fn rewrite<'a>(
@@ -93,10 +104,20 @@ pub fn rewrite<'a>(
     requires homes { IsSomeAnd (method_in world.now method) (λ m. AreHomes world.now m (state_at typing.now) homes.now) }
     ensures symbols { IsSomeAnd (method_in world.now method)
         (λ m. IfOk result (IsRewritten world.now m (state_at typing.now) homes.now)) }
+    // Each live handler has a range, and no other.
+    ensures live { IsSomeAnd (method_in world.now method)
+        (λ m. IfOk result (λ symbols. KeepsLive m m.rec.handlers symbols.ranges)) }
+    // The ranges are such as `lay` takes.
+    ensures ranged { IfOk result (λ symbols. All (IsRange symbols.items) symbols.ranges) }
+    ensures numbers { IsSomeAnd (method_in world.now method)
+        (λ m. IfOk result (HasNumbers m.rec homes.now)) }
+    ensures size { IsSomeAnd (method_in world.now method)
+        (λ m. IfOk result (λ symbols.
+        IsPlainSize world.now m (state_at typing.now) homes.now (plain_size symbols.items))) }
     ensures limit { IsSomeAnd (slice_get world.now.methods method)
         (λ m. (result ≡ Err RewriteEnd.StackLimit) ↔ (m.max_stack ≡ 255)) }
 {
-    instructions_are_placed();
+    instructions_are_listed();
     flaws_decide();
     let rec = world.method(method);
     if rec.max_stack == 255 {
@@ -107,12 +128,14 @@ pub fn rewrite<'a>(
         Err(ControlEnd::Memory) => return Err(RewriteEnd::Memory),
         Err(ControlEnd::Flawed(_)) => unreachable!(),
     };
+    let code = View::of(world.code(method));
+    are_bytes(code.bytes);
     let plan = Plan {
         walk: Walk {
             world,
             number: method,
             rec,
-            code: View::of(world.code(method)),
+            code,
             typing,
             control: &control,
         },

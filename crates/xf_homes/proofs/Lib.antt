@@ -9,3 +9,4 @@ pub mod Lists
 pub mod Answered
 pub mod Serving
 pub mod OneList
+pub mod Needed

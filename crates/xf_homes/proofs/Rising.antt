@@ -66,7 +66,7 @@ module _ (frames : ℕ → Option Frame) (handlers : List Handler) (p : ℕ) whe
     caught-rising x (suc n) hs,
   )
 
-  local-rising : (x : ℕ) → Rising (local_events frames handlers p x)
+  pub local-rising : (x : ℕ) → Rising (local_events frames handlers p x)
   unfolding local_events
   local-rising x = (
     each-map (IsOfLocal p x 1) (λ k. ComesBefore (record { place = p; slot = x; time = 0 }) k.spot) (later-time x 0) (caught_events frames p x 0 handlers)
