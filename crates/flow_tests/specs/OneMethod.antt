@@ -60,7 +60,16 @@ only_method shape len handlers = record {
 }
 
 abbrev pub object_class : ClassRec
-object_class = record { «package» = 0; interface = false; parent = None; cells = 0; own = []; implements = []; public = []; visible = [] }
+object_class = record {
+  «package» = 0;
+  interface = false;
+  parent = None;
+  cells = 0;
+  own = [];
+  implements = [];
+  public = [];
+  visible = [];
+}
 
 abbrev pub throwable_class : ClassRec
 throwable_class = record {
@@ -91,7 +100,10 @@ abbrev pub own_cells : List Ty
 own_cells = Short ∷ IntHigh ∷ IntLow ∷ Class 0 ∷ []
 
 abbrev pub classes : ClassTable
-classes = record { records = object_class ∷ throwable_class ∷ thrown_class own_cells ∷ thrown_class [] ∷ []; roles = 0 ∷ 1 ∷ 1 ∷ 1 ∷ 1 ∷ 1 ∷ 1 ∷ 1 ∷ [] }
+classes = record {
+  records = object_class ∷ throwable_class ∷ thrown_class own_cells ∷ thrown_class [] ∷ [];
+  roles = 0 ∷ 1 ∷ 1 ∷ 1 ∷ 1 ∷ 1 ∷ 1 ∷ 1 ∷ [];
+}
 
 -- the code is the whole Method info
 abbrev pub sample : Shape → List ℕ → List Handler → Linked
