@@ -15,8 +15,8 @@ use Rattle.jc_base.proofs.Lists.{All-slice_get}
 use Rattle.jc_decode.specs.declared.insn.Placed.{Placed}
 use Rattle.jc_decode.specs.Decoding.{decoded}
 use Rattle.jc_decode.specs.Listing.{listing}
-use Rattle.jc_control.proofs.Elements.{Contains-first, Contains-later}
-use Rattle.jc_control.proofs.Listed.{decoded-Stands}
+use Rattle.jc_decode.proofs.Elements.{Contains-first, Contains-later}
+use Rattle.jc_decode.proofs.Listed.{all-are-listed}
 use Rattle.jc_ops.specs.declared.operation.Operation.{Operation}
 use Rattle.jc_ops.specs.Resolve.{Resolves}
 use Rattle.jc_ops.specs.Sound.{IsSound, OperationsAreSound}
@@ -110,7 +110,7 @@ decoded-at : (code : List ℕ) (place : ℕ) (i : Placed) → instruction_at cod
 unfolding instruction_at
 decoded-at code place i e =
     let found = found-in place (listing code) i e in
-    subst (λ n. decoded code n ≡ Ok i.insn) found.1 (decoded-Stands code i found.0)
+    subst (λ n. decoded code n ≡ Ok i.insn) found.1 ((all-are-listed code).decodes i found.0)
 
 top-shaped : {A : Type 0} (w : Linked) (fs : List (Frame A)) → 0 < length fs → All (IsShapedFrame w) fs → IsShapedFrame w (first_frame fs)
 top-shaped w [] lt h = absurd (omega (arith, lt))

@@ -6,7 +6,7 @@ use Rattle.jc_base.specs.declared.record.Handler.{Handler}
 use Rattle.jc_decode.specs.declared.insn.Placed.{Placed}
 use Rattle.jc_decode.specs.declared.symbols.Item.{Item}
 use Rattle.jc_decode.specs.Listing.{listing, targets}
-use Rattle.jc_control.proofs.Elements.{nothing-in, Contains-either}
+use Rattle.jc_decode.proofs.Elements.{nothing-in, Contains-either}
 use Rattle.jc_ops.specs.declared.fault.RuleFault.{RuleFault}
 use Rattle.jc_ops.specs.declared.operation.Operation.{Operation}
 use Rattle.jc_rules.specs.Demand.{Frame}

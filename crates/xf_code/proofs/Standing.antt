@@ -13,7 +13,7 @@ use Rattle.jc_decode.specs.Symbols.{place_of, is_label}
 use Rattle.jc_decode.proofs.Decoded.{IsWithin-decoded}
 use Rattle.jc_decode.proofs.Labels.{label-between}
 use Rattle.jc_control.specs.WellFormed.{Stands}
-use Rattle.jc_control.proofs.Elements.{nothing-in, Contains-either}
+use Rattle.jc_decode.proofs.Elements.{nothing-in, Contains-either}
 use Rattle.jc_rules.specs.Demand.{Frame}
 use Rattle.xf_plan.specs.Source.{Source}
 use Rattle.xf_plan.specs.Plan.{cells, is_leader, operation}
