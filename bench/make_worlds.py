@@ -11,10 +11,12 @@ shapes have this much of the sizes below.
 
 The worlds have 16 packages (half: 8), with all the classes that 16 packages can have: 4,080 and not 4,096,
 since a Descriptor counts the classes of its package in one byte. The methods are of 32,767 bytes (half:
-16,383), but for three shapes. The time of `climbing` grows with the square of its length, or more: it has
+16,383), but for four shapes. The time of `climbing` grows with the square of its length, or more: it has
 8,192 bytes (half: 4,096). That of `waves` grows with the third power: it has 2,048 bytes (half: 1,024).
-Each place of `deep_handlers` takes as many steps as there are handlers, registers and superclasses,
-multiplied: it has 16 such places (half: 8).
+`verify` goes over the code once for each target of `branches`, but not of `indexed`, the same code with a
+target index; and `rounds` has it do so in each of 255 passes: it has 4,096 bytes (half: 2,048). Each place of
+`deep_handlers` takes as many steps as there are handlers, registers and superclasses, multiplied: it has 16
+such places (half: 8).
 """
 import os
 
@@ -26,7 +28,7 @@ ROLES = 8
 POOL = 5000         # entries of a full package: with its fields and methods they fill the Descriptor
 RETURN = bytes([0x7A])
 ACONST_NULL, ALOAD, ASTORE, SCONST_0, SCONST_1, SLOAD, SSTORE, SADD = 1, 21, 40, 3, 4, 22, 41, 65
-ALOAD_0, ASTORE_0, POP, CHECKCAST, IFEQ_W, IFNE_W = 24, 43, 59, 148, 152, 153
+ALOAD_0, ASTORE_0, POP, GOTO, CHECKCAST, IFEQ_W, IFNE_W = 24, 43, 59, 112, 148, 152, 153
 
 
 def aid(number):
@@ -162,7 +164,7 @@ def with_method(code, max_stack, classes, handlers=()):
     return with_roles(libraries + [package])
 
 
-LENGTHS = {ALOAD: 2, ASTORE: 2, SLOAD: 2, SSTORE: 2, CHECKCAST: 4, IFEQ_W: 3, IFNE_W: 3}
+LENGTHS = {ALOAD: 2, ASTORE: 2, SLOAD: 2, SSTORE: 2, GOTO: 2, CHECKCAST: 4, IFEQ_W: 3, IFNE_W: 3}
 
 
 def checkcasts(code):
@@ -252,7 +254,35 @@ def waves(share):
     return with_method(padded(code + back_branches(count, head, len(code)), size), 1, count)
 
 
-SHAPES = [tree, chain, straight, covered, deep_handlers, climbing, waves]
+def to_next(count):
+    """Branches to the next instruction: each of their places but the first is a target of its own."""
+    return bytes([GOTO, 2]) * count
+
+
+def branches(share):
+    """Every place is a target, and targets are not remembered: the next one is sought along the code at each."""
+    size = part(share, 32767)
+    return with_method(to_next((size - 1) // 2) + RETURN, 0, 1)
+
+
+def indexed(share):
+    """The same with a target index, which lists the place after each branch."""
+    packages = branches(share)
+    packages[-1].index = [[2 * n for n in range(1, (part(share, 32767) - 1) // 2 + 1)]]
+    return packages
+
+
+def rounds(share):
+    """The code of `branches` after moves of each register to the next, the last first: a class that comes to register 0 in the
+    first pass goes on by one register in each pass."""
+    size, registers = part(share, 4096), part(share, 255)
+    code = b"".join(bytes([ACONST_NULL, ASTORE, x]) for x in range(registers))
+    code += b"".join(bytes([ALOAD, x - 1, ASTORE, x]) for x in range(registers - 1, 0, -1))
+    code += bytes([ACONST_NULL, CHECKCAST, 0]) + u2(0) + bytes([ASTORE_0])
+    return with_method(code + to_next((size - 1 - len(code)) // 2) + RETURN, 1, 1)
+
+
+SHAPES = [tree, chain, straight, covered, deep_handlers, climbing, waves, branches, rounds, indexed]
 
 
 def make(shape, share, folder):

@@ -3,7 +3,8 @@ import os
 
 AID = bytes([0xF0, 1, 2, 3, 4])
 NAMES = {1: "Header", 2: "Directory", 3: "Applet", 4: "Import", 5: "ConstantPool", 6: "Class", 7: "Method",
-         8: "StaticField", 9: "RefLocation", 10: "Export", 11: "Descriptor"}
+         8: "StaticField", 9: "RefLocation", 10: "Export", 11: "Descriptor", 128: "Custom128"}
+INDEX_AID = bytes.fromhex("F06C65726F79")   # of the custom component that is a target index
 BOOLEAN, SHORT = 0x8002, 0x8004
 NO_SUPERCLASS = 0xFFFF
 MOST = 65535    # bytes of a component's info
@@ -72,6 +73,7 @@ class Package:
         self.export = None
         self.types = bytes([1, 0x10])   # the first: no argument, void
         self.roles = None
+        self.index = None       # for each method with code the places that a target index lists
 
     def add_class(self, record, fields=(), methods=()):
         self.classes.append(record)
@@ -108,11 +110,17 @@ class Package:
 
     def directory(self, infos):
         sizes = {tag: len(info) for tag, info in infos.items()}
-        sizes[2] = 33
+        sizes[2] = 33 if self.index is None else 43
         array_bytes = sum(len(values) for _, values in self.arrays)
         info = b"".join(u2(sizes.get(tag, 0)) for tag in range(1, 13))
         info += u2(self.image_size()) + u2(len(self.arrays)) + u2(array_bytes & 0xFFFF)
-        return info + bytes([len(self.imports), len(self.applets), 0])
+        info += bytes([len(self.imports), len(self.applets)])
+        if self.index is None:
+            return info + bytes([0])
+        return info + bytes([1, 128]) + u2(len(infos[128])) + bytes([len(INDEX_AID)]) + INDEX_AID
+
+    def target_index(self):
+        return u2(len(self.index)) + b"".join(u2(len(places)) + b"".join(map(u2, places)) for places in self.index)
 
     def infos(self):
         flags = (0 if self.export is None else 2) + (4 if self.applets else 0)
@@ -129,6 +137,8 @@ class Package:
             infos[3] += b"".join(bytes([len(aid)]) + aid + u2(install) for aid, install in self.applets)
         if self.export is not None:
             infos[10] = self.export
+        if self.index is not None:
+            infos[128] = self.target_index()
         infos[2] = self.directory(infos)
         return infos
 

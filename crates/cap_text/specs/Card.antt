@@ -4,7 +4,7 @@ use Rattle.std.specs.Fmt.{signed_decimal}
 use Rattle.std.specs.List.{concat}
 use Rattle.card_typing.specs.declared.fault.CardFault.{CardFault}
 use Rattle.card_typing.specs.declared.fault.CardKind.{CardKind}
-use Rattle.card_typing.specs.declared.fault.CardKind.TheVariants.{Code, Rule, StackAtTarget, StackAtBranch, HandlerEntered, BadTarget, FallsOff, BadHandler}
+use Rattle.card_typing.specs.declared.fault.CardKind.TheVariants.{Code, Rule, StackAtTarget, StackAtBranch, HandlerEntered, BadTarget, FallsOff, BadHandler, BadIndex, NotIndexed}
 use Rattle.cap_text.specs.Fault.{name_1}
 use Rattle.cap_text.specs.Bare.{code_end_text}
 use Rattle.cap_text.specs.Rule.{rule_fault_text}
@@ -19,6 +19,8 @@ card_kind_text HandlerEntered = codes "HandlerEntered"
 card_kind_text (BadTarget target) = concat (codes "BadTarget " ∷ signed_decimal target ∷ [])
 card_kind_text FallsOff = codes "FallsOff"
 card_kind_text (BadHandler number) = name_1 (codes "BadHandler") number
+card_kind_text (BadIndex entry) = name_1 (codes "BadIndex") entry
+card_kind_text (NotIndexed target) = name_1 (codes "NotIndexed") target
 
 abbrev pub card_fault_text : CardFault → List ℕ
 card_fault_text fault = at_place fault.place (card_kind_text fault.kind)

@@ -18,6 +18,8 @@ impl fmt::Display for Shown<CardKind> {
             CardKind::BadTarget(target) => write!(f, "BadTarget {target}"),
             CardKind::FallsOff => f.write_str("FallsOff"),
             CardKind::BadHandler(number) => write!(f, "BadHandler {number}"),
+            CardKind::BadIndex(entry) => write!(f, "BadIndex {entry}"),
+            CardKind::NotIndexed(target) => write!(f, "NotIndexed {target}"),
         }
     }
 }

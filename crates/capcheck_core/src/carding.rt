@@ -6,7 +6,7 @@ use crate::typing::number_of;
 use crate::verdict::Verdict;
 use cap_text::{accepted, refused_card};
 use card_typing::CardFault;
-use card_verify::{CardRoom, accept};
+use card_index::{CardRoom, accept};
 use jc_base::World;
 use std::alloc::Global;
 

@@ -1,9 +1,22 @@
 use crate::check_tests::{Check, first_wrong};
 use crate::typing_tests::{Method, first_other};
-use cap_tests::PLAIN_ROLES;
+use cap_tests::{Change, DESCRIPTOR, METHOD, PLAIN_ROLES};
 use std::alloc::AllocError;
 
-static VERIFIED: [Check; 7] = [
+/// What gives the second method of package T a handler of all that is thrown, and a stack without room for it: `nop`
+/// under the handler, `return`, and where the handler begins another `return`.
+const WITHOUT_ROOM: [Change<'static>; 8] = [
+    Change::Splice(METHOD, 12, 22, b"\x00\x7A\x7A"),
+    Change::Splice(METHOD, 10, 12, b"\x00\x00"),
+    Change::Splice(METHOD, 3, 4, b"\x01\x00\x11\x80\x01\x00\x13\x00\x00"),
+    Change::Splice(DESCRIPTOR, 111, 114, b"\x01\x10"),
+    Change::Byte(DESCRIPTOR, 41, 1),
+    Change::Byte(DESCRIPTOR, 39, 3),
+    Change::Byte(DESCRIPTOR, 35, 15),
+    Change::Byte(DESCRIPTOR, 23, 9),
+];
+
+static VERIFIED: [Check; 9] = [
     // the stack is not empty at a branch
     (
         "verify T",
@@ -46,6 +59,23 @@ static VERIFIED: [Check; 7] = [
         &[],
         "not linked TooManyPackages 17\n",
         7,
+    ),
+    // no room for what a handler catches: the card verifier names the handler's entry, and the dataflow a place under it
+    (
+        "verify T",
+        &PLAIN_ROLES,
+        &WITHOUT_ROOM,
+        &[],
+        "refused package 0 method 0.1 place 2 Overflow\n",
+        1,
+    ),
+    (
+        "check T",
+        &PLAIN_ROLES,
+        &WITHOUT_ROOM,
+        &[],
+        "refused package 0 method 0.1 place 0 Overflow\n",
+        1,
     ),
 ];
 

@@ -1,5 +1,5 @@
 -- A pass that raises no register is a card typing.
-use Rattle.std.proofs.Common.{◌≡◌, ℕ, zero, suc, ◌+◌, ◌<◌, ◌≤◌, ◌⊎◌, inl, inr, ⊎_elim, Bool, true, false, ◌==◌, if◌then◌else◌, Option, Some, slice_get, get_or, List, [], ◌∷◌, length, All, refl, sym, ◌∙◌, ap, subst, arith, Contains, IsTrue}
+use Rattle.std.proofs.Common.{◌≡◌, ℕ, zero, suc, ◌+◌, ◌<◌, ◌≤◌, ◌⊎◌, inl, inr, ⊎_elim, Bool, true, false, ◌==◌, if◌then◌else◌, get_or, List, [], ◌∷◌, length, All, refl, sym, ◌∙◌, ap, subst, arith, Contains, IsTrue}
 use Rattle.std.specs.Prelude.{pos}
 use Rattle.std.proofs.lemmas.List.Elements.{All-contains}
 use Rattle.std.proofs.lemmas.Bool.{false≢true}
@@ -11,11 +11,11 @@ use Rattle.jc_decode.specs.declared.insn.Placed.{Placed}
 use Rattle.jc_decode.specs.Listing.{falls, targets, listing, Lists, end_from}
 use Rattle.jc_control.specs.Method.{Method, IsMethodOf}
 use Rattle.jc_control.specs.WellFormed.{Stands, IsPlace, IsTargetPlace, IsHandlerOf, IsWellFormed}
-use Rattle.jc_control.specs.Laws.{InstructionsArePlaced, InstructionsAreListed}
+use Rattle.jc_decode.specs.Laws.{InstructionsAreListed}
+use Rattle.jc_control.specs.Laws.{InstructionsArePlaced}
 use Rattle.jc_rules.specs.declared.rule.Outcome.{Outcome}
 use Rattle.jc_rules.specs.Flow.{CellsBelow, IsNotFresh, start_frame}
 use Rattle.jc_rules.specs.Laws.{RuleRests}
-use Rattle.jc_base.specs.declared.record.MethodRec.{MethodRec}
 use Rattle.card_typing.proofs.Sites.{site_of, at-site, of-site}
 use Rattle.card_typing.specs.Place.{IsTarget, IsEntry, IsFallenInto, fallen_first, fallen_from, CatchesAt}
 use Rattle.card_typing.specs.Typing.{frame_at, GoesOn, IsTyped, IsEntered, CardTyping}
@@ -26,17 +26,17 @@ use Rattle.card_typing.specs.Laws.{MetIsBelow, MetIsSound, QuietIsLeast}
 -- ---- lists
 
 -- the first element of a list, or one after it
-contains-either : {X : Type 0} (y : X) (xs : List X) (x : X) → Contains (y ∷ xs) x → (y ≡ x) ⊎ Contains xs x
+pub contains-either : {X : Type 0} (y : X) (xs : List X) (x : X) → Contains (y ∷ xs) x → (y ≡ x) ⊎ Contains xs x
 contains-either y xs x c = by c.0 c.1 c.2
   where
     by : (n : ℕ) → n < length (y ∷ xs) → get_or (y ∷ xs) n x ≡ x → (y ≡ x) ⊎ Contains xs x
     by zero lt e = inl e
     by (suc n) lt e = inr (n, omega arith, e)
 
-eq-same : (n : ℕ) → (n == n) ≡ true
+pub eq-same : (n : ℕ) → (n == n) ≡ true
 eq-same n = grind arith
 
-eq-other : (n m : ℕ) → m < n → (n == m) ≡ false
+pub eq-other : (n m : ℕ) → m < n → (n == m) ≡ false
 eq-other n m lt = grind arith
 
 -- ---- how a stack arrives
@@ -48,7 +48,7 @@ module _ (w : Linked) (m : Method) where
   arrived-falling (arrives_caught c entry room catches) h n = absurd (n entry)
   arrived-falling (arrives_full entry none) h n = absurd (n entry)
 
-  arrived-empty : {b : Bool} {given : List Ty} {q : ℕ} {stack : List Ty} → Arrives w m b given q stack → b ≡ false → ¬ (IsEntry m q) → stack ≡ []
+  pub arrived-empty : {b : Bool} {given : List Ty} {q : ℕ} {stack : List Ty} → Arrives w m b given q stack → b ≡ false → ¬ (IsEntry m q) → stack ≡ []
   arrived-empty (arrives_falling free e) h n = absurd (false≢true (sym h ∙ e))
   arrived-empty (arrives_empty free e) h n = refl
   arrived-empty (arrives_caught c entry room catches) h n = absurd (n entry)
@@ -74,7 +74,7 @@ module _ (w : Linked) (m : Method) where
 
 module _ (w : Linked) (m : Method) (regs : List Ty) where
   -- the stack that the pass has at a place
-  pub stack-in : (b : Bool) (given : List Ty) (is : List Placed) → IsQuiet w m regs b given is → ℕ → List Ty
+  unfoldable pub stack-in : (b : Bool) (given : List Ty) (is : List Placed) → IsQuiet w m regs b given is → ℕ → List Ty
   stack-in _ _ _ (quiet_end b given) q = []
   stack-in _ _ _ (quiet_more b given stack after o i is a p u) q = if q == i.place then stack else stack-in (falls i.insn.op) after is u q
 

@@ -9,6 +9,7 @@ use Rattle.jc_rules.specs.declared.effect.Mode.{Mode}
 use Rattle.jc_rules.specs.declared.rule.Outcome.{Outcome}
 use Rattle.jc_rules.specs.Demand.{Frame}
 use Rattle.jc_rules.specs.Apply.{Applies, Refuses, RuleApplies, RuleRefuses}
+use Rattle.card_typing.specs.Laws.{RuleIsOfRecord}
 
 abbrev pub site_of : Method → ℕ → Site
 site_of m place = record { method = m.number; place = place }
@@ -40,3 +41,9 @@ module _ (w : Linked) (m : Method) (mo : IsMethodOf w m) where
       → Refuses w (site_of m p) i f fault
       → RuleRefuses w m.rec p i f fault
   refuses-of-site {p} {i} {f} {fault} r = subst (λ rec. RuleRefuses w rec p i f fault) (some-same r.is_method mo.rec) r.rule
+
+pub rule-is-of-record : (w : Linked) → RuleIsOfRecord w
+rule-is-of-record w = record {
+  applies = λ m place i mode before after o mo a. of-site w m mo a;
+  refuses = λ m place i before fault mo r. refuses-of-site w m mo r;
+}

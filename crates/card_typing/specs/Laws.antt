@@ -3,16 +3,34 @@ use Rattle.std.specs.Prelude.{ℕ, ◌↔◌, List, [], All, true}
 use Rattle.jc_base.specs.declared.ty.Ty.{Ty}
 use Rattle.jc_base.specs.declared.ty.Ty.TheVariants.{Bottom}
 use Rattle.jc_base.specs.World.{Linked}
+use Rattle.jc_decode.specs.declared.insn.Insn.{Insn}
 use Rattle.jc_decode.specs.Listing.{listing}
+use Rattle.jc_ops.specs.declared.fault.RuleFault.{RuleFault}
 use Rattle.jc_control.specs.Method.{Method, IsMethodOf}
 use Rattle.jc_control.specs.WellFormed.{IsWellFormed}
+use Rattle.jc_rules.specs.declared.effect.Mode.{Mode}
+use Rattle.jc_rules.specs.declared.rule.Outcome.{Outcome}
 use Rattle.jc_rules.specs.Demand.{Frame, AreKnown}
+use Rattle.jc_rules.specs.Apply.{Applies, Refuses, RuleApplies, RuleRefuses}
 use Rattle.jc_rules.specs.Flow.{CellsBelow, FrameBelow, IsNotFresh, start_frame, HasFlowTyping}
 use Rattle.card_typing.specs.declared.fault.CardFault.{CardFault}
 use Rattle.card_typing.specs.Typing.{frame_at, CardTyping, HasCardTyping, IsLeastCardTyping}
 use Rattle.card_typing.specs.Met.{Arrives, IsMet}
 use Rattle.card_typing.specs.Refusal.{IsFlawKind, IsRefused}
 use Rattle.card_typing.specs.Pass.{IsQuiet}
+
+-- where the rule applies to an instruction at a site of the world, or refuses it, the rule by the record of the site's method does
+pub record RuleIsOfRecord (w : Linked) : Type 0 where
+  pub applies :
+      (m : Method) (place : ℕ) (i : Insn) (mode : Mode) (before after : Frame) (o : Outcome)
+      → IsMethodOf w m
+      → Applies w (record { method = m.number; place = place }) i mode before after o
+      → RuleApplies w m.rec place i mode before after o
+  pub refuses :
+      (m : Method) (place : ℕ) (i : Insn) (before : Frame) (fault : RuleFault)
+      → IsMethodOf w m
+      → Refuses w (record { method = m.number; place = place }) i before fault
+      → RuleRefuses w m.rec place i before fault
 
 -- a method that the card accepts has a dataflow typing in which unset registers hold no value
 abbrev pub CardIsFlow : Linked → Type 0

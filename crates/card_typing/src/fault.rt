@@ -30,4 +30,9 @@ pub enum CardKind {
     FallsOff,
     /// The handler of this number in the method's table is not well formed.
     BadHandler(u16),
+    /// The entry of this number in the method's target index names no place where an instruction begins, or none above
+    /// that of the entry before it.
+    BadIndex(u32),
+    /// The branch or switch leads to this place, which the target index lacks.
+    NotIndexed(u16),
 }

@@ -1,11 +1,12 @@
-ghost use Rattle.card_typing.specs.Laws.{CardIsFlow, MetIsBelow, MetIsSound, RefusalDenies, FlawsAreTold, QuietIsLeast};
+ghost use Rattle.card_typing.specs.Laws.{CardIsFlow, MetIsBelow, MetIsSound, RefusalDenies, RuleIsOfRecord, FlawsAreTold, QuietIsLeast};
 
 use jc_base::World;
 use jc_control::{flaws_decide, instructions_are_placed};
+use jc_decode::instructions_are_listed;
 use jc_rules::{rule_falls, rule_laws, rule_raises};
 
 /// What card typings have to do with dataflow typings, with the states that the verifier on the card meets, with its
-/// refusals, and with a pass that raises no register.
+/// refusals, and with a pass that raises no register; and the rule at a site is that by the record of its method.
 pub fn card_laws(world: &World<'_>)
     ensures flow { CardIsFlow world.now }
     ensures met { MetIsBelow world.now }
@@ -13,11 +14,13 @@ pub fn card_laws(world: &World<'_>)
     ensures refused { RefusalDenies world.now }
     ensures told { FlawsAreTold world.now }
     ensures quiet { QuietIsLeast world.now }
+    ensures records { RuleIsOfRecord world.now }
 {
     rule_laws(world);
     rule_falls(world);
     rule_raises(world);
     flaws_decide();
+    instructions_are_listed();
     instructions_are_placed();
     let _object = world.classes().at(world.role(0));
 }

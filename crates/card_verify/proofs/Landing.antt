@@ -51,7 +51,7 @@ module _ (v : Verifier) (place : ℕ) (arrival : Arrival) where
 
   -- no handler begins there
   module _ (stack : List Ty) (free : ¬ (IsEntry m place)) (fallen : MatchBool arrival.may_fall (IsFallenInto m place) (¬ (IsFallenInto m place))) where
-    arrived : (b : Bool) → arrival.may_fall ≡ b → Arrives (world_of v) m arrival.may_fall (cells stack arrival.depth) place (cells stack (if b then arrival.depth else 0))
+    pub arrived : (b : Bool) → arrival.may_fall ≡ b → Arrives (world_of v) m arrival.may_fall (cells stack arrival.depth) place (cells stack (if b then arrival.depth else 0))
     arrived true e = arrives_falling free e
     arrived false e = subst (Arrives (world_of v) m arrival.may_fall (cells stack arrival.depth) place) (sym (no-cells stack)) (arrives_empty free e)
 
@@ -69,11 +69,11 @@ module _ (v : Verifier) (place : ℕ) (arrival : Arrival) where
       };
     }
 
-    falling : (b : Bool) → arrival.may_fall ≡ b → 0 < (if b then arrival.depth else 0) → arrival.may_fall ≡ true
+    pub falling : (b : Bool) → arrival.may_fall ≡ b → 0 < (if b then arrival.depth else 0) → arrival.may_fall ≡ true
     falling true e lt = e
     falling false e lt = absurd (omega (arith, lt))
 
-    within : (b : Bool) → arrival.depth ≤ length stack → (if b then arrival.depth else 0) ≤ length stack
+    pub within : (b : Bool) → arrival.depth ≤ length stack → (if b then arrival.depth else 0) ≤ length stack
     within true le = le
     within false le = omega arith
 
@@ -93,7 +93,7 @@ module _ (v : Verifier) (place : ℕ) (arrival : Arrival) where
   -- a handler begins there
   module _ (before after : List Ty) (depth c : ℕ) (entry : IsEntry m place) (catches : CatchesAt (world_of v).classes m place c) (room : length before ≡ m.rec.max_stack) (long : length after ≡ length before) (put : IsPut before (Class c) after depth)
       (fallen : MatchBool arrival.may_fall (IsFallenInto m place) (¬ (IsFallenInto m place))) where
-    entered : Arrives (world_of v) m arrival.may_fall (cells before arrival.depth) place (cells after depth)
+    pub entered : Arrives (world_of v) m arrival.may_fall (cells before arrival.depth) place (cells after depth)
     entered = by put
       where
         by : IsPut before (Class c) after depth → Arrives (world_of v) m arrival.may_fall (cells before arrival.depth) place (cells after depth)

@@ -1,5 +1,5 @@
 -- The rule of an instruction applies or refuses, and what it leaves is in order or not.
-use Rattle.std.proofs.Common.{◌≡◌, ℕ, ◌+◌, ◌<◌, ◌≤◌, List, [], length, MatchBool, IsSomeAnd, IfOk, IfErr, Option, Some, Result, Ok, Err, slice_get, sum_by, refl, sym, ◌∙◌, ap, subst, arith}
+use Rattle.std.proofs.Common.{◌≡◌, ℕ, ◌+◌, ◌<◌, ◌≤◌, List, [], length, MatchBool, IsSomeAnd, IfOk, IfErr, Option, Result, Ok, Err, slice_get, sum_by, refl, sym, ◌∙◌, ap, subst, arith}
 use Rattle.jc_base.specs.declared.ty.Ty.{Ty}
 use Rattle.jc_base.specs.declared.record.MethodRec.{MethodRec}
 use Rattle.jc_base.specs.Order.{rises_left}
@@ -10,10 +10,9 @@ use Rattle.jc_rules.specs.declared.effect.Mode.TheVariants.{Card}
 use Rattle.jc_rules.specs.declared.rule.Outcome.{Outcome}
 use Rattle.jc_rules.specs.Stack.{cells}
 use Rattle.jc_rules.specs.Apply.{frame_of, HasRoom, Applies, Refuses}
-use Rattle.card_typing.proofs.Sites.{site_of, of-site, refuses-of-site}
 use Rattle.card_typing.specs.declared.fault.CardFault.{CardFault}
 use Rattle.card_typing.specs.declared.fault.CardKind.{CardKind}
-use Rattle.card_typing.specs.declared.fault.CardKind.TheVariants.{Code, Rule, StackAtTarget, StackAtBranch, HandlerEntered, BadTarget, FallsOff, BadHandler}
+use Rattle.card_typing.specs.declared.fault.CardKind.TheVariants.{Code, Rule, StackAtTarget, StackAtBranch, HandlerEntered, BadTarget, FallsOff, BadHandler, BadIndex, NotIndexed}
 use Rattle.card_typing.specs.Met.{Arrives, IsOpenTo}
 use Rattle.card_typing.specs.Refusal.{IsWrong, wrong_rule, wrong_branch, wrong_end}
 use Rattle.card_verify.specs.declared.verifier.Verifier.{Verifier}
@@ -30,19 +29,19 @@ module _ (v : Verifier) (is : IsVerifier v) where
   module _ (i : Placed) (there : Stands (method v).code i) (regs stack regs_after stack_after : List Ty) (depth : ℕ) (long : length stack_after ≡ v.rec.now.max_stack)
       (suits : IsOpenTo (method v) i.place (cells stack depth)) where
     pub fail-rule : (fault : RuleFault) → depth ≤ v.rec.now.max_stack → (regs_after ≡ regs) × (stack_after ≡ stack)
-        → Refuses (world_of v) (site_of (method v) i.place) i.insn (frame_of regs stack depth) fault
+        → Refuses (world_of v) (record { method = v.number; place = i.place }) i.insn (frame_of regs stack depth) fault
         → IsFailing v i regs (cells stack depth) regs_after stack_after (record { place = i.place; depth = depth; kind = Rule fault })
     fail-rule fault le same refuses = record {
       place = refl;
       wrong = subst (λ (xs : List Ty). IsWrong (world_of v) (method v) i (frame_of regs stack depth) (Rule fault) (frame_of xs stack_after depth)) (sym same.0)
-          (subst (λ (ys : List Ty). IsWrong (world_of v) (method v) i (frame_of regs stack depth) (Rule fault) (frame_of regs ys depth)) (sym same.1) (wrong_rule fault suits (refuses-of-site (world_of v) (method v) is.known refuses)));
+          (subst (λ (ys : List Ty). IsWrong (world_of v) (method v) i (frame_of regs stack depth) (Rule fault) (frame_of regs ys depth)) (sym same.1) (wrong_rule fault suits (is.records.refuses (method v) i.place i.insn (frame_of regs stack depth) fault is.known refuses)));
       within = omega (arith, le, long);
     }
 
-    module _ (o : Outcome) (applies : Applies (world_of v) (site_of (method v) i.place) i.insn Card (frame_of regs stack depth) (frame_of regs_after stack_after o.depth) o) where
+    module _ (o : Outcome) (applies : Applies (world_of v) (record { method = v.number; place = i.place }) i.insn Card (frame_of regs stack depth) (frame_of regs_after stack_after o.depth) o) where
       shallow : o.depth ≤ v.rec.now.max_stack
       shallow =
-          let does = (of-site (world_of v) (method v) is.known applies).does in
+          let does = (is.records.applies (method v) i.place i.insn Card (frame_of regs stack depth) (frame_of regs_after stack_after o.depth) o is.known applies).does in
           omega (arith, does.room, does.depth)
 
       left-none : o.depth ≡ 0 → cells stack_after o.depth ≡ []
@@ -52,7 +51,7 @@ module _ (v : Verifier) (is : IsVerifier v) where
           → MatchBool o.rose (sum_by (rises_left (world_of v).classes) regs_after < sum_by (rises_left (world_of v).classes) regs) (regs_after ≡ regs)
           → IsStepped v i regs (cells stack depth) regs_after stack_after o
       stepped well count rises = record {
-        passed = record { stands = there; suits = suits; applies = of-site (world_of v) (method v) is.known applies; branch = λ j. left-none (well.branch j); goes_on = well.goes_on };
+        passed = record { stands = there; suits = suits; applies = is.records.applies (method v) i.place i.insn Card (frame_of regs stack depth) (frame_of regs_after stack_after o.depth) o is.known applies; branch = λ j. left-none (well.branch j); goes_on = well.goes_on };
         rises = rises;
         slices = record { registers = count; cells = long };
         depth = shallow;
@@ -64,16 +63,18 @@ module _ (v : Verifier) (is : IsVerifier v) where
 
       pub fail-left : (kind : CardKind) → IsLeftWrong v i o.depth kind → IsFailing v i regs (cells stack depth) regs_after stack_after (record { place = i.place; depth = o.depth; kind = kind })
       fail-left StackAtBranch h =
-          failing StackAtBranch (wrong_branch (frame_of regs_after stack_after o.depth) o suits (of-site (world_of v) (method v) is.known applies) h.0 (λ e. h.1 (applies.rule.does.depth ∙ ap length e)))
+          failing StackAtBranch (wrong_branch (frame_of regs_after stack_after o.depth) o suits (is.records.applies (method v) i.place i.insn Card (frame_of regs stack depth) (frame_of regs_after stack_after o.depth) o is.known applies) h.0 (λ e. h.1 (applies.rule.does.depth ∙ ap length e)))
       fail-left FallsOff h =
           let reach = (is.order (method v).code).within i there in
-          failing FallsOff (wrong_end (frame_of regs_after stack_after o.depth) o suits (of-site (world_of v) (method v) is.known applies) (λ j. left-none (h.0 j)) h.1 (omega (arith, reach, h.2)))
+          failing FallsOff (wrong_end (frame_of regs_after stack_after o.depth) o suits (is.records.applies (method v) i.place i.insn Card (frame_of regs stack depth) (frame_of regs_after stack_after o.depth) o is.known applies) (λ j. left-none (h.0 j)) h.1 (omega (arith, reach, h.2)))
       fail-left (Code end) h = absurd h
       fail-left (Rule fault) h = absurd h
       fail-left StackAtTarget h = absurd h
       fail-left HandlerEntered h = absurd h
       fail-left (BadTarget target) h = absurd h
       fail-left (BadHandler number) h = absurd h
+      fail-left (BadIndex entry) h = absurd h
+      fail-left (NotIndexed target) h = absurd h
 
   -- ---- what a visit comes to
 

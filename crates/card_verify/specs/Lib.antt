@@ -2,4 +2,3 @@ pub mod Verifier
 pub mod Ahead
 pub mod Walk
 pub mod Answers
-pub mod Room

@@ -10,7 +10,7 @@ use Rattle.jc_decode.specs.declared.insn.Placed.{Placed}
 use Rattle.jc_decode.specs.Listing.{listing, falls, jumps}
 use Rattle.jc_control.specs.Method.{IsMethodOf}
 use Rattle.jc_control.specs.WellFormed.{IsWellFormed}
-use Rattle.jc_control.specs.Laws.{InstructionsAreListed}
+use Rattle.jc_decode.specs.Laws.{InstructionsAreListed}
 use Rattle.jc_rules.specs.declared.rule.Outcome.{Outcome}
 use Rattle.jc_rules.specs.Stack.{cells}
 use Rattle.jc_rules.specs.Apply.{frame_of}
@@ -21,7 +21,7 @@ use Rattle.card_typing.specs.Place.{IsTarget, IsFallenInto}
 use Rattle.card_typing.specs.Met.{Arrives, IsOpenTo, IsPassed, GoesTo, IsMet}
 use Rattle.card_typing.specs.Refusal.{IsWrong}
 use Rattle.card_typing.specs.Pass.{IsQuiet}
-use Rattle.card_typing.specs.Laws.{MetIsSound}
+use Rattle.card_typing.specs.Laws.{MetIsSound, RuleIsOfRecord}
 use Rattle.card_verify.specs.declared.verifier.Verifier.{Verifier}
 use Rattle.card_verify.specs.declared.pass.Arrival.{Arrival}
 use Rattle.card_verify.specs.Verifier.{method, world_of}
@@ -33,6 +33,7 @@ pub record IsVerifier (v : Verifier) : Type 0 where
   pub world : IsWorld (world_of v)
   pub sound : MetIsSound (world_of v)
   pub order : InstructionsAreListed
+  pub records : RuleIsOfRecord (world_of v)
 
 -- the lent slices have the lengths that the method declares
 pub record HasSlices (v : Verifier) (regs stack : List Ty) : Type 0 where

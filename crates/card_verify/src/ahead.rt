@@ -7,8 +7,8 @@ ghost use Rattle.card_verify.specs.Verifier.{method};
 
 use crate::verifier::Verifier;
 use cap_bytes::View;
-use jc_control::{Targets, instructions_are_placed};
-use jc_decode::{Instructions, Placed};
+use jc_control::Targets;
+use jc_decode::{Instructions, Placed, instructions_are_listed};
 
 /// The least target and the least entry of a handler from a place on. Both are kept while a walk goes up to them, and
 /// sought anew once it is beyond.
@@ -159,7 +159,7 @@ impl Verifier<'_> {
     fn target_from(&self, from: u16) -> Option<u32>
         ensures { IsLeastFrom (IsTarget (method self.now)) from result }
     {
-        instructions_are_placed();
+        instructions_are_listed();
         let mut best = None;
         'walk: for placed in Instructions::of(self.code) {
             best = nearest(self.code, placed, from, best);
@@ -168,7 +168,7 @@ impl Verifier<'_> {
     }
 
     /// The least entry of a handler from a place on.
-    fn entry_from(&self, from: u16) -> Option<u32>
+    pub fn entry_from(&self, from: u16) -> Option<u32>
         ensures { IsLeastFrom (IsEntry (method self.now)) from result }
     {
         let mut best = None;

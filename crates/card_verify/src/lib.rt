@@ -6,16 +6,14 @@
 //! until the pass is beyond it. It stands on the definitions of `card_typing` and on the rules of `jc_rules`.
 #![tactic(auto)]
 
-mod acceptance;
 mod ahead;
 mod caught;
 mod pass;
-mod room;
 mod start;
 mod verifier;
 mod verify;
 
-pub use acceptance::{Accepted, accept};
 pub use card_typing::{CardFault, CardKind};
-pub use room::CardRoom;
+pub use pass::{Arrival, either, put_alone};
+pub use verifier::Verifier;
 pub use verify::verify_method;

@@ -28,7 +28,7 @@ pub struct Arrival {
 
 impl Arrival {
     /// How many cells it comes with.
-    fn left(self) -> u8
+    pub fn left(self) -> u8
         ensures { result ≡ left self }
     {
         if self.may_fall { self.depth } else { 0 }
@@ -37,7 +37,7 @@ impl Arrival {
 
 impl Verifier<'_> {
     /// Walks the code once, raising registers in place, and tells whether one rose.
-    pub fn pass(&self, regs: &mut [Ty], stack: &mut [Ty]) -> Result<bool, CardFault>
+    pub(crate) fn pass(&self, regs: &mut [Ty], stack: &mut [Ty]) -> Result<bool, CardFault>
         requires verifier { IsVerifier self.now }
         requires begun { IsBegun self.now regs.old stack.old }
         ensures done { IfOk result
@@ -221,7 +221,7 @@ impl Verifier<'_> {
 
     /// What is wrong once a rule has left so many cells: a branch or switch leaves any, or the last instruction falls
     /// through.
-    fn left_wrong(&self, placed: Placed, depth: u8) -> Option<CardKind>
+    pub fn left_wrong(&self, placed: Placed, depth: u8) -> Option<CardKind>
         ensures well { IfNone result (IsLeftWell self.now placed depth) }
         ensures wrong { IfSome result (IsLeftWrong self.now placed depth) }
     {
@@ -237,14 +237,14 @@ impl Verifier<'_> {
 }
 
 /// Whether one holds, or the other.
-fn either(one: bool, other: bool) -> bool
+pub fn either(one: bool, other: bool) -> bool
     ensures { result ≡ (one || other) }
 {
     one || other
 }
 
 /// Puts a cell alone on a stack, where it has room for one, and tells how many cells it then has.
-fn put_alone(stack: &mut [Ty], ty: Ty) -> u8
+pub fn put_alone(stack: &mut [Ty], ty: Ty) -> u8
     ensures { IsPut stack.old ty stack.new result }
 {
     if stack.is_empty() {

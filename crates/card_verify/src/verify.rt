@@ -3,7 +3,7 @@ ghost use Rattle.jc_base.specs.declared.ty.Ty.TheVariants.{Bottom};
 ghost use Rattle.jc_control.specs.Method.{IsMethodOf, method_in};
 ghost use Rattle.jc_control.specs.WellFormed.{IsWellFormed};
 ghost use Rattle.jc_rules.specs.Apply.{frame_of};
-ghost use Rattle.jc_rules.specs.Flow.{HasFlowTyping};
+ghost use Rattle.jc_rules.specs.Flow.{HasFlowTyping, start_frame};
 ghost use Rattle.card_typing.specs.Typing.{HasCardTyping, IsLeastCardTyping};
 ghost use Rattle.card_typing.specs.Refusal.{IsFlawKind, IsRefused, fault_of};
 ghost use Rattle.card_verify.specs.Answers.{TellsFlaw};
@@ -15,7 +15,8 @@ use crate::verifier::Verifier;
 use cap_bytes::View;
 use card_typing::{CardFault, CardKind, card_laws};
 use jc_base::{Ty, World};
-use jc_control::{Flaw, Places, Subject, find_flaw, instructions_are_placed};
+use jc_control::{Flaw, Places, Subject, find_flaw};
+use jc_decode::instructions_are_listed;
 use jc_rules::rule_laws;
 
 /// Verifies a method with code as a verifier on the card does, in the registers and the stack that are lent: a cell for
@@ -115,18 +116,27 @@ impl Verifier<'_> {
     {
         card_laws(self.world);
         rule_laws(self.world);
-        instructions_are_placed();
+        instructions_are_listed();
         start(self.rec, regs);
         self.settle(regs, stack)
     }
 
+    /// Gives the registers the types with which the method starts.
+    pub fn begin(&self, regs: &mut [Ty])
+        requires { length regs.old ≡ length (start_frame self.now.rec.now Bottom).regs }
+        ensures { regs.new ≡ (start_frame self.now.rec.now Bottom).regs }
+    {
+        start(self.rec, regs);
+    }
+
     /// Whether the method is well formed, and else its first flaw.
-    fn check_form(&self) -> Result<(), CardFault>
+    pub fn check_form(&self) -> Result<(), CardFault>
         requires { IsMethodOf (world_of self.now) (method self.now) }
         ensures formed { OnOk result (IsWellFormed (method self.now)) }
         ensures flawed { IfErr result (λ fault. TellsFlaw (method self.now) fault) }
     {
         rule_laws(self.world);
+        instructions_are_listed();
         let subject = Subject {
             number: self.number,
             rec: self.rec,

@@ -1,10 +1,10 @@
 -- The sample world meets the invariant of worlds.
-use Rattle.std.proofs.Common.{◌≡◌, ℕ, zero, suc, ◌<◌, ◌≤◌, Bool, true, false, List, [], ◌∷◌, length, refl, sym, subst, arith, lit<, lit≤, All}
+use Rattle.std.proofs.Common.{◌≡◌, ℕ, zero, suc, ◌+◌, ◌<◌, ◌≤◌, Bool, true, false, List, [], ◌∷◌, length, refl, sym, subst, arith, lit<, lit≤, All}
 use Rattle.std.specs.Prelude.{IfSome, slice_get, slice_index, ◌==◌}
 use Rattle.std.proofs.lemmas.List.Elements.{All-from_recursion, All-nil}
-use Rattle.jc_base.specs.declared.ty.Ty.TheVariants.{Class}
+use Rattle.jc_base.specs.declared.ty.Ty.TheVariants.{Class, Short}
 use Rattle.jc_base.specs.declared.record.Member.TheVariants.{ClassOf}
-use Rattle.jc_base.specs.Cell.{IsDeclared, no_cells, one_cell}
+use Rattle.jc_base.specs.Cell.{IsDeclared, IsFirstCell, AreWhole, no_cells, one_cell}
 use Rattle.jc_base.specs.declared.record.Handler.{Handler}
 use Rattle.jc_base.specs.declared.record.MethodRec.{MethodRec}
 use Rattle.jc_base.specs.Class.{IsClass, AreClasses, EndsWithObject, is_interface, parent_of, chain, chain_over}
@@ -14,7 +14,9 @@ use Rattle.jc_base.specs.Interface.{extended, NoneExtendsItself}
 use Rattle.jc_base.proofs.Leading.{leads-nowhere}
 use Rattle.jc_base.specs.Linked.{IsMethod, IsHandler, IsLinkedClass, IsDispatch, IsMember}
 use Rattle.jc_base.specs.World.{IsWorld, IsThrown}
-use Rattle.flow_tests.specs.OneMethod.{classes, only_method, sample}
+use Rattle.flow_tests.specs.declared.shape.Shape.{Shape}
+use Rattle.flow_tests.specs.declared.shape.Shape.TheVariants as shapes
+use Rattle.flow_tests.specs.OneMethod.{arguments_of, classes, locals_of, only_method, own_cells, result_of, sample, words_of}
 
 -- ---- the classes
 
@@ -49,6 +51,9 @@ are_classes = record { objects = is_object; object_ends = refl; chains = chains_
 nothing_inherited : (methods : List MethodRec) (c : ℕ) → IsDispatch classes methods c [] []
 nothing_inherited methods c = record { longer = omega arith; entries = All-nil _; signatures = λ token h. absurd (omega arith) }
 
+own_declared : All (IsDeclared classes) own_cells
+own_declared = All-from_recursion (IsDeclared classes) own_cells (tt, (tt, (tt, (is_object, tt))))
+
 linked : (methods : List MethodRec) (c : ℕ) → IfSome (slice_get classes.records c) (IsLinkedClass 1 classes methods c)
 unfolding parent_of package_of public_of visible_of cell_count
 linked methods zero =
@@ -56,7 +61,7 @@ linked methods zero =
 linked methods (suc zero) =
     record { home = lit< tt; earlier = lit≤ tt; cells = refl; size = lit≤ tt; own = All-nil _; public = nothing_inherited methods 1; visible = nothing_inherited methods 1; implements = All-nil _ }
 linked methods (suc (suc zero)) =
-    record { home = lit< tt; earlier = lit≤ tt; cells = refl; size = lit≤ tt; own = All-nil _; public = nothing_inherited methods 2; visible = nothing_inherited methods 2; implements = All-nil _ }
+    record { home = lit< tt; earlier = lit≤ tt; cells = refl; size = lit≤ tt; own = own_declared; public = nothing_inherited methods 2; visible = nothing_inherited methods 2; implements = All-nil _ }
 linked methods (suc (suc (suc zero))) =
     record { home = lit< tt; earlier = lit≤ tt; cells = refl; size = lit≤ tt; own = All-nil _; public = nothing_inherited methods 3; visible = nothing_inherited methods 3; implements = All-nil _ }
 linked methods (suc (suc (suc (suc c)))) = tt
@@ -105,26 +110,62 @@ none_extends = λ i leads. leads-nowhere extends_nothing leads
 pub caught_all : (len start end entry : ℕ) → start ≤ end → end ≤ len → entry < len → IsHandler classes (ClassOf 1 ∷ []) len (record { start = start; end = end; entry = entry; index = 0; class = 1 })
 caught_all len start end entry range inside enters = record { range = range; inside = inside; entry = enters; catches = refl; class = is_throwable; thrown = same }
 
-module _ (code : List ℕ) (handlers : List Handler) (filled : 0 < length code) (short : length code ≤ 32767) (few : length handlers ≤ 255) (fit : All (IsHandler classes (ClassOf 1 ∷ []) (length code)) handlers) where
-  the_method : IsMethod (code ∷ []) ((ClassOf 1 ∷ []) ∷ []) classes (only_method (length code) handlers)
+declared : (shape : Shape) → All (IsDeclared classes) (arguments_of shape)
+declared shapes.Thrown = All-from_recursion (IsDeclared classes) (Class 2 ∷ Class 3 ∷ []) (is_first, (is_second, tt))
+declared shapes.Shorts = All-from_recursion (IsDeclared classes) (Short ∷ Short ∷ []) (tt, (tt, tt))
+declared shapes.Object = All-from_recursion (IsDeclared classes) (Class 0 ∷ []) (is_object, tt)
+declared shapes.Wide = All-from_recursion (IsDeclared classes) (Short ∷ []) (tt, tt)
+
+given : (shape : Shape) → IfSome (result_of shape) (IsDeclared classes)
+given shapes.Thrown = is_throwable
+given shapes.Shorts = tt
+given shapes.Object = tt
+given shapes.Wide = tt
+
+first_cell : (shape : Shape) → IfSome (result_of shape) IsFirstCell
+first_cell shapes.Thrown = tt
+first_cell shapes.Shorts = tt
+first_cell shapes.Object = tt
+first_cell shapes.Wide = tt
+
+whole_arguments : (shape : Shape) → AreWhole (arguments_of shape)
+whole_arguments shapes.Thrown = one_cell tt (one_cell tt no_cells)
+whole_arguments shapes.Shorts = one_cell tt (one_cell tt no_cells)
+whole_arguments shapes.Object = one_cell tt no_cells
+whole_arguments shapes.Wide = one_cell tt no_cells
+
+words_are : (shape : Shape) → words_of shape ≡ length (arguments_of shape) + 0
+words_are shapes.Thrown = refl
+words_are shapes.Shorts = refl
+words_are shapes.Object = refl
+words_are shapes.Wide = refl
+
+few_registers : (shape : Shape) → words_of shape + locals_of shape ≤ 255
+few_registers shapes.Thrown = lit≤ tt
+few_registers shapes.Shorts = lit≤ tt
+few_registers shapes.Object = lit≤ tt
+few_registers shapes.Wide = lit≤ tt
+
+module _ (shape : Shape) (code : List ℕ) (handlers : List Handler) (filled : 0 < length code) (short : length code ≤ 32767) (few : length handlers ≤ 255) (fit : All (IsHandler classes (ClassOf 1 ∷ []) (length code)) handlers) where
+  the_method : IsMethod (code ∷ []) ((ClassOf 1 ∷ []) ∷ []) classes (only_method shape (length code) handlers)
   unfolding is_interface
   the_method =
       record {
         home = lit< tt;
         class = lit< tt;
-        words = refl;
-        registers = lit≤ tt;
-        arguments = All-from_recursion (IsDeclared classes) (Class 2 ∷ Class 3 ∷ []) (is_first, (is_second, tt));
-        result = is_throwable;
-        whole = one_cell tt (one_cell tt no_cells);
-        first = tt;
+        words = words_are shape;
+        registers = few_registers shape;
+        arguments = declared shape;
+        result = given shape;
+        whole = whole_arguments shape;
+        first = first_cell shape;
         code = record { least = filled; most = short };
         inside = omega arith;
         handlers = fit;
         few_handlers = few;
       }
 
-  pub is_world : IsWorld (sample code handlers)
+  pub is_world : IsWorld (sample shape code handlers)
   is_world =
       record {
         limits = record {
@@ -138,13 +179,14 @@ module _ (code : List ℕ) (handlers : List Handler) (filled : 0 < length code) 
           array_cells = lit≤ tt;
         };
         one_pool_each = refl;
-        members = All-from_recursion (All (IsMember classes (only_method (length code) handlers ∷ []) [])) ((ClassOf 1 ∷ []) ∷ []) (All-from_recursion (IsMember classes (only_method (length code) handlers ∷ []) []) (ClassOf 1 ∷ []) (lit< tt, tt), tt);
+        members = All-from_recursion (All (IsMember classes (only_method shape (length code) handlers ∷ []) [])) ((ClassOf 1 ∷ []) ∷ []) (All-from_recursion (IsMember classes (only_method shape (length code) handlers ∷ []) []) (ClassOf 1 ∷ []) (lit< tt, tt), tt);
         chains = are_classes;
         extension = none_extends;
-        classes = linked (only_method (length code) handlers ∷ []);
-        methods = All-from_recursion (IsMethod (code ∷ []) ((ClassOf 1 ∷ []) ∷ []) classes) (only_method (length code) handlers ∷ []) (the_method, tt);
+        classes = linked (only_method shape (length code) handlers ∷ []);
+        methods = All-from_recursion (IsMethod (code ∷ []) ((ClassOf 1 ∷ []) ∷ []) classes) (only_method shape (length code) handlers ∷ []) (the_method, tt);
         statics = All-nil _;
         slots = tt;
         arrays = All-nil _;
-        roles = record { count = refl; objects = is_object; throwables = is_throwable; others = all_thrown (only_method (length code) handlers ∷ []) };
+        roles = record { count = refl; objects = is_object; throwables = is_throwable; others = all_thrown (only_method shape (length code) handlers ∷ []) };
+        one_index_each = refl;
       }

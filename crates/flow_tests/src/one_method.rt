@@ -1,8 +1,9 @@
 ghost use Rattle.std.specs.Prelude.{◌≡◌, ◌<◌, ◌≤◌, ◌∷◌, [], false, All, length, IfOk, IsSomeAnd, slice_get};
 ghost use Rattle.jc_base.specs.Linked.{IsHandler};
-ghost use Rattle.flow_tests.specs.OneMethod.{classes, only_method};
+ghost use Rattle.flow_tests.specs.OneMethod.{arguments_of, classes, only_method, own_cells};
 
 use crate::caught::{Range, handler};
+use crate::shape::Shape;
 use jc_base::*;
 use std::alloc::{AllocError, Global};
 
@@ -30,33 +31,45 @@ fn handlers(alloc: Global, ranges: &[Range], len: u16) -> Result<Handlers, Alloc
     Ok(Items::of(items))
 }
 
-fn class(alloc: Global, parent: Option<u16>) -> Result<ClassRec, AllocError>
+fn class(alloc: Global, parent: Option<u16>, own: &[Ty]) -> Result<ClassRec, AllocError>
+    requires { length own.now ≤ 255 }
     ensures { IfOk result
         (λ r.
         r
-        ≡ record
-        { «package» = 0; interface = false; parent = parent; cells = 0; own = []; implements = []; public = []; visible = [] }) }
+        ≡ record {
+          «package» = 0;
+          interface = false;
+          parent = parent;
+          cells = length own.now;
+          own = own.now;
+          implements = [];
+          public = [];
+          visible = [];
+        }) }
 {
     Ok(ClassRec {
         package: 0,
         interface: false,
         parent,
-        cells: 0,
-        own: empty(alloc),
+        cells: own.len() as u16,
+        own: list(alloc, own)?,
         implements: empty(alloc),
         public: empty(alloc),
         visible: empty(alloc),
     })
 }
 
+/// The cells of the first class that extends throwable.
+static OWN_CELLS: [Ty; 4] = [Ty::Short, Ty::IntHigh, Ty::IntLow, Ty::Class(0)];
+
 fn records(alloc: Global) -> Result<ClassRecs, AllocError>
     ensures { IfOk result (λ l. l ≡ classes.records) }
 {
     let mut records = Vec::new(alloc);
-    records.push(class(alloc, None)?)?;
-    records.push(class(alloc, Some(0))?)?;
-    records.push(class(alloc, Some(1))?)?;
-    records.push(class(alloc, Some(1))?)?;
+    records.push(class(alloc, None, &[])?)?;
+    records.push(class(alloc, Some(0), &[])?)?;
+    records.push(class(alloc, Some(1), &OWN_CELLS)?)?;
+    records.push(class(alloc, Some(1), &[])?)?;
     Ok(Items::of(records))
 }
 
@@ -66,8 +79,19 @@ fn table(alloc: Global) -> Result<Classes, AllocError>
     Ok(Classes::of(records(alloc)?, [0, 1, 1, 1, 1, 1, 1, 1]))
 }
 
-fn methods(alloc: Global, len: u16, handlers: Handlers) -> Result<Methods, AllocError>
-    ensures { IfOk result (λ l. l ≡ only_method len handlers ∷ []) }
+fn arguments(alloc: Global, shape: Shape) -> Result<Tys, AllocError>
+    ensures { IfOk result (λ l. l ≡ arguments_of shape) }
+{
+    match shape {
+        Shape::Thrown => list(alloc, &[Ty::Class(2), Ty::Class(3)]),
+        Shape::Shorts => list(alloc, &[Ty::Short, Ty::Short]),
+        Shape::Object => list(alloc, &[Ty::Class(0)]),
+        Shape::Wide => list(alloc, &[Ty::Short]),
+    }
+}
+
+fn methods(alloc: Global, shape: Shape, len: u16, handlers: Handlers) -> Result<Methods, AllocError>
+    ensures { IfOk result (λ l. l ≡ only_method shape len handlers ∷ []) }
 {
     let method = MethodRec {
         package: 0,
@@ -79,11 +103,11 @@ fn methods(alloc: Global, len: u16, handlers: Handlers) -> Result<Methods, Alloc
         is_init: false,
         is_abstract: false,
         sig: Sig {
-            args: list(alloc, &[Ty::Class(2), Ty::Class(3)])?,
-            result: Some(Ty::Class(1)),
+            args: arguments(alloc, shape)?,
+            result: shape.result(),
         },
-        nargs: 2,
-        max_locals: 1,
+        nargs: shape.words(),
+        max_locals: shape.locals(),
         max_stack: 2,
         code_at: 0,
         code_len: len,
@@ -107,20 +131,22 @@ fn pools(alloc: Global) -> Result<Pools, AllocError>
     Ok(Items::of(vec![in alloc; throwable]?))
 }
 
-/// A world with one method.
-pub(crate) fn world<'a>(
+/// A world with one method of a shape, in the class object.
+pub fn world<'a>(
     alloc: Global,
+    shape: Shape,
     code: &'a [u8],
     ranges: &[Range],
 ) -> Result<World<'a>, AllocError>
     requires filled { 0 < length code.now }
     requires short { length code.now ≤ 32767 }
     requires few { length ranges.now ≤ 255 }
-    ensures { IfOk result (λ w. IsSomeAnd (slice_get w.methods 0) (λ m. 0 < m.code_len)) }
+    ensures code { IfOk result (λ w. IsSomeAnd (slice_get w.methods 0) (λ m. 0 < m.code_len)) }
+    ensures classes { IfOk result (λ w. w.classes ≡ classes) }
 {
     let len = code.len() as u16;
     let handlers = handlers(alloc, ranges, len)?;
-    let methods = methods(alloc, len, handlers)?;
+    let methods = methods(alloc, shape, len, handlers)?;
     Ok(World::of(
         infos(alloc, code)?,
         pools(alloc)?,
@@ -128,5 +154,6 @@ pub(crate) fn world<'a>(
         methods,
         empty(alloc),
         empty(alloc),
+        Items::of(vec![in alloc; None]?),
     ))
 }

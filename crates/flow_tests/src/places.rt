@@ -2,6 +2,7 @@ ghost use Rattle.std.specs.Prelude.{◌<◌, IsSomeAnd, slice_get};
 
 use crate::caught::{Range, handler};
 use crate::one_method::world;
+use crate::shape::Shape;
 use jc_base::World;
 use jc_control::{ControlEnd, Flaw, control_flow};
 use jc_decode::CodeEnd;
@@ -81,7 +82,7 @@ fn finds(alloc: Global, example: Controlled) -> bool {
     if code.is_empty() || code.len() > 100 || ranges.len() > 10 {
         return false;
     }
-    match world(alloc, code, ranges) {
+    match world(alloc, Shape::Thrown, code, ranges) {
         Ok(world) => has_control(alloc, &world, code.len() as u16, example),
         Err(_) => false,
     }
@@ -124,7 +125,7 @@ fn is_flawed(alloc: Global, (code, ranges, expected): Flawed) -> bool {
     if code.is_empty() || code.len() > 100 || ranges.len() > 10 {
         return false;
     }
-    match world(alloc, code, ranges) {
+    match world(alloc, Shape::Thrown, code, ranges) {
         Ok(world) => has_flaw(alloc, &world, expected),
         Err(_) => false,
     }

@@ -2,6 +2,7 @@ ghost use Rattle.std.specs.Prelude.{◌<◌, IsSomeAnd, slice_get};
 
 use crate::caught::Range;
 use crate::one_method::world;
+use crate::shape::Shape;
 use jc_base::{Ty, World};
 use jc_flow::{FlowEnd, infer};
 use jc_ops::RuleFault;
@@ -155,7 +156,7 @@ fn is_typed(alloc: Global, (code, ranges, states): Typed) -> bool {
     if code.is_empty() || code.len() > 100 || ranges.len() > 10 {
         return false;
     }
-    match world(alloc, code, ranges) {
+    match world(alloc, Shape::Thrown, code, ranges) {
         Ok(world) => has_typing(alloc, &world, states),
         Err(_) => false,
     }
@@ -189,7 +190,7 @@ fn is_untyped(alloc: Global, (code, expected): Untyped) -> bool {
     if code.is_empty() || code.len() > 100 {
         return false;
     }
-    match world(alloc, code, &[]) {
+    match world(alloc, Shape::Thrown, code, &[]) {
         Ok(world) => ends(alloc, &world, expected),
         Err(_) => false,
     }

@@ -1,4 +1,5 @@
 pub mod Lists
+pub mod Numbers
 pub mod Leading
 pub mod Counting
 pub mod Eaching

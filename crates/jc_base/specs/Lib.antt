@@ -7,5 +7,6 @@ pub mod Cell
 pub mod Dispatch
 pub mod Interface
 pub mod Linked
+pub mod Index
 pub mod World
 pub mod Laws

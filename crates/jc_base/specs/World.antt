@@ -1,5 +1,5 @@
 -- A linked world: the packages of a command with all that they name resolved (JCVM 2.2, chapters 4 and 6).
-use Rattle.std.specs.Prelude.{◌≡◌, ℕ, ◌≤◌, ◌<◌, Bool, ◌==◌, ◌&&◌, List, length, take, drop, Option, All, sum_by, slice_get, slice_index, position}
+use Rattle.std.specs.Prelude.{◌≡◌, ℕ, ◌≤◌, ◌<◌, Bool, ◌==◌, ◌&&◌, List, length, take, drop, Option, None, unwrap_or, All, sum_by, slice_get, slice_index, position}
 use Rattle.jc_base.specs.declared.ty.Ty.TheVariants.{Class}
 use Rattle.jc_base.specs.declared.record.Member.{Member}
 use Rattle.jc_base.specs.declared.record.MethodRec.{MethodRec}
@@ -13,7 +13,8 @@ use Rattle.jc_base.specs.Interface.{NoneExtendsItself}
 use Rattle.jc_base.specs.Linked.{IsMember, AreLinkedClasses, IsMethod, IsStatic, AreSlots, list_at}
 
 -- the lists as which a world is seen: by package the Method info and the members by pool number;
--- the classes with the roles, the methods, the static fields and the initial arrays of all packages
+-- the classes with the roles, the methods, the static fields and the initial arrays of all packages;
+-- by method the places of its target index, where it has one
 pub record Linked : Type 0 where
   pub infos : List (List ℕ)
   pub pools : List (List Member)
@@ -21,6 +22,7 @@ pub record Linked : Type 0 where
   pub methods : List MethodRec
   pub statics : List StaticRec
   pub arrays : List ArrayRec
+  pub indexes : List (Option (List ℕ))
 
 pub record IsWithinLimits (w : Linked) : Type 0 where
   pub packages : length w.infos ≤ 16
@@ -57,6 +59,7 @@ pub record IsWorld (w : Linked) : Type 0 where
   pub slots : AreSlots 0 w.statics
   pub arrays : All (λ a. AreElementsOf a.kind a.initial) w.arrays
   pub roles : AreRoles w.classes w.methods
+  pub one_index_each : length w.indexes ≡ length w.methods
 
 -- what the entry of a package's constant pool names
 abbrev pub member_at : Linked → ℕ → ℕ → Option Member
@@ -65,6 +68,10 @@ member_at w home pool = slice_get (list_at w.pools home) pool
 -- the bytes of a method's code
 abbrev pub code_of : List (List ℕ) → MethodRec → List ℕ
 code_of infos m = take m.code_len (drop m.code_at (list_at infos m.package))
+
+-- the target index of a method, where there is one
+abbrev pub index_of : Linked → ℕ → Option (List ℕ)
+index_of w number = unwrap_or (slice_get w.indexes number) None
 
 -- whether a method has these numbers in the Descriptor of a package
 abbrev pub has_numbers : ℕ → ℕ → ℕ → MethodRec → Bool

@@ -1,7 +1,7 @@
 //! The types of Java Card bytecode verification with their order and join (Leroy 2002, section 2),
 //! the records of classes, methods and static fields (JCVM 2.2, chapter 6), and the linked world of
 //! packages that verifiers and machines read.
-//! It stands on std alone.
+//! Of crates it stands on `byteorder` alone.
 #![tactic(auto)]
 
 mod class;
@@ -11,6 +11,8 @@ mod laws;
 mod list;
 mod order;
 mod record;
+mod steps;
+mod target_index;
 mod ty;
 mod world;
 
@@ -21,10 +23,12 @@ pub use laws::{
     concrete_decides, interfaces_decide, public_methods_run, subclasses_extend, types_are_ordered,
 };
 pub use list::{
-    Arrays, ClassRecs, Dispatch, Handlers, Ifaces, Initial, Items, Members, Methods, Pools,
-    Statics, Tokens, Tys,
+    Arrays, ClassRecs, Dispatch, Handlers, Ifaces, Indexes, Initial, Items, Members, Methods,
+    Pools, Statics, Tokens, Tys,
 };
 pub use order::{below, is_reference, join, join_all};
 pub use record::{ArrayRec, ClassRec, Handler, Iface, Member, MethodRec, Sig, StaticRec};
+pub use steps::Steps;
+pub use target_index::TargetIndex;
 pub use ty::{Kind, Ty, same_type};
 pub use world::World;

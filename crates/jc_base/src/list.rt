@@ -1,6 +1,7 @@
 ghost use Rattle.std.specs.Prelude.{◌≡◌, ◌<◌, List, length, slice_get};
 
 use crate::record::{ArrayRec, ClassRec, Handler, Iface, Member, MethodRec, StaticRec};
+use crate::target_index::TargetIndex;
 use crate::ty::Ty;
 use std::marker::Model;
 
@@ -34,6 +35,8 @@ pub type Arrays = Items<ArrayRec>;
 pub type Members = Items<Member>;
 /// The members of each package.
 pub type Pools = Items<Members>;
+/// The target indexes of the methods of all packages, by number.
+pub type Indexes<'a> = Items<Option<TargetIndex<'a>>>;
 
 impl<T> Model for Items<T> {
     ghost Value = { List T };

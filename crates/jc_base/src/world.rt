@@ -3,13 +3,14 @@ ghost use Rattle.jc_base.specs.Class.{IsClass};
 ghost use Rattle.jc_base.specs.Cell.{AreElementsOf};
 ghost use Rattle.jc_base.specs.Dispatch.{IsConcrete, is_concrete, cells_of};
 ghost use Rattle.jc_base.specs.Linked.{AreDispatched, IsMember, IsLinkedClass, IsMethod, IsStatic, list_at};
-ghost use Rattle.jc_base.specs.World.{IsWorld, IsThrown, member_at, code_of, has_numbers, method_numbered};
+ghost use Rattle.jc_base.specs.World.{IsWorld, IsThrown, member_at, code_of, index_of, has_numbers, method_numbered};
 
 use crate::class::Classes;
 use crate::concrete::is_concrete;
 use crate::infos::Infos;
-use crate::list::{Arrays, Members, Methods, Pools, Statics};
+use crate::list::{Arrays, Indexes, Members, Methods, Pools, Statics};
 use crate::record::{ArrayRec, ClassRec, Member, MethodRec, StaticRec};
+use crate::target_index::TargetIndex;
 use std::marker::Model;
 
 /// Linked packages: what each constant pool names is found, and classes, methods and static fields are
@@ -22,6 +23,7 @@ pub struct World<'a> {
     methods: Methods,
     statics: Statics,
     arrays: Arrays,
+    indexes: Indexes<'a>,
 }
 
 impl<'a> Model for World<'a> {
@@ -36,6 +38,7 @@ impl<'a> Model for World<'a> {
       methods = a.methods;
       statics = a.statics;
       arrays = a.arrays;
+      indexes = a.indexes;
     } };
 
     ghost invariant = { λ a. IsWorld
@@ -46,12 +49,13 @@ impl<'a> Model for World<'a> {
           methods = a.methods;
           statics = a.statics;
           arrays = a.arrays;
+          indexes = a.indexes;
         }) };
 }
 
 impl<'a> World<'a> {
     /// The world of these lists: by package the Method info and what the pool entries name, and over all
-    /// packages the classes, methods, static fields and initial arrays.
+    /// packages the classes, methods, static fields and initial arrays, and by method its target index.
     pub fn of(
         infos: Infos<'a>,
         pools: Pools,
@@ -59,13 +63,14 @@ impl<'a> World<'a> {
         methods: Methods,
         statics: Statics,
         arrays: Arrays,
+        indexes: Indexes<'a>,
     ) -> World<'a>
         requires { IsWorld
             (record
-            { infos = infos; pools = pools; classes = classes; methods = methods; statics = statics; arrays = arrays }) }
+            { infos = infos; pools = pools; classes = classes; methods = methods; statics = statics; arrays = arrays; indexes = indexes }) }
         ensures { result
             ≡ record
-            { infos = infos.entry; pools = pools; classes = classes; methods = methods; statics = statics; arrays = arrays } }
+            { infos = infos.entry; pools = pools; classes = classes; methods = methods; statics = statics; arrays = arrays; indexes = indexes.entry } }
     {
         World {
             infos,
@@ -74,6 +79,7 @@ impl<'a> World<'a> {
             methods,
             statics,
             arrays,
+            indexes,
         }
     }
 
@@ -222,6 +228,17 @@ impl<'a> World<'a> {
         let from = m.code_at as usize;
         let end = from + m.code_len as usize;
         &self.info(m.package)[from..end]
+    }
+
+    /// The target index of a method, where its package has one that is well formed.
+    pub fn index(&self, method: u16) -> Option<TargetIndex<'a>>
+        requires { method < length self.now.methods }
+        ensures { result ≡ index_of self.now method }
+    {
+        match self.indexes.at(method as usize) {
+            Some(index) => Some(index.again()),
+            None => None,
+        }
     }
 
     /// The number of the method that has these numbers in the Descriptor of a package.

@@ -1,5 +1,5 @@
 -- What a traversal has found when nothing is pending is what control reaches.
-use Rattle.std.proofs.Common.{◌≡◌, ◌<◌, ◌≤◌, ◌+◌, ◌⊎◌, inl, inr, ⊎_elim, ℕ, Bool, false, Ok, Err, List, [], ◌∷◌, length, refl, sym, ap, ◌∙◌, subst, arith, Contains, All, IsTrue}
+use Rattle.std.proofs.Common.{◌≡◌, ◌<◌, ◌≤◌, ◌+◌, ◌⊎◌, inl, inr, ⊎_elim, ℕ, Bool, false, Result, Ok, Err, List, [], ◌∷◌, length, refl, sym, ap, ◌∙◌, subst, arith, Contains, All, IsTrue}
 use Rattle.std.specs.Prelude.{pos, replicate}
 use Rattle.std.proofs.lemmas.Bool.{false≢true}
 use Rattle.std.proofs.lemmas.List.{length-replicate}
@@ -10,7 +10,8 @@ use Rattle.jc_decode.specs.declared.insn.Placed.{Placed}
 use Rattle.jc_decode.specs.declared.insn.CodeEnd.{CodeEnd}
 use Rattle.jc_decode.specs.Decoding.{decoded}
 use Rattle.jc_decode.specs.Listing.{listing, listing_end, end_from, falls, targets, Lists}
-use Rattle.jc_decode.proofs.Decoded.{IsWithin-decoded, ok-same}
+use Rattle.jc_decode.specs.Laws.{AreListed, InstructionsAreListed}
+use Rattle.jc_decode.proofs.Elements.{nothing-in, Contains-either, Contains-first, Contains-later}
 use Rattle.jc_control.specs.Method.{Method}
 use Rattle.jc_control.specs.WellFormed.{Stands, IsPlace, IsTargetPlace, IsBoundary, IsHandlerOf, IsWellFormed}
 use Rattle.jc_control.specs.Control.{IsSuccessor, falls_through, jumped, Covers, IsReached, begins, follows, caught, IsLeader, led_to, entered}
@@ -20,9 +21,10 @@ use Rattle.jc_control.specs.Places.{BeginsIn}
 use Rattle.jc_control.specs.Traversal.{Grows, IsSound, IsLedTo, IsCaught, IsClosedAt, IsClosed, IsDone, found}
 use Rattle.jc_control.specs.ControlFlow.{IsControlFlow}
 use Rattle.jc_control.specs.Laws.{InstructionsArePlaced}
-use Rattle.jc_control.proofs.Elements.{nothing-in, Contains-either, Contains-first, Contains-later}
-use Rattle.jc_control.proofs.Listed.{all-listed, decoded-Stands, one-at}
 use Rattle.jc_control.proofs.Marked.{flag-none}
+
+one-insn : (i j : Insn) (r : Result Insn CodeEnd) → r ≡ Ok i → r ≡ Ok j → i ≡ j
+one-insn i j r h k = cc
 
 -- ---- control reaches instructions, and at most the end
 
@@ -46,17 +48,17 @@ first-in : (code : List ℕ) (ps : List Placed) → Lists code 0 ps → (0 ≡ e
 first-in code [] l = inl refl
 first-in code (p ∷ ps) l = inr (p, Contains-first p ps, l.0)
 
-module _ (m : Method) (w : IsWellFormed m) where
+module _ (m : Method) (law : AreListed m.code) (w : IsWellFormed m) where
   at-end : (p : ℕ) → (p ≡ listing_end m.code) ⊎ IsPlace m.code p → IsBoundary m.code p
   at-end p (inl end) = inl (end ∙ w.ends)
   at-end p (inr place) = inr place
 
   target-boundary : (i : Placed) (q : ℕ) → Stands m.code i → IsSuccessor m.code i q → IsBoundary m.code q
-  target-boundary i _ there (falls_through goes) = at-end (i.place + i.insn.len) (next-in m.code 0 (listing m.code) i (all-listed m.code) there)
+  target-boundary i _ there (falls_through goes) = at-end (i.place + i.insn.len) (next-in m.code 0 (listing m.code) i law.lists there)
   target-boundary i q there (jumped among) = inr (All-contains (IsTargetPlace m.code) (targets m.code i) (pos q) (w.targets i there) among)
 
   next-boundary : (i : Placed) → Stands m.code i → IsBoundary m.code (i.place + i.insn.len)
-  next-boundary i there = at-end (i.place + i.insn.len) (next-in m.code 0 (listing m.code) i (all-listed m.code) there)
+  next-boundary i there = at-end (i.place + i.insn.len) (next-in m.code 0 (listing m.code) i law.lists there)
 
   -- where the code goes on, an instruction begins after each
   pub place-after : (i : Placed) → Stands m.code i → i.place + i.insn.len < length m.code → IsPlace m.code (i.place + i.insn.len)
@@ -64,10 +66,10 @@ module _ (m : Method) (w : IsWellFormed m) where
 
   -- and one begins at place 0
   pub place-first : 0 < length m.code → IsPlace m.code 0
-  place-first filled = ⊎_elim (λ end. absurd (omega (arith, end))) (λ place. place) (at-end 0 (first-in m.code (listing m.code) (all-listed m.code)))
+  place-first filled = ⊎_elim (λ end. absurd (omega (arith, end))) (λ place. place) (at-end 0 (first-in m.code (listing m.code) law.lists))
 
   reached-boundary : (p : ℕ) → IsReached m p → IsBoundary m.code p
-  reached-boundary _ begins = at-end 0 (first-in m.code (listing m.code) (all-listed m.code))
+  reached-boundary _ begins = at-end 0 (first-in m.code (listing m.code) law.lists)
   reached-boundary _ (follows {i = i} {q = q} there r succ) = target-boundary i q there succ
   reached-boundary _ (caught {h = h} r there covers) = inr ((All-contains (IsHandlerOf m.code) m.rec.handlers h w.handlers there).entry)
 
@@ -76,12 +78,12 @@ module _ (m : Method) (w : IsWellFormed m) where
   stands-reached i r d = ⊎_elim at_end at_place (reached-boundary i.place r)
     where
       at_end : i.place ≡ length m.code → Stands m.code i
-      at_end end = let within = IsWithin-decoded m.code i.place i.insn d in absurd (omega (arith, within.one, within.reaches))
+      at_end end = absurd (omega (arith, law.long i.place i.insn d, law.reaches i.place i.insn d))
 
       at_place : IsPlace m.code i.place → Stands m.code i
       at_place here =
-          let found : decoded m.code i.place ≡ Ok here.0.insn = ap (decoded m.code) (sym here.2) ∙ decoded-Stands m.code here.0 here.1 in
-          let insn : here.0.insn ≡ i.insn = ok-same here.0.insn i.insn (decoded m.code i.place) found d in
+          let found : decoded m.code i.place ≡ Ok here.0.insn = ap (decoded m.code) (sym here.2) ∙ law.decodes here.0 here.1 in
+          let insn : here.0.insn ≡ i.insn = one-insn here.0.insn i.insn (decoded m.code i.place) found d in
           let same : here.0 ≡ i = ap (λ (p : ℕ). record { place = p; insn = here.0.insn }) here.2 ∙ ap (λ (n : Insn). record { place = i.place; insn = n }) insn in
           subst (Stands m.code) same here.1
 
@@ -94,10 +96,10 @@ module _ (m : Method) (w : IsWellFormed m) where
   }
     where
       none : (i : Placed) → Stands m.code i → i.place ≡ p → ⊥
-      none i there here = let found = decoded-Stands m.code i there in let other : decoded m.code i.place ≡ Err e = ap (decoded m.code) here ∙ d in cc
+      none i there here = let found = law.decodes i there in let other : decoded m.code i.place ≡ Err e = ap (decoded m.code) here ∙ d in cc
 
       inside : (h : Handler) → IsHandlerOf m.code h → h.end ≤ length m.code
-      inside h f = ⊎_elim (λ end. omega arith) (λ place. let within = IsWithin-decoded m.code place.0.place place.0.insn (decoded-Stands m.code place.0 place.1) in omega (arith, within.one, within.reaches, place.2)) f.end
+      inside h f = ⊎_elim (λ end. omega arith) (λ place. let within = law.inside place.0 place.1 in omega (arith, within, place.2)) f.end
 
       uncovered : (h : Handler) → Contains m.rec.handlers h → Covers h p → ⊥
       uncovered h there covers =
@@ -105,12 +107,12 @@ module _ (m : Method) (w : IsWellFormed m) where
           ⊎_elim (λ end. let within = inside h formed in let before = covers.before in absurd (omega arith)) (λ place. none place.0 place.1 place.2) (reached-boundary p r)
 
 -- what the three steps from an instruction find is all that follows it
-pub closed-after : (m : Method) (a b c : Traversal) (i : Placed) → Grows a b → Grows b c → Stands m.code i
+pub closed-after : (m : Method) → AreListed m.code → (a b c : Traversal) (i : Placed) → Grows a b → Grows b c → Stands m.code i
     → (IsTrue (falls i.insn.op) → IsFlagged a.reached (i.place + i.insn.len)) → All (IsLedTo b) (targets m.code i) → All (IsCaught c i.place) m.rec.handlers → IsClosedAt m c i.place
-closed-after m a b c i g h stands fell led entries = record {
-  follows = λ j q there here succ. goes q (subst (λ (k : Placed). IsSuccessor m.code k q) (one-at m.code j i there stands here) succ);
+closed-after m law a b c i g h stands fell led entries = record {
+  follows = λ j q there here succ. goes q (subst (λ (k : Placed). IsSuccessor m.code k q) (law.one j i there stands here) succ);
   leads = λ j q there here target.
-      h.leaders q ((All-contains (IsLedTo b) (targets m.code i) (pos q) led (subst (λ (k : Placed). Contains (targets m.code k) (pos q)) (one-at m.code j i there stands here) target)).1);
+      h.leaders q ((All-contains (IsLedTo b) (targets m.code i) (pos q) led (subst (λ (k : Placed). Contains (targets m.code k) (pos q)) (law.one j i there stands here) target)).1);
   catches = λ k there covers. All-contains (IsCaught c i.place) m.rec.handlers k entries there covers;
 }
   where
@@ -120,12 +122,12 @@ closed-after m a b c i g h stands fell led entries = record {
 
 -- ---- nothing pending
 
-pub instructions-are-placed : InstructionsArePlaced
-instructions-are-placed = λ m w. record {
-  first = place-first m w;
-  next = next-boundary m w;
-  reached = reached-boundary m w;
-  decoded = stands-reached m w;
+pub instructions-are-placed : InstructionsAreListed → InstructionsArePlaced
+instructions-are-placed listed = λ m w. record {
+  first = place-first m (listed m.code) w;
+  next = next-boundary m (listed m.code) w;
+  reached = reached-boundary m (listed m.code) w;
+  decoded = stands-reached m (listed m.code) w;
 }
 
 module _ (m : Method) (s t : Traversal) (sound : IsSound m s) (closed : IsClosed m s) (start : IsFlagged s.reached 0) (done : IsDone s t) where

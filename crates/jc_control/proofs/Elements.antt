@@ -1,32 +1,10 @@
 -- Elements of lists by their numbers, and lists that are gone over from the front.
-use Rattle.std.proofs.Common.{◌≡◌, ◌<◌, ◌+◌, ◌⊎◌, inl, inr, ℕ, zero, suc, Some, None, List, [], ◌∷◌, ◌++◌, length, take, drop, refl, sym, ap, ◌∙◌, arith, append_assoc, Contains, All}
+use Rattle.std.proofs.Common.{◌≡◌, ◌<◌, ◌+◌, ℕ, zero, suc, Some, None, List, [], ◌∷◌, ◌++◌, length, take, drop, refl, sym, ap, ◌∙◌, arith, append_assoc, Contains, All}
 use Rattle.std.specs.Prelude.{slice_get}
 use Rattle.std.proofs.lemmas.List.{append-nil}
-use Rattle.std.proofs.lemmas.Option.{slice_get_within, slice_get-get_or, get_or_from_slice_get}
-use Rattle.std.proofs.lemmas.List.Elements.{Contains-append_right, All-contains}
+use Rattle.std.proofs.lemmas.List.Elements.{All-contains}
+use Rattle.jc_decode.proofs.Elements.{Contains-slice_get}
 use Rattle.jc_control.specs.FirstFailing.{IsFirstFailing}
-
-pub Contains-slice_get : {A : Type 0} (xs : List A) (n : ℕ) (x : A) → slice_get xs n ≡ Some x → Contains xs x
-Contains-slice_get xs n x h = (n, slice_get_within xs n x h, get_or_from_slice_get xs n x x h)
-
-pub slice_get-Contains : {A : Type 0} (xs : List A) (x : A) → Contains xs x → (n : ℕ) × (slice_get xs n ≡ Some x)
-slice_get-Contains xs x c = (c.0, slice_get-get_or xs c.0 x c.1 ∙ ap Some c.2)
-
-pub Contains-first : {A : Type 0} (x : A) (xs : List A) → Contains (x ∷ xs) x
-Contains-first x xs = Contains-slice_get (x ∷ xs) 0 x refl
-
-pub Contains-later : {A : Type 0} (y : A) (xs : List A) (x : A) → Contains xs x → Contains (y ∷ xs) x
-Contains-later y xs x c = Contains-append_right (y ∷ []) xs x c
-
-pub Contains-either : {A : Type 0} (y : A) (xs : List A) (x : A) → Contains (y ∷ xs) x → (y ≡ x) ⊎ Contains xs x
-Contains-either y xs x c = by_number c.0 (slice_get-Contains (y ∷ xs) x c)
-  where
-    by_number : (n : ℕ) → (k : ℕ) × (slice_get (y ∷ xs) k ≡ Some x) → (y ≡ x) ⊎ Contains xs x
-    by_number n (zero, h) = inl (cc)
-    by_number n (suc k, h) = inr (Contains-slice_get xs k x h)
-
-pub nothing-in : {A : Type 0} (x : A) → Contains [] x → ⊥
-nothing-in x c = absurd (omega (arith, c.1))
 
 -- after the first n elements comes the n-th
 pub drop-here : {A : Type 0} (xs : List A) (n : ℕ) (x : A) → slice_get xs n ≡ Some x → drop n xs ≡ x ∷ drop (n + 1) xs

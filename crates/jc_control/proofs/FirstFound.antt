@@ -11,10 +11,11 @@ use Rattle.jc_control.specs.declared.flaw.Flaw.{Flaw}
 use Rattle.jc_control.specs.Flaw.{Spot, in_code, in_table, ComesBefore, IsFlaw, flaw_target, flaw_end, flaw_handler, IsFirstFlaw}
 use Rattle.jc_control.specs.FirstFailing.{IsFirstFailing}
 use Rattle.jc_control.specs.Scan.{LeadsToPlaces, IsFirstStray, IsStop, IsFirstBadHandler}
-use Rattle.jc_control.proofs.Elements.{slice_get-in, taken-in, slice_get-Contains, Contains-slice_get}
-use Rattle.jc_control.proofs.Listed.{rising, one-at, ends-after}
+use Rattle.jc_decode.specs.Laws.{AreListed}
+use Rattle.jc_decode.proofs.Elements.{slice_get-Contains, Contains-slice_get}
+use Rattle.jc_control.proofs.Elements.{slice_get-in, taken-in}
 
-module _ (m : Method) where
+module _ (m : Method) (law : AreListed m.code) where
   -- an instruction before the first that leads astray leads to places
   earlier-leads : (n : ℕ) (from : Placed) → IsFirstFailing (LeadsToPlaces m.code) (listing m.code) n from → (i : Placed) → Stands m.code i → i.place < from.place → LeadsToPlaces m.code i
   earlier-leads n from first i s before =
@@ -25,7 +26,7 @@ module _ (m : Method) where
     where
       not-past : (k : ℕ) → slice_get (listing m.code) k ≡ Some i → n ≤ k → ⊥
       not-past k e past = ⊎_elim (λ same. let here : i ≡ from = same-element k e same in absurd (omega (arith, ap (λ (p : Placed). p.place) here)))
-          (λ other. let rises = rising m.code n k from i first.here e (omega arith) in absurd (omega arith)) (cases_eq n k)
+          (λ other. let rises = law.rising n k from i first.here e (omega arith) in absurd (omega arith)) (cases_eq n k)
         where
           same-element : (k : ℕ) → slice_get (listing m.code) k ≡ Some i → n ≡ k → i ≡ from
           same-element k e same = let other : slice_get (listing m.code) k ≡ Some from = subst (λ (q : ℕ). slice_get (listing m.code) q ≡ Some from) same first.here in cc
@@ -44,13 +45,14 @@ module _ (m : Method) where
       none-before _ _ (flaw_target i k t there get astray) (inl lower) =
           astray (slice_get-in (IsTargetPlace m.code) (targets m.code i) k t (earlier-leads s.number s.from s.instruction i there lower) get)
       none-before _ _ (flaw_target i k t there get astray) (inr (same, fewer)) =
-          let here : i ≡ s.from = one-at m.code i s.from there stands same in
+          let here : i ≡ s.from = law.one i s.from there stands same in
           astray (taken-in (IsTargetPlace m.code) (targets m.code s.from) k s.target_number t s.target_is.before fewer
           (subst (λ (j : Placed). slice_get (targets m.code j) k ≡ Some t) here get))
-      none-before _ _ (flaw_end end goes_on why) (inl lower) = let inside = ends-after m.code s.from stands in absurd (omega arith)
-      none-before _ _ (flaw_end end goes_on why) (inr (same, fewer)) = let inside = ends-after m.code s.from stands in absurd (omega arith)
+      none-before _ _ (flaw_end end goes_on why) (inl lower) = let inside = law.before_end s.from stands in absurd (omega arith)
+      none-before _ _ (flaw_end end goes_on why) (inr (same, fewer)) = let inside = law.before_end s.from stands in absurd (omega arith)
       none-before _ _ (flaw_handler n h get bad) before = before
 
+module _ (m : Method) where
   -- where all instructions lead to places no target is a flaw
   no-stray : All (LeadsToPlaces m.code) (listing m.code) → (i : Placed) (k : ℕ) (t : ℤ) → Stands m.code i → slice_get (targets m.code i) k ≡ Some t → IsTargetPlace m.code t
   no-stray all i k t there get = slice_get-in (IsTargetPlace m.code) (targets m.code i) k t (All-contains (LeadsToPlaces m.code) (listing m.code) i all there) get

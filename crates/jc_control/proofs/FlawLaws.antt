@@ -1,9 +1,10 @@
 -- A method is well formed exactly where it has no flaw, and has at most one first flaw.
-use Rattle.std.proofs.Common.{◌≡◌, ◌<◌, ◌≤◌, ◌⊎◌, inl, inr, ⊎_elim, ℕ, Some, Err, List, [], ◌∷◌, length, get_or, refl, sym, ap, ◌∙◌, subst, arith, All}
-use Rattle.std.specs.Prelude.{ℤ, pos, negsuc, slice_get}
+use Rattle.std.proofs.Common.{◌≡◌, ◌<◌, ◌≤◌, ◌⊎◌, inl, inr, ⊎_elim, ℕ, Some, Result, Ok, Err, List, [], ◌∷◌, length, get_or, refl, sym, ap, ◌∙◌, subst, arith, rules, All}
+use Rattle.std.specs.Prelude.{ℤ, pos, negsuc, slice_get, IsErr}
 use Rattle.std.proofs.lemmas.Bool.{cases_lt, cases_eq}
 use Rattle.std.proofs.lemmas.Option.{slice_get-get_or}
 use Rattle.jc_base.specs.declared.record.Handler.{Handler}
+use Rattle.jc_decode.specs.declared.insn.Insn.{Insn}
 use Rattle.jc_decode.specs.declared.insn.Placed.{Placed}
 use Rattle.jc_decode.specs.declared.insn.CodeEnd.{CodeEnd}
 use Rattle.jc_decode.specs.Decoding.{decoded}
@@ -15,8 +16,9 @@ use Rattle.jc_control.specs.declared.flaw.Flaw.TheVariants.{Code, BadTarget, Bad
 use Rattle.jc_control.specs.Flaw.{Spot, in_code, in_table, ComesBefore, IsFlaw, flaw_target, flaw_end, flaw_handler, IsFirstFlaw}
 use Rattle.jc_control.specs.Places.{BeginsIn}
 use Rattle.jc_control.specs.Laws.{FlawsDecide, FirstFlawIsOne}
-use Rattle.jc_control.proofs.Elements.{slice_get-in, Contains-either, Contains-first, Contains-later, nothing-in}
-use Rattle.jc_control.proofs.Listed.{one-at, ends-after, why-it-ends}
+use Rattle.jc_decode.specs.Laws.{AreListed, InstructionsAreListed}
+use Rattle.jc_decode.proofs.Elements.{Contains-either, Contains-first, Contains-later, nothing-in}
+use Rattle.jc_control.proofs.Elements.{slice_get-in}
 
 -- ---- each condition holds or does not
 
@@ -68,15 +70,19 @@ flawless m w _ _ (flaw_target i n t there get astray) = astray (slice_get-in (Is
 flawless m w _ _ (flaw_end end goes_on why) = goes_on w.ends
 flawless m w _ _ (flaw_handler n h get bad) = bad (slice_get-in (IsHandlerOf m.code) m.rec.handlers n h w.handlers get)
 
-well-formed : (m : Method) → ((spot : Spot) (f : Flaw) → ¬ IsFlaw m spot f) → IsWellFormed m
-well-formed m none = record {
-  ends = ⊎_elim (λ same. same) (λ other. let why = why-it-ends m.code in absurd (none _ _ (flaw_end why.0 other why.1))) (cases_eq (listing_end m.code) (length m.code));
+err-of : (r : Result Insn CodeEnd) → IsErr r → (e : CodeEnd) × (r ≡ Err e)
+err-of (Ok i) h = absurd (search rules)
+err-of (Err e) h = (e, refl)
+
+well-formed : (m : Method) → AreListed m.code → ((spot : Spot) (f : Flaw) → ¬ IsFlaw m spot f) → IsWellFormed m
+well-formed m law none = record {
+  ends = ⊎_elim (λ same. same) (λ other. let why = err-of (decoded m.code (listing_end m.code)) law.stops in absurd (none _ _ (flaw_end why.0 other why.1))) (cases_eq (listing_end m.code) (length m.code));
   targets = λ i there. all-decided (IsTargetPlace m.code) (targets m.code i) (target-decided m.code) (λ n t get astray. none _ _ (flaw_target i n t there get astray));
   handlers = all-decided (IsHandlerOf m.code) m.rec.handlers (handler-decided m.code) (λ n h get bad. none _ _ (flaw_handler n h get bad));
 }
 
-pub flaws-decide : FlawsDecide
-flaws-decide m = (flawless m, well-formed m)
+pub flaws-decide : InstructionsAreListed → FlawsDecide
+flaws-decide listed m = (flawless m, well-formed m (listed m.code))
 
 -- ---- one first flaw
 
@@ -110,16 +116,16 @@ module _ (m : Method) where
   told _ _ (flaw_end end goes_on why) = inr (record { end = end; here = refl; why = why; is = refl })
   told _ _ (flaw_handler n h get bad) = record { handler = h; get = get; is = refl }
 
-  one-told : (spot : Spot) (f g : Flaw) → Tells spot f → Tells spot g → f ≡ g
-  one-told (in_code p n) f g (inl a) (inl b) =
-      let from : a.from ≡ b.from = one-at m.code a.from b.from a.stands b.stands (a.here ∙ sym b.here) in
+  one-told : AreListed m.code → (spot : Spot) (f g : Flaw) → Tells spot f → Tells spot g → f ≡ g
+  one-told law (in_code p n) f g (inl a) (inl b) =
+      let from : a.from ≡ b.from = law.one a.from b.from a.stands b.stands (a.here ∙ sym b.here) in
       let get = subst (λ (i : Placed). slice_get (targets m.code i) n ≡ Some a.target) from a.get in
       let same : a.target ≡ b.target = cc (get, b.get) in
       a.is ∙ ap (BadTarget p) same ∙ sym b.is
-  one-told (in_code p n) f g (inl a) (inr b) = let before = ends-after m.code a.from a.stands in absurd (omega (arith, a.here, b.here))
-  one-told (in_code p n) f g (inr a) (inl b) = let before = ends-after m.code b.from b.stands in absurd (omega (arith, a.here, b.here))
-  one-told (in_code p n) f g (inr a) (inr b) = let same : a.end ≡ b.end = cc (a.why, b.why) in a.is ∙ ap (Code p) same ∙ sym b.is
-  one-told (in_table n) f g a b = let same : a.handler ≡ b.handler = cc (a.get, b.get) in a.is ∙ ap (λ (h : Handler). BadHandler h.entry n) same ∙ sym b.is
+  one-told law (in_code p n) f g (inl a) (inr b) = let before = law.before_end a.from a.stands in absurd (omega (arith, a.here, b.here))
+  one-told law (in_code p n) f g (inr a) (inl b) = let before = law.before_end b.from b.stands in absurd (omega (arith, a.here, b.here))
+  one-told law (in_code p n) f g (inr a) (inr b) = let same : a.end ≡ b.end = cc (a.why, b.why) in a.is ∙ ap (Code p) same ∙ sym b.is
+  one-told law (in_table n) f g a b = let same : a.handler ≡ b.handler = cc (a.get, b.get) in a.is ∙ ap (λ (h : Handler). BadHandler h.entry n) same ∙ sym b.is
 
 -- of two spots one comes before the other, or they are the same
 same-spot : (s t : Spot) → ¬ ComesBefore s t → ¬ ComesBefore t s → s ≡ t
@@ -132,10 +138,10 @@ same-spot (in_table n) (in_code q k) not_st not_ts = absurd (not_ts tt)
 same-spot (in_table n) (in_table k) not_st not_ts =
     ap in_table (⊎_elim (λ low. absurd (not_st low)) (λ le. ⊎_elim (λ high. absurd (not_ts high)) (λ ge. omega arith) (cases_lt k n)) (cases_lt n k))
 
-pub first-flaw-is-one : FirstFlawIsOne
-first-flaw-is-one m f g a b =
+pub first-flaw-is-one : InstructionsAreListed → FirstFlawIsOne
+first-flaw-is-one listed m f g a b =
     let same = same-spot a.spot b.spot (b.least a.spot f a.flaw) (a.least b.spot g b.flaw) in
-    one-told m b.spot f g (told m b.spot f (subst (λ (s : Spot). IsFlaw m s f) same a.flaw)) (told m b.spot g b.flaw)
+    one-told m (listed m.code) b.spot f g (told m b.spot f (subst (λ (s : Spot). IsFlaw m s f) same a.flaw)) (told m b.spot g b.flaw)
 
 -- a method with a first flaw is not well formed
 pub first-flaw-refuses : (m : Method) (f : Flaw) → IsFirstFlaw m f → ¬ IsWellFormed m

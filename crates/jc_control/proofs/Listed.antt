@@ -1,126 +1,25 @@
--- The instructions of a method's code: each is decoded at its place, and they stand there one after the other.
-use Rattle.std.proofs.Common.{◌≡◌, ◌<◌, ◌≤◌, ◌+◌, ⊎_elim, ℕ, zero, suc, Some, Result, Ok, Err, List, [], ◌∷◌, ◌++◌, length, refl, sym, ap, ◌∙◌, subst, arith, rules, Contains}
-use Rattle.std.specs.Prelude.{ℤ, pos, negsuc, ◌≤ℤ◌, ◌<ℤ◌, slice_get, IsErr}
+-- The places of a method's code lie within it.
+use Rattle.std.proofs.Common.{◌≡◌, ◌<◌, ◌≤◌, ℕ, List, ◌∷◌, ◌++◌, length, sym, subst, arith}
+use Rattle.std.specs.Prelude.{ℤ, pos, negsuc, ◌≤ℤ◌, ◌<ℤ◌}
 use Rattle.std.proofs.lemmas.Int.{ints}
-use Rattle.jc_decode.specs.declared.insn.Insn.{Insn}
 use Rattle.jc_decode.specs.declared.insn.Placed.{Placed}
-use Rattle.jc_decode.specs.declared.insn.CodeEnd.{CodeEnd}
-use Rattle.jc_decode.specs.Decoding.{decoded, IsWithin}
-use Rattle.jc_decode.specs.Listing.{listing, listing_end, end_from, Lists}
-use Rattle.jc_decode.proofs.Decoded.{IsWithin-decoded, ok-same}
-use Rattle.jc_decode.proofs.Listing.{Lists-listing_from, listing_from-start}
-use Rattle.jc_control.specs.WellFormed.{Stands, IsPlace, IsTargetPlace}
-use Rattle.jc_control.specs.Laws.{InstructionsAreListed}
-use Rattle.jc_control.proofs.Elements.{contained-in, nothing-in, Contains-either, Contains-slice_get}
+use Rattle.jc_decode.specs.Listing.{listing}
+use Rattle.jc_decode.specs.Laws.{AreListed}
+use Rattle.jc_control.specs.WellFormed.{IsPlace, IsTargetPlace}
+use Rattle.jc_control.proofs.Elements.{contained-in}
 
-module _ (code : List ℕ) where
-  record IsListed (at : ℕ) (i : Placed) : Type 0 where
-    from : at ≤ i.place
-    found : decoded code i.place ≡ Ok i.insn
-
-  listed-in : (at : ℕ) (ps : List Placed) (i : Placed) → Lists code at ps → Contains ps i → IsListed at i
-  listed-in at [] i l c = absurd (nothing-in i c)
-  listed-in at (p ∷ ps) i l c =
-      ⊎_elim (λ here. subst (IsListed at) here (record { from = omega (arith, l.0); found = ap (decoded code) l.0 ∙ l.1 }))
-      (λ later. let r = listed-in (at + p.insn.len) ps i l.2 later in record { from = omega (arith, r.from); found = r.found })
-      (Contains-either p ps i c)
-
-  pub all-listed : Lists code 0 (listing code)
-  all-listed = subst (Lists code 0) (listing_from-start code) (Lists-listing_from code 0)
-
-  pub decoded-Stands : (i : Placed) → Stands code i → decoded code i.place ≡ Ok i.insn
-  decoded-Stands i s = (listed-in 0 (listing code) i all-listed s).found
-
-  pub within-Stands : (i : Placed) → Stands code i → IsWithin code i.place i.insn
-  within-Stands i s = IsWithin-decoded code i.place i.insn (decoded-Stands i s)
-
+module _ (code : List ℕ) (law : AreListed code) where
   pub place-inside : (p : ℕ) → IsPlace code p → p < length code
-  place-inside p here = let w = within-Stands here.0 here.1 in omega (arith, w.one, w.reaches, here.2)
+  place-inside p here = let inside = law.inside here.0 here.1 in omega (arith, inside, here.2)
 
-  -- the instructions rise
-  rising-in : (at : ℕ) (ps : List Placed) (a b : ℕ) (i j : Placed) → Lists code at ps → slice_get ps a ≡ Some i → slice_get ps b ≡ Some j → a < b → i.place < j.place
-  rising-in at [] a b i j l h k lt = absurd (cc)
-  rising-in at (p ∷ ps) a zero i j l h k lt = absurd (omega arith)
-  rising-in at (p ∷ ps) zero (suc b) i j l h k lt =
-      let later = listed-in (at + p.insn.len) ps j l.2 (Contains-slice_get ps b j k) in
-      let w = IsWithin-decoded code at p.insn l.1 in
-      let same : p ≡ i = cc in
-      let place : i.place ≡ at = ap (λ (q : Placed). q.place) (sym same) ∙ l.0 in
-      omega (arith, later.from, w.one)
-  rising-in at (p ∷ ps) (suc a) (suc b) i j l h k lt = rising-in (at + p.insn.len) ps a b i j l.2 h k (omega arith)
+  -- the next instruction of a walk stands in the code
+  pub next-inside : (before : List Placed) (i : Placed) (after : List Placed) → before ++ i ∷ after ≡ listing code → i.place < length code
+  next-inside before i after whole = law.inside i (contained-in before i after (listing code) whole)
 
-  pub rising : (a b : ℕ) (i j : Placed) → slice_get (listing code) a ≡ Some i → slice_get (listing code) b ≡ Some j → a < b → i.place < j.place
-  rising a b i j h k lt = rising-in 0 (listing code) a b i j all-listed h k lt
+  -- a target that is a place is a number that fits in sixteen bits
+  pub target-range : (t : ℤ) → IsTargetPlace code t → length code ≤ 32767 → (pos 0 ≤ℤ t) × (t <ℤ pos 65536)
+  target-range (pos p) h short = let inside = place-inside p h in (omega (arith, ints), omega (arith, ints))
+  target-range (negsuc n) h short = absurd h
 
-  -- one instruction stands at a place
-  pub one-at : (i j : Placed) → Stands code i → Stands code j → i.place ≡ j.place → i ≡ j
-  one-at i j s t same =
-      let insn : i.insn ≡ j.insn = ok-same i.insn j.insn (decoded code i.place) (decoded-Stands i s) (ap (decoded code) same ∙ decoded-Stands j t) in
-      ap (λ (p : ℕ). record { place = p; insn = i.insn }) same ∙ ap (λ (n : Insn). record { place = j.place; insn = n }) insn
-
-  after-in : (at : ℕ) (ps : List Placed) (i j : Placed) → Lists code at ps → Contains ps i → Contains ps j → i.place < j.place → i.place + i.insn.len ≤ j.place
-  after-in at [] i j l c d lt = absurd (nothing-in i c)
-  after-in at (p ∷ ps) i j l c d lt =
-      ⊎_elim
-      (λ here. ⊎_elim (λ both. absurd (omega (arith, ap (λ (q : Placed). q.place) (sym here ∙ both))))
-      (λ later. subst (λ (q : Placed). q.place + q.insn.len ≤ j.place) here (omega (arith, l.0, (listed-in (at + p.insn.len) ps j l.2 later).from))) (Contains-either p ps j d))
-      (λ there. ⊎_elim
-      (λ here. absurd (omega (arith, l.0, ap (λ (q : Placed). q.place) here, (listed-in (at + p.insn.len) ps i l.2 there).from, lt)))
-      (λ later. after-in (at + p.insn.len) ps i j l.2 there later lt) (Contains-either p ps j d))
-      (Contains-either p ps i c)
-
-  -- and before the place where they end
-  ends-later : (from : ℕ) (qs : List Placed) → from ≤ end_from from qs
-  ends-later from [] = omega arith
-  ends-later from (q ∷ qs) = let h = ends-later (from + q.insn.len) qs in omega arith
-
-  before-end : (at : ℕ) (ps : List Placed) (i : Placed) → Lists code at ps → Contains ps i → i.place < end_from at ps
-  before-end at [] i l c = absurd (nothing-in i c)
-  before-end at (p ∷ ps) i l c =
-      ⊎_elim (λ here.
-      let w = IsWithin-decoded code at p.insn l.1 in
-      let place : i.place ≡ at = ap (λ (q : Placed). q.place) (sym here) ∙ l.0 in
-      omega (arith, w.one, ends-later (at + p.insn.len) ps))
-      (λ later. before-end (at + p.insn.len) ps i l.2 later)
-      (Contains-either p ps i c)
-
-  pub ends-after : (i : Placed) → Stands code i → i.place < listing_end code
-  ends-after i s = before-end 0 (listing code) i all-listed s
-
-pub instructions-are-listed : InstructionsAreListed
-instructions-are-listed code = record {
-  lists = all-listed code;
-  decodes = decoded-Stands code;
-  long = λ at i d. (IsWithin-decoded code at i d).one;
-  inside = λ i s. place-inside code i.place (i, s, refl);
-  within = λ i s. let w = within-Stands code i s in omega (arith, w.reaches);
-  one = one-at code;
-  after = λ i j s t lt. after-in code 0 (listing code) i j (all-listed code) s t lt;
-  rising = rising code;
-}
-
--- after the last instruction none is decoded
-none-at-end : (code : List ℕ) (at : ℕ) (ps : List Placed) → Lists code at ps → IsErr (decoded code (end_from at ps))
-none-at-end code at [] l = l
-none-at-end code at (p ∷ ps) l = none-at-end code (at + p.insn.len) ps l.2
-
-err-of : (r : Result Insn CodeEnd) → IsErr r → (e : CodeEnd) × (r ≡ Err e)
-err-of (Ok i) h = absurd (search rules)
-err-of (Err e) h = (e, refl)
-
-pub why-it-ends : (code : List ℕ) → (e : CodeEnd) × (decoded code (listing_end code) ≡ Err e)
-why-it-ends code = err-of (decoded code (listing_end code)) (none-at-end code 0 (listing code) (all-listed code))
-
--- the next instruction of a walk stands in the code
-pub next-inside : (code : List ℕ) (before : List Placed) (i : Placed) (after : List Placed) → before ++ i ∷ after ≡ listing code → i.place < length code
-next-inside code before i after whole =
-    let w = within-Stands code i (contained-in before i after (listing code) whole) in
-    omega (arith, w.one, w.reaches)
-
--- a target that is a place is a number that fits in sixteen bits
-pub target-range : (code : List ℕ) (t : ℤ) → IsTargetPlace code t → length code ≤ 32767 → (pos 0 ≤ℤ t) × (t <ℤ pos 65536)
-target-range code (pos p) h short = let inside = place-inside code p h in (omega (arith, ints), omega (arith, ints))
-target-range code (negsuc n) h short = absurd h
-
-pub target-place : (code : List ℕ) (p : ℕ) (t : ℤ) → IsTargetPlace code t → pos p ≡ t → p < length code
-target-place code p t h same = place-inside code p (subst (IsTargetPlace code) (sym same) h)
+  pub target-place : (p : ℕ) (t : ℤ) → IsTargetPlace code t → pos p ≡ t → p < length code
+  target-place p t h same = place-inside p (subst (IsTargetPlace code) (sym same) h)

@@ -8,7 +8,7 @@ use Rattle.std.proofs.lemmas.List.Elements.{Contains-append_left, Contains-push,
 use Rattle.jc_decode.specs.declared.insn.Placed.{Placed}
 use Rattle.jc_control.specs.Flags.{flag, IsFlagged, Marks}
 use Rattle.jc_control.specs.Places.{BeginsIn}
-use Rattle.jc_control.proofs.Elements.{nothing-in}
+use Rattle.jc_decode.proofs.Elements.{nothing-in}
 
 pub flag-none : (n p : ℕ) → flag (replicate n false) p ≡ false
 flag-none n p = elim (cases_lt p n) [

@@ -1,10 +1,8 @@
 -- Laws of flaws and of reached places.
-use Rattle.std.specs.Prelude.{◌≡◌, ◌↔◌, ℕ, ◌+◌, ◌<◌, List, length, Some, Ok, slice_get, ◌≤◌}
+use Rattle.std.specs.Prelude.{◌≡◌, ◌↔◌, ℕ, ◌+◌, ◌<◌, length, Ok}
 use Rattle.jc_base.specs.declared.record.Handler.{Handler}
-use Rattle.jc_decode.specs.declared.insn.Insn.{Insn}
 use Rattle.jc_decode.specs.declared.insn.Placed.{Placed}
 use Rattle.jc_decode.specs.Decoding.{decoded}
-use Rattle.jc_decode.specs.Listing.{listing, Lists}
 use Rattle.jc_control.specs.Method.{Method}
 use Rattle.jc_control.specs.WellFormed.{Stands, IsPlace, IsBoundary, IsWellFormed}
 use Rattle.jc_control.specs.Control.{IsReached, IsLeader, IsLive}
@@ -26,27 +24,6 @@ pub record ArePlaced (m : Method) : Type 0 where
   pub next : (i : Placed) → Stands m.code i → IsBoundary m.code (i.place + i.insn.len)
   pub reached : (p : ℕ) → IsReached m p → IsBoundary m.code p
   pub decoded : (i : Placed) → IsReached m i.place → decoded m.code i.place ≡ Ok i.insn → Stands m.code i
-
--- the instructions of a code: each is the one that is decoded at its place, ends in the code, and is a byte
--- long at least; no two stand at one place, the next begins where one ends or later, and in the listing
--- places rise
-pub record AreListed (code : List ℕ) : Type 0 where
-  pub lists : Lists code 0 (listing code)
-  pub decodes : (i : Placed) → Stands code i → decoded code i.place ≡ Ok i.insn
-  pub long : (at : ℕ) (i : Insn) → decoded code at ≡ Ok i → 0 < i.len
-  pub inside : (i : Placed) → Stands code i → i.place < length code
-  pub within : (i : Placed) → Stands code i → i.place + i.insn.len ≤ length code
-  pub one : (i j : Placed) → Stands code i → Stands code j → i.place ≡ j.place → i ≡ j
-  pub after : (i j : Placed) → Stands code i → Stands code j → i.place < j.place → i.place + i.insn.len ≤ j.place
-  pub rising :
-      (a b : ℕ) (i j : Placed)
-      → slice_get (listing code) a ≡ Some i
-      → slice_get (listing code) b ≡ Some j
-      → a < b
-      → i.place < j.place
-
-abbrev pub InstructionsAreListed : Type 0
-InstructionsAreListed = (code : List ℕ) → AreListed code
 
 abbrev pub InstructionsArePlaced : Type 0
 InstructionsArePlaced = (m : Method) → IsWellFormed m → ArePlaced m

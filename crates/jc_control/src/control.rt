@@ -10,6 +10,7 @@ use crate::subject::Subject;
 use crate::traversal::Traversal;
 use cap_bytes::View;
 use jc_base::World;
+use jc_decode::instructions_are_listed;
 use std::alloc::Global;
 
 /// Where control goes in a method with code, if it is well formed, and else its first flaw.
@@ -23,6 +24,7 @@ pub fn control_flow(
     ensures formed { IsSomeAnd (method_in world.now method) (λ m. IfOk result (λ s. IsControlFlow m s)) }
     ensures flawed { IsSomeAnd (method_in world.now method) (λ m. IfErr result (λ end. TellsFlaw m end)) }
 {
+    instructions_are_listed();
     let rec = world.method(method);
     let code = View::of(world.code(method));
     let subject = Subject {

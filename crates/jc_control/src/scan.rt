@@ -16,7 +16,7 @@ use crate::subject::Subject;
 use crate::targets::Targets;
 use cap_bytes::View;
 use jc_base::{Handler, Handlers};
-use jc_decode::{Instructions, Placed, code_end};
+use jc_decode::{Instructions, Placed, code_end, instructions_are_listed};
 use std::alloc::{AllocError, Global};
 
 /// Marks the places at which an instruction begins, and no others, in flags that the caller lends: a set that is
@@ -27,6 +27,7 @@ pub fn mark_places(code: View<'_>, flags: &mut [bool])
     ensures marks { Marks (IsPlace code.entry.bytes.now) flags.new }
     ensures count { length flags.new ≡ length flags.old }
 {
+    instructions_are_listed();
     'clear: for flag in flags.iter_mut() {
         *flag = false;
     }
@@ -65,6 +66,7 @@ fn check_targets(code: View<'_>, places: Places<'_>) -> Result<(), Flaw>
     ensures formed { OnOk result (All (LeadsToPlaces code.entry.bytes.now) (listing code.entry.bytes.now)) }
     ensures flawed { IfErr result (λ flaw. IsFirstStray code.entry.bytes.now flaw) }
 {
+    instructions_are_listed();
     'walk: for placed in Instructions::of(code) {
         if let Some(target) = stray_target(code, placed, places) {
             return Err(Flaw::BadTarget(placed.place, target));

@@ -1,4 +1,6 @@
 ghost use Rattle.std.specs.Prelude.{◌≤◌, length};
+ghost use Rattle.jc_decode.specs.Laws.{AreListed};
+ghost use Rattle.jc_decode.specs.ListedOnce.{AreListed-once};
 
 use cap_bytes::View;
 use jc_base::MethodRec;
@@ -10,4 +12,5 @@ pub struct Subject<'a> {
     pub rec: &'a MethodRec,
     pub code: View<'a>,
     ghost short: { length code.bytes.now ≤ 32767 },
+    ghost listed: { AreListed code.bytes.now } by { AreListed-once code.bytes.now },
 }

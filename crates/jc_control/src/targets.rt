@@ -1,5 +1,6 @@
-ghost use Rattle.std.specs.Prelude.{◌≡◌, ◌≤◌, length, Ok};
+ghost use Rattle.std.specs.Prelude.{◌≡◌, ◌≤◌, ◌+◌, length, Ok};
 ghost use Rattle.jc_decode.specs.Decoding.{decoded};
+ghost use Rattle.jc_decode.specs.Listing.{targets};
 
 use cap_bytes::View;
 use jc_decode::Placed;
@@ -15,4 +16,5 @@ pub struct Targets<'a> {
     next: u32,
     ghost short: { length code.bytes.now ≤ 65535 },
     ghost stands: { decoded code.bytes.now placed.place ≡ Ok placed.insn },
+    ghost few: { length (targets code.bytes.now placed) ≤ length code.bytes.now + 1 },
 }

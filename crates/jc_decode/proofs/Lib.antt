@@ -22,3 +22,6 @@ pub mod JumpForms
 pub mod Defaults
 pub mod Shorter
 pub mod PastTheEnd
+pub mod Elements
+pub mod Listed
+pub mod FewTargets

@@ -10,3 +10,4 @@ pub mod PoolIndex
 pub mod Symbols
 pub mod Standing
 pub mod Laws
+pub mod ListedOnce

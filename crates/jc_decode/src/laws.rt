@@ -1,4 +1,4 @@
-ghost use Rattle.jc_decode.specs.Laws.{BytesReadBack, LabelsStandBetween, ListingIsOne, NothingPastTheEnd, ShortIsNoLonger};
+ghost use Rattle.jc_decode.specs.Laws.{BytesReadBack, InstructionsAreListed, LabelsStandBetween, ListingIsOne, NothingPastTheEnd, ShortIsNoLonger, TargetsAreFew};
 
 use crate::decoding::are_bytes;
 
@@ -12,6 +12,16 @@ pub fn bytes_read_back(bytes: &[u8])
 /// A code has one listing, which is found instruction by instruction.
 pub fn listing_is_one()
     ensures { ListingIsOne }
+{}
+
+/// In any code the instructions stand one after the other, and each is the one that is decoded at its place.
+pub fn instructions_are_listed()
+    ensures { InstructionsAreListed }
+{}
+
+/// An instruction has at most one target more than the code has bytes.
+pub fn targets_are_few()
+    ensures { TargetsAreFew }
 {}
 
 /// A label stands between instructions: for the number of those before it.

@@ -24,7 +24,8 @@ pub use encoding::encode;
 pub use insn::{Case, CodeEnd, Insn, Placed};
 pub use instructions::{Instructions, code_end};
 pub use laws::{
-    bytes_read_back, labels_stand_between, listing_is_one, nothing_past_the_end, short_is_no_longer,
+    bytes_read_back, instructions_are_listed, labels_stand_between, listing_is_one,
+    nothing_past_the_end, short_is_no_longer, targets_are_few,
 };
 pub use layout::{Cases, Layout, Operand};
 pub use pool_index::{IndexWidth, PoolIndex};

@@ -16,7 +16,7 @@ use Rattle.jc_ops.specs.declared.fault.RuleFault.TheVariants.{FreshKept, StackMe
 use Rattle.jc_rules.specs.Demand.{Frame}
 use Rattle.jc_control.specs.Method.{Method, IsMethodOf}
 use Rattle.jc_control.specs.WellFormed.{IsWellFormed, Stands, IsPlace, IsBoundary, IsTargetPlace, IsHandlerOf}
-use Rattle.jc_control.specs.Laws.{AreListed}
+use Rattle.jc_decode.specs.Laws.{AreListed}
 use Rattle.jc_control.specs.Control.{IsSuccessor, falls_through, jumped, IsLeader, Covers}
 use Rattle.jc_rules.specs.Flow.{IsNotFresh, IsNotTop, caught_frame, derived_next, derived_caught}
 use Rattle.jc_rules.specs.Typing.{state_at, Clashes}

@@ -17,7 +17,7 @@ use Rattle.jc_control.specs.Method.{Method, IsMethodOf}
 use Rattle.jc_control.specs.WellFormed.{Stands, IsPlace}
 use Rattle.jc_rules.specs.Flow.{IsNotFresh, Steps}
 use Rattle.jc_base.proofs.Lists.{All-turned, All-reverse}
-use Rattle.jc_control.specs.Laws.{AreListed}
+use Rattle.jc_decode.specs.Laws.{AreListed}
 use Rattle.jc_flow.specs.Progress.{IsHeld}
 use Rattle.jc_flow.specs.Fails.{FailsAt, FallsPast, fails_rule, fails_jump}
 

@@ -32,4 +32,5 @@ one_world ps roles w v l m =
     let methods = l.lists.methods ∙ sym m.lists.methods in
     let statics = l.lists.statics ∙ sym m.lists.statics in
     let arrays = l.lists.arrays ∙ sym m.lists.arrays in
-    λ i. record { infos = infos i; pools = pools i; classes = classes i; methods = methods i; statics = statics i; arrays = arrays i }
+    let indexes = l.lists.indexes ∙ sym m.lists.indexes in
+    λ i. record { infos = infos i; pools = pools i; classes = classes i; methods = methods i; statics = statics i; arrays = arrays i; indexes = indexes i }

@@ -3,12 +3,13 @@ use Rattle.std.proofs.Common.{◌≡◌, ℕ, zero, suc, ◌<◌, ◌≤◌, Boo
 use Rattle.std.specs.Prelude.{slice_index}
 use Rattle.cap_package.specs.PackageRecord.{PackageRecord}
 use Rattle.jc_base.specs.declared.record.MethodRec.{MethodRec}
-use Rattle.jc_base.specs.Class.{ClassTable, IsClass}
+use Rattle.jc_base.specs.Class.{ClassTable}
+use Rattle.jc_base.specs.Dispatch.{is_concrete}
+use Rattle.jc_base.specs.Laws.{ConcreteIsDecided}
 use Rattle.jc_base.specs.World.{AreRoles}
 use Rattle.jc_resolve.specs.declared.fault.LinkFault.TheVariants.{RoleAbstract}
 use Rattle.jc_resolve.proofs.Faultless.{IsOneOf, faultless}
-use Rattle.jc_members.specs.Roles.{is_concrete, role_fault, thrown_roles, abstract_roles}
-use Rattle.jc_members.proofs.Concretes.{concrete-from}
+use Rattle.jc_members.specs.Roles.{role_fault, thrown_roles, abstract_roles}
 use Rattle.jc_link.specs.World.{table_of, methods_of}
 use Rattle.jc_link.specs.Known.{IsTableOf}
 use Rattle.jc_link.proofs.Tables.{role-class, role-thrown}
@@ -36,15 +37,13 @@ module _ (t : ClassTable) (methods : List MethodRec) where
   roles_concrete : abstract_roles t methods ≡ [] → (k : ℕ) → 2 ≤ k → k < 8 → is_concrete t methods (slice_index t.roles k) ≡ true
   roles_concrete none k two lt = concrete_by k (is_concrete t methods (slice_index t.roles k)) refl (faultless (role_fault t methods) thrown_roles k none (thrown_is k two lt))
 
-pub are-roles : (ps : List PackageRecord) (roles : List ℕ) (t : ClassTable) → IsTableOf ps roles t → abstract_roles (table_of ps roles) (methods_of ps roles) ≡ [] → AreRoles (table_of ps roles) (methods_of ps roles)
-are-roles ps roles t is none = record {
+pub are-roles : ConcreteIsDecided → (ps : List PackageRecord) (roles : List ℕ) (t : ClassTable) → IsTableOf ps roles t → abstract_roles (table_of ps roles) (methods_of ps roles) ≡ [] → AreRoles (table_of ps roles) (methods_of ps roles)
+are-roles decided ps roles t is none = record {
   count = is.eight;
   objects = role-class ps roles t is 0 (omega arith);
   throwables = role-class ps roles t is 1 (omega arith);
-  others = λ k two lt.
-      let class : IsClass (table_of ps roles) (slice_index roles k) = role-class ps roles t is k lt in
-      record {
-        concrete = concrete-from (table_of ps roles) (methods_of ps roles) (slice_index roles k) class.number (roles_concrete (table_of ps roles) (methods_of ps roles) none k two lt);
-        thrown = role-thrown ps roles t is k two lt;
-      };
+  others = λ k two lt. record {
+    concrete = (decided (table_of ps roles) (methods_of ps roles) (slice_index roles k)).0 (roles_concrete (table_of ps roles) (methods_of ps roles) none k two lt);
+    thrown = role-thrown ps roles t is k two lt;
+  };
 }

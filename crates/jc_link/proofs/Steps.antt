@@ -2,6 +2,7 @@
 use Rattle.std.proofs.Common.{◌≡◌, ℕ, ◌<◌, ◌≤◌, List, length, Result, Ok, Err, sym, ap, subst, ◌∙◌, arith}
 use Rattle.std.specs.Prelude.{All, IfOk, slice_index}
 use Rattle.std.proofs.lemmas.List.{length-map}
+use Rattle.std.proofs.lemmas.List.Elements.{All-weaker}
 use Rattle.cap_package.specs.PackageRecord.{PackageRecord}
 use Rattle.jc_base.specs.declared.record.MethodRec.{MethodRec}
 use Rattle.jc_base.specs.Class.{ClassTable, IsClass, AreClasses, throwable}
@@ -13,7 +14,7 @@ use Rattle.jc_resolve.specs.declared.named.NamedClass.{NamedClass}
 use Rattle.jc_resolve.specs.Fault.{place_of}
 use Rattle.first_fault.specs.Least.{◌>>=◌}
 use Rattle.first_fault.specs.First.{IsFirst, AllEmpty}
-use Rattle.jc_resolve.specs.Named.{AreNamed, IsSized, infos_of}
+use Rattle.jc_resolve.specs.Named.{AreNamed, IsNamedMethod, IsSized, infos_of}
 use Rattle.jc_resolve.specs.Conditions as names
 use Rattle.jc_resolve.specs.Due.{IsDue}
 use Rattle.jc_resolve.specs.Names.{NamesRecord, named, checked, names_of, Tells}
@@ -71,6 +72,14 @@ module _ (ps : List PackageRecord) (roles : List ℕ) (n : NamesRecord) (of : Ar
   roles-are = ap (λ (m : NamesRecord). m.roles) of.are
 
   -- what holds of the packages and the roles of names holds of these, and the other way
+  homes_count : length (infos_of ps) ≡ length ps
+  homes_count = length-map ps _
+
+  pub homes-known : All (λ (m : MethodRec). m.package < length ps) n.methods
+  homes-known =
+      let homes = All-weaker (IsNamedMethod (infos_of ps) (classes_of ps roles) (slice_index roles 0)) (λ (m : MethodRec). m.package < length ps) (λ m is. subst (λ (k : ℕ). m.package < k) homes_count is.home) (methods_of ps roles) of.known.methods in
+      subst (All (λ (m : MethodRec). m.package < length ps)) (sym methods-are) homes
+
   pub along : (P : List PackageRecord → List ℕ → Type 0) → P n.packages n.roles → P ps roles
   along P h = subst (λ (xs : List PackageRecord). P xs roles) packages-are (subst (λ (rs : List ℕ). P n.packages rs) roles-are h)
 

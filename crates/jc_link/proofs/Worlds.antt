@@ -1,5 +1,5 @@
 -- The lists that packages and roles make are those of a world.
-use Rattle.std.proofs.Common.{◌≡◌, ℕ, ◌≤◌, List, length, sym, ap, subst, ◌∙◌}
+use Rattle.std.proofs.Common.{◌≡◌, ℕ, ◌≤◌, List, Option, length, sym, ap, subst, ◌∙◌}
 use Rattle.std.specs.Prelude.{All, slice_index, sum_by}
 use Rattle.std.proofs.lemmas.List.{length-map}
 use Rattle.cap_package.specs.PackageRecord.{PackageRecord}
@@ -10,10 +10,13 @@ use Rattle.jc_base.specs.declared.record.ArrayRec.{ArrayRec}
 use Rattle.jc_base.specs.Class.{ClassTable}
 use Rattle.jc_base.specs.Cell.{IsDeclared, width, AreElementsOf}
 use Rattle.jc_base.specs.Linked.{IsMember, IsStatic, AreSlots}
+use Rattle.jc_base.specs.Laws.{ConcreteIsDecided}
 use Rattle.jc_base.specs.World.{Linked, IsWorld}
 use Rattle.jc_resolve.specs.Named.{AreNamed, infos_of}
 use Rattle.first_fault.specs.First.{AllEmpty}
 use Rattle.jc_resolve.specs.Names.{NamesRecord}
+use Rattle.jc_indexes.specs.Indexes.{indexes_of}
+use Rattle.jc_indexes.proofs.Listing.{indexes-each}
 use Rattle.jc_statics.specs.Arrays.{array_records, cells_of}
 use Rattle.jc_members.specs.Pools.{pools}
 use Rattle.jc_link.specs.declared.linking.Resolved.{Resolved}
@@ -21,7 +24,7 @@ use Rattle.jc_link.specs.World.{classes_of, table_of, methods_of, statics_of, Ar
 use Rattle.jc_link.specs.Known.{AreNamesOf, IsTableOf, AreResolved}
 use Rattle.jc_link.proofs.Tables.{counted, table-chains}
 use Rattle.jc_link.proofs.Extensions.{none-extends-itself}
-use Rattle.jc_link.proofs.Steps.{methods-are, along, all_empty}
+use Rattle.jc_link.proofs.Steps.{methods-are, packages-are, along, all_empty}
 use Rattle.jc_link.proofs.Methods.{methods-linked}
 use Rattle.jc_link.proofs.Fields.{statics-declared}
 use Rattle.jc_link.proofs.Roles.{are-roles}
@@ -43,13 +46,13 @@ pub record AreKnownLists (ps : List PackageRecord) (w : Linked) : Type 0 where
 
 module _ (ps : List PackageRecord) (roles : List ℕ) where
   abbrev world_of : Linked
-  world_of = record { infos = infos_of ps; pools = pools ps (table_of ps roles) (statics_of ps roles); classes = table_of ps roles; methods = methods_of ps roles; statics = statics_of ps roles; arrays = array_records ps }
+  world_of = record { infos = infos_of ps; pools = pools ps (table_of ps roles) (statics_of ps roles); classes = table_of ps roles; methods = methods_of ps roles; statics = statics_of ps roles; arrays = array_records ps; indexes = indexes_of ps (methods_of ps roles) }
 
   infos_count : length (infos_of ps) ≡ length ps
   infos_count = length-map ps _
 
-  made : (t : ClassTable) → IsTableOf ps roles t → AreNamed (infos_of ps) (slice_index roles 0) (classes_of ps roles) (methods_of ps roles) → AllEmpty (member_conditions ps roles) → AreKnownLists ps world_of → IsWorld world_of
-  made t is known none lists = record {
+  made : ConcreteIsDecided → (t : ClassTable) → IsTableOf ps roles t → AreNamed (infos_of ps) (slice_index roles 0) (classes_of ps roles) (methods_of ps roles) → AllEmpty (member_conditions ps roles) → AreKnownLists ps world_of → IsWorld world_of
+  made decided t is known none lists = record {
     limits = record {
       packages = rw infos_count lists.packages;
       bytes = lists.bytes;
@@ -69,30 +72,33 @@ module _ (ps : List PackageRecord) (roles : List ℕ) where
     statics = rw infos_count (lists.fields lists.arrays (table_of ps roles) (statics-declared ps roles t is known));
     slots = lists.slots;
     arrays = lists.elements;
-    roles = are-roles ps roles t is none.1.1.1.1.0;
+    roles = are-roles decided ps roles t is none.1.1.1.1.0;
+    one_index_each = indexes-each ps (methods_of ps roles);
   }
 
   same_world : (w : Linked) → AreListsOf ps roles w → world_of ≡ w
   same_world w l =
-      ap (λ (x : List (List ℕ)). record { infos = x; pools = pools ps (table_of ps roles) (statics_of ps roles); classes = table_of ps roles; methods = methods_of ps roles; statics = statics_of ps roles; arrays = array_records ps }) (sym l.infos)
-      ∙ ap (λ (x : List (List Member)). record { infos = w.infos; pools = x; classes = table_of ps roles; methods = methods_of ps roles; statics = statics_of ps roles; arrays = array_records ps }) (sym l.pools)
-      ∙ ap (λ (x : ClassTable). record { infos = w.infos; pools = w.pools; classes = x; methods = methods_of ps roles; statics = statics_of ps roles; arrays = array_records ps }) (sym l.classes)
-      ∙ ap (λ (x : List MethodRec). record { infos = w.infos; pools = w.pools; classes = w.classes; methods = x; statics = statics_of ps roles; arrays = array_records ps }) (sym l.methods)
-      ∙ ap (λ (x : List StaticRec). record { infos = w.infos; pools = w.pools; classes = w.classes; methods = w.methods; statics = x; arrays = array_records ps }) (sym l.statics)
-      ∙ ap (λ (x : List ArrayRec). record { infos = w.infos; pools = w.pools; classes = w.classes; methods = w.methods; statics = w.statics; arrays = x }) (sym l.arrays)
+      ap (λ (x : List (List ℕ)). record { infos = x; pools = pools ps (table_of ps roles) (statics_of ps roles); classes = table_of ps roles; methods = methods_of ps roles; statics = statics_of ps roles; arrays = array_records ps; indexes = indexes_of ps (methods_of ps roles) }) (sym l.infos)
+      ∙ ap (λ (x : List (List Member)). record { infos = w.infos; pools = x; classes = table_of ps roles; methods = methods_of ps roles; statics = statics_of ps roles; arrays = array_records ps; indexes = indexes_of ps (methods_of ps roles) }) (sym l.pools)
+      ∙ ap (λ (x : ClassTable). record { infos = w.infos; pools = w.pools; classes = x; methods = methods_of ps roles; statics = statics_of ps roles; arrays = array_records ps; indexes = indexes_of ps (methods_of ps roles) }) (sym l.classes)
+      ∙ ap (λ (x : List MethodRec). record { infos = w.infos; pools = w.pools; classes = w.classes; methods = x; statics = statics_of ps roles; arrays = array_records ps; indexes = indexes_of ps (methods_of ps roles) }) (sym l.methods)
+      ∙ ap (λ (x : List StaticRec). record { infos = w.infos; pools = w.pools; classes = w.classes; methods = w.methods; statics = x; arrays = array_records ps; indexes = indexes_of ps (methods_of ps roles) }) (sym l.statics)
+      ∙ ap (λ (x : List ArrayRec). record { infos = w.infos; pools = w.pools; classes = w.classes; methods = w.methods; statics = w.statics; arrays = x; indexes = indexes_of ps (methods_of ps roles) }) (sym l.arrays)
+      ∙ ap (λ (x : List (Option (List ℕ))). record { infos = w.infos; pools = w.pools; classes = w.classes; methods = w.methods; statics = w.statics; arrays = w.arrays; indexes = x }) (sym l.indexes)
 
   -- the lists of packages and roles, of which nothing is at fault, are a world
-  pub are-world : (t : ClassTable) (w : Linked) → IsTableOf ps roles t → AreNamed (infos_of ps) (slice_index roles 0) (classes_of ps roles) (methods_of ps roles) → AllEmpty (member_conditions ps roles) → AreListsOf ps roles w → AreKnownLists ps w → IsWorld w
-  are-world t w is known none l lists =
+  pub are-world : ConcreteIsDecided → (t : ClassTable) (w : Linked) → IsTableOf ps roles t → AreNamed (infos_of ps) (slice_index roles 0) (classes_of ps roles) (methods_of ps roles) → AllEmpty (member_conditions ps roles) → AreListsOf ps roles w → AreKnownLists ps w → IsWorld w
+  are-world decided t w is known none l lists =
       let e : world_of ≡ w = same_world w l in
-      subst IsWorld e (made t is known none (subst (AreKnownLists ps) (sym e) lists))
+      subst IsWorld e (made decided t is known none (subst (AreKnownLists ps) (sym e) lists))
 
 -- ---- the lists that are made
 
 module _ (ps : List PackageRecord) (roles : List ℕ) (n : NamesRecord) (of : AreNamesOf ps roles n) (t : ClassTable) (is : IsTableOf ps roles t) (x : Resolved) (r : AreResolved n.packages n.roles x)
-    (infos : List (List ℕ)) (i : infos ≡ infos_of ps) (methods : List MethodRec) (m : methods ≡ n.methods) (arrays : List ArrayRec) (a : arrays ≡ array_records ps) where
+    (infos : List (List ℕ)) (i : infos ≡ infos_of ps) (methods : List MethodRec) (m : methods ≡ n.methods) (arrays : List ArrayRec) (a : arrays ≡ array_records ps)
+    (indexes : List (Option (List ℕ))) (x_is : indexes ≡ indexes_of n.packages n.methods) where
   abbrev made_of : Linked
-  made_of = record { infos = infos; pools = x.pools; classes = t; methods = methods; statics = x.statics; arrays = arrays }
+  made_of = record { infos = infos; pools = x.pools; classes = t; methods = methods; statics = x.statics; arrays = arrays; indexes = indexes }
 
   resolved : AreResolved ps roles x
   resolved = along ps roles n of (λ (xs : List PackageRecord) (rs : List ℕ). AreResolved xs rs x) r
@@ -100,7 +106,10 @@ module _ (ps : List PackageRecord) (roles : List ℕ) (n : NamesRecord) (of : Ar
   methods_same : methods ≡ methods_of ps roles
   methods_same = m ∙ methods-are ps roles n of
 
-  pub lists-are : AreListsOf ps roles (record { infos = infos; pools = x.pools; classes = t; methods = methods; statics = x.statics; arrays = arrays })
+  indexes_same : indexes ≡ indexes_of ps (methods_of ps roles)
+  indexes_same = x_is ∙ ap (λ (qs : List PackageRecord). indexes_of qs n.methods) (packages-are ps roles n of) ∙ ap (indexes_of ps) (methods-are ps roles n of)
+
+  pub lists-are : AreListsOf ps roles (record { infos = infos; pools = x.pools; classes = t; methods = methods; statics = x.statics; arrays = arrays; indexes = indexes })
   lists-are = record {
     infos = i;
     pools = resolved.pools_are;
@@ -108,6 +117,7 @@ module _ (ps : List PackageRecord) (roles : List ℕ) (n : NamesRecord) (of : Ar
     methods = methods_same;
     statics = resolved.statics_are;
     arrays = a;
+    indexes = indexes_same;
   }
 
   known_lists : All (λ info. length info ≤ 65535) infos → All (λ (b : ArrayRec). AreElementsOf b.kind b.initial) arrays → AreKnownLists ps made_of
@@ -126,12 +136,12 @@ module _ (ps : List PackageRecord) (roles : List ℕ) (n : NamesRecord) (of : Ar
     elements = elements;
   }
 
-  pub world-made : AllEmpty (member_conditions n.packages n.roles) → All (λ info. length info ≤ 65535) infos → All (λ (b : ArrayRec). AreElementsOf b.kind b.initial) arrays
-      → IsWorld (record { infos = infos; pools = x.pools; classes = t; methods = methods; statics = x.statics; arrays = arrays })
-  world-made none bytes elements =
-      are-world ps roles t made_of is of.known (along ps roles n of (λ (xs : List PackageRecord) (rs : List ℕ). AllEmpty (member_conditions xs rs)) none) lists-are (known_lists bytes elements)
+  pub world-made : ConcreteIsDecided → AllEmpty (member_conditions n.packages n.roles) → All (λ info. length info ≤ 65535) infos → All (λ (b : ArrayRec). AreElementsOf b.kind b.initial) arrays
+      → IsWorld (record { infos = infos; pools = x.pools; classes = t; methods = methods; statics = x.statics; arrays = arrays; indexes = indexes })
+  world-made decided none bytes elements =
+      are-world ps roles decided t made_of is of.known (along ps roles n of (λ (xs : List PackageRecord) (rs : List ℕ). AllEmpty (member_conditions xs rs)) none) lists-are (known_lists bytes elements)
 
-  pub linked-made : (w : Linked) → w ≡ record { infos = infos; pools = x.pools; classes = t; methods = methods; statics = x.statics; arrays = arrays } → AllEmpty (table_conditions ps roles) → AllEmpty (member_conditions n.packages n.roles) → IsLinked ps roles w
+  pub linked-made : (w : Linked) → w ≡ record { infos = infos; pools = x.pools; classes = t; methods = methods; statics = x.statics; arrays = arrays; indexes = indexes } → AllEmpty (table_conditions ps roles) → AllEmpty (member_conditions n.packages n.roles) → IsLinked ps roles w
   linked-made w e none others = record {
     faultless = all_empty ps roles none (along ps roles n of (λ (xs : List PackageRecord) (rs : List ℕ). AllEmpty (member_conditions xs rs)) others);
     lists = subst (AreListsOf ps roles) (sym e) lists-are;

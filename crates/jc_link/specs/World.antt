@@ -25,6 +25,7 @@ use Rattle.jc_classes.specs.Conditions as classes
 use Rattle.jc_classes.specs.Tables.{class_tables}
 use Rattle.jc_statics.specs.Arrays.{array_records}
 use Rattle.jc_statics.specs.Statics.{static_records}
+use Rattle.jc_indexes.specs.Indexes.{indexes_of}
 use Rattle.jc_statics.specs.Room.{statics_fault, arrays_fault}
 use Rattle.jc_members.specs.Pools.{pools, missing_members}
 use Rattle.jc_members.specs.Catches.{bad_catches}
@@ -57,6 +58,8 @@ pub record AreListsOf (ps : List PackageRecord) (roles : List ℕ) (w : Linked) 
   pub methods : w.methods ≡ methods_of ps roles
   pub statics : w.statics ≡ statics_of ps roles
   pub arrays : w.arrays ≡ array_records ps
+  -- of each method its list of the target index of its package
+  pub indexes : w.indexes ≡ indexes_of ps (methods_of ps roles)
 
 -- ---- what breaks the conditions, in the order of their numbers
 

@@ -7,7 +7,8 @@ ghost use Rattle.jc_link.specs.Known.{AreNamesOf, IsTableOf, AreResolved};
 use crate::method_infos::infos;
 use crate::tabling::{Tabled, with_table};
 use cap_package::Packages;
-use jc_base::{Classes, Pools, Statics, World};
+use jc_base::{Classes, Pools, Statics, World, concrete_decides};
+use jc_indexes::indexes;
 use jc_members::{handlers_fit, members, roles_fit};
 use jc_resolve::{LinkEnd, Names};
 use jc_statics::{arrays, arrays_fit, statics, statics_fit};
@@ -65,9 +66,11 @@ fn made<'a>(
     requires members { AllEmpty (member_conditions tabled.names.packages tabled.names.roles) }
     ensures { LinkTells tabled.entry.names.packages tabled.entry.names.roles result }
 {
+    concrete_decides();
     let packages = tabled.names.packages();
     let arrays = arrays(alloc, packages)?;
     let infos = infos(alloc, packages)?;
+    let indexes = indexes(alloc, packages, tabled.names.methods())?;
     let methods = tabled.names.into_methods();
     Ok(World::of(
         infos,
@@ -76,6 +79,7 @@ fn made<'a>(
         methods,
         resolved.statics,
         arrays,
+        indexes,
     ))
 }
 

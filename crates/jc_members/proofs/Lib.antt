@@ -5,7 +5,6 @@ pub mod Known
 pub mod Counted
 pub mod Told
 pub mod Leasts
-pub mod Concretes
 pub mod RoleLaws
 pub mod TokenCells
 pub mod OwnCells

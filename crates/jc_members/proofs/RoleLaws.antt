@@ -1,15 +1,16 @@
 -- The first of the roles that the machine throws whose class is not concrete.
-use Rattle.std.proofs.Common.{◌≡◌, ℕ, zero, suc, ◌+◌, ◌<◌, ◌≤◌, Bool, true, false, ltb, List, length, Option, Some, None, Result, Ok, Err, slice_index, refl, sym, ap, subst, ◌∙◌, arith}
+use Rattle.std.proofs.Common.{◌≡◌, ℕ, zero, suc, ◌+◌, ◌<◌, ◌≤◌, Bool, true, false, ltb, List, Option, Some, None, Result, slice_index, refl, sym, ap, subst, ◌∙◌, arith}
 use Rattle.std.specs.List.{range_with_len}
 use Rattle.std.proofs.lemmas.Bool.{ltb-true, ltb-false, le-ltb, ne_eqb, false≢true}
 use Rattle.jc_base.specs.declared.record.MethodRec.{MethodRec}
 use Rattle.jc_base.specs.Class.{ClassTable}
+use Rattle.jc_base.specs.Dispatch.{is_concrete}
+use Rattle.jc_base.specs.Laws.{ConcreteDecides}
 use Rattle.jc_resolve.specs.declared.fault.LinkFault.{LinkFault}
 use Rattle.jc_resolve.specs.declared.fault.LinkFault.TheVariants.{RoleAbstract}
 use Rattle.jc_resolve.specs.Fault.{place_of}
 use Rattle.first_fault.specs.Least.{lesser, least_from, least_of, refused}
-use Rattle.jc_members.specs.Roles.{is_concrete, role_fault, thrown_roles, IsFirstAbstract, IsRoleFault, Tells}
-use Rattle.jc_members.proofs.Concretes.{concrete-from, concrete-to}
+use Rattle.jc_members.specs.Roles.{role_fault, thrown_roles, IsRoleFault, Tells}
 
 -- what holds of a number and of all above it
 from_on : (P : ℕ → Type 0) (a : ℕ) → P a → ((j : ℕ) → a + 1 ≤ j → P j) → (j : ℕ) → a ≤ j → P j
@@ -77,15 +78,15 @@ module _ (t : ClassTable) (methods : List MethodRec) where
           sym (ap (λ o. least_from place_of o (role_fault t methods) (range_with_len (a + 1) n)) (some_at a e) ∙ kept n (a + 1) a (omega arith)) in
           subst (Found a (suc n)) step (a, omega arith, omega arith, e, λ j low high. absurd (omega arith), refl)
 
-  told_by : ((k : ℕ) → k < 8 → slice_index t.roles k < length t.records) → (o : Option LinkFault) → Found 2 6 o → Tells t methods (refused o)
-  told_by known None f = λ k low high. concrete-from t methods (slice_index t.roles k) (known k high) (f k low high)
-  told_by known (Some fault) f =
+  told_by : ConcreteDecides t methods → (o : Option LinkFault) → Found 2 6 o → Tells t methods (refused o)
+  told_by decides None f = λ k low high. (decides (slice_index t.roles k)).0 (f k low high)
+  told_by decides (Some fault) f =
       subst (IsRoleFault t methods) (sym f.5) (record {
         low = f.1;
         high = f.2;
-        abstract = λ c. false≢true (sym f.3 ∙ concrete-to t methods (slice_index t.roles f.0) c);
-        first = λ j low high. let below = f.2 in concrete-from t methods (slice_index t.roles j) (known j (omega arith)) (f.4 j low high);
+        abstract = λ c. false≢true (sym f.3 ∙ (decides (slice_index t.roles f.0)).1 c);
+        first = λ j low high. (decides (slice_index t.roles j)).0 (f.4 j low high);
       })
 
-  pub roles_told : (r : Result (Unit {0}) LinkFault) → ((k : ℕ) → k < 8 → slice_index t.roles k < length t.records) → r ≡ refused (least_of place_of (role_fault t methods) thrown_roles) → Tells t methods r
-  roles_told r known e = subst (Tells t methods) (sym e) (told_by known (least_of place_of (role_fault t methods) thrown_roles) (found 6 2))
+  pub roles_told : (r : Result (Unit {0}) LinkFault) → ConcreteDecides t methods → r ≡ refused (least_of place_of (role_fault t methods) thrown_roles) → Tells t methods r
+  roles_told r decides e = subst (Tells t methods) (sym e) (told_by decides (least_of place_of (role_fault t methods) thrown_roles) (found 6 2))

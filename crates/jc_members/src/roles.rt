@@ -2,19 +2,10 @@ ghost use Rattle.std.specs.Prelude.{◌≡◌, ◌<◌, ℕ, length, slice_index
 ghost use Rattle.jc_base.specs.Linked.{AreLinkedClasses};
 ghost use Rattle.jc_resolve.specs.Fault.{place_of};
 ghost use Rattle.first_fault.specs.Least.{least_of, refused};
-ghost use Rattle.jc_members.specs.Roles.{Tells, is_concrete, role_fault, thrown_roles};
+ghost use Rattle.jc_members.specs.Roles.{Tells, role_fault, thrown_roles};
 
-use jc_base::{Classes, Methods};
+use jc_base::{Classes, Methods, concrete_decides, is_concrete};
 use jc_resolve::{LinkFault, lesser, refuse};
-
-/// Whether objects can be made of a class.
-fn is_concrete(classes: &Classes, methods: &Methods, class: u16) -> bool
-    requires known { class < length classes.now.records }
-    requires links { AreLinkedClasses 16 classes.now methods.now }
-    ensures { result ≡ is_concrete classes.now methods.now class }
-{
-    jc_base::is_concrete(classes, methods, class)
-}
 
 /// The class of a role.
 fn role_of(classes: &Classes, role: u8) -> u16
@@ -63,5 +54,6 @@ pub fn roles_fit(classes: &Classes, methods: &Methods) -> Result<(), LinkFault>
     // Each of them is concrete; or the first role is named whose class is not.
     ensures tells { Tells classes.now methods.now result }
 {
+    concrete_decides();
     refuse(least_abstract(classes, methods))
 }

@@ -6,7 +6,8 @@ use Rattle.jc_base.specs.Class.{ClassTable}
 use Rattle.jc_base.specs.Order.{IsJoin}
 use Rattle.jc_base.specs.Laws.{IsOrderOfTypes, DeclaredAreKnown}
 use Rattle.jc_base.specs.World.{Linked, IsWorld}
-use Rattle.jc_control.specs.Laws.{InstructionsArePlaced, InstructionsAreListed}
+use Rattle.jc_decode.specs.Laws.{InstructionsAreListed}
+use Rattle.jc_control.specs.Laws.{InstructionsArePlaced}
 use Rattle.jc_control.specs.Method.{Method}
 use Rattle.jc_control.specs.Control.{IsReached}
 use Rattle.jc_rules.specs.Demand.{Frame}

@@ -6,6 +6,7 @@ ghost use Rattle.jc_rules.specs.Laws.{OperationDecides, OperationKeeps, Operatio
 
 use jc_base::{World, types_are_ordered};
 use jc_control::instructions_are_placed;
+use jc_decode::instructions_are_listed;
 use jc_ops::operations_are_sound;
 
 /// A rule of a world has one result, and none where it refuses; it refuses with one fault.
@@ -93,6 +94,7 @@ pub fn typing_laws(world: &World<'_>)
 pub fn rule_laws(world: &World<'_>)
     ensures { AreRules world.now }
 {
+    instructions_are_listed();
     instructions_are_placed();
     operations_are_sound(world);
     types_are_ordered(world.classes());

@@ -380,6 +380,7 @@ is_world =
       slots = (refl, (refl, tt));
       arrays = All-from_recursion (λ a. AreElementsOf a.kind a.initial) arrays (All-from_recursion IsByteWord (1 ∷ 65535 ∷ []) (inl (lit< tt), (inr (lit≤ tt), tt)), tt);
       roles = record { count = refl; objects = is_object; throwables = is_throwable; others = all_thrown };
+      one_index_each = refl;
     }
 
 pub has_sizes : HasSampleSizes sample

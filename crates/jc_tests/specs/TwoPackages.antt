@@ -2,7 +2,7 @@
 -- an interface, and a class with a package-visible method. The second extends that class, overrides
 -- its public method, implements the interface, and has a package-visible method of its own, which
 -- one more class overrides.
-use Rattle.std.specs.Prelude.{◌≡◌, ℕ, length, true, false, List, [], ◌∷◌, Some, None}
+use Rattle.std.specs.Prelude.{◌≡◌, ℕ, length, replicate, true, false, List, [], ◌∷◌, Some, None}
 use Rattle.jc_base.specs.declared.ty.Ty.TheVariants.{Short, IntHigh, IntLow, ArrByte}
 use Rattle.jc_base.specs.declared.ty.Kind.TheVariants as kinds
 use Rattle.jc_base.specs.declared.record.Member.{Member}
@@ -210,6 +210,7 @@ sample = record {
   methods = methods;
   statics = statics;
   arrays = arrays;
+  indexes = replicate 8 None;
 }
 
 -- the lengths of its lists

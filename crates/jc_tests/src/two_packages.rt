@@ -1,4 +1,4 @@
-ghost use Rattle.std.specs.Prelude.{◌≡◌, ◌∷◌, [], IfOk};
+ghost use Rattle.std.specs.Prelude.{◌≡◌, ◌∷◌, [], replicate, None, IfOk};
 ghost use Rattle.jc_tests.specs.TwoPackages.{HasSampleSizes, interface_method, interface_record, static_method, methods, derived_class, records, classes, first_pool, second_pool, statics, arrays};
 
 use crate::described::{class, instance_method, list};
@@ -169,6 +169,17 @@ fn infos<'a>(alloc: Global, first: &'a [u8], second: &'a [u8]) -> Result<Infos<'
     Ok(infos)
 }
 
+/// No method has a target index.
+fn indexes<'a>(alloc: Global) -> Result<Indexes<'a>, AllocError>
+    ensures { IfOk result (λ l. l ≡ replicate 8 None) }
+{
+    let mut items = Vec::new(alloc);
+    'methods: for _ in 0..8 {
+        items.push(None)?;
+    }
+    Ok(Items::of(items))
+}
+
 /// Its classes.
 pub(crate) fn table(alloc: Global) -> Result<Classes, AllocError>
     ensures { IfOk result (λ t. t ≡ classes) }
@@ -188,5 +199,6 @@ pub(crate) fn world<'a>(alloc: Global) -> Result<World<'a>, AllocError>
         methods(alloc)?,
         statics(alloc)?,
         arrays(alloc)?,
+        indexes(alloc)?,
     ))
 }

@@ -38,7 +38,8 @@ table =
 
 -- of object, of the class itself, of the superclass, of its interface and of what that extends; not of a subclass, another class, an
 -- interface that is not implemented, an array
-instances : map (is_instance table (Instance 4)) (Class 0 ∷ Class 4 ∷ Class 3 ∷ Class 2 ∷ Class 1 ∷ []) ≡ true ∷ true ∷ true ∷ true ∷ true ∷ []
+instances : map (is_instance table (Instance 4)) (Class 0 ∷ Class 4 ∷ Class 3 ∷ Class 2 ∷ Class 1 ∷ [])
+    ≡ true ∷ true ∷ true ∷ true ∷ true ∷ []
 unfolding is_interface parent_of chain chain_over leads_below is_on_chain extended implemented is_or_extends implements
 instances = refl
 

@@ -23,10 +23,15 @@ use Rattle.vm_step.specs.Fields.{array_read_act}
 
 -- a state with one frame, without objects and static fields
 abbrev at : {A : Type 0} → List A → List A → State A
-at registers stack = record { frames = record { method = 0; place = 0; registers = registers; stack = stack } ∷ []; heap = []; statics = [] }
+at registers stack = record {
+  frames = record { method = 0; place = 0; registers = registers; stack = stack } ∷ [];
+  heap = [];
+  statics = [];
+}
 
 -- a sum wraps, and the second operand is on top
-difference : arithmetic_act tagged (arithmetic.Binary operators.Subtract widths.Short) (at [] (cells.Short (pos 1) ∷ cells.Short (negsuc 32767) ∷ []))
+difference : arithmetic_act tagged (arithmetic.Binary operators.Subtract widths.Short)
+    (at [] (cells.Short (pos 1) ∷ cells.Short (negsuc 32767) ∷ []))
     ≡ goes (at [] (cells.Short (pos 32767) ∷ []))
 difference = refl
 

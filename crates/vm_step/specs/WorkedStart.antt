@@ -60,6 +60,7 @@ world_of m =
           ∷ record { «package» = 0; offset = 3; kind = fields.Int; ty = IntHigh; slot = 2; initial = 1 ∷ 2 ∷ [] }
           ∷ [];
       arrays = record { kind = ArrInt; initial = 65535 ∷ 65534 ∷ [] } ∷ [];
+      indexes = None ∷ [];
     }
 
 abbrev entry : MethodRec

@@ -5,7 +5,8 @@ use jc_base::World;
 use jc_ops::operations_are_sound;
 
 /// Of a machine of tagged cells, and of one of bare words: a step has one outcome, and with tagged cells there is
-/// one wherever a method runs; a run of so many steps has one outcome, and a run of m steps and then of n is a run of m + n, also after an ending.
+/// one wherever a method runs; a run of so many steps has one outcome, and a run of m steps and then of n is a run
+/// of m + n, also after an ending.
 pub fn runs_are_runs_of_steps(world: &World<'_>)
     ensures tagged_steps { StepsAreOne tagged world.now }
     ensures tagged_exist { StepsExist world.now }

@@ -31,3 +31,5 @@ top_entered xs n f lt = ap reverse (take_more_set xs n f lt) ∙ reverse-append 
 
 pub top_left : {A : Type 0} (xs : List (Frame A)) (n : ℕ) → 0 < n → n ≤ length xs → reverse (take (n - 1) xs) ≡ other_frames (reverse (take n xs))
 top_left xs n h l = ap other_frames (sym (live_frames xs n no_frame h l))
+
+pub ruleset tops = (top_read, top_written, frames_counted, top_entered, top_left)

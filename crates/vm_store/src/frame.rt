@@ -13,7 +13,7 @@ use std::marker::Model;
 const REGISTERS: usize = 255;
 
 /// The most cells of an operand stack, and those that an instruction pushes before the room is tested.
-pub const STACK_ROOM: usize = 260;
+pub const STACK_ROOM: usize = 510;
 
 /// A frame of tagged cells.
 #[derive(Drop)]
@@ -82,7 +82,7 @@ impl TaggedFrame {
     }
 
     pub fn push(&mut self, cell: Cell)
-        requires { length self.old.stack < 260 }
+        requires { length self.old.stack < 510 }
         ensures { self.new ≡ record self.old { stack = cell ∷ self.old.stack } }
     {
         self.stack.push(cell);

@@ -88,7 +88,7 @@ impl TaggedStore {
     }
 }
 
-#[tactic(auto, using(crate::proofs::Tops::top_read, crate::proofs::Tops::top_written, crate::proofs::Tops::frames_counted, crate::proofs::Tops::top_entered, crate::proofs::Tops::top_left))]
+#[tactic(auto, using(crate::proofs::Tops::tops))]
 impl Store for TaggedStore {
     type Cell = Cell;
 
@@ -98,7 +98,7 @@ impl Store for TaggedStore {
 
     ghost fixed = { λ _. record { world = None; loans = [] } };
 
-    ghost stack_room = { 260 };
+    ghost stack_room = { 510 };
 
     fn frame_count(&self) -> u16 {
         self.live as u16

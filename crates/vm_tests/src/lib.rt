@@ -5,3 +5,5 @@
 mod number_tests;
 #[cfg(test)]
 mod store_tests;
+#[cfg(test)]
+mod stores;

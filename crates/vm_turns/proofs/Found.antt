@@ -10,7 +10,7 @@ use Rattle.jc_decode.specs.declared.insn.Placed.{Placed}
 use Rattle.jc_decode.specs.Decoding.{decoded}
 use Rattle.jc_decode.specs.Listing.{listing}
 use Rattle.jc_control.specs.WellFormed.{Stands, IsPlace}
-use Rattle.jc_control.specs.Laws.{AreListed}
+use Rattle.jc_decode.specs.Laws.{AreListed}
 use Rattle.vm_step.specs.Methods.{instruction_at}
 use Rattle.vm_step.specs.Settled.{is_there, is_target}
 

@@ -8,7 +8,7 @@ ghost use Rattle.vm_turns.specs.Known.{KnowPlaces, LandsAt};
 use crate::code::code;
 use crate::known::Known;
 use jc_base::World;
-use jc_control::instructions_are_placed;
+use jc_decode::instructions_are_listed;
 use vm_step::Fault;
 use vm_store::{CellForm, Store};
 
@@ -86,7 +86,7 @@ pub fn place_of(world: &World<'_>, method: u16, to: i64) -> u16
     requires target { is_target (code_at world.now method) to ≡ true }
     ensures { result ≡ place_of to }
 {
-    instructions_are_placed();
+    instructions_are_listed();
     let _short = code(world, method);
     as_place(to)
 }

@@ -6,8 +6,7 @@ ghost use Rattle.vm_turns.specs.Known.{KnowsAt};
 use crate::code::code;
 use crate::places::Places;
 use jc_base::World;
-use jc_control::instructions_are_placed;
-use jc_decode::{Placed, decode};
+use jc_decode::{Placed, decode, instructions_are_listed};
 
 /// How a machine knows at which places instructions begin: by flags that were made when the run began, or because the
 /// code was verified, and each place to which it leads is one.
@@ -43,7 +42,7 @@ fn placed(world: &World<'_>, method: u16, place: u16) -> Option<Placed>
     ensures is { result ≡ instruction_at (code_at world.now method) place }
     ensures within { IfSome result (λ i. i.place + i.insn.len ≤ 32767) }
 {
-    instructions_are_placed();
+    instructions_are_listed();
     match decode(code(world, method), place) {
         Ok(insn) => Some(Placed { place, insn }),
         Err(_) => None,

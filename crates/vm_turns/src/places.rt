@@ -6,7 +6,8 @@ ghost use Rattle.vm_turns.specs.Marked.{AreMarked};
 
 use crate::code::code;
 use jc_base::World;
-use jc_control::{Flags, instruction_places, instructions_are_placed};
+use jc_control::{Flags, instruction_places};
+use jc_decode::instructions_are_listed;
 use std::alloc::{AllocError, Global};
 use std::marker::Model;
 
@@ -56,7 +57,7 @@ impl Places {
         ensures is { IsTrue result ↔ IsPlace (code_at world.now method) place }
         ensures found { result ≡ is_there (instruction_at (code_at world.now method) place) }
     {
-        instructions_are_placed();
+        instructions_are_listed();
         self.is_marked(world, method, place)
     }
 
@@ -66,7 +67,7 @@ impl Places {
         requires known { method < length world.now.methods }
         ensures { result ≡ is_target (code_at world.now method) to }
     {
-        instructions_are_placed();
+        instructions_are_listed();
         let _short = code(world, method);
         if to < 0 || 65535 < to {
             return false;

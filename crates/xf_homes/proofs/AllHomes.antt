@@ -9,7 +9,7 @@ use Rattle.jc_control.specs.Flags.{Marks}
 use Rattle.jc_control.specs.Method.{Method}
 use Rattle.jc_control.specs.WellFormed.{IsPlace}
 use Rattle.jc_control.specs.Control.{IsReached, IsLeader}
-use Rattle.jc_control.specs.Laws.{AreListed}
+use Rattle.jc_decode.specs.Laws.{AreListed}
 use Rattle.jc_rules.specs.Demand.{Frame}
 use Rattle.jc_rules.specs.Flow.{IsNotTop}
 use Rattle.xf_homes.specs.declared.home.Home.{Home}

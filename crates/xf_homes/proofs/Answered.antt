@@ -18,7 +18,8 @@ use Rattle.jc_control.specs.Flaw.{IsFirstFlaw}
 use Rattle.jc_control.specs.declared.flaw.Flaw.{Flaw}
 use Rattle.jc_control.specs.declared.flaw.ControlEnd.{ControlEnd}
 use Rattle.jc_control.specs.declared.flaw.ControlEnd.TheVariants.{Flawed}
-use Rattle.jc_control.specs.Laws.{FlawsDecide, ArePlaced, AreListed}
+use Rattle.jc_decode.specs.Laws.{AreListed}
+use Rattle.jc_control.specs.Laws.{FlawsDecide, ArePlaced}
 use Rattle.jc_rules.specs.Demand.{Frame}
 use Rattle.jc_rules.specs.Flow.{FlowTyping}
 use Rattle.jc_rules.specs.Typing.{state_at}

@@ -4,7 +4,9 @@ pub mod Meeting
 pub mod OwnRegisters
 pub mod AllHomes
 pub mod Steps
+pub mod Asking
 pub mod Lists
 pub mod Answered
 pub mod Serving
 pub mod OneList
+pub mod Needed

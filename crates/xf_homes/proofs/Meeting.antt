@@ -21,7 +21,7 @@ use Rattle.jc_control.specs.Flags.{flag, Marks}
 use Rattle.jc_control.specs.Method.{Method}
 use Rattle.jc_control.specs.WellFormed.{Stands, IsPlace}
 use Rattle.jc_control.specs.Control.{IsReached, IsLeader, Covers}
-use Rattle.jc_control.specs.Laws.{AreListed}
+use Rattle.jc_decode.specs.Laws.{AreListed}
 use Rattle.jc_rules.specs.Demand.{Frame}
 use Rattle.jc_rules.specs.Footprint.{footprint}
 use Rattle.xf_homes.specs.declared.home.Home.{Home}
@@ -60,11 +60,11 @@ value-inside cells n ty e = by (slice_get cells n) refl e
     by None q e = absurd (cc)
     by (Some a) q e = slice_get_within cells n a q
 
-local-at : (frames : ℕ → Option Frame) (p x : ℕ) (ty : Ty) (o : Option Frame) → local_of o x ≡ Some ty → IsSomeAnd o (λ f. value_at f.regs x ≡ Some ty)
+pub local-at : (frames : ℕ → Option Frame) (p x : ℕ) (ty : Ty) (o : Option Frame) → local_of o x ≡ Some ty → IsSomeAnd o (λ f. value_at f.regs x ≡ Some ty)
 local-at frames p x ty None e = absurd (cc)
 local-at frames p x ty (Some f) e = e
 
-at-local : (x : ℕ) (ty : Ty) (o : Option Frame) → IsSomeAnd o (λ f. value_at f.regs x ≡ Some ty) → local_of o x ≡ Some ty
+pub at-local : (x : ℕ) (ty : Ty) (o : Option Frame) → IsSomeAnd o (λ f. value_at f.regs x ≡ Some ty) → local_of o x ≡ Some ty
 at-local x ty None h = absurd h
 at-local x ty (Some f) h = h
 
@@ -86,20 +86,20 @@ covers h p c =
 -- ---- what is asked for a local
 
 module _ (m : Method) (frames : ℕ → Option Frame) (p x : ℕ) where
-  caught-asked : (h : Handler) (n : ℕ) (ty : Ty) → slice_get m.rec.handlers n ≡ Some h → (b : Bool) → is_covered h p ≡ b → (if b then local_of (frames h.entry) x else None) ≡ Some ty → IsAsked m frames p x (suc n) ty
+  pub caught-asked : (h : Handler) (n : ℕ) (ty : Ty) → slice_get m.rec.handlers n ≡ Some h → (b : Bool) → is_covered h p ≡ b → (if b then local_of (frames h.entry) x else None) ≡ Some ty → IsAsked m frames p x (suc n) ty
   caught-asked h n ty at true q e = asked_caught at (covered h p q) (local-at frames p x ty (frames h.entry) e)
   caught-asked h n ty at false q e = absurd (cc)
 
   -- one of the handlers from number n on
-  record IsCaughtAt (n : ℕ) (hs : List Handler) (s : Spot) (h : Home) : Type 0 where
-    number : ℕ
-    handler : Handler
-    at : slice_get hs number ≡ Some handler
-    spot : record { place = p; slot = x; time = suc (n + number) } ≡ s
-    slot : x ≡ h.slot
-    value : caught_of frames p x handler ≡ Some h.ty
+  pub record IsCaughtAt (n : ℕ) (hs : List Handler) (s : Spot) (h : Home) : Type 0 where
+    pub number : ℕ
+    pub handler : Handler
+    pub at : slice_get hs number ≡ Some handler
+    pub spot : record { place = p; slot = x; time = suc (n + number) } ≡ s
+    pub slot : x ≡ h.slot
+    pub value : caught_of frames p x handler ≡ Some h.ty
 
-  occurs-caught : (n : ℕ) (hs : List Handler) (s : Spot) (h : Home) → Occurs (caught_events frames p x n hs) s h → IsCaughtAt n hs s h
+  pub occurs-caught : (n : ℕ) (hs : List Handler) (s : Spot) (h : Home) → Occurs (caught_events frames p x n hs) s h → IsCaughtAt n hs s h
   occurs-caught n [] s h o = absurd o
   occurs-caught n (k ∷ ks) s h (inl at) = record {
     number = 0;
@@ -141,7 +141,7 @@ module _ (m : Method) (frames : ℕ → Option Frame) (p x : ℕ) where
       (subst (λ n. IsMet w m frames (record { place = p; slot = x; time = suc c.number }) (record { slot = n; ty = h.ty })) c.slot
       (met_local reached (caught-asked c.handler c.number h.ty c.at (is_covered c.handler p) refl c.value)))
 
-  local-occurs : (n : ℕ) (ty : Ty) → IsAsked m frames p x n ty → Occurs (local_events frames m.rec.handlers p x) (record { place = p; slot = x; time = n }) (record { slot = x; ty = ty })
+  pub local-occurs : (n : ℕ) (ty : Ty) → IsAsked m frames p x n ty → Occurs (local_events frames m.rec.handlers p x) (record { place = p; slot = x; time = n }) (record { slot = x; ty = ty })
   unfolding local_events
   local-occurs _ ty (asked_here at) = inl (record { spot = refl; slot = refl; value = at-local x ty (frames p) at })
   local-occurs _ ty (asked_caught {n = n} {h = h} at cov here) =

@@ -8,7 +8,7 @@ use Rattle.jc_base.specs.World.{Linked}
 use Rattle.jc_decode.specs.declared.insn.Placed.{Placed}
 use Rattle.jc_decode.specs.Listing.{listing}
 use Rattle.jc_control.specs.Method.{Method}
-use Rattle.jc_control.specs.Laws.{AreListed}
+use Rattle.jc_decode.specs.Laws.{AreListed}
 use Rattle.jc_rules.specs.Demand.{Frame}
 use Rattle.xf_homes.specs.Home.{ComesBefore, register_count}
 use Rattle.xf_homes.specs.Walk.{Event, caught_events, local_events, locals_events, cells_events, stack_events, keeps_stack, frame_events, place_events, code_events}
@@ -66,7 +66,7 @@ module _ (frames : ℕ → Option Frame) (handlers : List Handler) (p : ℕ) whe
     caught-rising x (suc n) hs,
   )
 
-  local-rising : (x : ℕ) → Rising (local_events frames handlers p x)
+  pub local-rising : (x : ℕ) → Rising (local_events frames handlers p x)
   unfolding local_events
   local-rising x = (
     each-map (IsOfLocal p x 1) (λ k. ComesBefore (record { place = p; slot = x; time = 0 }) k.spot) (later-time x 0) (caught_events frames p x 0 handlers)

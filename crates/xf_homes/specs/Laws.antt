@@ -1,6 +1,7 @@
 -- Laws of homes: what the rewriting of a method rests on.
-use Rattle.std.specs.Prelude.{◌≡◌, ◌↔◌, ℕ, ◌+◌, ◌≤◌, ◌⊎◌, List, reverse, Option, Some}
+use Rattle.std.specs.Prelude.{◌≡◌, ◌↔◌, ℕ, ◌+◌, ◌<◌, ◌≤◌, ◌⊎◌, ⊤, List, [], ◌∷◌, reverse, Option, Some}
 use Rattle.jc_base.specs.declared.ty.Ty.{Ty}
+use Rattle.jc_base.specs.Each.{Each, IsAmong}
 use Rattle.jc_base.specs.World.{Linked}
 use Rattle.jc_control.specs.Method.{Method}
 use Rattle.jc_control.specs.Control.{IsReached}
@@ -8,9 +9,9 @@ use Rattle.jc_rules.specs.Demand.{Frame}
 use Rattle.jc_rules.specs.Flow.{At}
 use Rattle.xf_homes.specs.declared.home.Home.{Home}
 use Rattle.xf_homes.specs.Value.{value_at, width}
-use Rattle.xf_homes.specs.Home.{register_count, IsNeeded, KeepsStack, IsArgument, IsHome}
+use Rattle.xf_homes.specs.Home.{register_count, IsAsked, IsNeeded, KeepsStack, IsArgument, IsHome}
 use Rattle.xf_homes.specs.Order.{AreHomes, register_sum}
-use Rattle.xf_homes.specs.Walk.{register_from}
+use Rattle.xf_homes.specs.Walk.{register_from, local_events, with_events}
 
 abbrev pub HasRegister : List Home → Home → Type 0
 HasRegister homes h = (r : ℕ) × (register_from 0 homes h ≡ Some r)
@@ -44,3 +45,26 @@ HomesAreOne w =
     → AreHomes w m frames homes
     → AreHomes w m frames others
     → homes ≡ others
+
+-- ---- what is needed
+
+-- a pair is asked for before each time that another is
+abbrev pub IsAskedBefore : Method → (ℕ → Option Frame) → ℕ → ℕ → Home → Home → Type 0
+IsAskedBefore m frames p x h later =
+    (n : ℕ) × IsAsked m frames p x n h.ty × ((k : ℕ) → IsAsked m frames p x k later.ty → n < k)
+
+abbrev pub AreAskedInOrder : Method → (ℕ → Option Frame) → ℕ → ℕ → List Home → Type 0
+AreAskedInOrder m frames p x [] = ⊤
+AreAskedInOrder m frames p x (h ∷ hs) = Each (IsAskedBefore m frames p x h) hs × AreAskedInOrder m frames p x hs
+
+-- the homes that are needed for local x at a place: its pairs with the types that are asked for there, each once, in the order in which
+-- they are first asked for
+pub record AreNeeded (m : Method) (frames : ℕ → Option Frame) (p x : ℕ) (homes : List Home) : Type 0 where
+  pub all : (h : Home) → IsAmong h homes ↔ ((h.slot ≡ x) × IsNeeded m frames p x h.ty)
+  pub order : AreAskedInOrder m frames p x homes
+
+-- they are what is kept for the local where nothing was kept before
+abbrev pub NeededAreKept : Type 0
+NeededAreKept =
+    (m : Method) (frames : ℕ → Option Frame) (p x : ℕ)
+    → AreNeeded m frames p x (with_events [] (local_events frames m.rec.handlers p x))

@@ -11,6 +11,7 @@ use crate::walk::Walk;
 use cap_bytes::View;
 use jc_base::{World, types_are_ordered};
 use jc_control::{ControlEnd, control_flow, flaws_decide, instructions_are_placed};
+use jc_decode::instructions_are_listed;
 use jc_rules::Typing;
 use std::alloc::{AllocError, Global};
 
@@ -48,6 +49,7 @@ pub fn homes(
         (λ m. IfErr result (TellsEnd world.now m (state_at typing.now))) }
 {
     types_are_ordered(world.classes());
+    instructions_are_listed();
     instructions_are_placed();
     flaws_decide();
     let control = match control_flow(alloc, world, method) {

@@ -23,7 +23,8 @@ impl Home {
         }
     }
 
-    pub(crate) fn is(self, other: Home) -> bool
+    /// Whether both are the same.
+    pub fn is(self, other: Home) -> bool
         ensures { result ≡ same_home self other }
     {
         self.slot == other.slot && same_type(self.ty, other.ty)

@@ -1,4 +1,4 @@
-ghost use Rattle.xf_homes.specs.Laws.{HomesServe, HomesAreOne};
+ghost use Rattle.xf_homes.specs.Laws.{HomesServe, HomesAreOne, NeededAreKept};
 
 use jc_base::{World, types_are_ordered};
 
@@ -14,4 +14,11 @@ pub fn homes_are_one(world: &World<'_>)
     ensures { HomesAreOne world.now }
 {
     let _classes = world.classes();
+}
+
+/// What is kept for a local at a place is what is needed there.
+pub fn needed_are_kept(world: &World<'_>)
+    ensures { NeededAreKept }
+{
+    types_are_ordered(world.classes());
 }

@@ -17,4 +17,6 @@ mod walk;
 pub use finding::{HomeEnd, homes};
 pub use found::Homes;
 pub use home::Home;
-pub use laws::{homes_are_one, homes_serve};
+pub use laws::{homes_are_one, homes_serve, needed_are_kept};
+pub use value::{value_at, value_of};
+pub use walk::{Walk, has, operands};

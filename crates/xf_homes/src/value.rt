@@ -3,7 +3,8 @@ ghost use Rattle.xf_homes.specs.Value.{value_of, value_at};
 
 use jc_base::Ty;
 
-fn value_of(first: Option<Ty>, next: Option<Ty>) -> Option<Ty>
+/// The value that begins with a cell, by its type and that of the next, if one does.
+pub fn value_of(first: Option<Ty>, next: Option<Ty>) -> Option<Ty>
     ensures { result ≡ value_of first next }
 {
     match first {
@@ -24,7 +25,7 @@ fn cell_at(cells: &[Ty], n: usize) -> Option<Ty>
 
 /// The value that begins with the cell of this number, if one does.
 #[tactic(auto, unfolding(crate::specs::Value::value_at))]
-pub(crate) fn value_at(cells: &[Ty], n: u16) -> Option<Ty>
+pub fn value_at(cells: &[Ty], n: u16) -> Option<Ty>
     ensures { result ≡ value_at cells.now n }
 {
     let n = n as usize;

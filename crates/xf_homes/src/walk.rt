@@ -1,15 +1,16 @@
-ghost use Rattle.std.specs.Prelude.{◌≡◌, ◌+◌, ◌≤◌, length, reverse, OnOk, Ok, slice_get, Some};
+ghost use Rattle.std.specs.Prelude.{◌≡◌, ◌+◌, ◌≤◌, ⊤, true, length, reverse, IsTrue, MatchBool, OnOk, Ok, slice_get, Some};
 ghost use Rattle.jc_base.specs.World.{Linked};
 ghost use Rattle.jc_control.specs.Method.{IsMethodOf};
 ghost use Rattle.jc_rules.specs.Footprint.{footprint};
 ghost use Rattle.xf_homes.specs.Home.{register_count};
-ghost use Rattle.xf_homes.specs.Walk.{local_of, is_covered, caught_of, local_events, locals_events, cells_events, operands_of, operands_at, keeps_stack, stack_events, place_events, code_events, has, with_home, with_value, with_events};
+ghost use Rattle.xf_homes.specs.Walk.{local_of, is_covered, caught_events, caught_of, local_events, locals_events, cells_events, operands_of, operands_at, keeps_stack, stack_events, place_events, code_events, has, with_home, with_value, with_events};
+ghost use Rattle.xf_homes.specs.Asked.{AreAsked, AreKnown, AreLastKnown, NoneIsNew, is_new, knows, last_after, last_local};
 ghost use Rattle.xf_homes.specs.Subject.{walked, frames_of};
 
 use crate::home::Home;
 use crate::value::value_at;
 use cap_bytes::View;
-use jc_base::{Handler, MethodRec, Ty, World};
+use jc_base::{Handler, MethodRec, Ty, World, same_type, types_are_ordered};
 use jc_control::{ControlFlow, covers};
 use jc_decode::{Instructions, Placed};
 use jc_ops::{Branch, Operation, Site, Width, resolve};
@@ -18,7 +19,7 @@ use std::alloc::AllocError;
 
 /// A walk over the code of a method, at whose reached places its types are asked for.
 #[derive(Clone, Copy)]
-pub(crate) struct Walk<'a> {
+pub struct Walk<'a> {
     pub world: &'a World<'a>,
     pub number: u16,
     pub rec: &'a MethodRec,
@@ -27,7 +28,8 @@ pub(crate) struct Walk<'a> {
     pub control: &'a ControlFlow,
 }
 
-fn has(homes: &[Home], home: Home) -> bool
+/// Whether a home is among these.
+pub fn has(homes: &[Home], home: Home) -> bool
     ensures { result ≡ has homes.now home }
 {
     'kept: for kept in homes {
@@ -65,8 +67,57 @@ fn is_covered(handler: Handler, place: u16) -> bool
     covers(handler, place)
 }
 
+/// Whether two values are the same, or there is none in both.
+fn same_value(a: Option<Ty>, b: Option<Ty>) -> bool
+    ensures { IsTrue result → a ≡ b }
+{
+    match a {
+        Some(ty) => match b {
+            Some(other) => same_type(ty, other),
+            None => false,
+        },
+        None => b.is_none(),
+    }
+}
+
+/// Whether a handler covers a place, and not the last one that control reaches before it.
+#[tactic(auto, unfolding(crate::specs::Asked::is_new))]
+fn is_new(handler: Handler, place: u16, last: Option<u16>) -> bool
+    ensures { result ≡ is_new handler place last }
+{
+    let covered_last = match last {
+        Some(before) => is_covered(handler, before),
+        None => false,
+    };
+    is_covered(handler, place) && !covered_last
+}
+
+/// Whether a handler covers a place and not the last one.
+#[tactic(auto, unfolding(crate::specs::Asked::NoneIsNew))]
+fn is_any_new(handlers: &[Handler], place: u16, last: Option<u16>) -> bool
+    ensures { MatchBool result ⊤ (NoneIsNew handlers.now place last) }
+{
+    'handlers: for handler in handlers {
+        if is_new(*handler, place, last) {
+            return true;
+        }
+    }
+    false
+}
+
+/// The handlers that are asked at a place: all, where one is new there, and else none.
+fn asked(handlers: &[Handler], place: u16, last: Option<u16>) -> &[Handler]
+    ensures { AreAsked handlers.entry.now place last result.now }
+{
+    if is_any_new(handlers, place, last) {
+        handlers
+    } else {
+        &handlers[..0]
+    }
+}
+
 /// How many operands a conditional branch or a switch takes; another operation is neither.
-fn operands(world: &World<'_>, operation: Operation) -> Option<u8>
+pub fn operands(world: &World<'_>, operation: Operation) -> Option<u8>
     ensures { result ≡ operands_of world.now (Ok operation) }
 {
     match operation {
@@ -96,13 +147,41 @@ fn keep_cells(homes: &mut Vec<Home>, slot: u16, place: u16, cells: &[Ty]) -> Res
 
 impl Walk<'_> {
     /// The value of a local at a place that control reaches.
-    fn local(&self, place: u16, x: u16) -> Option<Ty>
+    pub fn local(&self, place: u16, x: u16) -> Option<Ty>
         ensures { result ≡ local_of (frames_of self.now place) x }
     {
         match self.typing.state(place) {
             Some(state) => value_at(state.regs(), x),
             None => None,
         }
+    }
+
+    /// The value of a local at the last place that control reaches, if there is one.
+    fn last_local(&self, last: Option<u16>, x: u16) -> Option<Ty>
+        ensures { result ≡ last_local (frames_of self.now) last x }
+    {
+        match last {
+            Some(before) => self.local(before, x),
+            None => None,
+        }
+    }
+
+    /// Keeps the value of a local at a place, where it is not the one at the last place, which is kept.
+    fn keep_own(
+        &self,
+        homes: &mut Vec<Home>,
+        place: u16,
+        x: u16,
+        last: Option<u16>,
+    ) -> Result<(), AllocError>
+        requires { knows homes.old.items x (last_local (frames_of self.now) last x) ≡ true }
+        ensures { OnOk result (homes.new.items ≡ with_value homes.old.items x (local_of (frames_of self.now place) x)) }
+    {
+        let value = self.local(place, x);
+        if same_value(value, self.last_local(last, x)) {
+            return Ok(());
+        }
+        keep_value(homes, x, value)
     }
 
     /// The value of a local at the entry of a handler that covers the place.
@@ -116,15 +195,20 @@ impl Walk<'_> {
         }
     }
 
-    /// Keeps what is needed for a local at a place.
-    #[tactic(auto, unfolding(crate::specs::Walk::with_events, crate::specs::Walk::local_events))]
-    fn keep_local(&self, homes: &mut Vec<Home>, place: u16, x: u16) -> Result<(), AllocError>
+    /// Keeps the values of a local at the entries of handlers that cover a place.
+    #[tactic(auto, unfolding(crate::specs::Walk::with_events))]
+    fn keep_caught(
+        &self,
+        homes: &mut Vec<Home>,
+        place: u16,
+        x: u16,
+        handlers: &[Handler],
+    ) -> Result<(), AllocError>
         ensures { OnOk result
             (homes.new.items
-            ≡ with_events homes.old.items (local_events (frames_of self.now) self.now.rec.now.handlers place x)) }
+            ≡ with_events homes.old.items (caught_events (frames_of self.now) place x 0 handlers.now)) }
     {
-        keep_value(homes, x, self.local(place, x))?;
-        'handlers: for handler in self.rec.handlers.as_slice() {
+        'handlers: for handler in handlers {
             if let Err(error) = keep_value(homes, x, self.caught(place, x, *handler)) {
                 return Err(error);
             }
@@ -132,21 +216,60 @@ impl Walk<'_> {
         Ok(())
     }
 
-    fn registers(&self) -> u16
+    /// Keeps what is needed for a local at a place: its type there, then those at the handlers that cover it, in the order of
+    /// the table. What is kept already stays as it is.
+    #[tactic(auto, unfolding(crate::specs::Walk::with_events, crate::specs::Walk::local_events))]
+    pub fn keep_local(&self, homes: &mut Vec<Home>, place: u16, x: u16) -> Result<(), AllocError>
+        ensures { OnOk result
+            (homes.new.items
+            ≡ with_events homes.old.items (local_events (frames_of self.now) self.now.rec.now.handlers place x)) }
+    {
+        keep_value(homes, x, self.local(place, x))?;
+        self.keep_caught(homes, place, x, self.rec.handlers.as_slice())
+    }
+
+    /// Keeps what is needed for a local at a place, where these handlers are asked.
+    #[tactic(auto, unfolding(crate::specs::Walk::with_events, crate::specs::Walk::local_events))]
+    fn keep_asked(
+        &self,
+        homes: &mut Vec<Home>,
+        place: u16,
+        x: u16,
+        handlers: &[Handler],
+        last: Option<u16>,
+    ) -> Result<(), AllocError>
+        requires { knows homes.old.items x (last_local (frames_of self.now) last x) ≡ true }
+        ensures { OnOk result
+            (homes.new.items
+            ≡ with_events homes.old.items (local_events (frames_of self.now) handlers.now place x)) }
+    {
+        self.keep_own(homes, place, x, last)?;
+        self.keep_caught(homes, place, x, handlers)
+    }
+
+    /// How many registers the method has.
+    pub fn registers(&self) -> u16
         ensures is { result ≡ register_count self.now.rec.now }
         ensures few { result ≤ 510 }
     {
         u16::from(self.rec.nargs) + u16::from(self.rec.max_locals)
     }
 
-    fn keep_locals(&self, homes: &mut Vec<Home>, place: u16) -> Result<(), AllocError>
+    fn keep_locals(
+        &self,
+        homes: &mut Vec<Home>,
+        place: u16,
+        handlers: &[Handler],
+        last: Option<u16>,
+    ) -> Result<(), AllocError>
+        requires { AreLastKnown (frames_of self.now) (register_count self.now.rec.now) homes.old.items last }
         ensures { OnOk result
             (homes.new.items
             ≡ with_events homes.old.items
-            (locals_events (frames_of self.now) self.now.rec.now.handlers place 0 (register_count self.now.rec.now))) }
+            (locals_events (frames_of self.now) handlers.now place 0 (register_count self.now.rec.now))) }
     {
         'locals: for x in 0..self.registers() {
-            if let Err(error) = self.keep_local(homes, place, x) {
+            if let Err(error) = self.keep_asked(homes, place, x, handlers, last) {
                 return Err(error);
             }
         }
@@ -182,10 +305,33 @@ impl Walk<'_> {
         }
     }
 
+    /// Keeps what is needed for locals at a place: of each handler where it first covers one.
+    fn keep_needed(
+        &self,
+        homes: &mut Vec<Home>,
+        place: u16,
+        last: Option<u16>,
+    ) -> Result<(), AllocError>
+        requires { AreKnown (frames_of self.now) (register_count self.now.rec.now) homes.old.items self.now.rec.now.handlers last }
+        ensures { OnOk result
+            (homes.new.items
+            ≡ with_events homes.old.items
+            (locals_events (frames_of self.now) self.now.rec.now.handlers place 0 (register_count self.now.rec.now))) }
+    {
+        let handlers = asked(self.rec.handlers.as_slice(), place, last);
+        self.keep_locals(homes, place, handlers, last)
+    }
+
     /// Keeps what is met at an instruction, if control reaches it.
     #[tactic(auto, unfolding(crate::specs::Walk::place_events, crate::specs::Walk::with_events))]
-    fn keep_place(&self, homes: &mut Vec<Home>, placed: Placed) -> Result<(), AllocError>
-        requires { IsMethodOf self.now.world.now (walked self.now) }
+    fn keep_place(
+        &self,
+        homes: &mut Vec<Home>,
+        placed: Placed,
+        last: Option<u16>,
+    ) -> Result<(), AllocError>
+        requires method { IsMethodOf self.now.world.now (walked self.now) }
+        requires known { AreKnown (frames_of self.now) (register_count self.now.rec.now) homes.old.items self.now.rec.now.handlers last }
         ensures { OnOk result
             (homes.new.items
             ≡ with_events homes.old.items
@@ -194,12 +340,22 @@ impl Walk<'_> {
         let Some(state) = self.typing.state(placed.place) else {
             return Ok(());
         };
-        self.keep_locals(homes, placed.place)?;
+        self.keep_needed(homes, placed.place, last)?;
         let stack = state.stack();
         if self.keeps_stack(placed, stack.len() as u8) {
             return keep_cells(homes, self.registers(), placed.place, stack);
         }
         Ok(())
+    }
+
+    /// The last reached place, after this one.
+    fn last_after(&self, place: u16, last: Option<u16>) -> Option<u16>
+        ensures { result ≡ last_after (frames_of self.now place) place last }
+    {
+        match self.typing.state(place) {
+            Some(_) => Some(place),
+            None => last,
+        }
     }
 
     /// Keeps what is met anywhere in the code.
@@ -212,10 +368,13 @@ impl Walk<'_> {
             ≡ with_events homes.old.items
             (code_events self.now.world.now (walked self.now) (frames_of self.now) self.now.control.now.leaders)) }
     {
+        types_are_ordered(self.world.classes());
+        let mut last = None;
         'walk: for placed in Instructions::of(self.code) {
-            if let Err(error) = self.keep_place(homes, placed) {
+            if let Err(error) = self.keep_place(homes, placed, last) {
                 return Err(error);
             }
+            last = self.last_after(placed.place, last);
         }
         Ok(())
     }

@@ -6,7 +6,7 @@ ghost use Rattle.jc_control.specs.Targets.{rest_of};
 
 use super::Targets;
 use cap_bytes::View;
-use jc_decode::{Placed, target};
+use jc_decode::{Placed, target, targets_are_few};
 
 impl<'a> Targets<'a> {
     /// The places that an instruction of a method's code names.
@@ -15,6 +15,7 @@ impl<'a> Targets<'a> {
         requires decoded { decoded code.bytes.now placed.place ≡ Ok placed.insn }
         ensures { rest_of result ≡ targets code.entry.bytes.now placed }
     {
+        targets_are_few();
         Targets {
             code,
             placed,

@@ -2,10 +2,11 @@ use Rattle.card_typing.proofs.Flowing.{card-is-flow}
 use Rattle.card_typing.proofs.Sound.{met-is-sound}
 use Rattle.card_typing.proofs.Below.{met-is-below, refusal-denies, flaws-are-told}
 use Rattle.card_typing.proofs.Quiet.{quiet-is-least}
+use Rattle.card_typing.proofs.Sites.{rule-is-of-record}
 use Rattle.card_typing.proofs.laws.card_laws.Goals as goal
 
 pub returns-clause-flow : goal.returns-clause-flow
-returns-clause-flow c = card-is-flow c.args.world.now c.rule_laws.ensures c.instructions_are_placed.ensures.placed
+returns-clause-flow c = card-is-flow c.args.world.now c.rule_laws.ensures c.instructions_are_placed.ensures
 
 pub returns-clause-met : goal.returns-clause-met
 returns-clause-met c = met-is-below c.args.world.now (record { rules = c.rule_laws.ensures; falls = c.rule_falls.ensures.card; stays = c.rule_raises.ensures.stays })
@@ -20,9 +21,12 @@ returns-clause-told c = flaws-are-told c.args.world.now c.flaws_decide.ensures
 pub returns-clause-quiet : goal.returns-clause-quiet
 returns-clause-quiet c =
     let w = c.args.world.now in
-    quiet-is-least w c.rule_raises.ensures.rests c.instructions_are_placed.ensures.placed c.instructions_are_placed.ensures.listed
+    quiet-is-least w c.rule_raises.ensures.rests c.instructions_are_placed.ensures c.instructions_are_listed.ensures
     (met-is-sound w c.rule_laws.ensures c.rule_raises.ensures.raises)
     (met-is-below w (record { rules = c.rule_laws.ensures; falls = c.rule_falls.ensures.card; stays = c.rule_raises.ensures.stays }))
 
 pub returns-clause-sound : goal.returns-clause-sound
 returns-clause-sound c = met-is-sound c.args.world.now c.rule_laws.ensures c.rule_raises.ensures.raises
+
+pub returns-clause-records : goal.returns-clause-records
+returns-clause-records c = rule-is-of-record c.args.world.now

@@ -8,7 +8,6 @@ use Rattle.jc_control.specs.WellFormed.{IsTargetPlace}
 use Rattle.jc_control.specs.declared.flaw.Flaw.TheVariants.{BadTarget}
 use Rattle.jc_control.specs.Scan.{LeadsToPlaces}
 use Rattle.jc_control.proofs.Elements.{at-next, contained-in, first-failing, slice_get-in}
-use Rattle.jc_control.proofs.Listed.{decoded-Stands}
 use Rattle.jc_control.proofs.scan.check_targets.Goals as goal
 
 pub stray_target-requires-clause-decoded : goal.stray_target-requires-clause-decoded
@@ -16,7 +15,7 @@ stray_target-requires-clause-decoded c =
     let code = c.args.code.bytes.now in
     let i = c.in-Some.placed in
     let whole = at-next c.walk.yielded (rest_of c.walk.placed-iterator) i (rest_of c.next.new.self) (listing code) c.walk.invariant.whole c.in-Some.ensures.steps in
-    decoded-Stands code i (contained-in c.walk.yielded i (rest_of c.next.new.self) (listing code) whole)
+    (c.instructions_are_listed.ensures code).decodes i (contained-in c.walk.yielded i (rest_of c.next.new.self) (listing code) whole)
 
 pub returns-in-Some-stray_target-clause-flawed : goal.returns-in-Some-stray_target-clause-flawed
 returns-in-Some-stray_target-clause-flawed c =

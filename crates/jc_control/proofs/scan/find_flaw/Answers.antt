@@ -5,7 +5,7 @@ use Rattle.jc_control.proofs.scan.find_flaw.Goals as goal
 
 pub returns-in_err-check_targets-clause-flawed : goal.returns-in_err-check_targets-clause-flawed
 returns-in_err-check_targets-clause-flawed c =
-    let h = stray-first (method c.args.subject) c.in_err-check_targets.field-0.0 c.in_err-check_targets.ensures.flawed in
+    let h = stray-first (method c.args.subject) c.args.subject.listed c.in_err-check_targets.field-0.0 c.in_err-check_targets.ensures.flawed in
     search (rules, h)
 
 pub returns-in_err-check_end-clause-flawed : goal.returns-in_err-check_end-clause-flawed

@@ -12,8 +12,8 @@ returns c =
     let are : IsOrderOfTypes w.classes = subst IsOrderOfTypes c.classes.ensures.is c.types_are_ordered.ensures.order in
     record {
       world = c.classes.ensures.links;
-      placed = c.instructions_are_placed.ensures.placed;
-      listed = c.instructions_are_placed.ensures.listed;
+      placed = c.instructions_are_placed.ensures;
+      listed = c.instructions_are_listed.ensures;
       types = are;
       declared = subst DeclaredAreKnown c.classes.ensures.is c.types_are_ordered.ensures.declared;
       decides = rule-decides w are c.operations_are_sound.ensures.decided;

@@ -8,7 +8,7 @@ pub as_place-requires-clause-high : goal.as_place-requires-clause-high
 as_place-requires-clause-high c =
     let code = code_at c.args.world.now c.args.method in
     let short = code-short c.code-short.result.bytes.now code c.code-short.ensures.is c.code-short.ensures.short in
-    let range = target-range code (c.instructions_are_placed.ensures.listed code) c.args.to c.requires.target short in
+    let range = target-range code (c.instructions_are_listed.ensures code) c.args.to c.requires.target short in
     let fits = c.ranges.to.sfits in
     omega (arith, ints, range.1)
 
@@ -16,6 +16,6 @@ pub as_place-requires-clause-low : goal.as_place-requires-clause-low
 as_place-requires-clause-low c =
     let code = code_at c.args.world.now c.args.method in
     let short = code-short c.code-short.result.bytes.now code c.code-short.ensures.is c.code-short.ensures.short in
-    let range = target-range code (c.instructions_are_placed.ensures.listed code) c.args.to c.requires.target short in
+    let range = target-range code (c.instructions_are_listed.ensures code) c.args.to c.requires.target short in
     let fits = c.ranges.to.sfits in
     omega (arith, ints, range.0)

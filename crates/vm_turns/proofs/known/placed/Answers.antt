@@ -10,4 +10,4 @@ returns-in-Ok-clause-is c =
     let code = code_at c.args.world.now c.args.method in
     let there : decoded code c.args.place ≡ Ok c.in-Ok.insn =
     sym (c.in-Ok.ensures.value ∙ ap (λ (bs : List ℕ). decoded bs c.args.place) c.code.ensures.is) in
-    sym (placed-there code (c.instructions_are_placed.ensures.listed code) c.args.place c.in-Ok.insn c.requires.there there)
+    sym (placed-there code (c.instructions_are_listed.ensures code) c.args.place c.in-Ok.insn c.requires.there there)

@@ -33,7 +33,7 @@ returns-clause-homes c =
     let is : c.find.new.homes.items ≡ with_events (argument_homes rec) (code_events w m (state_at c.args.typing.now) c.in-Ok.control.leaders) =
     c.in_ok-find.ensures ∙ ap (λ hs. with_events hs (code_events w m (state_at c.args.typing.now) c.in-Ok.control.leaders)) c.in_ok-homes.ensures in
     to-method w n rec code c.method-rec.ensures.is bytes _
-    (answered-homes w m c.args.typing.now typed c.in-Ok.control flow (c.instructions_are_placed.ensures.placed m typed.least.typing.formed) (c.instructions_are_placed.ensures.listed code) mo
+    (answered-homes w m c.args.typing.now typed c.in-Ok.control flow (c.instructions_are_placed.ensures m typed.least.typing.formed) (c.instructions_are_listed.ensures code) mo
     c.method-rec.ensures.links c.types_are_ordered.ensures.same c.find.new.homes.items is c.counted.result c.counted.ensures.homes)
 
 pub returns-clause-end : goal.returns-clause-end
@@ -50,7 +50,7 @@ returns-clause-end c =
     let is : c.find.new.homes.items ≡ with_events (argument_homes rec) (code_events w m (state_at c.args.typing.now) c.in-Ok.control.leaders) =
     c.in_ok-find.ensures ∙ ap (λ hs. with_events hs (code_events w m (state_at c.args.typing.now) c.in-Ok.control.leaders)) c.in_ok-homes.ensures in
     to-method w n rec code c.method-rec.ensures.is bytes _
-    (answered-end w m c.args.typing.now typed c.in-Ok.control flow (c.instructions_are_placed.ensures.placed m typed.least.typing.formed) (c.instructions_are_placed.ensures.listed code) mo
+    (answered-end w m c.args.typing.now typed c.in-Ok.control flow (c.instructions_are_placed.ensures m typed.least.typing.formed) (c.instructions_are_listed.ensures code) mo
     c.method-rec.ensures.links c.types_are_ordered.ensures.same c.find.new.homes.items is c.counted.result c.counted.ensures.end)
 
 pub find-requires-clause-method : goal.find-requires-clause-method

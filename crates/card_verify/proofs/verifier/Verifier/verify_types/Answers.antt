@@ -16,7 +16,8 @@ settle-requires-clause-verifier c = record {
   formed = c.requires.formed;
   world = c.rule_laws.ensures.world;
   sound = c.card_laws.ensures.sound;
-  order = c.instructions_are_placed.ensures.listed;
+  order = c.instructions_are_listed.ensures;
+  records = c.card_laws.ensures.records;
 }
 
 pub settle-requires-clause-begun : goal.settle-requires-clause-begun

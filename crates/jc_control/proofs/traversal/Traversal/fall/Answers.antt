@@ -5,48 +5,47 @@ use Rattle.jc_control.specs.Flags.{IsFlagged}
 use Rattle.jc_control.specs.Subject.{method}
 use Rattle.jc_control.specs.Traversal.{Reaches, Grows, IsSound}
 use Rattle.jc_control.proofs.Growing.{on-ok, reached-sound, reached-grows, reached-found}
-use Rattle.jc_control.proofs.Listed.{within-Stands}
 use Rattle.jc_control.proofs.traversal.Traversal.fall.Goals as goal
 
 pub overflow_cast-placed : goal.overflow_cast-placed
 overflow_cast-placed c =
-    let w = within-Stands c.args.subject.code.bytes.now c.args.placed c.requires.stands in
+    let within = c.args.subject.listed.within c.args.placed c.requires.stands in
     let short = c.args.subject.short in
-    omega (arith, w.reaches, short)
+    omega (arith, within, short)
 
 pub overflow_add-placed : goal.overflow_add-placed
 overflow_add-placed c =
-    let w = within-Stands c.args.subject.code.bytes.now c.args.placed c.requires.stands in
+    let within = c.args.subject.listed.within c.args.placed c.requires.stands in
     let short = c.args.subject.short in
-    omega (arith, w.reaches, short)
+    omega (arith, within, short)
 
 pub reach-requires : goal.reach-requires
 reach-requires c =
-    let w = within-Stands c.args.subject.code.bytes.now c.args.placed c.requires.stands in
-    omega (arith, w.reaches, c.requires.sound.reached_size)
+    let within = c.args.subject.listed.within c.args.placed c.requires.stands in
+    omega (arith, within, c.requires.sound.reached_size)
 
 pub returns-clause-sound : goal.returns-clause-sound
 returns-clause-sound c =
     let m = method c.args.subject in
-    let w = within-Stands m.code c.args.placed c.requires.stands in
+    let within = c.args.subject.listed.within c.args.placed c.requires.stands in
     let place = c.args.placed.place + c.args.placed.insn.len in
     let goes : IsTrue (falls c.args.placed.insn.op) = search (rules, sym c.falls.ensures ∙ c.if-not-falls.false) in
     let here : IsReached m place = follows c.requires.stands c.requires.reached (falls_through goes) in
     on-ok (Reaches place c.args.self.now c.reach.new.self) (IsSound m c.reach.new.self) c.reach.result
-    (λ r. reached-sound m place c.args.self.now c.reach.new.self c.requires.sound w.reaches c.reach.ensures.leaders r here) c.reach.ensures.reached
+    (λ r. reached-sound m place c.args.self.now c.reach.new.self c.requires.sound within c.reach.ensures.leaders r here) c.reach.ensures.reached
 
 pub returns-clause-grows : goal.returns-clause-grows
 returns-clause-grows c =
     let m = method c.args.subject in
-    let w = within-Stands m.code c.args.placed c.requires.stands in
+    let within = c.args.subject.listed.within c.args.placed c.requires.stands in
     let place = c.args.placed.place + c.args.placed.insn.len in
     on-ok (Reaches place c.args.self.now c.reach.new.self) (Grows c.args.self.now c.reach.new.self) c.reach.result
-    (λ r. reached-grows m place c.args.self.now c.reach.new.self c.requires.sound w.reaches c.reach.ensures.leaders r) c.reach.ensures.reached
+    (λ r. reached-grows m place c.args.self.now c.reach.new.self c.requires.sound within c.reach.ensures.leaders r) c.reach.ensures.reached
 
 pub returns-clause-next : goal.returns-clause-next
 returns-clause-next c =
     let m = method c.args.subject in
-    let w = within-Stands m.code c.args.placed c.requires.stands in
+    let within = c.args.subject.listed.within c.args.placed c.requires.stands in
     let place = c.args.placed.place + c.args.placed.insn.len in
     on-ok (Reaches place c.args.self.now c.reach.new.self) (IsTrue (falls c.args.placed.insn.op) → IsFlagged c.reach.new.self.reached place) c.reach.result
-    (λ r goes. reached-found m place c.args.self.now c.reach.new.self c.requires.sound w.reaches c.reach.ensures.leaders r) c.reach.ensures.reached
+    (λ r goes. reached-found m place c.args.self.now c.reach.new.self c.requires.sound within c.reach.ensures.leaders r) c.reach.ensures.reached

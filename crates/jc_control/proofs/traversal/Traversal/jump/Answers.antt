@@ -9,11 +9,10 @@ use Rattle.jc_control.specs.Targets.{rest_of}
 use Rattle.jc_control.specs.Traversal.{IsLedTo}
 use Rattle.jc_control.proofs.Elements.{at-next, go-on, contained-in}
 use Rattle.jc_control.proofs.Growing.{grows-on, all-led-stays}
-use Rattle.jc_control.proofs.Listed.{decoded-Stands}
 use Rattle.jc_control.proofs.traversal.Traversal.jump.Goals as goal
 
 pub of-target-items-requires-clause-decoded : goal.of-target-items-requires-clause-decoded
-of-target-items-requires-clause-decoded c = decoded-Stands c.args.subject.code.bytes.now c.args.placed c.requires.stands
+of-target-items-requires-clause-decoded c = c.args.subject.listed.decodes c.args.placed c.requires.stands
 
 pub follow-requires-clause-leads : goal.follow-requires-clause-leads
 follow-requires-clause-leads c =

@@ -8,7 +8,7 @@ use Rattle.vm_turns.proofs.places.Places.has_target.Goals.{then-to-lt0-via-then-
 pub returns-then-to-lt0 : goal.returns-then-to-lt0
 returns-then-to-lt0 c =
     let code = code_at c.args.world.now c.args.method in
-    let listed = c.instructions_are_placed.ensures.listed code in
+    let listed = c.instructions_are_listed.ensures code in
     let short = code-short c.code-short.result.bytes.now code c.code-short.ensures.is c.code-short.ensures.short in
     let fits = c.ranges.to.sfits in
     elim c.then-to-lt0.branch [

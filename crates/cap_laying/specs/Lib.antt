@@ -1,0 +1,11 @@
+pub mod HeaderBytes
+pub mod HandlerTable
+pub mod Member
+pub mod NewPlaces
+pub mod Blocks
+pub mod MethodInfo
+pub mod Members
+pub mod References
+pub mod WrittenSeen
+pub mod Standing
+pub mod Laws

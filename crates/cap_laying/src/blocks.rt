@@ -1,0 +1,134 @@
+ghost use Rattle.std.specs.Prelude.{◌≡◌, ◌≤◌, ◌+◌, ◌++◌, IfOk, OnOk, filter, length};
+ghost use Rattle.std.specs.List.{flat_map};
+ghost use Rattle.std.specs.Option.{option_to_list};
+ghost use Rattle.cap_laying.specs.Blocks.{ArePlaced, IsPlacedBody, blocks, entries_of, firsts, had_none, indexes_of, total_handlers};
+ghost use Rattle.cap_laying.specs.HandlerTable.{entries_at, table_bytes};
+ghost use Rattle.cap_laying.specs.Member.{AreWithin, handlers_of, lead_size};
+
+use crate::entries::put_entries;
+use crate::headers::header_size;
+use crate::member::{Body, Member};
+use cap_renewal::NewMethods;
+use std::alloc::{AllocError, Global};
+
+/// The methods in the order of their blocks of handlers: first those that had handlers, in the order of the
+/// former table of at most so many entries, then the others.
+pub(crate) fn block_order<'a>(
+    alloc: Global,
+    room: usize,
+    members: &[Member<'a>],
+) -> Result<Vec<Member<'a>>, AllocError>
+    ensures { IfOk result (λ b. b.items ≡ blocks room members.now) }
+{
+    let firsts = firsts(alloc, room, members)?;
+    let mut blocks = Vec::new(alloc);
+    put_present(&firsts, &mut blocks)?;
+    put_late(members, &mut blocks)?;
+    Ok(blocks)
+}
+
+#[tactic(auto, unfolding(crate::specs::Blocks::firsts))]
+fn firsts<'a>(
+    alloc: Global,
+    room: usize,
+    members: &[Member<'a>],
+) -> Result<Vec<Option<Member<'a>>>, AllocError>
+    ensures { IfOk result (λ f. f.items ≡ firsts room members.now) }
+{
+    let mut table = vec![in alloc; None; room]?;
+    'members: for member in members {
+        if let Some(first) = member.handlers_from {
+            if (first as usize) < table.len() {
+                table[first as usize] = Some(*member);
+            }
+        }
+    }
+    Ok(table)
+}
+
+fn put_present<'a>(
+    table: &[Option<Member<'a>>],
+    out: &mut Vec<Member<'a>>,
+) -> Result<(), AllocError>
+    ensures { OnOk result (out.new.items ≡ out.old.items ++ flat_map option_to_list table.now) }
+{
+    'slots: for slot in table {
+        if let Some(member) = slot {
+            out.push(*member)?;
+        }
+    }
+    Ok(())
+}
+
+fn put_late<'a>(members: &[Member<'a>], out: &mut Vec<Member<'a>>) -> Result<(), AllocError>
+    ensures { OnOk result (out.new.items ≡ out.old.items ++ filter had_none members.now) }
+{
+    'members: for member in members {
+        if member.handlers_from.is_none() {
+            out.push(*member)?;
+        }
+    }
+    Ok(())
+}
+
+/// The handlers of a method.
+pub(crate) fn handler_count(body: Body<'_>) -> usize
+    ensures { result ≡ length (handlers_of body.entry) }
+{
+    match body {
+        Body::Code(laid) => laid.handlers.len(),
+        Body::Header(_) => 0,
+    }
+}
+
+/// The number of the first entry of each method in the table of the blocks, by its former offset in an info of
+/// so many bytes: 0 where it has none. There are at most 255 entries.
+#[tactic(auto, unfolding(crate::specs::Blocks::indexes_of))]
+pub(crate) fn indexes(
+    alloc: Global,
+    size: usize,
+    blocks: &[Member<'_>],
+) -> Result<Vec<u16>, AllocError>
+    requires within { AreWithin size blocks.now }
+    requires few { total_handlers blocks.now ≤ 255 }
+    ensures { IfOk result (λ i. i.items ≡ indexes_of size blocks.now) }
+{
+    let mut indexes = vec![in alloc; 0; size]?;
+    let mut before = 0;
+    'members: for block in blocks {
+        let count = handler_count(block.body) as u16;
+        indexes[block.offset as usize] = if count == 0 { 0 } else { before };
+        before += count;
+    }
+    Ok(indexes)
+}
+
+/// Appends the handler table of the methods in the order of their blocks. Where memory is wanting some
+/// entries may be appended.
+pub(crate) fn put_table(
+    blocks: &[Member<'_>],
+    news: &NewMethods,
+    out: &mut Vec<u8>,
+) -> Result<(), AllocError>
+    requires { ArePlaced news.now blocks.now }
+    ensures { OnOk result (out.new.items ≡ out.old.items ++ table_bytes (entries_of news.now blocks.now)) }
+{
+    'members: for block in blocks {
+        put_block(news.offset(block.offset), block.body, out)?;
+    }
+    Ok(())
+}
+
+/// Appends the entries of a method that stands at an offset.
+fn put_block(at: u16, body: Body<'_>, out: &mut Vec<u8>) -> Result<(), AllocError>
+    requires { IsPlacedBody at body }
+    ensures { OnOk result (out.new.items ≡ out.old.items ++ table_bytes (entries_at (at + lead_size body.entry) (handlers_of body.entry))) }
+{
+    match body {
+        Body::Code(laid) => {
+            let start = at + header_size(laid);
+            put_entries(start, laid.code.len(), laid.handlers.as_slice(), out)
+        }
+        Body::Header(_) => Ok(()),
+    }
+}

@@ -1,0 +1,142 @@
+ghost use Rattle.std.specs.Prelude.{◌≡◌, ◌≤◌, ◌+◌, ◌*◌, length, IfOk, OnOk};
+ghost use Rattle.cap_laying.specs.Blocks.{total_handlers};
+ghost use Rattle.cap_laying.specs.Member.{body_size, end_from, handlers_of, size_if};
+ghost use Rattle.cap_laying.specs.NewPlaces.{AreSmallBodies, IsSmallIf};
+ghost use Rattle.cap_laying.specs.References.{block_catches, body_indices, indices_if, method_indices, references_info};
+ghost use Rattle.cap_locations.specs.Catches.{catch_places};
+ghost use Rattle.cap_locations.specs.Telling.{IsFew, Tells};
+ghost use Rattle.jc_decode.specs.PoolIndex.{bytes_of};
+
+use crate::headers::header_size;
+use crate::member::{Body, Member};
+use crate::places::body_size;
+use cap_bytes::View;
+use cap_locations::{Told, put_component, tell_catches, tell_indices};
+use jc_decode::IndexWidth;
+use std::alloc::{AllocError, Global};
+
+/// The info of the ReferenceLocation component of methods that stand one after the other from a place on, after
+/// a handler table of these blocks.
+pub(crate) fn references(
+    alloc: Global,
+    start: u16,
+    table: &[Option<Member<'_>>],
+    blocks: &[Member<'_>],
+) -> Result<Vec<u8>, AllocError>
+    requires small { AreSmallBodies table.now }
+    requires end { end_from start table.now ≤ 65535 }
+    requires few { total_handlers blocks.now ≤ 255 }
+    requires order { 1 + 8 * total_handlers blocks.now ≤ start }
+    ensures { IfOk result (λ r. r.items ≡ references_info start table.now blocks.now) }
+{
+    let mut byte = Told::new(alloc);
+    tell_methods(IndexWidth::One, start, table, &mut byte)?;
+    let mut byte2 = Told::new(alloc);
+    tell_blocks(blocks, &mut byte2)?;
+    tell_methods(IndexWidth::Two, start, table, &mut byte2)?;
+    let mut info = Vec::new(alloc);
+    put_component(&byte, &byte2, &mut info)?;
+    Ok(info)
+}
+
+/// Tells the places of the indices of a width in methods that stand one after the other from a place on.
+fn tell_methods(
+    width: IndexWidth,
+    start: u16,
+    table: &[Option<Member<'_>>],
+    told: &mut Told,
+) -> Result<(), AllocError>
+    requires small { AreSmallBodies table.now }
+    requires end { end_from start table.now ≤ 65535 }
+    requires order { told.old.last ≤ start }
+    requires few { IsFew told.old }
+    ensures told { OnOk result (Tells told.old (method_indices (bytes_of width) start table.now) told.new) }
+    ensures few { OnOk result (IsFew told.new) }
+{
+    let mut at = start;
+    'methods: for slot in table {
+        at = tell_slot(width, at, slot, told)?;
+    }
+    Ok(())
+}
+
+/// Tells those in a method that stands at a place, where there is one. The answer is the place after it.
+#[tactic(auto, using(cap_locations::proofs::Tellings::tells_none))]
+fn tell_slot(
+    width: IndexWidth,
+    at: u16,
+    slot: &Option<Member<'_>>,
+    told: &mut Told,
+) -> Result<u16, AllocError>
+    requires small { IsSmallIf slot.now }
+    requires end { at + size_if slot.now ≤ 65535 }
+    requires order { told.old.last ≤ at }
+    requires few { IsFew told.old }
+    ensures told { OnOk result (Tells told.old (indices_if (bytes_of width) at slot.now) told.new) }
+    ensures few { OnOk result (IsFew told.new) }
+    ensures last { OnOk result (told.new.last ≤ at + size_if slot.now) }
+    ensures end { IfOk result (λ end. end ≡ at + size_if slot.now) }
+{
+    match slot {
+        Some(member) => {
+            tell_body(width, at, member.body, told)?;
+            Ok(at + body_size(member.body) as u16)
+        }
+        None => Ok(at),
+    }
+}
+
+/// Tells those in a method that stands at a place.
+#[tactic(auto, using(cap_locations::proofs::Tellings::tells_none))]
+fn tell_body(width: IndexWidth, at: u16, body: Body<'_>, told: &mut Told) -> Result<(), AllocError>
+    requires end { at + body_size body ≤ 65535 }
+    requires order { told.old.last ≤ at }
+    requires few { IsFew told.old }
+    ensures told { OnOk result (Tells told.old (body_indices (bytes_of width) at body.entry) told.new) }
+    ensures few { OnOk result (IsFew told.new) }
+    ensures last { OnOk result (told.new.last ≤ at + body_size body.entry) }
+{
+    match body {
+        Body::Code(laid) => {
+            let code = View::of(laid.code.as_slice());
+            tell_indices(width, at + header_size(laid), code, told)
+        }
+        Body::Header(_) => Ok(()),
+    }
+}
+
+/// Tells the places of the pool numbers of caught classes in the handler table of these blocks.
+fn tell_blocks(blocks: &[Member<'_>], told: &mut Told) -> Result<(), AllocError>
+    requires few { total_handlers blocks.now ≤ 255 }
+    requires order { told.old.last ≤ 1 }
+    requires told { IsFew told.old }
+    ensures told { OnOk result (Tells told.old (block_catches 1 blocks.now) told.new) }
+    ensures few { OnOk result (IsFew told.new) }
+    ensures last { OnOk result (told.new.last ≤ 1 + 8 * total_handlers blocks.now) }
+{
+    let mut at = 1;
+    'members: for block in blocks {
+        at = tell_block(at, block.body, told)?;
+    }
+    Ok(())
+}
+
+/// Tells those of a method whose entries begin at a place. The answer is the place after them.
+#[tactic(auto, using(cap_locations::proofs::Tellings::tells_none))]
+fn tell_block(at: u16, body: Body<'_>, told: &mut Told) -> Result<u16, AllocError>
+    requires end { at + 8 * length (handlers_of body) ≤ 65535 }
+    requires order { told.old.last ≤ at }
+    requires few { IsFew told.old }
+    ensures told { OnOk result (Tells told.old (catch_places at (handlers_of body.entry)) told.new) }
+    ensures few { OnOk result (IsFew told.new) }
+    ensures last { OnOk result (told.new.last ≤ at + 8 * length (handlers_of body.entry)) }
+    ensures end { IfOk result (λ end. end ≡ at + 8 * length (handlers_of body.entry)) }
+{
+    match body {
+        Body::Code(laid) => {
+            tell_catches(at, laid.handlers.as_slice(), told)?;
+            Ok(at + 8 * laid.handlers.len() as u16)
+        }
+        Body::Header(_) => Ok(at),
+    }
+}

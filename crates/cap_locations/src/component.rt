@@ -1,0 +1,30 @@
+ghost use Rattle.std.specs.Prelude.{◌≡◌, ◌<◌, ◌++◌, length, OnOk};
+ghost use Rattle.byteorder.specs.Endian.{big_bytes};
+ghost use Rattle.cap_locations.specs.Component.{component_bytes};
+ghost use Rattle.cap_locations.specs.Telling.{IsFew};
+
+use crate::told::Told;
+use std::alloc::AllocError;
+
+/// Appends the info of the component: the distances to the indices of one byte, and those to the indices of two.
+/// Where memory is wanting some bytes may be appended.
+#[tactic(auto, using(crate::proofs::Components::steps), unfolding(crate::specs::Component::component_bytes))]
+pub fn put_component(byte: &Told, byte2: &Told, out: &mut Vec<u8>) -> Result<(), AllocError>
+    requires byte { IsFew byte.now }
+    requires byte2 { IsFew byte2.now }
+    ensures { OnOk result (out.new.items ≡ out.old.items ++ component_bytes byte.now.bytes.items byte2.now.bytes.items) }
+{
+    put_list(byte, out)?;
+    put_list(byte2, out)
+}
+
+/// Appends a list after the number of its bytes.
+#[tactic(auto, using(crate::proofs::Components::steps))]
+fn put_list(told: &Told, out: &mut Vec<u8>) -> Result<(), AllocError>
+    requires { IsFew told.now }
+    ensures { OnOk result (out.new.items ≡ out.old.items ++ (big_bytes 2 (length told.now.bytes.items) ++ told.now.bytes.items)) }
+{
+    let _last = told.last;
+    out.extend_from_slice(&(told.bytes.len() as u16).to_be_bytes())?;
+    out.extend_from_slice(&told.bytes)
+}

@@ -1,0 +1,55 @@
+ghost use Rattle.std.specs.Prelude.{◌≡◌, ◌<◌, ◌++◌, [], ◌∷◌, OnOk};
+ghost use Rattle.cap_locations.specs.Distances.{distance_bytes};
+ghost use Rattle.cap_locations.specs.Telling.{IsFew, Tells};
+
+use std::alloc::{AllocError, Global};
+
+/// Places that are told by their distances.
+#[derive(Drop)]
+pub struct Told {
+    /// The last of them, and 0 before the first.
+    pub last: u16,
+    /// The distances so far.
+    pub bytes: Vec<u8>,
+}
+
+impl Told {
+    /// No place.
+    pub fn new(alloc: Global) -> Told
+        ensures last { result.last ≡ 0 }
+        ensures bytes { result.bytes.items ≡ [] }
+        ensures few { IsFew result }
+    {
+        Told {
+            last: 0,
+            bytes: Vec::new(alloc),
+        }
+    }
+
+    /// Tells one more place, which comes after the last. Where memory is wanting some bytes may be appended.
+    #[tactic(auto, using(crate::proofs::Tellings::few_more))]
+    pub fn tell(&mut self, place: u16) -> Result<(), AllocError>
+        requires order { self.old.last < place }
+        requires few { IsFew self.old }
+        ensures told { OnOk result (Tells self.old (place ∷ []) self.new) }
+        ensures few { OnOk result (IsFew self.new) }
+    {
+        put_distance(place - self.last, &mut self.bytes)?;
+        self.last = place;
+        Ok(())
+    }
+}
+
+/// Appends the bytes of a distance.
+#[tactic(auto, using(crate::proofs::Tellings::put_more, crate::proofs::Tellings::put_last))]
+fn put_distance(distance: u16, out: &mut Vec<u8>) -> Result<(), AllocError>
+    ensures { OnOk result (out.new.items ≡ out.old.items ++ distance_bytes distance) }
+{
+    let mut left = distance;
+    'whole: while left >= 255 {
+        out.push(255)?;
+        left -= 255;
+    }
+    out.push(left as u8)?;
+    Ok(())
+}

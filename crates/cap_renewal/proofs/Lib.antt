@@ -1,0 +1,9 @@
+pub mod Items
+pub mod Numbers
+pub mod News
+pub mod AppletItems
+pub mod PoolItems
+pub mod ExportItems
+pub mod ClassItems
+pub mod DescriptorItems
+pub mod Steps

@@ -1,0 +1,45 @@
+-- Numbers of two bytes, and tables of them.
+use Rattle.std.proofs.Common.{◌≡◌, ℕ, ◌+◌, ◌<◌, List, length, map, drop, Some, None, Bool, true, false, cond, slice_index, refl, arith}
+use Rattle.std.proofs.lemmas.List.{get_or-drop, length-map}
+use Rattle.byteorder.specs.Endian.{big_from, big_number}
+use Rattle.cap_bytes.specs.Number.{number_at}
+use Rattle.cap_bytes.specs.Grammar.{u2}
+use Rattle.cap_bytes.specs.Spelling.{Spells}
+use Rattle.cap_renewal.specs.NewMethods.{AreBytes, KeepsSmall}
+use Rattle.cap_renewal.specs.Along.{number_edits, two_bytes}
+use Rattle.cap_renewal.proofs.Items.{IsItem, IsFit}
+
+pub number_value : (w at : ℕ) (bytes : List ℕ) (n : ℕ) → number_at w at bytes ≡ Some n → n ≡ big_number w (drop at bytes)
+number_value w at bytes n h = by _ h
+  where
+    by : (b : Bool) → cond b (Some (big_number w (drop at bytes))) None ≡ Some n → n ≡ big_number w (drop at bytes)
+    by true e = cc
+    by false e = absurd (cc)
+
+pub number_small : (at : ℕ) (bytes : List ℕ) (n : ℕ) → AreBytes bytes → number_at 2 at bytes ≡ Some n → n < 65536
+number_small at bytes n are h =
+    let v : n ≡ big_from 0 2 (drop at bytes) = number_value 2 at bytes n h in
+    let a : slice_index (drop at bytes) 0 ≡ slice_index bytes (at + 0) = get_or-drop at bytes 0 0 in
+    let b : slice_index (drop at bytes) 1 ≡ slice_index bytes (at + 1) = get_or-drop at bytes 1 0 in
+    let x = are.each (at + 0) in
+    let y = are.each (at + 1) in
+    omega arith
+
+pub number_item : (to : ℕ → ℕ) (bytes : List ℕ) → IsItem u2 (number_edits to) two_bytes to bytes
+unfolding Spells
+number_item to bytes = record {
+  wide = λ at n after h. h.2;
+  inside = λ at n after h. (omega arith, omega (arith, h.2));
+  renewed = λ out at n after len h ed. (ed.1.number, refl, h.2);
+}
+
+pub number_fit : (to : ℕ → ℕ) (bytes : List ℕ) → AreBytes bytes → KeepsSmall to → IsFit u2 (number_edits to) bytes
+unfolding Spells
+number_fit to bytes are keeps = record { fit = λ at n after h. (keeps.each n (number_small at bytes n are h.0), tt) }
+
+pub wide_u2 : (bytes : List ℕ) (at n after : ℕ) → Spells u2 bytes at n after → after ≡ at + 2
+unfolding Spells
+wide_u2 bytes at n after h = h.2
+
+pub length_map : {X : Type 0} (f : X → X) (xs : List X) → length (map f xs) ≡ length xs
+length_map f xs = length-map xs f

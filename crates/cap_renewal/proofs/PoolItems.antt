@@ -1,0 +1,146 @@
+-- A pool entry with another offset.
+use Rattle.std.proofs.Common.{◌≡◌, ℕ, ◌+◌, ◌*◌, ◌≤◌, ◌<◌, List, [], ◌∷◌, length, map, take, drop, Bool, true, false, cond, Option, Some, None, slice_index, refl, sym, ap, subst, ◌∙◌, arith}
+use Rattle.std.proofs.lemmas.List.{get_or-take, get_or-drop, drop_more}
+use Rattle.byteorder.specs.Endian.{big_bytes}
+use Rattle.cap_bytes.specs.Grammar.{number, that, u2, repeat}
+use Rattle.cap_bytes.specs.Spelling.{Spells, Stands, info_of}
+use Rattle.cap_bytes.proofs.Wide.{read_within}
+use Rattle.cap_pool.specs.PoolFormat.{Entry, is_pool_tag, entry_info, pool_info}
+use Rattle.cap_writing.specs.Edit.{patched_all, AreInside, FitBytes}
+use Rattle.cap_writing.specs.Renewal.{Renews, IsEdited, AreSame}
+use Rattle.cap_writing.proofs.Same.{spelled_same, same_part}
+use Rattle.cap_writing.proofs.Patches.{edited_split, inside_from}
+use Rattle.cap_renewal.specs.NewMethods.{AreBytes, KeepsSmall}
+use Rattle.cap_renewal.specs.PoolEdits.{own_method, entry_by, renewed_entry, edits_by, entry_edits, entry_width, pool_edits}
+use Rattle.cap_renewal.proofs.Items.{IsItem, IsFit, all_inside, all_fit, all_renewed, IsRenewing, has_more}
+
+record HasEntry (bytes : List ℕ) (at : ℕ) (e : Entry) (after : ℕ) : Type 0 where
+  tag : Spells (number 1 (that is_pool_tag)) bytes at e.tag (at + 1)
+  fits : at + 4 ≤ length bytes
+  three : e.bytes ≡ take 3 (drop (at + 1) bytes)
+  end : after ≡ at + 4
+
+has_entry : (bytes : List ℕ) (at : ℕ) (e : Entry) (after : ℕ) → Spells entry_info bytes at e after → HasEntry bytes at e after
+unfolding Spells
+has_entry bytes at e after h =
+    let first : h.1 ≡ at + 1 = h.2.2 in
+    let fits : h.1 + 3 ≤ length bytes = h.3.2.0 in
+    let last : h.3.1 ≡ h.1 + 3 = h.3.2.2 in
+    let d : after ≡ h.3.1 = h.3.3.1 in
+    let is : e ≡ record { tag = h.0; bytes = h.3.0 } = h.3.3.0 in
+    rw is (record {
+      tag = subst (λ m. Spells (number 1 (that is_pool_tag)) bytes at h.0 m) first h.2;
+      fits = omega arith;
+      three = subst (λ m. h.3.0 ≡ take 3 (drop m bytes)) first h.3.2.1;
+      end = omega arith;
+    })
+
+by_inside : (to : ℕ → ℕ) (at : ℕ) (o : Option ℕ) → AreInside (edits_by to at o) at (at + 4)
+by_inside to at None = omega arith
+by_inside to at (Some o) = (omega arith, omega arith)
+
+three_bytes : (k : ℕ) (xs : List ℕ) → k < length xs → take 3 (drop k xs) ≡ slice_index xs k ∷ take 2 (drop (k + 1) xs)
+three_bytes k xs h = ap (take 3) (drop_more xs k 0 h)
+
+first_byte : (bytes : List ℕ) (at : ℕ) (e : Entry) (after : ℕ) → HasEntry bytes at e after → (k : ℕ) → k < 3 → slice_index e.bytes k ≡ slice_index bytes (at + 1 + k)
+first_byte bytes at e after p k h = ap (λ xs. slice_index xs k) p.three ∙ get_or-take 3 (drop (at + 1) bytes) k 0 h ∙ get_or-drop (at + 1) bytes k 0
+
+by_renewed : (to : ℕ → ℕ) (bytes out : List ℕ) (at : ℕ) (e : Entry) (after : ℕ) (o : Option ℕ) → length out ≡ length bytes → Spells entry_info bytes at e after → IsEdited (edits_by to at o) at after bytes out → Spells entry_info out at (entry_by to e o) after
+unfolding Spells
+by_renewed to bytes out at e after None len h ed = spelled_same entry_info bytes out at e after len ed h
+by_renewed to bytes out at e after (Some o) len h ed =
+    let p = has_entry bytes at e after h in
+    let end = p.end in
+    let fits = p.fits in
+    let one : AreSame at (at + 1) bytes out = same_part at (at + 2) at (at + 1) bytes out ed.0 (omega arith) (omega arith) in
+    let z : at + 1 + 0 ≡ at + 1 = omega arith in
+    let two : at + 1 + 1 ≡ at + 2 = omega arith in
+    let old : slice_index e.bytes 0 ≡ slice_index bytes (at + 1) = first_byte bytes at e after p 0 (omega arith) ∙ ap (slice_index bytes) z in
+    let kept : slice_index out (at + 1) ≡ slice_index bytes (at + 1) = ed.0.each (at + 1) (omega arith) (omega arith) in
+    let there : take 2 (drop (at + 1 + 1) out) ≡ big_bytes 2 (to o) = ap (λ k. take 2 (drop k out)) two ∙ ed.1.bytes in
+    let three : take 3 (drop (at + 1) out) ≡ slice_index e.bytes 0 ∷ big_bytes 2 (to o) =
+    three_bytes (at + 1) out (omega arith) ∙ ap (λ b. b ∷ take 2 (drop (at + 1 + 1) out)) (kept ∙ sym old) ∙ ap (λ bs. slice_index e.bytes 0 ∷ bs) there in
+    (e.tag, at + 1, spelled_same (number 1 (that is_pool_tag)) bytes out at e.tag (at + 1) len one p.tag, (slice_index e.bytes 0 ∷ big_bytes 2 (to o), at + 4, (omega arith, sym three, omega arith), (refl, end)))
+
+by_fit : (to : ℕ → ℕ) (at v : ℕ) (b : Bool) → to v < 65536 → FitBytes (edits_by to at (cond b (Some v) None))
+by_fit to at v true h = (h, tt)
+by_fit to at v false h = tt
+
+pub entry_item : (to : ℕ → ℕ) (bytes : List ℕ) → IsItem entry_info (entry_edits to) entry_width (renewed_entry to) bytes
+entry_item to bytes = record {
+  wide = λ at e after h. (has_entry bytes at e after h).end;
+  inside = λ at e after h. rw ((has_entry bytes at e after h).end) (by_inside to at (own_method e));
+  renewed = λ out at e after len h ed. by_renewed to bytes out at e after (own_method e) len h ed;
+}
+
+entry_fit : (to : ℕ → ℕ) (bytes : List ℕ) → AreBytes bytes → KeepsSmall to → IsFit entry_info (entry_edits to) bytes
+entry_fit to bytes are keeps = record {
+  fit = λ at e after h.
+      let p = has_entry bytes at e after h in
+      let b = first_byte bytes at e after p 1 (omega arith) in
+      let c = first_byte bytes at e after p 2 (omega arith) in
+      let x = are.each (at + 1 + 1) in
+      let y = are.each (at + 1 + 2) in
+      by_fit to at (256 * slice_index e.bytes 1 + slice_index e.bytes 2) _ (keeps.each (256 * slice_index e.bytes 1 + slice_index e.bytes 2) (omega arith));
+}
+
+pub record HasPool (bytes : List ℕ) (es : List Entry) : Type 0 where
+  pub count : ℕ
+  pub head : Spells u2 bytes 0 count 2
+  pub items : Spells (repeat count entry_info) bytes 2 es (length bytes)
+  pub some : 2 ≤ length bytes
+
+pub has_pool : (bytes : List ℕ) (es : List Entry) → Stands pool_info bytes es → HasPool bytes es
+unfolding Stands Spells
+has_pool bytes es s =
+    let h = s.1 in
+    let c : Spells u2 bytes 0 h.0 h.1 = h.2 in
+    let two : h.1 ≡ 2 = omega (arith, c.2) in
+    let r = h.3 in
+    let some : h.1 ≤ length bytes = read_within (info_of 5) u2 bytes 0 h.0 h.1 (omega arith) c in
+    let low : r.1 ≤ length bytes = read_within (info_of 5) (repeat h.0 entry_info) bytes h.1 r.0 r.1 some r.2 in
+    let high : length bytes ≤ r.1 = r.3.2.0 in
+    let end : r.1 ≡ length bytes = omega arith in
+    let e : es ≡ r.0 = r.3.3.0 in
+    record {
+      count = h.0;
+      head = subst (λ m. Spells u2 bytes 0 h.0 m) two c;
+      items = rw e (subst (λ m. Spells (repeat h.0 entry_info) bytes m r.0 (length bytes)) two (subst (λ m. Spells (repeat h.0 entry_info) bytes h.1 r.0 m) end r.2));
+      some = omega arith;
+    }
+
+pool_made : (bytes : List ℕ) (es : List Entry) → HasPool bytes es → Stands pool_info bytes es
+unfolding Stands Spells
+pool_made bytes es h =
+    (length bytes, (h.count, 2, h.head, (es, length bytes, h.items, (tt {0}, length bytes, (omega arith, refl), (refl, refl)))))
+
+pub pool_inside : (to : ℕ → ℕ) (bytes : List ℕ) (es : List Entry) → Stands pool_info bytes es → AreInside (pool_edits to es) 0 (length bytes)
+pool_inside to bytes es s =
+    let h = has_pool bytes es s in
+    inside_from (pool_edits to es) 0 2 (length bytes) (omega arith)
+    (all_inside entry_info (entry_edits to) entry_width (renewed_entry to) bytes (entry_item to bytes) h.count 2 es (length bytes) h.items)
+
+pub pool_fit : (to : ℕ → ℕ) (bytes : List ℕ) (es : List Entry) → AreBytes bytes → KeepsSmall to → Stands pool_info bytes es → FitBytes (pool_edits to es)
+pool_fit to bytes es are keeps s =
+    let h = has_pool bytes es s in
+    all_fit entry_info (entry_edits to) entry_width (renewed_entry to) bytes (entry_item to bytes) (entry_fit to bytes are keeps) h.count 2 es (length bytes) h.items
+
+pub pool_renewed : (to : ℕ → ℕ) (bytes out : List ℕ) (es : List Entry) → Stands pool_info bytes es → Renews (pool_edits to es) bytes out → Stands pool_info out (map (renewed_entry to) es)
+pool_renewed to bytes out es s r =
+    let h = has_pool bytes es s in
+    let len = r.long in
+    let is = entry_item to bytes in
+    let inside = all_inside entry_info (entry_edits to) entry_width (renewed_entry to) bytes is h.count 2 es (length bytes) h.items in
+    let both = edited_split [] (pool_edits to es) 0 2 (length bytes) bytes out (omega arith) inside r.inside in
+    pool_made out (map (renewed_entry to) es) (record {
+      count = h.count;
+      head = spelled_same u2 bytes out 0 h.count 2 len both.0 h.head;
+      items = rw len (all_renewed entry_info (entry_edits to) entry_width (renewed_entry to) bytes is out len h.count 2 es (length bytes) h.items both.1);
+      some = omega (arith, h.some, len);
+    })
+
+-- where the loop over them begins
+pub pool_begins : (to : ℕ → ℕ) (bytes : List ℕ) (es : List Entry) → Stands pool_info bytes es → IsRenewing entry_info (entry_edits to) entry_width bytes (patched_all (pool_edits to es) bytes) 2 es bytes
+pool_begins to bytes es s =
+    let h = has_pool bytes es s in
+    record { here = has_more entry_info bytes h.count 2 es (length bytes) h.some h.items; low = h.some; long = refl; so_far = refl }

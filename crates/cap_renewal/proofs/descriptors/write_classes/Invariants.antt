@@ -1,0 +1,12 @@
+use Rattle.offset_set.specs.Bits.{holds}
+use Rattle.cap_desc.specs.DescriptorFormat.{class_info}
+use Rattle.cap_desc.specs.Descriptors.{descriptor_seen}
+use Rattle.cap_desc.specs.ClassRecords.{classes_left}
+use Rattle.cap_writing.specs.Edit.{patched_all}
+use Rattle.cap_renewal.specs.DescriptorEdits.{class_edits, class_width, descriptor_edits}
+use Rattle.cap_renewal.proofs.Items.{IsRenewing}
+use Rattle.cap_renewal.proofs.descriptors.write_classes.Given as goal
+
+abbrev pub invariant-classes : goal.invariant-classes
+invariant-classes l =
+    IsRenewing class_info (class_edits (holds l.interfaces) l.news) class_width l.initial.info (patched_all (descriptor_edits (holds l.interfaces) l.news (descriptor_seen l.descriptor).classes) l.initial.info) l.at (classes_left l.class-iterator) l.info

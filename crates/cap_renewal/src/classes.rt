@@ -1,0 +1,58 @@
+ghost use Rattle.std.specs.Prelude.{◌≡◌, length, map};
+ghost use Rattle.cap_bytes.specs.declared.format.Format.{Format};
+ghost use Rattle.cap_bytes.specs.Spelling.{Stands};
+ghost use Rattle.cap_class.specs.ClassFormat.{classes_info};
+ghost use Rattle.cap_class.specs.ClassPart.{class_seen, records};
+ghost use Rattle.cap_writing.specs.Edit.{patched_all};
+ghost use Rattle.cap_writing.specs.Renewal.{Renews};
+ghost use Rattle.cap_renewal.specs.ClassEdits.{class_edits, classes_edits, renewed_class};
+ghost use Rattle.cap_renewal.specs.NewMethods.{to};
+ghost use Rattle.cap_renewal.specs.Rooms.{AllRooms, HasRoom};
+
+use crate::bytes::are_bytes;
+use crate::new_methods::{NewMethods, are_small};
+use crate::tables::renew_table;
+use cap_class::{ClassInfo, ClassPart};
+use cap_writing::patches_renew;
+
+/// Renews the offsets in the dispatch tables in the info of the Class component, in either format. The info
+/// is then that of the same records with the new offsets. No other byte changes.
+pub fn renew_classes(classes: &ClassPart<'_>, news: &NewMethods, info: &mut [u8])
+    requires { (format : Format) × Stands (classes_info format) info.old (records classes.now) }
+    ensures renewed { Renews (classes_edits (to news.now) (records classes.now)) info.old info.new }
+    ensures stands { (format : Format) → Stands (classes_info format) info.old (records classes.now)
+        → Stands (classes_info format) info.new (map (renewed_class (to news.now)) (records classes.now)) }
+{
+    are_bytes(info);
+    are_small(news);
+    patches_renew();
+    write_classes(classes, news, info);
+}
+
+#[tactic(auto, using(crate::proofs::Steps::one_class))]
+fn write_classes(classes: &ClassPart<'_>, news: &NewMethods, info: &mut [u8])
+    requires { AllRooms (length info.old) (records classes.now) }
+    ensures value { info.new ≡ patched_all (classes_edits (to news.now) (records classes.now)) info.old }
+    ensures long { length info.new ≡ length info.old }
+{
+    'classes: for class in classes.iter() {
+        write_class(&class, news, info);
+    }
+}
+
+/// Renews the offsets in the dispatch tables of a record. An interface has none.
+#[tactic(auto, using(crate::proofs::Steps::interface_kept, crate::proofs::Steps::two_tables))]
+fn write_class(class: &ClassInfo<'_>, news: &NewMethods, info: &mut [u8])
+    requires { HasRoom (length info.old) (class_seen class.now) }
+    ensures value { info.new ≡ patched_all (class_edits (to news.now) (class_seen class.now)) info.old }
+    ensures long { length info.new ≡ length info.old }
+{
+    if class.flags().is_interface() {
+        return;
+    }
+    let publics = class.publics();
+    let start = class.offset() as usize + 10;
+    renew_table(publics, news, start, info);
+    let visible = start + 2 * publics.len() as usize;
+    renew_table(class.package_table(), news, visible, info);
+}

@@ -1,0 +1,40 @@
+ghost use Rattle.std.specs.Prelude.{◌≡◌, length, map};
+ghost use Rattle.cap_bytes.specs.Spelling.{Stands};
+ghost use Rattle.cap_pool.specs.Export.{classes as exported};
+ghost use Rattle.cap_pool.specs.ExportFormat.{export_info};
+ghost use Rattle.cap_writing.specs.Edit.{patched_all};
+ghost use Rattle.cap_writing.specs.Renewal.{Renews};
+ghost use Rattle.cap_renewal.specs.ExportEdits.{export_edits, renewed_exported};
+ghost use Rattle.cap_renewal.specs.NewMethods.{to};
+
+use crate::bytes::are_bytes;
+use crate::new_methods::{NewMethods, are_small};
+use crate::tables::renew_table;
+use cap_pool::Export;
+use cap_writing::patches_renew;
+
+/// Renews the offsets of the static methods in the info of the Export component, which is then that of
+/// the same classes with the new offsets. No other byte changes.
+pub fn renew_export(export: &Export<'_>, news: &NewMethods, info: &mut [u8])
+    requires { Stands export_info info.old (exported export.now) }
+    ensures renewed { Renews (export_edits (to news.now) (exported export.now)) info.old info.new }
+    ensures stands { Stands export_info info.new (map (renewed_exported (to news.now)) (exported export.now)) }
+{
+    are_bytes(info);
+    are_small(news);
+    patches_renew();
+    write_methods(export, news, info);
+}
+
+fn write_methods(export: &Export<'_>, news: &NewMethods, info: &mut [u8])
+    requires { Stands export_info info.old (exported export.now) }
+    ensures value { info.new ≡ patched_all (export_edits (to news.now) (exported export.now)) info.old }
+    ensures long { length info.new ≡ length info.old }
+{
+    let mut at = 1;
+    'classes: for class in export.iter() {
+        let methods = at + 4 + 2 * class.fields.len() as usize;
+        renew_table(class.methods, news, methods, info);
+        at = methods + 2 * class.methods.len() as usize;
+    }
+}

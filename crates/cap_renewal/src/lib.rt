@@ -1,0 +1,22 @@
+//! Components whose length stays when the methods of a package are written anew: Applet, ConstantPool,
+//! Class, Export and Descriptor (Java Card 2.2 VM Specification, sections 6.5, 6.7, 6.8, 6.12 and 6.13). The
+//! offsets of methods, and what else the Descriptor tells of them, are written over where they stand; every
+//! other byte stays, those that are never read too. It stands on the readers of these components and on
+//! `cap_writing`.
+#![tactic(auto)]
+
+mod applets;
+mod bytes;
+mod classes;
+mod descriptors;
+mod exports;
+mod new_methods;
+mod pool;
+mod tables;
+
+pub use applets::renew_applets;
+pub use classes::renew_classes;
+pub use descriptors::renew_descriptor;
+pub use exports::renew_export;
+pub use new_methods::{NewMethod, NewMethods};
+pub use pool::renew_pool;

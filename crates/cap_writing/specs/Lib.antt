@@ -1,0 +1,4 @@
+pub mod Edit
+pub mod Renewal
+pub mod Writing
+pub mod Laws

@@ -1,0 +1,9 @@
+pub mod Costs
+pub mod Halving
+pub mod Clear
+pub mod Denying
+pub mod Landed
+pub mod Walked
+pub mod Ordered
+pub mod Verified
+pub mod Tallies

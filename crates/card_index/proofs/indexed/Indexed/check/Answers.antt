@@ -1,0 +1,21 @@
+use Rattle.std.proofs.Common.{arith}
+use Rattle.jc_control.specs.WellFormed.{IsWellFormed}
+use Rattle.card_index.specs.Indexed.{subject, listed}
+use Rattle.card_index.specs.IndexTyping.{IsIndex}
+use Rattle.card_index.proofs.Verified.{not-ok}
+use Rattle.card_index.proofs.indexed.Indexed.check.Goals as goal
+
+pub returns-in-Some-clause-formed : goal.returns-in-Some-clause-formed
+returns-in-Some-clause-formed g c = not-ok (IsWellFormed (subject c.args.self.now)) c.refuse_entry.result c.refuse_entry.ensures.err
+
+pub returns-in-Some-clause-index : goal.returns-in-Some-clause-index
+returns-in-Some-clause-index g c = not-ok (IsIndex (subject c.args.self.now) (listed c.args.self.now)) c.refuse_entry.result c.refuse_entry.ensures.err
+
+pub returns-in-Some-clause-cost : goal.returns-in-Some-clause-cost
+returns-in-Some-clause-cost g c = λ b lt. omega (arith, c.bad_entry.ensures.cost)
+
+pub returns-in-None-clause-cost : goal.returns-in-None-clause-cost
+returns-in-None-clause-cost g c = λ b lt. omega (arith, c.bad_entry.ensures.cost, c.check_targets.ensures.cost b lt)
+
+pub returns-in-None-clause-forward : goal.returns-in-None-clause-forward
+returns-in-None-clause-forward g c = omega (arith, c.bad_entry.ensures.forward, c.check_targets.ensures.forward)

@@ -1,0 +1,18 @@
+use Rattle.card_index.specs.Indexed.{subject, world_in, listed}
+use Rattle.card_index.proofs.Verified.{over-of-flaw, over-of-lacking, lacking-number}
+use Rattle.card_index.proofs.indexed.Indexed.refuse_target.Goals as goal
+
+pub not_indexed-requires : goal.not_indexed-requires
+not_indexed-requires c =
+    let x = c.args.self.now in
+    lacking-number (world_in x) (subject x) (listed x) c.args.lacks c.instructions_are_listed.ensures x.verifier.short c.in-Ok.ensures.formed c.requires.lacks
+
+pub returns-in-Ok-clause-refused : goal.returns-in-Ok-clause-refused
+returns-in-Ok-clause-refused c =
+    let x = c.args.self.now in
+    over-of-lacking (world_in x) (subject x) (listed x) c.args.lacks c.not_indexed.result c.in-Ok.ensures.formed c.requires.ascending c.requires.places c.requires.lacks c.not_indexed.ensures
+
+pub returns-in-Err-clause-refused : goal.returns-in-Err-clause-refused
+returns-in-Err-clause-refused c =
+    let x = c.args.self.now in
+    over-of-flaw (world_in x) (subject x) (listed x) c.in-Err.fault c.in-Err.ensures.flawed

@@ -1,0 +1,10 @@
+pub mod IndexTyping
+pub mod Refusal
+pub mod Pass
+pub mod Indexed
+pub mod Walk
+pub mod Seeking
+pub mod Room
+pub mod Counting
+pub mod Bound
+pub mod Laws

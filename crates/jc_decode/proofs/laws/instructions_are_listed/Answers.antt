@@ -1,0 +1,5 @@
+use Rattle.jc_decode.proofs.Listed.{all-are-listed}
+use Rattle.jc_decode.proofs.laws.instructions_are_listed.Goals as goal
+
+pub returns : goal.returns
+returns c = all-are-listed

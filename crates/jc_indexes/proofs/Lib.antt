@@ -1,0 +1,4 @@
+pub mod Listing
+pub mod Taken
+pub mod Custom
+pub mod Listed

@@ -1,0 +1,5 @@
+pub mod IndexFormat
+pub mod Component
+pub mod Indexes
+pub mod Taking
+pub mod Laws

@@ -1,0 +1,14 @@
+-- Taking the index of one method after the other from the lists that are left of each package.
+use Rattle.std.specs.Prelude.{◌≡◌, ℕ, ◌==◌, ◌&&◌, List, drop, length, Option, None, slice_get, if◌then◌else◌}
+use Rattle.jc_base.specs.declared.record.MethodRec.{MethodRec}
+use Rattle.jc_base.specs.Linked.{list_at}
+use Rattle.jc_indexes.specs.Indexes.{has_code, is_coded}
+
+-- a method with code takes the first list that is left of its package
+abbrev pub taken : List (List (List ℕ)) → MethodRec → Option (List ℕ)
+taken lists m = if has_code m then slice_get (list_at lists m.package) 0 else None
+
+pub record IsTakenFrom (before : List (List (List ℕ))) (m : MethodRec) (index : Option (List ℕ)) (after : List (List (List ℕ))) : Type 0 where
+  pub is : index ≡ taken before m
+  pub size : length after ≡ length before
+  pub left : (k : ℕ) → list_at after k ≡ (if is_coded k m then drop 1 (list_at before k) else list_at before k)

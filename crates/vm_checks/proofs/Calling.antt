@@ -1,0 +1,101 @@
+-- The demands of a call, as numbers and as tests.
+use Rattle.std.proofs.Common.{◌≡◌, ℕ, zero, suc, ◌+◌, ◌-◌, ◌<◌, ◌≤◌, Bool, true, false, List, [], ◌∷◌, ◌++◌, length, drop, get_or, refl, ap, ◌∙◌, arith}
+use Rattle.std.specs.Prelude.{max, reverse, Option, Some, None, if◌then◌else◌, ◌&&◌, nat_lt}
+use Rattle.std.specs.List.{list_all}
+use Rattle.std.proofs.lemmas.Bool.{lt-ltb, le-ltb}
+use Rattle.std.proofs.lemmas.List.{length-reverse, get_or-reverse, drop_more}
+use Rattle.jc_base.specs.declared.ty.Ty.{Ty}
+use Rattle.jc_base.specs.Class.{ClassTable}
+use Rattle.jc_base.specs.World.{Linked}
+use Rattle.jc_ops.specs.declared.want.Want.{Want}
+use Rattle.jc_ops.specs.declared.want.Want.TheVariants.{Value}
+use Rattle.jc_ops.specs.Sound.{receiver_count}
+use Rattle.jc_rules.specs.declared.demand.Demand.{Demand}
+use Rattle.jc_rules.specs.declared.demand.Demand.TheVariants.{Cell}
+use Rattle.jc_rules.specs.Demand.{holds, AreKnownDemands, IsKnownDemand}
+use Rattle.jc_rules.specs.Footprint.{registers_asked, cells_asked}
+use Rattle.jc_rules.specs.Rule.{cells_wanted, receiver_wanted, call_demands}
+use Rattle.vm_store.specs.Cells.{Cells}
+use Rattle.vm_store.specs.State.{State, top}
+use Rattle.vm_step.specs.declared.ending.Fault.{Fault}
+use Rattle.vm_step.specs.declared.ending.Fault.TheVariants.{TypeFault, StackFault, LocalFault}
+use Rattle.vm_step.specs.Tests.{types_of, unmet}
+
+pub known-at : (t : ClassTable) (ds : List Demand) (n : ℕ) (d : Demand) → AreKnownDemands t ds → n < length ds → IsKnownDemand t (get_or ds n d)
+known-at t [] n d h lt = absurd (omega (arith, lt))
+known-at t (e ∷ ds) zero d h lt = h.0
+known-at t (e ∷ ds) (suc n) d h lt = known-at t ds n d h.1 (omega (arith, lt))
+
+-- ---- as numbers
+
+args-registers : (n : ℕ) (tys : List Ty) (ds : List Demand) → registers_asked (cells_wanted n tys ++ ds) ≡ registers_asked ds
+args-registers n [] ds = refl
+args-registers n (ty ∷ tys) ds = args-registers (n + 1) tys ds
+
+receiver-registers : (n : ℕ) (o : Option Want) → registers_asked (receiver_wanted n o) ≡ 0
+receiver-registers n None = refl
+receiver-registers n (Some want) = refl
+
+call-registers : (args : List Ty) (o : Option Want) → registers_asked (call_demands args o) ≡ 0
+call-registers args o = args-registers 0 (reverse args) (receiver_wanted (length args) o) ∙ receiver-registers (length args) o
+
+args-most : (n : ℕ) (tys : List Ty) (ds : List Demand) → cells_asked (cells_wanted n tys ++ ds) ≤ max (n + length tys) (cells_asked ds)
+args-most n [] ds = omega arith
+args-most n (ty ∷ tys) ds = let rest = args-most (n + 1) tys ds in omega (arith, rest)
+
+args-least : (n : ℕ) (tys : List Ty) (ds : List Demand) → n + length tys ≤ max n (cells_asked (cells_wanted n tys ++ ds))
+args-least n [] ds = omega arith
+args-least n (ty ∷ tys) ds = let rest = args-least (n + 1) tys ds in omega (arith, rest)
+
+args-under : (n : ℕ) (tys : List Ty) (ds : List Demand) → cells_asked ds ≤ cells_asked (cells_wanted n tys ++ ds)
+args-under n [] ds = omega arith
+args-under n (ty ∷ tys) ds = let rest = args-under (n + 1) tys ds in omega (arith, rest)
+
+receiver-cells : (n : ℕ) (o : Option Want) → (cells_asked (receiver_wanted n o) ≤ n + receiver_count o) × (n + receiver_count o ≤ max n (cells_asked (receiver_wanted n o)))
+receiver-cells n None = (omega arith, omega arith)
+receiver-cells n (Some want) = (omega arith, omega arith)
+
+call-cells : (args : List Ty) (o : Option Want) → cells_asked (call_demands args o) ≡ length args + receiver_count o
+call-cells args o =
+    let tail = receiver_wanted (length args) o in
+    let turned = length-reverse args in
+    omega (arith, turned, args-most 0 (reverse args) tail, args-least 0 (reverse args) tail, args-under 0 (reverse args) tail, (receiver-cells (length args) o).0, (receiver-cells (length args) o).1)
+
+module _ {A : Type 0} (k : Cells A) (w : Linked) (args : List Ty) (o : Option Want) (s : State A) where
+  three : (a b c : Bool) → Option Fault
+  three a b c = if a then Some LocalFault else if b then Some StackFault else if c then None else Some TypeFault
+
+  no-registers : nat_lt (length (top s).registers) (registers_asked (call_demands args o)) ≡ false
+  no-registers = le-ltb (length (top s).registers) (registers_asked (call_demands args o)) (omega (arith, call-registers args o))
+
+  pub too-few : length (top s).stack < length args + receiver_count o → Some StackFault ≡ unmet k w (call_demands args o) s
+  too-few lt =
+      let less : nat_lt (length (top s).stack) (cells_asked (call_demands args o)) ≡ true = lt-ltb (length (top s).stack) (cells_asked (call_demands args o)) (omega (arith, lt, call-cells args o)) in
+      rw (no-registers, less) refl
+
+  enough : length args + receiver_count o ≤ length (top s).stack → nat_lt (length (top s).stack) (cells_asked (call_demands args o)) ≡ false
+  enough le = le-ltb (length (top s).stack) (cells_asked (call_demands args o)) (omega (arith, le, call-cells args o))
+
+  pub all-met : length args + receiver_count o ≤ length (top s).stack → list_all (holds w.classes (types_of k w s)) (call_demands args o) ≡ true → None ≡ unmet k w (call_demands args o) s
+  all-met le h = rw (no-registers, enough le, h) refl
+
+  pub one-unmet : length args + receiver_count o ≤ length (top s).stack → list_all (holds w.classes (types_of k w s)) (call_demands args o) ≡ false → Some TypeFault ≡ unmet k w (call_demands args o) s
+  one-unmet le h = rw (no-registers, enough le, h) refl
+
+-- ---- as tests
+
+pub all-both : {A : Type 0} (p : A → Bool) (xs ys : List A) → list_all p (xs ++ ys) ≡ (list_all p xs && list_all p ys)
+all-both p [] ys = refl
+all-both p (x ∷ xs) ys = by (p x) (all-both p xs ys)
+  where
+    by : (b : Bool) → list_all p (xs ++ ys) ≡ (list_all p xs && list_all p ys) → (b && list_all p (xs ++ ys)) ≡ ((b && list_all p xs) && list_all p ys)
+    by true e = e
+    by false e = refl
+
+-- the n-th argument from the last one on is wanted first
+pub next-argument : (p : Demand → Bool) (args : List Ty) (n : ℕ) (d : Ty) → n < length args
+    → list_all p (cells_wanted n (drop n (reverse args))) ≡ (p (Cell n (Value (get_or args (length args - 1 - n) d))) && list_all p (cells_wanted (n + 1) (drop (n + 1) (reverse args))))
+next-argument p args n d lt =
+    let first : drop n (reverse args) ≡ get_or (reverse args) n d ∷ drop (n + 1) (reverse args) = drop_more (reverse args) n d (omega (arith, lt, length-reverse args)) in
+    ap (λ tys. list_all p (cells_wanted n tys)) first
+    ∙ ap (λ ty. p (Cell n (Value ty)) && list_all p (cells_wanted (n + 1) (drop (n + 1) (reverse args)))) (get_or-reverse args n d lt)

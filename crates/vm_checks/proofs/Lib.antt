@@ -1,0 +1,10 @@
+mod Objects
+mod Tested
+mod Reaching
+mod Finding
+mod Rooming
+mod Sufficing
+mod Staying
+mod Shaping
+mod Settling
+mod Calling

@@ -1,0 +1,4 @@
+pub mod Acts
+pub mod Steps
+pub mod Starts
+pub mod Together

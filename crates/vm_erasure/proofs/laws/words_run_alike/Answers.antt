@@ -1,0 +1,16 @@
+use Rattle.vm_erasure.proofs.Starts.{starts-erase}
+use Rattle.vm_erasure.proofs.Steps.{steps-erase, runs-erase}
+use Rattle.vm_erasure.proofs.Together.{words-follow}
+use Rattle.vm_erasure.proofs.laws.words_run_alike.Goals as goal
+
+pub returns-clause-steps : goal.returns-clause-steps
+returns-clause-steps c = steps-erase c.args.world.now
+
+pub returns-clause-runs : goal.returns-clause-runs
+returns-clause-runs c = runs-erase c.args.world.now
+
+pub returns-clause-starts : goal.returns-clause-starts
+returns-clause-starts c = starts-erase c.args.world.now
+
+pub returns-clause-follow : goal.returns-clause-follow
+returns-clause-follow c = words-follow c.args.world.now c.classes.ensures.links c.operations_are_sound.ensures.decided

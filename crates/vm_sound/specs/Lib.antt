@@ -1,0 +1,4 @@
+pub mod Frames
+pub mod State
+pub mod Laws
+pub mod Worked

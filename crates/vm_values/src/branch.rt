@@ -1,0 +1,59 @@
+ghost use Rattle.std.specs.Prelude.{◌≡◌, ◌≤◌, length};
+ghost use Rattle.vm_store.specs.State.{IsRunning, top};
+ghost use Rattle.vm_step.specs.Numbers.{dropped};
+ghost use Rattle.vm_step.specs.Branching.{is_same, is_taken, branch_width};
+
+use crate::number::{handle_on, short_on};
+use jc_ops::{Branch, Sameness};
+use vm_arithmetic::holds;
+use vm_store::Store;
+
+/// Pops what a branch asks, and tells whether it is taken.
+pub fn pop_branch<S: Store>(store: &mut S, branch: Branch) -> bool
+    requires well { S.well store.old }
+    requires running { IsRunning (S.state store.old) }
+    requires cells { branch_width branch ≤ length (top (S.state store.old)).stack }
+    ensures taken { result ≡ is_taken S.Cell.cells branch (top (S.state store.old)).stack }
+    ensures state { S.state store.new ≡ dropped (S.state store.old) (branch_width branch) }
+    ensures well { S.well store.new }
+    ensures fixed { S.fixed store.new ≡ S.fixed store.old }
+{
+    let taken = is_taken(store, branch);
+    store.discard(branch_width(branch));
+    taken
+}
+
+fn is_taken<S: Store>(store: &S, branch: Branch) -> bool
+    requires well { S.well store.now }
+    requires running { IsRunning (S.state store.now) }
+    requires cells { branch_width branch ≤ length (top (S.state store.now)).stack }
+    ensures { result ≡ is_taken S.Cell.cells branch (top (S.state store.now)).stack }
+{
+    match branch {
+        Branch::Always => true,
+        Branch::Zero(order) => holds(order, short_on(store, 0), 0),
+        Branch::Null(wanted) => is_same(wanted, handle_on(store, 0), 0),
+        Branch::References(wanted) => is_same(wanted, handle_on(store, 1), handle_on(store, 0)),
+        Branch::Shorts(order) => holds(order, short_on(store, 1), short_on(store, 0)),
+    }
+}
+
+/// How many cells a branch pops.
+fn branch_width(branch: Branch) -> usize
+    ensures { result ≡ branch_width branch }
+{
+    match branch {
+        Branch::Always => 0,
+        Branch::Zero(_) | Branch::Null(_) => 1,
+        Branch::References(_) | Branch::Shorts(_) => 2,
+    }
+}
+
+fn is_same(wanted: Sameness, a: u16, b: u16) -> bool
+    ensures { result ≡ is_same wanted a b }
+{
+    match wanted {
+        Sameness::Equal => a == b,
+        Sameness::Different => a != b,
+    }
+}

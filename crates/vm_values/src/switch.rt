@@ -1,0 +1,75 @@
+ghost use Rattle.std.specs.Prelude.{◌≡◌, ◌≤◌, ℤ, length, find, Ok};
+ghost use Rattle.jc_decode.specs.Decoding.{decoded};
+ghost use Rattle.jc_decode.specs.Cases.{cases};
+ghost use Rattle.vm_store.specs.State.{IsRunning, top};
+ghost use Rattle.vm_step.specs.Numbers.{number_on, number_width, dropped};
+ghost use Rattle.vm_step.specs.Branching.{has_key, case_offset};
+
+use crate::number::{int_on, short_on};
+use cap_bytes::View;
+use jc_decode::{Case, Insn, case, targets_are_few};
+use jc_ops::Width;
+use vm_store::Store;
+
+/// The distance that a switch at a place of the code tells for a key: that of the first case with the key, and
+/// else the default's.
+pub fn switch_offset(code: View<'_>, place: u16, insn: Insn, key: i32) -> i32
+    requires short { length code.bytes.now ≤ 65535 }
+    requires decoded { decoded code.bytes.now place ≡ Ok insn }
+    ensures { result ≡ case_offset insn.x (find (has_key key) (cases code.entry.bytes.now place insn)) }
+{
+    match find_case(code, place, insn, key) {
+        Some(case) => i32::from(case.offset),
+        None => insn.x,
+    }
+}
+
+/// The first case with a key. A table has fewer cases than bytes.
+fn find_case(code: View<'_>, place: u16, insn: Insn, key: i32) -> Option<Case>
+    requires short { length code.bytes.now ≤ 65535 }
+    requires decoded { decoded code.bytes.now place ≡ Ok insn }
+    ensures { result ≡ find (has_key key) (cases code.entry.bytes.now place insn) }
+{
+    targets_are_few();
+    'cases: for n in 0..65536_u32 {
+        match case(code, place, insn, n) {
+            Some(case) => {
+                if has_key(case, key) {
+                    return Some(case);
+                }
+            }
+            None => return None,
+        }
+    }
+    None
+}
+
+fn has_key(case: Case, key: i32) -> bool
+    ensures { result ≡ has_key key case }
+{
+    case.key == key
+}
+
+/// Pops the number that a switch asks.
+pub fn pop_key<S: Store>(store: &mut S, width: Width) -> i32
+    requires well { S.well store.old }
+    requires running { IsRunning (S.state store.old) }
+    requires cells { number_width width ≤ length (top (S.state store.old)).stack }
+    ensures key { result ≡ number_on S.Cell.cells width (top (S.state store.old)).stack }
+    ensures state { S.state store.new ≡ dropped (S.state store.old) (number_width width) }
+    ensures well { S.well store.new }
+    ensures fixed { S.fixed store.new ≡ S.fixed store.old }
+{
+    match width {
+        Width::Short => {
+            let key = i32::from(short_on(store, 0));
+            store.discard(1);
+            key
+        }
+        Width::Int => {
+            let key = int_on(store, 0);
+            store.discard(2);
+            key
+        }
+    }
+}

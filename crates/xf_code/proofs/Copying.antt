@@ -1,0 +1,29 @@
+-- Steps of loops that copy locals and cells.
+use Rattle.std.proofs.Common.{◌≡◌, ℕ, zero, suc, ◌+◌, ◌-◌, ◌<◌, ◌≤◌, min, List, [], ◌∷◌, ◌++◌, length, drop, refl, ◌∙◌, ap, arith}
+use Rattle.xf_homes.specs.declared.home.Home.{Home}
+use Rattle.xf_plan.specs.Source.{Source}
+use Rattle.xf_code.specs.declared.edge.Origin.{Origin}
+use Rattle.xf_code.specs.Edge.{cell_copies, local_copies, locals_copies}
+
+pub locals-first : (s : Source) (o : Origin) (q x len : ℕ) → x < len
+    → locals_copies s o q x (len - x) ≡ local_copies s o q x ++ locals_copies s o q (x + 1) (len - (x + 1))
+locals-first s o q x len lt =
+    let e : len - x ≡ suc (len - (x + 1)) = omega arith in
+    let next : suc x ≡ x + 1 = omega arith in
+    ap (locals_copies s o q x) e ∙ ap (λ k. local_copies s o q x ++ locals_copies s o q k (len - (x + 1))) next
+
+pub locals-none : (s : Source) (o : Origin) (q x len : ℕ) → len ≤ x → locals_copies s o q x (len - x) ≡ []
+locals-none s o q x len le = let none : len - x ≡ 0 = omega arith in ap (locals_copies s o q x) none
+
+-- one of two lists of cells is at its end
+pub cells-past : (s : Source) (hs ks : List Home) (n : ℕ) → min (length hs) (length ks) ≤ n → cell_copies s (drop n hs) (drop n ks) ≡ []
+cells-past s [] ks zero le = refl
+cells-past s [] ks (suc n) le = refl
+cells-past s (h ∷ hs) [] zero le = refl
+cells-past s (h ∷ hs) [] (suc n) le = short (drop n hs)
+  where
+    short : (xs : List Home) → cell_copies s xs [] ≡ []
+    short [] = refl
+    short (x ∷ xs) = refl
+cells-past s (h ∷ hs) (k ∷ ks) zero le = absurd (omega arith)
+cells-past s (h ∷ hs) (k ∷ ks) (suc n) le = cells-past s hs ks n (omega arith)

@@ -1,0 +1,51 @@
+-- Steps of loops that append items.
+use Rattle.std.proofs.Common.{◌≡◌, ℕ, zero, suc, ◌+◌, ◌<◌, ◌≤◌, List, [], ◌∷◌, ◌++◌, length, drop, All, map, flat_map, refl, sym, ◌∙◌, ap, arith, append_assoc, drop-cons, subst}
+use Rattle.std.specs.Prelude.{get_or, Contains}
+use Rattle.std.proofs.lemmas.List.{append-nil}
+use Rattle.std.proofs.lemmas.List.Elements.{Contains-append_right}
+use Rattle.std.proofs.lemmas.List.Concat.{flat_map-cons}
+
+-- what is appended was first among what is left
+pub goes-on : {X : Type 0} (items step rest left whole now : List X) → rest ≡ step ++ left → now ≡ items ++ step → items ++ rest ≡ whole → now ++ left ≡ whole
+goes-on items step rest left whole now first is inv =
+    ap (λ xs. xs ++ left) is ∙ append_assoc items step left ∙ ap (λ xs. items ++ xs) (sym first) ∙ inv
+
+-- nothing is left
+pub ended : {X : Type 0} (items rest whole : List X) → rest ≡ [] → items ++ rest ≡ whole → items ≡ whole
+ended items rest whole none inv = sym (append-nil items) ∙ ap (λ xs. items ++ xs) (sym none) ∙ inv
+
+-- the rest of a list from the n-th element on
+pub rest-cons : {X : Type 0} (xs : List X) (n : ℕ) (d : X) → n < length xs → drop n xs ≡ get_or xs n d ∷ drop (n + 1) xs
+rest-cons xs n d lt = let next : suc n ≡ n + 1 = omega arith in drop-cons xs n d lt ∙ ap (λ k. get_or xs n d ∷ drop k xs) next
+
+pub rest-none : {X : Type 0} (xs : List X) (n : ℕ) → length xs ≤ n → drop n xs ≡ []
+rest-none [] zero le = refl
+rest-none [] (suc n) le = refl
+rest-none (x ∷ xs) zero le = absurd (omega arith)
+rest-none (x ∷ xs) (suc n) le = rest-none xs n (omega arith)
+
+pub map-first : {X Y : Type 0} (f : X → Y) (xs : List X) (n : ℕ) (d : X) → n < length xs → map f (drop n xs) ≡ f (get_or xs n d) ∷ map f (drop (n + 1) xs)
+map-first f xs n d lt = ap (map f) (rest-cons xs n d lt)
+
+pub flat-first : {X Y : Type 0} (f : X → List Y) (xs : List X) (n : ℕ) (d : X) → n < length xs → flat_map f (drop n xs) ≡ f (get_or xs n d) ++ flat_map f (drop (n + 1) xs)
+flat-first f xs n d lt = ap (flat_map f) (rest-cons xs n d lt) ∙ flat_map-cons f (get_or xs n d) (drop (n + 1) xs)
+
+-- an element that comes next stands in the whole
+pub stands-next : {X : Type 0} (before rest after whole : List X) (x : X) → rest ≡ x ∷ after → before ++ rest ≡ whole → Contains whole x
+stands-next before rest after whole x e inv =
+    subst (λ xs. Contains xs x) (ap (λ xs. before ++ xs) (sym e) ∙ inv) (Contains-append_right before (x ∷ after) x (0, omega arith, refl))
+
+pub moves-on : {X : Type 0} (before rest after whole : List X) (x : X) → rest ≡ x ∷ after → before ++ rest ≡ whole → (before ++ x ∷ []) ++ after ≡ whole
+moves-on before rest after whole x e inv = goes-on before (x ∷ []) rest after whole (before ++ x ∷ []) e refl inv
+
+pub all-first : {X : Type 0} (P : X → Type 0) (xs after : List X) (x : X) → xs ≡ x ∷ after → All P xs → P x
+all-first P xs after x e h = let all : All P (x ∷ after) = subst (All P) e h in all 0 x (omega arith)
+
+pub all-rest : {X : Type 0} (P : X → Type 0) (xs after : List X) (x : X) → xs ≡ x ∷ after → All P xs → All P after
+all-rest P xs after x e h = let all : All P (x ∷ after) = subst (All P) e h in λ k d lt. all (suc k) d (omega arith)
+
+pub flat-next : {X Y : Type 0} (f : X → List Y) (rest after : List X) (x : X) → rest ≡ x ∷ after → flat_map f rest ≡ f x ++ flat_map f after
+flat-next f rest after x e = ap (flat_map f) e ∙ flat_map-cons f x after
+
+pub flat-none : {X Y : Type 0} (f : X → List Y) (rest : List X) → rest ≡ [] → flat_map f rest ≡ []
+flat-none f rest e = ap (flat_map f) e

@@ -1,0 +1,16 @@
+use Rattle.std.proofs.Common.{◌<◌, arith}
+use Rattle.xf_homes.specs.Home.{register_count}
+use Rattle.xf_plan.specs.Subject.{source}
+use Rattle.xf_code.specs.Edge.{local_copies}
+use Rattle.xf_code.proofs.Copying.{locals-first}
+use Rattle.xf_code.proofs.Steps.{goes-on}
+use Rattle.xf_code.proofs.edge.copies.Goals as goal
+
+pub locals-preserved : goal.locals-preserved
+locals-preserved c =
+    let s = source c.args.plan.now in
+    let inside : c.locals.x < register_count c.args.plan.now.walk.rec.now = omega (arith, c.locals-test.true, c.registers-x-end.ensures.is) in
+    goes-on c.locals.items.items (local_copies s c.args.from c.args.to c.locals.x) _ _ _ c.local_copies.new.items.items
+    (locals-first s c.args.from c.args.to c.locals.x (register_count c.args.plan.now.walk.rec.now) inside)
+    c.in_default.ensures
+    c.locals.invariant

@@ -1,0 +1,13 @@
+use Rattle.std.proofs.Common.{◌≡◌, ◌≤◌, ◌++◌, take, map, reverse, length}
+use Rattle.xf_plan.specs.Subject.{source}
+use Rattle.xf_code.specs.Move.{store}
+use Rattle.xf_code.proofs.moves.spill.Given as goal
+
+abbrev pub invariant-homes : goal.invariant-homes
+invariant-homes l = record {
+  within : l.left ≤ length l.homes;
+  so_far : l.items.items ++ map (store (source l.plan)) (reverse (take l.left l.homes)) ≡ l.fn.items.items ++ map (store (source l.plan)) (reverse l.homes);
+}
+
+abbrev pub decreases-homes : goal.decreases-homes
+decreases-homes l = l.left

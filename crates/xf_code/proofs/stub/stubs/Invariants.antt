@@ -1,0 +1,12 @@
+use Rattle.std.proofs.Common.{◌≡◌, ◌++◌, flat_map}
+use Rattle.jc_decode.specs.Instructions.{rest_of}
+use Rattle.jc_decode.specs.Listing.{listing}
+use Rattle.xf_plan.specs.Subject.{source}
+use Rattle.xf_code.specs.Emission.{stubs}
+use Rattle.xf_code.proofs.stub.stubs.Given as goal
+
+abbrev pub invariant-walk : goal.invariant-walk
+invariant-walk l = record {
+  so_far : l.items.items ++ flat_map (stubs (source l.plan)) (rest_of l.placed-iterator) ≡ l.fn.items.items ++ flat_map (stubs (source l.plan)) (listing l.plan.walk.code.bytes.now);
+  whole : l.yielded ++ rest_of l.placed-iterator ≡ listing l.plan.walk.code.bytes.now;
+}

@@ -1,0 +1,44 @@
+-- Loads and stores of homes: all that rewritten code does beside what the source does (JCVM 2.2, section 7.5).
+use Rattle.std.specs.Prelude.{ℕ, pos, List, [], ◌∷◌, map, reverse}
+use Rattle.jc_base.specs.declared.ty.Ty.{Ty}
+use Rattle.jc_base.specs.declared.ty.Ty.TheVariants.{Short, IntHigh}
+use Rattle.jc_decode.specs.declared.insn.Insn.{Insn}
+use Rattle.jc_decode.specs.declared.symbols.Item.{Item}
+use Rattle.jc_decode.specs.declared.symbols.Item.TheVariants.{Plain}
+use Rattle.xf_homes.specs.declared.home.Home.{Home}
+use Rattle.xf_plan.specs.Source.{Source}
+use Rattle.xf_plan.specs.Plan.{register}
+
+-- an instruction of two bytes, with an operand
+abbrev pub with_byte : ℕ → ℕ → Insn
+with_byte op x = record { op = op; x = pos x; y = pos 0; z = pos 0; len = 2 }
+
+-- sload, iload and aload
+abbrev pub load_op : Ty → ℕ
+load_op Short = 22
+load_op IntHigh = 23
+load_op ty = 21
+
+-- sstore, istore and astore
+abbrev pub store_op : Ty → ℕ
+store_op Short = 41
+store_op IntHigh = 42
+store_op ty = 40
+
+abbrev pub load : Source → Home → Item
+load s h = Plain (with_byte (load_op h.ty) (register s h))
+
+abbrev pub store : Source → Home → Item
+store s h = Plain (with_byte (store_op h.ty) (register s h))
+
+-- a value goes from one home to another
+abbrev pub copy : Source → Home → Home → List Item
+copy s from to = load s from ∷ store s to ∷ []
+
+-- the values of homes go on the stack, that of the first to the bottom
+abbrev pub loads : Source → List Home → List Item
+loads s hs = map (load s) hs
+
+-- the values of a stack go into homes, that of the top into the last
+unfoldable pub spill : Source → List Home → List Item
+spill s hs = map (store s) (reverse hs)

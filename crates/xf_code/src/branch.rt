@@ -1,0 +1,91 @@
+ghost use Rattle.std.specs.Prelude.{◌≡◌, ◌++◌, OnOk};
+ghost use Rattle.jc_decode.specs.Forms.{wide};
+ghost use Rattle.xf_plan.specs.Subject.{source};
+ghost use Rattle.xf_code.specs.Jump.{AreLed, branch, first_label, jump_to, is_over, spill_if};
+
+use crate::edge::Scratch;
+use crate::jump::{Fork, is_over, leads, operands};
+use crate::moves::{loads, put, spill};
+use jc_decode::{Item, Labels, Placed};
+use jc_ops::Operation;
+use std::alloc::{AllocError, Global};
+use xf_plan::Plan;
+
+/// The opcode of the wide form of a jump.
+fn wide(op: u8) -> u8
+    ensures { result ≡ wide op }
+{
+    if 96 <= op && op <= 112 { op + 56 } else { op }
+}
+
+fn first_label(labels: &[u16]) -> u16
+    ensures { result ≡ first_label labels.now }
+{
+    match labels.first() {
+        Some(label) => *label,
+        None => 0,
+    }
+}
+
+/// The branch or switch that leads to these labels.
+fn jump_to(placed: Placed, operation: Operation, labels: Vec<u16>) -> Item
+    ensures { result ≡ jump_to placed operation labels.items }
+{
+    match operation {
+        Operation::Switch(_) => Item::Switch {
+            insn: placed.insn,
+            at: placed.place,
+            labels: Labels::of(labels),
+        },
+        _ => Item::Branch {
+            op: wide(placed.insn.op),
+            label: first_label(labels.as_slice()),
+        },
+    }
+}
+
+/// Appends the stores of the whole stack into its own homes and the loads of the operands, where the stack is deeper.
+fn spill_if(
+    alloc: Global,
+    plan: &Plan<'_>,
+    fork: Fork,
+    items: &mut Vec<Item>,
+) -> Result<(), AllocError>
+    ensures { OnOk result
+        (items.new.items
+        ≡ items.old.items
+        ++ spill_if (is_over (source plan.now) fork.place fork.operands) (source plan.now) fork.place fork.operands) }
+{
+    if !is_over(plan, fork) {
+        return Ok(());
+    }
+    let cells = plan.cells(alloc, fork.place)?;
+    spill(plan, cells.as_slice(), items)?;
+    let operands = operands(alloc, plan, fork)?;
+    loads(plan, operands.as_slice(), items)
+}
+
+/// Appends a conditional branch or switch.
+#[tactic(auto, unfolding(crate::specs::Jump::branch))]
+pub fn branch(
+    alloc: Global,
+    plan: &Plan<'_>,
+    placed: Placed,
+    operation: Operation,
+    operands: u8,
+    scratch: &mut Scratch,
+    items: &mut Vec<Item>,
+) -> Result<(), AllocError>
+    requires { AreLed plan.now.walk.code.bytes.now placed }
+    ensures { OnOk result
+        (items.new.items ≡ items.old.items ++ branch (source plan.now) placed operation operands) }
+{
+    let fork = Fork {
+        place: placed.place,
+        operation,
+        operands,
+    };
+    spill_if(alloc, plan, fork, items)?;
+    let labels = leads(alloc, plan, fork, placed.insn, scratch)?;
+    put(items, jump_to(placed, operation, labels))
+}

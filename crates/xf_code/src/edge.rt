@@ -1,0 +1,208 @@
+ghost use Rattle.std.specs.Prelude.{◌≡◌, ◌++◌, ◌∷◌, [], OnOk, flat_map, slice_get, option_copied};
+ghost use Rattle.xf_homes.specs.Home.{argument_types};
+ghost use Rattle.xf_homes.specs.Value.{value_at};
+ghost use Rattle.xf_plan.specs.Subject.{source};
+ghost use Rattle.xf_code.specs.Edge.{is_stored, home_before, held, copy_new, copies_from, local_copies, copies, cell_copies};
+
+use crate::moves::copy;
+use jc_base::{MethodRec, Ty};
+use jc_decode::Item;
+use jc_ops::{Operation, Sort};
+use std::alloc::AllocError;
+use xf_homes::{Home, has, value_of};
+use xf_plan::{Plan, home_of};
+
+/// Where an edge of rewritten code begins.
+#[derive(Clone, Copy)]
+pub enum Origin {
+    /// Before the method's first instruction.
+    Start,
+    /// At a place, after its operation.
+    After(u16, Operation),
+    /// Where a handler takes over, whose entry is this place.
+    Entry(u16),
+}
+
+/// Lists of homes that are made anew for each local.
+#[derive(Drop)]
+pub struct Scratch {
+    pub held: Vec<Home>,
+    pub needed: Vec<Home>,
+}
+
+fn is_stored(operation: Operation, x: u16) -> bool
+    ensures { result ≡ is_stored operation x }
+{
+    match operation {
+        Operation::Store(Sort::Int, y) => x == u16::from(y) || x == u16::from(y) + 1,
+        Operation::Store(_, y) => x == u16::from(y),
+        _ => false,
+    }
+}
+
+/// The type of an argument cell, the receiver's first.
+fn argument_cell(rec: &MethodRec, n: usize) -> Option<Ty>
+    ensures { result ≡ slice_get (argument_types rec.now) n }
+{
+    let args = rec.sig.args.as_slice();
+    if rec.is_static {
+        return args.get(n).copied();
+    }
+    if n == 0 {
+        return Some(Ty::Class(rec.class));
+    }
+    args.get(n - 1).copied()
+}
+
+/// The value of an argument that begins with a cell, if one does.
+#[tactic(auto, unfolding(xf_homes::specs::Value::value_at))]
+fn argument(rec: &MethodRec, n: u16) -> Option<Ty>
+    ensures { result ≡ value_at (argument_types rec.now) n }
+{
+    let n = n as usize;
+    value_of(argument_cell(rec, n), argument_cell(rec, n + 1))
+}
+
+/// The home from which a local is copied.
+fn home_before(plan: &Plan<'_>, from: Origin, x: u16) -> Option<Home>
+    ensures { result ≡ home_before (source plan.now) from x }
+{
+    match from {
+        Origin::Start => home_of(x, argument(plan.walk.rec, x)),
+        Origin::After(place, operation) => {
+            if is_stored(operation, x) {
+                None
+            } else {
+                plan.local(place, x)
+            }
+        }
+        Origin::Entry(place) => plan.local(place, x),
+    }
+}
+
+/// Lists the homes in which the local stands already.
+fn hold(
+    plan: &Plan<'_>,
+    from: Origin,
+    x: u16,
+    home: Home,
+    to: &mut Vec<Home>,
+) -> Result<(), AllocError>
+    ensures { OnOk result (to.new.items ≡ held (source plan.now) from x home) }
+{
+    if let Origin::After(place, _) = from {
+        return plan.needed(place, x, to);
+    }
+    to.clear();
+    to.push(home)?;
+    Ok(())
+}
+
+fn copy_new(
+    plan: &Plan<'_>,
+    from: Home,
+    there: &[Home],
+    to: Home,
+    items: &mut Vec<Item>,
+) -> Result<(), AllocError>
+    ensures { OnOk result (items.new.items ≡ items.old.items ++ copy_new (source plan.now) from there.now to) }
+{
+    if has(there, to) {
+        return Ok(());
+    }
+    copy(plan, from, to, items)
+}
+
+fn copy_all(
+    plan: &Plan<'_>,
+    from: Home,
+    there: &[Home],
+    needed: &[Home],
+    items: &mut Vec<Item>,
+) -> Result<(), AllocError>
+    ensures { OnOk result
+        (items.new.items
+        ≡ items.old.items ++ flat_map (copy_new (source plan.now) from there.now) needed.now) }
+{
+    'needed: for home in needed {
+        if let Err(error) = copy_new(plan, from, there, *home, items) {
+            return Err(error);
+        }
+    }
+    Ok(())
+}
+
+/// Appends the copies of a local on an edge to a place.
+#[tactic(auto, unfolding(crate::specs::Edge::local_copies))]
+fn local_copies(
+    plan: &Plan<'_>,
+    from: Origin,
+    to: u16,
+    x: u16,
+    scratch: &mut Scratch,
+    items: &mut Vec<Item>,
+) -> Result<(), AllocError>
+    ensures { OnOk result (items.new.items ≡ items.old.items ++ local_copies (source plan.now) from to x) }
+{
+    let Some(home) = home_before(plan, from, x) else {
+        return Ok(());
+    };
+    hold(plan, from, x, home, &mut scratch.held)?;
+    plan.needed(to, x, &mut scratch.needed)?;
+    copy_all(
+        plan,
+        home,
+        scratch.held.as_slice(),
+        scratch.needed.as_slice(),
+        items,
+    )
+}
+
+/// Appends the copies of all locals on an edge to a place.
+#[tactic(auto, unfolding(crate::specs::Edge::copies))]
+pub fn copies(
+    plan: &Plan<'_>,
+    from: Origin,
+    to: u16,
+    scratch: &mut Scratch,
+    items: &mut Vec<Item>,
+) -> Result<(), AllocError>
+    ensures { OnOk result (items.new.items ≡ items.old.items ++ copies (source plan.now) from to) }
+{
+    'locals: for x in 0..plan.walk.registers() {
+        if let Err(error) = local_copies(plan, from, to, x, scratch, items) {
+            return Err(error);
+        }
+    }
+    Ok(())
+}
+
+fn copy_cell(plan: &Plan<'_>, from: Home, to: Home, items: &mut Vec<Item>) -> Result<(), AllocError>
+    ensures { OnOk result
+        (items.new.items
+        ≡ items.old.items ++ cell_copies (source plan.now) (from ∷ []) (to ∷ [])) }
+{
+    if from.is(to) {
+        return Ok(());
+    }
+    copy(plan, from, to, items)
+}
+
+/// Appends the copies of cells that stand in homes of other types than they have to.
+pub fn cell_copies(
+    plan: &Plan<'_>,
+    from: &[Home],
+    to: &[Home],
+    items: &mut Vec<Item>,
+) -> Result<(), AllocError>
+    ensures { OnOk result
+        (items.new.items ≡ items.old.items ++ cell_copies (source plan.now) from.now to.now) }
+{
+    let count = from.len().min(to.len());
+    'cells: for n in 0..count {
+        if let Err(error) = copy_cell(plan, from[n], to[n], items) {
+            return Err(error);
+        }
+    }
+    Ok(())
+}

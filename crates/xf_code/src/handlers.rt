@@ -1,0 +1,137 @@
+ghost use Rattle.std.specs.Prelude.{◌≡◌, ◌++◌, ◌∷◌, [], ◌≤◌, if◌then◌else◌, OnOk, IfOk, length};
+ghost use Rattle.xf_plan.specs.Subject.{source};
+ghost use Rattle.xf_code.specs.Emission.{caught, caught_from, is_live, range, ranges_from};
+ghost use Rattle.xf_code.specs.Jump.{handler_label};
+
+use crate::edge::{Origin, Scratch, copies};
+use crate::jump::goto;
+use crate::moves::{put, spill};
+use jc_base::Handler;
+use jc_decode::{Item, Range};
+use std::alloc::{AllocError, Global};
+use xf_plan::Plan;
+
+fn is_live(plan: &Plan<'_>, handler: Handler) -> bool
+    requires { length plan.now.walk.code.bytes.now ≤ 65535 }
+    ensures { result ≡ is_live (source plan.now) handler }
+{
+    plan.first_reached(handler.start) < handler.end
+}
+
+/// The label of the stub of a handler, by its number.
+fn handler_label(n: u16) -> u16
+    requires { n ≤ 255 }
+    ensures { result ≡ handler_label n }
+{
+    49152 + n
+}
+
+/// Appends the stub of a handler.
+fn caught(
+    alloc: Global,
+    plan: &Plan<'_>,
+    n: u16,
+    handler: Handler,
+    scratch: &mut Scratch,
+    items: &mut Vec<Item>,
+) -> Result<(), AllocError>
+    requires { n ≤ 255 }
+    ensures { OnOk result (items.new.items ≡ items.old.items ++ caught (source plan.now) n handler) }
+{
+    let entry = handler.entry;
+    put(items, Item::Label(handler_label(n)))?;
+    let cells = plan.cells(alloc, entry)?;
+    spill(plan, cells.as_slice(), items)?;
+    copies(plan, Origin::Entry(entry), entry, scratch, items)?;
+    put(items, goto(entry))
+}
+
+fn caught_if(
+    alloc: Global,
+    plan: &Plan<'_>,
+    n: u16,
+    handler: Handler,
+    scratch: &mut Scratch,
+    items: &mut Vec<Item>,
+) -> Result<(), AllocError>
+    requires few { n ≤ 255 }
+    requires short { length plan.now.walk.code.bytes.now ≤ 65535 }
+    ensures { OnOk result
+        (items.new.items
+        ≡ items.old.items
+        ++ (if is_live (source plan.now) handler then caught (source plan.now) n handler else [])) }
+{
+    if is_live(plan, handler) {
+        return caught(alloc, plan, n, handler, scratch, items);
+    }
+    Ok(())
+}
+
+/// Appends the stubs of the live handlers, in the order of the table.
+pub fn handler_stubs(
+    alloc: Global,
+    plan: &Plan<'_>,
+    scratch: &mut Scratch,
+    items: &mut Vec<Item>,
+) -> Result<(), AllocError>
+    requires few { length plan.now.walk.rec.now.handlers ≤ 255 }
+    requires short { length plan.now.walk.code.bytes.now ≤ 65535 }
+    ensures { OnOk result
+        (items.new.items
+        ≡ items.old.items ++ caught_from (source plan.now) 0 plan.now.walk.rec.now.handlers) }
+{
+    'handlers: for (n, handler) in plan.walk.rec.handlers.as_slice().iter().enumerate() {
+        if let Err(error) = caught_if(alloc, plan, n as u16, *handler, scratch, items) {
+            return Err(error);
+        }
+    }
+    Ok(())
+}
+
+fn range(plan: &Plan<'_>, n: u16, handler: Handler) -> Range
+    requires few { n ≤ 255 }
+    requires short { length plan.now.walk.code.bytes.now ≤ 65535 }
+    ensures { result ≡ range (source plan.now) n handler }
+{
+    Range {
+        from: plan.first_reached(handler.start),
+        to: plan.first_reached(handler.end),
+        entry: handler_label(n),
+        pool: handler.index,
+    }
+}
+
+/// Adds what a handler covers, if it is live.
+fn add_range(
+    plan: &Plan<'_>,
+    n: u16,
+    handler: Handler,
+    ranges: &mut Vec<Range>,
+) -> Result<(), AllocError>
+    requires few { n ≤ 255 }
+    requires short { length plan.now.walk.code.bytes.now ≤ 65535 }
+    ensures { OnOk result
+        (ranges.new.items
+        ≡ ranges.old.items
+        ++ (if is_live (source plan.now) handler then range (source plan.now) n handler ∷ [] else [])) }
+{
+    if is_live(plan, handler) {
+        ranges.push(range(plan, n, handler))?;
+    }
+    Ok(())
+}
+
+/// The ranges of the live handlers, in the order of the table.
+pub fn ranges(alloc: Global, plan: &Plan<'_>) -> Result<Vec<Range>, AllocError>
+    requires few { length plan.now.walk.rec.now.handlers ≤ 255 }
+    requires short { length plan.now.walk.code.bytes.now ≤ 65535 }
+    ensures { IfOk result (λ rs. rs.items ≡ ranges_from (source plan.now) 0 plan.now.walk.rec.now.handlers) }
+{
+    let mut ranges = Vec::new(alloc);
+    'handlers: for (n, handler) in plan.walk.rec.handlers.as_slice().iter().enumerate() {
+        if let Err(error) = add_range(plan, n as u16, *handler, &mut ranges) {
+            return Err(error);
+        }
+    }
+    Ok(ranges)
+}

@@ -1,0 +1,148 @@
+ghost use Rattle.std.specs.Prelude.{◌≡◌, ◌≤◌, ◌<◌, ◌↔◌, All, IfOk, IsSomeAnd, Err, length, slice_get};
+ghost use Rattle.jc_control.specs.Method.{IsMethodOf, method_in};
+ghost use Rattle.jc_rules.specs.Typing.{state_at};
+ghost use Rattle.xf_homes.specs.Answer.{IsTypingOf};
+ghost use Rattle.xf_homes.specs.Order.{AreHomes};
+ghost use Rattle.xf_plan.specs.Subject.{source};
+ghost use Rattle.jc_decode.specs.Decoding.{AreBytes};
+ghost use Rattle.jc_decode.specs.Symbols.{IsRange, plain_size};
+ghost use Rattle.xf_code.specs.Emission.{IsPlainSize, IsRewritten, items, ranges, rewritten};
+ghost use Rattle.xf_code.specs.Known.{IsSubject};
+ghost use Rattle.xf_code.specs.Live.{KeepsLive};
+ghost use Rattle.xf_code.specs.Numbers.{HasNumbers};
+
+use crate::edge::{Origin, Scratch, copies};
+use crate::group::groups;
+use crate::handlers::{handler_stubs, ranges};
+use crate::moves::put;
+use crate::stub::stubs;
+use cap_bytes::View;
+use jc_base::World;
+use jc_control::{ControlEnd, control_flow, flaws_decide};
+use jc_decode::{Item, Sequence, Symbols, instructions_are_listed};
+use jc_rules::Typing;
+use std::alloc::{AllocError, Global};
+use xf_homes::{Homes, Walk};
+use xf_plan::Plan;
+
+/// Why a method is not rewritten.
+#[derive(Clone, Copy)]
+pub enum RewriteEnd {
+    /// Its stack has 255 cells, and there is no room for one more.
+    StackLimit,
+    Memory,
+}
+
+impl From<AllocError> for RewriteEnd {
+    ghost use Rattle.xf_code.specs.declared.rewriting.RewriteEnd.TheVariants.{Memory};
+
+    ghost from_gives = { λ _ end. end ≡ Memory };
+
+    fn from(_error: AllocError) -> RewriteEnd {
+        RewriteEnd::Memory
+    }
+}
+
+/// The items of a method.
+#[tactic(auto, unfolding(crate::specs::Emission::items))]
+fn items(alloc: Global, plan: &Plan<'_>) -> Result<Vec<Item>, AllocError>
+    requires subject { IsSubject plan.now }
+    requires few { length plan.now.walk.rec.now.handlers ≤ 255 }
+    ensures { IfOk result (λ is. is.items ≡ items (source plan.now)) }
+{
+    let mut scratch = Scratch {
+        held: Vec::new(alloc),
+        needed: Vec::new(alloc),
+    };
+    let mut items = Vec::new(alloc);
+    copies(plan, Origin::Start, 0, &mut scratch, &mut items)?;
+    groups(alloc, plan, &mut scratch, &mut items)?;
+    put(&mut items, Item::Label(plan.walk.code.bytes.len() as u16))?;
+    stubs(alloc, plan, &mut scratch, &mut items)?;
+    handler_stubs(alloc, plan, &mut scratch, &mut items)?;
+    Ok(items)
+}
+
+/// The symbols of a method, whose stack has room for one cell more.
+#[tactic(auto, unfolding(crate::specs::Emission::rewritten, crate::specs::Emission::ranges))]
+fn rewritten(alloc: Global, plan: &Plan<'_>) -> Result<Symbols, AllocError>
+    requires subject { IsSubject plan.now }
+    requires few { length plan.now.walk.rec.now.handlers ≤ 255 }
+    requires room { plan.now.walk.rec.now.max_stack < 255 }
+    ensures { IfOk result (λ symbols. symbols ≡ rewritten (source plan.now)) }
+{
+    let rec = plan.walk.rec;
+    let items = items(alloc, plan)?;
+    let ranges = ranges(alloc, plan)?;
+    Ok(Symbols {
+        items: Sequence::of(items),
+        ranges: Sequence::of(ranges),
+        max_stack: rec.max_stack + 1,
+        nargs: rec.nargs,
+        max_locals: plan.homes.count().saturating_sub(rec.nargs),
+    })
+}
+
+/// The items of a list of bytes are bytes: a fact for proofs, and no work.
+fn are_bytes(bytes: &[u8])
+    ensures { AreBytes bytes.now }
+{
+    let _ = bytes;
+}
+
+/// The code of a method with homes in place of its locals, by the typing that `infer` gives for it and the homes that
+/// `homes` gives for that typing.
+pub fn rewrite<'a>(
+    alloc: Global,
+    world: &'a World<'a>,
+    method: u16,
+    typing: &'a Typing,
+    homes: &'a Homes,
+) -> Result<Symbols, RewriteEnd>
+    requires code { IsSomeAnd (slice_get world.now.methods method) (λ m. 0 < m.code_len) }
+    requires typing { IsSomeAnd (method_in world.now method) (λ m. IsTypingOf world.now m typing.now) }
+    requires homes { IsSomeAnd (method_in world.now method) (λ m. AreHomes world.now m (state_at typing.now) homes.now) }
+    ensures symbols { IsSomeAnd (method_in world.now method)
+        (λ m. IfOk result (IsRewritten world.now m (state_at typing.now) homes.now)) }
+    // Each live handler has a range, and no other.
+    ensures live { IsSomeAnd (method_in world.now method)
+        (λ m. IfOk result (λ symbols. KeepsLive m m.rec.handlers symbols.ranges)) }
+    // The ranges are such as `lay` takes.
+    ensures ranged { IfOk result (λ symbols. All (IsRange symbols.items) symbols.ranges) }
+    ensures numbers { IsSomeAnd (method_in world.now method)
+        (λ m. IfOk result (HasNumbers m.rec homes.now)) }
+    ensures size { IsSomeAnd (method_in world.now method)
+        (λ m. IfOk result (λ symbols.
+        IsPlainSize world.now m (state_at typing.now) homes.now (plain_size symbols.items))) }
+    ensures limit { IsSomeAnd (slice_get world.now.methods method)
+        (λ m. (result ≡ Err RewriteEnd.StackLimit) ↔ (m.max_stack ≡ 255)) }
+{
+    instructions_are_listed();
+    flaws_decide();
+    let rec = world.method(method);
+    if rec.max_stack == 255 {
+        return Err(RewriteEnd::StackLimit);
+    }
+    let control = match control_flow(alloc, world, method) {
+        Ok(control) => control,
+        Err(ControlEnd::Memory) => return Err(RewriteEnd::Memory),
+        Err(ControlEnd::Flawed(_)) => unreachable!(),
+    };
+    let code = View::of(world.code(method));
+    are_bytes(code.bytes);
+    let plan = Plan {
+        walk: Walk {
+            world,
+            number: method,
+            rec,
+            code,
+            typing,
+            control: &control,
+        },
+        homes,
+    };
+    match rewritten(alloc, &plan) {
+        Ok(symbols) => Ok(symbols),
+        Err(error) => Err(error.into()),
+    }
+}

@@ -1,0 +1,2 @@
+pub mod OneMethod
+pub mod Typed

@@ -1,0 +1,304 @@
+ghost use Rattle.std.specs.Prelude.{◌<◌, IsSomeAnd, slice_get};
+
+use crate::caught::Range;
+use crate::one_method::{Shape, world};
+use jc_base::{Ty, World};
+use jc_decode::{Item, Symbols};
+use jc_flow::infer;
+use std::alloc::{AllocError, Global};
+use std::test::*;
+use xf_code::rewrite;
+use xf_homes::homes;
+
+/// An instruction by its opcode and its first operand, a branch by its opcode and its label, or a label by 255 and its
+/// number.
+type Row = (u8, i32);
+
+const LABEL: u8 = 255;
+
+/// The items of a rewritten method, the labels of its ranges, and its registers after the arguments.
+#[derive(Clone, Copy)]
+struct Expected {
+    items: &'static [Row],
+    ranges: &'static [(u16, u16, u16)],
+    max_stack: u8,
+    max_locals: u8,
+}
+
+static SHORTS: [Ty; 2] = [Ty::Short, Ty::Short];
+
+static OBJECT: [Ty; 1] = [Ty::Class(0)];
+
+static THROWN: [Ty; 2] = [Ty::Class(2), Ty::Class(3)];
+
+fn is_row(item: &Item, row: Row) -> bool {
+    match item {
+        Item::Plain(insn) => insn.op == row.0 && insn.x == row.1,
+        Item::Branch { op, label } => *op == row.0 && i32::from(*label) == row.1,
+        Item::Switch { .. } => false,
+        Item::Label(label) => row.0 == LABEL && i32::from(*label) == row.1,
+    }
+}
+
+fn are_rows(items: &[Item], rows: &[Row]) -> bool {
+    items.len() == rows.len()
+        && items
+            .iter()
+            .zip(rows.iter())
+            .all(|(item, row)| is_row(item, *row))
+}
+
+fn are_ranges(symbols: &Symbols, expected: &[(u16, u16, u16)]) -> bool {
+    let ranges = symbols.ranges.as_slice();
+    ranges.len() == expected.len()
+        && ranges.iter().zip(expected.iter()).all(|(range, labels)| {
+            range.from == labels.0 && range.to == labels.1 && range.entry == labels.2
+        })
+}
+
+fn is_expected(symbols: &Symbols, expected: Expected) -> bool {
+    are_rows(symbols.items.as_slice(), expected.items)
+        && are_ranges(symbols, expected.ranges)
+        && symbols.max_stack == expected.max_stack
+        && symbols.max_locals == expected.max_locals
+}
+
+/// Whether the only method of the world is rewritten so.
+fn rewrites(alloc: Global, world: &World<'_>, expected: Expected) -> bool
+    requires { IsSomeAnd (slice_get world.now.methods 0) (λ m. 0 < m.code_len) }
+{
+    let Ok(typing) = infer(alloc, world, 0) else {
+        return false;
+    };
+    let Ok(homes) = homes(alloc, world, 0, &typing) else {
+        return false;
+    };
+    match rewrite(alloc, world, 0, &typing, &homes) {
+        Ok(symbols) => is_expected(&symbols, expected),
+        Err(_) => false,
+    }
+}
+
+/// `sload_0`, `sload_1`, `ifeq` to 7 over a short, `sconst_1`, `goto` 8; at 7 `sconst_2`; at 8 `sadd`, `sreturn`.
+static PICK: [u8; 10] = [0x1C, 0x1D, 0x60, 0x05, 0x04, 0x70, 0x03, 0x05, 0x41, 0x78];
+
+static PICKED: [Row; 28] = [
+    (LABEL, 0),
+    (22, 0),
+    (LABEL, 1),
+    (22, 1),
+    (LABEL, 2),
+    (41, 3),
+    (41, 2),
+    (22, 3),
+    (152, 7),
+    (22, 2),
+    (LABEL, 4),
+    (4, 0),
+    (LABEL, 5),
+    (41, 3),
+    (41, 2),
+    (168, 8),
+    (LABEL, 7),
+    (22, 2),
+    (5, 0),
+    (41, 3),
+    (41, 2),
+    (LABEL, 8),
+    (22, 2),
+    (22, 3),
+    (65, 0),
+    (LABEL, 9),
+    (120, 0),
+    (LABEL, 10),
+];
+
+fn pick(alloc: Global) -> Result<bool, AllocError> {
+    let shape = Shape {
+        args: &SHORTS,
+        result: Some(Ty::Short),
+        max_locals: 0,
+        max_stack: 2,
+    };
+    let world = world(alloc, shape, &PICK, &[])?;
+    let expected = Expected {
+        items: &PICKED,
+        ranges: &[],
+        max_stack: 3,
+        max_locals: 2,
+    };
+    Ok(rewrites(alloc, &world, expected))
+}
+
+#[test]
+fn a_stack_is_kept_over_a_branch(rt: HostRuntime) -> Result<(), AllocError> {
+    assert!(rt; pick(rt.alloc())?);
+    Ok(())
+}
+
+/// A register with a short and then an object: `sconst_1`, `sstore_1`, `sload_1`, `pop`, `aload_0`, `astore_1`,
+/// `aload_1`, `pop`, `sconst_0`, `sreturn`.
+static TWO_TYPES: [u8; 10] = [0x04, 0x30, 0x1D, 0x3B, 0x18, 0x2C, 0x19, 0x3B, 0x03, 0x78];
+
+static PARTED: [Row; 21] = [
+    (LABEL, 0),
+    (4, 0),
+    (LABEL, 1),
+    (41, 1),
+    (LABEL, 2),
+    (22, 1),
+    (LABEL, 3),
+    (59, 0),
+    (LABEL, 4),
+    (21, 0),
+    (LABEL, 5),
+    (40, 2),
+    (LABEL, 6),
+    (21, 2),
+    (LABEL, 7),
+    (59, 0),
+    (LABEL, 8),
+    (3, 0),
+    (LABEL, 9),
+    (120, 0),
+    (LABEL, 10),
+];
+
+fn two_types(alloc: Global) -> Result<bool, AllocError> {
+    let shape = Shape {
+        args: &OBJECT,
+        result: Some(Ty::Short),
+        max_locals: 1,
+        max_stack: 1,
+    };
+    let world = world(alloc, shape, &TWO_TYPES, &[])?;
+    let expected = Expected {
+        items: &PARTED,
+        ranges: &[],
+        max_stack: 2,
+        max_locals: 2,
+    };
+    Ok(rewrites(alloc, &world, expected))
+}
+
+#[test]
+fn each_type_has_a_register(rt: HostRuntime) -> Result<(), AllocError> {
+    assert!(rt; two_types(rt.alloc())?);
+    Ok(())
+}
+
+/// The code of a method that takes an object of each of the two classes that are thrown, its handlers, and what it
+/// becomes.
+type Caught = (&'static [u8], &'static [Range], Expected);
+
+static CAUGHT: [Caught; 3] = [
+    // `aload_0`, `astore_2`, `aload_1`, `astore_2`, `aload_2`, `athrow`, and the handler of places 2 to 5 at 6: `pop`,
+    // `aload_2`, `areturn`. What is stored has to stand in the home that the handler asks for too.
+    (
+        &[0x18, 0x2D, 0x19, 0x2D, 0x1A, 0x93, 0x3B, 0x1A, 0x77],
+        &[(2, 6, 6)],
+        Expected {
+            items: &[
+                (LABEL, 0),
+                (21, 0),
+                (LABEL, 1),
+                (40, 2),
+                (21, 2),
+                (40, 3),
+                (LABEL, 2),
+                (21, 1),
+                (LABEL, 3),
+                (40, 4),
+                (21, 4),
+                (40, 3),
+                (LABEL, 4),
+                (21, 4),
+                (LABEL, 5),
+                (147, 0),
+                (LABEL, 6),
+                (21, 5),
+                (59, 0),
+                (LABEL, 7),
+                (21, 3),
+                (LABEL, 8),
+                (119, 0),
+                (LABEL, 9),
+                (LABEL, 49152),
+                (40, 5),
+                (168, 6),
+            ],
+            ranges: &[(2, 6, 49152)],
+            max_stack: 2,
+            max_locals: 4,
+        },
+    ),
+    // `aload_0`, `areturn`, and after it dead code with a handler: both are left out
+    (
+        &[0x18, 0x77, 0x19, 0x77, 0x77],
+        &[(2, 4, 4)],
+        Expected {
+            items: &[(LABEL, 0), (21, 0), (LABEL, 1), (119, 0), (LABEL, 5)],
+            ranges: &[],
+            max_stack: 2,
+            max_locals: 0,
+        },
+    ),
+    // `aload_0`, `athrow`, `areturn`: a handler of the second place, and after it one of both; each keeps its place
+    (
+        &[0x18, 0x93, 0x77],
+        &[(1, 2, 2), (0, 2, 2)],
+        Expected {
+            items: &[
+                (LABEL, 0),
+                (21, 0),
+                (LABEL, 1),
+                (147, 0),
+                (LABEL, 2),
+                (21, 2),
+                (119, 0),
+                (LABEL, 3),
+                (LABEL, 49152),
+                (40, 2),
+                (168, 2),
+                (LABEL, 49153),
+                (40, 2),
+                (168, 2),
+            ],
+            ranges: &[(1, 2, 49152), (0, 2, 49153)],
+            max_stack: 2,
+            max_locals: 1,
+        },
+    ),
+];
+
+fn catches(alloc: Global, row: Caught) -> Result<bool, AllocError> {
+    let shape = Shape {
+        args: &THROWN,
+        result: Some(Ty::Class(1)),
+        max_locals: 1,
+        max_stack: 1,
+    };
+    if row.0.is_empty() || row.0.len() > 32767 || row.1.len() > 255 {
+        return Ok(false);
+    }
+    let world = world(alloc, shape, row.0, row.1)?;
+    Ok(rewrites(alloc, &world, row.2))
+}
+
+/// The number of the first row that is wrong, or 99.
+fn first_wrong(alloc: Global) -> Result<usize, AllocError> {
+    for (n, row) in CAUGHT.iter().enumerate() {
+        match catches(alloc, *row) {
+            Ok(true) => {}
+            Ok(false) => return Ok(n),
+            Err(error) => return Err(error),
+        }
+    }
+    Ok(99)
+}
+
+#[test]
+fn live_handlers_are_kept(rt: HostRuntime) -> Result<(), AllocError> {
+    assert_eq!(rt; first_wrong(rt.alloc())?, 99);
+    Ok(())
+}
