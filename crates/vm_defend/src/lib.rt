@@ -1,0 +1,13 @@
+//! The machine that tests what it does (JCVM 2.2, sections 3.5 and 7.5): it runs code that no verifier has seen, with each cell
+//! tagged by what it holds, and ends a run at the first thing that the code may not do. A run is the definition's of
+//! `vm_step`. All its memory is taken where it begins.
+#![tactic(auto)]
+
+mod machine;
+mod reading;
+mod starting;
+mod state;
+
+pub use machine::run;
+pub use starting::{StartEnd, start};
+pub use state::State;
