@@ -140,5 +140,6 @@ pub(crate) fn world<'a>(
         methods,
         empty(alloc),
         empty(alloc),
+        Items::of(vec![in alloc; None]?),
     ))
 }
