@@ -1,4 +1,4 @@
-ghost use Rattle.std.specs.Prelude.{◌≡◌, ◌<◌, ◌≤◌, ◌∷◌, [], false, All, length, IfOk, IsSomeAnd, slice_get};
+ghost use Rattle.std.specs.Prelude.{◌≡◌, ◌<◌, ◌≤◌, ◌∷◌, [], None, false, All, length, IfOk, IsSomeAnd, slice_get};
 ghost use Rattle.jc_base.specs.Linked.{IsHandler};
 ghost use Rattle.flow_tests.specs.OneMethod.{arguments_of, classes, only_method, own_cells};
 
@@ -131,6 +131,13 @@ fn pools(alloc: Global) -> Result<Pools, AllocError>
     Ok(Items::of(vec![in alloc; throwable]?))
 }
 
+/// The method has no target index.
+fn no_index<'a>(alloc: Global) -> Result<Indexes<'a>, AllocError>
+    ensures { IfOk result (λ l. l ≡ None ∷ []) }
+{
+    Ok(Items::of(vec![in alloc; None]?))
+}
+
 /// A world with one method of a shape, in the class object.
 pub fn world<'a>(
     alloc: Global,
@@ -147,6 +154,7 @@ pub fn world<'a>(
     let len = code.len() as u16;
     let handlers = handlers(alloc, ranges, len)?;
     let methods = methods(alloc, shape, len, handlers)?;
+    let indexes = no_index(alloc)?;
     Ok(World::of(
         infos(alloc, code)?,
         pools(alloc)?,
@@ -154,6 +162,6 @@ pub fn world<'a>(
         methods,
         empty(alloc),
         empty(alloc),
-        Items::of(vec![in alloc; None]?),
+        indexes,
     ))
 }

@@ -65,6 +65,7 @@ world =
       methods = method ∷ [];
       statics = [];
       arrays = [];
+      indexes = None ∷ [];
     }
 
 -- objects 1 to 4: an instance of object, one of throwable, and two arrays

@@ -18,7 +18,7 @@ use crate::moves::put;
 use crate::stub::stubs;
 use cap_bytes::View;
 use jc_base::World;
-use jc_control::{ControlEnd, control_flow, flaws_decide};
+use jc_control::{ControlEnd, control_flow, flaws_decide, instructions_are_placed};
 use jc_decode::{Item, Sequence, Symbols, instructions_are_listed};
 use jc_rules::Typing;
 use std::alloc::{AllocError, Global};
@@ -118,6 +118,7 @@ pub fn rewrite<'a>(
         (λ m. (result ≡ Err RewriteEnd.StackLimit) ↔ (m.max_stack ≡ 255)) }
 {
     instructions_are_listed();
+    instructions_are_placed();
     flaws_decide();
     let rec = world.method(method);
     if rec.max_stack == 255 {

@@ -146,4 +146,5 @@ module _ (s : Shape) (shape : IsShape classes s) (code : List ℕ) (handlers : L
         slots = tt;
         arrays = All-nil _;
         roles = record { count = refl; objects = is_object; throwables = is_throwable; others = all_thrown (only_method s (length code) handlers ∷ []) };
+        one_index_each = refl;
       }

@@ -1,8 +1,8 @@
 -- The typing that is inferred for a method, and the shapes of the methods.
 use Rattle.std.proofs.Common.{List, [], ◌∷◌, All, Option, Some, None, IsSomeAnd}
 use Rattle.std.proofs.lemmas.List.Elements.{All-from_recursion}
-use Rattle.jc_base.specs.declared.ty.Ty.TheVariants.{Class, Short, Top}
-use Rattle.jc_base.specs.Cell.{IsDeclared, AreWhole, no_cells, one_cell}
+use Rattle.jc_base.specs.declared.ty.Ty.TheVariants.{Class, IntHigh, IntLow, Short, Top}
+use Rattle.jc_base.specs.Cell.{IsDeclared, AreWhole, no_cells, one_cell, whole_int}
 use Rattle.jc_base.specs.World.{Linked}
 use Rattle.jc_control.specs.Method.{Method}
 use Rattle.jc_rules.specs.Demand.{Frame}
@@ -34,3 +34,9 @@ thrown = All-from_recursion (IsDeclared classes) (Class 2 ∷ Class 3 ∷ []) (i
 
 pub whole-thrown : AreWhole (Class 2 ∷ Class 3 ∷ [])
 whole-thrown = one_cell tt (one_cell tt no_cells)
+
+pub int : All (IsDeclared classes) (IntHigh ∷ IntLow ∷ [])
+int = All-from_recursion (IsDeclared classes) (IntHigh ∷ IntLow ∷ []) (tt, (tt, tt))
+
+pub whole-int : AreWhole (IntHigh ∷ IntLow ∷ [])
+whole-int = whole_int no_cells

@@ -67,4 +67,5 @@ sample s code handlers = record {
   methods = only_method s (length code) handlers ∷ [];
   statics = [];
   arrays = [];
+  indexes = None ∷ [];
 }

@@ -1,4 +1,4 @@
-ghost use Rattle.std.specs.Prelude.{◌≡◌, ◌<◌, ◌≤◌, ◌∷◌, [], false, All, length, IfOk, IsSomeAnd, slice_get};
+ghost use Rattle.std.specs.Prelude.{◌≡◌, ◌<◌, ◌≤◌, ◌∷◌, [], None, false, All, length, IfOk, IsSomeAnd, slice_get};
 ghost use Rattle.jc_base.specs.Linked.{IsHandler};
 ghost use Rattle.xf_tests.specs.OneMethod.{classes, only_method, IsShape};
 
@@ -117,6 +117,13 @@ fn pools(alloc: Global) -> Result<Pools, AllocError>
     Ok(Items::of(vec![in alloc; throwable]?))
 }
 
+/// The method has no target index.
+fn no_index<'a>(alloc: Global) -> Result<Indexes<'a>, AllocError>
+    ensures { IfOk result (λ l. l ≡ None ∷ []) }
+{
+    Ok(Items::of(vec![in alloc; None]?))
+}
+
 /// A world with one method.
 pub(crate) fn world<'a>(
     alloc: Global,
@@ -133,6 +140,7 @@ pub(crate) fn world<'a>(
     let len = code.len() as u16;
     let handlers = handlers(alloc, ranges, len)?;
     let methods = methods(alloc, shape, len, handlers)?;
+    let indexes = no_index(alloc)?;
     Ok(World::of(
         infos(alloc, code)?,
         pools(alloc)?,
@@ -140,5 +148,6 @@ pub(crate) fn world<'a>(
         methods,
         empty(alloc),
         empty(alloc),
+        indexes,
     ))
 }

@@ -10,8 +10,8 @@ use std::test::*;
 use xf_code::rewrite;
 use xf_homes::homes;
 
-/// An instruction by its opcode and its first operand, a branch by its opcode and its label, or a label by 255 and its
-/// number.
+/// An instruction by its opcode and its first operand, a branch by its opcode and its label, a switch by its opcode and
+/// the label of its last case, or a label by 255 and its number.
 type Row = (u8, i32);
 
 const LABEL: u8 = 255;
@@ -29,13 +29,18 @@ static SHORTS: [Ty; 2] = [Ty::Short, Ty::Short];
 
 static OBJECT: [Ty; 1] = [Ty::Class(0)];
 
+static INT: [Ty; 2] = [Ty::IntHigh, Ty::IntLow];
+
 static THROWN: [Ty; 2] = [Ty::Class(2), Ty::Class(3)];
 
 fn is_row(item: &Item, row: Row) -> bool {
     match item {
         Item::Plain(insn) => insn.op == row.0 && insn.x == row.1,
         Item::Branch { op, label } => *op == row.0 && i32::from(*label) == row.1,
-        Item::Switch { .. } => false,
+        Item::Switch { insn, labels, .. } => match labels.as_slice().last() {
+            Some(label) => insn.op == row.0 && i32::from(*label) == row.1,
+            None => false,
+        },
         Item::Label(label) => row.0 == LABEL && i32::from(*label) == row.1,
     }
 }
@@ -191,7 +196,71 @@ fn each_type_has_a_register(rt: HostRuntime) -> Result<(), AllocError> {
 /// becomes.
 type Caught = (&'static [u8], &'static [Range], Expected);
 
-static CAUGHT: [Caught; 3] = [
+static CAUGHT: [Caught; 5] = [
+    // `aload_0`, `ifnull` to 5, `aload_0`, `astore_2`; at 5 `aload_0`, `areturn`. Where both ways meet the register may hold
+    // anything, so what is stored is not needed and is popped.
+    (
+        &[0x18, 0x66, 0x04, 0x18, 0x2D, 0x18, 0x77],
+        &[],
+        Expected {
+            items: &[
+                (LABEL, 0),
+                (21, 0),
+                (LABEL, 1),
+                (158, 5),
+                (LABEL, 3),
+                (21, 0),
+                (LABEL, 4),
+                (59, 0),
+                (LABEL, 5),
+                (21, 0),
+                (LABEL, 6),
+                (119, 0),
+                (LABEL, 7),
+            ],
+            ranges: &[],
+            max_stack: 2,
+            max_locals: 0,
+        },
+    ),
+    // `aload_0`, `astore_2`, `aload_1`, `ifnull` to 8, `aload_1`, `astore_2`, `nop`; at 8 `aload_2`, `areturn`. The register
+    // has a wider type where both ways meet: it is copied in a stub on the branch, and before the leader is fallen into.
+    (
+        &[0x18, 0x2D, 0x19, 0x66, 0x05, 0x19, 0x2D, 0x00, 0x1A, 0x77],
+        &[],
+        Expected {
+            items: &[
+                (LABEL, 0),
+                (21, 0),
+                (LABEL, 1),
+                (40, 2),
+                (LABEL, 2),
+                (21, 1),
+                (LABEL, 3),
+                (158, 32769),
+                (LABEL, 5),
+                (21, 1),
+                (LABEL, 6),
+                (40, 3),
+                (LABEL, 7),
+                (0, 0),
+                (21, 3),
+                (40, 4),
+                (LABEL, 8),
+                (21, 4),
+                (LABEL, 9),
+                (119, 0),
+                (LABEL, 10),
+                (LABEL, 32769),
+                (21, 2),
+                (40, 4),
+                (168, 8),
+            ],
+            ranges: &[],
+            max_stack: 2,
+            max_locals: 3,
+        },
+    ),
     // `aload_0`, `astore_2`, `aload_1`, `astore_2`, `aload_2`, `athrow`, and the handler of places 2 to 5 at 6: `pop`,
     // `aload_2`, `areturn`. What is stored has to stand in the home that the handler asks for too.
     (
@@ -298,7 +367,138 @@ fn first_wrong(alloc: Global) -> Result<usize, AllocError> {
 }
 
 #[test]
-fn live_handlers_are_kept(rt: HostRuntime) -> Result<(), AllocError> {
+fn handlers_and_ways_that_meet_are_served(rt: HostRuntime) -> Result<(), AllocError> {
     assert_eq!(rt; first_wrong(rt.alloc())?, 99);
+    Ok(())
+}
+
+/// `sload_0`, `sload_1`, a `stableswitch` from 0 to 0 over a short, its default at 11 and its case at 12; there `sreturn`
+/// each.
+static CHOICE: [u8; 13] = [
+    0x1C, 0x1D, 0x73, 0x00, 0x09, 0x00, 0x00, 0x00, 0x00, 0x00, 0x0A, 0x78, 0x78,
+];
+
+static CHOSEN: [Row; 16] = [
+    (LABEL, 0),
+    (22, 0),
+    (LABEL, 1),
+    (22, 1),
+    (LABEL, 2),
+    (41, 3),
+    (41, 2),
+    (22, 3),
+    (115, 12),
+    (LABEL, 11),
+    (22, 2),
+    (120, 0),
+    (LABEL, 12),
+    (22, 2),
+    (120, 0),
+    (LABEL, 13),
+];
+
+fn choice(alloc: Global) -> Result<bool, AllocError> {
+    let shape = Shape {
+        args: &SHORTS,
+        result: Some(Ty::Short),
+        max_locals: 0,
+        max_stack: 2,
+    };
+    let world = world(alloc, shape, &CHOICE, &[])?;
+    let expected = Expected {
+        items: &CHOSEN,
+        ranges: &[],
+        max_stack: 3,
+        max_locals: 2,
+    };
+    Ok(rewrites(alloc, &world, expected))
+}
+
+#[test]
+fn a_stack_is_kept_over_a_switch(rt: HostRuntime) -> Result<(), AllocError> {
+    assert!(rt; choice(rt.alloc())?);
+    Ok(())
+}
+
+/// A register with an object and then a short that is increased: `aload_0`, `astore_1`, `sconst_0`, `sstore_1`, `sinc` 1
+/// by 2, `sload_1`, `sreturn`.
+static INCREASED: [u8; 9] = [0x18, 0x2C, 0x03, 0x30, 0x59, 0x01, 0x02, 0x1D, 0x78];
+
+static RENAMED: [Row; 15] = [
+    (LABEL, 0),
+    (21, 0),
+    (LABEL, 1),
+    (40, 1),
+    (LABEL, 2),
+    (3, 0),
+    (LABEL, 3),
+    (41, 2),
+    (LABEL, 4),
+    (89, 2),
+    (LABEL, 7),
+    (22, 2),
+    (LABEL, 8),
+    (120, 0),
+    (LABEL, 9),
+];
+
+fn increased(alloc: Global) -> Result<bool, AllocError> {
+    let shape = Shape {
+        args: &OBJECT,
+        result: Some(Ty::Short),
+        max_locals: 1,
+        max_stack: 1,
+    };
+    let world = world(alloc, shape, &INCREASED, &[])?;
+    let expected = Expected {
+        items: &RENAMED,
+        ranges: &[],
+        max_stack: 2,
+        max_locals: 2,
+    };
+    Ok(rewrites(alloc, &world, expected))
+}
+
+#[test]
+fn an_increment_names_the_home(rt: HostRuntime) -> Result<(), AllocError> {
+    assert!(rt; increased(rt.alloc())?);
+    Ok(())
+}
+
+/// `iload_0`, `istore_2`, `iload_2`, `ireturn`.
+static INTS: [u8; 4] = [0x20, 0x35, 0x22, 0x79];
+
+static TWO_REGISTERS: [Row; 9] = [
+    (LABEL, 0),
+    (23, 0),
+    (LABEL, 1),
+    (42, 2),
+    (LABEL, 2),
+    (23, 2),
+    (LABEL, 3),
+    (121, 0),
+    (LABEL, 4),
+];
+
+fn ints(alloc: Global) -> Result<bool, AllocError> {
+    let shape = Shape {
+        args: &INT,
+        result: Some(Ty::IntHigh),
+        max_locals: 2,
+        max_stack: 2,
+    };
+    let world = world(alloc, shape, &INTS, &[])?;
+    let expected = Expected {
+        items: &TWO_REGISTERS,
+        ranges: &[],
+        max_stack: 3,
+        max_locals: 2,
+    };
+    Ok(rewrites(alloc, &world, expected))
+}
+
+#[test]
+fn an_int_takes_two_registers(rt: HostRuntime) -> Result<(), AllocError> {
+    assert!(rt; ints(rt.alloc())?);
     Ok(())
 }
