@@ -263,3 +263,6 @@ length_table news (b ∷ bs) =
 pub info_steps : (total : ℕ) (first second third fourth : List ℕ) (entries : List HandlerInfo) (table : List (Option Member)) → first ≡ [] → second ≡ first ++ total ∷ [] → third ≡ second ++ table_bytes entries → fourth ≡ third ++ bodies table → total ≡ length entries
     → fourth ≡ method_info entries table
 info_steps total first second third fourth entries table a b c d e = rw (d, c, b, a, e) refl
+
+-- what the steps of writing ask for
+pub ruleset writing = (members_within, blocks_within, members_small, total_blocks)

@@ -25,7 +25,7 @@ pub struct Written {
 /// Writes the methods of a component anew, one after the other in the order of their former offsets, in an info
 /// of `size` bytes whose handler table had at most `room` entries. There is no such component where its info
 /// would have more than 65,535 bytes.
-#[tactic(auto, using(crate::proofs::Owned::members_within, crate::proofs::Owned::blocks_within, crate::proofs::Owned::members_small, crate::proofs::Owned::total_blocks, crate::proofs::Owned::blocks_placed), unfolding(crate::specs::Members::new_places, crate::specs::Members::written_info, crate::specs::Members::written_size))]
+#[tactic(auto, using(crate::proofs::Owned::writing), unfolding(crate::specs::Members::written_size))]
 pub fn write_methods(
     alloc: Global,
     size: usize,
