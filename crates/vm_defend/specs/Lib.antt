@@ -1,3 +1,4 @@
 pub mod Held
 pub mod Begun
 pub mod Reading
+pub mod Safe

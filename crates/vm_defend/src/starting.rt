@@ -3,10 +3,12 @@ ghost use Rattle.jc_base.specs.Cell.{width};
 ghost use Rattle.vm_step.specs.Start.{start_fault};
 ghost use Rattle.vm_defend.specs.Held.{IsRunOf};
 ghost use Rattle.vm_defend.specs.Begun.{IsBegun, Refuses};
+ghost use Rattle.vm_defend.specs.Safe.{BeginsSafely};
 
 use crate::state::State;
 use jc_base::{Kind, World};
 use std::alloc::{AllocError, Global};
+use vm_sound::typed_code_never_fails;
 use vm_start::{begin, start_fault, starts_are_sized};
 use vm_step::{Args, StartFault};
 use vm_store::TaggedStore;
@@ -28,8 +30,10 @@ pub fn start(
 ) -> Result<State, StartEnd>
     ensures begun { IfOk result (λ s. IsBegun world.now entry args.now s) }
     ensures run { IfOk result (λ s. IsRunOf world.now s) }
+    ensures safe { IfOk result (λ s. BeginsSafely world.now s) }
     ensures refused { IfErr result (λ end. Refuses world.now entry args.now end) }
 {
+    typed_code_never_fails(world);
     match start_fault(world, entry, args) {
         Some(fault) => Err(StartEnd::Fault(fault)),
         None => match state(alloc, world, entry, args) {
