@@ -14,7 +14,7 @@ use Rattle.vm_turns.specs.Turn.{outcome}
 use Rattle.vm_sound.specs.Laws.{AreTypedMethods, IsSafe, RunsAreSafe, StartsAreTyped}
 use Rattle.vm_defend.specs.Held.{Held, reached, answer}
 use Rattle.vm_defend.specs.Begun.{IsBegun}
-use Rattle.vm_defend.specs.Safe.{IsNoFault, BeginsSafely, GoesSafely}
+use Rattle.vm_defend.specs.Safe.{IsPlainEnding, BeginsSafely, GoesSafely}
 
 module _ (w : Linked) where
   on : RunsAreSafe w → (unset : Ty) → AreTypedMethods w unset → (n : ℕ) (e f : Option Ending) (s z : State Cell)
@@ -22,7 +22,7 @@ module _ (w : Linked) where
   on law unset typed n None f s z runs safe = law unset n s (outcome f z) typed safe runs
   on law unset typed n (Some e) f s z same safe = subst (IsSafe w unset) (sym same) safe
 
-  answered : (unset : Ty) (e : Option Ending) (s : State Cell) → IsSafe w unset (outcome e s) → IsNoFault (answer e)
+  answered : (unset : Ty) (e : Option Ending) (s : State Cell) → IsSafe w unset (outcome e s) → IsPlainEnding (answer e)
   answered unset None s safe = tt {0}
   answered unset (Some (Plain plain)) s safe = tt {0}
   answered unset (Some (Faulted fault)) s safe = safe
@@ -31,7 +31,7 @@ module _ (w : Linked) where
       → Continues tagged w n (reached before) (reached after) → GoesSafely w before after a
   goes-safely law n before after a is runs unset typed safe =
       let come : IsSafe w unset (reached after) = on law unset typed n before.ending after.ending before.state after.state runs safe in
-      (come, subst IsNoFault (sym is) (answered unset after.ending after.state come))
+      (come, subst IsPlainEnding (sym is) (answered unset after.ending after.state come))
 
   pub begins-safely : StartsAreTyped w → (entry : ℕ) (args : List Argument) (run : Held) → IsBegun w entry args run → BeginsSafely w run
   begins-safely law entry args run begun unset typed =

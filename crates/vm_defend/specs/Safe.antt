@@ -7,9 +7,9 @@ use Rattle.vm_step.specs.declared.ending.Ending.TheVariants.{Plain, Faulted}
 use Rattle.vm_sound.specs.Laws.{AreTypedMethods, IsSafe}
 use Rattle.vm_defend.specs.Held.{Held, reached}
 
-abbrev pub IsNoFault : Ending → Type 0
-IsNoFault (Plain plain) = ⊤
-IsNoFault (Faulted fault) = ⊥
+abbrev pub IsPlainEnding : Ending → Type 0
+IsPlainEnding (Plain plain) = ⊤
+IsPlainEnding (Faulted fault) = ⊥
 
 -- in such a world a run that was begun is in a typed state
 abbrev pub BeginsSafely : Linked → Held → Type 0
@@ -18,4 +18,4 @@ BeginsSafely w run = (unset : Ty) → AreTypedMethods w unset → IsSafe w unset
 -- and from a typed state it comes to a typed state, and answers no fault
 abbrev pub GoesSafely : Linked → Held → Held → Ending → Type 0
 GoesSafely w before after answer =
-    (unset : Ty) → AreTypedMethods w unset → IsSafe w unset (reached before) → IsSafe w unset (reached after) × IsNoFault answer
+    (unset : Ty) → AreTypedMethods w unset → IsSafe w unset (reached before) → IsSafe w unset (reached after) × IsPlainEnding answer
