@@ -5,8 +5,8 @@ ghost use Rattle.capcheck_core.specs.Verify.{has_code, count_of_world, CardsWorl
 use crate::typing::number_of;
 use crate::verdict::Verdict;
 use cap_text::{accepted, refused_card};
-use card_typing::CardFault;
 use card_index::{CardRoom, accept};
+use card_typing::CardFault;
 use jc_base::World;
 use std::alloc::Global;
 
