@@ -170,14 +170,10 @@ fn infos<'a>(alloc: Global, first: &'a [u8], second: &'a [u8]) -> Result<Infos<'
 }
 
 /// No method has a target index.
-fn indexes<'a>(alloc: Global) -> Result<Indexes<'a>, AllocError>
+fn no_index<'a>(alloc: Global) -> Result<Indexes<'a>, AllocError>
     ensures { IfOk result (λ l. l ≡ replicate 8 None) }
 {
-    let mut items = Vec::new(alloc);
-    'methods: for _ in 0..8 {
-        items.push(None)?;
-    }
-    Ok(Items::of(items))
+    Ok(Items::of(vec![in alloc; None, None, None, None, None, None, None, None]?))
 }
 
 /// Its classes.
@@ -192,6 +188,7 @@ pub(crate) fn world<'a>(alloc: Global) -> Result<World<'a>, AllocError>
     ensures { IfOk result HasSampleSizes }
 {
     let infos = infos(alloc, &FIRST_INFO, &SECOND_INFO)?;
+    let indexes = no_index(alloc)?;
     Ok(World::of(
         infos,
         pools(alloc)?,
@@ -199,6 +196,6 @@ pub(crate) fn world<'a>(alloc: Global) -> Result<World<'a>, AllocError>
         methods(alloc)?,
         statics(alloc)?,
         arrays(alloc)?,
-        indexes(alloc)?,
+        indexes,
     ))
 }

@@ -5,10 +5,10 @@ ghost use Rattle.xf_tests.specs.OneMethod.{classes};
 use jc_base::*;
 
 /// A range and an entry, where they lie in the code.
-pub(crate) type Range = (u16, u16, u16);
+pub type Range = (u16, u16, u16);
 
 /// A handler for all that is thrown, its range and entry cut to a code of this length.
-pub(crate) fn handler(range: Range, len: u16) -> Handler
+pub fn handler(range: Range, len: u16) -> Handler
     requires { 0 < len }
     ensures { IsHandler classes (Member.ClassOf 1 ∷ []) len result }
 {

@@ -4,9 +4,11 @@
 //! It stands on `xf_homes` and `xf_code`, whose tests these are.
 #![tactic(auto)]
 
-#[cfg(test)]
 mod caught;
-#[cfg(test)]
 mod one_method;
+
+pub use caught::{Range, handler};
+pub use one_method::{Shape, world};
+
 #[cfg(test)]
 mod rewritten;

@@ -8,7 +8,7 @@ use std::alloc::{AllocError, Global};
 
 /// The signature of a method and its numbers.
 #[derive(Clone, Copy)]
-pub(crate) struct Shape {
+pub struct Shape {
     pub args: &'static [Ty],
     pub result: Option<Ty>,
     pub max_locals: u8,
@@ -125,7 +125,7 @@ fn no_index<'a>(alloc: Global) -> Result<Indexes<'a>, AllocError>
 }
 
 /// A world with one method.
-pub(crate) fn world<'a>(
+pub fn world<'a>(
     alloc: Global,
     shape: Shape,
     code: &'a [u8],
