@@ -187,8 +187,8 @@ pub(crate) fn table(alloc: Global) -> Result<Classes, AllocError>
 pub(crate) fn world<'a>(alloc: Global) -> Result<World<'a>, AllocError>
     ensures { IfOk result HasSampleSizes }
 {
-    let infos = infos(alloc, &FIRST_INFO, &SECOND_INFO)?;
     let indexes = no_index(alloc)?;
+    let infos = infos(alloc, &FIRST_INFO, &SECOND_INFO)?;
     Ok(World::of(
         infos,
         pools(alloc)?,
