@@ -4,7 +4,7 @@ use crate::indexed_package::{with_index, without_index};
 use cap_package::{Packages, Parts, package};
 use cap_tests::{Change, PLAIN, PLAIN_ROLES, changed};
 use card_index::{CardFault, CardKind, CardRoom, accept, verify_indexed};
-use jc_base::{Steps, TargetIndex, Ty, World};
+use jc_base::{Steps, TargetIndex, Ty, World, same_type};
 use jc_link::link;
 use link_tests::lent;
 use std::alloc::{AllocError, Global};
@@ -101,9 +101,16 @@ fn answer<L: Ledger>(world: &World<'_>, index: &TargetIndex<'_>, blank: Blank) -
         &mut stack[..cells],
         &mut steps,
     ) {
-        Ok(()) => None,
+        Ok(()) if is_raised(&regs[usize::from(rec.nargs)..registers]) => None,
+        Ok(()) => Some((0, "no register rose", 0)),
         Err(fault) => Some(named(fault)),
     }
+}
+
+/// Whether a register that is no argument has risen. Then the verifier has counted at least two steps for each of the 19
+/// instructions of `pick`, 38 in all.
+fn is_raised(locals: &[Ty]) -> bool {
+    locals.iter().any(|ty| !same_type(*ty, Ty::Bottom))
 }
 
 /// For how many methods of the world their index suffices.
