@@ -1,20 +1,24 @@
 -- Laws of rewritten methods: what their layout and their running rest on.
-use Rattle.std.specs.Prelude.{◌≡◌, ◌≢◌, ◌≤◌, ℕ, ℤ, true, List, [], ◌∷◌, ◌++◌, flat_map, length, is_some, Some, Ok, slice_get}
+use Rattle.std.specs.Prelude.{◌≡◌, ◌≢◌, ◌≤◌, ◌↔◌, ℕ, ℤ, true, List, [], ◌∷◌, ◌++◌, flat_map, length, is_some, All, IsSome, Some, Ok, slice_get}
 use Rattle.std.specs.List.{filter}
 use Rattle.jc_base.specs.declared.record.Handler.{Handler}
+use Rattle.jc_base.specs.World.{Linked}
 use Rattle.jc_decode.specs.declared.insn.Placed.{Placed}
 use Rattle.jc_decode.specs.declared.symbols.Item.{Item}
 use Rattle.jc_decode.specs.Decoding.{AreBytes}
 use Rattle.jc_decode.specs.Listing.{listing, targets, Lists}
-use Rattle.jc_decode.specs.Symbols.{IsOnce, is_instruction, place_of}
+use Rattle.jc_decode.specs.Symbols.{IsItem, IsOnce, IsRange, is_instruction, place_of}
 use Rattle.jc_ops.specs.declared.operation.Operation.{Operation}
-use Rattle.jc_control.specs.WellFormed.{Stands}
+use Rattle.jc_control.specs.Control.{IsReached}
+use Rattle.jc_control.specs.WellFormed.{IsPlace, IsWellFormed, Stands}
+use Rattle.xf_homes.specs.Order.{register_sum}
 use Rattle.xf_homes.specs.Walk.{operands_of}
 use Rattle.xf_plan.specs.Source.{Source}
 use Rattle.xf_plan.specs.Plan.{operation}
-use Rattle.xf_code.specs.Jump.{handler_label, place, stub, stub_label, taken}
-use Rattle.xf_code.specs.Group.{group}
-use Rattle.xf_code.specs.Emission.{caught, is_live, items}
+use Rattle.xf_emission.specs.Jump.{handler_label, place, stub, stub_label, taken}
+use Rattle.xf_emission.specs.Group.{group}
+use Rattle.xf_emission.specs.Emission.{caught, is_live, items, ranges}
+use Rattle.xf_emission.specs.Live.{KeepsLive}
 
 -- the labels of a rewritten method: those of the groups of reached instructions, that of the end, those of the stubs on edges where
 -- something has to be copied, and those of the stubs of live handlers
@@ -39,6 +43,12 @@ pub record IsCode (s : Source) : Type 0 where
   pub lists : Lists s.method.code 0 (listing s.method.code)
   pub short : length s.method.code ≤ 32767
   pub few : length s.method.rec.handlers ≤ 255
+
+-- a frame stands at each place that control reaches, an instruction's, and at no other, in code that is well formed
+pub record HasFrames (s : Source) : Type 0 where
+  pub formed : IsWellFormed s.method
+  pub reached : (p : ℕ) → IsSome (s.frames p) ↔ IsReached s.method p
+  pub placed : (p : ℕ) → IsReached s.method p → IsPlace s.method.code p
 
 -- each label stands once
 abbrev pub LabelsStandOnce : Type 0
@@ -97,3 +107,25 @@ HandlersStand =
     → slice_get s.method.rec.handlers n ≡ Some h
     → is_live s h ≡ true
     → HandlerStands s n h
+
+-- ---- ranges
+
+-- there is a range for each live handler
+abbrev pub LiveAreKept : Type 0
+LiveAreKept = (s : Source) → HasFrames s → KeepsLive s.method s.method.rec.handlers (ranges s)
+
+-- the labels of the ranges stand once, and no range ends before it begins
+abbrev pub RangesStand : Type 0
+RangesStand = (s : Source) → IsCode s → HasFrames s → All (IsRange (items s)) (ranges s)
+
+-- ---- items
+
+-- in code of a world each item is such as is laid
+abbrev pub ItemsSuit : Linked → Type 0
+ItemsSuit w =
+    (s : Source)
+    → s.world ≡ w
+    → IsCode s
+    → HasFrames s
+    → register_sum s.homes ≤ 255
+    → All (IsItem s.method.code (items s)) (items s)

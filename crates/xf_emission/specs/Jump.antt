@@ -12,9 +12,9 @@ use Rattle.xf_homes.specs.declared.home.Home.{Home}
 use Rattle.xf_homes.specs.Home.{register_count}
 use Rattle.xf_plan.specs.Source.{Source}
 use Rattle.xf_plan.specs.Plan.{cells, depth}
-use Rattle.xf_code.specs.declared.edge.Origin.TheVariants.{After}
-use Rattle.xf_code.specs.Move.{loads, spill}
-use Rattle.xf_code.specs.Edge.{copies, cell_copies}
+use Rattle.xf_emission.specs.declared.origin.Origin.TheVariants.{After}
+use Rattle.xf_emission.specs.Move.{loads, spill}
+use Rattle.xf_emission.specs.Edge.{copies, cell_copies}
 
 -- ---- labels
 

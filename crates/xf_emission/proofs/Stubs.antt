@@ -14,14 +14,14 @@ use Rattle.jc_rules.specs.Demand.{Frame}
 use Rattle.xf_homes.specs.Walk.{operands_of}
 use Rattle.xf_plan.specs.Source.{Source}
 use Rattle.xf_plan.specs.Plan.{operation}
-use Rattle.xf_code.specs.Jump.{place, stub_label, stub, stubs_of, taken, handler_label}
-use Rattle.xf_code.specs.declared.edge.Origin.TheVariants.{Start}
-use Rattle.xf_code.specs.Edge.{copies}
-use Rattle.xf_code.specs.Group.{group}
-use Rattle.xf_code.specs.Emission.{stubs, stubs_by, stubs_done, stubs_at, is_live, caught, caught_from, items}
-use Rattle.xf_code.proofs.Labels.{labels, labels-append, label_if, copies-none, stub-label, caught-label, group-label}
-use Rattle.xf_code.proofs.Rises.{Rises, rises-append, rises-wider, rises-below}
-use Rattle.xf_code.proofs.TwoBytes.{two-bytes}
+use Rattle.xf_emission.specs.Jump.{place, stub_label, stub, stubs_of, taken, handler_label}
+use Rattle.xf_emission.specs.declared.origin.Origin.TheVariants.{Start}
+use Rattle.xf_emission.specs.Edge.{copies}
+use Rattle.xf_emission.specs.Group.{group}
+use Rattle.xf_emission.specs.Emission.{stubs, stubs_by, stubs_done, stubs_at, is_live, caught, caught_from, items}
+use Rattle.xf_emission.proofs.Labels.{labels, labels-append, label_if, copies-none, stub-label, caught-label, group-label}
+use Rattle.xf_emission.proofs.Rises.{Rises, rises-append, rises-wider, rises-below}
+use Rattle.xf_emission.proofs.TwoBytes.{two-bytes}
 
 module _ (s : Source) (p : ℕ) (op : Operation) (n : ℕ) where
   one-rises : (copied : List Item) (l : ℕ) → Rises l (suc l) (label_if copied l)

@@ -17,14 +17,14 @@ use Rattle.jc_decode.proofs.Elements.{nothing-in, Contains-either}
 use Rattle.jc_rules.specs.Demand.{Frame}
 use Rattle.xf_plan.specs.Source.{Source}
 use Rattle.xf_plan.specs.Plan.{cells, is_leader, operation}
-use Rattle.xf_code.specs.declared.edge.Origin.TheVariants.{Start}
-use Rattle.xf_code.specs.Move.{loads}
-use Rattle.xf_code.specs.Edge.{copies}
-use Rattle.xf_code.specs.Group.{done, group_by, group}
-use Rattle.xf_code.specs.Emission.{stubs, caught_from, items}
-use Rattle.xf_code.specs.Laws.{IsCode, GroupStands, GroupsStand}
-use Rattle.xf_code.proofs.Labels.{labels, labels-append, copies-none, group-label}
-use Rattle.xf_code.proofs.Rises.{Rises, rises-append}
+use Rattle.xf_emission.specs.declared.origin.Origin.TheVariants.{Start}
+use Rattle.xf_emission.specs.Move.{loads}
+use Rattle.xf_emission.specs.Edge.{copies}
+use Rattle.xf_emission.specs.Group.{done, group_by, group}
+use Rattle.xf_emission.specs.Emission.{stubs, caught_from, items}
+use Rattle.xf_emission.specs.Laws.{IsCode, GroupStands, GroupsStand}
+use Rattle.xf_emission.proofs.Labels.{labels, labels-append, copies-none, group-label}
+use Rattle.xf_emission.proofs.Rises.{Rises, rises-append}
 
 -- ---- lists
 

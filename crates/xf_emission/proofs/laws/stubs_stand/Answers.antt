@@ -1,5 +1,5 @@
-use Rattle.xf_code.proofs.Landing.{stubs-stand, handlers-stand}
-use Rattle.xf_code.proofs.laws.stubs_stand.Goals as goal
+use Rattle.xf_emission.proofs.Landing.{stubs-stand, handlers-stand}
+use Rattle.xf_emission.proofs.laws.stubs_stand.Goals as goal
 
 pub returns-clause-branches : goal.returns-clause-branches
 returns-clause-branches c = stubs-stand

@@ -14,13 +14,13 @@ use Rattle.xf_homes.specs.Walk.{operands_of}
 use Rattle.xf_homes.proofs.Events.{among-left, among-right}
 use Rattle.xf_plan.specs.Source.{Source}
 use Rattle.xf_plan.specs.Plan.{operation}
-use Rattle.xf_code.specs.Jump.{place, stub_label, stub, stubs_of, taken, handler_label}
-use Rattle.xf_code.specs.Group.{group}
-use Rattle.xf_code.specs.Emission.{stubs, stubs_by, stubs_done, stubs_at, is_live, caught, caught_from, items}
-use Rattle.xf_code.specs.Laws.{IsLabelOf, of_place, of_end, of_stub, of_handler, LabelsStandOnce}
-use Rattle.xf_code.proofs.Labels.{labels, labels-append, label_if, stub-label, caught-label, group-label, count-labels}
-use Rattle.xf_code.proofs.Rises.{count-among}
-use Rattle.xf_code.proofs.Stubs.{all-labels, all-rise}
+use Rattle.xf_emission.specs.Jump.{place, stub_label, stub, stubs_of, taken, handler_label}
+use Rattle.xf_emission.specs.Group.{group}
+use Rattle.xf_emission.specs.Emission.{stubs, stubs_by, stubs_done, stubs_at, is_live, caught, caught_from, items}
+use Rattle.xf_emission.specs.Laws.{IsLabelOf, of_place, of_end, of_stub, of_handler, LabelsStandOnce}
+use Rattle.xf_emission.proofs.Labels.{labels, labels-append, label_if, stub-label, caught-label, group-label, count-labels}
+use Rattle.xf_emission.proofs.Rises.{count-among}
+use Rattle.xf_emission.proofs.Stubs.{all-labels, all-rise}
 
 -- a label of one piece is one of the whole
 in-left : (l : ℕ) (xs ys : List Item) → IsAmong l (labels xs) → IsAmong l (labels (xs ++ ys))

@@ -20,11 +20,11 @@ use Rattle.xf_homes.specs.Order.{register_sum}
 use Rattle.xf_homes.specs.Walk.{operands_of}
 use Rattle.xf_plan.specs.Source.{Source}
 use Rattle.xf_plan.specs.Plan.{cells, first_reached, operation}
-use Rattle.xf_code.specs.declared.edge.Origin.TheVariants.{Start, Entry}
-use Rattle.xf_code.specs.Move.{spill}
-use Rattle.xf_code.specs.Edge.{copies}
-use Rattle.xf_code.specs.Jump.{goto, handler_label, stubs_of}
-use Rattle.xf_code.specs.Group.{group}
+use Rattle.xf_emission.specs.declared.origin.Origin.TheVariants.{Start, Entry}
+use Rattle.xf_emission.specs.Move.{spill}
+use Rattle.xf_emission.specs.Edge.{copies}
+use Rattle.xf_emission.specs.Jump.{goto, handler_label, stubs_of}
+use Rattle.xf_emission.specs.Group.{group}
 
 -- ---- stubs
 

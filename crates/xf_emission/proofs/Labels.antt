@@ -22,13 +22,13 @@ use Rattle.xf_homes.specs.Home.{register_count}
 use Rattle.xf_homes.specs.Walk.{has, same_home, operands_of}
 use Rattle.xf_plan.specs.Source.{Source}
 use Rattle.xf_plan.specs.Plan.{cells, needed, local, is_leader, operation}
-use Rattle.xf_code.specs.declared.edge.Origin.{Origin}
-use Rattle.xf_code.specs.declared.edge.Origin.TheVariants.{After, Entry}
-use Rattle.xf_code.specs.Move.{store, copy, loads, spill}
-use Rattle.xf_code.specs.Edge.{home_before, held, copy_new, copies_from, local_copies, locals_copies, copies, cell_copies}
-use Rattle.xf_code.specs.Jump.{under, operands, is_over, spill_if, taken, jump_to, branch, goto, place, stub_label, stub_of, stub, handler_label}
-use Rattle.xf_code.specs.Group.{kept, loaded, increased, popped, stored, stays, field_read, field_written, gone, branch_by, body, fall, fall_over, fall_by, fallen, done, group_by, group}
-use Rattle.xf_code.specs.Emission.{caught}
+use Rattle.xf_emission.specs.declared.origin.Origin.{Origin}
+use Rattle.xf_emission.specs.declared.origin.Origin.TheVariants.{After, Entry}
+use Rattle.xf_emission.specs.Move.{store, copy, loads, spill}
+use Rattle.xf_emission.specs.Edge.{home_before, held, copy_new, copies_from, local_copies, locals_copies, copies, cell_copies}
+use Rattle.xf_emission.specs.Jump.{under, operands, is_over, spill_if, taken, jump_to, branch, goto, place, stub_label, stub_of, stub, handler_label}
+use Rattle.xf_emission.specs.Group.{kept, loaded, increased, popped, stored, stays, field_read, field_written, gone, branch_by, body, fall, fall_over, fall_by, fallen, done, group_by, group}
+use Rattle.xf_emission.specs.Emission.{caught}
 
 -- the numbers of the labels
 abbrev pub labels : List Item → List ℕ

@@ -5,38 +5,24 @@ use Rattle.std.proofs.lemmas.Bool.Decides.{nat_tests}
 use Rattle.std.proofs.lemmas.List.Elements.{All-contains}
 use Rattle.jc_base.specs.Each.{Each, IsAmong}
 use Rattle.jc_base.specs.declared.record.Handler.{Handler}
-use Rattle.jc_base.specs.Linked.{IsMethod}
-use Rattle.jc_base.specs.World.{Linked}
 use Rattle.jc_decode.specs.declared.insn.Placed.{Placed}
 use Rattle.jc_decode.specs.declared.symbols.Item.{Item}
 use Rattle.jc_decode.specs.declared.symbols.Item.TheVariants.{Plain, Branch, Switch, Label}
-use Rattle.jc_decode.specs.declared.symbols.Symbols.{Symbols}
-use Rattle.jc_decode.specs.Decoding.{AreBytes}
 use Rattle.jc_decode.specs.Symbols.{place_of, IsOnce, IsRange}
 use Rattle.jc_control.specs.WellFormed.{IsPlace, IsBoundary, IsHandlerOf, Stands}
-use Rattle.jc_control.specs.ControlFlow.{Marked, IsControlFlow}
-use Rattle.jc_control.specs.Laws.{ArePlaced}
-use Rattle.jc_decode.specs.Laws.{AreListed}
-use Rattle.jc_control.specs.Method.{Method, IsMethodOf}
+use Rattle.jc_decode.specs.Laws.{InstructionsAreListed}
 use Rattle.jc_control.proofs.Elements.{here-in, contained-in, go-on}
-use Rattle.jc_rules.specs.Demand.{Frame}
-use Rattle.jc_rules.specs.Typing.{state_at}
-use Rattle.xf_homes.specs.declared.home.Home.{Home}
-use Rattle.xf_homes.specs.Answer.{IsTypingOf}
-use Rattle.xf_homes.proofs.AllHomes.{IsTyped}
-use Rattle.xf_homes.proofs.Answered.{is-typed}
 use Rattle.xf_plan.specs.Source.{Source}
 use Rattle.xf_plan.specs.Plan.{first_reached}
-use Rattle.xf_code.specs.Jump.{handler_label}
-use Rattle.xf_code.specs.Emission.{is_live, range, ranges_from, ranges, items, rewritten}
-use Rattle.xf_code.specs.Laws.{IsCode, IsLabelOf, of_place, of_end, of_handler}
-use Rattle.xf_code.proofs.Labels.{labels}
-use Rattle.xf_code.proofs.Rises.{Rises}
-use Rattle.xf_code.proofs.Stubs.{all-rise}
-use Rattle.xf_code.proofs.Once.{labels-stand-once, named-among}
-use Rattle.xf_code.proofs.Live.{IsFirst, is-first}
-use Rattle.xf_code.proofs.Standing.{each-all}
-use Rattle.xf_code.proofs.Subjects.{code-short}
+use Rattle.xf_emission.specs.Jump.{handler_label}
+use Rattle.xf_emission.specs.Emission.{is_live, range, ranges_from, ranges, items}
+use Rattle.xf_emission.specs.Laws.{IsCode, HasFrames, IsLabelOf, of_place, of_end, of_handler, RangesStand}
+use Rattle.xf_emission.proofs.Labels.{labels}
+use Rattle.xf_emission.proofs.Rises.{Rises}
+use Rattle.xf_emission.proofs.Stubs.{all-rise}
+use Rattle.xf_emission.proofs.Once.{labels-stand-once, named-among}
+use Rattle.xf_emission.proofs.Live.{IsFirst, is-first}
+use Rattle.xf_emission.proofs.Standing.{each-all}
 
 not-equal : (m a : ℕ) → m < a → (m == a) ≡ false
 not-equal m a lt = grind (arith, nat_tests)
@@ -147,16 +133,6 @@ module _ (s : Source) (code : IsCode s) (placed : (p : ℕ) → is_some (s.frame
     unfolding ranges
     ranges-suit = each-all (IsRange (items s)) (ranges_from s 0 s.method.rec.handlers) (ranges-suit-from [] s.method.rec.handlers 0 refl refl)
 
--- the same of the symbols of a method
-module _ (w : Linked) (m : Method) (typing : List (Option Frame)) (control : Marked) (homes : List Home) (typed : IsTypingOf w m typing) (flow : IsControlFlow m control) (placed : ArePlaced m) (listed : AreListed m.code) (mo : IsMethodOf w m)
-    (method : IsMethod w.infos w.pools w.classes m.rec) (bytes : AreBytes m.code) where
-  pub ranged-by : (symbols : Symbols) → symbols ≡ rewritten (record { world = w; method = m; frames = state_at typing; leaders = control.leaders; homes = homes })
-      → All (IsRange symbols.items) symbols.ranges
-  unfolding rewritten
-  ranged-by symbols e =
-      let s : Source = record { world = w; method = m; frames = state_at typing; leaders = control.leaders; homes = homes } in
-      let code : IsCode s = record { bytes = bytes; lists = listed.lists; short = code-short w m mo method; few = method.few_handlers } in
-      let is : IsTyped m (state_at typing) control.leaders = is-typed w m typing typed control flow placed listed mo method in
-      let there : (p : ℕ) → is_some (state_at typing p) ≡ true → IsPlace m.code p = λ p some. is.placed p ((typed.reached p).0 some) in
-      subst (λ (y : Symbols). All (IsRange y.items) y.ranges) (sym e)
-      (ranges-suit s code there listed.inside typed.least.typing.formed.handlers)
+pub ranges-stand : InstructionsAreListed → RangesStand
+ranges-stand listed s code has =
+    ranges-suit s code (λ p some. has.placed p ((has.reached p).0 some)) (listed s.method.code).inside has.formed.handlers

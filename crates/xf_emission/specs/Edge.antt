@@ -10,9 +10,9 @@ use Rattle.xf_homes.specs.Home.{register_count, argument_types}
 use Rattle.xf_homes.specs.Walk.{has, same_home}
 use Rattle.xf_plan.specs.Source.{Source}
 use Rattle.xf_plan.specs.Plan.{home_of, local, needed}
-use Rattle.xf_code.specs.declared.edge.Origin.{Origin}
-use Rattle.xf_code.specs.declared.edge.Origin.TheVariants.{Start, After, Entry}
-use Rattle.xf_code.specs.Move.{copy}
+use Rattle.xf_emission.specs.declared.origin.Origin.{Origin}
+use Rattle.xf_emission.specs.declared.origin.Origin.TheVariants.{Start, After, Entry}
+use Rattle.xf_emission.specs.Move.{copy}
 
 -- whether the operation stores into local x
 abbrev pub is_stored : Operation → ℕ → Bool

@@ -16,17 +16,17 @@ use Rattle.jc_rules.specs.Demand.{Frame}
 use Rattle.xf_homes.specs.Walk.{operands_of}
 use Rattle.xf_plan.specs.Source.{Source}
 use Rattle.xf_plan.specs.Plan.{cells, operation}
-use Rattle.xf_code.specs.declared.edge.Origin.TheVariants.{Start, Entry}
-use Rattle.xf_code.specs.Move.{spill}
-use Rattle.xf_code.specs.Edge.{copies}
-use Rattle.xf_code.specs.Jump.{place, stub_label, handler_label, stub, stub_of, stubs_of, taken, goto}
-use Rattle.xf_code.specs.Group.{group}
-use Rattle.xf_code.specs.Emission.{stubs, stubs_by, stubs_done, stubs_at, is_live, caught, caught_from, items}
-use Rattle.xf_code.specs.Laws.{IsCode, StubStands, StubsStand, HandlersStand}
-use Rattle.xf_code.proofs.Labels.{labels, labels-append}
-use Rattle.xf_code.proofs.Rises.{Rises}
-use Rattle.xf_code.proofs.Standing.{split, each-all, none-named}
-use Rattle.xf_code.proofs.Stubs.{all-rise}
+use Rattle.xf_emission.specs.declared.origin.Origin.TheVariants.{Start, Entry}
+use Rattle.xf_emission.specs.Move.{spill}
+use Rattle.xf_emission.specs.Edge.{copies}
+use Rattle.xf_emission.specs.Jump.{place, stub_label, handler_label, stub, stub_of, stubs_of, taken, goto}
+use Rattle.xf_emission.specs.Group.{group}
+use Rattle.xf_emission.specs.Emission.{stubs, stubs_by, stubs_done, stubs_at, is_live, caught, caught_from, items}
+use Rattle.xf_emission.specs.Laws.{IsCode, StubStands, StubsStand, HandlersStand}
+use Rattle.xf_emission.proofs.Labels.{labels, labels-append}
+use Rattle.xf_emission.proofs.Rises.{Rises}
+use Rattle.xf_emission.proofs.Standing.{split, each-all, none-named}
+use Rattle.xf_emission.proofs.Stubs.{all-rise}
 
 -- ---- a label that stands in the whole
 

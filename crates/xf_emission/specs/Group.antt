@@ -19,10 +19,10 @@ use Rattle.xf_homes.specs.declared.home.Home.{Home}
 use Rattle.xf_homes.specs.Walk.{operands_of}
 use Rattle.xf_plan.specs.Source.{Source}
 use Rattle.xf_plan.specs.Plan.{register, local, needed, cells, is_leader, operation}
-use Rattle.xf_code.specs.declared.edge.Origin.TheVariants.{After}
-use Rattle.xf_code.specs.Move.{with_byte, load, store, copy, loads, spill}
-use Rattle.xf_code.specs.Edge.{copies}
-use Rattle.xf_code.specs.Jump.{branch, goto, is_over, place, taken, under}
+use Rattle.xf_emission.specs.declared.origin.Origin.TheVariants.{After}
+use Rattle.xf_emission.specs.Move.{with_byte, load, store, copy, loads, spill}
+use Rattle.xf_emission.specs.Edge.{copies}
+use Rattle.xf_emission.specs.Jump.{branch, goto, is_over, place, taken, under}
 
 abbrev pub kept : Placed → List Item
 kept i = Plain i.insn ∷ []
