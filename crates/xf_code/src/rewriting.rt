@@ -1,4 +1,4 @@
-ghost use Rattle.std.specs.Prelude.{◌≡◌, ◌≤◌, ◌<◌, ◌↔◌, All, IfOk, IsSomeAnd, Err, length, slice_get};
+ghost use Rattle.std.specs.Prelude.{◌≡◌, ◌≤◌, ◌<◌, ◌^◌, ◌↔◌, All, IfOk, IsSomeAnd, Err, length, slice_get};
 ghost use Rattle.jc_control.specs.Method.{IsMethodOf, method_in};
 ghost use Rattle.jc_rules.specs.Typing.{state_at};
 ghost use Rattle.xf_homes.specs.Answer.{IsTypingOf};
@@ -22,7 +22,7 @@ use jc_control::{ControlEnd, control_flow, flaws_decide, instructions_are_placed
 use jc_decode::{Item, Sequence, Symbols, instructions_are_listed};
 use jc_rules::Typing;
 use std::alloc::{AllocError, Global};
-use xf_emission::{Origin, items_suit, live_are_kept, ranges_stand};
+use xf_emission::{Origin, items_suit, live_are_kept, plain_size_fits, ranges_stand};
 use xf_homes::{Homes, Walk};
 use xf_plan::Plan;
 
@@ -91,6 +91,13 @@ fn are_bytes(bytes: &[u8])
     let _ = bytes;
 }
 
+/// A byte is a small number: a fact for proofs, and no work.
+fn is_a_byte(byte: u8)
+    ensures { byte ≤ 255 }
+{
+    let _ = byte;
+}
+
 /// The homes take no more registers than a method may have: a fact for proofs, and no work.
 fn are_few(homes: &Homes)
     ensures { register_sum homes.now ≤ 255 }
@@ -124,6 +131,8 @@ pub fn rewrite<'a>(
     ensures size { IsSomeAnd (method_in world.now method)
         (λ m. IfOk result (λ symbols.
         IsPlainSize world.now m (state_at typing.now) homes.now (plain_size symbols.items))) }
+    // It is a number of four bytes, as `lay` takes it.
+    ensures small { IfOk result (λ symbols. plain_size symbols.items < 2 ^ 32) }
     ensures limit { IsSomeAnd (slice_get world.now.methods method)
         (λ m. (result ≡ Err RewriteEnd.StackLimit) ↔ (m.max_stack ≡ 255)) }
 {
@@ -133,8 +142,10 @@ pub fn rewrite<'a>(
     live_are_kept();
     ranges_stand();
     items_suit(world);
+    plain_size_fits(world);
     are_few(homes);
     let rec = world.method(method);
+    is_a_byte(rec.max_stack);
     if rec.max_stack == 255 {
         return Err(RewriteEnd::StackLimit);
     }

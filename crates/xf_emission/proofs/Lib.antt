@@ -12,3 +12,5 @@ pub mod RowByRow
 pub mod Forms
 pub mod Suited
 pub mod Laying
+pub mod Fewer
+pub mod PlainSizes

@@ -1,5 +1,5 @@
 -- Laws of rewritten methods: what their layout and their running rest on.
-use Rattle.std.specs.Prelude.{◌≡◌, ◌≢◌, ◌≤◌, ◌↔◌, ℕ, ℤ, true, List, [], ◌∷◌, ◌++◌, flat_map, length, is_some, All, IsSome, Some, Ok, slice_get}
+use Rattle.std.specs.Prelude.{◌≡◌, ◌≢◌, ◌<◌, ◌≤◌, ◌^◌, ◌↔◌, ℕ, ℤ, true, List, [], ◌∷◌, ◌++◌, flat_map, length, is_some, All, IsSome, Some, Ok, slice_get}
 use Rattle.std.specs.List.{filter}
 use Rattle.jc_base.specs.declared.record.Handler.{Handler}
 use Rattle.jc_base.specs.World.{Linked}
@@ -7,14 +7,14 @@ use Rattle.jc_decode.specs.declared.insn.Placed.{Placed}
 use Rattle.jc_decode.specs.declared.symbols.Item.{Item}
 use Rattle.jc_decode.specs.Decoding.{AreBytes}
 use Rattle.jc_decode.specs.Listing.{listing, targets, Lists}
-use Rattle.jc_decode.specs.Symbols.{IsItem, IsOnce, IsRange, is_instruction, place_of}
+use Rattle.jc_decode.specs.Symbols.{IsItem, IsOnce, IsRange, is_instruction, place_of, plain_size}
 use Rattle.jc_ops.specs.declared.operation.Operation.{Operation}
 use Rattle.jc_control.specs.Control.{IsReached}
 use Rattle.jc_control.specs.WellFormed.{IsPlace, IsWellFormed, Stands}
-use Rattle.xf_homes.specs.Order.{register_sum}
+use Rattle.xf_homes.specs.Order.{AreHomes, register_sum}
 use Rattle.xf_homes.specs.Walk.{operands_of}
 use Rattle.xf_plan.specs.Source.{Source}
-use Rattle.xf_plan.specs.Plan.{operation}
+use Rattle.xf_plan.specs.Plan.{depth, operation}
 use Rattle.xf_emission.specs.Jump.{handler_label, place, stub, stub_label, taken}
 use Rattle.xf_emission.specs.Group.{group}
 use Rattle.xf_emission.specs.Emission.{caught, is_live, items, ranges}
@@ -129,3 +129,15 @@ ItemsSuit w =
     → HasFrames s
     → register_sum s.homes ≤ 255
     → All (IsItem s.method.code (items s)) (items s)
+
+-- the plain size is a number of four bytes, where the homes are the method's and no stack is deeper than 255 cells
+abbrev pub PlainSizeFits : Linked → Type 0
+PlainSizeFits w =
+    (s : Source)
+    → s.world ≡ w
+    → IsCode s
+    → HasFrames s
+    → AreHomes s.world s.method s.frames s.homes
+    → register_sum s.homes ≤ 255
+    → ((p : ℕ) → depth s p ≤ 255)
+    → plain_size (items s) < 2 ^ 32

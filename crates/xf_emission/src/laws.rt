@@ -1,8 +1,9 @@
-ghost use Rattle.xf_emission.specs.Laws.{GroupsStand, HandlersStand, ItemsSuit, LabelsStandOnce, LiveAreKept, RangesStand, StubsStand};
+ghost use Rattle.xf_emission.specs.Laws.{GroupsStand, HandlersStand, ItemsSuit, LabelsStandOnce, LiveAreKept, PlainSizeFits, RangesStand, StubsStand};
 
-use jc_base::World;
+use jc_base::{World, types_are_ordered};
 use jc_decode::instructions_are_listed;
 use jc_ops::operations_go_alike;
+use xf_homes::{homes_serve, needed_are_kept};
 
 /// The labels of a rewritten method stand once each.
 pub fn labels_stand_once()
@@ -41,4 +42,13 @@ pub fn items_suit(world: &World<'_>)
 {
     instructions_are_listed();
     operations_go_alike(world);
+}
+
+/// The plain size is a number of four bytes: on each edge no more homes are copied to than there are.
+pub fn plain_size_fits(world: &World<'_>)
+    ensures { PlainSizeFits world.now }
+{
+    types_are_ordered(world.classes());
+    homes_serve(world);
+    needed_are_kept(world);
 }

@@ -8,6 +8,7 @@ mod laws;
 mod origin;
 
 pub use laws::{
-    groups_stand, items_suit, labels_stand_once, live_are_kept, ranges_stand, stubs_stand,
+    groups_stand, items_suit, labels_stand_once, live_are_kept, plain_size_fits, ranges_stand,
+    stubs_stand,
 };
 pub use origin::Origin;

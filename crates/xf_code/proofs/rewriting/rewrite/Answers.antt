@@ -11,7 +11,7 @@ use Rattle.xf_emission.specs.Emission.{IsPlainSize}
 use Rattle.xf_emission.specs.Live.{KeepsLive}
 use Rattle.xf_emission.specs.Numbers.{HasNumbers}
 use Rattle.xf_code.proofs.Numbers.{has-numbers, has-size}
-use Rattle.xf_code.proofs.Sources.{live-by, ranged-by, items-by}
+use Rattle.xf_code.proofs.Sources.{live-by, ranged-by, items-by, small-by}
 use Rattle.xf_code.proofs.Subjects.{is-subject}
 use Rattle.xf_code.proofs.rewriting.rewrite.Goals as goal
 
@@ -103,3 +103,18 @@ returns-in-Ok-rewritten-clause-items c =
     to-method w n rec code c.method-rec.ensures.is bytes (λ m. All (IsItem m.code c.in-Ok-rewritten.symbols.items) c.in-Ok-rewritten.symbols.items)
     (items-by w m c.args.typing.now c.in-Ok.control c.args.homes.now typed flow (c.instructions_are_placed.ensures m typed.least.typing.formed) (c.instructions_are_listed.ensures code) mo
     c.method-rec.ensures.links c.are_bytes.ensures c.in-Ok-rewritten.symbols c.in-Ok-rewritten.ensures c.items_suit.ensures c.are_few.ensures)
+
+pub returns-in-Ok-rewritten-clause-small : goal.returns-in-Ok-rewritten-clause-small
+returns-in-Ok-rewritten-clause-small c =
+    let w = c.args.world.now in
+    let n = c.args.method in
+    let rec = c.method-rec.result.now in
+    let code = c.of-code.result.bytes.now in
+    let m : Method = record { number = n; rec = rec; code = code } in
+    let bytes : option_map (code_of w.infos) (slice_get w.methods n) ≡ Some code = cc in
+    let mo : IsMethodOf w m = of-method w n rec code c.method-rec.ensures.is bytes (IsMethodOf w) c.in-Ok.ensures.known in
+    let flow : IsControlFlow m c.in-Ok.control = of-method w n rec code c.method-rec.ensures.is bytes (λ m. IsControlFlow m c.in-Ok.control) c.in-Ok.ensures.formed in
+    let typed : IsTypingOf w m c.args.typing.now = of-method w n rec code c.method-rec.ensures.is bytes (λ m. IsTypingOf w m c.args.typing.now) c.requires.typing in
+    let are : AreHomes w m (state_at c.args.typing.now) c.args.homes.now = of-method w n rec code c.method-rec.ensures.is bytes (λ m. AreHomes w m (state_at c.args.typing.now) c.args.homes.now) c.requires.homes in
+    small-by w m c.args.typing.now c.in-Ok.control c.args.homes.now typed flow (c.instructions_are_placed.ensures m typed.least.typing.formed) (c.instructions_are_listed.ensures code) mo
+    c.method-rec.ensures.links c.are_bytes.ensures c.in-Ok-rewritten.symbols c.in-Ok-rewritten.ensures c.plain_size_fits.ensures are c.are_few.ensures c.is_a_byte.ensures
