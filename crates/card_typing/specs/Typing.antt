@@ -1,60 +1,102 @@
 -- Card typings of a method: what a verifier on the card accepts (Leroy 2002, section 3). Its requirement R1: the stack is
 -- empty at every branch, once its operands are popped, and at every branch target. Its requirement R2: each register has
 -- one type throughout the method.
-use Rattle.std.specs.Prelude.{◌≡◌, ℕ, ◌+◌, ◌<◌, ◌≤◌, List, [], ◌∷◌, length, All, IsTrue, false}
+use Rattle.std.specs.Prelude.{◌≡◌, ℕ, ℤ, ◌+◌, ◌<◌, ◌≤◌, List, [], ◌∷◌, length, All, IsTrue, false}
 use Rattle.jc_base.specs.declared.ty.Ty.{Ty}
 use Rattle.jc_base.specs.declared.ty.Ty.TheVariants.{Bottom, Class}
+use Rattle.jc_base.specs.declared.record.Handler.{Handler}
+use Rattle.jc_base.specs.declared.record.MethodRec.{MethodRec}
 use Rattle.jc_base.specs.Order.{IsKnown}
 use Rattle.jc_base.specs.World.{Linked}
 use Rattle.jc_decode.specs.declared.insn.Placed.{Placed}
-use Rattle.jc_decode.specs.Listing.{falls, jumps}
+use Rattle.jc_decode.specs.Listing.{falls, jumps, targets}
 use Rattle.jc_control.specs.Method.{Method}
 use Rattle.jc_control.specs.WellFormed.{Stands, IsWellFormed}
+use Rattle.jc_rules.specs.declared.effect.Mode.TheVariants.{Flow}
+use Rattle.jc_rules.specs.declared.rule.Outcome.{Outcome}
 use Rattle.jc_rules.specs.Demand.{Frame}
-use Rattle.jc_rules.specs.Flow.{CellsBelow, IsNotFresh, Steps, start_frame}
-use Rattle.card_typing.specs.Place.{IsTarget, IsEntry, CatchesAt}
+use Rattle.jc_rules.specs.Apply.{RuleApplies}
+use Rattle.jc_rules.specs.Flow.{CellsBelow, IsNotFresh, start_frame}
+use Rattle.card_typing.specs.Place.{IsTargetAmong, IsEntryAmong, AreCaughtAt}
 
 -- the registers with the stack before a place
 abbrev pub frame_at : List Ty → (ℕ → List Ty) → ℕ → Frame
 frame_at regs stacks place = record { regs = regs; stack = stacks place }
 
+-- ---- code of any form
+
+-- What a card typing reads of a method: its record, and of its code the place of its end, the instructions that stand there,
+-- the place after each, the places to which each leads, and that it is well formed. So code in bytes and code whose jumps go
+-- to labels have card typings alike.
+pub record Subject : Type 1 where
+  pub rec : MethodRec
+  pub end : ℕ
+  pub stands : Placed → Type 0
+  pub after : Placed → ℕ
+  pub leads : Placed → List ℤ
+  pub formed : Type 0
+
 -- where an instruction falls through, the code goes on, no handler begins there, and the stack there is the one that it gives
-pub record GoesOn (m : Method) (stacks : ℕ → List Ty) (i : Placed) (given : List Ty) : Type 0 where
-  pub inside : i.place + i.insn.len < length m.code
-  pub no_entry : ¬ (IsEntry m (i.place + i.insn.len))
-  pub next : stacks (i.place + i.insn.len) ≡ given
+pub record GoesOnIn (s : Subject) (stacks : ℕ → List Ty) (i : Placed) (given : List Ty) : Type 0 where
+  pub inside : s.after i < s.end
+  pub no_entry : ¬ (IsEntryAmong s.rec.handlers (s.after i))
+  pub next : stacks (s.after i) ≡ given
 
 -- what an instruction, reached or not, asks of the registers and of the stacks: its rule applies, what it stores is below
 -- the type of its register, and a branch or switch leaves the stack empty; the next place has the stack that it gives, or
 -- the empty one where it doesn't fall through and no handler begins there
-pub record IsTyped (w : Linked) (m : Method) (regs : List Ty) (stacks : ℕ → List Ty) (i : Placed) : Type 0 where
+pub record IsTypedIn (w : Linked) (s : Subject) (regs : List Ty) (stacks : ℕ → List Ty) (i : Placed) : Type 0 where
   pub after : Frame
-  pub applies : Steps w m i (frame_at regs stacks i.place) after
+  pub applies : (o : Outcome) × RuleApplies w s.rec i.place i.insn Flow (frame_at regs stacks i.place) after o
   pub stored : CellsBelow w.classes after.regs regs
   pub branch : IsTrue (jumps i.insn.op) → after.stack ≡ []
-  pub goes_on : IsTrue (falls i.insn.op) → GoesOn m stacks i after.stack
-  pub ends : falls i.insn.op ≡ false → ¬ (IsEntry m (i.place + i.insn.len)) → stacks (i.place + i.insn.len) ≡ []
+  pub goes_on : IsTrue (falls i.insn.op) → GoesOnIn s stacks i after.stack
+  pub ends : falls i.insn.op ≡ false → ¬ (IsEntryAmong s.rec.handlers (s.after i)) → stacks (s.after i) ≡ []
 
 -- the stack at a place where a handler begins: an object of the class that is caught there, alone
-pub record IsEntered (w : Linked) (m : Method) (stacks : ℕ → List Ty) (q : ℕ) : Type 0 where
+pub record IsEnteredBy (w : Linked) (handlers : List Handler) (stacks : ℕ → List Ty) (q : ℕ) : Type 0 where
   pub class : ℕ
-  pub catches : CatchesAt w.classes m q class
+  pub catches : AreCaughtAt w.classes handlers q class
   pub stack : stacks q ≡ Class class ∷ []
 
 -- one list of registers, and a stack before each place, for a well-formed method. The registers have types of the world,
 -- and none is an uninitialised object; the receiver and the declared arguments are below them. The stack is empty at the
 -- method's start and at each target; where a handler begins it is the caught object, and no target; and no stack is deeper
 -- than the method declares
-pub record CardTyping (w : Linked) (m : Method) (regs : List Ty) (stacks : ℕ → List Ty) : Type 0 where
-  pub formed : IsWellFormed m
+pub record TypingIn (w : Linked) (s : Subject) (regs : List Ty) (stacks : ℕ → List Ty) : Type 0 where
+  pub formed : s.formed
   pub types : All (IsKnown w.classes) regs
   pub ready : All IsNotFresh regs
-  pub declared : CellsBelow w.classes (start_frame m.rec Bottom).regs regs
-  pub start : ¬ (IsEntry m 0) × (stacks 0 ≡ [])
-  pub entries : (q : ℕ) → IsEntry m q → IsEntered w m stacks q
-  pub targets : (q : ℕ) → IsTarget m q → ¬ (IsEntry m q) × (stacks q ≡ [])
-  pub room : (i : Placed) → Stands m.code i → length (stacks i.place) ≤ m.rec.max_stack
-  pub typed : (i : Placed) → Stands m.code i → IsTyped w m regs stacks i
+  pub declared : CellsBelow w.classes (start_frame s.rec Bottom).regs regs
+  pub start : ¬ (IsEntryAmong s.rec.handlers 0) × (stacks 0 ≡ [])
+  pub entries : (q : ℕ) → IsEntryAmong s.rec.handlers q → IsEnteredBy w s.rec.handlers stacks q
+  pub targets : (q : ℕ) → IsTargetAmong s.stands s.leads q → ¬ (IsEntryAmong s.rec.handlers q) × (stacks q ≡ [])
+  pub room : (i : Placed) → s.stands i → length (stacks i.place) ≤ s.rec.max_stack
+  pub typed : (i : Placed) → s.stands i → IsTypedIn w s regs stacks i
+
+-- ---- code in bytes
+
+abbrev pub code_in_bytes : Method → Subject
+code_in_bytes m = record {
+  rec = m.rec;
+  end = length m.code;
+  stands = Stands m.code;
+  after = λ i. i.place + i.insn.len;
+  leads = targets m.code;
+  formed = IsWellFormed m;
+}
+
+abbrev pub GoesOn : Method → (ℕ → List Ty) → Placed → List Ty → Type 0
+GoesOn m stacks i given = GoesOnIn (code_in_bytes m) stacks i given
+
+abbrev pub IsTyped : Linked → Method → List Ty → (ℕ → List Ty) → Placed → Type 0
+IsTyped w m regs stacks i = IsTypedIn w (code_in_bytes m) regs stacks i
+
+abbrev pub IsEntered : Linked → Method → (ℕ → List Ty) → ℕ → Type 0
+IsEntered w m stacks q = IsEnteredBy w m.rec.handlers stacks q
+
+abbrev pub CardTyping : Linked → Method → List Ty → (ℕ → List Ty) → Type 0
+CardTyping w m regs stacks = TypingIn w (code_in_bytes m) regs stacks
 
 -- a card typing exists
 pub record HasCardTyping (w : Linked) (m : Method) : Type 0 where

@@ -2,8 +2,8 @@
 use Rattle.std.proofs.Common.{◌≡◌, ℕ, zero, suc, ◌+◌, ◌-◌, ◌<◌, ◌≤◌, min, List, [], ◌∷◌, ◌++◌, length, drop, refl, ◌∙◌, ap, arith}
 use Rattle.xf_homes.specs.declared.home.Home.{Home}
 use Rattle.xf_plan.specs.Source.{Source}
-use Rattle.xf_code.specs.declared.edge.Origin.{Origin}
-use Rattle.xf_code.specs.Edge.{cell_copies, local_copies, locals_copies}
+use Rattle.xf_emission.specs.declared.origin.Origin.{Origin}
+use Rattle.xf_emission.specs.Edge.{cell_copies, local_copies, locals_copies}
 
 pub locals-first : (s : Source) (o : Origin) (q x len : ℕ) → x < len
     → locals_copies s o q x (len - x) ≡ local_copies s o q x ++ locals_copies s o q (x + 1) (len - (x + 1))

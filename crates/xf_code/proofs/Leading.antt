@@ -5,8 +5,8 @@ use Rattle.std.proofs.lemmas.Int.{ints}
 use Rattle.jc_base.specs.declared.record.Handler.{Handler}
 use Rattle.jc_ops.specs.declared.operation.Operation.{Operation}
 use Rattle.xf_plan.specs.Source.{Source}
-use Rattle.xf_code.specs.Jump.{IsNearBy, lead, leads, stub, stubs_of}
-use Rattle.xf_code.specs.Emission.{caught, caught_from, is_live, range, ranges_from}
+use Rattle.xf_emission.specs.Jump.{IsNearBy, lead, leads, stub, stubs_of}
+use Rattle.xf_emission.specs.Emission.{caught, caught_from, is_live, range, ranges_from}
 use Rattle.xf_code.proofs.Steps.{rest-cons, rest-none}
 
 pub near-low : (t : ℤ) → IsNearBy t → pos 0 ≤ℤ t

@@ -3,13 +3,5 @@ pub mod Copying
 pub mod Leading
 pub mod Targets
 pub mod Subjects
-pub mod Live
-pub mod Labels
-pub mod Rises
-pub mod TwoBytes
-pub mod Stubs
-pub mod Once
+pub mod Sources
 pub mod Numbers
-pub mod Standing
-pub mod Landing
-pub mod Ranged

@@ -9,8 +9,8 @@ use Rattle.jc_rules.specs.Demand.{Frame}
 use Rattle.xf_homes.specs.declared.home.Home.{Home}
 use Rattle.xf_homes.specs.Value.{width}
 use Rattle.xf_homes.specs.Order.{AreHomes, register_sum}
-use Rattle.xf_code.specs.Emission.{IsRewritten, IsPlainSize, rewritten}
-use Rattle.xf_code.specs.Numbers.{HasNumbers}
+use Rattle.xf_emission.specs.Emission.{IsRewritten, IsPlainSize, rewritten}
+use Rattle.xf_emission.specs.Numbers.{HasNumbers}
 
 module _ (w : Linked) (m : Method) (frames : ℕ → Option Frame) (homes : List Home) where
   -- the arguments are among the homes

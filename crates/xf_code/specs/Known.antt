@@ -5,7 +5,7 @@ use Rattle.jc_control.specs.Method.{IsMethodOf}
 use Rattle.jc_control.specs.WellFormed.{Stands}
 use Rattle.xf_homes.specs.Subject.{walked}
 use Rattle.xf_plan.specs.declared.plan.Plan.{Plan}
-use Rattle.xf_code.specs.Jump.{AreLed}
+use Rattle.xf_emission.specs.Jump.{AreLed}
 
 -- an instruction of the code, with targets in it
 pub record IsInstruction (p : Plan) (i : Placed) : Type 0 where

@@ -1,12 +1,12 @@
 ghost use Rattle.std.specs.Prelude.{◌≡◌, ◌++◌, ◌∷◌, [], ◌≤◌, ◌<◌, ◌+◌, OnOk, flat_map};
 ghost use Rattle.jc_decode.specs.Listing.{targets};
 ghost use Rattle.xf_plan.specs.Subject.{source};
-ghost use Rattle.xf_code.specs.Jump.{AreLed};
-ghost use Rattle.xf_code.specs.Move.{copy};
-ghost use Rattle.xf_code.specs.Group.{body, branch_by, first_place, gone, increased, loaded, popped, stored};
+ghost use Rattle.xf_emission.specs.Jump.{AreLed};
+ghost use Rattle.xf_emission.specs.Move.{copy};
+ghost use Rattle.xf_emission.specs.Group.{body, branch_by, first_place, gone, increased, loaded, popped, stored};
 
 use crate::branch::branch;
-use crate::edge::{Origin, Scratch, copies};
+use crate::edge::{Scratch, copies};
 use crate::field::{field_read, field_written, keep};
 use crate::jump::goto;
 use crate::moves::{copy, load, put, spill, store};
@@ -14,6 +14,7 @@ use jc_control::{Targets, place_of};
 use jc_decode::{Insn, Item, Placed};
 use jc_ops::{Branch, Holder, Operation, Sort};
 use std::alloc::{AllocError, Global};
+use xf_emission::Origin;
 use xf_homes::{Home, operands};
 use xf_plan::Plan;
 
@@ -161,7 +162,7 @@ pub fn next_place(placed: Placed) -> u16
     (u32::from(placed.place) + placed.insn.len) as u16
 }
 
-#[tactic(auto, unfolding(crate::specs::Group::body))]
+#[tactic(auto, unfolding(xf_emission::specs::Group::body))]
 fn store_local(
     plan: &Plan<'_>,
     placed: Placed,
@@ -179,7 +180,7 @@ fn store_local(
 }
 
 /// Appends the instruction of an operation.
-#[tactic(auto, unfolding(crate::specs::Group::body))]
+#[tactic(auto, unfolding(xf_emission::specs::Group::body))]
 pub fn body(
     alloc: Global,
     plan: &Plan<'_>,

@@ -1,7 +1,7 @@
 ghost use Rattle.std.specs.Prelude.{◌≡◌, ◌++◌, OnOk};
 ghost use Rattle.jc_decode.specs.Forms.{wide};
 ghost use Rattle.xf_plan.specs.Subject.{source};
-ghost use Rattle.xf_code.specs.Jump.{AreLed, branch, first_label, jump_to, is_over, spill_if};
+ghost use Rattle.xf_emission.specs.Jump.{AreLed, branch, first_label, jump_to, is_over, spill_if};
 
 use crate::edge::Scratch;
 use crate::jump::{Fork, is_over, leads, operands};
@@ -66,7 +66,7 @@ fn spill_if(
 }
 
 /// Appends a conditional branch or switch.
-#[tactic(auto, unfolding(crate::specs::Jump::branch))]
+#[tactic(auto, unfolding(xf_emission::specs::Jump::branch))]
 pub fn branch(
     alloc: Global,
     plan: &Plan<'_>,

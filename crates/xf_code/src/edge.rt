@@ -2,26 +2,16 @@ ghost use Rattle.std.specs.Prelude.{◌≡◌, ◌++◌, ◌∷◌, [], OnOk, fl
 ghost use Rattle.xf_homes.specs.Home.{argument_types};
 ghost use Rattle.xf_homes.specs.Value.{value_at};
 ghost use Rattle.xf_plan.specs.Subject.{source};
-ghost use Rattle.xf_code.specs.Edge.{is_stored, home_before, held, copy_new, copies_from, local_copies, copies, cell_copies};
+ghost use Rattle.xf_emission.specs.Edge.{is_stored, home_before, held, copy_new, copies_from, local_copies, copies, cell_copies};
 
 use crate::moves::copy;
 use jc_base::{MethodRec, Ty};
 use jc_decode::Item;
 use jc_ops::{Operation, Sort};
 use std::alloc::AllocError;
+use xf_emission::Origin;
 use xf_homes::{Home, has, value_of};
 use xf_plan::{Plan, home_of};
-
-/// Where an edge of rewritten code begins.
-#[derive(Clone, Copy)]
-pub enum Origin {
-    /// Before the method's first instruction.
-    Start,
-    /// At a place, after its operation.
-    After(u16, Operation),
-    /// Where a handler takes over, whose entry is this place.
-    Entry(u16),
-}
 
 /// Lists of homes that are made anew for each local.
 #[derive(Drop)]
@@ -133,7 +123,7 @@ fn copy_all(
 }
 
 /// Appends the copies of a local on an edge to a place.
-#[tactic(auto, unfolding(crate::specs::Edge::local_copies))]
+#[tactic(auto, unfolding(xf_emission::specs::Edge::local_copies))]
 fn local_copies(
     plan: &Plan<'_>,
     from: Origin,
@@ -159,7 +149,7 @@ fn local_copies(
 }
 
 /// Appends the copies of all locals on an edge to a place.
-#[tactic(auto, unfolding(crate::specs::Edge::copies))]
+#[tactic(auto, unfolding(xf_emission::specs::Edge::copies))]
 pub fn copies(
     plan: &Plan<'_>,
     from: Origin,

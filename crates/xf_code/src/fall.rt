@@ -1,14 +1,15 @@
 ghost use Rattle.std.specs.Prelude.{◌≡◌, ◌++◌, ◌≤◌, ◌+◌, OnOk};
 ghost use Rattle.xf_plan.specs.Subject.{source};
-ghost use Rattle.xf_code.specs.Group.{fall, fall_by, fall_over, fallen};
+ghost use Rattle.xf_emission.specs.Group.{fall, fall_by, fall_over, fallen};
 
 use crate::body::next_place;
-use crate::edge::{Origin, Scratch, copies};
+use crate::edge::{Scratch, copies};
 use crate::jump::{Fork, is_over, taken, under};
 use crate::moves::{loads, spill};
 use jc_decode::{Item, Placed};
 use jc_ops::Operation;
 use std::alloc::{AllocError, Global};
+use xf_emission::Origin;
 use xf_homes::operands;
 use xf_plan::Plan;
 
@@ -87,7 +88,7 @@ fn fall_by(
 }
 
 /// Appends what comes after an instruction where control may fall into the next place.
-#[tactic(auto, unfolding(crate::specs::Group::fallen))]
+#[tactic(auto, unfolding(xf_emission::specs::Group::fallen))]
 pub fn fallen(
     alloc: Global,
     plan: &Plan<'_>,

@@ -1,6 +1,6 @@
 ghost use Rattle.std.specs.Prelude.{◌≡◌, ◌++◌, OnOk};
 ghost use Rattle.xf_plan.specs.Subject.{source};
-ghost use Rattle.xf_code.specs.Group.{field_read, field_written, kept, stays, swap_words};
+ghost use Rattle.xf_emission.specs.Group.{field_read, field_written, kept, stays, swap_words};
 
 use crate::moves::{load, put, with_byte};
 use jc_base::Kind;

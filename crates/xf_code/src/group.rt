@@ -2,7 +2,7 @@ ghost use Rattle.std.specs.Prelude.{◌≡◌, ◌++◌, ◌∷◌, [], ◌≤�
 ghost use Rattle.jc_decode.specs.Listing.{listing};
 ghost use Rattle.xf_plan.specs.Plan.{operation};
 ghost use Rattle.xf_plan.specs.Subject.{source};
-ghost use Rattle.xf_code.specs.Group.{done, entered, group};
+ghost use Rattle.xf_emission.specs.Group.{done, entered, group};
 ghost use Rattle.xf_code.specs.Known.{IsInstruction, IsSubject};
 
 use crate::body::body;
@@ -53,7 +53,7 @@ fn done(
 }
 
 /// Appends the group of an instruction, if control reaches it.
-#[tactic(auto, unfolding(crate::specs::Group::group))]
+#[tactic(auto, unfolding(xf_emission::specs::Group::group))]
 fn group(
     alloc: Global,
     plan: &Plan<'_>,

@@ -1,14 +1,15 @@
 ghost use Rattle.std.specs.Prelude.{◌≡◌, ◌++◌, ◌∷◌, [], ◌≤◌, if◌then◌else◌, OnOk, IfOk, length};
 ghost use Rattle.xf_plan.specs.Subject.{source};
-ghost use Rattle.xf_code.specs.Emission.{caught, caught_from, is_live, range, ranges_from};
-ghost use Rattle.xf_code.specs.Jump.{handler_label};
+ghost use Rattle.xf_emission.specs.Emission.{caught, caught_from, is_live, range, ranges_from};
+ghost use Rattle.xf_emission.specs.Jump.{handler_label};
 
-use crate::edge::{Origin, Scratch, copies};
+use crate::edge::{Scratch, copies};
 use crate::jump::goto;
 use crate::moves::{put, spill};
 use jc_base::Handler;
 use jc_decode::{Item, Range};
 use std::alloc::{AllocError, Global};
+use xf_emission::Origin;
 use xf_plan::Plan;
 
 fn is_live(plan: &Plan<'_>, handler: Handler) -> bool

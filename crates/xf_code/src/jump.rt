@@ -1,14 +1,15 @@
 ghost use Rattle.std.specs.Prelude.{◌≡◌, ◌≤◌, ◌+◌, ◌/◌, ◌++◌, ◌∷◌, [], OnOk, IfOk};
 ghost use Rattle.jc_decode.specs.Listing.{targets};
 ghost use Rattle.xf_plan.specs.Subject.{source};
-ghost use Rattle.xf_code.specs.Jump.{cut, under, operands, is_over, taken, place, lead, stub, stub_label, goto, leads, stubs_of, AreLed, IsNearBy};
+ghost use Rattle.xf_emission.specs.Jump.{cut, under, operands, is_over, taken, place, lead, stub, stub_label, goto, leads, stubs_of, AreLed, IsNearBy};
 
-use crate::edge::{Origin, Scratch, cell_copies, copies};
+use crate::edge::{Scratch, cell_copies, copies};
 use crate::moves::put;
 use jc_control::{Targets, place_of};
 use jc_decode::{Insn, Item, Placed};
 use jc_ops::Operation;
 use std::alloc::{AllocError, Global};
+use xf_emission::Origin;
 use xf_homes::Home;
 use xf_plan::Plan;
 
@@ -36,7 +37,7 @@ pub fn is_over(plan: &Plan<'_>, fork: Fork) -> bool
 }
 
 /// The homes of the cells under the operands.
-#[tactic(auto, unfolding(crate::specs::Jump::under))]
+#[tactic(auto, unfolding(xf_emission::specs::Jump::under))]
 pub fn under(alloc: Global, plan: &Plan<'_>, fork: Fork) -> Result<Vec<Home>, AllocError>
     ensures { IfOk result (λ hs. hs.items ≡ under (source plan.now) fork.place fork.operands) }
 {
@@ -54,7 +55,7 @@ pub fn under(alloc: Global, plan: &Plan<'_>, fork: Fork) -> Result<Vec<Home>, Al
 }
 
 /// The homes of the operands.
-#[tactic(auto, unfolding(crate::specs::Jump::operands))]
+#[tactic(auto, unfolding(xf_emission::specs::Jump::operands))]
 pub fn operands(alloc: Global, plan: &Plan<'_>, fork: Fork) -> Result<Vec<Home>, AllocError>
     ensures { IfOk result (λ hs. hs.items ≡ operands (source plan.now) fork.place fork.operands) }
 {
@@ -72,7 +73,7 @@ pub fn operands(alloc: Global, plan: &Plan<'_>, fork: Fork) -> Result<Vec<Home>,
 }
 
 /// Appends what has to be copied where the branch is taken to a place.
-#[tactic(auto, unfolding(crate::specs::Jump::taken))]
+#[tactic(auto, unfolding(xf_emission::specs::Jump::taken))]
 pub fn taken(
     alloc: Global,
     plan: &Plan<'_>,
@@ -129,7 +130,7 @@ fn target_place(target: i32) -> u16
 }
 
 /// The label to which the branch is taken for its n-th target: the target's own, or that of a stub.
-#[tactic(auto, unfolding(crate::specs::Jump::lead))]
+#[tactic(auto, unfolding(xf_emission::specs::Jump::lead))]
 fn lead(
     alloc: Global,
     plan: &Plan<'_>,
@@ -159,7 +160,7 @@ pub fn goto(to: u16) -> Item
 }
 
 /// Appends the stub on the edge to the n-th target, if something has to be copied there.
-#[tactic(auto, unfolding(crate::specs::Jump::stub))]
+#[tactic(auto, unfolding(xf_emission::specs::Jump::stub))]
 fn put_stub(
     alloc: Global,
     plan: &Plan<'_>,

@@ -1,6 +1,6 @@
 ghost use Rattle.std.specs.Prelude.{◌≡◌, ◌<◌, ◌^◌, pos, ◌++◌, ◌∷◌, [], OnOk, map, reverse};
 ghost use Rattle.xf_plan.specs.Subject.{source};
-ghost use Rattle.xf_code.specs.Move.{with_byte, load_op, store_op, load, store, copy, loads, spill};
+ghost use Rattle.xf_emission.specs.Move.{with_byte, load_op, store_op, load, store, copy, loads, spill};
 
 use jc_base::Ty;
 use jc_decode::{Insn, Item};
@@ -90,7 +90,7 @@ pub fn loads(plan: &Plan<'_>, homes: &[Home], items: &mut Vec<Item>) -> Result<(
 }
 
 /// Appends the stores of a stack into homes, the top into the last.
-#[tactic(auto, unfolding(crate::specs::Move::spill))]
+#[tactic(auto, unfolding(xf_emission::specs::Move::spill))]
 pub fn spill(plan: &Plan<'_>, homes: &[Home], items: &mut Vec<Item>) -> Result<(), AllocError>
     ensures { OnOk result (items.new.items ≡ items.old.items ++ spill (source plan.now) homes.now) }
 {

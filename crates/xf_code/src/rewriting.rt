@@ -1,17 +1,17 @@
-ghost use Rattle.std.specs.Prelude.{◌≡◌, ◌≤◌, ◌<◌, ◌↔◌, All, IfOk, IsSomeAnd, Err, length, slice_get};
+ghost use Rattle.std.specs.Prelude.{◌≡◌, ◌≤◌, ◌<◌, ◌^◌, ◌↔◌, All, IfOk, IsSomeAnd, Err, length, slice_get};
 ghost use Rattle.jc_control.specs.Method.{IsMethodOf, method_in};
 ghost use Rattle.jc_rules.specs.Typing.{state_at};
 ghost use Rattle.xf_homes.specs.Answer.{IsTypingOf};
-ghost use Rattle.xf_homes.specs.Order.{AreHomes};
+ghost use Rattle.xf_homes.specs.Order.{AreHomes, register_sum};
 ghost use Rattle.xf_plan.specs.Subject.{source};
 ghost use Rattle.jc_decode.specs.Decoding.{AreBytes};
-ghost use Rattle.jc_decode.specs.Symbols.{IsRange, plain_size};
-ghost use Rattle.xf_code.specs.Emission.{IsPlainSize, IsRewritten, items, ranges, rewritten};
+ghost use Rattle.jc_decode.specs.Symbols.{IsItem, IsRange, plain_size};
+ghost use Rattle.xf_emission.specs.Emission.{IsPlainSize, IsRewritten, items, ranges, rewritten};
 ghost use Rattle.xf_code.specs.Known.{IsSubject};
-ghost use Rattle.xf_code.specs.Live.{KeepsLive};
-ghost use Rattle.xf_code.specs.Numbers.{HasNumbers};
+ghost use Rattle.xf_emission.specs.Live.{KeepsLive};
+ghost use Rattle.xf_emission.specs.Numbers.{HasNumbers};
 
-use crate::edge::{Origin, Scratch, copies};
+use crate::edge::{Scratch, copies};
 use crate::group::groups;
 use crate::handlers::{handler_stubs, ranges};
 use crate::moves::put;
@@ -22,6 +22,7 @@ use jc_control::{ControlEnd, control_flow, flaws_decide, instructions_are_placed
 use jc_decode::{Item, Sequence, Symbols, instructions_are_listed};
 use jc_rules::Typing;
 use std::alloc::{AllocError, Global};
+use xf_emission::{Origin, items_suit, live_are_kept, plain_size_fits, ranges_stand};
 use xf_homes::{Homes, Walk};
 use xf_plan::Plan;
 
@@ -44,7 +45,7 @@ impl From<AllocError> for RewriteEnd {
 }
 
 /// The items of a method.
-#[tactic(auto, unfolding(crate::specs::Emission::items))]
+#[tactic(auto, unfolding(xf_emission::specs::Emission::items))]
 fn items(alloc: Global, plan: &Plan<'_>) -> Result<Vec<Item>, AllocError>
     requires subject { IsSubject plan.now }
     requires few { length plan.now.walk.rec.now.handlers ≤ 255 }
@@ -64,7 +65,7 @@ fn items(alloc: Global, plan: &Plan<'_>) -> Result<Vec<Item>, AllocError>
 }
 
 /// The symbols of a method, whose stack has room for one cell more.
-#[tactic(auto, unfolding(crate::specs::Emission::rewritten, crate::specs::Emission::ranges))]
+#[tactic(auto, unfolding(xf_emission::specs::Emission::rewritten, xf_emission::specs::Emission::ranges))]
 fn rewritten(alloc: Global, plan: &Plan<'_>) -> Result<Symbols, AllocError>
     requires subject { IsSubject plan.now }
     requires few { length plan.now.walk.rec.now.handlers ≤ 255 }
@@ -90,6 +91,20 @@ fn are_bytes(bytes: &[u8])
     let _ = bytes;
 }
 
+/// A byte is a small number: a fact for proofs, and no work.
+fn is_a_byte(byte: u8)
+    ensures { byte ≤ 255 }
+{
+    let _ = byte;
+}
+
+/// The homes take no more registers than a method may have: a fact for proofs, and no work.
+fn are_few(homes: &Homes)
+    ensures { register_sum homes.now ≤ 255 }
+{
+    let _count = homes.count();
+}
+
 /// The code of a method with homes in place of its locals, by the typing that `infer` gives for it and the homes that
 /// `homes` gives for that typing.
 pub fn rewrite<'a>(
@@ -107,20 +122,30 @@ pub fn rewrite<'a>(
     // Each live handler has a range, and no other.
     ensures live { IsSomeAnd (method_in world.now method)
         (λ m. IfOk result (λ symbols. KeepsLive m m.rec.handlers symbols.ranges)) }
-    // The ranges are such as `lay` takes.
+    // The items and the ranges are such as `lay` takes.
+    ensures items { IsSomeAnd (method_in world.now method)
+        (λ m. IfOk result (λ symbols. All (IsItem m.code symbols.items) symbols.items)) }
     ensures ranged { IfOk result (λ symbols. All (IsRange symbols.items) symbols.ranges) }
     ensures numbers { IsSomeAnd (method_in world.now method)
         (λ m. IfOk result (HasNumbers m.rec homes.now)) }
     ensures size { IsSomeAnd (method_in world.now method)
         (λ m. IfOk result (λ symbols.
         IsPlainSize world.now m (state_at typing.now) homes.now (plain_size symbols.items))) }
+    // It is a number of four bytes, as `lay` takes it.
+    ensures small { IfOk result (λ symbols. plain_size symbols.items < 2 ^ 32) }
     ensures limit { IsSomeAnd (slice_get world.now.methods method)
         (λ m. (result ≡ Err RewriteEnd.StackLimit) ↔ (m.max_stack ≡ 255)) }
 {
     instructions_are_listed();
     instructions_are_placed();
     flaws_decide();
+    live_are_kept();
+    ranges_stand();
+    items_suit(world);
+    plain_size_fits(world);
+    are_few(homes);
     let rec = world.method(method);
+    is_a_byte(rec.max_stack);
     if rec.max_stack == 255 {
         return Err(RewriteEnd::StackLimit);
     }

@@ -2,8 +2,8 @@ ghost use Rattle.std.specs.Prelude.{◌≡◌, ◌++◌, OnOk, flat_map};
 ghost use Rattle.jc_decode.specs.Listing.{listing};
 ghost use Rattle.xf_plan.specs.Plan.{operation};
 ghost use Rattle.xf_plan.specs.Subject.{source};
-ghost use Rattle.xf_code.specs.Emission.{stubs, stubs_by, stubs_done};
-ghost use Rattle.xf_code.specs.Jump.{AreLed};
+ghost use Rattle.xf_emission.specs.Emission.{stubs, stubs_by, stubs_done};
+ghost use Rattle.xf_emission.specs.Jump.{AreLed};
 ghost use Rattle.xf_code.specs.Known.{IsInstruction, IsSubject};
 
 use crate::edge::Scratch;
@@ -60,7 +60,7 @@ fn stubs_done(
 }
 
 /// Appends the stubs of an instruction, if control reaches it.
-#[tactic(auto, unfolding(crate::specs::Emission::stubs))]
+#[tactic(auto, unfolding(xf_emission::specs::Emission::stubs))]
 fn stubs_at(
     alloc: Global,
     plan: &Plan<'_>,

@@ -1,6 +1,6 @@
 use Rattle.std.proofs.Common.{◌≡◌, ◌++◌, take, flat_map}
 use Rattle.xf_plan.specs.Subject.{source}
-use Rattle.xf_code.specs.Move.{copy}
+use Rattle.xf_emission.specs.Move.{copy}
 use Rattle.xf_code.proofs.body.copy_each.Given as goal
 
 abbrev pub invariant-homes : goal.invariant-homes

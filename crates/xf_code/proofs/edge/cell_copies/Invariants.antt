@@ -1,6 +1,6 @@
 use Rattle.std.proofs.Common.{◌≡◌, ◌++◌, drop}
 use Rattle.xf_plan.specs.Subject.{source}
-use Rattle.xf_code.specs.Edge.{cell_copies}
+use Rattle.xf_emission.specs.Edge.{cell_copies}
 use Rattle.xf_code.proofs.edge.cell_copies.Given as goal
 
 abbrev pub invariant-cells : goal.invariant-cells

@@ -1,7 +1,7 @@
 use Rattle.std.proofs.Common.{◌<◌, arith}
 use Rattle.xf_homes.specs.Home.{register_count}
 use Rattle.xf_plan.specs.Subject.{source}
-use Rattle.xf_code.specs.Edge.{local_copies}
+use Rattle.xf_emission.specs.Edge.{local_copies}
 use Rattle.xf_code.proofs.Copying.{locals-first}
 use Rattle.xf_code.proofs.Steps.{goes-on}
 use Rattle.xf_code.proofs.edge.copies.Goals as goal

@@ -1,6 +1,6 @@
 use Rattle.std.proofs.Common.{◌≡◌, ◌++◌, take, flat_map}
 use Rattle.xf_plan.specs.Subject.{source}
-use Rattle.xf_code.specs.Edge.{copy_new}
+use Rattle.xf_emission.specs.Edge.{copy_new}
 use Rattle.xf_code.proofs.edge.copy_all.Given as goal
 
 abbrev pub invariant-needed : goal.invariant-needed

@@ -1,6 +1,6 @@
 use Rattle.std.proofs.Common.{◌≡◌, ◌++◌, drop}
 use Rattle.xf_plan.specs.Subject.{source}
-use Rattle.xf_code.specs.Emission.{caught_from}
+use Rattle.xf_emission.specs.Emission.{caught_from}
 use Rattle.xf_code.proofs.handlers.handler_stubs.Given as goal
 
 abbrev pub invariant-handlers : goal.invariant-handlers

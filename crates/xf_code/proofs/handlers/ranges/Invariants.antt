@@ -1,6 +1,6 @@
 use Rattle.std.proofs.Common.{◌≡◌, ◌++◌, drop}
 use Rattle.xf_plan.specs.Subject.{source}
-use Rattle.xf_code.specs.Emission.{ranges_from}
+use Rattle.xf_emission.specs.Emission.{ranges_from}
 use Rattle.xf_code.proofs.handlers.ranges.Given as goal
 
 abbrev pub invariant-handlers : goal.invariant-handlers

@@ -1,6 +1,6 @@
 use Rattle.std.proofs.Common.{◌≡◌, ◌++◌, take, map}
 use Rattle.xf_plan.specs.Subject.{source}
-use Rattle.xf_code.specs.Move.{load}
+use Rattle.xf_emission.specs.Move.{load}
 use Rattle.xf_code.proofs.moves.loads.Given as goal
 
 abbrev pub invariant-homes : goal.invariant-homes

@@ -1,6 +1,6 @@
 use Rattle.std.proofs.Common.{◌≡◌, ◌≤◌, ◌++◌, take, map, reverse, length}
 use Rattle.xf_plan.specs.Subject.{source}
-use Rattle.xf_code.specs.Move.{store}
+use Rattle.xf_emission.specs.Move.{store}
 use Rattle.xf_code.proofs.moves.spill.Given as goal
 
 abbrev pub invariant-homes : goal.invariant-homes

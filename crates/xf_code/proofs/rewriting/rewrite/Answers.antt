@@ -1,18 +1,17 @@
-use Rattle.std.proofs.Common.{◌≡◌, ◌<◌, Some, option_map, slice_get}
+use Rattle.std.proofs.Common.{◌≡◌, ◌<◌, All, Some, option_map, slice_get}
 use Rattle.jc_base.specs.World.{code_of}
 use Rattle.jc_control.specs.ControlFlow.{IsControlFlow}
 use Rattle.jc_control.specs.Method.{Method, IsMethodOf, method_in}
-use Rattle.jc_decode.specs.Symbols.{plain_size}
+use Rattle.jc_decode.specs.Symbols.{IsItem, plain_size}
 use Rattle.jc_rules.specs.Typing.{state_at}
 use Rattle.xf_homes.specs.Answer.{IsTypingOf}
 use Rattle.xf_homes.specs.Order.{AreHomes}
 use Rattle.xf_homes.proofs.Answered.{number-below, of-method, to-method, flaw-never}
-use Rattle.xf_code.specs.Emission.{IsPlainSize}
-use Rattle.xf_code.specs.Live.{KeepsLive}
-use Rattle.xf_code.specs.Numbers.{HasNumbers}
+use Rattle.xf_emission.specs.Emission.{IsPlainSize}
+use Rattle.xf_emission.specs.Live.{KeepsLive}
+use Rattle.xf_emission.specs.Numbers.{HasNumbers}
 use Rattle.xf_code.proofs.Numbers.{has-numbers, has-size}
-use Rattle.xf_code.proofs.Live.{live-kept-by}
-use Rattle.xf_code.proofs.Ranged.{ranged-by}
+use Rattle.xf_code.proofs.Sources.{live-by, ranged-by, items-by, small-by}
 use Rattle.xf_code.proofs.Subjects.{is-subject}
 use Rattle.xf_code.proofs.rewriting.rewrite.Goals as goal
 
@@ -44,9 +43,12 @@ returns-in-Ok-rewritten-clause-live c =
     let code = c.of-code.result.bytes.now in
     let m : Method = record { number = n; rec = rec; code = code } in
     let bytes : option_map (code_of w.infos) (slice_get w.methods n) ≡ Some code = cc in
+    let mo : IsMethodOf w m = of-method w n rec code c.method-rec.ensures.is bytes (IsMethodOf w) c.in-Ok.ensures.known in
+    let flow : IsControlFlow m c.in-Ok.control = of-method w n rec code c.method-rec.ensures.is bytes (λ m. IsControlFlow m c.in-Ok.control) c.in-Ok.ensures.formed in
     let typed : IsTypingOf w m c.args.typing.now = of-method w n rec code c.method-rec.ensures.is bytes (λ m. IsTypingOf w m c.args.typing.now) c.requires.typing in
     to-method w n rec code c.method-rec.ensures.is bytes (λ m. KeepsLive m m.rec.handlers c.in-Ok-rewritten.symbols.ranges)
-    (live-kept-by w m c.args.typing.now c.in-Ok.control.leaders c.args.homes.now (c.instructions_are_listed.ensures code) typed.least.typing.formed typed.reached c.in-Ok-rewritten.symbols c.in-Ok-rewritten.ensures)
+    (live-by w m c.args.typing.now c.in-Ok.control c.args.homes.now typed flow (c.instructions_are_placed.ensures m typed.least.typing.formed) (c.instructions_are_listed.ensures code) mo
+    c.method-rec.ensures.links c.are_bytes.ensures c.in-Ok-rewritten.symbols c.in-Ok-rewritten.ensures c.live_are_kept.ensures)
 
 pub returns-in-Ok-rewritten-clause-numbers : goal.returns-in-Ok-rewritten-clause-numbers
 returns-in-Ok-rewritten-clause-numbers c =
@@ -85,4 +87,34 @@ returns-in-Ok-rewritten-clause-ranged c =
     let flow : IsControlFlow m c.in-Ok.control = of-method w n rec code c.method-rec.ensures.is bytes (λ m. IsControlFlow m c.in-Ok.control) c.in-Ok.ensures.formed in
     let typed : IsTypingOf w m c.args.typing.now = of-method w n rec code c.method-rec.ensures.is bytes (λ m. IsTypingOf w m c.args.typing.now) c.requires.typing in
     ranged-by w m c.args.typing.now c.in-Ok.control c.args.homes.now typed flow (c.instructions_are_placed.ensures m typed.least.typing.formed) (c.instructions_are_listed.ensures code) mo
-    c.method-rec.ensures.links c.are_bytes.ensures c.in-Ok-rewritten.symbols c.in-Ok-rewritten.ensures
+    c.method-rec.ensures.links c.are_bytes.ensures c.in-Ok-rewritten.symbols c.in-Ok-rewritten.ensures c.ranges_stand.ensures
+
+pub returns-in-Ok-rewritten-clause-items : goal.returns-in-Ok-rewritten-clause-items
+returns-in-Ok-rewritten-clause-items c =
+    let w = c.args.world.now in
+    let n = c.args.method in
+    let rec = c.method-rec.result.now in
+    let code = c.of-code.result.bytes.now in
+    let m : Method = record { number = n; rec = rec; code = code } in
+    let bytes : option_map (code_of w.infos) (slice_get w.methods n) ≡ Some code = cc in
+    let mo : IsMethodOf w m = of-method w n rec code c.method-rec.ensures.is bytes (IsMethodOf w) c.in-Ok.ensures.known in
+    let flow : IsControlFlow m c.in-Ok.control = of-method w n rec code c.method-rec.ensures.is bytes (λ m. IsControlFlow m c.in-Ok.control) c.in-Ok.ensures.formed in
+    let typed : IsTypingOf w m c.args.typing.now = of-method w n rec code c.method-rec.ensures.is bytes (λ m. IsTypingOf w m c.args.typing.now) c.requires.typing in
+    to-method w n rec code c.method-rec.ensures.is bytes (λ m. All (IsItem m.code c.in-Ok-rewritten.symbols.items) c.in-Ok-rewritten.symbols.items)
+    (items-by w m c.args.typing.now c.in-Ok.control c.args.homes.now typed flow (c.instructions_are_placed.ensures m typed.least.typing.formed) (c.instructions_are_listed.ensures code) mo
+    c.method-rec.ensures.links c.are_bytes.ensures c.in-Ok-rewritten.symbols c.in-Ok-rewritten.ensures c.items_suit.ensures c.are_few.ensures)
+
+pub returns-in-Ok-rewritten-clause-small : goal.returns-in-Ok-rewritten-clause-small
+returns-in-Ok-rewritten-clause-small c =
+    let w = c.args.world.now in
+    let n = c.args.method in
+    let rec = c.method-rec.result.now in
+    let code = c.of-code.result.bytes.now in
+    let m : Method = record { number = n; rec = rec; code = code } in
+    let bytes : option_map (code_of w.infos) (slice_get w.methods n) ≡ Some code = cc in
+    let mo : IsMethodOf w m = of-method w n rec code c.method-rec.ensures.is bytes (IsMethodOf w) c.in-Ok.ensures.known in
+    let flow : IsControlFlow m c.in-Ok.control = of-method w n rec code c.method-rec.ensures.is bytes (λ m. IsControlFlow m c.in-Ok.control) c.in-Ok.ensures.formed in
+    let typed : IsTypingOf w m c.args.typing.now = of-method w n rec code c.method-rec.ensures.is bytes (λ m. IsTypingOf w m c.args.typing.now) c.requires.typing in
+    let are : AreHomes w m (state_at c.args.typing.now) c.args.homes.now = of-method w n rec code c.method-rec.ensures.is bytes (λ m. AreHomes w m (state_at c.args.typing.now) c.args.homes.now) c.requires.homes in
+    small-by w m c.args.typing.now c.in-Ok.control c.args.homes.now typed flow (c.instructions_are_placed.ensures m typed.least.typing.formed) (c.instructions_are_listed.ensures code) mo
+    c.method-rec.ensures.links c.are_bytes.ensures c.in-Ok-rewritten.symbols c.in-Ok-rewritten.ensures c.plain_size_fits.ensures are c.are_few.ensures c.is_a_byte.ensures

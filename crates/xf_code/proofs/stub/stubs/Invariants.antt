@@ -2,7 +2,7 @@ use Rattle.std.proofs.Common.{◌≡◌, ◌++◌, flat_map}
 use Rattle.jc_decode.specs.Instructions.{rest_of}
 use Rattle.jc_decode.specs.Listing.{listing}
 use Rattle.xf_plan.specs.Subject.{source}
-use Rattle.xf_code.specs.Emission.{stubs}
+use Rattle.xf_emission.specs.Emission.{stubs}
 use Rattle.xf_code.proofs.stub.stubs.Given as goal
 
 abbrev pub invariant-walk : goal.invariant-walk

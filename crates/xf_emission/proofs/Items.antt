@@ -1,0 +1,123 @@
+-- The items of a rewritten method are such as are laid.
+use Rattle.std.proofs.Common.{◌≡◌, ◌≢◌, ◌⊎◌, ℕ, zero, suc, ◌+◌, ◌-◌, ◌<◌, ◌≤◌, Bool, true, false, if◌then◌else◌, inl, inr, List, [], ◌∷◌, ◌++◌, map, reverse, flat_map, length, All, Contains, Option, Some, None, Result, Ok, Err, refl, sym, ◌∙◌, ap, subst, arith, lit<}
+use Rattle.std.specs.Prelude.{ℤ, pos, negsuc, not, ◌==◌, is_some, slice_get, IsTrue, IsSome}
+use Rattle.std.proofs.lemmas.List.{length-map}
+use Rattle.std.proofs.lemmas.List.Elements.{All-contains}
+use Rattle.jc_base.specs.Each.{Each}
+use Rattle.jc_base.specs.declared.ty.Kind.{Kind}
+use Rattle.jc_base.specs.declared.ty.Kind.TheVariants as kinds
+use Rattle.jc_base.specs.declared.ty.Ty.{Ty}
+use Rattle.jc_base.specs.declared.ty.Ty.TheVariants.{Short, IntHigh}
+use Rattle.jc_base.specs.declared.record.Handler.{Handler}
+use Rattle.jc_decode.specs.declared.insn.Placed.{Placed}
+use Rattle.jc_decode.specs.declared.symbols.Item.{Item}
+use Rattle.jc_decode.specs.declared.symbols.Item.TheVariants.{Plain, Branch, Switch, Label}
+use Rattle.jc_decode.specs.Layout.{layout_of, opcode}
+use Rattle.jc_decode.specs.Encoding.{IsAllowed}
+use Rattle.jc_decode.specs.Listing.{jumps}
+use Rattle.jc_decode.specs.Symbols.{IsItem}
+use Rattle.jc_ops.specs.declared.operation.Sort.{Sort}
+use Rattle.jc_ops.specs.declared.operation.Sort.TheVariants as sorts
+use Rattle.xf_homes.specs.declared.home.Home.{Home}
+use Rattle.xf_homes.specs.Home.{register_count}
+use Rattle.xf_homes.specs.Walk.{has, same_home}
+use Rattle.xf_plan.specs.Source.{Source}
+use Rattle.xf_plan.specs.Plan.{register, cells, needed}
+use Rattle.jc_ops.specs.declared.operation.Operation.{Operation}
+use Rattle.xf_emission.specs.declared.origin.Origin.{Origin}
+use Rattle.xf_emission.specs.declared.origin.Origin.TheVariants.{After}
+use Rattle.xf_emission.specs.Move.{with_byte, load_op, store_op, load, store, copy, loads, spill}
+use Rattle.xf_emission.specs.Edge.{home_before, held, copy_new, copies_from, local_copies, locals_copies, copies, cell_copies}
+use Rattle.xf_emission.specs.Jump.{under, taken}
+use Rattle.xf_emission.specs.Group.{popped, swap_words}
+
+-- ---- lists
+
+pub each-append : {X : Type 0} (P : X → Type 0) (xs ys : List X) → Each P xs → Each P ys → Each P (xs ++ ys)
+each-append P [] ys a b = b
+each-append P (x ∷ xs) ys a b = (a.0, each-append P xs ys a.1 b)
+
+pub each-if : {X : Type 0} (P : X → Type 0) (b : Bool) (xs ys : List X) → Each P xs → Each P ys → Each P (if b then xs else ys)
+each-if P true xs ys a b = a
+each-if P false xs ys a b = b
+
+pub each-flat : {X Y : Type 0} (P : Y → Type 0) (f : X → List Y) (xs : List X) → ((x : X) → Each P (f x)) → Each P (flat_map f xs)
+each-flat P f [] h = tt
+each-flat P f (x ∷ xs) h = each-append P (f x) (flat_map f xs) (h x) (each-flat P f xs h)
+
+pub each-map : {X Y : Type 0} (P : Y → Type 0) (f : X → Y) (xs : List X) → ((x : X) → P (f x)) → Each P (map f xs)
+each-map P f [] h = tt
+each-map P f (x ∷ xs) h = (h x, each-map P f xs h)
+
+-- ---- moves and copies
+
+module _ (code : List ℕ) (all : List Item) (s : Source) (small : (h : Home) → register s h < 256) where
+  load-by : (t : Ty) (r : ℕ) → r < 256 → IsItem code all (Plain (with_byte (load_op t) r))
+  unfolding layout_of opcode
+  load-by Short r lt = (((lt, refl), (refl, refl), (refl, refl)), refl)
+  load-by IntHigh r lt = (((lt, refl), (refl, refl), (refl, refl)), refl)
+  load-by t r lt = (((lt, refl), (refl, refl), (refl, refl)), refl)
+
+  store-by : (t : Ty) (r : ℕ) → r < 256 → IsItem code all (Plain (with_byte (store_op t) r))
+  unfolding layout_of opcode
+  store-by Short r lt = (((lt, refl), (refl, refl), (refl, refl)), refl)
+  store-by IntHigh r lt = (((lt, refl), (refl, refl), (refl, refl)), refl)
+  store-by t r lt = (((lt, refl), (refl, refl), (refl, refl)), refl)
+
+  pub load-suits : (h : Home) → IsItem code all (load s h)
+  load-suits h = load-by h.ty (register s h) (small h)
+
+  pub store-suits : (h : Home) → IsItem code all (store s h)
+  store-suits h = store-by h.ty (register s h) (small h)
+
+  pub copy-suits : (from to : Home) → Each (IsItem code all) (copy s from to)
+  copy-suits from to = (load-suits from, (store-suits to, tt))
+
+  pub loads-suit : (hs : List Home) → Each (IsItem code all) (loads s hs)
+  loads-suit hs = each-map (IsItem code all) (load s) hs load-suits
+
+  pub spill-suits : (hs : List Home) → Each (IsItem code all) (spill s hs)
+  unfolding spill
+  spill-suits hs = each-map (IsItem code all) (store s) (reverse hs) store-suits
+
+  module _ (o : Origin) (q : ℕ) where
+    local-suits : (x : ℕ) → Each (IsItem code all) (local_copies s o q x)
+    unfolding local_copies
+    local-suits x = by (home_before s o x)
+      where
+        by : (h : Option Home) → Each (IsItem code all) (copies_from s o q x h)
+        by None = tt
+        by (Some from) = each-flat (IsItem code all) (copy_new s from (held s o x from)) (needed s q x)
+            (λ to. each-if (IsItem code all) (has (held s o x from) to) [] (copy s from to) tt (copy-suits from to))
+
+    locals-suit : (x n : ℕ) → Each (IsItem code all) (locals_copies s o q x n)
+    locals-suit x zero = tt
+    locals-suit x (suc n) = each-append (IsItem code all) (local_copies s o q x) (locals_copies s o q (suc x) n) (local-suits x) (locals-suit (suc x) n)
+
+    pub copies-suit : Each (IsItem code all) (copies s o q)
+    unfolding copies
+    copies-suit = locals-suit 0 (register_count s.method.rec)
+
+  pub cells-suit : (hs ks : List Home) → Each (IsItem code all) (cell_copies s hs ks)
+  cells-suit [] ks = tt
+  cells-suit (h ∷ hs) [] = tt
+  cells-suit (h ∷ hs) (k ∷ ks) =
+      each-append (IsItem code all) (if same_home h k then [] else copy s h k) (cell_copies s hs ks)
+      (each-if (IsItem code all) (same_home h k) [] (copy s h k) tt (copy-suits h k)) (cells-suit hs ks)
+
+  pub taken-suits : (p : ℕ) (op : Operation) (n q : ℕ) → Each (IsItem code all) (taken s p op n q)
+  unfolding taken
+  taken-suits p op n q =
+      each-append (IsItem code all) (cell_copies s (under s p n) (cells s q)) (copies s (After p op) q) (cells-suit (under s p n) (cells s q)) (copies-suit (After p op) q)
+
+  -- ---- what is emitted beside
+
+  pub popped-suits : (letter : Sort) → IsItem code all (popped letter)
+  unfolding layout_of opcode
+  popped-suits sorts.Int = (((refl, refl), (refl, refl), (refl, refl)), refl)
+  popped-suits letter = (((refl, refl), (refl, refl), (refl, refl)), refl)
+
+  pub swap-suits : (k : Kind) → IsItem code all (Plain (with_byte 64 (swap_words k)))
+  unfolding layout_of opcode
+  swap-suits kinds.Int = (((lit< tt, refl), (refl, refl), (refl, refl)), refl)
+  swap-suits k = (((lit< tt, refl), (refl, refl), (refl, refl)), refl)

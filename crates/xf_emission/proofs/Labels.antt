@@ -1,0 +1,228 @@
+-- The labels among the items of a rewritten method, in their order.
+use Rattle.std.proofs.Common.{◌≡◌, ℕ, zero, suc, ◌+◌, Bool, true, false, if◌then◌else◌, List, [], ◌∷◌, ◌++◌, map, reverse, flat_map, Option, Some, None, Result, Ok, Err, refl, sym, ◌∙◌, ap, arith}
+use Rattle.std.specs.Prelude.{ℤ, count_by, cond, ◌==◌, is_some}
+use Rattle.std.proofs.lemmas.List.Sums.{sum_by-cons}
+use Rattle.jc_base.specs.declared.record.Handler.{Handler}
+use Rattle.jc_base.specs.declared.ty.Kind.{Kind}
+use Rattle.jc_decode.specs.declared.insn.Placed.{Placed}
+use Rattle.jc_decode.specs.declared.symbols.Item.{Item}
+use Rattle.jc_decode.specs.declared.symbols.Item.TheVariants.{Plain, Branch, Switch, Label}
+use Rattle.jc_decode.specs.Symbols.{is_label}
+use Rattle.jc_ops.specs.declared.fault.RuleFault.{RuleFault}
+use Rattle.jc_ops.specs.declared.operation.Branch.TheVariants as branches
+use Rattle.jc_ops.specs.declared.operation.Holder.TheVariants as holders
+use Rattle.jc_ops.specs.declared.operation.Sort.{Sort}
+use Rattle.jc_ops.specs.declared.operation.Sort.TheVariants as sorts
+use Rattle.jc_ops.specs.declared.operation.Operation.{Operation}
+use Rattle.jc_ops.specs.declared.operation.Operation.TheVariants as ops
+use Rattle.jc_ops.specs.Next.{falls_from}
+use Rattle.jc_rules.specs.Demand.{Frame}
+use Rattle.xf_homes.specs.declared.home.Home.{Home}
+use Rattle.xf_homes.specs.Home.{register_count}
+use Rattle.xf_homes.specs.Walk.{has, same_home, operands_of}
+use Rattle.xf_plan.specs.Source.{Source}
+use Rattle.xf_plan.specs.Plan.{cells, needed, local, is_leader, operation}
+use Rattle.xf_emission.specs.declared.origin.Origin.{Origin}
+use Rattle.xf_emission.specs.declared.origin.Origin.TheVariants.{After, Entry}
+use Rattle.xf_emission.specs.Move.{store, copy, loads, spill}
+use Rattle.xf_emission.specs.Edge.{home_before, held, copy_new, copies_from, local_copies, locals_copies, copies, cell_copies}
+use Rattle.xf_emission.specs.Jump.{under, operands, is_over, spill_if, taken, jump_to, branch, goto, place, stub_label, stub_of, stub, handler_label}
+use Rattle.xf_emission.specs.Group.{kept, loaded, increased, popped, stored, stays, field_read, field_written, gone, branch_by, body, fall, fall_over, fall_by, fallen, done, group_by, group}
+use Rattle.xf_emission.specs.Emission.{caught}
+
+-- the numbers of the labels
+abbrev pub labels : List Item → List ℕ
+labels [] = []
+labels (Label l ∷ items) = l ∷ labels items
+labels (Plain i ∷ items) = labels items
+labels (Branch op l ∷ items) = labels items
+labels (Switch i at ls ∷ items) = labels items
+
+pub labels-append : (xs ys : List Item) → labels (xs ++ ys) ≡ labels xs ++ labels ys
+labels-append [] ys = refl
+labels-append (Label l ∷ xs) ys = ap (λ ls. l ∷ ls) (labels-append xs ys)
+labels-append (Plain i ∷ xs) ys = labels-append xs ys
+labels-append (Branch op l ∷ xs) ys = labels-append xs ys
+labels-append (Switch i at ls ∷ xs) ys = labels-append xs ys
+
+-- two lists without labels
+pub none-both : (xs ys : List Item) → labels xs ≡ [] → labels ys ≡ [] → labels (xs ++ ys) ≡ []
+none-both xs ys a b = labels-append xs ys ∙ ap (λ ls. ls ++ labels ys) a ∙ b
+
+none-if : (b : Bool) (xs ys : List Item) → labels xs ≡ [] → labels ys ≡ [] → labels (if b then xs else ys) ≡ []
+none-if true xs ys a b = a
+none-if false xs ys a b = b
+
+none-flat : {X : Type 0} (f : X → List Item) (xs : List X) → ((x : X) → labels (f x) ≡ []) → labels (flat_map f xs) ≡ []
+none-flat f [] h = refl
+none-flat f (x ∷ xs) h = none-both (f x) (flat_map f xs) (h x) (none-flat f xs h)
+
+-- ---- moves and copies
+
+pub loads-none : (s : Source) (hs : List Home) → labels (loads s hs) ≡ []
+loads-none s [] = refl
+loads-none s (h ∷ hs) = loads-none s hs
+
+stores-none : (s : Source) (hs : List Home) → labels (map (store s) hs) ≡ []
+stores-none s [] = refl
+stores-none s (h ∷ hs) = stores-none s hs
+
+pub spill-none : (s : Source) (hs : List Home) → labels (spill s hs) ≡ []
+unfolding spill
+spill-none s hs = stores-none s (reverse hs)
+
+module _ (s : Source) (o : Origin) (q : ℕ) where
+  local-none : (x : ℕ) → labels (local_copies s o q x) ≡ []
+  unfolding local_copies
+  local-none x = by (home_before s o x)
+    where
+      new : (from : Home) (there : List Home) (to : Home) → labels (copy_new s from there to) ≡ []
+      new from there to = none-if (has there to) [] (copy s from to) refl refl
+
+      by : (h : Option Home) → labels (copies_from s o q x h) ≡ []
+      by None = refl
+      by (Some from) = none-flat (copy_new s from (held s o x from)) (needed s q x) (new from (held s o x from))
+
+  locals-none : (x n : ℕ) → labels (locals_copies s o q x n) ≡ []
+  locals-none x zero = refl
+  locals-none x (suc n) = none-both (local_copies s o q x) (locals_copies s o q (suc x) n) (local-none x) (locals-none (suc x) n)
+
+  pub copies-none : labels (copies s o q) ≡ []
+  unfolding copies
+  copies-none = locals-none 0 (register_count s.method.rec)
+
+cells-none : (s : Source) (hs ks : List Home) → labels (cell_copies s hs ks) ≡ []
+cells-none s [] ks = refl
+cells-none s (h ∷ hs) [] = refl
+cells-none s (h ∷ hs) (k ∷ ks) = none-both (if same_home h k then [] else copy s h k) (cell_copies s hs ks) (none-if (same_home h k) [] (copy s h k) refl refl) (cells-none s hs ks)
+
+pub taken-none : (s : Source) (p : ℕ) (op : Operation) (n q : ℕ) → labels (taken s p op n q) ≡ []
+unfolding taken
+taken-none s p op n q = none-both (cell_copies s (under s p n) (cells s q)) (copies s (After p op) q) (cells-none s (under s p n) (cells s q)) (copies-none s (After p op) q)
+
+-- ---- instructions
+
+module _ (s : Source) (i : Placed) where
+  jump-none : (op : Operation) (ls : List ℕ) → labels (jump_to i op ls ∷ []) ≡ []
+  jump-none (ops.Switch width) ls = refl
+  jump-none op ls = refl
+
+  branch-none : (op : Operation) (n : ℕ) → labels (branch s i op n) ≡ []
+  unfolding branch
+  branch-none op n =
+      none-both (spill_if (is_over s i.place n) s i.place n) (jump_to i op _ ∷ [])
+      (none-if (is_over s i.place n) (spill s (cells s i.place) ++ loads s (operands s i.place n)) [] (none-both (spill s (cells s i.place)) (loads s (operands s i.place n)) (spill-none s (cells s i.place)) (loads-none s (operands s i.place n))) refl)
+      (jump-none op _)
+
+  loaded-none : (h : Option Home) → labels (loaded s i h) ≡ []
+  loaded-none None = refl
+  loaded-none (Some h) = refl
+
+  increased-none : (h : Option Home) → labels (increased s i h) ≡ []
+  increased-none None = refl
+  increased-none (Some h) = refl
+
+  popped-none : (letter : Sort) → labels (popped letter ∷ []) ≡ []
+  popped-none sorts.Int = refl
+  popped-none letter = refl
+
+  stored-none : (letter : Sort) (hs : List Home) → labels (stored s letter hs) ≡ []
+  stored-none letter [] = popped-none letter
+  stored-none letter (h ∷ hs) = none-flat (copy s h) hs (λ k. refl)
+
+  read-none : (h : Option Home) → labels (field_read s i h) ≡ []
+  read-none None = refl
+  read-none (Some h) = none-if (stays s h) (kept i) _ refl refl
+
+  written-none : (k : Kind) (h : Option Home) → labels (field_written s i k h) ≡ []
+  written-none k None = refl
+  written-none k (Some h) = none-if (stays s h) (kept i) _ refl refl
+
+  gone-none : (op : Operation) (q : ℕ) → labels (gone s i.place op q) ≡ []
+  gone-none op q =
+      none-both (spill s (cells s q)) (copies s (After i.place op) q ++ goto q ∷ []) (spill-none s (cells s q))
+      (none-both (copies s (After i.place op) q) (goto q ∷ []) (copies-none s (After i.place op) q) refl)
+
+  by-none : (op : Operation) (n : Option ℕ) → labels (branch_by s i op n) ≡ []
+  by-none op None = refl
+  by-none op (Some n) = branch-none op n
+
+  pub body-none : (op : Operation) → labels (body s i op) ≡ []
+  unfolding body
+  body-none (ops.Load letter x) = loaded-none (local s i.place x)
+  body-none (ops.Increment width x amount) = increased-none (local s i.place x)
+  body-none (ops.Store letter x) = stored-none letter (needed s (i.place + i.insn.len) x)
+  body-none (ops.FieldRead f holders.This) = read-none (local s i.place 0)
+  body-none (ops.FieldWrite f holders.This) = written-none f.kind (local s i.place 0)
+  body-none (ops.Branch branches.Always) = gone-none (ops.Branch branches.Always) _
+  body-none op = by-none op (operands_of s.world (Ok op))
+
+  fall-none : (op : Operation) (q : ℕ) → labels (fall s i.place op q) ≡ []
+  fall-none op q =
+      none-both (if is_leader s q then spill s (cells s q) else []) (copies s (After i.place op) q)
+      (none-if (is_leader s q) (spill s (cells s q)) [] (spill-none s (cells s q)) refl)
+      (copies-none s (After i.place op) q)
+
+  over-none : (op : Operation) (n q : ℕ) → labels (fall_over s i.place op n q) ≡ []
+  over-none op n q =
+      none-if (is_leader s q) (taken s i.place op n q) (copies s (After i.place op) q ++ loads s (under s i.place n)) (taken-none s i.place op n q)
+      (none-both (copies s (After i.place op) q) (loads s (under s i.place n)) (copies-none s (After i.place op) q) (loads-none s (under s i.place n)))
+
+  fall-by-none : (op : Operation) (n : Option ℕ) (q : ℕ) → labels (fall_by s i.place op n q) ≡ []
+  fall-by-none op None q = fall-none op q
+  fall-by-none op (Some n) q = none-if (is_over s i.place n) (fall_over s i.place op n q) (fall s i.place op q) (over-none op n q) (fall-none op q)
+
+  pub fallen-none : (op : Operation) → labels (fallen s i op) ≡ []
+  unfolding fallen
+  fallen-none op = none-if (falls_from op) (fall_by s i.place op (operands_of s.world (Ok op)) (i.place + i.insn.len)) [] (fall-by-none op (operands_of s.world (Ok op)) (i.place + i.insn.len)) refl
+
+  -- ---- groups
+
+  done-none : (r : Result Operation RuleFault) → labels (done s i r) ≡ []
+  done-none (Err fault) = refl
+  done-none (Ok op) = none-both (body s i op) (fallen s i op) (body-none op) (fallen-none op)
+
+  -- a group has the label of its place alone
+  pub group-label : labels (group s i) ≡ (if is_some (s.frames i.place) then i.place ∷ [] else [])
+  unfolding group
+  group-label = by (s.frames i.place)
+    where
+      by : (f : Option Frame) → labels (group_by s i f) ≡ (if is_some f then i.place ∷ [] else [])
+      by None = refl
+      by (Some f) =
+          ap (λ ls. i.place ∷ ls)
+          (none-both (if is_leader s i.place then loads s (cells s i.place) else []) (done s i (operation s i))
+          (none-if (is_leader s i.place) (loads s (cells s i.place)) [] (loads-none s (cells s i.place)) refl) (done-none (operation s i)))
+
+-- ---- stubs
+
+abbrev pub label_if : List Item → ℕ → List ℕ
+label_if [] l = []
+label_if (i ∷ is) l = l ∷ []
+
+pub stub-label : (s : Source) (p : ℕ) (op : Operation) (n k : ℕ) (t : ℤ) → labels (stub s p op n k t) ≡ label_if (taken s p op n (place t)) (stub_label p k)
+unfolding stub
+stub-label s p op n k t = by (taken s p op n (place t)) (taken-none s p op n (place t))
+  where
+    by : (copied : List Item) → labels copied ≡ [] → labels (stub_of (stub_label p k) (place t) copied) ≡ label_if copied (stub_label p k)
+    by [] e = refl
+    by (i ∷ is) e = ap (λ ls. stub_label p k ∷ ls) (none-both (i ∷ is) (goto (place t) ∷ []) e refl)
+
+pub caught-label : (s : Source) (n : ℕ) (h : Handler) → labels (caught s n h) ≡ handler_label n ∷ []
+caught-label s n h =
+    ap (λ ls. handler_label n ∷ ls)
+    (none-both (spill s (cells s h.entry)) (copies s (Entry h.entry) h.entry ++ goto h.entry ∷ []) (spill-none s (cells s h.entry))
+    (none-both (copies s (Entry h.entry) h.entry) (goto h.entry ∷ []) (copies-none s (Entry h.entry) h.entry) refl))
+
+-- ---- counting
+
+is-it : (m l : ℕ) (xs : List Item) → count_by (is_label l) (Label m ∷ xs) ≡ cond (m == l) 1 0 + count_by (is_label l) xs
+is-it m l xs = sum_by-cons (λ x. cond (is_label l x) 1 0) (Label m) xs
+
+-- a label occurs as often as its number
+pub count-labels : (l : ℕ) (xs : List Item) → count_by (is_label l) xs ≡ count_by (λ m. m == l) (labels xs)
+count-labels l [] = refl
+count-labels l (Label m ∷ xs) = sum_by-cons (λ x. cond (is_label l x) 1 0) (Label m) xs ∙ ap (λ k. cond (m == l) 1 0 + k) (count-labels l xs) ∙ sym (sum_by-cons (λ x. cond (x == l) 1 0) m (labels xs))
+count-labels l (Plain i ∷ xs) = sum_by-cons (λ x. cond (is_label l x) 1 0) (Plain i) xs ∙ omega (arith, count-labels l xs)
+count-labels l (Branch op m ∷ xs) = sum_by-cons (λ x. cond (is_label l x) 1 0) (Branch op m) xs ∙ omega (arith, count-labels l xs)
+count-labels l (Switch i at ls ∷ xs) = sum_by-cons (λ x. cond (is_label l x) 1 0) (Switch i at ls) xs ∙ omega (arith, count-labels l xs)

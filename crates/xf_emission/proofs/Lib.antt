@@ -1,0 +1,16 @@
+pub mod Live
+pub mod Labels
+pub mod Rises
+pub mod TwoBytes
+pub mod Stubs
+pub mod Once
+pub mod Standing
+pub mod Landing
+pub mod Ranged
+pub mod Items
+pub mod RowByRow
+pub mod Forms
+pub mod Suited
+pub mod Laying
+pub mod Fewer
+pub mod PlainSizes

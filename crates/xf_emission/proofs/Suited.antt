@@ -1,0 +1,287 @@
+-- What is emitted for an instruction, on the edges of a branch and where a handler takes over may be laid.
+use Rattle.std.proofs.Common.{◌≡◌, ◌≢◌, ◌⊎◌, ℕ, zero, suc, ◌+◌, ◌-◌, ◌<◌, ◌≤◌, Bool, true, false, if◌then◌else◌, inl, inr, List, [], ◌∷◌, ◌++◌, map, flat_map, length, All, Contains, Option, Some, None, Result, Ok, Err, refl, sym, ◌∙◌, ap, subst, arith}
+use Rattle.std.specs.Prelude.{ℤ, pos, negsuc, not, is_some, nat_lt, slice_get, IsTrue}
+use Rattle.std.proofs.lemmas.List.{length-map}
+use Rattle.std.proofs.lemmas.List.Elements.{All-contains}
+use Rattle.jc_base.specs.Each.{Each}
+use Rattle.jc_base.specs.declared.ty.Kind.{Kind}
+use Rattle.jc_base.specs.declared.record.Handler.{Handler}
+use Rattle.jc_decode.specs.declared.insn.Placed.{Placed}
+use Rattle.jc_decode.specs.declared.symbols.Item.{Item}
+use Rattle.jc_decode.specs.declared.symbols.Item.TheVariants.{Plain, Branch, Switch, Label}
+use Rattle.jc_decode.specs.Cases.{cases, with_default, is_switch}
+use Rattle.jc_decode.specs.Decoding.{decoded}
+use Rattle.jc_decode.specs.Encoding.{IsAllowed}
+use Rattle.jc_decode.specs.Forms.{is_wide_jump, wide}
+use Rattle.jc_decode.specs.Layout.{layout_of}
+use Rattle.jc_decode.specs.Listing.{jumps, is_branch, listing, target, targets}
+use Rattle.jc_decode.specs.Symbols.{IsItem, IsOnce}
+use Rattle.jc_ops.specs.Next.{falls_from, jumps_from}
+use Rattle.jc_ops.specs.declared.fault.RuleFault.{RuleFault}
+use Rattle.jc_ops.specs.declared.operation.Branch.TheVariants as branches
+use Rattle.jc_ops.specs.declared.operation.Holder.TheVariants as holders
+use Rattle.jc_ops.specs.declared.operation.InstanceField.{InstanceField}
+use Rattle.jc_ops.specs.declared.operation.Sort.{Sort}
+use Rattle.jc_ops.specs.declared.operation.Operation.{Operation}
+use Rattle.jc_ops.specs.declared.operation.Operation.TheVariants as ops
+use Rattle.jc_rules.specs.Demand.{Frame}
+use Rattle.xf_homes.specs.declared.home.Home.{Home}
+use Rattle.xf_homes.specs.Walk.{operands_of}
+use Rattle.xf_plan.specs.Source.{Source}
+use Rattle.xf_plan.specs.Plan.{register, local, needed, cells, is_leader, operation}
+use Rattle.xf_emission.specs.declared.origin.Origin.TheVariants.{Start, After, Entry}
+use Rattle.xf_emission.specs.Move.{with_byte, load, store, copy, loads, spill}
+use Rattle.xf_emission.specs.Edge.{copies}
+use Rattle.xf_emission.specs.Jump.{under, operands, is_over, spill_if, taken, place, lead, leads, first_label, jump_to, branch, goto, stub, stub_of, stub_label, stubs_of, handler_label}
+use Rattle.xf_emission.specs.Group.{kept, loaded, increased, popped, stored, stays, field_read, field_written, swap_words, gone, first_place, branch_by, body, fall, fall_over, fall_by, fallen, entered, done, group_by, group}
+use Rattle.xf_emission.specs.Emission.{stubs, stubs_at, stubs_by, stubs_done, is_live, caught, caught_from, items}
+use Rattle.xf_emission.proofs.RowByRow.{op_kind, branching_kind, switching}
+use Rattle.xf_emission.proofs.Forms.{suits_kind, first_u1, only_u1, other-register, other-opcode, parts}
+use Rattle.xf_emission.proofs.Standing.{each-all}
+use Rattle.xf_emission.proofs.Items.{each-append, each-if, each-flat, load-suits, store-suits, copy-suits, loads-suit, spill-suits, copies-suit, taken-suits, popped-suits, swap-suits}
+
+not-true : (b : Bool) → not b ≡ true → b ≡ false
+not-true false e = refl
+not-true true e = absurd (cc)
+
+-- an instruction that is allowed, with its operation, in code whose labels stand once
+pub record IsEmitted (all : List Item) (s : Source) (i : Placed) (op : Operation) : Type 0 where
+  pub allowed : IsAllowed i.insn
+  pub decodes : decoded s.method.code i.place ≡ Ok i.insn
+  pub alike : jumps_from op ≡ jumps i.insn.op
+  pub suits : suits_kind i.insn.op (op_kind op) ≡ true
+  -- each of its targets, and the way to each, has a label that stands once
+  pub ways : (n k : ℕ) (t : ℤ) → operands_of s.world (Ok op) ≡ Some n → slice_get (targets s.method.code i) k ≡ Some t → IsOnce all (lead s i.place op n k t)
+  pub places : (k : ℕ) (t : ℤ) → slice_get (targets s.method.code i) k ≡ Some t → IsOnce all (place t)
+
+module _ (all : List Item) (s : Source) (small : (h : Home) → register s h < 256) where
+  module _ (i : Placed) (op : Operation) (e : IsEmitted all s i op) where
+    kept-suits : jumps_from op ≡ false → Each (IsItem s.method.code all) (kept i)
+    kept-suits j = ((e.allowed, ap not (sym e.alike ∙ j)), tt)
+
+    loaded-suits : jumps_from op ≡ false → (h : Option Home) → Each (IsItem s.method.code all) (loaded s i h)
+    loaded-suits j None = kept-suits j
+    loaded-suits j (Some h) = (load-suits s.method.code all s small h, tt)
+
+    increased-suits : jumps_from op ≡ false → first_u1 (layout_of i.insn.op) ≡ true → (h : Option Home) → Each (IsItem s.method.code all) (increased s i h)
+    increased-suits j u None = kept-suits j
+    increased-suits j u (Some h) = ((other-register i.insn (register s h) u (small h) e.allowed, ap not (sym e.alike ∙ j)), tt)
+
+    stored-suits : (letter : Sort) (hs : List Home) → Each (IsItem s.method.code all) (stored s letter hs)
+    stored-suits letter [] = (popped-suits s.method.code all s small letter, tt)
+    stored-suits letter (h ∷ hs) = (store-suits s.method.code all s small h, each-flat (IsItem s.method.code all) (copy s h) hs (λ k. copy-suits s.method.code all s small h k))
+
+    read-suits : jumps_from op ≡ false → only_u1 (layout_of i.insn.op) ≡ true → (only_u1 (layout_of (i.insn.op - 42)) ≡ true) × (not (jumps (i.insn.op - 42)) ≡ true) → (h : Option Home)
+        → Each (IsItem s.method.code all) (field_read s i h)
+    read-suits j u v None = kept-suits j
+    read-suits j u v (Some h) =
+        each-if (IsItem s.method.code all) (stays s h) (kept i) _ (kept-suits j)
+        (load-suits s.method.code all s small h, ((other-opcode i.insn (i.insn.op - 42) u v.0 e.allowed, v.1), tt))
+
+    written-suits : jumps_from op ≡ false → only_u1 (layout_of i.insn.op) ≡ true → (only_u1 (layout_of (i.insn.op - 46)) ≡ true) × (not (jumps (i.insn.op - 46)) ≡ true) → (k : Kind) (h : Option Home)
+        → Each (IsItem s.method.code all) (field_written s i k h)
+    written-suits j u v k None = kept-suits j
+    written-suits j u v k (Some h) =
+        each-if (IsItem s.method.code all) (stays s h) (kept i) _ (kept-suits j)
+        (load-suits s.method.code all s small h, (swap-suits s.method.code all s small k, ((other-opcode i.insn (i.insn.op - 46) u v.0 e.allowed, v.1), tt)))
+
+    -- ---- jumps
+
+    leads-once : (n k : ℕ) (ts : List ℤ) → ((j : ℕ) (t : ℤ) → slice_get ts j ≡ Some t → IsOnce all (lead s i.place op n (k + j) t)) → Each (IsOnce all) (leads s i.place op n k ts)
+    leads-once n k [] h = tt
+    leads-once n k (t ∷ ts) h =
+        let here : k + 0 ≡ k = omega arith in (
+          subst (λ (j : ℕ). IsOnce all (lead s i.place op n j t)) here (h 0 t refl),
+          leads-once n (suc k) ts (λ j u at. let next : k + suc j ≡ suc k + j = omega arith in subst (λ (m : ℕ). IsOnce all (lead s i.place op n m u)) next (h (suc j) u at)),
+        )
+
+    leads-length : (n k : ℕ) (ts : List ℤ) → length (leads s i.place op n k ts) ≡ length ts
+    leads-length n k [] = refl
+    leads-length n k (t ∷ ts) = ap suc (leads-length n (suc k) ts)
+
+    first-once : (ls : List ℕ) (m : ℕ) → length ls ≡ suc m → Each (IsOnce all) ls → IsOnce all (first_label ls)
+    first-once [] m e o = absurd (cc)
+    first-once (l ∷ ls) m e o = o.0
+
+    ways-once : (n : ℕ) → operands_of s.world (Ok op) ≡ Some n → Each (IsOnce all) (leads s i.place op n 0 (targets s.method.code i))
+    ways-once n asks = leads-once n 0 (targets s.method.code i) (λ j t at. let same : j ≡ 0 + j = omega arith in subst (λ (m : ℕ). IsOnce all (lead s i.place op n m t)) same (e.ways n j t asks at))
+
+    target-count : jumps i.insn.op ≡ true → length (targets s.method.code i) ≡ length (cases s.method.code i.place i.insn) + 1
+    unfolding targets
+    target-count j =
+        ap (λ (b : Bool). length (if b then target i.place i.insn.x ∷ map (λ c. target i.place c.offset) (cases s.method.code i.place i.insn) else [])) j
+        ∙ omega (arith, length-map (cases s.method.code i.place i.insn) (λ c. target i.place c.offset))
+
+    jump-suits : (n : ℕ) → operands_of s.world (Ok op) ≡ Some n → jumps_from op ≡ true → IsItem s.method.code all (jump_to i op (leads s i.place op n 0 (targets s.method.code i)))
+    jump-suits n asks j = by op refl j
+      where
+        jumping : jumps i.insn.op ≡ true
+        jumping = sym e.alike ∙ j
+
+        ls : List ℕ
+        ls = leads s i.place op n 0 (targets s.method.code i)
+
+        count : length ls ≡ length (cases s.method.code i.place i.insn) + 1
+        count = leads-length n 0 (targets s.method.code i) ∙ target-count jumping
+
+        switch-suits : op_kind op ≡ switching → IsItem s.method.code all (Switch i.insn i.place ls)
+        switch-suits k =
+            let is : is_switch i.insn.op ≡ true = ap (suits_kind i.insn.op) (sym k) ∙ e.suits in
+            let own : with_default i.insn.x (decoded s.method.code i.place) ≡ Ok i.insn = ap (with_default i.insn.x) e.decodes in
+            (is, own, count, each-all (IsOnce all) ls (ways-once n asks))
+
+        branch-suits : op_kind op ≡ branching_kind → IsItem s.method.code all (Branch (wide i.insn.op) (first_label ls))
+        branch-suits k =
+            let is = parts (is_branch i.insn.op) (is_wide_jump (wide i.insn.op)) (ap (suits_kind i.insn.op) (sym k) ∙ e.suits) in
+            let more : length ls ≡ suc (length (cases s.method.code i.place i.insn)) = omega (arith, count) in
+            (is.1, first-once ls (length (cases s.method.code i.place i.insn)) more (ways-once n asks))
+
+        by : (o : Operation) → o ≡ op → jumps_from o ≡ true → IsItem s.method.code all (jump_to i o ls)
+        by (ops.Switch width) same goes = switch-suits (ap op_kind (sym same))
+        by (ops.Branch b) same goes = branch-suits (ap op_kind (sym same))
+        by o same goes = absurd (cc)
+
+    spill-if-suits : (over : Bool) (n : ℕ) → Each (IsItem s.method.code all) (spill_if over s i.place n)
+    spill-if-suits over n =
+        each-if (IsItem s.method.code all) over (spill s (cells s i.place) ++ loads s (operands s i.place n)) []
+        (each-append (IsItem s.method.code all) (spill s (cells s i.place)) (loads s (operands s i.place n)) (spill-suits s.method.code all s small (cells s i.place)) (loads-suit s.method.code all s small (operands s i.place n))) tt
+
+    branch-items : (n : ℕ) → operands_of s.world (Ok op) ≡ Some n → jumps_from op ≡ true → Each (IsItem s.method.code all) (branch s i op n)
+    unfolding branch
+    branch-items n asks j = each-append (IsItem s.method.code all) (spill_if (is_over s i.place n) s i.place n) (jump_to i op _ ∷ []) (spill-if-suits (is_over s i.place n) n) (jump-suits n asks j, tt)
+
+    first-place-once : jumps_from op ≡ true → IsOnce all (first_place (targets s.method.code i))
+    first-place-once j = by (targets s.method.code i) e.places (target-count (sym e.alike ∙ j))
+      where
+        by : (ts : List ℤ) → ((k : ℕ) (t : ℤ) → slice_get ts k ≡ Some t → IsOnce all (place t)) → length ts ≡ length (cases s.method.code i.place i.insn) + 1 → IsOnce all (first_place ts)
+        by [] h n = absurd (omega (arith, n))
+        by (t ∷ ts) h n = h 0 t refl
+
+    gone-suits : jumps_from op ≡ true → Each (IsItem s.method.code all) (gone s i.place op (first_place (targets s.method.code i)))
+    gone-suits j =
+        let q = first_place (targets s.method.code i) in
+        each-append (IsItem s.method.code all) (spill s (cells s q)) (copies s (After i.place op) q ++ goto q ∷ []) (spill-suits s.method.code all s small (cells s q))
+        (each-append (IsItem s.method.code all) (copies s (After i.place op) q) (goto q ∷ []) (copies-suit s.method.code all s small (After i.place op) q) ((refl, first-place-once j), tt))
+
+    -- ---- falling
+
+    fall-suits : (q : ℕ) → Each (IsItem s.method.code all) (fall s i.place op q)
+    fall-suits q =
+        each-append (IsItem s.method.code all) (if is_leader s q then spill s (cells s q) else []) (copies s (After i.place op) q)
+        (each-if (IsItem s.method.code all) (is_leader s q) (spill s (cells s q)) [] (spill-suits s.method.code all s small (cells s q)) tt) (copies-suit s.method.code all s small (After i.place op) q)
+
+    fall-by-suits : (n : Option ℕ) (q : ℕ) → Each (IsItem s.method.code all) (fall_by s i.place op n q)
+    fall-by-suits None q = fall-suits q
+    fall-by-suits (Some n) q =
+        each-if (IsItem s.method.code all) (is_over s i.place n) (fall_over s i.place op n q) (fall s i.place op q)
+        (each-if (IsItem s.method.code all) (is_leader s q) (taken s i.place op n q) (copies s (After i.place op) q ++ loads s (under s i.place n)) (taken-suits s.method.code all s small i.place op n q)
+        (each-append (IsItem s.method.code all) (copies s (After i.place op) q) (loads s (under s i.place n)) (copies-suit s.method.code all s small (After i.place op) q) (loads-suit s.method.code all s small (under s i.place n))))
+        (fall-suits q)
+
+    fallen-suits : Each (IsItem s.method.code all) (fallen s i op)
+    unfolding fallen
+    fallen-suits =
+        each-if (IsItem s.method.code all) (falls_from op) (fall_by s i.place op (operands_of s.world (Ok op)) (i.place + i.insn.len)) []
+        (fall-by-suits (operands_of s.world (Ok op)) (i.place + i.insn.len)) tt
+
+    -- ---- stubs
+
+    stub-suits : (q l : ℕ) (copied : List Item) → Each (IsItem s.method.code all) copied → IsOnce all q → Each (IsItem s.method.code all) (stub_of l q copied)
+    stub-suits q l [] h once = tt
+    stub-suits q l (x ∷ xs) h once = (tt {0}, each-append (IsItem s.method.code all) (x ∷ xs) (goto q ∷ []) h ((refl, once), tt))
+
+    stubs-suit-from : (n k : ℕ) (ts : List ℤ) → ((j : ℕ) (t : ℤ) → slice_get ts j ≡ Some t → IsOnce all (place t)) → Each (IsItem s.method.code all) (stubs_of s i.place op n k ts)
+    unfolding stub
+    stubs-suit-from n k [] h = tt
+    stubs-suit-from n k (t ∷ ts) h =
+        each-append (IsItem s.method.code all) (stub s i.place op n k t) (stubs_of s i.place op n (suc k) ts)
+        (stub-suits (place t) (stub_label i.place k) (taken s i.place op n (place t)) (taken-suits s.method.code all s small i.place op n (place t)) (h 0 t refl))
+        (stubs-suit-from n (suc k) ts (λ j u at. h (suc j) u at))
+
+    pub stubs-by-suit : (n : Option ℕ) → Each (IsItem s.method.code all) (stubs_by s i op n)
+    stubs-by-suit None = tt
+    stubs-by-suit (Some n) = stubs-suit-from n 0 (targets s.method.code i) e.places
+
+  -- ---- the instruction, by its form
+
+  pub body-suits : (i : Placed) (op : Operation) → IsEmitted all s i op → Each (IsItem s.method.code all) (body s i op)
+  unfolding body
+  body-suits i (ops.Load letter x) e = loaded-suits i (ops.Load letter x) e refl (local s i.place x)
+  body-suits i (ops.Increment width x amount) e =
+      increased-suits i (ops.Increment width x amount) e refl (parts (first_u1 (layout_of i.insn.op)) (not (jumps i.insn.op)) e.suits).0 (local s i.place x)
+  body-suits i (ops.Store letter x) e = stored-suits i (ops.Store letter x) e letter (needed s (i.place + i.insn.len) x)
+  body-suits i (ops.FieldRead f holders.This) e =
+      let is = parts (only_u1 (layout_of i.insn.op)) _ e.suits in
+      read-suits i (ops.FieldRead f holders.This) e refl is.0 (parts (only_u1 (layout_of (i.insn.op - 42))) (not (jumps (i.insn.op - 42))) is.1) (local s i.place 0)
+  body-suits i (ops.FieldWrite f holders.This) e =
+      let is = parts (only_u1 (layout_of i.insn.op)) _ e.suits in
+      written-suits i (ops.FieldWrite f holders.This) e refl is.0 (parts (only_u1 (layout_of (i.insn.op - 46))) (not (jumps (i.insn.op - 46))) is.1) f.kind (local s i.place 0)
+  body-suits i (ops.Branch branches.Always) e = gone-suits i (ops.Branch branches.Always) e refl
+  body-suits i (ops.Branch (branches.Zero o)) e = branch-items i (ops.Branch (branches.Zero o)) e _ refl refl
+  body-suits i (ops.Branch (branches.Null o)) e = branch-items i (ops.Branch (branches.Null o)) e _ refl refl
+  body-suits i (ops.Branch (branches.References o)) e = branch-items i (ops.Branch (branches.References o)) e _ refl refl
+  body-suits i (ops.Branch (branches.Shorts o)) e = branch-items i (ops.Branch (branches.Shorts o)) e _ refl refl
+  body-suits i (ops.Switch width) e = branch-items i (ops.Switch width) e _ refl refl
+  body-suits i op e = kept-suits i op e refl
+
+  pub done-suits : (i : Placed) (r : Result Operation RuleFault) → ((op : Operation) → r ≡ Ok op → IsEmitted all s i op) → Each (IsItem s.method.code all) (done s i r)
+  done-suits i (Err fault) h = tt
+  done-suits i (Ok op) h = each-append (IsItem s.method.code all) (body s i op) (fallen s i op) (body-suits i op (h op refl)) (fallen-suits i op (h op refl))
+
+  entered-suits : (p : ℕ) → Each (IsItem s.method.code all) (entered s p)
+  entered-suits p = (tt {0}, each-if (IsItem s.method.code all) (is_leader s p) (loads s (cells s p)) [] (loads-suit s.method.code all s small (cells s p)) tt)
+
+  module _ (emitted : (i : Placed) (op : Operation) → Contains (listing s.method.code) i → is_some (s.frames i.place) ≡ true → operation s i ≡ Ok op → IsEmitted all s i op) where
+    group-suits : (i : Placed) → Contains (listing s.method.code) i → Each (IsItem s.method.code all) (group s i)
+    unfolding group
+    group-suits i st = by (s.frames i.place) refl
+      where
+        by : (f : Option Frame) → s.frames i.place ≡ f → Each (IsItem s.method.code all) (group_by s i f)
+        by None at = tt
+        by (Some f) at =
+            each-append (IsItem s.method.code all) (entered s i.place) (done s i (operation s i)) (entered-suits i.place)
+            (done-suits i (operation s i) (λ op is. emitted i op st (ap is_some at) is))
+
+    stubs-suit : (i : Placed) → Contains (listing s.method.code) i → Each (IsItem s.method.code all) (stubs s i)
+    unfolding stubs
+    stubs-suit i st = by (s.frames i.place) refl
+      where
+        by-operation : (r : Result Operation RuleFault) → operation s i ≡ r → is_some (s.frames i.place) ≡ true → Each (IsItem s.method.code all) (stubs_done s i r)
+        by-operation (Err fault) is some = tt
+        by-operation (Ok op) is some = stubs-by-suit i op (emitted i op st some is) (operands_of s.world (Ok op))
+
+        by : (f : Option Frame) → s.frames i.place ≡ f → Each (IsItem s.method.code all) (stubs_at s i f)
+        by None at = tt
+        by (Some f) at = by-operation (operation s i) refl (ap is_some at)
+
+    caught-suits : (n : ℕ) (h : Handler) → IsOnce all h.entry → Each (IsItem s.method.code all) (caught s n h)
+    caught-suits n h once = (
+      tt {0},
+      each-append (IsItem s.method.code all) (spill s (cells s h.entry)) (copies s (Entry h.entry) h.entry ++ goto h.entry ∷ []) (spill-suits s.method.code all s small (cells s h.entry))
+          (each-append (IsItem s.method.code all) (copies s (Entry h.entry) h.entry) (goto h.entry ∷ []) (copies-suit s.method.code all s small (Entry h.entry) h.entry) ((refl, once), tt)),
+    )
+
+    caught-suit-from : (n : ℕ) (hs : List Handler) → Each (λ h. is_live s h ≡ true → IsOnce all h.entry) hs → Each (IsItem s.method.code all) (caught_from s n hs)
+    caught-suit-from n [] o = tt
+    caught-suit-from n (h ∷ hs) o =
+        each-append (IsItem s.method.code all) (if is_live s h then caught s n h else []) (caught_from s (suc n) hs) (by (is_live s h) refl) (caught-suit-from (suc n) hs o.1)
+      where
+        by : (b : Bool) → is_live s h ≡ b → Each (IsItem s.method.code all) (if b then caught s n h else [])
+        by true live = caught-suits n h (o.0 live)
+        by false dead = tt
+
+    each-of : {X : Type 0} (f : X → List Item) (xs whole : List X) → ((x : X) → Contains xs x → Contains whole x) → ((x : X) → Contains whole x → Each (IsItem s.method.code all) (f x)) → Each (IsItem s.method.code all) (flat_map f xs)
+    each-of f [] whole inside h = tt
+    each-of f (x ∷ xs) whole inside h =
+        each-append (IsItem s.method.code all) (f x) (flat_map f xs) (h x (inside x (0, omega arith, refl)))
+        (each-of f xs whole (λ y c. inside y (suc c.0, omega (arith, c.1), c.2)) h)
+
+    pub items-suit : Each (λ h. is_live s h ≡ true → IsOnce all h.entry) s.method.rec.handlers → Each (IsItem s.method.code all) (items s)
+    unfolding items
+    items-suit entries =
+        each-append (IsItem s.method.code all) (copies s Start 0) _ (copies-suit s.method.code all s small Start 0)
+        (each-append (IsItem s.method.code all) (flat_map (group s) (listing s.method.code)) _ (each-of (group s) (listing s.method.code) (listing s.method.code) (λ x c. c) group-suits) (
+          tt {0},
+          each-append (IsItem s.method.code all) (flat_map (stubs s) (listing s.method.code)) (caught_from s 0 s.method.rec.handlers) (each-of (stubs s) (listing s.method.code) (listing s.method.code) (λ x c. c) stubs-suit)
+              (caught-suit-from 0 s.method.rec.handlers entries),
+        ))

@@ -1,0 +1,5 @@
+use Rattle.xf_emission.proofs.Standing.{groups-stand}
+use Rattle.xf_emission.proofs.laws.groups_stand.Goals as goal
+
+pub returns : goal.returns
+returns c = groups-stand
