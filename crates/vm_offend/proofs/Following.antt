@@ -17,9 +17,13 @@ use Rattle.vm_defend.specs.Held.{answer}
 use Rattle.vm_defend.specs.Safe.{IsPlainEnding}
 use Rattle.vm_offend.specs.Held.{ending_of}
 
+abbrev held : Outcome ℕ → State ℕ
+held (running s) = s
+held (ended e s) = s
+
 -- a run that has not ended
 pub going-on : (e : Option Ending) (s : State ℕ) (o : Outcome Cell) → e ≡ None → outcome e s ≡ erased_outcome o → (t : State Cell) × (o ≡ running t) × (s ≡ erased t)
-going-on e s (running t) none is = (t, refl, let now : running s ≡ running (erased t) = sym (ap (λ (x : Option Ending). outcome x s) none) ∙ is in cc)
+going-on e s (running t) none is = (t, refl, let now : running s ≡ running (erased t) = sym (ap (λ (x : Option Ending). outcome x s) none) ∙ is in ap held now)
 going-on e s (ended f t) none is = let now : running s ≡ ended f (erased t) = sym (ap (λ (x : Option Ending). outcome x s) none) ∙ is in absurd (cc)
 
 -- its ending is no fault

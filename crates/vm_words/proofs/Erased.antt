@@ -1,9 +1,9 @@
 -- The words of a typed state have what its cells have: shape, and what an operation asks.
-use Rattle.std.proofs.Common.{◌≡◌, ℕ, zero, suc, ◌+◌, ◌<◌, ◌≤◌, ◌==◌, Bool, true, false, List, [], ◌∷◌, length, map, refl, sym, ap, ◌∙◌, subst, arith}
-use Rattle.std.specs.Prelude.{Option, Some, None, All, IsSome, IsSomeAnd, MatchBool, ⊤, option_map, slice_get}
+use Rattle.std.proofs.Common.{◌≡◌, ℕ, zero, suc, ◌+◌, ◌<◌, ◌≤◌, ◌==◌, Bool, true, false, List, ◌∷◌, length, map, refl, sym, ap, ◌∙◌, subst, arith}
+use Rattle.std.specs.Prelude.{Option, Some, None, IsSome, IsSomeAnd, MatchBool, ⊤, option_map}
 use Rattle.std.proofs.lemmas.List.{length-map}
 use Rattle.std.proofs.lemmas.List.Elements.{All-map, All-weaker}
-use Rattle.std.proofs.lemmas.Option.{slice_get-map}
+use Rattle.std.proofs.lemmas.Option.{slice_get-map, slice_get_past}
 use Rattle.jc_base.specs.declared.ty.Ty.TheVariants.{Class}
 use Rattle.jc_base.specs.declared.ty.Kind.{Kind}
 use Rattle.jc_base.specs.declared.ty.Kind.TheVariants as fields
@@ -21,11 +21,10 @@ use Rattle.jc_ops.specs.declared.operation.InstanceField.{InstanceField}
 use Rattle.jc_ops.specs.declared.operation.Operation.{Operation}
 use Rattle.jc_ops.specs.declared.operation.Operation.TheVariants as ops
 use Rattle.vm_store.specs.declared.cell.Cell.{Cell}
-use Rattle.vm_store.specs.declared.kind.ObjectKind.{ObjectKind}
 use Rattle.vm_store.specs.Kind.{kind_of_handle, element_width}
 use Rattle.vm_store.specs.Cells.{tagged, words, word_of}
-use Rattle.vm_store.specs.State.{Frame, State, Object, map_frame, map_object, erased, top, nth}
-use Rattle.vm_store.specs.Objects.{kinds, object_at, object_cells}
+use Rattle.vm_store.specs.State.{Frame, State, Object, map_frame, map_object, erased}
+use Rattle.vm_store.specs.Objects.{object_at, object_cells}
 use Rattle.vm_store.specs.Erasing.{StatesErase}
 use Rattle.vm_instance.specs.Instance.{IsRecorded}
 use Rattle.vm_step.specs.Calls.{args_of, class_of, class_in}
@@ -61,6 +60,15 @@ array-erased : (kind : Kind) (s : State Cell) (h : ℕ) → IsArrayFor kind s h 
 array-erased kind s h array =
     subst (λ (o : Option (Object ℕ)). IsSomeAnd o (λ (x : Object ℕ). element_width x.kind ≡ width kind)) (sym (object-erased s h))
     (and-erased (map_object word_of) (λ (x : Object Cell). element_width x.kind ≡ width kind) (λ (x : Object ℕ). element_width x.kind ≡ width kind) (λ x e. e) (object_at s h) array)
+
+-- where there is no object
+pub none-null : (z : State ℕ) (h : ℕ) → h ≤ 0 → None ≡ option_map (λ (o : Object ℕ). o.kind) (object_at z h)
+none-null z zero le = refl
+none-null z (suc h) le = absurd (omega (arith, le))
+
+pub none-past : (z : State ℕ) (h : ℕ) → length z.heap < h → None ≡ option_map (λ (o : Object ℕ). o.kind) (object_at z h)
+none-past z zero past = refl
+none-past z (suc h) past = sym (ap (option_map (λ (o : Object ℕ). o.kind)) (slice_get_past z.heap h (omega (arith, past))))
 
 -- ---- shape
 
@@ -171,8 +179,8 @@ module _ (w : Linked) (erase : StatesErase w.methods w.classes) (f : Frame Cell)
   finds-erased i (ops.TypeTest test ty) found =
       (handle-erased 0 (IsObject w.classes now) (IsObject w.classes (erased now)) (recorded-erased w.classes now) found.0, found.1)
   finds-erased i (ops.Constant c) found = found
-  finds-erased i (ops.Load sort x) found = found
-  finds-erased i (ops.Store sort x) found = found
+  finds-erased i (ops.Load held x) found = found
+  finds-erased i (ops.Store held x) found = found
   finds-erased i (ops.Increment width x amount) found = found
   finds-erased i (ops.Move move) found = found
   finds-erased i (ops.Arithmetic a) found = found

@@ -1,15 +1,14 @@
 -- Words of a typed state are that of one after each step, and its tests, which nothing makes, would all be passed.
-use Rattle.std.proofs.Common.{◌≡◌, ℕ, ◌+◌, ◌-◌, ◌<◌, ◌≤◌, Bool, true, false, if◌then◌else◌, List, [], ◌∷◌, ◌++◌, length, map, refl, sym, ap, ◌∙◌, subst, arith}
-use Rattle.std.specs.Prelude.{ℤ, Option, Some, None, Ok, Err, All, IfSome, IsSome, slice_get, nat_lt}
+use Rattle.std.proofs.Common.{◌≡◌, ℕ, ◌+◌, ◌<◌, ◌≤◌, Bool, true, false, if◌then◌else◌, List, [], ◌∷◌, length, map, reverse, refl, sym, ap, ◌∙◌, subst, arith}
+use Rattle.std.specs.Prelude.{ℤ, Option, Some, None, Ok, Err, All, IsSome, slice_get, nat_lt}
 use Rattle.std.proofs.lemmas.Bool.{ltb-false}
 use Rattle.std.proofs.lemmas.Bool.Decides.{nat_tests}
 use Rattle.std.proofs.lemmas.List.{length-map, length-append, length-reverse}
-use Rattle.std.proofs.lemmas.List.Elements.{All-head, All-tail, All-map}
+use Rattle.std.proofs.lemmas.List.Elements.{All-nil, All-cons, All-head, All-tail, All-map}
 use Rattle.jc_base.specs.declared.ty.Ty.{Ty}
 use Rattle.jc_base.specs.declared.ty.Ty.TheVariants.{Bottom}
 use Rattle.jc_base.specs.declared.record.MethodRec.{MethodRec}
 use Rattle.jc_base.specs.Order.{IsKnown}
-use Rattle.jc_base.specs.Cell.{IsDeclared}
 use Rattle.jc_base.specs.Linked.{IsMethod}
 use Rattle.jc_base.specs.World.{Linked, IsWorld, code_of}
 use Rattle.jc_base.proofs.Lists.{All-slice_get}
@@ -17,20 +16,20 @@ use Rattle.jc_decode.specs.declared.insn.Placed.{Placed}
 use Rattle.jc_ops.specs.declared.fault.RuleFault.{RuleFault}
 use Rattle.jc_ops.specs.declared.operation.Operation.{Operation}
 use Rattle.jc_ops.specs.Resolve.{Resolves}
-use Rattle.jc_ops.specs.Sound.{IsSound, OperationsAreSound}
+use Rattle.jc_ops.specs.Sound.{OperationsAreSound}
 use Rattle.jc_rules.specs.Demand.{AreKnown}
 use Rattle.jc_rules.specs.Footprint.{footprint, OperationLeaves}
 use Rattle.vm_store.specs.declared.cell.Cell.{Cell}
 use Rattle.vm_store.specs.Typing.{least_type}
 use Rattle.vm_store.specs.Cells.{tagged, words, word_of}
-use Rattle.vm_store.specs.State.{Frame, State, Object, IsRunning, map_frame, erased, top, without_top, with_place, with_stack, register_count, registers_of}
+use Rattle.vm_store.specs.State.{Frame, State, Object, IsRunning, map_frame, erased, top, without_top, with_place, with_stack, registers_of}
 use Rattle.vm_store.specs.Objects.{kinds}
 use Rattle.vm_store.specs.Value.{with_value}
 use Rattle.vm_store.specs.Erasing.{StatesErase}
 use Rattle.vm_step.specs.declared.ending.Value.{Value}
 use Rattle.vm_step.specs.declared.ending.Plain.TheVariants.{Returned}
 use Rattle.vm_step.specs.declared.ending.Ending.{Ending}
-use Rattle.vm_step.specs.declared.ending.Ending.TheVariants.{Plain, Faulted}
+use Rattle.vm_step.specs.declared.ending.Ending.TheVariants.{Plain}
 use Rattle.vm_step.specs.declared.ending.Fault.{Fault}
 use Rattle.vm_step.specs.declared.ending.Fault.TheVariants.{StackFault, JumpFault}
 use Rattle.vm_step.specs.Act.{Act, goes, jumps, makes, calls, gives, raises, throws, lacks}
@@ -62,11 +61,16 @@ keeps-shape w s kept = subst (IsShaped w) (sym kept.words) (shaped-erased w kept
 pub knows-types : (w : Linked) → KnowsTypes words (AreTypedWords w) w
 knows-types w s kept = record { each = λ c. tt {0} }
 
+-- the state of an outcome
+abbrev held : Outcome ℕ → State ℕ
+held (running s) = s
+held (ended e s) = s
+
 module _ (w : Linked) (follow : TypedStepsFollow w) (safe : StepsAreSafe w) where
   stays-by : (z : State ℕ) (t : State Cell) (o : Outcome Cell) → running z ≡ erased_outcome o → AreTypedMethods w Bottom → IsSafe w Bottom o → IsShaped w t → Steps tagged w t o
       → StepsStay tagged (IsShaped w) w → AreTypedWords w z
   stays-by z t (running y) e typings typed shaped step stay =
-      let same : z ≡ erased y = cc in
+      let same : z ≡ erased y = ap held e in
       record { methods = typings; state = y; words = same; typed = typed; shaped = stay t y shaped step }
   stays-by z t (ended ending y) e typings typed shaped step stay = absurd (cc)
 
@@ -78,7 +82,7 @@ module _ (w : Linked) (follow : TypedStepsFollow w) (safe : StepsAreSafe w) wher
   ends-by : (z : State ℕ) (e : Ending) (t : State Cell) (o : Outcome Cell) → ended e z ≡ erased_outcome o → IsShaped w t → Steps tagged w t o → StepsEnd tagged (IsShaped w) w → IsShaped w z
   ends-by z e t (running y) is shaped step last = absurd (cc)
   ends-by z e t (ended ending y) is shaped step last =
-      let same : z ≡ erased y = cc in
+      let same : z ≡ erased y = ap held is in
       subst (IsShaped w) (sym same) (shaped-erased w y (last t y ending shaped step))
 
   pub steps-end : StepsEnd tagged (IsShaped w) w → StepsEnd words (AreTypedWords w) w
@@ -87,6 +91,10 @@ module _ (w : Linked) (follow : TypedStepsFollow w) (safe : StepsAreSafe w) wher
       ends-by z e kept.state there.0 there.2 kept.shaped there.1 last
 
 -- ---- a step of the cells
+
+all-of : {X : Type 0} (P : X → Type 0) → ((x : X) → P x) → (xs : List X) → All P xs
+all-of P p [] = All-nil P
+all-of P p (x ∷ xs) = All-cons P x xs (p x) (all-of P p xs)
 
 passed : (w : Linked) (s : State Cell) (o : Option Fault) (x : Outcome Cell) → IsSafe w Bottom (unless_fault s o x) → (o ≡ None) × IsSafe w Bottom x
 passed w s None x safe = (refl, safe)
@@ -123,7 +131,7 @@ module _ (w : Linked) (is : IsWorld w) (erase : StatesErase w.methods w.classes)
     method-is m e = All-slice_get (IsMethod w.infos w.pools w.classes) w.methods f.method m is.methods e
 
     all-known : (cs : List Cell) → All (IsKnown w.classes) (map (least_type w.classes Bottom (kinds now)) cs)
-    all-known cs = All-map (IsKnown w.classes) (least_type w.classes Bottom (kinds now)) cs (every cs (λ c. (known now shaped).each c))
+    all-known cs = All-map (IsKnown w.classes) (least_type w.classes Bottom (kinds now)) cs (all-of (λ (c : Cell). IsKnown w.classes (least_type w.classes Bottom (kinds now) c)) (known now shaped).each cs)
 
     frame-known : (m : MethodRec) → slice_get w.methods f.method ≡ Some m → AreKnown w.classes (types_in w.classes Bottom (kinds now) f)
     frame-known m e =
