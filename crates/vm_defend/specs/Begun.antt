@@ -4,6 +4,7 @@ use Rattle.jc_base.specs.World.{Linked}
 use Rattle.vm_store.specs.Cells.{tagged}
 use Rattle.vm_step.specs.Arguments.{Argument}
 use Rattle.vm_step.specs.Start.{start_fault, entry_state}
+use Rattle.vm_checks.specs.Shaped.{IsShaped}
 use Rattle.vm_defend.specs.declared.starting.StartEnd.{StartEnd}
 use Rattle.vm_defend.specs.declared.starting.StartEnd.TheVariants.{Fault, Memory}
 use Rattle.vm_defend.specs.Held.{Held}
@@ -18,3 +19,7 @@ pub record IsBegun (w : Linked) (entry : ℕ) (args : List Argument) (run : Held
 abbrev pub Refuses : Linked → ℕ → List Argument → StartEnd → Type 0
 Refuses w entry args (Fault fault) = start_fault w entry args ≡ Some fault
 Refuses w entry args Memory = ⊤
+
+-- the state in which a run begins has the shape of its world
+abbrev pub StartsAreShaped : Linked → Type 0
+StartsAreShaped w = (entry : ℕ) (args : List Argument) → start_fault w entry args ≡ None → IsShaped w (entry_state tagged w entry args)

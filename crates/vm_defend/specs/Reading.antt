@@ -1,10 +1,11 @@
 -- What is read of the state that a run has reached: the values of static fields, the classes of objects, and arrays of numbers.
-use Rattle.std.specs.Prelude.{ℕ, ◌*◌, ℤ, ◌<◌, nat_lt, if◌then◌else◌, List, Option, Some, None, slice_get, option_and_then, option_map, IsSomeAnd}
+use Rattle.std.specs.Prelude.{◌≡◌, ℕ, ◌+◌, ◌*◌, ℤ, ◌<◌, ◌≤◌, nat_lt, sum_by, if◌then◌else◌, List, Option, Some, None, slice_get, option_and_then, option_map, IsSomeAnd}
 use Rattle.jc_base.specs.declared.ty.Ty.{Ty}
 use Rattle.jc_base.specs.declared.ty.Ty.TheVariants.{ArrBool, ArrByte, ArrShort, ArrInt}
 use Rattle.jc_base.specs.declared.ty.Kind.{Kind}
 use Rattle.jc_base.specs.declared.ty.Kind.TheVariants as fields
 use Rattle.jc_base.specs.declared.record.StaticRec.{StaticRec}
+use Rattle.jc_base.specs.Cell.{width}
 use Rattle.jc_base.specs.World.{Linked}
 use Rattle.vm_store.specs.declared.kind.ObjectKind.{ObjectKind}
 use Rattle.vm_store.specs.declared.kind.ObjectKind.TheVariants.{Instance, Booleans, Bytes, Shorts, Ints}
@@ -24,6 +25,11 @@ value_at k kind cells n = values.Short (short_at k cells n)
 -- the value of a static field, by its number in the world
 abbrev pub static_value : {A : Type 0} → Cells A → Linked → ℕ → State A → Option Value
 static_value k w n s = option_map (λ (f : StaticRec). value_at k f.kind s.statics f.slot) (slice_get w.statics n)
+
+-- the cells of each static field lie among those of all
+abbrev pub SlotsAreInside : Linked → Type 0
+SlotsAreInside w =
+    (n : ℕ) (f : StaticRec) → slice_get w.statics n ≡ Some f → f.slot + width f.kind ≤ sum_by (λ (g : StaticRec). width g.kind) w.statics
 
 -- the class of which an object is an instance; an array has none
 abbrev pub class_of_kind : ObjectKind → Option ℕ

@@ -56,8 +56,8 @@ fn state(alloc: Global, world: &World<'_>, entry: u16, args: &Args<'_>) -> Resul
     Ok(State::of(store, places))
 }
 
-/// How many cells the static fields have.
-fn static_cells(world: &World<'_>) -> u16
+/// How many cells the static fields of a world have.
+pub fn static_cells(world: &World<'_>) -> u16
     ensures { result ≡ sum_by (λ f. width f.kind) world.now.statics }
 {
     let _limits = world.classes();

@@ -1,5 +1,5 @@
 -- What an operation comes to over bare words is what it comes to over tagged cells, without their kinds.
-use Rattle.std.proofs.Common.{◌≡◌, ℕ, zero, suc, ◌+◌, ◌*◌, ◌/◌, ◌==◌, ◌||◌, Bool, true, false, if◌then◌else◌, List, [], ◌∷◌, ◌++◌, map, reverse, take, drop, set, refl, sym, ap, ◌∙◌}
+use Rattle.std.proofs.Common.{◌≡◌, ℕ, zero, suc, ◌+◌, ◌<◌, ◌*◌, ◌/◌, ◌==◌, ◌||◌, Bool, true, false, if◌then◌else◌, List, [], ◌∷◌, ◌++◌, length, map, reverse, take, drop, set, refl, sym, ap, ◌∙◌, arith}
 use Rattle.std.specs.Prelude.{ℤ, pos, negsuc, Option, Some, None, find, slice_get, unwrap_or}
 use Rattle.std.specs.Int.{w16, w32, int_wrapping_add}
 use Rattle.std.proofs.lemmas.List.{map-append, take-map, drop-map, map-set, length-map, reverse-append}
@@ -58,7 +58,7 @@ use Rattle.vm_store.proofs.Erasing.{states-erase}
 use Rattle.vm_step.specs.declared.ending.Value.TheVariants as values
 use Rattle.vm_step.specs.declared.exception.Exception.{Exception}
 use Rattle.vm_step.specs.declared.exception.Exception.TheVariants as exceptions
-use Rattle.vm_step.specs.Act.{Act, goes, jumps, makes, calls, gives, raises, throws, lacks, unless_null, if_some}
+use Rattle.vm_step.specs.Act.{Act, goes, jumps, makes, calls, gives, raises, throws, unless_null, if_some}
 use Rattle.vm_step.specs.Methods.{code_at}
 use Rattle.vm_step.specs.Values.{with_constant, with_load, with_store, incremented, with_increment, moved, computed, negated, arithmetic_act}
 use Rattle.vm_step.specs.Branching.{is_same, is_taken, leads_if, branch_width, branch_act, has_key, case_offset, switch_act}
@@ -67,18 +67,9 @@ use Rattle.vm_step.specs.Objects.{new_act, kind_of_type, array_of_count, new_arr
 use Rattle.vm_step.specs.Calls.{class_in, class_of, served, made_at, readied, with_ready, served_act, interface_act, chosen_act, args_of, return_act}
 use Rattle.vm_step.specs.Performed.{act}
 use Rattle.vm_step.specs.Numbers.{handle_at, short_at, int_on, number_on, number_cells, number_width, dropped, replaced}
+use Rattle.vm_erasure.specs.Erasure.{erased_act, ActsErase}
 
--- ---- the words of what an operation comes to
-
-abbrev pub erased_act : Act Cell → Act ℕ
-erased_act (goes z) = goes (erased z)
-erased_act (jumps to z) = jumps to (erased z)
-erased_act (makes kind cs reference z) = makes kind (map word_of cs) (λ h. word_of (reference h)) (erased z)
-erased_act (calls method count z) = calls method count (erased z)
-erased_act (gives value cs) = gives value (map word_of cs)
-erased_act (raises exception) = raises exception
-erased_act (throws handle) = throws handle
-erased_act (lacks class) = lacks class
+-- ---- what may be thrown
 
 null-erased : (h : ℕ) (a : ℕ → Act Cell) (b : ℕ → Act ℕ) → b h ≡ erased_act (a h) → unless_null h b ≡ erased_act (unless_null h a)
 null-erased h a b e = go (h == 0)
@@ -596,3 +587,11 @@ module _ (w : Linked) (f : Frame Cell) (below : List (Frame Cell)) (heap : List 
   act-erases i ops.Throw = throw-is
   act-erases i (ops.TypeTest test ty) = type-test-is test ty
   act-erases i (ops.Return result) = return-is result
+
+acts-by : (w : Linked) (fs : List (Frame Cell)) (heap : List (Object Cell)) (statics : List Cell) (i : Insn) (op : Operation) → 0 < length fs
+    → act words w i op (erased (record { frames = fs; heap = heap; statics = statics })) ≡ erased_act (act tagged w i op (record { frames = fs; heap = heap; statics = statics }))
+acts-by w [] heap statics i op runs = absurd (omega (arith, runs))
+acts-by w (f ∷ below) heap statics i op runs = act-erases w f below heap statics i op
+
+pub acts-erase : (w : Linked) → ActsErase w
+acts-erase w i op s runs = acts-by w s.frames s.heap s.statics i op runs

@@ -32,8 +32,8 @@ use Rattle.vm_step.specs.Raising.{Outcome, running, ended, ends, handler_for, ca
 use Rattle.vm_step.specs.Settled.{unless_fault, fault_next, fault_target, place_of, place_after, goes_to, jumps_to, with_new, made, entered_call, given_to, settled}
 use Rattle.vm_step.specs.Step.{Steps, misplaced, unresolved, performs, performed}
 use Rattle.vm_step.specs.Run.{Runs, stands, stops, steps}
-use Rattle.vm_erasure.specs.Erasure.{erased_outcome, IsNoFault, StepsErase, RunsErase}
-use Rattle.vm_erasure.proofs.Acts.{erased_act, act-erases}
+use Rattle.vm_erasure.specs.Erasure.{erased_act, erased_outcome, IsNoFault, StepsErase, RunsErase}
+use Rattle.vm_erasure.proofs.Acts.{act-erases}
 
 -- tests that are passed
 unless-none : (s : State Cell) (o : Option Fault) (x : Outcome Cell) → IsNoFault (unless_fault s o x) → (unless_fault s o x ≡ x) × IsNoFault x

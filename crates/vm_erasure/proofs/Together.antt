@@ -1,36 +1,68 @@
 -- In typed code a machine of bare words does what one of tagged cells does.
-use Rattle.std.proofs.Common.{ℕ, sym, subst, arith}
-use Rattle.std.specs.Prelude.{List}
+use Rattle.std.proofs.Common.{◌≡◌, ◌<◌, ℕ, zero, suc, length, refl, ap, subst, arith}
+use Rattle.std.proofs.lemmas.List.{length-map}
 use Rattle.jc_base.specs.declared.ty.Ty.{Ty}
 use Rattle.jc_base.specs.World.{Linked, IsWorld}
 use Rattle.jc_ops.specs.Sound.{OperationsAreDecided}
 use Rattle.vm_store.specs.declared.cell.Cell.{Cell}
-use Rattle.vm_store.specs.Cells.{tagged, words}
-use Rattle.vm_store.specs.State.{State, IsRunning, erased}
+use Rattle.vm_store.specs.Cells.{tagged, words, word_of}
+use Rattle.vm_store.specs.State.{State, IsRunning, erased, map_frame}
 use Rattle.vm_step.specs.declared.ending.Ending.TheVariants.{Plain, Faulted}
-use Rattle.vm_step.specs.Arguments.{Argument}
-use Rattle.vm_step.specs.Start.{Starts}
 use Rattle.vm_step.specs.Raising.{Outcome, running, ended}
+use Rattle.vm_step.specs.Step.{Steps, misplaced, unresolved, performs}
+use Rattle.vm_step.specs.Run.{Runs, stands, stops, steps}
 use Rattle.vm_step.proofs.Lasting.{runs-exist}
 use Rattle.vm_step.proofs.Running.{steps-exist, steps-one, continues-one}
-use Rattle.vm_sound.specs.Laws.{IsSafe}
-use Rattle.vm_sound.proofs.Sound.{runs-are-safe}
+use Rattle.vm_sound.specs.Laws.{IsSafe, AreTypedMethods}
+use Rattle.vm_sound.specs.State.{IsTypedState}
+use Rattle.vm_sound.proofs.Sound.{steps-are-safe, runs-are-safe}
 use Rattle.vm_sound.proofs.Starting.{starts-are-typed}
-use Rattle.vm_erasure.specs.Erasure.{erased_outcome, IsNoFault, WordsFollow}
-use Rattle.vm_erasure.proofs.Steps.{runs-erase}
+use Rattle.vm_erasure.specs.Erasure.{erased_outcome, IsNoFault, WordsFollow, TypedStepsFollow, TypedRunsFollow}
+use Rattle.vm_erasure.proofs.Steps.{steps-erase, runs-erase}
 
 safe-free : (w : Linked) (unset : Ty) (o : Outcome Cell) → IsSafe w unset o → IsNoFault o
 safe-free w unset (running s) h = tt
 safe-free w unset (ended (Plain plain) s) h = tt
 safe-free w unset (ended (Faulted fault) s) h = h
 
-starts-running : (w : Linked) (entry : ℕ) (args : List Argument) (s : State Cell) → Starts tagged w entry args s → IsRunning s
-starts-running w entry args s starts = subst (λ (x : State Cell). IsRunning x) (sym starts.state) (omega arith)
+-- a state of words that takes a step is that of a state in which a method runs
+words-run : (w : Linked) (z : State ℕ) {x : Outcome ℕ} → Steps words w z x → IsRunning z
+words-run w z (misplaced checks runs e) = runs
+words-run w z (unresolved checks fetched fault resolves) = fetched.runs
+words-run w z (performs fetched op resolves is) = fetched.runs
+
+cells-run : (w : Linked) (s : State Cell) {x : Outcome ℕ} → Steps words w (erased s) x → IsRunning s
+cells-run w s step =
+    let runs : 0 < length (erased s).frames = words-run w (erased s) step in
+    let same : length (erased s).frames ≡ length s.frames = length-map s.frames (map_frame word_of) in
+    omega (arith, runs, same)
+
+pub typed-steps-follow : (w : Linked) → IsWorld w → OperationsAreDecided w → TypedStepsFollow w
+typed-steps-follow w world decided unset s x typings typed step =
+    let there = steps-exist w s (cells-run w s step) in
+    let free = safe-free w unset there.0 (steps-are-safe w world unset s there.0 typings typed there.1) in
+    (there.0, there.1, steps-one words w decided (erased s) x (erased_outcome there.0) step (steps-erase w s there.0 free there.1))
+
+module _ (w : Linked) (world : IsWorld w) (decided : OperationsAreDecided w) (unset : Ty) (typings : AreTypedMethods w unset) where
+  follows : (n : ℕ) (s : State Cell) (x : Outcome ℕ) → IsTypedState w unset s → IsRunning s → Runs words w n (erased s) x → (o : Outcome Cell) × Runs tagged w n s o × (x ≡ erased_outcome o)
+  follows n s x typed goes runs =
+      let there = runs-exist w (steps-exist w) n s goes in
+      let free = safe-free w unset there.0 (runs-are-safe w world unset n s there.0 typings typed there.1) in
+      let words_are = runs-erase w n s there.0 free there.1 in
+      (there.0, there.1, continues-one words w (steps-one words w decided) n (running (erased s)) x (erased_outcome there.0) runs words_are)
+
+  runs-by : (n : ℕ) (s : State Cell) (z : State ℕ) (x : Outcome ℕ) → z ≡ erased s → IsTypedState w unset s → Runs words w n z x → (o : Outcome Cell) × Runs tagged w n s o × (x ≡ erased_outcome o)
+  runs-by zero s z x e typed stands = (running s, stands, ap running e)
+  runs-by (suc n) s z x e typed (stops {z = y} {ending = f} step) =
+      let first : Steps words w (erased s) (ended f y) = subst (λ (v : State ℕ). Steps words w v (ended f y)) e step in
+      follows (suc n) s x typed (cells-run w s first) (stops first)
+  runs-by (suc n) s z x e typed (steps {z = y} step more) =
+      let first : Steps words w (erased s) (running y) = subst (λ (v : State ℕ). Steps words w v (running y)) e step in
+      follows (suc n) s x typed (cells-run w s first) (steps first more)
+
+pub typed-runs-follow : (w : Linked) → IsWorld w → OperationsAreDecided w → TypedRunsFollow w
+typed-runs-follow w world decided unset n s x typings typed runs = runs-by w world decided unset typings n s (erased s) x refl typed runs
 
 pub words-follow : (w : Linked) → IsWorld w → OperationsAreDecided w → WordsFollow w
 words-follow w world decided unset typings entry args s n x starts runs =
-    let tagged_run = runs-exist w (steps-exist w) n s (starts-running w entry args s starts) in
-    let typed = starts-are-typed w world unset entry args s typings starts in
-    let free = safe-free w unset tagged_run.0 (runs-are-safe w world unset n s tagged_run.0 typings typed tagged_run.1) in
-    let erased_run = runs-erase w n s tagged_run.0 free tagged_run.1 in
-    (tagged_run.0, tagged_run.1, continues-one words w (steps-one words w decided) n (running (erased s)) x (erased_outcome tagged_run.0) runs erased_run)
+    typed-runs-follow w world decided unset n s x typings (starts-are-typed w world unset entry args s typings starts) runs

@@ -1,17 +1,46 @@
 -- A step of a machine of tagged cells that meets no fault is the same step of a machine of bare words.
-use Rattle.std.specs.Prelude.{◌≡◌, ℕ, List, ⊤}
+use Rattle.std.specs.Prelude.{◌≡◌, ℕ, List, map, Ok, ⊤}
 use Rattle.jc_base.specs.declared.ty.Ty.{Ty}
+use Rattle.jc_base.specs.declared.record.MethodRec.{MethodRec}
 use Rattle.jc_base.specs.World.{Linked}
+use Rattle.jc_decode.specs.declared.insn.Insn.{Insn}
+use Rattle.jc_decode.specs.declared.insn.Placed.{Placed}
+use Rattle.jc_ops.specs.declared.operation.Operation.{Operation}
+use Rattle.jc_ops.specs.Resolve.{Resolves}
+use Rattle.jc_rules.specs.declared.effect.Mode.TheVariants.{Flow}
+use Rattle.jc_rules.specs.declared.rule.Outcome.{Outcome as Rule}
+use Rattle.jc_rules.specs.Demand.{Frame as Types}
+use Rattle.jc_rules.specs.Apply.{OperationApplies}
 use Rattle.vm_store.specs.declared.cell.Cell.{Cell}
-use Rattle.vm_store.specs.Cells.{tagged, words}
-use Rattle.vm_store.specs.State.{State, erased}
+use Rattle.vm_store.specs.Cells.{tagged, words, word_of}
+use Rattle.vm_store.specs.State.{State, IsRunning, top, erased}
+use Rattle.vm_store.specs.Objects.{kinds}
 use Rattle.vm_step.specs.declared.ending.Ending.TheVariants.{Plain, Faulted}
+use Rattle.vm_step.specs.Act.{Act, goes, jumps, makes, calls, gives, raises, throws, lacks}
+use Rattle.vm_step.specs.Performed.{act}
 use Rattle.vm_step.specs.Raising.{Outcome, running, ended}
-use Rattle.vm_step.specs.Step.{Steps}
+use Rattle.vm_step.specs.Step.{Fetches, Steps}
 use Rattle.vm_step.specs.Run.{Runs}
 use Rattle.vm_step.specs.Arguments.{Argument}
 use Rattle.vm_step.specs.Start.{Starts}
+use Rattle.vm_sound.specs.Frames.{types_in}
+use Rattle.vm_sound.specs.State.{IsTypedState}
 use Rattle.vm_sound.specs.Laws.{AreTypedMethods}
+
+-- the words of what an operation comes to
+abbrev pub erased_act : Act Cell → Act ℕ
+erased_act (goes z) = goes (erased z)
+erased_act (jumps to z) = jumps to (erased z)
+erased_act (makes kind cells reference z) = makes kind (map word_of cells) (λ h. word_of (reference h)) (erased z)
+erased_act (calls method count z) = calls method count (erased z)
+erased_act (gives value cells) = gives value (map word_of cells)
+erased_act (raises exception) = raises exception
+erased_act (throws handle) = throws handle
+erased_act (lacks class) = lacks class
+
+-- an operation on bare words comes to the words of what it comes to on tagged cells
+abbrev pub ActsErase : Linked → Type 0
+ActsErase w = (i : Insn) (op : Operation) (s : State Cell) → IsRunning s → act words w i op (erased s) ≡ erased_act (act tagged w i op s)
 
 -- the words of an outcome
 abbrev pub erased_outcome : Outcome Cell → Outcome ℕ
@@ -42,3 +71,33 @@ WordsFollow w =
     → (entry : ℕ) (args : List Argument) (s : State Cell) (n : ℕ) (x : Outcome ℕ)
     → Starts tagged w entry args s → Runs words w n (erased s) x
     → (o : Outcome Cell) × Runs tagged w n s o × (x ≡ erased_outcome o)
+
+-- ---- from a typed state
+
+-- in such a world what a step of bare words comes to, from the words of a typed state, are the words of what the step of tagged cells
+-- comes to
+abbrev pub TypedStepsFollow : Linked → Type 0
+TypedStepsFollow w =
+    (unset : Ty) (s : State Cell) (x : Outcome ℕ)
+    → AreTypedMethods w unset
+    → IsTypedState w unset s
+    → Steps words w (erased s) x
+    → (o : Outcome Cell) × Steps tagged w s o × (x ≡ erased_outcome o)
+
+-- and so it is with a run of any number of steps
+abbrev pub TypedRunsFollow : Linked → Type 0
+TypedRunsFollow w =
+    (unset : Ty) (n : ℕ) (s : State Cell) (x : Outcome ℕ)
+    → AreTypedMethods w unset
+    → IsTypedState w unset s
+    → Runs words w n (erased s) x
+    → (o : Outcome Cell) × Runs tagged w n s o × (x ≡ erased_outcome o)
+
+-- in a typed state the rule of the instruction applies to the least types of the cells, on the operand stack that the method declares
+abbrev pub TypedStatesApply : Linked → Type 0
+TypedStatesApply w =
+    (unset : Ty) (s : State Cell) (m : MethodRec) (i : Placed) (op : Operation)
+    → IsTypedState w unset s
+    → Fetches w s m i
+    → Resolves w m i.place i.insn (Ok op)
+    → (after : Types) × (o : Rule) × OperationApplies w m.max_stack op Flow (types_in w.classes unset (kinds s) (top s)) after o

@@ -5,4 +5,4 @@
 
 mod laws;
 
-pub use laws::words_run_alike;
+pub use laws::{typed_states_apply, words_run_alike};

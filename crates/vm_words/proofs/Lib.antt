@@ -1,3 +1,6 @@
 mod Windows
 mod Rams
 mod WordHeaps
+mod Erased
+mod Jumping
+mod Following

@@ -1,2 +1,3 @@
 pub mod Words
 pub mod WordStore
+pub mod Typed

@@ -102,3 +102,16 @@ abbrev pub called_words : List MethodRec → List (Frame ℕ) → ℕ → ℕ �
 called_words methods frames method count =
     let caller = first_frame frames in
     entered words methods method (arguments count caller.stack) ∷ (record caller { stack = drop count caller.stack } ∷ other_frames frames)
+
+-- ---- the objects alone
+
+-- the objects lie one after another in the words of the heap
+pub record AreObjectsLaid (heap : List ℕ) (counts : Counts) : Type 0 where
+  pub heap_length : length heap ≡ 45056
+  pub some_objects : counts.objects ≤ 4096
+  pub some_cells : counts.cells ≤ 32768
+  pub laid : Follow 0 (headers_in heap counts.objects) counts.cells
+
+-- the state that the words of the heap hold: its objects, and nothing else
+abbrev pub objects_state : List ℕ → Counts → State ℕ
+objects_state heap counts = record { frames = []; heap = objects_in (drop 12288 heap) (headers_in heap counts.objects); statics = [] }

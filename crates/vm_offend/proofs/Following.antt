@@ -1,0 +1,45 @@
+-- What a run of words leaves are the words of what the run of tagged cells comes to.
+use Rattle.std.proofs.Common.{◌≡◌, ℕ, List, length, Option, Some, None, refl, sym, ap, ◌∙◌, subst}
+use Rattle.std.specs.Prelude.{IfSome, option_map, unwrap_or}
+use Rattle.jc_base.specs.declared.ty.Ty.TheVariants.{Bottom}
+use Rattle.jc_base.specs.World.{Linked}
+use Rattle.vm_store.specs.declared.cell.Cell.{Cell}
+use Rattle.vm_store.specs.State.{State, erased}
+use Rattle.vm_step.specs.declared.ending.Ending.{Ending}
+use Rattle.vm_step.specs.declared.ending.Ending.TheVariants as endings
+use Rattle.vm_step.specs.declared.ending.Plain.{Plain}
+use Rattle.vm_step.specs.declared.ending.Plain.TheVariants.{Spent}
+use Rattle.vm_step.specs.Raising.{Outcome, running, ended}
+use Rattle.vm_turns.specs.Turn.{outcome}
+use Rattle.vm_sound.specs.Laws.{IsSafe}
+use Rattle.vm_erasure.specs.Erasure.{erased_outcome}
+use Rattle.vm_defend.specs.Held.{answer}
+use Rattle.vm_defend.specs.Safe.{IsPlainEnding}
+use Rattle.vm_offend.specs.Held.{ending_of}
+
+abbrev held : Outcome ℕ → State ℕ
+held (running s) = s
+held (ended e s) = s
+
+-- a run that has not ended
+pub going-on : (e : Option Ending) (s : State ℕ) (o : Outcome Cell) → e ≡ None → outcome e s ≡ erased_outcome o → (t : State Cell) × (o ≡ running t) × (s ≡ erased t)
+going-on e s (running t) none is = (t, refl, let now : running s ≡ running (erased t) = sym (ap (λ (x : Option Ending). outcome x s) none) ∙ is in ap held now)
+going-on e s (ended f t) none is = let now : running s ≡ ended f (erased t) = sym (ap (λ (x : Option Ending). outcome x s) none) ∙ is in absurd (cc)
+
+-- its ending is no fault
+pub plain-ending : (w : Linked) (e : Option Ending) (s : State ℕ) (o : Outcome Cell) → outcome e s ≡ erased_outcome o → IsSafe w Bottom o → IfSome e IsPlainEnding
+plain-ending w None s o is safe = tt {0}
+plain-ending w (Some (endings.Plain plain)) s o is safe = tt {0}
+plain-ending w (Some (endings.Faulted fault)) s (running t) is safe = absurd (cc)
+plain-ending w (Some (endings.Faulted fault)) s (ended (endings.Plain plain) t) is safe = absurd (cc)
+plain-ending w (Some (endings.Faulted fault)) s (ended (endings.Faulted other) t) is safe = absurd safe
+
+pub ending-is : (e : Option Ending) (s : State ℕ) (o : Outcome Cell) → outcome e s ≡ erased_outcome o → ending_of o ≡ e
+ending-is None s (running t) is = refl
+ending-is None s (ended f t) is = absurd (cc)
+ending-is (Some e) s (running t) is = absurd (cc)
+ending-is (Some e) s (ended f t) is = cc
+
+pub answers : (e : Option Plain) → answer (option_map endings.Plain e) ≡ endings.Plain (unwrap_or e Spent)
+answers None = refl
+answers (Some plain) = refl

@@ -1,0 +1,4 @@
+mod Accepting
+mod Reached
+mod Following
+mod Reading

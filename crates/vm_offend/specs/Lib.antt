@@ -1,0 +1,4 @@
+pub mod Sized
+pub mod Held
+pub mod Begun
+pub mod Reads

@@ -1,0 +1,178 @@
+ghost use Rattle.std.specs.Prelude.{◌≡◌, ◌<◌, length, None, Some, IfSome, option_map, unwrap_or};
+ghost use Rattle.card_verify.specs.Answers.{AreAccepted};
+ghost use Rattle.vm_store.specs.declared.cell.Cell.{Cell};
+ghost use Rattle.vm_store.specs.Cells.{tagged};
+ghost use Rattle.vm_store.specs.State.{State};
+ghost use Rattle.vm_defend.specs.Reading.{static_value, array_kind, array_length, array_value};
+ghost use Rattle.vm_defend.specs.Safe.{IsPlainEnding};
+ghost use Rattle.vm_step.specs.declared.ending.Ending.TheVariants as endings;
+ghost use Rattle.vm_step.specs.declared.ending.Plain.TheVariants.{Spent};
+ghost use Rattle.vm_step.specs.Raising.{Outcome};
+ghost use Rattle.vm_words.specs.Words.{AreObjectsLaid};
+ghost use Rattle.vm_offend.specs.Sized.{static_cells};
+ghost use Rattle.vm_offend.specs.Reads.{AreObjectsOf, AreStaticsOf};
+
+use crate::reading::{length_of, number_at, numbers_of, value_at};
+use card_index::Accepted;
+use jc_base::{Ty, World};
+use vm_checks::Machine as Tested;
+use vm_defend::{slots_are_inside, starts_are_shaped};
+use vm_erasure::words_run_alike;
+use vm_sound::typed_code_never_fails;
+use vm_step::{Ending, Plain, Value, runs_are_runs_of_steps, runs_exist};
+use vm_store::{TaggedStore, states_erase};
+use vm_turns::Known;
+use vm_words::{Counts, WordStore};
+
+/// A run of verified code in memory that a caller lends: how many frames, objects and cells of objects there are, and how
+/// it ended, once it has. The memory is handed to each call beside it: the frames in `ram`, the objects in `heap`, and the
+/// cells of the static fields.
+#[derive(Clone, Copy)]
+pub struct Machine {
+    counts: Counts,
+    ending: Option<Plain>,
+}
+
+impl Machine {
+    ghost use Rattle.vm_offend.specs.Held.{IsRunOf, IsReached, AreWordsOf, Follows};
+
+    /// A run before its first step.
+    pub(crate) fn of(counts: Counts) -> Machine
+        ensures counts { result.counts ≡ counts }
+        ensures ending { result.ending ≡ None }
+    {
+        Machine {
+            counts,
+            ending: None,
+        }
+    }
+
+    /// Takes at most so many steps of a run that was begun in the accepted world. After `Spent` it may go on; after another
+    /// ending it takes no step, and answers that ending again. It answers as the machine that tests all does, and leaves the
+    /// words of what that one leaves.
+    pub fn run(
+        &mut self,
+        accepted: &Accepted<'_>,
+        ram: &mut [u16],
+        heap: &mut [u16],
+        statics: &mut [u16],
+        budget: u64,
+    ) -> Plain
+        requires { IsRunOf accepted.now self.old ram.old heap.old statics.old }
+        ensures follows { (o : Outcome Cell)
+            → IsReached accepted.now o
+            → AreWordsOf accepted.now self.old ram.old heap.old statics.old o
+            → Follows accepted.now budget o self.new ram.new heap.new statics.new result }
+        ensures run { IsRunOf accepted.now self.new ram.new heap.new statics.new }
+    {
+        match self.ending {
+            Some(ending) => ending,
+            None => self.go_on(accepted.world(), ram, heap, statics, budget),
+        }
+    }
+
+    /// The same of a run that has not ended.
+    fn go_on(
+        &mut self,
+        world: &World<'_>,
+        ram: &mut [u16],
+        heap: &mut [u16],
+        statics: &mut [u16],
+        budget: u64,
+    ) -> Plain
+        requires accepted { AreAccepted world.now }
+        requires run { IsRunOf world.now self.old ram.old heap.old statics.old }
+        requires going { self.old.ending ≡ None }
+        ensures follows { (o : Outcome Cell)
+            → IsReached world.now o
+            → AreWordsOf world.now self.old ram.old heap.old statics.old o
+            → Follows world.now budget o self.new ram.new heap.new statics.new result }
+        ensures run { IsRunOf world.now self.new ram.new heap.new statics.new }
+    {
+        typed_code_never_fails(world);
+        words_run_alike(world);
+        runs_are_runs_of_steps(world);
+        runs_exist(world);
+        starts_are_shaped(world);
+        TaggedStore::tests_suffice(world);
+        let mut store = WordStore::over(world, ram, heap, statics, self.counts);
+        let ending = vm_runs::run(&mut store, world, Known::Verified, budget);
+        self.counts = store.counts();
+        self.ending = plain(ending);
+        spent_or(self.ending)
+    }
+
+    /// The value of a static field, by its number in the world.
+    pub fn static_value(&self, accepted: &Accepted<'_>, statics: &[u16], n: u16) -> Value
+        requires sized { length statics.now ≡ static_cells accepted.now }
+        requires field { n < length accepted.now.statics }
+        ensures { (s : State Cell) → AreStaticsOf statics.now s → static_value tagged accepted.now n s ≡ Some result }
+    {
+        field_value(accepted.world(), statics, n)
+    }
+
+    /// The type of the array of a handle; none where this is no array of booleans, bytes, shorts or ints.
+    pub fn array_kind(&self, _accepted: &Accepted<'_>, heap: &[u16], handle: u16) -> Option<Ty>
+        requires { AreObjectsLaid heap.now self.now.counts }
+        ensures { (s : State Cell) → AreObjectsOf heap.now self.now.counts s → array_kind s handle ≡ result }
+    {
+        numbers_of(heap, self.counts, handle)
+    }
+
+    /// How many elements such an array has.
+    pub fn array_length(&self, _accepted: &Accepted<'_>, heap: &[u16], handle: u16) -> Option<u16>
+        requires { AreObjectsLaid heap.now self.now.counts }
+        ensures { (s : State Cell) → AreObjectsOf heap.now self.now.counts s → array_length s handle ≡ result }
+    {
+        length_of(heap, self.counts, handle)
+    }
+
+    /// The number in an element of such an array; none outside of it.
+    pub fn array_value(
+        &self,
+        accepted: &Accepted<'_>,
+        heap: &[u16],
+        handle: u16,
+        element: u16,
+    ) -> Option<i32>
+        requires { AreObjectsLaid heap.now self.now.counts }
+        ensures { (s : State Cell) → AreObjectsOf heap.now self.now.counts s → array_value tagged s handle element ≡ result }
+    {
+        states_erase(accepted.world());
+        number_at(heap, self.counts, handle, element)
+    }
+}
+
+/// The value of a static field in the words of all.
+fn field_value(world: &World<'_>, statics: &[u16], n: u16) -> Value
+    requires sized { length statics.now ≡ static_cells world.now }
+    requires field { n < length world.now.statics }
+    ensures { (s : State Cell) → AreStaticsOf statics.now s → static_value tagged world.now n s ≡ Some result }
+{
+    slots_are_inside(world);
+    states_erase(world);
+    let field = world.static_field(n);
+    value_at(statics, field.slot, field.kind)
+}
+
+/// The ending, which is no fault.
+fn plain(ending: Option<Ending>) -> Option<Plain>
+    requires { IfSome ending IsPlainEnding }
+    ensures { option_map endings.Plain result ≡ ending }
+{
+    match ending {
+        None => None,
+        Some(Ending::Plain(plain)) => Some(plain),
+        Some(Ending::Faulted(_)) => unreachable!(),
+    }
+}
+
+/// The ending, and `Spent` where there is none.
+fn spent_or(ending: Option<Plain>) -> Plain
+    ensures { result ≡ unwrap_or ending Spent }
+{
+    match ending {
+        Some(plain) => plain,
+        None => Plain::Spent,
+    }
+}
