@@ -1,0 +1,5 @@
+pub mod Changes
+pub mod Written
+pub mod Rewritten
+pub mod Laying
+pub mod Laws
