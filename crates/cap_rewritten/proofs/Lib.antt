@@ -5,3 +5,5 @@ pub mod Agreed
 pub mod Zipped
 pub mod Bare
 pub mod Kept
+pub mod Sized
+pub mod Headers
