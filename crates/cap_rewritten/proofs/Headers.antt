@@ -112,7 +112,7 @@ rest_moved false first m n after xs ys h e s =
 
 -- ---- the same bytes at another offset
 
-some_bytes : (o : Option ℕ) → (j : ℕ) × (size_by o ≡ suc j)
+pub some_bytes : (o : Option ℕ) → (j : ℕ) × (size_by o ≡ suc j)
 some_bytes None = (1, refl)
 some_bytes (Some first) = by (nat_le 128 first)
   where

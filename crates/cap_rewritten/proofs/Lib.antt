@@ -7,3 +7,4 @@ pub mod Bare
 pub mod Kept
 pub mod Sized
 pub mod Headers
+pub mod Facts

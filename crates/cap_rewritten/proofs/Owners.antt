@@ -133,7 +133,7 @@ rises : (a n m : ℕ) → n ≤ m → nat_lt a n ≡ true → nat_lt a m ≡ tru
 rises a n m h e = grind arith
 
 -- a piece before the key ends before the number
-ends_before : {X : Type 0} (size key : X → ℕ) (xs : List X) (n : ℕ) (x : X) → Has xs x → key x < n → below size key xs (key x) + size x ≤ below size key xs n
+pub ends_before : {X : Type 0} (size key : X → ℕ) (xs : List X) (n : ℕ) (x : X) → Has xs x → key x < n → below size key xs (key x) + size x ≤ below size key xs n
 ends_before size key xs n x h lt =
     sum_more size (is_below key (key x)) (is_below key n) xs x (λ y e. rises (key y) (key x) n (omega arith) e) (itself (key x)) (before (key x) n lt) h
   where
@@ -142,7 +142,7 @@ ends_before size key xs n x h lt =
     before : (a n : ℕ) → a < n → nat_lt a n ≡ true
     before a n h = grind arith
 
-begins_after : {X : Type 0} (size key : X → ℕ) (xs : List X) (n m : ℕ) → n ≤ m → below size key xs n ≤ below size key xs m
+pub begins_after : {X : Type 0} (size key : X → ℕ) (xs : List X) (n m : ℕ) → n ≤ m → below size key xs n ≤ below size key xs m
 begins_after size key xs n m h = sum_le size (is_below key n) (is_below key m) xs (λ y e. rises (key y) n m h e)
 
 after_it : (b : Bool) (k n : ℕ) → n ≤ k → b && nat_lt k n ≡ false
