@@ -94,7 +94,7 @@ pub record WasWell (p : PackageRecord) (m : Method) : Type 0 where
   pub registers : header.nargs + header.max_locals ≤ 255
   pub arguments : arguments_fault p.methods.info p.description m ≡ None
 
-few_by : (b : Bool) (f : PackFault) → (if b then Some f else None) ≡ None → b ≡ false
+pub few_by : (b : Bool) (f : PackFault) → (if b then Some f else None) ≡ None → b ≡ false
 few_by true f e = absurd cc
 few_by false f e = refl
 

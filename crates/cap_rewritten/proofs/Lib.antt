@@ -8,3 +8,5 @@ pub mod Kept
 pub mod Sized
 pub mod Headers
 pub mod Facts
+pub mod Standing
+pub mod Names

@@ -63,6 +63,14 @@ pub faults_map : {F X Y : Type 0} (f : Y → Option F) (g : X → Y) (xs : List 
 faults_map f g [] = refl
 faults_map f g (x ∷ xs) = ap (cons_option (f (g x))) (faults_map f g xs)
 
+options_append : {F : Type 0} (o : Option F) (xs ys : List F) → cons_option o (xs ++ ys) ≡ cons_option o xs ++ ys
+options_append None xs ys = refl
+options_append (Some f) xs ys = refl
+
+pub faults_append : {F X : Type 0} (f : X → Option F) (xs ys : List X) → filter_map f (xs ++ ys) ≡ filter_map f xs ++ filter_map f ys
+faults_append f [] ys = refl
+faults_append f (x ∷ xs) ys = ap (cons_option (f x)) (faults_append f xs ys) ∙ options_append (f x) (filter_map f xs) (filter_map f ys)
+
 pub faults_same : {F X : Type 0} (f g : X → Option F) (xs : List X) → ((x : X) → f x ≡ g x) → filter_map f xs ≡ filter_map g xs
 faults_same f g [] h = refl
 faults_same f g (x ∷ xs) h = ap (λ o. cons_option o (filter_map f xs)) (h x) ∙ ap (cons_option (g x)) (faults_same f g xs h)
