@@ -10,3 +10,4 @@ pub mod Headers
 pub mod Facts
 pub mod Standing
 pub mod Names
+pub mod Handlers

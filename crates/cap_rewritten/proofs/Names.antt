@@ -72,7 +72,7 @@ names_now cs offset e =
     ∙ any_map (λ (m : Method). m.method_offset == f.x.now.method_offset) now_of cs
     ∙ any_has (λ (c : Change). c.now.method_offset == f.x.now.method_offset) cs f.x f.has (same_number f.x.now.method_offset)
 
-is_told : (b : Bool) (f : PackFault) → (if b then None else Some f) ≡ None → b ≡ true
+pub is_told : (b : Bool) (f : PackFault) → (if b then None else Some f) ≡ None → b ≡ true
 is_told true f e = refl
 is_told false f e = absurd cc
 

@@ -58,7 +58,7 @@ all_apart p (m ∷ ms) w e =
     split : (m : Method) (ms : List Method) → filter_map (overlap_pair p.methods.info) (pairs (m ∷ ms)) ≡ filter_map (overlap_pair p.methods.info) (map (λ y. (m, y)) ms) ++ filter_map (overlap_pair p.methods.info) (pairs ms)
     split m ms = faults_append (overlap_pair p.methods.info) (map (λ y. (m, y)) ms) (pairs ms)
 
-distinct_map : {X Y : Type 0} (key : Y → ℕ) (g : X → Y) (xs : List X) → Distinct key (map g xs) → Distinct (λ x. key (g x)) xs
+pub distinct_map : {X Y : Type 0} (key : Y → ℕ) (g : X → Y) (xs : List X) → Distinct key (map g xs) → Distinct (λ x. key (g x)) xs
 distinct_map key g [] d = tt
 distinct_map key g (x ∷ xs) d = (map_each (λ y. key y ≡ key (g x) → ⊥) g xs d.0, distinct_map key g xs d.1)
 
