@@ -84,6 +84,46 @@ agrees parts p h =
     }
 
 pub agreed : (parts : List Lent) (p : PackageRecord) → Agrees parts p → AllEmpty (conditions_of parts p)
-agreed parts p a = (a.forms, (a.sizes, (a.overlaps, (a.outside,
-    (a.imports, (a.applets, (a.image, (a.arrays, (a.array_sizes, (a.pool, (a.arguments, (a.instances, (a.image_sum, (a.bare,
-    (a.handlers, (a.statics, (a.names, (a.classes, (a.registers, (a.types, (a.places, (a.lengths, (a.exports, tt)))))))))))))))))))))))
+agreed parts p a = (
+  a.forms,
+  (
+    a.sizes,
+    (
+      a.overlaps,
+      (
+        a.outside,
+        (
+          a.imports,
+          (
+            a.applets,
+            (
+              a.image,
+              (
+                a.arrays,
+                (
+                  a.array_sizes,
+                  (
+                    a.pool,
+                    (
+                      a.arguments,
+                      (
+                        a.instances,
+                        (
+                          a.image_sum,
+                          (
+                            a.bare,
+                            (a.handlers, (a.statics, (a.names, (a.classes, (a.registers, (a.types, (a.places, (a.lengths, (a.exports, tt))))))))),
+                          ),
+                        ),
+                      ),
+                    ),
+                  ),
+                ),
+              ),
+            ),
+          ),
+        ),
+      ),
+    ),
+  ),
+)

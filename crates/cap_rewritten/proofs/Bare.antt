@@ -1,21 +1,18 @@
 -- What the Descriptor and the Class component tell of a package with other code but for the places of methods.
-use Rattle.std.proofs.Common.{◌≡◌, ◌≤◌, ◌+◌, ◌-◌, ℕ, List, [], ◌∷◌, ◌++◌, length, take, drop, map, Bool, true, false, ◌||◌, ◌&&◌, cond, Option, Some, None, option_map, option_and_then, refl, sym, ap, subst, ◌∙◌, arith}
-use Rattle.std.specs.Prelude.{if◌then◌else◌, ◌==◌, nat_le, nat_lt}
+use Rattle.std.proofs.Common.{◌≡◌, ◌+◌, ◌-◌, ℕ, List, [], ◌∷◌, ◌++◌, length, drop, map, Bool, true, false, ◌||◌, ◌&&◌, Option, Some, None, option_and_then, refl, sym, ap, ◌∙◌}
+use Rattle.std.specs.Prelude.{if◌then◌else◌, ◌==◌, nat_le}
 use Rattle.std.specs.List.{list_any}
 use Rattle.std.proofs.lemmas.List.{map-append, drop-drop}
-use Rattle.byteorder.specs.Endian.{big_number}
 use Rattle.cap_bytes.specs.Number.{number_at}
 use Rattle.cap_class.specs.ClassFormat.{is_interface}
 use Rattle.cap_class.specs.ClassFormat as of_class
-use Rattle.cap_desc.specs.declared.type_item.TypeItem.{TypeItem}
-use Rattle.cap_desc.specs.DescriptorFormat.{Method, Field, Class}
+use Rattle.cap_desc.specs.DescriptorFormat.{Method, Class}
 use Rattle.cap_desc.specs.Members.{methods_of, methods_in, methods_but, fields_of}
-use Rattle.cap_desc.specs.TypeFormat.{types_at, type_at, nibbles_at, nibbles, types_in, one_type_in}
+use Rattle.cap_desc.specs.TypeFormat.{types_at, type_at, nibbles_at, types_in, one_type_in}
 use Rattle.cap_components.specs.Descriptions.{Description, argument_words, field_type, words_in, no_void}
-use Rattle.cap_components.specs.PackageRecord.{PackageRecord, names_interface}
+use Rattle.cap_components.specs.PackageRecord.{names_interface}
 use Rattle.cap_renewal.specs.ClassEdits.{renewed_class}
 use Rattle.cap_rewritten.specs.Rewritten.{bare_method, bare_class, HasSameDescription}
-use Rattle.cap_rewritten.proofs.Lists.{Each}
 
 -- ---- interfaces
 

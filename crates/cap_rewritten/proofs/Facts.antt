@@ -1,35 +1,30 @@
 -- What is known of each method before and after.
-use Rattle.std.proofs.Common.{◌≡◌, ◌≤◌, ◌<◌, ◌+◌, ◌*◌, ℕ, List, [], ◌∷◌, length, map, sum_by, filter, filter_map, All, Bool, true, false, Option, Some, None, ◌||◌, ◌&&◌, not, refl, sym, ap, subst, ◌∙◌, arith, ltb-true, ltb-false, ltb}
-use Rattle.std.specs.Prelude.{if◌then◌else◌, nat_lt, nat_le, ◌==◌}
+use Rattle.std.proofs.Common.{◌≡◌, ◌≤◌, ◌+◌, ℕ, List, [], ◌∷◌, length, map, filter_map, Bool, true, false, Option, Some, None, not, refl, sym, ap, subst, ◌∙◌, arith, ltb-false}
+use Rattle.std.specs.Prelude.{if◌then◌else◌, nat_lt, ◌==◌}
 use Rattle.std.specs.Int.RustNames.{bit_and}
 use Rattle.std.proofs.lemmas.Bool.{false≢true}
-use Rattle.cap_bytes.specs.Number.{number_at}
 use Rattle.cap_method.specs.MethodFormat.{Header}
 use Rattle.cap_desc.specs.DescriptorFormat.{Method}
 use Rattle.cap_components.specs.declared.fault.PackFault.{PackFault}
-use Rattle.cap_components.specs.declared.fault.PackFault.TheVariants.{MethodOutside}
-use Rattle.cap_components.specs.Descriptions.{Description, argument_words}
-use Rattle.cap_components.specs.MethodPlaces.{size_by}
+use Rattle.cap_components.specs.Descriptions.{argument_words}
 use Rattle.cap_components.specs.Parts.{Lent}
 use Rattle.cap_components.specs.PackageRecord.{PackageRecord, described, names_interface}
-use Rattle.cap_package.specs.MethodChecks.{code_start, code_end, outside_fault}
+use Rattle.cap_package.specs.MethodChecks.{code_end, outside_fault}
 use Rattle.cap_package.specs.HeaderChecks.{header_in, is_abstract, is_static, registers_fault, registers_by, length_fault, length_by, arguments_fault, arguments_by, abstract_fault, abstract_by}
 use Rattle.cap_package.proofs.HeaderLaws.{has-header, ends-within}
 use Rattle.cap_laying.specs.HeaderBytes.{header_of, is_compact}
 use Rattle.cap_laying.specs.Member.{numbers_of}
 use Rattle.jc_decode.specs.declared.symbols.Laid.{Laid}
 use Rattle.cap_rewritten.specs.Changes.{Source, Change, sources, changes, now_at, laid_but}
-use Rattle.cap_rewritten.specs.Written.{HasCode, HasHeader, IsAs, IsWritten, size_in, methods_begin, stood_before}
+use Rattle.cap_rewritten.specs.Written.{IsAs, IsWritten}
 use Rattle.cap_rewritten.specs.Rewritten.{bare_method, IsRewritten}
-use Rattle.cap_rewritten.specs.Laying.{IsCodeFor, IsFor, IsLaidFor, AreLaidFor}
-use Rattle.cap_rewritten.proofs.Lists.{Each, Has, each_at, each_of, each_all, each_map, map_each, none_each, each_none, faults_map}
-use Rattle.cap_rewritten.proofs.Sums.{sum_beside}
-use Rattle.cap_rewritten.proofs.Owners.{below}
+use Rattle.cap_rewritten.specs.Laying.{IsFor, IsLaidFor, AreLaidFor}
+use Rattle.cap_rewritten.proofs.Lists.{Each, Has, each_at, each_of, each_all, map_each, none_each, each_none, faults_map}
 use Rattle.cap_rewritten.proofs.Agreed.{Agrees}
 use Rattle.cap_rewritten.proofs.Zipped.{length_map, now_of, source_of, method_of, old_of, changes_now, changes_source, sources_method, length_but}
 use Rattle.cap_rewritten.proofs.Bare.{but_same, same_interfaces, alike, same_arguments}
 use Rattle.cap_rewritten.proofs.Kept.{map_twice}
-use Rattle.cap_rewritten.proofs.Headers.{moved, some_bytes}
+use Rattle.cap_rewritten.proofs.Headers.{moved}
 
 -- ---- the lists
 
@@ -231,6 +226,7 @@ argued old m h k (Some words) e f n =
     turned : (b : Bool) (f : PackFault) → (if b then None else Some f) ≡ None → (if not b then Some f else None) ≡ None
     turned true f e = refl
     turned false f e = e
+
     back : (b : Bool) (f : PackFault) → not b ≡ false → (if b then None else Some f) ≡ None
     back true f e = refl
     back false f e = absurd (false≢true (sym e))

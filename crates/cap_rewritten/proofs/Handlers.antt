@@ -4,7 +4,6 @@ use Rattle.std.specs.Prelude.{if◌then◌else◌, nat_lt, nat_le, ◌==◌}
 use Rattle.std.proofs.lemmas.Bool.{false≢true, leb-true}
 use Rattle.cap_method.specs.declared.handler.HandlerInfo.{HandlerInfo}
 use Rattle.cap_desc.specs.DescriptorFormat.{Method}
-use Rattle.cap_components.specs.declared.fault.PackFault.{PackFault}
 use Rattle.cap_components.specs.declared.fault.PackFault.TheVariants.{HandlerOutside}
 use Rattle.cap_components.specs.Parts.{Lent}
 use Rattle.cap_components.specs.PackageRecord.{PackageRecord, described, handlers_of}
@@ -13,13 +12,13 @@ use Rattle.cap_package.specs.HandlerChecks.{claims, owners, is_within, has_home,
 use Rattle.cap_laying.specs.HandlerTable.{AreInside, entries_at}
 use Rattle.jc_decode.specs.declared.symbols.Laid.{Laid}
 use Rattle.jc_decode.specs.declared.symbols.Handler.{Handler}
-use Rattle.cap_rewritten.specs.Changes.{Source, Change, changes, sources, sources_from}
-use Rattle.cap_rewritten.specs.Written.{HasCode, HasHeader, IsAs, IsWritten, handlers_in, caught_before, block_of}
+use Rattle.cap_rewritten.specs.Changes.{Source, Change, changes, sources_from}
+use Rattle.cap_rewritten.specs.Written.{IsAs, IsWritten, handlers_in, block_of}
 use Rattle.cap_rewritten.specs.Rewritten.{IsRewritten}
 use Rattle.cap_rewritten.specs.Laying.{IsFor, AreLaidFor}
 use Rattle.cap_rewritten.proofs.Lists.{Each, Has, each_at, each_of, none_each, each_none, none_append, append_none, filter_map_in, filter_alike, has_filter}
 use Rattle.cap_rewritten.proofs.Sums.{sum_beside}
-use Rattle.cap_rewritten.proofs.Owners.{below, is_below, lies_in, Distinct, owned, IsOwned}
+use Rattle.cap_rewritten.proofs.Owners.{below, is_below, lies_in, Distinct, owned}
 use Rattle.cap_rewritten.proofs.Agreed.{Agrees}
 use Rattle.cap_rewritten.proofs.Zipped.{now_of, old_of, source_of, from_number}
 use Rattle.cap_rewritten.proofs.Facts.{Fact, facts, news, olds, froms, old_each, all_written, few_by, no_faults}
@@ -86,9 +85,11 @@ distinct_numbers : (n : ℕ) (ms : List Method) (ls : List (Option Laid)) → Di
 distinct_numbers n [] ls = tt
 distinct_numbers n (m ∷ ms) [] = tt
 distinct_numbers n (m ∷ ms) (l ∷ ls) =
-    let later = from_number (n + 1) (n + 1) ms ls (omega arith) in
-    (each_of (λ (s : Source). s.number ≡ n → ⊥) (sources_from (n + 1) ms ls)
-    (λ s h. λ e. let k = each_at (λ (x : Source). n + 1 ≤ x.number) (sources_from (n + 1) ms ls) s later h in absurd (omega arith)), distinct_numbers (n + 1) ms ls)
+    let later = from_number (n + 1) (n + 1) ms ls (omega arith) in (
+      each_of (λ (s : Source). s.number ≡ n → ⊥) (sources_from (n + 1) ms ls)
+          (λ s h. λ e. let k = each_at (λ (x : Source). n + 1 ≤ x.number) (sources_from (n + 1) ms ls) s later h in absurd (omega arith)),
+      distinct_numbers (n + 1) ms ls,
+    )
 
 many_has : {X : Type 0} (xs : List X) (x : X) → Has xs x → 1 ≤ length xs
 many_has [] x h = absurd h
@@ -158,11 +159,12 @@ block p c = block_of p c.source
 blocks_apart : (p : PackageRecord) (cs : List Change) → Each (λ (c : Change). ClaimsInside (length p.methods.handlers) c.source.method) cs → Distinct (λ (c : Change). c.source.number) cs
     → OwnedOnce (length p.methods.handlers) (map old_of cs) → Distinct (block p) cs
 blocks_apart p [] x n o = tt
-blocks_apart p (c ∷ cs) x n o =
-    (each_of (λ (d : Change). block p d ≡ block p c → ⊥) cs
-    (λ d h. blocks_differ p c d cs (c.source.method.handler_count == 0) (d.source.method.handler_count == 0) refl refl h
-    (each_at (λ (y : Change). y.source.number ≡ c.source.number → ⊥) cs d n.0 h) x.0 (each_at (λ (y : Change). ClaimsInside (length p.methods.handlers) y.source.method) cs d x.1 h) o),
-    blocks_apart p cs x.1 n.1 (later_once (length p.methods.handlers) c cs o))
+blocks_apart p (c ∷ cs) x n o = (
+  each_of (λ (d : Change). block p d ≡ block p c → ⊥) cs
+      (λ d h. blocks_differ p c d cs (c.source.method.handler_count == 0) (d.source.method.handler_count == 0) refl refl h
+      (each_at (λ (y : Change). y.source.number ≡ c.source.number → ⊥) cs d n.0 h) x.0 (each_at (λ (y : Change). ClaimsInside (length p.methods.handlers) y.source.method) cs d x.1 h) o),
+  blocks_apart p cs x.1 n.1 (later_once (length p.methods.handlers) c cs o),
+)
 
 pub all_blocks : (parts : List Lent) (p q : PackageRecord) (laid : List (Option Laid)) → Agrees parts p → IsRewritten p laid q → Distinct (block p) (changes p laid q)
 all_blocks parts p q laid a r =
@@ -244,9 +246,11 @@ entry_within start size (h ∷ hs) zero e a g =
     start_or : ℕ → Option HandlerInfo → ℕ
     start_or d None = d
     start_or d (Some x) = x.start
+
     length_or : ℕ → Option HandlerInfo → ℕ
     length_or d None = d
     length_or d (Some x) = x.length
+
     entry_or : ℕ → Option HandlerInfo → ℕ
     entry_or d None = d
     entry_or d (Some x) = x.entry
@@ -268,6 +272,7 @@ within_code info m size h e i =
   where
     le_true : (a b : ℕ) → a ≤ b → nat_le a b ≡ true
     le_true a b h = grind arith
+
     lt_true : (a b : ℕ) → a < b → nat_lt a b ≡ true
     lt_true a b h = grind arith
 

@@ -1,26 +1,22 @@
 -- Conditions on a package that ask for nothing that other code changes.
-use Rattle.std.proofs.Common.{◌≡◌, ◌≤◌, ◌+◌, ℕ, List, [], ◌∷◌, ◌++◌, length, map, sum_by, count_by, filter_map, find, Bool, true, false, cond, Option, Some, None, option_map, refl, sym, ap, subst, ◌∙◌, arith}
-use Rattle.std.specs.Prelude.{if◌then◌else◌, ◌==◌, nat_lt}
-use Rattle.std.specs.List.{list_any}
+use Rattle.std.proofs.Common.{◌≡◌, ℕ, List, [], ◌∷◌, ◌++◌, length, map, sum_by, count_by, filter_map, find, Bool, true, false, cond, Option, Some, None, option_map, refl, sym, ap, ◌∙◌, arith}
+use Rattle.std.specs.Prelude.{if◌then◌else◌, ◌==◌}
 use Rattle.std.proofs.lemmas.List.Sums.{sum_by-cons}
-use Rattle.cap_frame.specs.AppletFormat.{Applet}
 use Rattle.cap_frame.specs.DirectoryFormat.{DirectoryItems}
 use Rattle.cap_pool.specs.ExportFormat.{Exported}
 use Rattle.cap_class.specs.ClassFormat.{is_interface}
 use Rattle.cap_class.specs.ClassFormat as of_class
 use Rattle.cap_method.specs.StaticFormat.{Statics}
-use Rattle.cap_desc.specs.declared.type_item.TypeItem.{TypeItem}
 use Rattle.cap_desc.specs.DescriptorFormat.{Method, Field, Class}
 use Rattle.cap_desc.specs.Members.{methods_of}
-use Rattle.cap_components.specs.declared.fault.PackFault.{PackFault}
-use Rattle.cap_components.specs.Descriptions.{Description, words_of}
+use Rattle.cap_components.specs.Descriptions.{Description}
 use Rattle.cap_components.specs.Parts.{Lent}
-use Rattle.cap_components.specs.PackageRecord.{PackageRecord, described, interface_methods, fields, names_interface}
+use Rattle.cap_components.specs.PackageRecord.{PackageRecord, interface_methods, fields, names_interface}
 use Rattle.cap_package.specs.Pairs.{pairs}
 use Rattle.cap_package.specs.StaticChecks.{place_in, place_by, share_fault, share_by, share_pair, image_fault, image_by, array_kinds, filled_fault, filled_by, kind_at, image_offset, is_static_at, no_static_fault}
 use Rattle.cap_package.specs.NameChecks.{exported_fields, undescribed_fault, no_class_fault}
 use Rattle.cap_package.specs.TypeChecks.{field_type_fault, field_type_by, method_type_fault, method_type_by}
-use Rattle.cap_package.specs.CountChecks.{differ, array_bytes, image_bytes, instance_fault, instance_by, instance_cells, cells_of, cells_by, count_if}
+use Rattle.cap_package.specs.CountChecks.{differ, array_bytes, image_bytes, instance_fault, instance_by, cells_of, cells_by, count_if}
 use Rattle.cap_package.specs.HeaderChecks.{is_static}
 use Rattle.cap_package.specs.Agreement.{or_none}
 use Rattle.cap_package.specs.FirstFault.{disagreements}
@@ -34,7 +30,7 @@ use Rattle.cap_rewritten.specs.Rewritten.{bare_method, bare_class, HasSameDescri
 use Rattle.cap_rewritten.proofs.Lists.{none_append, append_none, faults_map, faults_same, faults_alike}
 use Rattle.cap_rewritten.proofs.Agreed.{Agrees}
 use Rattle.cap_rewritten.proofs.Zipped.{length_map}
-use Rattle.cap_rewritten.proofs.Bare.{any_map, same_interfaces, in_same, alike, AreAlike, ref_of, same_arguments, same_field}
+use Rattle.cap_rewritten.proofs.Bare.{any_map, same_interfaces, in_same, alike, ref_of, same_arguments, same_field}
 
 -- ---- lists
 

@@ -11,3 +11,4 @@ pub mod Facts
 pub mod Standing
 pub mod Names
 pub mod Handlers
+pub mod Again

@@ -1,5 +1,5 @@
 -- What names methods by their offsets names described methods after them too.
-use Rattle.std.proofs.Common.{◌≡◌, ◌≤◌, ◌<◌, ◌+◌, ℕ, suc, List, [], ◌∷◌, ◌++◌, length, map, find, filter_map, Bool, true, false, cond, Option, Some, None, option_map, ◌||◌, inl, inr, refl, sym, ap, subst, ◌∙◌, arith}
+use Rattle.std.proofs.Common.{◌≡◌, ◌≤◌, ◌<◌, ℕ, List, [], ◌∷◌, ◌++◌, length, map, find, filter_map, Bool, true, false, cond, Option, Some, None, option_map, ◌||◌, inl, inr, refl, sym, ap, ◌∙◌, arith}
 use Rattle.std.specs.Prelude.{if◌then◌else◌, ◌==◌}
 use Rattle.std.specs.List.{list_any}
 use Rattle.std.proofs.lemmas.Bool.{false≢true}
@@ -11,7 +11,6 @@ use Rattle.cap_desc.specs.DescriptorFormat.{Method}
 use Rattle.cap_components.specs.declared.fault.PackFault.{PackFault}
 use Rattle.cap_components.specs.Parts.{Lent}
 use Rattle.cap_components.specs.PackageRecord.{PackageRecord, described}
-use Rattle.cap_package.specs.MethodChecks.{code_end}
 use Rattle.cap_package.specs.NameChecks.{is_method_at, no_method_fault, no_entry_fault, table_entries, exported_methods}
 use Rattle.cap_package.specs.Agreement.{or_none}
 use Rattle.cap_package.specs.StandsFor.{StandsFor}
@@ -23,7 +22,7 @@ use Rattle.jc_decode.specs.declared.symbols.Laid.{Laid}
 use Rattle.cap_rewritten.specs.Changes.{Change, changes, stood_at, offset_by, now_at}
 use Rattle.cap_rewritten.specs.Rewritten.{IsRewritten}
 use Rattle.cap_rewritten.proofs.Lists.{Each, Has, each_at, each_of, none_each, each_none, none_append, append_none, faults_map}
-use Rattle.cap_rewritten.proofs.Agreed.{Agrees, agrees}
+use Rattle.cap_rewritten.proofs.Agreed.{agrees}
 use Rattle.cap_rewritten.proofs.Zipped.{now_of, old_of}
 use Rattle.cap_rewritten.proofs.Bare.{any_map}
 use Rattle.cap_rewritten.proofs.Kept.{map_twice}
@@ -86,9 +85,11 @@ entry_now cs offset last e = by (offset == 0xFFFF) refl
   where
     is_last : (n : ℕ) → (n == 0xFFFF) ≡ true → n ≡ 0xFFFF
     is_last n e = grind arith
+
     either : (b : Bool) (o : Option PackFault) → o ≡ None → (if b then None else o) ≡ None
     either true o e = refl
     either false o e = e
+
     by : (b : Bool) → (offset == 0xFFFF) ≡ b → (if now_at cs offset == 0xFFFF then None else no_method_fault (is_method_at (map now_of cs)) (now_at cs offset)) ≡ None
     by true h =
         let s : now_at cs offset ≡ 0xFFFF = ap (now_at cs) (is_last offset h) ∙ last in

@@ -139,6 +139,7 @@ ends_before size key xs n x h lt =
   where
     itself : (a : ℕ) → nat_lt a a ≡ false
     itself a = grind arith
+
     before : (a n : ℕ) → a < n → nat_lt a n ≡ true
     before a n h = grind arith
 
@@ -192,7 +193,7 @@ owned_at size key xs k n low high (one y e h s) =
     let high' : k < below size key xs n + size y = omega arith in
     let w = ap (below size key xs) s in
     let agree : Each (λ x. lies_in size key xs k x ≡ is_at key n x) xs = each_of (λ x. lies_in size key xs k x ≡ is_at key n x) xs
-        (λ x g. lies_at size key xs k n x g low high (λ r. let v = ap size (at_of key n xs x y e g r) in omega arith) (three (key x) n)) in
+    (λ x g. lies_at size key xs k n x g low high (λ r. let v = ap size (at_of key n xs x y e g r) in omega arith) (three (key x) n)) in
     record {
       owner = y;
       has = h;

@@ -1,7 +1,6 @@
 -- Parts whose sizes the Directory tells, and which say what every package says.
-use Rattle.std.proofs.Common.{◌≡◌, ◌-◌, ℕ, List, [], ◌∷◌, ◌++◌, length, map, filter_map, find, Bool, true, false, cond, Option, Some, None, Ok, Err, option_map, inl, inr, refl, sym, ap, subst, ◌∙◌, arith}
-use Rattle.std.specs.Prelude.{is_some, if◌then◌else◌, ◌==◌, nat_le, ◌&&◌, slice_get, unwrap_or}
-use Rattle.std.proofs.lemmas.Bool.{false≢true}
+use Rattle.std.proofs.Common.{◌≡◌, ◌-◌, ℕ, List, [], ◌∷◌, ◌++◌, length, map, filter_map, find, Bool, true, false, cond, Option, Some, None, Ok, Err, option_map, inl, inr, refl, ap, subst, ◌∙◌, arith}
+use Rattle.std.specs.Prelude.{if◌then◌else◌, ◌==◌, nat_le, ◌&&◌, slice_get, unwrap_or}
 use Rattle.cap_bytes.specs.Grammar.{Grammar}
 use Rattle.cap_bytes.specs.Spelling.{Stands, info_of, file_of}
 use Rattle.cap_bytes.proofs.Laws.{reading_where}
@@ -12,10 +11,10 @@ use Rattle.cap_frame.specs.Directory.{size_in, custom_size_in}
 use Rattle.cap_components.specs.declared.fault.PackFault.{PackFault}
 use Rattle.cap_components.specs.declared.fault.PackFault.TheVariants.{MissingPart}
 use Rattle.cap_components.specs.Parts.{Lent, held}
-use Rattle.cap_components.specs.Components.{◌>>=◌, formed, framed, info_in, read_part, read_directory}
+use Rattle.cap_components.specs.Components.{formed, info_in, read_part, read_directory}
 use Rattle.cap_components.specs.PackageRecord.{PackageRecord}
-use Rattle.cap_components.specs.PartChecks.{required, optional, components, custom_tags, absent_fault, absent_by, sized_fault, form_fault, form_by, size_fault, size_by}
-use Rattle.cap_components.specs.Saying.{Holds, Says, AreSaid}
+use Rattle.cap_components.specs.PartChecks.{required, optional, custom_tags, absent_fault, absent_by, sized_fault, form_fault, form_by, size_fault, size_by}
+use Rattle.cap_components.specs.Saying.{Says, AreSaid}
 use Rattle.cap_components.proofs.Saying.{info-read}
 use Rattle.cap_package.specs.FirstFault.{missing_parts}
 use Rattle.cap_rewritten.specs.Laws.{IsSizeOf, HasSizes}
@@ -60,16 +59,30 @@ sized_none parts d tag h = sized_by parts tag (held parts tag) (size_in d tag) r
 
 required_there : (parts : List Lent) (p : PackageRecord) → AreSaid parts p → Each (λ tag. absent_fault parts tag ≡ None) required
 required_there parts p s = (
-      there_none parts 1 s.header.1.file s.header.1.there,
-      (there_none parts 2 s.directory.1.file s.directory.1.there,
-      (there_none parts 4 s.imports.1.file s.imports.1.there,
-      (there_none parts 5 s.pool.1.file s.pool.1.there,
-      (there_none parts 6 s.classes.1.file s.classes.1.there,
-      (there_none parts 7 s.methods.file s.methods.there,
-      (there_none parts 8 s.statics.1.file s.statics.1.there,
-      (there_none parts 9 s.locations.1.file s.locations.1.there,
-      (there_none parts 11 s.description.file s.description.there, tt)))))))),
-    )
+  there_none parts 1 s.header.1.file s.header.1.there,
+  (
+    there_none parts 2 s.directory.1.file s.directory.1.there,
+    (
+      there_none parts 4 s.imports.1.file s.imports.1.there,
+      (
+        there_none parts 5 s.pool.1.file s.pool.1.there,
+        (
+          there_none parts 6 s.classes.1.file s.classes.1.there,
+          (
+            there_none parts 7 s.methods.file s.methods.there,
+            (
+              there_none parts 8 s.statics.1.file s.statics.1.there,
+              (
+                there_none parts 9 s.locations.1.file s.locations.1.there,
+                (there_none parts 11 s.description.file s.description.there, tt),
+              ),
+            ),
+          ),
+        ),
+      ),
+    ),
+  ),
+)
 
 pub nothing_missing : (parts : List Lent) (p : PackageRecord) → AreSaid parts p → HasSizes parts p.directory → missing_parts parts (read_directory parts) ≡ []
 nothing_missing parts p s h =

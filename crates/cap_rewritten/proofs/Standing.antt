@@ -1,10 +1,8 @@
 -- Methods that stand one after the other share no byte and lie in the info.
-use Rattle.std.proofs.Common.{◌≡◌, ◌≤◌, ◌<◌, ◌+◌, ◌*◌, ℕ, suc, List, [], ◌∷◌, ◌++◌, length, map, sum_by, filter, filter_map, min, max, Bool, true, false, Option, Some, None, ◌||◌, ◌⊎◌, inl, inr, refl, sym, ap, subst, ◌∙◌, arith, ltb-true, ltb-false, ltb}
-use Rattle.std.specs.Prelude.{if◌then◌else◌, nat_lt, nat_le}
-use Rattle.std.proofs.lemmas.Bool.{false≢true}
+use Rattle.std.proofs.Common.{◌≡◌, ◌≤◌, ◌<◌, ◌+◌, ◌*◌, ℕ, List, [], ◌∷◌, ◌++◌, length, map, sum_by, filter_map, min, max, Bool, true, false, Option, None, ◌⊎◌, inl, inr, refl, sym, ap, subst, ◌∙◌, arith, ltb-true, ltb-false}
+use Rattle.std.specs.Prelude.{nat_lt}
 use Rattle.cap_bytes.specs.Number.{number_at}
 use Rattle.cap_desc.specs.DescriptorFormat.{Method}
-use Rattle.cap_components.specs.declared.fault.PackFault.{PackFault}
 use Rattle.cap_components.specs.MethodPlaces.{size_by}
 use Rattle.cap_components.specs.Parts.{Lent}
 use Rattle.cap_components.specs.PackageRecord.{PackageRecord, described}
@@ -12,9 +10,9 @@ use Rattle.cap_package.specs.Pairs.{pairs}
 use Rattle.cap_package.specs.MethodChecks.{code_start, code_end, share_byte, overlap_fault, overlap_pair, outside_fault}
 use Rattle.jc_decode.specs.declared.symbols.Laid.{Laid}
 use Rattle.cap_rewritten.specs.Changes.{Change, changes}
-use Rattle.cap_rewritten.specs.Written.{IsWritten, size_in, methods_begin, stood_before}
+use Rattle.cap_rewritten.specs.Written.{IsWritten, size_in, methods_begin}
 use Rattle.cap_rewritten.specs.Rewritten.{IsRewritten}
-use Rattle.cap_rewritten.proofs.Lists.{Each, Has, each_at, each_of, each_map, map_each, none_each, each_none, none_append, append_none, faults_map, faults_append}
+use Rattle.cap_rewritten.proofs.Lists.{Each, Has, each_at, each_of, map_each, none_each, each_none, none_append, append_none, faults_map, faults_append}
 use Rattle.cap_rewritten.proofs.Sums.{sum_beside}
 use Rattle.cap_rewritten.proofs.Owners.{below, is_below, Distinct, ends_before}
 use Rattle.cap_rewritten.proofs.Agreed.{Agrees}

@@ -1,7 +1,6 @@
 -- Which code may be laid for the methods of a package.
 use Rattle.std.specs.Prelude.{◌≡◌, ◌≤◌, ◌+◌, true, List, length, All, Option, Some, None}
 use Rattle.cap_method.specs.MethodFormat.{Header}
-use Rattle.cap_desc.specs.DescriptorFormat.{Method}
 use Rattle.cap_components.specs.PackageRecord.{PackageRecord}
 use Rattle.cap_package.specs.HeaderChecks.{header_in, is_abstract}
 use Rattle.cap_laying.specs.HandlerTable.{AreInside}

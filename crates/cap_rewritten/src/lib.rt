@@ -4,3 +4,6 @@
 //! `cap_renewal`, which say how methods and the offsets of methods are written.
 #![tactic(auto)]
 
+mod laws;
+
+pub use laws::rewritten_is_a_package;
