@@ -12,3 +12,4 @@ pub mod Standing
 pub mod Names
 pub mod Handlers
 pub mod Again
+pub mod Slots

@@ -3,3 +3,4 @@ pub mod Written
 pub mod Rewritten
 pub mod Laying
 pub mod Laws
+pub mod Writing
