@@ -33,7 +33,7 @@ no_item zero (suc b) = refl
 no_item (suc a) zero = refl
 no_item (suc a) (suc b) = refl
 
-drop_take : (k s : ℕ) (ys : List ℕ) → drop k (take (k + s) ys) ≡ take s (drop k ys)
+pub drop_take : (k s : ℕ) (ys : List ℕ) → drop k (take (k + s) ys) ≡ take s (drop k ys)
 drop_take zero s ys = let e : 0 + s ≡ s = omega arith in rw e refl
 drop_take (suc k) s [] = no_item (suc k + s) (suc k) ∙ sym (ap (take s) (no_item 0 (suc k)) ∙ no_item s 0)
 drop_take (suc k) s (y ∷ ys) = let e : suc k + s ≡ suc (k + s) = omega arith in rw e (drop_take k s ys)
@@ -120,7 +120,14 @@ some_bytes (Some first) = by (nat_le 128 first)
     by true = (3, refl)
     by false = (1, refl)
 
-front_of : (j : ℕ) (xs : List ℕ) → take 1 (take (suc j) xs) ≡ take 1 xs
+-- the first byte is the same
+pub first_same : (m n : ℕ) (xs ys : List ℕ) → take 1 (drop n ys) ≡ take 1 (drop m xs) → number_at 1 n ys ≡ number_at 1 m xs
+first_same m n xs ys e =
+    let a : n + 0 ≡ n = omega arith in
+    let b : m + 0 ≡ m = omega arith in
+    ap (λ i. number_at 1 i ys) (sym a) ∙ same_byte 0 0 m n xs ys e ∙ ap (λ i. number_at 1 i xs) b
+
+pub front_of : (j : ℕ) (xs : List ℕ) → take 1 (take (suc j) xs) ≡ take 1 xs
 front_of j [] = refl
 front_of zero (x ∷ xs) = refl
 front_of (suc j) (x ∷ xs) = refl
@@ -138,7 +145,7 @@ unfolding lead_bytes
 moved xs ys m n h e there =
     let r = is_read xs m h there in
     let one : take 1 (drop n ys) ≡ take 1 (drop m xs) = sym (front_by (number_at 1 n ys) (drop n ys)) ∙ ap (take 1) e ∙ front_by (number_at 1 m xs) (drop m xs) in
-    let first : number_at 1 n ys ≡ number_at 1 m xs = byte_same m n xs ys one in
+    let first : number_at 1 n ys ≡ number_at 1 m xs = first_same m n xs ys one in
     let size : size_by (number_at 1 n ys) ≡ size_by (number_at 1 m xs) = ap size_by first in
     let told : size_by (number_at 1 m xs) ≡ (if nat_le 128 r.first then 4 else 2) = ap size_by r.there in
     let same : take (if nat_le 128 r.first then 4 else 2) (drop n ys) ≡ take (if nat_le 128 r.first then 4 else 2) (drop m xs) =
@@ -148,9 +155,3 @@ moved xs ys m n h e there =
       first = first;
       header = read_is ys n h (record { first = r.first; after = rest.0; there = first ∙ r.there; rest = rest.1 }) ∙ sym there;
     }
-  where
-    byte_same : (m n : ℕ) (xs ys : List ℕ) → take 1 (drop n ys) ≡ take 1 (drop m xs) → number_at 1 n ys ≡ number_at 1 m xs
-    byte_same m n xs ys e =
-        let a : n + 0 ≡ n = omega arith in
-        let b : m + 0 ≡ m = omega arith in
-        ap (λ i. number_at 1 i ys) (sym a) ∙ same_byte 0 0 m n xs ys e ∙ ap (λ i. number_at 1 i xs) b

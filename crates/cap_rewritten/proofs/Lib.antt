@@ -13,3 +13,5 @@ pub mod Names
 pub mod Handlers
 pub mod Again
 pub mod Slots
+pub mod Anew
+pub mod AsLaid
