@@ -73,7 +73,8 @@ code_at info at laid back small e =
 
 -- ---- a header
 
-pub record IsLeadAt (xs ys : List ℕ) (m n : ℕ) : Type 0 where
+pub record IsLeadAt (xs ys lead : List ℕ) (m n : ℕ) : Type 0 where
+  pub long : length lead ≡ size_by (number_at 1 m xs)
   pub bytes : lead_bytes ys n ≡ lead_bytes xs m
   pub size : size_by (number_at 1 n ys) ≡ size_by (number_at 1 m xs)
 
@@ -85,7 +86,7 @@ lead_size m xs h =
     omega (arith, a, b)
 
 -- the bytes of a header that are written at another offset are its bytes there
-pub lead_at : (m n : ℕ) (xs ys lead : List ℕ) → m + size_by (number_at 1 m xs) ≤ length xs → lead ≡ lead_bytes xs m → take (length lead) (drop n ys) ≡ lead → IsLeadAt xs ys m n
+pub lead_at : (m n : ℕ) (xs ys lead : List ℕ) → m + size_by (number_at 1 m xs) ≤ length xs → lead ≡ lead_bytes xs m → take (length lead) (drop n ys) ≡ lead → IsLeadAt xs ys lead m n
 unfolding lead_bytes
 lead_at m n xs ys lead h e t =
     let s = size_by (number_at 1 m xs) in
@@ -95,4 +96,4 @@ lead_at m n xs ys lead h e t =
     let whole' : take (suc j.0) (drop n ys) ≡ take (suc j.0) (drop m xs) = ap (λ k. take k (drop n ys)) (sym j.1) ∙ whole ∙ ap (λ k. take k (drop m xs)) j.1 in
     let one : take 1 (drop n ys) ≡ take 1 (drop m xs) = sym (front_of j.0 (drop n ys)) ∙ ap (take 1) whole' ∙ front_of j.0 (drop m xs) in
     let size : size_by (number_at 1 n ys) ≡ s = ap size_by (first_same m n xs ys one) in
-    record { bytes = ap (λ k. take k (drop n ys)) size ∙ whole; size = size }
+    record { long = long; bytes = ap (λ k. take k (drop n ys)) size ∙ whole; size = size }

@@ -47,7 +47,7 @@ sum_same f g (x ∷ xs) h =
     let r = sum_same f g xs h in
     omega arith
 
-sum_map : {X Y : Type 0} (f : Y → ℕ) (g : X → Y) (xs : List X) → sum_by f (map g xs) ≡ sum_by (λ x. f (g x)) xs
+pub sum_map : {X Y : Type 0} (f : Y → ℕ) (g : X → Y) (xs : List X) → sum_by f (map g xs) ≡ sum_by (λ x. f (g x)) xs
 sum_map f g [] = refl
 sum_map f g (x ∷ xs) =
     let a = sum_by-cons f (g x) (map g xs) in

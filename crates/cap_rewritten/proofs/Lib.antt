@@ -15,3 +15,5 @@ pub mod Again
 pub mod Slots
 pub mod Anew
 pub mod AsLaid
+pub mod Order
+pub mod Ranks

@@ -1,6 +1,6 @@
 -- Tables in which members are put at the numbers of a key.
-use Rattle.std.proofs.Common.{◌≡◌, ◌≤◌, ◌<◌, ◌+◌, ℕ, zero, suc, List, [], ◌∷◌, ◌++◌, length, map, filter, replicate, sum_by, Bool, true, false, cond, Option, Some, None, inl, inr, refl, sym, ap, subst, ◌∙◌, arith}
-use Rattle.std.specs.Prelude.{if◌then◌else◌, nat_lt, slice_set, slice_index_or}
+use Rattle.std.proofs.Common.{◌≡◌, ◌≤◌, ◌<◌, ◌+◌, ℕ, zero, suc, List, [], ◌∷◌, ◌++◌, length, map, filter, replicate, sum_by, Bool, true, false, cond, Option, Some, None, ◌⊎◌, inl, inr, refl, sym, ap, subst, ◌∙◌, arith}
+use Rattle.std.specs.Prelude.{if◌then◌else◌, nat_lt, ◌==◌, slice_set, slice_index_or}
 use Rattle.std.proofs.lemmas.List.Sums.{sum_by-cons}
 use Rattle.cap_laying.specs.declared.member.Member.{Member}
 use Rattle.cap_laying.specs.Member.{placed, by_offset, body_size, size_if, end_from}
@@ -134,6 +134,43 @@ own key table (y ∷ ms) m i f (inl s) e =
     let k : key y ≡ Some i = ap key (sym s) ∙ e in
     kept key (put_by table y (key y)) ms i (each_of (λ x. key x ≡ Some i → ⊥) ms (λ x g. each_at (Differ key y) ms x f.1 g i k)) ∙ put_same table y (key y) i f.0 k ∙ ap Some (sym s)
 own key table (y ∷ ms) m i f (inr h) e = own key (put_by table y (key y)) ms m i (free_put key table y ms (key y) refl f.1 f.2) h e
+
+held_by : (key : Member → Option ℕ) (table : List (Option Member)) (m : Member) (o : Option ℕ) (j : ℕ) (b : Member) → key m ≡ o → slot (put_by table m o) j ≡ Some b → (slot table j ≡ Some b) ⊎ ((b ≡ m) × (key b ≡ Some j))
+held_by key table m None j b k e = inl e
+held_by key table m (Some i) j b k e = at_slot table i j k e
+  where
+    at_slot : (table : List (Option Member)) (i j : ℕ) → key m ≡ Some i → slot (slice_set table i (Some m)) j ≡ Some b → (slot table j ≡ Some b) ⊎ ((b ≡ m) × (key b ≡ Some j))
+    at_slot table i j k e = by (i == j) refl
+      where
+        same : (i j : ℕ) → (i == j) ≡ true → i ≡ j
+        same i j e = grind arith
+        differ : (i j : ℕ) → (i == j) ≡ false → i ≡ j → ⊥
+        differ i j e s = absurd (grind arith)
+        first : (table : List (Option Member)) (j : ℕ) → slot (slice_set table j (Some m)) j ≡ Some b → (slot table j ≡ Some b) ⊎ (b ≡ m)
+        first [] j e = inl e
+        first (s ∷ table) zero e = let q : b ≡ m = cc in inr q
+        first (s ∷ table) (suc j) e = first table j e
+        by : (t : Bool) → (i == j) ≡ t → (slot table j ≡ Some b) ⊎ ((b ≡ m) × (key b ≡ Some j))
+        by true t =
+            let s = same i j t in
+            held (first table j (subst (λ n. slot (slice_set table n (Some m)) j ≡ Some b) s e))
+          where
+            held : (slot table j ≡ Some b) ⊎ (b ≡ m) → (slot table j ≡ Some b) ⊎ ((b ≡ m) × (key b ≡ Some j))
+            held (inl h) = inl h
+            held (inr h) = inr (h, ap key h ∙ k ∙ ap Some (same i j t))
+        by false t = inl (sym (set_other table j i m (differ i j t)) ∙ e)
+
+-- what a slot has is one of those that were put there
+pub holds : (key : Member → Option ℕ) (table : List (Option Member)) (ms : List Member) (j : ℕ) (b : Member) → slot (put_all key table ms) j ≡ Some b → (slot table j ≡ Some b) ⊎ (Has ms b × (key b ≡ Some j))
+holds key table [] j b e = inl e
+holds key table (m ∷ ms) j b e = by (holds key (put_by table m (key m)) ms j b e)
+  where
+    at_one : (slot table j ≡ Some b) ⊎ ((b ≡ m) × (key b ≡ Some j)) → (slot table j ≡ Some b) ⊎ (Has (m ∷ ms) b × (key b ≡ Some j))
+    at_one (inl h) = inl h
+    at_one (inr h) = inr (inl h.0, h.1)
+    by : (slot (put_by table m (key m)) j ≡ Some b) ⊎ (Has ms b × (key b ≡ Some j)) → (slot table j ≡ Some b) ⊎ (Has (m ∷ ms) b × (key b ≡ Some j))
+    by (inl h) = at_one (held_by key table m (key m) j b refl h)
+    by (inr h) = inr (inr h.0, h.1)
 
 -- ---- an empty table
 
