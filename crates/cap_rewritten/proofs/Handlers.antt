@@ -44,10 +44,10 @@ one_owner : (info : List ℕ) (ms : List Method) (number : ℕ) (h : HandlerInfo
 unfolding entry_fault owners
 one_owner info ms number h e = one_home info h (filter (claims number) ms) (is_told (has_home info h (filter (claims number) ms)) _ e)
 
-OwnedOnce : ℕ → List Method → Type 0
+pub OwnedOnce : ℕ → List Method → Type 0
 OwnedOnce n ms = (i : ℕ) → i < n → length (filter (claims i) ms) ≤ 1
 
-owned_once : (parts : List Lent) (p : PackageRecord) → Agrees parts p → OwnedOnce (length p.methods.handlers) (described p)
+pub owned_once : (parts : List Lent) (p : PackageRecord) → Agrees parts p → OwnedOnce (length p.methods.handlers) (described p)
 unfolding OwnedOnce
 owned_once parts p a i lt =
     let info = p.methods.info in
@@ -57,10 +57,10 @@ owned_once parts p a i lt =
     let e : 0 + i ≡ i = omega arith in
     subst (λ k. length (filter (claims k) ms) ≤ 1) e (one_owner info ms (0 + i) at.0 at.1)
 
-ClaimsInside : ℕ → Method → Type 0
+pub ClaimsInside : ℕ → Method → Type 0
 ClaimsInside n m = (m.handler_count == 0) ≡ false → m.handler_index + m.handler_count ≤ n
 
-some_count : (n : ℕ) → (n == 0) ≡ false → 1 ≤ n
+pub some_count : (n : ℕ) → (n == 0) ≡ false → 1 ≤ n
 some_count n e = grind arith
 
 claims_inside : (n : ℕ) (m : Method) → claim_fault n m ≡ None → ClaimsInside n m
@@ -70,7 +70,7 @@ claims_inside n m e some =
     let g : nat_lt n (m.handler_index + m.handler_count) ≡ false = ap (λ b. not b && nat_lt n (m.handler_index + m.handler_count)) (sym some) ∙ f in
     grind arith
 
-all_claims : (parts : List Lent) (p : PackageRecord) → Agrees parts p → Each (ClaimsInside (length p.methods.handlers)) (described p)
+pub all_claims : (parts : List Lent) (p : PackageRecord) → Agrees parts p → Each (ClaimsInside (length p.methods.handlers)) (described p)
 all_claims parts p a =
     let info = p.methods.info in
     let ms = described p in
@@ -81,7 +81,7 @@ all_claims parts p a =
 
 -- ---- blocks are apart
 
-distinct_numbers : (n : ℕ) (ms : List Method) (ls : List (Option Laid)) → Distinct (λ (s : Source). s.number) (sources_from n ms ls)
+pub distinct_numbers : (n : ℕ) (ms : List Method) (ls : List (Option Laid)) → Distinct (λ (s : Source). s.number) (sources_from n ms ls)
 distinct_numbers n [] ls = tt
 distinct_numbers n (m ∷ ms) [] = tt
 distinct_numbers n (m ∷ ms) (l ∷ ls) =
@@ -156,7 +156,7 @@ later_once n c cs o i lt =
 abbrev pub block : PackageRecord → Change → ℕ
 block p c = block_of p c.source
 
-blocks_apart : (p : PackageRecord) (cs : List Change) → Each (λ (c : Change). ClaimsInside (length p.methods.handlers) c.source.method) cs → Distinct (λ (c : Change). c.source.number) cs
+pub blocks_apart : (p : PackageRecord) (cs : List Change) → Each (λ (c : Change). ClaimsInside (length p.methods.handlers) c.source.method) cs → Distinct (λ (c : Change). c.source.number) cs
     → OwnedOnce (length p.methods.handlers) (map old_of cs) → Distinct (block p) cs
 blocks_apart p [] x n o = tt
 blocks_apart p (c ∷ cs) x n o = (

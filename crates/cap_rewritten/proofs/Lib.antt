@@ -17,3 +17,4 @@ pub mod Anew
 pub mod AsLaid
 pub mod Order
 pub mod Ranks
+pub mod Known
