@@ -1,0 +1,6 @@
+pub mod Changes
+pub mod Written
+pub mod Rewritten
+pub mod Laying
+pub mod Laws
+pub mod Writing
