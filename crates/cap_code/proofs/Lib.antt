@@ -1,0 +1,3 @@
+pub mod Flagging
+pub mod Entries
+pub mod Lengths

@@ -1,0 +1,4 @@
+pub mod ExactIndex
+pub mod TargetIndex
+pub mod PlainSize
+pub mod Marking

@@ -1,0 +1,5 @@
+pub mod Appending
+pub mod Kept
+pub mod DirectoryLaws
+pub mod ReadDirectory
+pub mod NewStands

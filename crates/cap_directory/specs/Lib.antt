@@ -1,0 +1,3 @@
+pub mod DirectoryBytes
+pub mod NewDirectory
+pub mod Laws

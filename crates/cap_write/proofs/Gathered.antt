@@ -1,0 +1,80 @@
+-- The parts of a package whose methods are written anew.
+use Rattle.std.proofs.Common.{◌≡◌, ◌<◌, ◌⊎◌, inl, inr, ℕ, Bool, true, false, List, length, Option, refl, sym, subst, arith}
+use Rattle.std.specs.Prelude.{◌==◌}
+use Rattle.std.proofs.lemmas.Bool.Decides.{nat_tests}
+use Rattle.cap_components.specs.Parts.{Lent, held}
+use Rattle.cap_components.specs.PackageRecord.{PackageRecord}
+use Rattle.jc_decode.specs.declared.symbols.Laid.{Laid}
+use Rattle.cap_renewal.specs.declared.new_methods.NewMethod.{NewMethod}
+use Rattle.cap_laying.specs.declared.component.Written.{Written}
+use Rattle.cap_laying.specs.declared.member.Member.{Member}
+use Rattle.cap_laying.specs.Members.{new_places, written_info}
+use Rattle.cap_laying.specs.References.{written_references}
+use Rattle.cap_laying.specs.WrittenSeen.{IsWrittenAs}
+use Rattle.cap_write.specs.WrittenMethods.{AreMembersOf}
+use Rattle.cap_write.specs.NewIndex.{Index, IsNewIndex}
+use Rattle.cap_write.specs.Files.{Either, IsFile}
+use Rattle.cap_write.specs.Filed.{AreFiled}
+use Rattle.cap_write.specs.WrittenPackage.{ArePartsOf, IsWritten}
+
+other_than : (This That : Type 0) (b : Bool) → b ≡ false → Either b This That → That
+other_than This That true e x = absurd (cc)
+other_than This That false e x = x
+
+unlike : (tag n : ℕ) → (tag ≡ n → ⊥) → (tag == n) ≡ false
+unlike tag n h = by (tag == n) refl
+  where
+    by : (b : Bool) → (tag == n) ≡ b → b ≡ false
+    by true e = absurd (h (grind (arith, nat_tests)))
+    by false e = refl
+
+module _ (p : PackageRecord) (news : List (Option NewMethod)) (methods references : List ℕ) (index : Index) (parts : List Lent) (f : AreFiled (IsFile p news methods references index) 256 parts) where
+  other_file : (tag : ℕ) → tag < 256 → (tag ≡ 0) ⊎ (12 < tag) → (tag ≡ 128 → ⊥) → held parts tag ≡ held p.parts tag
+  other_file tag lt (inl zero) not_index = subst (λ t. held parts t ≡ held p.parts t) (sym zero) (f.each 0 (omega arith))
+  other_file tag lt (inr high) not_index =
+      other_than _ _ (tag == 128) (unlike tag 128 not_index)
+      (other_than _ _ (tag == 12) (unlike tag 12 (λ e. omega arith))
+      (other_than _ _ (tag == 11) (unlike tag 11 (λ e. omega arith))
+      (other_than _ _ (tag == 10) (unlike tag 10 (λ e. omega arith))
+      (other_than _ _ (tag == 9) (unlike tag 9 (λ e. omega arith))
+      (other_than _ _ (tag == 7) (unlike tag 7 (λ e. omega arith))
+      (other_than _ _ (tag == 6) (unlike tag 6 (λ e. omega arith))
+      (other_than _ _ (tag == 5) (unlike tag 5 (λ e. omega arith))
+      (other_than _ _ (tag == 3) (unlike tag 3 (λ e. omega arith))
+      (other_than _ _ (tag == 2) (unlike tag 2 (λ e. omega arith)) (f.each tag lt))))))))))
+
+  pub parts_of : ArePartsOf p news methods references index parts
+  parts_of = record {
+    header = f.each 1 (omega arith);
+    directory = f.each 2 (omega arith);
+    applets = f.each 3 (omega arith);
+    imports = f.each 4 (omega arith);
+    pool = f.each 5 (omega arith);
+    classes = f.each 6 (omega arith);
+    methods_file = f.each 7 (omega arith);
+    statics = f.each 8 (omega arith);
+    locations = f.each 9 (omega arith);
+    export = f.each 10 (omega arith);
+    description = f.each 11 (omega arith);
+    debug = f.each 12 (omega arith);
+    target_index = f.each 128 (omega arith);
+    others = other_file;
+    rising = f.rising;
+  }
+
+pub written_of : (p : PackageRecord) (laid : List (Option Laid)) (ms : List Member) (w : Written) (index : Index) (parts : List Lent) → AreMembersOf p laid ms → IsWrittenAs (length p.methods.info) (length p.methods.handlers) ms w
+    → IsNewIndex p laid index → AreFiled (IsFile p w.news w.info.items w.references.items index) 256 parts → IsWritten p laid parts
+written_of p laid ms w index parts are seen i f =
+    let size = length p.methods.info in
+    let room = length p.methods.handlers in
+    let g : AreFiled (IsFile p (new_places size room ms) w.info.items w.references.items index) 256 parts = subst (λ x. AreFiled (IsFile p x w.info.items w.references.items index) 256 parts) seen.news f in
+    let h : AreFiled (IsFile p (new_places size room ms) (written_info size room ms) w.references.items index) 256 parts = subst (λ x. AreFiled (IsFile p (new_places size room ms) x w.references.items index) 256 parts) seen.info g in
+    let k : AreFiled (IsFile p (new_places size room ms) (written_info size room ms) (written_references size room ms) index) 256 parts = subst (λ x. AreFiled (IsFile p (new_places size room ms) (written_info size room ms) x index) 256 parts) seen.references h in
+    record {
+      members = ms;
+      are = are;
+      short = seen.short;
+      index = index;
+      indexed = i;
+      files = parts_of p (new_places size room ms) (written_info size room ms) (written_references size room ms) index parts k;
+    }

@@ -1,0 +1,122 @@
+-- How long the Method component is that is written, and its plain size.
+use Rattle.std.proofs.Common.{◌≡◌, ◌≤◌, ◌+◌, ◌*◌, ℕ, zero, suc, Bool, true, false, cond, List, [], ◌∷◌, length, map, replicate, Option, Some, None, refl, ap, arith, length-append}
+use Rattle.std.specs.Prelude.{slice_set}
+use Rattle.jc_decode.proofs.Listed.{all-are-listed}
+use Rattle.cap_code.specs.PlainSize.{plain_size, plain_sum}
+use Rattle.cap_code.proofs.Lengths.{plain_is, plain_known}
+use Rattle.cap_laying.specs.declared.member.Body.{Body}
+use Rattle.cap_laying.specs.declared.member.Body.TheVariants.{Code, Header}
+use Rattle.cap_laying.specs.declared.member.Member.{Member}
+use Rattle.cap_laying.specs.HandlerTable.{table_bytes}
+use Rattle.cap_laying.specs.HeaderBytes.{Numbers, header_bytes, header_size, is_compact}
+use Rattle.cap_laying.specs.Member.{bodies, body_bytes, body_size, by_offset, end_from, handlers_of, numbers_of, placed, put, size_if}
+use Rattle.cap_laying.specs.Blocks.{blocks, entries_of, total_handlers}
+use Rattle.cap_laying.specs.Members.{new_places, start_of, written_info, written_size}
+use Rattle.cap_laying.proofs.InfoLaws.{length_table as bytes_table}
+use Rattle.cap_laying.proofs.Owned.{length_table, total_blocks}
+use Rattle.cap_write.specs.Described.{body_seen, member_seen}
+use Rattle.cap_write.specs.PlainComponent.{plain_component, plain_member, plain_members}
+
+-- ---- its length
+
+header_long : (n : Numbers) → length (header_bytes n) ≡ header_size n
+unfolding header_bytes
+header_long n = by (is_compact n)
+  where
+    by : (b : Bool) → length (cond b (n.max_stack ∷ (16 * n.nargs + n.max_locals) ∷ []) (128 ∷ n.max_stack ∷ n.nargs ∷ n.max_locals ∷ [])) ≡ cond b 2 4
+    by true = refl
+    by false = refl
+
+body_long : (b : Body) → length (body_bytes b) ≡ body_size b
+body_long (Code laid) = omega (arith, length-append (header_bytes (numbers_of laid.now)) laid.now.code, header_long (numbers_of laid.now))
+body_long (Header header) = refl
+
+bodies_long : (at : ℕ) (table : List (Option Member)) → at + length (bodies table) ≡ end_from at table
+bodies_long at [] = omega arith
+bodies_long at (None ∷ ms) = let r = bodies_long at ms in omega (arith, ap (λ n. end_from n ms) (plus at))
+  where
+    plus : (n : ℕ) → n + 0 ≡ n
+    plus n = omega arith
+bodies_long at (Some m ∷ ms) =
+    let r = bodies_long (at + body_size m.body) ms in
+    let b = body_long m.body in
+    omega (arith, length-append (body_bytes m.body) (bodies ms))
+
+pub info_long : (size room : ℕ) (ms : List Member) → length (written_info size room ms) ≡ written_size size room ms
+unfolding written_info written_size
+info_long size room ms =
+    let es = entries_of (new_places size room ms) (blocks room ms) in
+    let t = by_offset size ms in
+    let a = length-append (table_bytes es) (bodies t) in
+    let b = bytes_table es in
+    let c = length_table (new_places size room ms) (blocks room ms) in
+    let d = bodies_long (start_of room ms) t in
+    omega arith
+
+-- ---- its plain size is no less
+
+table_size : List (Option Member) → ℕ
+table_size [] = 0
+table_size (m ∷ ms) = size_if m + table_size ms
+
+sum_end : (at : ℕ) (table : List (Option Member)) → end_from at table ≡ at + table_size table
+unfolding table_size
+sum_end at [] = omega arith
+sum_end at (m ∷ ms) = let r = sum_end (at + size_if m) ms in omega arith
+
+none_size : (n : ℕ) → table_size (replicate n None) ≡ 0
+unfolding table_size
+none_size zero = refl
+none_size (suc n) = omega (arith, none_size n)
+
+set_size : (table : List (Option Member)) (i : ℕ) (m : Member) → table_size (slice_set table i (Some m)) ≤ table_size table + body_size m.body
+unfolding table_size
+set_size [] i m = omega arith
+set_size (s ∷ ms) zero m = omega arith
+set_size (s ∷ ms) (suc i) m = let r = set_size ms i m in omega arith
+
+members_size : List Member → ℕ
+members_size [] = 0
+members_size (m ∷ ms) = body_size m.body + members_size ms
+
+placed_size : (table : List (Option Member)) (ms : List Member) → table_size (placed table ms) ≤ table_size table + members_size ms
+unfolding members_size
+placed_size table [] = omega arith
+placed_size table (m ∷ ms) =
+    let r = placed_size (put table m) ms in
+    let s = set_size table m.offset m in
+    omega arith
+
+header_small : (n : Numbers) → header_size n ≤ 4
+header_small n = by (is_compact n)
+  where
+    by : (b : Bool) → cond b 2 4 ≤ 4
+    by true = omega arith
+    by false = omega arith
+
+code_plain : (code : List ℕ) → length code ≤ plain_size code
+code_plain code =
+    let k = plain_known code (all-are-listed code) in
+    omega (arith, k.least, plain_is code (plain_sum _) _ refl refl)
+
+body_plain : (b : Body) → 8 * length (handlers_of b) + body_size b ≤ plain_member (body_seen b)
+body_plain (Code laid) = omega (arith, code_plain laid.now.code, header_small (numbers_of laid.now))
+body_plain (Header header) = omega arith
+
+members_plain : (ms : List Member) → 8 * total_handlers ms + members_size ms ≤ plain_members (map member_seen ms)
+unfolding members_size
+members_plain [] = omega arith
+members_plain (m ∷ ms) =
+    let b = body_plain m.body in
+    let r = members_plain ms in
+    omega arith
+
+pub plain_least : (size room : ℕ) (ms : List Member) → written_size size room ms ≤ plain_component (map member_seen ms)
+unfolding written_size by_offset
+plain_least size room ms =
+    let a = sum_end (start_of room ms) (placed (replicate size None) ms) in
+    let b = placed_size (replicate size None) ms in
+    let c = none_size size in
+    let d = total_blocks room ms in
+    let e = members_plain ms in
+    omega arith

@@ -1,0 +1,70 @@
+-- What the described methods of a package are written as.
+use Rattle.std.specs.Prelude.{ℕ, Bool, List, [], ◌∷◌, ◌++◌, length, take, drop, Option, Some, None, ◌==◌, if◌then◌else◌}
+use Rattle.cap_bytes.specs.Number.{number_at}
+use Rattle.cap_desc.specs.DescriptorFormat.{Method, Class}
+use Rattle.cap_components.specs.MethodPlaces.{size_by}
+use Rattle.cap_components.specs.PackageRecord.{PackageRecord, names_interface}
+use Rattle.jc_decode.specs.declared.symbols.Laid.{Laid}
+use Rattle.cap_laying.specs.declared.member.Body.{Body}
+use Rattle.cap_laying.specs.declared.member.Body.TheVariants.{Code, Header}
+use Rattle.cap_laying.specs.declared.member.Member.{Member}
+
+-- code, or the header of a method without code as it stood
+pub data SeenBody : Type 0 where
+  code : Laid → SeenBody
+  lead : List ℕ → SeenBody
+
+-- a method with the offset at which it stood, and the number of its first handler, where it had one
+pub record SeenMember : Type 0 where
+  pub offset : ℕ
+  pub handlers_from : Option ℕ
+  pub body : SeenBody
+
+abbrev pub body_seen : Body → SeenBody
+body_seen (Code laid) = code laid.now
+body_seen (Header header) = lead header.now
+
+abbrev pub member_seen : Member → SeenMember
+member_seen m = record { offset = m.offset; handlers_from = m.handlers_from; body = body_seen m.body }
+
+-- the bytes of the header that stands at an offset of an info
+abbrev pub lead_bytes : List ℕ → ℕ → List ℕ
+lead_bytes info offset = take (size_by (number_at 1 offset info)) (drop offset info)
+
+abbrev pub body_at : List ℕ → ℕ → Option Laid → SeenBody
+body_at info offset None = lead (lead_bytes info offset)
+body_at info offset (Some laid) = code laid
+
+abbrev pub handlers_from : Method → Option ℕ
+handlers_from m = if m.handler_count == 0 then None else Some m.handler_index
+
+-- a method as it is written with this code, or without code
+abbrev pub seen_method : List ℕ → Method → Option Laid → SeenMember
+seen_method info m laid = record { offset = m.method_offset; handlers_from = handlers_from m; body = body_at info m.method_offset laid }
+
+abbrev pub first_of_them : List (Option Laid) → Option Laid
+first_of_them [] = None
+first_of_them (l ∷ ls) = l
+
+abbrev pub others_of_them : List (Option Laid) → List (Option Laid)
+others_of_them [] = []
+others_of_them (l ∷ ls) = ls
+
+-- the methods of a class, each with its element of the list
+abbrev pub seen_methods : List ℕ → List Method → List (Option Laid) → List SeenMember
+seen_methods info [] laid = []
+seen_methods info (m ∷ ms) laid = seen_method info m (first_of_them laid) ∷ seen_methods info ms (others_of_them laid)
+
+-- those of a class that is no interface; the references of the interfaces are in a set
+abbrev pub seen_class : (ℕ → Bool) → List ℕ → Class → List (Option Laid) → List SeenMember
+seen_class interfaces info c laid = if interfaces c.class_ref then [] else seen_methods info c.methods laid
+
+-- those of several classes; the methods of interfaces have an element too, and are not written
+abbrev pub seen_classes : (ℕ → Bool) → List ℕ → List Class → List (Option Laid) → List SeenMember
+seen_classes interfaces info [] laid = []
+seen_classes interfaces info (c ∷ cs) laid =
+    seen_class interfaces info c laid ++ seen_classes interfaces info cs (drop (length c.methods) laid)
+
+-- the methods of a package
+abbrev pub seen_package : PackageRecord → List (Option Laid) → List SeenMember
+seen_package p laid = seen_classes (names_interface p.classes) p.methods.info p.description.items.classes laid

@@ -1,0 +1,68 @@
+-- The files of a package whose methods are written anew, tag by tag.
+use Rattle.std.specs.Prelude.{◌≡◌, ℕ, Bool, true, false, List, length, map, Option, Some, None, ◌==◌}
+use Rattle.cap_bytes.specs.Spelling.{Stands}
+use Rattle.cap_frame.specs.Frame.{component}
+use Rattle.cap_frame.specs.AppletFormat.{applets_info}
+use Rattle.cap_frame.specs.DirectoryFormat.{directory_info}
+use Rattle.cap_pool.specs.PoolFormat.{pool_info}
+use Rattle.cap_pool.specs.ExportFormat.{export_info}
+use Rattle.cap_class.specs.ClassFormat.{classes_info}
+use Rattle.cap_desc.specs.DescriptorFormat.{Descriptor, descriptor_info}
+use Rattle.cap_components.specs.Parts.{Lent, held}
+use Rattle.cap_components.specs.PackageRecord.{PackageRecord, names_interface}
+use Rattle.cap_renewal.specs.declared.new_methods.NewMethod.{NewMethod}
+use Rattle.cap_renewal.specs.NewMethods.{to}
+use Rattle.cap_renewal.specs.AppletEdits.{applets_edits, renewed_applet}
+use Rattle.cap_renewal.specs.ClassEdits.{classes_edits, renewed_class}
+use Rattle.cap_renewal.specs.DescriptorEdits.{descriptor_edits, renewed_descriptor}
+use Rattle.cap_renewal.specs.ExportEdits.{export_edits, renewed_exported}
+use Rattle.cap_renewal.specs.PoolEdits.{pool_edits, renewed_entry}
+use Rattle.cap_filing.specs.Files.{IsRenewed, IsRenewedIf, file_bytes}
+use Rattle.cap_directory.specs.declared.sizes.Sizes.{Sizes}
+use Rattle.cap_directory.specs.NewDirectory.{new_directory}
+use Rattle.cap_write.specs.NewIndex.{Index, change_of, dropped, stays, written}
+
+-- what the Directory tells of components with these infos
+abbrev pub sizes_of : List ℕ → List ℕ → Index → Sizes
+sizes_of methods references index = record { methods = length methods; references = length references; index = change_of index }
+
+-- the file of the Directory: it tells of these components, and the rest as before
+pub record IsDirectoryFile (p : PackageRecord) (methods references : List ℕ) (index : Index) (file : List ℕ) : Type 0 where
+  pub info : List ℕ
+  pub framed : Stands (component 2) file info
+  pub said : Stands (directory_info p.header.format) info (new_directory (sizes_of methods references index) p.directory)
+
+-- the file of a component with this info
+pub record IsFramed (tag : ℕ) (info file : List ℕ) : Type 0 where
+  pub bytes : file ≡ file_bytes tag info
+  pub framed : Stands (component tag) file info
+
+-- there is a file, and it is such
+abbrev pub IsThere : (List ℕ → Type 0) → Option (List ℕ) → Type 0
+IsThere Is None = ⊥
+IsThere Is (Some file) = Is file
+
+-- the file of what has the tag of a target index
+abbrev pub index_file : List Lent → Index → Option (List ℕ)
+index_file old stays = held old 128
+index_file old dropped = None
+index_file old (written info) = Some (file_bytes 128 info)
+
+-- one of two things
+abbrev pub Either : Bool → Type 0 → Type 0 → Type 0
+Either true This That = This
+Either false This That = That
+
+abbrev pub IsFile : PackageRecord → List (Option NewMethod) → List ℕ → List ℕ → Index → ℕ → Option (List ℕ) → Type 0
+IsFile p news methods references index tag file =
+    Either (tag == 2) (IsThere (IsDirectoryFile p methods references index) file)
+    (Either (tag == 3) (IsRenewedIf p.parts 3 applets_info (map (renewed_applet (to news))) (applets_edits (to news)) p.applets file)
+    (Either (tag == 5) (IsThere (IsRenewed p.parts 5 pool_info (map (renewed_entry (to news))) (pool_edits (to news)) p.pool) file)
+    (Either (tag == 6) (IsThere (IsRenewed p.parts 6 (classes_info p.header.format) (map (renewed_class (to news))) (classes_edits (to news)) p.classes) file)
+    (Either (tag == 7) (IsThere (IsFramed 7 methods) file)
+    (Either (tag == 9) (IsThere (IsFramed 9 references) file)
+    (Either (tag == 10) (IsRenewedIf p.parts 10 export_info (map (renewed_exported (to news))) (export_edits (to news)) p.export file)
+    (Either (tag == 11) (IsThere (IsRenewed p.parts 11 descriptor_info (renewed_descriptor (names_interface p.classes) news) (λ (d : Descriptor). descriptor_edits (names_interface p.classes) news d.classes) p.description.items) file)
+    (Either (tag == 12) (file ≡ None)
+    (Either (tag == 128) (file ≡ index_file p.parts index)
+    (file ≡ held p.parts tag))))))))))

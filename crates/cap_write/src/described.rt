@@ -1,0 +1,128 @@
+ghost use Rattle.std.specs.Prelude.{◌≡◌, ◌++◌, drop, map, OnOk, IfOk};
+ghost use Rattle.offset_set.specs.Bits.{holds};
+ghost use Rattle.cap_desc.specs.ClassRecords.{class_seen};
+ghost use Rattle.cap_desc.specs.Descriptors.{descriptor_seen};
+ghost use Rattle.cap_desc.specs.MemberLists.{methods_left};
+ghost use Rattle.cap_desc.specs.MemberRecords.{method_seen};
+ghost use Rattle.cap_write.specs.Described.{body_at, body_seen, first_of_them, lead_bytes, member_seen, seen_class, seen_classes, seen_method, seen_methods};
+
+use cap_bytes::View;
+use cap_desc::{DescClass, DescMethods, DescPart, MethodInfo};
+use cap_laying::{Body, Member};
+use jc_decode::Laid;
+use offset_set::Offsets;
+use std::alloc::{AllocError, Global};
+
+/// The described methods of classes, in the Descriptor's order: each as it is written with its element of the
+/// list, which has one for each method of an interface too.
+#[tactic(auto, using(crate::proofs::Putting::one_class))]
+pub(crate) fn members<'a>(
+    alloc: Global,
+    descriptor: &DescPart<'_>,
+    interfaces: &Offsets,
+    info: View<'a>,
+    laid: &'a [Option<Laid>],
+) -> Result<Vec<Member<'a>>, AllocError>
+    ensures { IfOk result (λ ms. map member_seen ms.items
+        ≡ seen_classes (holds interfaces.now) info.entry.bytes.now (descriptor_seen descriptor.now).classes laid.now) }
+{
+    let mut out = Vec::new(alloc);
+    let mut rest = laid;
+    'classes: for class in descriptor.classes() {
+        put_class(&class, interfaces, info, rest, &mut out)?;
+        rest = after(rest, class.method_count() as usize);
+    }
+    Ok(out)
+}
+
+/// Appends the methods of a class, unless it is an interface.
+#[tactic(auto, using(crate::proofs::Putting::no_method))]
+fn put_class<'a>(
+    class: &DescClass<'_>,
+    interfaces: &Offsets,
+    info: View<'a>,
+    laid: &'a [Option<Laid>],
+    out: &mut Vec<Member<'a>>,
+) -> Result<(), AllocError>
+    ensures { OnOk result (map member_seen out.new.items
+        ≡ map member_seen out.old.items ++ seen_class (holds interfaces.now) info.entry.bytes.now (class_seen class.now) laid.now) }
+{
+    if interfaces.has(class.class_ref()) {
+        return Ok(());
+    }
+    put_methods(class.methods(), info, laid, out)
+}
+
+/// What is left of a list after so many elements.
+fn after<'a>(laid: &'a [Option<Laid>], count: usize) -> &'a [Option<Laid>]
+    ensures { result.now ≡ drop count laid.now }
+{
+    if count <= laid.len() {
+        &laid[count..]
+    } else {
+        &[]
+    }
+}
+
+/// Appends the methods of a class.
+#[tactic(auto, using(crate::proofs::Putting::one_method))]
+fn put_methods<'a>(
+    methods: DescMethods<'_>,
+    info: View<'a>,
+    laid: &'a [Option<Laid>],
+    out: &mut Vec<Member<'a>>,
+) -> Result<(), AllocError>
+    ensures { OnOk result (map member_seen out.new.items
+        ≡ map member_seen out.old.items ++ seen_methods info.entry.bytes.now (methods_left methods.entry) laid.now) }
+{
+    let mut rest = laid;
+    'methods: for method in methods {
+        out.push(member(&method, info, rest))?;
+        rest = after(rest, 1);
+    }
+    Ok(())
+}
+
+/// A method with the first element of the list.
+fn member<'a>(method: &MethodInfo, info: View<'a>, laid: &'a [Option<Laid>]) -> Member<'a>
+    ensures { member_seen result ≡ seen_method info.entry.bytes.now (method_seen method.now) (first_of_them laid.now) }
+{
+    Member {
+        offset: method.method_offset,
+        handlers_from: if method.handler_count == 0 {
+            None
+        } else {
+            Some(method.handler_index)
+        },
+        body: body(info, method.method_offset, laid),
+    }
+}
+
+/// What it is written as.
+fn body<'a>(info: View<'a>, offset: u16, laid: &'a [Option<Laid>]) -> Body<'a>
+    ensures { body_seen result ≡ body_at info.entry.bytes.now offset (first_of_them laid.now) }
+{
+    match laid.first() {
+        Some(Some(laid)) => Body::Code(laid),
+        _ => Body::Header(lead(info, offset)),
+    }
+}
+
+/// The bytes of the header that stands at an offset.
+fn lead<'a>(info: View<'a>, offset: u16) -> &'a [u8]
+    ensures { result.now ≡ lead_bytes info.entry.bytes.now offset }
+{
+    let from = offset as usize;
+    let size = match info.u1(offset as u32) {
+        Some(first) if first >= 0x80 => 4,
+        _ => 2,
+    };
+    let bytes = info.bytes;
+    if from + size <= bytes.len() {
+        &bytes[from..from + size]
+    } else if from <= bytes.len() {
+        &bytes[from..]
+    } else {
+        &[]
+    }
+}

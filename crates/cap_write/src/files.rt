@@ -1,0 +1,68 @@
+ghost use Rattle.std.specs.Prelude.{◌≡◌, ◌≤◌, length, IfOk};
+ghost use Rattle.cap_components.specs.Parts.{held};
+ghost use Rattle.cap_filing.specs.Files.{file_seen};
+ghost use Rattle.cap_write.specs.Files.{IsFile, IsFramed, index_file};
+ghost use Rattle.cap_write.specs.NewIndex.{IsShortIndex, index_seen};
+
+use crate::directory::directory_file;
+use crate::index::NewIndex;
+use cap_bytes::Part;
+use cap_filing::{applet_file, class_file, descriptor_file, export_file, file_of, pool_file};
+use cap_laying::Written;
+use cap_package::{Package, Parts};
+use std::alloc::{AllocError, Global};
+
+/// The file with a tag of a package with these methods and this target index, if there is one.
+pub(crate) fn file(
+    alloc: Global,
+    package: &Package<'_, '_>,
+    written: &Written,
+    index: &NewIndex,
+    tag: u8,
+) -> Result<Option<Vec<u8>>, AllocError>
+    requires methods { length written.now.info.items ≤ 65535 }
+    requires references { length written.now.references.items ≤ 65535 }
+    requires index { IsShortIndex (index_seen index.now) }
+    ensures { IfOk result (λ file. IsFile «package».now written.now.news written.now.info.items written.now.references.items (index_seen index.now) tag (file_seen file)) }
+{
+    let news = &written.news;
+    match tag {
+        2 => Ok(Some(directory_file(alloc, package, written, index)?)),
+        3 => applet_file(alloc, package, news),
+        5 => Ok(Some(pool_file(alloc, package, news)?)),
+        6 => Ok(Some(class_file(alloc, package, news)?)),
+        7 => Ok(Some(file_of(alloc, 7, &written.info)?)),
+        9 => Ok(Some(file_of(alloc, 9, &written.references)?)),
+        10 => export_file(alloc, package, news),
+        11 => Ok(Some(descriptor_file(alloc, package, news)?)),
+        12 => Ok(None),
+        128 => index_file(alloc, package.parts(), index),
+        _ => kept_file(alloc, package.parts(), tag),
+    }
+}
+
+/// The file of the target index, or what becomes of it.
+fn index_file(
+    alloc: Global,
+    parts: &Parts<'_>,
+    index: &NewIndex,
+) -> Result<Option<Vec<u8>>, AllocError>
+    requires { IsShortIndex (index_seen index.now) }
+    ensures { IfOk result (λ file. file_seen file ≡ index_file parts.now (index_seen index.now)) }
+{
+    match index {
+        NewIndex::Kept => kept_file(alloc, parts, 128),
+        NewIndex::Dropped => Ok(None),
+        NewIndex::Written(info) => Ok(Some(file_of(alloc, 128, info)?)),
+    }
+}
+
+/// The file with a tag as it is.
+fn kept_file(alloc: Global, parts: &Parts<'_>, tag: u8) -> Result<Option<Vec<u8>>, AllocError>
+    ensures { IfOk result (λ file. file_seen file ≡ held parts.now tag) }
+{
+    match parts.get(Part(tag)) {
+        Some(bytes) => Ok(Some(bytes.to_vec(alloc)?)),
+        None => Ok(None),
+    }
+}

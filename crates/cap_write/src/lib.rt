@@ -1,0 +1,18 @@
+//! A package whose methods are written anew (Java Card 2.2 VM Specification, chapter 6): its parts, in which the methods
+//! have other code, every component names them at their new places, and all else is as it was. It stands on
+//! `cap_package`, whose record it reads, on `cap_laying`, which lays the methods out, on `cap_filing` for the components
+//! that keep their length, on `cap_directory` for the Directory and on `cap_code` for the target index.
+#![tactic(auto)]
+
+mod described;
+mod directory;
+mod end;
+mod files;
+mod index;
+mod methods;
+mod parts;
+mod plain;
+mod write;
+
+pub use end::WriteEnd;
+pub use write::write_package;

@@ -1,0 +1,52 @@
+ghost use Rattle.std.specs.Prelude.{◌≡◌, ◌≤◌, length, IfOk, IsNone, OnOk};
+ghost use Rattle.cap_components.specs.Parts.{held};
+ghost use Rattle.cap_write.specs.Files.{IsFile};
+ghost use Rattle.cap_write.specs.Filed.{AreFiled, Puts};
+ghost use Rattle.cap_write.specs.NewIndex.{IsShortIndex, index_seen};
+
+use crate::files::file;
+use crate::index::NewIndex;
+use cap_bytes::Part;
+use cap_laying::Written;
+use cap_package::{OwnedParts, Package};
+use std::alloc::{AllocError, Global};
+
+/// The parts of a package with these methods and this target index, by rising tag.
+pub(crate) fn all_parts(
+    alloc: Global,
+    package: &Package<'_, '_>,
+    written: &Written,
+    index: &NewIndex,
+) -> Result<OwnedParts, AllocError>
+    requires methods { length written.now.info.items ≤ 65535 }
+    requires references { length written.now.references.items ≤ 65535 }
+    requires index { IsShortIndex (index_seen index.now) }
+    ensures { IfOk result (AreFiled (IsFile «package».now written.now.news written.now.info.items written.now.references.items (index_seen index.now)) 256) }
+{
+    let mut parts = OwnedParts::new(alloc);
+    'tags: for tag in 0..256u16 {
+        put_part(alloc, package, written, index, tag as u8, &mut parts)?;
+    }
+    Ok(parts)
+}
+
+/// Appends the part with a tag, if there is one.
+fn put_part(
+    alloc: Global,
+    package: &Package<'_, '_>,
+    written: &Written,
+    index: &NewIndex,
+    tag: u8,
+    parts: &mut OwnedParts,
+) -> Result<(), AllocError>
+    requires methods { length written.now.info.items ≤ 65535 }
+    requires references { length written.now.references.items ≤ 65535 }
+    requires index { IsShortIndex (index_seen index.now) }
+    requires absent { IsNone (held parts.old tag) }
+    ensures { OnOk result (Puts (IsFile «package».now written.now.news written.now.info.items written.now.references.items (index_seen index.now) tag) tag parts.old parts.new) }
+{
+    match file(alloc, package, written, index, tag)? {
+        Some(bytes) => parts.put(Part(tag), bytes),
+        None => Ok(()),
+    }
+}
