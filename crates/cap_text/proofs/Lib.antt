@@ -1,4 +1,7 @@
 pub mod Numerals
+pub mod Pieces
 pub mod Arguments
 pub mod Folders
+pub mod Entries
+pub mod Ends
 pub mod Requests

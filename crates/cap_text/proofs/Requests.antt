@@ -1,5 +1,6 @@
 -- A list of words asks for one thing: each number and each argument has one word.
 use Rattle.std.proofs.Common.{◌≡◌, ℕ, ℤ, pos, negsuc, List, [], ◌∷◌, sym, ◌∙◌, ap, arith, rules, codes, subst, refl, FitsSigned, w32}
+use Rattle.std.specs.Prelude.{Ok}
 use Rattle.std.specs.Fmt.{signed_decimal}
 use Rattle.std.specs.Str.Parse.{AllDigits}
 use Rattle.std.proofs.lemmas.Fmt.{decimal_injective, signed_decimal_injective, decimal_is_IsNumeral}
@@ -8,9 +9,16 @@ use Rattle.cap_text.specs.Probe.{ProbeRequest, IsProbe}
 use Rattle.cap_text.specs.Show.{ShowRequest, IsShow}
 use Rattle.cap_text.specs.Check.{CheckRequest, IsCheck}
 use Rattle.cap_text.specs.Verify.{VerifyRequest, IsVerify}
-use Rattle.cap_text.specs.Request.{probe, show, check, verify, IsUsage, OneRequest}
-use Rattle.cap_text.specs.declared.word.Arg.{Arg}
-use Rattle.cap_text.specs.declared.word.Arg.TheVariants.{Number, Null}
+use Rattle.cap_text.specs.Entry.{IsEntryWord}
+use Rattle.std.specs.List.{after_first}
+use Rattle.cap_text.specs.Run.{RunRequest, IsRun, is_end}
+use Rattle.cap_text.specs.Request.{probe, show, check, verify, defend, IsUsage, OneRequest}
+use Rattle.cap_text.specs.declared.entry.Entry.{Entry}
+use Rattle.vm_step.specs.Arguments.{Argument, number, null, bytes}
+use Rattle.hex.specs.Hex.{encode_lower, decode_of, IsBytes}
+use Rattle.hex.proofs.HexLemmas.{decode_of-encode_lower, decode_of-same}
+use Rattle.cap_text.proofs.Numerals.{no_sign, no_null_sign}
+use Rattle.cap_text.proofs.Entries.{entry_halves}
 
 first : List ℕ → ℕ
 first [] = 0
@@ -22,13 +30,28 @@ unfolding first
 no_null (pos n) fits e = absurd (omega (arith, (subst (AllDigits 10) (sym e) ((decimal_is_IsNumeral n (search rules)).0.1)).0))
 no_null (negsuc n) fits e = let differ : 110 ≡ 45 = ap first e in omega (arith, differ)
 
-one_argument : (word : List ℕ) (a b : Arg) → IsArgWord word a → IsArgWord word b → a ≡ b
-one_argument word Null Null p q = refl
-one_argument word Null (Number z) p q = absurd (no_null z q.1 (sym p ∙ q.0))
-one_argument word (Number z) Null p q = absurd (no_null z p.1 (sym q ∙ p.0))
-one_argument word (Number y) (Number z) p q = ap Number (signed_decimal_injective y z (search rules) (search rules) (sym p.0 ∙ q.0))
+others_of : List ℕ → List ℕ
+others_of [] = []
+others_of (x ∷ xs) = xs
 
-one_list : (words : List (List ℕ)) (xs ys : List Arg) → AreArgWords words xs → AreArgWords words ys → xs ≡ ys
+-- bytes have one text of digits
+same_bytes : (xs ys : List ℕ) → IsBytes xs → IsBytes ys → encode_lower xs ≡ encode_lower ys → xs ≡ ys
+same_bytes xs ys fit_xs fit_ys same =
+    decode_of-same (encode_lower ys) xs ys (subst (λ t. decode_of t ≡ Ok xs) same (decode_of-encode_lower xs fit_xs)) (decode_of-encode_lower ys fit_ys)
+
+one_argument : (word : List ℕ) (a b : Argument) → IsArgWord word a → IsArgWord word b → a ≡ b
+unfolding others_of
+one_argument word null null p q = refl
+one_argument word null (number z) p q = absurd (no_null z q.1 (sym p ∙ q.0))
+one_argument word null (bytes bs) p q = absurd (no_null_sign (encode_lower bs) (sym q.writes ∙ p))
+one_argument word (number z) null p q = absurd (no_null z p.1 (sym q ∙ p.0))
+one_argument word (number y) (number z) p q = ap number (signed_decimal_injective y z (search rules) (search rules) (sym p.0 ∙ q.0))
+one_argument word (number z) (bytes bs) p q = absurd (no_sign z (encode_lower bs) p.1 (sym q.writes ∙ p.0))
+one_argument word (bytes bs) null p q = absurd (no_null_sign (encode_lower bs) (sym p.writes ∙ q))
+one_argument word (bytes bs) (number z) p q = absurd (no_sign z (encode_lower bs) q.1 (sym p.writes ∙ q.0))
+one_argument word (bytes xs) (bytes ys) p q = ap bytes (same_bytes xs ys p.are_bytes q.are_bytes (ap others_of (sym p.writes ∙ q.writes)))
+
+one_list : (words : List (List ℕ)) (xs ys : List Argument) → AreArgWords words xs → AreArgWords words ys → xs ≡ ys
 one_list [] [] [] p q = refl
 one_list [] [] (y ∷ ys) p q = absurd q
 one_list [] (x ∷ xs) ys p q = absurd p
@@ -56,6 +79,24 @@ one_check operands c d is_c is_d = let same : c.dirs ≡ d.dirs = is_c.0 ∙ sym
 one_verify : (operands : List (List ℕ)) (v w : VerifyRequest) → IsVerify operands v → IsVerify operands w → v ≡ w
 one_verify operands v w is_v is_w = let same : v.dirs ≡ w.dirs = is_v.0 ∙ sym is_w.0 in λ i. record { dirs = same i }
 
+-- an entry has one word
+one_entry : (word : List ℕ) (e f : Entry) → IsEntryWord word e → IsEntryWord word f → e ≡ f
+one_entry word e f p q =
+    let same = entry_halves e f p.class_fits q.class_fits (sym p.writes ∙ q.writes) in
+    let class_no : e.class_no ≡ f.class_no = decimal_injective e.class_no f.class_no (omega (arith, p.class_fits)) (omega (arith, q.class_fits)) same.0 in
+    let method_no : e.method_no ≡ f.method_no = decimal_injective e.method_no f.method_no (omega (arith, p.method_fits)) (omega (arith, q.method_fits)) same.1 in
+    λ i. record { class_no = class_no i; method_no = method_no i }
+
+one_run : (operands : List (List ℕ)) (r s : RunRequest) → IsRun operands r → IsRun operands s → r ≡ s
+one_run [] r s is_r is_s = absurd is_r
+one_run (budget ∷ []) r s is_r is_s = absurd is_r
+one_run (budget ∷ entry ∷ words) r s is_r is_s =
+    let steps : r.budget ≡ s.budget = decimal_injective r.budget s.budget (omega (arith, is_r.0.fits)) (omega (arith, is_s.0.fits)) (sym is_r.0.writes ∙ is_s.0.writes) in
+    let entries : r.entry ≡ s.entry = one_entry entry r.entry s.entry is_r.1 is_s.1 in
+    let same_dirs : r.dirs ≡ s.dirs = is_r.2.folders ∙ sym is_s.2.folders in
+    let same_args : r.args ≡ s.args = one_list (after_first is_end words) r.args s.args is_r.2.arguments is_s.2.arguments in
+    λ i. record { budget = steps i; entry = entries i; dirs = same_dirs i; args = same_args i }
+
 probe_show : (name : List ℕ) → name ≡ codes "probe" → name ≡ codes "show" → ⊥
 unfolding first
 probe_show name is_probe is_show = let differ : 112 ≡ 115 = ap first (sym is_probe ∙ is_show) in omega (arith, differ)
@@ -80,6 +121,22 @@ check_verify : (name : List ℕ) → name ≡ codes "check" → name ≡ codes "
 unfolding first
 check_verify name is_check is_verify = let differ : 99 ≡ 118 = ap first (sym is_check ∙ is_verify) in omega (arith, differ)
 
+probe_defend : (name : List ℕ) → name ≡ codes "probe" → name ≡ codes "defend" → ⊥
+unfolding first
+probe_defend name is_probe is_defend = let differ : 112 ≡ 100 = ap first (sym is_probe ∙ is_defend) in omega (arith, differ)
+
+show_defend : (name : List ℕ) → name ≡ codes "show" → name ≡ codes "defend" → ⊥
+unfolding first
+show_defend name is_show is_defend = let differ : 115 ≡ 100 = ap first (sym is_show ∙ is_defend) in omega (arith, differ)
+
+check_defend : (name : List ℕ) → name ≡ codes "check" → name ≡ codes "defend" → ⊥
+unfolding first
+check_defend name is_check is_defend = let differ : 99 ≡ 100 = ap first (sym is_check ∙ is_defend) in omega (arith, differ)
+
+verify_defend : (name : List ℕ) → name ≡ codes "verify" → name ≡ codes "defend" → ⊥
+unfolding first
+verify_defend name is_verify is_defend = let differ : 118 ≡ 100 = ap first (sym is_verify ∙ is_defend) in omega (arith, differ)
+
 first_word : List (List ℕ) → List ℕ
 first_word [] = []
 first_word (word ∷ words) = word
@@ -97,6 +154,7 @@ no_check (word ∷ words) name operands is called none (probe p) is_r = absurd (
 no_check (word ∷ words) name operands is called none (show s) is_r = absurd (show_check word is_r.0 (ap first_word is ∙ called))
 no_check (word ∷ words) name operands is called none (check c) is_r = none c (subst (λ ws. IsCheck ws c) (ap others is) is_r.1)
 no_check (word ∷ words) name operands is called none (verify v) is_r = absurd (check_verify word (ap first_word is ∙ called) is_r.0)
+no_check (word ∷ words) name operands is called none (defend r) is_r = absurd (check_defend word (ap first_word is ∙ called) is_r.0)
 
 pub no_verify : (words : List (List ℕ)) (name : List ℕ) (operands : List (List ℕ)) → words ≡ name ∷ operands → name ≡ codes "verify"
     → ((v : VerifyRequest) → IsVerify operands v → ⊥) → IsUsage words
@@ -106,6 +164,17 @@ no_verify (word ∷ words) name operands is called none (probe p) is_r = absurd 
 no_verify (word ∷ words) name operands is called none (show s) is_r = absurd (show_verify word is_r.0 (ap first_word is ∙ called))
 no_verify (word ∷ words) name operands is called none (check c) is_r = absurd (check_verify word is_r.0 (ap first_word is ∙ called))
 no_verify (word ∷ words) name operands is called none (verify v) is_r = none v (subst (λ ws. IsVerify ws v) (ap others is) is_r.1)
+no_verify (word ∷ words) name operands is called none (defend r) is_r = absurd (verify_defend word (ap first_word is ∙ called) is_r.0)
+
+pub no_defend : (words : List (List ℕ)) (name : List ℕ) (operands : List (List ℕ)) → words ≡ name ∷ operands → name ≡ codes "defend"
+    → ((r : RunRequest) → IsRun operands r → ⊥) → IsUsage words
+unfolding first_word others
+no_defend [] name operands is called none r is_r = is_r
+no_defend (word ∷ words) name operands is called none (probe p) is_r = absurd (probe_defend word is_r.0 (ap first_word is ∙ called))
+no_defend (word ∷ words) name operands is called none (show s) is_r = absurd (show_defend word is_r.0 (ap first_word is ∙ called))
+no_defend (word ∷ words) name operands is called none (check c) is_r = absurd (check_defend word is_r.0 (ap first_word is ∙ called))
+no_defend (word ∷ words) name operands is called none (verify v) is_r = absurd (verify_defend word is_r.0 (ap first_word is ∙ called))
+no_defend (word ∷ words) name operands is called none (defend r) is_r = none r (subst (λ ws. IsRun ws r) (ap others is) is_r.1)
 
 pub one_request : (words : List (List ℕ)) → OneRequest words
 one_request [] r s is_r is_s = absurd is_r
@@ -125,3 +194,12 @@ one_request (name ∷ operands) (verify v) (show s) is_r is_s = absurd (show_ver
 one_request (name ∷ operands) (check c) (verify v) is_r is_s = absurd (check_verify name is_r.0 is_s.0)
 one_request (name ∷ operands) (verify v) (check c) is_r is_s = absurd (check_verify name is_s.0 is_r.0)
 one_request (name ∷ operands) (verify v) (verify w) is_r is_s = ap verify (one_verify operands v w is_r.1 is_s.1)
+one_request (name ∷ operands) (probe p) (defend r) is_r is_s = absurd (probe_defend name is_r.0 is_s.0)
+one_request (name ∷ operands) (defend r) (probe p) is_r is_s = absurd (probe_defend name is_s.0 is_r.0)
+one_request (name ∷ operands) (show s) (defend r) is_r is_s = absurd (show_defend name is_r.0 is_s.0)
+one_request (name ∷ operands) (defend r) (show s) is_r is_s = absurd (show_defend name is_s.0 is_r.0)
+one_request (name ∷ operands) (check c) (defend r) is_r is_s = absurd (check_defend name is_r.0 is_s.0)
+one_request (name ∷ operands) (defend r) (check c) is_r is_s = absurd (check_defend name is_s.0 is_r.0)
+one_request (name ∷ operands) (verify v) (defend r) is_r is_s = absurd (verify_defend name is_r.0 is_s.0)
+one_request (name ∷ operands) (defend r) (verify v) is_r is_s = absurd (verify_defend name is_s.0 is_r.0)
+one_request (name ∷ operands) (defend r) (defend s) is_r is_s = ap defend (one_run operands r s is_r.1 is_s.1)

@@ -1,8 +1,10 @@
 pub mod Word
+pub mod Entry
 pub mod Probe
 pub mod Show
 pub mod Check
 pub mod Verify
+pub mod Run
 pub mod Request
 pub mod Fault
 pub mod Bare
@@ -12,6 +14,8 @@ pub mod Printed
 pub mod Flow
 pub mod Card
 pub mod Start
+pub mod Room
+pub mod Ending
 pub mod Line
 pub mod Table
 pub mod Worked

@@ -4,8 +4,9 @@ use Rattle.cap_text.specs.Probe.{ProbeRequest, IsProbe, probe_request}
 use Rattle.cap_text.specs.Show.{ShowRequest, IsShow, show_request}
 use Rattle.cap_text.specs.Check.{CheckRequest, IsCheck, check_request}
 use Rattle.cap_text.specs.Verify.{VerifyRequest, IsVerify, verify_request}
+use Rattle.cap_text.specs.Run.{RunRequest, IsRun, run_request}
 use Rattle.cap_text.specs.declared.command.Command.{Command}
-use Rattle.cap_text.specs.declared.command.Command.TheVariants.{Probe, Show, Check, Verify}
+use Rattle.cap_text.specs.declared.command.Command.TheVariants.{Probe, Show, Check, Verify, Defend}
 
 -- a command with its operands
 pub data Request : Type 0 where
@@ -13,6 +14,7 @@ pub data Request : Type 0 where
   show : ShowRequest → Request
   check : CheckRequest → Request
   verify : VerifyRequest → Request
+  defend : RunRequest → Request
 
 -- the words are the command's name and then operands of its grammar
 abbrev pub IsRequest : List (List ℕ) → Request → Type 0
@@ -21,6 +23,7 @@ IsRequest (name ∷ operands) (probe p) = (name ≡ codes "probe") × IsProbe op
 IsRequest (name ∷ operands) (show s) = (name ≡ codes "show") × IsShow operands s
 IsRequest (name ∷ operands) (check c) = (name ≡ codes "check") × IsCheck operands c
 IsRequest (name ∷ operands) (verify v) = (name ≡ codes "verify") × IsVerify operands v
+IsRequest (name ∷ operands) (defend r) = (name ≡ codes "defend") × IsRun operands r
 
 -- the words are outside the grammar
 abbrev pub IsUsage : List (List ℕ) → Type 0
@@ -32,6 +35,7 @@ request_of (Probe p) = probe (probe_request p)
 request_of (Show s) = show (show_request s)
 request_of (Check c) = check (check_request c)
 request_of (Verify v) = verify (verify_request v)
+request_of (Defend r) = defend (run_request r)
 
 -- a list of words asks for one thing
 abbrev pub OneRequest : List (List ℕ) → Type 0

@@ -1,11 +1,12 @@
 -- Why an entry does not start, as capcheck prints it.
 use Rattle.std.specs.Prelude.{ℕ, List, codes}
 use Rattle.cap_text.specs.Fault.{name_1, name_2}
-use Rattle.cap_text.specs.declared.start.StartFault.{StartFault}
-use Rattle.cap_text.specs.declared.start.StartFault.TheVariants.{NoEntry, NotStatic, ArgCount, ArgKind}
+use Rattle.vm_step.specs.declared.start_fault.StartFault.{StartFault}
+use Rattle.vm_step.specs.declared.start_fault.StartFault.TheVariants.{NoEntry, NotStatic, ArgCount, ArgKind, ArgRoom}
 
 abbrev pub start_fault_text : StartFault → List ℕ
 start_fault_text NoEntry = codes "NoEntry"
 start_fault_text NotStatic = codes "NotStatic"
 start_fault_text (ArgCount said wanted) = name_2 (codes "ArgCount") said wanted
 start_fault_text (ArgKind number) = name_1 (codes "ArgKind") number
+start_fault_text (ArgRoom number) = name_1 (codes "ArgRoom") number

@@ -1,17 +1,22 @@
 -- Worked cases of the grammar and of the lines.
-use Rattle.std.specs.Prelude.{◌≡◌, negsuc, codes, refl}
+use Rattle.std.specs.Prelude.{◌≡◌, pos, negsuc, [], ◌∷◌, codes, refl}
 use Rattle.std.specs.Fmt.{digits}
 use Rattle.cap_bytes.specs.declared.fault.FormKind.TheVariants.{Cut}
 use Rattle.cap_components.specs.declared.fault.PackFault.TheVariants.{Form, MethodLength}
 use Rattle.cap_bare.specs.declared.fault.BareKind.TheVariants.{BadTarget}
 use Rattle.cap_bare.specs.declared.run.BareEnd.TheVariants.{Returned}
-use Rattle.cap_text.specs.declared.start.StartFault.TheVariants.{ArgCount}
+use Rattle.vm_step.specs.declared.start_fault.StartFault.TheVariants.{ArgCount, ArgRoom}
+use Rattle.vm_step.specs.declared.ending.Value.TheVariants as values
+use Rattle.vm_step.specs.declared.ending.Plain.TheVariants as plain
+use Rattle.vm_step.specs.declared.ending.Fault.TheVariants.{StackFault}
+use Rattle.vm_step.specs.declared.ending.Ending.TheVariants as endings
+use Rattle.cap_text.specs.Ending.{ending_line, static_lines, array_line}
 use Rattle.cap_text.specs.Table.{component_line}
 use Rattle.cap_text.specs.Line.{malformed_line, not_linked_line, not_started_line, refused_bare_line, typed_line, refused_flow_line, bare_ending_line, accepted_line, refused_card_line}
 use Rattle.card_typing.specs.declared.fault.CardKind.TheVariants as cards
 use Rattle.card_typing.specs.declared.fault.CardKind.TheVariants.{StackAtBranch}
 use Rattle.cap_text.specs.Rule.{rule_fault_text}
-use Rattle.jc_base.specs.declared.ty.Ty.TheVariants.{Short, Class, Top}
+use Rattle.jc_base.specs.declared.ty.Ty.TheVariants.{Short, Class, Top, ArrByte}
 use Rattle.jc_decode.specs.declared.insn.CodeEnd.TheVariants.{NoOpcode}
 use Rattle.jc_flow.specs.declared.end.FlowEnd.TheVariants as flow
 use Rattle.jc_link.specs.LinkFault.TheVariants.{Hole}
@@ -36,6 +41,10 @@ mismatch = refl
 not_started : not_started_line (ArgCount 0 1) ≡ codes "not started ArgCount 0 1\n"
 unfolding digits
 not_started = refl
+
+no_room : not_started_line (ArgRoom 0) ≡ codes "not started ArgRoom 0\n"
+unfolding digits
+no_room = refl
 
 refused : refused_bare_line (record { place = 3; kind = BadTarget (negsuc 0) }) ≡ codes "refused place 3 BadTarget -1\n"
 unfolding digits
@@ -91,6 +100,38 @@ handler_on_the_card = refl
 returned : bare_ending_line (Returned (negsuc 32767)) ≡ codes "returned short -32768\n"
 unfolding digits
 returned = refl
+
+nothing_returned : ending_line (endings.Plain (plain.Returned values.Void)) ≡ codes "returned void\n"
+unfolding digits
+nothing_returned = refl
+
+null_returned : ending_line (endings.Plain (plain.Returned (values.Ref 0))) ≡ codes "returned null\n"
+unfolding digits
+null_returned = refl
+
+object_returned : ending_line (endings.Plain (plain.Returned (values.Ref 1))) ≡ codes "returned reference 1\n"
+unfolding digits
+object_returned = refl
+
+thrown : ending_line (endings.Plain (plain.Threw 4 2)) ≡ codes "threw class 4 reference 2\n"
+unfolding digits
+thrown = refl
+
+no_interface : ending_line (endings.Plain (plain.InterfaceMissing 0)) ≡ codes "interface missing class 0\n"
+unfolding digits
+no_interface = refl
+
+stack_fault : ending_line (endings.Faulted StackFault) ≡ codes "fault stack\n"
+unfolding digits
+stack_fault = refl
+
+two_fields : static_lines 0 (values.Short (pos 7) ∷ values.Int (negsuc 69999) ∷ []) ≡ codes "static 0 short 7\nstatic 1 int -70000\n"
+unfolding digits
+two_fields = refl
+
+three_bytes : array_line 1 ArrByte (pos 5 ∷ pos 2 ∷ negsuc 0 ∷ []) ≡ codes "array 1 byte 3 5 2 -1\n"
+unfolding digits
+three_bytes = refl
 
 method_size : component_line 7 19 ≡ codes "Method 7 19\n"
 unfolding digits

@@ -3,6 +3,7 @@ ghost use Rattle.cap_text.specs.Request.{Request, IsRequest, IsUsage, request_of
 
 use crate::check::Check;
 use crate::probe::Probe;
+use crate::run::Run;
 use crate::show::Show;
 use crate::verify::Verify;
 use cap_files::Words;
@@ -15,6 +16,7 @@ pub enum Command<'a> {
     Show(Show<'a>),
     Check(Check<'a>),
     Verify(Verify<'a>),
+    Defend(Run<'a>),
 }
 
 /// The command that the words spell, where they spell one. The arguments of a run take memory.
@@ -39,6 +41,9 @@ pub fn read_command<'a>(alloc: Global, words: &'a Words) -> Result<Option<Comman
     }
     if name == "verify" {
         return Ok(Verify::read(operands).map(Command::Verify));
+    }
+    if name == "defend" {
+        return Ok(Run::read(alloc, operands)?.map(Command::Defend));
     }
     Ok(None)
 }

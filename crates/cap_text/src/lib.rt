@@ -1,19 +1,23 @@
 //! The words that capcheck takes and the texts that it prints: the grammar of its commands, and the
-//! lines for each answer. Faults and endings are those of the crates below. It stands on `cap_files`
-//! for the words, and on `itoa` for numbers.
+//! lines for each answer and for what a run leaves. Faults, arguments and endings are those of the crates below. It stands on `cap_files`
+//! for the words, on `itoa` for numbers and on `hex` for bytes.
 #![tactic(auto)]
 
 mod bare;
 mod card;
 mod check;
 mod command;
+mod ending;
+mod entry;
 mod fault;
 mod flow;
 mod line;
 mod linked;
 mod printed;
 mod probe;
+mod room;
 mod rule;
+mod run;
 mod show;
 mod start;
 mod table;
@@ -22,14 +26,17 @@ mod word;
 
 pub use check::Check;
 pub use command::{Command, read_command};
+pub use ending::{write_array_head, write_element, write_ending, write_static};
+pub use entry::Entry;
 pub use fault::Shown;
 pub use line::{
     MethodNumber, accepted, bare_ending, malformed, not_linked, not_started, refused_bare,
     refused_card, refused_flow, typed,
 };
 pub use probe::Probe;
+pub use room::Room;
+pub use run::Run;
 pub use show::Show;
-pub use start::StartFault;
 pub use table::component_table;
 pub use verify::Verify;
-pub use word::{Arg, argument, folder_word, folder_words, number};
+pub use word::{OwnedArg, argument, folder_word, folder_words, number};

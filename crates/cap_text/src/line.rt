@@ -2,7 +2,6 @@ ghost use Rattle.std.specs.Prelude.{◌≡◌, IfOk, Some, string_bytes};
 ghost use Rattle.cap_text.specs.Line.{malformed_line, not_linked_line, not_started_line, refused_bare_line, typed_line, method_text, refused_flow_line, accepted_line, refused_card_line, bare_ending_line};
 
 use crate::fault::Shown;
-use crate::start::StartFault;
 use cap_bare::{BareEnd, BareFault};
 use cap_package::PackFault;
 use card_typing::CardFault;
@@ -10,6 +9,7 @@ use jc_flow::FlowEnd;
 use jc_link::LinkFault;
 use std::alloc::{AllocError, Global};
 use std::fmt;
+use vm_step::StartFault;
 
 /// A method by the numbers of its package, of its class in the package's Descriptor, and of itself in
 /// the class, each from 0.

@@ -1,11 +1,8 @@
 ghost use Rattle.std.specs.Prelude.{IfOk, IfSome, IfNone, ⊤};
 ghost use Rattle.cap_files.specs.WordsLeft.{words_left};
-ghost use Rattle.cap_text.specs.Word.{AreArgWords};
 ghost use Rattle.cap_text.specs.Probe.{ProbeRequest, IsProbe, probe_request};
-ghost use Rattle.cap_text.specs.declared.word.Arg.{Arg};
-ghost use Rattle.std.specs.Prelude.{List};
 
-use crate::word::{Arg, argument, folder_word, number};
+use crate::word::{OwnedArg, arguments, folder_word, number};
 use cap_files::WordsIter;
 use std::alloc::{AllocError, Global};
 
@@ -15,7 +12,7 @@ use std::alloc::{AllocError, Global};
 pub struct Probe<'a> {
     pub dir: &'a str,
     pub budget: u32,
-    pub args: Vec<Arg>,
+    pub args: Vec<OwnedArg>,
 }
 
 impl<'a> Probe<'a> {
@@ -41,19 +38,4 @@ impl<'a> Probe<'a> {
         };
         Ok(Some(Probe { dir, budget, args }))
     }
-}
-
-// The arguments that the words write, where each writes one.
-pub fn arguments(alloc: Global, words: WordsIter) -> Result<Option<Vec<Arg>>, AllocError>
-    ensures found { IfOk result (λ o. IfSome o (λ v. AreArgWords (words_left words.entry) v.items)) }
-    ensures none { IfOk result (λ o. IfNone o ((xs : List Arg) → AreArgWords (words_left words.entry) xs → ⊥)) }
-{
-    let mut args = Vec::new(alloc);
-    for word in words {
-        let Some(arg) = argument(word) else {
-            return Ok(None);
-        };
-        args.push(arg)?;
-    }
-    Ok(Some(args))
 }

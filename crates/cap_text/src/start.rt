@@ -5,19 +5,7 @@ ghost use Rattle.cap_text.specs.Start.{start_fault_text};
 use crate::fault::Shown;
 use crate::printed::Printed;
 use std::fmt;
-
-/// Why an entry does not start with the arguments, tried in this order.
-#[derive(Clone, Copy)]
-pub enum StartFault {
-    /// The entry is no method.
-    NoEntry,
-    /// The entry is not static, or has no code.
-    NotStatic,
-    /// The numbers of arguments and of parameters differ.
-    ArgCount { said: usize, wanted: u16 },
-    /// The argument of this number, from 0, is the first that does not fit its parameter.
-    ArgKind(u16),
-}
+use vm_step::StartFault;
 
 impl fmt::Display for Shown<StartFault> {
     ghost output = { λ x. Some (start_fault_text x.0) };
@@ -37,5 +25,6 @@ fn printed(fault: StartFault) -> Printed
             Printed::Two("ArgCount", said as u64, wanted as u64)
         }
         StartFault::ArgKind(number) => Printed::One("ArgKind", number as u64),
+        StartFault::ArgRoom(number) => Printed::One("ArgRoom", number as u64),
     }
 }

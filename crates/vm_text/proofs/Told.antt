@@ -1,0 +1,78 @@
+-- Lines and elements that are written one behind the other.
+use Rattle.std.proofs.Common.{◌≡◌, ◌<◌, ℕ, zero, suc, ◌+◌, ℤ, List, [], ◌∷◌, ◌++◌, length, Option, Some, None, refl, sym, ap, subst, ◌∙◌, append_assoc, append-nil, length-append, arith}
+use Rattle.std.specs.Prelude.{take, slice_get, option_map, option_and_then}
+use Rattle.std.specs.List.{flat_map}
+use Rattle.std.proofs.lemmas.Grind.{flat_map-append}
+use Rattle.vm_step.specs.declared.ending.Value.{Value}
+use Rattle.cap_text.specs.Ending.{static_line, static_lines, element_text}
+use Rattle.cap_text.specs.Room.{Roomed, Writes}
+use Rattle.vm_text.specs.Left.{Numbers, elements_in}
+
+next_taken : {X : Type 0} (xs : List X) (n : ℕ) (x : X) → slice_get xs n ≡ Some x → take (n + 1) xs ≡ take n xs ++ x ∷ []
+next_taken {X} xs n x is = let same : n + 1 ≡ suc n = omega arith in ap (λ k. take k xs) same ∙ go xs n is
+  where
+    go : (ys : List X) (m : ℕ) → slice_get ys m ≡ Some x → take (suc m) ys ≡ take m ys ++ x ∷ []
+    go [] m e = absurd (cc)
+    go (y ∷ ys) zero e = cc
+    go (y ∷ ys) (suc m) e = ap (λ zs. y ∷ zs) (go ys m e)
+
+-- one piece behind another
+pub joined : (a b c : Roomed) (xs ys : List ℕ) → Writes a b xs → Writes b c ys → Writes a c (xs ++ ys)
+joined a b c xs ys v w =
+    let long : length (xs ++ ys) ≡ length xs + length ys = length-append xs ys in
+    record {
+      text = w.text ∙ ap (λ t. t ++ ys) v.text ∙ append_assoc a.text xs ys;
+      used = let one = v.used in let more = w.used in omega (arith, one, more, long);
+      whole = let one = v.whole in let more = w.whole in omega (arith, one, more);
+    }
+
+pub nothing : (a : Roomed) → Writes a a []
+nothing a = record { text = sym (append-nil a.text); used = omega arith; whole = omega arith }
+
+-- ---- elements
+
+pub counted : (o : Option Numbers) (count : ℕ) → option_map (λ (a : Numbers). length a.elements) o ≡ Some count → length (elements_in o) ≡ count
+counted None count is = absurd (cc)
+counted (Some a) count is = cc
+
+pub element_found : (o : Option Numbers) (i : ℕ) (r : Option ℤ) → r ≡ option_and_then (λ (a : Numbers). slice_get a.elements i) o
+    → slice_get (elements_in o) i ≡ r
+element_found None i r is = sym is
+element_found (Some a) i r is = sym is
+
+pub one_element : (a b c : Roomed) (xs : List ℤ) (i : ℕ) (x : ℤ) → slice_get xs i ≡ Some x
+    → Writes a b (flat_map element_text (take i xs)) → Writes b c (element_text x) → Writes a c (flat_map element_text (take (i + 1) xs))
+one_element a b c xs i x is before one =
+    let all : flat_map element_text (take (i + 1) xs) ≡ flat_map element_text (take i xs) ++ element_text x
+    = ap (flat_map element_text) (next_taken xs i x is) ∙ flat_map-append element_text (take i xs) (x ∷ [])
+    ∙ ap (λ t. flat_map element_text (take i xs) ++ t) (append-nil (element_text x)) in
+    subst (Writes a c) (sym all) (joined a b c (flat_map element_text (take i xs)) (element_text x) before one)
+
+-- ---- static fields
+
+lines_joined : (m : ℕ) (xs : List Value) (x : Value) → static_lines m (xs ++ x ∷ []) ≡ static_lines m xs ++ static_line (m + length xs) x
+lines_joined m [] x = let same : m ≡ m + 0 = omega arith in append-nil (static_line m x) ∙ ap (λ k. static_line k x) same
+lines_joined m (y ∷ ys) x =
+    let same : m + 1 + length ys ≡ m + suc (length ys) = omega arith in
+    ap (λ t. static_line m y ++ t) (lines_joined (m + 1) ys x ∙ ap (λ k. static_lines (m + 1) ys ++ static_line k x) same)
+    ∙ sym (append_assoc (static_line m y) (static_lines (m + 1) ys) (static_line (m + suc (length ys)) x))
+
+pub one_field : (a b c : Roomed) (xs : List Value) (n : ℕ) (x : Value) → length (take n xs) ≡ n → slice_get xs n ≡ Some x
+    → Writes a b (static_lines 0 (take n xs)) → Writes b c (static_line n x) → Writes a c (static_lines 0 (take (n + 1) xs))
+one_field a b c xs n x long is before one =
+    let place : 0 + length (take n xs) ≡ n = omega (arith, long) in
+    let all : static_lines 0 (take (n + 1) xs) ≡ static_lines 0 (take n xs) ++ static_line n x
+    = ap (static_lines 0) (next_taken xs n x is) ∙ lines_joined 0 (take n xs) x ∙ ap (λ k. static_lines 0 (take n xs) ++ static_line k x) place in
+    subst (Writes a c) (sym all) (joined a b c (static_lines 0 (take n xs)) (static_line n x) before one)
+
+-- ---- within a list
+
+pub not_missing : {X : Type 0} (xs : List X) (i : ℕ) → i < length xs → slice_get xs i ≡ None → ⊥
+not_missing [] i below none = omega (arith, below)
+not_missing (x ∷ xs) zero below none = absurd (cc)
+not_missing (x ∷ xs) (suc i) below none = not_missing xs i (omega (arith, below)) none
+
+pub taken : {X : Type 0} (xs : List X) (n : ℕ) → n < length xs → length (take n xs) ≡ n
+taken [] n below = absurd (omega (arith, below))
+taken (x ∷ xs) zero below = refl
+taken (x ∷ xs) (suc n) below = ap suc (taken xs n (omega (arith, below)))

@@ -1,0 +1,12 @@
+-- What both machines print.
+use Rattle.std.specs.Prelude.{◌≡◌}
+use Rattle.jc_base.specs.World.{Linked}
+use Rattle.vm_store.specs.declared.cell.Cell.{Cell}
+use Rattle.vm_store.specs.Cells.{tagged, words}
+use Rattle.vm_store.specs.State.{State, erased}
+use Rattle.vm_step.specs.declared.ending.Ending.{Ending}
+use Rattle.vm_text.specs.Text.{run_text}
+
+-- the words of a state give the text that the state gives
+abbrev pub TextsAreAlike : Linked → Type 0
+TextsAreAlike w = (s : State Cell) (ending : Ending) → run_text words w (erased s) ending ≡ run_text tagged w s ending

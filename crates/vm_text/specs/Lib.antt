@@ -1,0 +1,4 @@
+pub mod Left
+pub mod Text
+pub mod Laws
+pub mod Worked
