@@ -2,7 +2,7 @@
 use Rattle.std.proofs.Common.{◌≡◌, ◌<◌, ℕ, zero, suc, List, length, take, sym, ap, subst, arith}
 use Rattle.std.proofs.lemmas.Option.{slice_get_within}
 use Rattle.jc_base.specs.declared.ty.Ty.TheVariants.{Bottom}
-use Rattle.jc_base.specs.World.{Linked, code_of}
+use Rattle.jc_base.specs.World.{Linked}
 use Rattle.jc_control.specs.Method.{Method, method_with}
 use Rattle.jc_rules.specs.Flow.{HasFlowTyping}
 use Rattle.card_verify.specs.Answers.{AreAccepted}

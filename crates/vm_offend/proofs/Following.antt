@@ -1,5 +1,5 @@
 -- What a run of words leaves are the words of what the run of tagged cells comes to.
-use Rattle.std.proofs.Common.{◌≡◌, ℕ, List, length, Option, Some, None, refl, sym, ap, ◌∙◌, subst}
+use Rattle.std.proofs.Common.{◌≡◌, ℕ, List, Option, Some, None, refl, sym, ap, ◌∙◌}
 use Rattle.std.specs.Prelude.{IfSome, option_map, unwrap_or}
 use Rattle.jc_base.specs.declared.ty.Ty.TheVariants.{Bottom}
 use Rattle.jc_base.specs.World.{Linked}
@@ -15,7 +15,9 @@ use Rattle.vm_sound.specs.Laws.{IsSafe}
 use Rattle.vm_erasure.specs.Erasure.{erased_outcome}
 use Rattle.vm_defend.specs.Held.{answer}
 use Rattle.vm_defend.specs.Safe.{IsPlainEnding}
-use Rattle.vm_offend.specs.Held.{ending_of}
+use Rattle.vm_words.specs.Words.{words_state}
+use Rattle.vm_offend.specs.declared.machine.Machine.{Machine}
+use Rattle.vm_offend.specs.Held.{ending_of, AreWordsOf, Follows}
 
 abbrev held : Outcome ℕ → State ℕ
 held (running s) = s
@@ -43,3 +45,16 @@ ending-is (Some e) s (ended f t) is = cc
 pub answers : (e : Option Plain) → answer (option_map endings.Plain e) ≡ endings.Plain (unwrap_or e Spent)
 answers None = refl
 answers (Some plain) = refl
+
+-- an ending stays
+pub ended-follows : (w : Linked) (m : Machine) (ram heap statics : List ℕ) (budget : ℕ) (plain : Plain) → m.ending ≡ Some plain → (o : Outcome Cell) → AreWordsOf w m ram heap statics o
+    → Follows w budget o m ram heap statics plain
+ended-follows w m ram heap statics budget plain is (running t) held =
+    let now : ended (endings.Plain plain) (words_state w.methods ram heap statics m.counts) ≡ running (erased t) =
+    sym (ap (λ (e : Option Plain). outcome (option_map endings.Plain e) (words_state w.methods ram heap statics m.counts)) is) ∙ held.words in
+    absurd (cc)
+ended-follows w m ram heap statics budget plain is (ended e t) held =
+    let now : ended (endings.Plain plain) (words_state w.methods ram heap statics m.counts) ≡ ended e (erased t) =
+    sym (ap (λ (p : Option Plain). outcome (option_map endings.Plain p) (words_state w.methods ram heap statics m.counts)) is) ∙ held.words in
+    let same : e ≡ endings.Plain plain = cc in
+    record { after = ended e t; runs = refl; words = held; answers = same }

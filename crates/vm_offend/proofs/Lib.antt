@@ -1,4 +1,7 @@
 mod Accepting
+mod Beginning
 mod Reached
 mod Following
-mod Reading
+mod Ran
+mod Read
+mod Moved

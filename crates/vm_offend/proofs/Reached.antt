@@ -1,5 +1,5 @@
 -- A state that a run reaches in typed code: it is typed, has the shape of its world, and a method runs in it.
-use Rattle.std.proofs.Common.{◌≡◌, ◌<◌, ◌+◌, ℕ, zero, suc, List, length, sym, subst, arith}
+use Rattle.std.proofs.Common.{◌≡◌, ◌+◌, ℕ, suc, sym, subst, arith}
 use Rattle.jc_base.specs.declared.ty.Ty.TheVariants.{Bottom}
 use Rattle.jc_base.specs.World.{Linked}
 use Rattle.vm_store.specs.declared.cell.Cell.{Cell}

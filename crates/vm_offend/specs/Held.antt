@@ -58,4 +58,4 @@ pub record Follows (w : Linked) (budget : ℕ) (before : Outcome Cell) (m : Mach
   pub after : Outcome Cell
   pub runs : Continues tagged w budget before after
   pub words : AreWordsOf w m ram heap statics after
-  pub answer : answer (ending_of after) ≡ endings.Plain plain
+  pub answers : answer (ending_of after) ≡ endings.Plain plain

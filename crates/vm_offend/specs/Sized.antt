@@ -9,6 +9,6 @@ static_cells w = sum_by (λ f. width f.kind) w.statics
 
 -- 64 frames of 513 words; 12,288 words of headers and 32,768 cells of objects; a word for each static cell
 pub record AreSized (w : Linked) (ram heap statics : List ℕ) : Type 0 where
-  pub ram : length ram ≡ 32832
-  pub heap : length heap ≡ 45056
-  pub statics : length statics ≡ static_cells w
+  pub ram_length : length ram ≡ 32832
+  pub heap_length : length heap ≡ 45056
+  pub statics_length : length statics ≡ static_cells w

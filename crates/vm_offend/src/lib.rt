@@ -4,10 +4,13 @@
 #![tactic(auto)]
 
 mod machine;
+mod memory;
 mod reading;
-mod sizes;
+mod sizing;
 mod starting;
+mod storing;
 
 pub use machine::Machine;
-pub use sizes::{Sizes, sizes};
+pub use memory::Sizes;
+pub use sizing::sizes;
 pub use starting::start;

@@ -13,6 +13,7 @@ ghost use Rattle.vm_offend.specs.Sized.{static_cells};
 ghost use Rattle.vm_offend.specs.Reads.{AreObjectsOf, AreStaticsOf};
 
 use crate::reading::{length_of, number_at, numbers_of, value_at};
+use crate::storing;
 use card_index::Accepted;
 use jc_base::{Ty, World};
 use vm_checks::Machine as Tested;
@@ -21,7 +22,6 @@ use vm_erasure::words_run_alike;
 use vm_sound::typed_code_never_fails;
 use vm_step::{Ending, Plain, Value, runs_are_runs_of_steps, runs_exist};
 use vm_store::{TaggedStore, states_erase};
-use vm_turns::Known;
 use vm_words::{Counts, WordStore};
 
 /// A run of verified code in memory that a caller lends: how many frames, objects and cells of objects there are, and how
@@ -96,7 +96,7 @@ impl Machine {
         starts_are_shaped(world);
         TaggedStore::tests_suffice(world);
         let mut store = WordStore::over(world, ram, heap, statics, self.counts);
-        let ending = vm_runs::run(&mut store, world, Known::Verified, budget);
+        let ending = storing::run(&mut store, world, budget);
         self.counts = store.counts();
         self.ending = plain(ending);
         spent_or(self.ending)

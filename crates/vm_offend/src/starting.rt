@@ -6,10 +6,11 @@ ghost use Rattle.vm_offend.specs.Held.{IsRunOf};
 ghost use Rattle.vm_offend.specs.Begun.{IsBegun};
 
 use crate::machine::Machine;
+use crate::storing::begin;
 use card_index::Accepted;
 use jc_base::World;
 use vm_sound::typed_code_never_fails;
-use vm_start::{begin, start_fault, starts_are_sized, starts_erase};
+use vm_start::{start_fault, starts_are_sized, starts_erase};
 use vm_step::{Args, StartFault};
 use vm_words::{Counts, WordStore};
 

@@ -12,7 +12,7 @@ use vm_runs::Turning;
 use vm_sound::typed_code_never_fails;
 use vm_store::{TaggedStore, states_erase};
 
-impl<'a> Machine for WordStore<'a> {
+impl<'w, 'r, 'h, 's> Machine for WordStore<'w, 'r, 'h, 's> {
     ghost use Rattle.vm_words.specs.Typed.{AreTypedWords};
 
     ghost keeps = { AreTypedWords };
@@ -35,7 +35,7 @@ impl<'a> Machine for WordStore<'a> {
     }
 }
 
-impl<'a> Turning for WordStore<'a> {
+impl<'w, 'r, 'h, 's> Turning for WordStore<'w, 'r, 'h, 's> {
     ghost use Rattle.vm_words.specs.Typed.{AreTypedWords};
 
     fn steps_stand(world: &World<'_>)

@@ -22,27 +22,28 @@ pub struct Counts {
     pub cells: u16,
 }
 
-/// A state of bare words in memory that a caller lends.
+/// A state of bare words in memory that a caller lends. Each slice has a lifetime of its own, so that the caller knows
+/// what it holds once the store is gone.
 #[derive(Drop)]
-pub struct WordStore<'a> {
-    world: &'a World<'a>,
-    ram: &'a mut [u16],
-    heap: &'a mut [u16],
-    statics: &'a mut [u16],
+pub struct WordStore<'w, 'r, 'h, 's> {
+    world: &'w World<'w>,
+    ram: &'r mut [u16],
+    heap: &'h mut [u16],
+    statics: &'s mut [u16],
     counts: Counts,
 }
 
-impl<'a> WordStore<'a> {
+impl<'w, 'r, 'h, 's> WordStore<'w, 'r, 'h, 's> {
     ghost use Rattle.vm_words.specs.WordStore.{state_of, IsLaid, fixed_of};
 
     /// The store of what the slices hold.
     pub fn over(
-        world: &'a World<'a>,
-        ram: &'a mut [u16],
-        heap: &'a mut [u16],
-        statics: &'a mut [u16],
+        world: &'w World<'w>,
+        ram: &'r mut [u16],
+        heap: &'h mut [u16],
+        statics: &'s mut [u16],
         counts: Counts,
-    ) -> WordStore<'a>
+    ) -> WordStore<'w, 'r, 'h, 's>
         requires { AreLaid world.now ram.old heap.old counts }
         ensures state { state_of result ≡ words_state world.entry.now.methods ram.old heap.old statics.old counts }
         ensures well { IsLaid result }
@@ -80,7 +81,7 @@ impl<'a> WordStore<'a> {
     }
 }
 
-impl<'a> Store for WordStore<'a> {
+impl<'w, 'r, 'h, 's> Store for WordStore<'w, 'r, 'h, 's> {
     ghost use Rattle.vm_words.specs.WordStore.{state_of, IsLaid, fixed_of};
 
     type Cell = u16;

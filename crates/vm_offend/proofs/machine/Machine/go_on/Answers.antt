@@ -1,0 +1,89 @@
+use Rattle.std.proofs.Common.{◌≡◌, ℕ, sym, ap, ◌∙◌, subst, rules}
+use Rattle.jc_base.specs.World.{Linked}
+use Rattle.std.specs.Prelude.{List}
+use Rattle.vm_store.specs.declared.cell.Cell.{Cell}
+use Rattle.vm_store.specs.Cells.{words}
+use Rattle.vm_store.specs.State.{State}
+use Rattle.vm_step.specs.Raising.{Outcome}
+use Rattle.vm_step.specs.Run.{Runs}
+use Rattle.vm_turns.specs.Turn.{outcome}
+use Rattle.vm_checks.specs.Shaped.{IsShaped}
+use Rattle.vm_words.specs.declared.words.Counts.{Counts}
+use Rattle.vm_words.specs.WordStore.{state_of}
+use Rattle.vm_words.specs.Words.{AreLaid, words_state}
+use Rattle.vm_offend.specs.declared.machine.Machine.{Machine}
+use Rattle.vm_offend.proofs.Accepting.{accepted-typed}
+use Rattle.vm_offend.specs.Held.{IsReached, AreWordsOf, IsRunOf, Follows}
+use Rattle.vm_offend.proofs.Moved.{moved}
+use Rattle.vm_offend.proofs.Ran.{Ran, can-run, run-keeps, run-plain, follows-each, run-after}
+use Rattle.vm_offend.proofs.machine.Machine.go_on.Goals as goal
+
+pub run-ending-requires-clause-running : goal.run-ending-requires-clause-running
+run-ending-requires-clause-running c =
+    let w = c.args.world.now in
+    can-run w (accepted-typed w c.requires.accepted) c.typed_code_never_fails.ensures.starts c.typed_code_never_fails.ensures.runs c.runs_are_runs_of_steps.ensures.tagged_steps c.runs_exist.ensures
+    c.args.self.now c.args.ram.now c.args.heap.now c.args.statics.now c.requires.going c.requires.run _ c.over-store.ensures.state
+
+pub run-ending-requires-clause-keeps : goal.run-ending-requires-clause-keeps
+run-ending-requires-clause-keeps c =
+    let w = c.args.world.now in
+    run-keeps w (accepted-typed w c.requires.accepted) c.typed_code_never_fails.ensures.starts c.typed_code_never_fails.ensures.runs c.starts_are_shaped.ensures c.tests_suffice.ensures.stays
+    c.args.self.now c.args.ram.now c.args.heap.now c.args.statics.now c.requires.going c.requires.run _ c.over-store.ensures.state
+
+pub plain-self-requires : goal.plain-self-requires
+plain-self-requires c =
+    let w = c.args.world.now in
+    run-plain w (accepted-typed w c.requires.accepted) c.typed_code_never_fails.ensures.starts c.typed_code_never_fails.ensures.runs c.words_run_alike.ensures.runs_follow
+    c.args.self.now c.args.ram.now c.args.heap.now c.args.statics.now c.requires.going c.requires.run c.args.budget _ _ c.run-ending.result c.over-store.ensures.state c.run-ending.ensures.runs
+
+pub returns-clause-follows : goal.returns-clause-follows
+returns-clause-follows c =
+    let w = c.args.world.now in
+    let z = c.run-ending.new.store in
+    let m : Machine = record { counts = c.counts-self.result; ending = c.plain-self.result } in
+    let now : State ℕ = words_state z.world.now.methods z.ram.now z.heap.now z.statics.now z.counts in
+    let after : State ℕ = words_state w.methods z.ram.now z.heap.now z.statics.now c.counts-self.result in
+    let same : now ≡ after =
+    ap (λ (v : Linked). words_state v.methods z.ram.now z.heap.now z.statics.now z.counts) c.run-ending.ensures.world
+    ∙ ap (λ (n : Counts). words_state w.methods z.ram.now z.heap.now z.statics.now n) (sym c.counts-self.ensures) in
+    let ran : Ran w c.args.self.now c.args.ram.now c.args.heap.now c.args.statics.now c.args.budget m z.ram.now z.heap.now z.statics.now c.spent_or.result = record {
+      going = c.requires.going;
+      ending = c.run-ending.result;
+      runs = subst (λ (x : State ℕ). Runs words w c.args.budget x (outcome c.run-ending.result after)) c.over-store.ensures.state
+          (subst (λ (x : State ℕ). Runs words w c.args.budget (state_of c.over-store.result) (outcome c.run-ending.result x)) same c.run-ending.ensures.runs);
+      shaped = subst (IsShaped w) same c.run-ending.ensures.shaped;
+      laid = subst (λ (n : Counts). AreLaid w z.ram.now z.heap.now n) (sym c.counts-self.ensures)
+          (subst (λ (v : Linked). AreLaid v z.ram.now z.heap.now z.counts) c.run-ending.ensures.world c.run-ending.ensures.well);
+      kept = c.plain-self.ensures;
+      answer_is = c.spent_or.ensures;
+    } in
+    moved (λ (x y u : List ℕ). (o : Outcome Cell) → IsReached w o → AreWordsOf w c.args.self.now c.args.ram.now c.args.heap.now c.args.statics.now o
+    → Follows w c.args.budget o m x y u c.spent_or.result) _ _ _ z.ram.now z.heap.now z.statics.now (search rules) (search rules) (search rules)
+    (follows-each w (accepted-typed w c.requires.accepted) c.typed_code_never_fails.ensures.starts c.typed_code_never_fails.ensures.runs c.words_run_alike.ensures.runs_follow
+    c.args.self.now c.args.ram.now c.args.heap.now c.args.statics.now c.args.budget m z.ram.now z.heap.now z.statics.now c.spent_or.result ran)
+
+pub returns-clause-run : goal.returns-clause-run
+returns-clause-run c =
+    let w = c.args.world.now in
+    let z = c.run-ending.new.store in
+    let m : Machine = record { counts = c.counts-self.result; ending = c.plain-self.result } in
+    let now : State ℕ = words_state z.world.now.methods z.ram.now z.heap.now z.statics.now z.counts in
+    let after : State ℕ = words_state w.methods z.ram.now z.heap.now z.statics.now c.counts-self.result in
+    let same : now ≡ after =
+    ap (λ (v : Linked). words_state v.methods z.ram.now z.heap.now z.statics.now z.counts) c.run-ending.ensures.world
+    ∙ ap (λ (n : Counts). words_state w.methods z.ram.now z.heap.now z.statics.now n) (sym c.counts-self.ensures) in
+    let ran : Ran w c.args.self.now c.args.ram.now c.args.heap.now c.args.statics.now c.args.budget m z.ram.now z.heap.now z.statics.now c.spent_or.result = record {
+      going = c.requires.going;
+      ending = c.run-ending.result;
+      runs = subst (λ (x : State ℕ). Runs words w c.args.budget x (outcome c.run-ending.result after)) c.over-store.ensures.state
+          (subst (λ (x : State ℕ). Runs words w c.args.budget (state_of c.over-store.result) (outcome c.run-ending.result x)) same c.run-ending.ensures.runs);
+      shaped = subst (IsShaped w) same c.run-ending.ensures.shaped;
+      laid = subst (λ (n : Counts). AreLaid w z.ram.now z.heap.now n) (sym c.counts-self.ensures)
+          (subst (λ (v : Linked). AreLaid v z.ram.now z.heap.now z.counts) c.run-ending.ensures.world c.run-ending.ensures.well);
+      kept = c.plain-self.ensures;
+      answer_is = c.spent_or.ensures;
+    } in
+    moved (IsRunOf w m) _ _ _ z.ram.now z.heap.now z.statics.now (search rules) (search rules) (search rules)
+    (run-after w (accepted-typed w c.requires.accepted) c.typed_code_never_fails.ensures.starts c.typed_code_never_fails.ensures.runs c.words_run_alike.ensures.runs_follow
+    c.args.self.now c.args.ram.now c.args.heap.now c.args.statics.now c.args.budget m z.ram.now z.heap.now z.statics.now c.spent_or.result ran
+    c.runs_are_runs_of_steps.ensures.tagged_on c.requires.run)
