@@ -18,3 +18,5 @@ pub mod AsLaid
 pub mod Order
 pub mod Ranks
 pub mod Known
+pub mod Indexed
+pub mod FromWriting

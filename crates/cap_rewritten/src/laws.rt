@@ -1,4 +1,15 @@
-ghost use Rattle.cap_rewritten.specs.Laws.{RewrittenStands};
+ghost use Rattle.cap_rewritten.specs.Laws.{RewrittenStands, WritingRewrites};
+
+use cap_laying::{headers_read_back, methods_stand};
+
+/// What is written, component by component, when code is laid for the methods of a package is that package with this
+/// code, each method named by its position.
+pub fn writing_rewrites()
+    ensures { WritingRewrites }
+{
+    headers_read_back();
+    methods_stand();
+}
 
 /// Parts that say, component by component, what a package says with other code stand for it: none of the conditions on
 /// the agreement of components is broken.
