@@ -20,3 +20,4 @@ pub mod Ranks
 pub mod Known
 pub mod Indexed
 pub mod FromWriting
+pub mod Positions

@@ -1,4 +1,5 @@
 ghost use Rattle.cap_rewritten.specs.Laws.{RewrittenStands, WritingRewrites};
+ghost use Rattle.cap_rewritten.specs.Naming.{NamesStay};
 
 use cap_laying::{headers_read_back, methods_stand};
 
@@ -15,4 +16,10 @@ pub fn writing_rewrites()
 /// the agreement of components is broken.
 pub fn rewritten_is_a_package()
     ensures { RewrittenStands }
+{}
+
+/// An offset that names a method in a package names, as it is renewed, the method at the same position of the package
+/// with other code.
+pub fn names_stay()
+    ensures { NamesStay }
 {}
