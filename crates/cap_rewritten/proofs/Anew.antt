@@ -1,8 +1,7 @@
 -- Each method of a class with its record as it is written, and with the member that is written for it.
-use Rattle.std.proofs.Common.{◌≡◌, ◌≤◌, ◌<◌, ◌+◌, ◌*◌, ℕ, zero, suc, List, [], ◌∷◌, ◌++◌, length, map, filter, sum_by, take, drop, replicate, Bool, true, false, cond, Option, Some, None, inl, inr, refl, sym, ap, subst, ◌∙◌, arith, length-append, length-take, length-drop}
-use Rattle.std.specs.Prelude.{if◌then◌else◌, nat_lt, ◌==◌, slice_index, slice_index_or, find}
+use Rattle.std.proofs.Common.{◌≡◌, ◌+◌, ℕ, zero, suc, List, [], ◌∷◌, ◌++◌, length, map, replicate, Bool, true, false, cond, Option, Some, None, inl, inr, refl, sym, ap, subst, ◌∙◌, arith}
+use Rattle.std.specs.Prelude.{if◌then◌else◌, ◌==◌, slice_index, find}
 use Rattle.std.proofs.lemmas.List.{map-append}
-use Rattle.std.proofs.lemmas.List.Sums.{sum_by-cons}
 use Rattle.cap_desc.specs.DescriptorFormat.{Method, Class}
 use Rattle.cap_desc.specs.Members.{methods_but}
 use Rattle.cap_components.specs.PackageRecord.{PackageRecord, described, names_interface}
@@ -14,18 +13,16 @@ use Rattle.cap_laying.specs.Member.{code_size, handlers_of}
 use Rattle.cap_laying.specs.NewPlaces.{new_method, new_if, news_from}
 use Rattle.cap_laying.specs.Member.{by_offset, size_if}
 use Rattle.cap_laying.specs.Blocks.{blocks, indexes_of}
-use Rattle.cap_laying.specs.Members.{MayBeWritten, AreMembers, IsMember, AreApart, IsAlone, new_places, start_of, written_info}
-use Rattle.cap_laying.specs.Standing.{StandsAnew, AllStand, MethodsStand}
+use Rattle.cap_laying.specs.Members.{new_places, start_of}
+use Rattle.cap_laying.specs.Standing.{StandsAnew, AllStand}
 use Rattle.jc_decode.specs.declared.symbols.Laid.{Laid}
 use Rattle.cap_rewritten.specs.Changes.{Source, Change, sources, changes, changes_of, stood_at, offset_by, now_at, laid_but}
 use Rattle.cap_rewritten.specs.Rewritten.{bare_method, bare_class}
 use Rattle.cap_rewritten.specs.Writing.{IsMemberOf, AreMembersOf, IsWrittenAnew, places}
-use Rattle.cap_rewritten.proofs.Lists.{Each, Has, each_at, each_of, each_map, map_each, filter_map_in}
-use Rattle.cap_rewritten.proofs.Zipped.{length_map, method_of, changes_now, sources_method, length_but}
+use Rattle.cap_rewritten.proofs.Lists.{Each, Has, each_at, each_of, each_map, map_each}
+use Rattle.cap_rewritten.proofs.Zipped.{method_of, sources_method, length_but}
 use Rattle.cap_rewritten.proofs.Bare.{but_same, same_interfaces}
-use Rattle.cap_rewritten.proofs.Kept.{map_twice}
-use Rattle.cap_rewritten.proofs.Names.{find_none, find_any, IsFirst}
-use Rattle.cap_rewritten.proofs.Slots.{slot, put_all, kept, slot_none, at_offset_of, by_offset_is}
+use Rattle.cap_rewritten.proofs.Slots.{slot, kept, slot_none, at_offset_of, by_offset_is}
 
 -- ---- the pairs
 
@@ -165,6 +162,7 @@ other_number a n e s = true_false (ap (λ k. k == n) s ∙ same n) e
   where
     same : (n : ℕ) → (n == n) ≡ true
     same n = grind arith
+
     true_false : {b : Bool} → b ≡ true → b ≡ false → ⊥
     true_false t f = absurd cc
 
@@ -200,6 +198,7 @@ renamed p q laid ms w told o =
     at_one : (z : Pair) → IsMemberOf p.methods.info z.source z.member → IsToldOf (places p ms) (indexes_of (length p.methods.info) (blocks (length p.methods.handlers) ms)) z → stood_at o (change_in (places p ms) z) ≡ true
         → (renewed_method (places p ms) z.source.method).method_offset ≡ to (places p ms) o
     at_one z is t e = t.offset ∙ ap (to (places p ms)) (is.offset ∙ same_number z.source.method.method_offset o e)
+
     by : Finding (stood_at o) (map (change_in (places p ms)) (pairs_in p laid ms)) → offset_by o (find (stood_at o) (map (change_in (places p ms)) (pairs_in p laid ms))) ≡ to (places p ms) o
     by (nowhere f h) =
         let zs = pairs_in p laid ms in

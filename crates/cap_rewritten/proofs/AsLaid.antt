@@ -1,15 +1,13 @@
 -- A method that is written has the code that is laid, or the header that it had.
-use Rattle.std.proofs.Common.{◌≡◌, ◌≤◌, ◌<◌, ◌+◌, ℕ, zero, suc, List, [], ◌∷◌, ◌++◌, length, take, drop, Bool, true, false, Option, Some, None, refl, sym, ap, subst, ◌∙◌, arith, length-append, length-take, length-drop}
+use Rattle.std.proofs.Common.{◌≡◌, ◌≤◌, ◌+◌, ℕ, zero, suc, List, [], ◌∷◌, ◌++◌, length, take, drop, Bool, true, false, Some, refl, sym, ap, ◌∙◌, arith, length-take, length-drop}
 use Rattle.std.specs.Prelude.{if◌then◌else◌}
 use Rattle.std.proofs.lemmas.List.{drop-drop}
 use Rattle.cap_bytes.specs.Number.{number_at}
-use Rattle.cap_bytes.specs.Spelling.{Spells, info_of}
+use Rattle.cap_bytes.specs.Spelling.{info_of}
 use Rattle.cap_bytes.proofs.Laws.{spelled-read}
 use Rattle.cap_method.specs.MethodFormat.{Header, header_info}
 use Rattle.cap_method.specs.MethodPart.{HeaderAt}
-use Rattle.cap_desc.specs.DescriptorFormat.{Method}
-use Rattle.cap_components.specs.MethodPlaces.{size_by, code_start, code_end}
-use Rattle.cap_components.specs.PackageRecord.{PackageRecord, code_of}
+use Rattle.cap_components.specs.MethodPlaces.{size_by}
 use Rattle.cap_package.specs.HeaderChecks.{header_in}
 use Rattle.cap_laying.specs.HeaderBytes.{Numbers, is_compact, compact_bytes, extended_bytes, header_bytes, header_size, header_of}
 use Rattle.cap_laying.specs.Member.{numbers_of}

@@ -44,11 +44,10 @@ one_owner : (info : List ℕ) (ms : List Method) (number : ℕ) (h : HandlerInfo
 unfolding entry_fault owners
 one_owner info ms number h e = one_home info h (filter (claims number) ms) (is_told (has_home info h (filter (claims number) ms)) _ e)
 
-pub OwnedOnce : ℕ → List Method → Type 0
+abbrev pub OwnedOnce : ℕ → List Method → Type 0
 OwnedOnce n ms = (i : ℕ) → i < n → length (filter (claims i) ms) ≤ 1
 
 pub owned_once : (parts : List Lent) (p : PackageRecord) → Agrees parts p → OwnedOnce (length p.methods.handlers) (described p)
-unfolding OwnedOnce
 owned_once parts p a i lt =
     let info = p.methods.info in
     let ms = described p in
@@ -57,14 +56,14 @@ owned_once parts p a i lt =
     let e : 0 + i ≡ i = omega arith in
     subst (λ k. length (filter (claims k) ms) ≤ 1) e (one_owner info ms (0 + i) at.0 at.1)
 
-pub ClaimsInside : ℕ → Method → Type 0
+abbrev pub ClaimsInside : ℕ → Method → Type 0
 ClaimsInside n m = (m.handler_count == 0) ≡ false → m.handler_index + m.handler_count ≤ n
 
 pub some_count : (n : ℕ) → (n == 0) ≡ false → 1 ≤ n
 some_count n e = grind arith
 
 claims_inside : (n : ℕ) (m : Method) → claim_fault n m ≡ None → ClaimsInside n m
-unfolding claim_fault ClaimsInside
+unfolding claim_fault
 claims_inside n m e some =
     let f : not (m.handler_count == 0) && nat_lt n (m.handler_index + m.handler_count) ≡ false = few_by (not (m.handler_count == 0) && nat_lt n (m.handler_index + m.handler_count)) _ e in
     let g : nat_lt n (m.handler_index + m.handler_count) ≡ false = ap (λ b. not b && nat_lt n (m.handler_index + m.handler_count)) (sym some) ∙ f in
@@ -95,7 +94,7 @@ many_has : {X : Type 0} (xs : List X) (x : X) → Has xs x → 1 ≤ length xs
 many_has [] x h = absurd h
 many_has (y ∷ ys) x h = omega arith
 
-has_map : {X Y : Type 0} (g : X → Y) (xs : List X) (x : X) → Has xs x → Has (map g xs) (g x)
+pub has_map : {X Y : Type 0} (g : X → Y) (xs : List X) (x : X) → Has xs x → Has (map g xs) (g x)
 has_map g [] x h = h
 has_map g (y ∷ ys) x (inl s) = inl (ap g s)
 has_map g (y ∷ ys) x (inr h) = inr (has_map g ys x h)
@@ -121,7 +120,6 @@ claimed_twice ms m n i h e f le =
 blocks_differ : (p : PackageRecord) (c d : Change) (cs : List Change) (b e : Bool) → (c.source.method.handler_count == 0) ≡ b → (d.source.method.handler_count == 0) ≡ e → Has cs d
     → (d.source.number ≡ c.source.number → ⊥) → ClaimsInside (length p.methods.handlers) c.source.method → ClaimsInside (length p.methods.handlers) d.source.method
     → OwnedOnce (length p.methods.handlers) (map old_of (c ∷ cs)) → block_of p d.source ≡ block_of p c.source → ⊥
-unfolding ClaimsInside OwnedOnce
 blocks_differ p c d cs true true u v h n x y o s =
     let s' : length p.methods.handlers + d.source.number ≡ length p.methods.handlers + c.source.number =
     ap (λ b. if b then length p.methods.handlers + d.source.number else d.source.method.handler_index) (sym v) ∙ s ∙ ap (λ b. if b then length p.methods.handlers + c.source.number else c.source.method.handler_index) u in
@@ -147,7 +145,6 @@ blocks_differ p c d cs false false u v h n x y o s =
     (ap (λ j. claims j d.source.method) (sym s') ∙ claims_first d.source.method v) (o c.source.method.handler_index (omega arith))
 
 later_once : (n : ℕ) (c : Change) (cs : List Change) → OwnedOnce n (map old_of (c ∷ cs)) → OwnedOnce n (map old_of cs)
-unfolding OwnedOnce
 later_once n c cs o i lt =
     let a = o i lt in
     let b = fewer (claims i c.source.method) c.source.method (filter (claims i) (map old_of cs)) in

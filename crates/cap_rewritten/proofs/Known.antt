@@ -1,41 +1,37 @@
 -- What is known of each method that is written.
-use Rattle.std.proofs.Common.{◌≡◌, ◌≤◌, ◌<◌, ◌+◌, ◌*◌, ℕ, zero, suc, List, [], ◌∷◌, ◌++◌, length, map, filter, replicate, sum_by, take, drop, All, Bool, true, false, cond, not, Option, Some, None, IfSome, is_none, inl, inr, refl, sym, ap, subst, ◌∙◌, arith}
-use Rattle.std.specs.Prelude.{if◌then◌else◌, nat_lt, ◌==◌, slice_index}
+use Rattle.std.proofs.Common.{◌≡◌, ◌≤◌, ◌<◌, ◌+◌, ℕ, List, [], ◌∷◌, length, map, take, drop, Option, Some, None, IfSome, sym, ap, subst, ◌∙◌, arith}
 use Rattle.cap_bytes.specs.Number.{number_at}
 use Rattle.cap_method.specs.MethodFormat.{Header}
 use Rattle.cap_desc.specs.DescriptorFormat.{Method}
-use Rattle.cap_components.specs.MethodPlaces.{size_by, code_start, code_end}
+use Rattle.cap_components.specs.MethodPlaces.{size_by, code_start}
 use Rattle.cap_components.specs.Parts.{Lent}
 use Rattle.cap_components.specs.PackageRecord.{PackageRecord, described, names_interface, handlers_of}
 use Rattle.cap_package.specs.HeaderChecks.{header_in}
 use Rattle.cap_package.specs.StandsFor.{StandsFor}
-use Rattle.cap_renewal.specs.declared.new_methods.NewMethod.{NewMethod}
 use Rattle.cap_renewal.specs.NewMethods.{to}
 use Rattle.cap_renewal.specs.DescriptorEdits.{renewed_method}
 use Rattle.cap_laying.specs.declared.member.Body.{Body}
 use Rattle.cap_laying.specs.declared.member.Body.TheVariants.{Code, Header as Lead}
 use Rattle.cap_laying.specs.declared.member.Member.{Member}
 use Rattle.cap_laying.specs.HandlerTable.{entries_at}
-use Rattle.cap_laying.specs.HeaderBytes.{header_size, header_bytes}
-use Rattle.cap_laying.specs.Member.{body_bytes, body_size, code_size, lead_size, numbers_of, by_offset}
+use Rattle.cap_laying.specs.Member.{body_bytes, body_size, code_size, lead_size}
 use Rattle.cap_laying.specs.Member.{handlers_of as laid_handlers}
-use Rattle.cap_laying.specs.Blocks.{blocks, indexes_of, index_after, block_entries, entries_of}
-use Rattle.cap_laying.specs.Members.{MayBeWritten, AreMembers, AreApart, IsAlone, written_info, new_places}
-use Rattle.cap_laying.specs.Laws.{AreBytes, HeadersReadBack}
+use Rattle.cap_laying.specs.Blocks.{blocks, indexes_of, block_entries}
+use Rattle.cap_laying.specs.Members.{AreMembers}
+use Rattle.cap_laying.specs.Laws.{HeadersReadBack}
 use Rattle.cap_laying.specs.Standing.{StandsAnew, MethodsStand}
 use Rattle.jc_decode.specs.declared.symbols.Laid.{Laid}
-use Rattle.cap_rewritten.specs.Changes.{Source, Change, sources, changes, laid_but}
-use Rattle.cap_rewritten.specs.Written.{HasCode, HasHeader, IsAs, size_in, lead_bytes}
+use Rattle.cap_rewritten.specs.Changes.{Source, sources, laid_but}
+use Rattle.cap_rewritten.specs.Written.{IsAs, size_in, lead_bytes}
 use Rattle.cap_rewritten.specs.Laying.{IsCodeFor, IsFor, IsLaidFor, AreLaidFor}
 use Rattle.cap_rewritten.specs.Writing.{IsBodyOf, IsMemberOf, HasSmallStack, IsWrittenAnew, places}
-use Rattle.cap_rewritten.proofs.Lists.{Each, Has, each_at, each_of, each_all, each_map, map_each}
+use Rattle.cap_rewritten.proofs.Lists.{Each, each_at, each_of, each_all, map_each}
 use Rattle.cap_rewritten.proofs.Agreed.{agrees}
 use Rattle.cap_rewritten.proofs.Zipped.{method_of, sources_method, length_but}
-use Rattle.cap_rewritten.proofs.Kept.{map_twice}
 use Rattle.cap_rewritten.proofs.Facts.{WasWell, wells}
 use Rattle.cap_rewritten.proofs.Standing.{sizes_end}
 use Rattle.cap_rewritten.proofs.Handlers.{ClaimsInside, all_claims}
-use Rattle.cap_rewritten.proofs.Anew.{Pair, pairs_of, pairs_in, source_in, member_in, pair_sources, pair_members, pair_each, change_in, standing, IsToldOf, is_told_of}
+use Rattle.cap_rewritten.proofs.Anew.{Pair, pairs_in, source_in, member_in, pair_sources, pair_members, pair_each, change_in, standing, IsToldOf, is_told_of}
 use Rattle.cap_rewritten.proofs.AsLaid.{IsCodeAt, code_at, IsLeadAt, lead_at}
 
 pub was_described : (p q : PackageRecord) (laid : List (Option Laid)) (ms : List Member) → IsWrittenAnew p laid ms q → map method_of (sources p laid) ≡ described p

@@ -18,3 +18,6 @@ pub mod AsLaid
 pub mod Order
 pub mod Ranks
 pub mod Known
+pub mod Indexed
+pub mod FromWriting
+pub mod Positions

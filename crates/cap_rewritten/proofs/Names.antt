@@ -57,7 +57,7 @@ any_has p [] x h e = absurd h
 any_has p (y ∷ ys) x (inl s) e = ap (λ b. b || list_any p ys) (ap p (sym s) ∙ e)
 any_has p (y ∷ ys) x (inr h) e = ap (λ b. p y || b) (any_has p ys x h e) ∙ or_true (p y)
 
-same_number : (n : ℕ) → (n == n) ≡ true
+pub same_number : (n : ℕ) → (n == n) ≡ true
 same_number n = grind arith
 
 -- ---- a method

@@ -1,6 +1,6 @@
 -- The order of the blocks of handlers, and where the entries of a method stand in it.
-use Rattle.std.proofs.Common.{◌≡◌, ◌≤◌, ◌<◌, ◌+◌, ℕ, zero, suc, List, [], ◌∷◌, ◌++◌, length, map, filter, replicate, sum_by, take, drop, flat_map, option_to_list, Bool, true, false, cond, not, Option, Some, None, is_none, inl, inr, refl, sym, ap, subst, ◌∙◌, arith, append_assoc, length-append}
-use Rattle.std.specs.Prelude.{if◌then◌else◌, nat_lt, ◌==◌, slice_set, slice_index, slice_index_or}
+use Rattle.std.proofs.Common.{◌≡◌, ◌≤◌, ◌<◌, ◌+◌, ℕ, zero, suc, List, [], ◌∷◌, ◌++◌, length, filter, replicate, sum_by, take, drop, flat_map, option_to_list, Bool, true, false, cond, Option, Some, None, is_none, inl, inr, refl, sym, ap, ◌∙◌, arith, append_assoc, length-append}
+use Rattle.std.specs.Prelude.{if◌then◌else◌, ◌==◌, slice_set, slice_index}
 use Rattle.std.proofs.lemmas.List.Sums.{sum_by-cons}
 use Rattle.cap_method.specs.declared.handler.HandlerInfo.{HandlerInfo}
 use Rattle.cap_renewal.specs.declared.new_methods.NewMethod.{NewMethod}
@@ -10,9 +10,9 @@ use Rattle.cap_laying.specs.declared.member.Member.{Member}
 use Rattle.cap_laying.specs.HandlerTable.{entries_at}
 use Rattle.cap_laying.specs.Member.{handlers_of, lead_size}
 use Rattle.cap_laying.specs.Blocks.{blocks, firsts, had_none, index_after, put_indexes, indexes_of, block_entries, entries_of, total_handlers}
-use Rattle.cap_rewritten.proofs.Lists.{Each, Has, each_at, each_of}
+use Rattle.cap_rewritten.proofs.Lists.{Each, Has, each_at}
 use Rattle.cap_rewritten.proofs.AsLaid.{take_front, drop_front}
-use Rattle.cap_rewritten.proofs.Slots.{slot, weight_if, sum_slots, put_all, AreApartBy, first_of, firsts_is, sum_put, length_table}
+use Rattle.cap_rewritten.proofs.Slots.{slot, sum_slots, first_of}
 
 abbrev pub many_of : Member → ℕ
 many_of m = length (handlers_of m.body)
@@ -202,11 +202,14 @@ entries_among news bs m before a = by (many_of m == 0) refl
   where
     none : (n : ℕ) → (n == 0) ≡ true → n ≡ 0
     none n e = grind arith
+
     empty : (xs : List HandlerInfo) → length xs ≡ 0 → [] ≡ xs
     empty [] e = refl
     empty (x ∷ xs) e = absurd (omega arith)
+
     long : length (block_entries news m) ≡ many_of m
     long = length_at (to news m.offset + lead_size m.body) (handlers_of m.body)
+
     by : (b : Bool) → (many_of m == 0) ≡ b → take (many_of m) (drop (if b then 0 else before) (entries_of news bs)) ≡ block_entries news m
     by true e =
         let z = none (many_of m) e in

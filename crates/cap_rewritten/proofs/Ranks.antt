@@ -1,5 +1,5 @@
 -- Sums over some of the methods, and methods in the order of their positions.
-use Rattle.std.proofs.Common.{◌≡◌, ◌≤◌, ◌<◌, ◌+◌, ℕ, zero, suc, List, [], ◌∷◌, ◌++◌, map, filter, sum_by, Bool, true, false, cond, not, Option, inl, inr, refl, sym, ap, subst, ◌∙◌, arith}
+use Rattle.std.proofs.Common.{◌≡◌, ◌≤◌, ◌<◌, ◌+◌, ℕ, List, [], ◌∷◌, ◌++◌, map, filter, sum_by, Bool, true, false, cond, not, Option, inl, inr, refl, sym, ap, ◌∙◌, arith}
 use Rattle.std.proofs.lemmas.List.Sums.{sum_by-cons, sum_by-append}
 use Rattle.std.proofs.lemmas.List.Filters.{sum_by-filter_both}
 use Rattle.std.proofs.lemmas.List.Elements.{filter-append}
@@ -66,9 +66,11 @@ pub rising_sources : (n : ℕ) (ms : List Method) (ls : List (Option Laid)) → 
 rising_sources n [] ls = tt
 rising_sources n (m ∷ ms) [] = tt
 rising_sources n (m ∷ ms) (l ∷ ls) =
-    let later = from_number (n + 1) (n + 1) ms ls (omega arith) in
-    (each_of (λ (s : Source). n < s.number) (sources_from (n + 1) ms ls)
-    (λ s h. let k = each_at (λ (x : Source). n + 1 ≤ x.number) (sources_from (n + 1) ms ls) s later h in omega arith), rising_sources (n + 1) ms ls)
+    let later = from_number (n + 1) (n + 1) ms ls (omega arith) in (
+      each_of (λ (s : Source). n < s.number) (sources_from (n + 1) ms ls)
+          (λ s h. let k = each_at (λ (x : Source). n + 1 ≤ x.number) (sources_from (n + 1) ms ls) s later h in omega arith),
+      rising_sources (n + 1) ms ls,
+    )
 
 pub rising_before : {X : Type 0} (number : X → ℕ) (lead rest : List X) (x : X) → Rising number (lead ++ x ∷ rest) → Each (λ y. number y < number x) lead
 rising_before {X = X} number [] rest x r = tt

@@ -1,5 +1,5 @@
 -- Tables in which members are put at the numbers of a key.
-use Rattle.std.proofs.Common.{◌≡◌, ◌≤◌, ◌<◌, ◌+◌, ℕ, zero, suc, List, [], ◌∷◌, ◌++◌, length, map, filter, replicate, sum_by, Bool, true, false, cond, Option, Some, None, ◌⊎◌, inl, inr, refl, sym, ap, subst, ◌∙◌, arith}
+use Rattle.std.proofs.Common.{◌≡◌, ◌<◌, ◌+◌, ℕ, zero, suc, List, [], ◌∷◌, length, filter, replicate, sum_by, Bool, true, false, cond, Option, Some, None, ◌⊎◌, inl, inr, refl, sym, ap, subst, ◌∙◌, arith}
 use Rattle.std.specs.Prelude.{if◌then◌else◌, nat_lt, ◌==◌, slice_set, slice_index_or}
 use Rattle.std.proofs.lemmas.List.Sums.{sum_by-cons}
 use Rattle.cap_laying.specs.declared.member.Member.{Member}
@@ -144,12 +144,15 @@ held_by key table m (Some i) j b k e = at_slot table i j k e
       where
         same : (i j : ℕ) → (i == j) ≡ true → i ≡ j
         same i j e = grind arith
+
         differ : (i j : ℕ) → (i == j) ≡ false → i ≡ j → ⊥
         differ i j e s = absurd (grind arith)
+
         first : (table : List (Option Member)) (j : ℕ) → slot (slice_set table j (Some m)) j ≡ Some b → (slot table j ≡ Some b) ⊎ (b ≡ m)
         first [] j e = inl e
         first (s ∷ table) zero e = let q : b ≡ m = cc in inr q
         first (s ∷ table) (suc j) e = first table j e
+
         by : (t : Bool) → (i == j) ≡ t → (slot table j ≡ Some b) ⊎ ((b ≡ m) × (key b ≡ Some j))
         by true t =
             let s = same i j t in
@@ -168,6 +171,7 @@ holds key table (m ∷ ms) j b e = by (holds key (put_by table m (key m)) ms j b
     at_one : (slot table j ≡ Some b) ⊎ ((b ≡ m) × (key b ≡ Some j)) → (slot table j ≡ Some b) ⊎ (Has (m ∷ ms) b × (key b ≡ Some j))
     at_one (inl h) = inl h
     at_one (inr h) = inr (inl h.0, h.1)
+
     by : (slot (put_by table m (key m)) j ≡ Some b) ⊎ (Has ms b × (key b ≡ Some j)) → (slot table j ≡ Some b) ⊎ (Has (m ∷ ms) b × (key b ≡ Some j))
     by (inl h) = at_one (held_by key table m (key m) j b refl h)
     by (inr h) = inr (inr h.0, h.1)

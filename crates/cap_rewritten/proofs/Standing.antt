@@ -70,7 +70,7 @@ apart parts p q laid a r =
 place_of : (p q : PackageRecord) (all : List Change) (c : Change) → IsWritten p q all c → c.now.method_offset ≡ methods_begin q + below (size_in q) offset_of all (offset_of c)
 place_of p q all c w = w.place
 
-one_ends : (p q : PackageRecord) (all : List Change) (c d : Change) → IsWritten p q all c → IsWritten p q all d → Has all c → offset_of c < offset_of d → code_end q.methods.info c.now ≤ d.now.method_offset
+pub one_ends : (p q : PackageRecord) (all : List Change) (c d : Change) → IsWritten p q all c → IsWritten p q all d → Has all c → offset_of c < offset_of d → code_end q.methods.info c.now ≤ d.now.method_offset
 one_ends p q all c d w v h lt =
     let a = place_of p q all c w in
     let b = place_of p q all d v in
@@ -78,7 +78,7 @@ one_ends p q all c d w v h lt =
     let k = ends_before (size_in q) offset_of all (offset_of d) c h lt in
     omega arith
 
-compare : (a b : ℕ) → (a ≡ b → ⊥) → (a < b) ⊎ (b < a)
+pub compare : (a b : ℕ) → (a ≡ b → ⊥) → (a < b) ⊎ (b < a)
 compare a b h = by (nat_lt a b) (nat_lt b a) refl refl
   where
     by : (x y : Bool) → nat_lt a b ≡ x → nat_lt b a ≡ y → (a < b) ⊎ (b < a)

@@ -8,9 +8,11 @@ use Rattle.cap_components.specs.Parts.{Lent, held}
 use Rattle.cap_components.specs.PackageRecord.{PackageRecord}
 use Rattle.cap_components.specs.Saying.{AreSaid}
 use Rattle.cap_package.specs.StandsFor.{StandsFor}
+use Rattle.cap_laying.specs.declared.member.Member.{Member}
 use Rattle.jc_decode.specs.declared.symbols.Laid.{Laid}
 use Rattle.cap_rewritten.specs.Laying.{AreLaidFor}
 use Rattle.cap_rewritten.specs.Rewritten.{IsRewritten}
+use Rattle.cap_rewritten.specs.Writing.{IsWrittenAnew}
 
 -- a size is that of the info in a component's file, and 0 where there is no file
 abbrev pub IsSizeOf : ℕ → ℕ → Option (List ℕ) → Type 0
@@ -26,3 +28,8 @@ abbrev pub RewrittenStands : Type 0
 RewrittenStands = (parts new_parts : List Lent) (p q : PackageRecord) (laid : List (Option Laid))
     → StandsFor parts p → AreLaidFor p laid → IsRewritten p laid q → AreSaid new_parts q → HasSizes new_parts q.directory
     → StandsFor new_parts q
+
+-- what is written, component by component, is the package with the code that is laid
+abbrev pub WritingRewrites : Type 0
+WritingRewrites = (parts : List Lent) (p q : PackageRecord) (laid : List (Option Laid)) (ms : List Member)
+    → StandsFor parts p → AreLaidFor p laid → IsWrittenAnew p laid ms q → IsRewritten p laid q

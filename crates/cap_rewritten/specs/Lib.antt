@@ -4,3 +4,4 @@ pub mod Rewritten
 pub mod Laying
 pub mod Laws
 pub mod Writing
+pub mod Naming

@@ -6,4 +6,4 @@
 
 mod laws;
 
-pub use laws::rewritten_is_a_package;
+pub use laws::{names_stay, rewritten_is_a_package, writing_rewrites};
