@@ -42,9 +42,9 @@ pub record IsFramed (tag : ℕ) (info file : List ℕ) : Type 0 where
   pub framed : Stands (component tag) file info
 
 -- there is a file, and it is such
-abbrev pub IsThere : (List ℕ → Type 0) → Option (List ℕ) → Type 0
-IsThere Is None = ⊥
-IsThere Is (Some file) = Is file
+abbrev pub IsPresent : (List ℕ → Type 0) → Option (List ℕ) → Type 0
+IsPresent Is None = ⊥
+IsPresent Is (Some file) = Is file
 
 -- the file of what has the tag of a target index
 abbrev pub index_file : List Lent → Index → Option (List ℕ)
@@ -62,11 +62,11 @@ abbrev pub IsAppletFile : PackageRecord → List (Option NewMethod) → Option (
 IsAppletFile p news file = IsRenewedIf p.parts 3 applets_info (map (renewed_applet (to news))) (applets_edits (to news)) p.applets file
 
 abbrev pub IsPoolFile : PackageRecord → List (Option NewMethod) → Option (List ℕ) → Type 0
-IsPoolFile p news file = IsThere (IsRenewed p.parts 5 pool_info (map (renewed_entry (to news))) (pool_edits (to news)) p.pool) file
+IsPoolFile p news file = IsPresent (IsRenewed p.parts 5 pool_info (map (renewed_entry (to news))) (pool_edits (to news)) p.pool) file
 
 abbrev pub IsClassFile : PackageRecord → List (Option NewMethod) → Option (List ℕ) → Type 0
 IsClassFile p news file =
-    IsThere
+    IsPresent
     (IsRenewed p.parts 6 (classes_info p.header.format) (map (renewed_class (to news))) (classes_edits (to news)) p.classes)
     file
 
@@ -79,7 +79,7 @@ method_edits p news d = descriptor_edits (names_interface p.classes) news d.clas
 
 abbrev pub IsDescriptorFile : PackageRecord → List (Option NewMethod) → Option (List ℕ) → Type 0
 IsDescriptorFile p news file =
-    IsThere
+    IsPresent
     (IsRenewed p.parts 11 descriptor_info (renewed_descriptor (names_interface p.classes) news) (method_edits p news) p.description.items)
     file
 
@@ -87,12 +87,12 @@ IsDescriptorFile p news file =
 -- ReferenceLocation component; that of any other tag is as it was
 abbrev pub IsFile : PackageRecord → List (Option NewMethod) → List ℕ → List ℕ → Index → ℕ → Option (List ℕ) → Type 0
 IsFile p news methods references index tag file =
-    Either (tag == 2) (IsThere (IsDirectoryFile p methods references index) file)
+    Either (tag == 2) (IsPresent (IsDirectoryFile p methods references index) file)
     (Either (tag == 3) (IsAppletFile p news file)
     (Either (tag == 5) (IsPoolFile p news file)
     (Either (tag == 6) (IsClassFile p news file)
-    (Either (tag == 7) (IsThere (IsFramed 7 methods) file)
-    (Either (tag == 9) (IsThere (IsFramed 9 references) file)
+    (Either (tag == 7) (IsPresent (IsFramed 7 methods) file)
+    (Either (tag == 9) (IsPresent (IsFramed 9 references) file)
     (Either (tag == 10) (IsExportFile p news file)
     (Either (tag == 11) (IsDescriptorFile p news file)
     (Either (tag == 12) (file ≡ None)
@@ -104,7 +104,7 @@ abbrev pub IsFileOf : PackageRecord → Written → NewIndex → ℕ → Option 
 IsFileOf p w index tag file = IsFile p w.news w.info.items w.references.items (index_seen index) tag file
 
 -- the infos have at most 65,535 bytes
-pub record AreShort (w : Written) (target : NewIndex) : Type 0 where
+pub record AreShortInfos (w : Written) (target : NewIndex) : Type 0 where
   pub methods : length w.info.items ≤ 65535
   pub references : length w.references.items ≤ 65535
   pub index : IsShortIndex (index_seen target)

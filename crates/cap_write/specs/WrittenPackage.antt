@@ -17,7 +17,7 @@ use Rattle.cap_write.specs.declared.end.WriteEnd.{WriteEnd}
 use Rattle.cap_write.specs.declared.end.WriteEnd.TheVariants.{PartLong, Memory}
 use Rattle.cap_write.specs.WrittenMethods.{AreMembersOf, IsLong}
 use Rattle.cap_write.specs.NewIndex.{Index, IsNewIndex}
-use Rattle.cap_write.specs.Files.{IsAppletFile, IsClassFile, IsDescriptorFile, IsDirectoryFile, IsExportFile, IsFramed, IsPoolFile, IsThere, index_file}
+use Rattle.cap_write.specs.Files.{IsAppletFile, IsClassFile, IsDescriptorFile, IsDirectoryFile, IsExportFile, IsFramed, IsPoolFile, IsPresent, index_file}
 use Rattle.cap_write.specs.Filed.{IsRising}
 
 -- the parts, component by component, where methods stand at new places, and the Method and the ReferenceLocation component
@@ -26,14 +26,14 @@ pub record ArePartsOf
     (p : PackageRecord) (news : List (Option NewMethod)) (methods references : List ℕ) (index : Index) (parts : List Lent)
     : Type 0 where
   pub header : held parts 1 ≡ held p.parts 1
-  pub directory : IsThere (IsDirectoryFile p methods references index) (held parts 2)
+  pub directory : IsPresent (IsDirectoryFile p methods references index) (held parts 2)
   pub applets : IsAppletFile p news (held parts 3)
   pub imports : held parts 4 ≡ held p.parts 4
   pub pool : IsPoolFile p news (held parts 5)
   pub classes : IsClassFile p news (held parts 6)
-  pub methods_file : IsThere (IsFramed 7 methods) (held parts 7)
+  pub methods_file : IsPresent (IsFramed 7 methods) (held parts 7)
   pub statics : held parts 8 ≡ held p.parts 8
-  pub locations : IsThere (IsFramed 9 references) (held parts 9)
+  pub locations : IsPresent (IsFramed 9 references) (held parts 9)
   pub export : IsExportFile p news (held parts 10)
   pub description : IsDescriptorFile p news (held parts 11)
   pub debug : held parts 12 ≡ None

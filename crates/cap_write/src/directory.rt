@@ -1,5 +1,5 @@
 ghost use Rattle.std.specs.Prelude.{◌≡◌, IfOk};
-ghost use Rattle.cap_write.specs.Files.{AreShort, IsDirectoryFile};
+ghost use Rattle.cap_write.specs.Files.{AreShortInfos, IsDirectoryFile};
 ghost use Rattle.cap_write.specs.NewIndex.{IsShortIndex, change_of, index_seen};
 
 use crate::index::NewIndex;
@@ -16,7 +16,7 @@ pub(crate) fn directory_file(
     written: &Written,
     index: &NewIndex,
 ) -> Result<Vec<u8>, AllocError>
-    requires { AreShort written.now index.now }
+    requires { AreShortInfos written.now index.now }
     ensures { IfOk result (λ file. IsDirectoryFile «package».now written.now.info.items
         written.now.references.items (index_seen index.now) file.items) }
 {

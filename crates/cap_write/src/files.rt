@@ -1,7 +1,7 @@
 ghost use Rattle.std.specs.Prelude.{◌≡◌, IfOk};
 ghost use Rattle.cap_components.specs.Parts.{held};
 ghost use Rattle.cap_filing.specs.Files.{file_seen};
-ghost use Rattle.cap_write.specs.Files.{AreShort, IsFileOf, index_file};
+ghost use Rattle.cap_write.specs.Files.{AreShortInfos, IsFileOf, index_file};
 ghost use Rattle.cap_write.specs.NewIndex.{IsShortIndex, index_seen};
 
 use crate::directory::directory_file;
@@ -20,7 +20,7 @@ pub(crate) fn file(
     index: &NewIndex,
     tag: u8,
 ) -> Result<Option<Vec<u8>>, AllocError>
-    requires { AreShort written.now index.now }
+    requires { AreShortInfos written.now index.now }
     ensures { IfOk result (λ file. IsFileOf «package».now written.now index.now tag (file_seen file)) }
 {
     let news = &written.news;

@@ -1,6 +1,6 @@
 ghost use Rattle.std.specs.Prelude.{IfOk, IsNone, OnOk};
 ghost use Rattle.cap_components.specs.Parts.{held};
-ghost use Rattle.cap_write.specs.Files.{AreShort, IsFileOf};
+ghost use Rattle.cap_write.specs.Files.{AreShortInfos, IsFileOf};
 ghost use Rattle.cap_write.specs.Filed.{AreFiled, Puts};
 
 use crate::files::file;
@@ -17,7 +17,7 @@ pub(crate) fn all_parts(
     written: &Written,
     index: &NewIndex,
 ) -> Result<OwnedParts, AllocError>
-    requires { AreShort written.now index.now }
+    requires { AreShortInfos written.now index.now }
     ensures { IfOk result (AreFiled (IsFileOf «package».now written.now index.now) 256) }
 {
     let mut parts = OwnedParts::new(alloc);
@@ -36,7 +36,7 @@ fn put_part(
     tag: u8,
     parts: &mut OwnedParts,
 ) -> Result<(), AllocError>
-    requires short { AreShort written.now index.now }
+    requires short { AreShortInfos written.now index.now }
     requires absent { IsNone (held parts.old tag) }
     ensures { OnOk result (Puts (IsFileOf «package».now written.now index.now tag) tag parts.old parts.new) }
 {
