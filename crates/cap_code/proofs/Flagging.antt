@@ -12,7 +12,7 @@ use Rattle.jc_decode.proofs.Passed.{and-parts}
 use Rattle.jc_control.specs.Flags.{flag, IsFlagged, Marks}
 use Rattle.jc_control.specs.WellFormed.{IsPlace}
 use Rattle.jc_control.proofs.Marked.{flag-none, flagged-inside, flag-here, flag-kept, flag-only}
-use Rattle.cap_code.specs.ExactIndex.{IsTarget, IsExactIndex}
+use Rattle.cap_code.specs.ExactIndex.{IsPlacedTarget, IsExactIndexOf}
 use Rattle.cap_code.specs.Marking.{mark, marked, all_marked, flagged_from}
 
 below : (m n : ℕ) → nat_lt m n ≡ true → m < n
@@ -170,8 +170,8 @@ flag_has k (false ∷ fs) (suc n) h =
 -- ---- the exact index
 
 pub exact_of_flags : (code : List ℕ) (places fs : List Bool) (index : List ℕ) → Marks (IsPlace code) places → AreListed code
-    → fs ≡ all_marked code (flag places) (replicate (length code) false) (listing code) → index ≡ flagged_from 0 fs → IsExactIndex code index
-exact_of_flags code places fs index marks listed e f = subst (IsExactIndex code) (sym (f ∙ ap (flagged_from 0) e)) (record {
+    → fs ≡ all_marked code (flag places) (replicate (length code) false) (listing code) → index ≡ flagged_from 0 fs → IsExactIndexOf code index
+exact_of_flags code places fs index marks listed e f = subst (IsExactIndexOf code) (sym (f ∙ ap (flagged_from 0) e)) (record {
   ascending = λ k p q h g. rising 0 all k (k + 1) p q h g (omega arith);
   targets = λ q. (
     λ c. let r = has_flag 0 all q c in target q (subst (IsFlagged all) (omega (arith, r.place)) r.flagged),
@@ -191,7 +191,7 @@ exact_of_flags code places fs index marks listed e f = subst (IsExactIndex code)
     inside : (q : ℕ) → IsPlace code q → q < length none
     inside q p = let i = listed.inside p.0 p.1 in omega (arith, p.2, length-replicate (length code) false)
 
-    target : (q : ℕ) → IsFlagged all q → IsTarget code q
+    target : (q : ℕ) → IsFlagged all q → IsPlacedTarget code q
     target q h =
         ⊎_elim
         (λ before. absurd (false≢true (sym (flag-none (length code) q) ∙ before)))

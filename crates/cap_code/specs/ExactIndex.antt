@@ -6,7 +6,7 @@ use Rattle.jc_decode.specs.Listing.{targets}
 use Rattle.jc_control.specs.WellFormed.{Stands, IsPlace}
 
 -- an instruction of the code leads to this place, and one begins there
-pub record IsTarget (code : List ℕ) (q : ℕ) : Type 0 where
+pub record IsPlacedTarget (code : List ℕ) (q : ℕ) : Type 0 where
   pub from : Placed
   pub stands : Stands code from
   pub leads : Contains (targets code from) (pos q)
@@ -17,6 +17,6 @@ abbrev pub IsAscending : List ℕ → Type 0
 IsAscending index = (k p q : ℕ) → slice_get index k ≡ Some p → slice_get index (k + 1) ≡ Some q → p < q
 
 -- the ascending list of the targets and of nothing else
-pub record IsExactIndex (code index : List ℕ) : Type 0 where
+pub record IsExactIndexOf (code index : List ℕ) : Type 0 where
   pub ascending : IsAscending index
-  pub targets : (q : ℕ) → Contains index q ↔ IsTarget code q
+  pub targets : (q : ℕ) → Contains index q ↔ IsPlacedTarget code q

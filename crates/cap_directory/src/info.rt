@@ -1,6 +1,6 @@
 ghost use Rattle.std.specs.Prelude.{◌≡◌, ◌≤◌, length, IfOk};
 ghost use Rattle.cap_bytes.specs.Spelling.{Stands};
-ghost use Rattle.cap_directory.specs.NewDirectory.{new_directory};
+ghost use Rattle.cap_directory.specs.NewDirectory.{new_directory, own_size};
 ghost use Rattle.cap_frame.specs.Directory.{directory_items};
 ghost use Rattle.cap_frame.specs.DirectoryFormat.{directory_info, size_count};
 ghost use Rattle.cap_renewal.specs.NewMethods.{AreBytes};
@@ -21,6 +21,7 @@ pub fn directory_info(
 ) -> Result<Vec<u8>, AllocError>
     requires { Stands (directory_info format) directory.now.info.bytes.now (directory_items directory.now) }
     ensures stands { IfOk result (λ info. Stands (directory_info format) info.items (new_directory new (directory_items directory.now))) }
+    ensures size { IfOk result (λ info. length info.items ≡ own_size new (directory_items directory.now)) }
     ensures short { IfOk result (λ info. length info.items ≤ 65535) }
 {
     are_bytes(directory.info().bytes);

@@ -15,7 +15,9 @@ file_bytes tag info = tag ∷ (big_bytes 2 (length info) ++ info)
 
 -- the file of a component whose items were renewed: its info stands for the items as they are renewed, and is the old info
 -- but for the numbers that these edits write over it
-pub record IsRenewed {X : Type 0} (old : List Lent) (tag : ℕ) (g : Grammar X) (renew : X → X) (edits : X → List Edit) (items : X) (file : List ℕ) : Type 0 where
+pub record IsRenewed
+    {X : Type 0} (old : List Lent) (tag : ℕ) (g : Grammar X) (renew : X → X) (edits : X → List Edit) (items : X) (file : List ℕ)
+    : Type 0 where
   pub before : List ℕ
   pub was : Holds old tag g before items
   pub info : List ℕ

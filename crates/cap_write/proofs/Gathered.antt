@@ -12,10 +12,12 @@ use Rattle.cap_laying.specs.Members.{new_places, written_info}
 use Rattle.cap_laying.specs.References.{written_references}
 use Rattle.cap_laying.specs.WrittenSeen.{IsWrittenAs}
 use Rattle.cap_write.specs.WrittenMethods.{AreMembersOf}
-use Rattle.cap_write.specs.NewIndex.{Index, IsNewIndex}
+use Rattle.cap_write.specs.NewIndex.{Index, IsNewIndex, IsShortIndex, dropped, stays, written}
 use Rattle.cap_write.specs.Files.{Either, IsFile}
 use Rattle.cap_write.specs.Filed.{AreFiled}
 use Rattle.cap_write.specs.WrittenPackage.{ArePartsOf, IsWritten}
+use Rattle.cap_laying.proofs.Standing.{methods_stand}
+use Rattle.cap_write.proofs.Spread.{references_stand}
 
 other_than : (This That : Type 0) (b : Bool) → b ≡ false → Either b This That → That
 other_than This That true e x = absurd (cc)
@@ -73,8 +75,17 @@ written_of p laid ms w index parts are seen i f =
     record {
       members = ms;
       are = are;
-      short = seen.short;
       index = index;
       indexed = i;
-      files = parts_of p (new_places size room ms) (written_info size room ms) (written_references size room ms) index parts k;
+      written = record {
+        short = seen.short;
+        stand = methods_stand size room ms are.may;
+        locations = references_stand size room ms seen.short;
+        files = parts_of p (new_places size room ms) (written_info size room ms) (written_references size room ms) index parts k;
+      };
     }
+
+pub index_short : (p : PackageRecord) (laid : List (Option Laid)) (index : Index) → IsNewIndex p laid index → IsShortIndex index
+index_short p laid stays i = tt
+index_short p laid dropped i = tt
+index_short p laid (written info) i = i.1.bytes.1

@@ -18,7 +18,11 @@ use Rattle.cap_locations.specs.Catches.{catch_place, catch_places}
 use Rattle.cap_locations.specs.Component.{component_bytes}
 use Rattle.cap_locations.specs.Distances.{distance_bytes, distances, last_of}
 use Rattle.cap_locations.specs.Indices.{HasRoom, index_by, index_places, indices}
+use Rattle.cap_bytes.specs.Spelling.{Stands}
+use Rattle.cap_pool.specs.LocationFormat.{locations_info}
+use Rattle.cap_locations.proofs.Components.{components_stand}
 use Rattle.cap_locations.proofs.Rooms.{has_room}
+use Rattle.cap_write.specs.WrittenPackage.{locations_of}
 use Rattle.cap_laying.specs.declared.member.Body.{Body}
 use Rattle.cap_laying.specs.declared.member.Body.TheVariants.{Code, Header}
 use Rattle.cap_laying.specs.declared.member.Member.{Member}
@@ -200,9 +204,13 @@ caught_blocks at (b ∷ bs) =
 
 -- ---- all
 
-pub references_short : (size room : ℕ) (ms : List Member) → written_size size room ms ≤ 65535 → length (written_references size room ms) ≤ 65535
-unfolding written_references references_info written_size component_bytes
-references_short size room ms short =
+-- the two lists together
+abbrev pub located : ℕ → ℕ → List Member → ℕ
+located size room ms = length (locations_of size room ms).byte + length (locations_of size room ms).byte2
+
+few_located : (size room : ℕ) (ms : List Member) → written_size size room ms ≤ 65535 → located size room ms ≤ 33300
+unfolding written_size
+few_located size room ms short =
     let start = start_of room ms in
     let table = by_offset size ms in
     let bs = blocks room ms in
@@ -222,9 +230,21 @@ references_short size room ms short =
     let u = t.few in
     let v = c.few in
     let w = length-append k b in
-    let d1 = distances 0 a in
-    let d2 = distances 0 (k ++ b) in
+    omega arith
+
+pub references_short : (size room : ℕ) (ms : List Member) → written_size size room ms ≤ 65535 → length (written_references size room ms) ≤ 65535
+unfolding written_references references_info component_bytes
+references_short size room ms short =
+    let few = few_located size room ms short in
+    let d1 = (locations_of size room ms).byte in
+    let d2 = (locations_of size room ms).byte2 in
     let all = length-append (big_bytes 2 (length d1)) (d1 ++ (big_bytes 2 (length d2) ++ d2)) in
     let most = length-append d1 (big_bytes 2 (length d2) ++ d2) in
     let last = length-append (big_bytes 2 (length d2)) d2 in
     omega arith
+
+pub references_stand : (size room : ℕ) (ms : List Member) → written_size size room ms ≤ 65535 → Stands locations_info (written_references size room ms) (locations_of size room ms)
+unfolding written_references references_info
+references_stand size room ms short =
+    let few = few_located size room ms short in
+    components_stand (locations_of size room ms).byte (locations_of size room ms).byte2 (omega arith) (omega arith)

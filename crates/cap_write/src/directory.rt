@@ -1,5 +1,5 @@
-ghost use Rattle.std.specs.Prelude.{◌≡◌, ◌≤◌, length, IfOk};
-ghost use Rattle.cap_write.specs.Files.{IsDirectoryFile};
+ghost use Rattle.std.specs.Prelude.{◌≡◌, IfOk};
+ghost use Rattle.cap_write.specs.Files.{AreShortInfos, IsDirectoryFile};
 ghost use Rattle.cap_write.specs.NewIndex.{IsShortIndex, change_of, index_seen};
 
 use crate::index::NewIndex;
@@ -16,10 +16,9 @@ pub(crate) fn directory_file(
     written: &Written,
     index: &NewIndex,
 ) -> Result<Vec<u8>, AllocError>
-    requires methods { length written.now.info.items ≤ 65535 }
-    requires references { length written.now.references.items ≤ 65535 }
-    requires index { IsShortIndex (index_seen index.now) }
-    ensures { IfOk result (λ file. IsDirectoryFile «package».now written.now.info.items written.now.references.items (index_seen index.now) file.items) }
+    requires { AreShortInfos written.now index.now }
+    ensures { IfOk result (λ file. IsDirectoryFile «package».now written.now.info.items
+        written.now.references.items (index_seen index.now) file.items) }
 {
     let directory = package.directory();
     let header = package.header();

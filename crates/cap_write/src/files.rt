@@ -1,7 +1,7 @@
-ghost use Rattle.std.specs.Prelude.{◌≡◌, ◌≤◌, length, IfOk};
+ghost use Rattle.std.specs.Prelude.{◌≡◌, IfOk};
 ghost use Rattle.cap_components.specs.Parts.{held};
 ghost use Rattle.cap_filing.specs.Files.{file_seen};
-ghost use Rattle.cap_write.specs.Files.{IsFile, IsFramed, index_file};
+ghost use Rattle.cap_write.specs.Files.{AreShortInfos, IsFileOf, index_file};
 ghost use Rattle.cap_write.specs.NewIndex.{IsShortIndex, index_seen};
 
 use crate::directory::directory_file;
@@ -20,10 +20,8 @@ pub(crate) fn file(
     index: &NewIndex,
     tag: u8,
 ) -> Result<Option<Vec<u8>>, AllocError>
-    requires methods { length written.now.info.items ≤ 65535 }
-    requires references { length written.now.references.items ≤ 65535 }
-    requires index { IsShortIndex (index_seen index.now) }
-    ensures { IfOk result (λ file. IsFile «package».now written.now.news written.now.info.items written.now.references.items (index_seen index.now) tag (file_seen file)) }
+    requires { AreShortInfos written.now index.now }
+    ensures { IfOk result (λ file. IsFileOf «package».now written.now index.now tag (file_seen file)) }
 {
     let news = &written.news;
     match tag {

@@ -1,8 +1,7 @@
-ghost use Rattle.std.specs.Prelude.{◌≡◌, ◌≤◌, length, IfOk, IsNone, OnOk};
+ghost use Rattle.std.specs.Prelude.{IfOk, IsNone, OnOk};
 ghost use Rattle.cap_components.specs.Parts.{held};
-ghost use Rattle.cap_write.specs.Files.{IsFile};
+ghost use Rattle.cap_write.specs.Files.{AreShortInfos, IsFileOf};
 ghost use Rattle.cap_write.specs.Filed.{AreFiled, Puts};
-ghost use Rattle.cap_write.specs.NewIndex.{IsShortIndex, index_seen};
 
 use crate::files::file;
 use crate::index::NewIndex;
@@ -18,10 +17,8 @@ pub(crate) fn all_parts(
     written: &Written,
     index: &NewIndex,
 ) -> Result<OwnedParts, AllocError>
-    requires methods { length written.now.info.items ≤ 65535 }
-    requires references { length written.now.references.items ≤ 65535 }
-    requires index { IsShortIndex (index_seen index.now) }
-    ensures { IfOk result (AreFiled (IsFile «package».now written.now.news written.now.info.items written.now.references.items (index_seen index.now)) 256) }
+    requires { AreShortInfos written.now index.now }
+    ensures { IfOk result (AreFiled (IsFileOf «package».now written.now index.now) 256) }
 {
     let mut parts = OwnedParts::new(alloc);
     'tags: for tag in 0..256u16 {
@@ -39,11 +36,9 @@ fn put_part(
     tag: u8,
     parts: &mut OwnedParts,
 ) -> Result<(), AllocError>
-    requires methods { length written.now.info.items ≤ 65535 }
-    requires references { length written.now.references.items ≤ 65535 }
-    requires index { IsShortIndex (index_seen index.now) }
+    requires short { AreShortInfos written.now index.now }
     requires absent { IsNone (held parts.old tag) }
-    ensures { OnOk result (Puts (IsFile «package».now written.now.news written.now.info.items written.now.references.items (index_seen index.now) tag) tag parts.old parts.new) }
+    ensures { OnOk result (Puts (IsFileOf «package».now written.now index.now tag) tag parts.old parts.new) }
 {
     match file(alloc, package, written, index, tag)? {
         Some(bytes) => parts.put(Part(tag), bytes),

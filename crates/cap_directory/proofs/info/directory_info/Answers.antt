@@ -47,6 +47,11 @@ returns-clause-stands c =
     let e : c.put_directory.new.out.items ≡ directory_bytes (new_directory c.args.new d) = search rules in
     subst (λ bytes. Stands (directory_info c.args.format) bytes (new_directory c.args.new d)) (sym e) (directories_stand c.args.format (new_directory c.args.new d) n)
 
+pub returns-clause-size : goal.returns-clause-size
+returns-clause-size c =
+    let e : c.put_directory.new.out.items ≡ directory_bytes (new_directory c.args.new (directory_items c.args.directory.now)) = search rules in
+    ap length e ∙ new_long c.args.new (directory_items c.args.directory.now)
+
 pub returns-clause-short : goal.returns-clause-short
 returns-clause-short c =
     let d = directory_items c.args.directory.now in
