@@ -11,7 +11,7 @@ use Rattle.cap_text.specs.Check.{CheckRequest, IsCheck}
 use Rattle.cap_text.specs.Verify.{VerifyRequest, IsVerify}
 use Rattle.cap_text.specs.Entry.{IsEntryWord}
 use Rattle.std.specs.List.{after_first}
-use Rattle.cap_text.specs.Run.{RunRequest, IsRun, is_end}
+use Rattle.cap_text.specs.Run.{RunRequest, AreRunWords, is_end}
 use Rattle.cap_text.specs.Request.{probe, show, check, verify, defend, IsUsage, OneRequest}
 use Rattle.cap_text.specs.declared.entry.Entry.{Entry}
 use Rattle.vm_step.specs.Arguments.{Argument, number, null, bytes}
@@ -87,7 +87,7 @@ one_entry word e f p q =
     let method_no : e.method_no ≡ f.method_no = decimal_injective e.method_no f.method_no (omega (arith, p.method_fits)) (omega (arith, q.method_fits)) same.1 in
     λ i. record { class_no = class_no i; method_no = method_no i }
 
-one_run : (operands : List (List ℕ)) (r s : RunRequest) → IsRun operands r → IsRun operands s → r ≡ s
+one_run : (operands : List (List ℕ)) (r s : RunRequest) → AreRunWords operands r → AreRunWords operands s → r ≡ s
 one_run [] r s is_r is_s = absurd is_r
 one_run (budget ∷ []) r s is_r is_s = absurd is_r
 one_run (budget ∷ entry ∷ words) r s is_r is_s =
@@ -167,14 +167,14 @@ no_verify (word ∷ words) name operands is called none (verify v) is_r = none v
 no_verify (word ∷ words) name operands is called none (defend r) is_r = absurd (verify_defend word (ap first_word is ∙ called) is_r.0)
 
 pub no_defend : (words : List (List ℕ)) (name : List ℕ) (operands : List (List ℕ)) → words ≡ name ∷ operands → name ≡ codes "defend"
-    → ((r : RunRequest) → IsRun operands r → ⊥) → IsUsage words
+    → ((r : RunRequest) → AreRunWords operands r → ⊥) → IsUsage words
 unfolding first_word others
 no_defend [] name operands is called none r is_r = is_r
 no_defend (word ∷ words) name operands is called none (probe p) is_r = absurd (probe_defend word is_r.0 (ap first_word is ∙ called))
 no_defend (word ∷ words) name operands is called none (show s) is_r = absurd (show_defend word is_r.0 (ap first_word is ∙ called))
 no_defend (word ∷ words) name operands is called none (check c) is_r = absurd (check_defend word is_r.0 (ap first_word is ∙ called))
 no_defend (word ∷ words) name operands is called none (verify v) is_r = absurd (verify_defend word is_r.0 (ap first_word is ∙ called))
-no_defend (word ∷ words) name operands is called none (defend r) is_r = none r (subst (λ ws. IsRun ws r) (ap others is) is_r.1)
+no_defend (word ∷ words) name operands is called none (defend r) is_r = none r (subst (λ ws. AreRunWords ws r) (ap others is) is_r.1)
 
 pub one_request : (words : List (List ℕ)) → OneRequest words
 one_request [] r s is_r is_s = absurd is_r

@@ -4,7 +4,7 @@ use Rattle.cap_text.specs.Probe.{ProbeRequest, IsProbe, probe_request}
 use Rattle.cap_text.specs.Show.{ShowRequest, IsShow, show_request}
 use Rattle.cap_text.specs.Check.{CheckRequest, IsCheck, check_request}
 use Rattle.cap_text.specs.Verify.{VerifyRequest, IsVerify, verify_request}
-use Rattle.cap_text.specs.Run.{RunRequest, IsRun, run_request}
+use Rattle.cap_text.specs.Run.{RunRequest, AreRunWords, run_request}
 use Rattle.cap_text.specs.declared.command.Command.{Command}
 use Rattle.cap_text.specs.declared.command.Command.TheVariants.{Probe, Show, Check, Verify, Defend}
 
@@ -23,7 +23,7 @@ IsRequest (name ∷ operands) (probe p) = (name ≡ codes "probe") × IsProbe op
 IsRequest (name ∷ operands) (show s) = (name ≡ codes "show") × IsShow operands s
 IsRequest (name ∷ operands) (check c) = (name ≡ codes "check") × IsCheck operands c
 IsRequest (name ∷ operands) (verify v) = (name ≡ codes "verify") × IsVerify operands v
-IsRequest (name ∷ operands) (defend r) = (name ≡ codes "defend") × IsRun operands r
+IsRequest (name ∷ operands) (defend r) = (name ≡ codes "defend") × AreRunWords operands r
 
 -- the words are outside the grammar
 abbrev pub IsUsage : List (List ℕ) → Type 0

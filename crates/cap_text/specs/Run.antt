@@ -21,15 +21,15 @@ abbrev pub is_end : List ℕ → Bool
 is_end word = bytes_eq word (codes "--")
 
 -- the words before the first that ends the folders, or all of them, name these folders, and those after it write these arguments
-pub record AreRunOn (words dirs : List (List ℕ)) (args : List Argument) : Type 0 where
+pub record NamesAndHands (words dirs : List (List ℕ)) (args : List Argument) : Type 0 where
   pub folders : dirs ≡ before_first is_end words
   pub named : AreFolderWords dirs
   pub arguments : AreArgWords (after_first is_end words) args
 
 -- the words after the command's name ask for this
-abbrev pub IsRun : List (List ℕ) → RunRequest → Type 0
-IsRun (budget ∷ entry ∷ words) r = IsNumberWord budget r.budget × IsEntryWord entry r.entry × AreRunOn words r.dirs r.args
-IsRun _ r = ⊥
+abbrev pub AreRunWords : List (List ℕ) → RunRequest → Type 0
+AreRunWords (budget ∷ entry ∷ words) r = IsNumberWord budget r.budget × IsEntryWord entry r.entry × NamesAndHands words r.dirs r.args
+AreRunWords _ r = ⊥
 
 -- what a command that was read asks for
 abbrev pub run_request : Run → RunRequest

@@ -1,7 +1,7 @@
 ghost use Rattle.std.specs.Prelude.{◌≡◌, IfOk, IfSome, IfNone};
 ghost use Rattle.cap_files.specs.WordsLeft.{words_left};
 ghost use Rattle.std.specs.List.{before_first, after_first};
-ghost use Rattle.cap_text.specs.Run.{RunRequest, IsRun, run_request, is_end};
+ghost use Rattle.cap_text.specs.Run.{RunRequest, AreRunWords, run_request, is_end};
 
 use crate::entry::Entry;
 use crate::word::{OwnedArg, arguments, folder_words, number};
@@ -20,8 +20,8 @@ pub struct Run<'a> {
 impl<'a> Run<'a> {
     /// Reads the words after the command's name.
     pub fn read(alloc: Global, mut operands: WordsIter<'a>) -> Result<Option<Run<'a>>, AllocError>
-        ensures found { IfOk result (λ o. IfSome o (λ r. IsRun (words_left operands.entry) (run_request r))) }
-        ensures none { IfOk result (λ o. IfNone o ((r : RunRequest) → IsRun (words_left operands.entry) r → ⊥)) }
+        ensures found { IfOk result (λ o. IfSome o (λ r. AreRunWords (words_left operands.entry) (run_request r))) }
+        ensures none { IfOk result (λ o. IfNone o ((r : RunRequest) → AreRunWords (words_left operands.entry) r → ⊥)) }
     {
         let Some(budget) = operands.next() else {
             return Ok(None);

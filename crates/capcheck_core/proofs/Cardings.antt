@@ -9,6 +9,9 @@ use Rattle.jc_base.specs.World.{Linked, code_of}
 use Rattle.jc_control.specs.Method.{Method, IsMethodOf, method_with}
 use Rattle.card_typing.specs.declared.fault.CardFault.{CardFault}
 use Rattle.card_typing.specs.Typing.{HasCardTyping}
+use Rattle.jc_base.specs.declared.ty.Ty.TheVariants.{Bottom}
+use Rattle.jc_rules.specs.Flow.{HasFlowTyping}
+use Rattle.vm_sound.specs.Laws.{AreTypedMethods, TypedCodeIsFaultFree}
 use Rattle.card_verify.specs.Answers.{AreAccepted, AreAcceptedBefore, IsFirstRefused}
 use Rattle.cap_text.specs.declared.line.MethodNumber.{MethodNumber}
 use Rattle.cap_text.specs.Line.{accepted_line, refused_card_line}
@@ -30,9 +33,16 @@ below_carded w n all m is below =
 all_carded : (w : Linked) → AreAccepted w → AreCarded w
 all_carded w all m is = below_carded w (length w.methods) all m is (slice_get_within w.methods m.number m.rec is.rec)
 
+-- each of them has a dataflow typing, in which an unset register holds no value
+all_typed : (w : Linked) → AreAccepted w → AreTypedMethods w Bottom
+all_typed w all m is =
+    let code : 0 < m.rec.code_len = typings.has_code w.infos m.rec (subst (λ c. 0 < length c) is.code is.filled) in
+    subst (λ k. HasFlowTyping w k Bottom) (same_method w m is) (all m.number (slice_get_within w.methods m.number m.rec is.rec) m.rec is.rec code).flow
+
 -- the text says how many are accepted
-pub carded : (w : Linked) (count : ℕ) (text : List ℕ) → AreAccepted w → count ≡ count_of_world w → text ≡ accepted_line count → IsCarded w text
-carded w count text all counts prints = record { carded = all_carded w all; prints = prints ∙ ap accepted_line counts }
+pub carded : (w : Linked) (count : ℕ) (text : List ℕ) → AreAccepted w → TypedCodeIsFaultFree w → count ≡ count_of_world w → text ≡ accepted_line count → IsCarded w text
+carded w count text all free counts prints =
+    record { carded = all_carded w all; fault_free = free Bottom (all_typed w all); prints = prints ∙ ap accepted_line counts }
 
 -- ---- the count of them
 

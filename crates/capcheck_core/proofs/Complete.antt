@@ -4,23 +4,24 @@ use Rattle.std.specs.Prelude.{None, IfSome, IsSomeAnd, string_bytes, slice_get}
 use Rattle.std.specs.FinMap as map
 use Rattle.cap_files.specs.Folder.{Folders, Holds, IsThere, IsAbsent, IsTooLong}
 use Rattle.cap_bare.specs.Typing.{CardTyping}
-use Rattle.cap_text.specs.declared.word.Arg.{Arg}
-use Rattle.cap_text.specs.declared.word.Arg.TheVariants.{Number}
-use Rattle.cap_text.specs.declared.start.StartFault.{StartFault}
-use Rattle.cap_text.specs.declared.start.StartFault.TheVariants.{NoEntry, NotStatic, ArgCount, ArgKind}
+use Rattle.vm_step.specs.Arguments.{Argument, number}
+use Rattle.vm_step.specs.declared.start_fault.StartFault.{StartFault}
+use Rattle.vm_step.specs.declared.start_fault.StartFault.TheVariants.{NoEntry, NotStatic, ArgCount, ArgKind, ArgRoom}
 use Rattle.cap_text.specs.Probe.{ProbeRequest}
 use Rattle.cap_text.specs.Show.{ShowRequest}
 use Rattle.cap_text.specs.Check.{CheckRequest}
 use Rattle.cap_text.specs.Verify.{VerifyRequest}
-use Rattle.cap_text.specs.Request.{Request, probe, show, check, verify}
+use Rattle.cap_text.specs.Run.{RunRequest}
+use Rattle.cap_text.specs.Request.{Request, probe, show, check, verify, defend}
 use Rattle.capcheck_core.specs.declared.verdict.Verdict.{Verdict}
 use Rattle.capcheck_core.specs.declared.verdict.Verdict.TheVariants.{Done, Refused, Limit, Malformed, Usage, ReadFault, StoreFault, Memory}
 use Rattle.capcheck_core.specs.Verdict.{status_of}
 use Rattle.capcheck_core.specs.Check.{ChecksWorld, Checks}
 use Rattle.capcheck_core.specs.Verify.{AreCarded, VerifiesWorld, Verifies}
+use Rattle.capcheck_core.specs.Defend.{run_fault, DefendsWorld, Defends}
 use Rattle.capcheck_core.specs.Outside.{Outside}
 use Rattle.capcheck_core.specs.Answers.{Answers, IsVerdict}
-use Rattle.capcheck_core.specs.Completeness.{CanProbe, CanShow, CanCheck, CanVerify, CanDo, NoFault, Completes}
+use Rattle.capcheck_core.specs.Completeness.{CanProbe, CanShow, CanCheck, CanVerify, CanDefend, CanDo, NoFault, Completes}
 use Rattle.capcheck_core.specs.MethodFile.{IsMethodFile}
 use Rattle.capcheck_core.specs.Probe.{ProbesFolder, FailsMethodPart, Probes, OfMethodPart, OfMethod, IsRefusal, IsUnstarted, IsNoMethod, method_key}
 use Rattle.capcheck_core.specs.Report.{Seen, IsReported}
@@ -54,15 +55,16 @@ long_not p before can long =
     absurd (omega (arith, can.short, beyond))
 
 -- each of a list of shorts is a short
-no_misfit : (values : List ℤ) (n : ℕ) → All (FitsSigned w16) values → IsSomeAnd (slice_get (map Number values) n) (λ arg. (value : ℤ) → IsShort arg value → ⊥) → ⊥
+no_misfit : (values : List ℤ) (n : ℕ) → All (FitsSigned w16) values → IsSomeAnd (slice_get (map number values) n) (λ arg. (value : ℤ) → IsShort arg value → ⊥) → ⊥
 no_misfit [] n fit misfit = absurd misfit
 no_misfit (x ∷ xs) zero fit misfit = misfit x (refl, fit 0 x (search rules))
 no_misfit (x ∷ xs) (suc n) fit misfit = no_misfit xs n (λ k d below. fit (suc k) d (omega (arith, below))) misfit
 
 -- arguments that fit are refused for nothing
-starts : (args : List Arg) (wanted : ℕ) (values : List ℤ) (fault : StartFault) → AreShorts args wanted values → RefusesStart args wanted fault → ⊥
+starts : (args : List Argument) (wanted : ℕ) (values : List ℤ) (fault : StartFault) → AreShorts args wanted values → RefusesStart args wanted fault → ⊥
 starts args wanted values NoEntry fit refused = refused
 starts args wanted values NotStatic fit refused = refused
+starts args wanted values (ArgRoom n) fit refused = refused
 starts args wanted values (ArgCount said parameters) fit refused = refused.2 fit.count
 starts args wanted values (ArgKind n) fit refused = no_misfit values n fit.fit (subst (λ xs. IsSomeAnd (slice_get xs n) (λ arg. (value : ℤ) → IsShort arg value → ⊥)) fit.numbers refused.1.misfit)
 
@@ -169,12 +171,33 @@ can_verify v before after sink put verdict can calm verifies =
       | inr own ↦ cards can.world before after verdict can.carded own
     ]
 
+-- the last step of a run refuses none that nothing keeps from beginning
+defended : (r : RunRequest) (w : Linked) (before after : Outside) (verdict : Verdict) → run_fault w r ≡ None → DefendsWorld r w before after verdict
+    → (status_of verdict ≡ 0) ⊎ (status_of verdict ≡ 6)
+defended r w before after (Done text) begins own = inl refl
+defended r w before after Memory begins own = inr refl
+defended r w before after (Malformed text) begins own = let first = own.1.first in absurd (cc)
+defended r w before after (Refused text) begins own = absurd own.1
+defended r w before after (Limit text) begins own = absurd own.1
+defended r w before after Usage begins own = absurd own.1
+defended r w before after ReadFault begins own = absurd own.1
+defended r w before after StoreFault begins own = absurd own.1
+
+can_defend : (r : RunRequest) (before after : Outside) (sink put : Seen) (verdict : Verdict) → CanDefend r before.folders → NoFault before.folders after.folders sink put
+    → Defends r before after verdict → (status_of verdict ≡ 0) ⊎ (status_of verdict ≡ 6)
+can_defend r before after sink put verdict can calm answers =
+    elim (reaches (DefendsWorld r) r.dirs before after can.world verdict can.links calm.loads answers) [
+      | inl memory ↦ inr memory
+      | inr own ↦ defended r can.world before after verdict can.begins own
+    ]
+
 can_do : (r : Request) (before after : Outside) (sink put : Seen) (verdict : Verdict) → CanDo r before.folders → NoFault before.folders after.folders sink put
     → Answers r before after verdict → (status_of verdict ≡ 0) ⊎ (status_of verdict ≡ 6)
 can_do (probe p) before after sink put verdict can calm answers = can_probe p before.folders after.folders sink put verdict can calm answers.0
 can_do (show s) before after sink put verdict can calm answers = can_show s before.folders after.folders sink put verdict can calm answers.0
 can_do (check c) before after sink put verdict can calm answers = can_check c before after sink put verdict can calm answers
 can_do (verify v) before after sink put verdict can calm answers = can_verify v before after sink put verdict can calm answers
+can_do (defend r) before after sink put verdict can calm answers = can_defend r before after sink put verdict can calm answers
 
 reported : (verdict : Verdict) (before after : Folders) (sink put : Seen) (status : ℕ) → NoFault before after sink put → IsReported verdict sink put status
     → (status_of verdict ≡ 0) ⊎ (status_of verdict ≡ 6) → (status ≡ 0) ⊎ (status ≡ 6)

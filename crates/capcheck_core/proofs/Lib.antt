@@ -1,3 +1,4 @@
+pub mod Misfits
 pub mod Verdicts
 pub mod MethodFiles
 pub mod Loads

@@ -1,5 +1,5 @@
 -- When a command does its work, or wants memory for it.
-use Rattle.std.specs.Prelude.{◌≡◌, ℕ, ℤ, ◌≤◌, List, length, Some, ◌⊎◌}
+use Rattle.std.specs.Prelude.{◌≡◌, ℕ, ℤ, ◌≤◌, List, length, Some, None, ◌⊎◌}
 use Rattle.cap_files.specs.Counts.{Rose}
 use Rattle.cap_files.specs.Folder.{Parts, Folders, Holds}
 use Rattle.cap_bare.specs.declared.bare.Bare.{Bare}
@@ -8,11 +8,13 @@ use Rattle.cap_text.specs.Probe.{ProbeRequest}
 use Rattle.cap_text.specs.Show.{ShowRequest}
 use Rattle.cap_text.specs.Check.{CheckRequest}
 use Rattle.cap_text.specs.Verify.{VerifyRequest}
-use Rattle.cap_text.specs.Request.{Request, probe, show, check, verify, IsRequest}
+use Rattle.cap_text.specs.Run.{RunRequest}
+use Rattle.cap_text.specs.Request.{Request, probe, show, check, verify, defend, IsRequest}
 use Rattle.cap_package.specs.Parts.{Lent}
 use Rattle.cap_package.specs.PackageRecord.{PackageRecord}
 use Rattle.cap_package.specs.StandsFor.{StandsFor}
 use Rattle.jc_base.specs.World.{Linked}
+use Rattle.capcheck_core.specs.Defend.{run_fault}
 use Rattle.capcheck_core.specs.MethodFile.{IsMethodFile}
 use Rattle.capcheck_core.specs.Loads.{AreParts}
 use Rattle.capcheck_core.specs.Packages.{AreGiven}
@@ -73,12 +75,19 @@ pub record CanVerify (v : VerifyRequest) (before : Folders) : Type 0 where
   pub links : CanLink v.dirs before world
   pub carded : AreCarded world
 
+-- the folders make a world, and nothing keeps the run from beginning
+pub record CanDefend (r : RunRequest) (before : Folders) : Type 0 where
+  pub world : Linked
+  pub links : CanLink r.dirs before world
+  pub begins : run_fault world r ≡ None
+
 -- what a command needs is there
 abbrev pub CanDo : Request → Folders → Type 0
 CanDo (probe p) before = CanProbe p before
 CanDo (show s) before = CanShow s before
 CanDo (check c) before = CanCheck c before
 CanDo (verify v) before = CanVerify v before
+CanDo (defend r) before = CanDefend r before
 
 -- where the words ask for something, what it needs is there and no device failed, the work is done or there was no memory
 abbrev pub Completes : List (List ℕ) → Folders → Folders → Seen → Seen → ℕ → Type 0

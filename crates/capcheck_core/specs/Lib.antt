@@ -16,6 +16,7 @@ pub mod Asked
 pub mod Typed
 pub mod Check
 pub mod Verify
+pub mod Defend
 pub mod CheckEnds
 pub mod Step
 pub mod Answers

@@ -7,6 +7,7 @@ use Rattle.jc_rules.specs.Demand.{Frame}
 use Rattle.card_typing.specs.declared.fault.CardFault.{CardFault}
 use Rattle.card_typing.specs.Typing.{HasCardTyping}
 use Rattle.card_typing.specs.Refusal.{IsRefused}
+use Rattle.vm_sound.specs.Laws.{IsFaultFree}
 use Rattle.cap_text.specs.Line.{accepted_line, refused_card_line}
 use Rattle.cap_text.specs.Verify.{VerifyRequest}
 use Rattle.capcheck_core.specs.declared.verdict.Verdict.{Verdict}
@@ -29,9 +30,10 @@ count_of_world w = count_by has_code w.methods
 abbrev pub AreCarded : Linked → Type 0
 AreCarded w = AllHave (IsMethodOf w) (HasCardTyping w)
 
--- each of them has one, and the text says how many they are
+-- each of them has one, no run of any entry meets a fault, and the text says how many they are
 pub record IsCarded (w : Linked) (text : List ℕ) : Type 0 where
   pub carded : AreCarded w
+  pub fault_free : IsFaultFree w
   pub prints : text ≡ accepted_line (count_of_world w)
 
 -- one of them is the first without a card typing, and the text names it, with a place and a reason that hold

@@ -98,5 +98,14 @@ fn perform<F: Folder>(
             heap,
             statics,
         ),
+        Command::Defend(operands) => over_folders(
+            alloc,
+            Step::Defend(operands),
+            operands.dirs,
+            folder,
+            ram,
+            heap,
+            statics,
+        ),
     }
 }

@@ -9,6 +9,7 @@ use card_index::{CardRoom, accept};
 use card_typing::CardFault;
 use jc_base::World;
 use std::alloc::Global;
+use vm_sound::typed_code_never_fails;
 
 /// Verifies each method with code of all packages of a world, in the room of a card.
 pub fn verify_methods(alloc: Global, world: &World<'_>) -> Verdict
@@ -26,6 +27,7 @@ fn counted(alloc: Global, world: &World<'_>) -> Verdict
     requires { AreAccepted world.now }
     ensures { CardsWorld world.now result }
 {
+    typed_code_never_fails(world);
     Verdict::done(accepted(alloc, count_of_world(world)))
 }
 

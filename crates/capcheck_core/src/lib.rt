@@ -5,6 +5,7 @@
 
 mod call;
 mod carding;
+mod defending;
 mod load;
 mod method_file;
 mod packages;

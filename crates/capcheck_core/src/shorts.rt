@@ -1,17 +1,19 @@
-ghost use Rattle.std.specs.Prelude.{◌≡◌, ℤ, ◌≤◌, IfOk, IfErr, IfSome, IfNone};
+ghost use Rattle.std.specs.Prelude.{◌≡◌, ℤ, ◌≤◌, map, IfOk, IfErr, IfSome, IfNone};
+ghost use Rattle.cap_text.specs.Word.{argument_read};
 ghost use Rattle.capcheck_core.specs.Shorts.{IsShort, AreShorts, RefusesStart};
 
 use arrayvec::ArrayVec;
-use cap_text::{Arg, StartFault};
+use cap_text::OwnedArg;
+use vm_step::StartFault;
 
 /// The most arguments that the compact header of a method can count.
 pub const MOST_ARGS: usize = 15;
 
 /// The arguments of a method of so many shorts, or the first reason why it does not start.
-pub fn shorts(args: &[Arg], wanted: u8) -> Result<ArrayVec<i16, MOST_ARGS>, StartFault>
+pub fn shorts(args: &[OwnedArg], wanted: u8) -> Result<ArrayVec<i16, MOST_ARGS>, StartFault>
     requires { wanted ≤ 15 }
-    ensures found { IfOk result (λ v. AreShorts args.now wanted v.items) }
-    ensures fault { IfErr result (λ f. RefusesStart args.now wanted f) }
+    ensures found { IfOk result (λ v. AreShorts (map argument_read args.now) wanted v.items) }
+    ensures fault { IfErr result (λ f. RefusesStart (map argument_read args.now) wanted f) }
 {
     if args.len() != usize::from(wanted) {
         return Err(StartFault::ArgCount {
@@ -21,7 +23,7 @@ pub fn shorts(args: &[Arg], wanted: u8) -> Result<ArrayVec<i16, MOST_ARGS>, Star
     }
     let mut shorts = ArrayVec::new();
     for (n, arg) in args.iter().enumerate() {
-        match short(*arg) {
+        match short(arg) {
             Some(value) => shorts.push(value),
             None => return Err(StartFault::ArgKind(n as u16)),
         }
@@ -29,12 +31,12 @@ pub fn shorts(args: &[Arg], wanted: u8) -> Result<ArrayVec<i16, MOST_ARGS>, Star
     Ok(shorts)
 }
 
-fn short(arg: Arg) -> Option<i16>
-    ensures found { IfSome result (λ value. IsShort arg value) }
-    ensures none { IfNone result ((value : ℤ) → IsShort arg value → ⊥) }
+fn short(arg: &OwnedArg) -> Option<i16>
+    ensures found { IfSome result (λ value. IsShort (argument_read arg.now) value) }
+    ensures none { IfNone result ((value : ℤ) → IsShort (argument_read arg.now) value → ⊥) }
 {
     match arg {
-        Arg::Number(number) => i16::try_from(number).ok(),
-        Arg::Null => None,
+        OwnedArg::Number(number) => i16::try_from(*number).ok(),
+        OwnedArg::Null | OwnedArg::Bytes(_) => None,
     }
 }

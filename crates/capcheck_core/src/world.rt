@@ -20,14 +20,14 @@ use std::alloc::{AllocError, Global};
 /// command's own last step.
 pub(crate) fn over_folders<F: Folder>(
     alloc: Global,
-    step: Step,
+    step: Step<'_>,
     dirs: WordsIter<'_>,
     folder: &mut F,
     ram: &mut [u16],
     heap: &mut [u16],
     statics: &mut [u16],
 ) -> Verdict
-    ensures { OverFolders (OverWorld (OwnAnswers step)) (words_left dirs.entry)
+    ensures { OverFolders (OverWorld (OwnAnswers step.entry)) (words_left dirs.entry)
         (outside (F.folders folder.old) (card ram.old heap.old statics.old))
         (outside (F.folders folder.new) (card ram.new heap.new statics.new)) result }
 {
@@ -39,7 +39,7 @@ pub(crate) fn over_folders<F: Folder>(
 
 fn over_loaded<F: Folder>(
     alloc: Global,
-    step: Step,
+    step: Step<'_>,
     loaded: &Loaded,
     folder: &mut F,
     ram: &mut [u16],
@@ -47,7 +47,7 @@ fn over_loaded<F: Folder>(
     statics: &mut [u16],
 ) -> Verdict
     requires { All HavePackage loaded.now.packages.items }
-    ensures { OverWorld (OwnAnswers step) loaded.now.packages.items loaded.now.roles
+    ensures { OverWorld (OwnAnswers step.entry) loaded.now.packages.items loaded.now.roles
         (outside (F.folders folder.old) (card ram.old heap.old statics.old))
         (outside (F.folders folder.new) (card ram.new heap.new statics.new)) result }
 {
@@ -69,7 +69,7 @@ fn over_loaded<F: Folder>(
 /// A command over the packages that parts stand for, wherever the parts come from.
 fn over_parts<F: Folder>(
     alloc: Global,
-    step: Step,
+    step: Step<'_>,
     parts: &Vec<Parts<'_>>,
     roles: [u8; 8],
     folder: &mut F,
@@ -78,7 +78,7 @@ fn over_parts<F: Folder>(
     statics: &mut [u16],
 ) -> Verdict
     requires { All HavePackage parts.now.items }
-    ensures { OverWorld (OwnAnswers step) parts.now.items roles
+    ensures { OverWorld (OwnAnswers step.entry) parts.now.items roles
         (outside (F.folders folder.old) (card ram.old heap.old statics.old))
         (outside (F.folders folder.new) (card ram.new heap.new statics.new)) result }
 {
@@ -90,7 +90,7 @@ fn over_parts<F: Folder>(
 
 fn over_packages<F: Folder>(
     alloc: Global,
-    step: Step,
+    step: Step<'_>,
     packages: &Packages<'_, '_>,
     roles: [u8; 8],
     folder: &mut F,
@@ -98,7 +98,7 @@ fn over_packages<F: Folder>(
     heap: &mut [u16],
     statics: &mut [u16],
 ) -> Verdict
-    ensures { OverPackages (OwnAnswers step) packages.now roles
+    ensures { OverPackages (OwnAnswers step.entry) packages.now roles
         (outside (F.folders folder.old) (card ram.old heap.old statics.old))
         (outside (F.folders folder.new) (card ram.new heap.new statics.new)) result }
 {

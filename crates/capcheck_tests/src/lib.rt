@@ -1,9 +1,11 @@
-//! Worked commands: what `capcheck_core` prints for `probe`, `show`, `check` and `verify` over folders in memory,
+//! Worked commands: what `capcheck_core` prints for `probe`, `show`, `check`, `verify` and `defend` over folders in memory,
 //! with package T of `cap_tests` and two more small packages, and where a device fails.
 #![tactic(auto)]
 
 #[cfg(test)]
 mod check_tests;
+#[cfg(test)]
+mod defend_tests;
 #[cfg(test)]
 mod filling;
 #[cfg(test)]

@@ -19,7 +19,7 @@ fn gives_of(
 }
 
 /// Commands with their texts and their statuses.
-static PROBED: [(&str, &str, u8); 10] = [
+static PROBED: [(&str, &str, u8); 11] = [
     ("probe P 10 41", "returned short 42\n", 0),
     ("probe P 10 32767", "returned short -32768\n", 0),
     ("probe P 3 41", "spent\n", 0),
@@ -29,6 +29,7 @@ static PROBED: [(&str, &str, u8); 10] = [
     ("probe P 10 41 41", "not started ArgCount 2 1\n", 7),
     ("probe P 4 32768", "not started ArgKind 0\n", 7),
     ("probe P 4 null", "not started ArgKind 0\n", 7),
+    ("probe P 4 #2a", "not started ArgKind 0\n", 7),
     ("probe Q 4 41", "malformed package 0 MissingPart 7\n", 7),
 ];
 
@@ -48,12 +49,13 @@ fn probe_runs_an_accepted_method(rt: HostRuntime) -> Result<(), AllocError> {
     Ok(())
 }
 
-static OUTSIDE: [&str; 15] = [
+static OUTSIDE: [&str; 16] = [
     "probe P 04 41",
     "probe P 4 -0",
     "probe P 4 +1",
     "probe P 4294967296 41",
     "probe P 4 2147483648",
+    "probe P 4 #2",
     "probe -- 4 41",
     "probe  4 41",
     "probe P",

@@ -109,7 +109,8 @@ static METHODS: [Method; 7] = [
     ),
 ];
 
-fn is_answered(alloc: Global, line: &str, method: &Method) -> Result<bool, AllocError> {
+/// Whether a command over `T` with this second method gives its text and its status.
+pub(crate) fn is_answered(alloc: Global, line: &str, method: &Method) -> Result<bool, AllocError> {
     let (second, constant, text, status) = method;
     let mut folder = SureFolder::new(alloc, 48, 70_000)?;
     Ok(

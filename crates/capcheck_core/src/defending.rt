@@ -1,0 +1,83 @@
+ghost use Rattle.std.specs.Prelude.{◌≡◌, Some, None, IfOk, map};
+ghost use Rattle.cap_text.specs.Run.{run_request};
+ghost use Rattle.cap_text.specs.Word.{argument_read};
+ghost use Rattle.vm_step.specs.Start.{start_fault, entry_state};
+ghost use Rattle.vm_defend.specs.Begun.{IsBegun};
+ghost use Rattle.vm_defend.specs.Held.{IsRunOf};
+ghost use Rattle.capcheck_core.specs.Defend.{method_entered, RunsDefended};
+
+use crate::verdict::Verdict;
+use cap_text::{Entry, OwnedArg, Run, not_started};
+use jc_base::World;
+use std::alloc::{AllocError, Global};
+use vm_defend::{StartEnd, State, start};
+use vm_step::{Args, StartFault};
+use vm_text::{room, write_run};
+
+/// Runs an entry of the last package of a world on the machine that tests what it does.
+pub(crate) fn defend(alloc: Global, world: &World<'_>, run: &Run<'_>) -> Verdict
+    ensures { RunsDefended world.now (run_request run.now) result }
+{
+    match method_entered(world, run.entry) {
+        Some(number) => with_arguments(alloc, world, run, number),
+        None => Verdict::malformed(not_started(alloc, StartFault::NoEntry)),
+    }
+}
+
+// The number of the entry in the world.
+fn method_entered(world: &World<'_>, entry: Entry) -> Option<u16>
+    ensures { result ≡ method_entered world.now entry }
+{
+    let last = world.package_count().saturating_sub(1);
+    world.method_at(last, entry.class_no, entry.method_no)
+}
+
+// Runs the method of a number with the arguments that the words wrote.
+fn with_arguments(alloc: Global, world: &World<'_>, run: &Run<'_>, number: u16) -> Verdict
+    requires { method_entered world.now run.now.entry ≡ Some number }
+    ensures { RunsDefended world.now (run_request run.now) result }
+{
+    match lent(alloc, &run.args) {
+        Ok(args) => started(alloc, world, run, number, &args),
+        Err(_) => Verdict::Memory,
+    }
+}
+
+// The arguments as the machine takes them.
+fn lent(alloc: Global, args: &Vec<OwnedArg>) -> Result<Args<'_>, AllocError>
+    ensures { IfOk result (λ lent. lent ≡ map argument_read args.now.items) }
+{
+    let mut lent = Args::new(alloc);
+    'each: for arg in args {
+        lent.push(arg.lend())?;
+    }
+    Ok(lent)
+}
+
+// Begins the run, and goes on with it.
+fn started(alloc: Global, world: &World<'_>, run: &Run<'_>, number: u16, args: &Args<'_>) -> Verdict
+    requires entered { method_entered world.now run.now.entry ≡ Some number }
+    requires handed { args.now ≡ map argument_read run.now.args.items }
+    ensures { RunsDefended world.now (run_request run.now) result }
+{
+    match start(alloc, world, number, args) {
+        Ok(mut state) => told(alloc, world, run, number, &mut state),
+        Err(StartEnd::Fault(fault)) => Verdict::malformed(not_started(alloc, fault)),
+        Err(StartEnd::Memory) => Verdict::Memory,
+    }
+}
+
+// Takes the steps of a run that has begun, and tells what comes of it.
+fn told(alloc: Global, world: &World<'_>, run: &Run<'_>, number: u16, state: &mut State) -> Verdict
+    requires entered { method_entered world.now run.now.entry ≡ Some number }
+    requires begun { IsBegun world.now number (run_request run.now).args state.old }
+    requires run { IsRunOf world.now state.old }
+    ensures { RunsDefended world.now (run_request run.now) result }
+{
+    let Ok(mut text) = room(alloc, world) else {
+        return Verdict::Memory;
+    };
+    let ending = vm_defend::run(world, state, u64::from(run.budget));
+    write_run(&mut text, world, state, ending);
+    Verdict::Done(text.into_text())
+}
