@@ -36,7 +36,8 @@ use Rattle.jc_rules.specs.Apply.{OperationApplies, RuleApplies}
 use Rattle.jc_rules.specs.Flow.{FlowTyping, IsFollowed}
 use Rattle.card_typing.specs.Typing.{Subject, TypingIn, IsTypedIn, code_in_bytes}
 use Rattle.xf_landed.specs.Apart.{apart_from_code, IsSameBut}
-use Rattle.xf_landed.specs.Laws.{CardTypingsAreKept, FlowTypingsAreKept}
+use Rattle.xf_landed.specs.Laid.{code_in_symbols}
+use Rattle.xf_landed.specs.Laws.{CardTypingsAreKept, FlowTypingsAreKept, SymbolTypingsAreKept}
 
 -- ---- lists that are tested alike
 
@@ -285,11 +286,14 @@ whole v w s =
     ∙ ap (λ x. record w { arrays = x }) s.arrays
 
 -- of code of any form
-pub typings-are-kept : (v w : Linked) (s : Subject) (regs : List Ty) (stacks : ℕ → List Ty) → IsSameBut v w → TypingIn v s regs stacks → TypingIn w s regs stacks
+typings-are-kept : (v w : Linked) (s : Subject) (regs : List Ty) (stacks : ℕ → List Ty) → IsSameBut v w → TypingIn v s regs stacks → TypingIn w s regs stacks
 typings-are-kept v w s regs stacks same t = subst (λ u. TypingIn u s regs stacks) (whole v w same) (card-kept v w.infos w.methods w.indexes same.methods s regs stacks t)
 
 pub card-typings-are-kept : CardTypingsAreKept
 card-typings-are-kept v w m regs stacks same t = typings-are-kept v w (code_in_bytes m) regs stacks same t
+
+pub symbol-typings-are-kept : SymbolTypingsAreKept
+symbol-typings-are-kept v w r source symbols regs stacks same t = typings-are-kept v w (code_in_symbols r source symbols) regs stacks same t
 
 pub flow-typings-are-kept : FlowTypingsAreKept
 flow-typings-are-kept v w m unset frames same t = subst (λ u. FlowTyping u m unset frames) (whole v w same) (flow-kept v w.infos w.methods w.indexes same.methods m unset frames t)

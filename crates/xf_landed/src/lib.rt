@@ -5,4 +5,4 @@
 
 mod laws;
 
-pub use laws::typings_are_kept;
+pub use laws::{laid_is_typed, typings_are_kept};
