@@ -198,7 +198,7 @@ all_firsts parts p q laid ms s w ks = subst (AreApartBy first_of (length p.metho
 
 -- ---- handlers before
 
--- the block of a method stands behind those of methods whose blocks came before
+-- the block of a method stands after those of methods whose blocks came before
 pub record HasRank (p : PackageRecord) (laid : List (Option Laid)) (ms : List Member) (z : Pair) : Type 0 where
   pub before : ℕ
   pub among : IsAmong (blocks (length p.methods.handlers) ms) z.member before
@@ -344,12 +344,12 @@ late_rank p q laid ms z w ks h apart e hn =
     (each_of (λ (y : Pair). nat_lt (block_in p y) (block_in p z) ≡ true) s.lead (λ y g. late_before p y.source (first_handler y.source.method) (block_in p z) z.source.number hn.block (each_at (λ (x : Pair). x.source.number < z.source.number) s.lead y before g) (at_lead y g).inside (was_first p y.source)))
     (each_of (λ (y : Pair). nat_lt (block_in p y) (block_in p z) ≡ not (had_none y.member)) (z ∷ s.rest)
     (λ y g. late_after p y.source (first_handler y.source.method) (block_in p z) z.source.number hn.block (not_less s.rest y g after) (at_rest y g).inside (was_first p y.source) ∙ ap (λ o. not (had_none_of o)) (sym (at_rest y g).is.handlers))) in
-    let behind : total_handlers (filter had_none lead) ≡ sum_by (λ (y : Pair). many_of y.member) (filter (λ (y : Pair). had_none y.member) s.lead) =
+    let following : total_handlers (filter had_none lead) ≡ sum_by (λ (y : Pair). many_of y.member) (filter (λ (y : Pair). had_none y.member) s.lead) =
     total_sum (filter had_none lead) ∙ sum_through many_of had_none member_in s.lead in
     record {
       before = total_handlers (present (firsts room ms)) + total_handlers (filter had_none lead);
       among = subst (λ xs. IsAmong (blocks room xs) m (total_handlers (present (firsts room xs)) + total_handlers (filter had_none lead))) (sym parts) among;
-      sum = sums (total_handlers (present (firsts room ms))) (total_handlers (filter had_none lead)) _ _ _ (early_total p q laid ms w ks apart ∙ ap (λ xs. sum_by (λ (y : Pair). many_of y.member) (filter (λ (y : Pair). not (had_none y.member)) xs)) s.is) behind sum
+      sum = sums (total_handlers (present (firsts room ms))) (total_handlers (filter had_none lead)) _ _ _ (early_total p q laid ms w ks apart ∙ ap (λ xs. sum_by (λ (y : Pair). many_of y.member) (filter (λ (y : Pair). not (had_none y.member)) xs)) s.is) following sum
           ∙ ap (λ xs. sum_by (λ (y : Pair). many_of y.member) (filter (λ (y : Pair). nat_lt (block_in p y) (block_in p z)) xs)) (sym s.is);
     }
   where

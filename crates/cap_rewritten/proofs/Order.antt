@@ -111,7 +111,7 @@ filter_parts p (x ∷ xs) ys = by (p x) (filter_parts p xs ys)
     by true e = ap (λ zs. x ∷ zs) e
     by false e = e
 
--- one that had none stands behind them
+-- one that had none stands after them
 pub late : (room : ℕ) (lead rest : List Member) (m : Member) → had_none m ≡ true → Each (λ (b : Member). b.offset ≡ m.offset → ⊥) rest
     → IsAmong (blocks room (lead ++ m ∷ rest)) m (total_handlers (present (firsts room (lead ++ m ∷ rest))) + total_handlers (filter had_none lead))
 late room lead rest m e apart =

@@ -1,4 +1,4 @@
--- Pieces of text that are written one behind the other.
+-- Pieces of text that are written one after the other.
 use Rattle.std.proofs.Common.{◌≡◌, ℕ, ◌+◌, List, [], ◌∷◌, ◌++◌, length, sym, ◌∙◌, ap, append_assoc, append-nil, length-append, arith}
 use Rattle.std.specs.List.{concat}
 use Rattle.cap_text.specs.Room.{Roomed, Writes}

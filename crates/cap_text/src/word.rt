@@ -94,7 +94,7 @@ pub fn argument(alloc: Global, word: &str) -> Result<Option<OwnedArg>, AllocErro
     }
 }
 
-// What stands behind a number sign.
+// What stands after a number sign.
 fn after_sign(word: &str) -> Option<&str>
     ensures found { IfSome result (λ digits. word.now ≡ 35 ∷ digits.now) }
     ensures none { IfNone result ((rest : List ℕ) → word.now ≢ 35 ∷ rest) }

@@ -36,7 +36,8 @@ no_method m = None
 
 abbrev pub methods_for : (ℕ → Bool) → List Class → List (Option Method)
 methods_for interfaces [] = []
-methods_for interfaces (c ∷ cs) = (if interfaces c.class_ref then map no_method c.methods else map Some c.methods) ++ methods_for interfaces cs
+methods_for interfaces (c ∷ cs) =
+    (if interfaces c.class_ref then map no_method c.methods else map Some c.methods) ++ methods_for interfaces cs
 
 -- the code of a method that has code: a byte at least, the method's arguments, and at most 255 registers
 pub record IsCodeFor (info : List ℕ) (m : Method) (l : Laid) : Type 0 where

@@ -214,7 +214,7 @@ fn words_of_no_entry_are_answered_by_usage(rt: HostRuntime) -> Result<(), AllocE
     Ok(())
 }
 
-/// A StaticField component with 4,096 initial arrays without elements, and the short of package T behind their references.
+/// A StaticField component with 4,096 initial arrays without elements, and the short of package T after their references.
 fn static_arrays(alloc: Global) -> Result<Vec<u8>, AllocError> {
     let mut file = Vec::from_slice(alloc, b"\x08\x30\x0C\x20\x02\x10\x00\x10\x00")?;
     for _array in 0..4096u16 {

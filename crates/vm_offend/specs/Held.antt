@@ -54,7 +54,9 @@ ending_of (ended ending s) = Some ending
 
 -- after at most so many steps more the memory holds the words of what the run of tagged cells comes to, and the answer is its ending, or
 -- Spent where it goes on
-pub record Follows (w : Linked) (budget : ℕ) (before : Outcome Cell) (m : Machine) (ram heap statics : List ℕ) (plain : Plain) : Type 0 where
+pub record Follows
+    (w : Linked) (budget : ℕ) (before : Outcome Cell) (m : Machine) (ram heap statics : List ℕ) (plain : Plain)
+    : Type 0 where
   pub after : Outcome Cell
   pub runs : Continues tagged w budget before after
   pub words : AreWordsOf w m ram heap statics after

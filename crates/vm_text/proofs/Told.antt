@@ -1,4 +1,4 @@
--- Lines and elements that are written one behind the other.
+-- Lines and elements that are written one after the other.
 use Rattle.std.proofs.Common.{◌≡◌, ◌<◌, ℕ, zero, suc, ◌+◌, ℤ, List, [], ◌∷◌, ◌++◌, length, Option, Some, None, refl, sym, ap, subst, ◌∙◌, append_assoc, append-nil, length-append, arith}
 use Rattle.std.specs.Prelude.{take, slice_get, option_map, option_and_then}
 use Rattle.std.specs.List.{flat_map}
@@ -16,7 +16,7 @@ next_taken {X} xs n x is = let same : n + 1 ≡ suc n = omega arith in ap (λ k.
     go (y ∷ ys) zero e = cc
     go (y ∷ ys) (suc m) e = ap (λ zs. y ∷ zs) (go ys m e)
 
--- one piece behind another
+-- one piece after another
 pub joined : (a b c : Roomed) (xs ys : List ℕ) → Writes a b xs → Writes b c ys → Writes a c (xs ++ ys)
 joined a b c xs ys v w =
     let long : length (xs ++ ys) ≡ length xs + length ys = length-append xs ys in

@@ -24,5 +24,7 @@ unfolding digits
 spent = refl
 
 -- an int has its high word first
-ints : numbers_of words (record { kind = Ints; cells = 0 ∷ 5 ∷ 65535 ∷ 65535 ∷ [] }) ≡ Some (record { ty = ArrInt; elements = pos 5 ∷ negsuc 0 ∷ [] })
+ints :
+    numbers_of words (record { kind = Ints; cells = 0 ∷ 5 ∷ 65535 ∷ 65535 ∷ [] })
+    ≡ Some (record { ty = ArrInt; elements = pos 5 ∷ negsuc 0 ∷ [] })
 ints = refl
