@@ -19,9 +19,8 @@ use Rattle.xf_homes.specs.Answer.{IsTypingOf}
 use Rattle.xf_homes.specs.Order.{AreHomes, register_sum}
 use Rattle.xf_homes.proofs.AllHomes.{IsTyped}
 use Rattle.xf_homes.proofs.Answered.{is-typed}
-use Rattle.xf_plan.specs.Source.{Source}
 use Rattle.xf_plan.specs.Plan.{stack_of}
-use Rattle.xf_emission.specs.Emission.{ranges, items, rewritten}
+use Rattle.xf_emission.specs.Emission.{rewritten}
 use Rattle.xf_emission.specs.Laws.{IsCode, HasFrames, ItemsSuit, LiveAreKept, PlainSizeFits, RangesStand}
 use Rattle.xf_emission.specs.Live.{KeepsLive}
 use Rattle.xf_code.proofs.Subjects.{code-short}

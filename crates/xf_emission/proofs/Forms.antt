@@ -1,6 +1,6 @@
 -- The form of an instruction by its opcode: what of it is emitted anew keeps to the operands that its opcode allows.
-use Rattle.std.proofs.Common.{◌≡◌, ◌<◌, ◌-◌, ℕ, Bool, true, false, List, Option, Some, None, Result, Ok, Err, refl, sym, ap, ◌∙◌, subst, arith}
-use Rattle.std.specs.Prelude.{pos, map, replicate, not, ◌||◌, ◌&&◌, ◌==◌, IsTrue, nat_le, nat_lt, if◌then◌else◌}
+use Rattle.std.proofs.Common.{◌≡◌, ◌<◌, ◌-◌, ℕ, Bool, true, false, Result, Ok, Err, refl, sym, ap, ◌∙◌, subst}
+use Rattle.std.specs.Prelude.{pos, map, replicate, not, ◌&&◌}
 use Rattle.std.specs.List.{range_with_len}
 use Rattle.jc_base.specs.declared.record.MethodRec.{MethodRec}
 use Rattle.jc_base.specs.World.{Linked}
@@ -14,7 +14,7 @@ use Rattle.jc_decode.specs.Cases.{is_switch}
 use Rattle.jc_decode.specs.Forms.{is_wide_jump, wide}
 use Rattle.jc_decode.specs.Listing.{jumps, is_branch}
 use Rattle.jc_decode.specs.Encoding.{Allows, AllowsBy, IsAllowed}
-use Rattle.jc_decode.proofs.Passed.{passed-at, and-parts, or-rest}
+use Rattle.jc_decode.proofs.Passed.{passed-at, and-parts}
 use Rattle.jc_ops.specs.declared.operation.Operation.{Operation}
 use Rattle.jc_ops.specs.Row.{row_at}
 use Rattle.jc_ops.specs.Resolve.{resolved}

@@ -1,20 +1,13 @@
 -- The items of a rewritten method are such as are laid.
-use Rattle.std.proofs.Common.{◌≡◌, ◌≢◌, ◌⊎◌, ℕ, zero, suc, ◌+◌, ◌-◌, ◌<◌, ◌≤◌, Bool, true, false, if◌then◌else◌, inl, inr, List, [], ◌∷◌, ◌++◌, map, reverse, flat_map, length, All, Contains, Option, Some, None, Result, Ok, Err, refl, sym, ◌∙◌, ap, subst, arith, lit<}
-use Rattle.std.specs.Prelude.{ℤ, pos, negsuc, not, ◌==◌, is_some, slice_get, IsTrue, IsSome}
-use Rattle.std.proofs.lemmas.List.{length-map}
-use Rattle.std.proofs.lemmas.List.Elements.{All-contains}
+use Rattle.std.proofs.Common.{ℕ, zero, suc, ◌<◌, Bool, true, false, if◌then◌else◌, List, [], ◌∷◌, ◌++◌, map, reverse, flat_map, Option, Some, None, refl, lit<}
 use Rattle.jc_base.specs.Each.{Each}
 use Rattle.jc_base.specs.declared.ty.Kind.{Kind}
 use Rattle.jc_base.specs.declared.ty.Kind.TheVariants as kinds
 use Rattle.jc_base.specs.declared.ty.Ty.{Ty}
 use Rattle.jc_base.specs.declared.ty.Ty.TheVariants.{Short, IntHigh}
-use Rattle.jc_base.specs.declared.record.Handler.{Handler}
-use Rattle.jc_decode.specs.declared.insn.Placed.{Placed}
 use Rattle.jc_decode.specs.declared.symbols.Item.{Item}
-use Rattle.jc_decode.specs.declared.symbols.Item.TheVariants.{Plain, Branch, Switch, Label}
+use Rattle.jc_decode.specs.declared.symbols.Item.TheVariants.{Plain}
 use Rattle.jc_decode.specs.Layout.{layout_of, opcode}
-use Rattle.jc_decode.specs.Encoding.{IsAllowed}
-use Rattle.jc_decode.specs.Listing.{jumps}
 use Rattle.jc_decode.specs.Symbols.{IsItem}
 use Rattle.jc_ops.specs.declared.operation.Sort.{Sort}
 use Rattle.jc_ops.specs.declared.operation.Sort.TheVariants as sorts

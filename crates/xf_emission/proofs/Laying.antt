@@ -1,5 +1,5 @@
 -- The items of a rewritten method are such as are laid.
-use Rattle.std.proofs.Common.{◌≡◌, ◌≢◌, ℕ, zero, suc, ◌+◌, ◌<◌, ◌≤◌, Bool, true, false, if◌then◌else◌, List, [], ◌∷◌, length, All, Contains, Option, Some, None, Result, Ok, refl, sym, ◌∙◌, ap, subst, arith}
+use Rattle.std.proofs.Common.{◌≡◌, ℕ, zero, suc, ◌+◌, ◌<◌, ◌≤◌, Bool, true, false, if◌then◌else◌, List, [], ◌∷◌, All, Contains, Option, Some, None, Ok, refl, sym, ◌∙◌, ap, subst, arith}
 use Rattle.std.specs.Prelude.{ℤ, pos, negsuc, is_some, slice_get, sum_by}
 use Rattle.std.proofs.lemmas.List.Elements.{All-contains}
 use Rattle.std.proofs.lemmas.List.Sums.{sum_by-cons}
@@ -8,7 +8,6 @@ use Rattle.jc_base.specs.declared.record.Handler.{Handler}
 use Rattle.jc_base.specs.World.{Linked}
 use Rattle.jc_decode.specs.declared.insn.Placed.{Placed}
 use Rattle.jc_decode.specs.declared.symbols.Item.{Item}
-use Rattle.jc_decode.specs.Decoding.{decoded}
 use Rattle.jc_decode.specs.Laws.{AreListed, InstructionsAreListed}
 use Rattle.jc_decode.specs.Listing.{targets}
 use Rattle.jc_decode.specs.Symbols.{IsItem, IsOnce}
@@ -22,7 +21,7 @@ use Rattle.xf_homes.specs.Order.{register_sum}
 use Rattle.xf_homes.specs.Value.{width}
 use Rattle.xf_homes.specs.Walk.{operands_of, register_from, same_home}
 use Rattle.xf_plan.specs.Source.{Source}
-use Rattle.xf_plan.specs.Plan.{operation, or_first, register}
+use Rattle.xf_plan.specs.Plan.{operation, or_first}
 use Rattle.xf_emission.specs.Emission.{is_live, items}
 use Rattle.xf_emission.specs.Jump.{label_by, lead, place, stub_label, taken}
 use Rattle.xf_emission.specs.Laws.{IsCode, HasFrames, IsLabelOf, of_place, of_stub, ItemsSuit}

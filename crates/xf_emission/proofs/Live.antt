@@ -4,7 +4,6 @@ use Rattle.std.specs.Prelude.{is_some, nat_lt}
 use Rattle.std.proofs.lemmas.Bool.Decides.{nat_tests}
 use Rattle.std.proofs.lemmas.List.Elements.{All-contains, Contains-append_right}
 use Rattle.jc_base.specs.declared.record.Handler.{Handler}
-use Rattle.jc_control.specs.Method.{Method}
 use Rattle.jc_control.specs.WellFormed.{IsBoundary, IsHandlerOf}
 use Rattle.jc_control.specs.Control.{IsReached, IsLive}
 use Rattle.jc_decode.specs.Laws.{AreListed, InstructionsAreListed}

@@ -1,13 +1,12 @@
 -- The plain size of a rewritten method: each edge has no more copies than there are homes.
-use Rattle.std.proofs.Common.{◌≡◌, ◌⊎◌, ℕ, zero, suc, ◌+◌, ◌-◌, ◌*◌, ◌/◌, ◌^◌, ◌<◌, ◌≤◌, Bool, true, false, if◌then◌else◌, inl, inr, List, [], ◌∷◌, ◌++◌, map, reverse, flat_map, length, Option, Some, None, Result, Ok, Err, refl, sym, ◌∙◌, ap, subst, arith, length-append}
-use Rattle.std.specs.Prelude.{ℤ, pos, is_some, nat_lt, nat_le, sum_by, count_by, cond, IsSomeAnd, slice_get}
+use Rattle.std.proofs.Common.{◌≡◌, ℕ, zero, suc, ◌+◌, ◌-◌, ◌*◌, ◌≤◌, Bool, true, false, if◌then◌else◌, inl, inr, List, [], ◌∷◌, ◌++◌, map, reverse, flat_map, length, Option, Some, None, Result, Ok, Err, refl, sym, ◌∙◌, ap, subst, arith, length-append}
+use Rattle.std.specs.Prelude.{ℤ, pos, is_some, nat_lt, nat_le, sum_by, count_by, cond, IsSomeAnd}
 use Rattle.std.specs.List.{filter}
 use Rattle.std.proofs.lemmas.List.{length-reverse}
 use Rattle.std.proofs.lemmas.List.Sums.{length-filter, sum_by-append, sum_by-cons}
 use Rattle.jc_base.specs.Each.{Each, IsAmong}
 use Rattle.jc_base.specs.Laws.{SameTypeDecides}
 use Rattle.jc_base.specs.declared.ty.Kind.{Kind}
-use Rattle.jc_base.specs.declared.ty.Kind.TheVariants as kinds
 use Rattle.jc_base.specs.declared.ty.Ty.{Ty}
 use Rattle.jc_base.specs.declared.ty.Ty.TheVariants.{Short, IntHigh}
 use Rattle.jc_base.specs.declared.record.Handler.{Handler}
@@ -17,13 +16,13 @@ use Rattle.jc_decode.specs.declared.insn.Insn.{Insn}
 use Rattle.jc_decode.specs.declared.insn.Placed.{Placed}
 use Rattle.jc_decode.specs.declared.layout.Layout.{Layout}
 use Rattle.jc_decode.specs.declared.layout.Operand.{Operand}
-use Rattle.jc_decode.specs.declared.layout.Operand.TheVariants.{Absent, U1, U2, S1, S2, S4, DupWords, SwapWords, ArrayType, TestedType}
+use Rattle.jc_decode.specs.declared.layout.Operand.TheVariants.{U2, S2, S4}
 use Rattle.jc_decode.specs.declared.symbols.Item.{Item}
-use Rattle.jc_decode.specs.declared.symbols.Item.TheVariants.{Plain, Branch, Switch, Label}
+use Rattle.jc_decode.specs.declared.symbols.Item.TheVariants.{Plain, Label}
 use Rattle.jc_decode.specs.Cases.{is_switch}
-use Rattle.jc_decode.specs.Decoding.{decoded, AreBytes, IsWithin}
+use Rattle.jc_decode.specs.Decoding.{decoded}
 use Rattle.jc_decode.specs.Forms.{is_register_move, length_of, bytes_by, plain_length}
-use Rattle.jc_decode.specs.Layout.{width, layout_of, total_width}
+use Rattle.jc_decode.specs.Layout.{width, layout_of}
 use Rattle.jc_decode.specs.Listing.{is_branch, listing, targets, Lists}
 use Rattle.jc_decode.specs.Symbols.{plain_bytes, plain_size}
 use Rattle.jc_decode.proofs.Decoded.{IsWithin-decoded}
@@ -37,9 +36,9 @@ use Rattle.jc_ops.specs.declared.operation.Operation.{Operation}
 use Rattle.jc_ops.specs.declared.operation.Operation.TheVariants as ops
 use Rattle.jc_rules.specs.Demand.{Frame}
 use Rattle.xf_homes.specs.declared.home.Home.{Home}
-use Rattle.xf_homes.specs.Home.{register_count, IsNeeded, IsAsked, asked_here, asked_caught}
+use Rattle.xf_homes.specs.Home.{register_count, IsAsked, asked_here, asked_caught}
 use Rattle.xf_homes.specs.Laws.{AreNeeded, IsAskedBefore, AreAskedInOrder, NeededAreKept, HasRegister, Serve, HomesServe}
-use Rattle.xf_homes.specs.Order.{AreHomes, register_sum}
+use Rattle.xf_homes.specs.Order.{register_sum}
 use Rattle.xf_homes.specs.Value.{width as home_width, value_at}
 use Rattle.xf_homes.specs.Walk.{operands_of, register_from, same_home, has}
 use Rattle.xf_homes.proofs.Events.{homes-equal}
@@ -49,7 +48,7 @@ use Rattle.xf_emission.specs.declared.origin.Origin.{Origin}
 use Rattle.xf_emission.specs.declared.origin.Origin.TheVariants.{Start, After, Entry}
 use Rattle.xf_emission.specs.Move.{with_byte, load_op, store_op, load, store, copy, loads, spill}
 use Rattle.xf_emission.specs.Edge.{home_before, held, copy_new, copies_from, local_copies, locals_copies, copies, cell_copies}
-use Rattle.xf_emission.specs.Jump.{under, operands, is_over, spill_if, taken, place, lead, leads, first_label, jump_to, branch, goto, stub, stub_of, stub_label, stubs_of, handler_label, cut}
+use Rattle.xf_emission.specs.Jump.{under, operands, is_over, spill_if, taken, place, leads, jump_to, branch, goto, stub, stub_of, stub_label, stubs_of, handler_label, cut}
 use Rattle.xf_emission.specs.Group.{kept, loaded, increased, popped, stored, stays, field_read, field_written, swap_words, gone, first_place, branch_by, body, fall, fall_over, fall_by, fallen, entered, done, group_by, group}
 use Rattle.xf_emission.specs.Emission.{stubs, stubs_at, stubs_by, stubs_done, is_live, caught, caught_from, items}
 use Rattle.xf_emission.specs.Laws.{IsCode, HasFrames, PlainSizeFits}

@@ -1,5 +1,5 @@
 -- The ranges of a rewritten method are such as are laid.
-use Rattle.std.proofs.Common.{◌≡◌, ◌⊎◌, ℕ, suc, ◌-◌, ◌<◌, ◌≤◌, Bool, true, false, if◌then◌else◌, inl, inr, List, [], ◌∷◌, ◌++◌, length, All, Option, refl, sym, ◌∙◌, ap, subst, arith, length-append}
+use Rattle.std.proofs.Common.{◌≡◌, ◌⊎◌, ℕ, suc, ◌-◌, ◌<◌, ◌≤◌, Bool, true, false, if◌then◌else◌, inl, inr, List, [], ◌∷◌, ◌++◌, length, All, refl, sym, ◌∙◌, ap, subst, arith, length-append}
 use Rattle.std.specs.Prelude.{is_some, nat_lt, ◌==◌, slice_get, Some}
 use Rattle.std.proofs.lemmas.Bool.Decides.{nat_tests}
 use Rattle.std.proofs.lemmas.List.Elements.{All-contains}
@@ -16,7 +16,7 @@ use Rattle.xf_plan.specs.Source.{Source}
 use Rattle.xf_plan.specs.Plan.{first_reached}
 use Rattle.xf_emission.specs.Jump.{handler_label}
 use Rattle.xf_emission.specs.Emission.{is_live, range, ranges_from, ranges, items}
-use Rattle.xf_emission.specs.Laws.{IsCode, HasFrames, IsLabelOf, of_place, of_end, of_handler, RangesStand}
+use Rattle.xf_emission.specs.Laws.{IsCode, IsLabelOf, of_place, of_end, of_handler, RangesStand}
 use Rattle.xf_emission.proofs.Labels.{labels}
 use Rattle.xf_emission.proofs.Rises.{Rises}
 use Rattle.xf_emission.proofs.Stubs.{all-rise}

@@ -1,5 +1,5 @@
 -- The form of an operation by the opcode of its instruction; and only what `new` makes rests on the place.
-use Rattle.std.proofs.Common.{◌≡◌, ◌<◌, ℕ, zero, suc, Bool, true, false, if◌then◌else◌, get_or, List, [], ◌∷◌, ◌++◌, length, replicate, Option, Some, None, Result, Ok, Err, refl, sym, ap, ◌∙◌, subst, arith}
+use Rattle.std.proofs.Common.{◌≡◌, ◌<◌, ℕ, zero, suc, Bool, true, false, if◌then◌else◌, List, [], ◌∷◌, ◌++◌, length, replicate, Option, Some, Result, Ok, Err, refl, sym, ap, ◌∙◌, arith}
 use Rattle.std.specs.Prelude.{slice_index_or, ⊤}
 use Rattle.jc_base.specs.declared.record.Member.{Member}
 use Rattle.jc_base.specs.declared.record.Member.TheVariants.{ClassOf}

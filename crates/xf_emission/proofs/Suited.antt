@@ -1,14 +1,13 @@
 -- What is emitted for an instruction, on the edges of a branch and where a handler takes over may be laid.
-use Rattle.std.proofs.Common.{◌≡◌, ◌≢◌, ◌⊎◌, ℕ, zero, suc, ◌+◌, ◌-◌, ◌<◌, ◌≤◌, Bool, true, false, if◌then◌else◌, inl, inr, List, [], ◌∷◌, ◌++◌, map, flat_map, length, All, Contains, Option, Some, None, Result, Ok, Err, refl, sym, ◌∙◌, ap, subst, arith}
-use Rattle.std.specs.Prelude.{ℤ, pos, negsuc, not, is_some, nat_lt, slice_get, IsTrue}
+use Rattle.std.proofs.Common.{◌≡◌, ℕ, suc, ◌+◌, ◌-◌, ◌<◌, Bool, true, false, if◌then◌else◌, List, [], ◌∷◌, ◌++◌, map, flat_map, length, Contains, Option, Some, None, Result, Ok, Err, refl, sym, ◌∙◌, ap, subst, arith}
+use Rattle.std.specs.Prelude.{ℤ, not, is_some, slice_get}
 use Rattle.std.proofs.lemmas.List.{length-map}
-use Rattle.std.proofs.lemmas.List.Elements.{All-contains}
 use Rattle.jc_base.specs.Each.{Each}
 use Rattle.jc_base.specs.declared.ty.Kind.{Kind}
 use Rattle.jc_base.specs.declared.record.Handler.{Handler}
 use Rattle.jc_decode.specs.declared.insn.Placed.{Placed}
 use Rattle.jc_decode.specs.declared.symbols.Item.{Item}
-use Rattle.jc_decode.specs.declared.symbols.Item.TheVariants.{Plain, Branch, Switch, Label}
+use Rattle.jc_decode.specs.declared.symbols.Item.TheVariants.{Branch, Switch}
 use Rattle.jc_decode.specs.Cases.{cases, with_default, is_switch}
 use Rattle.jc_decode.specs.Decoding.{decoded}
 use Rattle.jc_decode.specs.Encoding.{IsAllowed}
@@ -20,7 +19,6 @@ use Rattle.jc_ops.specs.Next.{falls_from, jumps_from}
 use Rattle.jc_ops.specs.declared.fault.RuleFault.{RuleFault}
 use Rattle.jc_ops.specs.declared.operation.Branch.TheVariants as branches
 use Rattle.jc_ops.specs.declared.operation.Holder.TheVariants as holders
-use Rattle.jc_ops.specs.declared.operation.InstanceField.{InstanceField}
 use Rattle.jc_ops.specs.declared.operation.Sort.{Sort}
 use Rattle.jc_ops.specs.declared.operation.Operation.{Operation}
 use Rattle.jc_ops.specs.declared.operation.Operation.TheVariants as ops
@@ -30,10 +28,10 @@ use Rattle.xf_homes.specs.Walk.{operands_of}
 use Rattle.xf_plan.specs.Source.{Source}
 use Rattle.xf_plan.specs.Plan.{register, local, needed, cells, is_leader, operation}
 use Rattle.xf_emission.specs.declared.origin.Origin.TheVariants.{Start, After, Entry}
-use Rattle.xf_emission.specs.Move.{with_byte, load, store, copy, loads, spill}
+use Rattle.xf_emission.specs.Move.{copy, loads, spill}
 use Rattle.xf_emission.specs.Edge.{copies}
-use Rattle.xf_emission.specs.Jump.{under, operands, is_over, spill_if, taken, place, lead, leads, first_label, jump_to, branch, goto, stub, stub_of, stub_label, stubs_of, handler_label}
-use Rattle.xf_emission.specs.Group.{kept, loaded, increased, popped, stored, stays, field_read, field_written, swap_words, gone, first_place, branch_by, body, fall, fall_over, fall_by, fallen, entered, done, group_by, group}
+use Rattle.xf_emission.specs.Jump.{under, operands, is_over, spill_if, taken, place, lead, leads, first_label, jump_to, branch, goto, stub, stub_of, stub_label, stubs_of}
+use Rattle.xf_emission.specs.Group.{kept, loaded, increased, stored, stays, field_read, field_written, gone, first_place, body, fall, fall_over, fall_by, fallen, entered, done, group_by, group}
 use Rattle.xf_emission.specs.Emission.{stubs, stubs_at, stubs_by, stubs_done, is_live, caught, caught_from, items}
 use Rattle.xf_emission.proofs.RowByRow.{op_kind, branching_kind, switching}
 use Rattle.xf_emission.proofs.Forms.{suits_kind, first_u1, only_u1, other-register, other-opcode, parts}

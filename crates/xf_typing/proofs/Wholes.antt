@@ -1,26 +1,25 @@
 -- Derived states have whole stacks, and no register without a value.
-use Rattle.std.proofs.Common.{◌≡◌, ℕ, zero, suc, ◌+◌, ◌<◌, ◌≤◌, Bool, true, false, if◌then◌else◌, List, [], ◌∷◌, ◌++◌, length, reverse, replicate, All, Contains, refl, sym, ◌∙◌, ap, subst, arith}
+use Rattle.std.proofs.Common.{◌≡◌, ℕ, suc, Bool, true, false, if◌then◌else◌, List, [], ◌∷◌, ◌++◌, replicate, All, refl, sym, subst, arith}
 use Rattle.std.proofs.lemmas.List.Elements.{All-append}
 use Rattle.jc_base.proofs.Lists.{All-reverse}
 use Rattle.jc_base.specs.declared.ty.Ty.{Ty}
-use Rattle.jc_base.specs.declared.ty.Ty.TheVariants.{Bottom, Short, IntHigh, IntLow, Null, Class, ArrBool, ArrByte, ArrShort, ArrInt, ArrRef, Fresh, Top}
-use Rattle.jc_base.specs.declared.record.Handler.{Handler}
+use Rattle.jc_base.specs.declared.ty.Ty.TheVariants.{Bottom, IntHigh, IntLow, Class, Top}
 use Rattle.jc_base.specs.Cell.{AreWhole, no_cells, whole_int, one_cell, IsNoHalf, IsDeclared}
 use Rattle.jc_base.specs.Class.{ClassTable}
-use Rattle.jc_base.specs.Order.{Below, IsJoin, is_below}
+use Rattle.jc_base.specs.Order.{Below, is_below}
 use Rattle.jc_base.specs.Laws.{IsOrderOfTypes}
 use Rattle.jc_base.specs.World.{Linked}
 use Rattle.jc_decode.specs.declared.insn.Placed.{Placed}
 use Rattle.jc_ops.specs.Sound.{IsSound, OperationsAreSound}
 use Rattle.jc_control.specs.Method.{Method, IsMethodOf}
 use Rattle.jc_rules.specs.Demand.{Frame}
-use Rattle.jc_rules.specs.Flow.{CellsBelow, no_cells as no_below, more_cells, CellsJoin, none_joined, more_joined, Merges, Steps, start_frame, receiver_of, IsNotTop, IsDerived, derived_start, derived_caught, derived_next, derived_joined}
+use Rattle.jc_rules.specs.Flow.{CellsBelow, no_cells as no_below, more_cells, CellsJoin, none_joined, more_joined, Steps, start_frame, receiver_of, IsNotTop, IsDerived, derived_start, derived_caught, derived_next, derived_joined}
 use Rattle.jc_rules.specs.FlowLaws.{AreRules}
 use Rattle.jc_rules.specs.Laws.{IsNotBottom}
 use Rattle.jc_rules.specs.Whole.{IsWholeStack, OperationKeepsWhole}
-use Rattle.jc_flow.proofs.Derived.{of_world, IsFine, derived-fine, step-keeps}
+use Rattle.jc_flow.proofs.Derived.{of_world, derived-fine, step-keeps}
 use Rattle.jc_flow.proofs.Frames.{all_none, all_more, all_same, join-all, full-join}
-use Rattle.xf_typing.specs.Whole.{IsWholeFrame, DerivedAreWhole}
+use Rattle.xf_typing.specs.Whole.{DerivedAreWhole}
 
 -- ---- types above a half of an int, and above what is none
 
