@@ -3,5 +3,4 @@ mod Beginning
 mod Reached
 mod Following
 mod Ran
-mod Read
 mod Moved
