@@ -62,7 +62,7 @@ pub record IsRewritten (p : PackageRecord) (laid : List (Option Laid)) (q : Pack
   pub classes : q.classes ≡ map (renewed_class (now_at (changes p laid q))) p.classes
   pub export : q.export ≡ option_map (map (renewed_exported (now_at (changes p laid q)))) p.export
   pub description : HasSameDescription (names_interface p.classes) p.description q.description
-  -- the methods, with nothing between or behind them
+  -- the methods, with nothing between or after them
   pub each : length laid ≡ length (methods_of p.description.items.classes)
   pub written : All (IsWritten p q (changes p laid q)) (changes p laid q)
   pub long : length q.methods.info ≡ methods_begin q + sum_by (size_in q) (changes p laid q)

@@ -48,7 +48,7 @@ handlers_in c = c.now.handler_count
 abbrev pub stood_before : Change → Change → Bool
 stood_before c other = nat_lt other.source.method.method_offset c.source.method.method_offset
 
--- where its handlers stood in the table; those of a method that had none come after the others, in the order of the Descriptor
+-- where its handlers stood in the table; those of a method that had none follow the others, in the order of the Descriptor
 abbrev pub block_of : PackageRecord → Source → ℕ
 block_of p s = if s.method.handler_count == 0 then length p.methods.handlers + s.number else s.method.handler_index
 
@@ -56,12 +56,12 @@ block_of p s = if s.method.handler_count == 0 then length p.methods.handlers + s
 abbrev pub caught_before : PackageRecord → Change → Change → Bool
 caught_before p c other = nat_lt (block_of p other.source) (block_of p c.source)
 
--- where the methods begin: behind the handler table
+-- where the methods begin: after the handler table
 abbrev pub methods_begin : PackageRecord → ℕ
 methods_begin q = 1 + 8 * length q.methods.handlers
 
--- among these methods it is as it is to be; it stands behind the handler table and the methods that stood before it, and its
--- handlers stand behind theirs
+-- among these methods it is as it is to be; it stands after the handler table and the methods that stood before it, and its
+-- handlers stand after theirs
 pub record IsWritten (p q : PackageRecord) (all : List Change) (c : Change) : Type 0 where
   pub is : IsAs p q c.source.method c.source.laid c.now
   pub place : c.now.method_offset ≡ methods_begin q + sum_by (size_in q) (filter (stood_before c) all)
