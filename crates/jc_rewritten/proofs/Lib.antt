@@ -2,3 +2,4 @@ pub mod Lists
 pub mod Names
 pub mod Conditions
 pub mod Places
+pub mod Classes

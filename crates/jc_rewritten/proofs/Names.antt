@@ -15,6 +15,7 @@ use Rattle.jc_resolve.specs.Numbering.{NumberedClass, numbered_class, classes_of
 use Rattle.jc_resolve.specs.References.{meets, import_of, met_by, exported_offset, exported_place, place_named, class_named, is_internal, import_token, class_token}
 use Rattle.cap_rewritten.specs.Changes.{changes, now_at}
 use Rattle.cap_rewritten.specs.Rewritten.{IsRewritten}
+use Rattle.cap_rewritten.proofs.Lists.{Each, each_of}
 use Rattle.jc_rewritten.specs.Last.{and_last}
 use Rattle.jc_rewritten.proofs.Lists.{map_last, get_view, take_view, position_alike}
 
@@ -41,10 +42,10 @@ met_same ps p q k token h e =
 
 -- ---- classes by number
 
-of_last : {Y : Type 0} (now was : NumberedClass → Y) (f : ℕ → ℕ) (k : ℕ) (p q : PackageRecord) (cs : List Class) → ((c : Class) → now (numbered_class k q (renewed_class f c)) ≡ was (numbered_class k p c))
+of_last : {Y : Type 0} (now was : NumberedClass → Y) (f : ℕ → ℕ) (k : ℕ) (p q : PackageRecord) (cs : List Class) → Each (λ (c : Class). now (numbered_class k q (renewed_class f c)) ≡ was (numbered_class k p c)) cs
     → map now (map (numbered_class k q) (map (renewed_class f) cs)) ≡ map was (map (numbered_class k p) cs)
 of_last now was f k p q [] h = refl
-of_last now was f k p q (c ∷ cs) h = ap (λ y. y ∷ map now (map (numbered_class k q) (map (renewed_class f) cs))) (h c) ∙ ap (λ ys. was (numbered_class k p c) ∷ ys) (of_last now was f k p q cs h)
+of_last now was f k p q (c ∷ cs) h = ap (λ y. y ∷ map now (map (numbered_class k q) (map (renewed_class f) cs))) h.0 ∙ ap (λ ys. was (numbered_class k p c) ∷ ys) (of_last now was f k p q cs h.1)
 
 of_others : {Y : Type 0} (now was : NumberedClass → Y) (k : ℕ) (p : PackageRecord) (cs : List Class) → ((c : Class) → now (numbered_class k p c) ≡ was (numbered_class k p c)) → map now (map (numbered_class k p) cs) ≡ map was (map (numbered_class k p) cs)
 of_others now was k p [] h = refl
@@ -53,23 +54,22 @@ of_others now was k p (c ∷ cs) h = ap (λ y. y ∷ map now (map (numbered_clas
 -- what is told of the classes of all packages is the same where it is so of those of the last one, and of those of the others
 pub classes_alike : {Y : Type 0} (now was : NumberedClass → Y) (f : ℕ → ℕ) (k : ℕ) (ps : List PackageRecord) (p q : PackageRecord) → q.classes ≡ map (renewed_class f) p.classes
     → ((j : ℕ) (r : PackageRecord) (c : Class) → j < k + length ps → now (numbered_class j r c) ≡ was (numbered_class j r c))
-    → ((c : Class) → now (numbered_class (k + length ps) q (renewed_class f c)) ≡ was (numbered_class (k + length ps) p c))
+    → Each (λ (c : Class). now (numbered_class (k + length ps) q (renewed_class f c)) ≡ was (numbered_class (k + length ps) p c)) p.classes
     → map now (classes_after k (and_last ps q)) ≡ map was (classes_after k (and_last ps p))
 classes_alike now was f k [] p q e others last =
     let z : k + 0 ≡ k = omega arith in
-    map-append now (classes_of k q) [] ∙ ap (λ ys. ys ++ []) (ap (λ cs. map now (map (numbered_class k q) cs)) e ∙ of_last now was f k p q p.classes (λ c. at_last k z c (last c))) ∙ sym (map-append was (classes_of k p) [])
-  where
-    at_last : (k : ℕ) → k + 0 ≡ k → (c : Class) → now (numbered_class (k + 0) q (renewed_class f c)) ≡ was (numbered_class (k + 0) p c) → now (numbered_class k q (renewed_class f c)) ≡ was (numbered_class k p c)
-    at_last k z c h = subst (λ n. now (numbered_class n q (renewed_class f c)) ≡ was (numbered_class n p c)) z h
+    map-append now (classes_of k q) []
+    ∙ ap (λ ys. ys ++ []) (ap (λ cs. map now (map (numbered_class k q) cs)) e ∙ of_last now was f k p q p.classes (subst (λ n. Each (λ (c : Class). now (numbered_class n q (renewed_class f c)) ≡ was (numbered_class n p c)) p.classes) z last))
+    ∙ sym (map-append was (classes_of k p) [])
 classes_alike now was f k (r ∷ ps) p q e others last =
     let z : k + suc (length ps) ≡ k + 1 + length ps = omega arith in
     map-append now (classes_of k r) (classes_after (k + 1) (and_last ps q))
     ∙ ap (λ ys. ys ++ map now (classes_after (k + 1) (and_last ps q))) (of_others now was k r r.classes (λ c. others k r c (omega arith)))
-    ∙ ap (λ ys. map was (classes_of k r) ++ ys) (classes_alike now was f (k + 1) ps p q e (λ j x c lt. others j x c (omega arith)) (λ c. subst (λ n. now (numbered_class n q (renewed_class f c)) ≡ was (numbered_class n p c)) z (last c)))
+    ∙ ap (λ ys. map was (classes_of k r) ++ ys) (classes_alike now was f (k + 1) ps p q e (λ j x c lt. others j x c (omega arith)) (subst (λ n. Each (λ (c : Class). now (numbered_class n q (renewed_class f c)) ≡ was (numbered_class n p c)) p.classes) z last))
     ∙ sym (map-append was (classes_of k r) (classes_after (k + 1) (and_last ps p)))
 
 pub places_same : (f : ℕ → ℕ) (ps : List PackageRecord) (p q : PackageRecord) → q.classes ≡ map (renewed_class f) p.classes → class_places (and_last ps q) ≡ class_places (and_last ps p)
-places_same f ps p q e = classes_alike place_of_class place_of_class f 0 ps p q e (λ j r c lt. refl) (λ c. refl)
+places_same f ps p q e = classes_alike place_of_class place_of_class f 0 ps p q e (λ j r c lt. refl) (each_of (λ (c : Class). place_of_class (numbered_class (0 + length ps) q (renewed_class f c)) ≡ place_of_class (numbered_class (0 + length ps) p c)) p.classes (λ c h. refl))
 
 pub class_at_same : (f : ℕ → ℕ) (ps : List PackageRecord) (p q : PackageRecord) (place : RecordPlace) → q.classes ≡ map (renewed_class f) p.classes → class_at (and_last ps q) place ≡ class_at (and_last ps p) place
 unfolding class_at
@@ -91,7 +91,7 @@ flag_told (x ∷ xs) (suc k) = flag_told xs k
 pub interface_number_same : (f : ℕ → ℕ) (ps : List PackageRecord) (p q : PackageRecord) (c : ℕ) → q.classes ≡ map (renewed_class f) p.classes → is_interface_number (and_last ps q) c ≡ is_interface_number (and_last ps p) c
 unfolding is_interface_number flag_of
 interface_number_same f ps p q c e =
-    flag_told (numbered_classes (and_last ps q)) c ∙ ap (λ bs. told (slice_get bs c)) (classes_alike flag_of flag_of f 0 ps p q e (λ j r d lt. refl) (λ d. refl)) ∙ sym (flag_told (numbered_classes (and_last ps p)) c)
+    flag_told (numbered_classes (and_last ps q)) c ∙ ap (λ bs. told (slice_get bs c)) (classes_alike flag_of flag_of f 0 ps p q e (λ j r d lt. refl) (each_of (λ (d : Class). flag_of (numbered_class (0 + length ps) q (renewed_class f d)) ≡ flag_of (numbered_class (0 + length ps) p d)) p.classes (λ d h. refl))) ∙ sym (flag_told (numbered_classes (and_last ps p)) c)
 
 -- ---- class references
 

@@ -1,15 +1,15 @@
 -- The places of methods: an offset is renewed to that of the method of the same number.
-use Rattle.std.proofs.Common.{◌≡◌, ◌≤◌, ◌<◌, ◌+◌, ℕ, zero, suc, List, [], ◌∷◌, ◌++◌, length, map, position, find, Bool, true, false, cond, not, Option, Some, None, ◌⊎◌, inl, inr, refl, sym, ap, subst, ◌∙◌, arith}
+use Rattle.std.proofs.Common.{◌≡◌, ◌<◌, ◌+◌, ℕ, suc, List, [], ◌∷◌, ◌++◌, length, map, find, Bool, true, false, cond, not, Option, Some, None, ◌⊎◌, inl, inr, refl, sym, ap, subst, ◌∙◌, arith}
 use Rattle.std.specs.Prelude.{if◌then◌else◌, ◌==◌, ◌&&◌}
 use Rattle.std.proofs.lemmas.List.{map-append}
 use Rattle.cap_desc.specs.DescriptorFormat.{Method, Class}
 use Rattle.cap_desc.specs.Members.{methods_but}
-use Rattle.cap_package.specs.PackageRecord.{PackageRecord, described, names_interface}
+use Rattle.cap_package.specs.PackageRecord.{PackageRecord, names_interface}
 use Rattle.cap_package.specs.StandsFor.{StandsFor}
 use Rattle.cap_package.specs.Parts.{Lent}
 use Rattle.jc_decode.specs.declared.symbols.Laid.{Laid}
 use Rattle.jc_resolve.specs.declared.place.RecordPlace.{RecordPlace}
-use Rattle.jc_resolve.specs.Numbering.{NumberedMethod, methods_of_class, methods_of_classes, methods_after, numbered_methods, place_of_method, method_places, is_at, same_place, method_at, is_placed}
+use Rattle.jc_resolve.specs.Numbering.{NumberedMethod, methods_of_class, methods_of_classes, methods_after, place_of_method, method_places, is_at, method_at}
 use Rattle.cap_rewritten.specs.Changes.{Change, changes, stood_at, offset_by, now_at}
 use Rattle.cap_rewritten.specs.Written.{IsWritten}
 use Rattle.cap_rewritten.specs.Rewritten.{bare_method, bare_class, IsRewritten}
@@ -124,8 +124,10 @@ equal_if a b x y there apart_now = by (a == b) refl (x == y) refl
   where
     same : (a b : ℕ) → (a == b) ≡ true → a ≡ b
     same a b e = grind arith
+
     other : (a b : ℕ) → (a == b) ≡ false → a ≡ b → ⊥
     other a b e s = absurd (grind arith)
+
     by : (s : Bool) → (a == b) ≡ s → (t : Bool) → (x == y) ≡ t → (x == y) ≡ (a == b)
     by true e true g = g ∙ sym e
     by false e false g = g ∙ sym e
@@ -145,11 +147,12 @@ find_has (x ∷ cs) c (inr h) d =
       where
         same : (a n : ℕ) → (a == n) ≡ true → a ≡ n
         same a n e = grind arith
+
         by : (b : Bool) → (a == n) ≡ b → b ≡ false
         by true e = absurd (h (same a n e))
         by false e = refl
 
-now_has : (cs : List Change) (c : Change) → Has cs c → Distinct offset_of cs → now_at cs (offset_of c) ≡ c.now.method_offset
+pub now_has : (cs : List Change) (c : Change) → Has cs c → Distinct offset_of cs → now_at cs (offset_of c) ≡ c.now.method_offset
 unfolding now_at
 now_has cs c h d = ap (offset_by (offset_of c)) (find_has cs c h d)
 

@@ -1,4 +1,4 @@
-ghost use Rattle.jc_rewritten.specs.Laws.{NamesConditionsStay, NamesLink};
+ghost use Rattle.jc_rewritten.specs.Laws.{ClassesLink, NamesConditionsStay, NamesLink};
 
 /// Where the last of several packages is written with other code, each import is met by the same package, and each class
 /// reference names the class of the same number.
@@ -10,4 +10,10 @@ pub fn names_link()
 /// references: none of these conditions asks for code.
 pub fn name_conditions_stay()
     ensures { NamesConditionsStay }
+{}
+
+/// The classes are the same then, each with the classes, types and methods that it names by their numbers: what is asked
+/// of superclasses, roles and interfaces asks for nothing else.
+pub fn classes_link()
+    ensures { ClassesLink }
 {}

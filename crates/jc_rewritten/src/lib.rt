@@ -5,4 +5,4 @@
 
 mod laws;
 
-pub use laws::{name_conditions_stay, names_link};
+pub use laws::{classes_link, name_conditions_stay, names_link};
