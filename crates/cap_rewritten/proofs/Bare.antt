@@ -131,6 +131,11 @@ same_type at xs ys h =
     by None = refl
     by (Some n) = ap (option_and_then one_type_in) (same_nibbles (at + 1) n xs ys (same_after at 1 xs ys h))
 
+pub same_types_named : (set : ℕ → Bool) (d e : Description) (offset : ℕ) → HasSameDescription set d e → types_at e.info (e.items.types_start + offset) ≡ types_at d.info (d.items.types_start + offset)
+same_types_named set d e offset h =
+    ap (λ s. types_at e.info (s + offset)) h.start
+    ∙ same_types (d.items.types_start + offset) d.info e.info (same_after d.items.types_start offset d.info e.info (record { long = h.long; same = h.types }))
+
 pub same_arguments : (set : ℕ → Bool) (d e : Description) (offset : ℕ) → HasSameDescription set d e → argument_words e offset ≡ argument_words d offset
 unfolding argument_words
 same_arguments set d e offset h =

@@ -107,7 +107,7 @@ below_last p m w short =
     let lt : m.method_offset < 65535 = omega arith in
     grind arith
 
-last_stays : (parts : List Lent) (p q : PackageRecord) (laid : List (Option Laid)) → StandsFor parts p → IsRewritten p laid q → now_at (changes p laid q) 0xFFFF ≡ 0xFFFF
+pub last_stays : (parts : List Lent) (p q : PackageRecord) (laid : List (Option Laid)) → StandsFor parts p → IsRewritten p laid q → now_at (changes p laid q) 0xFFFF ≡ 0xFFFF
 unfolding now_at
 last_stays parts p q laid s r =
     let cs = changes p laid q in

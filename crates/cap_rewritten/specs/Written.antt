@@ -48,7 +48,7 @@ handlers_in c = c.now.handler_count
 abbrev pub stood_before : Change → Change → Bool
 stood_before c other = nat_lt other.source.method.method_offset c.source.method.method_offset
 
--- where its handlers stood in the table; those of a method that had none come after the others, in the order of the Descriptor
+-- where its handlers stood in the table; those of a method that had none follow the others, in the order of the Descriptor
 abbrev pub block_of : PackageRecord → Source → ℕ
 block_of p s = if s.method.handler_count == 0 then length p.methods.handlers + s.number else s.method.handler_index
 
