@@ -161,13 +161,15 @@ module _
         let same : x.placed ≡ i = cc in
         let here : 0 + c.0 ≡ c.0 = omega arith in
         let next : 0 + suc c.0 ≡ suc c.0 = omega arith in
+        let start : x.placed.place ≡ f c.0 = x.begins ∙ ap place here ∙ sym (within c.0 (omega (arith, lt))) in
+        let end : x.placed.place + x.placed.insn.len ≡ f (suc c.0) = x.ends ∙ ap place next ∙ sym (within (suc c.0) lt) in
         record {
           number = c.0;
           step = s.0;
           at = s.1;
           inside = lt;
-          begins = ap (λ (p : Placed). p.place) (sym same) ∙ x.begins ∙ ap place here ∙ sym (within c.0 (omega (arith, lt)));
-          ends = ap (λ (p : Placed). p.place + p.insn.len) (sym same) ∙ x.ends ∙ ap place next ∙ sym (within (suc c.0) lt);
+          begins = subst (λ (p : Placed). p.place ≡ f c.0) same start;
+          ends = subst (λ (p : Placed). p.place + p.insn.len ≡ f (suc c.0)) same end;
           laid_as = subst (IsStep m.code place s.0) same x.is;
         }
 
