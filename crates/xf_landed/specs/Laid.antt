@@ -83,15 +83,19 @@ renamed place ty = ty
 
 -- the card typing of laid code whose symbols have these registers and these stacks before their steps: the registers are the same, and
 -- so is the stack before each step and at the end, but that the places of uninitialised objects are those where their `new` is laid
-pub record IsTypedAsLaid (w : Linked) (m : Method) (count : ℕ) (place : ℕ → ℕ) (regs : List Ty) (stacks : ℕ → List Ty) : Type 0 where
-  pub rename : ℕ → ℕ
-  pub agrees : (n : ℕ) → n ≤ count → rename n ≡ place n
-  pub one_to_one : (n k : ℕ) → rename n ≡ rename k → n ≡ k
-  pub laid_stacks : ℕ → List Ty
-  pub at : (n : ℕ) → n ≤ count → laid_stacks (place n) ≡ map (renamed rename) (stacks n)
-  pub typing : CardTyping w m regs laid_stacks
+pub record IsTypedAsLaid
+    (w : Linked) (m : Method) (count : ℕ) (place : ℕ → ℕ)
+    (regs : List Ty) (stacks : ℕ → List Ty) : Type 0
+  where
+    pub rename : ℕ → ℕ
+    pub agrees : (n : ℕ) → n ≤ count → rename n ≡ place n
+    pub one_to_one : (n k : ℕ) → rename n ≡ rename k → n ≡ k
+    pub laid_stacks : ℕ → List Ty
+    pub at : (n : ℕ) → n ≤ count → laid_stacks (place n) ≡ map (renamed rename) (stacks n)
+    pub typing : CardTyping w m regs laid_stacks
 
--- a conditional over a goto to itself: its handlers catch what that of the method with their number does
+-- a conditional over a goto to itself, which is in the range of a handler: this catches what the method's handler with its pool
+-- number does
 abbrev loop : Symbols
 loop = record {
   items = Branch 152 9 ∷ Label 4 ∷ Branch 168 4 ∷ Label 9 ∷ [];
@@ -102,12 +106,15 @@ loop = record {
 }
 
 abbrev caught : List Handler
-caught = record { start = 0; end = 9; entry = 5; index = 2; class = 7 } ∷ record { start = 0; end = 9; entry = 5; index = 3; class = 8 } ∷ []
+caught =
+    record { start = 0; end = 9; entry = 5; index = 2; class = 7 }
+    ∷ record { start = 0; end = 9; entry = 5; index = 3; class = 8 } ∷ []
 
 loop_leads : map leads_of (map (λ s. Some s) (steps [] loop.items)) ≡ (pos 2 ∷ []) ∷ (pos 1 ∷ []) ∷ []
 loop_leads = refl
 
-loop_handlers : map (catching caught) (handlers loop.items loop.ranges) ≡ record { start = 1; end = 2; entry = 1; index = 3; class = 8 } ∷ []
+loop_handlers : map (catching caught) (handlers loop.items loop.ranges)
+    ≡ record { start = 1; end = 2; entry = 1; index = 3; class = 8 } ∷ []
 loop_handlers = refl
 
 made_elsewhere : renamed (λ n. n + n) (Fresh 4 7) ≡ Fresh 8 7
