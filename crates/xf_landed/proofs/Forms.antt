@@ -1,6 +1,6 @@
 -- Instructions that are the same in one of their forms resolve alike, fall through alike and jump alike.
 use Rattle.std.proofs.Common.{◌≡◌, ◌≢◌, ℕ, ◌<◌, ◌==◌, Bool, true, false, cond, if◌then◌else◌, ℤ, pos, List, [], ◌∷◌, map, get_or, set, Option, Some, None, IfSome, Result, Ok, Err, refl, sym, ◌∙◌, ap, subst, arith}
-use Rattle.std.specs.Prelude.{◌&&◌, ◌||◌, nat_le, find}
+use Rattle.std.specs.Prelude.{◌||◌, nat_le, find}
 use Rattle.std.specs.List.{list_all, range_with_len}
 use Rattle.std.proofs.lemmas.Bool.{eqb-true}
 use Rattle.std.proofs.lemmas.Bool.Decides.{nat_tests}
@@ -27,6 +27,7 @@ use Rattle.jc_ops.specs.Row.{table, row_at, unused, by_sort, by_width, by_kind, 
 use Rattle.jc_ops.specs.Resolve.{short_of, new_object, resolved, Resolves}
 use Rattle.jc_ops.specs.Sound.{IsSound, OperationsAreSound}
 use Rattle.xf_landed.proofs.Operations.{operation_renamed}
+use Rattle.xf_landed.proofs.Renaming.{and-first, and-second}
 
 -- ---- opcodes that are no byte
 
@@ -34,14 +35,6 @@ past-span : (op : ℕ) → 255 < op → (s : Span) (rest : Option Span) (a b : B
 past-span op lt s rest true false x y r e = r
 past-span op lt s rest false b x y r e = absurd (cc)
 past-span op lt s rest true true x y r e = absurd (grind (arith, nat_tests, lt, x, y))
-
-and-first : (a b : Bool) → (a && b) ≡ true → a ≡ true
-and-first true b e = refl
-and-first false b e = absurd (cc)
-
-and-second : (a b : Bool) → (a && b) ≡ true → b ≡ true
-and-second true b e = e
-and-second false b e = absurd (cc)
 
 past-spans : (op : ℕ) → 255 < op → (ss : List Span) → list_all (λ s. nat_le s.last 255) ss ≡ true → find (holds op) ss ≡ None
 past-spans op lt [] e = refl

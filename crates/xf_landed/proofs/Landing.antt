@@ -38,7 +38,7 @@ use Rattle.xf_landed.specs.Laws.{LaidIsTyped}
 use Rattle.xf_landed.proofs.Forms.{falls-form, jumps-form, resolves-renamed}
 use Rattle.xf_landed.proofs.Operations.{operation_renamed, operation-renamed}
 use Rattle.xf_landed.proofs.Renaming.{frame_renamed, cells-renamed, regs-stay}
-use Rattle.xf_landed.proofs.Steps.{contains-at, at-contains, some-within, all-contained, contains-map, Preimage, preimage, rises-from, one-to-one, number_of, number-is, step-at, same-count, end-is}
+use Rattle.xf_landed.proofs.Steps.{contains-at, at-contains, some-within, all-contained, contains-map, Preimage, preimage, rises-from, one-to-one, number_of, number-is, IsLaidAt, step-at, same-count, end-is}
 
 -- ---- places, and as many numbers beyond the end
 
@@ -152,31 +152,35 @@ module _
       ends : i.place + i.insn.len ≡ f (suc number)
       laid_as : IsStep m.code place step i
 
+    as-step : (k : ℕ) (s : Step) → k < count → slice_get all k ≡ Some s → (x : IsLaidAt m.code place 0 (listing m.code) k s) → IsStepOf x.placed
+    as-step k s lt e x = record {
+      number = k;
+      step = s;
+      at = e;
+      inside = lt;
+      begins = x.begins ∙ ap place (omega arith) ∙ sym (within k (omega (arith, lt)));
+      ends = x.ends ∙ ap place (omega arith) ∙ sym (within (suc k) lt);
+      laid_as = x.is;
+    }
+
+    laid-step : (k : ℕ) (s : Step) → slice_get all k ≡ Some s → IsLaidAt m.code place 0 (listing m.code) k s
+    laid-step k s e = step-at m.code place 0 all (listing m.code) laid-steps k s e
+
     step-of : (i : Placed) → Stands m.code i → IsStepOf i
     step-of i c =
         let lt : c.0 < count = omega (arith, c.1, same-count m.code place 0 all (listing m.code) laid-steps) in
         let s = there c.0 lt in
-        let x = step-at m.code place 0 all (listing m.code) laid-steps c.0 s.0 s.1 in
+        let x = laid-step c.0 s.0 s.1 in
         let some : Some x.placed ≡ Some i = sym x.listed ∙ at-contains (listing m.code) i c in
         let same : x.placed ≡ i = cc in
-        let here : 0 + c.0 ≡ c.0 = omega arith in
-        let next : 0 + suc c.0 ≡ suc c.0 = omega arith in
-        record {
-          number = c.0;
-          step = s.0;
-          at = s.1;
-          inside = lt;
-          begins = ap (λ (p : Placed). p.place) (sym same) ∙ x.begins ∙ ap place here ∙ sym (within c.0 (omega (arith, lt)));
-          ends = ap (λ (p : Placed). p.place + p.insn.len) (sym same) ∙ x.ends ∙ ap place next ∙ sym (within (suc c.0) lt);
-          laid_as = subst (IsStep m.code place s.0) same x.is;
-        }
+        subst IsStepOf same (as-step c.0 s.0 lt s.1 x)
 
     placed-at : (k : ℕ) → k < count → IsPlace m.code (f k)
+    unfolding as-step
     placed-at k lt =
         let s = there k lt in
-        let x = step-at m.code place 0 all (listing m.code) laid-steps k s.0 s.1 in
-        let here : 0 + k ≡ k = omega arith in
-        (x.placed, contains-at (listing m.code) k x.placed x.listed, x.begins ∙ ap place here ∙ sym (within k (omega (arith, lt))))
+        let x = laid-step k s.0 s.1 in
+        (x.placed, contains-at (listing m.code) k x.placed x.listed, (as-step k s.0 lt s.1 x).begins)
 
     boundary-at : (k : ℕ) → k ≤ count → IsBoundary m.code (f k)
     boundary-at k le = by (nat_le count k) refl

@@ -4,3 +4,4 @@ pub mod Operations
 pub mod Forms
 pub mod Steps
 pub mod Landing
+pub mod Catching

@@ -37,7 +37,7 @@ use Rattle.jc_rules.specs.Flow.{FlowTyping, IsFollowed}
 use Rattle.card_typing.specs.Typing.{Subject, TypingIn, IsTypedIn, code_in_bytes}
 use Rattle.xf_landed.specs.Apart.{apart_from_code, IsSameBut}
 use Rattle.xf_landed.specs.Laid.{code_in_symbols}
-use Rattle.xf_landed.specs.Laws.{CardTypingsAreKept, FlowTypingsAreKept, SymbolTypingsAreKept}
+use Rattle.xf_landed.specs.Laws.{CardTypingsAreKept, FlowTypingsAreKept, MethodsAreKept, SymbolTypingsAreKept}
 
 -- ---- lists that are tested alike
 
@@ -297,3 +297,6 @@ symbol-typings-are-kept v w r source symbols regs stacks same t = typings-are-ke
 
 pub flow-typings-are-kept : FlowTypingsAreKept
 flow-typings-are-kept v w m unset frames same t = subst (λ u. FlowTyping u m unset frames) (whole v w same) (flow-kept v w.infos w.methods w.indexes same.methods m unset frames t)
+
+pub methods-are-kept : MethodsAreKept
+methods-are-kept v w n same = alike-at v w.infos w.methods w.indexes same.methods n

@@ -6,7 +6,9 @@ use Rattle.jc_base.specs.declared.ty.Ty.TheVariants.{Fresh}
 use Rattle.jc_base.specs.declared.record.Handler.{Handler}
 use Rattle.jc_base.specs.declared.record.MethodRec.{MethodRec}
 use Rattle.jc_base.specs.World.{Linked}
+use Rattle.std.proofs.Common.{refl}
 use Rattle.jc_decode.specs.declared.symbols.Handler.{Handler as Laying}
+use Rattle.jc_decode.specs.declared.symbols.Item.TheVariants.{Branch, Label}
 use Rattle.jc_decode.specs.declared.symbols.Laid.{Laid}
 use Rattle.jc_decode.specs.declared.symbols.Symbols.{Symbols}
 use Rattle.jc_decode.specs.Symbols.{Step, steps, handlers}
@@ -81,10 +83,39 @@ renamed place ty = ty
 
 -- the card typing of laid code whose symbols have these registers and these stacks before their steps: the registers are the same, and
 -- so is the stack before each step and at the end, but that the places of uninitialised objects are those where their `new` is laid
-pub record IsTypedAsLaid (w : Linked) (m : Method) (count : ℕ) (place : ℕ → ℕ) (regs : List Ty) (stacks : ℕ → List Ty) : Type 0 where
-  pub rename : ℕ → ℕ
-  pub agrees : (n : ℕ) → n ≤ count → rename n ≡ place n
-  pub one_to_one : (n k : ℕ) → rename n ≡ rename k → n ≡ k
-  pub laid_stacks : ℕ → List Ty
-  pub at : (n : ℕ) → n ≤ count → laid_stacks (place n) ≡ map (renamed rename) (stacks n)
-  pub typing : CardTyping w m regs laid_stacks
+pub record IsTypedAsLaid
+    (w : Linked) (m : Method) (count : ℕ) (place : ℕ → ℕ)
+    (regs : List Ty) (stacks : ℕ → List Ty) : Type 0
+  where
+    pub rename : ℕ → ℕ
+    pub agrees : (n : ℕ) → n ≤ count → rename n ≡ place n
+    pub one_to_one : (n k : ℕ) → rename n ≡ rename k → n ≡ k
+    pub laid_stacks : ℕ → List Ty
+    pub at : (n : ℕ) → n ≤ count → laid_stacks (place n) ≡ map (renamed rename) (stacks n)
+    pub typing : CardTyping w m regs laid_stacks
+
+-- a conditional over a goto to itself, which is in the range of a handler: this catches what the method's handler with its pool
+-- number does
+abbrev loop : Symbols
+loop = record {
+  items = Branch 152 9 ∷ Label 4 ∷ Branch 168 4 ∷ Label 9 ∷ [];
+  ranges = record { «from» = 4; to = 9; entry = 4; pool = 3 } ∷ [];
+  max_stack = 1;
+  nargs = 0;
+  max_locals = 0;
+}
+
+abbrev caught : List Handler
+caught =
+    record { start = 0; end = 9; entry = 5; index = 2; class = 7 }
+    ∷ record { start = 0; end = 9; entry = 5; index = 3; class = 8 } ∷ []
+
+loop_leads : map leads_of (map (λ s. Some s) (steps [] loop.items)) ≡ (pos 2 ∷ []) ∷ (pos 1 ∷ []) ∷ []
+loop_leads = refl
+
+loop_handlers : map (catching caught) (handlers loop.items loop.ranges)
+    ≡ record { start = 1; end = 2; entry = 1; index = 3; class = 8 } ∷ []
+loop_handlers = refl
+
+made_elsewhere : renamed (λ n. n + n) (Fresh 4 7) ≡ Fresh 8 7
+made_elsewhere = refl

@@ -1,4 +1,4 @@
-ghost use Rattle.xf_landed.specs.Laws.{CardTypingsAreKept, FlowTypingsAreKept, LaidIsTyped, SymbolTypingsAreKept};
+ghost use Rattle.xf_landed.specs.Laws.{CardTypingsAreKept, CatchesByPool, FlowTypingsAreKept, LaidIsTyped, MethodsAreKept, SymbolTypingsAreKept};
 
 use jc_base::World;
 use jc_decode::instructions_are_listed;
@@ -13,7 +13,18 @@ pub fn typings_are_kept()
     ensures flow { FlowTypingsAreKept }
 {}
 
-/// A method whose code is laid for symbols has the card typing of these.
+/// A number names the same method in worlds that differ in code alone, apart from its code.
+pub fn methods_are_kept()
+    ensures { MethodsAreKept }
+{}
+
+/// All handlers of a method with one number of the constant pool catch the same class.
+pub fn catches_by_pool()
+    ensures { CatchesByPool }
+{}
+
+/// A method whose code is laid for symbols has each card typing of these: the same registers, and the same stacks, in which
+/// uninitialised objects carry the places where their `new` is laid.
 pub fn laid_is_typed(world: &World<'_>)
     ensures { LaidIsTyped world.now }
 {

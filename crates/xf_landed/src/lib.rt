@@ -5,4 +5,4 @@
 
 mod laws;
 
-pub use laws::{laid_is_typed, typings_are_kept};
+pub use laws::{catches_by_pool, laid_is_typed, methods_are_kept, typings_are_kept};
