@@ -17,7 +17,9 @@ use Rattle.cap_write.specs.Files.{Either, IsFile}
 use Rattle.cap_write.specs.Filed.{AreFiled}
 use Rattle.cap_write.specs.WrittenPackage.{ArePartsOf, IsWritten}
 use Rattle.cap_laying.proofs.Standing.{methods_stand}
+use Rattle.cap_write.specs.Pools.{MembersFit}
 use Rattle.cap_write.proofs.Spread.{references_stand}
+use Rattle.cap_write.proofs.Table.{table_stands}
 
 other_than : (This That : Type 0) (b : Bool) → b ≡ false → Either b This That → That
 other_than This That true e x = absurd (cc)
@@ -64,9 +66,9 @@ module _ (p : PackageRecord) (news : List (Option NewMethod)) (methods reference
     rising = f.rising;
   }
 
-pub written_of : (p : PackageRecord) (laid : List (Option Laid)) (ms : List Member) (w : Written) (index : Index) (parts : List Lent) → AreMembersOf p laid ms → IsWrittenAs (length p.methods.info) (length p.methods.handlers) ms w
+pub written_of : (p : PackageRecord) (laid : List (Option Laid)) (ms : List Member) (w : Written) (index : Index) (parts : List Lent) → AreMembersOf p laid ms → MembersFit ms → IsWrittenAs (length p.methods.info) (length p.methods.handlers) ms w
     → IsNewIndex p laid index → AreFiled (IsFile p w.news w.info.items w.references.items index) 256 parts → IsWritten p laid parts
-written_of p laid ms w index parts are seen i f =
+written_of p laid ms w index parts are fit seen i f =
     let size = length p.methods.info in
     let room = length p.methods.handlers in
     let g : AreFiled (IsFile p (new_places size room ms) w.info.items w.references.items index) 256 parts = subst (λ x. AreFiled (IsFile p x w.info.items w.references.items index) 256 parts) seen.news f in
@@ -80,6 +82,7 @@ written_of p laid ms w index parts are seen i f =
       written = record {
         short = seen.short;
         stand = methods_stand size room ms are.may;
+        handlers = table_stands size room ms are.may fit seen.short;
         locations = references_stand size room ms seen.short;
         files = parts_of p (new_places size room ms) (written_info size room ms) (written_references size room ms) index parts k;
       };

@@ -6,3 +6,4 @@ pub mod Risen
 pub mod Spread
 pub mod Longest
 pub mod Gathered
+pub mod Table

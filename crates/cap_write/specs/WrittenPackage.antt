@@ -8,7 +8,8 @@ use Rattle.jc_decode.specs.declared.symbols.Laid.{Laid}
 use Rattle.cap_renewal.specs.declared.new_methods.NewMethod.{NewMethod}
 use Rattle.cap_locations.specs.Distances.{distances}
 use Rattle.cap_laying.specs.declared.member.Member.{Member}
-use Rattle.cap_laying.specs.Blocks.{blocks}
+use Rattle.cap_method.specs.MethodFormat.{methods_info}
+use Rattle.cap_laying.specs.Blocks.{blocks, entries_of}
 use Rattle.cap_laying.specs.Member.{by_offset}
 use Rattle.cap_laying.specs.Members.{new_places, start_of, written_info, written_size}
 use Rattle.cap_laying.specs.References.{block_catches, method_indices, written_references}
@@ -55,6 +56,7 @@ pub record AreWritten (p : PackageRecord) (size room : ℕ) (ms : List Member) (
   pub short : written_size size room ms ≤ 65535
   -- each method stands at its new offset, with its code and the numbers that the Descriptor tells of it
   pub stand : AllStand size room ms ms
+  pub handlers : Stands methods_info (written_info size room ms) (entries_of (new_places size room ms) (blocks room ms))
   pub locations : Stands locations_info (written_references size room ms) (locations_of size room ms)
   pub files : ArePartsOf p (new_places size room ms) (written_info size room ms) (written_references size room ms) index parts
 

@@ -7,6 +7,7 @@
 mod described;
 mod directory;
 mod end;
+mod facts;
 mod files;
 mod index;
 mod methods;

@@ -3,6 +3,7 @@ ghost use Rattle.cap_write.specs.Condition.{IsLaidFor};
 ghost use Rattle.cap_write.specs.WrittenPackage.{IsWritten, TellsEnd};
 
 use crate::end::WriteEnd;
+use crate::facts::members_fit;
 use crate::index::new_index;
 use crate::methods::{members_of, write_methods};
 use crate::parts::all_parts;
@@ -28,6 +29,7 @@ pub fn write_package(
     ensures long { IfErr result (TellsEnd «package».now laid.now) }
 {
     let members = members_of(alloc, package, laid)?;
+    members_fit(&members);
     let written = write_methods(alloc, package, &members)?;
     let index = new_index(alloc, package, laid)?;
     let parts = all_parts(alloc, package, &written, &index)?;

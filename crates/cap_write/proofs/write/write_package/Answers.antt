@@ -1,5 +1,6 @@
 use Rattle.std.proofs.Common.{◌≤◌, length, sym, ap, subst, arith}
 use Rattle.cap_write.specs.NewIndex.{index_seen}
+use Rattle.cap_write.specs.Pools.{MembersFit}
 use Rattle.cap_write.proofs.Longest.{info_long}
 use Rattle.cap_laying.specs.WrittenSeen.{IsWrittenAs}
 use Rattle.cap_write.proofs.Gathered.{index_short, written_of}
@@ -10,12 +11,12 @@ pub all_parts-requires : goal.all_parts-requires
 all_parts-requires c =
     let p = c.args.package.now in
     let w = c.in_ok-written.ensures.ok in
-    let long = info_long (length p.methods.info) (length p.methods.handlers) c.deref.result.now in
+    let long = info_long (length p.methods.info) (length p.methods.handlers) c.deref-2.result.now in
     let same = ap length w.info in
     let short = w.short in
     record {
       methods = omega arith;
-      references = subst (λ xs. length xs ≤ 65535) (sym w.references) (references_short (length p.methods.info) (length p.methods.handlers) c.deref.result.now w.short);
+      references = subst (λ xs. length xs ≤ 65535) (sym w.references) (references_short (length p.methods.info) (length p.methods.handlers) c.deref-2.result.now w.short);
       index = index_short p c.args.laid.now (index_seen c.in_ok-index.index) c.in_ok-index.ensures;
     }
 
@@ -23,5 +24,6 @@ pub returns-clause-written : goal.returns-clause-written
 returns-clause-written c =
     let p = c.args.package.now in
     let ms = c.in_ok-members.members.items in
-    let w : IsWrittenAs (length p.methods.info) (length p.methods.handlers) ms c.in_ok-written.written = subst (λ xs. IsWrittenAs (length p.methods.info) (length p.methods.handlers) xs c.in_ok-written.written) c.deref.ensures.value c.in_ok-written.ensures.ok in
-    written_of p c.args.laid.now ms c.in_ok-written.written (index_seen c.in_ok-index.index) c.in_ok-parts.parts c.in_ok-members.ensures w c.in_ok-index.ensures c.in_ok-parts.ensures
+    let w : IsWrittenAs (length p.methods.info) (length p.methods.handlers) ms c.in_ok-written.written = subst (λ xs. IsWrittenAs (length p.methods.info) (length p.methods.handlers) xs c.in_ok-written.written) c.deref-2.ensures.value c.in_ok-written.ensures.ok in
+    let fit : MembersFit ms = subst MembersFit c.deref.ensures.value c.members_fit.ensures in
+    written_of p c.args.laid.now ms c.in_ok-written.written (index_seen c.in_ok-index.index) c.in_ok-parts.parts c.in_ok-members.ensures fit w c.in_ok-index.ensures c.in_ok-parts.ensures

@@ -1,0 +1,13 @@
+-- The pool numbers of handlers have two bytes.
+use Rattle.std.specs.Prelude.{◌<◌, List, [], ◌∷◌}
+use Rattle.jc_decode.specs.declared.symbols.Handler.{Handler}
+use Rattle.cap_laying.specs.declared.member.Member.{Member}
+use Rattle.cap_laying.specs.Member.{handlers_of}
+
+abbrev pub HandlersFit : List Handler → Type 0
+HandlersFit [] = Unit {0}
+HandlersFit (h ∷ hs) = (h.pool < 65536) × HandlersFit hs
+
+abbrev pub MembersFit : List Member → Type 0
+MembersFit [] = Unit {0}
+MembersFit (m ∷ ms) = HandlersFit (handlers_of m.body) × MembersFit ms
