@@ -26,7 +26,7 @@ def back(count):
 
 def looping(begin, turn, callee=b"", pool=(), fields=()):
     """Object and throwable, and a static method of object: its code begins once and then takes a turn after the other. Another
-    method, if there is one, stands behind it."""
+    method, if there is one, stands after it."""
     package = Package()
     package.pool = list(pool)
     code = begin + turn + back(len(turn))
@@ -57,8 +57,8 @@ def fields():
 def calls():
     """A method that does nothing is called."""
     turn = bytes([INVOKESTATIC]) + u2(0)
-    behind = 1 + 2 + len(turn) + len(back(len(turn)))
-    return looping(b"", turn, callee=bytes([RETURN]), pool=[bytes([6, 0]) + u2(behind)])
+    after = 1 + 2 + len(turn) + len(back(len(turn)))
+    return looping(b"", turn, callee=bytes([RETURN]), pool=[bytes([6, 0]) + u2(after)])
 
 
 def seconds(capcheck, steps, folder):
