@@ -89,7 +89,9 @@ fn are_elements(
     interfaces: &Offsets,
     laid: &[Option<Laid>],
 ) -> bool
-    ensures { IsTrue result → AreElements methods.now.info.bytes.now (methods_for (holds interfaces.now) (descriptor_seen descriptor.now).classes) laid.now }
+    ensures { IsTrue result
+        → AreElements methods.now.info.bytes.now
+        (methods_for (holds interfaces.now) (descriptor_seen descriptor.now).classes) laid.now }
 {
     let mut rest = laid;
     'classes: for class in descriptor.classes() {
@@ -112,7 +114,8 @@ fn after_elements<'l>(
     interface: bool,
     laid: &'l [Option<Laid>],
 ) -> Option<&'l [Option<Laid>]>
-    ensures { IfSome result (λ rest. Continues methods.now.info.bytes.now (listed interface (methods_left records.entry)) laid.now rest.now) }
+    ensures { IfSome result
+        (λ rest. Continues methods.now.info.bytes.now (listed interface (methods_left records.entry)) laid.now rest.now) }
 {
     let mut rest = laid;
     'methods: for method in records {
