@@ -3,6 +3,7 @@ ghost use Rattle.vm_offend.specs.Sized.{AreSized};
 
 use card_index::{Accepted, CardRoom, accept};
 use flow_tests::{Shape, world};
+use jc_base::World;
 use std::alloc::{AllocError, Global};
 use vm_offend::{sizes, start};
 use vm_step::{Arg, Args, Ending, Plain, Value};
@@ -212,16 +213,21 @@ fn is_accepted_run(alloc: Global, accepted: &Accepted<'_>, run: &Run) -> Result<
     Ok(untested && words && is_tested(alloc, accepted, run)?)
 }
 
+/// Whether the run of the world's method is as it is told.
+fn is_run_in(alloc: Global, world: &World<'_>, run: &Run) -> Result<bool, AllocError> {
+    let mut room = CardRoom::new();
+    match accept(world, &mut room) {
+        Err(_) => Ok(false),
+        Ok(accepted) => is_accepted_run(alloc, &accepted, run),
+    }
+}
+
 fn is_run(alloc: Global, run: &Run) -> Result<bool, AllocError> {
     if run.code.is_empty() || 32767 < run.code.len() {
         return Ok(false);
     }
     let world = world(alloc, Shape::Shorts, run.code, &[])?;
-    let mut room = CardRoom::new();
-    match accept(&world, &mut room) {
-        Err(_) => Ok(false),
-        Ok(accepted) => is_accepted_run(alloc, &accepted, run),
-    }
+    is_run_in(alloc, &world, run)
 }
 
 /// The number of the first run that is not as it is told, or the number of all.
