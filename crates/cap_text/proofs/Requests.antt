@@ -12,7 +12,7 @@ use Rattle.cap_text.specs.Verify.{VerifyRequest, IsVerify}
 use Rattle.cap_text.specs.Entry.{IsEntryWord}
 use Rattle.std.specs.List.{after_first}
 use Rattle.cap_text.specs.Run.{RunRequest, AreRunWords, is_end}
-use Rattle.cap_text.specs.Request.{probe, show, check, verify, defend, IsUsage, OneRequest}
+use Rattle.cap_text.specs.Request.{probe, show, check, verify, defend, run, IsUsage, OneRequest}
 use Rattle.cap_text.specs.declared.entry.Entry.{Entry}
 use Rattle.vm_step.specs.Arguments.{Argument, number, null, bytes}
 use Rattle.hex.specs.Hex.{encode_lower, decode_of, IsBytes}
@@ -137,6 +137,26 @@ verify_defend : (name : List ℕ) → name ≡ codes "verify" → name ≡ codes
 unfolding first
 verify_defend name is_verify is_defend = let differ : 118 ≡ 100 = ap first (sym is_verify ∙ is_defend) in omega (arith, differ)
 
+probe_run : (name : List ℕ) → name ≡ codes "probe" → name ≡ codes "run" → ⊥
+unfolding first
+probe_run name is_probe is_run = let differ : 112 ≡ 114 = ap first (sym is_probe ∙ is_run) in omega (arith, differ)
+
+show_run : (name : List ℕ) → name ≡ codes "show" → name ≡ codes "run" → ⊥
+unfolding first
+show_run name is_show is_run = let differ : 115 ≡ 114 = ap first (sym is_show ∙ is_run) in omega (arith, differ)
+
+check_run : (name : List ℕ) → name ≡ codes "check" → name ≡ codes "run" → ⊥
+unfolding first
+check_run name is_check is_run = let differ : 99 ≡ 114 = ap first (sym is_check ∙ is_run) in omega (arith, differ)
+
+verify_run : (name : List ℕ) → name ≡ codes "verify" → name ≡ codes "run" → ⊥
+unfolding first
+verify_run name is_verify is_run = let differ : 118 ≡ 114 = ap first (sym is_verify ∙ is_run) in omega (arith, differ)
+
+defend_run : (name : List ℕ) → name ≡ codes "defend" → name ≡ codes "run" → ⊥
+unfolding first
+defend_run name is_defend is_run = let differ : 100 ≡ 114 = ap first (sym is_defend ∙ is_run) in omega (arith, differ)
+
 first_word : List (List ℕ) → List ℕ
 first_word [] = []
 first_word (word ∷ words) = word
@@ -155,6 +175,7 @@ no_check (word ∷ words) name operands is called none (show s) is_r = absurd (s
 no_check (word ∷ words) name operands is called none (check c) is_r = none c (subst (λ ws. IsCheck ws c) (ap others is) is_r.1)
 no_check (word ∷ words) name operands is called none (verify v) is_r = absurd (check_verify word (ap first_word is ∙ called) is_r.0)
 no_check (word ∷ words) name operands is called none (defend r) is_r = absurd (check_defend word (ap first_word is ∙ called) is_r.0)
+no_check (word ∷ words) name operands is called none (run r) is_r = absurd (check_run word (ap first_word is ∙ called) is_r.0)
 
 pub no_verify : (words : List (List ℕ)) (name : List ℕ) (operands : List (List ℕ)) → words ≡ name ∷ operands → name ≡ codes "verify"
     → ((v : VerifyRequest) → IsVerify operands v → ⊥) → IsUsage words
@@ -165,6 +186,7 @@ no_verify (word ∷ words) name operands is called none (show s) is_r = absurd (
 no_verify (word ∷ words) name operands is called none (check c) is_r = absurd (check_verify word is_r.0 (ap first_word is ∙ called))
 no_verify (word ∷ words) name operands is called none (verify v) is_r = none v (subst (λ ws. IsVerify ws v) (ap others is) is_r.1)
 no_verify (word ∷ words) name operands is called none (defend r) is_r = absurd (verify_defend word (ap first_word is ∙ called) is_r.0)
+no_verify (word ∷ words) name operands is called none (run r) is_r = absurd (verify_run word (ap first_word is ∙ called) is_r.0)
 
 pub no_defend : (words : List (List ℕ)) (name : List ℕ) (operands : List (List ℕ)) → words ≡ name ∷ operands → name ≡ codes "defend"
     → ((r : RunRequest) → AreRunWords operands r → ⊥) → IsUsage words
@@ -175,6 +197,18 @@ no_defend (word ∷ words) name operands is called none (show s) is_r = absurd (
 no_defend (word ∷ words) name operands is called none (check c) is_r = absurd (check_defend word is_r.0 (ap first_word is ∙ called))
 no_defend (word ∷ words) name operands is called none (verify v) is_r = absurd (verify_defend word is_r.0 (ap first_word is ∙ called))
 no_defend (word ∷ words) name operands is called none (defend r) is_r = none r (subst (λ ws. AreRunWords ws r) (ap others is) is_r.1)
+no_defend (word ∷ words) name operands is called none (run r) is_r = absurd (defend_run word (ap first_word is ∙ called) is_r.0)
+
+pub no_run : (words : List (List ℕ)) (name : List ℕ) (operands : List (List ℕ)) → words ≡ name ∷ operands → name ≡ codes "run"
+    → ((r : RunRequest) → AreRunWords operands r → ⊥) → IsUsage words
+unfolding first_word others
+no_run [] name operands is called none r is_r = is_r
+no_run (word ∷ words) name operands is called none (probe p) is_r = absurd (probe_run word is_r.0 (ap first_word is ∙ called))
+no_run (word ∷ words) name operands is called none (show s) is_r = absurd (show_run word is_r.0 (ap first_word is ∙ called))
+no_run (word ∷ words) name operands is called none (check c) is_r = absurd (check_run word is_r.0 (ap first_word is ∙ called))
+no_run (word ∷ words) name operands is called none (verify v) is_r = absurd (verify_run word is_r.0 (ap first_word is ∙ called))
+no_run (word ∷ words) name operands is called none (defend d) is_r = absurd (defend_run word is_r.0 (ap first_word is ∙ called))
+no_run (word ∷ words) name operands is called none (run r) is_r = none r (subst (λ ws. AreRunWords ws r) (ap others is) is_r.1)
 
 pub one_request : (words : List (List ℕ)) → OneRequest words
 one_request [] r s is_r is_s = absurd is_r
@@ -203,3 +237,14 @@ one_request (name ∷ operands) (defend r) (check c) is_r is_s = absurd (check_d
 one_request (name ∷ operands) (verify v) (defend r) is_r is_s = absurd (verify_defend name is_r.0 is_s.0)
 one_request (name ∷ operands) (defend r) (verify v) is_r is_s = absurd (verify_defend name is_s.0 is_r.0)
 one_request (name ∷ operands) (defend r) (defend s) is_r is_s = ap defend (one_run operands r s is_r.1 is_s.1)
+one_request (name ∷ operands) (probe p) (run r) is_r is_s = absurd (probe_run name is_r.0 is_s.0)
+one_request (name ∷ operands) (run r) (probe p) is_r is_s = absurd (probe_run name is_s.0 is_r.0)
+one_request (name ∷ operands) (show s) (run r) is_r is_s = absurd (show_run name is_r.0 is_s.0)
+one_request (name ∷ operands) (run r) (show s) is_r is_s = absurd (show_run name is_s.0 is_r.0)
+one_request (name ∷ operands) (check c) (run r) is_r is_s = absurd (check_run name is_r.0 is_s.0)
+one_request (name ∷ operands) (run r) (check c) is_r is_s = absurd (check_run name is_s.0 is_r.0)
+one_request (name ∷ operands) (verify v) (run r) is_r is_s = absurd (verify_run name is_r.0 is_s.0)
+one_request (name ∷ operands) (run r) (verify v) is_r is_s = absurd (verify_run name is_s.0 is_r.0)
+one_request (name ∷ operands) (defend d) (run r) is_r is_s = absurd (defend_run name is_r.0 is_s.0)
+one_request (name ∷ operands) (run r) (defend d) is_r is_s = absurd (defend_run name is_s.0 is_r.0)
+one_request (name ∷ operands) (run r) (run s) is_r is_s = ap run (one_run operands r s is_r.1 is_s.1)

@@ -6,7 +6,7 @@ use Rattle.cap_text.specs.Check.{CheckRequest, IsCheck, check_request}
 use Rattle.cap_text.specs.Verify.{VerifyRequest, IsVerify, verify_request}
 use Rattle.cap_text.specs.Run.{RunRequest, AreRunWords, run_request}
 use Rattle.cap_text.specs.declared.command.Command.{Command}
-use Rattle.cap_text.specs.declared.command.Command.TheVariants.{Probe, Show, Check, Verify, Defend}
+use Rattle.cap_text.specs.declared.command.Command.TheVariants.{Probe, Show, Check, Verify, Defend, Run}
 
 -- a command with its operands
 pub data Request : Type 0 where
@@ -15,6 +15,7 @@ pub data Request : Type 0 where
   check : CheckRequest → Request
   verify : VerifyRequest → Request
   defend : RunRequest → Request
+  run : RunRequest → Request
 
 -- the words are the command's name and then operands of its grammar
 abbrev pub IsRequest : List (List ℕ) → Request → Type 0
@@ -24,6 +25,7 @@ IsRequest (name ∷ operands) (show s) = (name ≡ codes "show") × IsShow opera
 IsRequest (name ∷ operands) (check c) = (name ≡ codes "check") × IsCheck operands c
 IsRequest (name ∷ operands) (verify v) = (name ≡ codes "verify") × IsVerify operands v
 IsRequest (name ∷ operands) (defend r) = (name ≡ codes "defend") × AreRunWords operands r
+IsRequest (name ∷ operands) (run r) = (name ≡ codes "run") × AreRunWords operands r
 
 -- the words are outside the grammar
 abbrev pub IsUsage : List (List ℕ) → Type 0
@@ -36,6 +38,7 @@ request_of (Show s) = show (show_request s)
 request_of (Check c) = check (check_request c)
 request_of (Verify v) = verify (verify_request v)
 request_of (Defend r) = defend (run_request r)
+request_of (Run r) = run (run_request r)
 
 -- a list of words asks for one thing
 abbrev pub OneRequest : List (List ℕ) → Type 0

@@ -17,6 +17,7 @@ pub enum Command<'a> {
     Check(Check<'a>),
     Verify(Verify<'a>),
     Defend(Run<'a>),
+    Run(Run<'a>),
 }
 
 /// The command that the words spell, where they spell one. The arguments of a run take memory.
@@ -44,6 +45,9 @@ pub fn read_command<'a>(alloc: Global, words: &'a Words) -> Result<Option<Comman
     }
     if name == "defend" {
         return Ok(Run::read(alloc, operands)?.map(Command::Defend));
+    }
+    if name == "run" {
+        return Ok(Run::read(alloc, operands)?.map(Command::Run));
     }
     Ok(None)
 }

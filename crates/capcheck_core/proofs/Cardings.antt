@@ -15,9 +15,11 @@ use Rattle.vm_sound.specs.Laws.{AreTypedMethods, TypedCodeIsFaultFree}
 use Rattle.card_verify.specs.Answers.{AreAccepted, AreAcceptedBefore, IsFirstRefused}
 use Rattle.cap_text.specs.declared.line.MethodNumber.{MethodNumber}
 use Rattle.cap_text.specs.Line.{accepted_line, refused_card_line}
+use Rattle.capcheck_core.specs.declared.verdict.Verdict.{Verdict}
+use Rattle.capcheck_core.specs.declared.verdict.Verdict.TheVariants.{Refused, Memory}
 use Rattle.capcheck_core.specs.Asked.{AllHaveBelow}
 use Rattle.capcheck_core.specs.Typed.{number_of}
-use Rattle.capcheck_core.specs.Verify.{has_code, count_of_world, AreCarded, IsCarded, IsUncarded}
+use Rattle.capcheck_core.specs.Verify.{has_code, count_of_world, AreCarded, IsCarded, IsUncarded, StopsAtCards, CardsWorld}
 use Rattle.capcheck_core.proofs.Typings as typings
 use Rattle.capcheck_core.proofs.Typings.{counted}
 
@@ -30,7 +32,7 @@ below_carded w n all m is below =
     let code : 0 < m.rec.code_len = typings.has_code w.infos m.rec (subst (λ c. 0 < length c) is.code is.filled) in
     subst (HasCardTyping w) (same_method w m is) (all m.number below m.rec is.rec code).card
 
-all_carded : (w : Linked) → AreAccepted w → AreCarded w
+pub all_carded : (w : Linked) → AreAccepted w → AreCarded w
 all_carded w all m is = below_carded w (length w.methods) all m is (slice_get_within w.methods m.number m.rec is.rec)
 
 -- each of them has a dataflow typing, in which an unset register holds no value
@@ -88,3 +90,9 @@ first_uncarded w n fault code number text f is long named prints =
 
 pub number_below : (w : Linked) (n : ℕ) (fault : CardFault) → IsFirstRefused w n fault → n < length w.methods
 number_below w n fault f = slice_get_within w.methods n f.here.rec f.here.is
+
+-- where a method is refused, that is the verdict for the world
+pub refused_world : (w : Linked) (verdict : Verdict) → StopsAtCards w verdict → CardsWorld w verdict
+refused_world w (Refused text) stops = stops
+refused_world w Memory stops = tt {0}
+refused_world w _ stops = absurd stops

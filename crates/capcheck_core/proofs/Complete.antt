@@ -12,16 +12,17 @@ use Rattle.cap_text.specs.Show.{ShowRequest}
 use Rattle.cap_text.specs.Check.{CheckRequest}
 use Rattle.cap_text.specs.Verify.{VerifyRequest}
 use Rattle.cap_text.specs.Run.{RunRequest}
-use Rattle.cap_text.specs.Request.{Request, probe, show, check, verify, defend}
+use Rattle.cap_text.specs.Request.{Request, probe, show, check, verify, defend, run}
 use Rattle.capcheck_core.specs.declared.verdict.Verdict.{Verdict}
 use Rattle.capcheck_core.specs.declared.verdict.Verdict.TheVariants.{Done, Refused, Limit, Malformed, Usage, ReadFault, StoreFault, Memory}
 use Rattle.capcheck_core.specs.Verdict.{status_of}
 use Rattle.capcheck_core.specs.Check.{ChecksWorld, Checks}
 use Rattle.capcheck_core.specs.Verify.{AreCarded, VerifiesWorld, Verifies}
 use Rattle.capcheck_core.specs.Defend.{run_fault, DefendsWorld, Defends}
+use Rattle.capcheck_core.specs.Run.{RunsWorld, Runs}
 use Rattle.capcheck_core.specs.Outside.{Outside}
 use Rattle.capcheck_core.specs.Answers.{Answers, IsVerdict}
-use Rattle.capcheck_core.specs.Completeness.{CanProbe, CanShow, CanCheck, CanVerify, CanDefend, CanDo, NoFault, Completes}
+use Rattle.capcheck_core.specs.Completeness.{CanProbe, CanShow, CanCheck, CanVerify, CanDefend, CanRun, CanDo, NoFault, Completes}
 use Rattle.capcheck_core.specs.MethodFile.{IsMethodFile}
 use Rattle.capcheck_core.specs.Probe.{ProbesFolder, FailsMethodPart, Probes, OfMethodPart, OfMethod, IsRefusal, IsUnstarted, IsNoMethod, method_key}
 use Rattle.capcheck_core.specs.Report.{Seen, IsReported}
@@ -191,6 +192,26 @@ can_defend r before after sink put verdict can calm answers =
       | inr own ↦ defended r can.world before after verdict can.begins own
     ]
 
+-- nor does that of a run on the machine of verified code, where all methods have card typings
+ran : (r : RunRequest) (w : Linked) (before after : Outside) (verdict : Verdict) → AreCarded w → run_fault w r ≡ None → RunsWorld r w before after verdict
+    → (status_of verdict ≡ 0) ⊎ (status_of verdict ≡ 6)
+ran r w before after (Done text) carded begins own = inl refl
+ran r w before after Memory carded begins own = inr refl
+ran r w before after (Malformed text) carded begins own = let first = own.1.unbegun.first in absurd (cc)
+ran r w before after (Refused text) carded begins own = absurd (own.1.first.lacks (carded own.1.method own.1.first.asked))
+ran r w before after (Limit text) carded begins own = absurd own.1
+ran r w before after Usage carded begins own = absurd own.1
+ran r w before after ReadFault carded begins own = absurd own.1
+ran r w before after StoreFault carded begins own = absurd own.1
+
+can_run : (r : RunRequest) (before after : Outside) (sink put : Seen) (verdict : Verdict) → CanRun r before.folders → NoFault before.folders after.folders sink put
+    → Runs r before after verdict → (status_of verdict ≡ 0) ⊎ (status_of verdict ≡ 6)
+can_run r before after sink put verdict can calm answers =
+    elim (reaches (RunsWorld r) r.dirs before after can.world verdict can.links calm.loads answers) [
+      | inl memory ↦ inr memory
+      | inr own ↦ ran r can.world before after verdict can.carded can.begins own
+    ]
+
 can_do : (r : Request) (before after : Outside) (sink put : Seen) (verdict : Verdict) → CanDo r before.folders → NoFault before.folders after.folders sink put
     → Answers r before after verdict → (status_of verdict ≡ 0) ⊎ (status_of verdict ≡ 6)
 can_do (probe p) before after sink put verdict can calm answers = can_probe p before.folders after.folders sink put verdict can calm answers.0
@@ -198,6 +219,7 @@ can_do (show s) before after sink put verdict can calm answers = can_show s befo
 can_do (check c) before after sink put verdict can calm answers = can_check c before after sink put verdict can calm answers
 can_do (verify v) before after sink put verdict can calm answers = can_verify v before after sink put verdict can calm answers
 can_do (defend r) before after sink put verdict can calm answers = can_defend r before after sink put verdict can calm answers
+can_do (run r) before after sink put verdict can calm answers = can_run r before after sink put verdict can calm answers
 
 reported : (verdict : Verdict) (before after : Folders) (sink put : Seen) (status : ℕ) → NoFault before after sink put → IsReported verdict sink put status
     → (status_of verdict ≡ 0) ⊎ (status_of verdict ≡ 6) → (status ≡ 0) ⊎ (status ≡ 6)

@@ -8,3 +8,4 @@ pub mod Cardings
 pub mod Worlds
 pub mod WorldComplete
 pub mod Complete
+pub mod Ran

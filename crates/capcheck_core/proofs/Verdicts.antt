@@ -1,6 +1,6 @@
 -- A list of words asks for one thing, so the verdict for it is the verdict for whatever they ask.
 use Rattle.std.proofs.Common.{List, ℕ, subst, inl, refl}
-use Rattle.cap_text.specs.Request.{Request, probe, show, check, verify, defend, IsRequest, OneRequest}
+use Rattle.cap_text.specs.Request.{Request, probe, show, check, verify, defend, run, IsRequest, OneRequest}
 use Rattle.capcheck_core.specs.declared.verdict.Verdict.{Verdict}
 use Rattle.capcheck_core.specs.declared.verdict.Verdict.TheVariants.{Memory}
 use Rattle.capcheck_core.specs.Outside.{Outside, Untouched}
@@ -20,6 +20,7 @@ no_memory (show s) before after same = (inl (same.folders, tt {0}), same.card)
 no_memory (check c) before after same = inl same
 no_memory (verify v) before after same = inl same
 no_memory (defend r) before after same = inl same
+no_memory (run r) before after same = inl same
 
 pub without_memory : (words : List (List ℕ)) (outside : Outside) → IsVerdict words outside outside Memory
 without_memory words outside =

@@ -9,7 +9,7 @@ use Rattle.cap_text.specs.Show.{ShowRequest}
 use Rattle.cap_text.specs.Check.{CheckRequest}
 use Rattle.cap_text.specs.Verify.{VerifyRequest}
 use Rattle.cap_text.specs.Run.{RunRequest}
-use Rattle.cap_text.specs.Request.{Request, probe, show, check, verify, defend, IsRequest}
+use Rattle.cap_text.specs.Request.{Request, probe, show, check, verify, defend, run, IsRequest}
 use Rattle.cap_package.specs.Parts.{Lent}
 use Rattle.cap_package.specs.PackageRecord.{PackageRecord}
 use Rattle.cap_package.specs.StandsFor.{StandsFor}
@@ -81,6 +81,13 @@ pub record CanDefend (r : RunRequest) (before : Folders) : Type 0 where
   pub links : CanLink r.dirs before world
   pub begins : run_fault world r ≡ None
 
+-- the folders make a world, every method with code of all packages has a card typing, and nothing keeps the run from beginning
+pub record CanRun (r : RunRequest) (before : Folders) : Type 0 where
+  pub world : Linked
+  pub links : CanLink r.dirs before world
+  pub carded : AreCarded world
+  pub begins : run_fault world r ≡ None
+
 -- what a command needs is there
 abbrev pub CanDo : Request → Folders → Type 0
 CanDo (probe p) before = CanProbe p before
@@ -88,6 +95,7 @@ CanDo (show s) before = CanShow s before
 CanDo (check c) before = CanCheck c before
 CanDo (verify v) before = CanVerify v before
 CanDo (defend r) before = CanDefend r before
+CanDo (run r) before = CanRun r before
 
 -- where the words ask for something, what it needs is there and no device failed, the work is done or there was no memory
 abbrev pub Completes : List (List ℕ) → Folders → Folders → Seen → Seen → ℕ → Type 0

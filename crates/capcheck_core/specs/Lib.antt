@@ -17,6 +17,7 @@ pub mod Typed
 pub mod Check
 pub mod Verify
 pub mod Defend
+pub mod Run
 pub mod CheckEnds
 pub mod Step
 pub mod Answers

@@ -45,6 +45,12 @@ pub record IsUncarded (w : Linked) (text : List ℕ) : Type 0 where
   pub tells : IsRefused w method fault kept
   pub prints : text ≡ refused_card_line (number_of method.rec) fault
 
+-- the answers where a method is refused
+abbrev pub StopsAtCards : Linked → Verdict → Type 0
+StopsAtCards w (Refused text) = IsUncarded w (string_bytes text)
+StopsAtCards w Memory = Unit {0}
+StopsAtCards w _ = ⊥
+
 -- the answers of a world
 abbrev pub CardsWorld : Linked → Verdict → Type 0
 CardsWorld w (Done text) = IsCarded w (string_bytes text)

@@ -1,6 +1,6 @@
 ghost use Rattle.std.specs.Prelude.{◌≡◌, ◌<◌, length, Some, option_map, slice_get};
 ghost use Rattle.card_verify.specs.Answers.{AreAccepted, IsFirstRefused};
-ghost use Rattle.capcheck_core.specs.Verify.{has_code, count_of_world, CardsWorld};
+ghost use Rattle.capcheck_core.specs.Verify.{has_code, count_of_world, StopsAtCards, CardsWorld};
 
 use crate::typing::number_of;
 use crate::verdict::Verdict;
@@ -12,6 +12,7 @@ use std::alloc::Global;
 use vm_sound::typed_code_never_fails;
 
 /// Verifies each method with code of all packages of a world, in the room of a card.
+#[tactic(auto, using(crate::proofs::Cardings::refused_world))]
 pub fn verify_methods(alloc: Global, world: &World<'_>) -> Verdict
     ensures { CardsWorld world.now result }
 {
@@ -50,11 +51,11 @@ fn has_code(world: &World<'_>, number: u16) -> bool
     world.method(number).code_len > 0
 }
 
-// The verdict for the first method that is refused.
+/// The verdict for the first method that is refused.
 #[tactic(auto, using(crate::proofs::Cardings::number_below))]
-fn uncarded(alloc: Global, world: &World<'_>, number: u16, fault: CardFault) -> Verdict
+pub fn uncarded(alloc: Global, world: &World<'_>, number: u16, fault: CardFault) -> Verdict
     requires { IsFirstRefused world.now number fault }
-    ensures { CardsWorld world.now result }
+    ensures { StopsAtCards world.now result }
 {
     let _code = world.code(number);
     Verdict::refused(refused_card(alloc, number_of(world, number), fault))

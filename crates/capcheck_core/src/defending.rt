@@ -24,8 +24,8 @@ pub(crate) fn defend(alloc: Global, world: &World<'_>, run: &Run<'_>) -> Verdict
     }
 }
 
-// The number of the entry in the world.
-fn method_entered(world: &World<'_>, entry: Entry) -> Option<u16>
+/// The number of the entry in the world.
+pub(crate) fn method_entered(world: &World<'_>, entry: Entry) -> Option<u16>
     ensures { result ≡ method_entered world.now entry }
 {
     let last = world.package_count().saturating_sub(1);
@@ -43,8 +43,8 @@ fn with_arguments(alloc: Global, world: &World<'_>, run: &Run<'_>, number: u16) 
     }
 }
 
-// The arguments as the machine takes them.
-fn lent(alloc: Global, args: &Vec<OwnedArg>) -> Result<Args<'_>, AllocError>
+/// The arguments as a machine takes them.
+pub(crate) fn lent(alloc: Global, args: &Vec<OwnedArg>) -> Result<Args<'_>, AllocError>
     ensures { IfOk result (λ lent. lent ≡ map argument_read args.now.items) }
 {
     let mut lent = Args::new(alloc);

@@ -11,6 +11,7 @@ mod method_file;
 mod packages;
 mod probe;
 mod report;
+mod running;
 mod shorts;
 mod show;
 mod step;

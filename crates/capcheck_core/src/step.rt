@@ -1,8 +1,10 @@
 ghost use Rattle.capcheck_core.specs.Outside.{outside, card};
+ghost use Rattle.capcheck_core.specs.Run.{IsWhole};
 ghost use Rattle.capcheck_core.specs.Step.{OwnAnswers};
 
 use crate::carding::verify_methods;
 use crate::defending::defend;
+use crate::running::run_in_card;
 use crate::typing::type_methods;
 use crate::verdict::Verdict;
 use cap_files::Folder;
@@ -19,6 +21,8 @@ pub enum Step<'a> {
     Verify,
     /// Runs an entry of the last package on the machine that tests what it does.
     Defend(&'a Run<'a>),
+    /// Verifies as a card does, and runs an entry of the last package in the memory of the card.
+    Run(&'a Run<'a>),
 }
 
 /// Takes a command's last step. It is handed all that a command may change.
@@ -27,17 +31,19 @@ pub(crate) fn take_step<F: Folder>(
     step: Step<'_>,
     world: &World<'_>,
     _folder: &mut F,
-    _ram: &mut [u16],
-    _heap: &mut [u16],
-    _statics: &mut [u16],
+    ram: &mut [u16],
+    heap: &mut [u16],
+    statics: &mut [u16],
 ) -> Verdict
+    requires { IsWhole (card ram.old heap.old statics.old) }
     ensures { OwnAnswers step.entry world.now
-        (outside (F.folders _folder.old) (card _ram.old _heap.old _statics.old))
-        (outside (F.folders _folder.new) (card _ram.new _heap.new _statics.new)) result }
+        (outside (F.folders _folder.old) (card ram.old heap.old statics.old))
+        (outside (F.folders _folder.new) (card ram.new heap.new statics.new)) result }
 {
     match step {
         Step::Check => type_methods(alloc, world),
         Step::Verify => verify_methods(alloc, world),
         Step::Defend(run) => defend(alloc, world, run),
+        Step::Run(run) => run_in_card(alloc, world, run, ram, heap, statics),
     }
 }

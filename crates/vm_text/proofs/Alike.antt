@@ -63,12 +63,17 @@ found_alike [] n = refl
 found_alike (o ∷ objects) zero = array_alike o (numbers_of_kind o.kind)
 found_alike (o ∷ objects) (suc n) = found_alike objects n
 
-named_alike : (s : State Cell) (h : ℕ) → option_and_then (numbers_of words) (object_at (erased s) h) ≡ option_and_then (numbers_of tagged) (object_at s h)
-named_alike s zero = refl
-named_alike s (suc n) = found_alike s.heap n
+named_alike : (x : State ℕ) (s : State Cell) (h : ℕ) → x.heap ≡ map (map_object word_of) s.heap
+    → option_and_then (numbers_of words) (object_at x h) ≡ option_and_then (numbers_of tagged) (object_at s h)
+named_alike x s zero objects = refl
+named_alike x s (suc n) objects = ap (λ all. option_and_then (numbers_of words) (slice_get all n)) objects ∙ found_alike s.heap n
 
-left_alike : (w : Linked) (s : State Cell) → left_by words w (erased s) ≡ left_by tagged w s
-left_alike w s = λ i. record { statics = fields_alike s.statics w.statics i; array = λ h. named_alike s h i }
+-- words of the objects and of the static fields of a state are read as the state is
+pub left_alike : (w : Linked) (x : State ℕ) (s : State Cell) → x.heap ≡ map (map_object word_of) s.heap → x.statics ≡ map word_of s.statics
+    → left_by words w x ≡ left_by tagged w s
+left_alike w x s objects fields =
+    let values = ap (λ cells. map (λ (f : StaticRec). value_at words f.kind cells f.slot) w.statics) fields ∙ fields_alike s.statics w.statics in
+    λ i. record { statics = values i; array = λ h. named_alike x s h objects i }
 
 pub texts_alike : (w : Linked) → TextsAreAlike w
-texts_alike w = λ s ending. ap (λ l. left_text l ending) (left_alike w s)
+texts_alike w = λ s ending. ap (λ l. left_text l ending) (left_alike w (erased s) s refl refl)

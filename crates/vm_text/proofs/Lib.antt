@@ -1,3 +1,4 @@
 pub mod Arrays
 pub mod Alike
 pub mod Told
+pub mod Words

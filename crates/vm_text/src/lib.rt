@@ -5,8 +5,10 @@
 
 mod laws;
 mod leaves;
+mod lent;
 mod writing;
 
 pub use laws::texts_are_alike;
 pub use leaves::Leaves;
+pub use lent::LentRun;
 pub use writing::{room, write_run};

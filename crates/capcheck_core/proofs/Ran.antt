@@ -1,0 +1,174 @@
+-- What a run on the machine of verified code leaves: its words, and the text of them.
+use Rattle.std.proofs.Common.{◌≡◌, ℕ, List, [], ◌∷◌, ◌++◌, length, map, take, Option, Some, None, zero, suc, refl, sym, ap, subst, ◌∙◌, arith}
+use Rattle.std.specs.Prelude.{slice_get, option_map, option_and_then, string_bytes}
+use Rattle.std.proofs.Math.Seq.{take-append_seam, take-length}
+use Rattle.jc_base.specs.declared.record.StaticRec.{StaticRec}
+use Rattle.jc_base.specs.World.{Linked}
+use Rattle.vm_store.specs.declared.cell.Cell.{Cell}
+use Rattle.vm_store.specs.Cells.{tagged, words, word_of}
+use Rattle.vm_store.specs.State.{State, erased, map_object}
+use Rattle.vm_store.specs.Objects.{object_at}
+use Rattle.vm_step.specs.declared.ending.Ending.{Ending}
+use Rattle.vm_step.specs.declared.ending.Ending.TheVariants as endings
+use Rattle.vm_step.specs.declared.ending.Plain.{Plain}
+use Rattle.vm_step.specs.Raising.{Outcome, running, ended}
+use Rattle.vm_step.specs.Run.{Runs, stands}
+use Rattle.vm_step.specs.Start.{entry_state}
+use Rattle.vm_turns.specs.Turn.{outcome}
+use Rattle.vm_erasure.specs.Erasure.{erased_outcome}
+use Rattle.vm_defend.specs.Held.{answer}
+use Rattle.vm_defend.specs.Reading.{value_at}
+use Rattle.vm_words.specs.declared.words.Counts.{Counts}
+use Rattle.vm_words.specs.Words.{AreLaid, AreObjectsLaid, words_state}
+use Rattle.vm_offend.specs.declared.machine.Machine.{Machine}
+use Rattle.vm_offend.specs.Sized.{AreSized, static_cells}
+use Rattle.vm_offend.specs.Held.{AreWordsOf, IsReached, Follows, state_of, ending_of}
+use Rattle.vm_offend.specs.Begun.{IsBegun}
+use Rattle.vm_text.specs.Left.{Left, numbers_of, left_by}
+use Rattle.vm_text.specs.Lent.{words_left, IsLentRun}
+use Rattle.vm_text.specs.Laws.{TextsAreAlike}
+use Rattle.vm_text.specs.Text.{left_text, run_text, outcome_text}
+use Rattle.cap_text.specs.Room.{Roomed, IsEmpty, Writes}
+use Rattle.cap_text.specs.Run.{RunRequest}
+use Rattle.capcheck_core.specs.declared.verdict.Verdict.{Verdict}
+use Rattle.capcheck_core.specs.declared.verdict.Verdict.TheVariants.{Refused, Malformed, Memory}
+use Rattle.capcheck_core.specs.Outside.{Card, card}
+use Rattle.capcheck_core.specs.Verify.{StopsAtCards}
+use Rattle.capcheck_core.specs.Defend.{method_entered, ComesTo}
+use Rattle.capcheck_core.specs.Run.{HoldsWords, IsLeft, IsRun, RunsWorldIn}
+
+-- ---- the words of an outcome
+
+state_kept : (ending : Option Ending) (x : State ℕ) → state_of (outcome ending x) ≡ x
+state_kept None x = refl
+state_kept (Some ending) x = refl
+
+erased_kept : (o : Outcome Cell) → state_of (erased_outcome o) ≡ erased (state_of o)
+erased_kept (running s) = refl
+erased_kept (ended ending s) = refl
+
+-- the memory holds the words of the state
+words_of : (w : Linked) (m : Machine) (ram heap statics : List ℕ) (o : Outcome Cell) → AreWordsOf w m ram heap statics o
+    → words_state w.methods ram heap statics m.counts ≡ erased (state_of o)
+words_of w m ram heap statics o are =
+    sym (state_kept (option_map endings.Plain m.ending) (words_state w.methods ram heap statics m.counts)) ∙ ap state_of are.words ∙ erased_kept o
+
+pub lent_run : (w : Linked) (m : Machine) (ram heap statics : List ℕ) (o : Outcome Cell) → AreWordsOf w m ram heap statics o
+    → IsLentRun w w heap statics m.counts
+lent_run w m ram heap statics o are =
+    let same = words_of w m ram heap statics o are in
+    record {
+      world = refl;
+      sized = are.sized.statics_length;
+      laid = record {
+        heap_length = are.laid.heap_length;
+        some_objects = are.laid.some_objects;
+        some_cells = are.laid.some_cells;
+        laid = are.laid.laid;
+      };
+      state = state_of o;
+      objects = ap (λ (s : State ℕ). s.heap) same;
+      fields = ap (λ (s : State ℕ). s.statics) same;
+    }
+
+holds : (w : Linked) (m : Machine) (ram heap statics : List ℕ) (o : Outcome Cell) → AreWordsOf w m ram heap statics o
+    → HoldsWords w (card ram heap statics) o
+holds w m ram heap statics o are =
+    let all : take (static_cells w) statics ≡ statics
+    = ap (λ n. take n statics) (sym are.sized.statics_length) ∙ take-length statics in
+    record {
+      counts = m.counts;
+      laid = are.laid;
+      words = ap (λ cells. words_state w.methods ram heap cells m.counts) all ∙ words_of w m ram heap statics o are;
+    }
+
+-- ---- the text
+
+named_same : (x y : State ℕ) (h : ℕ) → x.heap ≡ y.heap → option_and_then (numbers_of words) (object_at x h) ≡ option_and_then (numbers_of words) (object_at y h)
+named_same x y zero objects = refl
+named_same x y (suc n) objects = ap (λ all. option_and_then (numbers_of words) (slice_get all n)) objects
+
+-- frames are not told
+left_same : (w : Linked) (x y : State ℕ) → x.heap ≡ y.heap → x.statics ≡ y.statics → left_by words w x ≡ left_by words w y
+left_same w x y objects fields = λ i. record {
+  statics = map (λ (f : StaticRec). value_at words f.kind (fields i) f.slot) w.statics;
+  array = λ h. named_same x y h objects i;
+}
+
+outcome_told : (w : Linked) (o : Outcome Cell) (ending : Plain) → TextsAreAlike w → answer (ending_of o) ≡ endings.Plain ending
+    → run_text words w (erased (state_of o)) (endings.Plain ending) ≡ outcome_text tagged w o
+outcome_told w (running s) ending alike is = alike s (endings.Plain ending) ∙ ap (run_text tagged w s) (sym is)
+outcome_told w (ended e s) ending alike is = alike s (endings.Plain ending) ∙ ap (run_text tagged w s) (sym is)
+
+prints : (w : Linked) (m : Machine) (ram heap statics : List ℕ) (o : Outcome Cell) (ending : Plain) → AreWordsOf w m ram heap statics o → TextsAreAlike w
+    → answer (ending_of o) ≡ endings.Plain ending
+    → left_text (left_by words w (words_left heap statics m.counts)) (endings.Plain ending) ≡ outcome_text tagged w o
+prints w m ram heap statics o ending are alike is =
+    let same = words_of w m ram heap statics o are in
+    ap (λ (l : Left). left_text l (endings.Plain ending))
+    (left_same w (words_left heap statics m.counts) (erased (state_of o)) (ap (λ (s : State ℕ). s.heap) same) (ap (λ (s : State ℕ). s.statics) same))
+    ∙ outcome_told w o ending alike is
+
+-- ---- a run that was begun
+
+pub reached : (w : Linked) (number : ℕ) (r : RunRequest) (m : Machine) (ram heap statics : List ℕ) → IsBegun w number r.args m ram heap statics
+    → IsReached w (running (entry_state tagged w number r.args))
+reached w number r m ram heap statics begun = record {
+  entry = number;
+  args = r.args;
+  start = entry_state tagged w number r.args;
+  starts = record { begins = begun.begins; state = refl };
+  steps = 0;
+  runs = stands;
+}
+
+pub left : (w : Linked) (number : ℕ) (r : RunRequest) (m : Machine) (ram heap statics : List ℕ) (before after : Roomed) (ending : Plain)
+    → method_entered w r.entry ≡ Some number
+    → IsBegun w number r.args m ram heap statics
+    → (m_after : Machine) (ram_after heap_after statics_after : List ℕ)
+    → Follows w r.budget (running (entry_state tagged w number r.args)) m_after ram_after heap_after statics_after ending
+    → TextsAreAlike w
+    → IsEmpty before
+    → Writes before after (left_text (left_by words w (words_left heap_after statics_after m_after.counts)) (endings.Plain ending))
+    → IsLeft w r (card ram_after heap_after statics_after) after.text
+left w number r m ram heap statics before after ending entered begun n ram_after heap_after statics_after follows alike empty writes =
+    let text = writes.text ∙ ap (λ xs. xs ++ left_text (left_by words w (words_left heap_after statics_after n.counts)) (endings.Plain ending)) empty.text in
+    record {
+      outcome = follows.after;
+      comes = record { number = number; entered = entered; begins = begun.begins; runs = follows.runs };
+      prints = text ∙ prints w n ram_after heap_after statics_after follows.after ending follows.words alike follows.answers;
+      holds = holds w n ram_after heap_after statics_after follows.after follows.words;
+    }
+
+-- ---- in the whole memory of a card
+
+wider : (w : Linked) (ram heap fields others : List ℕ) (o : Outcome Cell) → length fields ≡ static_cells w → HoldsWords w (card ram heap fields) o
+    → HoldsWords w (card ram heap (fields ++ others)) o
+wider w ram heap fields others o long holds =
+    let one : take (static_cells w) (fields ++ others) ≡ fields = ap (λ n. take n (fields ++ others)) (sym long) ∙ take-append_seam fields others in
+    let two : take (static_cells w) fields ≡ fields = ap (λ n. take n fields) (sym long) ∙ take-length fields in
+    record {
+      counts = holds.counts;
+      laid = holds.laid;
+      words = ap (λ cells. words_state w.methods ram heap cells holds.counts) (one ∙ sym two) ∙ holds.words;
+    }
+
+pub whole_run : (w : Linked) (r : RunRequest) (ram heap fields others text : List ℕ) → length fields ≡ static_cells w
+    → IsRun w r (card ram heap fields) text → IsRun w r (card ram heap (fields ++ others)) text
+whole_run w r ram heap fields others text long run = record {
+  carded = run.carded;
+  fault_free = run.fault_free;
+  left = record {
+    outcome = run.left.outcome;
+    comes = run.left.comes;
+    prints = run.left.prints;
+    holds = wider w ram heap fields others run.left.outcome long run.left.holds;
+  };
+}
+
+-- ---- where a method is refused
+
+pub refused_run : (w : Linked) (r : RunRequest) (c : Card) (verdict : Verdict) → StopsAtCards w verdict → RunsWorldIn w r c verdict
+refused_run w r c (Refused text) stops = stops
+refused_run w r c Memory stops = tt {0}
+refused_run w r c _ stops = absurd stops

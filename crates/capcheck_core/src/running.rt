@@ -1,0 +1,218 @@
+ghost use Rattle.std.specs.Prelude.{◌≡◌, Some, MatchResult, map};
+ghost use Rattle.cap_text.specs.Room.{HasRoom, IsEmpty, Writes};
+ghost use Rattle.cap_text.specs.Run.{run_request};
+ghost use Rattle.cap_text.specs.Word.{argument_read};
+ghost use Rattle.vm_offend.specs.Begun.{IsBegun};
+ghost use Rattle.vm_offend.specs.Held.{IsRunOf};
+ghost use Rattle.vm_offend.specs.Sized.{AreSized};
+ghost use Rattle.vm_step.specs.declared.ending.Ending.TheVariants as endings;
+ghost use Rattle.vm_store.specs.Cells.{words};
+ghost use Rattle.vm_text.specs.Left.{left_by};
+ghost use Rattle.vm_text.specs.Lent.{words_left, IsLentRun};
+ghost use Rattle.vm_text.specs.Text.{left_text, most_text};
+ghost use Rattle.capcheck_core.specs.Defend.{method_entered};
+ghost use Rattle.capcheck_core.specs.Outside.{Card, card};
+ghost use Rattle.capcheck_core.specs.Run.{IsWhole, IsLeft, IsRun, StopsRun, RunsWorldIn};
+
+use crate::carding::uncarded;
+use crate::defending::{lent, method_entered};
+use crate::verdict::Verdict;
+use cap_text::{Room, Run, not_started};
+use card_index::{Accepted, CardRoom, accept};
+use card_typing::CardFault;
+use jc_base::World;
+use std::alloc::Global;
+use vm_offend::{Machine, sizes, start};
+use vm_step::{Args, Ending, Plain, StartFault};
+use vm_text::{LentRun, room, texts_are_alike, write_run};
+
+/// Why a run of a world does not begin.
+#[derive(Clone, Copy)]
+pub(crate) enum RunStop {
+    /// The method of this number, the first of these, has no card typing.
+    Refused(u16, CardFault),
+    /// Something keeps the entry from beginning.
+    NotStarted(StartFault),
+}
+
+/// Verifies all packages of a world as a card does, and runs an entry of the last one in the memory of the card. What a
+/// run needs of other memory, for its arguments and its text, is taken before.
+pub(crate) fn run_in_card(
+    alloc: Global,
+    world: &World<'_>,
+    run: &Run<'_>,
+    ram: &mut [u16],
+    heap: &mut [u16],
+    statics: &mut [u16],
+) -> Verdict
+    requires { IsWhole (card ram.old heap.old statics.old) }
+    ensures { RunsWorldIn world.now (run_request run.now) (card ram.new heap.new statics.new) result }
+{
+    match lent(alloc, &run.args) {
+        Ok(args) => with_arguments(alloc, world, run, &args, ram, heap, statics),
+        Err(_) => Verdict::Memory,
+    }
+}
+
+// Takes the room of the text, and runs the entry with these arguments.
+fn with_arguments(
+    alloc: Global,
+    world: &World<'_>,
+    run: &Run<'_>,
+    args: &Args<'_>,
+    ram: &mut [u16],
+    heap: &mut [u16],
+    statics: &mut [u16],
+) -> Verdict
+    requires card { IsWhole (card ram.old heap.old statics.old) }
+    requires handed { args.now ≡ map argument_read run.now.args.items }
+    ensures { RunsWorldIn world.now (run_request run.now) (card ram.new heap.new statics.new) result }
+{
+    let Ok(mut text) = room(alloc, world) else {
+        return Verdict::Memory;
+    };
+    match run_verified(world, run, args, &mut text, ram, heap, statics) {
+        Ok(()) => Verdict::Done(text.into_text()),
+        Err(stop) => not_run(alloc, world, run, stop),
+    }
+}
+
+// The verdict for a run that does not begin.
+fn not_run(alloc: Global, world: &World<'_>, run: &Run<'_>, stop: RunStop) -> Verdict
+    requires { StopsRun world.now (run_request run.now) stop }
+    ensures { (c : Card) → RunsWorldIn world.now (run_request run.now) c result }
+{
+    match stop {
+        RunStop::Refused(method, fault) => uncarded(alloc, world, method, fault),
+        RunStop::NotStarted(fault) => Verdict::malformed(not_started(alloc, fault)),
+    }
+}
+
+// The same with the room of the text. From here on no memory is taken.
+fn run_verified(
+    world: &World<'_>,
+    run: &Run<'_>,
+    args: &Args<'_>,
+    text: &mut Room,
+    ram: &mut [u16],
+    heap: &mut [u16],
+    statics: &mut [u16],
+) -> Result<(), RunStop>
+    requires card { IsWhole (card ram.old heap.old statics.old) }
+    requires handed { args.now ≡ map argument_read run.now.args.items }
+    requires empty { IsEmpty text.old }
+    requires room { HasRoom text.old (most_text world.now) }
+    ensures { MatchResult result
+        (λ _. IsRun world.now (run_request run.now) (card ram.new heap.new statics.new) text.new.text)
+        (StopsRun world.now (run_request run.now)) }
+{
+    let mut room = CardRoom::new();
+    match accept(world, &mut room) {
+        Ok(accepted) => run_accepted(&accepted, run, args, text, ram, heap, statics),
+        Err((method, fault)) => Err(RunStop::Refused(method, fault)),
+    }
+}
+
+// The same over the accepted world.
+fn run_accepted(
+    accepted: &Accepted<'_>,
+    run: &Run<'_>,
+    args: &Args<'_>,
+    text: &mut Room,
+    ram: &mut [u16],
+    heap: &mut [u16],
+    statics: &mut [u16],
+) -> Result<(), RunStop>
+    requires card { IsWhole (card ram.old heap.old statics.old) }
+    requires handed { args.now ≡ map argument_read run.now.args.items }
+    requires empty { IsEmpty text.old }
+    requires room { HasRoom text.old (most_text accepted.now) }
+    ensures { MatchResult result
+        (λ _. IsRun accepted.now (run_request run.now) (card ram.new heap.new statics.new) text.new.text)
+        (StopsRun accepted.now (run_request run.now)) }
+{
+    match method_entered(accepted.world(), run.entry) {
+        Some(number) => {
+            let fields = sizes(accepted.world()).statics;
+            begin(accepted, run, number, args, text, ram, heap, &mut statics[..fields])
+        }
+        None => Err(RunStop::NotStarted(StartFault::NoEntry)),
+    }
+}
+
+// Begins the run of the method of a number in memory of the lengths that the world needs, and goes on with it.
+fn begin(
+    accepted: &Accepted<'_>,
+    run: &Run<'_>,
+    number: u16,
+    args: &Args<'_>,
+    text: &mut Room,
+    ram: &mut [u16],
+    heap: &mut [u16],
+    statics: &mut [u16],
+) -> Result<(), RunStop>
+    requires entered { method_entered accepted.now run.now.entry ≡ Some number }
+    requires sized { AreSized accepted.now ram.old heap.old statics.old }
+    requires handed { args.now ≡ map argument_read run.now.args.items }
+    requires empty { IsEmpty text.old }
+    requires room { HasRoom text.old (most_text accepted.now) }
+    ensures { MatchResult result
+        (λ _. IsRun accepted.now (run_request run.now) (card ram.new heap.new statics.new) text.new.text)
+        (StopsRun accepted.now (run_request run.now)) }
+{
+    match start(accepted, number, args, ram, heap, statics) {
+        Ok(machine) => {
+            go_on(accepted, run, number, machine, text, ram, heap, statics);
+            Ok(())
+        }
+        Err(fault) => Err(RunStop::NotStarted(fault)),
+    }
+}
+
+// Takes the steps of a run that has begun, and writes what comes of it.
+fn go_on(
+    accepted: &Accepted<'_>,
+    run: &Run<'_>,
+    number: u16,
+    machine: Machine,
+    text: &mut Room,
+    ram: &mut [u16],
+    heap: &mut [u16],
+    statics: &mut [u16],
+)
+    requires entered { method_entered accepted.now run.now.entry ≡ Some number }
+    requires begun { IsBegun accepted.now number (run_request run.now).args machine ram.old heap.old statics.old }
+    requires run { IsRunOf accepted.now machine ram.old heap.old statics.old }
+    requires empty { IsEmpty text.old }
+    requires room { HasRoom text.old (most_text accepted.now) }
+    ensures { IsLeft accepted.now (run_request run.now) (card ram.new heap.new statics.new) text.new.text }
+{
+    let mut machine = machine;
+    let ending = machine.run(accepted, ram, heap, statics, u64::from(run.budget));
+    texts_are_alike(accepted.world());
+    write_left(text, accepted.world(), accepted, machine, heap, statics, ending);
+}
+
+// Writes what a run left that ended so.
+fn write_left(
+    text: &mut Room,
+    world: &World<'_>,
+    accepted: &Accepted<'_>,
+    machine: Machine,
+    heap: &[u16],
+    statics: &[u16],
+    ending: Plain,
+)
+    requires left { IsLentRun world.now accepted.now heap.now statics.now machine.counts }
+    requires room { HasRoom text.old (most_text world.now) }
+    ensures { Writes text.old text.new
+        (left_text (left_by words world.now (words_left heap.now statics.now machine.counts)) (endings.Plain ending)) }
+{
+    let left = LentRun {
+        machine,
+        accepted,
+        heap,
+        statics,
+    };
+    write_run(text, world, &left, Ending::Plain(ending));
+}
