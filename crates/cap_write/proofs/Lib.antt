@@ -7,3 +7,8 @@ pub mod Spread
 pub mod Longest
 pub mod Gathered
 pub mod Table
+pub mod Sources
+pub mod Customs
+pub mod Told
+pub mod Said
+pub mod Whole
