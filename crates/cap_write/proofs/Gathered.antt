@@ -11,7 +11,7 @@ use Rattle.cap_laying.specs.declared.member.Member.{Member}
 use Rattle.cap_laying.specs.Members.{new_places, written_info}
 use Rattle.cap_laying.specs.References.{written_references}
 use Rattle.cap_laying.specs.WrittenSeen.{IsWrittenAs}
-use Rattle.cap_write.specs.WrittenMethods.{AreMembersOf}
+use Rattle.cap_write.specs.WrittenMethods.{AreMembersFor}
 use Rattle.cap_write.specs.NewIndex.{Index, IsNewIndex, IsShortIndex, dropped, stays, written}
 use Rattle.cap_write.specs.Files.{Either, IsFile}
 use Rattle.cap_write.specs.Filed.{AreFiled}
@@ -66,7 +66,7 @@ module _ (p : PackageRecord) (news : List (Option NewMethod)) (methods reference
     rising = f.rising;
   }
 
-pub are_written : (p : PackageRecord) (laid : List (Option Laid)) (ms : List Member) (w : Written) (index : Index) (parts : List Lent) → AreMembersOf p laid ms → MembersFit ms → IsWrittenAs (length p.methods.info) (length p.methods.handlers) ms w
+pub are_written : (p : PackageRecord) (laid : List (Option Laid)) (ms : List Member) (w : Written) (index : Index) (parts : List Lent) → AreMembersFor p laid ms → MembersFit ms → IsWrittenAs (length p.methods.info) (length p.methods.handlers) ms w
     → AreFiled (IsFile p w.news w.info.items w.references.items index) 256 parts → AreWritten p (length p.methods.info) (length p.methods.handlers) ms index parts
 are_written p laid ms w index parts are fit seen f =
     let size = length p.methods.info in
@@ -82,7 +82,7 @@ are_written p laid ms w index parts are fit seen f =
       files = parts_of p (new_places size room ms) (written_info size room ms) (written_references size room ms) index parts k;
     }
 
-pub written_of : (p : PackageRecord) (laid : List (Option Laid)) (ms : List Member) (w : Written) (index : Index) (parts : List Lent) → AreMembersOf p laid ms → MembersFit ms → IsWrittenAs (length p.methods.info) (length p.methods.handlers) ms w
+pub written_of : (p : PackageRecord) (laid : List (Option Laid)) (ms : List Member) (w : Written) (index : Index) (parts : List Lent) → AreMembersFor p laid ms → MembersFit ms → IsWrittenAs (length p.methods.info) (length p.methods.handlers) ms w
     → IsNewIndex p laid index → AreFiled (IsFile p w.news w.info.items w.references.items index) 256 parts → IsWritten p laid parts
 written_of p laid ms w index parts are fit seen i f = record {
   members = ms;

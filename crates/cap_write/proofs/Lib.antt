@@ -1,4 +1,5 @@
 pub mod Apart
+pub mod LaidWell
 pub mod Members
 pub mod Putting
 pub mod Numbers

@@ -1,30 +1,21 @@
 -- The methods that are written are those of the package's classes, each with the code that is laid for it.
 use Rattle.std.proofs.Common.{◌≡◌, ◌≤◌, ◌<◌, ◌+◌, ℕ, zero, suc, Bool, true, false, List, [], ◌∷◌, ◌++◌, length, take, drop, map, All, Option, Some, None, refl, sym, ap, subst, ◌∙◌, arith, length-append}
-use Rattle.std.specs.Prelude.{◌==◌, IfSome, if◌then◌else◌}
+use Rattle.std.specs.Prelude.{IfSome, if◌then◌else◌}
 use Rattle.std.proofs.lemmas.List.{length-map, length-take, length-drop, map-append}
-use Rattle.cap_method.specs.MethodFormat.{Header}
 use Rattle.cap_desc.specs.DescriptorFormat.{Method, Class}
 use Rattle.cap_desc.specs.Members.{methods_of, methods_but}
-use Rattle.cap_components.specs.declared.fault.PackFault.TheVariants.{MethodLength}
-use Rattle.cap_components.specs.Parts.{Lent}
 use Rattle.cap_components.specs.PackageRecord.{PackageRecord, described, names_interface}
-use Rattle.cap_package.specs.HeaderChecks.{header_in, is_abstract, length_by, length_fault}
-use Rattle.cap_package.specs.StandsFor.{StandsFor}
 use Rattle.cap_laying.specs.declared.member.Body.{Body}
 use Rattle.cap_laying.specs.declared.member.Body.TheVariants as body
 use Rattle.cap_laying.specs.declared.member.Member.{Member}
-use Rattle.cap_laying.specs.HandlerTable.{AreInside}
-use Rattle.cap_laying.specs.Members.{AreMembers, IsWhole, MayBeWritten}
-use Rattle.cap_laying.specs.NewPlaces.{IsSmallBody}
 use Rattle.jc_decode.specs.declared.symbols.Laid.{Laid}
 use Rattle.cap_rewritten.specs.Changes.{Source, laid_but, sources_from, sources}
 use Rattle.cap_rewritten.specs.Written.{lead_bytes}
 use Rattle.cap_rewritten.specs.Laying as laying
 use Rattle.cap_rewritten.specs.Writing as writing
-use Rattle.cap_rewritten.proofs.Lists.{Each, none_each, all_each}
-use Rattle.cap_rewritten.proofs.Agreed.{agrees}
+use Rattle.cap_rewritten.proofs.Lists.{Each, all_each}
 use Rattle.cap_write.specs.Described.{SeenMember, body_seen, member_seen, body_at, seen_method, seen_methods, seen_classes, seen_package}
-use Rattle.cap_write.specs.Condition.{no_method, methods_for, IsCodeFor, IsElement, AreElements, IsLaidFor}
+use Rattle.cap_write.specs.Condition.{no_method, methods_for, AreElements, MayBeLaid}
 use Rattle.cap_write.specs.Pools.{StackFits, StacksFit}
 
 -- ---- an element for each method
@@ -43,7 +34,7 @@ elements_counted info [] (l ∷ ls) h = absurd h
 elements_counted info (m ∷ ms) [] h = absurd h
 elements_counted info (m ∷ ms) (l ∷ ls) h = ap suc (elements_counted info ms ls h.1)
 
-pub laid_each : (p : PackageRecord) (laid : List (Option Laid)) → IsLaidFor p laid → length laid ≡ length (methods_of p.description.items.classes)
+pub laid_each : (p : PackageRecord) (laid : List (Option Laid)) → MayBeLaid p laid → length laid ≡ length (methods_of p.description.items.classes)
 laid_each p laid l =
     let set = names_interface p.classes in
     elements_counted p.methods.info (methods_for set p.description.items.classes) laid l.elements ∙ methods_counted set p.description.items.classes
@@ -147,7 +138,7 @@ members_from info n (m ∷ ms) (l ∷ ls) (x ∷ xs) e h =
     let rest : map member_seen xs ≡ zipped info ms ls = cc in
     (member_of info (record { number = n; method = m; laid = l }) x first, members_from info (n + 1) ms ls xs (omega arith) rest)
 
-pub members_are : (p : PackageRecord) (laid : List (Option Laid)) (xs : List Member) → IsLaidFor p laid → map member_seen xs ≡ seen_package p laid → writing.AreMembersOf p.methods.info (sources p laid) xs
+pub members_are : (p : PackageRecord) (laid : List (Option Laid)) (xs : List Member) → MayBeLaid p laid → map member_seen xs ≡ seen_package p laid → writing.AreMembersOf p.methods.info (sources p laid) xs
 members_are p laid xs l e =
     let set = names_interface p.classes in
     let cs = p.description.items.classes in
@@ -172,48 +163,13 @@ all_stacks info ss ms a f = all_each writing.HasSmallStack ss (small_stacks info
 
 -- ---- each has code that may be laid for it
 
-bare_by : (info : List ℕ) (m : Method) (h : Header) (a : Bool) (z : Bool) → is_abstract h ≡ a → (m.bytecode_count == 0) ≡ z → z ≡ true → length_by m (Some h) ≡ None → a ≡ true
-bare_by info m h true z e k t n = refl
-bare_by info m h false z e k t n =
-    let s : length_by m (Some h) ≡ Some (MethodLength m.method_offset m.bytecode_count) = rw (e, k ∙ t) refl in
-    absurd (cc)
+laid_all : (p : PackageRecord) (n : ℕ) (ms : List Method) (ls : List (Option Laid)) → AreElements p.methods.info (map Some ms) ls → Each (laying.IsLaidFor p) (sources_from n ms ls)
+laid_all p n [] ls i = tt
+laid_all p n (m ∷ ms) [] i = tt
+laid_all p n (m ∷ ms) (l ∷ ls) i = (i.0, laid_all p (n + 1) ms ls i.1)
 
-is_bare : (info : List ℕ) (m : Method) (h : Header) → length_fault info m ≡ None → header_in info m.method_offset ≡ Some h → m.bytecode_count ≡ 0 → is_abstract h ≡ true
-unfolding length_fault
-is_bare info m h e there none = bare_by info m h (is_abstract h) (m.bytecode_count == 0) refl refl (grind arith) (ap (length_by m) (sym there) ∙ e)
-
-code_for : (size : ℕ) (info : List ℕ) (s : Source) (l : Laid) (x : Member) (h : Header) → writing.IsBodyOf info s x.body → s.laid ≡ Some l → AreMembers size (x ∷ []) → IsCodeFor info s.method l → header_in info s.method.method_offset ≡ Some h → laying.IsCodeFor h l
-code_for size info s l x h b e k c there = by x.body b k.0.small k.0.whole
-  where
-    by : (y : Body) → writing.IsBodyOf info s y → IsSmallBody y → IsWhole y → laying.IsCodeFor h l
-    by (body.Header header) b small whole = absurd (cc)
-    by (body.Code laid) b small whole =
-        let same : l ≡ laid.now = cc in
-        let some = c.some in
-        record {
-          some = omega arith;
-          short = subst (λ (x : Laid). length x.code ≤ 32767) (sym same) small.0;
-          arguments = c.nargs h there;
-          registers = c.registers;
-          inside = subst (λ (x : Laid). AreInside (length x.code) x.handlers) (sym same) whole;
-        }
-
-laid_one : (size : ℕ) (p : PackageRecord) (s : Source) (l : Option Laid) (x : Member) → s.laid ≡ l → IsElement p.methods.info (Some s.method) l → length_fault p.methods.info s.method ≡ None → writing.IsMemberOf p.methods.info s x → AreMembers size (x ∷ []) → laying.IsLaidFor p s
-laid_one size p s None x e i f m k h there = subst (laying.IsFor h) (sym e) (is_bare p.methods.info s.method h f there i)
-laid_one size p s (Some l) x e i f m k h there = subst (laying.IsFor h) (sym e) (code_for size p.methods.info s l x h m.body e k i there)
-
-laid_all : (size : ℕ) (p : PackageRecord) (n : ℕ) (ms : List Method) (ls : List (Option Laid)) (xs : List Member) → AreElements p.methods.info (map Some ms) ls → Each (λ m. length_fault p.methods.info m ≡ None) ms
-    → writing.AreMembersOf p.methods.info (sources_from n ms ls) xs → AreMembers size xs → Each (laying.IsLaidFor p) (sources_from n ms ls)
-laid_all size p n [] ls xs i f a k = tt
-laid_all size p n (m ∷ ms) [] xs i f a k = tt
-laid_all size p n (m ∷ ms) (l ∷ ls) [] i f a k = absurd a
-laid_all size p n (m ∷ ms) (l ∷ ls) (x ∷ xs) i f a k =
-    (laid_one size p (record { number = n; method = m; laid = l }) l x refl i.0 f.0 a.0 (k.0, tt), laid_all size p (n + 1) ms ls xs i.1 f.1 a.1 k.1)
-
-pub are_laid_for : (parts : List Lent) (p : PackageRecord) (laid : List (Option Laid)) (xs : List Member) → StandsFor parts p → IsLaidFor p laid → MayBeWritten (length p.methods.info) xs → writing.AreMembersOf p.methods.info (sources p laid) xs → laying.AreLaidFor p laid
-are_laid_for parts p laid xs s l may a =
+pub are_laid_for : (p : PackageRecord) (laid : List (Option Laid)) → MayBeLaid p laid → laying.AreLaidFor p laid
+are_laid_for p laid l =
     let set = names_interface p.classes in
     let cs = p.description.items.classes in
-    let ag = agrees parts p s.agree in
-    all_each (laying.IsLaidFor p) (sources p laid)
-    (laid_all (length p.methods.info) p 0 (described p) (laid_but set cs laid) xs (elements_but set p.methods.info cs laid l.elements) (none_each (length_fault p.methods.info) (described p) ag.lengths) a may.each)
+    all_each (laying.IsLaidFor p) (sources p laid) (laid_all p 0 (described p) (laid_but set cs laid) (elements_but set p.methods.info cs laid l.elements))

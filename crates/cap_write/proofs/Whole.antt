@@ -41,15 +41,15 @@ use Rattle.cap_rewritten.specs.Laws.{IsSizeOf, HasSizes, RewrittenStands, Writin
 use Rattle.cap_rewritten.specs.Rewritten.{IsCustom}
 use Rattle.cap_rewritten.specs.Writing.{IsWrittenAnew, places}
 use Rattle.cap_rewritten.proofs.Lists.{Each, each_at}
-use Rattle.cap_write.specs.Condition.{IsLaidFor}
+use Rattle.cap_write.specs.Condition.{MayBeLaid}
 use Rattle.cap_write.specs.NewIndex.{Index, IsNewIndex, dropped, has_other_aid, keeps_index, stays, written}
 use Rattle.cap_write.specs.Files.{IsDirectoryFile, IsFramed, index_file, method_edits, sizes_of}
 use Rattle.cap_write.specs.Pools.{StacksFit}
-use Rattle.cap_write.specs.WrittenMethods.{AreMembersOf}
+use Rattle.cap_write.specs.WrittenMethods.{AreMembersFor}
 use Rattle.cap_write.specs.WrittenPackage.{ArePartsOf, AreWritten, HaveRewritten, locations_of}
 use Rattle.cap_write.proofs.Customs.{found_dropped, found_kept, found_other, found_written, has_tag, tag_found}
 use Rattle.cap_write.proofs.Said.{kept_says, present, renewed_if_says, renewed_if_size, renewed_says, renewed_size, same_types}
-use Rattle.cap_write.proofs.Sources.{all_stacks, are_laid_for, laid_each, members_are}
+use Rattle.cap_write.proofs.Sources.{all_stacks, are_laid_for, laid_each}
 use Rattle.cap_write.proofs.Told.{custom_told, debug_now, has_tag_from, size_now, size_was, tags_from, tells_sizes}
 
 -- ---- the package that the parts stand for
@@ -252,8 +252,8 @@ module _ (p : PackageRecord) (laid : List (Option Laid)) (ms : List Member) (ind
 
 -- ---- the whole
 
-pub again : RewrittenStands → WritingRewrites → (p : PackageRecord) (laid : List (Option Laid)) (ms : List Member) (index : Index) (parts : List Lent) → StandsFor p.parts p → MayStand p.header.format p.directory → IsLaidFor p laid → StacksFit ms
-    → AreMembersOf p laid ms → IsNewIndex p laid index → AreWritten p (length p.methods.info) (length p.methods.handlers) ms index parts → HaveRewritten p laid parts
+pub again : RewrittenStands → WritingRewrites → (p : PackageRecord) (laid : List (Option Laid)) (ms : List Member) (index : Index) (parts : List Lent) → StandsFor p.parts p → MayStand p.header.format p.directory → MayBeLaid p laid → StacksFit ms
+    → AreMembersFor p laid ms → IsNewIndex p laid index → AreWritten p (length p.methods.info) (length p.methods.handlers) ms index parts → HaveRewritten p laid parts
 again stand rewrite p laid ms index parts s may l fit are i w =
     let news = places p ms in
     let set = names_interface p.classes in
@@ -265,8 +265,8 @@ again stand rewrite p laid ms index parts s may l fit are i w =
     let seven = present (IsFramed 7 (infos p ms)) (held parts 7) files.methods_file in
     let nine = present (IsFramed 9 (references p ms)) (held parts 9) files.locations in
     let q = made p ms index parts eleven.is.info in
-    let members = members_are p laid ms l are.are in
-    let codes = are_laid_for p.parts p laid ms s l are.may members in
+    let members = are.are in
+    let codes = are_laid_for p laid l in
     let anew : IsWrittenAnew p laid ms q = record {
       each = laid_each p laid l;
       stacks = all_stacks p.methods.info (sources p laid) ms members fit;

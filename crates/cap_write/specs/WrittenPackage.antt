@@ -18,7 +18,7 @@ use Rattle.cap_laying.specs.References.{block_catches, method_indices, written_r
 use Rattle.cap_laying.specs.Standing.{AllStand}
 use Rattle.cap_write.specs.declared.end.WriteEnd.{WriteEnd}
 use Rattle.cap_write.specs.declared.end.WriteEnd.TheVariants.{PartLong, Memory}
-use Rattle.cap_write.specs.WrittenMethods.{AreMembersOf, IsLong}
+use Rattle.cap_write.specs.WrittenMethods.{AreMembersFor, IsLong}
 use Rattle.cap_write.specs.NewIndex.{Index, IsNewIndex}
 use Rattle.cap_write.specs.Files.{IsAppletFile, IsClassFile, IsDescriptorFile, IsDirectoryFile, IsExportFile, IsFramed, IsPoolFile, IsPresent, index_file}
 use Rattle.cap_write.specs.Filed.{IsRising}
@@ -65,7 +65,7 @@ pub record AreWritten (p : PackageRecord) (size room : ℕ) (ms : List Member) (
 -- the parts are those of the package with its methods written anew, each with its element of the list
 pub record IsWritten (p : PackageRecord) (laid : List (Option Laid)) (parts : List Lent) : Type 0 where
   pub members : List Member
-  pub are : AreMembersOf p laid members
+  pub are : AreMembersFor p laid members
   pub index : Index
   pub indexed : IsNewIndex p laid index
   pub written : AreWritten p (length p.methods.info) (length p.methods.handlers) members index parts
@@ -79,7 +79,7 @@ pub record HaveRewritten (p : PackageRecord) (laid : List (Option Laid)) (parts 
 -- the info of the Method component would be too long
 pub record IsTooLong (p : PackageRecord) (laid : List (Option Laid)) (n : ℕ) : Type 0 where
   pub members : List Member
-  pub are : AreMembersOf p laid members
+  pub are : AreMembersFor p laid members
   pub long : IsLong (length p.methods.info) (length p.methods.handlers) members n
 
 abbrev pub TellsEnd : PackageRecord → List (Option Laid) → WriteEnd → Type 0

@@ -1,7 +1,9 @@
 use Rattle.std.proofs.Common.{◌≤◌, length, sym, ap, subst, arith}
 use Rattle.cap_write.specs.NewIndex.{index_seen}
 use Rattle.cap_write.specs.Pools.{MembersFit, StacksFit}
+use Rattle.cap_write.proofs.LaidWell.{laid_well}
 use Rattle.cap_write.proofs.Longest.{info_long}
+use Rattle.cap_write.proofs.Numbers.{short_codes}
 use Rattle.cap_laying.specs.WrittenSeen.{IsWrittenAs}
 use Rattle.cap_write.proofs.Gathered.{are_written, index_short, written_of}
 use Rattle.cap_write.proofs.Spread.{references_short}
@@ -20,6 +22,11 @@ all_parts-requires c =
       references = subst (λ xs. length xs ≤ 65535) (sym w.references) (references_short (length p.methods.info) (length p.methods.handlers) c.deref-2.result.now w.short);
       index = index_short p c.args.laid.now (index_seen c.in_ok-index.index) c.in_ok-index.ensures;
     }
+
+pub new_index-requires : goal.new_index-requires
+new_index-requires c =
+    let p = c.args.package.now in
+    short_codes c.args.laid.now (laid_well p.parts p c.args.laid.now c.parts-parts.ensures.agree c.requires)
 
 pub returns-clause-written : goal.returns-clause-written
 returns-clause-written c =
