@@ -147,7 +147,7 @@ members_are p laid xs l e =
     elements_counted p.methods.info (map Some (described p)) (laid_but set cs laid) (elements_but set p.methods.info cs laid l.elements) ∙ length-map {B = Option Method} (described p) Some in
     members_from p.methods.info 0 (described p) (laid_but set cs laid) xs long (e ∙ classes_zipped set p.methods.info cs laid each)
 
--- ---- each has little stack
+-- ---- the words of stack that each needs
 
 stack_of : (info : List ℕ) (s : Source) (b : Body) → writing.IsBodyOf info s b → StackFits b → writing.HasSmallStack s
 stack_of info s (body.Code laid) h f = subst (λ o. IfSome o (λ l. l.max_stack < 256)) (sym h) f

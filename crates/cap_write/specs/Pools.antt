@@ -1,4 +1,4 @@
--- The pool numbers of handlers have two bytes, and how much stack code needs is told in one.
+-- The pool numbers of handlers have two bytes, and the words of stack that code needs are told in one.
 use Rattle.std.specs.Prelude.{◌<◌, List, [], ◌∷◌}
 use Rattle.jc_decode.specs.declared.symbols.Handler.{Handler}
 use Rattle.cap_laying.specs.declared.member.Body.{Body}

@@ -40,7 +40,7 @@ fn is_byte(number: u8)
     let _ = number;
 }
 
-/// How much stack code needs is told in one byte.
+/// The words of stack that code needs are told in one byte: a fact for proofs.
 fn stack_fits(body: Body<'_>)
     ensures { StackFits body.entry }
 {
@@ -49,7 +49,7 @@ fn stack_fits(body: Body<'_>)
     }
 }
 
-/// The same of all methods.
+/// Both of all methods: facts for proofs.
 pub(crate) fn members_fit(members: &[Member<'_>])
     ensures pools { MembersFit members.now }
     ensures stacks { StacksFit members.now }
@@ -68,7 +68,7 @@ fn are_bytes(bytes: &[u8])
     let _ = bytes;
 }
 
-/// The Directory of a package has numbers that its items hold: a fact for proofs.
+/// The Directory of a package has numbers and tags that their items hold: a fact for proofs, and no work.
 pub(crate) fn directory_fits(package: &Package<'_, '_>)
     ensures { MayStand «package».now.header.format «package».now.directory }
 {

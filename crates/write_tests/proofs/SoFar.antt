@@ -1,8 +1,8 @@
 -- Elements that were gone over.
-use Rattle.std.proofs.Common.{◌≡◌, ◌+◌, ◌≤◌, ℕ, Bool, true, false, cond, List, [], ◌∷◌, ◌++◌, length, map, Option, Some, None, refl, sym, ap, subst, ◌∙◌, arith, append_assoc}
+use Rattle.std.proofs.Common.{◌≡◌, ℕ, Bool, true, false, List, [], ◌∷◌, ◌++◌, length, Option, refl, sym, ap, subst, arith, append_assoc}
 use Rattle.cap_desc.specs.DescriptorFormat.{Method, Class}
 use Rattle.jc_decode.specs.declared.symbols.Laid.{Laid}
-use Rattle.cap_write.specs.Condition.{AreElements, IsElement, methods_for, no_method}
+use Rattle.cap_write.specs.Condition.{AreElements, IsElement, methods_for}
 use Rattle.write_tests.specs.Elements.{Continues, listed, one_listed}
 
 -- of all methods those that are left have the rest of the list
