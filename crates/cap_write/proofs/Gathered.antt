@@ -11,11 +11,11 @@ use Rattle.cap_laying.specs.declared.member.Member.{Member}
 use Rattle.cap_laying.specs.Members.{new_places, written_info}
 use Rattle.cap_laying.specs.References.{written_references}
 use Rattle.cap_laying.specs.WrittenSeen.{IsWrittenAs}
-use Rattle.cap_write.specs.WrittenMethods.{AreMembersOf}
+use Rattle.cap_write.specs.WrittenMethods.{AreMembersFor}
 use Rattle.cap_write.specs.NewIndex.{Index, IsNewIndex, IsShortIndex, dropped, stays, written}
 use Rattle.cap_write.specs.Files.{Either, IsFile}
 use Rattle.cap_write.specs.Filed.{AreFiled}
-use Rattle.cap_write.specs.WrittenPackage.{ArePartsOf, IsWritten}
+use Rattle.cap_write.specs.WrittenPackage.{ArePartsOf, AreWritten, IsWritten}
 use Rattle.cap_laying.proofs.Standing.{methods_stand}
 use Rattle.cap_write.specs.Pools.{MembersFit}
 use Rattle.cap_write.proofs.Spread.{references_stand}
@@ -66,27 +66,31 @@ module _ (p : PackageRecord) (news : List (Option NewMethod)) (methods reference
     rising = f.rising;
   }
 
-pub written_of : (p : PackageRecord) (laid : List (Option Laid)) (ms : List Member) (w : Written) (index : Index) (parts : List Lent) → AreMembersOf p laid ms → MembersFit ms → IsWrittenAs (length p.methods.info) (length p.methods.handlers) ms w
-    → IsNewIndex p laid index → AreFiled (IsFile p w.news w.info.items w.references.items index) 256 parts → IsWritten p laid parts
-written_of p laid ms w index parts are fit seen i f =
+pub are_written : (p : PackageRecord) (laid : List (Option Laid)) (ms : List Member) (w : Written) (index : Index) (parts : List Lent) → AreMembersFor p laid ms → MembersFit ms → IsWrittenAs (length p.methods.info) (length p.methods.handlers) ms w
+    → AreFiled (IsFile p w.news w.info.items w.references.items index) 256 parts → AreWritten p (length p.methods.info) (length p.methods.handlers) ms index parts
+are_written p laid ms w index parts are fit seen f =
     let size = length p.methods.info in
     let room = length p.methods.handlers in
     let g : AreFiled (IsFile p (new_places size room ms) w.info.items w.references.items index) 256 parts = subst (λ x. AreFiled (IsFile p x w.info.items w.references.items index) 256 parts) seen.news f in
     let h : AreFiled (IsFile p (new_places size room ms) (written_info size room ms) w.references.items index) 256 parts = subst (λ x. AreFiled (IsFile p (new_places size room ms) x w.references.items index) 256 parts) seen.info g in
     let k : AreFiled (IsFile p (new_places size room ms) (written_info size room ms) (written_references size room ms) index) 256 parts = subst (λ x. AreFiled (IsFile p (new_places size room ms) (written_info size room ms) x index) 256 parts) seen.references h in
     record {
-      members = ms;
-      are = are;
-      index = index;
-      indexed = i;
-      written = record {
-        short = seen.short;
-        stand = methods_stand size room ms are.may;
-        handlers = table_stands size room ms are.may fit seen.short;
-        locations = references_stand size room ms seen.short;
-        files = parts_of p (new_places size room ms) (written_info size room ms) (written_references size room ms) index parts k;
-      };
+      short = seen.short;
+      stand = methods_stand size room ms are.may;
+      handlers = table_stands size room ms are.may fit seen.short;
+      locations = references_stand size room ms seen.short;
+      files = parts_of p (new_places size room ms) (written_info size room ms) (written_references size room ms) index parts k;
     }
+
+pub written_of : (p : PackageRecord) (laid : List (Option Laid)) (ms : List Member) (w : Written) (index : Index) (parts : List Lent) → AreMembersFor p laid ms → MembersFit ms → IsWrittenAs (length p.methods.info) (length p.methods.handlers) ms w
+    → IsNewIndex p laid index → AreFiled (IsFile p w.news w.info.items w.references.items index) 256 parts → IsWritten p laid parts
+written_of p laid ms w index parts are fit seen i f = record {
+  members = ms;
+  are = are;
+  index = index;
+  indexed = i;
+  written = are_written p laid ms w index parts are fit seen f;
+}
 
 pub index_short : (p : PackageRecord) (laid : List (Option Laid)) (index : Index) → IsNewIndex p laid index → IsShortIndex index
 index_short p laid stays i = tt

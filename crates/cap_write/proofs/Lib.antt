@@ -1,4 +1,5 @@
 pub mod Apart
+pub mod LaidWell
 pub mod Members
 pub mod Putting
 pub mod Numbers
@@ -7,3 +8,8 @@ pub mod Spread
 pub mod Longest
 pub mod Gathered
 pub mod Table
+pub mod Sources
+pub mod Customs
+pub mod Told
+pub mod Said
+pub mod Whole

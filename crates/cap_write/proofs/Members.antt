@@ -16,8 +16,10 @@ use Rattle.cap_laying.specs.Blocks.{total_handlers}
 use Rattle.cap_laying.specs.Member.{handlers_of}
 use Rattle.cap_laying.specs.Members.{IsAlone, AreApart, IsWhole, AreMembers, MayBeWritten}
 use Rattle.cap_laying.specs.NewPlaces.{IsSmallBody}
-use Rattle.cap_write.specs.Described.{SeenBody, code, lead, SeenMember, body_seen, member_seen, lead_bytes, body_at, first_of_them, others_of_them, seen_methods, seen_classes, seen_package}
-use Rattle.cap_write.specs.Condition.{IsLaidWell, AreLaidWell, handler_sum, MayBeLaid}
+use Rattle.cap_rewritten.specs.Written.{lead_bytes}
+use Rattle.cap_write.specs.Described.{SeenBody, code, lead, SeenMember, body_seen, member_seen, body_at, first_of_them, others_of_them, seen_methods, seen_classes, seen_package}
+use Rattle.cap_write.specs.Condition.{handler_sum, MayBeLaid}
+use Rattle.cap_write.proofs.LaidWell.{IsLaidWell, AreLaidWell, laid_well}
 use Rattle.cap_write.proofs.Apart.{AllEnd, IsNone, AreDistinct, offset_of, all_end, all_apart}
 
 -- ---- what is seen of each
@@ -63,6 +65,7 @@ size_four (Some first) = by (leb 128 first)
     by false = omega arith
 
 lead_short : (info : List ℕ) (offset : ℕ) → length (lead_bytes info offset) ≤ 4
+unfolding lead_bytes
 lead_short info offset = omega (arith, length-take (size_by (number_at 1 offset info)) (drop offset info), size_four (number_at 1 offset info))
 
 good_body : (info : List ℕ) (offset : ℕ) (l : Option Laid) → IsLaidIf l → IsGood (body_at info offset l)
@@ -205,14 +208,14 @@ total_of : (ms : List Member) → total_handlers ms ≡ seen_total (map member_s
 total_of [] = refl
 total_of (m ∷ ms) = let c = count_of m.body in let r = total_of ms in omega arith
 
-pub may_be_written : (parts : List Lent) (p : PackageRecord) (ls : List (Option Laid)) (ms : List Member) → StandsFor parts p → MayBeLaid ls → map member_seen ms ≡ seen_package p ls → MayBeWritten (length p.methods.info) ms
+pub may_be_written : (parts : List Lent) (p : PackageRecord) (ls : List (Option Laid)) (ms : List Member) → StandsFor parts p → MayBeLaid p ls → map member_seen ms ≡ seen_package p ls → MayBeWritten (length p.methods.info) ms
 may_be_written parts p ls ms stands may e =
     let set = names_interface p.classes in
     let info = p.methods.info in
     let cs = p.description.items.classes in
     let ends : AllEnd info (described p) = all_end info (length p.methods.handlers) (described p) stands.agree.1.1.1.0 in
     let apart : AreDistinct (map offset_of (described p)) = all_apart info (described p) ends stands.agree.1.1.0 in
-    let good : AreGood (length info) (map member_seen ms) = subst (AreGood (length info)) (sym e) (good_classes set info cs ls ends may.each) in
+    let good : AreGood (length info) (map member_seen ms) = subst (AreGood (length info)) (sym e) (good_classes set info cs ls ends (laid_well parts p ls stands may)) in
     let offsets : map seen_offset (map member_seen ms) ≡ map offset_of (described p) = ap (map seen_offset) e ∙ offsets_classes set info cs ls in
     let total : seen_total (map member_seen ms) ≡ seen_total (seen_package p ls) = ap seen_total e in
     let few = total_classes set info cs ls in

@@ -14,7 +14,7 @@ use Rattle.jc_decode.specs.declared.symbols.Laid.{Laid}
 use Rattle.cap_code.specs.TargetIndex.{AreShortCodes}
 use Rattle.cap_laying.specs.declared.member.Member.{Member}
 use Rattle.cap_laying.specs.Members.{AreMembers}
-use Rattle.cap_write.specs.Condition.{AreLaidWell}
+use Rattle.cap_write.proofs.LaidWell.{AreLaidWell}
 use Rattle.cap_write.specs.Described.{member_seen, seen_package}
 use Rattle.cap_write.specs.PlainComponent.{AreSmallMembers}
 use Rattle.cap_write.proofs.Apart.{offset_of}

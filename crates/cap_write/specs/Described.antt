@@ -1,13 +1,13 @@
 -- What the described methods of a package are written as.
-use Rattle.std.specs.Prelude.{ℕ, Bool, List, [], ◌∷◌, ◌++◌, length, take, drop, Option, Some, None, ◌==◌, if◌then◌else◌}
-use Rattle.cap_bytes.specs.Number.{number_at}
+use Rattle.std.specs.Prelude.{ℕ, Bool, List, [], ◌∷◌, ◌++◌, length, drop, Option, Some, None, if◌then◌else◌}
 use Rattle.cap_desc.specs.DescriptorFormat.{Method, Class}
-use Rattle.cap_components.specs.MethodPlaces.{size_by}
 use Rattle.cap_components.specs.PackageRecord.{PackageRecord, names_interface}
 use Rattle.jc_decode.specs.declared.symbols.Laid.{Laid}
 use Rattle.cap_laying.specs.declared.member.Body.{Body}
 use Rattle.cap_laying.specs.declared.member.Body.TheVariants.{Code, Header}
 use Rattle.cap_laying.specs.declared.member.Member.{Member}
+use Rattle.cap_rewritten.specs.Written.{lead_bytes}
+use Rattle.cap_rewritten.specs.Writing.{first_handler}
 
 -- code, or the header of a method without code as it stood
 pub data SeenBody : Type 0 where
@@ -27,20 +27,13 @@ body_seen (Header header) = lead header.now
 abbrev pub member_seen : Member → SeenMember
 member_seen m = record { offset = m.offset; handlers_from = m.handlers_from; body = body_seen m.body }
 
--- the bytes of the header that stands at an offset of an info
-abbrev pub lead_bytes : List ℕ → ℕ → List ℕ
-lead_bytes info offset = take (size_by (number_at 1 offset info)) (drop offset info)
-
 abbrev pub body_at : List ℕ → ℕ → Option Laid → SeenBody
 body_at info offset None = lead (lead_bytes info offset)
 body_at info offset (Some laid) = code laid
 
-abbrev pub handlers_from : Method → Option ℕ
-handlers_from m = if m.handler_count == 0 then None else Some m.handler_index
-
 -- a method as it is written with this code, or without code
 abbrev pub seen_method : List ℕ → Method → Option Laid → SeenMember
-seen_method info m laid = record { offset = m.method_offset; handlers_from = handlers_from m; body = body_at info m.method_offset laid }
+seen_method info m laid = record { offset = m.method_offset; handlers_from = first_handler m; body = body_at info m.method_offset laid }
 
 abbrev pub first_of_them : List (Option Laid) → Option Laid
 first_of_them [] = None

@@ -4,14 +4,16 @@ use Rattle.cap_components.specs.PackageRecord.{PackageRecord}
 use Rattle.jc_decode.specs.declared.symbols.Laid.{Laid}
 use Rattle.cap_laying.specs.declared.member.Member.{Member}
 use Rattle.cap_laying.specs.Members.{MayBeWritten, written_size}
+use Rattle.cap_rewritten.specs.Changes.{sources}
+use Rattle.cap_rewritten.specs.Writing.{AreMembersOf}
 use Rattle.cap_write.specs.declared.end.WriteEnd.{WriteEnd}
 use Rattle.cap_write.specs.declared.end.WriteEnd.TheVariants.{PartLong, Memory}
-use Rattle.cap_write.specs.Described.{member_seen, seen_package}
+use Rattle.cap_write.specs.Described.{member_seen}
 use Rattle.cap_write.specs.PlainComponent.{plain_component}
 
 -- the methods of a package, each with its element of the list
-pub record AreMembersOf (p : PackageRecord) (laid : List (Option Laid)) (ms : List Member) : Type 0 where
-  pub are : map member_seen ms ≡ seen_package p laid
+pub record AreMembersFor (p : PackageRecord) (laid : List (Option Laid)) (ms : List Member) : Type 0 where
+  pub are : AreMembersOf p.methods.info (sources p laid) ms
   pub may : MayBeWritten (length p.methods.info) ms
   pub few : length ms ≤ 5461
 

@@ -4,7 +4,9 @@ use Rattle.cap_bytes.specs.Spelling.{Stands}
 use Rattle.cap_pool.specs.LocationFormat.{LocationItems, locations_info}
 use Rattle.cap_components.specs.Parts.{Lent, held}
 use Rattle.cap_components.specs.PackageRecord.{PackageRecord}
+use Rattle.cap_package.specs.StandsFor.{StandsFor}
 use Rattle.jc_decode.specs.declared.symbols.Laid.{Laid}
+use Rattle.cap_rewritten.specs.Rewritten.{IsRewritten}
 use Rattle.cap_renewal.specs.declared.new_methods.NewMethod.{NewMethod}
 use Rattle.cap_locations.specs.Distances.{distances}
 use Rattle.cap_laying.specs.declared.member.Member.{Member}
@@ -16,7 +18,7 @@ use Rattle.cap_laying.specs.References.{block_catches, method_indices, written_r
 use Rattle.cap_laying.specs.Standing.{AllStand}
 use Rattle.cap_write.specs.declared.end.WriteEnd.{WriteEnd}
 use Rattle.cap_write.specs.declared.end.WriteEnd.TheVariants.{PartLong, Memory}
-use Rattle.cap_write.specs.WrittenMethods.{AreMembersOf, IsLong}
+use Rattle.cap_write.specs.WrittenMethods.{AreMembersFor, IsLong}
 use Rattle.cap_write.specs.NewIndex.{Index, IsNewIndex}
 use Rattle.cap_write.specs.Files.{IsAppletFile, IsClassFile, IsDescriptorFile, IsDirectoryFile, IsExportFile, IsFramed, IsPoolFile, IsPresent, index_file}
 use Rattle.cap_write.specs.Filed.{IsRising}
@@ -63,15 +65,21 @@ pub record AreWritten (p : PackageRecord) (size room : ℕ) (ms : List Member) (
 -- the parts are those of the package with its methods written anew, each with its element of the list
 pub record IsWritten (p : PackageRecord) (laid : List (Option Laid)) (parts : List Lent) : Type 0 where
   pub members : List Member
-  pub are : AreMembersOf p laid members
+  pub are : AreMembersFor p laid members
   pub index : Index
   pub indexed : IsNewIndex p laid index
   pub written : AreWritten p (length p.methods.info) (length p.methods.handlers) members index parts
 
+-- the parts stand for a package, and it is the former one with the code that is laid
+pub record HaveRewritten (p : PackageRecord) (laid : List (Option Laid)) (parts : List Lent) : Type 0 where
+  pub made : PackageRecord
+  pub rewritten : IsRewritten p laid made
+  pub stands : StandsFor parts made
+
 -- the info of the Method component would be too long
 pub record IsTooLong (p : PackageRecord) (laid : List (Option Laid)) (n : ℕ) : Type 0 where
   pub members : List Member
-  pub are : AreMembersOf p laid members
+  pub are : AreMembersFor p laid members
   pub long : IsLong (length p.methods.info) (length p.methods.handlers) members n
 
 abbrev pub TellsEnd : PackageRecord → List (Option Laid) → WriteEnd → Type 0

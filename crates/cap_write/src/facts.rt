@@ -1,8 +1,11 @@
 ghost use Rattle.std.specs.Prelude.{◌<◌};
+ghost use Rattle.cap_directory.specs.Laws.{MayStand};
 ghost use Rattle.cap_laying.specs.Member.{handlers_of};
-ghost use Rattle.cap_write.specs.Pools.{HandlersFit, MembersFit};
+ghost use Rattle.cap_renewal.specs.NewMethods.{AreBytes};
+ghost use Rattle.cap_write.specs.Pools.{HandlersFit, MembersFit, StackFits, StacksFit};
 
 use cap_laying::{Body, Member};
+use cap_package::Package;
 use jc_decode::Handler;
 
 /// A number of two bytes: a fact for proofs, and no work.
@@ -30,12 +33,45 @@ fn body_fits(body: Body<'_>)
     }
 }
 
-/// The same of all methods.
+/// A number of one byte: a fact for proofs, and no work.
+fn is_byte(number: u8)
+    ensures { number < 256 }
+{
+    let _ = number;
+}
+
+/// The words of stack that code needs are told in one byte: a fact for proofs.
+fn stack_fits(body: Body<'_>)
+    ensures { StackFits body.entry }
+{
+    if let Body::Code(laid) = body {
+        is_byte(laid.max_stack);
+    }
+}
+
+/// Both of all methods: facts for proofs.
 pub(crate) fn members_fit(members: &[Member<'_>])
-    ensures { MembersFit members.now }
+    ensures pools { MembersFit members.now }
+    ensures stacks { StacksFit members.now }
 {
     if let Some((first, rest)) = members.split_first() {
         body_fits(first.body);
+        stack_fits(first.body);
         members_fit(rest);
     }
+}
+
+/// The items of a list of bytes are bytes: a fact for proofs, and no work.
+fn are_bytes(bytes: &[u8])
+    ensures { AreBytes bytes.now }
+{
+    let _ = bytes;
+}
+
+/// The Directory of a package has numbers and tags that their items hold: a fact for proofs, and no work.
+pub(crate) fn directory_fits(package: &Package<'_, '_>)
+    ensures { MayStand «package».now.header.format «package».now.directory }
+{
+    let directory = package.directory();
+    are_bytes(directory.info().bytes);
 }

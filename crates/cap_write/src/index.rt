@@ -1,5 +1,5 @@
 ghost use Rattle.std.specs.Prelude.{◌≡◌, IfOk};
-ghost use Rattle.cap_write.specs.Condition.{MayBeLaid};
+ghost use Rattle.cap_code.specs.TargetIndex.{AreShortCodes};
 ghost use Rattle.cap_write.specs.NewIndex.{IsNewIndex, index_seen, keeps_index};
 
 use cap_code::index_info;
@@ -30,7 +30,7 @@ pub(crate) fn new_index(
     package: &Package<'_, '_>,
     laid: &[Option<Laid>],
 ) -> Result<NewIndex, AllocError>
-    requires { MayBeLaid laid.now }
+    requires { AreShortCodes laid.now }
     ensures { IfOk result (λ index. IsNewIndex «package».now laid.now (index_seen index)) }
 {
     if keeps_index(package) {

@@ -2,7 +2,7 @@ ghost use Rattle.std.specs.Prelude.{◌≡◌, ◌≤◌, length, IfOk, IfErr};
 ghost use Rattle.cap_laying.specs.Members.{MayBeWritten};
 ghost use Rattle.cap_laying.specs.WrittenSeen.{IsWrittenAs};
 ghost use Rattle.cap_write.specs.Condition.{MayBeLaid};
-ghost use Rattle.cap_write.specs.WrittenMethods.{AreMembersOf, TellsLong};
+ghost use Rattle.cap_write.specs.WrittenMethods.{AreMembersFor, TellsLong};
 
 use crate::described::members;
 use crate::end::WriteEnd;
@@ -19,8 +19,8 @@ pub(crate) fn members_of<'a>(
     package: &Package<'_, 'a>,
     laid: &'a [Option<Laid>],
 ) -> Result<Vec<Member<'a>>, AllocError>
-    requires { MayBeLaid laid.now }
-    ensures { IfOk result (λ ms. AreMembersOf «package».now laid.now ms.items) }
+    requires { MayBeLaid «package».now laid.now }
+    ensures { IfOk result (λ ms. AreMembersFor «package».now laid.now ms.items) }
 {
     let _parts = package.parts();
     let methods = package.methods();

@@ -1,30 +1,30 @@
 //! Whether a package may be written with some code: what `write_package` asks, tried where the code is made.
-ghost use Rattle.std.specs.Prelude.{◌≡◌, ◌≤◌, Some, IfSome, IsTrue, length};
+ghost use Rattle.std.specs.Prelude.{◌≡◌, ◌≤◌, true, Some, IfSome, IsTrue, length};
 ghost use Rattle.offset_set.specs.Bits.{holds};
 ghost use Rattle.cap_desc.specs.Descriptors.{descriptor_seen};
 ghost use Rattle.cap_desc.specs.MemberLists.{methods_left};
 ghost use Rattle.cap_desc.specs.MemberRecords.{method_seen};
 ghost use Rattle.cap_method.specs.MethodFormat.{Header};
-ghost use Rattle.cap_package.specs.HeaderChecks.{header_in};
+ghost use Rattle.cap_method.specs.MethodPart.{header_seen};
+ghost use Rattle.cap_package.specs.HeaderChecks.{header_in, is_abstract};
 ghost use Rattle.cap_laying.specs.HandlerTable.{AreInside};
-ghost use Rattle.cap_write.specs.Condition.{AreElements, AreLaidWell, IsCodeFor, IsElement, IsLaidFor, IsLaidWell, handler_sum, methods_for};
+ghost use Rattle.cap_rewritten.specs.Laying.{IsCodeFor};
+ghost use Rattle.cap_write.specs.Condition.{AreElements, IsElement, MayBeLaid, handler_sum, methods_for};
 ghost use Rattle.write_tests.specs.Elements.{Continues, listed, one_listed};
 
 use cap_desc::{DescMethods, DescPart, MethodInfo};
-use cap_method::MethodPart;
+use cap_method::{MethodHeader, MethodPart};
 use cap_package::{Package, header, interface_offsets};
 use jc_decode::{Handler, Laid};
 use offset_set::Offsets;
 
 /// Whether the package may be written with this code.
 pub(crate) fn may_be_written(package: &Package<'_, '_>, laid: &[Option<Laid>]) -> bool
-    ensures { IsTrue result → IsLaidFor «package».now laid.now }
+    ensures { IsTrue result → MayBeLaid «package».now laid.now }
 {
     let interfaces = interface_offsets(&package.classes());
     let methods = package.methods();
-    are_laid_well(laid)
-        && handlers_in(laid) <= 255
-        && are_elements(&methods, &package.descriptor(), &interfaces, laid)
+    handlers_in(laid) <= 255 && are_elements(&methods, &package.descriptor(), &interfaces, laid)
 }
 
 /// Whether the handlers lie in code of so many bytes.
@@ -38,26 +38,6 @@ fn are_inside(size: usize, handlers: &[Handler]) -> bool
         && first.length <= 32767
         && usize::from(first.entry) < size
         && are_inside(size, rest)
-}
-
-fn is_laid_well(laid: &Laid) -> bool
-    ensures { IsTrue result → IsLaidWell laid.now }
-{
-    laid.code.len() <= 32767
-        && laid.handlers.len() <= 255
-        && are_inside(laid.code.len(), laid.handlers.as_slice())
-}
-
-fn are_laid_well(laid: &[Option<Laid>]) -> bool
-    ensures { IsTrue result → AreLaidWell laid.now }
-{
-    let Some((first, rest)) = laid.split_first() else {
-        return true;
-    };
-    match first {
-        Some(code) => is_laid_well(code) && are_laid_well(rest),
-        None => are_laid_well(rest),
-    }
 }
 
 /// How many handlers there are, or 256 where there are more than 255.
@@ -140,26 +120,37 @@ fn is_element(
     ensures { IsTrue result → IsElement methods.now.info.bytes.now (one_listed interface (method_seen method.now)) laid.now }
 {
     match laid {
-        Some(laid) => !interface && is_code_for(methods, method, laid),
-        None => interface || method.bytecode_count == 0,
+        Some(laid) => !interface && is_for(methods, method.method_offset, laid),
+        None => interface || is_bare(methods, method.method_offset),
     }
 }
 
-fn is_code_for(methods: &MethodPart<'_>, method: &MethodInfo, laid: &Laid) -> bool
-    ensures { IsTrue result → IsCodeFor methods.now.info.bytes.now (method_seen method.now) laid.now }
-{
-    method.bytecode_count > 0
-        && laid.code.len() > 0
-        && has_nargs(methods, method.method_offset, laid.nargs)
-        && u16::from(laid.nargs) + u16::from(laid.max_locals) <= 255
-}
-
-/// Whether the header at an offset has this number of arguments.
-fn has_nargs(methods: &MethodPart<'_>, offset: u16, nargs: u8) -> bool
-    ensures { IsTrue result → (h : Header) → header_in methods.now.info.bytes.now offset ≡ Some h → nargs ≡ h.nargs }
+/// Whether the code may be laid under the header at an offset.
+fn is_for(methods: &MethodPart<'_>, offset: u16, laid: &Laid) -> bool
+    ensures { IsTrue result → (h : Header) → header_in methods.now.info.bytes.now offset ≡ Some h → IsCodeFor h laid.now }
 {
     match header(methods, offset) {
-        Some(header) => header.nargs == nargs,
+        Some(header) => is_code_for(&header, laid),
+        None => true,
+    }
+}
+
+fn is_code_for(header: &MethodHeader, laid: &Laid) -> bool
+    ensures { IsTrue result → IsCodeFor (header_seen header.now) laid.now }
+{
+    laid.code.len() > 0
+        && laid.code.len() <= 32767
+        && laid.nargs == header.nargs
+        && u16::from(laid.nargs) + u16::from(laid.max_locals) <= 255
+        && are_inside(laid.code.len(), laid.handlers.as_slice())
+}
+
+/// Whether the header at an offset is that of an abstract method.
+fn is_bare(methods: &MethodPart<'_>, offset: u16) -> bool
+    ensures { IsTrue result → (h : Header) → header_in methods.now.info.bytes.now offset ≡ Some h → is_abstract h ≡ true }
+{
+    match header(methods, offset) {
+        Some(header) => header.flags.is_abstract(),
         None => true,
     }
 }

@@ -9,6 +9,7 @@ use Rattle.cap_components.specs.PackageRecord.{names_interface}
 use Rattle.cap_write.specs.Described.{member_seen, seen_classes, seen_package}
 use Rattle.cap_write.proofs.Members.{may_be_written}
 use Rattle.cap_write.proofs.Numbers.{few_members}
+use Rattle.cap_write.proofs.Sources.{members_are}
 use Rattle.cap_write.proofs.methods.members_of.Goals as goal
 
 pub returns : goal.returns
@@ -24,7 +25,7 @@ returns c =
     ∙ ap (λ (b : List ℕ). seen_classes (names_interface p.classes) b (descriptor_seen c.descriptor.result).classes ls) bytes
     ∙ ap (λ (cs : List Class). seen_classes (names_interface p.classes) p.methods.info cs ls) items in
     record {
-      are = are;
+      are = members_are p ls ms c.requires are;
       may = may_be_written p.parts p ls ms c.parts-parts.ensures.agree c.requires are;
       few = few_members p.parts p ls ms c.parts-parts.ensures.agree are;
     }

@@ -1,10 +1,13 @@
 use Rattle.std.proofs.Common.{◌≤◌, length, sym, ap, subst, arith}
 use Rattle.cap_write.specs.NewIndex.{index_seen}
-use Rattle.cap_write.specs.Pools.{MembersFit}
+use Rattle.cap_write.specs.Pools.{MembersFit, StacksFit}
+use Rattle.cap_write.proofs.LaidWell.{laid_well}
 use Rattle.cap_write.proofs.Longest.{info_long}
+use Rattle.cap_write.proofs.Numbers.{short_codes}
 use Rattle.cap_laying.specs.WrittenSeen.{IsWrittenAs}
-use Rattle.cap_write.proofs.Gathered.{index_short, written_of}
+use Rattle.cap_write.proofs.Gathered.{are_written, index_short, written_of}
 use Rattle.cap_write.proofs.Spread.{references_short}
+use Rattle.cap_write.proofs.Whole.{again}
 use Rattle.cap_write.proofs.write.write_package.Goals as goal
 
 pub all_parts-requires : goal.all_parts-requires
@@ -20,10 +23,26 @@ all_parts-requires c =
       index = index_short p c.args.laid.now (index_seen c.in_ok-index.index) c.in_ok-index.ensures;
     }
 
+pub new_index-requires : goal.new_index-requires
+new_index-requires c =
+    let p = c.args.package.now in
+    short_codes c.args.laid.now (laid_well p.parts p c.args.laid.now c.parts-parts.ensures.agree c.requires)
+
 pub returns-clause-written : goal.returns-clause-written
 returns-clause-written c =
     let p = c.args.package.now in
     let ms = c.in_ok-members.members.items in
     let w : IsWrittenAs (length p.methods.info) (length p.methods.handlers) ms c.in_ok-written.written = subst (λ xs. IsWrittenAs (length p.methods.info) (length p.methods.handlers) xs c.in_ok-written.written) c.deref-2.ensures.value c.in_ok-written.ensures.ok in
-    let fit : MembersFit ms = subst MembersFit c.deref.ensures.value c.members_fit.ensures in
+    let fit : MembersFit ms = subst MembersFit c.deref.ensures.value c.members_fit.ensures.pools in
     written_of p c.args.laid.now ms c.in_ok-written.written (index_seen c.in_ok-index.index) c.in_ok-parts.parts c.in_ok-members.ensures fit w c.in_ok-index.ensures c.in_ok-parts.ensures
+
+pub returns-clause-again : goal.returns-clause-again
+returns-clause-again c =
+    let p = c.args.package.now in
+    let ls = c.args.laid.now in
+    let ms = c.in_ok-members.members.items in
+    let w : IsWrittenAs (length p.methods.info) (length p.methods.handlers) ms c.in_ok-written.written = subst (λ xs. IsWrittenAs (length p.methods.info) (length p.methods.handlers) xs c.in_ok-written.written) c.deref-2.ensures.value c.in_ok-written.ensures.ok in
+    let pools : MembersFit ms = subst MembersFit c.deref.ensures.value c.members_fit.ensures.pools in
+    let stacks : StacksFit ms = subst StacksFit c.deref.ensures.value c.members_fit.ensures.stacks in
+    let whole = are_written p ls ms c.in_ok-written.written (index_seen c.in_ok-index.index) c.in_ok-parts.parts c.in_ok-members.ensures pools w c.in_ok-parts.ensures in
+    again c.rewritten_is_a_package.ensures c.writing_rewrites.ensures p ls ms (index_seen c.in_ok-index.index) c.in_ok-parts.parts c.parts-parts.ensures.agree c.directory_fits.ensures c.requires stacks c.in_ok-members.ensures c.in_ok-index.ensures whole
