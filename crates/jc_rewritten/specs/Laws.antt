@@ -16,13 +16,23 @@ pub record NameTheSame (now was : List PackageRecord) : Type 0 where
   pub classes : (k reference : ℕ) → class_named now k reference ≡ class_named was k reference
 
 abbrev pub NamesLink : Type 0
-NamesLink = (ps : List PackageRecord) (p q : PackageRecord) (laid : List (Option Laid)) → IsRewritten p laid q → NameTheSame (and_last ps q) (and_last ps p)
+NamesLink =
+    (ps : List PackageRecord) (p q : PackageRecord) (laid : List (Option Laid))
+    → IsRewritten p laid q
+    → NameTheSame (and_last ps q) (and_last ps p)
 
 -- the same things are at fault with numbers of packages, classes and methods, with imports and with class references
 abbrev pub NamesConditionsStay : Type 0
-NamesConditionsStay = (ps : List PackageRecord) (p q : PackageRecord) (laid : List (Option Laid)) → IsRewritten p laid q → conditions (and_last ps q) ≡ conditions (and_last ps p)
+NamesConditionsStay =
+    (ps : List PackageRecord) (p q : PackageRecord) (laid : List (Option Laid))
+    → IsRewritten p laid q
+    → conditions (and_last ps q) ≡ conditions (and_last ps p)
 
 -- the same classes by number, each with the classes, types and methods that it names
 abbrev pub ClassesLink : Type 0
-ClassesLink = (parts new_parts : List Lent) (ps : List PackageRecord) (p q : PackageRecord) (laid : List (Option Laid)) → StandsFor parts p → StandsFor new_parts q → IsRewritten p laid q
+ClassesLink =
+    (parts new_parts : List Lent) (ps : List PackageRecord) (p q : PackageRecord) (laid : List (Option Laid))
+    → StandsFor parts p
+    → StandsFor new_parts q
+    → IsRewritten p laid q
     → (object : ℕ) → named_classes (and_last ps q) object ≡ named_classes (and_last ps p) object
