@@ -17,7 +17,7 @@ use Rattle.cap_components.specs.declared.fault.PackFault.{PackFault}
 use Rattle.cap_components.specs.Components.{framed, formed, info_in, read_part, read_directory, ◌>>=◌}
 use Rattle.cap_package.specs.Parts.{Lent, held}
 use Rattle.cap_components.proofs.PartsLemmas.{held-other, held-same}
-use Rattle.capcheck_core.specs.Loads.{is_required, is_optional, is_sized, is_asked, asked_tags, Has, with_file, Rise, AreLoaded, StopsAt, IsFirstLong}
+use Rattle.capcheck_core.specs.Loads.{is_required, is_optional, is_sized, is_asked, asked_tags, Has, with_file, Rise, AreLoaded, IsFirstLong}
 use Rattle.capcheck_core.specs.declared.load.LoadStop.{LoadStop}
 use Rattle.capcheck_core.specs.declared.load.LoadStop.TheVariants.{TooLong, Failed, Memory}
 use Rattle.capcheck_core.specs.LoadEnds.{LoadsParts, LoadsNext}

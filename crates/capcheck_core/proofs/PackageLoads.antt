@@ -5,7 +5,7 @@ use Rattle.std.specs.List.{AllZip}
 use Rattle.std.proofs.lemmas.List.{take_more}
 use Rattle.std.proofs.lemmas.List.Elements.{All-push, All-nil, All-cons, All-head, All-tail}
 use Rattle.std.proofs.lemmas.Slice.Zip.{all_zipped_more}
-use Rattle.cap_files.specs.Folder.{Folders, LoadFails}
+use Rattle.cap_files.specs.Folder.{Folders}
 use Rattle.cap_package.specs.Parts.{Lent}
 use Rattle.cap_package.specs.PackageRecord.{PackageRecord}
 use Rattle.cap_package.specs.StandsFor.{StandsFor, HavePackage}
@@ -18,7 +18,7 @@ use Rattle.capcheck_core.specs.Loads.{AreParts, FailsParts}
 use Rattle.capcheck_core.specs.OverFolders.{StopsAtLoad}
 use Rattle.capcheck_core.specs.Outside.{Outside}
 use Rattle.capcheck_core.specs.Packages.{HasPackage, LacksPackage, IsFirstWhere}
-use Rattle.capcheck_core.specs.Roles.{AreRolesIn, LacksRoles, roles_key}
+use Rattle.capcheck_core.specs.Roles.{AreRolesIn}
 use Rattle.capcheck_core.specs.PackageEnds.{IsWhole, AreAdded, AreLoaded, LoadsRoles, LoadsPackage, LoadsOthers, LoadsPackages, PackagesStopLeaves, IsStop}
 
 module _ (before : Folders) where

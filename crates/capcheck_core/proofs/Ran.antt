@@ -1,27 +1,27 @@
 -- What a run on the machine of verified code leaves: its words, and the text of them.
-use Rattle.std.proofs.Common.{◌≡◌, ℕ, List, [], ◌∷◌, ◌++◌, length, map, take, Option, Some, None, zero, suc, refl, sym, ap, subst, ◌∙◌, arith}
-use Rattle.std.specs.Prelude.{slice_get, option_map, option_and_then, string_bytes}
+use Rattle.std.proofs.Common.{◌≡◌, ℕ, List, ◌++◌, length, map, take, Option, Some, None, zero, suc, refl, sym, ap, subst, ◌∙◌}
+use Rattle.std.specs.Prelude.{slice_get, option_map, option_and_then, Result, Ok, Err, MatchResult}
 use Rattle.std.proofs.Math.Seq.{take-append_seam, take-length}
 use Rattle.jc_base.specs.declared.record.StaticRec.{StaticRec}
 use Rattle.jc_base.specs.World.{Linked}
 use Rattle.vm_store.specs.declared.cell.Cell.{Cell}
-use Rattle.vm_store.specs.Cells.{tagged, words, word_of}
-use Rattle.vm_store.specs.State.{State, erased, map_object}
+use Rattle.vm_store.specs.Cells.{tagged, words}
+use Rattle.vm_store.specs.State.{State, erased}
 use Rattle.vm_store.specs.Objects.{object_at}
 use Rattle.vm_step.specs.declared.ending.Ending.{Ending}
 use Rattle.vm_step.specs.declared.ending.Ending.TheVariants as endings
 use Rattle.vm_step.specs.declared.ending.Plain.{Plain}
 use Rattle.vm_step.specs.Raising.{Outcome, running, ended}
-use Rattle.vm_step.specs.Run.{Runs, stands}
+use Rattle.vm_step.specs.Run.{stands}
 use Rattle.vm_step.specs.Start.{entry_state}
 use Rattle.vm_turns.specs.Turn.{outcome}
 use Rattle.vm_erasure.specs.Erasure.{erased_outcome}
 use Rattle.vm_defend.specs.Held.{answer}
 use Rattle.vm_defend.specs.Reading.{value_at}
 use Rattle.vm_words.specs.declared.words.Counts.{Counts}
-use Rattle.vm_words.specs.Words.{AreLaid, AreObjectsLaid, words_state}
+use Rattle.vm_words.specs.Words.{words_state}
 use Rattle.vm_offend.specs.declared.machine.Machine.{Machine}
-use Rattle.vm_offend.specs.Sized.{AreSized, static_cells}
+use Rattle.vm_offend.specs.Sized.{static_cells}
 use Rattle.vm_offend.specs.Held.{AreWordsOf, IsReached, Follows, state_of, ending_of}
 use Rattle.vm_offend.specs.Begun.{IsBegun}
 use Rattle.vm_text.specs.Left.{Left, numbers_of, left_by}
@@ -30,12 +30,13 @@ use Rattle.vm_text.specs.Laws.{TextsAreAlike}
 use Rattle.vm_text.specs.Text.{left_text, run_text, outcome_text}
 use Rattle.cap_text.specs.Room.{Roomed, IsEmpty, Writes}
 use Rattle.cap_text.specs.Run.{RunRequest}
+use Rattle.capcheck_core.specs.declared.running.RunStop.{RunStop}
 use Rattle.capcheck_core.specs.declared.verdict.Verdict.{Verdict}
-use Rattle.capcheck_core.specs.declared.verdict.Verdict.TheVariants.{Refused, Malformed, Memory}
+use Rattle.capcheck_core.specs.declared.verdict.Verdict.TheVariants.{Refused, Memory}
 use Rattle.capcheck_core.specs.Outside.{Card, card}
 use Rattle.capcheck_core.specs.Verify.{StopsAtCards}
-use Rattle.capcheck_core.specs.Defend.{method_entered, ComesTo}
-use Rattle.capcheck_core.specs.Run.{HoldsWords, IsLeft, IsRun, RunsWorldIn}
+use Rattle.capcheck_core.specs.Defend.{method_entered}
+use Rattle.capcheck_core.specs.Run.{HoldsWords, IsLeft, IsRun, StopsRun, RunsWorldIn}
 
 -- ---- the words of an outcome
 
@@ -70,6 +71,16 @@ lent_run w m ram heap statics o are =
       objects = ap (λ (s : State ℕ). s.heap) same;
       fields = ap (λ (s : State ℕ). s.statics) same;
     }
+
+-- the same of a world that is the accepted one
+pub lent_in : (w v : Linked) (heap statics : List ℕ) (counts : Counts) → w ≡ v → IsLentRun w w heap statics counts → IsLentRun v w heap statics counts
+lent_in w v heap statics counts same lent = subst (λ x. IsLentRun x w heap statics counts) same lent
+
+pub written_in : (w v : Linked) (heap statics : List ℕ) (counts : Counts) (ending : Plain) (before after : Roomed) → v ≡ w
+    → Writes before after (left_text (left_by words v (words_left heap statics counts)) (endings.Plain ending))
+    → Writes before after (left_text (left_by words w (words_left heap statics counts)) (endings.Plain ending))
+written_in w v heap statics counts ending before after same writes =
+    subst (λ x. Writes before after (left_text (left_by words x (words_left heap statics counts)) (endings.Plain ending))) same writes
 
 holds : (w : Linked) (m : Machine) (ram heap statics : List ℕ) (o : Outcome Cell) → AreWordsOf w m ram heap statics o
     → HoldsWords w (card ram heap statics) o
@@ -153,7 +164,7 @@ wider w ram heap fields others o long holds =
       words = ap (λ cells. words_state w.methods ram heap cells holds.counts) (one ∙ sym two) ∙ holds.words;
     }
 
-pub whole_run : (w : Linked) (r : RunRequest) (ram heap fields others text : List ℕ) → length fields ≡ static_cells w
+whole_run : (w : Linked) (r : RunRequest) (ram heap fields others text : List ℕ) → length fields ≡ static_cells w
     → IsRun w r (card ram heap fields) text → IsRun w r (card ram heap (fields ++ others)) text
 whole_run w r ram heap fields others text long run = record {
   carded = run.carded;
@@ -165,6 +176,13 @@ whole_run w r ram heap fields others text long run = record {
     holds = wider w ram heap fields others run.left.outcome long run.left.holds;
   };
 }
+
+-- whether it begins or not
+pub whole_end : {U : Type 0} (w : Linked) (r : RunRequest) (ram heap fields others text : List ℕ) (end : Result U RunStop) → length fields ≡ static_cells w
+    → MatchResult end (λ _. IsRun w r (card ram heap fields) text) (StopsRun w r)
+    → MatchResult end (λ _. IsRun w r (card ram heap (fields ++ others)) text) (StopsRun w r)
+whole_end w r ram heap fields others text (Ok u) long run = whole_run w r ram heap fields others text long run
+whole_end w r ram heap fields others text (Err stop) long stops = stops
 
 -- ---- where a method is refused
 

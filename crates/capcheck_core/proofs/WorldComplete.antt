@@ -1,7 +1,7 @@
 -- Where the parts in the folders and the roles beside the first make a world, nothing stops a command before its own last step but a load
 -- that fails, or no memory.
 use Rattle.std.proofs.Common.{◌≡◌, ◌⊎◌, ◌<◌, ◌≤◌, ℕ, suc, List, [], ◌∷◌, length, Some, refl, sym, ap, subst, ◌∙◌, inl, inr, arith}
-use Rattle.std.specs.Prelude.{Err, IfSome, IsSomeAnd, None, string_bytes}
+use Rattle.std.specs.Prelude.{Err, IfSome, IsSomeAnd, None}
 use Rattle.std.specs.FinMap as map
 use Rattle.std.specs.List.{AllZip}
 use Rattle.std.proofs.lemmas.Slice.Zip.{AllZip-long}
@@ -25,9 +25,9 @@ use Rattle.capcheck_core.specs.Verdict.{status_of}
 use Rattle.capcheck_core.specs.Outside.{Outside}
 use Rattle.capcheck_core.specs.Loads.{AreParts, FailsParts}
 use Rattle.capcheck_core.specs.Roles.{AreRolesIn, LacksRoles, BreaksRoles, roles_key}
-use Rattle.capcheck_core.specs.Packages.{AreRoles, AreGiven, LacksPackage, IsFirstWhere, IsFirstStop}
+use Rattle.capcheck_core.specs.Packages.{AreRoles, LacksPackage, IsFirstWhere, IsFirstStop}
 use Rattle.capcheck_core.specs.OverFolders.{StopsAtLoad, OfGiven, OverFolders}
-use Rattle.capcheck_core.specs.World.{StopsAtLink, MakeWorld, OverPackages, OverWorld}
+use Rattle.capcheck_core.specs.World.{StopsAtLink, OverWorld}
 use Rattle.capcheck_core.specs.Completeness.{CanLink}
 use Rattle.capcheck_core.proofs.Loads.{one_list, none_long}
 

@@ -1,5 +1,5 @@
 -- Where no world is made, by the end of the linking or for want of memory.
-use Rattle.std.proofs.Common.{◌≡◌, ℕ, List, [], ◌∷◌, refl, inl, All}
+use Rattle.std.proofs.Common.{ℕ, List, [], ◌∷◌, refl, inl, All}
 use Rattle.std.specs.Prelude.{Err}
 use Rattle.std.proofs.lemmas.List.Elements.{All-head, All-tail}
 use Rattle.cap_package.specs.Parts.{Lent}

@@ -1,5 +1,5 @@
 -- What `check` may answer, by the packages and the roles in its folders.
-use Rattle.std.specs.Prelude.{List, ℕ, string_bytes}
+use Rattle.std.specs.Prelude.{string_bytes}
 use Rattle.cap_text.specs.Check.{CheckRequest}
 use Rattle.jc_base.specs.World.{Linked}
 use Rattle.capcheck_core.specs.declared.verdict.Verdict.{Verdict}

@@ -2,7 +2,6 @@
 use Rattle.std.specs.Prelude.{◌≡◌, ℕ, ◌≤◌, List, ◌++◌, length, All, Result, Ok, Err, string_bytes}
 use Rattle.std.specs.List.{AllZip}
 use Rattle.cap_files.specs.Folder.{Folders, LoadFails}
-use Rattle.cap_components.specs.declared.fault.PackFault.{PackFault}
 use Rattle.cap_components.specs.declared.fault.PackFault.TheVariants.{Form}
 use Rattle.cap_package.specs.Parts.{Lent}
 use Rattle.cap_package.specs.FirstFault.{Tells}

@@ -1,5 +1,5 @@
 -- Which methods of a world a command types, and that they have dataflow typings (JCVM 2.2, section 7.5; Leroy 2002, section 2.3).
-use Rattle.std.specs.Prelude.{◌≡◌, ◌≢◌, ℕ, ◌+◌, ◌<◌, Bool, ◌&&◌, ◌==◌, nat_lt, List, length, count_by}
+use Rattle.std.specs.Prelude.{◌≡◌, ◌≢◌, ℕ, ◌+◌, Bool, ◌&&◌, ◌==◌, nat_lt, List, length, count_by}
 use Rattle.jc_base.specs.declared.ty.Ty.TheVariants.{Top}
 use Rattle.jc_base.specs.declared.record.MethodRec.{MethodRec}
 use Rattle.jc_base.specs.World.{Linked}

@@ -1,10 +1,11 @@
-ghost use Rattle.std.specs.Prelude.{◌≡◌, Some, MatchResult, map};
+ghost use Rattle.std.specs.Prelude.{◌≡◌, ◌≤◌, Some, MatchResult, length, map};
+ghost use Rattle.card_verify.specs.Answers.{AreAccepted};
 ghost use Rattle.cap_text.specs.Room.{HasRoom, IsEmpty, Writes};
 ghost use Rattle.cap_text.specs.Run.{run_request};
 ghost use Rattle.cap_text.specs.Word.{argument_read};
 ghost use Rattle.vm_offend.specs.Begun.{IsBegun};
 ghost use Rattle.vm_offend.specs.Held.{IsRunOf};
-ghost use Rattle.vm_offend.specs.Sized.{AreSized};
+ghost use Rattle.vm_offend.specs.Sized.{AreSized, static_cells};
 ghost use Rattle.vm_step.specs.declared.ending.Ending.TheVariants as endings;
 ghost use Rattle.vm_store.specs.Cells.{words};
 ghost use Rattle.vm_text.specs.Left.{left_by};
@@ -123,6 +124,7 @@ fn run_accepted(
     heap: &mut [u16],
     statics: &mut [u16],
 ) -> Result<(), RunStop>
+    requires accepted { AreAccepted accepted.now }
     requires card { IsWhole (card ram.old heap.old statics.old) }
     requires handed { args.now ≡ map argument_read run.now.args.items }
     requires empty { IsEmpty text.old }
@@ -132,12 +134,44 @@ fn run_accepted(
         (StopsRun accepted.now (run_request run.now)) }
 {
     match method_entered(accepted.world(), run.entry) {
-        Some(number) => {
-            let fields = sizes(accepted.world()).statics;
-            begin(accepted, run, number, args, text, ram, heap, &mut statics[..fields])
-        }
+        Some(number) => run_entry(accepted, run, number, args, text, ram, heap, statics),
         None => Err(RunStop::NotStarted(StartFault::NoEntry)),
     }
+}
+
+// Runs the method of a number, with its static fields in the first words of those for them.
+fn run_entry(
+    accepted: &Accepted<'_>,
+    run: &Run<'_>,
+    number: u16,
+    args: &Args<'_>,
+    text: &mut Room,
+    ram: &mut [u16],
+    heap: &mut [u16],
+    statics: &mut [u16],
+) -> Result<(), RunStop>
+    requires accepted { AreAccepted accepted.now }
+    requires entered { method_entered accepted.now run.now.entry ≡ Some number }
+    requires card { IsWhole (card ram.old heap.old statics.old) }
+    requires handed { args.now ≡ map argument_read run.now.args.items }
+    requires empty { IsEmpty text.old }
+    requires room { HasRoom text.old (most_text accepted.now) }
+    ensures { MatchResult result
+        (λ _. IsRun accepted.now (run_request run.now) (card ram.new heap.new statics.new) text.new.text)
+        (StopsRun accepted.now (run_request run.now)) }
+{
+    let count = field_words(accepted.world());
+    let (fields, _others) = statics.split_at_mut(count);
+    begin(accepted, run, number, args, text, ram, heap, fields)
+}
+
+// How many words the static fields of a world take: not more than a card has for them.
+fn field_words(world: &World<'_>) -> usize
+    ensures fields { result ≡ static_cells world.now }
+    ensures most { result ≤ 32768 }
+{
+    let _limits = world.classes();
+    sizes(world).statics
 }
 
 // Begins the run of the method of a number in memory of the lengths that the world needs, and goes on with it.
@@ -151,14 +185,16 @@ fn begin(
     heap: &mut [u16],
     statics: &mut [u16],
 ) -> Result<(), RunStop>
+    requires accepted { AreAccepted accepted.now }
     requires entered { method_entered accepted.now run.now.entry ≡ Some number }
     requires sized { AreSized accepted.now ram.old heap.old statics.old }
     requires handed { args.now ≡ map argument_read run.now.args.items }
     requires empty { IsEmpty text.old }
     requires room { HasRoom text.old (most_text accepted.now) }
-    ensures { MatchResult result
+    ensures runs { MatchResult result
         (λ _. IsRun accepted.now (run_request run.now) (card ram.new heap.new statics.new) text.new.text)
         (StopsRun accepted.now (run_request run.now)) }
+    ensures length { length statics.new ≡ length statics.old }
 {
     match start(accepted, number, args, ram, heap, statics) {
         Ok(machine) => {
@@ -190,7 +226,15 @@ fn go_on(
     let mut machine = machine;
     let ending = machine.run(accepted, ram, heap, statics, u64::from(run.budget));
     texts_are_alike(accepted.world());
-    write_left(text, accepted.world(), accepted, machine, heap, statics, ending);
+    write_left(
+        text,
+        accepted.world(),
+        accepted,
+        machine,
+        heap,
+        statics,
+        ending,
+    );
 }
 
 // Writes what a run left that ended so.

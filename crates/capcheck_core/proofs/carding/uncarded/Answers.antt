@@ -5,7 +5,7 @@ use Rattle.jc_base.specs.World.{Linked}
 use Rattle.capcheck_core.specs.declared.verdict.Verdict.{Verdict}
 use Rattle.capcheck_core.specs.declared.verdict.Verdict.TheVariants.{Refused, Memory}
 use Rattle.capcheck_core.specs.Verify.{IsUncarded, StopsAtCards}
-use Rattle.capcheck_core.proofs.Cardings.{first_uncarded, number_below}
+use Rattle.capcheck_core.proofs.Cardings.{first_uncarded}
 use Rattle.capcheck_core.proofs.carding.uncarded.Goals as goal
 
 refused : {E : Type 0} (w : Linked) (text : Result _ E) (line : List ℕ) (verdict : Verdict) → ((said : List ℕ) → said ≡ line → IsUncarded w said)

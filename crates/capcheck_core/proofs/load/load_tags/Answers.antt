@@ -1,5 +1,5 @@
 -- the parts below a tag become those below the next one, or the loads stop there
-use Rattle.std.proofs.Common.{refl, sym, ap, subst, ◌∙◌, arith}
+use Rattle.std.proofs.Common.{refl, sym, subst, ◌∙◌, arith}
 use Rattle.capcheck_core.specs.LoadEnds.{StopLeaves}
 use Rattle.capcheck_core.proofs.Loads.{next_absent, next_loaded, next_known, stopped_there, wanted_at}
 use Rattle.capcheck_core.proofs.load.load_tags.Goals as goal

@@ -1,0 +1,17 @@
+-- what the run leaves, in a world whose methods are all accepted; or why it does not begin
+use Rattle.std.proofs.Common.{ap, sym, ◌∙◌}
+use Rattle.vm_step.specs.Start.{start_fault}
+use Rattle.cap_text.specs.Run.{run_request}
+use Rattle.capcheck_core.specs.Defend.{fault_of}
+use Rattle.capcheck_core.proofs.Cardings.{all_carded}
+use Rattle.capcheck_core.proofs.running.begin.Goals as goal
+
+pub returns-in-Ok-clause-runs : goal.returns-in-Ok-clause-runs
+returns-in-Ok-clause-runs c = record { carded = all_carded c.args.accepted.now c.requires.accepted; fault_free = c.start.ensures.fault_free; left = c.go_on.ensures }
+
+pub returns-in-Err-clause-runs : goal.returns-in-Err-clause-runs
+returns-in-Err-clause-runs c = (
+  c.requires.accepted,
+  ap (fault_of c.args.accepted.now (run_request c.args.run.now).args) c.requires.entered
+      ∙ ap (start_fault c.args.accepted.now c.args.number) (sym c.requires.handed) ∙ c.in-Err.ensures.refused,
+)
