@@ -1,12 +1,9 @@
 #!/usr/bin/env python3
-"""Makes packages with a loop that never ends, and times `defend` on each.
 """Makes packages with a loop that never ends, and times `defend` and `run` on each.
 
     bench/make_runs.py FOLDER [CAPCHECK [PERCENT]]
 
 Each loop becomes the folder FOLDER/LOOP, with the file of roles. With CAPCHECK, the path of the program or of the script
-`capcheck`, it is run for a number of steps and for half of them, and the steps a second are printed that the difference of the
-two times tells: so what is loaded and linked before does not count. With PERCENT, there are this much of the steps below.
 `capcheck`, each of the two is run for a number of steps and for half of them, and the steps a second are printed side by side
 that the difference of the two times tells: so what is loaded, linked and verified before does not count. With PERCENT, there are this much of the steps below.
 """
@@ -30,7 +27,6 @@ def back(count):
 def looping(begin, turn, callee=b"", pool=(), fields=()):
     """Object and throwable, and a static method of object: its code begins once and then takes a turn after the other. Another
     method, if there is one, stands after it."""
-    method, if there is one, stands behind it."""
     package = Package()
     package.pool = list(pool)
     code = begin + turn + back(len(turn))
@@ -65,24 +61,14 @@ def calls():
     return looping(b"", turn, callee=bytes([RETURN]), pool=[bytes([6, 0]) + u2(after)])
 
 
-def seconds(capcheck, steps, folder):
-    """How long a run of so many steps takes; it has to be spent."""
-    begin = time.monotonic()
-    done = subprocess.run([capcheck, "defend", str(steps), "0.0", folder], capture_output=True, text=True)
-    taken = time.monotonic() - begin
-    if done.stdout.split("\n", 1)[0] != "spent":
-        sys.exit("bench/make_runs.py: %s: %s" % (folder, done.stdout))
-    return taken
-
-
-    behind = 1 + 2 + len(turn) + len(back(len(turn)))
-    return looping(b"", turn, callee=bytes([RETURN]), pool=[bytes([6, 0]) + u2(behind)])
-
-
 def seconds(capcheck, command, steps, folder):
     """How long a command takes for so many steps; it has to be spent."""
+    begin = time.monotonic()
     done = subprocess.run([capcheck, command, str(steps), "0.0", folder], capture_output=True, text=True)
+    taken = time.monotonic() - begin
+    if done.stdout.split("\n", 1)[0] != "spent":
         sys.exit("bench/make_runs.py: %s %s: %s" % (command, folder, done.stdout))
+    return taken
 
 
 def rate(capcheck, command, steps, folder):
@@ -99,9 +85,6 @@ def main(words):
         folder = os.path.join(words[0], loop.__name__)
         loop().write(folder)
         if len(words) > 1:
-            whole, half = (seconds(words[1], count, folder) for count in (steps, steps // 2))
-            print("defend  %-13s %6.2f s of %d steps, %.0f steps a second" % (
-                loop.__name__, whole, steps, steps / 2 / max(whole - half, 0.001)), flush=True)
             rates = [rate(words[1], command, steps, folder) for command in ("defend", "run")]
             print("%-13s %d steps: defend %.0f, run %.0f steps a second" % (loop.__name__, steps, *rates), flush=True)
 

@@ -30,7 +30,8 @@ pub record IsWhole (c : Card) : Type 0 where
   pub heap : length c.heap ≡ 45056
   pub statics : length c.statics ≡ 32768
 
--- the memory holds the words of a state of the world: of its frames, of its objects, and in the first words of `statics` of its static cells
+-- the memory holds the words of a state of the world: of its frames, of its objects, and of its static cells, which the first words of
+-- `statics` are
 pub record HoldsWords (w : Linked) (c : Card) (o : Outcome Cell) : Type 0 where
   pub counts : Counts
   pub laid : AreLaid w c.ram c.heap counts
