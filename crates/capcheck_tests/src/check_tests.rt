@@ -274,12 +274,14 @@ fn check_names_roles_that_are_too_long(rt: HostRuntime) -> Result<(), AllocError
 }
 
 /// A check loads nine parts of each package, and the roles after those of the first.
-static FAILING: [Failing; 6] = [
+static FAILING: [Failing; 8] = [
     ("check T", 1, 0, 0, "read fault\n", 3),
     ("check T", 10, 0, 0, "read fault\n", 3),
     ("check T", 11, 0, 0, "typed 2 methods\n", 0),
     ("check T T", 11, 0, 0, "read fault\n", 3),
     ("check T", 0, 1, 0, "", 8),
+    ("run 6 0.1 T -- 5 0", 10, 0, 0, "read fault\n", 3),
+    ("run 6 0.1 T -- 5 0", 0, 1, 0, "", 8),
     (
         "check T T T T T T T T T T T T T T T T T",
         1,
@@ -310,7 +312,7 @@ fn first_missed(alloc: Global) -> Result<Option<usize>, AllocError> {
 }
 
 #[test]
-fn check_names_the_device_that_fails(rt: HostRuntime) -> Result<(), AllocError> {
+fn check_and_run_name_the_device_that_fails(rt: HostRuntime) -> Result<(), AllocError> {
     assert_eq!(rt; first_missed(rt.alloc())?, None);
     Ok(())
 }

@@ -83,10 +83,14 @@ fn defend_runs_an_entry_of_the_last_package(rt: HostRuntime) -> Result<(), Alloc
 }
 
 /// Takes an array of bytes, puts 5 in its first element, and gives it.
-const FIRST_FIVE: (&[u8], &[u8], &[u8]) = (b"\x02\xBB", b"\x03\x10", b"\x18\x03\x08\x38\x18\x77");
+pub(crate) const FIRST_FIVE: (&[u8], &[u8], &[u8]) = (
+    b"\x02\xBB",
+    b"\x03\x10",
+    b"\x18\x03\x08\x38\x18\x77",
+);
 
 /// A command over `T`, whose second method is another.
-type Run = (&'static str, Method);
+pub(crate) type Run = (&'static str, Method);
 
 static RUNS: [Run; 10] = [
     // one number on the stack, and a sum
@@ -164,8 +168,11 @@ static RUNS: [Run; 10] = [
 ];
 
 /// The line of the first run that is answered otherwise, or the empty text.
-fn first_other_run(alloc: Global) -> Result<&'static str, AllocError> {
-    for (line, method) in RUNS.iter() {
+pub(crate) fn first_other_run(
+    alloc: Global,
+    runs: &'static [Run],
+) -> Result<&'static str, AllocError> {
+    for (line, method) in runs {
         if !is_answered(alloc, line, method)? {
             return Ok(line);
         }
@@ -175,7 +182,7 @@ fn first_other_run(alloc: Global) -> Result<&'static str, AllocError> {
 
 #[test]
 fn defend_tells_arrays_and_faults(rt: HostRuntime) -> Result<(), AllocError> {
-    assert_eq!(rt; first_other_run(rt.alloc())?, "");
+    assert_eq!(rt; first_other_run(rt.alloc(), &RUNS)?, "");
     Ok(())
 }
 
@@ -224,8 +231,8 @@ fn static_arrays(alloc: Global) -> Result<Vec<u8>, AllocError> {
     Ok(file)
 }
 
-/// Whether a run is refused where the initial arrays leave no room for the array of its argument.
-fn is_full(alloc: Global) -> Result<bool, AllocError> {
+/// Whether a command is refused where the initial arrays leave no room for the array of its argument.
+pub(crate) fn is_full(alloc: Global, line: &str) -> Result<bool, AllocError> {
     let (types, header, code) = FIRST_FIVE;
     let file = static_arrays(alloc)?;
     let changes = [
@@ -241,19 +248,13 @@ fn is_full(alloc: Global) -> Result<bool, AllocError> {
     let mut folder = SureFolder::new(alloc, 48, 110_000)?;
     Ok(
         fill(alloc, &mut folder, &PLAIN_ROLES, &changes, &[])?
-            && gives(
-                alloc,
-                "defend 6 0.1 T -- #00",
-                &mut folder,
-                "not started ArgRoom 0\n",
-                7,
-            )?,
+            && gives(alloc, line, &mut folder, "not started ArgRoom 0\n", 7)?,
     )
 }
 
 #[test]
 fn an_array_without_room_keeps_a_run_from_beginning(rt: HostRuntime) -> Result<(), AllocError> {
-    assert!(rt; is_full(rt.alloc())?);
+    assert!(rt; is_full(rt.alloc(), "defend 6 0.1 T -- #00")?);
     Ok(())
 }
 
@@ -265,12 +266,15 @@ static CALLS: [(&str, &str); 4] = [
     ("defend 9 1.3 I", "interface missing class 2\n"),
 ];
 
-/// The first of those runs that prints something else, or the empty text.
-fn first_wrong_call(alloc: Global) -> Result<&'static str, AllocError> {
+/// The first run of the package of calls that prints something else, or the empty text.
+pub(crate) fn first_wrong_call(
+    alloc: Global,
+    calls: &'static [(&'static str, &'static str)],
+) -> Result<&'static str, AllocError> {
     let mut folder = SureFolder::new(alloc, 16, 2000)?;
     let fits = put_package(alloc, &mut folder, "I", &CALLING, &[])?
         && folder.set("I", ROLES, b"\x01\x02\x02\x02\x02\x02\x02\x02");
-    for (line, text) in CALLS.iter() {
+    for (line, text) in calls {
         if !fits || !gives(alloc, line, &mut folder, text, 0)? {
             return Ok(line);
         }
@@ -280,6 +284,6 @@ fn first_wrong_call(alloc: Global) -> Result<&'static str, AllocError> {
 
 #[test]
 fn defend_finds_methods_of_interfaces_and_of_object(rt: HostRuntime) -> Result<(), AllocError> {
-    assert_eq!(rt; first_wrong_call(rt.alloc())?, "");
+    assert_eq!(rt; first_wrong_call(rt.alloc(), &CALLS)?, "");
     Ok(())
 }

@@ -1,5 +1,6 @@
-//! Worked commands: what `capcheck_core` prints for `probe`, `show`, `check`, `verify` and `defend` over folders in memory,
-//! with package T of `cap_tests` and two more small packages, and where a device fails.
+//! Worked commands: what `capcheck_core` prints for `probe`, `show`, `check`, `verify`, `defend` and `run` over folders in
+//! memory, with package T of `cap_tests` and two more small packages, what `run` leaves in the memory of the card, and where a
+//! device fails.
 #![tactic(auto)]
 
 #[cfg(test)]
@@ -12,6 +13,8 @@ mod filling;
 mod probe_tests;
 #[cfg(test)]
 mod run;
+#[cfg(test)]
+mod run_tests;
 #[cfg(test)]
 mod show_tests;
 #[cfg(test)]

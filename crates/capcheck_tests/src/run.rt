@@ -54,6 +54,52 @@ pub(crate) fn gives(
     Ok(answer == status && out.received() == text.as_bytes())
 }
 
+/// Words of a memory, from a place on.
+pub(crate) type Piece = (usize, &'static [u16]);
+
+/// Whether words stand in a memory from their place on.
+fn has(memory: &[u16], piece: Piece) -> bool {
+    let (from, words) = piece;
+    words
+        .iter()
+        .enumerate()
+        .all(|(n, word)| memory.get(from.wrapping_add(n)) == Some(word))
+}
+
+/// What a command leaves: its text and its status, and words of the three memories of the card.
+pub(crate) type Left = (&'static str, u8, Piece, Piece, Piece);
+
+/// Whether a command over a folder leaves this, on a card whose memory held other words.
+pub(crate) fn leaves(
+    alloc: Global,
+    line: &str,
+    folder: &mut SureFolder,
+    left: &Left,
+) -> Result<bool, AllocError> {
+    let (text, status, in_ram, in_heap, in_statics) = left;
+    let words = words_of(alloc, line)?;
+    let mut out = SureSink::new(alloc, 400)?;
+    let mut ram = vec![in alloc; 0xA55Au16; 32_832]?;
+    let mut heap = vec![in alloc; 0xA55Au16; 45_056]?;
+    let mut statics = vec![in alloc; 0xA55Au16; 32_768]?;
+    let answer = capcheck(
+        alloc,
+        &words,
+        folder,
+        &mut out,
+        &mut ram,
+        &mut heap,
+        &mut statics,
+    );
+    Ok(
+        answer == *status
+            && out.received() == text.as_bytes()
+            && has(&ram, *in_ram)
+            && has(&heap, *in_heap)
+            && has(&statics, *in_statics),
+    )
+}
+
 /// A command; which of its loads fails, which of its puts, and after how many bytes; the text that is received,
 /// and the status.
 pub(crate) type Failing = (&'static str, u32, u32, u32, &'static str, u8);
