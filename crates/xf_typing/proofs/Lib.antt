@@ -1,1 +1,9 @@
 pub mod Wholes
+pub mod Walks
+pub mod Moves
+pub mod Stacks
+pub mod Ready
+pub mod Copies
+pub mod Renames
+pub mod Kept
+pub mod Turns
