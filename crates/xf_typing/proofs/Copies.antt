@@ -81,8 +81,8 @@ module _ (same_is : SameTypeDecides) (kept : NeededAreKept) (s : Source) (object
       let below : length stack ≤ r.max_stack = omega (arith, room) in
       let cells : CellsBelow s.world.classes (cells_on from.ty) (cells_on to.ty) =
       subst (λ (ts : List Ty). CellsBelow s.world.classes ts (cells_on to.ty)) (sym one) (subst (CellsBelow s.world.classes (from.ty ∷ [])) (sym two) (more_cells le no_cells)) in
-      λ n. flow_plain (load-turn s.world objects r (registers_of s.homes) asks n from.ty (register s from) stack a full below)
-      (flow_plain (store-turn s.world objects r (registers_of s.homes) asks (suc n) to.ty (register s to) (cells_on from.ty) stack b cells full below) flow_end)
+      λ n. flow_plain s.world r (registers_of s.homes) asks (load-turn s.world objects r (registers_of s.homes) asks n from.ty (register s from) stack a full below)
+      (flow_plain s.world r (registers_of s.homes) asks (store-turn s.world objects r (registers_of s.homes) asks (suc n) to.ty (register s to) (cells_on from.ty) stack b cells full below) flow_end)
 
   home-same : (a b : Home) → a.slot ≡ b.slot → a.ty ≡ b.ty → a ≡ b
   home-same a b e f = ap (λ (n : ℕ). record { slot = n; ty = a.ty }) e ∙ ap (λ (u : Ty). record { slot = b.slot; ty = u }) f

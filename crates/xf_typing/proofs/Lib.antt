@@ -7,3 +7,4 @@ pub mod Copies
 pub mod Renames
 pub mod Kept
 pub mod Turns
+pub mod Bridge

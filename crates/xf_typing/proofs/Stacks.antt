@@ -70,7 +70,7 @@ module _ (s : Source) (objects : ClassesAreObjects s.world.classes) (r : MethodR
       let longer = pushed-longer hs (cells_on h.ty ++ stack) in
       let full : length (cells_on h.ty ++ stack) ≤ r.max_stack = omega (arith, longer, room) in
       let below : length stack ≤ r.max_stack = omega (arith, full, length-append (cells_on h.ty) stack) in
-      λ n. flow_plain (load-turn s.world objects r regs asks n h.ty (register s h) stack e.0 full below) (loads-go hs (cells_on h.ty ++ stack) e.1 room (suc n))
+      λ n. flow_plain s.world r regs asks (load-turn s.world objects r regs asks n h.ty (register s h) stack e.0 full below) (loads-go hs (cells_on h.ty ++ stack) e.1 room (suc n))
 
   stores-go : (ks : List Home) (stack : List Ty) → Each Stands ks → CellsBelow s.world.classes stack (tops ks) → length stack ≤ r.max_stack → Goes s.world r regs asks (holding stack) (map (store s) ks) (holding [])
   stores-go [] _ e no_cells room = goes-nowhere s.world r regs asks
@@ -83,7 +83,7 @@ module _ (s : Source) (objects : ClassesAreObjects s.world.classes) (r : MethodR
           let own : length (d.0 ++ d.1) ≤ r.max_stack = omega (arith, ap length d.2, room) in
           let under : length d.1 ≤ r.max_stack = omega (arith, own, length-append d.0 d.1) in
           subst (λ (st : List Ty). Goes s.world r regs asks (holding st) (map (store s) (k ∷ ks)) (holding [])) (sym d.2)
-          (λ n. flow_plain (store-turn s.world objects r regs asks n k.ty (register s k) d.0 d.1 e.0 d.3 own under) (later d.1 d.4 under (suc n)))
+          (λ n. flow_plain s.world r regs asks (store-turn s.world objects r regs asks n k.ty (register s k) d.0 d.1 e.0 d.3 own under) (later d.1 d.4 under (suc n)))
 
   each-turned : (hs : List Home) → Each Stands hs → Each Stands (reverse hs)
   each-turned [] e = tt

@@ -9,7 +9,7 @@ use Rattle.jc_decode.specs.declared.insn.Insn.{Insn}
 use Rattle.jc_decode.specs.declared.symbols.Item.{Item}
 use Rattle.jc_decode.specs.declared.symbols.Item.TheVariants.{Plain, Branch, Switch, Label}
 use Rattle.jc_decode.specs.Listing.{falls, jumps}
-use Rattle.jc_decode.specs.Symbols.{jump}
+use Rattle.jc_decode.specs.Symbols.{is_instruction, jump}
 use Rattle.jc_rules.specs.declared.effect.Mode.TheVariants.{Flow}
 use Rattle.jc_rules.specs.declared.rule.Outcome.{Outcome}
 use Rattle.jc_rules.specs.Demand.{Frame}
@@ -48,6 +48,17 @@ count-append (Plain i ∷ xs) ys = omega (arith, count-append xs ys)
 count-append (Branch op l ∷ xs) ys = omega (arith, count-append xs ys)
 count-append (Switch i at ls ∷ xs) ys = omega (arith, count-append xs ys)
 
+-- the instruction of an item
+abbrev pub insn_of : Item → Insn
+insn_of (Label l) = jump 0
+insn_of (Plain i) = i
+insn_of (Branch op l) = jump op
+insn_of (Switch i at ls) = i
+
+pub count-step : (x : Item) (xs : List Item) → is_instruction x ≡ true → count (x ∷ xs) ≡ suc (count xs)
+count-step (Label l) xs is = absurd (cc)
+count-step x xs is = refl
+
 module _ (w : Linked) (r : MethodRec) (regs : List Ty) (asks : ℕ → Asked) where
   -- the rule of an instruction applies, and stores nothing above the registers; a branch or switch leaves the stack empty
   pub record Turn (n : ℕ) (i : Insn) (a b : State) : Type 0 where
@@ -63,16 +74,16 @@ module _ (w : Linked) (r : MethodRec) (regs : List Ty) (asks : ℕ → Asked) wh
   pub data Flows : ℕ → State → List Item → State → Type 0 where
     flow_end : {n : ℕ} {a : State} → Flows n a [] a
     flow_label : {n l : ℕ} {a b c : State} {xs : List Item} → Passes (asks l) a b → Flows n b xs c → Flows n a (Label l ∷ xs) c
-    flow_plain : {n : ℕ} {a b c : State} {i : Insn} {xs : List Item} → Turn n i a b → Flows (suc n) b xs c → Flows n a (Plain i ∷ xs) c
-    flow_branch : {n op l : ℕ} {a b c : State} {xs : List Item} → Turn n (jump op) a b → Flows (suc n) b xs c → Flows n a (Branch op l ∷ xs) c
-    flow_switch : {n at : ℕ} {a b c : State} {i : Insn} {ls : List ℕ} {xs : List Item} → Turn n i a b → Flows (suc n) b xs c → Flows n a (Switch i at ls ∷ xs) c
+    flow_step : {n : ℕ} {a b c : State} {x : Item} {xs : List Item} → is_instruction x ≡ true → Turn n (insn_of x) a b → Flows (suc n) b xs c → Flows n a (x ∷ xs) c
+
+  pub flow_plain : {n : ℕ} {a b c : State} {i : Insn} {xs : List Item} → Turn n i a b → Flows (suc n) b xs c → Flows n a (Plain i ∷ xs) c
+  flow_plain {i = i} t f = flow_step {x = Plain i} refl t f
 
   pub flows-append : {n : ℕ} {a b c : State} {xs ys : List Item} → Flows n a xs b → Flows (n + count xs) b ys c → Flows n a (xs ++ ys) c
   flows-append {n = n} {b = b} {c = c} {ys = ys} flow_end g = let e : n + 0 ≡ n = omega arith in subst (λ (k : ℕ). Flows k b ys c) e g
   flows-append (flow_label p f) g = flow_label p (flows-append f g)
-  flows-append {n = n} {b = z} {c = c} {ys = ys} (flow_plain {xs = xs} t f) g = let e : n + suc (count xs) ≡ suc n + count xs = omega arith in flow_plain t (flows-append f (subst (λ (k : ℕ). Flows k z ys c) e g))
-  flows-append {n = n} {b = z} {c = c} {ys = ys} (flow_branch {xs = xs} t f) g = let e : n + suc (count xs) ≡ suc n + count xs = omega arith in flow_branch t (flows-append f (subst (λ (k : ℕ). Flows k z ys c) e g))
-  flows-append {n = n} {b = z} {c = c} {ys = ys} (flow_switch {xs = xs} t f) g = let e : n + suc (count xs) ≡ suc n + count xs = omega arith in flow_switch t (flows-append f (subst (λ (k : ℕ). Flows k z ys c) e g))
+  flows-append {n = n} {b = z} {c = c} {ys = ys} (flow_step {x = x} {xs = xs} is t f) g =
+      let e : n + count (x ∷ xs) ≡ suc n + count xs = omega (arith, count-step x xs is) in flow_step is t (flows-append f (subst (λ (k : ℕ). Flows k z ys c) e g))
 
   -- a walk from any place
   abbrev pub Goes : State → List Item → State → Type 0
