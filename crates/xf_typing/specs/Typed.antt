@@ -7,7 +7,7 @@ use Rattle.jc_decode.specs.declared.symbols.Symbols.{Symbols}
 use Rattle.jc_control.specs.Method.{Method}
 use Rattle.card_typing.specs.Typing.{TypingIn}
 use Rattle.xf_homes.specs.declared.home.Home.{Home}
-use Rattle.xf_typing.specs.Labelled.{code_with_labels}
+use Rattle.xf_landed.specs.Laid.{code_in_symbols}
 
 -- the cells of a value of a type
 abbrev pub cells_of : Ty → List Ty
@@ -21,4 +21,4 @@ registers_of homes = flat_map (λ h. cells_of h.ty) homes
 -- the symbols have a card typing whose registers have the types of the homes
 pub record HasTypes (w : Linked) (m : Method) (homes : List Home) (symbols : Symbols) : Type 0 where
   pub stacks : ℕ → List Ty
-  pub typing : TypingIn w (code_with_labels w m symbols) (registers_of homes) stacks
+  pub typing : TypingIn w (code_in_symbols m.rec m.code symbols) (registers_of homes) stacks
