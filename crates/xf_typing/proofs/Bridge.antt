@@ -11,6 +11,7 @@ use Rattle.jc_decode.specs.declared.symbols.Item.{Item}
 use Rattle.jc_decode.specs.declared.symbols.Item.TheVariants.{Plain, Branch, Switch, Label}
 use Rattle.jc_decode.specs.Symbols.{Step, is_instruction, place_of, steps_in}
 use Rattle.xf_emission.proofs.Labels.{labels}
+use Rattle.xf_emission.proofs.Rises.{Rises}
 use Rattle.xf_typing.proofs.Walks.{State, holding, left, Asked, nothing_asked, emptied, catching, Passes, Turn, Flows, flow_end, flow_label, flow_step, insn_of, count, count-step}
 
 -- ---- an instruction at the head of items
@@ -46,6 +47,11 @@ itself n = grind (arith, nat_tests)
 
 apart : (m n : ℕ) → n < m → (m == n) ≡ false
 apart m n lt = grind (arith, nat_tests)
+
+among-above : (low high l : ℕ) (xs : List ℕ) → Rises low high xs → IsAmong l xs → low ≤ l
+among-above low high l [] r a = absurd a
+among-above low high l (y ∷ ys) r (inl e) = omega (arith, r.0, e)
+among-above low high l (y ∷ ys) r (inr a) = omega (arith, r.0, among-above (suc y) high l ys r.2 a)
 
 module _ (w : Linked) (r : MethodRec) (regs : List Ty) (asks : ℕ → Asked) where
   -- the stack before the instruction at a place
@@ -114,6 +120,7 @@ module _ (w : Linked) (r : MethodRec) (regs : List Ty) (asks : ℕ → Asked) wh
     pub later : (q : ℕ) → place < q → at q ≡ stack_at flow q
     pub size : count xs ≡ suc k + count rest
     pub labelled : (l : ℕ) → IsAmong l (labels xs) → k < place_of l xs → IsAmong l (labels rest) × (place_of l xs ≡ suc k + place_of l rest)
+    pub beyond : (low high l : ℕ) → Rises low high (labels xs) → IsAmong l (labels rest) → IsAmong l (labels xs) × (place_of l xs ≡ suc k + place_of l rest)
 
   differ : (z : Bool) → z ≡ true → z ≡ false → ⊥
   differ z e f = absurd (cc)
@@ -148,6 +155,11 @@ module _ (w : Linked) (r : MethodRec) (regs : List Ty) (asks : ℕ → Asked) wh
         later = t.later;
         size = t.size;
         labelled = λ m among lt. past-label l k xs t.rest m among (l == m) refl lt t.labelled;
+        beyond = λ low high m rise among.
+            let b = t.beyond (suc l) high m rise.2 among in
+            let above = among-above (suc l) high m (labels xs) rise.2 b.0 in
+            let other : (l == m) ≡ false = grind (arith, nat_tests, above) in
+            (inr b.0, ap (λ (y : Bool). if y then 0 else place_of m xs) other ∙ b.1);
       }
   turned-at source all (flow_step {n = n} {a = a} {b = b} {x = x} {xs = xs} is t f) zero st e =
       let own = first-step source all x xs st is e in
@@ -163,6 +175,7 @@ module _ (w : Linked) (r : MethodRec) (regs : List Ty) (asks : ℕ → Asked) wh
         later = λ q lt. ap (λ (y : Bool). if y then t.stack else stack_at f q) (apart q n lt);
         size = omega (arith, count-step x xs is);
         labelled = λ l among lt. (subst (IsAmong l) (labels-step x xs is) among, omega (arith, place-step l x xs is));
+        beyond = λ low high l rise among. (subst (IsAmong l) (sym (labels-step x xs is)) among, omega (arith, place-step l x xs is));
       }
   turned-at source all (flow_step {n = n} {a = a} {b = b} {x = x} {xs = xs} is t f) (suc k) st e =
       let u = turned-at source all f k st (sym (later-step source all x xs k is) ∙ e) in
@@ -183,7 +196,30 @@ module _ (w : Linked) (r : MethodRec) (regs : List Ty) (asks : ℕ → Asked) wh
             let near : k < place_of l xs = omega (arith, p, lt) in
             let r = u.labelled l (subst (IsAmong l) (labels-step x xs is) among) near in
             (r.0, omega (arith, p, r.1));
+        beyond = λ low high l rise among.
+            let p = place-step l x xs is in
+            let b = u.beyond low high l (subst (Rises low high) (labels-step x xs is) rise) among in
+            (subst (IsAmong l) (sym (labels-step x xs is)) b.0, omega (arith, p, b.1));
       }
+
+  -- where control doesn't come from before, and no handler's label stands first, the stack is empty
+  pub left-empty : {n : ℕ} {a b : State} {xs : List Item} (f : Flows w r regs asks n a xs b) → a ≡ left → b ≡ left → ((l c : ℕ) → asks l ≡ catching c → IsAmong l (labels xs) → 0 < place_of l xs) → stack_at f n ≡ []
+  unfolding stack_at
+  left-empty flow_end e g free = refl
+  left-empty (flow_label {n = n} {l = l} {a = a} {b = b} {xs = xs} p f) e g free = by (asks l) refl p (λ h. left-empty f h g later)
+    where
+      later : (m c : ℕ) → asks m ≡ catching c → IsAmong m (labels xs) → 0 < place_of m xs
+      later m c is among = past (l == m) refl (free m c is (inr among))
+        where
+          past : (y : Bool) → (l == m) ≡ y → 0 < (if y then 0 else place_of m xs) → 0 < place_of m xs
+          past true q lt = absurd (omega (arith, lt))
+          past false q lt = lt
+
+      by : (q : Asked) → asks l ≡ q → Passes q a b → (b ≡ left → stack_at f n ≡ []) → stack_at f n ≡ []
+      by nothing_asked is p rest = rest (sym p ∙ e)
+      by emptied is p rest = (comes-next f [] p.1 g).stack
+      by (catching c) is p rest = let first = free l c is (inl refl) in let zero_place : (if l == l then 0 else place_of l xs) ≡ 0 = ap (λ (y : Bool). if y then 0 else place_of l xs) (itself l) in absurd (omega (arith, first, zero_place))
+  left-empty (flow_step is t f) e g free = absurd (never t.stack (sym t.here ∙ e))
 
   -- ---- what a label asks is there
 
