@@ -8,3 +8,4 @@ pub mod Renames
 pub mod Kept
 pub mod Turns
 pub mod Bridge
+pub mod Typings
