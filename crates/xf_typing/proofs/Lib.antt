@@ -9,3 +9,4 @@ pub mod Kept
 pub mod Turns
 pub mod Bridge
 pub mod Typings
+pub mod Carried

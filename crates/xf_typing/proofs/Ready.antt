@@ -226,7 +226,7 @@ module _ (same_is : SameTypeDecides) (kept : NeededAreKept) (s : Source) (object
       listed (k ∷ ks) zero h e = let own : k ≡ h = cc in (0, omega arith, own)
       listed (k ∷ ks) (suc n) h e = let r = listed ks n h e in (suc r.0, omega (arith, r.1), r.2)
 
-  needed-are : (q x : ℕ) → AreNeeded s.method s.frames q x (needed s q x)
+  pub needed-are : (q x : ℕ) → AreNeeded s.method s.frames q x (needed s q x)
   unfolding needed
   needed-are q x = kept s.method s.frames q x
 
