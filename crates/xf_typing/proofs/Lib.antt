@@ -10,3 +10,4 @@ pub mod Turns
 pub mod Bridge
 pub mod Typings
 pub mod Carried
+pub mod Registers

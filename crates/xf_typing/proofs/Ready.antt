@@ -179,25 +179,25 @@ module _ (same_is : SameTypeDecides) (kept : NeededAreKept) (s : Source) (object
             small = omega (arith, here, p.2.below, ready.few);
           }
 
-  framed : (o : Option Frame) (P : Frame → Type 0) → IsSomeAnd o P → (f : Frame) × (o ≡ Some f) × P f
+  pub framed : (o : Option Frame) (P : Frame → Type 0) → IsSomeAnd o P → (f : Frame) × (o ≡ Some f) × P f
   framed None P h = absurd h
   framed (Some f) P h = (f, refl, h)
 
-  reached : (p : ℕ) (f : Frame) → s.frames p ≡ Some f → IsReached s.method p
+  pub reached : (p : ℕ) (f : Frame) → s.frames p ≡ Some f → IsReached s.method p
   reached p f e = (ready.has.reached p).0 (ap is_some e)
 
   -- a local that is asked for: where, with which frame, and what is above it
-  record IsFound (q x : ℕ) (ty : Ty) : Type 0 where
-    place : ℕ
-    frame : Frame
-    at : s.frames place ≡ Some frame
-    value : value_at frame.regs x ≡ Some ty
-    above : (f : Frame) → s.frames q ≡ Some f → CellsBelow s.world.classes f.regs frame.regs
+  pub record IsFound (q x : ℕ) (ty : Ty) : Type 0 where
+    pub place : ℕ
+    pub frame : Frame
+    pub at : s.frames place ≡ Some frame
+    pub value : value_at frame.regs x ≡ Some ty
+    pub above : (f : Frame) → s.frames q ≡ Some f → CellsBelow s.world.classes f.regs frame.regs
 
   some-same : (f g : Frame) → ◌≡◌ {A = Option Frame} (Some f) (Some g) → f ≡ g
   some-same f g e = cc
 
-  found : (q x n : ℕ) (ty : Ty) → IsAsked s.method s.frames q x n ty → IsFound q x ty
+  pub found : (q x n : ℕ) (ty : Ty) → IsAsked s.method s.frames q x n ty → IsFound q x ty
   found q x _ ty (asked_here at) =
       let f = framed (s.frames q) (λ (g : Frame). value_at g.regs x ≡ Some ty) at in
       record {
