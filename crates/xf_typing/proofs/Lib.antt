@@ -11,3 +11,4 @@ pub mod Bridge
 pub mod Typings
 pub mod Carried
 pub mod Registers
+pub mod Rows
