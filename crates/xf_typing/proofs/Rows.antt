@@ -218,3 +218,43 @@ swap-one-is w r n = refl
 pub swap-two-is : (w : Linked) (r : MethodRec) (n : ℕ) → resolved w r n (with_byte 64 18) (row_at 64) ≡ Ok (ops.Move (moves.Exchange 1 2))
 unfolding row_at table by_sort by_width by_kind first_four by_register literals binary orders_all branching unused
 swap-two-is w r n = refl
+
+-- ---- branches
+
+abbrev branches_all : List ℕ
+branches_all =
+    96 ∷ 97 ∷ 98 ∷ 99 ∷ 100 ∷ 101 ∷ 102 ∷ 103 ∷ 104 ∷ 105 ∷ 106 ∷ 107 ∷ 108 ∷ 109 ∷ 110 ∷ 111 ∷ 112
+    ∷ 152 ∷ 153 ∷ 154 ∷ 155 ∷ 156 ∷ 157 ∷ 158 ∷ 159 ∷ 160 ∷ 161 ∷ 162 ∷ 163 ∷ 164 ∷ 165 ∷ 166 ∷ 167 ∷ 168 ∷ []
+
+abbrev is_in : ℕ → List ℕ → Bool
+is_in op [] = false
+is_in op (k ∷ ks) = op == k || is_in op ks
+
+abbrev branch_test : ℕ → Bool
+branch_test op = if is_branching (kind_at op) then is_in op branches_all else true
+
+branch-all : map branch_test (range_with_len 0 256) ≡ replicate 256 true
+unfolding kind_at kinds
+branch-all = refl
+
+each-is : (P : ℕ → Type 0) (op : ℕ) (ks : List ℕ) → Each P ks → is_in op ks ≡ true → P op
+each-is P op [] all e = absurd (cc)
+each-is P op (k ∷ ks) all e = by (op == k) refl e (λ f. each-is P op ks all.1 f)
+  where
+    by : (b : Bool) → (op == k) ≡ b → (b || is_in op ks) ≡ true → (is_in op ks ≡ true → P op) → P op
+    by true q f rest = let own : op ≡ k = grind (arith, nat_tests, q) in subst P (sym own) all.0
+    by false q f rest = rest f
+
+wide-alike : (w : Linked) (m r : MethodRec) (place n : ℕ) (i : Insn) → Each (λ op. resolved w r n (jump (wide op)) (row_at (wide op)) ≡ resolved w m place i (row_at op)) branches_all
+unfolding row_at table by_sort by_width by_kind first_four by_register literals binary orders_all branching unused
+wide-alike w m r place n i =
+    (refl, (refl, (refl, (refl, (refl, (refl, (refl, (refl, (refl, (refl, (refl, (refl, (refl, (refl, (refl, (refl, (refl,
+    (refl, (refl, (refl, (refl, (refl, (refl, (refl, (refl, (refl, (refl, (refl, (refl, (refl, (refl, (refl, (refl, (refl, tt))))))))))))))))))))))))))))))))))
+
+-- a branch in its wide form
+pub wide-is : (w : Linked) (m r : MethodRec) (place n : ℕ) (i : Insn) (b : Branch) → i.op < 256
+    → resolved w m place i (row_at i.op) ≡ Ok (ops.Branch b) → resolved w r n (jump (wide i.op)) (row_at (wide i.op)) ≡ Ok (ops.Branch b)
+wide-is w m r place n i b lt e =
+    let is : kind.branching_kind ≡ kind_at i.op = kind-of w m place i (ops.Branch b) lt e in
+    let among = when (is_branching (kind_at i.op)) (is_in i.op branches_all) (ap is_branching (sym is)) (passed-at branch_test branch-all i.op lt) in
+    each-is (λ op. resolved w r n (jump (wide op)) (row_at (wide op)) ≡ resolved w m place i (row_at op)) i.op branches_all (wide-alike w m r place n i) among ∙ e
