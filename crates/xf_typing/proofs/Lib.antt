@@ -12,3 +12,4 @@ pub mod Typings
 pub mod Carried
 pub mod Registers
 pub mod Rows
+pub mod Running
