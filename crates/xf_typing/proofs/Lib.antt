@@ -13,3 +13,4 @@ pub mod Carried
 pub mod Registers
 pub mod Rows
 pub mod Running
+pub mod Leading

@@ -33,21 +33,21 @@ use Rattle.xf_typing.proofs.Walks.{State, holding, left, Asked, Turn, Flows, flo
 
 -- ---- registers
 
-same-cells : (t : ClassTable) (xs : List Ty) → CellsBelow t xs xs
+pub same-cells : (t : ClassTable) (xs : List Ty) → CellsBelow t xs xs
 same-cells t [] = no_cells
 same-cells t (x ∷ xs) = more_cells same (same-cells t xs)
 
-set-below : (t : ClassTable) (xs : List Ty) (x : ℕ) (a b : Ty) → slice_get xs x ≡ Some b → Below t a b → CellsBelow t (set xs x a) xs
+pub set-below : (t : ClassTable) (xs : List Ty) (x : ℕ) (a b : Ty) → slice_get xs x ≡ Some b → Below t a b → CellsBelow t (set xs x a) xs
 set-below t [] x a b e le = absurd (cc)
 set-below t (y ∷ ys) zero a b e le = let same_type : y ≡ b = cc in more_cells (subst (Below t a) (sym same_type) le) (same-cells t ys)
 set-below t (y ∷ ys) (suc x) a b e le = more_cells same (set-below t ys x a b e le)
 
-set-same : (xs : List Ty) (x : ℕ) (a : Ty) → slice_get xs x ≡ Some a → set xs x a ≡ xs
+pub set-same : (xs : List Ty) (x : ℕ) (a : Ty) → slice_get xs x ≡ Some a → set xs x a ≡ xs
 set-same [] x a e = absurd (cc)
 set-same (y ∷ ys) zero a e = let same_type : y ≡ a = cc in ap (λ (b : Ty). b ∷ ys) (sym same_type)
 set-same (y ∷ ys) (suc x) a e = ap (λ (zs : List Ty). y ∷ zs) (set-same ys x a e)
 
-get-inside : (xs : List Ty) (x : ℕ) (a : Ty) → slice_get xs x ≡ Some a → x < length xs
+pub get-inside : (xs : List Ty) (x : ℕ) (a : Ty) → slice_get xs x ≡ Some a → x < length xs
 get-inside [] x a e = absurd (cc)
 get-inside (y ∷ ys) zero a e = omega arith
 get-inside (y ∷ ys) (suc x) a e = omega (arith, get-inside ys x a e)
@@ -174,13 +174,13 @@ module _ (w : Linked) (objects : ClassesAreObjects w.classes) (r : MethodRec) (r
   unfolding row_at table by_sort by_width by_kind first_four by_register literals binary orders_all branching unused
   loads-int n x lt = ap (λ k. Ok (ops.Load sorts.Int k)) (byte-small x lt)
 
-  held : (x : ℕ) (a b : Ty) → slice_get regs x ≡ Some a → Below w.classes a b → IsSomeAnd (slice_get regs x) (λ found. Below w.classes found b)
+  pub held : (x : ℕ) (a b : Ty) → slice_get regs x ≡ Some a → Below w.classes a b → IsSomeAnd (slice_get regs x) (λ found. Below w.classes found b)
   held x a b e le = subst (λ (o : Option Ty). IsSomeAnd o (λ found. Below w.classes found b)) (sym e) le
 
-  there : (x : ℕ) (a : Ty) → slice_get regs x ≡ Some a → x + 1 ≤ length regs
+  pub there : (x : ℕ) (a : Ty) → slice_get regs x ≡ Some a → x + 1 ≤ length regs
   there x a e = omega (arith, get-inside regs x a e)
 
-  two-there : (x : ℕ) → slice_get regs (x + 1) ≡ Some IntLow → x + 2 ≤ length regs
+  pub two-there : (x : ℕ) → slice_get regs (x + 1) ≡ Some IntLow → x + 2 ≤ length regs
   two-there x e = omega (arith, get-inside regs (x + 1) IntLow e)
 
   pub load-turn : (n : ℕ) (ty : Ty) (x : ℕ) (stack : List Ty) → Holds ty x → length (cells_on ty ++ stack) ≤ r.max_stack → length stack ≤ r.max_stack
