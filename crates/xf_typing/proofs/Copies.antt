@@ -31,13 +31,13 @@ use Rattle.xf_typing.proofs.Ready.{IsReady, IsServed, needed-served}
 -- ---- types
 
 module _ (t : ClassTable) (types : IsOrderOfTypes t) where
-  above-short : (b : Ty) → is_below t Short b ≡ true → IsPlainValue b → Short ≡ b
+  pub above-short : (b : Ty) → is_below t Short b ≡ true → IsPlainValue b → Short ≡ b
   unfolding is_below
   above-short Short e v = refl
   above-short Top e v = absurd v
   above-short b e v = absurd (cc)
 
-  above-high : (b : Ty) → is_below t IntHigh b ≡ true → IsPlainValue b → IntHigh ≡ b
+  pub above-high : (b : Ty) → is_below t IntHigh b ≡ true → IsPlainValue b → IntHigh ≡ b
   unfolding is_below
   above-high IntHigh e v = refl
   above-high Top e v = absurd v

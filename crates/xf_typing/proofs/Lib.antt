@@ -14,3 +14,4 @@ pub mod Registers
 pub mod Rows
 pub mod Running
 pub mod Leading
+pub mod Storing
