@@ -15,3 +15,4 @@ pub mod Rows
 pub mod Running
 pub mod Leading
 pub mod Storing
+pub mod This

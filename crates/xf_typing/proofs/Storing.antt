@@ -58,18 +58,18 @@ use Rattle.xf_typing.proofs.Running.{AreLaws, IsRecordFor, IsRun, IsPassed, has-
 -- ---- the top of a stack
 
 -- a cell on top of both stacks
-record HasTop (t : ClassTable) (P : Ty → Type 0) (st fs : List Ty) : Type 0 where
-  v : Ty
-  rest : List Ty
-  c : Ty
-  cs : List Ty
-  st_is : st ≡ v ∷ rest
-  fs_is : fs ≡ c ∷ cs
-  below : Below t v c
-  more : CellsBelow t rest cs
-  has : P c
+pub record HasTop (t : ClassTable) (P : Ty → Type 0) (st fs : List Ty) : Type 0 where
+  pub v : Ty
+  pub rest : List Ty
+  pub c : Ty
+  pub cs : List Ty
+  pub st_is : st ≡ v ∷ rest
+  pub fs_is : fs ≡ c ∷ cs
+  pub below : Below t v c
+  pub more : CellsBelow t rest cs
+  pub has : P c
 
-has-top : (t : ClassTable) (P : Ty → Type 0) (st fs : List Ty) → CellsBelow t st fs → IsSomeAnd (slice_get fs 0) P → HasTop t P st fs
+pub has-top : (t : ClassTable) (P : Ty → Type 0) (st fs : List Ty) → CellsBelow t st fs → IsSomeAnd (slice_get fs 0) P → HasTop t P st fs
 has-top t P _ _ no_cells h = absurd h
 has-top t P _ _ (more_cells {a = a} {b = b} {xs = xs} {ys = ys} p ps) h = record { v = a; rest = xs; c = b; cs = ys; st_is = refl; fs_is = refl; below = p; more = ps; has = h }
 
