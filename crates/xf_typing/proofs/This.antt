@@ -3,7 +3,7 @@ use Rattle.std.proofs.Common.{◌≡◌, ◌≢◌, ◌⊎◌, ℕ, zero, suc, �
 use Rattle.std.specs.Prelude.{pos, ⊤}
 use Rattle.std.proofs.lemmas.Bool.Decides.{nat_tests}
 use Rattle.std.proofs.lemmas.List.{length-map, map-append}
-use Rattle.jc_base.specs.Cell.{IsDeclared, IsReference, IsOfKind}
+use Rattle.jc_base.specs.Cell.{IsDeclared, IsReference, IsOfKind, IsNoHalf}
 use Rattle.jc_base.specs.Class.{ClassTable}
 use Rattle.jc_base.specs.Laws.{IsOrderOfTypes}
 use Rattle.jc_base.specs.Order.{Below, same, joined, is_below, IsKnown}
@@ -46,12 +46,13 @@ use Rattle.xf_plan.specs.Plan.{home_of, register}
 use Rattle.xf_emission.specs.Move.{with_byte, load}
 use Rattle.xf_emission.specs.Group.{body, kept, stays, field_read, field_written, swap_words}
 use Rattle.xf_typing.specs.Typed.{registers_of}
-use Rattle.xf_typing.proofs.Walks.{State, holding, left, Asked, Turn, Flows, flow_plain, flow_end}
+use Rattle.xf_typing.proofs.Walks.{State, holding, left, Asked, Turn, Flows, flow_plain, flow_end, flows-append}
 use Rattle.xf_typing.proofs.Moves.{Holds, IsPlainValue, cells_on, applies-by, turn-by, load-turn, same-cells, held, there}
 use Rattle.xf_typing.proofs.Stacks.{Stands}
 use Rattle.xf_typing.proofs.Ready.{IsReady, local-stands}
 use Rattle.xf_typing.proofs.Renames.{named, named_op, value-same}
 use Rattle.xf_typing.proofs.Kept.{IsKeptOperation, applies-named}
+use Rattle.xf_typing.proofs.Registers.{not-fresh}
 use Rattle.xf_typing.proofs.Turns.{IsLesser, kept-resolves}
 use Rattle.xf_typing.proofs.Carried.{stores-nothing, is-short, is-high, is-low}
 use Rattle.xf_typing.proofs.Rows.{read-on-stack, write-on-stack, swap-one-is, swap-two-is}
@@ -224,3 +225,176 @@ module _ (new : ℕ → ℕ) (apart : (a b : ℕ) → new a ≡ new b → a ≡ 
           is does (same-cells s.world.classes regs) (sym go.jumps_alike) (sym go.falls_alike) (omega (arith, less, own_rec.room)) in
           flow_plain s.world r regs asks turn
           (flow_plain s.world r regs asks (subst (λ (us : List Ty). Turn s.world r regs asks (suc n) (record i.insn { op = i.insn.op - 42 }) (holding (us ++ map (named new apart) st)) (holding (cells ++ map (named new apart) st))) (sym k.is.one) read) flow_end)
+
+  -- ---- writes
+
+  -- a value of one cell is asked for, or an int
+  data IsSized (k : Kind) (ty : Ty) : Type 0 where
+    sized_one : swap_words k ≡ 17 → value_wanted ty ≡ Cell 0 (Value ty) ∷ [] → value_size ty ≡ 1 → IsNotFresh ty → IsNotTop ty → ty ≢ IntLow → IsSized k ty
+    sized_int : swap_words k ≡ 18 → ty ≡ IntHigh → IsSized k ty
+
+  sized-reference : (k : Kind) (ty : Ty) → swap_words k ≡ 17 → IsReference ty → IsSized k ty
+  sized-reference k (Class c) e h = sized_one e refl refl tt tt (λ q. absurd (cc))
+  sized-reference k ArrBool e h = sized_one e refl refl tt tt (λ q. absurd (cc))
+  sized-reference k ArrByte e h = sized_one e refl refl tt tt (λ q. absurd (cc))
+  sized-reference k ArrShort e h = sized_one e refl refl tt tt (λ q. absurd (cc))
+  sized-reference k ArrInt e h = sized_one e refl refl tt tt (λ q. absurd (cc))
+  sized-reference k (ArrRef c) e h = sized_one e refl refl tt tt (λ q. absurd (cc))
+  sized-reference k ty e h = absurd h
+
+  sized-short : (k : Kind) (ty : Ty) → swap_words k ≡ 17 → ty ≡ Short → IsSized k ty
+  sized-short k ty e own = subst (IsSized k) (sym own) (sized_one e refl refl tt tt (λ q. absurd (cc)))
+
+  sized : (k : Kind) (ty : Ty) → IsOfKind k ty → IsSized k ty
+  sized kinds.Ref ty h = sized-reference kinds.Ref ty refl h
+  sized kinds.Byte ty h = sized-short kinds.Byte ty refl h
+  sized kinds.Short ty h = sized-short kinds.Short ty refl h
+  sized kinds.Int ty h = sized_int refl h
+
+  -- the last that is asked
+  last-held : (ty : Ty) (f : Frame) (d : Demand) → AllHold s.world.classes f (value_wanted ty ++ d ∷ []) → AllHold s.world.classes f (d ∷ [])
+  last-held IntHigh f d h = h.1.1
+  last-held ty f d h = h.1
+
+  over-low : (b : Ty) → is_below s.world.classes IntLow b ≡ true → b ≢ Top → b ≡ IntLow
+  unfolding is_below
+  over-low IntLow e n = refl
+  over-low Top e n = absurd (n refl)
+  over-low b e n = absurd (cc)
+
+  top-not : (b : Ty) → IsNotTop b → b ≢ Top
+  top-not Top h e = absurd h
+  top-not b h e = absurd (cc)
+
+  low-not : (a : Ty) → IsNoHalf a → Some a ≡ Some IntLow → ⊥
+  low-not IntLow h e = absurd h
+  low-not a h e = absurd (cc)
+
+  swap-one : (n : ℕ) (a v : Ty) (st : List Ty) → IsNoHalf a → v ≢ IntLow → length (a ∷ v ∷ st) ≤ r.max_stack → Flowing n (a ∷ v ∷ st) (Plain (with_byte 64 17) ∷ []) (v ∷ a ∷ st)
+  unfolding layout_of opcode
+  swap-one n a v st whole low room =
+      let regs = registers_of s.homes in
+      let does = applies-by s.world r.max_stack (ops.Move (moves.Exchange 1 1)) (record { regs = regs; stack = a ∷ v ∷ st }) (record { regs = regs; stack = v ∷ a ∷ st })
+      (omega arith, ((λ split. low-not a whole split.0), (omega arith, ((λ split. low (some-is v IntLow split.0)), tt)))) refl refl (omega (arith, room)) in
+      flow_plain s.world r regs asks
+      (turn-by s.world l.objects r regs asks n (with_byte 64 17) (ops.Move (moves.Exchange 1 1)) (a ∷ v ∷ st) (record { regs = regs; stack = v ∷ a ∷ st }) (swap-one-is s.world r n) does (same-cells s.world.classes regs) refl refl room) flow_end
+    where
+      some-is : (x y : Ty) → Some x ≡ Some y → x ≡ y
+      some-is x y e = cc
+
+  swap-two : (n : ℕ) (a : Ty) (st : List Ty) → IsNoHalf a → length (a ∷ IntLow ∷ IntHigh ∷ st) ≤ r.max_stack → Flowing n (a ∷ IntLow ∷ IntHigh ∷ st) (Plain (with_byte 64 18) ∷ []) (IntLow ∷ IntHigh ∷ a ∷ st)
+  unfolding layout_of opcode
+  swap-two n a st whole room =
+      let regs = registers_of s.homes in
+      let does = applies-by s.world r.max_stack (ops.Move (moves.Exchange 1 2)) (record { regs = regs; stack = a ∷ IntLow ∷ IntHigh ∷ st }) (record { regs = regs; stack = IntLow ∷ IntHigh ∷ a ∷ st })
+      (omega arith, ((λ split. low-not a whole split.0), (omega arith, ((λ split. absurd (differ split.0)), tt)))) refl refl (omega (arith, room)) in
+      flow_plain s.world r regs asks
+      (turn-by s.world l.objects r regs asks n (with_byte 64 18) (ops.Move (moves.Exchange 1 2)) (a ∷ IntLow ∷ IntHigh ∷ st) (record { regs = regs; stack = IntLow ∷ IntHigh ∷ a ∷ st }) (swap-two-is s.world r n) does (same-cells s.world.classes regs) refl refl room) flow_end
+    where
+      differ : Some IntHigh ≡ Some IntLow → ⊥
+      differ e = absurd (cc)
+
+  named-ready : (a : Ty) → IsNotFresh a → named new apart a ≡ a
+  named-ready (Fresh p c) h = absurd h
+  named-ready a h = refl
+
+  pub write-passed : (i : Placed) (fld : InstanceField) (f after : Frame) (st : List Ty) (n : ℕ) → IsRun s i (ops.FieldWrite fld holders.This) f after → new i.place ≡ n → IsLesser s.world f st
+      → IsPassed new apart s l ready r own_rec asks res n (body s i (ops.FieldWrite fld holders.This)) (ops.FieldWrite fld holders.This) st after
+  unfolding body
+  write-passed i fld f after st n run here lesser = record {
+    stack = k.frame.stack;
+    lesser = k.lesser;
+    flow = subst (λ (o : Option Home). Flowing n (map (named new apart) st) (field_written s i fld.kind o) (map (named new apart) k.frame.stack)) (sym this.own) (by (stays s h) refl);
+  }
+    where
+      op : Operation
+      op = ops.FieldWrite fld holders.This
+
+      k : IsFallen op f after st
+      k = fallen-is i op f after st run lesser
+
+      this : IsThis i fld.class
+      this = this-is i f fld.class run.at (last-held fld.ty f (Held 0 (Class fld.class)) run.does.asked.1).0
+
+      h : Home
+      h = record { slot = 0; ty = this.ty }
+
+      regs : List Ty
+      regs = registers_of s.homes
+
+      less : length (map (named new apart) st) ≤ s.method.rec.max_stack
+      less = has-room new apart s l ready r own_rec asks res i op f after st run lesser
+
+      stack_ops : Item
+      stack_ops = Plain (record i.insn { op = i.insn.op - 46 })
+
+      -- the write of the object that is under the value
+      written : (place : ℕ) (cells us : List Ty) → AllHold s.world.classes (record { regs = regs; stack = cells ++ us }) (demands s.world (ops.FieldWrite fld holders.Stack)) → us ≡ drop (value_size fld.ty + 1) (cells ++ us) → length (cells ++ us) ≤ r.max_stack
+          → Flowing place (cells ++ us) (stack_ops ∷ []) us
+      written place cells us asked e room =
+          let small : i.insn.op - 46 < 256 = omega (arith, run.small) in
+          let is = write-on-stack s.world s.method.rec r i.place place i.insn fld run.small (sym own_rec.home) run.resolves in
+          let go = l.alike r place (record i.insn { op = i.insn.op - 46 }) (ops.FieldWrite fld holders.Stack) small (sym is) in
+          let does = applies-by s.world r.max_stack (ops.FieldWrite fld holders.Stack) (record { regs = regs; stack = cells ++ us }) (record { regs = regs; stack = us }) asked refl e (omega (arith, length-append cells us, room)) in
+          flow_plain s.world r regs asks
+          (turn-by s.world l.objects r regs asks place (record i.insn { op = i.insn.op - 46 }) (ops.FieldWrite fld holders.Stack) (cells ++ us) (record { regs = regs; stack = us }) is does (same-cells s.world.classes regs) (sym go.jumps_alike) (sym go.falls_alike) room) flow_end
+
+      loaded-first : (xs : List Item) (us : List Ty) → ((m : ℕ) → Flowing m (this.ty ∷ map (named new apart) st) xs us) → Flowing n (map (named new apart) st) (load s h ∷ xs) us
+      loaded-first xs us rest =
+          let full : length (cells_on this.ty ++ map (named new apart) st) ≤ r.max_stack = omega (arith, ap length this.is.one, length-append (cells_on this.ty) (map (named new apart) st), less, own_rec.room) in
+          let turn = load-turn s.world l.objects r regs asks n this.ty (register s h) (map (named new apart) st) this.stands full (omega (arith, less, own_rec.room)) in
+          flow_plain s.world r regs asks turn (subst (λ (cs : List Ty). Flowing (suc n) (cs ++ map (named new apart) st) xs us) (sym this.is.one) (rest (suc n)))
+
+      by-size : IsSized fld.kind fld.ty → Flowing n (map (named new apart) st) (load s h ∷ Plain (with_byte 64 (swap_words fld.kind)) ∷ stack_ops ∷ []) (map (named new apart) k.frame.stack)
+      by-size (sized_one words wanted size fresh no_top low) =
+          let asked : AllHold s.world.classes f (Cell 0 (Value fld.ty) ∷ Held 0 (Class fld.class) ∷ []) = subst (λ (ds : List Demand). AllHold s.world.classes f (ds ++ Held 0 (Class fld.class) ∷ [])) wanted run.does.asked.1 in
+          let top = has-top s.world.classes (λ c. Below s.world.classes c fld.ty) st f.stack lesser.below asked.0 in
+          let below = joined top.below top.has in
+          let ready_v = not-fresh s.world.classes l.rules.types top.v fld.ty below fresh no_top in
+          let us = map (named new apart) top.rest in
+          let shape : map (named new apart) st ≡ top.v ∷ us = ap (map (named new apart)) top.st_is ∙ ap (λ (u : Ty). u ∷ us) (named-ready top.v ready_v) in
+          let room : length (this.ty ∷ top.v ∷ us) ≤ r.max_stack = omega (arith, ap length shape, less, own_rec.room) in
+          let low_v : top.v ≢ IntLow = λ e. low (over-low fld.ty ((l.rules.types.decided IntLow fld.ty).1 (subst (λ (u : Ty). Below s.world.classes u fld.ty) e below)) (top-not fld.ty no_top)) in
+          let end : map (named new apart) k.frame.stack ≡ us = ap (map (named new apart)) (k.does.stack ∙ ap (λ (c : ℕ). drop c st) size ∙ ap (drop 1) top.st_is) in
+          let taken : us ≡ drop (value_size fld.ty + 1) (top.v ∷ this.ty ∷ us) = sym (ap (λ (c : ℕ). drop (c + 1) (top.v ∷ this.ty ∷ us)) size) in
+          let all : AllHold s.world.classes (record { regs = regs; stack = top.v ∷ this.ty ∷ us }) (demands s.world (ops.FieldWrite fld holders.Stack)) =
+          subst (λ (ds : List Demand). AllHold s.world.classes (record { regs = regs; stack = top.v ∷ this.ty ∷ us }) (ds ++ Cell (value_size fld.ty) (Value (Class fld.class)) ∷ [])) (sym wanted)
+          (below, (subst (λ (c : ℕ). IsSomeAnd (slice_get (top.v ∷ this.ty ∷ us) c) (λ found. Below s.world.classes found (Class fld.class))) (sym size) this.below, tt)) in
+          subst (λ (ws : List Ty). Flowing n (map (named new apart) st) (load s h ∷ Plain (with_byte 64 (swap_words fld.kind)) ∷ stack_ops ∷ []) ws) (sym end)
+          (loaded-first (Plain (with_byte 64 (swap_words fld.kind)) ∷ stack_ops ∷ []) us
+          (λ m. subst (λ (ws : List Ty). Flowing m (this.ty ∷ ws) (Plain (with_byte 64 (swap_words fld.kind)) ∷ stack_ops ∷ []) us) (sym shape)
+          (subst (λ (c : ℕ). Flowing m (this.ty ∷ top.v ∷ us) (Plain (with_byte 64 c) ∷ stack_ops ∷ []) us) (sym words)
+          (flows-append s.world r regs asks (swap-one m this.ty top.v us this.is.no_half low_v room) (written (m + 1) (top.v ∷ this.ty ∷ []) us all taken (omega (arith, room)))))))
+      by-size (sized_int words int) =
+          let asked : AllHold s.world.classes f (Cell 0 (Value IntLow) ∷ Cell 1 (Value IntHigh) ∷ Held 0 (Class fld.class) ∷ []) = subst (λ (ty : Ty). AllHold s.world.classes f (value_wanted ty ++ Held 0 (Class fld.class) ∷ [])) int run.does.asked.1 in
+          let top = has-top s.world.classes (λ c. Below s.world.classes c IntLow) st f.stack lesser.below asked.0 in
+          let next = has-top s.world.classes (λ c. Below s.world.classes c IntHigh) top.rest top.cs top.more (subst (λ (us : List Ty). IsSomeAnd (slice_get us 1) (λ c. Below s.world.classes c IntHigh)) top.fs_is asked.1.0) in
+          let all_full = subst (All IsNotBottom) top.st_is lesser.full in
+          let rest_full = subst (All IsNotBottom) next.st_is (all_rest IsNotBottom top.v top.rest all_full) in
+          let low = is-low s.world.classes l.rules.types top.v (joined top.below top.has) (all_first IsNotBottom top.v top.rest all_full) in
+          let high = is-high s.world.classes l.rules.types next.v (joined next.below next.has) (all_first IsNotBottom next.v next.rest rest_full) in
+          let us = map (named new apart) next.rest in
+          let whole : st ≡ IntLow ∷ IntHigh ∷ next.rest = top.st_is ∙ ap (λ (us : List Ty). top.v ∷ us) next.st_is ∙ ap (λ (u : Ty). u ∷ next.v ∷ next.rest) low ∙ ap (λ (u : Ty). IntLow ∷ u ∷ next.rest) high in
+          let shape : map (named new apart) st ≡ IntLow ∷ IntHigh ∷ us = ap (map (named new apart)) whole in
+          let room : length (this.ty ∷ IntLow ∷ IntHigh ∷ us) ≤ r.max_stack = omega (arith, ap length shape, less, own_rec.room) in
+          let size : value_size fld.ty ≡ 2 = ap value_size int in
+          let end : map (named new apart) k.frame.stack ≡ us = ap (map (named new apart)) (k.does.stack ∙ ap (λ (c : ℕ). drop c st) size ∙ ap (drop 2) whole) in
+          let taken : us ≡ drop (value_size fld.ty + 1) (IntLow ∷ IntHigh ∷ this.ty ∷ us) = sym (ap (λ (c : ℕ). drop (c + 1) (IntLow ∷ IntHigh ∷ this.ty ∷ us)) size) in
+          let all : AllHold s.world.classes (record { regs = regs; stack = IntLow ∷ IntHigh ∷ this.ty ∷ us }) (demands s.world (ops.FieldWrite fld holders.Stack)) =
+          subst (λ (ty : Ty). AllHold s.world.classes (record { regs = regs; stack = IntLow ∷ IntHigh ∷ this.ty ∷ us }) (value_wanted ty ++ Cell (value_size ty) (Value (Class fld.class)) ∷ [])) (sym int)
+          (same, (same, (this.below, tt))) in
+          subst (λ (ws : List Ty). Flowing n (map (named new apart) st) (load s h ∷ Plain (with_byte 64 (swap_words fld.kind)) ∷ stack_ops ∷ []) ws) (sym end)
+          (loaded-first (Plain (with_byte 64 (swap_words fld.kind)) ∷ stack_ops ∷ []) us
+          (λ m. subst (λ (ws : List Ty). Flowing m (this.ty ∷ ws) (Plain (with_byte 64 (swap_words fld.kind)) ∷ stack_ops ∷ []) us) (sym shape)
+          (subst (λ (c : ℕ). Flowing m (this.ty ∷ IntLow ∷ IntHigh ∷ us) (Plain (with_byte 64 c) ∷ stack_ops ∷ []) us) (sym words)
+          (flows-append s.world r regs asks (swap-two m this.ty us this.is.no_half room) (written (m + 1) (IntLow ∷ IntHigh ∷ this.ty ∷ []) us all taken (omega (arith, room)))))))
+
+      by : (b : Bool) → stays s h ≡ b → Flowing n (map (named new apart) st) (if b then kept i else load s h ∷ Plain (with_byte 64 (swap_words fld.kind)) ∷ Plain (record i.insn { op = i.insn.op - 46 }) ∷ []) (map (named new apart) k.frame.stack)
+      by true e =
+          let go = l.alike s.method.rec i.place i.insn op run.small (sym run.resolves) in
+          let zero_is : register s h ≡ 0 = grind (arith, nat_tests, e) in
+          let first : slice_get regs 0 ≡ Some this.ty = ap (slice_get regs) (sym zero_is) ∙ this.stands.first in
+          let over = applies-by s.world s.method.rec.max_stack op (record { regs = regs; stack = st }) (record { regs = regs; stack = k.frame.stack })
+          (there s.world l.objects r regs asks 0 this.ty first, value-held s.world.classes fld.ty f.regs regs st (Held 0 (Class fld.class)) k.does.asked.1 (λ old. (held s.world l.objects r regs asks 0 this.ty (Class fld.class) first this.below, tt))) refl k.does.stack k.does.room in
+          stays-by i op f after st n run tt here lesser k.frame.stack over refl (sym go.jumps_alike) (sym go.falls_alike)
+      by false e = by-size (sized fld.kind fld.ty run.sound.cells.kind)
