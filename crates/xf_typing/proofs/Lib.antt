@@ -16,3 +16,4 @@ pub mod Running
 pub mod Leading
 pub mod Storing
 pub mod This
+pub mod Cuts

@@ -100,7 +100,7 @@ module _ (s : Source) (objects : ClassesAreObjects s.world.classes) (r : MethodR
 
 -- ---- the cells of a frame
 
-abbrev turned : List Ty → List Ty → List Ty
+abbrev pub turned : List Ty → List Ty → List Ty
 turned [] stack = stack
 turned (a ∷ rest) stack = turned rest (a ∷ stack)
 
@@ -178,7 +178,7 @@ cells-pushed slot pre _ stack (one_cell {a = a} {types = us} h is) nt =
     ∙ ap (λ (ts : List Ty). pushed (cells_from slot all (suc (length pre)) (length us)) (ts ++ stack)) (one-top a h)
     ∙ later
 
-turned-reverse : (ts stack : List Ty) → turned ts stack ≡ reverse ts ++ stack
+pub turned-reverse : (ts stack : List Ty) → turned ts stack ≡ reverse ts ++ stack
 turned-reverse [] stack = refl
 turned-reverse (a ∷ ts) stack =
     turned-reverse ts (a ∷ stack) ∙ sym (append_assoc (reverse ts) (a ∷ []) stack) ∙ ap (λ (us : List Ty). us ++ stack) (sym (reverse-append (a ∷ []) ts))
