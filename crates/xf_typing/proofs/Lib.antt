@@ -17,3 +17,4 @@ pub mod Leading
 pub mod Storing
 pub mod This
 pub mod Cuts
+pub mod Forking

@@ -71,7 +71,7 @@ module _ (t : ClassTable) (types : IsOrderOfTypes t) where
   two-taken P (a ∷ []) b c is has h g all = absurd g
   two-taken P (a ∷ d ∷ rest) b c is has h g all = all_more P a (d ∷ rest) (is a h) (all_more P d rest (has d g) all)
 
-conditional-ready : (w : Linked) (types : IsOrderOfTypes w.classes) (limit : ℕ) (op : Operation) (before after : Frame) (o : Outcome) → IsConditional op → OperationApplies w limit op Flow before after o → All IsNotFresh after.stack → All IsNotFresh before.stack
+pub conditional-ready : (w : Linked) (types : IsOrderOfTypes w.classes) (limit : ℕ) (op : Operation) (before after : Frame) (o : Outcome) → IsConditional op → OperationApplies w limit op Flow before after o → All IsNotFresh after.stack → All IsNotFresh before.stack
 conditional-ready w types limit (ops.Branch branches.Always) f after o is a all = absurd is
 conditional-ready w types limit (ops.Branch (branches.Zero e)) f after o is a all = one-taken w.classes types IsNotFresh f.stack Short (λ x le. not-fresh w.classes types x Short le tt tt) a.asked.0 (subst (All IsNotFresh) a.stack all)
 conditional-ready w types limit (ops.Branch (branches.Null e)) f after o is a all = one-taken w.classes types IsNotFresh f.stack _ (λ x le. not-fresh w.classes types x _ le tt tt) a.asked.0 (subst (All IsNotFresh) a.stack all)
