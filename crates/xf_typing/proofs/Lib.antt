@@ -18,3 +18,4 @@ pub mod Storing
 pub mod This
 pub mod Cuts
 pub mod Forking
+pub mod Matching

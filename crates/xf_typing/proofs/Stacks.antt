@@ -126,21 +126,21 @@ get-end : (pre : List Ty) (a : Ty) → slice_get (pre ++ a ∷ []) (length pre +
 get-end [] a = refl
 get-end (p ∷ pre) a = let e : suc (length pre) + 1 ≡ suc (length pre + 1) = omega arith in ap (slice_get (p ∷ pre ++ a ∷ [])) e ∙ get-end pre a
 
-longer-by : (pre : List Ty) (a : Ty) → suc (length pre) ≡ length (pre ++ a ∷ [])
+pub longer-by : (pre : List Ty) (a : Ty) → suc (length pre) ≡ length (pre ++ a ∷ [])
 longer-by pre a = omega (arith, length-append pre (a ∷ []))
 
 -- no value begins with a low half
-low-none : (pre rest : List Ty) → value_at (pre ++ IntLow ∷ rest) (length pre) ≡ None
+pub low-none : (pre rest : List Ty) → value_at (pre ++ IntLow ∷ rest) (length pre) ≡ None
 unfolding value_at
 low-none pre rest = ap (λ (o : Option Ty). value_of o (slice_get (pre ++ IntLow ∷ rest) (length pre + 1))) (get-at pre IntLow rest)
 
-int-value : (pre rest : List Ty) → value_at (pre ++ IntHigh ∷ IntLow ∷ rest) (length pre) ≡ Some IntHigh
+pub int-value : (pre rest : List Ty) → value_at (pre ++ IntHigh ∷ IntLow ∷ rest) (length pre) ≡ Some IntHigh
 unfolding value_at
 int-value pre rest =
     ap (λ (o : Option Ty). value_of o (slice_get (pre ++ IntHigh ∷ IntLow ∷ rest) (length pre + 1))) (get-at pre IntHigh (IntLow ∷ rest))
     ∙ ap (λ (o : Option Ty). value_of (Some IntHigh) o) (get-next pre IntHigh IntLow rest)
 
-one-at : (pre : List Ty) (a : Ty) (rest : List Ty) → IsNoHalf a → IsNotTop a → value_at (pre ++ a ∷ rest) (length pre) ≡ Some a
+pub one-at : (pre : List Ty) (a : Ty) (rest : List Ty) → IsNoHalf a → IsNotTop a → value_at (pre ++ a ∷ rest) (length pre) ≡ Some a
 unfolding value_at
 one-at pre a rest h n =
     ap (λ (o : Option Ty). value_of o (slice_get (pre ++ a ∷ rest) (length pre + 1))) (get-at pre a rest)
