@@ -74,27 +74,27 @@ wide-small op lt = let e = passed-at small_wide small-all op lt in grind (arith,
 
 -- ---- stacks
 
-each-right : (P : Home → Type 0) (hs ks : List Home) → Each P (hs ++ ks) → Each P ks
+pub each-right : (P : Home → Type 0) (hs ks : List Home) → Each P (hs ++ ks) → Each P ks
 each-right P [] ks e = e
 each-right P (h ∷ hs) ks e = each-right P hs ks e.1
 
-each-left : (P : Home → Type 0) (hs ks : List Home) → Each P (hs ++ ks) → Each P hs
+pub each-left : (P : Home → Type 0) (hs ks : List Home) → Each P (hs ++ ks) → Each P hs
 each-left P [] ks e = tt
 each-left P (h ∷ hs) ks e = (e.0, each-left P hs ks e.1)
 
-all-right : (P : Ty → Type 0) (xs ys : List Ty) → All P (xs ++ ys) → All P ys
+pub all-right : (P : Ty → Type 0) (xs ys : List Ty) → All P (xs ++ ys) → All P ys
 all-right P [] ys all = all
 all-right P (x ∷ xs) ys all = all-right P xs ys (all_rest P x (xs ++ ys) all)
 
-all-left : (P : Ty → Type 0) (xs ys : List Ty) → All P (xs ++ ys) → All P xs
+pub all-left : (P : Ty → Type 0) (xs ys : List Ty) → All P (xs ++ ys) → All P xs
 all-left P [] ys all = all_none P
 all-left P (x ∷ xs) ys all = all_more P x xs (all_first P x (xs ++ ys) all) (all-left P xs ys (all_rest P x (xs ++ ys) all))
 
-empty-is : (xs : List Ty) → length xs ≡ 0 → xs ≡ []
+pub empty-is : (xs : List Ty) → length xs ≡ 0 → xs ≡ []
 empty-is [] e = refl
 empty-is (x ∷ xs) e = absurd (omega (arith, e))
 
-named-all : (new : ℕ → ℕ) (apart : (a b : ℕ) → new a ≡ new b → a ≡ b) (xs : List Ty) → All IsNotFresh xs → map (named new apart) xs ≡ xs
+pub named-all : (new : ℕ → ℕ) (apart : (a b : ℕ) → new a ≡ new b → a ≡ b) (xs : List Ty) → All IsNotFresh xs → map (named new apart) xs ≡ xs
 named-all new apart [] all = refl
 named-all new apart (x ∷ xs) all = ap (λ (u : Ty). u ∷ map (named new apart) xs) (one x (all_first IsNotFresh x xs all)) ∙ ap (λ (us : List Ty). x ∷ us) (named-all new apart xs (all_rest IsNotFresh x xs all))
   where
@@ -148,14 +148,14 @@ module _ (new : ℕ → ℕ) (apart : (a b : ℕ) → new a ≡ new b → a ≡ 
 
   -- ---- the stack under the operands
 
-  fork : (i : Placed) (op : Operation) (f after : Frame) (n : ℕ) → IsRun s i op f after → IsConditional op → operands_of s.world (Ok op) ≡ Some n → Fork op n f.stack after.stack
+  pub fork : (i : Placed) (op : Operation) (f after : Frame) (n : ℕ) → IsRun s i op f after → IsConditional op → operands_of s.world (Ok op) ≡ Some n → Fork op n f.stack after.stack
   fork i op f after n run is e = forked s.world l.rules.types (registers_of s.homes) s.method.rec.max_stack n op f after run.outcome is e (ready.whole i.place f run.at).stack run.does
 
-  depth-is : (i : Placed) (op : Operation) (f after : Frame) → IsRun s i op f after → depth s i.place ≡ length f.stack
+  pub depth-is : (i : Placed) (op : Operation) (f after : Frame) → IsRun s i op f after → depth s i.place ≡ length f.stack
   depth-is i op f after run = ap (λ (o : Option Frame). length (stack_of o)) run.at ∙ length-reverse f.stack
 
   -- the stack is deeper than the operands, so that it is kept
-  keeps-over : (i : Placed) (op : Operation) (f after : Frame) (n : ℕ) → IsRun s i op f after → IsConditional op → operands_of s.world (Ok op) ≡ Some n → is_over s i.place n ≡ true → KeepsStack s.world s.method s.frames i.place
+  pub keeps-over : (i : Placed) (op : Operation) (f after : Frame) (n : ℕ) → IsRun s i op f after → IsConditional op → operands_of s.world (Ok op) ≡ Some n → is_over s i.place n ≡ true → KeepsStack s.world s.method s.frames i.place
   keeps-over i op f after n run is e over =
       let taken : (footprint s.world op).taken ≡ n = some-same (footprint s.world op).taken n (sym (operands-some s.world op is) ∙ e) in
       let deep = depth-is i op f after run in
@@ -174,13 +174,13 @@ module _ (new : ℕ → ℕ) (apart : (a b : ℕ) → new a ≡ new b → a ≡ 
       some-same : (a b : ℕ) → Some a ≡ Some b → a ≡ b
       some-same a b e = cc
 
-  cut-at : (i : Placed) (op : Operation) (f after : Frame) (n : ℕ) → (run : IsRun s i op f after) → (k : Fork op n f.stack after.stack) → IsCut s i.place n k.operands after.stack
+  pub cut-at : (i : Placed) (op : Operation) (f after : Frame) (n : ℕ) → (run : IsRun s i op f after) → (k : Fork op n f.stack after.stack) → IsCut s i.place n k.operands after.stack
   cut-at i op f after n run k =
       cut-is s i.place n f k.operands after.stack run.at k.parts k.size k.whole
       (All-reverse IsNotTop k.operands (all-left IsNotTop k.operands after.stack (subst (All IsNotTop) k.parts run.fit.no_top)))
       (cells-pushed new apart s l ready r own_rec asks res code i.place f run.at)
 
-  stand-cut : (i : Placed) (op : Operation) (f after : Frame) (n : ℕ) → (run : IsRun s i op f after) → (k : Fork op n f.stack after.stack) → KeepsStack s.world s.method s.frames i.place
+  pub stand-cut : (i : Placed) (op : Operation) (f after : Frame) (n : ℕ) → (run : IsRun s i op f after) → (k : Fork op n f.stack after.stack) → KeepsStack s.world s.method s.frames i.place
       → Each (Stands s l.objects r (registers_of s.homes) asks) (under s i.place n ++ operands s i.place n)
   stand-cut i op f after n run k keeps = subst (Each (Stands s l.objects r (registers_of s.homes) asks)) (cut-at i op f after n run k).parts (cells-stand new apart s l ready r own_rec asks res code i.place f run.at keeps)
 

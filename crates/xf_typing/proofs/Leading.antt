@@ -87,7 +87,7 @@ module _ (new : ℕ → ℕ) (apart : (a b : ℕ) → new a ≡ new b → a ≡ 
           let has = ready.serve.cells q i ty (reached l.same_is l.needed s l.objects l.rules ready r asks q g e) keeps at in
           (home-stands l.same_is l.needed s l.objects l.rules ready r asks (record { slot = register_count s.method.rec + i; ty = ty }) has plain, more)
 
-  cells-are : (q : ℕ) (g : Frame) → s.frames q ≡ Some g → cells s q ≡ cells_from (register_count s.method.rec) (reverse g.stack) 0 (length (reverse g.stack))
+  pub cells-are : (q : ℕ) (g : Frame) → s.frames q ≡ Some g → cells s q ≡ cells_from (register_count s.method.rec) (reverse g.stack) 0 (length (reverse g.stack))
   unfolding cells
   cells-are q g e = ap (λ (o : Option Frame). cells_from (register_count s.method.rec) (stack_of o) 0 (length (stack_of o))) e
 
@@ -143,7 +143,7 @@ module _ (new : ℕ → ℕ) (apart : (a b : ℕ) → new a ≡ new b → a ≡ 
   pub is-kept : (q : ℕ) → is_leader s q ≡ true → KeepsStack s.world s.method s.frames q
   is-kept q e = inl ((ready.marks q).0 e)
 
-  below-lesser : (f g : Frame) (st : List Ty) → CellsBelow s.world.classes f.stack g.stack → IsLesser s.world f st → IsLesser s.world g st
+  pub below-lesser : (f g : Frame) (st : List Ty) → CellsBelow s.world.classes f.stack g.stack → IsLesser s.world f st → IsLesser s.world g st
   below-lesser f g st le lesser = record { below = l.rules.order.through lesser.below le; full = lesser.full; known = lesser.known }
 
   pub record FallsInto (q : ℕ) (a : State) (xs : List Item) : Type 0 where

@@ -19,3 +19,4 @@ pub mod This
 pub mod Cuts
 pub mod Forking
 pub mod Matching
+pub mod Edges

@@ -39,6 +39,7 @@ use Rattle.jc_rules.specs.FlowLaws.{AreRules}
 use Rattle.jc_rules.specs.Footprint.{OperationNamesNone}
 use Rattle.jc_rules.specs.Laws.{IsNotBottom, OperationFalls, OperationKeeps, OperationRests}
 use Rattle.jc_rules.specs.Rule.{or_null, number_given}
+use Rattle.jc_rules.specs.Whole.{OperationKeepsWhole}
 use Rattle.jc_flow.proofs.Frames.{all_none, all_more}
 use Rattle.xf_homes.specs.declared.home.Home.{Home}
 use Rattle.xf_homes.specs.Laws.{NeededAreKept}
@@ -72,6 +73,7 @@ pub record AreLaws (w : Linked) : Type 0 where
   pub none : OperationNamesNone w
   pub rests : OperationRests w
   pub entry : RestsOnEntry w
+  pub whole : OperationKeepsWhole w
 
 -- the record of rewritten code: there is room for one cell more
 pub record IsRecordFor (m r : MethodRec) : Type 0 where
