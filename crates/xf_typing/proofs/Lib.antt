@@ -20,3 +20,4 @@ pub mod Cuts
 pub mod Forking
 pub mod Matching
 pub mod Edges
+pub mod Groups
