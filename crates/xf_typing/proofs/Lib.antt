@@ -21,3 +21,4 @@ pub mod Forking
 pub mod Matching
 pub mod Edges
 pub mod Groups
+pub mod Listings
