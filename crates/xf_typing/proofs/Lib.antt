@@ -22,3 +22,4 @@ pub mod Matching
 pub mod Edges
 pub mod Groups
 pub mod Listings
+pub mod Rewriting
