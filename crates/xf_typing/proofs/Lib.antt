@@ -23,3 +23,4 @@ pub mod Edges
 pub mod Groups
 pub mod Listings
 pub mod Rewriting
+pub mod Numbers
