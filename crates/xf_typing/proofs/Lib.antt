@@ -20,7 +20,7 @@ pub mod Cuts
 pub mod Forking
 pub mod Matching
 pub mod Edges
+pub mod Numbers
 pub mod Groups
 pub mod Listings
 pub mod Rewriting
-pub mod Numbers

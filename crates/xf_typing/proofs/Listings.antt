@@ -21,15 +21,16 @@ use Rattle.jc_control.specs.WellFormed.{Stands as IsListed, IsTargetPlace}
 use Rattle.jc_rules.specs.Demand.{Frame}
 use Rattle.jc_rules.specs.Flow.{FrameBelow, At, IsFollowed}
 use Rattle.xf_plan.specs.Source.{Source}
-use Rattle.xf_plan.specs.Plan.{is_leader}
+use Rattle.xf_plan.specs.Plan.{is_leader, operation}
 use Rattle.xf_emission.specs.Jump.{place}
 use Rattle.xf_emission.specs.Laws.{IsCode}
-use Rattle.xf_emission.specs.Group.{first_place, entered as head_of, group_by, group}
+use Rattle.xf_emission.specs.Group.{first_place, entered as head_of, body, fallen, done, group_by, group}
 use Rattle.xf_typing.specs.Typed.{registers_of}
-use Rattle.xf_typing.proofs.Walks.{State, holding, left, Asked, nothing_asked, emptied, Flows, flow_end, flows-append, count}
+use Rattle.xf_typing.proofs.Walks.{State, holding, left, Asked, nothing_asked, emptied, Flows, flow_end, flows-append, count, count-append}
 use Rattle.xf_typing.proofs.Ready.{IsReady, framed, reached}
 use Rattle.xf_typing.proofs.Running.{AreLaws, IsRecordFor, IsRun}
 use Rattle.xf_typing.proofs.Leading.{fit-at, Arrives, only_elsewhere}
+use Rattle.xf_typing.proofs.Numbers.{IsNumbered, AreFilled, body-some}
 use Rattle.xf_typing.proofs.Groups.{IsAbove, LeadsOn, IsGone, group-flows}
 
 module _ (new : ℕ → ℕ) (apart : (a b : ℕ) → new a ≡ new b → a ≡ b) (s : Source) (l : AreLaws s.world) (ready : IsReady s) (r : MethodRec) (own_rec : IsRecordFor s.method.rec r) (asks : ℕ → Asked) (res : IfSome s.method.rec.sig.result (IsDeclared s.world.classes)) (code : IsCode s) where
@@ -129,9 +130,8 @@ module _ (new : ℕ → ℕ) (apart : (a b : ℕ) → new a ≡ new b → a ≡ 
   -- ---- one after the other
 
   -- a `new` is numbered by where its group's instruction stands
-  pub Numbered : ℕ → List Placed → Type 0
-  Numbered n [] = ⊤
-  Numbered n (i ∷ xs) = (is_some (s.frames i.place) ≡ true → new i.place ≡ n + count (head_of s i.place)) × Numbered (n + count (group s i)) xs
+  abbrev pub Numbered : ℕ → List Placed → Type 0
+  Numbered n xs = IsNumbered s new n xs
 
   -- only the instruction before falls into a place
   one-before : (i j : Placed) → IsListed s.method.code i → IsListed s.method.code j → j.place + j.insn.len ≡ i.place + i.insn.len → j.place ≡ i.place
@@ -178,7 +178,6 @@ module _ (new : ℕ → ℕ) (apart : (a b : ℕ) → new a ≡ new b → a ≡ 
   module _ (wants : (q : ℕ) → is_some (s.frames q) ≡ true → asks q ≡ (if is_leader s q then emptied else nothing_asked)) where
     pub groups-flow : (at n : ℕ) (xs : List Placed) (a : State) → Lists s.method.code at xs → ((i : Placed) → Contains xs i → IsListed s.method.code i) → IsBefore at a → Numbered n xs
         → Flows s.world r (registers_of s.homes) asks n a (flat_map (group s) xs) left
-    unfolding Numbered
     groups-flow at n [] a lists inside before numbered = subst (λ (b : State). Flows s.world r (registers_of s.homes) asks n a [] b) (ends-left at a lists before) flow_end
     groups-flow at n (i ∷ xs) a lists inside before numbered =
         by (s.frames i.place) refl (λ b next. groups-flow (at + i.insn.len) (n + count (group s i)) xs b lists.2 (λ j c. inside j (suc c.0, omega (arith, c.1), c.2)) next numbered.1)
@@ -216,3 +215,19 @@ module _ (new : ℕ → ℕ) (apart : (a b : ℕ) → new a ≡ new b → a ≡ 
                   not_there = λ none. absurd (none-not (i.place + i.insn.len) none (follows {i = i} st there (falls_through (sym k.falls_alike ∙ goes))));
                 }
                 by-falls false goes = subst (IsBefore (i.place + i.insn.len)) (sym (g.leaves goes)) (left-before i st (λ q h. differ (falls_from k.op) (k.falls_alike ∙ h) goes))
+
+  group-is : (i : Placed) (f : Frame) (op : Operation) → s.frames i.place ≡ Some f → operation s i ≡ Ok op → group s i ≡ head_of s i.place ++ done s i (Ok op)
+  unfolding group
+  group-is i f op e is = ap (group_by s i) e ∙ ap (λ o. head_of s i.place ++ done s i o) is
+
+  -- each group that is reached has an instruction after its head
+  pub filled : (xs : List Placed) → ((i : Placed) → Contains xs i → IsListed s.method.code i) → AreFilled s xs
+  filled [] inside = tt
+  filled (i ∷ xs) inside = ((λ some. by (s.frames i.place) refl some), filled xs (λ j c. inside j (suc c.0, omega (arith, c.1), c.2)))
+    where
+      by : (o : Option Frame) → s.frames i.place ≡ o → is_some o ≡ true → count (head_of s i.place) < count (group s i)
+      by None e some = absurd (cc)
+      by (Some f) e some =
+          let k = run-of i f (inside i (0, omega arith, refl)) e in
+          let whole : group s i ≡ head_of s i.place ++ done s i (Ok k.op) = group-is i f k.op e k.run.resolves in
+          omega (arith, ap count whole, count-append (head_of s i.place) (done s i (Ok k.op)), count-append (body s i k.op) (fallen s i k.op), body-some s i k.op)
