@@ -24,3 +24,4 @@ pub mod Numbers
 pub mod Groups
 pub mod Listings
 pub mod Rewriting
+pub mod Asking
