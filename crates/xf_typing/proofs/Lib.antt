@@ -25,3 +25,4 @@ pub mod Groups
 pub mod Listings
 pub mod Rewriting
 pub mod Asking
+pub mod Whole
