@@ -21,7 +21,7 @@ use Rattle.xf_typing.proofs.Ready.{IsReady}
 use Rattle.xf_typing.proofs.Running.{AreLaws, IsRecordFor}
 use Rattle.xf_typing.proofs.Rewriting.{AreWanted}
 
-abbrev caught_by : Option Handler → Asked
+abbrev pub caught_by : Option Handler → Asked
 caught_by None = emptied
 caught_by (Some h) = catching h.class
 
@@ -40,7 +40,7 @@ at-stub : (s : Source) (n : ℕ) → n < 16384 → asks_of s (32768 + n) ≡ emp
 unfolding asks_of
 at-stub s n lt = let e : nat_lt (32768 + n) 32768 ≡ false = grind (arith, nat_tests) in let f : nat_lt (32768 + n) 49152 ≡ true = grind (arith, nat_tests, lt) in rw (e, f) refl
 
-at-handler : (s : Source) (n : ℕ) → asks_of s (49152 + n) ≡ caught_by (slice_get s.method.rec.handlers n)
+pub at-handler : (s : Source) (n : ℕ) → asks_of s (49152 + n) ≡ caught_by (slice_get s.method.rec.handlers n)
 unfolding asks_of
 at-handler s n =
     let e : nat_lt (49152 + n) 32768 ≡ false = grind (arith, nat_tests) in

@@ -25,4 +25,5 @@ pub mod Groups
 pub mod Listings
 pub mod Rewriting
 pub mod Asking
+pub mod Ranges
 pub mod Whole

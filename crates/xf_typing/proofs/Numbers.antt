@@ -173,7 +173,7 @@ module _ (s : Source) where
   numbers-agree code new at n (i ∷ xs) lists long h = (
     (λ some. h i.place (n + count (entered s i.place)) (omega (arith, lists.0)) (ap (λ (b : Bool). if b then Some (n + count (entered s i.place)) else number (n + count (group s i)) xs i.place) (own some))),
     numbers-agree code new (at + i.insn.len) (n + count (group s i)) xs lists.2 (λ j c. long j (suc c.0, omega (arith, c.1), c.2))
-    (λ p k le e. h p k (omega (arith, le)) (ap (λ (b : Bool). if b then Some (n + count (entered s i.place)) else number (n + count (group s i)) xs p) (other p le) ∙ e)),
+        (λ p k le e. h p k (omega (arith, le)) (ap (λ (b : Bool). if b then Some (n + count (entered s i.place)) else number (n + count (group s i)) xs p) (other p le) ∙ e)),
   )
     where
       own : is_some (s.frames i.place) ≡ true → (i.place == i.place && is_some (s.frames i.place)) ≡ true

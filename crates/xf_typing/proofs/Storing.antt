@@ -184,9 +184,9 @@ module _ (new : ℕ → ℕ) (apart : (a b : ℕ) → new a ≡ new b → a ≡ 
       let room = has-room new apart s l ready r own_rec asks res i (ops.Increment widths.Short x amount) f after st run lesser in
       increment-by i widths.Short x amount f after st n Short run lesser (value-one f.regs x Short (k.at ∙ ap Some own) tt tt) run.does.stack
       (λ y h.
-        let does = applies-by s.world r.max_stack (ops.Increment widths.Short y amount) (record { regs = registers_of s.homes; stack = map (named new apart) st }) (record { regs = set (registers_of s.homes) y Short; stack = map (named new apart) st })
-        (there s.world l.objects r (registers_of s.homes) asks y Short h.first, (held s.world l.objects r (registers_of s.homes) asks y Short Short h.first same, tt)) (record { value = Short; stored = refl; after_is = refl }) refl (omega (arith, room, own_rec.room)) in
-        (set (registers_of s.homes) y Short, set-below s.world.classes (registers_of s.homes) y Short Short h.first same, does.0, does.1))
+      let does = applies-by s.world r.max_stack (ops.Increment widths.Short y amount) (record { regs = registers_of s.homes; stack = map (named new apart) st }) (record { regs = set (registers_of s.homes) y Short; stack = map (named new apart) st })
+      (there s.world l.objects r (registers_of s.homes) asks y Short h.first, (held s.world l.objects r (registers_of s.homes) asks y Short Short h.first same, tt)) (record { value = Short; stored = refl; after_is = refl }) refl (omega (arith, room, own_rec.room)) in
+      (set (registers_of s.homes) y Short, set-below s.world.classes (registers_of s.homes) y Short Short h.first same, does.0, does.1))
   increment-passed i widths.Int x amount f after st n run lesser =
       let whole = ready.whole i.place f run.at in
       let k = found-below s.world.classes f.regs x IntHigh run.does.asked.1.0 in
@@ -196,14 +196,14 @@ module _ (new : ℕ → ℕ) (apart : (a b : ℕ) → new a ≡ new b → a ≡ 
       let room = has-room new apart s l ready r own_rec asks res i (ops.Increment widths.Int x amount) f after st run lesser in
       increment-by i widths.Int x amount f after st n IntHigh run lesser (value-int f.regs x (k.at ∙ ap Some own) (j.at ∙ ap Some low)) run.does.stack
       (λ y h.
-        let regs = registers_of s.homes in
-        let second = h.second refl in
-        let high : set regs y IntHigh ≡ regs = set-same regs y IntHigh h.first in
-        let later : List Ty = set (set regs y IntHigh) (y + 1) IntLow in
-        let does = applies-by s.world r.max_stack (ops.Increment widths.Int y amount) (record { regs = regs; stack = map (named new apart) st }) (record { regs = later; stack = map (named new apart) st })
-        (two-there s.world l.objects r regs asks y second, (held s.world l.objects r regs asks y IntHigh IntHigh h.first same, (held s.world l.objects r regs asks (y + 1) IntLow IntLow second same, tt)))
-        (record { between = set regs y IntHigh; high = record { value = IntHigh; stored = refl; after_is = refl }; low = record { value = IntLow; stored = refl; after_is = refl } }) refl (omega (arith, room, own_rec.room)) in
-        (later, subst (λ (ts : List Ty). CellsBelow s.world.classes (set ts (y + 1) IntLow) regs) (sym high) (set-below s.world.classes regs (y + 1) IntLow IntLow second same), does.0, does.1))
+      let regs = registers_of s.homes in
+      let second = h.second refl in
+      let high : set regs y IntHigh ≡ regs = set-same regs y IntHigh h.first in
+      let later : List Ty = set (set regs y IntHigh) (y + 1) IntLow in
+      let does = applies-by s.world r.max_stack (ops.Increment widths.Int y amount) (record { regs = regs; stack = map (named new apart) st }) (record { regs = later; stack = map (named new apart) st })
+      (two-there s.world l.objects r regs asks y second, (held s.world l.objects r regs asks y IntHigh IntHigh h.first same, (held s.world l.objects r regs asks (y + 1) IntLow IntLow second same, tt)))
+      (record { between = set regs y IntHigh; high = record { value = IntHigh; stored = refl; after_is = refl }; low = record { value = IntLow; stored = refl; after_is = refl } }) refl (omega (arith, room, own_rec.room)) in
+      (later, subst (λ (ts : List Ty). CellsBelow s.world.classes (set ts (y + 1) IntLow) regs) (sym high) (set-below s.world.classes regs (y + 1) IntLow IntLow second same), does.0, does.1))
 
   -- ---- stores
 

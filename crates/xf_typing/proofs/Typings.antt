@@ -289,13 +289,13 @@ module _ (w : Linked) (r0 : MethodRec) (source : List ℕ) (symbols : Symbols) (
               let b : t.after ≡ left = t.turn.onward ∙ ap (λ (y : Bool). if y then holding t.turn.after.stack else left) none in
               flowing ∙ left-empty w (record_with r0 symbols) regs asks t.flow b refl
               (λ l c is among.
-                  let beyond = t.beyond asked.low asked.high l asked.rise among in
-                  let k = asked.no_others l c beyond.0 is in
-                  positive (place_of l t.rest) (λ zero_place. no_entry (record {
-                    handler = by_label k.0;
-                    listed = has-range k.0 k.1;
-                    begins = entry-is k.0 l k.2 (omega (arith, beyond.1, zero_place));
-                  })));
+              let beyond = t.beyond asked.low asked.high l asked.rise among in
+              let k = asked.no_others l c beyond.0 is in
+              positive (place_of l t.rest) (λ zero_place. no_entry (record {
+                handler = by_label k.0;
+                listed = has-range k.0 k.1;
+                begins = entry-is k.0 l k.2 (omega (arith, beyond.1, zero_place));
+              })));
         }
       where
         positive : (n : ℕ) → (n ≡ 0 → ⊥) → 0 < n
