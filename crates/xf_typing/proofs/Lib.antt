@@ -26,4 +26,7 @@ pub mod Listings
 pub mod Rewriting
 pub mod Asking
 pub mod Ranges
+pub mod Ordered
+pub mod Others
+pub mod Named
 pub mod Whole
