@@ -29,4 +29,5 @@ pub mod Ranges
 pub mod Ordered
 pub mod Others
 pub mod Named
+pub mod Asked
 pub mod Whole
