@@ -31,3 +31,4 @@ pub mod Others
 pub mod Named
 pub mod Asked
 pub mod Whole
+pub mod Typed
