@@ -11,6 +11,7 @@ use Rattle.jc_decode.specs.Symbols.{IsItem, IsRange, plain_size}
 use Rattle.jc_control.specs.ControlFlow.{Marked, IsControlFlow}
 use Rattle.jc_control.specs.Laws.{ArePlaced}
 use Rattle.jc_control.specs.Method.{Method, IsMethodOf}
+use Rattle.jc_flow.specs.Infer.{AreDerived}
 use Rattle.jc_rules.specs.Demand.{Frame}
 use Rattle.jc_rules.specs.Flow.{At, IsFit}
 use Rattle.jc_rules.specs.Typing.{state_at}
@@ -23,6 +24,8 @@ use Rattle.xf_plan.specs.Plan.{stack_of}
 use Rattle.xf_emission.specs.Emission.{rewritten}
 use Rattle.xf_emission.specs.Laws.{IsCode, HasFrames, ItemsSuit, LiveAreKept, PlainSizeFits, RangesStand}
 use Rattle.xf_emission.specs.Live.{KeepsLive}
+use Rattle.xf_typing.specs.Laws.{RewrittenIsTyped}
+use Rattle.xf_typing.specs.Typed.{HasTypes}
 use Rattle.xf_code.proofs.Subjects.{code-short}
 
 module _ (w : Linked) (m : Method) (typing : List (Option Frame)) (control : Marked) (homes : List Home) (typed : IsTypingOf w m typing) (flow : IsControlFlow m control) (placed : ArePlaced m) (listed : AreListed m.code) (mo : IsMethodOf w m)
@@ -61,3 +64,6 @@ module _ (w : Linked) (m : Method) (typing : List (Option Frame)) (control : Mar
     pub small-by : PlainSizeFits w → AreHomes w m (state_at typing) homes → register_sum homes ≤ 255 → m.rec.max_stack ≤ 255 → plain_size symbols.items < 2 ^ 32
     unfolding rewritten
     small-by law are few room = subst (λ (y : Symbols). plain_size y.items < 2 ^ 32) (sym e) (law _ refl is-code has-frames are few (λ p. shallow room p))
+
+    pub typed-by : RewrittenIsTyped w → AreDerived w m typing → AreHomes w m (state_at typing) homes → register_sum homes ≤ 255 → HasTypes w m homes symbols
+    typed-by law derived are few = subst (HasTypes w m homes) (sym e) (law _ refl is-code has-frames mo typed.least.typing derived flow.leaders are few)

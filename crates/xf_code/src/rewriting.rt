@@ -1,5 +1,6 @@
 ghost use Rattle.std.specs.Prelude.{◌≡◌, ◌≤◌, ◌<◌, ◌^◌, ◌↔◌, All, IfOk, IsSomeAnd, Err, length, slice_get};
 ghost use Rattle.jc_control.specs.Method.{IsMethodOf, method_in};
+ghost use Rattle.jc_flow.specs.Infer.{AreDerived};
 ghost use Rattle.jc_rules.specs.Typing.{state_at};
 ghost use Rattle.xf_homes.specs.Answer.{IsTypingOf};
 ghost use Rattle.xf_homes.specs.Order.{AreHomes, register_sum};
@@ -10,6 +11,7 @@ ghost use Rattle.xf_emission.specs.Emission.{IsPlainSize, IsRewritten, items, ra
 ghost use Rattle.xf_code.specs.Known.{IsSubject};
 ghost use Rattle.xf_emission.specs.Live.{KeepsLive};
 ghost use Rattle.xf_emission.specs.Numbers.{HasNumbers};
+ghost use Rattle.xf_typing.specs.Typed.{HasTypes};
 
 use crate::edge::{Scratch, copies};
 use crate::group::groups;
@@ -25,6 +27,7 @@ use std::alloc::{AllocError, Global};
 use xf_emission::{Origin, items_suit, live_are_kept, plain_size_fits, ranges_stand};
 use xf_homes::{Homes, Walk};
 use xf_plan::Plan;
+use xf_typing::rewritten_is_typed;
 
 /// Why a method is not rewritten.
 #[derive(Clone, Copy)]
@@ -116,9 +119,13 @@ pub fn rewrite<'a>(
 ) -> Result<Symbols, RewriteEnd>
     requires code { IsSomeAnd (slice_get world.now.methods method) (λ m. 0 < m.code_len) }
     requires typing { IsSomeAnd (method_in world.now method) (λ m. IsTypingOf world.now m typing.now) }
+    requires derived { IsSomeAnd (method_in world.now method) (λ m. AreDerived world.now m typing.now) }
     requires homes { IsSomeAnd (method_in world.now method) (λ m. AreHomes world.now m (state_at typing.now) homes.now) }
     ensures symbols { IsSomeAnd (method_in world.now method)
         (λ m. IfOk result (IsRewritten world.now m (state_at typing.now) homes.now)) }
+    // They have a card typing, in which each home's registers have the home's type.
+    ensures typed { IsSomeAnd (method_in world.now method)
+        (λ m. IfOk result (HasTypes world.now m homes.now)) }
     // Each live handler has a range, and no other.
     ensures live { IsSomeAnd (method_in world.now method)
         (λ m. IfOk result (λ symbols. KeepsLive m m.rec.handlers symbols.ranges)) }
@@ -143,6 +150,7 @@ pub fn rewrite<'a>(
     ranges_stand();
     items_suit(world);
     plain_size_fits(world);
+    rewritten_is_typed(world);
     are_few(homes);
     let rec = world.method(method);
     is_a_byte(rec.max_stack);

@@ -24,13 +24,13 @@ use Rattle.xf_typing.specs.Whole.{DerivedAreWhole}
 -- ---- types above a half of an int, and above what is none
 
 module _ (t : ClassTable) (types : IsOrderOfTypes t) where
-  high-only : (b : Ty) → is_below t IntHigh b ≡ true → IsNotTop b → b ≡ IntHigh
+  pub high-only : (b : Ty) → is_below t IntHigh b ≡ true → IsNotTop b → b ≡ IntHigh
   unfolding is_below
   high-only IntHigh e n = refl
   high-only Top e n = absurd n
   high-only b e n = absurd (cc)
 
-  low-only : (b : Ty) → is_below t IntLow b ≡ true → IsNotTop b → b ≡ IntLow
+  pub low-only : (b : Ty) → is_below t IntLow b ≡ true → IsNotTop b → b ≡ IntLow
   unfolding is_below
   low-only IntLow e n = refl
   low-only Top e n = absurd n
@@ -48,7 +48,7 @@ module _ (t : ClassTable) (types : IsOrderOfTypes t) where
   under-low IntLow e n h = h
   under-low a e n h = absurd (cc)
 
-  no-half-above : (a b : Ty) → Below t a b → IsNotBottom a → IsNoHalf a → IsNoHalf b
+  pub no-half-above : (a b : Ty) → Below t a b → IsNotBottom a → IsNoHalf a → IsNoHalf b
   no-half-above a IntHigh le n h = absurd (under-high a ((types.decided a IntHigh).1 le) n h)
   no-half-above a IntLow le n h = absurd (under-low a ((types.decided a IntLow).1 le) n h)
   no-half-above a b le n h = tt

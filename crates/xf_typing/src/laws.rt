@@ -1,8 +1,11 @@
+ghost use Rattle.xf_typing.specs.Laws.{RewrittenIsTyped};
 ghost use Rattle.xf_typing.specs.Whole.{DerivedAreWhole};
 
-use jc_base::World;
-use jc_ops::operations_are_sound;
-use jc_rules::{operation_laws, rule_laws};
+use jc_base::{World, subclasses_extend, types_are_ordered};
+use jc_ops::{entries_are_named, operations_are_sound, operations_go_alike};
+use jc_rules::{footprint_laws, operation_laws, rule_laws};
+use xf_homes::{homes_serve, needed_are_kept};
+use xf_landed::catches_by_pool;
 
 /// The states of a least typing have whole stacks, and no register without a value.
 pub fn derived_are_whole(world: &World<'_>)
@@ -11,4 +14,22 @@ pub fn derived_are_whole(world: &World<'_>)
     operations_are_sound(world);
     rule_laws(world);
     operation_laws(world);
+}
+
+/// The code that stands for a method has a card typing, in which each home's registers have the home's type.
+pub fn rewritten_is_typed(world: &World<'_>)
+    ensures { RewrittenIsTyped world.now }
+{
+    types_are_ordered(world.classes());
+    subclasses_extend(world.classes());
+    operations_are_sound(world);
+    entries_are_named(world);
+    operations_go_alike(world);
+    rule_laws(world);
+    operation_laws(world);
+    footprint_laws(world);
+    homes_serve(world);
+    needed_are_kept(world);
+    catches_by_pool();
+    derived_are_whole(world);
 }

@@ -3,6 +3,7 @@ use Rattle.jc_base.specs.World.{code_of}
 use Rattle.jc_control.specs.ControlFlow.{IsControlFlow}
 use Rattle.jc_control.specs.Method.{Method, IsMethodOf, method_in}
 use Rattle.jc_decode.specs.Symbols.{IsItem, plain_size}
+use Rattle.jc_flow.specs.Infer.{AreDerived}
 use Rattle.jc_rules.specs.Typing.{state_at}
 use Rattle.xf_homes.specs.Answer.{IsTypingOf}
 use Rattle.xf_homes.specs.Order.{AreHomes}
@@ -10,8 +11,9 @@ use Rattle.xf_homes.proofs.Answered.{number-below, of-method, to-method, flaw-ne
 use Rattle.xf_emission.specs.Emission.{IsPlainSize}
 use Rattle.xf_emission.specs.Live.{KeepsLive}
 use Rattle.xf_emission.specs.Numbers.{HasNumbers}
+use Rattle.xf_typing.specs.Typed.{HasTypes}
 use Rattle.xf_code.proofs.Numbers.{has-numbers, has-size}
-use Rattle.xf_code.proofs.Sources.{live-by, ranged-by, items-by, small-by}
+use Rattle.xf_code.proofs.Sources.{live-by, ranged-by, items-by, small-by, typed-by}
 use Rattle.xf_code.proofs.Subjects.{is-subject}
 use Rattle.xf_code.proofs.rewriting.rewrite.Goals as goal
 
@@ -118,3 +120,20 @@ returns-in-Ok-rewritten-clause-small c =
     let are : AreHomes w m (state_at c.args.typing.now) c.args.homes.now = of-method w n rec code c.method-rec.ensures.is bytes (λ m. AreHomes w m (state_at c.args.typing.now) c.args.homes.now) c.requires.homes in
     small-by w m c.args.typing.now c.in-Ok.control c.args.homes.now typed flow (c.instructions_are_placed.ensures m typed.least.typing.formed) (c.instructions_are_listed.ensures code) mo
     c.method-rec.ensures.links c.are_bytes.ensures c.in-Ok-rewritten.symbols c.in-Ok-rewritten.ensures c.plain_size_fits.ensures are c.are_few.ensures c.is_a_byte.ensures
+
+pub returns-in-Ok-rewritten-clause-typed : goal.returns-in-Ok-rewritten-clause-typed
+returns-in-Ok-rewritten-clause-typed c =
+    let w = c.args.world.now in
+    let n = c.args.method in
+    let rec = c.method-rec.result.now in
+    let code = c.of-code.result.bytes.now in
+    let m : Method = record { number = n; rec = rec; code = code } in
+    let bytes : option_map (code_of w.infos) (slice_get w.methods n) ≡ Some code = cc in
+    let mo : IsMethodOf w m = of-method w n rec code c.method-rec.ensures.is bytes (IsMethodOf w) c.in-Ok.ensures.known in
+    let flow : IsControlFlow m c.in-Ok.control = of-method w n rec code c.method-rec.ensures.is bytes (λ m. IsControlFlow m c.in-Ok.control) c.in-Ok.ensures.formed in
+    let typed : IsTypingOf w m c.args.typing.now = of-method w n rec code c.method-rec.ensures.is bytes (λ m. IsTypingOf w m c.args.typing.now) c.requires.typing in
+    let derived : AreDerived w m c.args.typing.now = of-method w n rec code c.method-rec.ensures.is bytes (λ m. AreDerived w m c.args.typing.now) c.requires.derived in
+    let are : AreHomes w m (state_at c.args.typing.now) c.args.homes.now = of-method w n rec code c.method-rec.ensures.is bytes (λ m. AreHomes w m (state_at c.args.typing.now) c.args.homes.now) c.requires.homes in
+    to-method w n rec code c.method-rec.ensures.is bytes (λ m. HasTypes w m c.args.homes.now c.in-Ok-rewritten.symbols)
+    (typed-by w m c.args.typing.now c.in-Ok.control c.args.homes.now typed flow (c.instructions_are_placed.ensures m typed.least.typing.formed) (c.instructions_are_listed.ensures code) mo
+    c.method-rec.ensures.links c.are_bytes.ensures c.in-Ok-rewritten.symbols c.in-Ok-rewritten.ensures c.rewritten_is_typed.ensures derived are c.are_few.ensures)

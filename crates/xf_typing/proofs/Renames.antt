@@ -1,0 +1,206 @@
+-- Uninitialised objects carry the place of the `new` that makes them. Where such places have other numbers, each to its own, what an
+-- operation does to the stack is the same but for these numbers.
+use Rattle.std.proofs.Common.{◌≡◌, ◌≢◌, ◌⊎◌, ℕ, zero, suc, ◌+◌, ◌-◌, ◌<◌, ◌≤◌, Bool, true, false, ◌==◌, if◌then◌else◌, inl, inr, List, [], ◌∷◌, ◌++◌, length, map, take, drop, reverse, slice_get, get_or, All, Option, Some, None, IsSomeAnd, IfSome, option_map, refl, sym, ◌∙◌, ap, subst, arith}
+use Rattle.std.specs.Prelude.{⊤, slice_index_or}
+use Rattle.std.proofs.lemmas.Bool.Decides.{nat_tests}
+use Rattle.std.proofs.lemmas.List.{drop-map, take-map, map-append, length-map}
+use Rattle.std.proofs.lemmas.Option.{slice_get-map}
+use Rattle.jc_base.proofs.Lists.{All-slice_get, All-reverse}
+use Rattle.jc_base.specs.Each.{Each}
+use Rattle.jc_base.specs.declared.ty.Ty.{Ty}
+use Rattle.jc_base.specs.declared.ty.Ty.TheVariants.{Bottom, Short, IntHigh, IntLow, Null, Class, ArrBool, ArrByte, ArrShort, ArrInt, ArrRef, Fresh, Top}
+use Rattle.jc_base.specs.declared.ty.Kind.{Kind}
+use Rattle.jc_base.specs.declared.ty.Kind.TheVariants as kinds
+use Rattle.jc_base.specs.declared.record.MethodRec.{MethodRec}
+use Rattle.jc_base.specs.Cell.{IsDeclared}
+use Rattle.jc_base.specs.Class.{ClassTable, object}
+use Rattle.jc_base.specs.Laws.{IsOrderOfTypes}
+use Rattle.jc_base.specs.Linked.{IsMethod}
+use Rattle.jc_base.specs.Order.{Below, anything, is_below}
+use Rattle.jc_base.specs.World.{Linked, IsWorld}
+use Rattle.jc_ops.specs.declared.want.Want.{Want}
+use Rattle.jc_ops.specs.declared.want.Want.TheVariants.{Value, Storable, ByteArray, AnyArray, Whole, Receiver}
+use Rattle.jc_ops.specs.declared.operation.Callee.{Callee}
+use Rattle.jc_ops.specs.declared.operation.Choice.TheVariants as choices
+use Rattle.jc_ops.specs.declared.operation.Arithmetic.{Arithmetic}
+use Rattle.jc_ops.specs.declared.operation.Arithmetic.TheVariants as arithmetic
+use Rattle.jc_ops.specs.declared.operation.Holder.TheVariants as holders
+use Rattle.jc_ops.specs.declared.operation.Move.{Move}
+use Rattle.jc_ops.specs.declared.operation.Move.TheVariants as moves
+use Rattle.jc_ops.specs.declared.operation.Operation.{Operation}
+use Rattle.jc_ops.specs.declared.operation.Operation.TheVariants as ops
+use Rattle.jc_ops.specs.declared.operation.TypeTest.TheVariants as tests
+use Rattle.jc_ops.specs.declared.operation.Width.{Width}
+use Rattle.jc_ops.specs.declared.operation.Width.TheVariants as widths
+use Rattle.jc_ops.specs.declared.operation.Constant.TheVariants as constants
+use Rattle.jc_ops.specs.Sound.{IsSound, IsChosen, IsReceiverOf, IsNamedType}
+use Rattle.jc_rules.specs.declared.demand.Demand.{Demand}
+use Rattle.jc_rules.specs.declared.demand.Demand.TheVariants.{Registers, Depth, Cell, Cut, Held}
+use Rattle.jc_rules.specs.declared.effect.Cells.{Cells}
+use Rattle.jc_rules.specs.declared.effect.Cells.TheVariants as given
+use Rattle.jc_rules.specs.declared.effect.Change.{Change}
+use Rattle.jc_rules.specs.declared.effect.Change.TheVariants.{Replace, CopyUnder, Exchange, MakeReady}
+use Rattle.jc_rules.specs.Demand.{Frame, Holds, AllHold, Meets, IsHalf, IsFreshOf}
+use Rattle.jc_rules.specs.Effect.{changed, listed, ready}
+use Rattle.jc_rules.specs.Flow.{IsNotFresh}
+use Rattle.jc_rules.specs.FlowLaws.{AreRules}
+use Rattle.jc_rules.specs.Rule.{demands, effect, cell, number, value_given, value_wanted, number_given, cells_wanted, receiver_wanted, result_given, result_at, args_at, ready_with, call_change, seen, standing, element}
+
+module _ (new : ℕ → ℕ) (apart : (a b : ℕ) → new a ≡ new b → a ≡ b) where
+  -- a type, with the place of its `new` in other code
+  abbrev pub named : Ty → Ty
+  named (Fresh p c) = Fresh (new p) c
+  named ty = ty
+
+  abbrev pub named_op : Operation → Operation
+  named_op (ops.New p c) = ops.New (new p) c
+  named_op op = op
+
+  pub same-named : (ty : Ty) → IsNotFresh ty → named ty ≡ ty
+  same-named (Fresh p c) h = absurd h
+  same-named ty h = refl
+
+  -- ---- demands
+
+  abbrev pub IsSteadyWant : Want → Type 0
+  IsSteadyWant (Value ty) = IsNotFresh ty
+  IsSteadyWant want = ⊤
+
+  abbrev pub IsSteady : Demand → Type 0
+  IsSteady (Cell n want) = IsSteadyWant want
+  IsSteady d = ⊤
+
+  module _ (t : ClassTable) (types : IsOrderOfTypes t) where
+    fresh-below : (p c : ℕ) (ty : Ty) → is_below t (Fresh p c) ty ≡ true → IsNotFresh ty → ty ≡ Top
+    unfolding is_below
+    fresh-below p c Top e h = refl
+    fresh-below p c (Fresh q d) e h = absurd h
+    fresh-below p c ty e h = absurd (cc)
+
+    fresh-wanted : (p q c : ℕ) (ty : Ty) → IsNotFresh ty → Below t (Fresh p c) ty → Below t (Fresh q c) ty
+    fresh-wanted p q c ty h le = let top = fresh-below p c ty ((types.decided (Fresh p c) ty).1 le) h in subst (Below t (Fresh q c)) (sym top) anything
+
+    fresh-meets : (p q c : ℕ) (want : Want) → IsSteadyWant want → Meets t want (Fresh p c) → Meets t want (Fresh q c)
+    fresh-meets p q c (Value ty) st h = fresh-wanted p q c ty st h
+    fresh-meets p q c Storable st h = fresh-wanted p q c (Class (object t)) tt h
+    fresh-meets p q c ByteArray st (inl h) = inl (fresh-wanted p q c ArrByte tt h)
+    fresh-meets p q c ByteArray st (inr h) = inr (fresh-wanted p q c ArrBool tt h)
+    fresh-meets p q c AnyArray st h = absurd h
+    fresh-meets p q c Whole st h = h
+    fresh-meets p q c (Receiver d) st (inl h) = inl h
+    fresh-meets p q c (Receiver d) st (inr h) = inr (fresh-wanted p q c (Class d) tt h)
+
+    meets-named : (want : Want) (found : Ty) → IsSteadyWant want → Meets t want found → Meets t want (named found)
+    meets-named want (Fresh p c) st h = fresh-meets p (new p) c want st h
+    meets-named want found st h = h
+
+    half-named : (found half : Ty) → IsHalf half → named found ≡ half → found ≡ half
+    half-named (Fresh p c) IntHigh h e = absurd (cc)
+    half-named (Fresh p c) IntLow h e = absurd (cc)
+    half-named (Fresh p c) half h e = absurd h
+    half-named found half h e = e
+
+    half-at : (o : Option Ty) (half : Ty) → IsHalf half → option_map named o ≡ Some half → o ≡ Some half
+    half-at None half h e = absurd (cc)
+    half-at (Some found) half h e = let own : named found ≡ half = cc in ap Some (half-named found half h own)
+
+    hold-named : (regs st : List Ty) (d : Demand) → IsSteady d → Holds t (record { regs = regs; stack = st }) d → Holds t (record { regs = regs; stack = map named st }) d
+    hold-named regs st (Registers x n) s h = h
+    hold-named regs st (Depth n) s h = omega (arith, h, length-map st named)
+    hold-named regs st (Cell n want) s h = subst (λ (o : Option Ty). IsSomeAnd o (Meets t want)) (sym (slice_get-map named st n)) (by (slice_get st n) h)
+      where
+        by : (o : Option Ty) → IsSomeAnd o (Meets t want) → IsSomeAnd (option_map named o) (Meets t want)
+        by None h = h
+        by (Some found) h = meets-named want found s h
+    hold-named regs st (Cut n) s h = λ split. h (half-at (slice_get st (n - 1)) IntLow tt (sym (slice_get-map named st (n - 1)) ∙ split.0), half-at (slice_get st n) IntHigh tt (sym (slice_get-map named st n) ∙ split.1))
+    hold-named regs st (Held x ty) s h = h
+
+    pub all-named : (regs st : List Ty) (ds : List Demand) → Each IsSteady ds → AllHold t (record { regs = regs; stack = st }) ds → AllHold t (record { regs = regs; stack = map named st }) ds
+    all-named regs st [] s h = tt
+    all-named regs st (d ∷ ds) s h = (hold-named regs st d s.0 h.0, all-named regs st ds s.1 h.1)
+
+  -- ---- effects
+
+  ready-named : (p d : ℕ) (ty : Ty) → ready (new p) d (named ty) ≡ named (ready p d ty)
+  ready-named p d (Fresh q c) = by (q == p) refl (new q == new p) refl
+    where
+      by : (a : Bool) → (q == p) ≡ a → (b : Bool) → (new q == new p) ≡ b → (if b then Class d else Fresh (new q) c) ≡ named (if a then Class d else Fresh q c)
+      by true e true f = refl
+      by false e false f = refl
+      by true e false f = let own : q ≡ p = grind (arith, nat_tests, e) in absurd (differ (new q) (new p) (ap new own) f)
+        where
+          differ : (a b : ℕ) → a ≡ b → (a == b) ≡ false → ⊥
+          differ a b e f = absurd (grind (arith, nat_tests, e, f))
+      by false e true f = let own : new q ≡ new p = grind (arith, nat_tests, f) in absurd (other q p (apart q p own) e)
+        where
+          other : (a b : ℕ) → a ≡ b → (a == b) ≡ false → ⊥
+          other a b e f = absurd (grind (arith, nat_tests, e, f))
+  ready-named p d ty = refl
+
+  map-ready : (p d : ℕ) (st : List Ty) → map (ready (new p) d) (map named st) ≡ map named (map (ready p d) st)
+  map-ready p d [] = refl
+  map-ready p d (ty ∷ st) = ap (λ (u : Ty). u ∷ map (ready (new p) d) (map named st)) (ready-named p d ty) ∙ ap (λ (us : List Ty). named (ready p d ty) ∷ us) (map-ready p d st)
+
+  pub cell-named : (st : List Ty) (n : ℕ) → cell (map named st) n ≡ named (cell st n)
+  cell-named [] n = refl
+  cell-named (ty ∷ st) zero = refl
+  cell-named (ty ∷ st) (suc n) = cell-named st n
+
+  pub replaced : (n : ℕ) (cells others : Cells) (st : List Ty) → listed others ≡ map named (listed cells) → changed (Replace n others) (map named st) ≡ map named (changed (Replace n cells) st)
+  replaced n cells others st e =
+      ap (λ (us : List Ty). us ++ drop n (map named st)) e ∙ ap (λ (us : List Ty). map named (listed cells) ++ us) (drop-map named n st) ∙ sym (map-append named (listed cells) (drop n st))
+
+  pub value-same : (ty : Ty) → IsNotFresh ty → listed (value_given ty) ≡ map named (listed (value_given ty))
+  value-same IntHigh h = refl
+  value-same (Fresh p c) h = absurd h
+  value-same ty h = refl
+
+  pub result-same : (result : Option Ty) → IfSome result IsNotFresh → listed (result_given result) ≡ map named (listed (result_given result))
+  result-same None h = refl
+  result-same (Some ty) h = value-same ty h
+
+  pub number-same : (width : Width) → listed (number_given width) ≡ map named (listed (number_given width))
+  number-same widths.Short = refl
+  number-same widths.Int = refl
+
+  pub under-named : (m n : ℕ) (st : List Ty) → changed (CopyUnder m n) (map named st) ≡ map named (changed (CopyUnder m n) st)
+  under-named m n st =
+      ap (λ (us : List Ty). us ++ (take m (map named st) ++ drop n (map named st))) (take-map named n st)
+      ∙ ap (λ (us : List Ty). map named (take n st) ++ (us ++ drop n (map named st))) (take-map named m st)
+      ∙ ap (λ (us : List Ty). map named (take n st) ++ (map named (take m st) ++ us)) (drop-map named n st)
+      ∙ ap (λ (us : List Ty). map named (take n st) ++ us) (sym (map-append named (take m st) (drop n st)))
+      ∙ sym (map-append named (take n st) (take m st ++ drop n st))
+
+  pub exchange-named : (m n : ℕ) (st : List Ty) → changed (Exchange m n) (map named st) ≡ map named (changed (Exchange m n) st)
+  exchange-named m n st =
+      ap (λ (us : List Ty). take n us ++ (take m (map named st) ++ drop (m + n) (map named st))) (drop-map named m st)
+      ∙ ap (λ (us : List Ty). us ++ (take m (map named st) ++ drop (m + n) (map named st))) (take-map named n (drop m st))
+      ∙ ap (λ (us : List Ty). map named (take n (drop m st)) ++ (us ++ drop (m + n) (map named st))) (take-map named m st)
+      ∙ ap (λ (us : List Ty). map named (take n (drop m st)) ++ (map named (take m st) ++ us)) (drop-map named (m + n) st)
+      ∙ ap (λ (us : List Ty). map named (take n (drop m st)) ++ us) (sym (map-append named (take m st) (drop (m + n) st)))
+      ∙ sym (map-append named (take n (drop m st)) (take m st ++ drop (m + n) st))
+
+  pub element-same : (ty : Ty) → given.One (element (named ty)) ≡ given.One (element ty)
+  element-same (Fresh p c) = refl
+  element-same ty = refl
+
+  pub element-ready : (ty : Ty) → IsNotFresh (element ty)
+  element-ready (ArrRef c) = tt
+  element-ready ty = tt
+
+  ready-with-named : (n : ℕ) (cells : Cells) (ty : Ty) (want : Want) (st : List Ty) → listed cells ≡ map named (listed cells)
+      → changed (ready_with n cells (named ty) want) (map named st) ≡ map named (changed (ready_with n cells ty want) st)
+  ready-with-named n cells (Fresh p c) (Receiver d) st e =
+      ap (λ (us : List Ty). us ++ map (ready (new p) d) (drop n (map named st))) e
+      ∙ ap (λ (us : List Ty). map named (listed cells) ++ map (ready (new p) d) us) (drop-map named n st)
+      ∙ ap (λ (us : List Ty). map named (listed cells) ++ us) (map-ready p d (drop n st))
+      ∙ sym (map-append named (listed cells) (map (ready p d) (drop n st)))
+  ready-with-named n cells (Fresh p c) want st e = replaced n cells cells st e
+  ready-with-named n cells ty want st e = replaced n cells cells st e
+
+  pub call-named : (args : List Ty) (cells : Cells) (receiver : Option Want) (regs st : List Ty) → listed cells ≡ map named (listed cells)
+      → changed (call_change args cells receiver (record { regs = regs; stack = map named st })) (map named st) ≡ map named (changed (call_change args cells receiver (record { regs = regs; stack = st })) st)
+  call-named args cells None regs st e = replaced (length args) cells cells st e
+  call-named args cells (Some want) regs st e =
+      ap (λ (ty : Ty). changed (ready_with (length args + 1) cells ty want) (map named st)) (cell-named st (length args))
+      ∙ ready-with-named (length args + 1) cells (cell st (length args)) want st e
