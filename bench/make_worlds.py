@@ -1,6 +1,6 @@
 #!/usr/bin/env python3
 """Makes the largest worlds and the methods that take longest to type, and each of half the size, and times
-`check` and `verify` on them.
+`check`, `verify` and `transform` on them.
 
     bench/make_worlds.py FOLDER [CAPCHECK [PERCENT]]
 
@@ -293,4 +293,4 @@ def make(shape, share, folder):
     return dirs
 
 
-run(__doc__, "check verify", SHAPES, make)
+run(__doc__, "check verify transform", SHAPES, make)

@@ -2,7 +2,10 @@
 import os
 import subprocess
 import sys
+import tempfile
 import time
+
+from growth import growth
 
 
 def timed(words):
@@ -12,10 +15,22 @@ def timed(words):
     return "%6.2f s status %d %s" % (time.monotonic() - begin, done.returncode, done.stdout.split("\n", 1)[0])
 
 
+def transformed(capcheck, after):
+    """The seconds that it takes to transform the package in the last folder, and how it grew."""
+    with tempfile.TemporaryDirectory() as out:
+        row = timed([capcheck, "transform", out, *after])
+        return row + (", " + growth(after[-1], out) if os.path.exists(os.path.join(out, "Header.cap")) else "")
+
+
+def answered(capcheck, command, after):
+    """The time of a command on the words after its name, with what it says."""
+    return transformed(capcheck, after) if command == "transform" else timed([capcheck, command, *after])
+
+
 def run(usage, commands, shapes, make):
     """Runs a maker on its own words, FOLDER [CAPCHECK [PERCENT]]. `make(shape, share, folder)` makes a shape of
     this share of its full size in the folder, and gives the words that stand after a command's name. Each of the
-    commands, words of one text, is timed on it."""
+    commands, words of one text, is timed on it; `transform` stores in a folder of its own, and its growth is told."""
     words = sys.argv[1:]
     if not 1 <= len(words) <= 3:
         sys.exit(usage)
@@ -24,5 +39,5 @@ def run(usage, commands, shapes, make):
         made = [(name, make(shape, size, os.path.abspath(os.path.join(words[0], shape.__name__ + "-" + name))))
                 for name, size in (("full", share), ("half", share / 2))]
         for command in commands.split():
-            row = [name + " " + timed([words[1], command, *after]) for name, after in made] if len(words) > 1 else []
-            print("%-7s %-13s %s" % (command, shape.__name__, "   ".join(row)), flush=True)
+            row = [name + " " + answered(words[1], command, after) for name, after in made] if len(words) > 1 else []
+            print("%-9s %-13s %s" % (command, shape.__name__, "   ".join(row)), flush=True)

@@ -79,7 +79,7 @@ fn count(laid: &[Option<Laid>]) -> usize
     count
 }
 
-/// Appends numbers of two bytes. Where memory is wanting some of them may be appended.
+/// Appends numbers of two bytes. Where there is no memory some of them may be appended.
 fn put_numbers(numbers: &[u16], out: &mut Vec<u8>) -> Result<(), AllocError>
     ensures { OnOk result (out.new.items ≡ out.old.items ++ flat_map (big_bytes 2) numbers.now) }
 {

@@ -1,3 +1,4 @@
 pub mod PartsLemmas
 pub mod InterfaceSets
 pub mod Saying
+pub mod Infos

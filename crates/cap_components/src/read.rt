@@ -33,7 +33,7 @@ use cap_method::{MethodPart, StaticPart};
 use cap_pool::{Export, Locations, Pool, export, locations, pool};
 
 /// The info of the component with a tag.
-#[tactic(auto, using(cap_bytes::proofs::Laws::reading_where, cap_bytes::proofs::Laws::refused_where), unfolding(crate::specs::Components::info_in))]
+#[tactic(auto, using(crate::proofs::Infos::read_or_refused), unfolding(crate::specs::Components::info_in))]
 pub fn info_in<'a>(parts: &Parts<'a>, tag: u8) -> Result<View<'a>, PackFault>
     ensures value { Answers info_bytes result (info_in parts.now tag) }
     ensures few { IfOk result (λ info. length info.bytes.now ≤ 65535) }
@@ -48,7 +48,7 @@ pub fn info_in<'a>(parts: &Parts<'a>, tag: u8) -> Result<View<'a>, PackFault>
 }
 
 /// The Header component.
-#[tactic(auto, using(cap_bytes::proofs::Laws::reading_where, cap_bytes::proofs::Laws::refused_where), unfolding(crate::specs::Components::read_part))]
+#[tactic(auto, using(crate::proofs::Infos::read_or_refused), unfolding(crate::specs::Components::read_part))]
 pub fn header_in<'a>(parts: &Parts<'a>) -> Result<Header<'a>, PackFault>
     ensures value { Answers header_items result (read_part header_info 1 parts.now) }
     ensures info { IfOk result (λ x. info_in parts.now 1 ≡ Ok x.info.bytes.now) }
@@ -61,7 +61,7 @@ pub fn header_in<'a>(parts: &Parts<'a>) -> Result<Header<'a>, PackFault>
 }
 
 /// The Directory component in a format.
-#[tactic(auto, using(cap_bytes::proofs::Laws::reading_where, cap_bytes::proofs::Laws::refused_where), unfolding(crate::specs::Components::read_part))]
+#[tactic(auto, using(crate::proofs::Infos::read_or_refused), unfolding(crate::specs::Components::read_part))]
 pub fn directory_in<'a>(parts: &Parts<'a>, format: Format) -> Result<Directory<'a>, PackFault>
     ensures value { Answers directory_items result (read_part (directory_info format) 2 parts.now) }
     ensures info { IfOk result (λ x. info_in parts.now 2 ≡ Ok x.info.bytes.now) }
@@ -83,7 +83,7 @@ pub fn sizes_in<'a>(parts: &Parts<'a>) -> Result<Directory<'a>, PackFault>
 }
 
 /// The Import component.
-#[tactic(auto, using(cap_bytes::proofs::Laws::reading_where, cap_bytes::proofs::Laws::refused_where), unfolding(crate::specs::Components::read_part))]
+#[tactic(auto, using(crate::proofs::Infos::read_or_refused), unfolding(crate::specs::Components::read_part))]
 pub fn imports_in<'a>(parts: &Parts<'a>) -> Result<Imports<'a>, PackFault>
     ensures value { Answers packages result (read_part imports_info 4 parts.now) }
     ensures info { IfOk result (λ x. info_in parts.now 4 ≡ Ok x.info.bytes.now) }
@@ -96,7 +96,7 @@ pub fn imports_in<'a>(parts: &Parts<'a>) -> Result<Imports<'a>, PackFault>
 }
 
 /// The ConstantPool component.
-#[tactic(auto, using(cap_bytes::proofs::Laws::reading_where, cap_bytes::proofs::Laws::refused_where), unfolding(crate::specs::Components::read_part))]
+#[tactic(auto, using(crate::proofs::Infos::read_or_refused), unfolding(crate::specs::Components::read_part))]
 pub fn pool_in<'a>(parts: &Parts<'a>) -> Result<Pool<'a>, PackFault>
     ensures value { Answers entries result (read_part pool_info 5 parts.now) }
     ensures info { IfOk result (λ x. info_in parts.now 5 ≡ Ok x.info.bytes.now) }
@@ -109,7 +109,7 @@ pub fn pool_in<'a>(parts: &Parts<'a>) -> Result<Pool<'a>, PackFault>
 }
 
 /// The Class component in a format.
-#[tactic(auto, using(cap_bytes::proofs::Laws::reading_where, cap_bytes::proofs::Laws::refused_where), unfolding(crate::specs::Components::read_part))]
+#[tactic(auto, using(crate::proofs::Infos::read_or_refused), unfolding(crate::specs::Components::read_part))]
 pub fn classes_in<'a>(parts: &Parts<'a>, format: Format) -> Result<ClassPart<'a>, PackFault>
     ensures value { Answers records result (read_part (classes_info format) 6 parts.now) }
     ensures info { IfOk result (λ x. info_in parts.now 6 ≡ Ok x.info.bytes.now) }
@@ -122,7 +122,7 @@ pub fn classes_in<'a>(parts: &Parts<'a>, format: Format) -> Result<ClassPart<'a>
 }
 
 /// The StaticField component.
-#[tactic(auto, using(cap_bytes::proofs::Laws::reading_where, cap_bytes::proofs::Laws::refused_where), unfolding(crate::specs::Components::read_part))]
+#[tactic(auto, using(crate::proofs::Infos::read_or_refused), unfolding(crate::specs::Components::read_part))]
 pub fn statics_in<'a>(parts: &Parts<'a>) -> Result<StaticPart<'a>, PackFault>
     ensures value { Answers statics_seen result (read_part statics_info 8 parts.now) }
     ensures info { IfOk result (λ x. info_in parts.now 8 ≡ Ok x.info.bytes.now) }
@@ -135,7 +135,7 @@ pub fn statics_in<'a>(parts: &Parts<'a>) -> Result<StaticPart<'a>, PackFault>
 }
 
 /// The ReferenceLocation component.
-#[tactic(auto, using(cap_bytes::proofs::Laws::reading_where, cap_bytes::proofs::Laws::refused_where), unfolding(crate::specs::Components::read_part))]
+#[tactic(auto, using(crate::proofs::Infos::read_or_refused), unfolding(crate::specs::Components::read_part))]
 pub fn locations_in<'a>(parts: &Parts<'a>) -> Result<Locations<'a>, PackFault>
     ensures value { Answers location_items result (read_part locations_info 9 parts.now) }
     ensures info { IfOk result (λ x. info_in parts.now 9 ≡ Ok x.info.bytes.now) }
@@ -148,7 +148,7 @@ pub fn locations_in<'a>(parts: &Parts<'a>) -> Result<Locations<'a>, PackFault>
 }
 
 /// The Method component.
-#[tactic(auto, using(cap_bytes::proofs::Laws::reading_where, cap_bytes::proofs::Laws::refused_where), unfolding(crate::specs::Components::read_methods))]
+#[tactic(auto, using(crate::proofs::Infos::read_or_refused), unfolding(crate::specs::Components::read_methods))]
 pub fn methods_in<'a>(parts: &Parts<'a>) -> Result<MethodPart<'a>, PackFault>
     ensures { Answers methods_seen result (read_methods parts.now) }
 {
@@ -160,7 +160,7 @@ pub fn methods_in<'a>(parts: &Parts<'a>) -> Result<MethodPart<'a>, PackFault>
 }
 
 /// The Descriptor component.
-#[tactic(auto, using(cap_bytes::proofs::Laws::reading_where, cap_bytes::proofs::Laws::refused_where), unfolding(crate::specs::Components::read_description))]
+#[tactic(auto, using(crate::proofs::Infos::read_or_refused), unfolding(crate::specs::Components::read_description))]
 pub fn descriptor_in<'a>(parts: &Parts<'a>) -> Result<DescPart<'a>, PackFault>
     ensures { Answers description result (read_description parts.now) }
 {
@@ -172,7 +172,7 @@ pub fn descriptor_in<'a>(parts: &Parts<'a>) -> Result<DescPart<'a>, PackFault>
 }
 
 /// The Applet component.
-#[tactic(auto, using(cap_bytes::proofs::Laws::reading_where, cap_bytes::proofs::Laws::refused_where), unfolding(crate::specs::Components::read_part))]
+#[tactic(auto, using(crate::proofs::Infos::read_or_refused), unfolding(crate::specs::Components::read_part))]
 fn held_applets<'a>(parts: &Parts<'a>) -> Result<Applets<'a>, PackFault>
     ensures value { Answers applets_of result (read_part applets_info 3 parts.now) }
     ensures info { IfOk result (λ x. info_in parts.now 3 ≡ Ok x.info.bytes.now) }
@@ -197,7 +197,7 @@ pub fn applets_in<'a>(parts: &Parts<'a>) -> Result<Option<Applets<'a>>, PackFaul
 }
 
 /// The Export component.
-#[tactic(auto, using(cap_bytes::proofs::Laws::reading_where, cap_bytes::proofs::Laws::refused_where), unfolding(crate::specs::Components::read_part))]
+#[tactic(auto, using(crate::proofs::Infos::read_or_refused), unfolding(crate::specs::Components::read_part))]
 fn held_export<'a>(parts: &Parts<'a>) -> Result<Export<'a>, PackFault>
     ensures value { Answers exported result (read_part export_info 10 parts.now) }
     ensures info { IfOk result (λ x. info_in parts.now 10 ≡ Ok x.info.bytes.now) }

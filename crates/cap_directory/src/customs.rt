@@ -75,7 +75,7 @@ pub(crate) fn index_extent(change: IndexChange) -> Extent
     }
 }
 
-/// Appends the custom components that stay. Where memory is wanting some bytes may be appended.
+/// Appends the custom components that stay. Where there is no memory some bytes may be appended.
 #[tactic(auto, using(crate::proofs::Kept::put_more))]
 pub(crate) fn put_customs(
     directory: &Directory<'_>,

@@ -11,7 +11,7 @@ use cap_frame::Directory;
 use std::alloc::AllocError;
 
 /// Appends the info of the Directory with other sizes; it has sizes for so many components, 11 in format 2.1 and
-/// 12 in format 2.2. Where memory is wanting some bytes may be appended.
+/// 12 in format 2.2. Where there is no memory some bytes may be appended.
 pub(crate) fn put_directory(
     directory: &Directory<'_>,
     count: u8,

@@ -103,7 +103,7 @@ pub(crate) fn indexes(
     Ok(indexes)
 }
 
-/// Appends the handler table of the methods in the order of their blocks. Where memory is wanting some
+/// Appends the handler table of the methods in the order of their blocks. Where there is no memory some
 /// entries may be appended.
 pub(crate) fn put_table(
     blocks: &[Member<'_>],

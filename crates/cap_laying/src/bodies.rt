@@ -22,7 +22,7 @@ pub(crate) fn by_offset<'a>(
     Ok(table)
 }
 
-/// Appends the methods, one after the other. Where memory is wanting some of them may be appended.
+/// Appends the methods, one after the other. Where there is no memory some of them may be appended.
 pub(crate) fn put_bodies(table: &[Option<Member<'_>>], out: &mut Vec<u8>) -> Result<(), AllocError>
     ensures { OnOk result (out.new.items ≡ out.old.items ++ bodies table.now) }
 {

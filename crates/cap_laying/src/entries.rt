@@ -25,7 +25,7 @@ fn stops(handler: Handler, later: &[Handler]) -> bool
 }
 
 /// Appends the entries of a method's handlers, whose code begins at an offset of the info. Each handler lies
-/// in the code, and the code in an info of 65,535 bytes. Where memory is wanting some of them may be
+/// in the code, and the code in an info of 65,535 bytes. Where there is no memory some of them may be
 /// appended.
 pub(crate) fn put_entries(
     start: u16,

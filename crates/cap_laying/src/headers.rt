@@ -19,7 +19,7 @@ pub(crate) fn header_size(laid: &Laid) -> u16
     if is_compact(laid) { 2 } else { 4 }
 }
 
-/// Appends the header of code: compact where its numbers fit. Where memory is wanting some of it may be
+/// Appends the header of code: compact where its numbers fit. Where there is no memory some of it may be
 /// appended.
 #[tactic(auto, unfolding(crate::specs::HeaderBytes::header_bytes))]
 pub(crate) fn put_header(laid: &Laid, out: &mut Vec<u8>) -> Result<(), AllocError>

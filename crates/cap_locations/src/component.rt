@@ -7,7 +7,7 @@ use crate::told::Told;
 use std::alloc::AllocError;
 
 /// Appends the info of the component: the distances to the indices of one byte, and those to the indices of two.
-/// Where memory is wanting some bytes may be appended.
+/// Where there is no memory some bytes may be appended.
 #[tactic(auto, using(crate::proofs::Components::steps), unfolding(crate::specs::Component::component_bytes))]
 pub fn put_component(byte: &Told, byte2: &Told, out: &mut Vec<u8>) -> Result<(), AllocError>
     requires byte { IsFew byte.now }

@@ -26,7 +26,7 @@ impl Told {
         }
     }
 
-    /// Tells one more place, which comes after the last. Where memory is wanting some bytes may be appended.
+    /// Tells one more place, which comes after the last. Where there is no memory some bytes may be appended.
     #[tactic(auto, using(crate::proofs::Tellings::few_more))]
     pub fn tell(&mut self, place: u16) -> Result<(), AllocError>
         requires order { self.old.last < place }

@@ -1,11 +1,14 @@
 -- The sets of the offsets at which methods and static fields stand, one after the other.
-use Rattle.std.proofs.Common.{◌≡◌, ℕ, ◌<◌, Bool, true, false, ◌||◌, eqb, List, [], ◌∷◌, length, refl, ◌∙◌, inl, inr, arith}
+use Rattle.std.proofs.Common.{◌≡◌, ℕ, Bool, true, false, ◌||◌, eqb, List, [], ◌∷◌, map, refl, ap, ◌∙◌}
 use mathlib.Core.Path.{fun_ext}
 use Rattle.cap_desc.specs.DescriptorFormat.{Method, Field}
 use Rattle.cap_package.specs.HeaderChecks.{is_static}
-use Rattle.cap_package.specs.NameChecks.{is_method_at}
+use Rattle.cap_class.specs.ClassFormat.{Class}
+use Rattle.cap_package.specs.NameChecks.{is_method_at, is_class_at}
 use Rattle.cap_package.specs.StaticChecks.{image_offset, is_static_at, stands_at}
-use Rattle.offset_set.specs.Sets.{also, either}
+use Rattle.offset_set.specs.Sets.{also, either, is_among}
+use Rattle.offset_set.specs.Tallies.{Tallied, counted}
+use Rattle.cap_package.specs.Reaches.{method_start}
 
 or_false : (b : Bool) → (b || false) ≡ b
 or_false true = refl
@@ -17,11 +20,14 @@ turned true false c = refl
 turned false true c = refl
 turned false false c = refl
 
-pub all_methods : (these : ℕ → Bool) → either these (is_method_at []) ≡ these
-all_methods these = fun_ext (λ offset. or_false (these offset))
+-- the starts of methods that were counted are where methods stand
+among_methods : (ms : List Method) (offset : ℕ) → is_among (map method_start ms) offset ≡ is_method_at ms offset
+among_methods [] offset = refl
+among_methods (m ∷ ms) offset = ap (λ b. eqb m.method_offset offset || b) (among_methods ms offset)
 
-pub more_methods : (these : ℕ → Bool) (m : Method) (ms : List Method) → either (also m.method_offset these) (is_method_at ms) ≡ either these (is_method_at (m ∷ ms))
-more_methods these m ms = fun_ext (λ offset. turned (eqb m.method_offset offset) (these offset) (is_method_at ms offset))
+pub methods_met : (met : ℕ → Bool) (t : Tallied) (ms : List Method) → met ≡ t.met → t ≡ counted (map method_start ms) →
+    met ≡ is_method_at ms
+methods_met met t ms e h = e ∙ ap (λ (u : Tallied). u.met) h ∙ fun_ext (among_methods ms)
 
 pub all_statics : (these : ℕ → Bool) → either these (is_static_at []) ≡ these
 all_statics these = fun_ext (λ offset. or_false (these offset))
@@ -35,4 +41,11 @@ more_statics these f fs e = fun_ext (λ offset. rw e (turned (eqb (image_offset 
 pub no_more_statics : (these : ℕ → Bool) (f : Field) (fs : List Field) → is_static f.flags ≡ false → either these (is_static_at fs) ≡ either these (is_static_at (f ∷ fs))
 no_more_statics these f fs e = fun_ext (λ offset. rw e refl)
 
-pub ruleset filling = (all_methods, more_methods, all_statics, more_statics, no_more_statics)
+pub all_classes : (these : ℕ → Bool) → either these (is_class_at []) ≡ these
+all_classes these = fun_ext (λ offset. or_false (these offset))
+
+pub more_classes : (these : ℕ → Bool) (c : Class) (cs : List Class) →
+    either (also c.offset these) (is_class_at cs) ≡ either these (is_class_at (c ∷ cs))
+more_classes these c cs = fun_ext (λ offset. turned (eqb c.offset offset) (these offset) (is_class_at cs offset))
+
+pub ruleset filling = (all_statics, more_statics, no_more_statics)

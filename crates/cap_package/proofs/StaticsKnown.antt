@@ -130,7 +130,7 @@ one_byte false true c = omega arith
 one_byte false false true = omega arith
 one_byte false false false = omega arith
 
-takes_byte : (t : TypeItem) → 1 ≤ width_of t
+pub takes_byte : (t : TypeItem) → 1 ≤ width_of t
 takes_byte t = one_byte (eqb t.nibble 2) (eqb t.nibble 3) (eqb t.nibble 5)
 
 apart_by : (p q : ImagePlace) (fault : PackFault) (b : Bool) → ltb (max p.offset q.offset) (min (p.offset + width_of p.ty) (q.offset + width_of q.ty)) ≡ b → cond b (Some fault) None ≡ None → p.offset ≡ q.offset → ⊥

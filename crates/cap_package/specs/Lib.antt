@@ -26,3 +26,5 @@ pub mod CustomSeen
 pub mod FirstFault
 pub mod StandsFor
 pub mod StaticPlaces
+pub mod Reaches
+pub mod HandlerClaims

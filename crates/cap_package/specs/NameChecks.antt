@@ -1,5 +1,5 @@
 -- What dispatch tables, exports and applets name (JCVM 2.2, sections 6.5, 6.8 and 6.12).
-use Rattle.std.specs.Prelude.{ℕ, Bool, List, [], ◌∷◌, ◌++◌, Option, Some, None, count_by, ◌==◌, if◌then◌else◌}
+use Rattle.std.specs.Prelude.{ℕ, Bool, List, [], ◌∷◌, ◌++◌, Option, Some, None, count_by, ◌==◌, ◌&&◌, nat_lt, if◌then◌else◌}
 use Rattle.std.specs.List.{list_any}
 use Rattle.cap_pool.specs.ExportFormat.{Exported}
 use Rattle.cap_class.specs.ClassFormat.{Class}
@@ -43,3 +43,20 @@ undescribed_fault descriptions c = if count_by
 -- an offset names no class record
 unfoldable pub no_class_fault : List Class → ℕ → Option PackFault
 no_class_fault classes offset = if list_any (λ (c : Class). c.offset == offset) classes then None else Some (ClassUndescribed offset)
+
+-- one of the class records starts at an offset
+abbrev pub is_class_at : List Class → ℕ → Bool
+is_class_at classes offset = list_any (λ (c : Class). c.offset == offset) classes
+
+-- a reference with a clear high bit is an offset in the Class component, and one with a set high bit is one of an import (JCVM 2.2,
+-- section 6.4)
+abbrev pub own : (ℕ → Bool) → ℕ → Bool
+own is_class reference = nat_lt reference 0x8000 && is_class reference
+
+-- a class reference names no class record of the package
+unfoldable pub not_own_fault : List Class → ℕ → Option PackFault
+not_own_fault classes reference = if own (is_class_at classes) reference then None else Some (ClassUndescribed reference)
+
+-- a fault of the class record at an offset, unless it is as it must be
+abbrev pub class_unless : (ℕ → Bool) → ℕ → Option PackFault
+class_unless is_right offset = if is_right offset then None else Some (ClassUndescribed offset)

@@ -1,34 +1,45 @@
-ghost use Rattle.std.specs.Prelude.{◌≡◌};
+ghost use Rattle.std.specs.Prelude.{◌≡◌, map};
 ghost use Rattle.offset_set.specs.Bits.{holds};
+ghost use Rattle.offset_set.specs.Tallies.{tallied, counted};
+ghost use Rattle.cap_pool.specs.ExportFormat.{Exported};
 ghost use Rattle.cap_class.specs.ClassPart.{records};
-ghost use Rattle.cap_components.specs.PackageRecord.{names_interface};
-ghost use Rattle.cap_package.specs.NameChecks.{no_method_fault, exported_methods};
+ghost use Rattle.cap_components.specs.PackageRecord.{names_interface, described};
+ghost use Rattle.cap_package.specs.NameChecks.{no_method_fault, exported_methods, no_class_fault, is_class_at, is_method_at};
 ghost use Rattle.cap_package.specs.Agreement.{or_none, places_agree, counts_agree, members_agree, named_condition, class_condition, export_condition};
+ghost use Rattle.cap_package.specs.Reaches.{method_start};
 ghost use Rattle.cap_components.specs.ComponentsSeen.{components_seen};
 ghost use Rattle.cap_components.specs.Order.{least_from, refused};
 
-use crate::class_checks::{classes_described, descriptors_named, exports_are_classes};
+use crate::class_checks::{
+    classes_described, descriptions, descriptors_named, exports_are_classes,
+};
 use crate::count_checks::{agree, array_bytes, instances_agree};
 use crate::handler_checks::handlers_at_home;
 use crate::header_checks::{abstract_without_code, arguments_agree, lengths_fit, registers_few};
 use crate::method_checks::{methods_apart, methods_inside};
 use crate::name_checks::{entries_named, exports_named, installs_named, statics_named};
-use crate::offsets::{method_offsets, static_offsets};
+use crate::offsets::{class_starts, static_offsets};
+use crate::places::StaticPlaces;
 use crate::static_checks::{statics_apart, statics_in_image};
 use crate::type_checks::types_fit;
 use cap_components::{Components, PackFault, refuse, sizes_agree};
-use offset_set::Offsets;
+use offset_set::{Offsets, Tally};
 
 /// The sizes of the parts and the places of the methods agree.
 #[tactic(auto, unfolding(crate::specs::Agreement::places_agree))]
-pub(crate) fn places_agree(all: &Components<'_, '_>, interfaces: &Offsets) -> Result<(), PackFault>
-    requires { holds interfaces.now ≡ names_interface (records all.now.classes) }
+pub(crate) fn places_agree(
+    all: &Components<'_, '_>,
+    interfaces: &Offsets,
+    starts: &Tally,
+) -> Result<(), PackFault>
+    requires known { holds interfaces.now ≡ names_interface (records all.now.classes) }
+    requires starts { tallied starts.now ≡ counted (map method_start (described (components_seen all.now))) }
     ensures { result ≡ places_agree (components_seen all.now) }
 {
     let described = all.descriptor.methods_but(interfaces);
     let info = all.methods.info();
     sizes_agree(all.parts, &all.directory)?;
-    methods_apart(info, described)?;
+    methods_apart(info, described, starts)?;
     methods_inside(info, all.methods.handler_count(), described)
 }
 
@@ -93,16 +104,34 @@ fn export_names(
 }
 
 /// Dispatch tables, exports and applets name described methods.
-fn names_agree(all: &Components<'_, '_>, interfaces: &Offsets) -> Result<(), PackFault>
-    requires { holds interfaces.now ≡ names_interface (records all.now.classes) }
+fn names_agree(all: &Components<'_, '_>, methods_at: &Offsets) -> Result<(), PackFault>
+    requires { holds methods_at.now ≡ is_method_at (described (components_seen all.now)) }
     ensures { result ≡ refused (named_condition (components_seen all.now)) }
 {
-    let described = method_offsets(all.descriptor.methods_but(interfaces));
-    let entries = entries_named(&described, &all.classes);
-    let exports = export_names(all, &described, entries);
+    let entries = entries_named(methods_at, &all.classes);
+    let exports = export_names(all, methods_at, entries);
     match &all.applets {
-        Some(applets) => refuse(installs_named(&described, applets, exports)),
+        Some(applets) => refuse(installs_named(methods_at, applets, exports)),
         None => refuse(exports),
+    }
+}
+
+/// The least fault so far, when the classes that the package exports were looked up, if it does.
+#[tactic(auto, using(crate::proofs::ClassLaws::class_there))]
+fn export_classes(
+    all: &Components<'_, '_>,
+    starts: &Offsets,
+    least: Option<PackFault>,
+) -> Option<PackFault>
+    requires { holds starts.now ≡ is_class_at (records all.now.classes) }
+    ensures { result
+        ≡ least_from least
+        (no_class_fault (records all.now.classes))
+        (map (λ (c : Exported). c.class_offset) (or_none (components_seen all.now).export)) }
+{
+    match &all.export {
+        Some(export) => exports_are_classes(starts, export, least),
+        None => least,
     }
 }
 
@@ -111,12 +140,10 @@ fn classes_agree(all: &Components<'_, '_>) -> Result<(), PackFault>
     ensures { result ≡ refused (class_condition (components_seen all.now)) }
 {
     let descriptors = all.descriptor.classes();
-    let undescribed = classes_described(&all.classes, descriptors);
-    let unnamed = descriptors_named(&all.classes, descriptors, undescribed);
-    match &all.export {
-        Some(export) => refuse(exports_are_classes(&all.classes, export, unnamed)),
-        None => refuse(unnamed),
-    }
+    let starts = class_starts(&all.classes);
+    let undescribed = classes_described(&all.classes, &descriptions(descriptors));
+    let unnamed = descriptors_named(&starts, descriptors, undescribed);
+    refuse(export_classes(all, &starts, unnamed))
 }
 
 /// Exports name static fields.
@@ -131,15 +158,23 @@ fn exports_agree(all: &Components<'_, '_>) -> Result<(), PackFault>
 
 /// Handlers, static fields, names, classes, headers and types agree.
 #[tactic(auto, unfolding(crate::specs::Agreement::members_agree))]
-pub(crate) fn members_agree(all: &Components<'_, '_>, interfaces: &Offsets) -> Result<(), PackFault>
-    requires { holds interfaces.now ≡ names_interface (records all.now.classes) }
+pub(crate) fn members_agree(
+    all: &Components<'_, '_>,
+    interfaces: &Offsets,
+    starts: &Tally,
+) -> Result<(), PackFault>
+    requires known { holds interfaces.now ≡ names_interface (records all.now.classes) }
+    requires starts { tallied starts.now ≡ counted (map method_start (described (components_seen all.now))) }
     ensures { result ≡ members_agree (components_seen all.now) }
 {
     let described = all.descriptor.methods_but(interfaces);
     let fields = all.descriptor.fields();
     handlers_at_home(&all.methods, described)?;
-    statics_apart(&all.descriptor, fields)?;
-    names_agree(all, interfaces)?;
+    statics_apart(StaticPlaces {
+        descriptor: all.descriptor,
+        fields,
+    })?;
+    names_agree(all, starts.offsets())?;
     classes_agree(all)?;
     registers_few(&all.methods, described)?;
     types_fit(&all.descriptor, interfaces)?;

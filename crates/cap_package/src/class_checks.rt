@@ -1,64 +1,38 @@
-ghost use Rattle.std.specs.Prelude.{◌≡◌, ◌==◌, map, count_by};
-ghost use Rattle.std.specs.List.{list_any};
-ghost use Rattle.cap_pool.specs.Export.{classes as exported, classes_left as exported_left};
+ghost use Rattle.std.specs.Prelude.{◌≡◌, map, if◌then◌else◌, Some, None};
+ghost use Rattle.offset_set.specs.Bits.{holds};
+ghost use Rattle.offset_set.specs.Tallies.{tallied, counted, once};
+ghost use Rattle.cap_pool.specs.Export.{classes as exported};
 ghost use Rattle.cap_pool.specs.ExportFormat.{Exported};
 ghost use Rattle.cap_class.specs.ClassFormat.{Class};
-ghost use Rattle.cap_class.specs.ClassPart.{class_seen, records, classes_left};
+ghost use Rattle.cap_class.specs.ClassPart.{records};
 ghost use Rattle.cap_desc.specs.DescriptorFormat as desc;
 ghost use Rattle.cap_desc.specs.ClassRecords.{classes_left as described_left};
-ghost use Rattle.cap_components.specs.Order.{least_of, least_from, refused};
-ghost use Rattle.cap_package.specs.NameChecks.{undescribed_fault, no_class_fault};
+ghost use Rattle.cap_components.specs.declared.fault.PackFault.TheVariants.{ClassUndescribed};
+ghost use Rattle.cap_components.specs.Order.{least_of, least_from};
+ghost use Rattle.cap_package.specs.NameChecks.{class_unless, own};
 
-use cap_class::{ClassInfo, ClassPart};
+use cap_class::ClassPart;
 use cap_components::{PackFault, lesser};
 use cap_desc::DescClasses;
 use cap_pool::Export;
+use offset_set::{Offsets, Tally};
 
-/// Whether exactly one descriptor is of the class record at an offset.
-fn is_described_once(offset: u16, descriptors: DescClasses<'_>) -> bool
-    ensures { result ≡ (count_by (λ (d : desc.Class). d.class_ref == offset) (described_left descriptors.entry) == 1) }
+/// How often the Descriptor describes the class record at each offset.
+#[tactic(auto, using(crate::proofs::Overlaps::counted_all))]
+pub(crate) fn descriptions(descriptors: DescClasses<'_>) -> Tally
+    ensures { tallied result ≡ counted (map (λ (d : desc.Class). d.class_ref) (described_left descriptors.entry)) }
 {
-    let mut found = false;
+    let mut described = Tally::none();
     'classes: for class in descriptors {
-        if class.class_ref() == offset {
-            if found {
-                return false;
-            }
-            found = true;
-        }
+        described.count(class.class_ref());
     }
-    found
+    described
 }
 
-#[tactic(auto, unfolding(crate::specs::NameChecks::undescribed_fault))]
-fn undescribed_fault(descriptors: DescClasses<'_>, class: &ClassInfo<'_>) -> Option<PackFault>
-    ensures { result ≡ undescribed_fault (described_left descriptors.entry) (class_seen class.now) }
+fn class_unless(right: bool, offset: u16) -> Option<PackFault>
+    ensures { result ≡ (if right then None else Some (ClassUndescribed offset)) }
 {
-    let offset = class.offset();
-    if is_described_once(offset, descriptors) {
-        None
-    } else {
-        Some(PackFault::ClassUndescribed(offset))
-    }
-}
-
-/// Whether a class record starts at an offset.
-fn is_class_at(classes: &ClassPart<'_>, offset: u16) -> bool
-    ensures { result ≡ list_any (λ (c : Class). c.offset == offset) (records classes.now) }
-{
-    'classes: for class in classes.iter() {
-        if class.offset() == offset {
-            return true;
-        }
-    }
-    false
-}
-
-#[tactic(auto, unfolding(crate::specs::NameChecks::no_class_fault))]
-fn no_class_fault(classes: &ClassPart<'_>, offset: u16) -> Option<PackFault>
-    ensures { result ≡ no_class_fault (records classes.now) offset }
-{
-    if is_class_at(classes, offset) {
+    if right {
         None
     } else {
         Some(PackFault::ClassUndescribed(offset))
@@ -66,51 +40,58 @@ fn no_class_fault(classes: &ClassPart<'_>, offset: u16) -> Option<PackFault>
 }
 
 /// The least class record that is not described once.
-pub(crate) fn classes_described(
-    classes: &ClassPart<'_>,
-    descriptors: DescClasses<'_>,
-) -> Option<PackFault>
-    ensures { result ≡ least_of (undescribed_fault (described_left descriptors.entry)) (records classes.now) }
+pub(crate) fn classes_described(classes: &ClassPart<'_>, described: &Tally) -> Option<PackFault>
+    ensures { result ≡ least_of (λ (c : Class). class_unless (once (tallied described.now)) c.offset) (records classes.now) }
 {
     let mut least = None;
     'classes: for class in classes.iter() {
-        least = lesser(least, undescribed_fault(descriptors, &class));
+        let offset = class.offset();
+        least = lesser(least, class_unless(described.has_once(offset), offset));
     }
     least
 }
 
-/// The least fault so far, when the classes that descriptors name were looked up.
+/// Whether a reference is one to a class record of the package itself: an offset below 0x8000 at which one starts.
+fn is_own(starts: &Offsets, reference: u16) -> bool
+    ensures { result ≡ own (holds starts.now) reference }
+{
+    reference < 0x8000 && starts.has(reference)
+}
+
+/// The least fault so far, when the classes that descriptors name were looked up among the starts of class records.
 pub(crate) fn descriptors_named(
-    classes: &ClassPart<'_>,
+    starts: &Offsets,
     descriptors: DescClasses<'_>,
     least: Option<PackFault>,
 ) -> Option<PackFault>
     ensures { result
         ≡ least_from least
-        (no_class_fault (records classes.now))
+        (class_unless (own (holds starts.now)))
         (map (λ (d : desc.Class). d.class_ref) (described_left descriptors.entry)) }
 {
     let mut least = least;
     'classes: for class in descriptors {
-        least = lesser(least, no_class_fault(classes, class.class_ref()));
+        let reference = class.class_ref();
+        least = lesser(least, class_unless(is_own(starts, reference), reference));
     }
     least
 }
 
-/// The least fault so far, when the exported classes were looked up.
+/// The least fault so far, when the exported classes were looked up among the starts of class records.
 pub(crate) fn exports_are_classes(
-    classes: &ClassPart<'_>,
+    starts: &Offsets,
     export: &Export<'_>,
     least: Option<PackFault>,
 ) -> Option<PackFault>
     ensures { result
         ≡ least_from least
-        (no_class_fault (records classes.now))
+        (class_unless (holds starts.now))
         (map (λ (c : Exported). c.class_offset) (exported export.now)) }
 {
     let mut least = least;
     'classes: for class in export.iter() {
-        least = lesser(least, no_class_fault(classes, class.class.class_offset));
+        let offset = class.class.class_offset;
+        least = lesser(least, class_unless(starts.has(offset), offset));
     }
     least
 }

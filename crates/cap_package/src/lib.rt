@@ -8,6 +8,7 @@ mod class_checks;
 mod count_checks;
 mod custom;
 mod handler_checks;
+mod handler_claims;
 mod header_checks;
 mod method_checks;
 mod name_checks;

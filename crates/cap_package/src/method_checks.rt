@@ -1,59 +1,64 @@
-ghost use Rattle.std.specs.Prelude.{◌≡◌, ◌≤◌, length};
+ghost use Rattle.std.specs.Prelude.{◌≡◌, ◌≤◌, length, map};
+ghost use Rattle.offset_set.specs.Tallies.{tallied, counted};
 ghost use Rattle.cap_desc.specs.MemberRecords.{method_seen};
 ghost use Rattle.cap_desc.specs.MembersLeft.{methods_but_left};
-ghost use Rattle.cap_components.specs.Order.{least_of, least_from, refused};
+ghost use Rattle.cap_components.specs.declared.fault.PackFault.TheVariants.{MethodOverlaps};
+ghost use Rattle.cap_components.specs.Order.{least_of, refused};
 ghost use Rattle.cap_package.specs.Pairs.{pairs};
-ghost use Rattle.cap_package.specs.MethodChecks.{overlap_fault, overlap_pair, outside_fault};
+ghost use Rattle.cap_package.specs.MethodChecks.{overlap_pair, outside_fault};
+ghost use Rattle.cap_package.specs.Reaches.{reach_by, method_start, method_end};
 
 use cap_bytes::View;
 use cap_components::{PackFault, code_end, lesser, refuse};
 use cap_desc::{MethodInfo, MethodsBut};
+use offset_set::Tally;
 
-/// Whether two methods share a byte of the info.
-#[tactic(auto, unfolding(crate::specs::MethodChecks::overlap_fault))]
-fn overlap_fault(info: View<'_>, a: &MethodInfo, b: &MethodInfo) -> Option<PackFault>
-    requires { length info.bytes.now ≤ 65535 }
-    ensures { result ≡ overlap_fault info.entry.bytes.now (method_seen a.now) (method_seen b.now) }
+/// Where the described methods begin.
+#[tactic(auto, using(crate::proofs::Overlaps::counted_all))]
+pub(crate) fn method_starts(described: MethodsBut<'_, '_>) -> Tally
+    ensures { tallied result ≡ counted (map method_start (methods_but_left described.entry)) }
 {
-    let first = a.method_offset.min(b.method_offset);
-    let second = a.method_offset.max(b.method_offset);
-    let end = code_end(info, a)
-        .min(code_end(info, b))
-        .min(info.bytes.len() as u32);
-    if (second as u32) < end {
-        Some(PackFault::MethodOverlaps(first, second))
+    let mut starts = Tally::none();
+    'methods: for method in described {
+        starts.count(method.method_offset);
+    }
+    starts
+}
+
+/// Whether a method reaches to the next one.
+fn reaches(info: View<'_>, method: &MethodInfo, next: Option<u16>) -> Option<PackFault>
+    requires { length info.bytes.now ≤ 65535 }
+    ensures { result
+        ≡ reach_by MethodOverlaps
+        (method_seen method.now).method_offset
+        (method_end info.entry.bytes.now (method_seen method.now))
+        next }
+{
+    let next = next?;
+    let end = code_end(info, method).min(info.bytes.len() as u32);
+    if (next as u32) < end {
+        Some(PackFault::MethodOverlaps(method.method_offset, next))
     } else {
         None
     }
 }
 
-/// The least fault so far, when a method was compared with those after it.
-fn overlaps_with(
+/// No two described methods share a byte of the info. An overlap is one of neighbours: each method is asked whether it
+/// reaches to the nearest other that begins from its own place on.
+#[tactic(auto, using(crate::proofs::Overlaps::method_neighbours))]
+pub(crate) fn methods_apart(
     info: View<'_>,
-    method: &MethodInfo,
-    farther: MethodsBut<'_, '_>,
-    least: Option<PackFault>,
-) -> Option<PackFault>
-    requires { length info.bytes.now ≤ 65535 }
-    ensures { result ≡ least_from least (overlap_fault info.entry.bytes.now (method_seen method.now)) (methods_but_left farther.entry) }
-{
-    let mut least = least;
-    'methods: for other in farther {
-        least = lesser(least, overlap_fault(info, method, &other));
-    }
-    least
-}
-
-/// No two described methods share a byte of the info.
-#[tactic(auto, using(crate::proofs::PairFaults::least_pairs))]
-pub(crate) fn methods_apart(info: View<'_>, described: MethodsBut<'_, '_>) -> Result<(), PackFault>
-    requires { length info.bytes.now ≤ 65535 }
+    described: MethodsBut<'_, '_>,
+    starts: &Tally,
+) -> Result<(), PackFault>
+    requires short { length info.bytes.now ≤ 65535 }
+    requires starts { tallied starts.now ≡ counted (map method_start (methods_but_left described)) }
     ensures { result ≡ refused (least_of (overlap_pair info.entry.bytes.now) (pairs (methods_but_left described.entry))) }
 {
-    let mut rest = described;
     let mut least = None;
-    'methods: while let Some(method) = rest.next() {
-        least = overlaps_with(info, &method, rest, least);
+    'methods: for method in described {
+        let next = starts.nearest(method.method_offset);
+        least = lesser(least, reaches(info, &method, next));
     }
     refuse(least)
 }

@@ -1,23 +1,25 @@
 ghost use Rattle.std.specs.Prelude.{◌≡◌};
 ghost use Rattle.offset_set.specs.Bits.{holds};
-ghost use Rattle.cap_desc.specs.MembersLeft.{methods_but_left, fields_of_left};
-ghost use Rattle.cap_package.specs.NameChecks.{is_method_at};
+ghost use Rattle.cap_desc.specs.MembersLeft.{fields_of_left};
+ghost use Rattle.cap_package.specs.NameChecks.{is_class_at};
+ghost use Rattle.cap_class.specs.ClassPart.{records};
 ghost use Rattle.cap_package.specs.StaticChecks.{is_static_at};
 
 use crate::static_checks::image_offset;
-use cap_desc::{FieldsOf, MethodsBut};
+use cap_class::ClassPart;
+use cap_desc::FieldsOf;
 use offset_set::Offsets;
 
-/// Where described methods stand.
+/// Where class records start.
 #[tactic(auto, using(crate::proofs::OffsetLaws::filling))]
-pub(crate) fn method_offsets(described: MethodsBut<'_, '_>) -> Offsets
-    ensures { holds result ≡ is_method_at (methods_but_left described.entry) }
+pub(crate) fn class_starts(classes: &ClassPart<'_>) -> Offsets
+    ensures { holds result ≡ is_class_at (records classes.now) }
 {
-    let mut offsets = Offsets::none();
-    'methods: for method in described {
-        offsets.insert(method.method_offset);
+    let mut starts = Offsets::none();
+    'classes: for class in classes.iter() {
+        starts.insert(class.offset());
     }
-    offsets
+    starts
 }
 
 /// Where static fields stand in the image.

@@ -8,6 +8,7 @@ ghost use Rattle.cap_components.specs.Infos.{HaveInfos};
 ghost use Rattle.cap_components.specs.PackageRecord.{PackageRecord};
 
 use crate::agreement::{counts_agree, members_agree, places_agree};
+use crate::method_checks::method_starts;
 use crate::package_type::Package;
 use cap_components::{
     Components, PackFault, Parts, customs_formed, interface_offsets, none_missing, read_package,
@@ -24,9 +25,10 @@ fn agreeing<'p, 'a>(parts: &'p Parts<'a>) -> Result<Components<'p, 'a>, PackFaul
     let all = read_package(parts)?;
     customs_formed(parts, &all.directory)?;
     let interfaces = interface_offsets(&all.classes);
-    places_agree(&all, &interfaces)?;
+    let starts = method_starts(all.descriptor.methods_but(&interfaces));
+    places_agree(&all, &interfaces, &starts)?;
     counts_agree(&all, &interfaces)?;
-    members_agree(&all, &interfaces)?;
+    members_agree(&all, &interfaces, &starts)?;
     Ok(all)
 }
 

@@ -1,18 +1,24 @@
-ghost use Rattle.std.specs.Prelude.{◌≡◌, option_map};
+ghost use Rattle.std.specs.Prelude.{◌≡◌, option_map, map};
+ghost use Rattle.offset_set.specs.Tallies.{tallied, counted};
 ghost use Rattle.cap_method.specs.StaticPart.{statics_seen};
 ghost use Rattle.cap_desc.specs.MemberRecords.{field_seen};
 ghost use Rattle.cap_desc.specs.MembersLeft.{fields_of_left};
+ghost use Rattle.cap_components.specs.declared.fault.PackFault.TheVariants.{StaticOverlaps};
 ghost use Rattle.cap_components.specs.Order.{least_of, least_from, refused};
 ghost use Rattle.cap_package.specs.Pairs.{pairs};
 ghost use Rattle.cap_components.specs.Descriptions.{description};
-ghost use Rattle.cap_package.specs.StaticChecks.{image_offset, width_of, is_reference, place_in, share_fault, share_pair, is_in_image, image_fault, array_kinds, kind_at, filled_fault};
+ghost use Rattle.cap_package.specs.StaticChecks.{image_offset, width_of, is_reference, place_in, share_pair, is_in_image, image_fault, array_kinds, kind_at, filled_fault};
 ghost use Rattle.cap_package.specs.Places.{place_seen};
+ghost use Rattle.cap_package.specs.StaticPlaces.{places_left};
+ghost use Rattle.cap_package.specs.Reaches.{reach_by, static_start, static_end};
 
+use crate::places::StaticPlaces;
 use crate::static_place::StaticPlace;
 use arrayvec::ArrayVec;
 use cap_components::{PackFault, field_type, lesser, refuse};
 use cap_desc::{DescPart, FieldInfo, FieldsOf, TypeItem};
 use cap_method::StaticPart;
+use offset_set::Tally;
 
 /// The most initial arrays that two bytes can count.
 const MOST_ARRAYS: usize = 65535;
@@ -50,59 +56,45 @@ pub(crate) fn place_in(descriptor: &DescPart<'_>, field: &FieldInfo) -> Option<S
     })
 }
 
-/// Whether a static field shares a byte with one at a place.
-#[tactic(auto, unfolding(crate::specs::StaticChecks::share_fault))]
-fn share_fault(
-    descriptor: &DescPart<'_>,
-    place: Option<StaticPlace>,
-    field: &FieldInfo,
-) -> Option<PackFault>
-    ensures { result ≡ share_fault (description descriptor.now) (option_map place_seen place) (field_seen field.now) }
+/// Where the static fields begin in the image.
+#[tactic(auto, using(crate::proofs::Overlaps::counted_all))]
+fn static_starts(places: StaticPlaces<'_>) -> Tally
+    ensures { tallied result ≡ counted (map static_start (places_left places.entry)) }
 {
-    let a = place?;
-    let b = place_in(descriptor, field)?;
-    let first = a.offset.min(b.offset);
-    let second = a.offset.max(b.offset);
-    let end = (a.offset as u32 + width_of(a.ty)).min(b.offset as u32 + width_of(b.ty));
-    if (second as u32) < end {
-        Some(PackFault::StaticOverlaps(first, second))
+    let mut starts = Tally::none();
+    'places: for place in places {
+        starts.count(place.offset);
+    }
+    starts
+}
+
+/// Whether a static field reaches to the next one.
+fn reaches(place: &StaticPlace, next: Option<u16>) -> Option<PackFault>
+    ensures { result ≡ reach_by StaticOverlaps place.now.offset (static_end (place_seen place.now)) next }
+{
+    let next = next?;
+    if (next as u32) < place.offset as u32 + width_of(place.ty) {
+        Some(PackFault::StaticOverlaps(place.offset, next))
     } else {
         None
     }
 }
 
-/// The least fault so far, when a place was compared with the fields after it.
-fn shares_with(
-    descriptor: &DescPart<'_>,
-    place: Option<StaticPlace>,
-    farther: FieldsOf<'_>,
-    least: Option<PackFault>,
-) -> Option<PackFault>
+/// No two static fields share a byte. An overlap is one of neighbours: each field is asked whether it reaches to the
+/// nearest other that begins from its own place on.
+#[tactic(auto, using(crate::proofs::Overlaps::static_neighbours))]
+pub(crate) fn statics_apart(places: StaticPlaces<'_>) -> Result<(), PackFault>
     ensures { result
-        ≡ least_from least
-        (share_fault (description descriptor.now) (option_map place_seen place))
-        (fields_of_left farther.entry) }
+        ≡ refused
+        (least_of
+        (share_pair (description places.entry.descriptor))
+        (pairs (fields_of_left places.entry.fields))) }
 {
-    let mut least = least;
-    'fields: for other in farther {
-        least = lesser(least, share_fault(descriptor, place, &other));
-    }
-    least
-}
-
-/// No two static fields share a byte.
-#[tactic(auto, using(crate::proofs::PairFaults::least_pairs))]
-pub(crate) fn statics_apart(
-    descriptor: &DescPart<'_>,
-    fields: FieldsOf<'_>,
-) -> Result<(), PackFault>
-    ensures { result ≡ refused (least_of (share_pair (description descriptor.now)) (pairs (fields_of_left fields.entry))) }
-{
-    let mut rest = fields;
+    let starts = static_starts(places);
     let mut least = None;
-    'fields: while let Some(field) = rest.next() {
-        let place = place_in(descriptor, &field);
-        least = shares_with(descriptor, place, rest, least);
+    'places: for place in places {
+        let next = starts.nearest(place.offset);
+        least = lesser(least, reaches(&place, next));
     }
     refuse(least)
 }

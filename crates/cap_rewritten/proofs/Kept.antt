@@ -14,7 +14,7 @@ use Rattle.cap_components.specs.Parts.{Lent}
 use Rattle.cap_components.specs.PackageRecord.{PackageRecord, interface_methods, fields, names_interface}
 use Rattle.cap_package.specs.Pairs.{pairs}
 use Rattle.cap_package.specs.StaticChecks.{place_in, place_by, share_fault, share_by, share_pair, image_fault, image_by, array_kinds, filled_fault, filled_by, kind_at, image_offset, is_static_at, no_static_fault}
-use Rattle.cap_package.specs.NameChecks.{exported_fields, undescribed_fault, no_class_fault}
+use Rattle.cap_package.specs.NameChecks.{exported_fields, undescribed_fault, no_class_fault, not_own_fault}
 use Rattle.cap_package.specs.TypeChecks.{field_type_fault, field_type_by, method_type_fault, method_type_by}
 use Rattle.cap_package.specs.CountChecks.{differ, array_bytes, image_bytes, instance_fault, instance_by, cells_of, cells_by, count_if}
 use Rattle.cap_package.specs.HeaderChecks.{is_static}
@@ -211,30 +211,37 @@ no_class_same : (f : ℕ → ℕ) (cs : List of_class.Class) (n : ℕ) → no_cl
 unfolding no_class_fault
 no_class_same f cs n = rw (any_map (λ (c : of_class.Class). c.offset == n) (renewed_class f) cs) refl
 
+not_own_same : (f : ℕ → ℕ) (cs : List of_class.Class) (n : ℕ) → not_own_fault (map (renewed_class f) cs) n ≡ not_own_fault cs n
+unfolding not_own_fault
+not_own_same f cs n = rw (any_map (λ (c : of_class.Class). c.offset == n) (renewed_class f) cs) refl
+
 offsets_same : (f : ℕ → ℕ) (o : Option (List Exported)) → map (λ (c : Exported). c.class_offset) (or_none (option_map (map (renewed_exported f)) o)) ≡ map (λ (c : Exported). c.class_offset) (or_none o)
 offsets_same f None = refl
 offsets_same f (Some cs) = map_twice (λ (c : Exported). c.class_offset) (renewed_exported f) cs
 
 pub same_classes : (parts : List Lent) (p q : PackageRecord) (laid : List (Option Laid)) → Agrees parts p → IsRewritten p laid q
     → (filter_map (undescribed_fault q.description.items.classes) q.classes
-    ++ filter_map (no_class_fault q.classes) (map (λ (d : Class). d.class_ref) q.description.items.classes))
+    ++ filter_map (not_own_fault q.classes) (map (λ (d : Class). d.class_ref) q.description.items.classes))
     ++ filter_map (no_class_fault q.classes) (map (λ (c : Exported). c.class_offset) (or_none q.export)) ≡ []
 same_classes parts p q laid a r =
     let f = now_at (changes p laid q) in
     let ds = q.description.items.classes in
     let cs = p.description.items.classes in
     let same = (alike (names_interface p.classes) cs ds r.description.classes).refs in
-    let first = none_append (filter_map (undescribed_fault cs) p.classes ++ filter_map (no_class_fault p.classes) (map ref_of cs)) (filter_map (no_class_fault p.classes) (map (λ (c : Exported). c.class_offset) (or_none p.export))) a.classes in
-    let second = none_append (filter_map (undescribed_fault cs) p.classes) (filter_map (no_class_fault p.classes) (map ref_of cs)) first.0 in
+    let first = none_append (filter_map (undescribed_fault cs) p.classes ++ filter_map (not_own_fault p.classes) (map ref_of cs)) (filter_map (no_class_fault p.classes) (map (λ (c : Exported). c.class_offset) (or_none p.export))) a.classes in
+    let second = none_append (filter_map (undescribed_fault cs) p.classes) (filter_map (not_own_fault p.classes) (map ref_of cs)) first.0 in
     let no_class : (ns : List ℕ) → filter_map (no_class_fault q.classes) ns ≡ filter_map (no_class_fault p.classes) ns = λ ns.
     ap (λ xs. filter_map (no_class_fault xs) ns) r.classes ∙ faults_same (no_class_fault (map (renewed_class f) p.classes)) (no_class_fault p.classes) ns (no_class_same f p.classes) in
-    append_none (filter_map (undescribed_fault ds) q.classes ++ filter_map (no_class_fault q.classes) (map ref_of ds)) (filter_map (no_class_fault q.classes) (map (λ (c : Exported). c.class_offset) (or_none q.export)))
-    (append_none (filter_map (undescribed_fault ds) q.classes) (filter_map (no_class_fault q.classes) (map ref_of ds))
+    let not_own : (ns : List ℕ) → filter_map (not_own_fault q.classes) ns ≡ filter_map (not_own_fault p.classes) ns = λ ns.
+    ap (λ xs. filter_map (not_own_fault xs) ns) r.classes
+    ∙ faults_same (not_own_fault (map (renewed_class f) p.classes)) (not_own_fault p.classes) ns (not_own_same f p.classes) in
+    append_none (filter_map (undescribed_fault ds) q.classes ++ filter_map (not_own_fault q.classes) (map ref_of ds)) (filter_map (no_class_fault q.classes) (map (λ (c : Exported). c.class_offset) (or_none q.export)))
+    (append_none (filter_map (undescribed_fault ds) q.classes) (filter_map (not_own_fault q.classes) (map ref_of ds))
     (ap (filter_map (undescribed_fault ds)) r.classes
     ∙ faults_map (undescribed_fault ds) (renewed_class f) p.classes
     ∙ faults_same (λ c. undescribed_fault ds (renewed_class f c)) (undescribed_fault cs) p.classes (λ c. undescribed_same f cs ds c same)
     ∙ second.0)
-    (no_class (map ref_of ds) ∙ ap (filter_map (no_class_fault p.classes)) same ∙ second.1))
+    (not_own (map ref_of ds) ∙ ap (filter_map (not_own_fault p.classes)) same ∙ second.1))
     (no_class (map (λ (c : Exported). c.class_offset) (or_none q.export))
     ∙ ap (λ o. filter_map (no_class_fault p.classes) (map (λ (c : Exported). c.class_offset) (or_none o))) r.export
     ∙ ap (filter_map (no_class_fault p.classes)) (offsets_same f p.export)

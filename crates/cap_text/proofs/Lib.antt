@@ -5,3 +5,4 @@ pub mod Folders
 pub mod Entries
 pub mod Ends
 pub mod Requests
+pub mod Rooms

@@ -1,6 +1,7 @@
 -- A list of words asks for one thing: each number and each argument has one word.
 use Rattle.std.proofs.Common.{◌≡◌, ℕ, ℤ, pos, negsuc, List, [], ◌∷◌, sym, ◌∙◌, ap, arith, rules, codes, subst, refl, FitsSigned, w32}
-use Rattle.std.specs.Prelude.{Ok}
+use Rattle.std.specs.Prelude.{Ok, ◌+◌, ◌*◌, ◌==◌, length, false}
+use Rattle.std.proofs.lemmas.Bool.Decides.{nat_tests}
 use Rattle.std.specs.Fmt.{signed_decimal}
 use Rattle.std.specs.Str.Parse.{AllDigits}
 use Rattle.std.proofs.lemmas.Fmt.{decimal_injective, signed_decimal_injective, decimal_is_IsNumeral}
@@ -12,7 +13,8 @@ use Rattle.cap_text.specs.Verify.{VerifyRequest, IsVerify}
 use Rattle.cap_text.specs.Entry.{IsEntryWord}
 use Rattle.std.specs.List.{after_first}
 use Rattle.cap_text.specs.Run.{RunRequest, AreRunWords, is_end}
-use Rattle.cap_text.specs.Request.{probe, show, check, verify, defend, run, IsUsage, OneRequest}
+use Rattle.cap_text.specs.Transform.{TransformRequest, IsTransform}
+use Rattle.cap_text.specs.Request.{Request, probe, show, check, verify, defend, run, transform, IsRequest, IsUsage, OneRequest}
 use Rattle.cap_text.specs.declared.entry.Entry.{Entry}
 use Rattle.vm_step.specs.Arguments.{Argument, number, null, bytes}
 use Rattle.hex.specs.Hex.{encode_lower, decode_of, IsBytes}
@@ -97,154 +99,76 @@ one_run (budget ∷ entry ∷ words) r s is_r is_s =
     let same_args : r.args ≡ s.args = one_list (after_first is_end words) r.args s.args is_r.2.arguments is_s.2.arguments in
     λ i. record { budget = steps i; entry = entries i; dirs = same_dirs i; args = same_args i }
 
-probe_show : (name : List ℕ) → name ≡ codes "probe" → name ≡ codes "show" → ⊥
-unfolding first
-probe_show name is_probe is_show = let differ : 112 ≡ 115 = ap first (sym is_probe ∙ is_show) in omega (arith, differ)
+one_transform : (operands : List (List ℕ)) (t u : TransformRequest) → IsTransform operands t → IsTransform operands u → t ≡ u
+one_transform [] t u is_t is_u = absurd is_t
+one_transform (out ∷ dirs) t u is_t is_u =
+    let same_out : t.out ≡ u.out = is_t.0 ∙ sym is_u.0 in
+    let same_dirs : t.dirs ≡ u.dirs = is_t.1 ∙ sym is_u.1 in
+    λ i. record { out = same_out i; dirs = same_dirs i }
 
-probe_check : (name : List ℕ) → name ≡ codes "probe" → name ≡ codes "check" → ⊥
-unfolding first
-probe_check name is_probe is_check = let differ : 112 ≡ 99 = ap first (sym is_probe ∙ is_check) in omega (arith, differ)
+-- ---- the commands' names are apart
 
-show_check : (name : List ℕ) → name ≡ codes "show" → name ≡ codes "check" → ⊥
-unfolding first
-show_check name is_show is_check = let differ : 115 ≡ 99 = ap first (sym is_show ∙ is_check) in omega (arith, differ)
+-- a name by its first letter and its length
+key : List ℕ → ℕ
+key name = 100 * first name + length name
 
-probe_verify : (name : List ℕ) → name ≡ codes "probe" → name ≡ codes "verify" → ⊥
-unfolding first
-probe_verify name is_probe is_verify = let differ : 112 ≡ 118 = ap first (sym is_probe ∙ is_verify) in omega (arith, differ)
+-- that of the command
+key_of : Request → ℕ
+key_of (probe p) = 11205
+key_of (show s) = 11504
+key_of (check c) = 9905
+key_of (verify v) = 11806
+key_of (defend r) = 10006
+key_of (run r) = 11403
+key_of (transform t) = 11609
 
-show_verify : (name : List ℕ) → name ≡ codes "show" → name ≡ codes "verify" → ⊥
-unfolding first
-show_verify name is_show is_verify = let differ : 115 ≡ 118 = ap first (sym is_show ∙ is_verify) in omega (arith, differ)
+named : (name : List ℕ) (operands : List (List ℕ)) (r : Request) → IsRequest (name ∷ operands) r → key name ≡ key_of r
+unfolding first key key_of
+named name operands (probe p) is = ap key is.0
+named name operands (show s) is = ap key is.0
+named name operands (check c) is = ap key is.0
+named name operands (verify v) is = ap key is.0
+named name operands (defend r) is = ap key is.0
+named name operands (run r) is = ap key is.0
+named name operands (transform t) is = ap key is.0
 
-check_verify : (name : List ℕ) → name ≡ codes "check" → name ≡ codes "verify" → ⊥
-unfolding first
-check_verify name is_check is_verify = let differ : 99 ≡ 118 = ap first (sym is_check ∙ is_verify) in omega (arith, differ)
-
-probe_defend : (name : List ℕ) → name ≡ codes "probe" → name ≡ codes "defend" → ⊥
-unfolding first
-probe_defend name is_probe is_defend = let differ : 112 ≡ 100 = ap first (sym is_probe ∙ is_defend) in omega (arith, differ)
-
-show_defend : (name : List ℕ) → name ≡ codes "show" → name ≡ codes "defend" → ⊥
-unfolding first
-show_defend name is_show is_defend = let differ : 115 ≡ 100 = ap first (sym is_show ∙ is_defend) in omega (arith, differ)
-
-check_defend : (name : List ℕ) → name ≡ codes "check" → name ≡ codes "defend" → ⊥
-unfolding first
-check_defend name is_check is_defend = let differ : 99 ≡ 100 = ap first (sym is_check ∙ is_defend) in omega (arith, differ)
-
-verify_defend : (name : List ℕ) → name ≡ codes "verify" → name ≡ codes "defend" → ⊥
-unfolding first
-verify_defend name is_verify is_defend = let differ : 118 ≡ 100 = ap first (sym is_verify ∙ is_defend) in omega (arith, differ)
-
-probe_run : (name : List ℕ) → name ≡ codes "probe" → name ≡ codes "run" → ⊥
-unfolding first
-probe_run name is_probe is_run = let differ : 112 ≡ 114 = ap first (sym is_probe ∙ is_run) in omega (arith, differ)
-
-show_run : (name : List ℕ) → name ≡ codes "show" → name ≡ codes "run" → ⊥
-unfolding first
-show_run name is_show is_run = let differ : 115 ≡ 114 = ap first (sym is_show ∙ is_run) in omega (arith, differ)
-
-check_run : (name : List ℕ) → name ≡ codes "check" → name ≡ codes "run" → ⊥
-unfolding first
-check_run name is_check is_run = let differ : 99 ≡ 114 = ap first (sym is_check ∙ is_run) in omega (arith, differ)
-
-verify_run : (name : List ℕ) → name ≡ codes "verify" → name ≡ codes "run" → ⊥
-unfolding first
-verify_run name is_verify is_run = let differ : 118 ≡ 114 = ap first (sym is_verify ∙ is_run) in omega (arith, differ)
-
-defend_run : (name : List ℕ) → name ≡ codes "defend" → name ≡ codes "run" → ⊥
-unfolding first
-defend_run name is_defend is_run = let differ : 100 ≡ 114 = ap first (sym is_defend ∙ is_run) in omega (arith, differ)
-
-first_word : List (List ℕ) → List ℕ
-first_word [] = []
-first_word (word ∷ words) = word
-
-others : List (List ℕ) → List (List ℕ)
-others [] = []
-others (word ∷ words) = words
+apart : (m n : ℕ) → (m == n) ≡ false → m ≡ n → ⊥
+apart m n differ same = grind (arith, nat_tests)
 
 -- words that begin with the command's name and are outside its grammar ask for nothing
+only_check : (name : List ℕ) (operands : List (List ℕ)) → name ≡ codes "check" → ((c : CheckRequest) → IsCheck operands c → ⊥)
+    → (r : Request) → IsRequest (name ∷ operands) r → ⊥
+unfolding first key key_of
+only_check name operands called none (check c) is = none c is.1
+only_check name operands called none r is = apart (key_of r) 9905 refl (sym (named name operands r is) ∙ ap key called)
+
+only_verify : (name : List ℕ) (operands : List (List ℕ)) → name ≡ codes "verify" → ((v : VerifyRequest) → IsVerify operands v → ⊥)
+    → (r : Request) → IsRequest (name ∷ operands) r → ⊥
+unfolding first key key_of
+only_verify name operands called none (verify v) is = none v is.1
+only_verify name operands called none r is = apart (key_of r) 11806 refl (sym (named name operands r is) ∙ ap key called)
+
+none_of : (words : List (List ℕ)) (name : List ℕ) (operands : List (List ℕ)) → words ≡ name ∷ operands
+    → ((r : Request) → IsRequest (name ∷ operands) r → ⊥) → IsUsage words
+none_of words name operands is none r asks = none r (subst (λ ws. IsRequest ws r) is asks)
+
 pub no_check : (words : List (List ℕ)) (name : List ℕ) (operands : List (List ℕ)) → words ≡ name ∷ operands → name ≡ codes "check"
     → ((c : CheckRequest) → IsCheck operands c → ⊥) → IsUsage words
-unfolding first_word others
-no_check [] name operands is called none r is_r = is_r
-no_check (word ∷ words) name operands is called none (probe p) is_r = absurd (probe_check word is_r.0 (ap first_word is ∙ called))
-no_check (word ∷ words) name operands is called none (show s) is_r = absurd (show_check word is_r.0 (ap first_word is ∙ called))
-no_check (word ∷ words) name operands is called none (check c) is_r = none c (subst (λ ws. IsCheck ws c) (ap others is) is_r.1)
-no_check (word ∷ words) name operands is called none (verify v) is_r = absurd (check_verify word (ap first_word is ∙ called) is_r.0)
-no_check (word ∷ words) name operands is called none (defend r) is_r = absurd (check_defend word (ap first_word is ∙ called) is_r.0)
-no_check (word ∷ words) name operands is called none (run r) is_r = absurd (check_run word (ap first_word is ∙ called) is_r.0)
+no_check words name operands is called none = none_of words name operands is (only_check name operands called none)
 
 pub no_verify : (words : List (List ℕ)) (name : List ℕ) (operands : List (List ℕ)) → words ≡ name ∷ operands → name ≡ codes "verify"
     → ((v : VerifyRequest) → IsVerify operands v → ⊥) → IsUsage words
-unfolding first_word others
-no_verify [] name operands is called none r is_r = is_r
-no_verify (word ∷ words) name operands is called none (probe p) is_r = absurd (probe_verify word is_r.0 (ap first_word is ∙ called))
-no_verify (word ∷ words) name operands is called none (show s) is_r = absurd (show_verify word is_r.0 (ap first_word is ∙ called))
-no_verify (word ∷ words) name operands is called none (check c) is_r = absurd (check_verify word is_r.0 (ap first_word is ∙ called))
-no_verify (word ∷ words) name operands is called none (verify v) is_r = none v (subst (λ ws. IsVerify ws v) (ap others is) is_r.1)
-no_verify (word ∷ words) name operands is called none (defend r) is_r = absurd (verify_defend word (ap first_word is ∙ called) is_r.0)
-no_verify (word ∷ words) name operands is called none (run r) is_r = absurd (verify_run word (ap first_word is ∙ called) is_r.0)
-
-pub no_defend : (words : List (List ℕ)) (name : List ℕ) (operands : List (List ℕ)) → words ≡ name ∷ operands → name ≡ codes "defend"
-    → ((r : RunRequest) → AreRunWords operands r → ⊥) → IsUsage words
-unfolding first_word others
-no_defend [] name operands is called none r is_r = is_r
-no_defend (word ∷ words) name operands is called none (probe p) is_r = absurd (probe_defend word is_r.0 (ap first_word is ∙ called))
-no_defend (word ∷ words) name operands is called none (show s) is_r = absurd (show_defend word is_r.0 (ap first_word is ∙ called))
-no_defend (word ∷ words) name operands is called none (check c) is_r = absurd (check_defend word is_r.0 (ap first_word is ∙ called))
-no_defend (word ∷ words) name operands is called none (verify v) is_r = absurd (verify_defend word is_r.0 (ap first_word is ∙ called))
-no_defend (word ∷ words) name operands is called none (defend r) is_r = none r (subst (λ ws. AreRunWords ws r) (ap others is) is_r.1)
-no_defend (word ∷ words) name operands is called none (run r) is_r = absurd (defend_run word (ap first_word is ∙ called) is_r.0)
-
-pub no_run : (words : List (List ℕ)) (name : List ℕ) (operands : List (List ℕ)) → words ≡ name ∷ operands → name ≡ codes "run"
-    → ((r : RunRequest) → AreRunWords operands r → ⊥) → IsUsage words
-unfolding first_word others
-no_run [] name operands is called none r is_r = is_r
-no_run (word ∷ words) name operands is called none (probe p) is_r = absurd (probe_run word is_r.0 (ap first_word is ∙ called))
-no_run (word ∷ words) name operands is called none (show s) is_r = absurd (show_run word is_r.0 (ap first_word is ∙ called))
-no_run (word ∷ words) name operands is called none (check c) is_r = absurd (check_run word is_r.0 (ap first_word is ∙ called))
-no_run (word ∷ words) name operands is called none (verify v) is_r = absurd (verify_run word is_r.0 (ap first_word is ∙ called))
-no_run (word ∷ words) name operands is called none (defend d) is_r = absurd (defend_run word is_r.0 (ap first_word is ∙ called))
-no_run (word ∷ words) name operands is called none (run r) is_r = none r (subst (λ ws. AreRunWords ws r) (ap others is) is_r.1)
+no_verify words name operands is called none = none_of words name operands is (only_verify name operands called none)
 
 pub one_request : (words : List (List ℕ)) → OneRequest words
+unfolding key_of
 one_request [] r s is_r is_s = absurd is_r
 one_request (name ∷ operands) (probe p) (probe q) is_r is_s = ap probe (one_probe operands p q is_r.1 is_s.1)
-one_request (name ∷ operands) (probe p) (show t) is_r is_s = absurd (probe_show name is_r.0 is_s.0)
-one_request (name ∷ operands) (show s) (probe q) is_r is_s = absurd (probe_show name is_s.0 is_r.0)
 one_request (name ∷ operands) (show s) (show t) is_r is_s = ap show (one_show operands s t is_r.1 is_s.1)
-one_request (name ∷ operands) (probe p) (check c) is_r is_s = absurd (probe_check name is_r.0 is_s.0)
-one_request (name ∷ operands) (check c) (probe p) is_r is_s = absurd (probe_check name is_s.0 is_r.0)
-one_request (name ∷ operands) (show s) (check c) is_r is_s = absurd (show_check name is_r.0 is_s.0)
-one_request (name ∷ operands) (check c) (show s) is_r is_s = absurd (show_check name is_s.0 is_r.0)
 one_request (name ∷ operands) (check c) (check d) is_r is_s = ap check (one_check operands c d is_r.1 is_s.1)
-one_request (name ∷ operands) (probe p) (verify v) is_r is_s = absurd (probe_verify name is_r.0 is_s.0)
-one_request (name ∷ operands) (verify v) (probe p) is_r is_s = absurd (probe_verify name is_s.0 is_r.0)
-one_request (name ∷ operands) (show s) (verify v) is_r is_s = absurd (show_verify name is_r.0 is_s.0)
-one_request (name ∷ operands) (verify v) (show s) is_r is_s = absurd (show_verify name is_s.0 is_r.0)
-one_request (name ∷ operands) (check c) (verify v) is_r is_s = absurd (check_verify name is_r.0 is_s.0)
-one_request (name ∷ operands) (verify v) (check c) is_r is_s = absurd (check_verify name is_s.0 is_r.0)
 one_request (name ∷ operands) (verify v) (verify w) is_r is_s = ap verify (one_verify operands v w is_r.1 is_s.1)
-one_request (name ∷ operands) (probe p) (defend r) is_r is_s = absurd (probe_defend name is_r.0 is_s.0)
-one_request (name ∷ operands) (defend r) (probe p) is_r is_s = absurd (probe_defend name is_s.0 is_r.0)
-one_request (name ∷ operands) (show s) (defend r) is_r is_s = absurd (show_defend name is_r.0 is_s.0)
-one_request (name ∷ operands) (defend r) (show s) is_r is_s = absurd (show_defend name is_s.0 is_r.0)
-one_request (name ∷ operands) (check c) (defend r) is_r is_s = absurd (check_defend name is_r.0 is_s.0)
-one_request (name ∷ operands) (defend r) (check c) is_r is_s = absurd (check_defend name is_s.0 is_r.0)
-one_request (name ∷ operands) (verify v) (defend r) is_r is_s = absurd (verify_defend name is_r.0 is_s.0)
-one_request (name ∷ operands) (defend r) (verify v) is_r is_s = absurd (verify_defend name is_s.0 is_r.0)
 one_request (name ∷ operands) (defend r) (defend s) is_r is_s = ap defend (one_run operands r s is_r.1 is_s.1)
-one_request (name ∷ operands) (probe p) (run r) is_r is_s = absurd (probe_run name is_r.0 is_s.0)
-one_request (name ∷ operands) (run r) (probe p) is_r is_s = absurd (probe_run name is_s.0 is_r.0)
-one_request (name ∷ operands) (show s) (run r) is_r is_s = absurd (show_run name is_r.0 is_s.0)
-one_request (name ∷ operands) (run r) (show s) is_r is_s = absurd (show_run name is_s.0 is_r.0)
-one_request (name ∷ operands) (check c) (run r) is_r is_s = absurd (check_run name is_r.0 is_s.0)
-one_request (name ∷ operands) (run r) (check c) is_r is_s = absurd (check_run name is_s.0 is_r.0)
-one_request (name ∷ operands) (verify v) (run r) is_r is_s = absurd (verify_run name is_r.0 is_s.0)
-one_request (name ∷ operands) (run r) (verify v) is_r is_s = absurd (verify_run name is_s.0 is_r.0)
-one_request (name ∷ operands) (defend d) (run r) is_r is_s = absurd (defend_run name is_r.0 is_s.0)
-one_request (name ∷ operands) (run r) (defend d) is_r is_s = absurd (defend_run name is_s.0 is_r.0)
 one_request (name ∷ operands) (run r) (run s) is_r is_s = ap run (one_run operands r s is_r.1 is_s.1)
+one_request (name ∷ operands) (transform t) (transform u) is_r is_s = ap transform (one_transform operands t u is_r.1 is_s.1)
+one_request (name ∷ operands) r s is_r is_s =
+    absurd (apart (key_of r) (key_of s) refl (sym (named name operands r is_r) ∙ named name operands s is_s))

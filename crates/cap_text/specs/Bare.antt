@@ -1,5 +1,5 @@
 -- Why a bare method is refused, as capcheck prints it.
-use Rattle.std.specs.Prelude.{ℕ, List, [], ◌∷◌, codes}
+use Rattle.std.specs.Prelude.{ℕ, ℤ, List, [], ◌∷◌, codes}
 use Rattle.std.specs.Fmt.{signed_decimal}
 use Rattle.std.specs.List.{concat}
 use Rattle.cap_text.specs.Fault.{name_1}
@@ -14,6 +14,10 @@ code_end_text Cut = codes "Cut"
 code_end_text (OutOfScope opcode) = name_1 (codes "OutOfScope") opcode
 code_end_text (BadOperand byte) = name_1 (codes "BadOperand") byte
 
+-- a branch leads to a place where no instruction begins
+abbrev pub bad_target_text : ℤ → List ℕ
+bad_target_text target = concat (codes "BadTarget " ∷ signed_decimal target ∷ [])
+
 abbrev pub bare_kind_text : BareKind → List ℕ
 bare_kind_text (Code end) = code_end_text end
 bare_kind_text Underflow = codes "Underflow"
@@ -21,5 +25,5 @@ bare_kind_text Overflow = codes "Overflow"
 bare_kind_text (NoLocal register) = name_1 (codes "NoLocal") register
 bare_kind_text StackAtTarget = codes "StackAtTarget"
 bare_kind_text StackAtBranch = codes "StackAtBranch"
-bare_kind_text (BadTarget target) = concat (codes "BadTarget " ∷ signed_decimal target ∷ [])
+bare_kind_text (BadTarget target) = bad_target_text target
 bare_kind_text FallsOff = codes "FallsOff"

@@ -5,6 +5,7 @@ pub mod Show
 pub mod Check
 pub mod Verify
 pub mod Run
+pub mod Transform
 pub mod Request
 pub mod Fault
 pub mod Bare
@@ -17,5 +18,6 @@ pub mod Start
 pub mod Room
 pub mod Ending
 pub mod Line
+pub mod Transformed
 pub mod Table
 pub mod Worked

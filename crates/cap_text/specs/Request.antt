@@ -5,8 +5,9 @@ use Rattle.cap_text.specs.Show.{ShowRequest, IsShow, show_request}
 use Rattle.cap_text.specs.Check.{CheckRequest, IsCheck, check_request}
 use Rattle.cap_text.specs.Verify.{VerifyRequest, IsVerify, verify_request}
 use Rattle.cap_text.specs.Run.{RunRequest, AreRunWords, run_request}
+use Rattle.cap_text.specs.Transform.{TransformRequest, IsTransform, transform_request}
 use Rattle.cap_text.specs.declared.command.Command.{Command}
-use Rattle.cap_text.specs.declared.command.Command.TheVariants.{Probe, Show, Check, Verify, Defend, Run}
+use Rattle.cap_text.specs.declared.command.Command.TheVariants.{Probe, Show, Check, Verify, Defend, Run, Transform}
 
 -- a command with its operands
 pub data Request : Type 0 where
@@ -16,6 +17,7 @@ pub data Request : Type 0 where
   verify : VerifyRequest → Request
   defend : RunRequest → Request
   run : RunRequest → Request
+  transform : TransformRequest → Request
 
 -- the words are the command's name and then operands of its grammar
 abbrev pub IsRequest : List (List ℕ) → Request → Type 0
@@ -26,6 +28,7 @@ IsRequest (name ∷ operands) (check c) = (name ≡ codes "check") × IsCheck op
 IsRequest (name ∷ operands) (verify v) = (name ≡ codes "verify") × IsVerify operands v
 IsRequest (name ∷ operands) (defend r) = (name ≡ codes "defend") × AreRunWords operands r
 IsRequest (name ∷ operands) (run r) = (name ≡ codes "run") × AreRunWords operands r
+IsRequest (name ∷ operands) (transform t) = (name ≡ codes "transform") × IsTransform operands t
 
 -- the words are outside the grammar
 abbrev pub IsUsage : List (List ℕ) → Type 0
@@ -39,6 +42,7 @@ request_of (Check c) = check (check_request c)
 request_of (Verify v) = verify (verify_request v)
 request_of (Defend r) = defend (run_request r)
 request_of (Run r) = run (run_request r)
+request_of (Transform t) = transform (transform_request t)
 
 -- a list of words asks for one thing
 abbrev pub OneRequest : List (List ℕ) → Type 0

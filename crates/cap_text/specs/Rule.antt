@@ -7,6 +7,10 @@ use Rattle.jc_base.specs.declared.ty.Ty.TheVariants.{Bottom, Short, IntHigh, Int
 use Rattle.jc_ops.specs.declared.fault.RuleFault.{RuleFault}
 use Rattle.jc_ops.specs.declared.fault.RuleFault.TheVariants.{Underflow, Overflow, Mismatch, NoLocal, SplitInt, FreshKept, BadMember, NotConcrete, StackMerge}
 
+-- an object on which no constructor was called, by the place of the `new` that makes it and by its class
+abbrev pub fresh_text : ℕ → ℕ → List ℕ
+fresh_text place c = concat (codes "fresh " ∷ decimal place ∷ codes " class " ∷ decimal c ∷ [])
+
 abbrev pub type_text : Ty → List ℕ
 type_text Bottom = codes "bottom"
 type_text Short = codes "short"
@@ -19,13 +23,16 @@ type_text ArrByte = codes "array byte"
 type_text ArrShort = codes "array short"
 type_text ArrInt = codes "array int"
 type_text (ArrRef c) = name_1 (codes "array class") c
-type_text (Fresh place c) = concat (codes "fresh " ∷ decimal place ∷ codes " class " ∷ decimal c ∷ [])
+type_text (Fresh place c) = fresh_text place c
 type_text Top = codes "top"
+
+abbrev pub mismatch_text : Ty → Ty → List ℕ
+mismatch_text found wanted = concat (codes "Mismatch found " ∷ type_text found ∷ codes " wanted " ∷ type_text wanted ∷ [])
 
 abbrev pub rule_fault_text : RuleFault → List ℕ
 rule_fault_text Underflow = codes "Underflow"
 rule_fault_text Overflow = codes "Overflow"
-rule_fault_text (Mismatch found wanted) = concat (codes "Mismatch found " ∷ type_text found ∷ codes " wanted " ∷ type_text wanted ∷ [])
+rule_fault_text (Mismatch found wanted) = mismatch_text found wanted
 rule_fault_text (NoLocal register) = name_1 (codes "NoLocal") register
 rule_fault_text SplitInt = codes "SplitInt"
 rule_fault_text FreshKept = codes "FreshKept"

@@ -13,6 +13,7 @@ use Rattle.vm_step.specs.declared.ending.Ending.TheVariants as endings
 use Rattle.cap_text.specs.Ending.{ending_line, static_lines, array_line}
 use Rattle.cap_text.specs.Table.{component_line}
 use Rattle.cap_text.specs.Line.{malformed_line, not_linked_line, not_started_line, refused_bare_line, typed_line, refused_flow_line, bare_ending_line, accepted_line, refused_card_line}
+use Rattle.cap_text.specs.Transformed.{transformed_line, registers_limit_line, stack_limit_line, part_limit_line}
 use Rattle.card_typing.specs.declared.fault.CardKind.TheVariants as cards
 use Rattle.card_typing.specs.declared.fault.CardKind.TheVariants.{StackAtBranch}
 use Rattle.cap_text.specs.Rule.{rule_fault_text}
@@ -96,6 +97,22 @@ handler_on_the_card :
     ≡ codes "refused package 0 method 2.1 place 9 BadHandler 4\n"
 unfolding digits
 handler_on_the_card = refl
+
+two_transformed : transformed_line 2 ≡ codes "transformed 2 methods\n"
+unfolding digits
+two_transformed = refl
+
+many_registers : registers_limit_line (record { «package» = 1; class_no = 0; method_no = 3 }) 256 ≡ codes "limit method 0.3 Registers 256\n"
+unfolding digits
+many_registers = refl
+
+full_stack : stack_limit_line (record { «package» = 0; class_no = 2; method_no = 1 }) ≡ codes "limit method 2.1 StackLimit\n"
+unfolding digits
+full_stack = refl
+
+long_part : part_limit_line 65536 ≡ codes "limit PartLong 65536\n"
+unfolding digits
+long_part = refl
 
 returned : bare_ending_line (Returned (negsuc 32767)) ≡ codes "returned short -32768\n"
 unfolding digits

@@ -1,33 +1,48 @@
-ghost use Rattle.std.specs.Prelude.{Some};
-ghost use Rattle.cap_text.specs.Card.{card_kind_text, card_fault_text};
+ghost use Rattle.cap_text.specs.Card.{bad_index_text, card_kind_text, card_fault_text};
+ghost use Rattle.cap_text.specs.Room.{HasRoom, Writes, IsWithin};
 
-use crate::fault::Shown;
+use crate::bare::{write_bad_target, write_code_end};
+use crate::flow::write_place;
+use crate::room::Room;
+use crate::rule::write_rule_fault;
 use card_typing::{CardFault, CardKind};
-use std::fmt;
 
-impl fmt::Display for Shown<CardKind> {
-    ghost output = { λ x. Some (card_kind_text x.0) };
-
-    fn fmt<W: fmt::Write>(&self, f: &mut fmt::Formatter<W>) -> fmt::Result {
-        match self.0 {
-            CardKind::Code(end) => write!(f, "{}", Shown(end)),
-            CardKind::Rule(fault) => write!(f, "{}", Shown(fault)),
-            CardKind::StackAtTarget => f.write_str("StackAtTarget"),
-            CardKind::StackAtBranch => f.write_str("StackAtBranch"),
-            CardKind::HandlerEntered => f.write_str("HandlerEntered"),
-            CardKind::BadTarget(target) => write!(f, "BadTarget {target}"),
-            CardKind::FallsOff => f.write_str("FallsOff"),
-            CardKind::BadHandler(number) => write!(f, "BadHandler {number}"),
-            CardKind::BadIndex(entry) => write!(f, "BadIndex {entry}"),
-            CardKind::NotIndexed(target) => write!(f, "NotIndexed {target}"),
-        }
+// What is wrong at a place.
+fn write_kind(room: &mut Room, kind: CardKind)
+    requires { HasRoom room.old 69 }
+    ensures writes { Writes room.old room.new (card_kind_text kind) }
+    ensures few { IsWithin room.old room.new 69 }
+{
+    match kind {
+        CardKind::Code(end) => write_code_end(room, end),
+        CardKind::Rule(fault) => write_rule_fault(room, fault),
+        CardKind::StackAtTarget => room.write("StackAtTarget"),
+        CardKind::StackAtBranch => room.write("StackAtBranch"),
+        CardKind::HandlerEntered => room.write("HandlerEntered"),
+        CardKind::BadTarget(target) => write_bad_target(room, target),
+        CardKind::FallsOff => room.write("FallsOff"),
+        CardKind::BadHandler(number) => room.write_named("BadHandler", number),
+        CardKind::BadIndex(entry) => write_bad_index(room, entry),
+        CardKind::NotIndexed(target) => room.write_named("NotIndexed", target),
     }
 }
 
-impl fmt::Display for Shown<CardFault> {
-    ghost output = { λ x. Some (card_fault_text x.0) };
+// The entry of a target index that names no instruction, or none above that of the entry before it.
+fn write_bad_index(room: &mut Room, entry: u32)
+    requires { HasRoom room.old 29 }
+    ensures writes { Writes room.old room.new (bad_index_text entry) }
+    ensures few { IsWithin room.old room.new 29 }
+{
+    room.write("BadIndex ");
+    room.write_long(u64::from(entry));
+}
 
-    fn fmt<W: fmt::Write>(&self, f: &mut fmt::Formatter<W>) -> fmt::Result {
-        write!(f, "place {} {}", self.0.place, Shown(self.0.kind))
-    }
+/// Writes where the verifier on the card refuses a method and why, in at most 81 bytes.
+pub(crate) fn write_card_fault(room: &mut Room, fault: CardFault)
+    requires { HasRoom room.old 81 }
+    ensures writes { Writes room.old room.new (card_fault_text fault) }
+    ensures few { IsWithin room.old room.new 81 }
+{
+    write_place(room, fault.place);
+    write_kind(room, fault.kind);
 }

@@ -5,6 +5,7 @@ use crate::check::Check;
 use crate::probe::Probe;
 use crate::run::Run;
 use crate::show::Show;
+use crate::transform::Transform;
 use crate::verify::Verify;
 use cap_files::Words;
 use std::alloc::{AllocError, Global};
@@ -18,6 +19,7 @@ pub enum Command<'a> {
     Verify(Verify<'a>),
     Defend(Run<'a>),
     Run(Run<'a>),
+    Transform(Transform<'a>),
 }
 
 /// The command that the words spell, where they spell one. The arguments of a run take memory.
@@ -48,6 +50,9 @@ pub fn read_command<'a>(alloc: Global, words: &'a Words) -> Result<Option<Comman
     }
     if name == "run" {
         return Ok(Run::read(alloc, operands)?.map(Command::Run));
+    }
+    if name == "transform" {
+        return Ok(Transform::read(operands).map(Command::Transform));
     }
     Ok(None)
 }

@@ -21,6 +21,8 @@ mod run;
 mod show;
 mod start;
 mod table;
+mod transform;
+mod transform_line;
 mod verify;
 mod word;
 
@@ -31,12 +33,14 @@ pub use entry::Entry;
 pub use fault::Shown;
 pub use line::{
     MethodNumber, accepted, bare_ending, malformed, not_linked, not_started, refused_bare,
-    refused_card, refused_flow, typed,
+    refused_card, refused_flow, typed, write_not_started, write_refused_card,
 };
 pub use probe::Probe;
 pub use room::Room;
 pub use run::Run;
 pub use show::Show;
 pub use table::component_table;
+pub use transform::Transform;
+pub use transform_line::{limit_code, limit_part, limit_registers, limit_stack, transformed};
 pub use verify::Verify;
 pub use word::{OwnedArg, argument, folder_word, folder_words, number};

@@ -1,15 +1,30 @@
-ghost use Rattle.std.specs.Prelude.{◌≡◌, IfOk, Some, string_bytes};
+ghost use Rattle.std.specs.Prelude.{◌≡◌, ◌≢◌, IfOk, string_bytes};
+ghost use Rattle.jc_flow.specs.declared.end.FlowEnd.TheVariants.{Memory};
 ghost use Rattle.cap_text.specs.Line.{malformed_line, not_linked_line, not_started_line, refused_bare_line, typed_line, method_text, refused_flow_line, accepted_line, refused_card_line, bare_ending_line};
+ghost use Rattle.cap_text.specs.Room.{HasRoom, Writes, IsWithin};
 
+use crate::bare::write_bare_kind;
+use crate::card::write_card_fault;
 use crate::fault::Shown;
+use crate::flow::write_flow_end;
+use crate::room::Room;
+use crate::start::write_start_fault;
 use cap_bare::{BareEnd, BareFault};
 use cap_package::PackFault;
 use card_typing::CardFault;
 use jc_flow::FlowEnd;
 use jc_link::LinkFault;
 use std::alloc::{AllocError, Global};
-use std::fmt;
 use vm_step::StartFault;
+
+/// The most bytes of the line for a bare method that is refused.
+const MOST_BARE: usize = 42;
+
+/// The most bytes of the line for a method that is refused.
+const MOST_REFUSED: usize = 123;
+
+/// The most bytes of the line for an entry that does not start.
+const MOST_NOT_STARTED: usize = 48;
 
 /// A method by the numbers of its package, of its class in the package's Descriptor, and of itself in
 /// the class, each from 0.
@@ -20,16 +35,18 @@ pub struct MethodNumber {
     pub method_no: u16,
 }
 
-impl fmt::Display for Shown<MethodNumber> {
-    ghost output = { λ x. Some (method_text x.0) };
-
-    fn fmt<W: fmt::Write>(&self, f: &mut fmt::Formatter<W>) -> fmt::Result {
-        write!(
-            f,
-            "package {} method {}.{}",
-            self.0.package, self.0.class_no, self.0.method_no
-        )
-    }
+// A method, in at most 32 bytes.
+fn write_method(room: &mut Room, method: MethodNumber)
+    requires { HasRoom room.old 32 }
+    ensures writes { Writes room.old room.new (method_text method) }
+    ensures few { IsWithin room.old room.new 32 }
+{
+    room.write("package ");
+    room.write_number(method.package);
+    room.write(" method ");
+    room.write_number(method.class_no);
+    room.write(".");
+    room.write_number(method.method_no);
 }
 
 /// The line for a package, by its number, whose parts are malformed.
@@ -50,14 +67,32 @@ pub fn not_linked(alloc: Global, fault: LinkFault) -> Result<String, AllocError>
 pub fn not_started(alloc: Global, fault: StartFault) -> Result<String, AllocError>
     ensures { IfOk result (λ t. string_bytes t ≡ not_started_line fault) }
 {
-    format!(in alloc; "not started {}\n", Shown(fault))
+    let mut room = Room::new(alloc, MOST_NOT_STARTED)?;
+    write_not_started(&mut room, fault);
+    Ok(room.into_text())
+}
+
+/// Writes the line for an entry that does not start, in at most 48 bytes. It takes no memory.
+pub fn write_not_started(room: &mut Room, fault: StartFault)
+    requires { HasRoom room.old 48 }
+    ensures { Writes room.old room.new (not_started_line fault) }
+{
+    room.write("not started ");
+    write_start_fault(room, fault);
+    room.write("\n");
 }
 
 /// The line for a bare method that the verifier refuses.
 pub fn refused_bare(alloc: Global, fault: BareFault) -> Result<String, AllocError>
     ensures { IfOk result (λ t. string_bytes t ≡ refused_bare_line fault) }
 {
-    format!(in alloc; "refused place {} {}\n", fault.place, Shown(fault.kind))
+    let mut room = Room::new(alloc, MOST_BARE)?;
+    room.write("refused place ");
+    room.write_number(fault.place);
+    room.write(" ");
+    write_bare_kind(&mut room, fault.kind);
+    room.write("\n");
+    Ok(room.into_text())
 }
 
 /// The line for a package whose methods with code, of which there are `count`, all have a dataflow
@@ -68,14 +103,29 @@ pub fn typed(alloc: Global, count: u16) -> Result<String, AllocError>
     format!(in alloc; "typed {count} methods\n")
 }
 
-/// The line for a method without a dataflow typing; it is empty where only memory was wanting.
+/// The line for a method without a dataflow typing; it is empty where there was no memory.
 pub fn refused_flow(alloc: Global, method: MethodNumber, end: FlowEnd) -> Result<String, AllocError>
     ensures { IfOk result (λ t. string_bytes t ≡ refused_flow_line method end) }
 {
+    let mut room = Room::new(alloc, MOST_REFUSED)?;
     match end {
-        FlowEnd::Memory => Ok(String::new(alloc)),
-        _ => format!(in alloc; "refused {} {}\n", Shown(method), Shown(end)),
+        FlowEnd::Memory => {}
+        _ => write_refused_flow(&mut room, method, end),
     }
+    Ok(room.into_text())
+}
+
+// The line for a method without a dataflow typing.
+fn write_refused_flow(room: &mut Room, method: MethodNumber, end: FlowEnd)
+    requires room { HasRoom room.old 123 }
+    requires known { end ≢ Memory }
+    ensures { Writes room.old room.new (refused_flow_line method end) }
+{
+    room.write("refused ");
+    write_method(room, method);
+    room.write(" ");
+    write_flow_end(room, end);
+    room.write("\n");
 }
 
 /// The line for packages whose methods with code, of which there are `count`, all have a card typing.
@@ -93,7 +143,21 @@ pub fn refused_card(
 ) -> Result<String, AllocError>
     ensures { IfOk result (λ t. string_bytes t ≡ refused_card_line method fault) }
 {
-    format!(in alloc; "refused {} {}\n", Shown(method), Shown(fault))
+    let mut room = Room::new(alloc, MOST_REFUSED)?;
+    write_refused_card(&mut room, method, fault);
+    Ok(room.into_text())
+}
+
+/// Writes the line for a method without a card typing, in at most 123 bytes. It takes no memory.
+pub fn write_refused_card(room: &mut Room, method: MethodNumber, fault: CardFault)
+    requires { HasRoom room.old 123 }
+    ensures { Writes room.old room.new (refused_card_line method fault) }
+{
+    room.write("refused ");
+    write_method(room, method);
+    room.write(" ");
+    write_card_fault(room, fault);
+    room.write("\n");
 }
 
 /// The line for how a run of a bare method ends.

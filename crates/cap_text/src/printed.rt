@@ -2,11 +2,10 @@ ghost use Rattle.std.specs.Prelude.{Some};
 ghost use Rattle.cap_text.specs.Printed.{printed_text};
 
 use crate::fault::Shown;
-use jc_base::Ty;
 use std::fmt;
 
 /// A fault by its name and its numbers, in the order of its fields. A fault of a format has the name of
-/// its kind last, and a mismatch names two types.
+/// its kind last.
 #[derive(Clone, Copy)]
 pub(crate) enum Printed {
     Alone(&'static str),
@@ -14,7 +13,6 @@ pub(crate) enum Printed {
     Two(&'static str, u64, u64),
     Three(&'static str, u64, u64, u64),
     Kind(&'static str, u64, u64, &'static str),
-    Found(&'static str, Ty, Ty),
 }
 
 impl fmt::Display for Shown<Printed> {
@@ -27,12 +25,6 @@ impl fmt::Display for Shown<Printed> {
             Printed::Two(name, a, b) => write!(f, "{name} {a} {b}"),
             Printed::Three(name, a, b, c) => write!(f, "{name} {a} {b} {c}"),
             Printed::Kind(name, a, b, kind) => write!(f, "{name} {a} {b} {kind}"),
-            Printed::Found(name, found, wanted) => write!(
-                f,
-                "{name} found {} wanted {}",
-                Shown(found),
-                Shown(wanted)
-            ),
         }
     }
 }

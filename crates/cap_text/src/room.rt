@@ -1,5 +1,6 @@
-ghost use Rattle.std.specs.Prelude.{◌≡◌, length, decimal, string_bytes, IfOk};
+ghost use Rattle.std.specs.Prelude.{◌≡◌, ◌+◌, length, decimal, string_bytes, IfOk};
 ghost use Rattle.std.specs.Fmt.{signed_decimal};
+ghost use Rattle.cap_text.specs.Fault.{name_1};
 ghost use Rattle.cap_text.specs.Room.{HasRoom, Writes, IsEmpty, IsWithin};
 
 use itoa::Buffer;
@@ -51,6 +52,26 @@ impl Room {
         ensures few { IsWithin self.old self.new 5 }
     {
         self.write(Buffer::new().format(n));
+    }
+
+    /// Writes a number of up to 64 bits in decimal.
+    pub fn write_long(&mut self, n: u64)
+        requires { HasRoom self.old 20 }
+        ensures writes { Writes self.old self.new (decimal n) }
+        ensures few { IsWithin self.old self.new 20 }
+    {
+        self.write(Buffer::new().format(n));
+    }
+
+    /// Writes a name and, after a space, a number.
+    pub fn write_named(&mut self, name: &str, n: u16)
+        requires { HasRoom self.old (length name.now + 6) }
+        ensures writes { Writes self.old self.new (name_1 name.now n) }
+        ensures few { IsWithin self.old self.new (length name.now + 6) }
+    {
+        self.write(name);
+        self.write(" ");
+        self.write_number(n);
     }
 
     /// Writes a signed number in decimal.

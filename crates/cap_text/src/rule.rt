@@ -1,55 +1,73 @@
-ghost use Rattle.std.specs.Prelude.{◌≡◌, Some};
-ghost use Rattle.cap_text.specs.Printed.{printed_text};
-ghost use Rattle.cap_text.specs.Rule.{type_text, rule_fault_text};
+ghost use Rattle.std.specs.Prelude.{◌≡◌};
+ghost use Rattle.cap_text.specs.Room.{HasRoom, Writes, IsWithin};
+ghost use Rattle.cap_text.specs.Rule.{fresh_text, type_text, mismatch_text, rule_fault_text};
 
-use crate::fault::Shown;
-use crate::printed::Printed;
+use crate::room::Room;
 use jc_base::Ty;
 use jc_rules::RuleFault;
-use std::fmt;
 
-impl fmt::Display for Shown<Ty> {
-    ghost output = { λ x. Some (type_text x.0) };
-
-    fn fmt<W: fmt::Write>(&self, f: &mut fmt::Formatter<W>) -> fmt::Result {
-        match self.0 {
-            Ty::Bottom => f.write_str("bottom"),
-            Ty::Short => f.write_str("short"),
-            Ty::IntHigh => f.write_str("inthigh"),
-            Ty::IntLow => f.write_str("intlow"),
-            Ty::Null => f.write_str("null"),
-            Ty::Class(class) => write!(f, "class {class}"),
-            Ty::ArrBool => f.write_str("array boolean"),
-            Ty::ArrByte => f.write_str("array byte"),
-            Ty::ArrShort => f.write_str("array short"),
-            Ty::ArrInt => f.write_str("array int"),
-            Ty::ArrRef(class) => write!(f, "array class {class}"),
-            Ty::Fresh { place, class } => write!(f, "fresh {place} class {class}"),
-            Ty::Top => f.write_str("top"),
-        }
+// A type.
+fn write_type(room: &mut Room, ty: Ty)
+    requires { HasRoom room.old 23 }
+    ensures writes { Writes room.old room.new (type_text ty) }
+    ensures few { IsWithin room.old room.new 23 }
+{
+    match ty {
+        Ty::Bottom => room.write("bottom"),
+        Ty::Short => room.write("short"),
+        Ty::IntHigh => room.write("inthigh"),
+        Ty::IntLow => room.write("intlow"),
+        Ty::Null => room.write("null"),
+        Ty::Class(class) => room.write_named("class", class),
+        Ty::ArrBool => room.write("array boolean"),
+        Ty::ArrByte => room.write("array byte"),
+        Ty::ArrShort => room.write("array short"),
+        Ty::ArrInt => room.write("array int"),
+        Ty::ArrRef(class) => room.write_named("array class", class),
+        Ty::Fresh { place, class } => write_fresh(room, place, class),
+        Ty::Top => room.write("top"),
     }
 }
 
-impl fmt::Display for Shown<RuleFault> {
-    ghost output = { λ x. Some (rule_fault_text x.0) };
-
-    fn fmt<W: fmt::Write>(&self, f: &mut fmt::Formatter<W>) -> fmt::Result {
-        write!(f, "{}", Shown(printed(self.0)))
-    }
+// The type of an object on which no constructor was called.
+fn write_fresh(room: &mut Room, place: u16, class: u16)
+    requires { HasRoom room.old 23 }
+    ensures writes { Writes room.old room.new (fresh_text place class) }
+    ensures few { IsWithin room.old room.new 23 }
+{
+    room.write("fresh ");
+    room.write_number(place);
+    room.write(" class ");
+    room.write_number(class);
 }
 
-fn printed(fault: RuleFault) -> Printed
-    ensures { printed_text result ≡ rule_fault_text fault }
+/// Writes why the typing rule of an instruction refuses, in at most 69 bytes.
+pub(crate) fn write_rule_fault(room: &mut Room, fault: RuleFault)
+    requires { HasRoom room.old 69 }
+    ensures writes { Writes room.old room.new (rule_fault_text fault) }
+    ensures few { IsWithin room.old room.new 69 }
 {
     match fault {
-        RuleFault::Underflow => Printed::Alone("Underflow"),
-        RuleFault::Overflow => Printed::Alone("Overflow"),
-        RuleFault::Mismatch { found, wanted } => Printed::Found("Mismatch", found, wanted),
-        RuleFault::NoLocal(register) => Printed::One("NoLocal", register as u64),
-        RuleFault::SplitInt => Printed::Alone("SplitInt"),
-        RuleFault::FreshKept => Printed::Alone("FreshKept"),
-        RuleFault::BadMember(entry) => Printed::One("BadMember", entry as u64),
-        RuleFault::NotConcrete(class) => Printed::One("NotConcrete", class as u64),
-        RuleFault::StackMerge => Printed::Alone("StackMerge"),
+        RuleFault::Underflow => room.write("Underflow"),
+        RuleFault::Overflow => room.write("Overflow"),
+        RuleFault::Mismatch { found, wanted } => write_mismatch(room, found, wanted),
+        RuleFault::NoLocal(register) => room.write_named("NoLocal", u16::from(register)),
+        RuleFault::SplitInt => room.write("SplitInt"),
+        RuleFault::FreshKept => room.write("FreshKept"),
+        RuleFault::BadMember(entry) => room.write_named("BadMember", entry),
+        RuleFault::NotConcrete(class) => room.write_named("NotConcrete", class),
+        RuleFault::StackMerge => room.write("StackMerge"),
     }
+}
+
+// A type that is not below the wanted one.
+fn write_mismatch(room: &mut Room, found: Ty, wanted: Ty)
+    requires { HasRoom room.old 69 }
+    ensures writes { Writes room.old room.new (mismatch_text found wanted) }
+    ensures few { IsWithin room.old room.new 69 }
+{
+    room.write("Mismatch found ");
+    write_type(room, found);
+    room.write(" wanted ");
+    write_type(room, wanted);
 }

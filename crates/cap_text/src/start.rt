@@ -1,30 +1,32 @@
-ghost use Rattle.std.specs.Prelude.{◌≡◌, Some};
-ghost use Rattle.cap_text.specs.Printed.{printed_text};
-ghost use Rattle.cap_text.specs.Start.{start_fault_text};
+ghost use Rattle.cap_text.specs.Room.{HasRoom, Writes, IsWithin};
+ghost use Rattle.cap_text.specs.Start.{count_text, start_fault_text};
 
-use crate::fault::Shown;
-use crate::printed::Printed;
-use std::fmt;
+use crate::room::Room;
 use vm_step::StartFault;
 
-impl fmt::Display for Shown<StartFault> {
-    ghost output = { λ x. Some (start_fault_text x.0) };
-
-    fn fmt<W: fmt::Write>(&self, f: &mut fmt::Formatter<W>) -> fmt::Result {
-        write!(f, "{}", Shown(printed(self.0)))
+/// Writes why an entry does not start, in at most 35 bytes.
+pub(crate) fn write_start_fault(room: &mut Room, fault: StartFault)
+    requires { HasRoom room.old 35 }
+    ensures writes { Writes room.old room.new (start_fault_text fault) }
+    ensures few { IsWithin room.old room.new 35 }
+{
+    match fault {
+        StartFault::NoEntry => room.write("NoEntry"),
+        StartFault::NotStatic => room.write("NotStatic"),
+        StartFault::ArgCount { said, wanted } => write_count(room, said, wanted),
+        StartFault::ArgKind(number) => room.write_named("ArgKind", number),
+        StartFault::ArgRoom(number) => room.write_named("ArgRoom", number),
     }
 }
 
-fn printed(fault: StartFault) -> Printed
-    ensures { printed_text result ≡ start_fault_text fault }
+// So many arguments, and so many parameters.
+fn write_count(room: &mut Room, said: usize, wanted: u16)
+    requires { HasRoom room.old 35 }
+    ensures writes { Writes room.old room.new (count_text said wanted) }
+    ensures few { IsWithin room.old room.new 35 }
 {
-    match fault {
-        StartFault::NoEntry => Printed::Alone("NoEntry"),
-        StartFault::NotStatic => Printed::Alone("NotStatic"),
-        StartFault::ArgCount { said, wanted } => {
-            Printed::Two("ArgCount", said as u64, wanted as u64)
-        }
-        StartFault::ArgKind(number) => Printed::One("ArgKind", number as u64),
-        StartFault::ArgRoom(number) => Printed::One("ArgRoom", number as u64),
-    }
+    room.write("ArgCount ");
+    room.write_long(said as u64);
+    room.write(" ");
+    room.write_number(wanted);
 }

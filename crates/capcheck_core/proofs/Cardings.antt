@@ -17,7 +17,7 @@ use Rattle.cap_text.specs.declared.line.MethodNumber.{MethodNumber}
 use Rattle.cap_text.specs.Line.{accepted_line, refused_card_line}
 use Rattle.capcheck_core.specs.declared.verdict.Verdict.{Verdict}
 use Rattle.capcheck_core.specs.declared.verdict.Verdict.TheVariants.{Refused, Memory}
-use Rattle.capcheck_core.specs.Asked.{AllHaveBelow}
+use Rattle.jc_control.specs.Asked.{AllHaveBelow}
 use Rattle.capcheck_core.specs.Typed.{number_of}
 use Rattle.capcheck_core.specs.Verify.{has_code, count_of_world, AreCarded, IsCarded, IsUncarded, StopsAtCards, CardsWorld}
 use Rattle.capcheck_core.proofs.Typings as typings

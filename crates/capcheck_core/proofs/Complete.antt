@@ -12,7 +12,8 @@ use Rattle.cap_text.specs.Show.{ShowRequest}
 use Rattle.cap_text.specs.Check.{CheckRequest}
 use Rattle.cap_text.specs.Verify.{VerifyRequest}
 use Rattle.cap_text.specs.Run.{RunRequest}
-use Rattle.cap_text.specs.Request.{Request, probe, show, check, verify, defend, run}
+use Rattle.cap_text.specs.Transform.{TransformRequest}
+use Rattle.cap_text.specs.Request.{Request, probe, show, check, verify, defend, run, transform}
 use Rattle.capcheck_core.specs.declared.verdict.Verdict.{Verdict}
 use Rattle.capcheck_core.specs.declared.verdict.Verdict.TheVariants.{Done, Refused, Limit, Malformed, Usage, ReadFault, StoreFault, Memory}
 use Rattle.capcheck_core.specs.Verdict.{status_of}
@@ -20,9 +21,11 @@ use Rattle.capcheck_core.specs.Check.{ChecksWorld, Checks}
 use Rattle.capcheck_core.specs.Verify.{AreCarded, VerifiesWorld, Verifies}
 use Rattle.capcheck_core.specs.Defend.{run_fault, DefendsWorld, Defends}
 use Rattle.capcheck_core.specs.Run.{RunsWorld, Runs}
+use Rattle.capcheck_core.specs.Transform.{TransformsWorld, Transforms}
+use Rattle.capcheck_core.specs.World.{of_world}
 use Rattle.capcheck_core.specs.Outside.{Outside}
 use Rattle.capcheck_core.specs.Answers.{Answers, IsVerdict}
-use Rattle.capcheck_core.specs.Completeness.{CanProbe, CanShow, CanCheck, CanVerify, CanDefend, CanRun, CanDo, NoFault, Completes}
+use Rattle.capcheck_core.specs.Completeness.{CanProbe, CanShow, CanCheck, CanVerify, CanDefend, CanRun, CanTransform, CanDo, NoFault, Completes}
 use Rattle.capcheck_core.specs.MethodFile.{IsMethodFile}
 use Rattle.capcheck_core.specs.Probe.{ProbesFolder, FailsMethodPart, Probes, OfMethodPart, OfMethod, IsRefusal, IsUnstarted, IsNoMethod, method_key}
 use Rattle.capcheck_core.specs.Report.{Seen, IsReported}
@@ -148,7 +151,7 @@ types w before after StoreFault typed checks = absurd checks.1
 can_check : (c : CheckRequest) (before after : Outside) (sink put : Seen) (verdict : Verdict) → CanCheck c before.folders → NoFault before.folders after.folders sink put
     → Checks c before after verdict → (status_of verdict ≡ 0) ⊎ (status_of verdict ≡ 6)
 can_check c before after sink put verdict can calm checks =
-    elim (reaches ChecksWorld c.dirs before after can.world verdict can.links calm.loads checks) [
+    elim (reaches (of_world ChecksWorld) c.dirs before after can.world verdict can.links calm.loads checks) [
       | inl memory ↦ inr memory
       | inr own ↦ types can.world before after verdict can.typed own
     ]
@@ -167,7 +170,7 @@ cards w before after StoreFault carded verifies = absurd verifies.1
 can_verify : (v : VerifyRequest) (before after : Outside) (sink put : Seen) (verdict : Verdict) → CanVerify v before.folders → NoFault before.folders after.folders sink put
     → Verifies v before after verdict → (status_of verdict ≡ 0) ⊎ (status_of verdict ≡ 6)
 can_verify v before after sink put verdict can calm verifies =
-    elim (reaches VerifiesWorld v.dirs before after can.world verdict can.links calm.loads verifies) [
+    elim (reaches (of_world VerifiesWorld) v.dirs before after can.world verdict can.links calm.loads verifies) [
       | inl memory ↦ inr memory
       | inr own ↦ cards can.world before after verdict can.carded own
     ]
@@ -187,7 +190,7 @@ defended r w before after StoreFault begins own = absurd own.1
 can_defend : (r : RunRequest) (before after : Outside) (sink put : Seen) (verdict : Verdict) → CanDefend r before.folders → NoFault before.folders after.folders sink put
     → Defends r before after verdict → (status_of verdict ≡ 0) ⊎ (status_of verdict ≡ 6)
 can_defend r before after sink put verdict can calm answers =
-    elim (reaches (DefendsWorld r) r.dirs before after can.world verdict can.links calm.loads answers) [
+    elim (reaches (of_world (DefendsWorld r)) r.dirs before after can.world verdict can.links calm.loads answers) [
       | inl memory ↦ inr memory
       | inr own ↦ defended r can.world before after verdict can.begins own
     ]
@@ -207,9 +210,35 @@ ran r w before after StoreFault carded begins own = absurd own.1
 can_run : (r : RunRequest) (before after : Outside) (sink put : Seen) (verdict : Verdict) → CanRun r before.folders → NoFault before.folders after.folders sink put
     → Runs r before after verdict → (status_of verdict ≡ 0) ⊎ (status_of verdict ≡ 6)
 can_run r before after sink put verdict can calm answers =
-    elim (reaches (RunsWorld r) r.dirs before after can.world verdict can.links calm.loads answers) [
+    elim (reaches (of_world (RunsWorld r)) r.dirs before after can.world verdict can.links calm.loads answers) [
       | inl memory ↦ inr memory
       | inr own ↦ ran r can.world before after verdict can.carded can.begins own
+    ]
+
+-- nor does that of a transformation where what it needs is there, and no store fails
+brought : (t : TransformRequest) (before after : Outside) (sink put : Seen) (verdict : Verdict) (can : CanTransform t before.folders)
+    → NoFault before.folders after.folders sink put → TransformsWorld t can.links.made.packages can.links.roles can.world before after verdict
+    → (status_of verdict ≡ 0) ⊎ (status_of verdict ≡ 6)
+brought t before after sink put (Done text) can calm own = inl refl
+brought t before after sink put Memory can calm own = inr refl
+brought t before after sink put StoreFault can calm own = absurd (calm.stores own.1.broken.rose)
+brought t before after sink put (Refused text) can calm (card, (same, inl says)) =
+    absurd (says.is.first.lacks (can.accepted says.is.method says.is.first.asked))
+brought t before after sink put (Refused text) can calm (card, (same, inr says)) =
+    absurd (says.is.first.lacks (can.typed says.is.method says.is.first.asked))
+brought t before after sink put (Limit text) can calm (card, (same, inl says)) =
+    absurd (can.within says.is.method says.is.of_last says.limit says.is.passes)
+brought t before after sink put (Limit text) can calm (card, (same, inr says)) = absurd (can.short says.size says.is)
+brought t before after sink put (Malformed text) can calm own = absurd own.1.1
+brought t before after sink put Usage can calm own = absurd own.1.1
+brought t before after sink put ReadFault can calm own = absurd own.1.1
+
+can_transform : (t : TransformRequest) (before after : Outside) (sink put : Seen) (verdict : Verdict) → CanTransform t before.folders
+    → NoFault before.folders after.folders sink put → Transforms t before after verdict → (status_of verdict ≡ 0) ⊎ (status_of verdict ≡ 6)
+can_transform t before after sink put verdict can calm answers =
+    elim (reaches (TransformsWorld t) t.dirs before after can.world verdict can.links calm.loads answers) [
+      | inl memory ↦ inr memory
+      | inr own ↦ brought t before after sink put verdict can calm own
     ]
 
 can_do : (r : Request) (before after : Outside) (sink put : Seen) (verdict : Verdict) → CanDo r before.folders → NoFault before.folders after.folders sink put
@@ -220,6 +249,7 @@ can_do (check c) before after sink put verdict can calm answers = can_check c be
 can_do (verify v) before after sink put verdict can calm answers = can_verify v before after sink put verdict can calm answers
 can_do (defend r) before after sink put verdict can calm answers = can_defend r before after sink put verdict can calm answers
 can_do (run r) before after sink put verdict can calm answers = can_run r before after sink put verdict can calm answers
+can_do (transform t) before after sink put verdict can calm answers = can_transform t before after sink put verdict can calm answers
 
 reported : (verdict : Verdict) (before after : Folders) (sink put : Seen) (status : ℕ) → NoFault before after sink put → IsReported verdict sink put status
     → (status_of verdict ≡ 0) ⊎ (status_of verdict ≡ 6) → (status ≡ 0) ⊎ (status ≡ 6)

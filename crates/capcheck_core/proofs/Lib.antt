@@ -2,6 +2,8 @@ pub mod Misfits
 pub mod Verdicts
 pub mod MethodFiles
 pub mod Loads
+pub mod Stores
+pub mod Transforms
 pub mod PackageLoads
 pub mod Typings
 pub mod Cardings

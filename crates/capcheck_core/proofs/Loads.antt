@@ -22,7 +22,7 @@ use Rattle.capcheck_core.specs.declared.load.LoadStop.{LoadStop}
 use Rattle.capcheck_core.specs.declared.load.LoadStop.TheVariants.{TooLong, Failed, Memory}
 use Rattle.capcheck_core.specs.LoadEnds.{LoadsParts, LoadsNext}
 
-none_some : (bytes : List ℕ) → ◌≡◌ {A = Option (List ℕ)} None (Some bytes) → ⊥
+pub none_some : (bytes : List ℕ) → ◌≡◌ {A = Option (List ℕ)} None (Some bytes) → ⊥
 none_some bytes e = cc
 
 some_one : {x y : List ℕ} → Some x ≡ Some y → x ≡ y
@@ -31,13 +31,13 @@ some_one e = cc
 -- ---- tags rise
 
 -- no part of a tag that no part can have
-above_none : (low top tag : ℕ) (parts : List Lent) → Rise low top parts → top ≤ tag → held parts tag ≡ None
+pub above_none : (low top tag : ℕ) (parts : List Lent) → Rise low top parts → top ≤ tag → held parts tag ≡ None
 above_none low top tag [] rise le = refl
 above_none low top tag (lent ∷ parts) rise le =
     let below = rise.1 in
     held-other tag lent parts (ne_eqb lent.part tag (λ e. absurd (omega (arith, below, le, e)))) ∙ above_none (suc lent.part) top tag parts rise.2 le
 
-below_none : (low top tag : ℕ) (parts : List Lent) → Rise low top parts → tag < low → held parts tag ≡ None
+pub below_none : (low top tag : ℕ) (parts : List Lent) → Rise low top parts → tag < low → held parts tag ≡ None
 below_none low top tag [] rise lt = refl
 below_none low top tag (lent ∷ parts) rise lt =
     let least = rise.0 in
@@ -48,14 +48,14 @@ nothing : (o : Option (List ℕ)) → IsNone o → o ≡ None
 nothing None none = refl
 nothing (Some bytes) none = absurd cc
 
-rise_wider : (low top : ℕ) (parts : List Lent) → Rise low top parts → Rise low (suc top) parts
+pub rise_wider : (low top : ℕ) (parts : List Lent) → Rise low top parts → Rise low (suc top) parts
 rise_wider low top [] rise = tt {0}
 rise_wider low top (lent ∷ parts) rise = (rise.0, omega (arith, rise.1), rise_wider (suc lent.part) top parts rise.2)
 
-abbrev lent_of : ℕ → List ℕ → Lent
+abbrev pub lent_of : ℕ → List ℕ → Lent
 lent_of tag bytes = record { part = tag; bytes = bytes }
 
-rise_push : (low top : ℕ) (parts : List Lent) (bytes : List ℕ) → Rise low top parts → low ≤ top → Rise low (suc top) (parts ++ lent_of top bytes ∷ [])
+pub rise_push : (low top : ℕ) (parts : List Lent) (bytes : List ℕ) → Rise low top parts → low ≤ top → Rise low (suc top) (parts ++ lent_of top bytes ∷ [])
 rise_push low top [] bytes rise le = (le, omega arith, tt {0})
 rise_push low top (lent ∷ parts) bytes rise le =
     let below = rise.1 in
@@ -79,11 +79,11 @@ push_same tag (l ∷ ls) bytes absent = by (eqb l.part tag) refl (push_same tag 
     by true e rest = absurd (none_some l.bytes (sym absent ∙ held-same tag l ls e))
     by false e rest = held-other tag l (ls ++ lent_of tag bytes ∷ []) e ∙ rest (sym (held-other tag l ls e) ∙ absent)
 
-file_other : (tag top : ℕ) (parts : List Lent) (file : Option (List ℕ)) → eqb top tag ≡ false → held (with_file parts top file) tag ≡ held parts tag
+pub file_other : (tag top : ℕ) (parts : List Lent) (file : Option (List ℕ)) → eqb top tag ≡ false → held (with_file parts top file) tag ≡ held parts tag
 file_other tag top parts None other = refl
 file_other tag top parts (Some bytes) other = push_other tag parts (lent_of top bytes) other
 
-file_same : (tag : ℕ) (parts : List Lent) (file : Option (List ℕ)) → held parts tag ≡ None → held (with_file parts tag file) tag ≡ file
+pub file_same : (tag : ℕ) (parts : List Lent) (file : Option (List ℕ)) → held parts tag ≡ None → held (with_file parts tag file) tag ≡ file
 file_same tag parts None absent = absent
 file_same tag parts (Some bytes) absent = push_same tag parts bytes absent
 

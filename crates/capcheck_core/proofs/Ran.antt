@@ -31,12 +31,9 @@ use Rattle.vm_text.specs.Text.{left_text, run_text, outcome_text}
 use Rattle.cap_text.specs.Room.{Roomed, IsEmpty, Writes}
 use Rattle.cap_text.specs.Run.{RunRequest}
 use Rattle.capcheck_core.specs.declared.running.RunStop.{RunStop}
-use Rattle.capcheck_core.specs.declared.verdict.Verdict.{Verdict}
-use Rattle.capcheck_core.specs.declared.verdict.Verdict.TheVariants.{Refused, Memory}
 use Rattle.capcheck_core.specs.Outside.{Card, card}
-use Rattle.capcheck_core.specs.Verify.{StopsAtCards}
 use Rattle.capcheck_core.specs.Defend.{method_entered}
-use Rattle.capcheck_core.specs.Run.{HoldsWords, IsLeft, IsRun, StopsRun, RunsWorldIn}
+use Rattle.capcheck_core.specs.Run.{HoldsWords, IsLeft, IsRun, StopsRun}
 
 -- ---- the words of an outcome
 
@@ -183,10 +180,3 @@ pub whole_end : {U : Type 0} (w : Linked) (r : RunRequest) (ram heap fields othe
     → MatchResult end (λ _. IsRun w r (card ram heap (fields ++ others)) text) (StopsRun w r)
 whole_end w r ram heap fields others text (Ok u) long run = whole_run w r ram heap fields others text long run
 whole_end w r ram heap fields others text (Err stop) long stops = stops
-
--- ---- where a method is refused
-
-pub refused_run : (w : Linked) (r : RunRequest) (c : Card) (verdict : Verdict) → StopsAtCards w verdict → RunsWorldIn w r c verdict
-refused_run w r c (Refused text) stops = stops
-refused_run w r c Memory stops = tt {0}
-refused_run w r c _ stops = absurd stops

@@ -20,7 +20,8 @@ use Rattle.jc_flow.specs.declared.end.FlowEnd.TheVariants.{NoTyping, Code, BadTa
 use Rattle.jc_flow.specs.Infer.{TellsEnd, HasNone}
 use Rattle.cap_text.specs.declared.line.MethodNumber.{MethodNumber}
 use Rattle.cap_text.specs.Line.{typed_line, refused_flow_line}
-use Rattle.capcheck_core.specs.Typed.{IsOfLast, is_of_last, AreTypedBelow, count_of_last, number_of, IsTyped, IsUntyped}
+use Rattle.jc_control.specs.Asked.{IsOfLast}
+use Rattle.capcheck_core.specs.Typed.{is_of_last, AreTypedBelow, count_of_last, number_of, IsTyped, IsUntyped}
 use Rattle.capcheck_core.specs.CheckEnds.{IsTypedAt, FailsAt}
 
 -- ---- a method by its number

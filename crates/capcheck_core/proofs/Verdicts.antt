@@ -1,6 +1,7 @@
 -- A list of words asks for one thing, so the verdict for it is the verdict for whatever they ask.
-use Rattle.std.proofs.Common.{List, ℕ, subst, inl, refl}
-use Rattle.cap_text.specs.Request.{Request, probe, show, check, verify, defend, run, IsRequest, OneRequest}
+use Rattle.std.proofs.Common.{◌≡◌, List, ℕ, subst, sym, inl, refl}
+use Rattle.std.specs.Prelude.{Result, Ok, Err, IfOk, MatchResult}
+use Rattle.cap_text.specs.Request.{Request, probe, show, check, verify, defend, run, transform, IsRequest, OneRequest}
 use Rattle.capcheck_core.specs.declared.verdict.Verdict.{Verdict}
 use Rattle.capcheck_core.specs.declared.verdict.Verdict.TheVariants.{Memory}
 use Rattle.capcheck_core.specs.Outside.{Outside, Untouched}
@@ -21,8 +22,16 @@ no_memory (check c) before after same = inl same
 no_memory (verify v) before after same = inl same
 no_memory (defend r) before after same = inl same
 no_memory (run r) before after same = inl same
+no_memory (transform t) before after same = inl same
 
 pub without_memory : (words : List (List ℕ)) (outside : Outside) → IsVerdict words outside outside Memory
 without_memory words outside =
     let same : Untouched outside outside = record { folders = refl; card = refl } in
     record { command = λ r is. no_memory r outside outside same; usage = λ none. (tt {0}, same) }
+
+-- a text that is made is the verdict's, and without memory for it there is none
+pub said : {T E : Type 0} (bytes : T → List ℕ) (as_verdict : T → Verdict) (P : Verdict → Type 0) (text : Result T E) (line : List ℕ) (verdict : Verdict)
+    → P Memory → ((t : T) → bytes t ≡ line → P (as_verdict t))
+    → IfOk text (λ t. bytes t ≡ line) → MatchResult text (λ t. verdict ≡ as_verdict t) (λ _. verdict ≡ Memory) → P verdict
+said bytes as_verdict P (Ok t) line verdict memory all says is = subst P (sym is) (all t says)
+said bytes as_verdict P (Err e) line verdict memory all says is = subst P (sym is) memory

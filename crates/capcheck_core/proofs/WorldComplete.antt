@@ -27,7 +27,7 @@ use Rattle.capcheck_core.specs.Loads.{AreParts, FailsParts}
 use Rattle.capcheck_core.specs.Roles.{AreRolesIn, LacksRoles, BreaksRoles, roles_key}
 use Rattle.capcheck_core.specs.Packages.{AreRoles, LacksPackage, IsFirstWhere, IsFirstStop}
 use Rattle.capcheck_core.specs.OverFolders.{StopsAtLoad, OfGiven, OverFolders}
-use Rattle.capcheck_core.specs.World.{StopsAtLink, OverWorld}
+use Rattle.capcheck_core.specs.World.{Own, StopsAtLink, OverWorld}
 use Rattle.capcheck_core.specs.Completeness.{CanLink}
 use Rattle.capcheck_core.proofs.Loads.{one_list, none_long}
 
@@ -188,22 +188,27 @@ linked packages roles world ReadFault is stops = absurd stops
 linked packages roles world StoreFault is stops = absurd stops
 
 -- what is given is what is there
-same_linked : (dirs : List (List ℕ)) (before : Folders) (world : Linked) (can : CanLink dirs before world)
-    (P : List (List Lent) → List ℕ → Type 0) (of : OfGiven before dirs P) (packages : List PackageRecord) → AllZip StandsFor of.parts packages → IsLinked packages of.roles world
-same_linked dirs before world can P of packages stand =
-    let parts = same_parts before can.held can.told dirs can.parts of.parts can.given.parts_are of.given.parts_are in
-    let roles = one_roles before can.held can.told dirs can.roles of.roles can.given.roles_are of.given.roles_are in
-    let ps = same_packages of.parts can.made.packages packages (subst (λ xs. AllZip StandsFor xs can.made.packages) parts can.made.stand) stand in
-    subst (λ qs. IsLinked qs of.roles world) ps (subst (λ rs. IsLinked can.made.packages rs world) roles can.made.linked)
+same_given : (dirs : List (List ℕ)) (before : Folders) (world : Linked) (can : CanLink dirs before world)
+    (P : List (List Lent) → List ℕ → Type 0) (of : OfGiven before dirs P) (packages : List PackageRecord) → AllZip StandsFor of.parts packages
+    → (can.made.packages ≡ packages) × (can.roles ≡ of.roles)
+same_given dirs before world can P of packages stand =
+    let parts = same_parts before can.held can.told dirs can.parts of.parts can.given.parts_are of.given.parts_are in (
+      same_packages of.parts can.made.packages packages (subst (λ xs. AllZip StandsFor xs can.made.packages) parts can.made.stand) stand,
+      one_roles before can.held can.told dirs can.roles of.roles can.given.roles_are of.given.roles_are,
+    )
 
--- the command takes its own last step over the world, or there was no memory
-pub reaches : (own : Linked → Outside → Outside → Verdict → Type 0) (dirs : List (List ℕ)) (before after : Outside) (world : Linked) (verdict : Verdict) → CanLink dirs before.folders world
+-- the command takes its own last step over the packages, the roles and the world, or there was no memory
+pub reaches : (own : Own) (dirs : List (List ℕ)) (before after : Outside) (world : Linked) (verdict : Verdict) (can : CanLink dirs before.folders world)
     → (Rose before.folders.load_faults after.folders.load_faults → ⊥) → OverFolders (OverWorld own) dirs before after verdict
-    → (status_of verdict ≡ 6) ⊎ own world before after verdict
+    → (status_of verdict ≡ 6) ⊎ own can.made.packages can.roles world before after verdict
 reaches own dirs before after world verdict can calm (inl stops) = inl (unstopped dirs before after world verdict can calm stops)
 reaches own dirs before after world verdict can calm (inr of) =
-    let is = same_linked dirs before.folders world can (λ parts roles. OverWorld own parts roles before after verdict) of of.holds.packages of.holds.stand in
+    let same = same_given dirs before.folders world can (λ parts roles. OverWorld own parts roles before after verdict) of of.holds.packages of.holds.stand in
+    let is : IsLinked of.holds.packages of.roles world
+    = subst (λ qs. IsLinked qs of.roles world) same.0 (subst (λ rs. IsLinked can.made.packages rs world) same.1 can.made.linked) in
     elim of.holds.holds [
       | inl unlinked ↦ inl (linked of.holds.packages of.roles world verdict is unlinked.1)
-      | inr l ↦ inr (subst (λ w. own w before after verdict) (sym (one_world of.holds.packages of.roles world l.world is l.linked)) l.holds)
+      | inr l ↦ inr (subst (λ rs. own can.made.packages rs world before after verdict) (sym same.1)
+          (subst (λ qs. own qs of.roles world before after verdict) (sym same.0)
+          (subst (λ w. own of.holds.packages of.roles w before after verdict) (sym (one_world of.holds.packages of.roles world l.world is l.linked)) l.holds)))
     ]

@@ -1,23 +1,22 @@
--- Where no world is made, by the end of the linking or for want of memory.
+-- Where no world is made, by the end of the linking or since there was no memory.
 use Rattle.std.proofs.Common.{ℕ, List, [], ◌∷◌, refl, inl, All}
 use Rattle.std.specs.Prelude.{Err}
 use Rattle.std.proofs.lemmas.List.Elements.{All-head, All-tail}
 use Rattle.cap_package.specs.Parts.{Lent}
 use Rattle.cap_package.specs.PackageRecord.{PackageRecord}
 use Rattle.cap_package.specs.StandsFor.{HavePackage}
-use Rattle.jc_base.specs.World.{Linked}
 use Rattle.jc_link.specs.World.{LinkTells}
 use Rattle.jc_link.specs.LinkEnd.{LinkEnd}
 use Rattle.jc_link.specs.LinkEnd.TheVariants as ends
 use Rattle.capcheck_core.specs.declared.verdict.Verdict.{Verdict}
 use Rattle.capcheck_core.specs.declared.verdict.Verdict.TheVariants.{Malformed, Memory}
 use Rattle.capcheck_core.specs.Outside.{Outside, Untouched}
-use Rattle.capcheck_core.specs.World.{IsUnlinkedBy, OfPackages, OverPackages, OverWorld}
+use Rattle.capcheck_core.specs.World.{Own, IsUnlinkedBy, OfPackages, OverPackages, OverWorld}
 
 untouched : (o : Outside) → Untouched o o
 untouched o = record { folders = refl; card = refl }
 
-pub without_world : (own : Linked → Outside → Outside → Verdict → Type 0) (packages : List PackageRecord) (roles : List ℕ) (o : Outside) (end : LinkEnd) (verdict : Verdict)
+pub without_world : (own : Own) (packages : List PackageRecord) (roles : List ℕ) (o : Outside) (end : LinkEnd) (verdict : Verdict)
     → LinkTells packages roles (Err end) → IsUnlinkedBy end verdict → OverPackages own packages roles o o verdict
 without_world own packages roles o (ends.Fault fault) (Malformed text) tells says = inl (untouched o, record { fault = fault; first = tells; prints = says })
 without_world own packages roles o (ends.Fault fault) Memory tells says = inl (untouched o, tt {0})
@@ -31,7 +30,7 @@ have_all (lent ∷ parts) all =
     let rest = have_all parts (All-tail HavePackage lent parts all) in
     record { packages = first.made ∷ rest.packages; stand = (first.stands, rest.stand); holds = tt {0} }
 
-pub without_memory : (own : Linked → Outside → Outside → Verdict → Type 0) (parts : List (List Lent)) (roles : List ℕ) (o : Outside) → All HavePackage parts
+pub without_memory : (own : Own) (parts : List (List Lent)) (roles : List ℕ) (o : Outside) → All HavePackage parts
     → OverWorld own parts roles o o Memory
 without_memory own parts roles o all =
     let have = have_all parts all in

@@ -7,7 +7,7 @@ use Rattle.capcheck_core.specs.declared.verdict.Verdict.TheVariants.{Done, Refus
 use Rattle.capcheck_core.specs.Outside.{Outside, Untouched}
 use Rattle.capcheck_core.specs.OverFolders.{OverFolders}
 use Rattle.capcheck_core.specs.Typed.{IsTyped, IsUntyped}
-use Rattle.capcheck_core.specs.World.{OverWorld}
+use Rattle.capcheck_core.specs.World.{of_world, OverWorld}
 
 -- the answers of a world
 abbrev pub TypesWorld : Linked → Verdict → Type 0
@@ -22,4 +22,4 @@ ChecksWorld w before after verdict = Untouched before after × TypesWorld w verd
 
 -- the outside is as it was when the check began, and as it is afterwards
 abbrev pub Checks : CheckRequest → Outside → Outside → Verdict → Type 0
-Checks c before after verdict = OverFolders (OverWorld ChecksWorld) c.dirs before after verdict
+Checks c before after verdict = OverFolders (OverWorld (of_world ChecksWorld)) c.dirs before after verdict

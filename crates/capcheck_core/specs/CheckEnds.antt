@@ -6,7 +6,8 @@ use Rattle.jc_control.specs.Method.{Method}
 use Rattle.jc_rules.specs.Flow.{HasFlowTyping}
 use Rattle.jc_flow.specs.declared.end.FlowEnd.{FlowEnd}
 use Rattle.jc_flow.specs.Infer.{TellsEnd, HasNone}
-use Rattle.capcheck_core.specs.Typed.{IsOfLast, is_of_last}
+use Rattle.jc_control.specs.Asked.{IsOfLast}
+use Rattle.capcheck_core.specs.Typed.{is_of_last}
 
 -- the method of this number has a typing, where it is one of the last package with code
 abbrev pub IsTypedAt : Linked → ℕ → Type 0

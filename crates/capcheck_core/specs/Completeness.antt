@@ -1,4 +1,4 @@
--- When a command does its work, or wants memory for it.
+-- When a command does its work, unless there is no memory for it.
 use Rattle.std.specs.Prelude.{◌≡◌, ℕ, ℤ, ◌≤◌, List, length, Some, None, ◌⊎◌}
 use Rattle.cap_files.specs.Counts.{Rose}
 use Rattle.cap_files.specs.Folder.{Parts, Folders, Holds}
@@ -9,11 +9,17 @@ use Rattle.cap_text.specs.Show.{ShowRequest}
 use Rattle.cap_text.specs.Check.{CheckRequest}
 use Rattle.cap_text.specs.Verify.{VerifyRequest}
 use Rattle.cap_text.specs.Run.{RunRequest}
-use Rattle.cap_text.specs.Request.{Request, probe, show, check, verify, defend, run, IsRequest}
+use Rattle.cap_text.specs.Transform.{TransformRequest}
+use Rattle.cap_text.specs.Request.{Request, probe, show, check, verify, defend, run, transform, IsRequest}
 use Rattle.cap_package.specs.Parts.{Lent}
 use Rattle.cap_package.specs.PackageRecord.{PackageRecord}
 use Rattle.cap_package.specs.StandsFor.{StandsFor}
 use Rattle.jc_base.specs.World.{Linked}
+use Rattle.jc_control.specs.Method.{Method}
+use Rattle.jc_control.specs.Asked.{IsOfLast}
+use Rattle.xf_pack.specs.declared.end.MethodLimit.{MethodLimit}
+use Rattle.xf_pack.specs.Ends.{AreAcceptedLibraries, IsPartLong}
+use Rattle.xf_pack.specs.Limits.{PassesLimit}
 use Rattle.capcheck_core.specs.Defend.{run_fault}
 use Rattle.capcheck_core.specs.MethodFile.{IsMethodFile}
 use Rattle.capcheck_core.specs.Loads.{AreParts}
@@ -88,6 +94,20 @@ pub record CanRun (r : RunRequest) (before : Folders) : Type 0 where
   pub carded : AreCarded world
   pub begins : run_fault world r ≡ None
 
+-- no method with code of the last package passes a limit
+abbrev pub AreWithinLimits : Linked → Type 0
+AreWithinLimits w = (m : Method) → IsOfLast w m → (limit : MethodLimit) → PassesLimit w m limit → ⊥
+
+-- the folders make a world, the libraries are accepted, every method with code of the last package has a typing, and no limit is
+-- passed
+pub record CanTransform (t : TransformRequest) (before : Folders) : Type 0 where
+  pub world : Linked
+  pub links : CanLink t.dirs before world
+  pub accepted : AreAcceptedLibraries world
+  pub typed : AreTyped world
+  pub within : AreWithinLimits world
+  pub short : (n : ℕ) → IsPartLong links.made.packages world n → ⊥
+
 -- what a command needs is there
 abbrev pub CanDo : Request → Folders → Type 0
 CanDo (probe p) before = CanProbe p before
@@ -96,6 +116,7 @@ CanDo (check c) before = CanCheck c before
 CanDo (verify v) before = CanVerify v before
 CanDo (defend r) before = CanDefend r before
 CanDo (run r) before = CanRun r before
+CanDo (transform t) before = CanTransform t before
 
 -- where the words ask for something, what it needs is there and no device failed, the work is done or there was no memory
 abbrev pub Completes : List (List ℕ) → Folders → Folders → Seen → Seen → ℕ → Type 0

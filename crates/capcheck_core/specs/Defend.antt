@@ -17,7 +17,7 @@ use Rattle.capcheck_core.specs.declared.verdict.Verdict.{Verdict}
 use Rattle.capcheck_core.specs.declared.verdict.Verdict.TheVariants.{Done, Malformed, Memory}
 use Rattle.capcheck_core.specs.Outside.{Outside, Untouched}
 use Rattle.capcheck_core.specs.OverFolders.{OverFolders}
-use Rattle.capcheck_core.specs.World.{OverWorld}
+use Rattle.capcheck_core.specs.World.{of_world, OverWorld}
 
 -- ---- the entry
 
@@ -67,4 +67,4 @@ DefendsWorld r w before after verdict = Untouched before after × RunsDefended w
 
 -- the outside is as it was when the command began, and as it is afterwards
 abbrev pub Defends : RunRequest → Outside → Outside → Verdict → Type 0
-Defends r before after verdict = OverFolders (OverWorld (DefendsWorld r)) r.dirs before after verdict
+Defends r before after verdict = OverFolders (OverWorld (of_world (DefendsWorld r))) r.dirs before after verdict

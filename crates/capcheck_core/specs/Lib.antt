@@ -12,12 +12,13 @@ pub mod Packages
 pub mod PackageEnds
 pub mod OverFolders
 pub mod World
-pub mod Asked
 pub mod Typed
 pub mod Check
 pub mod Verify
 pub mod Defend
 pub mod Run
+pub mod Stores
+pub mod Transform
 pub mod CheckEnds
 pub mod Step
 pub mod Answers

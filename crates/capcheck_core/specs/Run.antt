@@ -20,7 +20,7 @@ use Rattle.capcheck_core.specs.declared.verdict.Verdict.{Verdict}
 use Rattle.capcheck_core.specs.declared.verdict.Verdict.TheVariants.{Done, Refused, Malformed, Memory}
 use Rattle.capcheck_core.specs.Outside.{Card, Outside}
 use Rattle.capcheck_core.specs.OverFolders.{OverFolders}
-use Rattle.capcheck_core.specs.World.{OverWorld}
+use Rattle.capcheck_core.specs.World.{of_world, OverWorld}
 use Rattle.capcheck_core.specs.Verify.{AreCarded, IsUncarded}
 use Rattle.capcheck_core.specs.Defend.{ComesTo, IsUnbegun, run_fault}
 
@@ -69,7 +69,7 @@ RunsWorld r w before after verdict = (after.folders ≡ before.folders) × RunsW
 
 -- the outside is as it was when the command began, and as it is afterwards
 abbrev pub Runs : RunRequest → Outside → Outside → Verdict → Type 0
-Runs r before after verdict = OverFolders (OverWorld (RunsWorld r)) r.dirs before after verdict
+Runs r before after verdict = OverFolders (OverWorld (of_world (RunsWorld r))) r.dirs before after verdict
 
 -- why the run does not begin: the first method that is refused, or, where none is, the first fault
 abbrev pub StopsRun : Linked → RunRequest → RunStop → Type 0

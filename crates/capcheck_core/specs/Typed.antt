@@ -3,21 +3,16 @@ use Rattle.std.specs.Prelude.{◌≡◌, ◌≢◌, ℕ, ◌+◌, Bool, ◌&&◌
 use Rattle.jc_base.specs.declared.ty.Ty.TheVariants.{Top}
 use Rattle.jc_base.specs.declared.record.MethodRec.{MethodRec}
 use Rattle.jc_base.specs.World.{Linked}
-use Rattle.jc_control.specs.Method.{Method, IsMethodOf}
+use Rattle.jc_control.specs.Method.{Method}
 use Rattle.jc_rules.specs.Flow.{HasFlowTyping}
 use Rattle.jc_flow.specs.declared.end.FlowEnd.{FlowEnd}
 use Rattle.jc_flow.specs.declared.end.FlowEnd.TheVariants.{Memory}
 use Rattle.jc_flow.specs.Infer.{TellsEnd}
 use Rattle.cap_text.specs.declared.line.MethodNumber.{MethodNumber}
-use Rattle.capcheck_core.specs.Asked.{AllHave, AllHaveBelow, IsFirstWithout}
+use Rattle.jc_control.specs.Asked.{AllHave, AllHaveBelow, IsFirstWithout, IsOfLast}
 use Rattle.cap_text.specs.Line.{typed_line, refused_flow_line}
 
--- a method with code, of the last package
-pub record IsOfLast (w : Linked) (m : Method) : Type 0 where
-  pub method : IsMethodOf w m
-  pub last : m.rec.package + 1 ≡ length w.infos
-
--- the same as a test of a record, where there are so many packages
+-- a method with code, of the last package, as a test of a record, where there are so many packages
 abbrev pub is_of_last : ℕ → MethodRec → Bool
 is_of_last packages rec = rec.package + 1 == packages && nat_lt 0 rec.code_len
 

@@ -12,11 +12,11 @@ use Rattle.cap_text.specs.Line.{accepted_line, refused_card_line}
 use Rattle.cap_text.specs.Verify.{VerifyRequest}
 use Rattle.capcheck_core.specs.declared.verdict.Verdict.{Verdict}
 use Rattle.capcheck_core.specs.declared.verdict.Verdict.TheVariants.{Done, Refused, Memory}
-use Rattle.capcheck_core.specs.Asked.{AllHave, IsFirstWithout}
+use Rattle.jc_control.specs.Asked.{AllHave, IsFirstWithout}
 use Rattle.capcheck_core.specs.Outside.{Outside, Untouched}
 use Rattle.capcheck_core.specs.OverFolders.{OverFolders}
 use Rattle.capcheck_core.specs.Typed.{number_of}
-use Rattle.capcheck_core.specs.World.{OverWorld}
+use Rattle.capcheck_core.specs.World.{of_world, OverWorld}
 
 -- a method with code
 abbrev pub has_code : MethodRec → Bool
@@ -64,4 +64,4 @@ VerifiesWorld w before after verdict = Untouched before after × CardsWorld w ve
 
 -- the outside is as it was when the verifying began, and as it is afterwards
 abbrev pub Verifies : VerifyRequest → Outside → Outside → Verdict → Type 0
-Verifies v before after verdict = OverFolders (OverWorld VerifiesWorld) v.dirs before after verdict
+Verifies v before after verdict = OverFolders (OverWorld (of_world VerifiesWorld)) v.dirs before after verdict

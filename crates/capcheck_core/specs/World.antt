@@ -16,6 +16,14 @@ use Rattle.capcheck_core.specs.declared.verdict.Verdict.{Verdict}
 use Rattle.capcheck_core.specs.declared.verdict.Verdict.TheVariants.{Malformed, Memory}
 use Rattle.capcheck_core.specs.Outside.{Outside, Untouched}
 
+-- what the last step of a command answers, and makes of the outside, by the packages, the roles and the world that they make
+abbrev pub Own : Type 1
+Own = List PackageRecord → List ℕ → Linked → Outside → Outside → Verdict → Type 0
+
+-- a last step over the world alone
+abbrev pub of_world : (Linked → Outside → Outside → Verdict → Type 0) → Own
+of_world own packages roles w before after verdict = own w before after verdict
+
 -- ---- packages and roles
 
 -- they make a world of which this is true
@@ -44,10 +52,9 @@ IsUnlinkedBy ends.Memory Memory = Unit {0}
 IsUnlinkedBy _ _ = ⊥
 
 -- what a command over a world answers, and makes of the outside: where the world was made, `own` says both
-abbrev pub OverPackages : (Linked → Outside → Outside → Verdict → Type 0) → List PackageRecord → List ℕ
-    → Outside → Outside → Verdict → Type 0
+abbrev pub OverPackages : Own → List PackageRecord → List ℕ → Outside → Outside → Verdict → Type 0
 OverPackages own packages roles before after verdict =
-    (Untouched before after × StopsAtLink packages roles verdict) ⊎ OfLinked packages roles (λ w. own w before after verdict)
+    (Untouched before after × StopsAtLink packages roles verdict) ⊎ OfLinked packages roles (λ w. own packages roles w before after verdict)
 
 -- ---- parts and roles
 
@@ -64,6 +71,6 @@ pub record OfPackages (parts : List (List Lent)) (P : List PackageRecord → Typ
   pub holds : P packages
 
 -- what a command over the world of the packages that parts stand for answers, wherever the parts come from
-abbrev pub OverWorld : (Linked → Outside → Outside → Verdict → Type 0) → List (List Lent) → List ℕ → Outside → Outside → Verdict → Type 0
+abbrev pub OverWorld : Own → List (List Lent) → List ℕ → Outside → Outside → Verdict → Type 0
 OverWorld own parts roles before after verdict =
     OfPackages parts (λ packages. OverPackages own packages roles before after verdict)

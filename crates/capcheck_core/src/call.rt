@@ -44,8 +44,8 @@ pub fn capcheck<F: Folder, K: Sink>(
     report(out, &verdict)
 }
 
-#[tactic(auto, using(crate::proofs::Verdicts::asked, crate::proofs::Verdicts::without_memory))]
 // What the command that the words spell decides.
+#[tactic(auto, using(crate::proofs::Verdicts::asked, crate::proofs::Verdicts::without_memory))]
 fn answer<F: Folder>(
     alloc: Global,
     words: &Words,
@@ -113,6 +113,15 @@ fn perform<F: Folder>(
         Command::Run(operands) => over_folders(
             alloc,
             Step::Run(operands),
+            operands.dirs,
+            folder,
+            ram,
+            heap,
+            statics,
+        ),
+        Command::Transform(operands) => over_folders(
+            alloc,
+            Step::Transform(operands),
             operands.dirs,
             folder,
             ram,

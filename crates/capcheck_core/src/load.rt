@@ -201,7 +201,7 @@ fn directory_of(parts: &OwnedParts) -> Result<Directory<'_>, PackFault>
 }
 
 // The Directory component in a format.
-#[tactic(auto, using(cap_bytes::proofs::Laws::reading_where, cap_bytes::proofs::Laws::refused_where), unfolding(cap_components::specs::Components::read_part))]
+#[tactic(auto, using(cap_components::proofs::Infos::read_or_refused), unfolding(cap_components::specs::Components::read_part))]
 fn directory_in(parts: &OwnedParts, format: Format) -> Result<Directory<'_>, PackFault>
     ensures { Answers directory_items result (read_part (directory_info format) 2 parts.now) }
 {
@@ -213,7 +213,7 @@ fn directory_in(parts: &OwnedParts, format: Format) -> Result<Directory<'_>, Pac
 }
 
 // The Header component.
-#[tactic(auto, using(cap_bytes::proofs::Laws::reading_where, cap_bytes::proofs::Laws::refused_where), unfolding(cap_components::specs::Components::read_part))]
+#[tactic(auto, using(cap_components::proofs::Infos::read_or_refused), unfolding(cap_components::specs::Components::read_part))]
 fn header_in(parts: &OwnedParts) -> Result<Header<'_>, PackFault>
     ensures { Answers header_items result (read_part header_info 1 parts.now) }
 {
@@ -225,7 +225,7 @@ fn header_in(parts: &OwnedParts) -> Result<Header<'_>, PackFault>
 }
 
 // The info of the component with a tag.
-#[tactic(auto, using(cap_bytes::proofs::Laws::reading_where, cap_bytes::proofs::Laws::refused_where), unfolding(cap_components::specs::Components::info_in))]
+#[tactic(auto, using(cap_components::proofs::Infos::read_or_refused), unfolding(cap_components::specs::Components::info_in))]
 fn info_in(parts: &OwnedParts, tag: u8) -> Result<View<'_>, PackFault>
     ensures value { Answers info_bytes result (info_in parts.now tag) }
     ensures few { IfOk result (λ info. length info.bytes.now ≤ 65535) }

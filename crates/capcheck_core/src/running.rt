@@ -1,5 +1,6 @@
-ghost use Rattle.std.specs.Prelude.{◌≡◌, ◌≤◌, Some, MatchResult, length, map};
+ghost use Rattle.std.specs.Prelude.{◌≡◌, ◌≤◌, Some, MatchResult, IfErr, length, map, string_bytes};
 ghost use Rattle.card_verify.specs.Answers.{AreAccepted};
+ghost use Rattle.cap_text.specs.Line.{not_started_line, refused_card_line};
 ghost use Rattle.cap_text.specs.Room.{HasRoom, IsEmpty, Writes};
 ghost use Rattle.cap_text.specs.Run.{run_request};
 ghost use Rattle.cap_text.specs.Word.{argument_read};
@@ -15,10 +16,10 @@ ghost use Rattle.capcheck_core.specs.Defend.{method_entered};
 ghost use Rattle.capcheck_core.specs.Outside.{Card, card};
 ghost use Rattle.capcheck_core.specs.Run.{IsWhole, IsLeft, IsRun, StopsRun, RunsWorldIn};
 
-use crate::carding::uncarded;
 use crate::defending::{lent, method_entered};
+use crate::typing::number_of;
 use crate::verdict::Verdict;
-use cap_text::{Room, Run, not_started};
+use cap_text::{MethodNumber, Room, Run, write_not_started, write_refused_card};
 use card_index::{Accepted, CardRoom, accept};
 use card_typing::CardFault;
 use jc_base::World;
@@ -74,19 +75,47 @@ fn with_arguments(
     };
     match run_verified(world, run, args, &mut text, ram, heap, statics) {
         Ok(()) => Verdict::Done(text.into_text()),
-        Err(stop) => not_run(alloc, world, run, stop),
+        Err(stop) => not_run(world, run, stop, text),
     }
 }
 
-// The verdict for a run that does not begin.
-fn not_run(alloc: Global, world: &World<'_>, run: &Run<'_>, stop: RunStop) -> Verdict
-    requires { StopsRun world.now (run_request run.now) stop }
+// The verdict for a run that does not begin. Its line is written into the room of the text.
+#[tactic(auto, using(crate::proofs::Cardings::number_below))]
+fn not_run(world: &World<'_>, run: &Run<'_>, stop: RunStop, text: Room) -> Verdict
+    requires stops { StopsRun world.now (run_request run.now) stop }
+    requires empty { IsEmpty text }
+    requires room { HasRoom text (most_text world.now) }
     ensures { (c : Card) → RunsWorldIn world.now (run_request run.now) c result }
 {
     match stop {
-        RunStop::Refused(method, fault) => uncarded(alloc, world, method, fault),
-        RunStop::NotStarted(fault) => Verdict::malformed(not_started(alloc, fault)),
+        RunStop::Refused(method, fault) => {
+            let _code = world.code(method);
+            Verdict::Refused(refusal_line(text, number_of(world, method), fault))
+        }
+        RunStop::NotStarted(fault) => Verdict::Malformed(unstarted_line(text, fault)),
     }
+}
+
+// The line for a method that is refused.
+fn refusal_line(text: Room, method: MethodNumber, fault: CardFault) -> String
+    requires empty { IsEmpty text }
+    requires room { HasRoom text 123 }
+    ensures { string_bytes result ≡ refused_card_line method fault }
+{
+    let mut text = text;
+    write_refused_card(&mut text, method, fault);
+    text.into_text()
+}
+
+// The line for an entry that does not start.
+fn unstarted_line(text: Room, fault: StartFault) -> String
+    requires empty { IsEmpty text }
+    requires room { HasRoom text 48 }
+    ensures { string_bytes result ≡ not_started_line fault }
+{
+    let mut text = text;
+    write_not_started(&mut text, fault);
+    text.into_text()
 }
 
 // The same with the room of the text. From here on no memory is taken.
@@ -103,9 +132,10 @@ fn run_verified(
     requires handed { args.now ≡ map argument_read run.now.args.items }
     requires empty { IsEmpty text.old }
     requires room { HasRoom text.old (most_text world.now) }
-    ensures { MatchResult result
+    ensures runs { MatchResult result
         (λ _. IsRun world.now (run_request run.now) (card ram.new heap.new statics.new) text.new.text)
         (StopsRun world.now (run_request run.now)) }
+    ensures room { IfErr result (λ _. text.new ≡ text.old) }
 {
     let mut room = CardRoom::new();
     match accept(world, &mut room) {
@@ -129,9 +159,10 @@ fn run_accepted(
     requires handed { args.now ≡ map argument_read run.now.args.items }
     requires empty { IsEmpty text.old }
     requires room { HasRoom text.old (most_text accepted.now) }
-    ensures { MatchResult result
+    ensures runs { MatchResult result
         (λ _. IsRun accepted.now (run_request run.now) (card ram.new heap.new statics.new) text.new.text)
         (StopsRun accepted.now (run_request run.now)) }
+    ensures room { IfErr result (λ _. text.new ≡ text.old) }
 {
     match method_entered(accepted.world(), run.entry) {
         Some(number) => run_entry(accepted, run, number, args, text, ram, heap, statics),
@@ -156,9 +187,10 @@ fn run_entry(
     requires handed { args.now ≡ map argument_read run.now.args.items }
     requires empty { IsEmpty text.old }
     requires room { HasRoom text.old (most_text accepted.now) }
-    ensures { MatchResult result
+    ensures runs { MatchResult result
         (λ _. IsRun accepted.now (run_request run.now) (card ram.new heap.new statics.new) text.new.text)
         (StopsRun accepted.now (run_request run.now)) }
+    ensures room { IfErr result (λ _. text.new ≡ text.old) }
 {
     let count = field_words(accepted.world());
     let (fields, _others) = statics.split_at_mut(count);
@@ -195,6 +227,7 @@ fn begin(
         (λ _. IsRun accepted.now (run_request run.now) (card ram.new heap.new statics.new) text.new.text)
         (StopsRun accepted.now (run_request run.now)) }
     ensures length { length statics.new ≡ length statics.old }
+    ensures room { IfErr result (λ _. text.new ≡ text.old) }
 {
     match start(accepted, number, args, ram, heap, statics) {
         Ok(machine) => {

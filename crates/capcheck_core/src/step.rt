@@ -1,3 +1,4 @@
+ghost use Rattle.jc_link.specs.World.{IsLinked};
 ghost use Rattle.capcheck_core.specs.Outside.{outside, card};
 ghost use Rattle.capcheck_core.specs.Run.{IsWhole};
 ghost use Rattle.capcheck_core.specs.Step.{OwnAnswers};
@@ -5,10 +6,12 @@ ghost use Rattle.capcheck_core.specs.Step.{OwnAnswers};
 use crate::carding::verify_methods;
 use crate::defending::defend;
 use crate::running::run_in_card;
+use crate::transforming::transform_last;
 use crate::typing::type_methods;
 use crate::verdict::Verdict;
 use cap_files::Folder;
-use cap_text::Run;
+use cap_package::Packages;
+use cap_text::{Run, Transform};
 use jc_base::World;
 use std::alloc::Global;
 
@@ -23,27 +26,35 @@ pub enum Step<'a> {
     Defend(&'a Run<'a>),
     /// Verifies as a card does, and runs an entry of the last package in the memory of the card.
     Run(&'a Run<'a>),
+    /// Stores the last package in the form that a verifier on the card accepts.
+    Transform(&'a Transform<'a>),
 }
 
 /// Takes a command's last step. It is handed all that a command may change.
 pub(crate) fn take_step<F: Folder>(
     alloc: Global,
     step: Step<'_>,
+    packages: &Packages<'_, '_>,
+    roles: [u8; 8],
     world: &World<'_>,
-    _folder: &mut F,
+    folder: &mut F,
     ram: &mut [u16],
     heap: &mut [u16],
     statics: &mut [u16],
 ) -> Verdict
-    requires { IsWhole (card ram.old heap.old statics.old) }
-    ensures { OwnAnswers step.entry world.now
-        (outside (F.folders _folder.old) (card ram.old heap.old statics.old))
-        (outside (F.folders _folder.new) (card ram.new heap.new statics.new)) result }
+    requires card { IsWhole (card ram.old heap.old statics.old) }
+    requires linked { IsLinked packages.now roles world.now }
+    ensures { OwnAnswers step.entry packages.now roles world.now
+        (outside (F.folders folder.old) (card ram.old heap.old statics.old))
+        (outside (F.folders folder.new) (card ram.new heap.new statics.new)) result }
 {
     match step {
         Step::Check => type_methods(alloc, world),
         Step::Verify => verify_methods(alloc, world),
         Step::Defend(run) => defend(alloc, world, run),
         Step::Run(run) => run_in_card(alloc, world, run, ram, heap, statics),
+        Step::Transform(transform) => {
+            transform_last(alloc, transform.out, packages, roles, world, folder)
+        }
     }
 }

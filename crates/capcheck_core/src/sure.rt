@@ -4,7 +4,7 @@ ghost use Rattle.capcheck_core.specs.Report.{seen};
 use cap_files::{Folder, Sink, SureFolder, SureSink};
 
 /// States that the forms in memory that never fail raise no count, whatever a command does to them.
-/// So over them a command whose needs are there does its work, or wants memory.
+/// So over them a command whose needs are there does its work, unless there is no memory for it.
 pub fn sure_forms_never_fail(
     before: &SureFolder,
     after: &SureFolder,

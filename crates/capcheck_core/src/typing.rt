@@ -37,8 +37,8 @@ fn type_method(alloc: Global, world: &World<'_>, number: u16) -> Result<bool, Fl
     }
 }
 
-// Whether a method is one of the last package with code.
-fn is_of_last(world: &World<'_>, number: u16) -> bool
+/// Whether a method is one of the last package with code.
+pub(crate) fn is_of_last(world: &World<'_>, number: u16) -> bool
     requires { number < length world.now.methods }
     ensures { option_map (is_of_last (length world.now.infos)) (slice_get world.now.methods number) ≡ Some result }
 {
@@ -60,7 +60,7 @@ fn untyped(alloc: Global, world: &World<'_>, number: u16, end: FlowEnd) -> Verdi
     }
 }
 
-// A method by the numbers of its Descriptor.
+/// A method by the numbers of its Descriptor.
 pub(crate) fn number_of(world: &World<'_>, number: u16) -> MethodNumber
     requires { number < length world.now.methods }
     ensures { option_map number_of (slice_get world.now.methods number) ≡ Some result }

@@ -45,6 +45,16 @@ impl Verdict {
         }
     }
 
+    /// A limit is passed, and the text is made; or there was no memory for the text.
+    pub fn limit(text: Result<String, AllocError>) -> Verdict
+        ensures { MatchResult text (λ t. result ≡ Verdict.Limit t) (λ _. result ≡ Verdict.Memory) }
+    {
+        match text {
+            Ok(text) => Verdict::Limit(text),
+            Err(_) => Verdict::Memory,
+        }
+    }
+
     /// What was given is no good, and the text is made; or there was no memory for the text.
     pub fn malformed(text: Result<String, AllocError>) -> Verdict
         ensures { MatchResult text (λ t. result ≡ Verdict.Malformed t) (λ _. result ≡ Verdict.Memory) }

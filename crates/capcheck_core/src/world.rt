@@ -108,7 +108,9 @@ fn over_packages<F: Folder>(
         (outside (F.folders folder.new) (card ram.new heap.new statics.new)) result }
 {
     match link(alloc, packages, roles) {
-        Ok(world) => take_step(alloc, step, &world, folder, ram, heap, statics),
+        Ok(world) => take_step(
+            alloc, step, packages, roles, &world, folder, ram, heap, statics,
+        ),
         Err(end) => unlinked(alloc, end),
     }
 }

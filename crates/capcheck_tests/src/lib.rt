@@ -1,4 +1,4 @@
-//! Worked commands: what `capcheck_core` prints for `probe`, `show`, `check`, `verify`, `defend` and `run` over folders in
+//! Worked commands: what `capcheck_core` prints for `probe`, `show`, `check`, `verify`, `defend`, `run` and `transform` over folders in
 //! memory, with package T of `cap_tests` and two more small packages, what `run` leaves in the memory of the card, and where a
 //! device fails.
 #![tactic(auto)]
@@ -19,6 +19,8 @@ mod run_tests;
 mod show_tests;
 #[cfg(test)]
 mod small_packages;
+#[cfg(test)]
+mod transform_tests;
 #[cfg(test)]
 mod typing_tests;
 #[cfg(test)]

@@ -20,7 +20,7 @@ fn words_of(alloc: Global, line: &str) -> Result<Words, AllocError> {
 }
 
 /// Runs a command, its words parted by single spaces.
-fn run<F: Folder, K: Sink>(
+pub(crate) fn run_over<F: Folder, K: Sink>(
     alloc: Global,
     line: &str,
     folder: &mut F,
@@ -50,7 +50,7 @@ pub(crate) fn gives(
     status: u8,
 ) -> Result<bool, AllocError> {
     let mut out = SureSink::new(alloc, 400)?;
-    let answer = run(alloc, line, folder, &mut out)?;
+    let answer = run_over(alloc, line, folder, &mut out)?;
     Ok(answer == status && out.received() == text.as_bytes())
 }
 
@@ -113,6 +113,6 @@ pub(crate) fn gives_failing(
     let (line, load, put, keep, text, status) = failing;
     let mut out = MemSink::new(alloc, 400)?;
     let listed = folder.fail_load(*load) && out.fail_put(*put, *keep);
-    let answer = run(alloc, line, folder, &mut out)?;
+    let answer = run_over(alloc, line, folder, &mut out)?;
     Ok(listed && answer == *status && out.received() == text.as_bytes())
 }

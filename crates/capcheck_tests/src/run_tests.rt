@@ -11,7 +11,7 @@ const INDEX: Part = Part(128);
 
 /// What makes package T one that a card accepts: both methods keep their stack empty at branches, since `pick` holds in
 /// registers what it had on the stack, and an index tells the targets of `pick`, places 13 and 17.
-const REWRITTEN: [Change<'static>; 6] = [
+pub(crate) const REWRITTEN: [Change<'static>; 6] = [
     Change::Splice(
         METHOD,
         12,

@@ -49,7 +49,7 @@ impl CardRoom {
     }
 
     /// Verifies a method in this room, if it has code, and tells whether its index sufficed.
-    pub(crate) fn verify(&mut self, world: &World<'_>, method: u16) -> Result<bool, CardFault>
+    pub fn verify(&mut self, world: &World<'_>, method: u16) -> Result<bool, CardFault>
         requires { method < length world.now.methods }
         ensures accepted { OnOk result (IsAcceptedAt world.now method) }
         ensures by_index { IfOk result (λ by. MatchBool by (IsByIndex world.now method) (¬ (IsByIndex world.now method))) }

@@ -69,8 +69,15 @@ impl<'a> World<'a> {
             (record
             { infos = infos; pools = pools; classes = classes; methods = methods; statics = statics; arrays = arrays; indexes = indexes }) }
         ensures { result
-            ≡ record
-            { infos = infos.entry; pools = pools; classes = classes; methods = methods; statics = statics; arrays = arrays; indexes = indexes.entry } }
+            ≡ record {
+              infos = infos.entry;
+              pools = pools;
+              classes = classes;
+              methods = methods;
+              statics = statics;
+              arrays = arrays;
+              indexes = indexes.entry;
+            } }
     {
         World {
             infos,

@@ -17,6 +17,7 @@ use Rattle.jc_control.specs.WellFormed.{Stands, IsPlace, IsTargetPlace, IsBounda
 use Rattle.jc_control.specs.Control.{IsSuccessor, falls_through, jumped, Covers, IsReached, begins, follows, caught, IsLeader, led_to, entered}
 use Rattle.jc_control.specs.declared.traversal.Traversal.{Traversal}
 use Rattle.jc_control.specs.Flags.{IsFlagged}
+use Rattle.jc_control.specs.Listing.{Listed, IsListingOf}
 use Rattle.jc_control.specs.Places.{BeginsIn}
 use Rattle.jc_control.specs.Traversal.{Grows, IsSound, IsLedTo, IsCaught, IsClosedAt, IsClosed, IsDone, found}
 use Rattle.jc_control.specs.ControlFlow.{IsControlFlow}
@@ -143,11 +144,12 @@ module _ (m : Method) (s t : Traversal) (sound : IsSound m s) (closed : IsClosed
   all-led _ (led_to {i = i} {q = q} there r among) = (closed-there i.place (all-found i.place r)).leads i q there refl among
   all-led _ (entered {h = h} {p = p} r there covers) = ((closed-there p (all-found p r)).catches h there covers).1
 
-  pub traversed : IsWellFormed m → IsControlFlow m (found t)
-  traversed w = record {
+  pub traversed : (l : Listed) → IsListingOf m.code l → IsWellFormed m → IsControlFlow m (found t l)
+  traversed l of_code w = record {
     formed = w;
     reached = λ p. (λ f. sound.reached p (subst (λ (fs : List Bool). IsFlagged fs p) done.reached f), λ r. subst (λ (fs : List Bool). IsFlagged fs p) (sym done.reached) (all-found p r));
     leaders = λ p. (λ f. sound.leaders p (subst (λ (fs : List Bool). IsFlagged fs p) done.leaders f), λ r. subst (λ (fs : List Bool). IsFlagged fs p) (sym done.leaders) (all-led p r));
+    listing = of_code;
   }
 
 -- ---- nothing found yet

@@ -2,6 +2,7 @@ pub mod Elements
 pub mod TargetLists
 pub mod Marked
 pub mod Listed
+pub mod Listings
 pub mod FirstFound
 pub mod FlawLaws
 pub mod Growing

@@ -8,17 +8,20 @@ use Rattle.jc_control.specs.declared.flaw.ControlEnd.{ControlEnd}
 use Rattle.jc_control.specs.declared.flaw.ControlEnd.TheVariants.{Flawed, Memory}
 use Rattle.jc_control.specs.Flags.{IsFlagged, Marks}
 use Rattle.jc_control.specs.Flaw.{IsFirstFlaw}
+use Rattle.jc_control.specs.Listing.{Listed, IsListingOf}
 
--- by place whether it is reached, and whether it is a leader
+-- by place whether it is reached, whether it is a leader, and which instruction begins there
 pub record Marked : Type 0 where
   pub reached : List Bool
   pub leaders : List Bool
+  pub listing : Listed
 
--- the method is well formed, and these are its reached places and its leaders
+-- the method is well formed, and these are its reached places, its leaders and its instructions
 pub record IsControlFlow (m : Method) (s : Marked) : Type 0 where
   pub formed : IsWellFormed m
   pub reached : Marks (IsReached m) s.reached
   pub leaders : Marks (IsLeader m) s.leaders
+  pub listing : IsListingOf m.code s.listing
 
 -- why it is not told where control goes: the first flaw of the method, or no memory
 abbrev pub TellsFlaw : Method → ControlEnd → Type 0

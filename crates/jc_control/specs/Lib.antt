@@ -1,10 +1,13 @@
 pub mod Method
+pub mod Asked
 pub mod WellFormed
 pub mod Control
 pub mod Flaw
 pub mod Laws
 pub mod Flags
+pub mod Listing
 pub mod Known
+pub mod Walk
 pub mod ControlFlow
 pub mod Subject
 pub mod Places

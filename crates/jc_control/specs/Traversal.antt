@@ -8,6 +8,7 @@ use Rattle.jc_control.specs.WellFormed.{Stands}
 use Rattle.jc_control.specs.Control.{IsSuccessor, Covers, IsReached, IsLeader}
 use Rattle.jc_control.specs.declared.traversal.Traversal.{Traversal}
 use Rattle.jc_control.specs.Flags.{flag, IsFlagged}
+use Rattle.jc_control.specs.Listing.{Listed}
 use Rattle.jc_control.specs.ControlFlow.{Marked}
 
 -- reached, and what follows it is still to be looked at
@@ -64,9 +65,9 @@ pub record IsSound (m : Method) (s : Traversal) : Type 0 where
   pub leaders : (p : ℕ) → IsFlagged s.leaders p → IsLeader m p
   pub pending : (p : ℕ) → IsPending s p → IsFlagged s.reached p
 
--- the places that are found
-abbrev pub found : Traversal → Marked
-found s = record { reached = s.reached; leaders = s.leaders }
+-- the places that are found, beside the listing by which they were
+abbrev pub found : Traversal → Listed → Marked
+found s listing = record { reached = s.reached; leaders = s.leaders; listing = listing }
 
 -- a target, and the entry of a handler that covers a place, are found
 abbrev pub IsLed : Traversal → ℕ → Type 0

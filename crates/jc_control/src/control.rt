@@ -3,9 +3,10 @@ ghost use Rattle.jc_control.specs.Method.{IsMethodOf, method_in};
 ghost use Rattle.jc_control.specs.ControlFlow.{IsControlFlow, TellsFlaw};
 
 use crate::flaw::ControlEnd;
+use crate::listing::Listing;
 use crate::places::Places;
 use crate::reached::ControlFlow;
-use crate::scan::{find_flaw, instruction_places};
+use crate::scan::find_flaw;
 use crate::subject::Subject;
 use crate::traversal::Traversal;
 use cap_bytes::View;
@@ -32,7 +33,8 @@ pub fn control_flow(
         rec,
         code,
     };
-    let places = instruction_places(alloc, code)?;
-    find_flaw(subject, Places::Marked(&places))?;
-    Ok(ControlFlow::of(Traversal::of(alloc, subject)?))
+    let listing = Listing::of(alloc, code)?;
+    find_flaw(subject, Places::Listed(&listing))?;
+    let traversal = Traversal::of(alloc, subject, &listing)?;
+    Ok(ControlFlow::of(traversal, listing))
 }

@@ -1,16 +1,17 @@
 ghost use Rattle.std.specs.Prelude.{◌≡◌, ◌≤◌, ◌↔◌, length, IsTrue};
+ghost use Rattle.jc_decode.specs.Decoding.{decoded};
 ghost use Rattle.jc_control.specs.WellFormed.{IsPlace, IsTargetPlace};
-ghost use Rattle.jc_control.specs.Known.{KnowPlaces};
+ghost use Rattle.jc_control.specs.Known.{KnowPlaces, ReadsAs};
 
-use crate::flags::Flags;
+use crate::listing::Listing;
 use cap_bytes::View;
-use jc_decode::Instructions;
+use jc_decode::{CodeEnd, Insn, Instructions, decode};
 
-/// How it is known at which places of a code instructions begin: by flags that were made once, or by a walk along the
-/// code for each question, which takes no memory.
+/// How it is known at which places of a code instructions begin: by a listing that was made once, or by a walk along
+/// the code for each question, which takes no memory.
 #[derive(Clone, Copy)]
 pub enum Places<'a> {
-    Marked(&'a Flags),
+    Listed(&'a Listing),
     Sought,
 }
 
@@ -22,7 +23,7 @@ impl Places<'_> {
         ensures { IsTrue result ↔ IsPlace code.entry.bytes.now place }
     {
         match self {
-            Places::Marked(flags) => flags.has(place),
+            Places::Listed(listing) => listing.has(place),
             Places::Sought => is_place(code, place),
         }
     }
@@ -36,6 +37,18 @@ impl Places<'_> {
         match u32::try_from(target) {
             Ok(place) => self.has(code, place),
             Err(_) => false,
+        }
+    }
+
+    /// The instruction that is decoded at the place.
+    pub fn insn(self, code: View<'_>, place: u16) -> Result<Insn, CodeEnd>
+        requires short { length code.bytes.now ≤ 32767 }
+        requires reads { ReadsAs code.bytes.now self }
+        ensures value { result ≡ decoded code.entry.bytes.now place }
+    {
+        match self {
+            Places::Listed(listing) => listing.insn(code, place),
+            Places::Sought => decode(code, place),
         }
     }
 }

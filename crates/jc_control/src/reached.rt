@@ -1,4 +1,6 @@
-ghost use Rattle.std.specs.Prelude.{◌≡◌, ◌↔◌, IsTrue, Contains};
+ghost use Rattle.std.specs.Prelude.{◌≡◌, ◌≤◌, ◌↔◌, length, IsTrue, Contains};
+ghost use Rattle.jc_decode.specs.Decoding.{decoded};
+ghost use Rattle.jc_control.specs.Listing.{IsListingOf};
 ghost use Rattle.jc_control.specs.Method.{Method};
 ghost use Rattle.jc_control.specs.Control.{IsLive};
 ghost use Rattle.jc_control.specs.ControlFlow.{IsControlFlow, IsMarkedLive};
@@ -6,8 +8,11 @@ ghost use Rattle.jc_control.specs.Flags.{flag};
 ghost use Rattle.jc_control.specs.Traversal.{found};
 
 use crate::flags::Flags;
+use crate::listing::Listing;
 use crate::traversal::Traversal;
+use cap_bytes::View;
 use jc_base::Handler;
+use jc_decode::{CodeEnd, Insn};
 use std::marker::Model;
 
 /// The places of a well-formed method that control can reach, and those among them where it comes together.
@@ -15,6 +20,7 @@ use std::marker::Model;
 pub struct ControlFlow {
     reached: Flags,
     leaders: Flags,
+    listing: Listing,
 }
 
 impl Model for ControlFlow {
@@ -22,17 +28,18 @@ impl Model for ControlFlow {
 
     ghost Value = { Marked };
 
-    ghost view = { λ a. record { reached = a.reached; leaders = a.leaders } };
+    ghost view = { λ a. record { reached = a.reached; leaders = a.leaders; listing = a.listing } };
 }
 
 impl ControlFlow {
-    /// What a traversal has found.
-    pub(crate) fn of(traversal: Traversal) -> ControlFlow
-        ensures { result ≡ found traversal }
+    /// What a traversal by a listing has found.
+    pub(crate) fn of(traversal: Traversal, listing: Listing) -> ControlFlow
+        ensures { result ≡ found traversal listing }
     {
         ControlFlow {
             reached: traversal.reached,
             leaders: traversal.leaders,
+            listing,
         }
     }
 
@@ -50,6 +57,15 @@ impl ControlFlow {
         ensures { result ≡ flag self.now.leaders place }
     {
         self.leaders.has(u32::from(place))
+    }
+
+    /// The instruction that is decoded at a place of the method's code.
+    pub fn insn(&self, code: View<'_>, place: u16) -> Result<Insn, CodeEnd>
+        requires short { length code.bytes.now ≤ 32767 }
+        requires listing { IsListingOf code.bytes.now self.now.listing }
+        ensures value { result ≡ decoded code.entry.bytes.now place }
+    {
+        self.listing.insn(code, place)
     }
 
     /// Whether control reaches a place in the handler's range: of the handlers of the method, whether it is live.

@@ -1,9 +1,9 @@
-ghost use Rattle.std.specs.Prelude.{◌≡◌, ◌≤◌, ◌↔◌, ℕ, length, All, IsTrue, IfOk, IfErr, OnOk, IfSome, IfNone, Ok};
+ghost use Rattle.std.specs.Prelude.{◌≡◌, ◌≤◌, ◌↔◌, ℕ, length, All, IsTrue, IfOk, IfErr, OnOk, IfSome, IfNone, Ok, Err};
 ghost use Rattle.jc_decode.specs.Decoding.{decoded};
 ghost use Rattle.jc_decode.specs.Listing.{listing, listing_end, targets};
 ghost use Rattle.jc_control.specs.WellFormed.{IsPlace, IsTargetPlace, IsHandlerOf, IsWellFormed};
 ghost use Rattle.jc_control.specs.Flags.{Marks};
-ghost use Rattle.jc_control.specs.Known.{KnowPlaces};
+ghost use Rattle.jc_control.specs.Known.{KnowPlaces, ReadsAs};
 ghost use Rattle.jc_control.specs.Subject.{method};
 ghost use Rattle.jc_control.specs.Flaw.{IsFirstFlaw};
 ghost use Rattle.jc_control.specs.FirstFailing.{IsFirstFailing};
@@ -14,9 +14,10 @@ use crate::flaw::Flaw;
 use crate::places::Places;
 use crate::subject::Subject;
 use crate::targets::Targets;
+use crate::walk::Walk;
 use cap_bytes::View;
 use jc_base::{Handler, Handlers};
-use jc_decode::{Instructions, Placed, code_end, instructions_are_listed};
+use jc_decode::{CodeEnd, Instructions, Placed, instructions_are_listed};
 use std::alloc::{AllocError, Global};
 
 /// Marks the places at which an instruction begins, and no others, in flags that the caller lends: a set that is
@@ -55,7 +56,7 @@ pub fn find_flaw(subject: Subject<'_>, places: Places<'_>) -> Result<(), Flaw>
     ensures flawed { IfErr result (λ flaw. IsFirstFlaw (method subject.entry) flaw) }
 {
     check_targets(subject.code, places)?;
-    check_end(subject.code)?;
+    check_end(subject.code, places)?;
     check_handlers(subject.code, &subject.rec.handlers, places)
 }
 
@@ -67,7 +68,7 @@ fn check_targets(code: View<'_>, places: Places<'_>) -> Result<(), Flaw>
     ensures flawed { IfErr result (λ flaw. IsFirstStray code.entry.bytes.now flaw) }
 {
     instructions_are_listed();
-    'walk: for placed in Instructions::of(code) {
+    'walk: for placed in Walk::of(code, places) {
         if let Some(target) = stray_target(code, placed, places) {
             return Err(Flaw::BadTarget(placed.place, target));
         }
@@ -97,16 +98,35 @@ fn stray_target(code: View<'_>, placed: Placed, places: Places<'_>) -> Option<i3
 }
 
 /// Whether instructions are decoded to the code's end.
-fn check_end(code: View<'_>) -> Result<(), Flaw>
+fn check_end(code: View<'_>, places: Places<'_>) -> Result<(), Flaw>
     requires short { length code.bytes.now ≤ 32767 }
+    requires known { KnowPlaces code.bytes.now places }
     ensures formed { OnOk result (listing_end code.entry.bytes.now ≡ length code.entry.bytes.now) }
     ensures flawed { IfErr result (λ flaw. IsStop code.entry.bytes.now flaw) }
 {
-    let (place, end) = code_end(code);
+    let (place, end) = code_end(code, places);
     if usize::from(place) == code.bytes.len() {
         Ok(())
     } else {
         Err(Flaw::Code(place, end))
+    }
+}
+
+/// Where the list of the code's instructions ends, and why none begins there.
+#[tactic(auto, using(jc_decode::proofs::Listing::listing_facts))]
+fn code_end(code: View<'_>, places: Places<'_>) -> (u16, CodeEnd)
+    requires short { length code.bytes.now ≤ 32767 }
+    requires reads { ReadsAs code.bytes.now places }
+    ensures place { result.0 ≡ listing_end code.entry.bytes.now }
+    ensures why { decoded code.entry.bytes.now result.0 ≡ Err result.1 }
+{
+    instructions_are_listed();
+    let mut at = 0;
+    'walk: loop {
+        match places.insn(code, at) {
+            Ok(insn) => at += insn.len as u16,
+            Err(end) => return (at, end),
+        }
     }
 }
 

@@ -6,13 +6,15 @@ ghost use Rattle.jc_control.specs.Flags.{IsFlagged};
 ghost use Rattle.jc_control.specs.Subject.{method};
 ghost use Rattle.jc_control.specs.Traversal.{Reaches, Takes, Grows, IsSound, IsLed, IsLedTo, IsCaught, IsClosedAt, IsDone, found};
 ghost use Rattle.jc_control.specs.ControlFlow.{IsControlFlow};
+ghost use Rattle.jc_control.specs.Listing.{IsListingOf};
 
 use crate::edge::{covers, place_of};
 use crate::flags::Flags;
+use crate::listing::Listing;
 use crate::subject::Subject;
 use crate::targets::Targets;
 use jc_base::Handler;
-use jc_decode::{Placed, decode};
+use jc_decode::Placed;
 use std::alloc::{AllocError, Global};
 
 /// What a traversal of the places that control reaches has found.
@@ -26,14 +28,19 @@ pub struct Traversal {
 
 impl Traversal {
     /// Finds all places that control reaches.
-    pub fn of(alloc: Global, subject: Subject<'_>) -> Result<Traversal, AllocError>
-        requires { IsWellFormed (method subject) }
-        ensures { IfOk result (λ s. IsControlFlow (method subject.entry) (found s)) }
+    pub fn of(
+        alloc: Global,
+        subject: Subject<'_>,
+        listing: &Listing,
+    ) -> Result<Traversal, AllocError>
+        requires formed { IsWellFormed (method subject) }
+        requires listing { IsListingOf subject.code.bytes.now listing.now }
+        ensures { IfOk result (λ s. IsControlFlow (method subject.entry) (found s listing.now)) }
     {
         let mut traversal = Traversal::new(alloc, subject.code.bytes.len() + 1)?;
         traversal.reach(0)?;
         'work: while let Some(place) = traversal.take() {
-            if let Err(error) = traversal.visit(subject, place) {
+            if let Err(error) = traversal.visit(subject, listing, place) {
                 return Err(error);
             }
         }
@@ -176,15 +183,21 @@ impl Traversal {
     }
 
     /// Finds all that follows a reached place.
-    fn visit(&mut self, subject: Subject<'_>, place: u16) -> Result<(), AllocError>
+    fn visit(
+        &mut self,
+        subject: Subject<'_>,
+        listing: &Listing,
+        place: u16,
+    ) -> Result<(), AllocError>
         requires formed { IsWellFormed (method subject) }
+        requires listing { IsListingOf subject.code.bytes.now listing.now }
         requires reached { IsReached (method subject) place }
         requires sound { IsSound (method subject) self.old }
         ensures sound { OnOk result (IsSound (method subject.entry) self.new) }
         ensures grows { OnOk result (Grows self.old self.new) }
         ensures closed { OnOk result (IsClosedAt (method subject.entry) self.new place) }
     {
-        let insn = match decode(subject.code, place) {
+        let insn = match listing.insn(subject.code, place) {
             Ok(insn) => insn,
             Err(_) => return Ok(()),
         };

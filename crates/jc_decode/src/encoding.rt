@@ -13,7 +13,7 @@ use std::alloc::AllocError;
 
 /// Appends an instruction's bytes. Of a switch, the table is the one in `code` at `at`, where `decode`
 /// gives the same switch but for its default. The instruction's own `len` is read of a switch alone.
-/// Where memory is wanting nothing is appended.
+/// Where there is no memory nothing is appended.
 pub fn encode(insn: Insn, code: View, at: u16, to: &mut Vec<u8>) -> Result<(), AllocError>
     requires short { length code.bytes.now ≤ 65535 }
     requires operands { IsAllowed insn }
@@ -34,7 +34,7 @@ pub fn encode(insn: Insn, code: View, at: u16, to: &mut Vec<u8>) -> Result<(), A
     result
 }
 
-/// Appends an instruction's bytes, or some of them where memory is wanting.
+/// Appends an instruction's bytes, or some of them where there is no memory.
 #[tactic(auto, using(crate::proofs::Appending::steps), unfolding(crate::specs::Encoding::encoding))]
 fn append(insn: Insn, code: View, at: u16, to: &mut Vec<u8>) -> Result<(), AllocError>
     requires short { length code.bytes.now ≤ 65535 }
@@ -51,7 +51,7 @@ fn append(insn: Insn, code: View, at: u16, to: &mut Vec<u8>) -> Result<(), Alloc
     append_table(layout, insn, code, at, to)
 }
 
-/// Appends the opcode and the operands, or some of them where memory is wanting.
+/// Appends the opcode and the operands, or some of them where there is no memory.
 #[tactic(auto, using(crate::proofs::Appending::steps))]
 fn append_head(layout: Layout, insn: Insn, to: &mut Vec<u8>) -> Result<(), AllocError>
     requires { AllowsBy insn (Ok layout) }

@@ -7,20 +7,6 @@ use Rattle.jc_rules.specs.Stack.{cells}
 use Rattle.jc_rules.specs.Demand.{Frame}
 use Rattle.jc_flow.specs.Scratch.{Scratched}
 
-more : (from to : List Ty) (n : ℕ) (d : Ty) → n < length from → n < length to → set (take n from ++ drop n to) n (get_or from n d) ≡ take (suc n) from ++ drop (suc n) to
-more [] to n d h k = absurd (omega arith)
-more (x ∷ xs) [] n d h k = absurd (omega arith)
-more (x ∷ xs) (y ∷ ys) zero d h k = refl
-more (x ∷ xs) (y ∷ ys) (suc n) d h k = ap (λ zs. x ∷ zs) (more xs ys n d (omega arith) (omega arith))
-
-pub copied_more : (from to now : List Ty) (n : ℕ) (d : Ty) → n < length from → n < length to → now ≡ take n from ++ drop n to → set now n (get_or from n d) ≡ take (n + 1) from ++ drop (n + 1) to
-copied_more from to now n d h k e = ap (λ xs. set xs n (get_or from n d)) e ∙ rw (add-one n) (more from to n d h k)
-
-pub copied_all : (from to now : List Ty) (n : ℕ) → length from ≤ n → n ≤ length from → now ≡ take n from ++ drop n to → now ≡ from ++ drop (length from) to
-copied_all from to now n h k e =
-    let same : n ≡ length from = omega arith in
-    e ∙ ap (λ m. take m from ++ drop m to) same ∙ ap (λ xs. xs ++ drop (length from) to) (take-length from)
-
 -- registers and a stack that are copied make the frame that they come from
 pub copied_frame : (regs old_regs new_regs stack old_stack new_stack : List Ty) (f : Frame) (depth : ℕ) → f.regs ≡ regs → length regs ≡ length old_regs → new_regs ≡ regs ++ drop (length regs) old_regs
     → f.stack ≡ reverse stack → new_stack ≡ stack ++ drop (length stack) old_stack → depth ≡ length stack → length stack ≤ length old_stack

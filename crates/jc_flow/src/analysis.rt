@@ -14,7 +14,7 @@ use crate::table::{PutEnd, StateTable};
 use cap_bytes::View;
 use jc_base::{MethodRec, Ty, World};
 use jc_control::ControlFlow;
-use jc_decode::{Insn, decode};
+use jc_decode::Insn;
 use jc_ops::RuleFault;
 use jc_rules::Site;
 use std::alloc::Global;
@@ -72,7 +72,7 @@ impl Analysis<'_> {
         ensures suits { OnOk result (SuitsMethod frame.new self.now.rec.now) }
         ensures failed { IfErr result (IsFailure (world_of self.now) (analysed self.now)) }
     {
-        let insn = match decode(self.code, place) {
+        let insn = match self.control.insn(self.code, place) {
             Ok(insn) => insn,
             Err(end) => return Err(FlowEnd::Code(place, end)),
         };

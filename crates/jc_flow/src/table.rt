@@ -116,7 +116,7 @@ impl StateTable {
             (record { regs = regs.now; stack = reverse stack.now })) }
     {
         if self.state(place).is_none() {
-            self.states[place as usize] = Some(copied(alloc, regs, stack)?);
+            self.states[place as usize] = Some(State::of(alloc, regs, stack)?);
             self.wait(place as usize);
             return Ok(());
         }
@@ -145,14 +145,6 @@ impl StateTable {
         self.pending[place] = true;
         self.low = self.low.min(place);
     }
-}
-
-/// A state of these registers and of this stack, with its top last.
-fn copied(alloc: Global, regs: &[Ty], stack: &[Ty]) -> Result<State, AllocError>
-    requires { length stack.now ≤ 255 }
-    ensures { IfOk result (λ s. s ≡ record { regs = regs.now; stack = reverse stack.now }) }
-{
-    Ok(State::of(regs.to_vec(alloc)?, stack.to_vec(alloc)?))
 }
 
 /// Merges registers and a stack into the state that is there.

@@ -4,11 +4,16 @@ use Rattle.jc_base.specs.declared.record.MethodRec.{MethodRec}
 use Rattle.jc_base.specs.Linked.{list_at}
 use Rattle.jc_indexes.specs.Indexes.{has_code, is_coded}
 
+-- the lists that are left, by package
+abbrev pub Left : Type 0
+Left = List (List (List ℕ))
+
 -- a method with code takes the first list that is left of its package
-abbrev pub taken : List (List (List ℕ)) → MethodRec → Option (List ℕ)
+abbrev pub taken : Left → MethodRec → Option (List ℕ)
 taken lists m = if has_code m then slice_get (list_at lists m.package) 0 else None
 
-pub record IsTakenFrom (before : List (List (List ℕ))) (m : MethodRec) (index : Option (List ℕ)) (after : List (List (List ℕ))) : Type 0 where
+pub record IsTakenFrom (before : Left) (m : MethodRec) (index : Option (List ℕ)) (after : Left) : Type 0 where
   pub is : index ≡ taken before m
   pub size : length after ≡ length before
-  pub left : (k : ℕ) → list_at after k ≡ (if is_coded k m then drop 1 (list_at before k) else list_at before k)
+  pub left : (k : ℕ)
+      → list_at after k ≡ (if is_coded k m then drop 1 (list_at before k) else list_at before k)

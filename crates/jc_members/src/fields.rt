@@ -10,7 +10,7 @@ ghost use Rattle.jc_members.specs.Sites.{all_entered};
 ghost use Rattle.jc_members.specs.Members.{as_of, kept_holder, kept_field, field_member};
 
 use crate::entries::{proper_in, token_in};
-use crate::own_field::{OwnField, cells_before, own_fields};
+use crate::own_field::{OwnField, cells_before, described_classes, own_fields};
 use crate::sites::{Sites, Spot};
 use cap_package::Package;
 use cap_pool::PoolEntry;
@@ -81,9 +81,10 @@ fn enter_package(
         (sites_of_classes names.now.packages classes.now number «package».now first
         «package».now.classes)) }
 {
+    let described = described_classes(alloc, package)?;
     let mut c = first;
     'classes: for class in package.classes().iter() {
-        let own = own_fields(alloc, names, number, package, class)?;
+        let own = own_fields(alloc, names, number, package, &described, class)?;
         enter_class(sites, classes, c, &own)?;
         c += 1;
     }

@@ -88,15 +88,31 @@ fn push_record(
     Ok(())
 }
 
-/// The fields that a class has of its own; an interface has none.
+/// The records of a package's classes in its Descriptor, each read once.
+pub(crate) fn described_classes<'a>(
+    alloc: Global,
+    package: &Package<'_, 'a>,
+) -> Result<Vec<DescClass<'a>>, AllocError>
+    ensures { IfOk result (λ v. map class_seen v.items ≡ «package».now.description.items.classes) }
+{
+    let mut described = Vec::new(alloc);
+    'records: for class in package.descriptor().classes() {
+        described.push(class)?;
+    }
+    Ok(described)
+}
+
+/// The fields that a class has of its own, by the records of all classes of its package; an interface has none.
 #[tactic(auto, unfolding(crate::specs::Fields::own_fields))]
 pub(crate) fn own_fields(
     alloc: Global,
     names: &Names<'_, '_, '_>,
     number: u16,
     package: &Package<'_, '_>,
+    records: &[DescClass<'_>],
     class: ClassInfo<'_>,
 ) -> Result<Vec<OwnField>, AllocError>
+    requires { map class_seen records.now ≡ «package».now.description.items.classes }
     ensures { IfOk result
         (λ own.
         own.items
@@ -108,15 +124,9 @@ pub(crate) fn own_fields(
         return Ok(own);
     }
     let descriptor = package.descriptor();
-    'records: for described in descriptor.classes() {
-        push_record(
-            &mut own,
-            names,
-            number,
-            &descriptor,
-            class.offset(),
-            described,
-        )?;
+    let offset = class.offset();
+    'records: for described in records {
+        push_record(&mut own, names, number, &descriptor, offset, *described)?;
     }
     Ok(own)
 }

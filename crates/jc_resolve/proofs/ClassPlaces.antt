@@ -1,20 +1,19 @@
 -- The records of the Class component stand one after the other, so no two classes stand at one place.
-use Rattle.std.proofs.Common.{◌≡◌, ℕ, zero, suc, ◌+◌, ◌<◌, ◌≤◌, ◌⊎◌, Bool, true, false, leb, cond, List, [], ◌∷◌, ◌++◌, length, map, Option, Some, None, refl, sym, ap, subst, ◌∙◌, arith, inl, inr}
+use Rattle.std.proofs.Common.{◌≡◌, ℕ, zero, suc, ◌+◌, ◌<◌, ◌≤◌, ◌⊎◌, Bool, true, false, leb, cond, List, [], ◌∷◌, length, map, Option, Some, None, refl, sym, ap, subst, ◌∙◌, arith, inl, inr}
 use Rattle.std.specs.Prelude.{All, slice_get, option_map}
 use Rattle.std.proofs.lemmas.Bool.{leb-true}
 use Rattle.std.proofs.lemmas.List.Elements.{All-head, All-tail}
 use Rattle.std.proofs.lemmas.Option.{slice_get-map}
 use Rattle.cap_bytes.specs.Grammar.{at_most, when, give, ◌>>=◌}
-use Rattle.cap_bytes.specs.Number.{number_at}
 use Rattle.cap_bytes.specs.declared.format.Format.{Format}
 use Rattle.cap_bytes.specs.Spelling.{Spells, Stands}
-use Rattle.cap_class.specs.ClassFormat.{Class, record_info, is_after, beyond_first, is_interface, class_flags, wrong_record, signature_pool, classes_info}
+use Rattle.cap_class.specs.ClassFormat.{Class, record_info, is_after, beyond_first, is_interface, class_flags, signature_pool, classes_info}
 use Rattle.cap_package.specs.PackageRecord.{PackageRecord}
 use Rattle.jc_resolve.specs.declared.place.RecordPlace.{RecordPlace}
 use Rattle.jc_resolve.specs.Named.{IsAgreed}
 use Rattle.jc_resolve.specs.Numbering.{NumberedClass, numbered_class, classes_of, classes_after, numbered_classes, place_of_class, class_places}
 use Rattle.jc_resolve.proofs.Pairwise.{Each, each-append, each-weaker, each-map, Pairwise, pairwise-append, one-place}
-use Rattle.jc_resolve.proofs.Repeats.{LiesWithin, goes_on}
+use Rattle.jc_resolve.proofs.Repeats.{goes_on}
 
 -- ---- one component
 

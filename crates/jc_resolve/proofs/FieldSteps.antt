@@ -22,3 +22,5 @@ token_step f g ys a n lt =
     ap (λ k. ys ++ flat_map f (flat_map g (range_with_len a k))) e
     ∙ ap (λ l. ys ++ l) (flat_map-append f (g a) rest)
     ∙ sym (append_assoc ys (flat_map f (g a)) (flat_map f rest))
+
+pub ruleset token_steps = (cells_kept, cells_passed)

@@ -1,5 +1,5 @@
 -- No two methods stand at one place of a Method component, and no two of a package have the same two numbers.
-use Rattle.std.proofs.Common.{◌≡◌, ℕ, zero, suc, ◌+◌, ◌<◌, ◌≤◌, ◌⊎◌, Bool, true, false, not, ltb, leb, max, min, cond, List, [], ◌∷◌, ◌++◌, length, map, Option, Some, None, refl, sym, ap, subst, ◌∙◌, arith, inl, inr}
+use Rattle.std.proofs.Common.{◌≡◌, ℕ, ◌+◌, ◌<◌, ◌≤◌, ◌⊎◌, Bool, true, false, not, ltb, leb, max, min, cond, List, [], ◌∷◌, ◌++◌, length, map, Option, Some, None, refl, sym, ap, subst, ◌∙◌, arith, inl, inr}
 use Rattle.std.specs.Prelude.{All, slice_get, option_map}
 use Rattle.std.specs.List.{filter_map}
 use Rattle.std.proofs.lemmas.Bool.{lt-ltb, true≢false}
@@ -23,7 +23,7 @@ use Rattle.jc_resolve.specs.Numbering.{NumberedMethod, numbered, is_placed, meth
 use Rattle.jc_resolve.specs.OwnPlaces.{HaveOwnPlaces}
 use Rattle.jc_resolve.proofs.ClassPlaces.{classes_apart}
 use Rattle.jc_resolve.proofs.Faultless.{faultless_first, both_faultless}
-use Rattle.jc_resolve.proofs.Pairwise.{Each, each-append, each-split, each-weaker, Pairwise, pairwise-append, pairwise-split, IsSplit, one-place}
+use Rattle.jc_resolve.proofs.Pairwise.{Each, each-append, each-split, each-weaker, Pairwise, pairwise-append, pairwise-split, one-place}
 
 -- ---- the methods that a package describes
 

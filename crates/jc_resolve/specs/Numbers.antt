@@ -4,7 +4,9 @@ use Rattle.std.specs.Map.{lookup}
 use Rattle.indexmap.specs.IndexMap.{insert_entry}
 use Rattle.cap_class.specs.ClassFormat.{Class, is_interface}
 use Rattle.cap_desc.specs.DescriptorFormat as described
+use Rattle.cap_pool.specs.ExportFormat.{Exported}
 use Rattle.cap_package.specs.PackageRecord.{PackageRecord, names_interface}
+use Rattle.cap_package.specs.Agreement.{or_none}
 use Rattle.jc_resolve.specs.declared.place.RecordPlace.{RecordPlace}
 use Rattle.jc_resolve.specs.Numbering.{same_place}
 use Rattle.jc_resolve.specs.Counts.{class_total, method_total}
@@ -58,11 +60,19 @@ abbrev pub method_spots : ℕ → List PackageRecord → List (Option RecordPlac
 method_spots k [] = []
 method_spots k (p ∷ ps) = spots_of_classes k (names_interface p.classes) p.description.items.classes ++ method_spots (k + 1) ps
 
--- the numbers and the flags of the classes and methods of packages, which are so few
-pub record AreIndexed (ps : List PackageRecord) (t : Numbered) (flags : List Bool) (m : Numbered) : Type 0 where
+-- where the classes stand that a package exports, by token, and those of packages
+abbrev pub class_offsets : PackageRecord → List ℕ
+class_offsets p = map (λ (c : Exported). c.class_offset) (or_none p.export)
+
+abbrev pub exported_offsets : List PackageRecord → List (List ℕ)
+exported_offsets = map class_offsets
+
+-- the numbers and the flags of the classes and methods of packages, which are so few, and the places of what they export
+pub record AreIndexed (ps : List PackageRecord) (t : Numbered) (flags : List Bool) (m : Numbered) (exports : List (List ℕ)) : Type 0 where
   pub numbers : t ≡ with_all none_numbered (class_spots 0 ps)
   pub flags_are : flags ≡ class_flags ps
   pub methods : m ≡ with_all none_numbered (method_spots 0 ps)
+  pub exports_are : exports ≡ exported_offsets ps
   pub few : class_total ps ≤ 4096
   pub few_methods : method_total ps ≤ 32768
   pub packages : length ps ≤ 16

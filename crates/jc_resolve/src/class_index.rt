@@ -4,14 +4,16 @@ ghost use Rattle.cap_class.specs.ClassPart.{classes_left};
 ghost use Rattle.jc_resolve.specs.Counts.{class_total, method_total};
 ghost use Rattle.jc_resolve.specs.Numbering.{numbered_classes, numbered_methods, class_at, method_at, is_interface_number};
 ghost use Rattle.jc_resolve.specs.Numbers.{spot_of_class, with_all, none_numbered, class_spots, class_flags};
-ghost use Rattle.jc_resolve.specs.References.{class_named};
+ghost use Rattle.jc_resolve.specs.References.{class_named, exported_offset};
 
-use crate::imports::{exported_offset, met_by};
+use crate::exports::exported_offsets;
+use crate::imports::met_by;
 use crate::method_index::number_methods;
 use crate::numbers::Numbers;
 use crate::place::RecordPlace;
 use cap_class::Classes;
 use cap_package::Packages;
+use jc_base::Items;
 use std::alloc::{AllocError, Global};
 use std::marker::Model;
 
@@ -23,6 +25,8 @@ pub(crate) struct Index<'n, 'p, 'a> {
     /// By number whether it is an interface.
     interfaces: Vec<bool>,
     methods: Numbers,
+    /// By package and token where the exported classes stand.
+    exports: Items<Items<u16>>,
 }
 
 impl<'n, 'p, 'a> Model for Index<'n, 'p, 'a> {
@@ -35,7 +39,7 @@ impl<'n, 'p, 'a> Model for Index<'n, 'p, 'a> {
 
     ghost view = { λ x. x.packages.now };
 
-    ghost invariant = { λ x. AreIndexed x.packages.now x.numbers x.interfaces.items x.methods };
+    ghost invariant = { λ x. AreIndexed x.packages.now x.numbers x.interfaces.items x.methods x.exports };
 }
 
 /// Numbers the classes of one package.
@@ -103,11 +107,13 @@ pub(crate) fn index_packages<'n, 'p, 'a>(
 {
     let classes = number_all(alloc, packages)?;
     let methods = number_methods(alloc, packages)?;
+    let exports = exported_offsets(alloc, packages)?;
     Ok(Index {
         packages,
         numbers: classes.numbers,
         interfaces: classes.interfaces,
         methods,
+        exports,
     })
 }
 
@@ -130,6 +136,14 @@ impl<'n, 'p, 'a> Index<'n, 'p, 'a> {
         self.numbers.at(place)
     }
 
+    /// The offset of the class that a package exports with a token.
+    fn exported_offset(&self, package: u16, token: u8) -> Option<u16>
+        ensures { result ≡ exported_offset self.now «package» token }
+    {
+        let offsets = self.exports.as_slice().get(package as usize)?;
+        offsets.as_slice().get(token as usize).copied()
+    }
+
     /// The class that a reference of a package names.
     #[tactic(auto, unfolding(crate::specs::References::class_named))]
     pub(crate) fn class_named(&self, package: u16, reference: u16) -> Option<u16>
@@ -144,7 +158,7 @@ impl<'n, 'p, 'a> Index<'n, 'p, 'a> {
         }
         let import = ((reference - 0x8000) / 256) as u8;
         let home = met_by(self.packages, package, import)?;
-        let offset = exported_offset(self.packages, home, (reference % 256) as u8)?;
+        let offset = self.exported_offset(home, (reference % 256) as u8)?;
         self.class_at(RecordPlace {
             package: home,
             offset,

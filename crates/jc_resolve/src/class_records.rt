@@ -2,6 +2,7 @@ ghost use Rattle.std.specs.Prelude.{◌≡◌, ◌≤◌, ◌++◌, length, map,
 ghost use Rattle.cap_bytes.specs.Table.{numbers};
 ghost use Rattle.cap_class.specs.ClassPart.{class_seen, classes_left};
 ghost use Rattle.cap_class.specs.Lists.{interfaces_left};
+ghost use Rattle.cap_desc.specs.ClassRecords.{class_seen as record_seen, classes_left as records_left};
 ghost use Rattle.cap_desc.specs.MemberLists.{fields_left};
 ghost use Rattle.cap_desc.specs.MemberRecords.{field_seen};
 ghost use Rattle.cap_package.specs.Descriptions.{description};
@@ -15,7 +16,7 @@ use crate::named::{DispatchTable, NamedClass};
 use crate::place::RecordPlace;
 use crate::world_types::push_cells;
 use cap_class::{ClassInfo, Interfaces};
-use cap_desc::{DescFields, DescPart, FieldInfo};
+use cap_desc::{DescClass, DescClasses, DescFields, DescPart, FieldInfo};
 use cap_package::{Packages, field_type};
 use jc_base::{Iface, Items, Ty};
 use std::alloc::{AllocError, Global};
@@ -91,17 +92,28 @@ fn push_fields(fields: &mut Vec<FieldInfo>, described: DescFields<'_>) -> Result
     Ok(())
 }
 
+/// The records of the Descriptor, each read once.
+fn records_of(alloc: Global, described: DescClasses<'_>) -> Result<Vec<DescClass<'_>>, AllocError>
+    ensures { IfOk result (λ v. map record_seen v.items ≡ records_left described.entry) }
+{
+    let mut records = Vec::new(alloc);
+    'records: for record in described {
+        records.push(record)?;
+    }
+    Ok(records)
+}
+
 /// The instance fields that the Descriptor describes of the class at an offset.
 #[tactic(auto, unfolding(crate::specs::NamedClasses::instance_fields, crate::specs::NamedClasses::fields_described))]
 fn instance_fields(
     alloc: Global,
-    descriptor: &DescPart<'_>,
+    records: &[DescClass<'_>],
     offset: u16,
 ) -> Result<Vec<FieldInfo>, AllocError>
-    ensures { IfOk result (λ v. map field_seen v.items ≡ instance_fields (description descriptor.now).items.classes offset) }
+    ensures { IfOk result (λ v. map field_seen v.items ≡ instance_fields (map record_seen records.now) offset) }
 {
     let mut fields = Vec::new(alloc);
-    'classes: for class in descriptor.classes() {
+    'classes: for class in records {
         if offset < 0x8000 && class.class_ref() == offset {
             push_fields(&mut fields, class.fields())?;
         }
@@ -130,7 +142,7 @@ fn push_field(
 }
 
 /// Appends the types of the cells of the fields with a token.
-#[tactic(auto, unfolding(crate::specs::NamedClasses::with_token), using(crate::proofs::FieldSteps::cells_kept, crate::proofs::FieldSteps::cells_passed))]
+#[tactic(auto, unfolding(crate::specs::NamedClasses::with_token), using(crate::proofs::FieldSteps::token_steps))]
 fn push_token(
     cells: &mut Vec<Ty>,
     index: &Index<'_, '_, '_>,
@@ -214,8 +226,10 @@ fn interface_in(
 fn named_proper(
     alloc: Global,
     home: Home<'_, '_, '_, '_>,
+    records: &[DescClass<'_>],
     class: ClassInfo<'_>,
 ) -> Result<NamedClass, AllocError>
+    requires { map record_seen records.now ≡ home.of_package.now.description.items.classes }
     ensures is { IfOk result
         (λ c.
         c
@@ -238,7 +252,7 @@ fn named_proper(
         class.package_base(),
         class.package_table(),
     )?;
-    let fields = instance_fields(alloc, &descriptor, class.offset())?;
+    let fields = instance_fields(alloc, records, class.offset())?;
     let own = cells_of_fields(alloc, index, object, number, &descriptor, fields.as_slice())?;
     let super_ref = class.super_ref();
     let parent = if super_ref == 0xFFFF {
@@ -262,8 +276,10 @@ fn named_proper(
 fn named_class(
     alloc: Global,
     home: Home<'_, '_, '_, '_>,
+    records: &[DescClass<'_>],
     class: ClassInfo<'_>,
 ) -> Result<NamedClass, AllocError>
+    requires { map record_seen records.now ≡ home.of_package.now.description.items.classes }
     ensures is { IfOk result
         (λ c.
         c
@@ -276,7 +292,7 @@ fn named_class(
     if class.flags().is_interface() {
         interface_in(alloc, home.index, home.number, class)
     } else {
-        named_proper(alloc, home, class)
+        named_proper(alloc, home, records, class)
     }
 }
 
@@ -293,8 +309,9 @@ fn push_classes(
         (classes_of home.entry.number home.entry.of_package.now)) }
     ensures sized { OnOk result (All IsSized named.new.items) }
 {
+    let records = records_of(alloc, home.of_package.descriptor().classes())?;
     'classes: for class in home.of_package.classes().iter() {
-        named.push(named_class(alloc, home, class)?)?;
+        named.push(named_class(alloc, home, records.as_slice(), class)?)?;
     }
     Ok(())
 }

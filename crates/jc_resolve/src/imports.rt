@@ -1,6 +1,6 @@
 ghost use Rattle.std.specs.Prelude.{◌≡◌, ◌<◌, IfSome, length, position};
 ghost use Rattle.cap_frame.specs.Packages.{package_seen};
-ghost use Rattle.jc_resolve.specs.References.{meets, met_by, exported_offset};
+ghost use Rattle.jc_resolve.specs.References.{meets, met_by};
 
 use cap_frame::PackageInfo;
 use cap_package::{Package, Packages};
@@ -36,15 +36,4 @@ pub(crate) fn met_by(packages: &Packages<'_, '_>, package: u16, token: u8) -> Op
         Some(n) => Some(n as u16),
         None => None,
     }
-}
-
-/// The offset of the class that a package exports with a token.
-pub(crate) fn exported_offset(packages: &Packages<'_, '_>, package: u16, token: u8) -> Option<u16>
-    ensures { result ≡ exported_offset packages.now «package» token }
-{
-    if package as usize >= packages.len() {
-        return None;
-    }
-    let export = packages.at(package as usize).export()?;
-    Some(export.class(token)?.class_offset)
 }

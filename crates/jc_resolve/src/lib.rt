@@ -7,6 +7,7 @@
 mod class_index;
 mod class_records;
 mod counts;
+mod exports;
 mod fault;
 mod home;
 mod import_checks;

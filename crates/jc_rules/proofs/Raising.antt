@@ -8,7 +8,7 @@ use Rattle.jc_base.specs.declared.ty.Ty.{Ty}
 use Rattle.jc_base.specs.declared.ty.Ty.TheVariants.{Top}
 use Rattle.jc_base.specs.Class.{ClassTable}
 use Rattle.jc_base.proofs.Lists.{All-reverse, All-turned}
-use Rattle.jc_base.specs.Order.{IsJoin, IsKnown, rises_left}
+use Rattle.jc_base.specs.Order.{Below, same, anything, IsJoin, IsKnown, rises_left}
 use Rattle.jc_rules.specs.declared.state.Merged.TheVariants.{Same, Risen}
 use Rattle.jc_rules.specs.Flow.{CellsJoin, none_joined, more_joined, IsNotTop}
 use Rattle.jc_rules.specs.Typing.{Clashes, depths, cells, IsMerged}
@@ -132,6 +132,18 @@ module _ (t : ClassTable) (regs other_regs new_regs stack other_stack new_stack 
     record { regs = subst (CellsJoin t regs other_regs) hr rj; stack = CellsJoin-reverse t (subst (CellsJoin t stack other_stack) hs sj); no_top = All-reverse IsNotTop stack (subst (All IsNotTop) hs none) },
     cc,
   )
+
+-- where one of two types is above the other, it is their join
+pub join-above : (t : ClassTable) (a b : Ty) → Below t b a → IsJoin t a b a
+join-above t a b below = record { left = same; right = below; least = λ u p q. p }
+
+pub join-over : (t : ClassTable) (a b : Ty) → Below t a b → IsJoin t a b b
+join-over t a b below = record { left = below; right = same; least = λ u p q. q }
+
+-- what is not other than Top is above each type
+pub top-above : (t : ClassTable) (a b : Ty) → ¬ (IsNotTop a) → Below t b a
+top-above t Top b h = anything
+top-above t _ b h = absurd (h tt)
 
 pub not_both : {b : Bool} → b ≡ false → b ≡ true → ⊥
 not_both e f = cc

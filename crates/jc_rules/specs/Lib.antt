@@ -1,6 +1,7 @@
 pub mod Stack
 pub mod Effect
 pub mod Demand
+pub mod Held
 pub mod Rule
 pub mod Known
 pub mod Apply

@@ -2,7 +2,7 @@
 use Rattle.std.specs.Prelude.{◌≡◌, ℕ, ◌+◌, ◌<◌, List, length, All, sum_by, Option, Some, None, slice_get}
 use Rattle.jc_base.specs.declared.ty.Ty.{Ty}
 use Rattle.jc_base.specs.Class.{ClassTable}
-use Rattle.jc_base.specs.Order.{rises_left}
+use Rattle.jc_base.specs.Order.{IsJoin, IsKnown, rises_left}
 use Rattle.jc_rules.specs.declared.state.Merged.{Merged}
 use Rattle.jc_rules.specs.declared.state.Merged.TheVariants.{Same, Risen, Clashing}
 use Rattle.jc_rules.specs.Demand.{Frame}
@@ -20,6 +20,11 @@ state_at typing place = flat (slice_get typing place)
 pub data Clashes (t : ClassTable) (f g : Frame) : Type 0 where
   depths : ¬ (length f.stack ≡ length g.stack) → Clashes t f g
   cells : {joined : List Ty} → CellsJoin t f.stack g.stack joined → ¬ (All IsNotTop joined) → Clashes t f g
+
+-- the join of a type that is held with another: none where it is the one that is held, and else it has fewer rises left
+abbrev pub RaisesOrStays : ClassTable → Ty → Ty → Option Ty → Type 0
+RaisesOrStays t held other None = IsJoin t held other held
+RaisesOrStays t held other (Some j) = IsJoin t held other j × IsKnown t j × (rises_left t j < rises_left t held)
 
 -- how many times the cells of a frame can rise at most
 abbrev pub rises_of : ClassTable → Frame → ℕ

@@ -1,18 +1,20 @@
-ghost use Rattle.std.specs.Prelude.{◌≡◌, ◌≤◌, ◌<◌, length, reverse, sum_by, All, IsTrue, MatchBool, MatchOption, if◌then◌else◌, ◌||◌};
-ghost use Rattle.jc_base.specs.Order.{Below, IsJoin, IsKnown, rises_left};
+ghost use Rattle.std.specs.Prelude.{◌≡◌, ◌≤◌, ◌<◌, length, take, drop, reverse, sum_by, All, IfOk, MatchBool, if◌then◌else◌, ◌||◌};
+ghost use Rattle.jc_base.specs.Order.{IsKnown, rises_left};
 ghost use Rattle.jc_rules.specs.Demand.{Frame};
 ghost use Rattle.jc_rules.specs.Flow.{CellsJoin, IsNotTop};
-ghost use Rattle.jc_rules.specs.Typing.{IsMerged};
+ghost use Rattle.jc_rules.specs.Held.{IsParted, parted};
+ghost use Rattle.jc_rules.specs.Typing.{IsMerged, RaisesOrStays};
 
-use jc_base::{Classes, Ty, below, join, types_are_ordered};
+use jc_base::{Classes, Ty, below, join, same_type, types_are_ordered};
+use std::alloc::{AllocError, Global};
 use std::marker::Model;
 
 /// The types of a method's registers and of its operand stack before the instruction at a place.
 #[derive(Drop)]
 pub struct State {
-    regs: Vec<Ty>,
-    /// The top last.
-    stack: Vec<Ty>,
+    /// The registers, and then the stack with its top last.
+    cells: Vec<Ty>,
+    registers: usize,
 }
 
 impl Model for State {
@@ -20,11 +22,11 @@ impl Model for State {
 
     ghost Value = { Frame };
 
-    ghost use Rattle.std.specs.Prelude.{◌≤◌, length, reverse};
+    ghost use Rattle.jc_rules.specs.Held.{IsParted, parted};
 
-    ghost view = { λ s. record { regs = s.regs.items; stack = reverse s.stack.items } };
+    ghost view = { λ s. parted s.registers s.cells.items };
 
-    ghost invariant = { λ s. length s.stack.items ≤ 255 };
+    ghost invariant = { λ s. IsParted s.registers s.cells.items };
 }
 
 /// What became of a state that another was merged into.
@@ -40,17 +42,23 @@ pub enum Merged {
 
 impl State {
     /// The state of these registers, and of this stack with its top last.
-    pub fn of(regs: Vec<Ty>, stack: Vec<Ty>) -> State
-        requires { length stack.items ≤ 255 }
-        ensures { result ≡ record { regs = regs.items; stack = reverse stack.items } }
+    pub fn of(alloc: Global, regs: &[Ty], stack: &[Ty]) -> Result<State, AllocError>
+        requires { length stack.now ≤ 255 }
+        ensures { IfOk result (λ s. s ≡ record { regs = regs.now; stack = reverse stack.now }) }
     {
-        State { regs, stack }
+        let mut cells = Vec::with_capacity(alloc, regs.len() + stack.len())?;
+        cells.extend_from_slice(regs)?;
+        cells.extend_from_slice(stack)?;
+        Ok(State {
+            cells,
+            registers: regs.len(),
+        })
     }
 
     pub fn regs(&self) -> &[Ty]
         ensures { result.now ≡ self.now.regs }
     {
-        self.regs.as_slice()
+        &self.cells[..self.registers]
     }
 
     /// The stack, with its top last.
@@ -58,7 +66,7 @@ impl State {
         ensures is { self.now.stack ≡ reverse result.now }
         ensures few { length result.now ≤ 255 }
     {
-        self.stack.as_slice()
+        &self.cells[self.registers..]
     }
 
     /// Raises the state to the join with these registers and this stack, whose top is last. Where the stacks do
@@ -71,16 +79,63 @@ impl State {
         requires own_stack_known { All (IsKnown classes.now) self.old.stack }
         ensures { IsMerged classes.now self.old (record { regs = regs.now; stack = reverse stack.now }) self.new result }
     {
-        if self.stack.len() != stack.len() {
-            return Merged::Clashing;
-        }
-        let stack_rises = raise(classes, &mut self.stack, stack);
-        if has_top(self.stack.as_slice()) {
-            return Merged::Clashing;
-        }
-        let regs_rise = raise(classes, &mut self.regs, regs);
-        risen_if(stack_rises, regs_rise)
+        merge_cells(classes, &mut self.cells, self.registers, regs, stack)
     }
+}
+
+/// The same, where so many of the cells are the registers.
+fn merge_cells(
+    classes: &Classes,
+    cells: &mut [Ty],
+    registers: usize,
+    regs: &[Ty],
+    stack: &[Ty],
+) -> Merged
+    requires parted { IsParted registers cells.old }
+    requires count { length regs.now ≡ registers }
+    requires regs_known { All (IsKnown classes.now) regs.now }
+    requires stack_known { All (IsKnown classes.now) stack.now }
+    requires own_regs_known { All (IsKnown classes.now) (take registers cells.old) }
+    requires own_stack_known { All (IsKnown classes.now) (drop registers cells.old) }
+    ensures merged { IsMerged classes.now (parted registers cells.old)
+        (record { regs = regs.now; stack = reverse stack.now })
+        (parted registers cells.new) result }
+    ensures len { length cells.new ≡ length cells.old }
+{
+    if cells.len() - registers != stack.len() {
+        return Merged::Clashing;
+    }
+    let (own_regs, own_stack) = cells.split_at_mut(registers);
+    merge_parts(classes, own_regs, own_stack, regs, stack)
+}
+
+/// Raises registers and a stack to the joins with others, where the stacks merge.
+fn merge_parts(
+    classes: &Classes,
+    own_regs: &mut [Ty],
+    own_stack: &mut [Ty],
+    regs: &[Ty],
+    stack: &[Ty],
+) -> Merged
+    requires registers { length own_regs.old ≡ length regs.now }
+    requires depth { length own_stack.old ≡ length stack.now }
+    requires regs_known { All (IsKnown classes.now) regs.now }
+    requires stack_known { All (IsKnown classes.now) stack.now }
+    requires own_regs_known { All (IsKnown classes.now) own_regs.old }
+    requires own_stack_known { All (IsKnown classes.now) own_stack.old }
+    ensures merged { IsMerged classes.now
+        (record { regs = own_regs.old; stack = reverse own_stack.old })
+        (record { regs = regs.now; stack = reverse stack.now })
+        (record { regs = own_regs.new; stack = reverse own_stack.new }) result }
+    ensures registers { length own_regs.new ≡ length own_regs.old }
+    ensures depth { length own_stack.new ≡ length own_stack.old }
+{
+    let stack_rises = raise(classes, own_stack, stack);
+    if has_top(own_stack) {
+        return Merged::Clashing;
+    }
+    let regs_rise = raise(classes, own_regs, regs);
+    risen_if(stack_rises, regs_rise)
 }
 
 fn risen_if(stack_rises: bool, regs_rise: bool) -> Merged
@@ -110,39 +165,49 @@ fn has_top(cells: &[Ty]) -> bool
     false
 }
 
-/// The join of what is held and another type, where the other is not below it.
-fn raised(classes: &Classes, held: Ty, other: Ty) -> Option<Ty>
+/// The join of what is held and another type, where the other is not below it. Most cells stay, as is seen before
+/// they are copied.
+fn raised(classes: &Classes, held: &Ty, other: &Ty) -> Option<Ty>
+    requires held_known { IsKnown classes.now held.now }
+    requires other_known { IsKnown classes.now other.now }
+    ensures { RaisesOrStays classes.now held.now other.now result }
+{
+    if is_top(*held) || same_type(*other, *held) {
+        return None;
+    }
+    higher(classes, *held, *other)
+}
+
+/// The same for cells that are not equal.
+fn higher(classes: &Classes, held: Ty, other: Ty) -> Option<Ty>
     requires held_known { IsKnown classes.now held }
     requires other_known { IsKnown classes.now other }
-    ensures { MatchOption result
-        (IsJoin classes.now held other held)
-        (λ j.
-        IsJoin classes.now held other j
-        × IsKnown classes.now j
-        × (rises_left classes.now j < rises_left classes.now held)) }
+    ensures { RaisesOrStays classes.now held other result }
 {
     types_are_ordered(classes);
     if below(classes, other, held) {
         None
+    } else if below(classes, held, other) {
+        Some(other)
     } else {
         Some(join(classes, held, other))
     }
 }
 
 /// Raises each cell to the join with the one beside it, and says whether any rose.
-fn raise(classes: &Classes, cells: &mut Vec<Ty>, others: &[Ty]) -> bool
-    requires count { length cells.old.items ≡ length others.now }
-    requires known { All (IsKnown classes.now) cells.old.items }
+fn raise(classes: &Classes, cells: &mut [Ty], others: &[Ty]) -> bool
+    requires count { length cells.old ≡ length others.now }
+    requires known { All (IsKnown classes.now) cells.old }
     requires others_known { All (IsKnown classes.now) others.now }
-    ensures len { length cells.new.items ≡ length cells.old.items }
-    ensures joins { CellsJoin classes.now cells.old.items others.now cells.new.items }
+    ensures len { length cells.new ≡ length cells.old }
+    ensures joins { CellsJoin classes.now cells.old others.now cells.new }
     ensures rises { MatchBool result
-        (sum_by (rises_left classes.now) cells.new.items < sum_by (rises_left classes.now) cells.old.items)
-        (cells.new.items ≡ cells.old.items) }
+        (sum_by (rises_left classes.now) cells.new < sum_by (rises_left classes.now) cells.old)
+        (cells.new ≡ cells.old) }
 {
     let mut rises = false;
     'cells: for n in 0..others.len() {
-        if let Some(higher) = raised(classes, cells[n], others[n]) {
+        if let Some(higher) = raised(classes, &cells[n], &others[n]) {
             cells[n] = higher;
             rises = true;
         }

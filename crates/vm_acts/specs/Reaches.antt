@@ -48,7 +48,9 @@ HandleIs k s n fact = IsNullOr (handle_at k (top s).stack n) (fact (handle_at k 
 abbrev pub HasReceiver : {A : Type 0} → Cells A → Linked → Callee → Choice → State A → Type 0
 HasReceiver k w c (choices.Virtual class token) s =
     HandleIs k s (args_of w c.method)
-    (λ h. IsSome (object_at s h) × IsClass w.classes (class_of w.classes s h) × Below w.classes (Class (class_of w.classes s h)) (Class class))
+    (λ h. IsSome (object_at s h)
+    × IsClass w.classes (class_of w.classes s h)
+    × Below w.classes (Class (class_of w.classes s h)) (Class class))
 HasReceiver k w c (choices.Interface class token words) s =
     HandleIs k s (args_of w c.method) (λ h. IsSome (object_at s h) × IsClass w.classes (class_of w.classes s h))
 HasReceiver k w c _ s = ⊤

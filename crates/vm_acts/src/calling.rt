@@ -133,7 +133,13 @@ fn call_virtual<S: Store>(
     requires chosen { callee.choice ≡ choices.Virtual class token }
     requires cells { args_of world.now callee.method < length (top (S.state store.now)).stack }
     requires receiver { HasReceiver S.Cell.cells world.now callee (choices.Virtual class token) (S.state store.now) }
-    ensures act { chosen_act S.Cell.cells world.now.classes callee (args_of world.now callee.method) (choices.Virtual class token) (S.state store.now)
+    ensures act { chosen_act
+        S.Cell.cells
+        world.now.classes
+        callee
+        (args_of world.now callee.method)
+        (choices.Virtual class token)
+        (S.state store.now)
         ≡ told S.Cell.cells world.now (S.state store.now) result }
     ensures stands { Stands S.stack_room world.now (S.state store.now) result }
 {

@@ -1,5 +1,5 @@
 -- The labels of a rewritten method are asked for as they are named, so that it has a card typing.
-use Rattle.std.proofs.Common.{◌≡◌, ◌≢◌, ◌⊎◌, ℕ, zero, suc, ◌+◌, ◌<◌, ◌≤◌, Bool, true, false, if◌then◌else◌, inl, inr, List, [], ◌∷◌, ◌++◌, map, length, slice_get, All, Contains, Option, Some, None, Ok, IfSome, refl, sym, ◌∙◌, ap, subst, arith}
+use Rattle.std.proofs.Common.{◌≡◌, ℕ, suc, ◌+◌, ◌<◌, Bool, true, if◌then◌else◌, List, [], ◌∷◌, map, length, slice_get, Contains, Some, Ok, IfSome, refl, sym, ◌∙◌, ap, subst, arith}
 use Rattle.std.specs.Prelude.{ℤ, pos, negsuc, is_some}
 use Rattle.std.proofs.lemmas.List.{length-map}
 use Rattle.std.proofs.lemmas.List.Elements.{All-contains}
@@ -8,7 +8,6 @@ use Rattle.jc_base.specs.Class.{IsClass}
 use Rattle.jc_base.specs.Each.{Each, IsAmong}
 use Rattle.jc_base.specs.declared.record.Handler.{Handler}
 use Rattle.jc_base.specs.declared.record.MethodRec.{MethodRec}
-use Rattle.jc_base.specs.World.{Linked}
 use Rattle.jc_decode.specs.Cases.{cases}
 use Rattle.jc_decode.specs.declared.insn.Placed.{Placed}
 use Rattle.jc_decode.specs.declared.symbols.Item.{Item}
@@ -16,7 +15,6 @@ use Rattle.jc_decode.specs.declared.symbols.Range.{Range}
 use Rattle.jc_decode.specs.Listing.{listing, jumps, target, targets}
 use Rattle.jc_decode.proofs.Ranges.{op-fits}
 use Rattle.jc_ops.specs.declared.operation.Operation.{Operation}
-use Rattle.jc_ops.specs.Next.{jumps_from}
 use Rattle.jc_control.specs.Control.{IsReached, IsLeader, IsLive, follows, jumped, caught, led_to, entered}
 use Rattle.jc_control.specs.Method.{IsMethodOf}
 use Rattle.jc_control.specs.WellFormed.{IsPlace, IsTargetPlace, IsHandlerOf, Stands as IsListed}
@@ -33,17 +31,17 @@ use Rattle.xf_emission.proofs.Live.{live-is}
 use Rattle.xf_emission.proofs.Once.{named-among}
 use Rattle.xf_emission.proofs.Standing.{each-all}
 use Rattle.xf_emission.proofs.Stubs.{all-rise}
-use Rattle.xf_landed.specs.Laid.{class_by, record_with}
+use Rattle.xf_landed.specs.Laid.{class_by}
 use Rattle.xf_landed.specs.Laws.{CatchesByPool}
 use Rattle.xf_landed.proofs.Steps.{contains-at}
 use Rattle.xf_typing.specs.Typed.{registers_of}
-use Rattle.xf_typing.proofs.Walks.{Asked, nothing_asked, emptied, catching, count}
+use Rattle.xf_typing.proofs.Walks.{nothing_asked, emptied, catching, count}
 use Rattle.xf_typing.proofs.Ready.{IsReady}
 use Rattle.xf_typing.proofs.Running.{AreLaws, IsRecordFor}
 use Rattle.xf_typing.proofs.Listings.{filled}
 use Rattle.xf_typing.proofs.Rewriting.{AreWanted}
 use Rattle.xf_typing.proofs.Asking.{asks_of, are-wanted}
-use Rattle.xf_typing.proofs.Typings.{AreAsked, names}
+use Rattle.xf_typing.proofs.Typings.{AreAsked}
 use Rattle.xf_typing.proofs.Ranges.{IsCaught, ranges-caught}
 use Rattle.xf_typing.proofs.Ordered.{ranges-filled, handlers-are}
 use Rattle.xf_typing.proofs.Others.{no-others}

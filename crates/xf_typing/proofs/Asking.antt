@@ -1,19 +1,14 @@
 -- What the labels of a rewritten method ask.
-use Rattle.std.proofs.Common.{◌≡◌, ℕ, zero, suc, ◌+◌, ◌-◌, ◌*◌, ◌/◌, ◌<◌, ◌≤◌, Bool, true, false, if◌then◌else◌, List, [], ◌∷◌, length, slice_get, Contains, Option, Some, None, IsSome, IfSome, refl, sym, ◌∙◌, ap, subst, arith}
-use Rattle.std.specs.Prelude.{ℤ, is_some, nat_lt}
+use Rattle.std.proofs.Common.{◌≡◌, ℕ, zero, suc, ◌+◌, ◌-◌, ◌/◌, ◌<◌, Bool, true, false, if◌then◌else◌, List, [], ◌∷◌, length, slice_get, Option, Some, None, IfSome, refl, ◌∙◌, ap, arith}
+use Rattle.std.specs.Prelude.{nat_lt}
 use Rattle.std.proofs.lemmas.Bool.Decides.{nat_tests}
 use Rattle.jc_base.specs.Cell.{IsDeclared}
 use Rattle.jc_base.specs.declared.record.Handler.{Handler}
 use Rattle.jc_base.specs.declared.record.MethodRec.{MethodRec}
-use Rattle.jc_base.specs.World.{Linked}
-use Rattle.jc_decode.specs.declared.insn.Placed.{Placed}
 use Rattle.jc_decode.specs.Listing.{targets}
 use Rattle.jc_control.specs.Control.{IsReached, IsLeader, jumped, follows, caught, led_to, entered}
-use Rattle.jc_control.specs.WellFormed.{Stands as IsListed}
-use Rattle.jc_rules.specs.Demand.{Frame}
 use Rattle.xf_plan.specs.Source.{Source}
 use Rattle.xf_plan.specs.Plan.{is_leader}
-use Rattle.xf_emission.specs.Jump.{stub_label, handler_label}
 use Rattle.xf_emission.specs.Laws.{IsCode}
 use Rattle.xf_emission.proofs.TwoBytes.{two-bytes}
 use Rattle.xf_typing.proofs.Walks.{Asked, nothing_asked, emptied, catching}

@@ -1,15 +1,13 @@
 -- What an edge carries: the values of the locals that stand where it begins.
-use Rattle.std.proofs.Common.{◌≡◌, ◌≢◌, ◌⊎◌, ℕ, zero, suc, ◌+◌, ◌<◌, ◌≤◌, ◌==◌, Bool, true, false, ◌||◌, if◌then◌else◌, inl, inr, List, [], ◌∷◌, ◌++◌, length, set, slice_get, replicate, All, Option, Some, None, IsSomeAnd, refl, sym, ◌∙◌, ap, subst, arith}
+use Rattle.std.proofs.Common.{◌≡◌, ℕ, zero, suc, ◌+◌, ◌==◌, Bool, true, false, ◌||◌, if◌then◌else◌, inl, List, [], ◌∷◌, ◌++◌, set, slice_get, replicate, All, Option, Some, None, IsSomeAnd, refl, sym, ◌∙◌, ap, subst, arith}
 use Rattle.std.specs.Prelude.{⊤}
 use Rattle.std.proofs.lemmas.Bool.Decides.{nat_tests}
-use Rattle.std.proofs.lemmas.List.Elements.{All-append}
-use Rattle.jc_base.specs.Cell.{IsDeclared}
-use Rattle.jc_base.specs.Class.{ClassTable, IsClass}
+use Rattle.jc_base.specs.Class.{ClassTable}
 use Rattle.jc_base.specs.Each.{IsAmong}
-use Rattle.jc_base.specs.Laws.{ClassesAreObjects, SameTypeDecides, IsOrderOfTypes, DeclaredAreKnown}
-use Rattle.jc_base.specs.Order.{Below, same, is_below, IsKnown}
+use Rattle.jc_base.specs.Laws.{ClassesAreObjects, SameTypeDecides, IsOrderOfTypes}
+use Rattle.jc_base.specs.Order.{Below, is_below, IsKnown}
 use Rattle.jc_base.specs.declared.ty.Ty.{Ty}
-use Rattle.jc_base.specs.declared.ty.Ty.TheVariants.{Bottom, Short, IntHigh, IntLow, Null, Class, ArrBool, ArrByte, ArrShort, ArrInt, ArrRef, Fresh, Top}
+use Rattle.jc_base.specs.declared.ty.Ty.TheVariants.{Bottom, Short, IntHigh, IntLow, Top}
 use Rattle.jc_base.specs.declared.ty.Kind.TheVariants as kinds
 use Rattle.jc_base.specs.declared.record.MethodRec.{MethodRec}
 use Rattle.jc_base.specs.World.{Linked}
@@ -30,24 +28,22 @@ use Rattle.jc_rules.specs.declared.rule.Outcome.{Outcome}
 use Rattle.jc_rules.specs.Apply.{OperationApplies}
 use Rattle.jc_rules.specs.Demand.{Frame}
 use Rattle.jc_rules.specs.Effect.{WritesCells}
-use Rattle.jc_rules.specs.Flow.{CellsBelow, FrameBelow, IsNotFresh, IsNotTop, start_frame, receiver_of}
+use Rattle.jc_rules.specs.Flow.{CellsBelow, IsNotFresh, start_frame}
 use Rattle.jc_rules.specs.FlowLaws.{AreRules}
 use Rattle.jc_rules.specs.Laws.{IsNotBottom}
 use Rattle.jc_rules.specs.Rule.{effect}
 use Rattle.xf_homes.specs.declared.home.Home.{Home}
-use Rattle.xf_homes.specs.Home.{argument_types, asked_here, IsNeeded}
+use Rattle.xf_homes.specs.Home.{argument_types, asked_here}
 use Rattle.xf_homes.specs.Laws.{NeededAreKept}
 use Rattle.xf_homes.specs.Value.{value_at}
-use Rattle.xf_homes.specs.Walk.{has, local_of}
+use Rattle.xf_homes.specs.Walk.{local_of}
 use Rattle.xf_homes.proofs.Events.{among-has}
 use Rattle.xf_plan.specs.Source.{Source}
 use Rattle.xf_plan.specs.Plan.{needed, home_of}
-use Rattle.xf_emission.specs.declared.origin.Origin.{Origin}
 use Rattle.xf_emission.specs.declared.origin.Origin.TheVariants.{Start, After, Entry}
-use Rattle.xf_emission.specs.Edge.{is_stored, home_before, held}
+use Rattle.xf_emission.specs.Edge.{is_stored, home_before}
 use Rattle.xf_typing.specs.Typed.{registers_of}
 use Rattle.xf_typing.proofs.Walks.{Asked}
-use Rattle.xf_typing.proofs.Moves.{IsPlainValue}
 use Rattle.xf_typing.proofs.Stacks.{Stands}
 use Rattle.xf_typing.proofs.Ready.{IsReady, IsValueAt, value-is, value-plain, home-stands, local-stands, needed-are, needed-served}
 use Rattle.xf_typing.proofs.Copies.{Carries}

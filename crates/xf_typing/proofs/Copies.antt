@@ -1,32 +1,30 @@
 -- Copies of values from homes to others.
-use Rattle.std.proofs.Common.{◌≡◌, ◌≢◌, ◌⊎◌, ℕ, zero, suc, ◌+◌, ◌<◌, ◌≤◌, Bool, true, false, if◌then◌else◌, inl, inr, List, [], ◌∷◌, ◌++◌, length, flat_map, slice_get, All, Option, Some, None, IsSomeAnd, refl, sym, ◌∙◌, ap, subst, arith, length-append}
-use Rattle.jc_base.specs.Each.{Each, IsAmong}
+use Rattle.std.proofs.Common.{◌≡◌, ◌≢◌, ◌⊎◌, ℕ, zero, suc, ◌+◌, ◌≤◌, Bool, true, false, inl, inr, List, [], ◌∷◌, ◌++◌, length, flat_map, Option, Some, None, refl, sym, ◌∙◌, ap, subst, arith, length-append}
+use Rattle.jc_base.specs.Each.{IsAmong}
 use Rattle.jc_base.specs.Laws.{ClassesAreObjects, SameTypeDecides, IsOrderOfTypes}
 use Rattle.jc_base.specs.Class.{ClassTable}
-use Rattle.jc_base.specs.Order.{Below, same, is_below, IsKnown}
+use Rattle.jc_base.specs.Order.{Below, is_below}
 use Rattle.jc_base.specs.declared.record.MethodRec.{MethodRec}
 use Rattle.jc_base.specs.declared.ty.Ty.{Ty}
-use Rattle.jc_base.specs.declared.ty.Ty.TheVariants.{Bottom, Short, IntHigh, IntLow, Null, Class, ArrBool, ArrByte, ArrShort, ArrInt, ArrRef, Fresh, Top}
-use Rattle.jc_base.specs.World.{Linked}
+use Rattle.jc_base.specs.declared.ty.Ty.TheVariants.{Bottom, Short, IntHigh, Top}
 use Rattle.jc_decode.specs.declared.symbols.Item.{Item}
-use Rattle.jc_rules.specs.Demand.{Frame}
 use Rattle.jc_rules.specs.Flow.{CellsBelow, no_cells, more_cells}
 use Rattle.jc_rules.specs.FlowLaws.{AreRules}
 use Rattle.xf_homes.specs.declared.home.Home.{Home}
 use Rattle.xf_homes.specs.Home.{register_count}
 use Rattle.xf_homes.specs.Laws.{NeededAreKept}
 use Rattle.xf_homes.specs.Walk.{has, same_home}
-use Rattle.xf_homes.proofs.Events.{among-has, home-itself}
+use Rattle.xf_homes.proofs.Events.{home-itself}
 use Rattle.xf_plan.specs.Source.{Source}
 use Rattle.xf_plan.specs.Plan.{needed, register}
 use Rattle.xf_emission.specs.declared.origin.Origin.{Origin}
-use Rattle.xf_emission.specs.Move.{load, store, copy}
+use Rattle.xf_emission.specs.Move.{copy}
 use Rattle.xf_emission.specs.Edge.{home_before, held, copy_new, copies_from, local_copies, locals_copies, copies, cell_copies}
 use Rattle.xf_typing.specs.Typed.{registers_of}
-use Rattle.xf_typing.proofs.Walks.{State, holding, left, Asked, flow_plain, flow_end, Goes, goes-append, goes-nowhere, goes-if}
-use Rattle.xf_typing.proofs.Moves.{Holds, IsPlainValue, cells_on, load-turn, store-turn}
+use Rattle.xf_typing.proofs.Walks.{holding, Asked, flow_plain, flow_end, Goes, goes-append, goes-nowhere, goes-if}
+use Rattle.xf_typing.proofs.Moves.{IsPlainValue, cells_on, load-turn, store-turn}
 use Rattle.xf_typing.proofs.Stacks.{Stands}
-use Rattle.xf_typing.proofs.Ready.{IsReady, IsServed, needed-served}
+use Rattle.xf_typing.proofs.Ready.{IsReady, needed-served}
 
 -- ---- types
 

@@ -1,20 +1,18 @@
 -- The edges of rewritten code: where a conditional falls through, gotos, and stubs.
-use Rattle.std.proofs.Common.{◌≡◌, ◌≢◌, ◌⊎◌, ℕ, zero, suc, ◌+◌, ◌<◌, ◌≤◌, Bool, true, false, if◌then◌else◌, inl, inr, List, [], ◌∷◌, ◌++◌, length, map, reverse, All, Option, Some, None, Ok, IsSomeAnd, IfSome, refl, sym, ◌∙◌, ap, subst, arith, length-append}
-use Rattle.std.specs.Prelude.{ℤ, ⊤, nat_lt}
+use Rattle.std.proofs.Common.{◌≡◌, ℕ, ◌+◌, ◌≤◌, Bool, true, false, if◌then◌else◌, inl, List, [], ◌∷◌, ◌++◌, length, map, reverse, All, Some, Ok, IfSome, refl, sym, ◌∙◌, ap, subst, arith, length-append}
+use Rattle.std.specs.Prelude.{ℤ}
 use Rattle.std.proofs.lemmas.Bool.Decides.{nat_tests}
-use Rattle.std.proofs.lemmas.List.{length-map, length-reverse}
+use Rattle.std.proofs.lemmas.List.{length-reverse}
 use Rattle.jc_base.proofs.Lists.{All-reverse}
-use Rattle.jc_base.specs.Cell.{IsDeclared, AreWhole}
-use Rattle.jc_base.specs.Each.{Each, IsAmong}
+use Rattle.jc_base.specs.Cell.{IsDeclared}
+use Rattle.jc_base.specs.Each.{Each}
 use Rattle.jc_base.specs.Order.{IsKnown}
 use Rattle.jc_base.specs.declared.record.Handler.{Handler}
 use Rattle.jc_base.specs.declared.record.MethodRec.{MethodRec}
 use Rattle.jc_base.specs.declared.ty.Ty.{Ty}
 use Rattle.jc_base.specs.declared.ty.Ty.TheVariants.{Class}
-use Rattle.jc_base.specs.World.{Linked}
 use Rattle.jc_decode.specs.declared.insn.Placed.{Placed}
 use Rattle.jc_decode.specs.declared.symbols.Item.{Item}
-use Rattle.jc_decode.specs.declared.symbols.Item.TheVariants.{Label}
 use Rattle.jc_ops.specs.declared.operation.Branch.TheVariants as branches
 use Rattle.jc_ops.specs.declared.operation.Operation.{Operation}
 use Rattle.jc_ops.specs.declared.operation.Operation.TheVariants as ops
@@ -22,7 +20,7 @@ use Rattle.jc_rules.specs.Demand.{Frame}
 use Rattle.jc_rules.specs.Flow.{CellsBelow, no_cells, FrameBelow, IsNotFresh, IsNotTop}
 use Rattle.jc_rules.specs.Laws.{IsNotBottom}
 use Rattle.xf_homes.specs.declared.home.Home.{Home}
-use Rattle.xf_homes.specs.Home.{IsConditional, KeepsStack, register_count}
+use Rattle.xf_homes.specs.Home.{IsConditional, register_count}
 use Rattle.xf_homes.specs.Walk.{operands_of}
 use Rattle.xf_plan.specs.Source.{Source}
 use Rattle.xf_plan.specs.Plan.{cells, cells_from, is_leader}
@@ -30,11 +28,11 @@ use Rattle.xf_emission.specs.declared.origin.Origin.TheVariants.{After, Entry}
 use Rattle.xf_emission.specs.Laws.{IsCode}
 use Rattle.xf_emission.specs.Move.{loads, spill}
 use Rattle.xf_emission.specs.Edge.{copies, cell_copies, home_before}
-use Rattle.xf_emission.specs.Jump.{under, operands, is_over, taken, goto, place, stub_label, stub_of, stub, handler_label}
+use Rattle.xf_emission.specs.Jump.{under, operands, is_over, taken, place, stub_label, stub_of, stub, handler_label}
 use Rattle.xf_emission.specs.Group.{gone, fall, fall_over, fall_by}
 use Rattle.xf_emission.specs.Emission.{caught}
 use Rattle.xf_typing.specs.Typed.{registers_of}
-use Rattle.xf_typing.proofs.Walks.{State, holding, left, Asked, emptied, catching, Passes, Flows, flow_label, flow_end, flows-append, Goes, goes-append, goes-nowhere, count}
+use Rattle.xf_typing.proofs.Walks.{holding, left, Asked, emptied, catching, Passes, Flows, flow_label, flow_end, flows-append, Goes, goes-append, goes-nowhere, count}
 use Rattle.xf_typing.proofs.Stacks.{Stands, pushed, loads-go}
 use Rattle.xf_typing.proofs.Ready.{IsReady}
 use Rattle.xf_typing.proofs.Copies.{Carries, AreUnder, copies-go, cells-go}
@@ -45,8 +43,8 @@ use Rattle.xf_typing.proofs.Registers.{kept-ready}
 use Rattle.xf_typing.proofs.Cuts.{IsForked, IsCut}
 use Rattle.xf_typing.proofs.Matching.{matched}
 use Rattle.xf_typing.proofs.Running.{AreLaws, IsRecordFor, IsRun}
-use Rattle.xf_typing.proofs.Leading.{fit-at, cells-are, cells-stand, cells-pushed, spill-at, named-at, goto-flows, is-kept, below-lesser, Arrives, emptied_there, falls_there, FallsInto, fall-arrives}
-use Rattle.xf_typing.proofs.Forking.{each-left, all-right, all-left, empty-is, named-all, fork, depth-is, keeps-over, cut-at, stand-cut}
+use Rattle.xf_typing.proofs.Leading.{fit-at, cells-are, cells-stand, spill-at, named-at, goto-flows, is-kept, below-lesser, emptied_there, falls_there, FallsInto, fall-arrives}
+use Rattle.xf_typing.proofs.Forking.{each-left, all-right, empty-is, named-all, fork, depth-is, keeps-over, cut-at, stand-cut}
 
 module _ (new : ℕ → ℕ) (apart : (a b : ℕ) → new a ≡ new b → a ≡ b) (s : Source) (l : AreLaws s.world) (ready : IsReady s) (r : MethodRec) (own_rec : IsRecordFor s.method.rec r) (asks : ℕ → Asked) (res : IfSome s.method.rec.sig.result (IsDeclared s.world.classes)) (code : IsCode s) where
   abbrev Going : List Ty → List Item → List Ty → Type 0

@@ -1,24 +1,22 @@
 -- Conditional branches and switches in rewritten code.
-use Rattle.std.proofs.Common.{◌≡◌, ◌≢◌, ◌⊎◌, ℕ, zero, suc, ◌+◌, ◌<◌, ◌≤◌, Bool, true, false, if◌then◌else◌, inl, inr, List, [], ◌∷◌, ◌++◌, length, map, replicate, reverse, slice_get, All, Option, Some, None, Ok, IsSomeAnd, IfSome, refl, sym, ◌∙◌, ap, subst, arith, length-append}
-use Rattle.std.specs.Prelude.{pos, ⊤, IsTrue, nat_lt}
+use Rattle.std.proofs.Common.{◌≡◌, ℕ, ◌+◌, ◌<◌, ◌≤◌, Bool, true, false, if◌then◌else◌, inr, List, [], ◌∷◌, ◌++◌, length, map, replicate, All, Option, Some, Ok, IsSomeAnd, IfSome, refl, sym, ◌∙◌, ap, subst, arith, length-append}
+use Rattle.std.specs.Prelude.{nat_lt}
 use Rattle.std.specs.List.{range_with_len}
 use Rattle.std.proofs.lemmas.Bool.Decides.{nat_tests}
-use Rattle.std.proofs.lemmas.List.{length-map, length-reverse, append-nil}
+use Rattle.std.proofs.lemmas.List.{length-reverse, append-nil}
 use Rattle.jc_base.proofs.Lists.{All-reverse}
-use Rattle.jc_base.specs.Cell.{IsDeclared, AreWhole}
-use Rattle.jc_base.specs.Each.{Each, IsAmong}
-use Rattle.jc_base.specs.Order.{IsKnown}
+use Rattle.jc_base.specs.Cell.{IsDeclared}
+use Rattle.jc_base.specs.Each.{Each}
 use Rattle.jc_base.specs.declared.record.MethodRec.{MethodRec}
 use Rattle.jc_base.specs.declared.ty.Ty.{Ty}
 use Rattle.jc_base.specs.declared.ty.Ty.TheVariants.{Fresh}
 use Rattle.jc_base.specs.World.{Linked}
 use Rattle.jc_decode.specs.declared.insn.Insn.{Insn}
 use Rattle.jc_decode.specs.declared.insn.Placed.{Placed}
-use Rattle.jc_decode.specs.declared.symbols.Item.{Item}
 use Rattle.jc_decode.specs.declared.symbols.Item.TheVariants.{Branch, Switch}
 use Rattle.jc_decode.specs.Forms.{wide}
-use Rattle.jc_decode.specs.Listing.{falls, jumps, targets}
-use Rattle.jc_decode.specs.Symbols.{jump, is_instruction}
+use Rattle.jc_decode.specs.Listing.{targets}
+use Rattle.jc_decode.specs.Symbols.{jump}
 use Rattle.jc_decode.proofs.Passed.{passed-at}
 use Rattle.jc_ops.specs.declared.operation.Branch.TheVariants as branches
 use Rattle.jc_ops.specs.declared.operation.Operation.{Operation}
@@ -30,36 +28,30 @@ use Rattle.jc_rules.specs.declared.effect.Mode.TheVariants.{Flow}
 use Rattle.jc_rules.specs.declared.rule.Outcome.{Outcome}
 use Rattle.jc_rules.specs.Apply.{OperationApplies}
 use Rattle.jc_rules.specs.Demand.{Frame}
-use Rattle.jc_rules.specs.Flow.{CellsBelow, no_cells, more_cells, FrameBelow, At, IsNotFresh, IsNotTop}
+use Rattle.jc_rules.specs.Flow.{IsNotFresh, IsNotTop}
 use Rattle.jc_rules.specs.Footprint.{footprint}
-use Rattle.jc_rules.specs.Laws.{IsNotBottom}
 use Rattle.jc_flow.proofs.Frames.{all_none, all_more, all_first, all_rest}
 use Rattle.xf_homes.specs.declared.home.Home.{Home}
-use Rattle.xf_homes.specs.Home.{IsConditional, BranchesOver, KeepsStack}
+use Rattle.xf_homes.specs.Home.{IsConditional, KeepsStack}
 use Rattle.xf_homes.specs.Walk.{operands_of}
 use Rattle.xf_plan.specs.Source.{Source}
-use Rattle.xf_plan.specs.Plan.{cells, depth, stack_of, is_leader}
-use Rattle.xf_emission.specs.declared.origin.Origin.TheVariants.{After}
+use Rattle.xf_plan.specs.Plan.{cells, depth, stack_of}
 use Rattle.xf_emission.specs.Laws.{IsCode}
 use Rattle.xf_emission.specs.Move.{loads, spill}
-use Rattle.xf_emission.specs.Edge.{copies, home_before}
 use Rattle.xf_emission.specs.Jump.{under, operands, is_over, spill_if, jump_to, leads, branch, first_label}
-use Rattle.xf_emission.specs.Group.{fall, fall_over, fall_by}
 use Rattle.xf_emission.proofs.RowByRow.{resolved-elsewhere}
 use Rattle.xf_typing.specs.Typed.{registers_of}
-use Rattle.xf_typing.proofs.Walks.{State, holding, left, Asked, Turn, Flows, flow_step, flow_end, flows-append, Goes, goes-append, count}
+use Rattle.xf_typing.proofs.Walks.{holding, left, Asked, Turn, Flows, flow_step, flow_end, flows-append, Goes, goes-append, count}
 use Rattle.xf_typing.proofs.Moves.{same-cells}
-use Rattle.xf_typing.proofs.Stacks.{Stands, pushed, loads-go}
+use Rattle.xf_typing.proofs.Stacks.{Stands, loads-go}
 use Rattle.xf_typing.proofs.Ready.{IsReady}
-use Rattle.xf_typing.proofs.Copies.{Carries, copies-go}
 use Rattle.xf_typing.proofs.Renames.{named}
 use Rattle.xf_typing.proofs.Turns.{IsLesser, kept-resolves}
-use Rattle.xf_typing.proofs.Carried.{carries-after}
-use Rattle.xf_typing.proofs.Registers.{kept-ready, conditional-ready}
+use Rattle.xf_typing.proofs.Registers.{conditional-ready}
 use Rattle.xf_typing.proofs.Rows.{wide-is}
 use Rattle.xf_typing.proofs.Cuts.{IsForked, forked, IsCut, cut-is}
-use Rattle.xf_typing.proofs.Running.{AreLaws, IsRecordFor, IsRun, has-room}
-use Rattle.xf_typing.proofs.Leading.{fit-at, cells-stand, cells-pushed, spill-at, named-at, Arrives, emptied_there, falls_there, FallsInto, fall-arrives}
+use Rattle.xf_typing.proofs.Running.{AreLaws, IsRecordFor, IsRun}
+use Rattle.xf_typing.proofs.Leading.{cells-stand, cells-pushed, spill-at, named-at}
 
 -- ---- opcodes of branches in their wide form
 

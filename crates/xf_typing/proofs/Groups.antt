@@ -1,10 +1,8 @@
 -- The group of an instruction: from where control comes to its place, to where it falls, or away.
-use Rattle.std.proofs.Common.{◌≡◌, ◌≢◌, ◌⊎◌, ℕ, zero, suc, ◌+◌, ◌<◌, ◌≤◌, Bool, true, false, if◌then◌else◌, inl, inr, List, [], ◌∷◌, ◌++◌, length, map, All, Option, Some, None, Ok, IsSomeAnd, IfSome, refl, sym, ◌∙◌, ap, subst, arith}
-use Rattle.std.specs.Prelude.{ℤ, ⊤}
+use Rattle.std.proofs.Common.{◌≡◌, ℕ, ◌+◌, Bool, true, false, if◌then◌else◌, List, [], ◌++◌, map, Option, Some, None, Ok, IfSome, refl, sym, ◌∙◌, ap, subst}
 use Rattle.jc_base.specs.Cell.{IsDeclared}
 use Rattle.jc_base.specs.declared.record.MethodRec.{MethodRec}
 use Rattle.jc_base.specs.declared.ty.Ty.{Ty}
-use Rattle.jc_base.specs.World.{Linked}
 use Rattle.jc_decode.specs.declared.insn.Placed.{Placed}
 use Rattle.jc_decode.specs.declared.symbols.Item.{Item}
 use Rattle.jc_decode.specs.Listing.{targets}
@@ -18,9 +16,9 @@ use Rattle.jc_rules.specs.Flow.{CellsBelow, FrameBelow}
 use Rattle.xf_homes.specs.Home.{IsConditional}
 use Rattle.xf_homes.specs.Walk.{operands_of}
 use Rattle.xf_plan.specs.Source.{Source}
-use Rattle.xf_plan.specs.Plan.{is_leader, operation}
+use Rattle.xf_plan.specs.Plan.{is_leader}
 use Rattle.xf_emission.specs.Laws.{IsCode}
-use Rattle.xf_emission.specs.Group.{body, kept, fall_by, fallen, first_place, entered, done, group_by, group}
+use Rattle.xf_emission.specs.Group.{body, fall_by, fallen, first_place, entered, done, group_by, group}
 use Rattle.xf_typing.specs.Typed.{registers_of}
 use Rattle.xf_typing.proofs.Walks.{State, holding, left, Asked, nothing_asked, emptied, Flows, flow_end, flows-append, count}
 use Rattle.xf_typing.proofs.Ready.{IsReady}
@@ -29,7 +27,7 @@ use Rattle.xf_typing.proofs.Turns.{IsLesser}
 use Rattle.xf_typing.proofs.Running.{AreLaws, IsRecordFor, IsRun, IsPassed, kept-passed, load-passed}
 use Rattle.xf_typing.proofs.Storing.{increment-passed, store-passed}
 use Rattle.xf_typing.proofs.This.{read-passed, write-passed}
-use Rattle.xf_typing.proofs.Leading.{Arrives, FallsInto, fall-arrives, IsEntered, entered-flows}
+use Rattle.xf_typing.proofs.Leading.{Arrives, fall-arrives, entered-flows}
 use Rattle.xf_typing.proofs.Forking.{branch-flows}
 use Rattle.xf_typing.proofs.Edges.{fork-falls, gone-flows}
 

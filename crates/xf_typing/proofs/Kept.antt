@@ -1,5 +1,5 @@
 -- An instruction that is kept does in rewritten code what it does in the method, but for the places of uninitialised objects.
-use Rattle.std.proofs.Common.{◌≡◌, ◌≢◌, ◌⊎◌, ℕ, zero, suc, ◌+◌, ◌-◌, ◌<◌, ◌≤◌, Bool, true, false, if◌then◌else◌, inl, inr, List, [], ◌∷◌, ◌++◌, length, map, reverse, slice_get, All, Option, Some, None, Result, Ok, IfSome, refl, sym, ◌∙◌, ap, subst, arith}
+use Rattle.std.proofs.Common.{◌≡◌, ℕ, suc, ◌+◌, List, [], ◌∷◌, ◌++◌, length, map, reverse, slice_get, All, Option, Some, None, IfSome, refl, sym, ◌∙◌, ap, subst, arith}
 use Rattle.std.specs.Prelude.{⊤}
 use Rattle.std.proofs.lemmas.List.{length-map}
 use Rattle.jc_base.proofs.Lists.{All-slice_get, All-reverse}
@@ -10,12 +10,10 @@ use Rattle.jc_base.specs.declared.ty.Kind.{Kind}
 use Rattle.jc_base.specs.declared.ty.Kind.TheVariants as kinds
 use Rattle.jc_base.specs.declared.record.MethodRec.{MethodRec}
 use Rattle.jc_base.specs.Cell.{IsDeclared}
-use Rattle.jc_base.specs.Class.{ClassTable, object}
 use Rattle.jc_base.specs.Linked.{IsMethod}
-use Rattle.jc_base.specs.World.{Linked, IsWorld}
+use Rattle.jc_base.specs.World.{Linked}
 use Rattle.jc_ops.specs.declared.want.Want.{Want}
-use Rattle.jc_ops.specs.declared.want.Want.TheVariants.{Value, Storable, ByteArray, AnyArray, Whole, Receiver}
-use Rattle.jc_ops.specs.declared.operation.Callee.{Callee}
+use Rattle.jc_ops.specs.declared.want.Want.TheVariants.{Value, Receiver}
 use Rattle.jc_ops.specs.declared.operation.Choice.{Choice}
 use Rattle.jc_ops.specs.declared.operation.Choice.TheVariants as choices
 use Rattle.jc_ops.specs.declared.operation.Arithmetic.TheVariants as arithmetic
@@ -30,20 +28,19 @@ use Rattle.jc_ops.specs.declared.operation.Width.TheVariants as widths
 use Rattle.jc_ops.specs.declared.operation.Constant.TheVariants as constants
 use Rattle.jc_ops.specs.Sound.{IsSound, IsChosen, IsReceiverOf, IsNamedType}
 use Rattle.jc_rules.specs.declared.demand.Demand.{Demand}
-use Rattle.jc_rules.specs.declared.demand.Demand.TheVariants.{Registers, Depth, Cell, Cut, Held}
 use Rattle.jc_rules.specs.declared.effect.Cells.{Cells}
 use Rattle.jc_rules.specs.declared.effect.Cells.TheVariants as given
 use Rattle.jc_rules.specs.declared.effect.Mode.TheVariants.{Flow}
 use Rattle.jc_rules.specs.declared.effect.Store.{Store}
 use Rattle.jc_rules.specs.declared.rule.Outcome.{Outcome}
-use Rattle.jc_rules.specs.Demand.{Frame, AllHold}
+use Rattle.jc_rules.specs.Demand.{AllHold}
 use Rattle.jc_rules.specs.Effect.{changed, listed, Stores}
 use Rattle.jc_rules.specs.Flow.{IsNotFresh}
 use Rattle.jc_rules.specs.FlowLaws.{AreRules}
 use Rattle.jc_rules.specs.Apply.{OperationApplies}
-use Rattle.jc_rules.specs.Rule.{demands, effect, replacing, cell, number, value_given, value_wanted, value_size, number_given, cells_wanted, receiver_wanted, return_demands, result_given, result_at, args_at, array_wanted, seen, element}
+use Rattle.jc_rules.specs.Rule.{demands, effect, replacing, cell, number, value_given, value_wanted, value_size, cells_wanted, receiver_wanted, return_demands, result_given, result_at, args_at, array_wanted, seen, element}
 use Rattle.xf_typing.proofs.Moves.{applies-by}
-use Rattle.xf_typing.proofs.Renames.{named, named_op, same-named, IsSteady, IsSteadyWant, all-named, replaced, value-same, result-same, number-same, under-named, exchange-named, cell-named, element-same, element-ready, call-named}
+use Rattle.xf_typing.proofs.Renames.{named, named_op, same-named, IsSteady, IsSteadyWant, all-named, replaced, value-same, result-same, under-named, exchange-named, cell-named, element-same, element-ready, call-named}
 
 -- names no register to load or store
 abbrev pub IsKeptOperation : Operation → Type 0

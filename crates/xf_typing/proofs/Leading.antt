@@ -1,25 +1,21 @@
 -- Where control comes together: the stack is stored into its homes before, and loaded from them after.
-use Rattle.std.proofs.Common.{◌≡◌, ◌≢◌, ◌⊎◌, ℕ, zero, suc, ◌+◌, ◌<◌, ◌≤◌, Bool, true, false, if◌then◌else◌, inl, inr, List, [], ◌∷◌, ◌++◌, length, map, reverse, slice_get, All, Option, Some, None, IsSomeAnd, IfSome, refl, sym, ◌∙◌, ap, subst, arith}
-use Rattle.std.specs.Prelude.{⊤}
+use Rattle.std.proofs.Common.{◌≡◌, ◌⊎◌, ℕ, zero, suc, ◌+◌, Bool, true, false, if◌then◌else◌, inl, inr, List, [], ◌∷◌, ◌++◌, length, map, reverse, All, Option, Some, None, IsSomeAnd, IfSome, refl, sym, ◌∙◌, ap, subst, arith}
 use Rattle.std.proofs.lemmas.List.{length-map}
 use Rattle.jc_base.proofs.Lists.{All-reverse}
 use Rattle.jc_base.specs.Cell.{IsDeclared}
 use Rattle.jc_base.specs.Class.{ClassTable}
-use Rattle.jc_base.specs.Each.{Each, IsAmong}
+use Rattle.jc_base.specs.Each.{Each}
 use Rattle.jc_base.specs.Laws.{IsOrderOfTypes}
-use Rattle.jc_base.specs.Order.{Below, same, is_below, IsKnown}
+use Rattle.jc_base.specs.Order.{IsKnown}
 use Rattle.jc_base.specs.declared.record.MethodRec.{MethodRec}
 use Rattle.jc_base.specs.declared.ty.Ty.{Ty}
-use Rattle.jc_base.specs.declared.ty.Ty.TheVariants.{Bottom, Short, IntHigh, IntLow, Null, Class, ArrBool, ArrByte, ArrShort, ArrInt, ArrRef, Fresh, Top}
-use Rattle.jc_base.specs.World.{Linked}
+use Rattle.jc_base.specs.declared.ty.Ty.TheVariants.{Fresh}
 use Rattle.jc_decode.specs.declared.insn.Placed.{Placed}
 use Rattle.jc_decode.specs.declared.symbols.Item.{Item}
-use Rattle.jc_decode.specs.declared.symbols.Item.TheVariants.{Branch, Label}
-use Rattle.jc_decode.specs.Symbols.{jump}
+use Rattle.jc_decode.specs.declared.symbols.Item.TheVariants.{Branch}
 use Rattle.jc_ops.specs.declared.operation.Branch.TheVariants as branches
 use Rattle.jc_ops.specs.declared.operation.Operation.{Operation}
 use Rattle.jc_ops.specs.declared.operation.Operation.TheVariants as ops
-use Rattle.jc_control.specs.Control.{IsLeader}
 use Rattle.jc_rules.specs.Demand.{Frame}
 use Rattle.jc_rules.specs.Flow.{CellsBelow, no_cells, more_cells, FrameBelow, At, IsFit, IsNotFresh, IsNotTop}
 use Rattle.jc_rules.specs.Laws.{IsNotBottom}
@@ -36,7 +32,7 @@ use Rattle.xf_emission.specs.Edge.{copies, home_before}
 use Rattle.xf_emission.specs.Jump.{goto}
 use Rattle.xf_emission.specs.Group.{entered, fall}
 use Rattle.xf_typing.specs.Typed.{registers_of}
-use Rattle.xf_typing.proofs.Walks.{State, holding, left, Asked, nothing_asked, emptied, Passes, Turn, Flows, flow_label, flow_step, flow_end, Goes, goes-append, goes-nowhere}
+use Rattle.xf_typing.proofs.Walks.{State, holding, left, Asked, nothing_asked, emptied, Passes, Flows, flow_label, flow_step, flow_end, Goes, goes-append}
 use Rattle.xf_typing.proofs.Moves.{applies-by, same-cells}
 use Rattle.xf_typing.proofs.Stacks.{Stands, pushed, loads-go, spill-goes, stack-pushed}
 use Rattle.xf_typing.proofs.Ready.{IsReady, value-plain, home-stands, framed, reached}
@@ -46,7 +42,7 @@ use Rattle.xf_typing.proofs.Carried.{carries-after}
 use Rattle.xf_typing.proofs.Registers.{not-fresh, kept-ready}
 use Rattle.xf_typing.proofs.Rows.{goto-is}
 use Rattle.xf_typing.proofs.Turns.{IsLesser}
-use Rattle.xf_typing.proofs.Running.{AreLaws, IsRecordFor, IsRun, has-room}
+use Rattle.xf_typing.proofs.Running.{AreLaws, IsRecordFor, IsRun}
 
 -- under cells that are ready no cell is an uninitialised object
 named-one : (new : ℕ → ℕ) (apart : (a b : ℕ) → new a ≡ new b → a ≡ b) (a : Ty) → IsNotFresh a → named new apart a ≡ a

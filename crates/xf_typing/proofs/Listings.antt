@@ -1,32 +1,28 @@
 -- The groups of all instructions, one after the other.
-use Rattle.std.proofs.Common.{◌≡◌, ◌≢◌, ◌⊎◌, ℕ, zero, suc, ◌+◌, ◌<◌, ◌≤◌, Bool, true, false, if◌then◌else◌, inl, inr, List, [], ◌∷◌, ◌++◌, length, map, flat_map, slice_get, All, Contains, Option, Some, None, Ok, IsErr, IsSomeAnd, IsSome, IfSome, refl, sym, ◌∙◌, ap, subst, arith}
-use Rattle.std.specs.Prelude.{ℤ, pos, negsuc, ⊤, is_some, IsTrue, nat_lt}
+use Rattle.std.proofs.Common.{◌≡◌, ℕ, suc, ◌+◌, ◌<◌, Bool, true, false, if◌then◌else◌, List, [], ◌∷◌, ◌++◌, length, map, flat_map, All, Contains, Option, Some, None, Ok, IsErr, IsSome, IfSome, refl, sym, ◌∙◌, ap, subst, arith}
+use Rattle.std.specs.Prelude.{ℤ, pos, negsuc, is_some, IsTrue, nat_lt}
 use Rattle.std.proofs.lemmas.Bool.Decides.{nat_tests}
 use Rattle.std.proofs.lemmas.List.{length-map}
-use Rattle.std.proofs.lemmas.List.Elements.{All-contains}
 use Rattle.jc_base.specs.Cell.{IsDeclared}
 use Rattle.jc_base.specs.declared.record.MethodRec.{MethodRec}
-use Rattle.jc_base.specs.declared.ty.Ty.{Ty}
-use Rattle.jc_base.specs.World.{Linked}
 use Rattle.jc_decode.specs.declared.insn.Placed.{Placed}
 use Rattle.jc_decode.specs.declared.symbols.Item.{Item}
 use Rattle.jc_decode.specs.Decoding.{decoded}
-use Rattle.jc_decode.specs.Listing.{listing, target, targets, falls, jumps, Lists}
+use Rattle.jc_decode.specs.Listing.{target, targets, falls, jumps, Lists}
 use Rattle.jc_decode.specs.Cases.{cases}
 use Rattle.jc_decode.proofs.Ranges.{op-fits}
 use Rattle.jc_ops.specs.declared.operation.Operation.{Operation}
 use Rattle.jc_ops.specs.Next.{falls_from, jumps_from}
-use Rattle.jc_control.specs.Control.{IsSuccessor, falls_through, jumped, IsReached, begins, follows, caught, IsLeader, led_to, entered}
+use Rattle.jc_control.specs.Control.{IsSuccessor, falls_through, jumped, IsReached, begins, follows, caught, led_to, entered}
 use Rattle.jc_control.specs.WellFormed.{Stands as IsListed, IsTargetPlace}
 use Rattle.jc_rules.specs.Demand.{Frame}
-use Rattle.jc_rules.specs.Flow.{FrameBelow, At, IsFollowed}
+use Rattle.jc_rules.specs.Flow.{FrameBelow, IsFollowed}
 use Rattle.xf_plan.specs.Source.{Source}
 use Rattle.xf_plan.specs.Plan.{is_leader, operation}
-use Rattle.xf_emission.specs.Jump.{place}
 use Rattle.xf_emission.specs.Laws.{IsCode}
 use Rattle.xf_emission.specs.Group.{first_place, entered as head_of, body, fallen, done, group_by, group}
 use Rattle.xf_typing.specs.Typed.{registers_of}
-use Rattle.xf_typing.proofs.Walks.{State, holding, left, Asked, nothing_asked, emptied, Flows, flow_end, flows-append, count, count-append}
+use Rattle.xf_typing.proofs.Walks.{State, left, Asked, nothing_asked, emptied, Flows, flow_end, flows-append, count, count-append}
 use Rattle.xf_typing.proofs.Ready.{IsReady, framed, reached}
 use Rattle.xf_typing.proofs.Running.{AreLaws, IsRecordFor, IsRun}
 use Rattle.xf_typing.proofs.Leading.{fit-at, Arrives, only_elsewhere}

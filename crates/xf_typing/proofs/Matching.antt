@@ -1,8 +1,7 @@
 -- The homes of two stacks, one below the other: they are at the same slots, each with a type below.
-use Rattle.std.proofs.Common.{◌≡◌, ℕ, zero, suc, ◌+◌, ◌<◌, ◌≤◌, List, [], ◌∷◌, ◌++◌, length, All, Option, Some, None, refl, sym, ◌∙◌, ap, subst, arith, append_assoc, length-append}
+use Rattle.std.proofs.Common.{◌≡◌, ℕ, suc, ◌+◌, List, [], ◌∷◌, ◌++◌, length, All, Option, None, sym, ◌∙◌, ap, subst, arith, append_assoc, length-append}
 use Rattle.jc_base.specs.Cell.{AreWhole, no_cells as no_whole, whole_int, one_cell, IsNoHalf}
 use Rattle.jc_base.specs.Each.{Each}
-use Rattle.jc_base.specs.Laws.{IsOrderOfTypes}
 use Rattle.jc_base.specs.Order.{Below}
 use Rattle.jc_base.specs.declared.record.MethodRec.{MethodRec}
 use Rattle.jc_base.specs.declared.ty.Ty.{Ty}

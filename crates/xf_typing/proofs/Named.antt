@@ -1,12 +1,11 @@
 -- What the items of a rewritten method name: the places of targets and of entries, and stubs.
-use Rattle.std.proofs.Common.{◌≡◌, ◌⊎◌, ℕ, zero, suc, ◌+◌, ◌-◌, ◌<◌, ◌≤◌, Bool, true, false, if◌then◌else◌, inl, inr, List, [], ◌∷◌, ◌++◌, map, reverse, flat_map, length, Contains, Option, Some, None, Result, Ok, Err, refl, sym, ◌∙◌, ap, subst, arith}
+use Rattle.std.proofs.Common.{◌≡◌, ℕ, zero, suc, ◌+◌, ◌<◌, Bool, true, false, if◌then◌else◌, List, [], ◌∷◌, ◌++◌, map, reverse, flat_map, length, Contains, Option, Some, None, Result, Ok, Err, refl, ap, subst, arith}
 use Rattle.std.specs.Prelude.{ℤ, is_some, slice_get}
 use Rattle.jc_base.specs.Each.{Each}
 use Rattle.jc_base.specs.declared.ty.Kind.{Kind}
 use Rattle.jc_base.specs.declared.record.Handler.{Handler}
 use Rattle.jc_decode.specs.declared.insn.Placed.{Placed}
 use Rattle.jc_decode.specs.declared.symbols.Item.{Item}
-use Rattle.jc_decode.specs.declared.symbols.Item.TheVariants.{Plain, Branch, Switch, Label}
 use Rattle.jc_decode.specs.Listing.{listing, targets}
 use Rattle.jc_ops.specs.Next.{falls_from, jumps_from}
 use Rattle.jc_ops.specs.declared.fault.RuleFault.{RuleFault}
@@ -24,12 +23,12 @@ use Rattle.xf_plan.specs.Source.{Source}
 use Rattle.xf_plan.specs.Plan.{local, needed, cells, is_leader, operation}
 use Rattle.xf_emission.specs.declared.origin.Origin.{Origin}
 use Rattle.xf_emission.specs.declared.origin.Origin.TheVariants.{Start, After, Entry}
-use Rattle.xf_emission.specs.Move.{load, store, copy, loads, spill}
+use Rattle.xf_emission.specs.Move.{store, copy, loads, spill}
 use Rattle.xf_emission.specs.Edge.{home_before, held, copy_new, copies_from, local_copies, locals_copies, copies, cell_copies}
-use Rattle.xf_emission.specs.Jump.{under, operands, is_over, spill_if, taken, place, lead, leads, first_label, jump_to, branch, goto, stub, stub_of, stub_label, stubs_of, handler_label}
-use Rattle.xf_emission.specs.Group.{kept, loaded, increased, popped, stored, stays, field_read, field_written, gone, first_place, branch_by, body, fall, fall_over, fall_by, fallen, entered, done, group_by, group}
+use Rattle.xf_emission.specs.Jump.{under, operands, is_over, spill_if, taken, place, lead, leads, first_label, jump_to, branch, goto, stub, stub_of, stub_label, stubs_of}
+use Rattle.xf_emission.specs.Group.{kept, loaded, increased, stored, stays, field_read, field_written, gone, first_place, body, fall, fall_over, fall_by, fallen, entered, done, group_by, group}
 use Rattle.xf_emission.specs.Emission.{stubs, stubs_at, stubs_by, stubs_done, is_live, caught, caught_from, items}
-use Rattle.xf_emission.proofs.Items.{each-append, each-if, each-flat, each-map}
+use Rattle.xf_emission.proofs.Items.{each-append, each-if, each-flat}
 use Rattle.xf_typing.proofs.Typings.{names}
 
 module _ (P : ℕ → Type 0) (s : Source) where

@@ -1,5 +1,5 @@
 -- The numbers of the instructions in rewritten code: where each group's instruction stands, one to one.
-use Rattle.std.proofs.Common.{◌≡◌, ◌≢◌, ◌⊎◌, ℕ, zero, suc, ◌+◌, ◌<◌, ◌≤◌, ◌==◌, Bool, true, false, ◌&&◌, if◌then◌else◌, inl, inr, List, [], ◌∷◌, ◌++◌, length, flat_map, Contains, Option, Some, None, Ok, Err, refl, sym, ◌∙◌, ap, subst, arith}
+use Rattle.std.proofs.Common.{◌≡◌, ℕ, suc, ◌+◌, ◌<◌, ◌≤◌, ◌==◌, Bool, true, false, ◌&&◌, if◌then◌else◌, List, [], ◌∷◌, ◌++◌, flat_map, Contains, Option, Some, None, Ok, refl, sym, ◌∙◌, ap, arith}
 use Rattle.std.specs.Prelude.{⊤, is_some}
 use Rattle.std.proofs.lemmas.Bool.Decides.{nat_tests}
 use Rattle.jc_base.specs.Each.{Each}
@@ -18,10 +18,10 @@ use Rattle.xf_homes.specs.Walk.{operands_of}
 use Rattle.xf_plan.specs.Source.{Source}
 use Rattle.xf_plan.specs.Plan.{local, needed, cells}
 use Rattle.xf_emission.specs.declared.origin.Origin.TheVariants.{After}
-use Rattle.xf_emission.specs.Move.{copy, spill}
+use Rattle.xf_emission.specs.Move.{spill}
 use Rattle.xf_emission.specs.Edge.{copies}
 use Rattle.xf_emission.specs.Jump.{branch, jump_to, spill_if, is_over, leads, goto}
-use Rattle.xf_emission.specs.Group.{body, kept, loaded, increased, popped, stored, stays, field_read, field_written, gone, branch_by, first_place, entered, group}
+use Rattle.xf_emission.specs.Group.{body, kept, loaded, increased, stored, stays, field_read, field_written, gone, branch_by, first_place, entered, group}
 use Rattle.xf_typing.proofs.Walks.{count, count-append}
 
 -- ---- each body has an instruction

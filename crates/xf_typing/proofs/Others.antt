@@ -1,5 +1,5 @@
 -- A label that asks for a caught object is the entry of a range.
-use Rattle.std.proofs.Common.{◌≡◌, ◌⊎◌, ℕ, zero, suc, ◌+◌, ◌-◌, ◌/◌, ◌<◌, ◌≤◌, Bool, true, false, if◌then◌else◌, inl, inr, List, [], ◌∷◌, ◌++◌, length, flat_map, slice_get, Contains, Option, Some, None, Result, Ok, Err, refl, sym, ◌∙◌, ap, subst, arith}
+use Rattle.std.proofs.Common.{◌≡◌, ◌⊎◌, ℕ, suc, ◌+◌, ◌-◌, ◌<◌, Bool, true, false, if◌then◌else◌, inl, inr, List, [], ◌∷◌, ◌++◌, length, flat_map, slice_get, Contains, Option, Some, None, Result, Ok, Err, refl, subst, arith}
 use Rattle.std.specs.Prelude.{ℤ, nat_lt}
 use Rattle.std.proofs.lemmas.Bool.Decides.{nat_tests}
 use Rattle.std.proofs.lemmas.List.Elements.{Contains-append_right}
@@ -19,13 +19,13 @@ use Rattle.xf_plan.specs.Source.{Source}
 use Rattle.xf_plan.specs.Plan.{is_leader, operation}
 use Rattle.xf_emission.specs.Jump.{place, taken, stub, stubs_of, stub_label, handler_label}
 use Rattle.xf_emission.specs.Group.{group}
-use Rattle.xf_emission.specs.Emission.{stubs, stubs_by, stubs_done, stubs_at, is_live, caught, caught_from, range, ranges_from, ranges, items}
+use Rattle.xf_emission.specs.Emission.{stubs, stubs_by, stubs_done, stubs_at, is_live, caught, caught_from, range, ranges_from, items}
 use Rattle.xf_emission.specs.Laws.{IsCode}
 use Rattle.xf_emission.proofs.Labels.{labels, labels-append, label_if, stub-label, caught-label}
 use Rattle.xf_emission.proofs.Rises.{Rises}
 use Rattle.xf_emission.proofs.Stubs.{all-labels, all-rise}
 use Rattle.xf_emission.proofs.TwoBytes.{two-bytes}
-use Rattle.xf_typing.proofs.Walks.{Asked, nothing_asked, emptied, catching}
+use Rattle.xf_typing.proofs.Walks.{nothing_asked, emptied, catching}
 use Rattle.xf_typing.proofs.Asking.{asks_of, caught_by}
 use Rattle.xf_typing.proofs.Ordered.{rises-before}
 

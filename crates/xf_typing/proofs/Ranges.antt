@@ -1,10 +1,9 @@
 -- The ranges of a rewritten method enter where the caught object is asked for.
-use Rattle.std.proofs.Common.{◌≡◌, ℕ, zero, suc, ◌+◌, ◌<◌, ◌≤◌, Bool, true, false, if◌then◌else◌, List, [], ◌∷◌, ◌++◌, length, slice_get, All, Contains, Option, Some, None, refl, sym, ◌∙◌, ap, subst, arith}
+use Rattle.std.proofs.Common.{◌≡◌, ℕ, suc, ◌+◌, Bool, true, false, if◌then◌else◌, List, [], ◌∷◌, ◌++◌, slice_get, Some, refl, sym, ◌∙◌, ap, subst, arith}
 use Rattle.std.proofs.lemmas.List.Elements.{All-contains}
 use Rattle.jc_base.specs.Class.{IsClass}
 use Rattle.jc_base.specs.Each.{Each, IsAmong}
 use Rattle.jc_base.specs.Linked.{IsHandler, list_at}
-use Rattle.jc_base.specs.World.{Linked}
 use Rattle.jc_base.specs.declared.record.Handler.{Handler}
 use Rattle.jc_decode.specs.declared.symbols.Range.{Range}
 use Rattle.jc_control.specs.Method.{IsMethodOf}
@@ -13,13 +12,13 @@ use Rattle.jc_flow.proofs.Derived.{of_world}
 use Rattle.xf_plan.specs.Source.{Source}
 use Rattle.xf_emission.specs.Jump.{handler_label}
 use Rattle.xf_emission.specs.Emission.{is_live, range, ranges_from, items}
-use Rattle.xf_emission.specs.Laws.{IsCode, of_handler}
+use Rattle.xf_emission.specs.Laws.{of_handler}
 use Rattle.xf_emission.proofs.Labels.{labels}
 use Rattle.xf_emission.proofs.Once.{named-among}
 use Rattle.xf_landed.specs.Laid.{class_by}
 use Rattle.xf_landed.specs.Laws.{CatchesByPool}
 use Rattle.xf_landed.proofs.Steps.{contains-at}
-use Rattle.xf_typing.proofs.Walks.{Asked, catching}
+use Rattle.xf_typing.proofs.Walks.{catching}
 use Rattle.xf_typing.proofs.Asking.{asks_of, caught_by, at-handler}
 
 module _ (s : Source) (rules : AreRules s.world) (mo : IsMethodOf s.world s.method) (by_pool : CatchesByPool) where

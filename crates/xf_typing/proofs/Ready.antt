@@ -1,32 +1,30 @@
 -- What the card typing of rewritten code rests on, and the values that stand in homes.
-use Rattle.std.proofs.Common.{◌≡◌, ◌≢◌, ◌⊎◌, ℕ, zero, suc, ◌+◌, ◌<◌, ◌≤◌, Bool, true, false, if◌then◌else◌, inl, inr, List, [], ◌∷◌, ◌++◌, length, flat_map, slice_get, get_or, All, Contains, Option, Some, None, IsSomeAnd, refl, sym, ◌∙◌, ap, subst, arith}
+use Rattle.std.proofs.Common.{◌≡◌, ◌≢◌, ℕ, zero, suc, ◌+◌, ◌<◌, ◌≤◌, Bool, true, false, if◌then◌else◌, List, [], ◌∷◌, ◌++◌, slice_get, All, Contains, Option, Some, None, IsSomeAnd, refl, sym, ◌∙◌, ap, subst, arith}
 use Rattle.std.specs.Prelude.{is_some}
 use Rattle.std.proofs.lemmas.List.Sums.{sum_by-cons}
-use Rattle.jc_base.specs.Each.{Each, IsAmong}
-use Rattle.jc_base.specs.Laws.{ClassesAreObjects, SameTypeDecides, IsOrderOfTypes}
+use Rattle.jc_base.specs.Each.{IsAmong}
+use Rattle.jc_base.specs.Laws.{ClassesAreObjects, SameTypeDecides}
 use Rattle.jc_base.specs.Class.{ClassTable}
-use Rattle.jc_base.specs.Order.{Below, same, joined, is_below, IsKnown}
+use Rattle.jc_base.specs.Order.{Below, IsKnown}
 use Rattle.jc_base.specs.declared.record.Handler.{Handler}
 use Rattle.jc_base.specs.declared.record.MethodRec.{MethodRec}
 use Rattle.jc_base.specs.declared.ty.Ty.{Ty}
-use Rattle.jc_base.specs.declared.ty.Ty.TheVariants.{Bottom, Short, IntHigh, IntLow, Null, Class, ArrBool, ArrByte, ArrShort, ArrInt, ArrRef, Fresh, Top}
-use Rattle.jc_base.specs.World.{Linked}
-use Rattle.jc_control.specs.Control.{IsReached, IsLeader, Covers}
+use Rattle.jc_base.specs.declared.ty.Ty.TheVariants.{Bottom, IntHigh, IntLow, Fresh, Top}
+use Rattle.jc_control.specs.Control.{IsReached, IsLeader}
 use Rattle.jc_control.specs.Flags.{Marks}
-use Rattle.jc_control.specs.Method.{Method}
 use Rattle.jc_rules.specs.Demand.{Frame}
-use Rattle.jc_rules.specs.Flow.{CellsBelow, no_cells, more_cells, FrameBelow, FlowTyping, At, IsNotFresh, IsNotTop, caught_frame}
+use Rattle.jc_rules.specs.Flow.{CellsBelow, no_cells, more_cells, FrameBelow, FlowTyping, At, IsNotFresh, caught_frame}
 use Rattle.jc_rules.specs.FlowLaws.{AreRules}
 use Rattle.jc_rules.specs.Laws.{IsNotBottom}
 use Rattle.xf_homes.specs.declared.home.Home.{Home}
-use Rattle.xf_homes.specs.Home.{IsAsked, asked_here, asked_caught, IsNeeded}
+use Rattle.xf_homes.specs.Home.{IsAsked, asked_here, asked_caught}
 use Rattle.xf_homes.specs.Laws.{AreNeeded, NeededAreKept, HasRegister, Serve}
 use Rattle.xf_homes.specs.Order.{register_sum}
 use Rattle.xf_homes.specs.Value.{value_at, value_of, width}
 use Rattle.xf_homes.specs.Walk.{register_from, same_home}
 use Rattle.xf_homes.proofs.Events.{homes-equal}
 use Rattle.xf_plan.specs.Source.{Source}
-use Rattle.xf_plan.specs.Plan.{needed, or_first, register}
+use Rattle.xf_plan.specs.Plan.{needed, or_first}
 use Rattle.xf_emission.specs.Laws.{HasFrames}
 use Rattle.xf_typing.specs.Typed.{cells_of, registers_of}
 use Rattle.xf_typing.specs.Whole.{IsWholeFrame}

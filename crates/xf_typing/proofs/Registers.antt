@@ -1,19 +1,16 @@
 -- The registers of homes: values that are no uninitialised objects, the arguments first.
-use Rattle.std.proofs.Common.{◌≡◌, ◌≢◌, ◌⊎◌, ℕ, zero, suc, ◌+◌, ◌-◌, ◌<◌, ◌≤◌, Bool, true, false, if◌then◌else◌, inl, inr, List, [], ◌∷◌, ◌++◌, length, drop, reverse, replicate, slice_get, get_or, All, Option, Some, None, Result, Ok, IsSomeAnd, refl, sym, ◌∙◌, ap, subst, arith, append_assoc, length-append}
-use Rattle.std.specs.Prelude.{IsTrue, ⊤}
+use Rattle.std.proofs.Common.{◌≡◌, ◌⊎◌, ℕ, zero, suc, ◌+◌, ◌-◌, ◌<◌, Bool, true, false, if◌then◌else◌, inl, inr, List, [], ◌∷◌, ◌++◌, length, drop, reverse, replicate, slice_get, All, Option, Some, Result, Ok, IsSomeAnd, refl, sym, ◌∙◌, ap, subst, arith, append_assoc, length-append}
 use Rattle.std.proofs.lemmas.List.Sums.{sum_by-cons}
-use Rattle.std.proofs.lemmas.List.Elements.{All-append}
 use Rattle.jc_base.proofs.Lists.{All-reverse}
-use Rattle.jc_base.specs.Each.{Each, IsAmong}
+use Rattle.jc_base.specs.Each.{IsAmong}
 use Rattle.jc_base.specs.Class.{ClassTable}
 use Rattle.jc_base.specs.Laws.{ClassesAreObjects, SameTypeDecides, IsOrderOfTypes}
 use Rattle.jc_base.specs.Linked.{receiver_words}
-use Rattle.jc_base.specs.Order.{Below, same, nothing, is_below, IsKnown}
+use Rattle.jc_base.specs.Order.{Below, nothing, is_below, IsKnown}
 use Rattle.jc_base.specs.declared.record.MethodRec.{MethodRec}
 use Rattle.jc_base.specs.declared.ty.Ty.{Ty}
-use Rattle.jc_base.specs.declared.ty.Ty.TheVariants.{Bottom, Short, IntHigh, IntLow, Null, Class, ArrBool, ArrByte, ArrShort, ArrInt, ArrRef, Fresh, Top}
+use Rattle.jc_base.specs.declared.ty.Ty.TheVariants.{Bottom, Short, IntHigh, IntLow, Class, Fresh, Top}
 use Rattle.jc_base.specs.World.{Linked}
-use Rattle.jc_decode.specs.declared.insn.Insn.{Insn}
 use Rattle.jc_decode.specs.Listing.{jumps}
 use Rattle.jc_decode.proofs.Ranges.{op-fits}
 use Rattle.jc_ops.specs.declared.fault.RuleFault.{RuleFault}
@@ -23,19 +20,18 @@ use Rattle.jc_ops.specs.declared.operation.Operation.TheVariants as ops
 use Rattle.jc_ops.specs.declared.operation.Width.TheVariants as widths
 use Rattle.jc_ops.specs.Next.{OperationsGoAlike, jumps_from}
 use Rattle.jc_ops.specs.Resolve.{Resolves}
-use Rattle.jc_control.specs.Control.{IsReached, IsLeader}
-use Rattle.jc_control.specs.Method.{Method, IsMethodOf}
+use Rattle.jc_control.specs.Method.{IsMethodOf}
 use Rattle.jc_rules.specs.declared.effect.Mode.TheVariants.{Flow}
 use Rattle.jc_rules.specs.declared.rule.Outcome.{Outcome}
-use Rattle.jc_rules.specs.Apply.{OperationApplies, RuleApplies}
+use Rattle.jc_rules.specs.Apply.{OperationApplies}
 use Rattle.jc_rules.specs.Demand.{Frame}
-use Rattle.jc_rules.specs.Flow.{CellsBelow, no_cells, more_cells, At, FlowTyping, IsFollowed, IsDerived, derived_start, IsNotFresh, IsNotTop, start_frame, receiver_of}
+use Rattle.jc_rules.specs.Flow.{CellsBelow, no_cells, more_cells, IsFollowed, derived_start, IsNotFresh, IsNotTop, start_frame, receiver_of}
 use Rattle.jc_rules.specs.FlowLaws.{AreRules}
 use Rattle.jc_rules.specs.Laws.{IsNotBottom}
 use Rattle.jc_flow.proofs.Frames.{all_none, all_more, all_first, all_rest}
 use Rattle.jc_flow.proofs.Derived.{of_world}
 use Rattle.xf_homes.specs.declared.home.Home.{Home}
-use Rattle.xf_homes.specs.Home.{argument_types, IsArgument, IsConditional, BranchesOver, KeepsStack, Spot, IsMet, met_local, met_cell}
+use Rattle.xf_homes.specs.Home.{argument_types, IsConditional, KeepsStack, Spot, IsMet, met_local, met_cell}
 use Rattle.xf_homes.specs.Laws.{NeededAreKept}
 use Rattle.xf_homes.specs.Order.{AreHomes, StandFrom, register_sum}
 use Rattle.xf_homes.specs.Value.{value_at, width}
@@ -46,7 +42,7 @@ use Rattle.xf_typing.specs.Typed.{cells_of, registers_of}
 use Rattle.xf_typing.specs.Whole.{IsWholeFrame, DerivedAreWhole}
 use Rattle.xf_typing.proofs.Walks.{Asked}
 use Rattle.xf_typing.proofs.Moves.{IsPlainValue}
-use Rattle.xf_typing.proofs.Ready.{IsReady, IsValueAt, value-is, value-plain, framed, IsFound, found, reached}
+use Rattle.xf_typing.proofs.Ready.{IsReady, IsValueAt, value-is, value-plain, framed, found, reached}
 
 -- ---- a conditional branch or switch takes no uninitialised object
 

@@ -1,50 +1,31 @@
 -- Uninitialised objects carry the place of the `new` that makes them. Where such places have other numbers, each to its own, what an
 -- operation does to the stack is the same but for these numbers.
-use Rattle.std.proofs.Common.{◌≡◌, ◌≢◌, ◌⊎◌, ℕ, zero, suc, ◌+◌, ◌-◌, ◌<◌, ◌≤◌, Bool, true, false, ◌==◌, if◌then◌else◌, inl, inr, List, [], ◌∷◌, ◌++◌, length, map, take, drop, reverse, slice_get, get_or, All, Option, Some, None, IsSomeAnd, IfSome, option_map, refl, sym, ◌∙◌, ap, subst, arith}
-use Rattle.std.specs.Prelude.{⊤, slice_index_or}
+use Rattle.std.proofs.Common.{◌≡◌, ℕ, zero, suc, ◌+◌, ◌-◌, Bool, true, false, ◌==◌, if◌then◌else◌, inl, inr, List, [], ◌∷◌, ◌++◌, length, map, take, drop, slice_get, Option, Some, None, IsSomeAnd, IfSome, option_map, refl, sym, ◌∙◌, ap, subst, arith}
+use Rattle.std.specs.Prelude.{⊤}
 use Rattle.std.proofs.lemmas.Bool.Decides.{nat_tests}
 use Rattle.std.proofs.lemmas.List.{drop-map, take-map, map-append, length-map}
 use Rattle.std.proofs.lemmas.Option.{slice_get-map}
-use Rattle.jc_base.proofs.Lists.{All-slice_get, All-reverse}
 use Rattle.jc_base.specs.Each.{Each}
 use Rattle.jc_base.specs.declared.ty.Ty.{Ty}
-use Rattle.jc_base.specs.declared.ty.Ty.TheVariants.{Bottom, Short, IntHigh, IntLow, Null, Class, ArrBool, ArrByte, ArrShort, ArrInt, ArrRef, Fresh, Top}
-use Rattle.jc_base.specs.declared.ty.Kind.{Kind}
-use Rattle.jc_base.specs.declared.ty.Kind.TheVariants as kinds
-use Rattle.jc_base.specs.declared.record.MethodRec.{MethodRec}
-use Rattle.jc_base.specs.Cell.{IsDeclared}
+use Rattle.jc_base.specs.declared.ty.Ty.TheVariants.{IntHigh, IntLow, Class, ArrBool, ArrByte, ArrRef, Fresh, Top}
 use Rattle.jc_base.specs.Class.{ClassTable, object}
 use Rattle.jc_base.specs.Laws.{IsOrderOfTypes}
-use Rattle.jc_base.specs.Linked.{IsMethod}
 use Rattle.jc_base.specs.Order.{Below, anything, is_below}
-use Rattle.jc_base.specs.World.{Linked, IsWorld}
 use Rattle.jc_ops.specs.declared.want.Want.{Want}
 use Rattle.jc_ops.specs.declared.want.Want.TheVariants.{Value, Storable, ByteArray, AnyArray, Whole, Receiver}
-use Rattle.jc_ops.specs.declared.operation.Callee.{Callee}
-use Rattle.jc_ops.specs.declared.operation.Choice.TheVariants as choices
-use Rattle.jc_ops.specs.declared.operation.Arithmetic.{Arithmetic}
-use Rattle.jc_ops.specs.declared.operation.Arithmetic.TheVariants as arithmetic
-use Rattle.jc_ops.specs.declared.operation.Holder.TheVariants as holders
-use Rattle.jc_ops.specs.declared.operation.Move.{Move}
-use Rattle.jc_ops.specs.declared.operation.Move.TheVariants as moves
 use Rattle.jc_ops.specs.declared.operation.Operation.{Operation}
 use Rattle.jc_ops.specs.declared.operation.Operation.TheVariants as ops
-use Rattle.jc_ops.specs.declared.operation.TypeTest.TheVariants as tests
 use Rattle.jc_ops.specs.declared.operation.Width.{Width}
 use Rattle.jc_ops.specs.declared.operation.Width.TheVariants as widths
-use Rattle.jc_ops.specs.declared.operation.Constant.TheVariants as constants
-use Rattle.jc_ops.specs.Sound.{IsSound, IsChosen, IsReceiverOf, IsNamedType}
 use Rattle.jc_rules.specs.declared.demand.Demand.{Demand}
 use Rattle.jc_rules.specs.declared.demand.Demand.TheVariants.{Registers, Depth, Cell, Cut, Held}
 use Rattle.jc_rules.specs.declared.effect.Cells.{Cells}
 use Rattle.jc_rules.specs.declared.effect.Cells.TheVariants as given
-use Rattle.jc_rules.specs.declared.effect.Change.{Change}
-use Rattle.jc_rules.specs.declared.effect.Change.TheVariants.{Replace, CopyUnder, Exchange, MakeReady}
-use Rattle.jc_rules.specs.Demand.{Frame, Holds, AllHold, Meets, IsHalf, IsFreshOf}
+use Rattle.jc_rules.specs.declared.effect.Change.TheVariants.{Replace, CopyUnder, Exchange}
+use Rattle.jc_rules.specs.Demand.{Holds, AllHold, Meets, IsHalf}
 use Rattle.jc_rules.specs.Effect.{changed, listed, ready}
 use Rattle.jc_rules.specs.Flow.{IsNotFresh}
-use Rattle.jc_rules.specs.FlowLaws.{AreRules}
-use Rattle.jc_rules.specs.Rule.{demands, effect, cell, number, value_given, value_wanted, number_given, cells_wanted, receiver_wanted, result_given, result_at, args_at, ready_with, call_change, seen, standing, element}
+use Rattle.jc_rules.specs.Rule.{cell, value_given, number_given, result_given, ready_with, call_change, element}
 
 module _ (new : ℕ → ℕ) (apart : (a b : ℕ) → new a ≡ new b → a ≡ b) where
   -- a type, with the place of its `new` in other code

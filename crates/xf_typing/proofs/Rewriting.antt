@@ -1,31 +1,27 @@
 -- All items of a rewritten method, from the empty stack at its start.
-use Rattle.std.proofs.Common.{◌≡◌, ◌≢◌, ◌⊎◌, ℕ, zero, suc, ◌+◌, ◌<◌, ◌≤◌, Bool, true, false, if◌then◌else◌, inl, inr, List, [], ◌∷◌, ◌++◌, length, map, flat_map, slice_get, All, Contains, Option, Some, None, Result, Ok, Err, IsSomeAnd, IfSome, refl, sym, ◌∙◌, ap, subst, arith}
-use Rattle.std.specs.Prelude.{ℤ, pos, negsuc, ⊤, is_some, IsTrue}
+use Rattle.std.proofs.Common.{◌≡◌, ℕ, zero, suc, ◌+◌, Bool, true, false, if◌then◌else◌, List, [], ◌∷◌, length, flat_map, slice_get, All, Contains, Option, Some, None, Result, Ok, IfSome, refl, sym, ◌∙◌, ap, subst, arith}
+use Rattle.std.specs.Prelude.{ℤ, pos, negsuc, is_some}
 use Rattle.std.proofs.lemmas.List.Elements.{All-contains}
 use Rattle.jc_base.specs.Cell.{IsDeclared}
 use Rattle.jc_base.specs.Order.{IsKnown}
 use Rattle.jc_base.specs.declared.record.Handler.{Handler}
 use Rattle.jc_base.specs.declared.record.MethodRec.{MethodRec}
-use Rattle.jc_base.specs.declared.ty.Ty.{Ty}
-use Rattle.jc_base.specs.declared.ty.Ty.TheVariants.{Class, Top}
-use Rattle.jc_base.specs.World.{Linked}
+use Rattle.jc_base.specs.declared.ty.Ty.TheVariants.{Top}
 use Rattle.jc_decode.specs.declared.insn.Placed.{Placed}
-use Rattle.jc_decode.specs.declared.symbols.Item.{Item}
-use Rattle.jc_decode.specs.declared.symbols.Item.TheVariants.{Label}
 use Rattle.jc_decode.specs.Listing.{listing, targets}
 use Rattle.jc_ops.specs.declared.fault.RuleFault.{RuleFault}
 use Rattle.jc_ops.specs.declared.operation.Branch.TheVariants as branches
 use Rattle.jc_ops.specs.declared.operation.Operation.{Operation}
 use Rattle.jc_ops.specs.declared.operation.Operation.TheVariants as ops
-use Rattle.jc_control.specs.Control.{IsReached, begins, IsLive, jumped, led_to, entered}
+use Rattle.jc_control.specs.Control.{jumped, led_to, entered}
 use Rattle.jc_control.specs.WellFormed.{Stands as IsListed, IsTargetPlace, IsHandlerOf}
 use Rattle.jc_rules.specs.Demand.{Frame}
-use Rattle.jc_rules.specs.Flow.{CellsBelow, no_cells, FrameBelow, At, IsNotFresh, start_frame, caught_frame}
+use Rattle.jc_rules.specs.Flow.{FrameBelow, At, IsNotFresh, start_frame, caught_frame}
 use Rattle.jc_rules.specs.Laws.{IsNotBottom}
 use Rattle.xf_homes.specs.Home.{IsConditional, argument_types}
 use Rattle.xf_homes.specs.Walk.{operands_of}
 use Rattle.xf_plan.specs.Source.{Source}
-use Rattle.xf_plan.specs.Plan.{is_leader, operation}
+use Rattle.xf_plan.specs.Plan.{is_leader}
 use Rattle.xf_emission.specs.declared.origin.Origin.TheVariants.{Start}
 use Rattle.xf_emission.specs.Edge.{copies}
 use Rattle.xf_emission.specs.Jump.{place, stub, stub_label, stubs_of, handler_label}
@@ -34,15 +30,12 @@ use Rattle.xf_emission.specs.Emission.{stubs, stubs_by, stubs_done, stubs_at, is
 use Rattle.xf_emission.specs.Laws.{IsCode}
 use Rattle.xf_emission.proofs.Live.{live-is}
 use Rattle.xf_typing.specs.Typed.{registers_of}
-use Rattle.xf_typing.proofs.Walks.{State, holding, left, Asked, nothing_asked, emptied, catching, Passes, Flows, flow_label, flow_end, flows-append, count}
+use Rattle.xf_typing.proofs.Walks.{holding, left, Asked, nothing_asked, emptied, catching, Passes, Flows, flow_label, flow_end, flows-append, count}
 use Rattle.xf_typing.proofs.Ready.{IsReady, framed, reached}
 use Rattle.xf_typing.proofs.Copies.{copies-go}
-use Rattle.xf_typing.proofs.Renames.{named}
-use Rattle.xf_typing.proofs.Turns.{IsLesser}
 use Rattle.xf_typing.proofs.Carried.{carries-start}
-use Rattle.xf_typing.proofs.Running.{AreLaws, IsRecordFor, IsRun}
+use Rattle.xf_typing.proofs.Running.{AreLaws, IsRecordFor}
 use Rattle.xf_typing.proofs.Leading.{Arrives, emptied_there, falls_there}
-use Rattle.xf_typing.proofs.Groups.{IsAbove}
 use Rattle.xf_typing.proofs.Edges.{stub-flows, caught-flows}
 use Rattle.xf_typing.proofs.Listings.{IsReachedRun, run-of, IsBefore, Numbered, groups-flow}
 

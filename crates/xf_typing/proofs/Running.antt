@@ -1,6 +1,5 @@
 -- An instruction that control reaches, in rewritten code: from a stack below that of its frame, to one below that of what it leaves.
-use Rattle.std.proofs.Common.{◌≡◌, ◌≢◌, ◌⊎◌, ℕ, zero, suc, ◌+◌, ◌<◌, ◌≤◌, Bool, true, false, if◌then◌else◌, inl, inr, List, [], ◌∷◌, ◌++◌, length, map, slice_get, All, Option, Some, None, Result, Ok, IsSomeAnd, IfSome, refl, sym, ◌∙◌, ap, subst, arith, length-append}
-use Rattle.std.specs.Prelude.{pos, IsTrue, ⊤}
+use Rattle.std.proofs.Common.{◌≡◌, ℕ, zero, suc, ◌+◌, ◌<◌, ◌≤◌, Bool, true, false, if◌then◌else◌, List, [], ◌∷◌, ◌++◌, length, map, slice_get, All, Option, Some, None, Ok, IsSomeAnd, IfSome, refl, sym, ◌∙◌, ap, subst, arith}
 use Rattle.std.proofs.lemmas.List.{length-map, map-append}
 use Rattle.std.proofs.lemmas.List.Elements.{All-append}
 use Rattle.jc_base.specs.Cell.{IsDeclared, IsNoHalf}
@@ -11,18 +10,13 @@ use Rattle.jc_base.specs.declared.record.MethodRec.{MethodRec}
 use Rattle.jc_base.specs.declared.ty.Ty.{Ty}
 use Rattle.jc_base.specs.declared.ty.Ty.TheVariants.{Bottom, Short, IntHigh, IntLow, Null, Class, ArrBool, ArrByte, ArrShort, ArrInt, ArrRef, Fresh, Top}
 use Rattle.jc_base.specs.World.{Linked}
-use Rattle.jc_decode.specs.declared.insn.Insn.{Insn}
 use Rattle.jc_decode.specs.declared.insn.Placed.{Placed}
 use Rattle.jc_decode.specs.declared.symbols.Item.{Item}
-use Rattle.jc_decode.specs.declared.symbols.Item.TheVariants.{Plain}
-use Rattle.jc_decode.specs.Listing.{falls, jumps}
-use Rattle.jc_ops.specs.declared.fault.RuleFault.{RuleFault}
+use Rattle.jc_decode.specs.Listing.{jumps}
 use Rattle.jc_ops.specs.declared.operation.Operation.{Operation}
 use Rattle.jc_ops.specs.declared.operation.Operation.TheVariants as ops
 use Rattle.jc_ops.specs.declared.operation.Sort.{Sort}
 use Rattle.jc_ops.specs.declared.operation.Sort.TheVariants as sorts
-use Rattle.jc_ops.specs.declared.operation.Width.{Width}
-use Rattle.jc_ops.specs.declared.operation.Width.TheVariants as widths
 use Rattle.jc_ops.specs.Entry.{RestsOnEntry}
 use Rattle.jc_ops.specs.Next.{OperationsGoAlike, falls_from, jumps_from}
 use Rattle.jc_ops.specs.Resolve.{resolved}
@@ -34,11 +28,11 @@ use Rattle.jc_rules.specs.declared.rule.Outcome.{Outcome}
 use Rattle.jc_rules.specs.Apply.{OperationApplies}
 use Rattle.jc_rules.specs.Demand.{Frame}
 use Rattle.jc_rules.specs.Effect.{reg}
-use Rattle.jc_rules.specs.Flow.{CellsBelow, no_cells, more_cells, IsFit, IsNotFresh, IsNotTop}
+use Rattle.jc_rules.specs.Flow.{CellsBelow, more_cells, IsFit, IsNotFresh, IsNotTop}
 use Rattle.jc_rules.specs.FlowLaws.{AreRules}
 use Rattle.jc_rules.specs.Footprint.{OperationNamesNone}
 use Rattle.jc_rules.specs.Laws.{IsNotBottom, OperationFalls, OperationKeeps, OperationRests}
-use Rattle.jc_rules.specs.Rule.{or_null, number_given}
+use Rattle.jc_rules.specs.Rule.{or_null}
 use Rattle.jc_rules.specs.Whole.{OperationKeepsWhole}
 use Rattle.jc_flow.proofs.Frames.{all_none, all_more}
 use Rattle.xf_homes.specs.declared.home.Home.{Home}
@@ -48,17 +42,15 @@ use Rattle.xf_homes.specs.Walk.{local_of}
 use Rattle.xf_plan.specs.Source.{Source}
 use Rattle.xf_plan.specs.Plan.{home_of, register}
 use Rattle.xf_emission.specs.Move.{load}
-use Rattle.xf_emission.specs.Group.{body, kept, loaded, increased}
+use Rattle.xf_emission.specs.Group.{body, kept, loaded}
 use Rattle.xf_typing.specs.Typed.{registers_of}
-use Rattle.xf_typing.proofs.Walks.{State, holding, left, Asked, Turn, Flows, flow_plain, flow_end}
-use Rattle.xf_typing.proofs.Moves.{Holds, IsPlainValue, cells_on, applies-by, turn-by, load-turn}
-use Rattle.xf_typing.proofs.Stacks.{Stands}
-use Rattle.xf_typing.proofs.Ready.{IsReady, value-is, value-plain, local-stands}
-use Rattle.xf_typing.proofs.Renames.{named, named_op, same-named}
+use Rattle.xf_typing.proofs.Walks.{holding, left, Asked, Flows, flow_plain, flow_end}
+use Rattle.xf_typing.proofs.Moves.{IsPlainValue, cells_on, load-turn}
+use Rattle.xf_typing.proofs.Ready.{IsReady, value-plain, local-stands}
+use Rattle.xf_typing.proofs.Renames.{named, named_op}
 use Rattle.xf_typing.proofs.Kept.{IsKeptOperation}
-use Rattle.xf_typing.proofs.Turns.{NamesNone, IsLesser, IsDone, kept-done, kept-resolves}
+use Rattle.xf_typing.proofs.Turns.{NamesNone, IsLesser, kept-done, kept-resolves}
 use Rattle.xf_typing.proofs.Carried.{is-short, is-high, is-low}
-use Rattle.xf_typing.proofs.Rows.{increased-at}
 
 -- the laws of worlds and of rules that a card typing of rewritten code rests on
 pub record AreLaws (w : Linked) : Type 0 where

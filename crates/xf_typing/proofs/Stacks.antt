@@ -1,22 +1,20 @@
 -- Stacks that are loaded from homes and stored into homes.
-use Rattle.std.proofs.Common.{◌≡◌, ◌⊎◌, ℕ, zero, suc, ◌+◌, ◌<◌, ◌≤◌, Bool, true, false, if◌then◌else◌, inl, inr, List, [], ◌∷◌, ◌++◌, length, map, reverse, slice_get, Option, Some, None, refl, sym, ◌∙◌, ap, subst, arith, append_assoc, length-append, All}
+use Rattle.std.proofs.Common.{◌≡◌, ℕ, suc, ◌+◌, ◌≤◌, List, [], ◌∷◌, ◌++◌, length, map, reverse, slice_get, Option, Some, None, refl, sym, ◌∙◌, ap, subst, arith, append_assoc, length-append, All}
 use Rattle.std.proofs.lemmas.List.{append-nil, reverse-append, reverse-reverse}
-use Rattle.jc_base.specs.Each.{Each, IsAmong}
+use Rattle.jc_base.specs.Each.{Each}
 use Rattle.jc_base.specs.Cell.{AreWhole, no_cells as no_whole, whole_int, one_cell, IsNoHalf}
 use Rattle.jc_base.specs.Class.{ClassTable}
 use Rattle.jc_base.specs.Laws.{ClassesAreObjects}
 use Rattle.jc_base.specs.declared.ty.Ty.{Ty}
-use Rattle.jc_base.specs.declared.ty.Ty.TheVariants.{Bottom, Short, IntHigh, IntLow, Null, Class, ArrBool, ArrByte, ArrShort, ArrInt, ArrRef, Fresh, Top}
+use Rattle.jc_base.specs.declared.ty.Ty.TheVariants.{IntHigh, IntLow, Top}
 use Rattle.jc_base.specs.declared.record.MethodRec.{MethodRec}
-use Rattle.jc_base.specs.World.{Linked}
-use Rattle.jc_decode.specs.declared.symbols.Item.{Item}
 use Rattle.jc_rules.specs.Flow.{CellsBelow, no_cells, more_cells, IsNotTop}
 use Rattle.xf_homes.specs.declared.home.Home.{Home}
 use Rattle.xf_homes.specs.Value.{value_at, value_of}
 use Rattle.xf_plan.specs.Source.{Source}
 use Rattle.xf_plan.specs.Plan.{register, cells_from, home_of, with_home_of}
-use Rattle.xf_emission.specs.Move.{load, store, loads, spill}
-use Rattle.xf_typing.proofs.Walks.{State, holding, left, Asked, Turn, Flows, flow_plain, flow_end, Goes, goes-append, goes-nowhere}
+use Rattle.xf_emission.specs.Move.{store, loads, spill}
+use Rattle.xf_typing.proofs.Walks.{holding, Asked, flow_plain, Goes, goes-nowhere}
 use Rattle.xf_typing.proofs.Moves.{Holds, cells_on, load-turn, store-turn}
 
 -- ---- the cells of homes

@@ -1,6 +1,6 @@
 -- Stores and increments of locals in rewritten code.
-use Rattle.std.proofs.Common.{◌≡◌, ◌≢◌, ◌⊎◌, ℕ, zero, suc, ◌+◌, ◌<◌, ◌≤◌, Bool, true, false, if◌then◌else◌, inl, inr, List, [], ◌∷◌, ◌++◌, length, map, flat_map, set, drop, slice_get, All, Option, Some, None, IsSomeAnd, IfSome, refl, sym, ◌∙◌, ap, subst, arith, length-append}
-use Rattle.std.specs.Prelude.{pos, ℤ, ⊤, ◌==◌}
+use Rattle.std.proofs.Common.{◌≡◌, ◌≢◌, ◌⊎◌, ℕ, zero, suc, ◌+◌, ◌<◌, ◌≤◌, true, false, inl, inr, List, [], ◌∷◌, ◌++◌, length, map, flat_map, set, drop, slice_get, All, Option, Some, IsSomeAnd, IfSome, refl, sym, ◌∙◌, ap, subst, arith}
+use Rattle.std.specs.Prelude.{pos, ℤ, ◌==◌}
 use Rattle.std.proofs.lemmas.Bool.Decides.{nat_tests}
 use Rattle.std.proofs.lemmas.List.{length-map}
 use Rattle.jc_base.specs.Cell.{IsDeclared, IsNoHalf}
@@ -10,16 +10,12 @@ use Rattle.jc_base.specs.Laws.{IsOrderOfTypes}
 use Rattle.jc_base.specs.Order.{Below, same, joined, is_below, IsKnown}
 use Rattle.jc_base.specs.declared.record.MethodRec.{MethodRec}
 use Rattle.jc_base.specs.declared.ty.Ty.{Ty}
-use Rattle.jc_base.specs.declared.ty.Ty.TheVariants.{Bottom, Short, IntHigh, IntLow, Null, Class, ArrBool, ArrByte, ArrShort, ArrInt, ArrRef, Fresh, Top}
-use Rattle.jc_base.specs.World.{Linked}
-use Rattle.jc_decode.specs.declared.insn.Insn.{Insn}
+use Rattle.jc_base.specs.declared.ty.Ty.TheVariants.{Short, IntHigh, IntLow, Class, Fresh, Top}
 use Rattle.jc_decode.specs.declared.insn.Placed.{Placed}
 use Rattle.jc_decode.specs.declared.symbols.Item.{Item}
 use Rattle.jc_decode.specs.declared.symbols.Item.TheVariants.{Plain}
 use Rattle.jc_decode.specs.Layout.{layout_of, opcode}
-use Rattle.jc_decode.specs.Listing.{falls, jumps}
 use Rattle.jc_ops.specs.declared.operation.Move.TheVariants as moves
-use Rattle.jc_ops.specs.declared.operation.Operation.{Operation}
 use Rattle.jc_ops.specs.declared.operation.Operation.TheVariants as ops
 use Rattle.jc_ops.specs.declared.operation.Sort.{Sort}
 use Rattle.jc_ops.specs.declared.operation.Sort.TheVariants as sorts
@@ -29,31 +25,30 @@ use Rattle.jc_rules.specs.declared.effect.Mode.TheVariants.{Flow}
 use Rattle.jc_rules.specs.declared.rule.Outcome.{Outcome}
 use Rattle.jc_rules.specs.Apply.{OperationApplies}
 use Rattle.jc_rules.specs.Demand.{Frame, IsHalf}
-use Rattle.jc_rules.specs.Flow.{CellsBelow, no_cells, more_cells, FrameBelow, IsNotFresh, IsNotTop}
+use Rattle.jc_rules.specs.Flow.{CellsBelow, no_cells, more_cells, FrameBelow, IsNotFresh}
 use Rattle.jc_rules.specs.Laws.{IsNotBottom}
 use Rattle.jc_rules.specs.Rule.{cell}
-use Rattle.jc_flow.proofs.Frames.{all_none, all_more, all_first, all_rest}
+use Rattle.jc_flow.proofs.Frames.{all_first, all_rest}
 use Rattle.xf_homes.specs.declared.home.Home.{Home}
 use Rattle.xf_homes.specs.Home.{asked_here, IsAsked}
 use Rattle.xf_homes.specs.Laws.{IsAskedBefore, AreAskedInOrder}
-use Rattle.xf_homes.specs.Value.{value_at, value_of}
+use Rattle.xf_homes.specs.Value.{value_at}
 use Rattle.xf_homes.specs.Walk.{local_of}
 use Rattle.xf_plan.specs.Source.{Source}
 use Rattle.xf_plan.specs.Plan.{home_of, needed, register}
-use Rattle.xf_emission.specs.Laws.{IsCode}
-use Rattle.xf_emission.specs.Move.{load, store, copy}
+use Rattle.xf_emission.specs.Move.{copy}
 use Rattle.xf_emission.specs.Group.{body, increased, popped, stored}
 use Rattle.xf_typing.specs.Typed.{registers_of}
-use Rattle.xf_typing.proofs.Walks.{State, holding, left, Asked, Turn, Flows, flow_plain, flow_end, flows-append, Goes, goes-append, goes-nowhere}
+use Rattle.xf_typing.proofs.Walks.{holding, Asked, Turn, Flows, flow_plain, flow_end, Goes, goes-append, goes-nowhere}
 use Rattle.xf_typing.proofs.Moves.{Holds, IsPlainValue, cells_on, applies-by, turn-by, store-turn, same-cells, set-below, set-same, held, there, two-there}
 use Rattle.xf_typing.proofs.Stacks.{Stands}
-use Rattle.xf_typing.proofs.Ready.{IsReady, IsValueAt, value-is, value-plain, local-stands, needed-are, needed-served, found}
+use Rattle.xf_typing.proofs.Ready.{IsReady, IsValueAt, value-is, local-stands, needed-are, needed-served, found}
 use Rattle.xf_typing.proofs.Copies.{copy-goes, narrow, above-short, above-high}
 use Rattle.xf_typing.proofs.Renames.{named}
 use Rattle.xf_typing.proofs.Turns.{IsLesser}
-use Rattle.xf_typing.proofs.Carried.{is-short, is-high, is-low, set-here, set-other}
+use Rattle.xf_typing.proofs.Carried.{is-short, is-high, is-low, set-other}
 use Rattle.xf_typing.proofs.Rows.{increased-at, pop-is, pop-two-is}
-use Rattle.xf_typing.proofs.Running.{AreLaws, IsRecordFor, IsRun, IsPassed, has-room, IsReferenceIn, is-reference, get-in, IsFoundBelow, found-below, value-one, value-int, local-at}
+use Rattle.xf_typing.proofs.Running.{AreLaws, IsRecordFor, IsRun, IsPassed, has-room, is-reference, get-in, found-below, value-one, value-int, local-at}
 
 -- ---- the top of a stack
 

@@ -1,19 +1,15 @@
 -- Reads and writes of fields of `this` in rewritten code: as they stand where register 0 is its home, else of an object on the stack.
-use Rattle.std.proofs.Common.{◌≡◌, ◌≢◌, ◌⊎◌, ℕ, zero, suc, ◌+◌, ◌-◌, ◌<◌, ◌≤◌, ◌==◌, Bool, true, false, if◌then◌else◌, inl, inr, List, [], ◌∷◌, ◌++◌, length, map, take, drop, slice_get, All, Option, Some, None, IsSomeAnd, IfSome, Ok, refl, sym, ◌∙◌, ap, subst, arith, length-append}
-use Rattle.std.specs.Prelude.{pos, ⊤}
+use Rattle.std.proofs.Common.{◌≡◌, ◌≢◌, ℕ, suc, ◌+◌, ◌-◌, ◌<◌, ◌≤◌, Bool, true, false, if◌then◌else◌, List, [], ◌∷◌, ◌++◌, length, map, drop, slice_get, All, Option, Some, IsSomeAnd, IfSome, Ok, refl, sym, ◌∙◌, ap, subst, arith, length-append}
 use Rattle.std.proofs.lemmas.Bool.Decides.{nat_tests}
 use Rattle.std.proofs.lemmas.List.{length-map, map-append}
 use Rattle.jc_base.specs.Cell.{IsDeclared, IsReference, IsOfKind, IsNoHalf}
 use Rattle.jc_base.specs.Class.{ClassTable}
-use Rattle.jc_base.specs.Laws.{IsOrderOfTypes}
 use Rattle.jc_base.specs.Order.{Below, same, joined, is_below, IsKnown}
 use Rattle.jc_base.specs.declared.record.MethodRec.{MethodRec}
 use Rattle.jc_base.specs.declared.ty.Kind.{Kind}
 use Rattle.jc_base.specs.declared.ty.Kind.TheVariants as kinds
 use Rattle.jc_base.specs.declared.ty.Ty.{Ty}
 use Rattle.jc_base.specs.declared.ty.Ty.TheVariants.{Bottom, Short, IntHigh, IntLow, Null, Class, ArrBool, ArrByte, ArrShort, ArrInt, ArrRef, Fresh, Top}
-use Rattle.jc_base.specs.World.{Linked}
-use Rattle.jc_decode.specs.declared.insn.Insn.{Insn}
 use Rattle.jc_decode.specs.declared.insn.Placed.{Placed}
 use Rattle.jc_decode.specs.declared.symbols.Item.{Item}
 use Rattle.jc_decode.specs.declared.symbols.Item.TheVariants.{Plain}
@@ -24,19 +20,17 @@ use Rattle.jc_ops.specs.declared.operation.InstanceField.{InstanceField}
 use Rattle.jc_ops.specs.declared.operation.Move.TheVariants as moves
 use Rattle.jc_ops.specs.declared.operation.Operation.{Operation}
 use Rattle.jc_ops.specs.declared.operation.Operation.TheVariants as ops
-use Rattle.jc_ops.specs.declared.operation.Width.TheVariants as widths
 use Rattle.jc_ops.specs.declared.want.Want.TheVariants.{Value}
 use Rattle.jc_rules.specs.declared.demand.Demand.{Demand}
-use Rattle.jc_rules.specs.declared.demand.Demand.TheVariants.{Registers, Depth, Cell, Cut, Held}
-use Rattle.jc_rules.specs.declared.effect.Cells.{Cells}
+use Rattle.jc_rules.specs.declared.demand.Demand.TheVariants.{Cell, Held}
 use Rattle.jc_rules.specs.declared.effect.Mode.TheVariants.{Flow}
 use Rattle.jc_rules.specs.declared.rule.Outcome.{Outcome}
 use Rattle.jc_rules.specs.Apply.{OperationApplies}
 use Rattle.jc_rules.specs.Demand.{Frame, AllHold}
-use Rattle.jc_rules.specs.Effect.{listed, changed}
-use Rattle.jc_rules.specs.Flow.{CellsBelow, no_cells, more_cells, IsNotFresh, IsNotTop}
-use Rattle.jc_rules.specs.Laws.{IsNotBottom, OperationFallsTo, Keeps}
-use Rattle.jc_rules.specs.Rule.{demands, effect, value_given, value_wanted, value_size}
+use Rattle.jc_rules.specs.Effect.{listed}
+use Rattle.jc_rules.specs.Flow.{IsNotFresh, IsNotTop}
+use Rattle.jc_rules.specs.Laws.{IsNotBottom}
+use Rattle.jc_rules.specs.Rule.{demands, value_given, value_wanted, value_size}
 use Rattle.jc_flow.proofs.Frames.{all_none, all_more, all_first, all_rest}
 use Rattle.xf_homes.specs.declared.home.Home.{Home}
 use Rattle.xf_homes.specs.Value.{value_at}
@@ -46,18 +40,18 @@ use Rattle.xf_plan.specs.Plan.{home_of, register}
 use Rattle.xf_emission.specs.Move.{with_byte, load}
 use Rattle.xf_emission.specs.Group.{body, kept, stays, field_read, field_written, swap_words}
 use Rattle.xf_typing.specs.Typed.{registers_of}
-use Rattle.xf_typing.proofs.Walks.{State, holding, left, Asked, Turn, Flows, flow_plain, flow_end, flows-append}
-use Rattle.xf_typing.proofs.Moves.{Holds, IsPlainValue, cells_on, applies-by, turn-by, load-turn, same-cells, held, there}
+use Rattle.xf_typing.proofs.Walks.{holding, Asked, Turn, Flows, flow_plain, flow_end, flows-append}
+use Rattle.xf_typing.proofs.Moves.{cells_on, applies-by, turn-by, load-turn, same-cells, held, there}
 use Rattle.xf_typing.proofs.Stacks.{Stands}
 use Rattle.xf_typing.proofs.Ready.{IsReady, local-stands}
 use Rattle.xf_typing.proofs.Renames.{named, named_op, value-same}
 use Rattle.xf_typing.proofs.Kept.{IsKeptOperation, applies-named}
 use Rattle.xf_typing.proofs.Registers.{not-fresh}
 use Rattle.xf_typing.proofs.Turns.{IsLesser, kept-resolves}
-use Rattle.xf_typing.proofs.Carried.{stores-nothing, is-short, is-high, is-low}
+use Rattle.xf_typing.proofs.Carried.{is-high, is-low}
 use Rattle.xf_typing.proofs.Rows.{read-on-stack, write-on-stack, swap-one-is, swap-two-is}
-use Rattle.xf_typing.proofs.Storing.{HasTop, has-top}
-use Rattle.xf_typing.proofs.Running.{AreLaws, IsRecordFor, IsRun, IsPassed, has-room, IsReferenceIn, is-reference, get-in, IsFoundBelow, found-below, value-one, local-at, push-lesser}
+use Rattle.xf_typing.proofs.Storing.{has-top}
+use Rattle.xf_typing.proofs.Running.{AreLaws, IsRecordFor, IsRun, IsPassed, has-room, IsReferenceIn, is-reference, get-in, found-below, value-one, local-at, push-lesser}
 
 -- ---- the value of a field
 

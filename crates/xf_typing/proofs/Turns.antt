@@ -1,21 +1,16 @@
 -- The turn of a kept instruction.
-use Rattle.std.proofs.Common.{◌≡◌, ◌≢◌, ◌⊎◌, ℕ, zero, suc, ◌+◌, ◌-◌, ◌<◌, ◌≤◌, Bool, true, false, if◌then◌else◌, List, [], ◌∷◌, ◌++◌, length, map, reverse, slice_get, max, All, Option, Some, None, Result, Ok, IfSome, refl, sym, ◌∙◌, ap, subst, arith}
-use Rattle.std.specs.Prelude.{⊤, IsTrue}
-use Rattle.std.proofs.lemmas.List.{length-map}
+use Rattle.std.proofs.Common.{◌≡◌, ℕ, ◌+◌, ◌<◌, ◌≤◌, List, [], ◌∷◌, ◌++◌, length, map, reverse, slice_get, All, Option, Some, None, Ok, IfSome, refl, sym, ◌∙◌, ap, arith}
 use Rattle.jc_base.specs.declared.ty.Ty.{Ty}
-use Rattle.jc_base.specs.declared.ty.Ty.TheVariants.{Bottom, Short, IntHigh, IntLow, Null, Class, ArrBool, ArrByte, ArrShort, ArrInt, ArrRef, Fresh, Top}
+use Rattle.jc_base.specs.declared.ty.Ty.TheVariants.{IntHigh}
 use Rattle.jc_base.specs.declared.ty.Kind.TheVariants as kinds
 use Rattle.jc_base.specs.declared.record.MethodRec.{MethodRec}
 use Rattle.jc_base.specs.Cell.{IsDeclared}
 use Rattle.jc_base.specs.Order.{IsKnown}
 use Rattle.jc_base.specs.World.{Linked, member_at}
 use Rattle.jc_decode.specs.declared.insn.Insn.{Insn}
-use Rattle.jc_decode.specs.Listing.{falls, jumps}
-use Rattle.jc_ops.specs.declared.fault.RuleFault.{RuleFault}
 use Rattle.jc_ops.specs.declared.want.Want.{Want}
 use Rattle.jc_ops.specs.declared.operation.Arithmetic.TheVariants as arithmetic
 use Rattle.jc_ops.specs.declared.operation.Branch.TheVariants as branches
-use Rattle.jc_ops.specs.declared.operation.Constant.TheVariants as constants
 use Rattle.jc_ops.specs.declared.operation.Holder.TheVariants as holders
 use Rattle.jc_ops.specs.declared.operation.Move.TheVariants as moves
 use Rattle.jc_ops.specs.declared.operation.Operation.{Operation}
@@ -27,17 +22,16 @@ use Rattle.jc_ops.specs.Row.{row_at}
 use Rattle.jc_ops.specs.Sound.{IsSound}
 use Rattle.jc_rules.specs.declared.demand.Demand.{Demand}
 use Rattle.jc_rules.specs.declared.demand.Demand.TheVariants.{Registers, Depth, Cell, Cut, Held}
-use Rattle.jc_rules.specs.declared.effect.Mode.TheVariants.{Card, Flow}
+use Rattle.jc_rules.specs.declared.effect.Mode.TheVariants.{Flow}
 use Rattle.jc_rules.specs.declared.rule.Outcome.{Outcome}
 use Rattle.jc_rules.specs.Demand.{Frame, AreKnown}
-use Rattle.jc_rules.specs.Flow.{CellsBelow, FrameBelow, IsNotTop}
+use Rattle.jc_rules.specs.Flow.{CellsBelow, IsNotTop}
 use Rattle.jc_rules.specs.FlowLaws.{AreRules}
 use Rattle.jc_rules.specs.Footprint.{registers_asked, OperationNamesNone}
 use Rattle.jc_rules.specs.Laws.{IsNotBottom, OperationFalls, OperationKeeps, OperationRests}
-use Rattle.jc_rules.specs.Apply.{OperationApplies, RuleApplies}
-use Rattle.jc_rules.specs.Rule.{demands, number, value_wanted, cells_wanted, receiver_wanted, call_demands, args_at, return_demands}
+use Rattle.jc_rules.specs.Apply.{OperationApplies}
+use Rattle.jc_rules.specs.Rule.{demands, value_wanted, cells_wanted, receiver_wanted, args_at, return_demands}
 use Rattle.xf_emission.proofs.RowByRow.{moved_to, resolved-elsewhere}
-use Rattle.xf_typing.proofs.Walks.{State, holding, left, Asked, Turn}
 use Rattle.xf_typing.proofs.Renames.{named, named_op}
 use Rattle.xf_typing.proofs.Kept.{IsKeptOperation, applies-named}
 

@@ -1,5 +1,5 @@
 -- The law of rewritten methods.
-use Rattle.std.proofs.Common.{◌≡◌, ℕ, Option, Some, IfSome, refl, sym, subst}
+use Rattle.std.proofs.Common.{Option, IfSome, refl, sym, subst}
 use Rattle.jc_base.specs.declared.ty.Ty.TheVariants.{Top}
 use Rattle.jc_base.specs.World.{Linked}
 use Rattle.jc_rules.specs.Demand.{Frame}

@@ -1,9 +1,9 @@
 -- A walk along all items of code is a card typing of it.
-use Rattle.std.proofs.Common.{◌≡◌, ◌≢◌, ◌⊎◌, ℕ, zero, suc, ◌+◌, ◌-◌, ◌<◌, ◌≤◌, Bool, true, false, if◌then◌else◌, inl, inr, List, [], ◌∷◌, ◌++◌, length, map, slice_get, All, Contains, Option, Some, None, IsSomeAnd, refl, sym, ◌∙◌, ap, subst, arith}
-use Rattle.std.specs.Prelude.{ℤ, pos, IsTrue, ◌==◌}
+use Rattle.std.proofs.Common.{◌≡◌, ℕ, zero, suc, ◌+◌, ◌<◌, ◌≤◌, Bool, true, false, if◌then◌else◌, inl, inr, List, [], ◌∷◌, length, map, slice_get, All, Contains, Option, Some, None, IsSomeAnd, refl, sym, ◌∙◌, ap, subst, arith}
+use Rattle.std.specs.Prelude.{pos, ◌==◌}
 use Rattle.std.proofs.lemmas.Simd.{map-map}
 use Rattle.jc_base.specs.Each.{Each, IsAmong}
-use Rattle.jc_base.specs.Class.{ClassTable, IsClass}
+use Rattle.jc_base.specs.Class.{IsClass}
 use Rattle.jc_base.specs.Order.{IsKnown, same, Below}
 use Rattle.jc_base.specs.declared.record.Handler.{Handler}
 use Rattle.jc_base.specs.declared.record.MethodRec.{MethodRec}
@@ -16,21 +16,19 @@ use Rattle.jc_decode.specs.declared.symbols.Item.{Item}
 use Rattle.jc_decode.specs.declared.symbols.Item.TheVariants.{Plain, Branch, Switch, Label}
 use Rattle.jc_decode.specs.declared.symbols.Range.{Range}
 use Rattle.jc_decode.specs.declared.symbols.Symbols.{Symbols}
-use Rattle.jc_decode.specs.Listing.{falls, jumps}
 use Rattle.jc_decode.specs.Symbols.{Step, place_of, steps, steps_in, handler}
 use Rattle.jc_rules.specs.declared.effect.Mode.TheVariants.{Flow}
 use Rattle.jc_rules.specs.declared.rule.Outcome.{Outcome}
-use Rattle.jc_rules.specs.Demand.{Frame}
 use Rattle.jc_rules.specs.Apply.{RuleApplies}
 use Rattle.jc_rules.specs.Flow.{CellsBelow, IsNotFresh, start_frame}
-use Rattle.card_typing.specs.Place.{IsTargetAmong, IsEntryAmong, IsAboveCaughtBy, AreCaughtAt}
-use Rattle.card_typing.specs.Typing.{frame_at, GoesOnIn, IsTypedIn, IsEnteredBy, TypingIn}
+use Rattle.card_typing.specs.Place.{IsTargetAmong, IsEntryAmong}
+use Rattle.card_typing.specs.Typing.{frame_at, IsTypedIn, IsEnteredBy, TypingIn}
 use Rattle.xf_emission.proofs.Labels.{labels}
 use Rattle.xf_emission.proofs.Rises.{Rises}
 use Rattle.xf_landed.specs.Laid.{class_by, catching as handler_by, record_with, leads_of, IsHandlerIn, AreFormed, code_in_symbols}
 use Rattle.xf_landed.proofs.Steps.{contains-at, at-contains, all-contained, contains-map, Preimage, preimage}
-use Rattle.xf_typing.proofs.Walks.{State, holding, left, Asked, nothing_asked, emptied, catching, Passes, Turn, Flows, count}
-use Rattle.xf_typing.proofs.Bridge.{stack_at, Follows, comes-next, left-empty, IsTurned, turned-at, IsAskedFor, asked-at}
+use Rattle.xf_typing.proofs.Walks.{State, holding, left, Asked, emptied, catching, Passes, Flows, count}
+use Rattle.xf_typing.proofs.Bridge.{stack_at, comes-next, left-empty, IsTurned, turned-at, asked-at}
 
 -- ---- lists
 

@@ -1,7 +1,5 @@
 -- The card typing of a rewritten method, where its labels are asked for as they are named.
-use Rattle.std.proofs.Common.{◌≡◌, ℕ, ◌+◌, ◌<◌, List, [], refl}
-use Rattle.jc_base.specs.World.{Linked}
-use Rattle.jc_base.specs.declared.record.MethodRec.{MethodRec}
+use Rattle.std.proofs.Common.{◌+◌, refl}
 use Rattle.jc_decode.specs.Listing.{listing}
 use Rattle.jc_control.specs.Method.{IsMethodOf}
 use Rattle.jc_flow.proofs.Derived.{of_world}

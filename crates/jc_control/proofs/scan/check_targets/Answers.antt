@@ -2,7 +2,7 @@ use Rattle.std.proofs.Common.{length, ap, rules}
 use Rattle.std.specs.Prelude.{FitsSigned}
 use Rattle.std.specs.Int.{w32}
 use Rattle.std.proofs.lemmas.Int.{to_z-of_z}
-use Rattle.jc_decode.specs.Instructions.{rest_of}
+use Rattle.jc_control.specs.Walk.{rest_of}
 use Rattle.jc_decode.specs.Listing.{listing, targets}
 use Rattle.jc_control.specs.WellFormed.{IsTargetPlace}
 use Rattle.jc_control.specs.declared.flaw.Flaw.TheVariants.{BadTarget}

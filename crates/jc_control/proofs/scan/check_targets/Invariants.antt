@@ -1,5 +1,5 @@
 use Rattle.std.proofs.Common.{◌≡◌, ◌++◌, All}
-use Rattle.jc_decode.specs.Instructions.{rest_of}
+use Rattle.jc_control.specs.Walk.{rest_of}
 use Rattle.jc_decode.specs.Listing.{listing}
 use Rattle.jc_control.specs.Scan.{LeadsToPlaces}
 use Rattle.jc_control.proofs.scan.check_targets.Given as goal

@@ -1,9 +1,15 @@
-use Rattle.jc_base.specs.Order.{same}
-use Rattle.jc_rules.proofs.Raising.{not_both}
+use Rattle.std.proofs.Common.{subst, sym}
+use Rattle.jc_base.specs.Order.{Below, same}
+use Rattle.jc_rules.proofs.Raising.{join-above, top-above}
+use Rattle.jc_rules.proofs.state.raised.Goals.{then-is_top-via-then-is_top, then-is_top-via-else-is_top+then-same_type}
 use Rattle.jc_rules.proofs.state.raised.Goals as goal
 
-pub returns-then-below : goal.returns-then-below
-returns-then-below c = record { left = same; right = c.below.ensures.is.0 c.if-below.true; least = λ u p q. p }
-
-pub returns-else-below : goal.returns-else-below
-returns-else-below c = (c.join.ensures.is, c.join.ensures.known, c.types_are_ordered.ensures.order.rises c.join.ensures.is (λ h. not_both c.if-below.false (c.below.ensures.is.1 h)))
+pub returns-then-is_top : goal.returns-then-is_top
+returns-then-is_top c =
+    let t = c.args.classes.now in
+    let held = c.args.held.now in
+    elim c.then-is_top.branch [
+      | then-is_top-via-then-is_top w ↦ join-above t held c.args.other.now (top-above t held c.args.other.now w.if-is_top.ensures)
+      | then-is_top-via-else-is_top+then-same_type w ↦
+          join-above t held c.args.other.now (subst (λ a. Below t a held) (sym (w.same_type.ensures.is.0 w.if-same_type.true)) same)
+    ]

@@ -1,5 +1,4 @@
 use Rattle.std.proofs.Common.{◌≡◌, subst}
-use Rattle.jc_base.specs.Class.{ClassTable}
 use Rattle.jc_base.specs.Laws.{ClassesAreObjects}
 use Rattle.xf_typing.proofs.Typed.{rewritten-is-typed}
 use Rattle.xf_typing.proofs.laws.rewritten_is_typed.Goals as goal

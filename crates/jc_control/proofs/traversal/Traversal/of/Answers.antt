@@ -40,4 +40,4 @@ work-preserved c =
     }
 
 pub returns : goal.returns
-returns c = traversed (method c.args.subject) c.work.traversal c.take.new.self c.work.invariant.sound c.work.invariant.closed c.work.invariant.start c.in_default.ensures.none c.requires
+returns c = traversed (method c.args.subject) c.work.traversal c.take.new.self c.work.invariant.sound c.work.invariant.closed c.work.invariant.start c.in_default.ensures.none c.args.listing.now c.requires.listing c.requires.formed

@@ -1,0 +1,186 @@
+-- Methods and static fields overlap exactly where one reaches to the nearest other from its own start on.
+use Rattle.std.proofs.Common.{◌≡◌, ℕ, ◌<◌, ◌≤◌, Bool, true, false, ltb, leb, cond, min, max, List, [], ◌∷◌, ◌++◌, length, map, Option, Some, None, refl, sym, ap, subst, ◌∙◌, inl, inr, arith, lt-ltb, le-ltb}
+use Rattle.std.specs.List.{filter_map, cons_option}
+use Rattle.std.proofs.lemmas.Bool.{cases_lt}
+use Rattle.std.proofs.lemmas.List.Elements.{filter_map-append}
+use Rattle.first_fault.specs.Order.{two}
+use Rattle.first_fault.proofs.LeastFaults.{least_in, least-at_fault}
+use Rattle.offset_set.specs.Sets.{nearest}
+use Rattle.offset_set.specs.Tallies.{Tallied, none_counted, with_all, counted, IsNearest}
+use Rattle.offset_set.proofs.Tallying.{all-counted}
+use Rattle.offset_set.proofs.Next.{is-nearest}
+use Rattle.cap_bytes.specs.Number.{number_at}
+use Rattle.cap_desc.specs.DescriptorFormat.{Method, Field}
+use Rattle.cap_components.specs.declared.fault.PackFault.{PackFault}
+use Rattle.cap_components.specs.declared.fault.PackFault.TheVariants.{MethodOverlaps, StaticOverlaps}
+use Rattle.cap_components.specs.Order.{place_of, least_of}
+use Rattle.cap_components.specs.Descriptions.{Description}
+use Rattle.cap_package.specs.Pairs.{pairs}
+use Rattle.cap_package.specs.MethodChecks.{size_by, code_start, code_end, overlap_fault, overlap_pair}
+use Rattle.cap_package.specs.StaticChecks.{ImagePlace, place_in, share_by, share_fault, share_pair}
+use Rattle.cap_package.specs.Reaches.{reach_by, method_start, method_end, method_reach, static_start, static_end, static_reach}
+use Rattle.cap_package.proofs.Neighbours.{least-neighbour}
+use Rattle.cap_package.proofs.StaticsKnown.{takes_byte}
+
+-- the starts that were counted one after the other, and the nearest of them
+pub counted_all : (starts : List ℕ) → with_all none_counted starts ≡ counted starts
+counted_all starts = all-counted starts
+
+near_known : (t : Tallied) (starts : List ℕ) (offset : ℕ) (near : Option ℕ) → t ≡ counted starts → IsNearest t offset near → near
+    ≡ nearest starts offset
+near_known t starts offset near e h = is-nearest starts offset near (subst (λ k. IsNearest k offset near) e h)
+
+-- an end that is past the place anyway does not count
+past_end : (n a b l : ℕ) → n < b → ltb n (min (min a b) l) ≡ ltb n (min a l)
+past_end n a b l lt = elim (cases_lt n (min a l)) [
+  | inl less ↦ lt-ltb n (min (min a b) l) (omega arith) ∙ sym (lt-ltb n (min a l) less)
+  | inr le ↦ le-ltb n (min (min a b) l) (omega arith) ∙ sym (le-ltb n (min a l) le)
+]
+
+past_other : (n a b : ℕ) → n < b → ltb n (min a b) ≡ ltb n a
+past_other n a b lt = elim (cases_lt n a) [
+  | inl less ↦ lt-ltb n (min a b) (omega arith) ∙ sym (lt-ltb n a less)
+  | inr le ↦ le-ltb n (min a b) (omega arith) ∙ sym (le-ltb n a le)
+]
+
+-- ---- methods
+
+either_size : (b : Bool) → 2 ≤ cond b 4 2
+either_size true = omega arith
+either_size false = omega arith
+
+size_some : (o : Option ℕ) → 2 ≤ size_by o
+size_some None = omega arith
+size_some (Some first) = either_size (leb 128 first)
+
+method_some : (info : List ℕ) (m : Method) → m.method_offset < code_end info m
+unfolding code_start code_end
+method_some info m =
+    let some = size_some (number_at 1 m.method_offset info) in
+    omega (arith, some)
+
+method_up : (info : List ℕ) (a b : Method) → a.method_offset ≤ b.method_offset → overlap_pair info (a, b)
+    ≡ cond (ltb b.method_offset (method_end info a)) (Some (MethodOverlaps a.method_offset b.method_offset)) None
+unfolding overlap_fault
+method_up info a b le =
+    let low : min a.method_offset b.method_offset ≡ a.method_offset = omega arith in
+    let high : max a.method_offset b.method_offset ≡ b.method_offset = omega arith in
+    rw (low, high, past_end b.method_offset (code_end info a) (code_end info b) (length info) (method_some info b)) refl
+
+method_down : (info : List ℕ) (a b : Method) → b.method_offset ≤ a.method_offset → overlap_pair info (a, b)
+    ≡ cond (ltb a.method_offset (method_end info b)) (Some (MethodOverlaps b.method_offset a.method_offset)) None
+unfolding overlap_fault
+method_down info a b le =
+    let low : min a.method_offset b.method_offset ≡ b.method_offset = omega arith in
+    let high : max a.method_offset b.method_offset ≡ a.method_offset = omega arith in
+    let turned : min (code_end info a) (code_end info b) ≡ min (code_end info b) (code_end info a) = omega arith in
+    rw (low, high, turned, past_end a.method_offset (code_end info b) (code_end info a) (length info) (method_some info a)) refl
+
+method_own : (info : List ℕ) (a b : Method) → a.method_offset ≡ b.method_offset → a.method_offset < method_end info a →
+    b.method_offset < method_end info b
+method_own info a b same lt =
+    let some = method_some info b in
+    omega (arith, same, lt, some)
+
+method_placed : (m n : ℕ) → place_of (MethodOverlaps m n) ≡ two m n
+unfolding place_of
+method_placed m n = refl
+
+pub method_neighbours : (info : List ℕ) (ms : List Method) → least_of (method_reach info (map method_start ms)) ms
+    ≡ least_of (overlap_pair info) (pairs ms)
+unfolding method_reach
+method_neighbours info ms =
+    sym (least-neighbour method_start (method_end info) place_of MethodOverlaps method_placed (overlap_pair info) (method_up info)
+    (method_down info) (method_own info) ms)
+
+-- what is found with the nearest start
+pub method_reaches : (t : Tallied) (starts : List ℕ) (info : List ℕ) (m : Method) (near : Option ℕ) → t ≡ counted starts →
+    IsNearest t m.method_offset near → reach_by MethodOverlaps m.method_offset (method_end info m) near ≡ method_reach info starts m
+unfolding method_reach
+method_reaches t starts info m near e h =
+    ap (reach_by MethodOverlaps m.method_offset (method_end info m)) (near_known t starts m.method_offset near e h)
+
+-- ---- static fields
+
+abbrev share_places : ImagePlace × ImagePlace → Option PackFault
+share_places p = share_by (Some p.0) (Some p.1)
+
+static_up : (p q : ImagePlace) → p.offset ≤ q.offset → share_places (p, q)
+    ≡ cond (ltb q.offset (static_end p)) (Some (StaticOverlaps p.offset q.offset)) None
+static_up p q le =
+    let low : min p.offset q.offset ≡ p.offset = omega arith in
+    let high : max p.offset q.offset ≡ q.offset = omega arith in
+    rw (low, high, past_other q.offset (static_end p) (static_end q) (omega (arith, takes_byte q.ty))) refl
+
+static_down : (p q : ImagePlace) → q.offset ≤ p.offset → share_places (p, q)
+    ≡ cond (ltb p.offset (static_end q)) (Some (StaticOverlaps q.offset p.offset)) None
+static_down p q le =
+    let low : min p.offset q.offset ≡ q.offset = omega arith in
+    let high : max p.offset q.offset ≡ p.offset = omega arith in
+    let turned : min (static_end p) (static_end q) ≡ min (static_end q) (static_end p) = omega arith in
+    rw (low, high, turned, past_other p.offset (static_end q) (static_end p) (omega (arith, takes_byte p.ty))) refl
+
+static_own : (p q : ImagePlace) → p.offset ≡ q.offset → p.offset < static_end p → q.offset < static_end q
+static_own p q same lt = omega (arith, takes_byte q.ty)
+
+static_placed : (m n : ℕ) → place_of (StaticOverlaps m n) ≡ two m n
+unfolding place_of
+static_placed m n = refl
+
+-- the pairs of fields at fault are those of their places
+shared_by : (d : Description) (p : ImagePlace) (g : Field) (gs : List Field) (o : Option ImagePlace) →
+    filter_map (λ h. share_by (Some p) (place_in d h)) gs
+    ≡ filter_map share_places (map (λ q. (p, q)) (filter_map (place_in d) gs)) →
+    cons_option (share_by (Some p) o) (filter_map (λ h. share_by (Some p) (place_in d h)) gs)
+    ≡ filter_map share_places (map (λ q. (p, q)) (cons_option o (filter_map (place_in d) gs)))
+shared_by d p g gs None known = known
+shared_by d p g gs (Some q) known = ap (cons_option (share_places (p, q))) known
+
+shared : (d : Description) (p : ImagePlace) (gs : List Field) → filter_map (λ h. share_by (Some p) (place_in d h)) gs
+    ≡ filter_map share_places (map (λ q. (p, q)) (filter_map (place_in d) gs))
+shared d p [] = refl
+shared d p (g ∷ gs) = shared_by d p g gs (place_in d g) (shared d p gs)
+
+none_shared : (d : Description) (gs : List Field) → filter_map (λ h. share_by None (place_in d h)) gs ≡ []
+none_shared d [] = refl
+none_shared d (g ∷ gs) = none_shared d gs
+
+of_pairs : (d : Description) (f : Field) (gs : List Field) → filter_map (share_pair d) (map (λ g. (f, g)) gs)
+    ≡ filter_map (λ h. share_by (place_in d f) (place_in d h)) gs
+unfolding share_fault
+of_pairs d f [] = refl
+of_pairs d f (g ∷ gs) = ap (cons_option (share_by (place_in d f) (place_in d g))) (of_pairs d f gs)
+
+first_shared : (d : Description) (f : Field) (fs : List Field) (o : Option ImagePlace) → filter_map (share_pair d) (pairs fs)
+    ≡ filter_map share_places (pairs (filter_map (place_in d) fs)) →
+    filter_map (λ h. share_by o (place_in d h)) fs ++ filter_map (share_pair d) (pairs fs)
+    ≡ filter_map share_places (pairs (cons_option o (filter_map (place_in d) fs)))
+first_shared d f fs None known = rw (none_shared d fs) known
+first_shared d f fs (Some p) known =
+    ap (λ xs. xs ++ filter_map (share_pair d) (pairs fs)) (shared d p fs)
+    ∙ ap (λ ys. filter_map share_places (map (λ q. (p, q)) (filter_map (place_in d) fs)) ++ ys) known
+    ∙ sym (filter_map-append share_places (map (λ q. (p, q)) (filter_map (place_in d) fs)) (pairs (filter_map (place_in d) fs)))
+
+all_shared : (d : Description) (fs : List Field) → filter_map (share_pair d) (pairs fs)
+    ≡ filter_map share_places (pairs (filter_map (place_in d) fs))
+all_shared d [] = refl
+all_shared d (f ∷ fs) =
+    filter_map-append (share_pair d) (map (λ g. (f, g)) fs) (pairs fs)
+    ∙ ap (λ xs. xs ++ filter_map (share_pair d) (pairs fs)) (of_pairs d f fs)
+    ∙ first_shared d f fs (place_in d f) (all_shared d fs)
+
+pub static_neighbours : (d : Description) (fs : List Field) →
+    least_of (static_reach (map static_start (filter_map (place_in d) fs))) (filter_map (place_in d) fs)
+    ≡ least_of (share_pair d) (pairs fs)
+unfolding static_reach
+static_neighbours d fs =
+    sym (least-neighbour static_start static_end place_of StaticOverlaps static_placed share_places static_up static_down
+    static_own (filter_map (place_in d) fs))
+    ∙ least-at_fault place_of share_places (pairs (filter_map (place_in d) fs)) None
+    ∙ ap (least_in place_of None) (sym (all_shared d fs))
+    ∙ sym (least-at_fault place_of (share_pair d) (pairs fs) None)
+
+pub static_reaches : (t : Tallied) (starts : List ℕ) (p : ImagePlace) (near : Option ℕ) → t ≡ counted starts →
+    IsNearest t p.offset near → reach_by StaticOverlaps p.offset (static_end p) near ≡ static_reach starts p
+unfolding static_reach
+static_reaches t starts p near e h = ap (reach_by StaticOverlaps p.offset (static_end p)) (near_known t starts p.offset near e h)

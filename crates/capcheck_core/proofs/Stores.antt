@@ -1,0 +1,316 @@
+-- Parts that are stored in a folder one after the other, what it then holds, and the order of a package's parts.
+use Rattle.std.proofs.Common.{◌≡◌, ◌<◌, ◌≤◌, ◌+◌, ℕ, suc, List, [], ◌∷◌, ◌++◌, Option, Some, None, IsSome, IsNone, Bool, true, false, cond, eqb, get_or, length, length-append, drop, refl, sym, ap, subst, ◌∙◌, inl, inr, ◌⊎◌, arith, take}
+use Rattle.std.specs.Prelude.{IfSome, IsSomeAnd}
+use Rattle.std.specs.Cmp.{eq_by_cmp_equiv}
+use Rattle.std.specs.Cmp.Lexicographic.{slice_cmp, nat_list_cmp_total}
+use Rattle.std.specs.declared.cmp.Ordering.{Ordering}
+use Rattle.std.specs.declared.cmp.Ordering.TheVariants.{Less, Equal, Greater}
+use Rattle.std.specs.Ordering.{nat_cmp, eq_by_cmp, is_eq}
+use Rattle.std.specs.FinMap as map
+use Rattle.std.proofs.lemmas.Bool.{ne_eqb, eqb-true, eqb-false}
+use Rattle.std.proofs.Math.Nat.{eq-or-lt_of_le}
+use Rattle.cap_files.specs.Counts.{Rose}
+use Rattle.cap_files.specs.Folder.{Parts, Folders}
+use Rattle.cap_package.specs.Parts.{Lent, held, HasEachOnce}
+use Rattle.cap_components.proofs.PartsLemmas.{held-other, held-same, HasEachOnce-push}
+use Rattle.capcheck_core.specs.Loads.{Rise, with_file}
+use Rattle.capcheck_core.specs.Roles.{roles_tag}
+use Rattle.capcheck_core.specs.Stores.{stored, AreStored, IsBegun, IsBrokenOff, AreInOrder, AreThere, HasAllButHeader, HasHeaderLast, header_tag}
+use Rattle.capcheck_core.proofs.Loads.{none_some, lent_of, above_none, below_none, rise_wider, rise_push, file_other, file_same}
+
+-- ---- one store more
+
+stored_push : (dir : List ℕ) (old : Parts) (done : List Lent) (lent : Lent)
+    → stored dir old (done ++ lent ∷ []) ≡ map.insert (stored dir old done) (lent.part ∷ dir) lent.bytes
+stored_push dir old [] lent = refl
+stored_push dir old (l ∷ ls) lent = stored_push dir (map.insert old (l.part ∷ dir) l.bytes) ls lent
+
+whole_held : (dir : List ℕ) (done : List Lent) (lent : Lent) (now mid old : Option Parts)
+    → IfSome now (λ n. IsSomeAnd mid (λ m. n ≡ map.insert m (lent.part ∷ dir) lent.bytes))
+    → IfSome mid (λ m. IsSomeAnd old (λ o. m ≡ stored dir o done))
+    → IfSome now (λ n. IsSomeAnd old (λ o. n ≡ stored dir o (done ++ lent ∷ [])))
+whole_held dir done lent None mid old one before = tt {0}
+whole_held dir done lent (Some n) None old one before = absurd one
+whole_held dir done lent (Some n) (Some m) None one before = absurd before
+whole_held dir done lent (Some n) (Some m) (Some o) one before =
+    one ∙ ap (λ x. map.insert x (lent.part ∷ dir) lent.bytes) before ∙ sym (stored_push dir o done lent)
+
+begun_held : (dir : List ℕ) (done : List Lent) (lent : Lent) (now mid old : Option Parts)
+    → IfSome now (λ n. IsSomeAnd mid (λ m. IsBegun dir lent m n))
+    → IfSome mid (λ m. IsSomeAnd old (λ o. m ≡ stored dir o done))
+    → IfSome now (λ n. IsSomeAnd old (λ o. IsBegun dir lent (stored dir o done) n))
+begun_held dir done lent None mid old one before = tt {0}
+begun_held dir done lent (Some n) None old one before = absurd one
+begun_held dir done lent (Some n) (Some m) None one before = absurd before
+begun_held dir done lent (Some n) (Some m) (Some o) one before = subst (λ x. IsBegun dir lent x n) before one
+
+pub none_stored : (dir : List ℕ) (folders : Folders) → AreStored dir [] folders folders
+none_stored dir folders = record { held = same folders.held; load_faults = refl; failed = refl; store_faults = refl }
+  where
+    same : (o : Option Parts) → IfSome o (λ now. IsSomeAnd o (λ old. now ≡ old))
+    same None = tt {0}
+    same (Some x) = refl
+
+pub one_stored : (dir : List ℕ) (done : List Lent) (lent : Lent) (before mid after : Folders) → AreStored dir done before mid
+    → IfSome after.held (λ now. IsSomeAnd mid.held (λ old. now ≡ map.insert old (lent.part ∷ dir) lent.bytes))
+    → after.load_faults ≡ mid.load_faults → after.failed ≡ mid.failed → after.store_faults ≡ mid.store_faults
+    → AreStored dir (done ++ lent ∷ []) before after
+one_stored dir done lent before mid after all one loads failed stores = record {
+  held = whole_held dir done lent after.held mid.held before.held one all.held;
+  load_faults = loads ∙ all.load_faults;
+  failed = failed ∙ all.failed;
+  store_faults = stores ∙ all.store_faults;
+}
+
+pub one_broken : (dir : List ℕ) (parts done : List Lent) (lent : Lent) (left : List Lent) (before mid after : Folders) → AreStored dir done before mid
+    → parts ≡ done ++ lent ∷ left
+    → IfSome after.held (λ now. IsSomeAnd mid.held (λ old. IsBegun dir lent old now))
+    → after.load_faults ≡ mid.load_faults → after.failed ≡ mid.failed → Rose mid.store_faults after.store_faults
+    → IsBrokenOff dir parts before after
+one_broken dir parts done lent left before mid after all are one loads failed rose = record {
+  done = done;
+  broken = lent;
+  left = left;
+  are = are;
+  held = begun_held dir done lent after.held mid.held before.held one all.held;
+  load_faults = loads ∙ all.load_faults;
+  failed = failed ∙ all.failed;
+  rose = subst (λ n. Rose n after.store_faults) all.store_faults rose;
+}
+
+-- ---- the order of a package's parts
+
+-- those below a tag, but for the Header and the roles
+pub record AreInOrderBelow (parts : List Lent) (top : ℕ) (stores : List Lent) : Type 0 where
+  pub rising : Rise 2 top stores
+  pub same : (tag : ℕ) → 2 ≤ tag → tag < top → held stores tag ≡ held parts tag
+
+pub none_in_order : (parts : List Lent) → AreInOrderBelow parts 2 []
+none_in_order parts = record { rising = tt {0}; same = λ tag low below. absurd (omega (arith, low, below)) }
+
+is_none : (o : Option (List ℕ)) → o ≡ None → IsNone o
+is_none o e = subst IsNone (sym e) refl
+
+next_none : (parts : List Lent) (top : ℕ) (stores : List Lent) → AreInOrderBelow parts top stores → held stores top ≡ None
+next_none parts top stores so_far = above_none 2 top top stores so_far.rising (omega arith)
+
+pub next_absent : (parts : List Lent) (top : ℕ) (stores : List Lent) → AreInOrderBelow parts top stores → IsNone (held stores top)
+next_absent parts top stores so_far = is_none (held stores top) (next_none parts top stores so_far)
+
+file_rises : (top : ℕ) (stores : List Lent) (file : Option (List ℕ)) → 2 ≤ top → Rise 2 top stores → Rise 2 (suc top) (with_file stores top file)
+file_rises top stores None low rise = rise_wider 2 top stores rise
+file_rises top stores (Some bytes) low rise = rise_push 2 top stores bytes rise low
+
+next : (parts : List Lent) (top : ℕ) (stores : List Lent) → 2 ≤ top → AreInOrderBelow parts top stores
+    → AreInOrderBelow parts (suc top) (with_file stores top (held parts top))
+next parts top stores low so_far = record {
+  rising = file_rises top stores (held parts top) low so_far.rising;
+  same = λ tag least below. let le : tag ≤ top = omega (arith, below) in elim (eq-or-lt_of_le le) [
+    | inl e ↦ subst (λ t. held (with_file stores top (held parts top)) t ≡ held parts t) (sym e)
+        (file_same top stores (held parts top) (next_none parts top stores so_far))
+    | inr lt ↦ file_other tag top stores (held parts top) (ne_eqb top tag (λ e. omega (arith, e, lt))) ∙ so_far.same tag least lt
+  ];
+}
+
+pub next_in_order : (parts : List Lent) (top : ℕ) (stores more : List Lent) → 2 ≤ top → AreInOrderBelow parts top stores
+    → more ≡ with_file stores top (held parts top) → AreInOrderBelow parts (top + 1) more
+next_in_order parts top stores more low so_far adds =
+    let step : suc top ≡ top + 1 = omega arith in
+    subst (λ n. AreInOrderBelow parts n more) step (subst (AreInOrderBelow parts (suc top)) (sym adds) (next parts top stores low so_far))
+
+pub roles_absent : (parts stores : List Lent) (top : ℕ) → AreInOrderBelow parts top stores → IsNone (held stores roles_tag)
+roles_absent parts stores top so_far = is_none (held stores roles_tag) (below_none 2 top 0 stores so_far.rising (omega arith))
+
+-- there is no Header before the last of the stores
+no_header_before : (others : List Lent) (top : ℕ) (roles : Option (List ℕ)) → Rise 2 top others → held (with_file others roles_tag roles) header_tag ≡ None
+no_header_before others top roles rise = file_other header_tag roles_tag others roles refl ∙ below_none 2 top 1 others rise (omega arith)
+
+pub header_absent : (parts others stores : List Lent) (top : ℕ) (roles : Option (List ℕ)) → AreInOrderBelow parts top others
+    → stores ≡ with_file others roles_tag roles → IsNone (held stores header_tag)
+header_absent parts others stores top roles so_far adds =
+    is_none (held stores header_tag) (ap (λ ps. held ps header_tag) adds ∙ no_header_before others top roles so_far.rising)
+
+bytes_of_some : (o : Option (List ℕ)) → IsSome o → (bytes : List ℕ) × (o ≡ Some bytes)
+bytes_of_some None some = absurd cc
+bytes_of_some (Some bytes) some = (bytes, refl)
+
+pub all_in_order : (parts others middle stores : List Lent) (top : ℕ) (roles : Option (List ℕ)) → AreInOrderBelow parts top others → top ≡ 256
+    → IsSome (held parts header_tag) → middle ≡ with_file others roles_tag roles → stores ≡ with_file middle header_tag (held parts header_tag)
+    → AreInOrder parts roles stores
+all_in_order parts others middle stores top roles so_far whole some first last =
+    let header = bytes_of_some (held parts header_tag) some in
+    let all : AreInOrderBelow parts 256 others = subst (λ n. AreInOrderBelow parts n others) whole so_far in
+    record {
+      others = others;
+      rising = all.rising;
+      same = all.same;
+      header = header.0;
+      is = header.1;
+      all = last ∙ ap (λ ps. with_file ps header_tag (held parts header_tag)) first
+          ∙ ap (with_file (with_file others roles_tag roles) header_tag) header.1;
+    }
+
+-- ---- what a folder holds of parts that are stored
+
+abbrev order : List ℕ → List ℕ → Ordering
+order = slice_cmp nat_cmp
+
+equal_so : (o : Ordering) → is_eq o ≡ true → o ≡ Equal
+equal_so Less e = cc
+equal_so Equal e = refl
+equal_so Greater e = cc
+
+same_key : (k q : List ℕ) → eq_by_cmp order k q ≡ true → k ≡ q
+same_key k q e = map.slice_cmp-IsAntisymmetric map.nat_cmp-IsAntisymmetric k q (equal_so (order k q) e)
+
+own_key : (k : List ℕ) → eq_by_cmp order k k ≡ true
+own_key k = (eq_by_cmp_equiv nat_list_cmp_total).refl k
+
+other_key : (dir : List ℕ) (tag t : ℕ) → (t ≡ tag → ⊥) → eq_by_cmp order (tag ∷ dir) (t ∷ dir) ≡ false
+other_key dir tag t differ = by (eq_by_cmp order (tag ∷ dir) (t ∷ dir)) refl
+  where
+    by : (b : Bool) → eq_by_cmp order (tag ∷ dir) (t ∷ dir) ≡ b → b ≡ false
+    by true e = absurd (differ (sym (ap (λ k. get_or k 0 0) (same_key (tag ∷ dir) (t ∷ dir) e))))
+    by false e = refl
+
+insert_same : (dir : List ℕ) (old : Parts) (tag : ℕ) (bytes : List ℕ) → map.get (map.insert old (tag ∷ dir) bytes) (tag ∷ dir) ≡ Some bytes
+insert_same dir old tag bytes =
+    map.get-insert nat_list_cmp_total old (tag ∷ dir) bytes (tag ∷ dir)
+    ∙ ap (λ b. cond b (Some bytes) (map.get old (tag ∷ dir))) (own_key (tag ∷ dir))
+
+insert_other : (dir : List ℕ) (old : Parts) (t tag : ℕ) (bytes : List ℕ) → (t ≡ tag → ⊥)
+    → map.get (map.insert old (t ∷ dir) bytes) (tag ∷ dir) ≡ map.get old (tag ∷ dir)
+insert_other dir old t tag bytes differ =
+    map.get-insert nat_list_cmp_total old (t ∷ dir) bytes (tag ∷ dir)
+    ∙ ap (λ b. cond b (Some bytes) (map.get old (tag ∷ dir))) (other_key dir tag t differ)
+
+-- a part that is not among those that are stored is as before
+get_kept : (dir : List ℕ) (old : Parts) (parts : List Lent) (tag : ℕ) → held parts tag ≡ None
+    → map.get (stored dir old parts) (tag ∷ dir) ≡ map.get old (tag ∷ dir)
+get_kept dir old [] tag absent = refl
+get_kept dir old (l ∷ ls) tag absent = by (eqb l.part tag) refl (get_kept dir (map.insert old (l.part ∷ dir) l.bytes) ls tag)
+  where
+    by : (b : Bool) → eqb l.part tag ≡ b
+        → (held ls tag ≡ None → map.get (stored dir old (l ∷ ls)) (tag ∷ dir) ≡ map.get (map.insert old (l.part ∷ dir) l.bytes) (tag ∷ dir))
+        → map.get (stored dir old (l ∷ ls)) (tag ∷ dir) ≡ map.get old (tag ∷ dir)
+    by true e rest = absurd (none_some l.bytes (sym absent ∙ held-same tag l ls e))
+    by false e rest = rest (sym (held-other tag l ls e) ∙ absent) ∙ insert_other dir old l.part tag l.bytes (λ is. eqb-false l.part tag e is)
+
+nothing : (o : Option (List ℕ)) → IsNone o → o ≡ None
+nothing None none = refl
+nothing (Some bytes) none = absurd cc
+
+-- a part that is stored once is there
+get_stored : (dir : List ℕ) (old : Parts) (parts : List Lent) → HasEachOnce parts → AreThere dir parts (stored dir old parts)
+get_stored dir old [] each tag bytes is = absurd (none_some bytes is)
+get_stored dir old (l ∷ ls) each tag bytes is = by (eqb l.part tag) refl (get_stored dir (map.insert old (l.part ∷ dir) l.bytes) ls each.1 tag bytes)
+  where
+    by : (b : Bool) → eqb l.part tag ≡ b → (held ls tag ≡ Some bytes → map.get (stored dir old (l ∷ ls)) (tag ∷ dir) ≡ Some bytes)
+        → map.get (stored dir old (l ∷ ls)) (tag ∷ dir) ≡ Some bytes
+    by true e rest =
+        let same : l.part ≡ tag = eqb-true l.part tag e in
+        let absent : held ls tag ≡ None = subst (λ t. held ls t ≡ None) same (nothing (held ls l.part) each.0) in
+        get_kept dir (map.insert old (l.part ∷ dir) l.bytes) ls tag absent
+        ∙ subst (λ t. map.get (map.insert old (l.part ∷ dir) l.bytes) (t ∷ dir) ≡ Some l.bytes) same (insert_same dir old l.part l.bytes)
+        ∙ sym (held-same tag l ls e) ∙ is
+    by false e rest = rest (sym (held-other tag l ls e) ∙ is)
+
+-- ---- where the stores of a package are broken off
+
+absent_parts : (tag : ℕ) (xs : List Lent) (b : Lent) (ys : List Lent) → held (xs ++ b ∷ ys) tag ≡ None
+    → (held xs tag ≡ None) × (eqb b.part tag ≡ false)
+absent_parts tag [] b ys e = (refl, by (eqb b.part tag) refl)
+  where
+    by : (c : Bool) → eqb b.part tag ≡ c → c ≡ false
+    by true same = absurd (none_some b.bytes (sym e ∙ held-same tag b ys same))
+    by false other = refl
+absent_parts tag (x ∷ xs) b ys e = by (eqb x.part tag) refl (absent_parts tag xs b ys)
+  where
+    by : (c : Bool) → eqb x.part tag ≡ c → (held (xs ++ b ∷ ys) tag ≡ None → (held xs tag ≡ None) × (eqb b.part tag ≡ false))
+        → (held (x ∷ xs) tag ≡ None) × (eqb b.part tag ≡ false)
+    by true same rest = absurd (none_some x.bytes (sym e ∙ held-same tag x (xs ++ b ∷ ys) same))
+    by false other rest =
+        let more = rest (sym (held-other tag x (xs ++ b ∷ ys) other) ∙ e) in
+        (held-other tag x xs other ∙ more.0, more.1)
+
+-- the part that is broken is the last, or stands before it
+abbrev Broken : List Lent → Lent → List Lent → Lent → Type 0
+Broken xs h done b = ((done ≡ xs) × (b ≡ h)) ⊎ ((more : List Lent) × (xs ≡ done ++ b ∷ more))
+
+broken_at : (xs : List Lent) (h : Lent) (done : List Lent) (b : Lent) (left : List Lent) → xs ++ h ∷ [] ≡ done ++ b ∷ left → Broken xs h done b
+broken_at [] h [] b left e = inl (refl, sym (ap (λ l. get_or l 0 h) e))
+broken_at [] h (d ∷ ds) b left e =
+    let long : 1 ≡ suc (length (ds ++ b ∷ left)) = ap length e in
+    let more = length-append ds (b ∷ left) in
+    absurd (omega (arith, long, more))
+broken_at (x ∷ xs) h [] b left e = inr (xs, ap (λ y. y ∷ xs) (ap (λ l. get_or l 0 x) e))
+broken_at (x ∷ xs) h (d ∷ ds) b left e =
+    let first : x ≡ d = ap (λ l. get_or l 0 x) e in
+    elim (broken_at xs h ds b left (ap (λ l. drop 1 l) e)) [
+      | inl last ↦ inl (λ i. sym first i ∷ last.0 i, last.1)
+      | inr before ↦ inr (before.0, λ i. first i ∷ before.1 i)
+    ]
+
+module _ (dir header : List ℕ) (others : List Lent) (each : HasEachOnce others) (no_header : held others header_tag ≡ None) (old now : Parts)
+    (none : map.get old (header_tag ∷ dir) ≡ None) where
+  kept : (done : List Lent) → held done header_tag ≡ None → map.get (stored dir old done) (header_tag ∷ dir) ≡ None
+  kept done absent = get_kept dir old done header_tag absent ∙ none
+
+  -- all others are stored whole
+  at_header : IsBegun dir (lent_of header_tag header) (stored dir old others) now
+      → (map.get now (header_tag ∷ dir) ≡ None) ⊎ HasAllButHeader dir header others now
+  at_header (inl same) = inl (ap (λ m. map.get m (header_tag ∷ dir)) same ∙ kept others no_header)
+  at_header (inr begun) = inr (record {
+    begun = (begun.0, ap (λ m. map.get m (header_tag ∷ dir)) begun.1 ∙ insert_same dir (stored dir old others) header_tag (take begun.0 header));
+    whole = λ tag bytes is.
+        ap (λ m. map.get m (tag ∷ dir)) begun.1
+        ∙ insert_other dir (stored dir old others) header_tag tag (take begun.0 header)
+        (λ e. none_some bytes (sym no_header ∙ subst (λ t. held others t ≡ Some bytes) (sym e) is))
+        ∙ get_stored dir old others each tag bytes is;
+  })
+
+  -- the Header is not begun
+  before_header : (done : List Lent) (b : Lent) (more : List Lent) → others ≡ done ++ b ∷ more → IsBegun dir b (stored dir old done) now
+      → map.get now (header_tag ∷ dir) ≡ None
+  before_header done b more are begun =
+      let absent = absent_parts header_tag done b more (subst (λ xs. held xs header_tag ≡ None) are no_header) in
+      elim begun [
+        | inl same ↦ ap (λ m. map.get m (header_tag ∷ dir)) same ∙ kept done absent.0
+        | inr some ↦ ap (λ m. map.get m (header_tag ∷ dir)) some.1
+            ∙ insert_other dir (stored dir old done) b.part header_tag (take some.0 b.bytes) (λ e. eqb-false b.part header_tag absent.1 e)
+            ∙ kept done absent.0
+      ]
+
+  header_last_in : (done : List Lent) (b : Lent) (left : List Lent) → others ++ lent_of header_tag header ∷ [] ≡ done ++ b ∷ left
+      → IsBegun dir b (stored dir old done) now → (map.get now (header_tag ∷ dir) ≡ None) ⊎ HasAllButHeader dir header others now
+  header_last_in done b left are begun = elim (broken_at others (lent_of header_tag header) done b left are) [
+    | inl last ↦ at_header (subst (λ l. IsBegun dir l (stored dir old others) now) last.1
+        (subst (λ ds. IsBegun dir b (stored dir old ds) now) last.0 begun))
+    | inr before ↦ inl (before_header done b before.0 before.1 begun)
+  ]
+
+-- parts of rising tags stand once each
+rise_each : (low top : ℕ) (parts : List Lent) → Rise low top parts → HasEachOnce parts
+rise_each low top [] rise = tt {0}
+rise_each low top (l ∷ ls) rise =
+    (is_none (held ls l.part) (below_none (suc l.part) top l.part ls rise.2 (omega arith)), rise_each (suc l.part) top ls rise.2)
+
+roles_each : (others : List Lent) (roles : Option (List ℕ)) → Rise 2 256 others → HasEachOnce (with_file others roles_tag roles)
+roles_each others None rise = rise_each 2 256 others rise
+roles_each others (Some bytes) rise =
+    HasEachOnce-push others (lent_of roles_tag bytes) (rise_each 2 256 others rise)
+    (is_none (held others roles_tag) (below_none 2 256 0 others rise (omega arith)))
+
+pub header_last : (dir : List ℕ) (parts : List Lent) (roles : Option (List ℕ)) (stores : List Lent) (before after : Folders)
+    (order : AreInOrder parts roles stores) → IsBrokenOff dir stores before after
+    → HasHeaderLast dir order.header (with_file order.others roles_tag roles) before after
+header_last dir parts roles stores before after order off = over after.held before.held off.held
+  where
+    over : (now old : Option Parts) → IfSome now (λ n. IsSomeAnd old (λ o. IsBegun dir off.broken (stored dir o off.done) n))
+        → IfSome now (λ n. IsSomeAnd old (λ o. map.get o (header_tag ∷ dir) ≡ None
+        → (map.get n (header_tag ∷ dir) ≡ None) ⊎ HasAllButHeader dir order.header (with_file order.others roles_tag roles) n))
+    over None old begun = tt {0}
+    over (Some n) None begun = absurd begun
+    over (Some n) (Some o) begun = λ none.
+        header_last_in dir order.header (with_file order.others roles_tag roles) (roles_each order.others roles order.rising)
+        (no_header_before order.others 256 roles order.rising) o n none off.done off.broken off.left (sym order.all ∙ off.are) begun

@@ -1,0 +1,40 @@
+-- What is stored of a package that is transformed, and which method is named where it is not.
+use Rattle.std.proofs.Common.{◌≡◌, ℕ, List, Option, Some, IsSome, option_map, slice_get, refl, sym, ap, subst, ◌∙◌}
+use Rattle.cap_files.specs.Folder.{Folders}
+use Rattle.cap_package.specs.Parts.{Lent, held}
+use Rattle.cap_package.specs.PackageRecord.{PackageRecord}
+use Rattle.cap_package.specs.StandsFor.{StandsFor}
+use Rattle.jc_base.specs.World.{Linked}
+use Rattle.jc_control.specs.Method.{Method, IsMethodOf}
+use Rattle.cap_text.specs.declared.line.MethodNumber.{MethodNumber}
+use Rattle.xf_pack.specs.Transformed.{IsTransformed}
+use Rattle.capcheck_core.specs.Stores.{AreInOrder, IsBrokenOff, header_tag}
+use Rattle.capcheck_core.specs.Transform.{roles_beside, IsBroughtInPart}
+use Rattle.capcheck_core.specs.Typed.{number_of}
+use Rattle.capcheck_core.proofs.Stores.{header_last}
+
+-- parts that stand for a package have its Header
+pub has_header : (parts : List Lent) (p : PackageRecord) → StandsFor parts p → IsSome (held parts header_tag)
+has_header parts p stands = subst IsSome (sym stands.said.header.1.there) refl
+
+-- where the stores are broken off, the Header is the last of them
+pub brought_in_part : (packages : List PackageRecord) (roles : List ℕ) (w : Linked) (out : List ℕ) (parts stores : List Lent) (given : Option (List ℕ))
+    (before after : Folders) → IsTransformed packages roles w parts → AreInOrder parts given stores → given ≡ roles_beside packages roles
+    → IsBrokenOff out stores before after → IsBroughtInPart packages roles w out before after
+brought_in_part packages roles w out parts stores given before after made order beside off =
+    let ordered : AreInOrder parts (roles_beside packages roles) stores = subst (λ r. AreInOrder parts r stores) beside order in
+    record {
+      stores = stores;
+      brings = record { parts = parts; made = made; order = ordered };
+      broken = off;
+      last = header_last out parts (roles_beside packages roles) stores before after ordered off;
+    }
+
+-- ---- the method that is named
+
+pub named : (w : Linked) (m : Method) (n : ℕ) (number : MethodNumber) → IsMethodOf w m → m.number ≡ n
+    → option_map number_of (slice_get w.methods n) ≡ Some number → number ≡ number_of m.rec
+named w m n number is e told =
+    let at : slice_get w.methods n ≡ Some m.rec = subst (λ k. slice_get w.methods k ≡ Some m.rec) e is.rec in
+    let same : Some (number_of m.rec) ≡ Some number = sym (ap (option_map number_of) at) ∙ told in
+    cc

@@ -1,0 +1,13 @@
+pub mod Elements
+pub mod Records
+pub mod Twins
+pub mod Known
+pub mod Apart
+pub mod Members
+pub mod Calls
+pub mod Pools
+pub mod Statics
+pub mod Methods
+pub mod Catches
+pub mod Linking
+pub mod Standing

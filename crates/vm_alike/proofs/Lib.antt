@@ -1,0 +1,13 @@
+pub mod Cells
+pub mod Twins
+pub mod Acting
+pub mod Switching
+pub mod Storing
+pub mod Registering
+pub mod Calling
+pub mod Views
+pub mod Asked
+pub mod Doing
+pub mod Settling
+pub mod Together
+pub mod Ready

@@ -1,0 +1,4 @@
+pub mod Alike
+pub mod Running
+pub mod Laws
+pub mod Worked

@@ -1,0 +1,22 @@
+ghost use Rattle.vm_alike.specs.Laws.{StepsAreAlike, TypedStatesStay};
+
+use jc_base::World;
+use jc_ops::operations_are_sound;
+
+/// In a world that differs in the code of methods alone, a frame that runs an instruction alike to that of a frame in
+/// the other, on equal cells, takes the same branch, makes the same call or return, throws the same or comes to the same
+/// ending, or both go on with equal cells, wherever the step of the other is no fault.
+pub fn steps_are_alike(world: &World<'_>)
+    ensures { StepsAreAlike world.now }
+{
+    operations_are_sound(world);
+    let _ = world.classes().records();
+}
+
+/// Objects and static fields of a typed state keep no uninitialised object, so they are the same under every map of
+/// places.
+pub fn typed_states_stay(world: &World<'_>)
+    ensures { TypedStatesStay world.now }
+{
+    let _ = world.classes().records();
+}

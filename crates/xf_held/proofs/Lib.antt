@@ -1,0 +1,9 @@
+pub mod Homes
+pub mod Running
+pub mod Standing
+pub mod Going
+pub mod Copying
+pub mod Loading
+pub mod Copies
+pub mod Unwritten
+pub mod Stacked

@@ -1,0 +1,12 @@
+//! Frames of rewritten code that hold frames of their source (Leroy 2002, section 4.1): which frames run alike, and
+//! which homes hold their values after a step.
+//!
+//! It stands on the plan and the code of `xf_emission`, and on steps in other code, of `vm_alike`.
+#![tactic(auto)]
+
+mod laws;
+
+pub use laws::{
+    copies_keep_homes, copies_run, homes_are_copied, homes_hold, homes_run_alike, loads_run,
+    none_are_written, steps_execute, steps_stand_at_places,
+};

@@ -1,0 +1,155 @@
+-- Rewritten code has an instruction, and so has what is laid for it.
+use Rattle.std.proofs.Common.{◌≡◌, ℕ, zero, suc, ◌+◌, ◌<◌, ◌≤◌, Bool, true, false, if◌then◌else◌, List, [], ◌∷◌, ◌++◌, length, flat_map, Option, Some, None, IsSomeAnd, Result, Ok, Err, refl, sym, ap, subst, ◌∙◌, arith}
+use Rattle.std.specs.Prelude.{slice_get}
+use Rattle.jc_base.specs.declared.ty.Kind.{Kind}
+use Rattle.jc_base.specs.declared.ty.Ty.TheVariants.{Top}
+use Rattle.jc_base.specs.World.{Linked}
+use Rattle.jc_decode.specs.declared.insn.Placed.{Placed}
+use Rattle.jc_decode.specs.declared.symbols.Item.{Item}
+use Rattle.jc_decode.specs.declared.symbols.Item.TheVariants.{Label}
+use Rattle.jc_decode.specs.declared.symbols.Laid.{Laid}
+use Rattle.jc_decode.specs.declared.symbols.Symbols.{Symbols}
+use Rattle.jc_decode.specs.Laws.{InstructionsAreListed}
+use Rattle.jc_decode.specs.Listing.{listing, listing_end, end_from, targets, Lists}
+use Rattle.jc_decode.specs.Standing.{AreSteps, StandsAt}
+use Rattle.jc_decode.specs.Symbols.{Step, steps}
+use Rattle.jc_control.specs.Control.{IsReached, begins}
+use Rattle.jc_control.specs.Method.{Method, IsMethodOf}
+use Rattle.jc_control.specs.WellFormed.{Stands}
+use Rattle.jc_ops.specs.declared.fault.RuleFault.{RuleFault}
+use Rattle.jc_ops.specs.declared.operation.Branch.TheVariants as branches
+use Rattle.jc_ops.specs.declared.operation.Holder.TheVariants as holders
+use Rattle.jc_ops.specs.declared.operation.Sort.{Sort}
+use Rattle.jc_ops.specs.declared.operation.Sort.TheVariants as sorts
+use Rattle.jc_ops.specs.declared.operation.Operation.{Operation}
+use Rattle.jc_ops.specs.declared.operation.Operation.TheVariants as ops
+use Rattle.jc_rules.specs.Demand.{Frame}
+use Rattle.jc_rules.specs.Flow.{At, FlowTyping, IsFollowed}
+use Rattle.xf_homes.specs.declared.home.Home.{Home}
+use Rattle.xf_homes.specs.Walk.{operands_of}
+use Rattle.xf_plan.specs.Source.{Source}
+use Rattle.xf_plan.specs.Plan.{cells, is_leader, local, needed, operation}
+use Rattle.xf_emission.specs.declared.origin.Origin.TheVariants.{After, Start}
+use Rattle.xf_emission.specs.Move.{copy, loads, spill}
+use Rattle.xf_emission.specs.Edge.{copies}
+use Rattle.xf_emission.specs.Jump.{branch, goto, is_over, jump_to, leads, spill_if}
+use Rattle.xf_emission.specs.Group.{body, branch_by, done, entered, fallen, field_read, field_written, first_place, gone, group, group_by, increased, loaded, popped, stays, stored}
+use Rattle.xf_emission.specs.Emission.{IsRewritten, caught_from, items, rewritten, stubs}
+use Rattle.xf_landed.proofs.Steps.{contains-at}
+use Rattle.xf_typing.proofs.Typings.{count-steps}
+use Rattle.xf_typing.proofs.Walks.{count, count-append}
+
+-- of two lists one after the other
+first-counts : (xs ys : List Item) → 0 < count xs → 0 < count (xs ++ ys)
+first-counts xs ys h = let sum = count-append xs ys in omega (arith, h, sum)
+
+second-counts : (xs ys : List Item) → 0 < count ys → 0 < count (xs ++ ys)
+second-counts xs ys h = let sum = count-append xs ys in omega (arith, h, sum)
+
+-- ---- an instruction
+
+module _ (s : Source) (i : Placed) where
+  jump-counts : (op : Operation) (ls : List ℕ) → 0 < count (jump_to i op ls ∷ [])
+  jump-counts (ops.Switch width) ls = omega arith
+  jump-counts op ls = omega arith
+
+  branch-counts : (op : Operation) (n : ℕ) → 0 < count (branch s i op n)
+  unfolding branch
+  branch-counts op n =
+      second-counts (spill_if (is_over s i.place n) s i.place n) (jump_to i op (leads s i.place op n 0 (targets s.method.code i)) ∷ [])
+      (jump-counts op (leads s i.place op n 0 (targets s.method.code i)))
+
+  by-counts : (op : Operation) (n : Option ℕ) → 0 < count (branch_by s i op n)
+  by-counts op None = omega arith
+  by-counts op (Some n) = branch-counts op n
+
+  loaded-counts : (h : Option Home) → 0 < count (loaded s i h)
+  loaded-counts None = omega arith
+  loaded-counts (Some h) = omega arith
+
+  increased-counts : (h : Option Home) → 0 < count (increased s i h)
+  increased-counts None = omega arith
+  increased-counts (Some h) = omega arith
+
+  stored-counts : (letter : Sort) (hs : List Home) → 0 < count (stored s letter hs)
+  stored-counts sorts.Int [] = omega arith
+  stored-counts letter [] = omega arith
+  stored-counts letter (h ∷ hs) = omega arith
+
+  read-by : (b : Bool) (xs ys : List Item) → 0 < count xs → 0 < count ys → 0 < count (if b then xs else ys)
+  read-by true xs ys h k = h
+  read-by false xs ys h k = k
+
+  read-counts : (h : Option Home) → 0 < count (field_read s i h)
+  read-counts None = omega arith
+  read-counts (Some h) = read-by (stays s h) _ _ (omega arith) (omega arith)
+
+  written-counts : (k : Kind) (h : Option Home) → 0 < count (field_written s i k h)
+  written-counts k None = omega arith
+  written-counts k (Some h) = read-by (stays s h) _ _ (omega arith) (omega arith)
+
+  gone-counts : (op : Operation) (q : ℕ) → 0 < count (gone s i.place op q)
+  gone-counts op q =
+      second-counts (spill s (cells s q)) (copies s (After i.place op) q ++ goto q ∷ [])
+      (second-counts (copies s (After i.place op) q) (goto q ∷ []) (omega arith))
+
+  body-counts : (op : Operation) → 0 < count (body s i op)
+  unfolding body
+  body-counts (ops.Load letter x) = loaded-counts (local s i.place x)
+  body-counts (ops.Increment width x amount) = increased-counts (local s i.place x)
+  body-counts (ops.Store letter x) = stored-counts letter (needed s (i.place + i.insn.len) x)
+  body-counts (ops.FieldRead f holders.This) = read-counts (local s i.place 0)
+  body-counts (ops.FieldWrite f holders.This) = written-counts f.kind (local s i.place 0)
+  body-counts (ops.Branch branches.Always) = gone-counts (ops.Branch branches.Always) (first_place (targets s.method.code i))
+  body-counts op = by-counts op (operands_of s.world (Ok op))
+
+  group-counts : (f : Frame) (op : Operation) → s.frames i.place ≡ Some f → operation s i ≡ Ok op → 0 < count (group s i)
+  unfolding group
+  group-counts f op at is =
+      rw at
+      (second-counts (entered s i.place) (done s i (operation s i))
+      (rw is (first-counts (body s i op) (fallen s i op) (body-counts op))))
+
+-- ---- a method
+
+-- code that is listed to its end begins with an instruction
+first-listed : (code : List ℕ) (ps : List Placed) → Lists code 0 ps → end_from 0 ps ≡ length code → 0 < length code → (i : Placed) × (rest : List Placed) × (ps ≡ i ∷ rest) × (i.place ≡ 0)
+first-listed code [] lists ends filled = absurd (omega (arith, ends, filled))
+first-listed code (i ∷ rest) lists ends filled = (i, rest, refl, lists.0)
+
+some-there : {X : Type 0} (P : X → Type 0) (o : Option X) → IsSomeAnd o P → (x : X) × (o ≡ Some x) × P x
+some-there P None h = absurd h
+some-there P (Some x) h = (x, refl, h)
+
+module _ (s : Source) (listed : InstructionsAreListed) (mo : IsMethodOf s.world s.method) (typing : FlowTyping s.world s.method Top s.frames) where
+  items-count : 0 < count (items s)
+  unfolding items
+  items-count =
+      let first = first-listed s.method.code (listing s.method.code) (listed s.method.code).lists typing.formed.ends mo.filled in
+      let i = first.0 in
+      let stands : Stands s.method.code i = contains-at (listing s.method.code) 0 i (ap (λ (ps : List Placed). slice_get ps 0) first.2) in
+      let reached : IsReached s.method i.place = subst (IsReached s.method) (sym first.3) begins in
+      let at = some-there (IsFollowed s.world s.method s.frames i) (s.frames i.place) (typing.rules i stands reached) in
+      let followed = at.2 in
+      let own : 0 < count (group s i) = group-counts s i at.0 followed.steps.1.operation at.1 (sym followed.steps.1.resolves) in
+      second-counts (copies s Start 0) _
+      (first-counts (flat_map (group s) (listing s.method.code)) _
+      (subst (λ (ps : List Placed). 0 < count (flat_map (group s) ps)) (sym first.2) (first-counts (group s i) (flat_map (group s) first.1) own)))
+
+-- ---- laid code
+
+laid-by : (code : List ℕ) (place : ℕ → ℕ) (ss : List Step) (ps : List Placed) → AreSteps code place 0 ss ps → 0 < length ss → (i : Placed) × (slice_get ps 0 ≡ Some i)
+laid-by code place [] ps are some = absurd (omega (arith, some))
+laid-by code place (s ∷ ss) [] are some = absurd are
+laid-by code place (s ∷ ss) (i ∷ ps) are some = (i, refl)
+
+pub laid-filled : (w : Linked) (m : Method) (frames : ℕ → Option Frame) (homes : List Home) (symbols : Symbols) (laid : Laid) (place : ℕ → ℕ) → InstructionsAreListed → IsMethodOf w m → FlowTyping w m Top frames
+    → IsRewritten w m frames homes symbols → StandsAt place m.code symbols laid → 1 ≤ length laid.code
+unfolding rewritten
+laid-filled w m frames homes symbols laid place listed mo typing r stands =
+    let s : Source = record { world = w; method = m; frames = frames; leaders = r.leaders; homes = homes } in
+    let own : 0 < count symbols.items = subst (λ (y : Symbols). 0 < count y.items) (sym r.are) (items-count s listed mo typing) in
+    let some : 0 < length (steps m.code symbols.items) = subst (λ n. 0 < n) (sym (count-steps m.code symbols.items symbols.items)) own in
+    let first = laid-by laid.code place (steps m.code symbols.items) (listing laid.code) stands.instructions some in
+    let inside = (listed laid.code).inside first.0 (contains-at (listing laid.code) 0 first.0 first.1) in
+    omega (arith, inside)

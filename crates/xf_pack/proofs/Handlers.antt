@@ -1,0 +1,107 @@
+-- Each entry of the handler table of a package belongs to one method, so that the handlers of all methods are no more than the table has.
+use Rattle.std.proofs.Common.{◌≡◌, ℕ, zero, suc, ◌+◌, ◌-◌, ◌<◌, ◌≤◌, Bool, true, false, ◌&&◌, ltb, leb, min, List, [], ◌∷◌, ◌++◌, length, filter, cond, Some, None, refl, sym, ap, subst, ◌∙◌, inl, inr, arith}
+use Rattle.std.specs.Prelude.{slice_get}
+use Rattle.std.specs.List.{filter_map}
+use Rattle.std.proofs.lemmas.Bool.{ltb-true, ltb-false, leb-true, leb-false, false≢true}
+use Rattle.cap_desc.specs.DescriptorFormat.{Method, Class}
+use Rattle.cap_desc.specs.Members.{methods_but}
+use Rattle.cap_method.specs.declared.handler.HandlerInfo.{HandlerInfo}
+use Rattle.cap_components.specs.declared.fault.PackFault.{PackFault}
+use Rattle.cap_components.specs.declared.fault.PackFault.TheVariants.{HandlerOutside}
+use Rattle.cap_package.specs.HandlerChecks.{claims, owners, is_within, has_home, entry_fault, claim_fault, numbered, numbered_fault}
+use Rattle.cap_package.specs.PackageRecord.{PackageRecord, described as described_methods}
+use Rattle.cap_package.specs.StandsFor.{StandsFor}
+use Rattle.jc_resolve.proofs.Faultless.{IsOneOf, faultless, both_empty}
+use Rattle.xf_pack.proofs.OwnMethods.{got}
+
+-- how many entries of a table of so many a method has, and how many several methods have
+abbrev pub entry_count : ℕ → Method → ℕ
+entry_count many m = min m.handler_count (many - m.handler_index)
+
+abbrev pub entry_sum : ℕ → List Method → ℕ
+entry_sum many [] = 0
+entry_sum many (m ∷ ms) = entry_count many m + entry_sum many ms
+
+one_if : Bool → ℕ
+one_if true = 1
+one_if false = 0
+
+-- one more entry belongs to a method if this claims it
+one-more : (many : ℕ) (m : Method) → entry_count (suc many) m ≡ one_if (claims many m) + entry_count many m
+unfolding one_if
+one-more many m = by (leb m.handler_index many) (ltb many (m.handler_index + m.handler_count)) refl refl
+  where
+    by : (a b : Bool) → leb m.handler_index many ≡ a → ltb many (m.handler_index + m.handler_count) ≡ b → entry_count (suc many) m ≡ one_if (a && b) + entry_count many m
+    by true true e f = let le = leb-true m.handler_index many e in let lt = ltb-true many (m.handler_index + m.handler_count) f in omega (arith, le, lt)
+    by true false e f = let le = leb-true m.handler_index many e in let ge = ltb-false many (m.handler_index + m.handler_count) f in omega (arith, le, ge)
+    by false b e f = let gt = leb-false m.handler_index many e in omega (arith, gt)
+
+filter-count : (n : ℕ) (m : Method) (ms : List Method) → length (filter (claims n) (m ∷ ms)) ≡ one_if (claims n m) + length (filter (claims n) ms)
+unfolding one_if
+filter-count n m ms = by (claims n m)
+  where
+    by : (b : Bool) → length (cond b (m ∷ filter (claims n) ms) (filter (claims n) ms)) ≡ one_if b + length (filter (claims n) ms)
+    by true = omega arith
+    by false = omega arith
+
+sum-more : (many : ℕ) (ms : List Method) → entry_sum (suc many) ms ≡ length (filter (claims many) ms) + entry_sum many ms
+sum-more many [] = refl
+sum-more many (m ∷ ms) =
+    let here = one-more many m in
+    let others = sum-more many ms in
+    let count = filter-count many m ms in
+    omega (arith, here, others, count)
+
+sum-none : (ms : List Method) → entry_sum 0 ms ≡ 0
+sum-none [] = refl
+sum-none (m ∷ ms) = let others = sum-none ms in omega (arith, others)
+
+-- where each entry belongs to at most one method
+sum-within : (many : ℕ) (ms : List Method) → ((n : ℕ) → n < many → length (filter (claims n) ms) ≤ 1) → entry_sum many ms ≤ many
+sum-within zero ms one = let none = sum-none ms in omega (arith, none)
+sum-within (suc many) ms one =
+    let more = sum-more many ms in
+    let last = one many (omega arith) in
+    let others = sum-within many ms (λ n lt. one n (omega (arith, lt))) in
+    omega (arith, more, last, others)
+
+-- ---- a package
+
+home-one : (info : List ℕ) (h : HandlerInfo) (ms : List Method) → has_home info h ms ≡ true → length ms ≤ 1
+home-one info h [] e = omega arith
+home-one info h (m ∷ []) e = omega arith
+home-one info h (m ∷ n ∷ ms) e = absurd (false≢true e)
+
+home-by : (fault : PackFault) (b : Bool) → cond b None (Some fault) ≡ None → b ≡ true
+home-by fault true e = refl
+home-by fault false e = absurd cc
+
+owned-once : (info : List ℕ) (ms : List Method) (number : ℕ) (h : HandlerInfo) → entry_fault info ms number h ≡ None → length (filter (claims number) ms) ≤ 1
+unfolding entry_fault owners
+owned-once info ms number h e = home-one info h (filter (claims number) ms) (home-by (HandlerOutside number) (has_home info h (filter (claims number) ms)) e)
+
+entry-numbered : (hs : List HandlerInfo) (n i : ℕ) (h : HandlerInfo) → slice_get hs i ≡ Some h → IsOneOf {F = ℕ × HandlerInfo} (numbered n hs) (n + i, h)
+entry-numbered [] n i h e = absurd cc
+entry-numbered (g ∷ gs) n zero h e =
+    let same : g ≡ h = cc in
+    let zero_more : n + 0 ≡ n = omega arith in
+    inl (rw (zero_more, same) refl)
+entry-numbered (g ∷ gs) n (suc i) h e =
+    let more : n + suc i ≡ (n + 1) + i = omega arith in
+    inr (rw more (entry-numbered gs (n + 1) i h e))
+
+module _ (p : PackageRecord) (agreed : StandsFor p.parts p) where
+  entries-owned : filter_map (numbered_fault p.methods.info (described_methods p)) (numbered 0 p.methods.handlers) ≡ []
+  entries-owned =
+      let all = agreed.agree.1.1.1.1.1.1.1.1.1.1.1.1.1.1.0 in
+      (both_empty (filter_map (numbered_fault p.methods.info (described_methods p)) (numbered 0 p.methods.handlers)) (filter_map (claim_fault (length p.methods.handlers)) (described_methods p)) all).0
+
+  once : (n : ℕ) → n < length p.methods.handlers → length (filter (claims n) (described_methods p)) ≤ 1
+  once n lt =
+      let h = got p.methods.handlers n lt in
+      let place : 0 + n ≡ n = omega arith in
+      let fault = faultless (numbered_fault p.methods.info (described_methods p)) (numbered 0 p.methods.handlers) (0 + n, h.0) entries-owned (entry-numbered p.methods.handlers 0 n h.0 h.1) in
+      owned-once p.methods.info (described_methods p) n h.0 (rw place at fault)
+
+  pub entries-within : entry_sum (length p.methods.handlers) (described_methods p) ≤ length p.methods.handlers
+  entries-within = sum-within (length p.methods.handlers) (described_methods p) once

@@ -1,0 +1,11 @@
+mod OwnClasses
+mod OwnMethods
+mod Elements
+mod Headers
+mod Handlers
+mod Suited
+mod Filled
+mod Sound
+mod Passing
+mod Coded
+mod Written

@@ -1,0 +1,104 @@
+-- The last package is written with what is laid for its methods, and what is told where it is not.
+use Rattle.std.proofs.Common.{◌≡◌, ℕ, ◌+◌, ◌-◌, ◌<◌, ◌≤◌, Bool, true, false, List, [], ◌∷◌, inl, inr, length, Option, Some, None, cond, refl, sym, ap, subst, ◌∙◌, arith}
+use Rattle.std.specs.Prelude.{All, slice_get, nat_lt, ◌==◌, ◌||◌, min, if◌then◌else◌}
+use Rattle.std.specs.Option.{option_to_list}
+use Rattle.std.proofs.lemmas.Bool.{eqb-false}
+use Rattle.std.proofs.lemmas.List.Elements.{All-head, All-tail}
+use Rattle.cap_desc.specs.DescriptorFormat.{Class}
+use Rattle.cap_package.specs.PackageRecord.{PackageRecord}
+use Rattle.cap_package.specs.Parts.{Lent}
+use Rattle.cap_package.specs.StandsFor.{StandsFor}
+use Rattle.cap_write.specs.Condition.{MayBeLaid}
+use Rattle.cap_write.specs.WrittenPackage.{HaveRewritten, IsTooLong}
+use Rattle.jc_base.specs.World.{Linked}
+use Rattle.jc_decode.specs.declared.symbols.Laid.{Laid}
+use Rattle.jc_link.specs.World.{IsLinked}
+use Rattle.jc_resolve.specs.declared.fault.LinkFault.{LinkFault}
+use Rattle.jc_resolve.specs.declared.fault.LinkFault.TheVariants.{TooManyPackages}
+use Rattle.jc_resolve.proofs.Faultless.{IsOneOf}
+use Rattle.jc_rewritten.specs.Last.{and_last}
+use Rattle.xf_world.specs.Laws.{LaidIsAccepted}
+use Rattle.xf_pack.specs.declared.end.TransformEnd.{TransformEnd}
+use Rattle.xf_pack.specs.declared.end.TransformEnd.TheVariants.{Link, Library, Typing, Limit, PartLong, Memory}
+use Rattle.xf_pack.specs.Ends.{AreAcceptedLibraries, IsPartLong, IsTypedLast, TellsLinked, TellsOf, TellsTransform}
+use Rattle.xf_pack.specs.Passes.{BeginsLast, EachFrom, HasLast, IsLaidAt}
+use Rattle.xf_pack.specs.Transformed.{AreTransformed, IsTransformed}
+use Rattle.xf_pack.proofs.Elements.{are-laid}
+use Rattle.xf_pack.proofs.OwnClasses.{own-reference}
+use Rattle.xf_pack.proofs.OwnMethods.{got, has-last, with-last}
+use Rattle.xf_pack.proofs.Suited.{may-be-laid}
+
+-- ---- packages that link
+
+some-package : (n : ℕ) (fault : LinkFault) (a b : Bool) → (n == 0) ≡ a → option_to_list (if a || b then Some fault else None) ≡ [] → 0 < n
+some-package n fault true b is none = absurd cc
+some-package n fault false true is none = absurd cc
+some-package n fault false false is none = let ne = eqb-false n 0 is in omega (arith, ne)
+
+-- where packages link there is at least one
+pub linked-some : (ps : List PackageRecord) (roles : List ℕ) (w : Linked) → IsLinked ps roles w → 0 < length ps
+linked-some ps roles w l = some-package (length ps) (TooManyPackages (min (length ps) 4294967295)) (length ps == 0) (nat_lt 16 (length ps)) refl l.faultless.0
+
+-- the last of them
+module _ (ps : List PackageRecord) (roles : List ℕ) (w : Linked) (linked : IsLinked ps roles w) (p : PackageRecord) (n : ℕ) (at : slice_get ps n ≡ Some p) (long : n + 1 ≡ length ps) where
+  parted : (qs : List PackageRecord) × (ps ≡ and_last qs p)
+  parted = with-last ps p n at long
+
+  last-linked : IsLinked (and_last parted.0 p) roles w
+  last-linked = subst (λ qs. IsLinked qs roles w) parted.1 linked
+
+  pub linked-last : HasLast w
+  linked-last = has-last parted.0 p roles w last-linked
+
+  module _ (first : ℕ) (is : BeginsLast w first) (laid : List (Option Laid)) (each : EachFrom (IsLaidAt w) first laid) (all : first + length laid ≡ length w.methods) where
+    pub last-may-be-laid : StandsFor p.parts p → length p.methods.handlers ≤ 255 → MayBeLaid p laid
+    last-may-be-laid agreed few = may-be-laid parted.0 p roles w last-linked first is laid each all agreed (own-reference p agreed) few
+
+    module _ (accepted : AreAcceptedLibraries w) (typed : IsTypedLast w) where
+      pub transformed : StandsFor p.parts p → LaidIsAccepted w → (parts : List Lent) → HaveRewritten p laid parts → IsTransformed ps roles w parts
+      transformed agreed law parts again =
+          let code = are-laid parted.0 p roles w last-linked first is laid each all in
+          let new = law parted.0 p again.made p.parts parts roles laid agreed again.stands again.rewritten last-linked accepted code in
+          record {
+            accepted = accepted;
+            typed = typed;
+            libraries = parted.0;
+            source = p;
+            are = parted.1;
+            laid = laid;
+            code = code;
+            made = again.made;
+            rewritten = again.rewritten;
+            stands = again.stands;
+            world = new.0;
+            anew = new.1;
+          }
+
+      pub part-long : (size : ℕ) → IsTooLong p laid size → IsPartLong ps w size
+      part-long size long = record {
+        libraries = accepted;
+        typed = typed;
+        earlier = parted.0;
+        source = p;
+        are = parted.1;
+        laid = laid;
+        code = are-laid parted.0 p roles w last-linked first is laid each all;
+        long = long;
+      }
+
+-- so the methods of the last package follow those of the libraries
+pub linked-has-last : (ps : List PackageRecord) (roles : List ℕ) (w : Linked) → IsLinked ps roles w → HasLast w
+linked-has-last ps roles w l =
+    let some = linked-some ps roles w l in
+    let p = got ps (length ps - 1) (omega (arith, some)) in
+    linked-last ps roles w l p.0 (length ps - 1) p.1 (omega (arith, some))
+
+-- ---- what is told of packages that link
+
+pub tells-linked : (ps : List PackageRecord) (roles : List ℕ) (w : Linked) (end : TransformEnd) → IsLinked ps roles w → TellsOf ps w end → TellsTransform ps roles end
+tells-linked ps roles w (Link fault) linked tells = absurd tells
+tells-linked ps roles w (Library method fault) linked tells = record { world = w; linked = linked; tells = tells }
+tells-linked ps roles w (Typing method end) linked tells = record { world = w; linked = linked; tells = tells }
+tells-linked ps roles w (Limit method limit) linked tells = record { world = w; linked = linked; tells = tells }
+tells-linked ps roles w (PartLong n) linked tells = record { world = w; linked = linked; tells = tells }
+tells-linked ps roles w Memory linked tells = tt {0}

@@ -1,0 +1,90 @@
+-- What the passes over the methods of the last package keep of each.
+use Rattle.std.specs.Prelude.{◌≡◌, ◌≤◌, ◌<◌, ℕ, suc, ◌+◌, List, [], ◌∷◌, length, Option, Some, None, All, IsSomeAnd, slice_get}
+use Rattle.cap_laying.specs.HandlerTable.{AreInside}
+use Rattle.jc_base.specs.declared.record.MethodRec.{MethodRec}
+use Rattle.jc_base.specs.World.{Linked}
+use Rattle.jc_control.specs.Method.{Method, IsMethodOf, method_with}
+use Rattle.jc_decode.specs.declared.symbols.Laid.{Laid}
+use Rattle.jc_decode.specs.declared.symbols.Symbols.{Symbols}
+use Rattle.jc_decode.specs.Symbols.{IsItem}
+use Rattle.jc_flow.specs.Infer.{AreDerived}
+use Rattle.jc_rules.specs.Demand.{Frame}
+use Rattle.jc_rules.specs.Typing.{state_at}
+use Rattle.xf_emission.specs.Emission.{IsRewritten}
+use Rattle.xf_emission.specs.Live.{KeepsLive}
+use Rattle.xf_emission.specs.Numbers.{HasNumbers}
+use Rattle.xf_homes.specs.declared.home.Home.{Home}
+use Rattle.xf_homes.specs.Answer.{IsTypingOf}
+use Rattle.xf_homes.specs.Order.{AreHomes, register_sum}
+use Rattle.xf_typing.specs.Typed.{HasTypes}
+use Rattle.xf_world.specs.Laid.{IsElement}
+
+-- ---- the methods of the last package
+
+-- the methods of the libraries have the numbers below this one, and those of the last package follow
+pub record BeginsLast (w : Linked) (first : ℕ) : Type 0 where
+  pub within : first ≤ length w.methods
+  pub before : (n : ℕ) (r : MethodRec) → slice_get w.methods n ≡ Some r → n < first → r.package + 1 < length w.infos
+  pub last : (n : ℕ) (r : MethodRec) → slice_get w.methods n ≡ Some r → first ≤ n → r.package + 1 ≡ length w.infos
+
+abbrev pub HasLast : Linked → Type 0
+HasLast w = (first : ℕ) × BeginsLast w first
+
+-- each element with the number of its method, which is this for the first, is such
+abbrev pub EachFrom : {A : Type 0} → (ℕ → A → Type 0) → ℕ → List A → Type 0
+EachFrom Is n [] = Unit {0}
+EachFrom Is n (x ∷ xs) = Is n x × EachFrom Is (suc n) xs
+
+-- ---- typings
+
+-- the typing by which the homes of a method are found
+pub record IsTypedBy (w : Linked) (m : Method) (typing : List (Option Frame)) : Type 0 where
+  pub typed : IsTypingOf w m typing
+  pub derived : AreDerived w m typing
+
+-- the typing that is kept of a method, and None where it has no code
+abbrev pub IsKeptTyping : Linked → ℕ → MethodRec → Option (List (Option Frame)) → Type 0
+IsKeptTyping w n r None = r.code_len ≡ 0
+IsKeptTyping w n r (Some typing) = (0 < r.code_len) × IsTypedBy w (method_with w n r) typing
+
+abbrev pub IsTypingAt : Linked → ℕ → Option (List (Option Frame)) → Type 0
+IsTypingAt w n kept = IsSomeAnd (slice_get w.methods n) (λ r. IsKeptTyping w n r kept)
+
+-- ---- code
+
+-- the symbols to which a method with code is rewritten, by a typing and the homes that this gives; no limit is passed so far
+pub record IsRewrittenTo (w : Linked) (symbols : Symbols) (m : Method) : Type 0 where
+  pub method : IsMethodOf w m
+  pub typing : List (Option Frame)
+  pub typed : IsTypedBy w m typing
+  pub homes : List Home
+  pub are : AreHomes w m (state_at typing) homes
+  pub few : register_sum homes ≤ 255
+  pub room : m.rec.max_stack < 255
+  pub rewritten : IsRewritten w m (state_at typing) homes symbols
+  pub types : HasTypes w m homes symbols
+  pub live : KeepsLive m m.rec.handlers symbols.ranges
+  pub numbers : HasNumbers m.rec homes symbols
+  pub items : All (IsItem m.code symbols.items) symbols.items
+
+-- code that may stand in place of a method's: of 1 to 32,767 bytes, with its arguments, at most 255 registers, no more handlers than the
+-- method has, and all of them inside
+pub record IsSound (r : MethodRec) (laid : Laid) : Type 0 where
+  pub some : 1 ≤ length laid.code
+  pub short : length laid.code ≤ 32767
+  pub arguments : laid.nargs ≡ r.nargs
+  pub registers : laid.nargs + laid.max_locals ≤ 255
+  pub inside : AreInside (length laid.code) laid.handlers
+  pub few : length laid.handlers ≤ length r.handlers
+
+abbrev pub IsSoundIf : MethodRec → Option Laid → Type 0
+IsSoundIf r None = Unit {0}
+IsSoundIf r (Some laid) = IsSound r laid
+
+-- the element of a method
+pub record IsLaidWell (w : Linked) (n : ℕ) (laid : Option Laid) (r : MethodRec) : Type 0 where
+  pub is : IsElement w n r laid
+  pub sound : IsSoundIf r laid
+
+abbrev pub IsLaidAt : Linked → ℕ → Option Laid → Type 0
+IsLaidAt w n laid = IsSomeAnd (slice_get w.methods n) (IsLaidWell w n laid)

@@ -1,0 +1,43 @@
+ghost use Rattle.std.specs.Prelude.{◌≡◌, ◌+◌, IfErr, IfOk, length};
+ghost use Rattle.jc_link.specs.World.{IsLinked};
+ghost use Rattle.xf_pack.specs.Ends.{AreAcceptedLibraries, IsTypedLast, TellsOf};
+ghost use Rattle.xf_pack.specs.Passes.{BeginsLast, EachFrom, IsLaidAt};
+ghost use Rattle.xf_pack.specs.Transformed.{IsTransformed};
+
+use crate::end::TransformEnd;
+use cap_package::{OwnedParts, Packages};
+use cap_write::{WriteEnd, write_package};
+use jc_base::World;
+use jc_decode::Laid;
+use std::alloc::Global;
+use xf_world::laid_is_accepted;
+
+/// The parts of the last package with what is laid for its methods.
+pub(crate) fn write_last(
+    alloc: Global,
+    packages: &Packages<'_, '_>,
+    roles: [u8; 8],
+    world: &World<'_>,
+    first: u16,
+    laid: &[Option<Laid>],
+) -> Result<OwnedParts, TransformEnd>
+    requires linked { IsLinked packages.now roles world.now }
+    requires first { BeginsLast world.now first }
+    requires accepted { AreAcceptedLibraries world.now }
+    requires typed { IsTypedLast world.now }
+    requires laid { EachFrom (IsLaidAt world.now) first laid.now }
+    requires all { first + length laid.now ≡ length world.now.methods }
+    ensures made { IfOk result (IsTransformed packages.now roles world.now) }
+    ensures end { IfErr result (TellsOf packages.now world.now) }
+{
+    laid_is_accepted(world);
+    let package = packages.at(packages.len() - 1);
+    // Its parts stand for it, and its handlers are no more than one byte counts.
+    let _parts = package.parts();
+    let _handlers = package.methods().handlers();
+    match write_package(alloc, package, laid) {
+        Ok(parts) => Ok(parts),
+        Err(WriteEnd::PartLong(size)) => Err(TransformEnd::PartLong(size)),
+        Err(WriteEnd::Memory) => Err(TransformEnd::Memory),
+    }
+}

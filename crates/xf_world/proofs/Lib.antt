@@ -1,0 +1,5 @@
+pub mod Bytes
+pub mod Flagged
+pub mod Own
+pub mod Catching
+pub mod Accepted
