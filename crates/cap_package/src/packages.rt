@@ -1,4 +1,5 @@
-ghost use Rattle.std.specs.Prelude.{◌≡◌, ◌<◌, [], ◌∷◌, ◌++◌, OnOk, OnErr, Some, length, slice_get};
+ghost use Rattle.std.specs.Prelude.{◌≡◌, ◌<◌, ◌-◌, [], ◌∷◌, ◌++◌, List, IfOk, OnOk, OnErr, Some, length, slice_get, take};
+ghost use Rattle.cap_components.specs.PackageRecord.{PackageRecord};
 
 use crate::package_type::Package;
 use std::alloc::{AllocError, Global};
@@ -58,5 +59,23 @@ impl<'p, 'a> Packages<'p, 'a> {
     {
         self.items.push(package)?;
         Ok(())
+    }
+
+    /// All packages but the last, in their order; of no packages none.
+    pub fn libraries(&self, alloc: Global) -> Result<Packages<'p, 'a>, AllocError>
+        ensures is { IfOk result (λ kept. kept ≡ take (length self.now - 1) self.now) }
+        // Those before the last, where there is one.
+        ensures before { IfOk result
+            (λ kept.
+            (libraries : List PackageRecord) (last : PackageRecord)
+            → self.now ≡ libraries ++ last ∷ []
+            → kept ≡ libraries) }
+    {
+        let mut libraries = Packages::new(alloc);
+        let kept = &self.items.as_slice()[..self.items.len().saturating_sub(1)];
+        'packages: for package in kept {
+            libraries.push(Package { all: package.all })?;
+        }
+        Ok(libraries)
     }
 }

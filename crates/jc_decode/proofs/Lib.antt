@@ -1,4 +1,5 @@
 pub mod Opcodes
+pub mod Switches
 pub mod Pairs
 pub mod Decoded
 pub mod Listing

@@ -1,6 +1,6 @@
 -- The cases of a switch: an offset for each number from low to high, or pairs of a key and an offset
 -- (JCVM 2.2, chapter 7: stableswitch, itableswitch, slookupswitch, ilookupswitch).
-use Rattle.std.specs.Prelude.{◌<ℤ◌, slice_get, Some, negsuc, ◌∷◌, ◌++◌, take, drop, true, false, ◌≡◌, ◌+◌, ◌*◌, ℕ, ℤ, pos, ◌+ℤ◌, unsigned_abs, List, [], map, Result, Ok, Err, IsTrue, Bool}
+use Rattle.std.specs.Prelude.{◌<ℤ◌, slice_get, Some, negsuc, ◌∷◌, ◌++◌, take, drop, true, false, ◌≡◌, ◌+◌, ◌*◌, ℕ, ℤ, pos, ◌+ℤ◌, unsigned_abs, List, [], map, Result, Ok, Err, IsTrue, Bool, ◌&&◌, nat_le}
 use Rattle.std.proofs.Common.{refl}
 use Rattle.std.specs.List.{range_with_len}
 use Rattle.std.specs.Int.{cast_unsigned, w16}
@@ -56,6 +56,10 @@ has_cases (Err e) = false
 -- whether this is the opcode of a switch: a table of cases follows its operands
 abbrev pub is_switch : ℕ → Bool
 is_switch op = has_cases (layout_of op)
+
+-- whether the opcode is from 115 to 118
+abbrev pub is_from_115 : ℕ → Bool
+is_from_115 op = nat_le 115 op && nat_le op 118
 
 abbrev pub is_range : Cases → Bool
 is_range NoCases = false

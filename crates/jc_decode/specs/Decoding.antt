@@ -123,17 +123,22 @@ end_of_cases (Pairs key) bound xs table y z = pairs_end key xs table (unsigned_a
 abbrev pub table_end : Layout → List ℕ → ℕ → ℤ → ℤ → Result ℕ CodeEnd
 table_end l xs table y z = end_of_cases l.cases l.z xs table y z
 
--- the instruction at a place of the code, or why there is none
-unfoldable pub decoded : List ℕ → ℕ → Result Insn CodeEnd
-decoded xs at = do
-  op ← or_cut (number_at 1 at xs)
-  l ← layout_of op
+-- the instruction of this opcode at a place, with these operands, or why there is none
+abbrev pub decoded_as : ℕ → Layout → List ℕ → ℕ → Result Insn CodeEnd
+decoded_as op l xs at = do
   table ← reached xs (at + 1 + total_width l)
   x ← operand_at l.x xs (at + 1)
   y ← operand_at l.y xs (at + 1 + width l.x)
   z ← operand_at l.z xs (at + 1 + width l.x + width l.y)
   end ← table_end l xs table y z
   Ok (record { op = op; x = x; y = y; z = z; len = end - at })
+
+-- the instruction at a place of the code, or why there is none
+unfoldable pub decoded : List ℕ → ℕ → Result Insn CodeEnd
+decoded xs at = do
+  op ← or_cut (number_at 1 at xs)
+  l ← layout_of op
+  decoded_as op l xs at
 
 -- the items of a list are bytes
 abbrev pub AreBytes : List ℕ → Type 0

@@ -3,7 +3,7 @@ ghost use Rattle.jc_decode.specs.Layout.{width};
 ghost use Rattle.std.specs.List.{range_with_len};
 ghost use Rattle.std.specs.Int.{w16};
 ghost use Rattle.jc_decode.specs.Decoding.{decoded, pair_width, range_count};
-ghost use Rattle.jc_decode.specs.Cases.{offset_at, cases, range_case, pair_case, HasTable, is_switch};
+ghost use Rattle.jc_decode.specs.Cases.{offset_at, cases, range_case, pair_case, HasTable, is_switch, is_from_115};
 ghost use Rattle.jc_decode.specs.Listing.{falls, is_branch, jumps, target, targets};
 
 use crate::decoding::are_bytes;
@@ -23,10 +23,7 @@ impl Insn {
     pub fn is_switch(self) -> bool
         ensures { result ≡ is_switch self.op }
     {
-        match Layout::of(self.op) {
-            Ok(layout) => !matches!(layout.cases, Cases::Absent),
-            Err(_) => false,
-        }
+        is_switch_opcode(self.op)
     }
 
     /// Whether this names places to go to.
@@ -42,6 +39,19 @@ impl Insn {
     {
         !(self.op == 112 || 115 <= self.op && self.op <= 122 || self.op == 147 || self.op == 168)
     }
+}
+
+#[tactic(auto, using(crate::proofs::Switches::switch_facts))]
+fn is_switch_opcode(op: u8) -> bool
+    ensures { result ≡ is_switch op }
+{
+    is_from_115(op)
+}
+
+fn is_from_115(op: u8) -> bool
+    ensures { result ≡ is_from_115 op }
+{
+    115 <= op && op <= 118
 }
 
 /// The n-th case of the switch `insn` at a place, by the table's order: none where there are not more

@@ -1,7 +1,7 @@
 ghost use Rattle.std.specs.Prelude.{◌≤ℤ◌, IsTrue, ◌≡◌, ◌+◌, ◌*◌, ◌^◌, ◌<◌, ◌≤◌, ◌-◌, length, IfOk, IfErr, Ok, Err, pos, if◌then◌else◌};
 ghost use Rattle.cap_bytes.specs.Number.{number_at};
-ghost use Rattle.jc_decode.specs.Layout.{layout_of, width};
-ghost use Rattle.jc_decode.specs.Decoding.{is_dup_words, is_swap_words, is_array_type, is_tested_type, or_cut, reached, bad_operand, operand_at, pair_width, key_at, rises, pairs_end, table_end, decoded, Begins, FitsLayout, FitsOperand, IsWithin, AreBytes};
+ghost use Rattle.jc_decode.specs.Layout.{layout_of, one, width};
+ghost use Rattle.jc_decode.specs.Decoding.{is_dup_words, is_swap_words, is_array_type, is_tested_type, or_cut, reached, bad_operand, operand_at, pair_width, key_at, rises, pairs_end, table_end, decoded, decoded_as, Begins, FitsLayout, FitsOperand, IsWithin, AreBytes};
 ghost use Rattle.jc_decode.specs.Cases.{cases, is_table_switch, KeysRise};
 ghost use Rattle.jc_decode.specs.Refusal.{Refuses};
 ghost use Rattle.jc_decode.specs.Encoding.{IsAllowed};
@@ -41,6 +41,36 @@ fn insn_at(code: View, at: u32) -> Result<Insn, CodeEnd>
 {
     let op = u1(code, at)?;
     let layout = Layout::of(op)?;
+    if layout.has_one() {
+        with_one(code, at, op, layout.x)
+    } else {
+        with_more(code, at, op, layout)
+    }
+}
+
+/// The instruction of an opcode at a place, with no operand but the first.
+fn with_one(code: View, at: u32, op: u8, x: Operand) -> Result<Insn, CodeEnd>
+    requires short { length code.bytes.now ≤ 65535 }
+    requires place { at ≤ 65535 }
+    ensures { result ≡ decoded_as op (one x) code.entry.bytes.now at }
+{
+    let end = reach(code, u64::from(at + 1 + x.width()))?;
+    let x = x.read(code, at + 1)?;
+    Ok(Insn {
+        op,
+        x,
+        y: 0,
+        z: 0,
+        len: end - at,
+    })
+}
+
+/// The instruction of an opcode at a place, with these operands.
+fn with_more(code: View, at: u32, op: u8, layout: Layout) -> Result<Insn, CodeEnd>
+    requires short { length code.bytes.now ≤ 65535 }
+    requires place { at ≤ 65535 }
+    ensures { result ≡ decoded_as op layout code.entry.bytes.now at }
+{
     let operands = at + 1;
     let table = reach(code, u64::from(operands + layout.width()))?;
     let x = layout.x.read(code, operands)?;

@@ -1,5 +1,5 @@
-ghost use Rattle.std.specs.Prelude.{◌≡◌};
-ghost use Rattle.jc_decode.specs.Layout.{layout_of, width, total_width};
+ghost use Rattle.std.specs.Prelude.{◌≡◌, IsTrue};
+ghost use Rattle.jc_decode.specs.Layout.{layout_of, one, width, total_width};
 
 use self::Operand::{Absent, ArrayType, DupWords, SwapWords, TestedType};
 use crate::insn::CodeEnd;
@@ -85,6 +85,19 @@ impl Layout {
             Opcode::Instruction(layout) => Ok(layout),
             Opcode::Reserved => Err(CodeEnd::OutOfScope(op)),
             Opcode::Unused => Err(CodeEnd::NoOpcode(op)),
+        }
+    }
+
+    /// Whether there is no operand but the first, and no table.
+    pub(crate) fn has_one(self) -> bool
+        ensures { IsTrue result → self ≡ one self.x }
+    {
+        match self.y {
+            Absent => match self.z {
+                Absent => matches!(self.cases, Cases::Absent),
+                _ => false,
+            },
+            _ => false,
         }
     }
 

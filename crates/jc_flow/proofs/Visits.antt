@@ -1,6 +1,6 @@
 -- The visit of a place closes it.
 use Rattle.std.proofs.Common.{◌≡◌, ℕ, ◌+◌, ◌<◌, ◌≤◌, List, length, get_or, take, All, IsTrue, Option, Some, None, sym, ◌∙◌, ap, subst, arith}
-use Rattle.std.specs.Prelude.{ℤ, pos, negsuc}
+use Rattle.std.specs.Prelude.{ℤ, pos, negsuc, Contains}
 use Rattle.std.proofs.lemmas.List.{take_all}
 use Rattle.std.proofs.lemmas.List.Elements.{All-more}
 use Rattle.jc_base.specs.declared.record.Handler.{Handler}
@@ -70,17 +70,31 @@ module _ (w : Linked) (is : AreRules w) (m : Method) (mo : IsMethodOf w m) (p : 
   pub held-loaded : (s n : Scratched) → n ≡ record { frame = f; room = s.room } → IsHeld w m p n.frame
   held-loaded s n e = subst (IsHeld w m p) (sym (ap (λ (x : Scratched). x.frame) e)) here
 
-  pub step-loaded : (b a old_b old_a : Scratched) (g : Frame) (insn : Insn) → b ≡ record { frame = f; room = old_b.room } → a ≡ record { frame = f; room = old_a.room } → HasStepped w m p a.frame g insn → HasStepped w m p b.frame g insn
-  step-loaded b a old_b old_a g insn eb ea st = subst (λ x. HasStepped w m p x g insn) (ap (λ (x : Scratched). x.frame) ea ∙ sym (ap (λ (x : Scratched). x.frame) eb)) st
+  pub step-loaded : (a old_a : Scratched) (g : Frame) (insn : Insn) → a ≡ record { frame = f; room = old_a.room } → HasStepped w m p a.frame g insn → HasStepped w m p f g insn
+  step-loaded a old_a g insn ea st = subst (λ x. HasStepped w m p x g insn) (ap (λ (x : Scratched). x.frame) ea) st
 
-  pub is-step : (s : Step) (b a old_b old_a : Scratched) → s.place ≡ p → s.before.now ≡ b → b ≡ record { frame = f; room = old_b.room } → a ≡ record { frame = f; room = old_a.room } → HasStepped w m p a.frame s.after.now.frame s.insn → IsStep w m s
-  is-step s b a old_b old_a place now eb ea st =
-      let before : s.before.now.frame ≡ f = ap (λ (x : Scratched). x.frame) (now ∙ eb) in
-      let loaded : a.frame ≡ f = ap (λ (x : Scratched). x.frame) ea in
-      record {
-        here = subst (λ q. IsHeld w m q s.before.now.frame) (sym place) (subst (IsHeld w m p) (sym before) here);
-        stepped = subst (λ q. HasStepped w m q s.before.now.frame s.after.now.frame s.insn) (sym place) (subst (λ x. HasStepped w m p x s.after.now.frame s.insn) (loaded ∙ sym before) st);
-      }
+  pub is-step : (s : Step) (b a old_a : Scratched) → s.place ≡ p → s.before.now ≡ b → (0 < length m.rec.handlers → b.frame ≡ f) → a ≡ record { frame = f; room = old_a.room } → HasStepped w m p a.frame s.after.now.frame s.insn → IsStep w m s
+  is-step s b a old_a place now kept ea st = record {
+    from = f;
+    here = subst (λ q. IsHeld w m q f) (sym place) here;
+    stepped = subst (λ q. HasStepped w m q f s.after.now.frame s.insn) (sym place) (step-loaded a old_a s.after.now.frame s.insn ea st);
+    kept = λ some. ap (λ (x : Scratched). x.frame) now ∙ kept some;
+  }
+
+-- what the handlers catch of the frame that is kept is what they catch of the state's
+pub caught-kept : (w : Linked) (m : Method) (p : ℕ) (f b : Frame) (found : Found) → (0 < length m.rec.handlers → b ≡ f) → All (IsCaught w p b found) m.rec.handlers → All (IsCaught w p f found) m.rec.handlers
+caught-kept w m p f b found kept all k d lt = subst (λ x. IsCaught w p x found (get_or m.rec.handlers k d)) (kept (omega (arith, lt))) (all k d lt)
+
+-- where there is a handler, the frame that is kept is the one of the step
+module _ (w : Linked) (m : Method) (s : Step) (is : IsStep w m s) (h : Handler) (listed : Contains m.rec.handlers h) where
+  is-kept : s.before.now.frame ≡ is.from
+  is-kept = is.kept (omega (arith, listed.1))
+
+  pub kept-here : IsHeld w m s.place s.before.now.frame
+  kept-here = subst (IsHeld w m s.place) (sym is-kept) is.here
+
+  pub kept-stepped : HasStepped w m s.place s.before.now.frame s.after.now.frame s.insn
+  kept-stepped = subst (λ x. HasStepped w m s.place x s.after.now.frame s.insn) (sym is-kept) is.stepped
 
 -- ---- a visit
 

@@ -62,10 +62,12 @@ pub record HasStepped (w : Linked) (m : Method) (p : ℕ) (f g : Frame) (insn : 
   pub ready : IsTrue (jumps insn.op) → All IsNotFresh g.stack
   pub stays : IsTrue (falls insn.op) → p + insn.len < length m.code
 
--- the step at the place of a frame
+-- the step at the place of a frame, which is kept where the method has handlers
 pub record IsStep (w : Linked) (m : Method) (s : Step) : Type 0 where
-  pub here : IsHeld w m s.place s.before.now.frame
-  pub stepped : HasStepped w m s.place s.before.now.frame s.after.now.frame s.insn
+  pub from : Frame
+  pub here : IsHeld w m s.place from
+  pub stepped : HasStepped w m s.place from s.after.now.frame s.insn
+  pub kept : 0 < length m.rec.handlers → s.before.now.frame ≡ from
 
 -- what the step leads to after the instruction
 abbrev pub IsAtNext : Linked → Step → Found → Type 0

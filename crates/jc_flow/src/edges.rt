@@ -16,7 +16,8 @@ use jc_decode::{Insn, Placed};
 use jc_ops::RuleFault;
 use std::alloc::Global;
 
-/// The instruction at a place, with the frames before and after its rule.
+/// The instruction at a place, with the frames before and after its rule. The frame before is there where the
+/// method has handlers.
 #[derive(Clone, Copy)]
 pub struct Step<'a> {
     pub place: u16,

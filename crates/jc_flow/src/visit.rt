@@ -1,4 +1,4 @@
-ghost use Rattle.std.specs.Prelude.{◌≡◌, IfErr, OnOk};
+ghost use Rattle.std.specs.Prelude.{◌≡◌, ◌≤◌, ◌<◌, length, IfErr, OnOk};
 ghost use Rattle.jc_rules.specs.Flow.{At, FrameBelow, IsLeastTyping, start_frame};
 ghost use Rattle.jc_rules.specs.Typing.{state_at};
 ghost use Rattle.jc_base.specs.declared.ty.Ty.TheVariants.{Top};
@@ -14,9 +14,23 @@ use crate::edges::Step;
 use crate::end::FlowEnd;
 use crate::scratch::Scratch;
 use crate::table::StateTable;
+use jc_rules::State;
 use std::alloc::Global;
 
 impl Analysis<'_> {
+    /// Keeps the frame of a state for the method's handlers, if it has any.
+    fn keep(&self, state: &State, before: &mut Scratch)
+        requires registers { length state.now.regs ≡ length before.old.frame.regs }
+        requires room { length state.now.stack ≤ before.old.room }
+        ensures kept { 0 < length self.now.rec.now.handlers → before.new.frame ≡ state.now }
+        ensures registers { length before.new.frame.regs ≡ length before.old.frame.regs }
+        ensures room { before.new.room ≡ before.old.room }
+    {
+        if self.rec.handlers.len() > 0 {
+            before.load(state);
+        }
+    }
+
     /// Leads from the state at a place to wherever control goes next.
     pub fn visit(
         &self,
@@ -37,7 +51,7 @@ impl Analysis<'_> {
     {
         match table.state(place) {
             Some(state) => {
-                before.load(state);
+                self.keep(state, before);
                 after.load(state);
             }
             None => return Ok(()),

@@ -1,12 +1,11 @@
 -- What the entries of a constant pool say (JCVM 2.2, section 6.7).
 use Rattle.std.specs.Prelude.{ℕ, ◌+◌, ◌-◌, ◌*◌, Option, Some, option_map, option_and_then, List, slice_get, slice_index, nat_lt, if◌then◌else◌}
 use Rattle.cap_pool.specs.PoolFormat.{Entry}
-use Rattle.cap_pool.specs.Export.{field_in, method_in}
-use Rattle.cap_package.specs.Agreement.{or_none}
 use Rattle.cap_package.specs.PackageRecord.{PackageRecord}
 use Rattle.jc_resolve.specs.declared.place.RecordPlace.{RecordPlace}
 use Rattle.jc_resolve.specs.NamedMethods.{reference_in}
 use Rattle.jc_resolve.specs.References.{class_named, met_by}
+pub use Rattle.jc_resolve.specs.References.{exported_field, exported_method}
 
 -- the class or interface that the first two bytes of an entry name
 unfoldable pub class_in : List PackageRecord → ℕ → Entry → Option ℕ
@@ -18,13 +17,6 @@ token_in e = slice_index e.bytes 2
 
 -- ---- static fields and methods without dispatch: of the own package by a padding byte and an
 -- offset, of another one by an import, a class token and a member token
-
--- the offset of the static field or method that a package exports, by its class's token and its own
-abbrev pub exported_field : List PackageRecord → ℕ → ℕ → ℕ → Option ℕ
-exported_field ps j class token = option_and_then (λ (p : PackageRecord). field_in (or_none p.export) class token) (slice_get ps j)
-
-abbrev pub exported_method : List PackageRecord → ℕ → ℕ → ℕ → Option ℕ
-exported_method ps j class token = option_and_then (λ (p : PackageRecord). method_in (or_none p.export) class token) (slice_get ps j)
 
 -- where an entry's member stands in its own package
 abbrev pub own_place : ℕ → Entry → RecordPlace

@@ -4,11 +4,10 @@ ghost use Rattle.jc_base.specs.Class.{IsClass};
 ghost use Rattle.jc_base.specs.Dispatch.{entry_at, package_of};
 ghost use Rattle.jc_resolve.specs.Numbering.{numbered_classes};
 ghost use Rattle.jc_members.specs.Sites.{all_entered};
-ghost use Rattle.jc_members.specs.Entries.{class_in, token_in, exported_field, exported_method, own_place, field_place, method_place};
+ghost use Rattle.jc_members.specs.Entries.{class_in, token_in, own_place, field_place, method_place};
 ghost use Rattle.jc_members.specs.Members.{class_member, proper_in, virtual_member, may_name, super_of, super_member, static_sites, static_at, static_member, call_member};
 
 use crate::sites::{Sites, Spot};
-use cap_package::Packages;
 use cap_pool::PoolEntry;
 use jc_base::{Classes, Dispatch, Member, Statics};
 use jc_resolve::{Names, RecordPlace};
@@ -144,26 +143,6 @@ pub(crate) fn super_member(
     super_of(classes, class, token_in(entry))
 }
 
-/// The offset of a static field that a package exports, by its class's token and its own.
-fn exported_field(packages: &Packages<'_, '_>, home: u16, class: u8, token: u8) -> Option<u16>
-    ensures { result ≡ exported_field packages.now home class token }
-{
-    if home as usize >= packages.len() {
-        return None;
-    }
-    packages.at(home as usize).export()?.field(class, token)
-}
-
-/// The offset of a method that a package exports, by its class's token and its own.
-fn exported_method(packages: &Packages<'_, '_>, home: u16, class: u8, token: u8) -> Option<u16>
-    ensures { result ≡ exported_method packages.now home class token }
-{
-    if home as usize >= packages.len() {
-        return None;
-    }
-    packages.at(home as usize).export()?.method(class, token)
-}
-
 /// Where an entry's member stands in its own package.
 fn own_place(package: u16, entry: PoolEntry) -> RecordPlace
     ensures { result ≡ own_place «package» (entry_seen entry) }
@@ -183,7 +162,7 @@ fn field_place(names: &Names<'_, '_, '_>, package: u16, entry: PoolEntry) -> Opt
         return Some(own_place(package, entry));
     }
     let home = names.import_met(package, entry.bytes[0] - 128)?;
-    let offset = exported_field(names.packages(), home, entry.bytes[1], entry.bytes[2])?;
+    let offset = names.exported_field(home, entry.bytes[1], entry.bytes[2])?;
     Some(RecordPlace {
         package: home,
         offset,
@@ -199,7 +178,7 @@ fn method_place(names: &Names<'_, '_, '_>, package: u16, entry: PoolEntry) -> Op
         return Some(own_place(package, entry));
     }
     let home = names.import_met(package, entry.bytes[0] - 128)?;
-    let offset = exported_method(names.packages(), home, entry.bytes[1], entry.bytes[2])?;
+    let offset = names.exported_method(home, entry.bytes[1], entry.bytes[2])?;
     Some(RecordPlace {
         package: home,
         offset,

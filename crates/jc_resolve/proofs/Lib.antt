@@ -25,3 +25,4 @@ pub mod NamedTold
 pub mod Pairwise
 pub mod ClassPlaces
 pub mod MethodPlaces
+pub mod ExportLaws

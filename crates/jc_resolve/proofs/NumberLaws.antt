@@ -10,6 +10,7 @@ use Rattle.indexmap.specs.IndexMap.{insert_entry}
 use Rattle.indexmap.proofs.MapLemmas.{absent_from_lookup, insert_entry-absent}
 use Rattle.cap_class.specs.ClassFormat.{Class, is_interface}
 use Rattle.cap_desc.specs.DescriptorFormat as described
+use Rattle.cap_pool.specs.ExportFormat.{Exported}
 use Rattle.cap_package.specs.PackageRecord.{PackageRecord, names_interface}
 use Rattle.jc_resolve.specs.declared.place.RecordPlace.{RecordPlace}
 use Rattle.jc_resolve.specs.Numbering.{NumberedClass, same_place, is_at, classes_of, classes_after, numbered_classes, place_of_class, class_places, class_at, flagged_interface, is_interface_number, is_placed, methods_of_class, methods_of_classes, methods_after, numbered_methods, place_of_method, method_places, method_at}
@@ -99,7 +100,7 @@ position_of : (place : RecordPlace) (n : ℕ) (cs : List NumberedClass) → posi
 position_of place n [] = refl
 position_of place n (c ∷ cs) = ap (λ o. cond (same_place place (place_of_class c)) (Some n) o) (position_of place (n + 1) cs)
 
-pub class_numbered : (ps : List PackageRecord) (t : Numbered) (flags : List Bool) (m : Numbered) (exports : List (List ℕ)) (place : RecordPlace) → AreIndexed ps t flags m exports → number_at t.entries place ≡ class_at ps place
+pub class_numbered : (ps : List PackageRecord) (t : Numbered) (flags : List Bool) (m : Numbered) (exports : List (List Exported)) (place : RecordPlace) → AreIndexed ps t flags m exports → number_at t.entries place ≡ class_at ps place
 unfolding class_at
 class_numbered ps t flags m exports place h =
     ap (λ (x : Numbered). number_at x.entries place) h.numbers
@@ -139,19 +140,19 @@ flags-are k (p ∷ ps) =
     flags_of [] = refl
     flags_of (c ∷ cs) = ap (λ l. is_interface c.flags ∷ l) (flags_of cs)
 
-pub flags_many : (ps : List PackageRecord) (t : Numbered) (flags : List Bool) (m : Numbered) (exports : List (List ℕ)) → AreIndexed ps t flags m exports → length flags ≡ length (numbered_classes ps)
+pub flags_many : (ps : List PackageRecord) (t : Numbered) (flags : List Bool) (m : Numbered) (exports : List (List Exported)) → AreIndexed ps t flags m exports → length flags ≡ length (numbered_classes ps)
 flags_many ps t flags m exports h = ap length h.flags_are ∙ ap length (flags-are 0 ps) ∙ length-map (numbered_classes ps) _
 
 flag_by : (o : Option NumberedClass) (b : Bool) → option_map (λ (c : NumberedClass). is_interface c.record_of.flags) o ≡ Some b → b ≡ flagged_interface o
 flag_by None b h = absurd cc
 flag_by (Some c) b h = cc
 
-pub flag_numbered : (ps : List PackageRecord) (t : Numbered) (flags : List Bool) (m : Numbered) (exports : List (List ℕ)) (c : ℕ) (b : Bool) → AreIndexed ps t flags m exports → slice_get flags c ≡ Some b → b ≡ is_interface_number ps c
+pub flag_numbered : (ps : List PackageRecord) (t : Numbered) (flags : List Bool) (m : Numbered) (exports : List (List Exported)) (c : ℕ) (b : Bool) → AreIndexed ps t flags m exports → slice_get flags c ≡ Some b → b ≡ is_interface_number ps c
 unfolding is_interface_number
 flag_numbered ps t flags m exports c b h at =
     flag_by (slice_get (numbered_classes ps) c) b (sym (slice_get-map _ (numbered_classes ps) c) ∙ ap (λ l. slice_get l c) (sym (h.flags_are ∙ flags-are 0 ps)) ∙ at)
 
-pub flag_read : (ps : List PackageRecord) (t : Numbered) (flags : List Bool) (m : Numbered) (exports : List (List ℕ)) (c : ℕ) (b : Bool) → AreIndexed ps t flags m exports → c < length flags → b ≡ get_or flags c b → b ≡ is_interface_number ps c
+pub flag_read : (ps : List PackageRecord) (t : Numbered) (flags : List Bool) (m : Numbered) (exports : List (List Exported)) (c : ℕ) (b : Bool) → AreIndexed ps t flags m exports → c < length flags → b ≡ get_or flags c b → b ≡ is_interface_number ps c
 flag_read ps t flags m exports c b h lt e = flag_numbered ps t flags m exports c b h (slice_get-get_or flags c b lt ∙ ap Some (sym e))
 
 -- ---- methods
@@ -172,7 +173,7 @@ method_spots_are k (p ∷ ps) =
     ap₂ ◌++◌ (spots_of k p 0 p.description.items.classes) (method_spots_are (k + 1) ps)
     ∙ sym (map-append place_of_method (methods_of_classes k p 0 p.description.items.classes) (methods_after (k + 1) ps))
 
-pub method_numbered : (ps : List PackageRecord) (t : Numbered) (flags : List Bool) (m : Numbered) (exports : List (List ℕ)) (place : RecordPlace) → AreIndexed ps t flags m exports → number_at m.entries place ≡ method_at ps place
+pub method_numbered : (ps : List PackageRecord) (t : Numbered) (flags : List Bool) (m : Numbered) (exports : List (List Exported)) (place : RecordPlace) → AreIndexed ps t flags m exports → number_at m.entries place ≡ method_at ps place
 unfolding method_at
 method_numbered ps t flags m exports place h =
     ap (λ (x : Numbered). number_at x.entries place) h.methods

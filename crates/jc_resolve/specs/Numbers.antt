@@ -60,19 +60,17 @@ abbrev pub method_spots : ℕ → List PackageRecord → List (Option RecordPlac
 method_spots k [] = []
 method_spots k (p ∷ ps) = spots_of_classes k (names_interface p.classes) p.description.items.classes ++ method_spots (k + 1) ps
 
--- where the classes stand that a package exports, by token, and those of packages
-abbrev pub class_offsets : PackageRecord → List ℕ
-class_offsets p = map (λ (c : Exported). c.class_offset) (or_none p.export)
+-- what packages export, by package and by the tokens of the classes
+abbrev pub exported_classes : List PackageRecord → List (List Exported)
+exported_classes = map (λ (p : PackageRecord). or_none p.export)
 
-abbrev pub exported_offsets : List PackageRecord → List (List ℕ)
-exported_offsets = map class_offsets
-
--- the numbers and the flags of the classes and methods of packages, which are so few, and the places of what they export
-pub record AreIndexed (ps : List PackageRecord) (t : Numbered) (flags : List Bool) (m : Numbered) (exports : List (List ℕ)) : Type 0 where
+-- the numbers and the flags of the classes and methods of packages, which are so few, and what they export
+pub record AreIndexed (ps : List PackageRecord) (t : Numbered) (flags : List Bool) (m : Numbered)
+    (exports : List (List Exported)) : Type 0 where
   pub numbers : t ≡ with_all none_numbered (class_spots 0 ps)
   pub flags_are : flags ≡ class_flags ps
   pub methods : m ≡ with_all none_numbered (method_spots 0 ps)
-  pub exports_are : exports ≡ exported_offsets ps
+  pub exports_are : exports ≡ exported_classes ps
   pub few : class_total ps ≤ 4096
   pub few_methods : method_total ps ≤ 32768
   pub packages : length ps ≤ 16

@@ -1,6 +1,7 @@
 -- The package that meets an import, and the class that a class reference names (JCVM 2.2, sections 4.3.7.1, 6.6, 6.7 and 6.12).
 use Rattle.std.specs.Prelude.{◌≡◌, ◌<◌, ◌≤◌, ℕ, ◌-◌, ◌/◌, ◌%◌, Bool, List, take, Option, Some, option_map, option_and_then, position, slice_get, bytes_eq, nat_lt, nat_le, ◌==◌, ◌&&◌, if◌then◌else◌}
 use Rattle.cap_frame.specs.PackageFormat.{Package}
+use Rattle.cap_pool.specs.Export.{field_in, method_in}
 use Rattle.cap_pool.specs.ExportFormat.{Exported}
 use Rattle.cap_package.specs.PackageRecord.{PackageRecord, aid, minor, major}
 use Rattle.cap_package.specs.Agreement.{or_none}
@@ -26,6 +27,13 @@ met_by ps k token = option_and_then (λ asked. position (meets asked) (take k ps
 -- the class that a package exports with a token
 abbrev pub exported_class : List PackageRecord → ℕ → ℕ → Option Exported
 exported_class ps k token = option_and_then (λ (p : PackageRecord). slice_get (or_none p.export) token) (slice_get ps k)
+
+-- the offset of the static field or method that a package exports, by its class's token and its own
+abbrev pub exported_field : List PackageRecord → ℕ → ℕ → ℕ → Option ℕ
+exported_field ps k class token = option_and_then (λ (p : PackageRecord). field_in (or_none p.export) class token) (slice_get ps k)
+
+abbrev pub exported_method : List PackageRecord → ℕ → ℕ → ℕ → Option ℕ
+exported_method ps k class token = option_and_then (λ (p : PackageRecord). method_in (or_none p.export) class token) (slice_get ps k)
 
 -- an external reference has its high bit set, then the token of an import, then the token of a class that this package exports
 abbrev pub is_internal : ℕ → Bool

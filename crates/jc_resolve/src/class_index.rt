@@ -1,18 +1,20 @@
-ghost use Rattle.std.specs.Prelude.{◌≡◌, ◌+◌, ◌≤◌, ◌<◌, ◌++◌, length, map, IfOk, IfSome, OnOk};
+ghost use Rattle.std.specs.Prelude.{◌≡◌, ◌+◌, ◌≤◌, ◌<◌, ◌++◌, length, map, option_map, IfOk, IfSome, OnOk};
 ghost use Rattle.cap_class.specs.ClassFormat.{Class, is_interface};
 ghost use Rattle.cap_class.specs.ClassPart.{classes_left};
+ghost use Rattle.cap_pool.specs.Export.{class_seen};
 ghost use Rattle.jc_resolve.specs.Counts.{class_total, method_total};
 ghost use Rattle.jc_resolve.specs.Numbering.{numbered_classes, numbered_methods, class_at, method_at, is_interface_number};
 ghost use Rattle.jc_resolve.specs.Numbers.{spot_of_class, with_all, none_numbered, class_spots, class_flags};
-ghost use Rattle.jc_resolve.specs.References.{class_named, exported_offset};
+ghost use Rattle.jc_resolve.specs.References.{class_named, exported_class, exported_offset, exported_field, exported_method};
 
-use crate::exports::exported_offsets;
+use crate::exports::{Exports, exported_classes, exported_in};
 use crate::imports::met_by;
 use crate::method_index::number_methods;
 use crate::numbers::Numbers;
 use crate::place::RecordPlace;
 use cap_class::Classes;
 use cap_package::Packages;
+use cap_pool::ExportedClass;
 use jc_base::Items;
 use std::alloc::{AllocError, Global};
 use std::marker::Model;
@@ -25,8 +27,8 @@ pub(crate) struct Index<'n, 'p, 'a> {
     /// By number whether it is an interface.
     interfaces: Vec<bool>,
     methods: Numbers,
-    /// By package and token where the exported classes stand.
-    exports: Items<Items<u16>>,
+    /// By package and token the exported classes.
+    exports: Items<Exports<'a>>,
 }
 
 impl<'n, 'p, 'a> Model for Index<'n, 'p, 'a> {
@@ -35,11 +37,13 @@ impl<'n, 'p, 'a> Model for Index<'n, 'p, 'a> {
 
     ghost Value = { List PackageRecord };
 
+    ghost use Rattle.std.specs.Prelude.{map};
+    ghost use Rattle.cap_pool.specs.Export.{class_seen};
     ghost use Rattle.jc_resolve.specs.Numbers.{AreIndexed};
 
     ghost view = { λ x. x.packages.now };
 
-    ghost invariant = { λ x. AreIndexed x.packages.now x.numbers x.interfaces.items x.methods x.exports };
+    ghost invariant = { λ x. AreIndexed x.packages.now x.numbers x.interfaces.items x.methods (map (map class_seen) x.exports) };
 }
 
 /// Numbers the classes of one package.
@@ -107,7 +111,7 @@ pub(crate) fn index_packages<'n, 'p, 'a>(
 {
     let classes = number_all(alloc, packages)?;
     let methods = number_methods(alloc, packages)?;
-    let exports = exported_offsets(alloc, packages)?;
+    let exports = exported_classes(alloc, packages)?;
     Ok(Index {
         packages,
         numbers: classes.numbers,
@@ -136,12 +140,37 @@ impl<'n, 'p, 'a> Index<'n, 'p, 'a> {
         self.numbers.at(place)
     }
 
+    /// The class that a package exports with a token.
+    fn exported_class(&self, package: u16, token: u8) -> Option<ExportedClass<'a>>
+        ensures { option_map class_seen result ≡ exported_class self.now «package» token }
+    {
+        exported_in(&self.exports, package, token)
+    }
+
     /// The offset of the class that a package exports with a token.
     fn exported_offset(&self, package: u16, token: u8) -> Option<u16>
         ensures { result ≡ exported_offset self.now «package» token }
     {
-        let offsets = self.exports.as_slice().get(package as usize)?;
-        offsets.as_slice().get(token as usize).copied()
+        let exported = self.exported_class(package, token)?;
+        Some(exported.class.class_offset)
+    }
+
+    /// The offset of the static field that a package exports, by its class's token and its own.
+    #[tactic(auto, using(crate::proofs::ExportLaws::field_there))]
+    pub(crate) fn exported_field(&self, package: u16, class: u8, token: u8) -> Option<u16>
+        ensures { result ≡ exported_field self.now «package» class token }
+    {
+        let exported = self.exported_class(package, class)?;
+        exported.fields.at(token as u16)
+    }
+
+    /// The offset of the method that a package exports, by its class's token and its own.
+    #[tactic(auto, using(crate::proofs::ExportLaws::method_there))]
+    pub(crate) fn exported_method(&self, package: u16, class: u8, token: u8) -> Option<u16>
+        ensures { result ≡ exported_method self.now «package» class token }
+    {
+        let exported = self.exported_class(package, class)?;
+        exported.methods.at(token as u16)
     }
 
     /// The class that a reference of a package names.

@@ -1,44 +1,59 @@
-ghost use Rattle.std.specs.Prelude.{◌≡◌, map, IfOk};
-ghost use Rattle.cap_pool.specs.Export.{classes};
-ghost use Rattle.cap_pool.specs.ExportFormat.{Exported};
-ghost use Rattle.jc_resolve.specs.Numbers.{class_offsets, exported_offsets};
+ghost use Rattle.std.specs.Prelude.{◌≡◌, map, option_and_then, slice_get, IfOk};
+ghost use Rattle.cap_pool.specs.Export.{class_seen, classes_left};
+ghost use Rattle.cap_package.specs.Agreement.{or_none};
+ghost use Rattle.jc_resolve.specs.Numbers.{exported_classes};
 
 use cap_package::{Package, Packages};
-use cap_pool::Export;
+use cap_pool::{ExportedClass, ExportedClasses};
 use jc_base::Items;
 use std::alloc::{AllocError, Global};
 
-/// Where exported classes stand, by their tokens.
-fn offsets_in(alloc: Global, export: &Export<'_>) -> Result<Vec<u16>, AllocError>
-    ensures { IfOk result (λ offsets. offsets.items ≡ map (λ (c : Exported). c.class_offset) (classes export.now)) }
+/// What a package exports, by the tokens of the classes.
+pub(crate) type Exports<'a> = Items<ExportedClass<'a>>;
+
+/// Classes that are exported, in a list.
+fn listed<'a>(alloc: Global, exported: ExportedClasses<'a>) -> Result<Exports<'a>, AllocError>
+    ensures { IfOk result (λ classes. map class_seen classes ≡ classes_left exported.entry) }
 {
-    let mut offsets = Vec::new(alloc);
-    'classes: for class in export.iter() {
-        offsets.push(class.class.class_offset)?;
+    let mut classes = Vec::new(alloc);
+    'classes: for class in exported {
+        classes.push(class)?;
     }
-    Ok(offsets)
+    Ok(Items::of(classes))
 }
 
-/// Where the classes stand that one package exports, by their tokens.
-fn class_offsets(alloc: Global, package: &Package<'_, '_>) -> Result<Items<u16>, AllocError>
-    ensures { IfOk result (λ offsets. offsets ≡ class_offsets «package».now) }
+/// The classes that one package exports, by their tokens.
+fn exports_of<'a>(alloc: Global, package: &Package<'_, 'a>) -> Result<Exports<'a>, AllocError>
+    ensures { IfOk result (λ classes. map class_seen classes ≡ or_none «package».now.export) }
 {
     match package.export() {
-        Some(export) => Ok(Items::of(offsets_in(alloc, &export)?)),
+        Some(export) => listed(alloc, export.iter()),
         None => Ok(Items::of(Vec::new(alloc))),
     }
 }
 
-/// Where the classes stand that packages export, by package and token.
-pub(crate) fn exported_offsets(
+/// The classes that packages export, by package and token.
+pub(crate) fn exported_classes<'a>(
     alloc: Global,
-    packages: &Packages<'_, '_>,
-) -> Result<Items<Items<u16>>, AllocError>
-    ensures { IfOk result (λ offsets. offsets ≡ exported_offsets packages.now) }
+    packages: &Packages<'_, 'a>,
+) -> Result<Items<Exports<'a>>, AllocError>
+    ensures { IfOk result (λ exports. map (map class_seen) exports ≡ exported_classes packages.now) }
 {
-    let mut offsets = Vec::new(alloc);
+    let mut exports = Vec::new(alloc);
     'packages: for package in packages.as_slice() {
-        offsets.push(class_offsets(alloc, package)?)?;
+        exports.push(exports_of(alloc, package)?)?;
     }
-    Ok(Items::of(offsets))
+    Ok(Items::of(exports))
+}
+
+/// The class that a package exports with a token.
+pub(crate) fn exported_in<'a>(
+    exports: &Items<Exports<'a>>,
+    package: u16,
+    token: u8,
+) -> Option<ExportedClass<'a>>
+    ensures { result ≡ option_and_then (λ classes. slice_get classes token) (slice_get exports.now «package») }
+{
+    let classes = exports.as_slice().get(package as usize)?;
+    classes.as_slice().get(token as usize).copied()
 }

@@ -3,7 +3,7 @@ ghost use Rattle.jc_resolve.specs.Named.{IsAgreed};
 ghost use Rattle.jc_resolve.specs.NamedClasses.{named_classes};
 ghost use Rattle.jc_resolve.specs.NamedMethods.{named_methods};
 ghost use Rattle.jc_resolve.specs.Numbering.{numbered_classes, numbered_methods, method_at};
-ghost use Rattle.jc_resolve.specs.References.{met_by, class_named, Refers};
+ghost use Rattle.jc_resolve.specs.References.{met_by, class_named, exported_field, exported_method, Refers};
 ghost use Rattle.jc_resolve.specs.WorldTypes.{type_of};
 
 use crate::class_index::Index;
@@ -108,5 +108,19 @@ impl<'n, 'p, 'a> Names<'n, 'p, 'a> {
         ensures earlier { IfSome result (λ n. n < «package») }
     {
         met_by(self.index.packages(), package, import)
+    }
+
+    /// The offset of the static field that a package exports, by its class's token and its own.
+    pub fn exported_field(&self, package: u16, class: u8, token: u8) -> Option<u16>
+        ensures { result ≡ exported_field self.now.packages «package» class token }
+    {
+        self.index.exported_field(package, class, token)
+    }
+
+    /// The offset of the method that a package exports, by its class's token and its own.
+    pub fn exported_method(&self, package: u16, class: u8, token: u8) -> Option<u16>
+        ensures { result ≡ exported_method self.now.packages «package» class token }
+    {
+        self.index.exported_method(package, class, token)
     }
 }
