@@ -1,6 +1,5 @@
 -- A run in a world whose methods with code have dataflow typings.
 use Rattle.std.proofs.Common.{◌≡◌, ℕ, List, Option, Some, None, sym, subst}
-use Rattle.jc_base.specs.declared.ty.Ty.{Ty}
 use Rattle.jc_base.specs.World.{Linked}
 use Rattle.vm_store.specs.declared.cell.Cell.{Cell}
 use Rattle.vm_store.specs.Cells.{tagged}
@@ -10,29 +9,30 @@ use Rattle.vm_step.specs.declared.ending.Ending.TheVariants.{Plain, Faulted}
 use Rattle.vm_step.specs.Arguments.{Argument}
 use Rattle.vm_step.specs.Run.{Continues}
 use Rattle.vm_turns.specs.Turn.{outcome}
-use Rattle.vm_sound.specs.Laws.{AreTypedMethods, IsSafe, RunsAreSafe, StartsAreTyped}
+use Rattle.vm_sound.specs.Frames.{Typings}
+use Rattle.vm_sound.specs.Laws.{AreTypings, IsSafe, RunsAreSafe, StartsAreTyped}
 use Rattle.vm_defend.specs.Held.{Held, reached, answer}
 use Rattle.vm_defend.specs.Begun.{IsBegun}
 use Rattle.vm_defend.specs.Safe.{IsPlainEnding, BeginsSafely, GoesSafely}
 
 module _ (w : Linked) where
-  on : RunsAreSafe w → (unset : Ty) → AreTypedMethods w unset → (n : ℕ) (e f : Option Ending) (s z : State Cell)
-      → Continues tagged w n (outcome e s) (outcome f z) → IsSafe w unset (outcome e s) → IsSafe w unset (outcome f z)
-  on law unset typed n None f s z runs safe = law unset n s (outcome f z) typed safe runs
-  on law unset typed n (Some e) f s z same safe = subst (IsSafe w unset) (sym same) safe
+  on : RunsAreSafe w → (typings : Typings) → AreTypings w typings → (n : ℕ) (e f : Option Ending) (s z : State Cell)
+      → Continues tagged w n (outcome e s) (outcome f z) → IsSafe w typings (outcome e s) → IsSafe w typings (outcome f z)
+  on law typings typed n None f s z runs safe = law typings n s (outcome f z) typed safe runs
+  on law typings typed n (Some e) f s z same safe = subst (IsSafe w typings) (sym same) safe
 
-  answered : (unset : Ty) (e : Option Ending) (s : State Cell) → IsSafe w unset (outcome e s) → IsPlainEnding (answer e)
-  answered unset None s safe = tt {0}
-  answered unset (Some (Plain plain)) s safe = tt {0}
-  answered unset (Some (Faulted fault)) s safe = safe
+  answered : (typings : Typings) (e : Option Ending) (s : State Cell) → IsSafe w typings (outcome e s) → IsPlainEnding (answer e)
+  answered typings None s safe = tt {0}
+  answered typings (Some (Plain plain)) s safe = tt {0}
+  answered typings (Some (Faulted fault)) s safe = safe
 
   pub goes-safely : RunsAreSafe w → (n : ℕ) (before after : Held) (a : Ending) → a ≡ answer after.ending
       → Continues tagged w n (reached before) (reached after) → GoesSafely w before after a
-  goes-safely law n before after a is runs unset typed safe =
-      let come : IsSafe w unset (reached after) = on law unset typed n before.ending after.ending before.state after.state runs safe in
-      (come, subst IsPlainEnding (sym is) (answered unset after.ending after.state come))
+  goes-safely law n before after a is runs typings typed safe =
+      let come : IsSafe w typings (reached after) = on law typings typed n before.ending after.ending before.state after.state runs safe in
+      (come, subst IsPlainEnding (sym is) (answered typings after.ending after.state come))
 
   pub begins-safely : StartsAreTyped w → (entry : ℕ) (args : List Argument) (run : Held) → IsBegun w entry args run → BeginsSafely w run
-  begins-safely law entry args run begun unset typed =
-      subst (λ (e : Option Ending). IsSafe w unset (outcome e run.state)) (sym begun.goes_on)
-      (law unset entry args run.state typed (record { begins = begun.begins; state = begun.state }))
+  begins-safely law entry args run begun typings typed =
+      subst (λ (e : Option Ending). IsSafe w typings (outcome e run.state)) (sym begun.goes_on)
+      (law typings entry args run.state typed (record { begins = begun.begins; state = begun.state }))

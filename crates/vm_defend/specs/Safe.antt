@@ -1,10 +1,10 @@
 -- What is known of a run in a world whose methods with code have dataflow typings: it meets no fault.
 use Rattle.std.specs.Prelude.{⊤}
-use Rattle.jc_base.specs.declared.ty.Ty.{Ty}
 use Rattle.jc_base.specs.World.{Linked}
 use Rattle.vm_step.specs.declared.ending.Ending.{Ending}
 use Rattle.vm_step.specs.declared.ending.Ending.TheVariants.{Plain, Faulted}
-use Rattle.vm_sound.specs.Laws.{AreTypedMethods, IsSafe}
+use Rattle.vm_sound.specs.Frames.{Typings}
+use Rattle.vm_sound.specs.Laws.{AreTypings, IsSafe}
 use Rattle.vm_defend.specs.Held.{Held, reached}
 
 abbrev pub IsPlainEnding : Ending → Type 0
@@ -13,9 +13,9 @@ IsPlainEnding (Faulted fault) = ⊥
 
 -- in such a world a run that was begun is in a typed state
 abbrev pub BeginsSafely : Linked → Held → Type 0
-BeginsSafely w run = (unset : Ty) → AreTypedMethods w unset → IsSafe w unset (reached run)
+BeginsSafely w run = (typings : Typings) → AreTypings w typings → IsSafe w typings (reached run)
 
 -- and from a typed state it comes to a typed state, and answers no fault
 abbrev pub GoesSafely : Linked → Held → Held → Ending → Type 0
 GoesSafely w before after answer =
-    (unset : Ty) → AreTypedMethods w unset → IsSafe w unset (reached before) → IsSafe w unset (reached after) × IsPlainEnding answer
+    (typings : Typings) → AreTypings w typings → IsSafe w typings (reached before) → IsSafe w typings (reached after) × IsPlainEnding answer

@@ -2,7 +2,6 @@
 use Rattle.std.proofs.Common.{◌≡◌, List, [], ◌∷◌, sym, ap, ◌∙◌, subst, arith}
 use Rattle.std.specs.Prelude.{Some, Ok}
 use Rattle.std.proofs.lemmas.Option.{same_Some}
-use Rattle.jc_base.specs.declared.ty.Ty.{Ty}
 use Rattle.jc_base.specs.declared.record.MethodRec.{MethodRec}
 use Rattle.jc_base.specs.World.{Linked, IsWorld, code_of}
 use Rattle.jc_decode.specs.declared.insn.Placed.{Placed}
@@ -16,20 +15,20 @@ use Rattle.vm_store.specs.declared.cell.Cell.{Cell}
 use Rattle.vm_store.specs.State.{Frame, Object, first_frame}
 use Rattle.vm_step.specs.Methods.{of_method, code_at, instruction_at}
 use Rattle.vm_step.specs.Step.{Fetches}
-use Rattle.vm_sound.specs.Frames.{types_in}
+use Rattle.vm_sound.specs.Frames.{Typings, types_in}
 use Rattle.vm_sound.specs.State.{IsTypedState}
 use Rattle.vm_sound.proofs.Handles.{kinds_of}
 use Rattle.vm_sound.proofs.Turns.{Turn, turn}
 use Rattle.vm_erasure.specs.Erasure.{TypedStatesApply}
 
-module _ (w : Linked) (world : IsWorld w) (unset : Ty) where
+module _ (w : Linked) (world : IsWorld w) (typings : Typings) where
   -- what is fetched is the instruction of the frame's turn
   of-turn :
       (f : Frame Cell) (below : List (Frame Cell)) (heap : List (Object Cell)) (statics : List Cell) (m : MethodRec) (i : Placed) (op : Operation)
-      → Turn w unset (kinds_of heap) f
+      → Turn w typings (kinds_of heap) f
       → Fetches w (record { frames = f ∷ below; heap = heap; statics = statics }) m i
       → Resolves w m i.place i.insn (Ok op)
-      → (after : Types) × (o : Rule) × OperationApplies w m.max_stack op Flow (types_in w.classes unset (kinds_of heap) f) after o
+      → (after : Types) × (o : Rule) × OperationApplies w m.max_stack op Flow (types_in w.classes (typings.unset f.method) (kinds_of heap) f) after o
   of-turn f below heap statics m i op t fetched resolves =
       let st = t.stands in
       let there : instruction_at (code_at w f.method) f.place ≡ Some st.instruction =
@@ -41,7 +40,7 @@ module _ (w : Linked) (world : IsWorld w) (unset : Ty) where
       let here : Resolves w m i.place i.insn (Ok t.operation) = subst (λ (x : Placed). Resolves w m x.place x.insn (Ok t.operation)) same_i moved in
       let answers : Ok t.operation ≡ Ok op = here ∙ sym resolves in
       let same_op : t.operation ≡ op = cc in
-      let exact = types_in w.classes unset (kinds_of heap) f in (
+      let exact = types_in w.classes (typings.unset f.method) (kinds_of heap) f in (
         t.after,
         t.outcome,
         subst (λ (x : Operation). OperationApplies w m.max_stack x Flow exact t.after t.outcome) same_op
@@ -50,13 +49,13 @@ module _ (w : Linked) (world : IsWorld w) (unset : Ty) where
 
   applies-by :
       (fs : List (Frame Cell)) (heap : List (Object Cell)) (statics : List Cell) (m : MethodRec) (i : Placed) (op : Operation)
-      → IsTypedState w unset (record { frames = fs; heap = heap; statics = statics })
+      → IsTypedState w typings (record { frames = fs; heap = heap; statics = statics })
       → Fetches w (record { frames = fs; heap = heap; statics = statics }) m i
       → Resolves w m i.place i.insn (Ok op)
-      → (after : Types) × (o : Rule) × OperationApplies w m.max_stack op Flow (types_in w.classes unset (kinds_of heap) (first_frame fs)) after o
+      → (after : Types) × (o : Rule) × OperationApplies w m.max_stack op Flow (types_in w.classes (typings.unset (first_frame fs).method) (kinds_of heap) (first_frame fs)) after o
   applies-by [] heap statics m i op typed fetched resolves = let runs = fetched.runs in absurd (omega (arith, runs))
   applies-by (f ∷ below) heap statics m i op typed fetched resolves =
-      of-turn f below heap statics m i op (turn w world unset (kinds_of heap) f typed.frames.0) fetched resolves
+      of-turn f below heap statics m i op (turn w world typings (kinds_of heap) f typed.frames.0) fetched resolves
 
 pub typed-states-apply : (w : Linked) → IsWorld w → TypedStatesApply w
-typed-states-apply w world unset s m i op typed fetched resolves = applies-by w world unset s.frames s.heap s.statics m i op typed fetched resolves
+typed-states-apply w world typings s m i op typed fetched resolves = applies-by w world typings s.frames s.heap s.statics m i op typed fetched resolves

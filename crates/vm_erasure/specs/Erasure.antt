@@ -23,9 +23,9 @@ use Rattle.vm_step.specs.Step.{Fetches, Steps}
 use Rattle.vm_step.specs.Run.{Runs}
 use Rattle.vm_step.specs.Arguments.{Argument}
 use Rattle.vm_step.specs.Start.{Starts}
-use Rattle.vm_sound.specs.Frames.{types_in}
+use Rattle.vm_sound.specs.Frames.{Typings, types_in}
 use Rattle.vm_sound.specs.State.{IsTypedState}
-use Rattle.vm_sound.specs.Laws.{AreTypedMethods}
+use Rattle.vm_sound.specs.Laws.{AreTypedMethods, AreTypings}
 
 -- the words of what an operation comes to
 abbrev pub erased_act : Act Cell → Act ℕ
@@ -78,26 +78,26 @@ WordsFollow w =
 -- comes to
 abbrev pub TypedStepsFollow : Linked → Type 0
 TypedStepsFollow w =
-    (unset : Ty) (s : State Cell) (x : Outcome ℕ)
-    → AreTypedMethods w unset
-    → IsTypedState w unset s
+    (typings : Typings) (s : State Cell) (x : Outcome ℕ)
+    → AreTypings w typings
+    → IsTypedState w typings s
     → Steps words w (erased s) x
     → (o : Outcome Cell) × Steps tagged w s o × (x ≡ erased_outcome o)
 
 -- and so it is with a run of any number of steps
 abbrev pub TypedRunsFollow : Linked → Type 0
 TypedRunsFollow w =
-    (unset : Ty) (n : ℕ) (s : State Cell) (x : Outcome ℕ)
-    → AreTypedMethods w unset
-    → IsTypedState w unset s
+    (typings : Typings) (n : ℕ) (s : State Cell) (x : Outcome ℕ)
+    → AreTypings w typings
+    → IsTypedState w typings s
     → Runs words w n (erased s) x
     → (o : Outcome Cell) × Runs tagged w n s o × (x ≡ erased_outcome o)
 
 -- in a typed state the rule of the instruction applies to the least types of the cells, on the operand stack that the method declares
 abbrev pub TypedStatesApply : Linked → Type 0
 TypedStatesApply w =
-    (unset : Ty) (s : State Cell) (m : MethodRec) (i : Placed) (op : Operation)
-    → IsTypedState w unset s
+    (typings : Typings) (s : State Cell) (m : MethodRec) (i : Placed) (op : Operation)
+    → IsTypedState w typings s
     → Fetches w s m i
     → Resolves w m i.place i.insn (Ok op)
-    → (after : Types) × (o : Rule) × OperationApplies w m.max_stack op Flow (types_in w.classes unset (kinds s) (top s)) after o
+    → (after : Types) × (o : Rule) × OperationApplies w m.max_stack op Flow (types_in w.classes (typings.unset (top s).method) (kinds s) (top s)) after o

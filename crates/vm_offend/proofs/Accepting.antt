@@ -6,7 +6,7 @@ use Rattle.jc_base.specs.World.{Linked}
 use Rattle.jc_control.specs.Method.{Method, method_with}
 use Rattle.jc_rules.specs.Flow.{HasFlowTyping}
 use Rattle.card_verify.specs.Answers.{AreAccepted}
-use Rattle.vm_sound.specs.Laws.{AreTypedMethods}
+use Rattle.vm_sound.specs.Laws.{AreTypedMethods, HasTypings, TypedMethodsHaveTypings}
 
 some-taken : (n : ℕ) (xs : List ℕ) → 0 < length (take n xs) → 0 < n
 some-taken zero xs h = absurd (omega (arith, h))
@@ -18,3 +18,6 @@ accepted-typed w accepted m is =
     let flow = (accepted m.number (slice_get_within w.methods m.number m.rec is.rec) m.rec is.rec code).flow in
     let same : method_with w m.number m.rec ≡ m = ap (λ (c : List ℕ). record { number = m.number; rec = m.rec; code = c }) (sym is.code) in
     subst (λ (x : Method). HasFlowTyping w x Bottom) same flow
+
+pub accepted-has : (w : Linked) → TypedMethodsHaveTypings w → AreAccepted w → HasTypings w Bottom
+accepted-has w law accepted = law Bottom (accepted-typed w accepted)

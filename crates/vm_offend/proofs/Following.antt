@@ -1,7 +1,6 @@
 -- What a run of words leaves are the words of what the run of tagged cells comes to.
 use Rattle.std.proofs.Common.{◌≡◌, ℕ, List, Option, Some, None, refl, sym, ap, ◌∙◌}
 use Rattle.std.specs.Prelude.{IfSome, option_map, unwrap_or}
-use Rattle.jc_base.specs.declared.ty.Ty.TheVariants.{Bottom}
 use Rattle.jc_base.specs.World.{Linked}
 use Rattle.vm_store.specs.declared.cell.Cell.{Cell}
 use Rattle.vm_store.specs.State.{State, erased}
@@ -11,6 +10,7 @@ use Rattle.vm_step.specs.declared.ending.Plain.{Plain}
 use Rattle.vm_step.specs.declared.ending.Plain.TheVariants.{Spent}
 use Rattle.vm_step.specs.Raising.{Outcome, running, ended}
 use Rattle.vm_turns.specs.Turn.{outcome}
+use Rattle.vm_sound.specs.Frames.{Typings}
 use Rattle.vm_sound.specs.Laws.{IsSafe}
 use Rattle.vm_erasure.specs.Erasure.{erased_outcome}
 use Rattle.vm_defend.specs.Held.{answer}
@@ -29,12 +29,12 @@ going-on e s (running t) none is = (t, refl, let now : running s ≡ running (er
 going-on e s (ended f t) none is = let now : running s ≡ ended f (erased t) = sym (ap (λ (x : Option Ending). outcome x s) none) ∙ is in absurd (cc)
 
 -- its ending is no fault
-pub plain-ending : (w : Linked) (e : Option Ending) (s : State ℕ) (o : Outcome Cell) → outcome e s ≡ erased_outcome o → IsSafe w Bottom o → IfSome e IsPlainEnding
-plain-ending w None s o is safe = tt {0}
-plain-ending w (Some (endings.Plain plain)) s o is safe = tt {0}
-plain-ending w (Some (endings.Faulted fault)) s (running t) is safe = absurd (cc)
-plain-ending w (Some (endings.Faulted fault)) s (ended (endings.Plain plain) t) is safe = absurd (cc)
-plain-ending w (Some (endings.Faulted fault)) s (ended (endings.Faulted other) t) is safe = absurd safe
+pub plain-ending : (w : Linked) (typings : Typings) (e : Option Ending) (s : State ℕ) (o : Outcome Cell) → outcome e s ≡ erased_outcome o → IsSafe w typings o → IfSome e IsPlainEnding
+plain-ending w typings None s o is safe = tt {0}
+plain-ending w typings (Some (endings.Plain plain)) s o is safe = tt {0}
+plain-ending w typings (Some (endings.Faulted fault)) s (running t) is safe = absurd (cc)
+plain-ending w typings (Some (endings.Faulted fault)) s (ended (endings.Plain plain) t) is safe = absurd (cc)
+plain-ending w typings (Some (endings.Faulted fault)) s (ended (endings.Faulted other) t) is safe = absurd safe
 
 pub ending-is : (e : Option Ending) (s : State ℕ) (o : Outcome Cell) → outcome e s ≡ erased_outcome o → ending_of o ≡ e
 ending-is None s (running t) is = refl

@@ -16,7 +16,7 @@ use Rattle.vm_step.specs.Laws.{StepsAreOne, RunsExist, RunsGoOn}
 use Rattle.vm_step.specs.Raising.{Outcome, running}
 use Rattle.vm_step.specs.Run.{Runs}
 use Rattle.vm_turns.specs.Turn.{outcome}
-use Rattle.vm_sound.specs.Laws.{AreTypedMethods, IsSafe, RunsAreSafe, StartsAreTyped}
+use Rattle.vm_sound.specs.Laws.{HasTypings, IsSafe, RunsAreSafe, StartsAreTyped}
 use Rattle.vm_checks.specs.Shaped.{IsShaped}
 use Rattle.vm_checks.specs.Machine.{StepsStay}
 use Rattle.vm_erasure.specs.Erasure.{erased_outcome, TypedRunsFollow}
@@ -40,7 +40,7 @@ pub record Ran (w : Linked) (m : Machine) (ram heap statics : List ℕ) (budget 
   pub kept : option_map endings.Plain n.ending ≡ ending
   pub answer_is : plain ≡ unwrap_or n.ending Spent
 
-module _ (w : Linked) (typings : AreTypedMethods w Bottom) (starts : StartsAreTyped w) (safe : RunsAreSafe w) where
+module _ (w : Linked) (has : HasTypings w Bottom) (starts : StartsAreTyped w) (safe : RunsAreSafe w) where
   -- ---- before the steps
 
   -- the state of tagged cells of a run that has not ended
@@ -60,23 +60,23 @@ module _ (w : Linked) (typings : AreTypedMethods w Bottom) (starts : StartsAreTy
       → (s : State ℕ) → s ≡ words_state w.methods ram heap statics m.counts → AreTypedWords w s
   run-keeps shapes stay m ram heap statics going r s is =
       let t = held-state m ram heap statics going r.outcome r.words in
-      reached-keeps w typings starts safe shapes stay t.0 s (is ∙ t.2) (subst (IsReached w) t.1 r.reached)
+      reached-keeps w has starts safe shapes stay t.0 s (is ∙ t.2) (subst (IsReached w) t.1 r.reached)
 
   -- ---- after them
 
   gone : TypedRunsFollow w → (budget : ℕ) (s z : State ℕ) (e : Option Ending) (t : State Cell) → s ≡ erased t → IsReached w (running t) → Runs words w budget s (outcome e z)
-      → (o : Outcome Cell) × Runs tagged w budget t o × (outcome e z ≡ erased_outcome o) × IsSafe w Bottom o
+      → (o : Outcome Cell) × Runs tagged w budget t o × (outcome e z ≡ erased_outcome o) × IsSafe w has.typings o
   gone follow budget s z e t is r runs =
-      let typed = reached-safe w typings starts safe (running t) r in
-      let there = follow Bottom budget t (outcome e z) typings typed (subst (λ (x : State ℕ). Runs words w budget x (outcome e z)) is runs) in
-      (there.0, there.1, there.2, safe Bottom budget t there.0 typings typed there.1)
+      let typed = reached-safe w has starts safe (running t) r in
+      let there = follow has.typings budget t (outcome e z) has.are typed (subst (λ (x : State ℕ). Runs words w budget x (outcome e z)) is runs) in
+      (there.0, there.1, there.2, safe has.typings budget t there.0 has.are typed there.1)
 
   pub run-plain : TypedRunsFollow w → (m : Machine) (ram heap statics : List ℕ) → m.ending ≡ None → (r : IsRunOf w m ram heap statics)
       → (budget : ℕ) (s z : State ℕ) (e : Option Ending) → s ≡ words_state w.methods ram heap statics m.counts → Runs words w budget s (outcome e z) → IfSome e IsPlainEnding
   run-plain follow m ram heap statics going r budget s z e is runs =
       let t = held-state m ram heap statics going r.outcome r.words in
       let g = gone follow budget s z e t.0 (is ∙ t.2) (subst (IsReached w) t.1 r.reached) runs in
-      plain-ending w e z g.0 g.2 g.3
+      plain-ending w has.typings e z g.0 g.2 g.3
 
   module _ (follow : TypedRunsFollow w) (m : Machine) (ram heap statics : List ℕ) (budget : ℕ) (n : Machine) (frames objects fields : List ℕ) (plain : Plain)
       (ran : Ran w m ram heap statics budget n frames objects fields plain)

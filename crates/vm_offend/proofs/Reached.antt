@@ -9,7 +9,7 @@ use Rattle.vm_step.specs.Raising.{Outcome, running, ended}
 use Rattle.vm_step.specs.Step.{Steps, misplaced, unresolved, performs}
 use Rattle.vm_step.specs.Run.{Runs, stands, stops, steps, Continues}
 use Rattle.vm_step.specs.Laws.{StepsAreOne, RunsExist, RunsGoOn}
-use Rattle.vm_sound.specs.Laws.{AreTypedMethods, IsSafe, RunsAreSafe, StartsAreTyped}
+use Rattle.vm_sound.specs.Laws.{HasTypings, IsSafe, RunsAreSafe, StartsAreTyped}
 use Rattle.vm_checks.specs.Shaped.{IsShaped}
 use Rattle.vm_checks.specs.Machine.{StepsStay}
 use Rattle.vm_defend.specs.Begun.{StartsAreShaped}
@@ -27,8 +27,8 @@ module _ (w : Linked) where
     runs = on r.steps n (running r.start) o z r.runs more;
   }
 
-  pub reached-safe : AreTypedMethods w Bottom → StartsAreTyped w → RunsAreSafe w → (o : Outcome Cell) → IsReached w o → IsSafe w Bottom o
-  reached-safe typings starts safe o r = safe Bottom r.steps r.start o typings (starts Bottom r.entry r.args r.start typings r.starts) r.runs
+  pub reached-safe : (has : HasTypings w Bottom) → StartsAreTyped w → RunsAreSafe w → (o : Outcome Cell) → IsReached w o → IsSafe w has.typings o
+  reached-safe has starts safe o r = safe has.typings r.steps r.start o has.are (starts has.typings r.entry r.args r.start has.are r.starts) r.runs
 
   -- ---- shape
 
@@ -69,12 +69,14 @@ module _ (w : Linked) where
 
   -- ---- what the words keep
 
-  pub reached-keeps : AreTypedMethods w Bottom → StartsAreTyped w → RunsAreSafe w → StartsAreShaped w → StepsStay tagged (IsShaped w) w
+  pub reached-keeps : HasTypings w Bottom → StartsAreTyped w → RunsAreSafe w → StartsAreShaped w → StepsStay tagged (IsShaped w) w
       → (t : State Cell) (s : State ℕ) → s ≡ erased t → IsReached w (running t) → AreTypedWords w s
-  reached-keeps typings starts safe shapes stay t s e r = record {
-    methods = typings;
+  reached-keeps has starts safe shapes stay t s e r = record {
+    typings = has.typings;
+    unset = has.unset_is;
+    methods = has.are;
     state = t;
     words = e;
-    typed = reached-safe typings starts safe (running t) r;
+    typed = reached-safe has starts safe (running t) r;
     shaped = reached-shaped shapes stay t r;
   }

@@ -30,7 +30,7 @@ use Rattle.vm_step.specs.Act.{Act, goes, raises}
 use Rattle.vm_step.specs.Numbers.{short_at, replaced}
 use Rattle.vm_step.specs.Fields.{elements_of, index_in, at_element, takes_element, keeps_kind, with_element, array_write_act, array_length_act}
 use Rattle.vm_step.specs.Settled.{settled}
-use Rattle.vm_sound.specs.Frames.{least_types, types_in}
+use Rattle.vm_sound.specs.Frames.{Typings, least_types, types_in}
 use Rattle.vm_sound.specs.State.{IsMade}
 use Rattle.vm_sound.specs.Laws.{IsSafe}
 use Rattle.vm_sound.proofs.CellTypes.{below-has, stacked-filled}
@@ -44,8 +44,8 @@ use Rattle.vm_sound.proofs.Instances.{made-at}
 use Rattle.vm_sound.proofs.Objects.{may-cast-below}
 use Rattle.vm_sound.proofs.Turning.{Here, replace-safe, null-safe, some-safe, raise-safe}
 
-module _ (w : Linked) (world : IsWorld w) (unset : Ty) (f : Frame Cell) (below : List (Frame Cell)) (heap : List (Object Cell)) (statics : List Cell)
-    (here : Here w unset f below heap statics)
+module _ (w : Linked) (world : IsWorld w) (assigned : Typings) (f : Frame Cell) (below : List (Frame Cell)) (heap : List (Object Cell)) (statics : List Cell)
+    (here : Here w assigned f below heap statics)
   where
     -- a cell of the stack that is below a ready type has it, and is filled
     pub record IsHeld (n : ℕ) (ty : Ty) : Type 0 where
@@ -56,12 +56,12 @@ module _ (w : Linked) (world : IsWorld w) (unset : Ty) (f : Frame Cell) (below :
     held-filled n lt =
         stacked-filled w here.turn.stands.rec (kinds_of heap) (slice_index_or f.stack n cells.Empty) (stacked-at w here.turn.stands.rec (kinds_of heap) f.stack n lt here.turn.stacked)
 
-    pub held-at : (n : ℕ) (ty : Ty) → IsReady ty → IsSomeAnd (slice_get (least_types w.classes unset (kinds_of heap) f.stack) n) (λ a. Below w.classes a ty) → IsHeld n ty
+    pub held-at : (n : ℕ) (ty : Ty) → IsReady ty → IsSomeAnd (slice_get (least_types w.classes (assigned.unset f.method) (kinds_of heap) f.stack) n) (λ a. Below w.classes a ty) → IsHeld n ty
     held-at n ty ready asked =
-        let at = cell-at w.classes unset (kinds_of heap) f.stack n (λ a. Below w.classes a ty) asked in
+        let at = cell-at w.classes (assigned.unset f.method) (kinds_of heap) f.stack n (λ a. Below w.classes a ty) asked in
         let c : Cell = slice_index_or f.stack n cells.Empty in
         let filled = held-filled n at.inside in
-        record { has = below-has w.classes unset (kinds_of heap) world.chains c ty at.holds filled ready; filled = filled }
+        record { has = below-has w.classes (assigned.unset f.method) (kinds_of heap) world.chains c ty at.holds filled ready; filled = filled }
 
     -- ---- an element of an array of references
 
@@ -71,33 +71,33 @@ module _ (w : Linked) (world : IsWorld w) (unset : Ty) (f : Frame Cell) (below :
         → takes_element w.classes (kinds_of heap) (kind_of_handle (kinds_of heap) h) value ≡ true
         → Below w.classes (type_of_handle w.classes (kinds_of heap) value) (element_type w.classes k)
     kept-below h (References class) value e fits made test =
-        may-cast-below w world unset f below heap statics here (Class class) value made
+        may-cast-below w world assigned f below heap statics here (Class class) value made
         (ap (λ o. takes_element w.classes (kinds_of heap) o value) (sym e) ∙ test)
     kept-below h k value e fits made test = absurd fits
 
     reference-write :
         (h i : ℕ) (a : IsArrayAt w.classes heap h fields.Ref) → here.turn.operation ≡ ops.ArrayWrite fields.Ref → (h ≡ 0 → ⊥) → i < elements_of (with_heap heap) h
         → (b : Bool) → keeps_kind tagged w.classes fields.Ref (record { frames = f ∷ below; heap = heap; statics = statics }) h ≡ b
-        → IsSafe w unset (settled tagged w (here.turn.stands.instruction.place + here.turn.stands.instruction.insn.len) (record { frames = f ∷ below; heap = heap; statics = statics })
+        → IsSafe w assigned (settled tagged w (here.turn.stands.instruction.place + here.turn.stands.instruction.insn.len) (record { frames = f ∷ below; heap = heap; statics = statics })
         (if b then goes (with_element tagged fields.Ref h i (record { frames = f ∷ below; heap = heap; statics = statics })) else raises exceptions.ArrayStore))
-    reference-write h i a is some within false e = raise-safe w world unset f below heap statics here exceptions.ArrayStore
+    reference-write h i a is some within false e = raise-safe w world assigned f below heap statics here exceptions.ArrayStore
     reference-write h i a is some within true e =
         let t = w.classes in
         let ks = kinds_of heap in
         let k = a.object.kind in
         let c : Cell = slice_index_or f.stack 0 cells.Empty in
-        let asked = asked-of w world unset f below heap statics here (ops.ArrayWrite fields.Ref) is in
-        let at = cell-at t unset ks f.stack 0 (λ ty. Below t ty (Class (object t))) asked.0 in
+        let asked = asked-of w world assigned f below heap statics here (ops.ArrayWrite fields.Ref) is in
+        let at = cell-at t (assigned.unset f.method) ks f.stack 0 (λ ty. Below t ty (Class (object t))) asked.0 in
         let filled = held-filled 0 at.inside in
         let lower : Below t (type_of_handle t ks (word_of c)) (element_type t k) = kept-below h k (word_of c) a.kind_is a.fits (made-at w ks h k here.store.made a.kind_is) e in
-        let own : Below t (least_type t unset ks c) (element_type t k) =
-        subst (λ ty. Below t ty (element_type t k)) (sym (reference-same t world.chains unset ks c (Class (object t)) tt filled at.holds)) lower in
-        write-safe w world unset f below heap statics here h (i * 1) (element_type t k) c 3 (ops.ArrayWrite fields.Ref) is refl refl some
-        (first-at t heap h fields.Ref a i within) (below-has t unset ks world.chains c (element_type t k) own filled (element-ready t k)) filled
+        let own : Below t (least_type t (assigned.unset f.method) ks c) (element_type t k) =
+        subst (λ ty. Below t ty (element_type t k)) (sym (reference-same t world.chains (assigned.unset f.method) ks c (Class (object t)) tt filled at.holds)) lower in
+        write-safe w world assigned f below heap statics here h (i * 1) (element_type t k) c 3 (ops.ArrayWrite fields.Ref) is refl refl some
+        (first-at t heap h fields.Ref a i within) (below-has t (assigned.unset f.method) ks world.chains c (element_type t k) own filled (element-ready t k)) filled
 
     element-write :
         (fk : Kind) (h i : ℕ) (a : IsArrayAt w.classes heap h fk) → here.turn.operation ≡ ops.ArrayWrite fk → (h ≡ 0 → ⊥) → i < elements_of (with_heap heap) h
-        → IsSafe w unset (settled tagged w (here.turn.stands.instruction.place + here.turn.stands.instruction.insn.len) (record { frames = f ∷ below; heap = heap; statics = statics })
+        → IsSafe w assigned (settled tagged w (here.turn.stands.instruction.place + here.turn.stands.instruction.insn.len) (record { frames = f ∷ below; heap = heap; statics = statics })
         (if keeps_kind tagged w.classes fk (record { frames = f ∷ below; heap = heap; statics = statics }) h
         then goes (with_element tagged fk h i (record { frames = f ∷ below; heap = heap; statics = statics }))
         else raises exceptions.ArrayStore))
@@ -105,18 +105,18 @@ module _ (w : Linked) (world : IsWorld w) (unset : Ty) (f : Frame Cell) (below :
         reference-write h i a is some within (keeps_kind tagged w.classes fields.Ref (record { frames = f ∷ below; heap = heap; statics = statics }) h) refl
     element-write fields.Byte h i a is some within =
         let c : Cell = cells.Short (byte_of_word (word_of (slice_index_or f.stack 0 cells.Empty))) in
-        write-safe w world unset f below heap statics here h (i * 1) Short c 3 (ops.ArrayWrite fields.Byte) is refl refl some
+        write-safe w world assigned f below heap statics here h (i * 1) Short c 3 (ops.ArrayWrite fields.Byte) is refl refl some
         (first-at w.classes heap h fields.Byte a i within ∙ ap Some (short-element w.classes a.object.kind (inl a.fits))) short tt
     element-write fields.Short h i a is some within =
-        let asked = asked-of w world unset f below heap statics here (ops.ArrayWrite fields.Short) is in
+        let asked = asked-of w world assigned f below heap statics here (ops.ArrayWrite fields.Short) is in
         let value = held-at 0 Short tt asked.0 in
-        write-safe w world unset f below heap statics here h (i * 1) Short (slice_index_or f.stack 0 cells.Empty) 3 (ops.ArrayWrite fields.Short) is refl refl some
+        write-safe w world assigned f below heap statics here h (i * 1) Short (slice_index_or f.stack 0 cells.Empty) 3 (ops.ArrayWrite fields.Short) is refl refl some
         (first-at w.classes heap h fields.Short a i within ∙ ap Some (short-element w.classes a.object.kind (inr a.fits))) value.has value.filled
     element-write fields.Int h i a is some within =
-        let asked = asked-of w world unset f below heap statics here (ops.ArrayWrite fields.Int) is in
+        let asked = asked-of w world assigned f below heap statics here (ops.ArrayWrite fields.Int) is in
         let lower = held-at 0 IntLow tt asked.0 in
         let upper = held-at 1 IntHigh tt asked.1.0 in
-        write-int-safe w world unset f below heap statics here h (i * 2) IntHigh IntLow (slice_index_or f.stack 1 cells.Empty) (slice_index_or f.stack 0 cells.Empty) 4
+        write-int-safe w world assigned f below heap statics here h (i * 2) IntHigh IntLow (slice_index_or f.stack 1 cells.Empty) (slice_index_or f.stack 0 cells.Empty) 4
         (ops.ArrayWrite fields.Int) is refl refl some
         (first-at w.classes heap h fields.Int a i within ∙ ap Some (int-element w.classes a.object.kind a.fits)) upper.has upper.filled
         (second-at w.classes heap h a i within) lower.has lower.filled
@@ -124,15 +124,15 @@ module _ (w : Linked) (world : IsWorld w) (unset : Ty) (f : Frame Cell) (below :
     -- the array lies under the value and the index
     array-wanted :
         (fk : Kind) → here.turn.operation ≡ ops.ArrayWrite fk
-        → IsSomeAnd (slice_get (least_types w.classes unset (kinds_of heap) f.stack) (width fk + 1)) (Meets w.classes (array_wanted w.classes fk))
-    array-wanted fields.Ref is = (asked-of w world unset f below heap statics here (ops.ArrayWrite fields.Ref) is).1.1.0
-    array-wanted fields.Byte is = (asked-of w world unset f below heap statics here (ops.ArrayWrite fields.Byte) is).1.1.0
-    array-wanted fields.Short is = (asked-of w world unset f below heap statics here (ops.ArrayWrite fields.Short) is).1.1.0
-    array-wanted fields.Int is = (asked-of w world unset f below heap statics here (ops.ArrayWrite fields.Int) is).1.1.1.0
+        → IsSomeAnd (slice_get (least_types w.classes (assigned.unset f.method) (kinds_of heap) f.stack) (width fk + 1)) (Meets w.classes (array_wanted w.classes fk))
+    array-wanted fields.Ref is = (asked-of w world assigned f below heap statics here (ops.ArrayWrite fields.Ref) is).1.1.0
+    array-wanted fields.Byte is = (asked-of w world assigned f below heap statics here (ops.ArrayWrite fields.Byte) is).1.1.0
+    array-wanted fields.Short is = (asked-of w world assigned f below heap statics here (ops.ArrayWrite fields.Short) is).1.1.0
+    array-wanted fields.Int is = (asked-of w world assigned f below heap statics here (ops.ArrayWrite fields.Int) is).1.1.1.0
 
     pub array-write-safe :
         (fk : Kind) → here.turn.operation ≡ ops.ArrayWrite fk
-        → IsSafe w unset (settled tagged w (here.turn.stands.instruction.place + here.turn.stands.instruction.insn.len) (record { frames = f ∷ below; heap = heap; statics = statics })
+        → IsSafe w assigned (settled tagged w (here.turn.stands.instruction.place + here.turn.stands.instruction.insn.len) (record { frames = f ∷ below; heap = heap; statics = statics })
         (array_write_act tagged w.classes fk (record { frames = f ∷ below; heap = heap; statics = statics })))
     array-write-safe fk is =
         let now : State Cell = record { frames = f ∷ below; heap = heap; statics = statics } in
@@ -140,25 +140,25 @@ module _ (w : Linked) (world : IsWorld w) (unset : Ty) (f : Frame Cell) (below :
         let c : Cell = slice_index_or f.stack (width fk + 1) cells.Empty in
         let h : ℕ = word_of c in
         let index : ℤ = short_at tagged f.stack (width fk) in
-        let wanted = cell-at w.classes unset (kinds_of heap) f.stack (width fk + 1) (Meets w.classes (array_wanted w.classes fk)) (array-wanted fk is) in
+        let wanted = cell-at w.classes (assigned.unset f.method) (kinds_of heap) f.stack (width fk + 1) (Meets w.classes (array_wanted w.classes fk)) (array-wanted fk is) in
         let keep : ℕ → ℕ → Act Cell = λ n i. if keeps_kind tagged w.classes fk now n then goes (with_element tagged fk n i now) else raises exceptions.ArrayStore in
-        null-safe w world unset f below heap statics here next h
+        null-safe w world assigned f below heap statics here next h
         (λ n. at_element index (elements_of now n) (λ i. keep n i))
-        (λ some. some-safe w world unset f below heap statics here next exceptions.ArrayIndex (index_in index (elements_of now h)) (λ i. keep h i)
-        (λ i e. element-write fk h i (array-there w.classes world.chains unset heap c fk some wanted.holds) is some (index-within index (elements_of now h) i e)))
+        (λ some. some-safe w world assigned f below heap statics here next exceptions.ArrayIndex (index_in index (elements_of now h)) (λ i. keep h i)
+        (λ i e. element-write fk h i (array-there w.classes world.chains (assigned.unset f.method) heap c fk some wanted.holds) is some (index-within index (elements_of now h) i e)))
 
     -- ---- lengths
 
     pub array-length-safe :
         here.turn.operation ≡ ops.ArrayLength
-        → IsSafe w unset (settled tagged w (here.turn.stands.instruction.place + here.turn.stands.instruction.insn.len) (record { frames = f ∷ below; heap = heap; statics = statics })
+        → IsSafe w assigned (settled tagged w (here.turn.stands.instruction.place + here.turn.stands.instruction.insn.len) (record { frames = f ∷ below; heap = heap; statics = statics })
         (array_length_act tagged (record { frames = f ∷ below; heap = heap; statics = statics })))
     array-length-safe is =
         let now : State Cell = record { frames = f ∷ below; heap = heap; statics = statics } in
         let h : ℕ = word_of (slice_index_or f.stack 0 cells.Empty) in
         let c : ℕ → Cell = λ n. cells.Short (short_of_word (elements_of now n)) in
-        null-safe w world unset f below heap statics here (here.turn.stands.instruction.place + here.turn.stands.instruction.insn.len) h
+        null-safe w world assigned f below heap statics here (here.turn.stands.instruction.place + here.turn.stands.instruction.insn.len) h
         (λ n. goes (replaced now 1 (c n ∷ [])))
-        (λ some. replace-safe w world unset f below heap statics here 1 (given.One Short) (c h ∷ []) heap statics
-        (ap (λ o. effect w o (types_in w.classes unset (kinds_of heap) f)) is) (ap falls_from is)
+        (λ some. replace-safe w world assigned f below heap statics here 1 (given.One Short) (c h ∷ []) heap statics
+        (ap (λ o. effect w o (types_in w.classes (assigned.unset f.method) (kinds_of heap) f)) is) (ap falls_from is)
         (more_cells same no_cells) (one-stacked w here.turn.stands.rec (kinds_of heap) (c h) tt) here.store refl)

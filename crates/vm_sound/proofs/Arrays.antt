@@ -36,7 +36,7 @@ use Rattle.vm_step.specs.Act.{goes}
 use Rattle.vm_step.specs.Numbers.{short_at, replaced}
 use Rattle.vm_step.specs.Fields.{elements_in, elements_of, index_in, at_element, array_read_act}
 use Rattle.vm_step.specs.Settled.{goes_to, settled}
-use Rattle.vm_sound.specs.Frames.{least_types, types_in}
+use Rattle.vm_sound.specs.Frames.{Typings, least_types, types_in}
 use Rattle.vm_sound.specs.Laws.{IsSafe}
 use Rattle.vm_sound.proofs.CellTypes.{has-below, IsReadyCell, stacked-filled}
 use Rattle.vm_sound.proofs.Handles.{kinds_of, kind-type}
@@ -237,49 +237,49 @@ element-ready t Shorts = tt
 
 -- ---- reading
 
-module _ (w : Linked) (world : IsWorld w) (unset : Ty) (f : Frame Cell) (below : List (Frame Cell)) (heap : List (Object Cell)) (statics : List Cell)
-    (here : Here w unset f below heap statics)
+module _ (w : Linked) (world : IsWorld w) (assigned : Typings) (f : Frame Cell) (below : List (Frame Cell)) (heap : List (Object Cell)) (statics : List Cell)
+    (here : Here w assigned f below heap statics)
   where
     -- a cell that is read from an object is below its type, and ready
     pub record IsRead (h i : ℕ) (ty : Ty) : Type 0 where
-      pub lower : Below w.classes (least_type w.classes unset (kinds_of heap) (slice_index_or (object_cells (with_heap heap) h) i cells.Empty)) ty
+      pub lower : Below w.classes (least_type w.classes (assigned.unset f.method) (kinds_of heap) (slice_index_or (object_cells (with_heap heap) h) i cells.Empty)) ty
       pub ready : IsReadyCell (slice_index_or (object_cells (with_heap heap) h) i cells.Empty)
 
     pub cell-read : (h i : ℕ) (ty : Ty) → IsNotTop ty → IsNotFresh ty → type_at w.classes (with_heap heap) h i ≡ Some ty → IsRead h i ty
     cell-read h i ty top fresh e =
         let c : Cell = slice_index_or (object_cells (with_heap heap) h) i cells.Empty in
         let read = read-cell w.classes heap h i ty here.store.objects e in
-        let lower = has-below w.classes unset (kinds_of heap) world.chains c ty read.0 read.1 in
-        record { lower = lower; ready = value-ready w.classes world.chains unset (kinds_of heap) c ty read.1 fresh top lower }
+        let lower = has-below w.classes (assigned.unset f.method) (kinds_of heap) world.chains c ty read.0 read.1 in
+        record { lower = lower; ready = value-ready w.classes world.chains (assigned.unset f.method) (kinds_of heap) c ty read.1 fresh top lower }
 
     -- one cell that was read in place of cells of the stack
     pub read-one-safe :
         (h i taken : ℕ) (ty seen : Ty) (op : Operation)
         → here.turn.operation ≡ op
-        → effect w op (types_in w.classes unset (kinds_of heap) f) ≡ replacing taken (given.One seen) → falls_from op ≡ true
+        → effect w op (types_in w.classes (assigned.unset f.method) (kinds_of heap) f) ≡ replacing taken (given.One seen) → falls_from op ≡ true
         → ty ≡ seen → IsRead h i ty
-        → IsSafe w unset (goes_to tagged w (here.turn.stands.instruction.place + here.turn.stands.instruction.insn.len) (record { frames = f ∷ below; heap = heap; statics = statics })
+        → IsSafe w assigned (goes_to tagged w (here.turn.stands.instruction.place + here.turn.stands.instruction.insn.len) (record { frames = f ∷ below; heap = heap; statics = statics })
         (replaced (record { frames = f ∷ below; heap = heap; statics = statics }) taken (slice_index_or (object_cells (with_heap heap) h) i cells.Empty ∷ [])))
     read-one-safe h i taken ty seen op is does falls e read =
         let c : Cell = slice_index_or (object_cells (with_heap heap) h) i cells.Empty in
-        replace-safe w world unset f below heap statics here taken (given.One seen) (c ∷ []) heap statics
-        (ap (λ o. effect w o (types_in w.classes unset (kinds_of heap) f)) is ∙ does) (ap falls_from is ∙ falls)
-        (more_cells (subst (Below w.classes (least_type w.classes unset (kinds_of heap) c)) e read.lower) no_cells)
+        replace-safe w world assigned f below heap statics here taken (given.One seen) (c ∷ []) heap statics
+        (ap (λ o. effect w o (types_in w.classes (assigned.unset f.method) (kinds_of heap) f)) is ∙ does) (ap falls_from is ∙ falls)
+        (more_cells (subst (Below w.classes (least_type w.classes (assigned.unset f.method) (kinds_of heap) c)) e read.lower) no_cells)
         (one-stacked w here.turn.stands.rec (kinds_of heap) c read.ready) here.store refl
 
     pub read-int-safe :
         (h i taken : ℕ) (op : Operation)
         → here.turn.operation ≡ op
-        → effect w op (types_in w.classes unset (kinds_of heap) f) ≡ replacing taken given.Int → falls_from op ≡ true
+        → effect w op (types_in w.classes (assigned.unset f.method) (kinds_of heap) f) ≡ replacing taken given.Int → falls_from op ≡ true
         → IsRead h i IntHigh → IsRead h (i + 1) IntLow
-        → IsSafe w unset (goes_to tagged w (here.turn.stands.instruction.place + here.turn.stands.instruction.insn.len) (record { frames = f ∷ below; heap = heap; statics = statics })
+        → IsSafe w assigned (goes_to tagged w (here.turn.stands.instruction.place + here.turn.stands.instruction.insn.len) (record { frames = f ∷ below; heap = heap; statics = statics })
         (replaced (record { frames = f ∷ below; heap = heap; statics = statics }) taken
         (slice_index_or (object_cells (with_heap heap) h) i cells.Empty ∷ slice_index_or (object_cells (with_heap heap) h) (i + 1) cells.Empty ∷ [])))
     read-int-safe h i taken op is does falls high low =
         let c : Cell = slice_index_or (object_cells (with_heap heap) h) i cells.Empty in
         let d : Cell = slice_index_or (object_cells (with_heap heap) h) (i + 1) cells.Empty in
-        replace-safe w world unset f below heap statics here taken given.Int (d ∷ c ∷ []) heap statics
-        (ap (λ o. effect w o (types_in w.classes unset (kinds_of heap) f)) is ∙ does) (ap falls_from is ∙ falls)
+        replace-safe w world assigned f below heap statics here taken given.Int (d ∷ c ∷ []) heap statics
+        (ap (λ o. effect w o (types_in w.classes (assigned.unset f.method) (kinds_of heap) f)) is ∙ does) (ap falls_from is ∙ falls)
         (more_cells low.lower (more_cells high.lower no_cells))
         (two-stacked w here.turn.stands.rec (kinds_of heap) d c low.ready high.ready) here.store refl
 
@@ -287,19 +287,19 @@ module _ (w : Linked) (world : IsWorld w) (unset : Ty) (f : Frame Cell) (below :
     element-read :
         (fk : Kind) (h i : ℕ) → here.turn.operation ≡ ops.ArrayRead fk → h ≡ word_of (slice_index_or f.stack 1 cells.Empty)
         → (a : IsArrayAt w.classes heap h fk) → i < elements_of (with_heap heap) h
-        → IsSafe w unset (goes_to tagged w (here.turn.stands.instruction.place + here.turn.stands.instruction.insn.len) (record { frames = f ∷ below; heap = heap; statics = statics })
+        → IsSafe w assigned (goes_to tagged w (here.turn.stands.instruction.place + here.turn.stands.instruction.insn.len) (record { frames = f ∷ below; heap = heap; statics = statics })
         (replaced (record { frames = f ∷ below; heap = heap; statics = statics }) 2 (value_in tagged fk (object_cells (with_heap heap) h) (i * width fk))))
     element-read fields.Ref h i is at a within =
         let t = w.classes in
         let ks = kinds_of heap in
         let k = a.object.kind in
         let c : Cell = slice_index_or f.stack 1 cells.Empty in
-        let asked = asked-of w world unset f below heap statics here (ops.ArrayRead fields.Ref) is in
-        let cell = cell-at t unset ks f.stack 1 (λ ty. Below t ty (ArrRef (object t))) asked.1.0 in
+        let asked = asked-of w world assigned f below heap statics here (ops.ArrayRead fields.Ref) is in
+        let cell = cell-at t (assigned.unset f.method) ks f.stack 1 (λ ty. Below t ty (ArrRef (object t))) asked.1.0 in
         let filled = stacked-filled w here.turn.stands.rec ks c (stacked-at w here.turn.stands.rec ks f.stack 1 cell.inside here.turn.stacked) in
-        let type_is : least_type t unset ks c ≡ type_of_kind t k =
-        reference-same t world.chains unset ks c (ArrRef (object t)) tt filled cell.holds ∙ (ap (type_of_handle t ks) (sym at) ∙ kind-type t ks h k a.kind_is) in
-        read-one-safe h (i * 1) 2 (element_type t k) (element (slice_index_or (least_types t unset ks f.stack) 1 Top)) (ops.ArrayRead fields.Ref) is refl refl
+        let type_is : least_type t (assigned.unset f.method) ks c ≡ type_of_kind t k =
+        reference-same t world.chains (assigned.unset f.method) ks c (ArrRef (object t)) tt filled cell.holds ∙ (ap (type_of_handle t ks) (sym at) ∙ kind-type t ks h k a.kind_is) in
+        read-one-safe h (i * 1) 2 (element_type t k) (element (slice_index_or (least_types t (assigned.unset f.method) ks f.stack) 1 Top)) (ops.ArrayRead fields.Ref) is refl refl
         (reference-element t k a.fits ∙ ap element (sym type_is ∙ sym cell.seen))
         (cell-read h (i * 1) (element_type t k) (element-value t k).0 (element-value t k).1 (first-at t heap h fields.Ref a i within))
     element-read fields.Byte h i is at a within =
@@ -317,17 +317,17 @@ module _ (w : Linked) (world : IsWorld w) (unset : Ty) (f : Frame Cell) (below :
 
     pub array-read-safe :
         (fk : Kind) → here.turn.operation ≡ ops.ArrayRead fk
-        → IsSafe w unset (settled tagged w (here.turn.stands.instruction.place + here.turn.stands.instruction.insn.len) (record { frames = f ∷ below; heap = heap; statics = statics })
+        → IsSafe w assigned (settled tagged w (here.turn.stands.instruction.place + here.turn.stands.instruction.insn.len) (record { frames = f ∷ below; heap = heap; statics = statics })
         (array_read_act tagged fk (record { frames = f ∷ below; heap = heap; statics = statics })))
     array-read-safe fk is =
         let now : State Cell = record { frames = f ∷ below; heap = heap; statics = statics } in
         let next : ℕ = here.turn.stands.instruction.place + here.turn.stands.instruction.insn.len in
         let c : Cell = slice_index_or f.stack 1 cells.Empty in
         let h : ℕ = word_of c in
-        let asked = asked-of w world unset f below heap statics here (ops.ArrayRead fk) is in
-        let wanted = cell-at w.classes unset (kinds_of heap) f.stack 1 (Meets w.classes (array_wanted w.classes fk)) asked.1.0 in
-        null-safe w world unset f below heap statics here next h
+        let asked = asked-of w world assigned f below heap statics here (ops.ArrayRead fk) is in
+        let wanted = cell-at w.classes (assigned.unset f.method) (kinds_of heap) f.stack 1 (Meets w.classes (array_wanted w.classes fk)) asked.1.0 in
+        null-safe w world assigned f below heap statics here next h
         (λ n. at_element (short_at tagged f.stack 0) (elements_of now n) (λ i. goes (replaced now 2 (value_in tagged fk (object_cells now n) (i * width fk)))))
-        (λ some. some-safe w world unset f below heap statics here next exceptions.ArrayIndex (index_in (short_at tagged f.stack 0) (elements_of now h))
+        (λ some. some-safe w world assigned f below heap statics here next exceptions.ArrayIndex (index_in (short_at tagged f.stack 0) (elements_of now h))
         (λ i. goes (replaced now 2 (value_in tagged fk (object_cells now h) (i * width fk))))
-        (λ i e. element-read fk h i is refl (array-there w.classes world.chains unset heap c fk some wanted.holds) (index-within (short_at tagged f.stack 0) (elements_of now h) i e)))
+        (λ i e. element-read fk h i is refl (array-there w.classes world.chains (assigned.unset f.method) heap c fk some wanted.holds) (index-within (short_at tagged f.stack 0) (elements_of now h) i e)))

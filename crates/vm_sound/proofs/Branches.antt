@@ -3,7 +3,6 @@ use Rattle.std.proofs.Common.{◌≡◌, ℕ, ◌+◌, Bool, true, false, inl, i
 use Rattle.std.specs.Prelude.{ℤ, pos, negsuc, Option, Some, None, Contains, find}
 use Rattle.std.proofs.lemmas.List.Elements.{All-nil, All-drop, All-contains}
 use Rattle.jc_base.specs.Each.{IsAmong}
-use Rattle.jc_base.specs.declared.ty.Ty.{Ty}
 use Rattle.jc_base.specs.World.{Linked, IsWorld, code_of}
 use Rattle.jc_base.proofs.Tests.{found-passes}
 use Rattle.jc_decode.specs.declared.insn.Case.{Case}
@@ -32,7 +31,7 @@ use Rattle.vm_step.specs.Act.{jumps as jumping}
 use Rattle.vm_step.specs.Branching.{is_taken, leads_if, branch_act, has_key, case_offset, switch_act}
 use Rattle.vm_step.specs.Numbers.{number_on, dropped}
 use Rattle.vm_step.specs.Settled.{settled}
-use Rattle.vm_sound.specs.Frames.{types_in, IsStacked}
+use Rattle.vm_sound.specs.Frames.{Typings, types_in, IsStacked}
 use Rattle.vm_sound.specs.Laws.{IsSafe}
 use Rattle.vm_sound.proofs.Finish.{jumps-safe, code-is}
 use Rattle.vm_sound.proofs.Going.{jumps-on}
@@ -66,28 +65,28 @@ chosen-led code p test (Some c) h e =
     subst (λ ts. Contains ts (target p.place c.offset)) (sym (targets-are code p h))
     (Contains-later (target p.place p.insn.x) (map g (cases code p.place p.insn)) (g c) (mapped-among g (cases code p.place p.insn) c (found-passes test (cases code p.place p.insn) c e).1))
 
-module _ (w : Linked) (world : IsWorld w) (unset : Ty) (f : Frame Cell) (below : List (Frame Cell)) (heap : List (Object Cell)) (statics : List Cell)
-    (here : Here w unset f below heap statics)
+module _ (w : Linked) (world : IsWorld w) (assigned : Typings) (f : Frame Cell) (below : List (Frame Cell)) (heap : List (Object Cell)) (statics : List Cell)
+    (here : Here w assigned f below heap statics)
   where
     -- to a place to which the instruction leads
     leads-safe :
         (next : ℕ) (to : ℤ) (taken : ℕ) (op : Operation)
         → here.turn.operation ≡ op
-        → effect w op (types_in w.classes unset (kinds_of heap) f) ≡ replacing taken given.Nothing
+        → effect w op (types_in w.classes (assigned.unset f.method) (kinds_of heap) f) ≡ replacing taken given.Nothing
         → Contains (targets (code_of w.infos here.turn.stands.rec) here.turn.stands.instruction) to
-        → IsSafe w unset (settled tagged w next (record { frames = f ∷ below; heap = heap; statics = statics })
+        → IsSafe w assigned (settled tagged w next (record { frames = f ∷ below; heap = heap; statics = statics })
         (jumping to (dropped (record { frames = f ∷ below; heap = heap; statics = statics }) taken)))
     leads-safe next (pos q) taken op is does leads =
         let ks = kinds_of heap in
         let st = here.turn.stands in
-        let exact = types_in w.classes unset ks f in
-        jumps-safe w unset (record f { stack = drop taken f.stack }) q below heap statics (record {
+        let exact = types_in w.classes (assigned.unset f.method) ks f in
+        jumps-safe w assigned (record f { stack = drop taken f.stack }) q below heap statics (record {
           made = here.store.made;
           heap = here.store.objects;
           statics = here.store.fields;
           frames = (
-            lands w world unset ks f here.turn ks f.registers (drop taken f.stack) q (jumped leads)
-                (replaced-below w world unset f below heap statics here taken given.Nothing [] ks (ap (λ o. effect w o exact) is ∙ does) no_cells
+            lands w world assigned ks f here.turn ks f.registers (drop taken f.stack) q (jumped leads)
+                (replaced-below w world assigned f below heap statics here taken given.Nothing [] ks (ap (λ o. effect w o exact) is ∙ does) no_cells
                 (cells-same w.classes exact.regs) (cells-same w.classes exact.stack))
                 (All-drop (IsStacked w st.rec ks) taken f.stack here.turn.stacked),
             here.waits,
@@ -111,22 +110,22 @@ module _ (w : Linked) (world : IsWorld w) (unset : Ty) (f : Frame Cell) (below :
     -- a branch that may be taken or not
     branch-by :
         (b : Branch) (taken : Bool) (width : ℕ) → here.turn.operation ≡ ops.Branch b
-        → effect w (ops.Branch b) (types_in w.classes unset (kinds_of heap) f) ≡ replacing width given.Nothing
+        → effect w (ops.Branch b) (types_in w.classes (assigned.unset f.method) (kinds_of heap) f) ≡ replacing width given.Nothing
         → falls_from (ops.Branch b) ≡ true
-        → IsSafe w unset (settled tagged w (here.turn.stands.instruction.place + here.turn.stands.instruction.insn.len)
+        → IsSafe w assigned (settled tagged w (here.turn.stands.instruction.place + here.turn.stands.instruction.insn.len)
         (record { frames = f ∷ below; heap = heap; statics = statics })
         (leads_if taken (target f.place here.turn.stands.instruction.insn.x) (dropped (record { frames = f ∷ below; heap = heap; statics = statics }) width)))
     branch-by b true width is does falls =
         leads-safe (here.turn.stands.instruction.place + here.turn.stands.instruction.insn.len) (target f.place here.turn.stands.instruction.insn.x) width (ops.Branch b) is does
         (led-to (ops.Branch b) is refl)
     branch-by b false width is does falls =
-        replace-safe w world unset f below heap statics here width given.Nothing [] heap statics
-        (ap (λ o. effect w o (types_in w.classes unset (kinds_of heap) f)) is ∙ does) (ap falls_from is ∙ falls)
+        replace-safe w world assigned f below heap statics here width given.Nothing [] heap statics
+        (ap (λ o. effect w o (types_in w.classes (assigned.unset f.method) (kinds_of heap) f)) is ∙ does) (ap falls_from is ∙ falls)
         no_cells (All-nil (IsStacked w here.turn.stands.rec (kinds_of heap))) here.store refl
 
     pub branch-safe :
         (b : Branch) → here.turn.operation ≡ ops.Branch b
-        → IsSafe w unset (settled tagged w (here.turn.stands.instruction.place + here.turn.stands.instruction.insn.len)
+        → IsSafe w assigned (settled tagged w (here.turn.stands.instruction.place + here.turn.stands.instruction.insn.len)
         (record { frames = f ∷ below; heap = heap; statics = statics })
         (branch_act tagged here.turn.stands.instruction.insn b (record { frames = f ∷ below; heap = heap; statics = statics })))
     branch-safe branches.Always is =
@@ -139,8 +138,8 @@ module _ (w : Linked) (world : IsWorld w) (unset : Ty) (f : Frame Cell) (below :
 
     switch-by :
         (width : Width) (size : ℕ) → here.turn.operation ≡ ops.Switch width
-        → effect w (ops.Switch width) (types_in w.classes unset (kinds_of heap) f) ≡ replacing size given.Nothing
-        → IsSafe w unset (settled tagged w (here.turn.stands.instruction.place + here.turn.stands.instruction.insn.len)
+        → effect w (ops.Switch width) (types_in w.classes (assigned.unset f.method) (kinds_of heap) f) ≡ replacing size given.Nothing
+        → IsSafe w assigned (settled tagged w (here.turn.stands.instruction.place + here.turn.stands.instruction.insn.len)
         (record { frames = f ∷ below; heap = heap; statics = statics })
         (jumping
         (target f.place (case_offset here.turn.stands.instruction.insn.x (find (has_key (number_on tagged width f.stack)) (cases (code_at w f.method) f.place here.turn.stands.instruction.insn))))
@@ -156,11 +155,11 @@ module _ (w : Linked) (world : IsWorld w) (unset : Ty) (f : Frame Cell) (below :
         (jumps-on w st.rec st.instruction.place st.instruction.insn here.turn.operation here.turn.resolves (ap jumps_from is)) refl in
         let at_place : Contains (targets code st.instruction) (to f.place code) = subst (λ p. Contains (targets code st.instruction) (to p code)) there.at led in
         leads-safe (st.instruction.place + st.instruction.insn.len) (to f.place (code_at w f.method)) size (ops.Switch width) is does
-        (subst (λ bytes. Contains (targets code st.instruction) (to f.place bytes)) (sym (code-is w unset f.method st.rec st.is_method)) at_place)
+        (subst (λ bytes. Contains (targets code st.instruction) (to f.place bytes)) (sym (code-is w assigned f.method st.rec st.is_method)) at_place)
 
     pub switch-safe :
         (width : Width) → here.turn.operation ≡ ops.Switch width
-        → IsSafe w unset (settled tagged w (here.turn.stands.instruction.place + here.turn.stands.instruction.insn.len)
+        → IsSafe w assigned (settled tagged w (here.turn.stands.instruction.place + here.turn.stands.instruction.insn.len)
         (record { frames = f ∷ below; heap = heap; statics = statics })
         (switch_act tagged (code_at w f.method) here.turn.stands.instruction.insn width (record { frames = f ∷ below; heap = heap; statics = statics })))
     switch-safe widths.Short is = switch-by widths.Short 1 is refl

@@ -19,7 +19,7 @@ use Rattle.jc_control.proofs.Closing.{instructions-are-placed}
 use Rattle.jc_control.proofs.Elements.{drop-here}
 use Rattle.jc_rules.specs.Demand.{Frame as Types, AllHold}
 use Rattle.jc_rules.specs.Rule.{cells_wanted}
-use Rattle.jc_rules.specs.Flow.{CellsBelow, no_cells, more_cells, FrameBelow, receiver_of, start_frame, HasFlowTyping}
+use Rattle.jc_rules.specs.Flow.{CellsBelow, no_cells, more_cells, FrameBelow, receiver_of, start_frame, FlowTyping}
 use Rattle.jc_rules.proofs.CellLists.{cells-same, cells-append, cells-length}
 use Rattle.vm_store.specs.declared.cell.Cell.{Cell}
 use Rattle.vm_store.specs.declared.cell.Cell.TheVariants as cells
@@ -27,8 +27,8 @@ use Rattle.vm_store.specs.declared.kind.ObjectKind.{ObjectKind}
 use Rattle.vm_store.specs.Typing.{least_type}
 use Rattle.vm_store.specs.Cells.{tagged}
 use Rattle.vm_store.specs.State.{Frame, registers_of, register_count, entered}
-use Rattle.vm_sound.specs.Frames.{least_types, types_in, IsStacked, IsTypedFrame}
-use Rattle.vm_sound.specs.Laws.{AreTypedMethods}
+use Rattle.vm_sound.specs.Frames.{Typings, least_types, types_in, IsStacked, IsTypedFrame}
+use Rattle.vm_sound.specs.Laws.{AreTypings}
 use Rattle.vm_sound.proofs.CellTypes.{some-is, some-weaker}
 use Rattle.vm_sound.proofs.Places.{place-instruction}
 use Rattle.vm_sound.proofs.Turns.{frame-trans}
@@ -73,13 +73,13 @@ module _ (w : Linked) (world : IsWorld w) where
       let rest : length (drop m.code_at (list_at w.infos m.package)) ≡ length (list_at w.infos m.package) - m.code_at = length-drop m.code_at (list_at w.infos m.package) in
       record { rec = e; code = refl; filled = omega (arith, size, rest, long.least, known.inside) }
 
-  module _ (unset : Ty) (typings : AreTypedMethods w unset) (ks : List ObjectKind) (n : ℕ) (m : MethodRec) (is : slice_get w.methods n ≡ Some m) (lacks : lacks_code w.classes m ≡ false) where
+  module _ (assigned : Typings) (typings : AreTypings w assigned) (ks : List ObjectKind) (n : ℕ) (m : MethodRec) (is : slice_get w.methods n ≡ Some m) (lacks : lacks_code w.classes m ≡ false) where
     -- its registers are the arguments, and as many others as it has locals
     registers-are :
-        (args : List Cell) → CellsBelow w.classes (least_types w.classes unset ks args) (receiver_of m ++ m.sig.args)
-        → least_types w.classes unset ks (args ++ replicate (register_count w.methods n - length args) cells.Empty) ≡ least_types w.classes unset ks args ++ replicate m.max_locals unset
+        (args : List Cell) → CellsBelow w.classes (least_types w.classes (assigned.unset n) ks args) (receiver_of m ++ m.sig.args)
+        → least_types w.classes (assigned.unset n) ks (args ++ replicate (register_count w.methods n - length args) cells.Empty) ≡ least_types w.classes (assigned.unset n) ks args ++ replicate m.max_locals (assigned.unset n)
     registers-are args below =
-        let ty : Cell → Ty = least_type w.classes unset ks in
+        let ty : Cell → Ty = least_type w.classes (assigned.unset n) ks in
         let known = method-known n m is in
         let count : register_count w.methods n ≡ m.nargs + m.max_locals = ap registers_of is in
         let given : length args ≡ length (receiver_of m ++ m.sig.args) = sym (length-map args ty) ∙ cells-length w.classes below in
@@ -87,7 +87,7 @@ module _ (w : Linked) (world : IsWorld w) where
         let own : length (receiver_of m) ≡ receiver_words m.is_static = receiver-length m.is_static m.class in
         let left : register_count w.methods n - length args ≡ m.max_locals = omega (arith, count, given, all, own, known.words) in
         map-append ty args (replicate (register_count w.methods n - length args) cells.Empty)
-        ∙ ap (λ ts. map ty args ++ ts) (map-replicate ty (register_count w.methods n - length args) cells.Empty ∙ ap (λ k. replicate k unset) left)
+        ∙ ap (λ ts. map ty args ++ ts) (map-replicate ty (register_count w.methods n - length args) cells.Empty ∙ ap (λ k. replicate k (assigned.unset n)) left)
       where
         receiver-length : (static : Bool) (c : ℕ) → length (if static then [] else Class c ∷ []) ≡ receiver_words static
         receiver-length true c = refl
@@ -95,19 +95,19 @@ module _ (w : Linked) (world : IsWorld w) where
 
     -- it is typed before its first instruction
     pub entered-typed :
-        (args : List Cell) → CellsBelow w.classes (least_types w.classes unset ks args) (receiver_of m ++ m.sig.args)
-        → IsTypedFrame w unset ks (entered tagged w.methods n args)
+        (args : List Cell) → CellsBelow w.classes (least_types w.classes (assigned.unset n) ks args) (receiver_of m ++ m.sig.args)
+        → IsTypedFrame w assigned ks (entered tagged w.methods n args)
     entered-typed args below =
         let method : Method = method_with w n m in
         let code = has-code n m is lacks in
-        let typing : HasFlowTyping w method unset = typings method code in
-        let placed = (instructions-are-placed all-are-listed method typing.typing.formed).first code.filled in
+        let typing : FlowTyping w method (assigned.unset n) (assigned.frames n) = typings method code in
+        let placed = (instructions-are-placed all-are-listed method typing.formed).first code.filled in
         let at = place-instruction (code_of w.infos m) 0 placed in
         let f : Frame Cell = entered tagged w.methods n args in
-        let exact : Types = types_in w.classes unset ks f in
-        let regs : CellsBelow w.classes exact.regs (start_frame m unset).regs =
-        subst (λ ts. CellsBelow w.classes ts (start_frame m unset).regs) (sym (registers-are args below))
-        (cells-append w.classes below (cells-same w.classes (replicate m.max_locals unset))) in
+        let exact : Types = types_in w.classes (assigned.unset n) ks f in
+        let regs : CellsBelow w.classes exact.regs (start_frame m (assigned.unset n)).regs =
+        subst (λ ts. CellsBelow w.classes ts (start_frame m (assigned.unset n)).regs) (sym (registers-are args below))
+        (cells-append w.classes below (cells-same w.classes (replicate m.max_locals (assigned.unset n)))) in
         record {
           stands = record {
             rec = m;
@@ -115,11 +115,10 @@ module _ (w : Linked) (world : IsWorld w) where
             instruction = at.0;
             there = at.1;
             reached = begins;
-            frames = typing.frames;
-            typing = typing.typing;
+            typing = typing;
           };
-          below = some-weaker (FrameBelow w.classes (start_frame m unset)) (FrameBelow w.classes exact)
+          below = some-weaker (FrameBelow w.classes (start_frame m (assigned.unset n))) (FrameBelow w.classes exact)
               (λ g b. frame-trans w.classes (record { regs = regs; stack = no_cells }) b)
-              (typing.frames 0) typing.typing.start;
+              (assigned.frames n 0) typing.start;
           stacked = All-nil (IsStacked w m ks);
         }

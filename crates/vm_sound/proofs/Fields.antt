@@ -44,7 +44,7 @@ use Rattle.vm_step.specs.Act.{goes}
 use Rattle.vm_step.specs.Numbers.{dropped, replaced}
 use Rattle.vm_step.specs.Fields.{held_handle, with_field_read, field_read_act, with_field_write, field_write_act}
 use Rattle.vm_step.specs.Settled.{goes_to, settled}
-use Rattle.vm_sound.specs.Frames.{least_types, types_in}
+use Rattle.vm_sound.specs.Frames.{Typings, least_types, types_in}
 use Rattle.vm_sound.specs.Laws.{IsSafe}
 use Rattle.vm_sound.proofs.CellTypes.{declared-ready}
 use Rattle.vm_sound.proofs.Handles.{kinds_of}
@@ -134,56 +134,56 @@ field-at t are heap h c i ty o no_object e =
     ∙ (ap (λ k. slice_get (cell_types t k n) i) found.1
     ∙ (ap (λ ts. slice_get ts i) extends.whole ∙ slice_get-front (cells_of t c) extends.more i ty e))
 
-module _ (w : Linked) (world : IsWorld w) (unset : Ty) (f : Frame StoreCell) (below : List (Frame StoreCell)) (heap : List (Object StoreCell)) (statics : List StoreCell)
-    (here : Here w unset f below heap statics)
+module _ (w : Linked) (world : IsWorld w) (assigned : Typings) (f : Frame StoreCell) (below : List (Frame StoreCell)) (heap : List (Object StoreCell)) (statics : List StoreCell)
+    (here : Here w assigned f below heap statics)
   where
     -- a value that is read from an object in place of cells of the stack
     pub read-value-safe :
         (h i taken : ℕ) (kind : Kind) (ty : Ty) (op : Operation)
         → here.turn.operation ≡ op
-        → effect w op (types_in w.classes unset (kinds_of heap) f) ≡ replacing taken (value_given ty) → falls_from op ≡ true
+        → effect w op (types_in w.classes (assigned.unset f.method) (kinds_of heap) f) ≡ replacing taken (value_given ty) → falls_from op ≡ true
         → IsOfKind kind ty → IsDeclared w.classes ty
         → type_at w.classes (with_heap heap) h i ≡ Some ty
         → (kind ≡ fields.Int → type_at w.classes (with_heap heap) h (i + 1) ≡ Some IntLow)
-        → IsSafe w unset (goes_to tagged w (here.turn.stands.instruction.place + here.turn.stands.instruction.insn.len) (record { frames = f ∷ below; heap = heap; statics = statics })
+        → IsSafe w assigned (goes_to tagged w (here.turn.stands.instruction.place + here.turn.stands.instruction.insn.len) (record { frames = f ∷ below; heap = heap; statics = statics })
         (replaced (record { frames = f ∷ below; heap = heap; statics = statics }) taken (value_in tagged kind (object_cells (with_heap heap) h) i)))
     read-value-safe h i taken fields.Ref ty op is does falls of_kind declared first second =
-        read-one-safe w world unset f below heap statics here h i taken ty ty op is (does ∙ ap (replacing taken) (one-cell fields.Ref ty of_kind refl).given_is) falls refl
-        (cell-read w world unset f below heap statics here h i ty (declared-topless w.classes ty declared) (declared-kept w.classes ty declared) first)
+        read-one-safe w world assigned f below heap statics here h i taken ty ty op is (does ∙ ap (replacing taken) (one-cell fields.Ref ty of_kind refl).given_is) falls refl
+        (cell-read w world assigned f below heap statics here h i ty (declared-topless w.classes ty declared) (declared-kept w.classes ty declared) first)
     read-value-safe h i taken fields.Byte ty op is does falls of_kind declared first second =
-        read-one-safe w world unset f below heap statics here h i taken ty ty op is (does ∙ ap (replacing taken) (one-cell fields.Byte ty of_kind refl).given_is) falls refl
-        (cell-read w world unset f below heap statics here h i ty (declared-topless w.classes ty declared) (declared-kept w.classes ty declared) first)
+        read-one-safe w world assigned f below heap statics here h i taken ty ty op is (does ∙ ap (replacing taken) (one-cell fields.Byte ty of_kind refl).given_is) falls refl
+        (cell-read w world assigned f below heap statics here h i ty (declared-topless w.classes ty declared) (declared-kept w.classes ty declared) first)
     read-value-safe h i taken fields.Short ty op is does falls of_kind declared first second =
-        read-one-safe w world unset f below heap statics here h i taken ty ty op is (does ∙ ap (replacing taken) (one-cell fields.Short ty of_kind refl).given_is) falls refl
-        (cell-read w world unset f below heap statics here h i ty (declared-topless w.classes ty declared) (declared-kept w.classes ty declared) first)
+        read-one-safe w world assigned f below heap statics here h i taken ty ty op is (does ∙ ap (replacing taken) (one-cell fields.Short ty of_kind refl).given_is) falls refl
+        (cell-read w world assigned f below heap statics here h i ty (declared-topless w.classes ty declared) (declared-kept w.classes ty declared) first)
     read-value-safe h i taken fields.Int ty op is does falls of_kind declared first second =
-        read-int-safe w world unset f below heap statics here h i taken op is (does ∙ ap (λ a. replacing taken (value_given a)) of_kind) falls
-        (cell-read w world unset f below heap statics here h i IntHigh tt tt (first ∙ ap Some of_kind))
-        (cell-read w world unset f below heap statics here h (i + 1) IntLow tt tt (second refl))
+        read-int-safe w world assigned f below heap statics here h i taken op is (does ∙ ap (λ a. replacing taken (value_given a)) of_kind) falls
+        (cell-read w world assigned f below heap statics here h i IntHigh tt tt (first ∙ ap Some of_kind))
+        (cell-read w world assigned f below heap statics here h (i + 1) IntLow tt tt (second refl))
 
     -- ---- where the object is
 
     abbrev IsHolderAsked : Holder → ℕ → ℕ → Type 0
-    IsHolderAsked holders.Stack under c = IsSomeAnd (slice_get (least_types w.classes unset (kinds_of heap) f.stack) under) (λ a. Below w.classes a (Class c))
-    IsHolderAsked holders.This under c = IsSomeAnd (slice_get (least_types w.classes unset (kinds_of heap) f.registers) 0) (λ a. Below w.classes a (Class c))
+    IsHolderAsked holders.Stack under c = IsSomeAnd (slice_get (least_types w.classes (assigned.unset f.method) (kinds_of heap) f.stack) under) (λ a. Below w.classes a (Class c))
+    IsHolderAsked holders.This under c = IsSomeAnd (slice_get (least_types w.classes (assigned.unset f.method) (kinds_of heap) f.registers) 0) (λ a. Below w.classes a (Class c))
 
     holder-below :
         (holder : Holder) (under c : ℕ)
         → IsHolderAsked holder under c
         → Below w.classes (type_of_handle w.classes (kinds_of heap) (held_handle tagged holder under (record { frames = f ∷ below; heap = heap; statics = statics }))) (Class c)
     holder-below holders.Stack under c asked =
-        let at = cell-at w.classes unset (kinds_of heap) f.stack under (λ a. Below w.classes a (Class c)) asked in
-        reference-handle w.classes world.chains unset (kinds_of heap) (slice_index_or f.stack under cells.Empty) (Class c) tt at.holds
+        let at = cell-at w.classes (assigned.unset f.method) (kinds_of heap) f.stack under (λ a. Below w.classes a (Class c)) asked in
+        reference-handle w.classes world.chains (assigned.unset f.method) (kinds_of heap) (slice_index_or f.stack under cells.Empty) (Class c) tt at.holds
     holder-below holders.This under c asked =
-        let at = cell-at w.classes unset (kinds_of heap) f.registers 0 (λ a. Below w.classes a (Class c)) asked in
-        reference-handle w.classes world.chains unset (kinds_of heap) (slice_index_or f.registers 0 cells.Empty) (Class c) tt at.holds
+        let at = cell-at w.classes (assigned.unset f.method) (kinds_of heap) f.registers 0 (λ a. Below w.classes a (Class c)) asked in
+        reference-handle w.classes world.chains (assigned.unset f.method) (kinds_of heap) (slice_index_or f.registers 0 cells.Empty) (Class c) tt at.holds
 
     read-asked : (class cell : ℕ) (kind : Kind) (ty : Ty) (holder : Holder)
         → here.turn.operation ≡ ops.FieldRead (record { class = class; cell = cell; kind = kind; ty = ty }) holder → IsHolderAsked holder 0 class
     read-asked class cell kind ty holders.Stack is =
-        (asked-of w world unset f below heap statics here (ops.FieldRead (record { class = class; cell = cell; kind = kind; ty = ty }) holders.Stack) is).0
+        (asked-of w world assigned f below heap statics here (ops.FieldRead (record { class = class; cell = cell; kind = kind; ty = ty }) holders.Stack) is).0
     read-asked class cell kind ty holders.This is =
-        (asked-of w world unset f below heap statics here (ops.FieldRead (record { class = class; cell = cell; kind = kind; ty = ty }) holders.This) is).1.0
+        (asked-of w world assigned f below heap statics here (ops.FieldRead (record { class = class; cell = cell; kind = kind; ty = ty }) holders.This) is).1.0
 
     low-half : (kind : Kind) (h i c : ℕ) (o : IsObject w.classes heap h (Class c)) → (c ≡ object w.classes → ⊥) → HasLowHalf kind (cells_of w.classes c) i → kind ≡ fields.Int
         → type_at w.classes (with_heap heap) h (i + 1) ≡ Some IntLow
@@ -196,12 +196,12 @@ module _ (w : Linked) (world : IsWorld w) (unset : Ty) (f : Frame StoreCell) (be
         (class cell : ℕ) (kind : Kind) (ty : Ty) (holder : Holder)
         → here.turn.operation ≡ ops.FieldRead (record { class = class; cell = cell; kind = kind; ty = ty }) holder
         → IsFieldOf w (record { class = class; cell = cell; kind = kind; ty = ty })
-        → IsSafe w unset (settled tagged w (here.turn.stands.instruction.place + here.turn.stands.instruction.insn.len) (record { frames = f ∷ below; heap = heap; statics = statics })
+        → IsSafe w assigned (settled tagged w (here.turn.stands.instruction.place + here.turn.stands.instruction.insn.len) (record { frames = f ∷ below; heap = heap; statics = statics })
         (field_read_act tagged (record { class = class; cell = cell; kind = kind; ty = ty }) holder (record { frames = f ∷ below; heap = heap; statics = statics })))
     field-read-safe class cell kind ty holder is field =
         let now : State StoreCell = record { frames = f ∷ below; heap = heap; statics = statics } in
         let h : ℕ = held_handle tagged holder 0 now in
-        null-safe w world unset f below heap statics here (here.turn.stands.instruction.place + here.turn.stands.instruction.insn.len) h
+        null-safe w world assigned f below heap statics here (here.turn.stands.instruction.place + here.turn.stands.instruction.insn.len) h
         (λ n. goes (with_field_read tagged (record { class = class; cell = cell; kind = kind; ty = ty }) holder n now))
         (λ some.
         let o = handle-object w.classes world.chains heap h (Class class) tt some (holder-below holder 0 class (read-asked class cell kind ty holder is)) in
@@ -209,7 +209,7 @@ module _ (w : Linked) (world : IsWorld w) (unset : Ty) (f : Frame StoreCell) (be
       where
         by-holder :
             (place : Holder) (h : ℕ) → here.turn.operation ≡ ops.FieldRead (record { class = class; cell = cell; kind = kind; ty = ty }) place → IsObject w.classes heap h (Class class)
-            → IsSafe w unset (goes_to tagged w (here.turn.stands.instruction.place + here.turn.stands.instruction.insn.len) (record { frames = f ∷ below; heap = heap; statics = statics })
+            → IsSafe w assigned (goes_to tagged w (here.turn.stands.instruction.place + here.turn.stands.instruction.insn.len) (record { frames = f ∷ below; heap = heap; statics = statics })
             (with_field_read tagged (record { class = class; cell = cell; kind = kind; ty = ty }) place h (record { frames = f ∷ below; heap = heap; statics = statics })))
         by-holder holders.Stack h is o =
             read-value-safe h cell 1 kind ty (ops.FieldRead (record { class = class; cell = cell; kind = kind; ty = ty }) holders.Stack) is refl refl field.cells.kind field.ty
@@ -223,36 +223,36 @@ module _ (w : Linked) (world : IsWorld w) (unset : Ty) (f : Frame StoreCell) (be
     -- ---- writes
 
     -- the cells of the value on top of the stack have their types
-    pub value-held : (ty : Ty) → IsOneCell ty → IsDeclared w.classes ty → AllHold w.classes (types_in w.classes unset (kinds_of heap) f) (value_wanted ty) → IsHeld w world unset f below heap statics here 0 ty
+    pub value-held : (ty : Ty) → IsOneCell ty → IsDeclared w.classes ty → AllHold w.classes (types_in w.classes (assigned.unset f.method) (kinds_of heap) f) (value_wanted ty) → IsHeld w world assigned f below heap statics here 0 ty
     value-held ty one declared asked =
-        held-at w world unset f below heap statics here 0 ty (declared-ready w.classes ty declared)
-        (subst (AllHold w.classes (types_in w.classes unset (kinds_of heap) f)) one.wanted asked).0
+        held-at w world assigned f below heap statics here 0 ty (declared-ready w.classes ty declared)
+        (subst (AllHold w.classes (types_in w.classes (assigned.unset f.method) (kinds_of heap) f)) one.wanted asked).0
 
     -- a value on top of the stack goes into an object
     pub write-value-safe :
         (h i taken : ℕ) (kind : Kind) (ty : Ty) (op : Operation)
         → here.turn.operation ≡ op
-        → effect w op (types_in w.classes unset (kinds_of heap) f) ≡ replacing taken given.Nothing → falls_from op ≡ true
-        → IsOfKind kind ty → IsDeclared w.classes ty → AllHold w.classes (types_in w.classes unset (kinds_of heap) f) (value_wanted ty)
+        → effect w op (types_in w.classes (assigned.unset f.method) (kinds_of heap) f) ≡ replacing taken given.Nothing → falls_from op ≡ true
+        → IsOfKind kind ty → IsDeclared w.classes ty → AllHold w.classes (types_in w.classes (assigned.unset f.method) (kinds_of heap) f) (value_wanted ty)
         → (h ≡ 0 → ⊥)
         → type_at w.classes (with_heap heap) h i ≡ Some ty
         → (kind ≡ fields.Int → type_at w.classes (with_heap heap) h (i + 1) ≡ Some IntLow)
-        → IsSafe w unset (goes_to tagged w (here.turn.stands.instruction.place + here.turn.stands.instruction.insn.len) (record { frames = f ∷ below; heap = heap; statics = statics })
+        → IsSafe w assigned (goes_to tagged w (here.turn.stands.instruction.place + here.turn.stands.instruction.insn.len) (record { frames = f ∷ below; heap = heap; statics = statics })
         (with_object_value (dropped (record { frames = f ∷ below; heap = heap; statics = statics }) taken) h i (kept tagged kind (value_on tagged kind f.stack))))
     write-value-safe h i taken fields.Ref ty op is does falls of_kind declared asked some first second =
         let value = value-held ty (one-cell fields.Ref ty of_kind refl) declared asked in
-        write-safe w world unset f below heap statics here h i ty (slice_index_or f.stack 0 cells.Empty) taken op is does falls some first value.has value.filled
+        write-safe w world assigned f below heap statics here h i ty (slice_index_or f.stack 0 cells.Empty) taken op is does falls some first value.has value.filled
     write-value-safe h i taken fields.Byte ty op is does falls of_kind declared asked some first second =
-        write-safe w world unset f below heap statics here h i Short (cells.Short (byte_of_word (word_of (slice_index_or f.stack 0 cells.Empty)))) taken op is does falls some
+        write-safe w world assigned f below heap statics here h i Short (cells.Short (byte_of_word (word_of (slice_index_or f.stack 0 cells.Empty)))) taken op is does falls some
         (first ∙ ap Some of_kind) short tt
     write-value-safe h i taken fields.Short ty op is does falls of_kind declared asked some first second =
         let value = value-held ty (one-cell fields.Short ty of_kind refl) declared asked in
-        write-safe w world unset f below heap statics here h i ty (slice_index_or f.stack 0 cells.Empty) taken op is does falls some first value.has value.filled
+        write-safe w world assigned f below heap statics here h i ty (slice_index_or f.stack 0 cells.Empty) taken op is does falls some first value.has value.filled
     write-value-safe h i taken fields.Int ty op is does falls of_kind declared asked some first second =
-        let halves = subst (λ a. AllHold w.classes (types_in w.classes unset (kinds_of heap) f) (value_wanted a)) of_kind asked in
-        let lower = held-at w world unset f below heap statics here 0 IntLow tt halves.0 in
-        let upper = held-at w world unset f below heap statics here 1 IntHigh tt halves.1.0 in
-        write-int-safe w world unset f below heap statics here h i IntHigh IntLow (slice_index_or f.stack 1 cells.Empty) (slice_index_or f.stack 0 cells.Empty) taken op is does falls some
+        let halves = subst (λ a. AllHold w.classes (types_in w.classes (assigned.unset f.method) (kinds_of heap) f) (value_wanted a)) of_kind asked in
+        let lower = held-at w world assigned f below heap statics here 0 IntLow tt halves.0 in
+        let upper = held-at w world assigned f below heap statics here 1 IntHigh tt halves.1.0 in
+        write-int-safe w world assigned f below heap statics here h i IntHigh IntLow (slice_index_or f.stack 1 cells.Empty) (slice_index_or f.stack 0 cells.Empty) taken op is does falls some
         (first ∙ ap Some of_kind) upper.has upper.filled (second refl) lower.has lower.filled
 
     -- how many cells a value takes
@@ -272,18 +272,18 @@ module _ (w : Linked) (world : IsWorld w) (unset : Ty) (f : Frame StoreCell) (be
         (class cell : ℕ) (kind : Kind) (ty : Ty) (holder : Holder)
         → here.turn.operation ≡ ops.FieldWrite (record { class = class; cell = cell; kind = kind; ty = ty }) holder
         → IsFieldOf w (record { class = class; cell = cell; kind = kind; ty = ty })
-        → IsSafe w unset (settled tagged w (here.turn.stands.instruction.place + here.turn.stands.instruction.insn.len) (record { frames = f ∷ below; heap = heap; statics = statics })
+        → IsSafe w assigned (settled tagged w (here.turn.stands.instruction.place + here.turn.stands.instruction.insn.len) (record { frames = f ∷ below; heap = heap; statics = statics })
         (field_write_act tagged (record { class = class; cell = cell; kind = kind; ty = ty }) holder (record { frames = f ∷ below; heap = heap; statics = statics })))
     field-write-safe class cell kind ty holders.Stack is field =
         let now : State StoreCell = record { frames = f ∷ below; heap = heap; statics = statics } in
         let fd : InstanceField = record { class = class; cell = cell; kind = kind; ty = ty } in
-        let exact = types_in w.classes unset (kinds_of heap) f in
-        let asked = asked-of w world unset f below heap statics here (ops.FieldWrite fd holders.Stack) is in
+        let exact = types_in w.classes (assigned.unset f.method) (kinds_of heap) f in
+        let asked = asked-of w world assigned f below heap statics here (ops.FieldWrite fd holders.Stack) is in
         let object_asked = (AllHold-rest w.classes exact (value_wanted ty) (Cell (value_size ty) (Value (Class class)) ∷ []) asked).0 in
         let size = size-is kind ty field.cells.kind in
         let h : ℕ = held_handle tagged holders.Stack (width kind) now in
         let at_width = subst (λ n. IsSomeAnd (slice_get exact.stack n) (λ a. Below w.classes a (Class class))) size object_asked in
-        null-safe w world unset f below heap statics here (here.turn.stands.instruction.place + here.turn.stands.instruction.insn.len) h
+        null-safe w world assigned f below heap statics here (here.turn.stands.instruction.place + here.turn.stands.instruction.insn.len) h
         (λ n. goes (with_field_write tagged fd holders.Stack n now))
         (λ some.
         let o = handle-object w.classes world.chains heap h (Class class) tt some (holder-below holders.Stack (width kind) class at_width) in
@@ -294,12 +294,12 @@ module _ (w : Linked) (world : IsWorld w) (unset : Ty) (f : Frame StoreCell) (be
     field-write-safe class cell kind ty holders.This is field =
         let now : State StoreCell = record { frames = f ∷ below; heap = heap; statics = statics } in
         let fd : InstanceField = record { class = class; cell = cell; kind = kind; ty = ty } in
-        let exact = types_in w.classes unset (kinds_of heap) f in
-        let asked = (asked-of w world unset f below heap statics here (ops.FieldWrite fd holders.This) is).1 in
+        let exact = types_in w.classes (assigned.unset f.method) (kinds_of heap) f in
+        let asked = (asked-of w world assigned f below heap statics here (ops.FieldWrite fd holders.This) is).1 in
         let object_asked = (AllHold-rest w.classes exact (value_wanted ty) (Held 0 (Class class) ∷ []) asked).0 in
         let size = size-is kind ty field.cells.kind in
         let h : ℕ = held_handle tagged holders.This (width kind) now in
-        null-safe w world unset f below heap statics here (here.turn.stands.instruction.place + here.turn.stands.instruction.insn.len) h
+        null-safe w world assigned f below heap statics here (here.turn.stands.instruction.place + here.turn.stands.instruction.insn.len) h
         (λ n. goes (with_field_write tagged fd holders.This n now))
         (λ some.
         let o = handle-object w.classes world.chains heap h (Class class) tt some (holder-below holders.This (width kind) class object_asked) in

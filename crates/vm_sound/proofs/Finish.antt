@@ -6,6 +6,7 @@ use Rattle.std.proofs.lemmas.Bool.{le-ltb, lt-leb}
 use Rattle.std.proofs.lemmas.List.{length-map, map-append}
 use Rattle.std.proofs.lemmas.List.Elements.{All-append}
 use Rattle.jc_base.specs.declared.ty.Ty.{Ty}
+use Rattle.jc_base.specs.declared.ty.Ty.TheVariants.{Bottom}
 use Rattle.jc_base.specs.declared.record.MethodRec.{MethodRec}
 use Rattle.jc_base.specs.World.{Linked, code_of}
 use Rattle.jc_control.specs.Method.{method_with}
@@ -33,10 +34,10 @@ use Rattle.vm_step.specs.declared.ending.Fault.TheVariants.{StackFault, JumpFaul
 use Rattle.vm_step.specs.Methods.{of_method, code_at, max_stack_of, instruction_at}
 use Rattle.vm_step.specs.Raising.{Outcome, running, ends}
 use Rattle.vm_step.specs.Settled.{fault_next, is_there, fault_target, unless_fault, goes_to, jumps_to, with_new, made, entered_call, given_to}
-use Rattle.vm_sound.specs.Frames.{least_types, types_in, types_with, IsStacked, Standing, IsTypedFrame, at_next, IsWaiting, AreWaiting}
+use Rattle.vm_sound.specs.Frames.{Typings, least_types, types_in, types_with, IsStacked, Standing, IsTypedFrame, at_next, IsWaiting, AreWaiting}
 use Rattle.vm_sound.specs.State.{IsMade, static_types, IsTypedState}
 use Rattle.vm_sound.specs.Laws.{IsSafe}
-use Rattle.vm_sound.proofs.CellTypes.{some-is, some-both, some-weaker}
+use Rattle.vm_sound.proofs.CellTypes.{some-is, some-both, some-weaker, stacked-alike}
 use Rattle.vm_sound.proofs.Places.{instruction-there}
 use Rattle.vm_sound.proofs.Turns.{frame-trans}
 
@@ -56,13 +57,13 @@ pub record IsTypedStore (w : Linked) (heap : List (Object Cell)) (statics : List
   pub objects : IsTypedHeap w.classes (record { frames = []; heap = heap; statics = statics })
   pub fields : CellsHave w.classes (map (λ (o : Object Cell). o.kind) heap) statics (static_types w.statics)
 
-module _ (w : Linked) (unset : Ty) where
+module _ (w : Linked) (assigned : Typings) where
   pub plain-safe : (p : Plain) (frames : List (Frame Cell)) (heap : List (Object Cell)) (statics : List Cell) → IsTypedStore w heap statics
-      → IsSafe w unset (ends (endings.Plain p) (record { frames = frames; heap = heap; statics = statics }))
+      → IsSafe w assigned (ends (endings.Plain p) (record { frames = frames; heap = heap; statics = statics }))
   plain-safe p frames heap statics store = record { made = store.made; heap = store.objects; statics = store.fields; frames = tt }
 
-  safe-unless : (s : State Cell) (o : Option Fault) (x : Outcome Cell) → o ≡ None → IsSafe w unset x → IsSafe w unset (unless_fault s o x)
-  safe-unless s o x e h = subst (λ (p : Option Fault). IsSafe w unset (unless_fault s p x)) (sym e) h
+  safe-unless : (s : State Cell) (o : Option Fault) (x : Outcome Cell) → o ≡ None → IsSafe w assigned x → IsSafe w assigned (unless_fault s o x)
+  safe-unless s o x e h = subst (λ (p : Option Fault). IsSafe w assigned (unless_fault s p x)) (sym e) h
 
   -- ---- what a typed frame has
 
@@ -78,19 +79,19 @@ module _ (w : Linked) (unset : Ty) where
   stack-is : (n : ℕ) (m : MethodRec) → slice_get w.methods n ≡ Some m → max_stack_of w n ≡ m.max_stack
   stack-is n m e = ap (of_method 0 (λ (x : MethodRec). x.max_stack)) e
 
-  pub there-at : (f : Frame Cell) (st : Standing w unset f) → instruction_at (code_at w f.method) f.place ≡ Some st.instruction
+  pub there-at : (f : Frame Cell) (st : Standing w assigned f) → instruction_at (code_at w f.method) f.place ≡ Some st.instruction
   there-at f st = ap (λ code. instruction_at code f.place) (code-is f.method st.rec st.is_method) ∙ st.there
 
-  pub has-room : (ks : List ObjectKind) (f : Frame Cell) → IsTypedFrame w unset ks f → HasRoom f
+  pub has-room : (ks : List ObjectKind) (f : Frame Cell) → IsTypedFrame w assigned ks f → HasRoom f
   has-room ks f typed =
       let st = typed.stands in
       let m = method_with w f.method st.rec in
       let there = instruction-there (code_of w.infos st.rec) f.place st.instruction st.there in
-      let exact = types_in w.classes unset ks f in
-      let both = some-is (λ (g : Types). FrameBelow w.classes exact g × IsFit m g) (st.frames f.place)
-      (some-both (FrameBelow w.classes exact) (IsFit m) (st.frames f.place) typed.below (st.typing.fit f.place st.reached)) in
+      let exact = types_in w.classes (assigned.unset f.method) ks f in
+      let both = some-is (λ (g : Types). FrameBelow w.classes exact g × IsFit m g) ((assigned.frames f.method) f.place)
+      (some-both (FrameBelow w.classes exact) (IsFit m) ((assigned.frames f.method) f.place) typed.below (st.typing.fit f.place st.reached)) in
       let same : length f.stack ≡ length both.0.stack =
-      sym (length-map f.stack (least_type w.classes unset ks)) ∙ cells-length w.classes both.2.0.stack in
+      sym (length-map f.stack (least_type w.classes (assigned.unset f.method) ks)) ∙ cells-length w.classes both.2.0.stack in
       let inside : f.place < length (code_of w.infos st.rec) = place-inside (code_of w.infos st.rec) (all-are-listed (code_of w.infos st.rec)) f.place (st.instruction, there.stands, there.at) in
       record {
         room = subst (λ n. length f.stack ≤ n) (sym (stack-is f.method st.rec st.is_method)) (subst (λ n. n ≤ st.rec.max_stack) (sym same) both.2.1.room);
@@ -120,8 +121,8 @@ module _ (w : Linked) (unset : Ty) where
 
   pub goes-safe :
       (before : State Cell) (f : Frame Cell) (next : ℕ) (below : List (Frame Cell)) (heap : List (Object Cell)) (statics : List Cell)
-      → IsTypedState w unset (record { frames = record f { place = next } ∷ below; heap = heap; statics = statics })
-      → IsSafe w unset (goes_to tagged w next before (record { frames = f ∷ below; heap = heap; statics = statics }))
+      → IsTypedState w assigned (record { frames = record f { place = next } ∷ below; heap = heap; statics = statics })
+      → IsSafe w assigned (goes_to tagged w next before (record { frames = f ∷ below; heap = heap; statics = statics }))
   goes-safe before f next below heap statics typed =
       let now : State Cell = record { frames = f ∷ below; heap = heap; statics = statics } in
       let fits = has-room (map (λ (o : Object Cell). o.kind) heap) (record f { place = next }) typed.frames.0 in
@@ -130,15 +131,15 @@ module _ (w : Linked) (unset : Ty) where
 
   pub jumps-safe :
       (f : Frame Cell) (to : ℕ) (below : List (Frame Cell)) (heap : List (Object Cell)) (statics : List Cell)
-      → IsTypedState w unset (record { frames = record f { place = to } ∷ below; heap = heap; statics = statics })
-      → IsSafe w unset (jumps_to tagged w (pos to) (record { frames = f ∷ below; heap = heap; statics = statics }))
+      → IsTypedState w assigned (record { frames = record f { place = to } ∷ below; heap = heap; statics = statics })
+      → IsSafe w assigned (jumps_to tagged w (pos to) (record { frames = f ∷ below; heap = heap; statics = statics }))
   jumps-safe f to below heap statics typed =
       let now : State Cell = record { frames = f ∷ below; heap = heap; statics = statics } in
       let fits = has-room (map (λ (o : Object Cell). o.kind) heap) (record f { place = to }) typed.frames.0 in
       safe-unless now (fault_target tagged w now (pos to)) (running (with_place now to))
       (target-passes f below heap statics to fits.room fits.instruction) typed
 
-  pub safe-if : (b : Bool) (x y : Outcome Cell) → IsSafe w unset x → IsSafe w unset y → IsSafe w unset (if b then x else y)
+  pub safe-if : (b : Bool) (x y : Outcome Cell) → IsSafe w assigned x → IsSafe w assigned y → IsSafe w assigned (if b then x else y)
   safe-if true x y h k = h
   safe-if false x y h k = k
 
@@ -148,12 +149,12 @@ module _ (w : Linked) (unset : Ty) where
       (f : Frame Cell) (next : ℕ) (below : List (Frame Cell)) (heap : List (Object Cell)) (statics : List Cell) (kind : ObjectKind) (cs : List Cell)
       (reference : ℕ → Cell)
       → IsTypedStore w heap statics
-      → IsTypedState w unset (record {
+      → IsTypedState w assigned (record {
         frames = record { method = f.method; place = next; registers = f.registers; stack = reference (length heap + 1) ∷ f.stack } ∷ below;
         heap = heap ++ record { kind = kind; cells = cs } ∷ [];
         statics = statics;
       })
-      → IsSafe w unset (made tagged w next kind cs reference (record { frames = f ∷ below; heap = heap; statics = statics }))
+      → IsSafe w assigned (made tagged w next kind cs reference (record { frames = f ∷ below; heap = heap; statics = statics }))
   makes-safe f next below heap statics kind cs reference store typed =
       let now : State Cell = record { frames = f ∷ below; heap = heap; statics = statics } in
       let top : Frame Cell = record { method = f.method; place = next; registers = f.registers; stack = reference (length heap + 1) ∷ f.stack } in
@@ -168,8 +169,8 @@ module _ (w : Linked) (unset : Ty) where
   pub enters-safe :
       (f : Frame Cell) (below : List (Frame Cell)) (heap : List (Object Cell)) (statics : List Cell) (method count : ℕ)
       → IsTypedStore w heap statics
-      → IsTypedState w unset (with_call tagged w.methods (record { frames = f ∷ below; heap = heap; statics = statics }) method count)
-      → IsSafe w unset (entered_call tagged w method count (record { frames = f ∷ below; heap = heap; statics = statics }))
+      → IsTypedState w assigned (with_call tagged w.methods (record { frames = f ∷ below; heap = heap; statics = statics }) method count)
+      → IsSafe w assigned (entered_call tagged w method count (record { frames = f ∷ below; heap = heap; statics = statics }))
   enters-safe f below heap statics method count store typed =
       let now : State Cell = record { frames = f ∷ below; heap = heap; statics = statics } in
       safe-if (nat_lt (length (f ∷ below)) frame_limit) (running (with_call tagged w.methods now method count)) (ends (endings.Plain TooDeep) now) typed
@@ -178,19 +179,22 @@ module _ (w : Linked) (unset : Ty) where
   -- a caller that is given its result is typed after the call
   given-typed :
       (ks : List ObjectKind) (result : Option Ty) (f : Frame Cell) (value : List Cell)
-      → IsWaiting w unset ks result f
-      → CellsBelow w.classes (least_types w.classes unset ks (reverse value)) (listed (result_given result))
+      → IsWaiting w assigned ks result f
+      → CellsBelow w.classes (least_types w.classes Bottom ks (reverse value)) (listed (result_given result))
       → ((m : MethodRec) → All (IsStacked w m ks) (reverse value))
-      → IsTypedFrame w unset ks (record { method = f.method; place = (at_next w f).place; registers = f.registers; stack = reverse value ++ f.stack })
-  given-typed ks result f value waits below ready =
+      → IsTypedFrame w assigned ks (record { method = f.method; place = (at_next w f).place; registers = f.registers; stack = reverse value ++ f.stack })
+  given-typed ks result f value waits least ready =
       let next = waits.next in
+      let below : CellsBelow w.classes (least_types w.classes (assigned.unset f.method) ks (reverse value)) (listed (result_given result)) =
+      subst (λ ts. CellsBelow w.classes ts (listed (result_given result)))
+      (stacked-alike w next.rec Bottom (assigned.unset f.method) ks (reverse value) (ready next.rec)) least in
       let new : List Cell = reverse value ++ f.stack in
-      let exact : Types = record { regs = least_types w.classes unset ks f.registers; stack = least_types w.classes unset ks new } in
-      let split : least_types w.classes unset ks new ≡ least_types w.classes unset ks (reverse value) ++ least_types w.classes unset ks f.stack =
-      map-append (least_type w.classes unset ks) (reverse value) f.stack in
-      let stack : CellsBelow w.classes (least_types w.classes unset ks new) (types_with w.classes unset ks result f).stack =
-      subst (λ ts. CellsBelow w.classes ts (types_with w.classes unset ks result f).stack) (sym split)
-      (cells-append w.classes below (cells-same w.classes (least_types w.classes unset ks f.stack))) in
+      let exact : Types = record { regs = least_types w.classes (assigned.unset f.method) ks f.registers; stack = least_types w.classes (assigned.unset f.method) ks new } in
+      let split : least_types w.classes (assigned.unset f.method) ks new ≡ least_types w.classes (assigned.unset f.method) ks (reverse value) ++ least_types w.classes (assigned.unset f.method) ks f.stack =
+      map-append (least_type w.classes (assigned.unset f.method) ks) (reverse value) f.stack in
+      let stack : CellsBelow w.classes (least_types w.classes (assigned.unset f.method) ks new) (types_with w.classes (assigned.unset f.method) ks result f).stack =
+      subst (λ ts. CellsBelow w.classes ts (types_with w.classes (assigned.unset f.method) ks result f).stack) (sym split)
+      (cells-append w.classes below (cells-same w.classes (least_types w.classes (assigned.unset f.method) ks f.stack))) in
       record {
         stands = record {
           rec = next.rec;
@@ -198,22 +202,21 @@ module _ (w : Linked) (unset : Ty) where
           instruction = next.instruction;
           there = next.there;
           reached = next.reached;
-          frames = next.frames;
           typing = next.typing;
         };
-        below = some-weaker (FrameBelow w.classes (types_with w.classes unset ks result f)) (FrameBelow w.classes exact)
+        below = some-weaker (FrameBelow w.classes (types_with w.classes (assigned.unset f.method) ks result f)) (FrameBelow w.classes exact)
             (λ g b. frame-trans w.classes (record { regs = cells-same w.classes exact.regs; stack = stack }) b)
-            (next.frames (at_next w f).place) waits.below;
+            ((assigned.frames f.method) (at_next w f).place) waits.below;
         stacked = All-append (IsStacked w next.rec ks) (reverse value) f.stack (ready next.rec) waits.stacked;
       }
 
   pub gives-safe :
       (below : List (Frame Cell)) (heap : List (Object Cell)) (statics : List Cell) (result : Option Ty) (value : Value) (cs : List Cell)
       → IsTypedStore w heap statics
-      → AreWaiting w unset (map (λ (o : Object Cell). o.kind) heap) result below
-      → CellsBelow w.classes (least_types w.classes unset (map (λ (o : Object Cell). o.kind) heap) (reverse cs)) (listed (result_given result))
+      → AreWaiting w assigned (map (λ (o : Object Cell). o.kind) heap) result below
+      → CellsBelow w.classes (least_types w.classes Bottom (map (λ (o : Object Cell). o.kind) heap) (reverse cs)) (listed (result_given result))
       → ((m : MethodRec) → All (IsStacked w m (map (λ (o : Object Cell). o.kind) heap)) (reverse cs))
-      → IsSafe w unset (given_to tagged w value cs (record { frames = below; heap = heap; statics = statics }))
+      → IsSafe w assigned (given_to tagged w value cs (record { frames = below; heap = heap; statics = statics }))
   gives-safe [] heap statics result value cs store waits typed ready = plain-safe (Returned value) [] heap statics store
   gives-safe (f ∷ fs) heap statics result value cs store waits typed ready =
       let now : State Cell = record { frames = f ∷ fs; heap = heap; statics = statics } in

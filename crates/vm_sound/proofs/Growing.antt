@@ -12,31 +12,31 @@ use Rattle.jc_rules.proofs.CellLists.{cells-same, cells-trans, cells-append}
 use Rattle.vm_store.specs.declared.cell.Cell.{Cell}
 use Rattle.vm_store.specs.declared.kind.ObjectKind.{ObjectKind}
 use Rattle.vm_store.specs.State.{Frame}
-use Rattle.vm_sound.specs.Frames.{least_types, types_with, IsStacked, at_next, IsWaiting, result_of, AreWaiting}
+use Rattle.vm_sound.specs.Frames.{Typings, least_types, types_with, IsStacked, at_next, IsWaiting, result_of, AreWaiting}
 use Rattle.vm_sound.proofs.CellTypes.{some-weaker, types-fall, stacked-falls}
 
-module _ (w : Linked) (unset : Ty) (ks more : List ObjectKind) where
-  pub waiting-falls : (result : Option Ty) (f : Frame Cell) → IsWaiting w unset ks result f → IsWaiting w unset (ks ++ more) result f
+module _ (w : Linked) (assigned : Typings) (ks more : List ObjectKind) where
+  pub waiting-falls : (result : Option Ty) (f : Frame Cell) → IsWaiting w assigned ks result f → IsWaiting w assigned (ks ++ more) result f
   waiting-falls result f waits =
       let st = waits.stands in
       let next = waits.next in
       record {
         stands = st;
-        regs = some-weaker (λ (g : Types). CellsBelow w.classes (least_types w.classes unset ks f.registers) g.regs)
-            (λ (g : Types). CellsBelow w.classes (least_types w.classes unset (ks ++ more) f.registers) g.regs)
-            (λ g b. cells-trans w.classes (types-fall w.classes unset ks more f.registers) b)
-            (st.frames f.place) waits.regs;
+        regs = some-weaker (λ (g : Types). CellsBelow w.classes (least_types w.classes (assigned.unset f.method) ks f.registers) g.regs)
+            (λ (g : Types). CellsBelow w.classes (least_types w.classes (assigned.unset f.method) (ks ++ more) f.registers) g.regs)
+            (λ g b. cells-trans w.classes (types-fall w.classes (assigned.unset f.method) ks more f.registers) b)
+            ((assigned.frames f.method) f.place) waits.regs;
         next = next;
-        below = some-weaker (FrameBelow w.classes (types_with w.classes unset ks result f)) (FrameBelow w.classes (types_with w.classes unset (ks ++ more) result f))
+        below = some-weaker (FrameBelow w.classes (types_with w.classes (assigned.unset f.method) ks result f)) (FrameBelow w.classes (types_with w.classes (assigned.unset f.method) (ks ++ more) result f))
             (λ g b. record {
-              regs = cells-trans w.classes (types-fall w.classes unset ks more f.registers) b.regs;
+              regs = cells-trans w.classes (types-fall w.classes (assigned.unset f.method) ks more f.registers) b.regs;
               stack = cells-trans w.classes
-                  (cells-append w.classes (cells-same w.classes (listed (result_given result))) (types-fall w.classes unset ks more f.stack)) b.stack;
+                  (cells-append w.classes (cells-same w.classes (listed (result_given result))) (types-fall w.classes (assigned.unset f.method) ks more f.stack)) b.stack;
             })
-            (next.frames (at_next w f).place) waits.below;
+            ((assigned.frames f.method) (at_next w f).place) waits.below;
         stacked = All-weaker (IsStacked w next.rec ks) (IsStacked w next.rec (ks ++ more)) (stacked-falls w next.rec ks more) f.stack waits.stacked;
       }
 
-  pub all-waiting-fall : (result : Option Ty) (fs : List (Frame Cell)) → AreWaiting w unset ks result fs → AreWaiting w unset (ks ++ more) result fs
+  pub all-waiting-fall : (result : Option Ty) (fs : List (Frame Cell)) → AreWaiting w assigned ks result fs → AreWaiting w assigned (ks ++ more) result fs
   all-waiting-fall result [] h = h
   all-waiting-fall result (f ∷ fs) h = (waiting-falls result f h.0, all-waiting-fall (result_of w f.method) fs h.1)

@@ -31,9 +31,9 @@ use Rattle.vm_step.specs.declared.ending.Plain.TheVariants.{InterfaceMissing}
 use Rattle.vm_step.specs.Act.{calls, lacks, unless_null}
 use Rattle.vm_step.specs.Calls.{args_of, class_in, served, made_at, readied, served_act, interface_act}
 use Rattle.vm_step.specs.Settled.{entered_call, settled}
-use Rattle.vm_sound.specs.Frames.{least_types}
+use Rattle.vm_sound.specs.Frames.{Typings, least_types}
 use Rattle.vm_sound.specs.State.{IsMade}
-use Rattle.vm_sound.specs.Laws.{IsSafe, AreTypedMethods}
+use Rattle.vm_sound.specs.Laws.{IsSafe, AreTypings}
 use Rattle.vm_sound.proofs.CellTypes.{filled-same}
 use Rattle.vm_sound.proofs.Dispatching.{RunsFor, own-dispatched, class-code, dispatch-runs, served-runs}
 use Rattle.vm_sound.proofs.Finish.{plain-safe}
@@ -45,7 +45,7 @@ use Rattle.vm_sound.proofs.Calling.{receiver-at, receiver-filled, run-safe, cons
 use Rattle.vm_sound.proofs.Turning.{Here, null-safe}
 
 -- an object is an instance of a class, or an array
-instance-or-array : (k : ObjectKind) → ((d : ℕ) × (k ≡ Instance d)) ⊎ IsArrayKind k
+pub instance-or-array : (k : ObjectKind) → ((d : ℕ) × (k ≡ Instance d)) ⊎ IsArrayKind k
 instance-or-array (Instance d) = inl (d, refl)
 instance-or-array Booleans = inr (tt {0})
 instance-or-array Bytes = inr (tt {0})
@@ -54,7 +54,7 @@ instance-or-array Ints = inr (tt {0})
 instance-or-array (References c) = inr (tt {0})
 
 -- an array has the methods of class object, and is below it alone
-array-class : (t : ClassTable) (k : ObjectKind) → IsArrayKind k → class_in t (Some k) ≡ object t
+pub array-class : (t : ClassTable) (k : ObjectKind) → IsArrayKind k → class_in t (Some k) ≡ object t
 array-class t (Instance d) h = absurd h
 array-class t Booleans h = refl
 array-class t Bytes h = refl
@@ -62,7 +62,7 @@ array-class t Shorts h = refl
 array-class t Ints h = refl
 array-class t (References c) h = refl
 
-array-object : (t : ClassTable) (k : ObjectKind) (c : ℕ) → IsArrayKind k → is_below t (type_of_kind t k) (Class c) ≡ true → c ≡ object t
+pub array-object : (t : ClassTable) (k : ObjectKind) (c : ℕ) → IsArrayKind k → is_below t (type_of_kind t k) (Class c) ≡ true → c ≡ object t
 unfolding is_below
 array-object t (Instance d) c h b = absurd h
 array-object t Booleans c h b = eqb-true c (object t) b
@@ -71,7 +71,7 @@ array-object t Shorts c h b = eqb-true c (object t) b
 array-object t Ints c h b = eqb-true c (object t) b
 array-object t (References d) c h b = eqb-true c (object t) b
 
-array-lacks : (t : ClassTable) (interface token count : ℕ) (k : ObjectKind) (s : State Cell) → IsArrayKind k → interface_act t interface token count (Some k) s ≡ lacks (object t)
+pub array-lacks : (t : ClassTable) (interface token count : ℕ) (k : ObjectKind) (s : State Cell) → IsArrayKind k → interface_act t interface token count (Some k) s ≡ lacks (object t)
 array-lacks t interface token count (Instance d) s h = absurd h
 array-lacks t interface token count Booleans s h = refl
 array-lacks t interface token count Bytes s h = refl
@@ -79,8 +79,8 @@ array-lacks t interface token count Shorts s h = refl
 array-lacks t interface token count Ints s h = refl
 array-lacks t interface token count (References d) s h = refl
 
-module _ (w : Linked) (world : IsWorld w) (unset : Ty) (typings : AreTypedMethods w unset) (f : Frame Cell) (below : List (Frame Cell)) (heap : List (Object Cell)) (statics : List Cell)
-    (here : Here w unset f below heap statics)
+module _ (w : Linked) (world : IsWorld w) (assigned : Typings) (typings : AreTypings w assigned) (f : Frame Cell) (below : List (Frame Cell)) (heap : List (Object Cell)) (statics : List Cell)
+    (here : Here w assigned f below heap statics)
   where
     module _ (n : ℕ) (receiver : Option Want) (choice : Choice) (m : MethodRec)
         (is : here.turn.operation ≡ ops.Call (record { method = n; receiver = receiver; choice = choice }))
@@ -89,27 +89,27 @@ module _ (w : Linked) (world : IsWorld w) (unset : Ty) (typings : AreTypedMethod
         -- ---- an object of a class
 
         module _ (c : ℕ) (wants : receiver ≡ Some (Value (Class c))) where
-          under : Below w.classes (least_type w.classes unset (kinds_of heap) (slice_index_or f.stack (length m.sig.args) cells.Empty)) (Class c)
-          under = (receiver-at w world unset typings f below heap statics here n receiver choice m is method (Value (Class c)) wants).holds
+          under : Below w.classes (least_type w.classes (assigned.unset f.method) (kinds_of heap) (slice_index_or f.stack (length m.sig.args) cells.Empty)) (Class c)
+          under = (receiver-at w world assigned typings f below heap statics here n receiver choice m is method (Value (Class c)) wants).holds
 
           -- its type is that of its object
           own-type : (o : IsObject w.classes heap (word_of (slice_index_or f.stack (length m.sig.args) cells.Empty)) (Class c))
-              → least_type w.classes unset (kinds_of heap) (slice_index_or f.stack (length m.sig.args) cells.Empty) ≡ type_of_kind w.classes o.object.kind
+              → least_type w.classes (assigned.unset f.method) (kinds_of heap) (slice_index_or f.stack (length m.sig.args) cells.Empty) ≡ type_of_kind w.classes o.object.kind
           own-type o =
-              reference-same w.classes world.chains unset (kinds_of heap) (slice_index_or f.stack (length m.sig.args) cells.Empty) (Class c) tt
-              (receiver-filled w world unset typings f below heap statics here n receiver choice m is method (Value (Class c)) wants) under
+              reference-same w.classes world.chains (assigned.unset f.method) (kinds_of heap) (slice_index_or f.stack (length m.sig.args) cells.Empty) (Class c) tt
+              (receiver-filled w world assigned typings f below heap statics here n receiver choice m is method (Value (Class c)) wants) under
               ∙ kind-type w.classes (kinds_of heap) (word_of (slice_index_or f.stack (length m.sig.args) cells.Empty)) o.object.kind o.kind_is
 
           run : (k : ℕ) (o : MethodRec) → slice_get w.methods k ≡ Some o → lacks_code w.classes o ≡ false → o.sig ≡ m.sig → o.is_static ≡ false
-              → Below w.classes (least_type w.classes unset (kinds_of heap) (slice_index_or f.stack (length m.sig.args) cells.Empty)) (Class o.class)
-              → IsSafe w unset (entered_call tagged w k (args_of w n + 1) (record { frames = f ∷ below; heap = heap; statics = statics }))
+              → Below w.classes (least_type w.classes (assigned.unset f.method) (kinds_of heap) (slice_index_or f.stack (length m.sig.args) cells.Empty)) (Class o.class)
+              → IsSafe w assigned (entered_call tagged w k (args_of w n + 1) (record { frames = f ∷ below; heap = heap; statics = statics }))
           run k o there code_is sig dynamic receives =
-              run-safe w world unset typings f below heap statics here n receiver choice m is method (Value (Class c)) wants k o there code_is sig dynamic
-              (ready-value (length m.sig.args + 1) (result_given m.sig.result) (cell (least_types w.classes unset (kinds_of heap) f.stack) (length m.sig.args)) (Class c)) receives
+              run-safe w world assigned typings f below heap statics here n receiver choice m is method (Value (Class c)) wants k o there code_is sig dynamic
+              (ready-value (length m.sig.args + 1) (result_given m.sig.result) (cell (least_types w.classes (assigned.unset f.method) (kinds_of heap) f.stack) (length m.sig.args)) (Class c)) receives
 
           run-for : (r k : ℕ) (kind : ObjectKind) → kind ≡ Instance r → RunsFor w r k m.sig
-              → least_type w.classes unset (kinds_of heap) (slice_index_or f.stack (length m.sig.args) cells.Empty) ≡ type_of_kind w.classes kind
-              → IsSafe w unset (entered_call tagged w k (args_of w n + 1) (record { frames = f ∷ below; heap = heap; statics = statics }))
+              → least_type w.classes (assigned.unset f.method) (kinds_of heap) (slice_index_or f.stack (length m.sig.args) cells.Empty) ≡ type_of_kind w.classes kind
+              → IsSafe w assigned (entered_call tagged w k (args_of w n + 1) (record { frames = f ∷ below; heap = heap; statics = statics }))
           run-for r k kind kind_is runs type_is =
               run k runs.rec runs.is_method runs.code runs.sig_is runs.dynamic
               (subst (λ a. Below w.classes a (Class runs.rec.class)) (sym (type_is ∙ ap (type_of_kind w.classes) kind_is)) runs.receives)
@@ -117,7 +117,7 @@ module _ (w : Linked) (world : IsWorld w) (unset : Ty) (typings : AreTypedMethod
           -- by the class of the object
           dispatched-safe :
               (token : ℕ) → IsVirtualCall w n m receiver c token → (o : IsObject w.classes heap (word_of (slice_index_or f.stack (length m.sig.args) cells.Empty)) (Class c))
-              → IsSafe w unset (entered_call tagged w
+              → IsSafe w assigned (entered_call tagged w
               (unwrap_or (dispatched w.classes c token (class_in w.classes (kind_of_handle (kinds_of heap) (word_of (slice_index_or f.stack (length m.sig.args) cells.Empty))))) n)
               (args_of w n + 1) (record { frames = f ∷ below; heap = heap; statics = statics }))
           dispatched-safe token call o = elim (instance-or-array o.object.kind) [
@@ -128,7 +128,7 @@ module _ (w : Linked) (world : IsWorld w) (unset : Ty) (typings : AreTypedMethod
                 let d = dispatch-runs w world c token found.0 n m concrete lower call.entry method in
                 let chosen : unwrap_or (dispatched w.classes c token (class_in w.classes (kind_of_handle (kinds_of heap) (word_of (slice_index_or f.stack (length m.sig.args) cells.Empty))))) n ≡ d.method =
                 ap (λ k. unwrap_or (dispatched w.classes c token (class_in w.classes k)) n) (o.kind_is ∙ ap Some found.1) ∙ ap (λ x. unwrap_or x n) d.found in
-                subst (λ k. IsSafe w unset (entered_call tagged w k (args_of w n + 1) (record { frames = f ∷ below; heap = heap; statics = statics }))) (sym chosen)
+                subst (λ k. IsSafe w assigned (entered_call tagged w k (args_of w n + 1) (record { frames = f ∷ below; heap = heap; statics = statics }))) (sym chosen)
                 (run-for found.0 d.method o.object.kind found.1 d.runs (own-type o))
             | inr array ↦
                 let object_is : c ≡ object w.classes = array-object w.classes o.object.kind c array (is_below-from_Below w.classes world.chains o.below) in
@@ -137,58 +137,58 @@ module _ (w : Linked) (world : IsWorld w) (unset : Ty) (typings : AreTypedMethod
                 let chosen : unwrap_or (dispatched w.classes c token (class_in w.classes (kind_of_handle (kinds_of heap) (word_of (slice_index_or f.stack (length m.sig.args) cells.Empty))))) n ≡ n =
                 ap (λ k. unwrap_or (dispatched w.classes c token (class_in w.classes k)) n) o.kind_is
                 ∙ (ap (λ x. unwrap_or (dispatched w.classes c token x) n) (array-class w.classes o.object.kind array) ∙ ap (λ x. unwrap_or x n) entry) in
-                subst (λ k. IsSafe w unset (entered_call tagged w k (args_of w n + 1) (record { frames = f ∷ below; heap = heap; statics = statics }))) (sym chosen)
+                subst (λ k. IsSafe w assigned (entered_call tagged w k (args_of w n + 1) (record { frames = f ∷ below; heap = heap; statics = statics }))) (sym chosen)
                 (run n m method (class-code w world c m call.class call.inherited.class (call.body object_is)) refl call.inherited.dynamic (joined under call.inherited.class))
           ]
 
           pub virtual-safe :
               (token next : ℕ) → IsVirtualCall w n m receiver c token
-              → IsSafe w unset (settled tagged w next (record { frames = f ∷ below; heap = heap; statics = statics })
+              → IsSafe w assigned (settled tagged w next (record { frames = f ∷ below; heap = heap; statics = statics })
               (unless_null (word_of (slice_index_or f.stack (length m.sig.args) cells.Empty))
               (λ h. calls (unwrap_or (dispatched w.classes c token (class_in w.classes (kind_of_handle (kinds_of heap) h))) n) (args_of w n + 1)
               (record { frames = f ∷ below; heap = heap; statics = statics }))))
           virtual-safe token next call =
               let h : ℕ = word_of (slice_index_or f.stack (length m.sig.args) cells.Empty) in
-              null-safe w world unset f below heap statics here next h
+              null-safe w world assigned f below heap statics here next h
               (λ h. calls (unwrap_or (dispatched w.classes c token (class_in w.classes (kind_of_handle (kinds_of heap) h))) n) (args_of w n + 1)
               (record { frames = f ∷ below; heap = heap; statics = statics }))
               (λ some. dispatched-safe token call
               (handle-object w.classes world.chains heap h (Class c) tt some
-              (reference-handle w.classes world.chains unset (kinds_of heap) (slice_index_or f.stack (length m.sig.args) cells.Empty) (Class c) tt under)))
+              (reference-handle w.classes world.chains (assigned.unset f.method) (kinds_of heap) (slice_index_or f.stack (length m.sig.args) cells.Empty) (Class c) tt under)))
 
           -- by the interfaces of the class of the object
           served-safe :
               (interface token next r h : ℕ) (o : Option ℕ) → served w.classes interface token r ≡ o → IsConcrete w.classes w.methods r → m.class ≡ interface → m.token ≡ token
-              → least_type w.classes unset (kinds_of heap) (slice_index_or f.stack (length m.sig.args) cells.Empty) ≡ type_of_kind w.classes (Instance r)
-              → IsSafe w unset (settled tagged w next (record { frames = f ∷ below; heap = heap; statics = statics })
+              → least_type w.classes (assigned.unset f.method) (kinds_of heap) (slice_index_or f.stack (length m.sig.args) cells.Empty) ≡ type_of_kind w.classes (Instance r)
+              → IsSafe w assigned (settled tagged w next (record { frames = f ∷ below; heap = heap; statics = statics })
               (served_act o r (args_of w n + 1) (record { frames = f ∷ below; heap = heap; statics = statics })))
-          served-safe interface token next r h None e concrete class at type_is = plain-safe w unset (InterfaceMissing r) (f ∷ below) heap statics here.store
+          served-safe interface token next r h None e concrete class at type_is = plain-safe w assigned (InterfaceMissing r) (f ∷ below) heap statics here.store
           served-safe interface token next r h (Some k) e concrete class at type_is =
               run-for r k (Instance r) refl (served-runs w world interface token r n k m concrete method class at e) type_is
 
           pub interface-safe :
               (interface token next : ℕ) → m.class ≡ interface → m.token ≡ token
-              → IsSafe w unset (settled tagged w next (record { frames = f ∷ below; heap = heap; statics = statics })
+              → IsSafe w assigned (settled tagged w next (record { frames = f ∷ below; heap = heap; statics = statics })
               (unless_null (word_of (slice_index_or f.stack (length m.sig.args) cells.Empty))
               (λ h. interface_act w.classes interface token (args_of w n + 1) (kind_of_handle (kinds_of heap) h) (record { frames = f ∷ below; heap = heap; statics = statics }))))
           interface-safe interface token next class at =
               let now : State Cell = record { frames = f ∷ below; heap = heap; statics = statics } in
               let h : ℕ = word_of (slice_index_or f.stack (length m.sig.args) cells.Empty) in
-              null-safe w world unset f below heap statics here next h
+              null-safe w world assigned f below heap statics here next h
               (λ h. interface_act w.classes interface token (args_of w n + 1) (kind_of_handle (kinds_of heap) h) now)
               (λ some.
               let o = handle-object w.classes world.chains heap h (Class c) tt some
-              (reference-handle w.classes world.chains unset (kinds_of heap) (slice_index_or f.stack (length m.sig.args) cells.Empty) (Class c) tt under) in
+              (reference-handle w.classes world.chains (assigned.unset f.method) (kinds_of heap) (slice_index_or f.stack (length m.sig.args) cells.Empty) (Class c) tt under) in
               elim (instance-or-array o.object.kind) [
                 | inl found ↦
                     let made : IsMade w o.object.kind = made-at w (kinds_of heap) h o.object.kind here.store.made o.kind_is in
-                    subst (λ k. IsSafe w unset (settled tagged w next now (interface_act w.classes interface token (args_of w n + 1) k now))) (sym (o.kind_is ∙ ap Some found.1))
+                    subst (λ k. IsSafe w assigned (settled tagged w next now (interface_act w.classes interface token (args_of w n + 1) k now))) (sym (o.kind_is ∙ ap Some found.1))
                     (served-safe interface token next found.0 h (served w.classes interface token found.0) refl (subst (IsMade w) found.1 made) class at
                     (own-type o ∙ ap (type_of_kind w.classes) found.1))
                 | inr array ↦
-                    subst (λ a. IsSafe w unset (settled tagged w next now a))
+                    subst (λ a. IsSafe w assigned (settled tagged w next now a))
                     (sym (ap (λ k. interface_act w.classes interface token (args_of w n + 1) k now) o.kind_is ∙ array-lacks w.classes interface token (args_of w n + 1) o.object.kind now array))
-                    (plain-safe w unset (InterfaceMissing (object w.classes)) (f ∷ below) heap statics here.store)
+                    (plain-safe w assigned (InterfaceMissing (object w.classes)) (f ∷ below) heap statics here.store)
               ])
 
         -- ---- the method that is named
@@ -196,14 +196,14 @@ module _ (w : Linked) (world : IsWorld w) (unset : Ty) (typings : AreTypedMethod
         -- what is readied before it
         readied-safe :
             (o : Option ℕ) (place : Option ℕ) → place ≡ o
-            → IsSafe w unset (entered_call tagged w n (args_of w n + 1) (readied tagged (record { frames = f ∷ below; heap = heap; statics = statics }) o))
-            → IsSafe w unset (entered_call tagged w n (args_of w n + 1) (readied tagged (record { frames = f ∷ below; heap = heap; statics = statics }) place))
+            → IsSafe w assigned (entered_call tagged w n (args_of w n + 1) (readied tagged (record { frames = f ∷ below; heap = heap; statics = statics }) o))
+            → IsSafe w assigned (entered_call tagged w n (args_of w n + 1) (readied tagged (record { frames = f ∷ below; heap = heap; statics = statics }) place))
         readied-safe o place e h =
-            subst (λ p. IsSafe w unset (entered_call tagged w n (args_of w n + 1) (readied tagged (record { frames = f ∷ below; heap = heap; statics = statics }) p))) (sym e) h
+            subst (λ p. IsSafe w assigned (entered_call tagged w n (args_of w n + 1) (readied tagged (record { frames = f ∷ below; heap = heap; statics = statics }) p))) (sym e) h
 
         pub named-safe :
             (want : Want) → receiver ≡ Some want → lacks_code w.classes m ≡ false → m.is_static ≡ false → IsReceiverOf w m (Some want)
-            → IsSafe w unset (entered_call tagged w n (args_of w n + 1)
+            → IsSafe w assigned (entered_call tagged w n (args_of w n + 1)
             (readied tagged (record { frames = f ∷ below; heap = heap; statics = statics })
             (made_at (Some want) (least_type w.classes Bottom (kinds_of heap) (slice_index_or f.stack (length m.sig.args) cells.Empty)))))
         named-safe (Value (Class c)) wants code_is dynamic receives =
@@ -214,21 +214,21 @@ module _ (w : Linked) (world : IsWorld w) (unset : Ty) (typings : AreTypedMethod
             let t = w.classes in
             let ks = kinds_of heap in
             let r : Cell = slice_index_or f.stack (length m.sig.args) cells.Empty in
-            let filled = receiver-filled w world unset typings f below heap statics here n receiver choice m is method (Receiver c) wants in
-            let same_type : least_type t Bottom ks r ≡ least_type t unset ks r = filled-same t unset ks r filled in
-            let at = receiver-at w world unset typings f below heap statics here n receiver choice m is method (Receiver c) wants in
+            let filled = receiver-filled w world assigned typings f below heap statics here n receiver choice m is method (Receiver c) wants in
+            let same_type : least_type t Bottom ks r ≡ least_type t (assigned.unset f.method) ks r = filled-same t (assigned.unset f.method) ks r filled in
+            let at = receiver-at w world assigned typings f below heap statics here n receiver choice m is method (Receiver c) wants in
             let found : Ty = least_type t Bottom ks r in
             elim at.holds [
               | inl fresh ↦
-                  let new = new-of t unset ks c r filled fresh in
+                  let new = new-of t (assigned.unset f.method) ks c r filled fresh in
                   readied-safe (Some new.place) (made_at (Some (Receiver c)) found) (ap (made_at (Some (Receiver c))) (same_type ∙ new.type_is))
-                  (construct-safe w world unset typings f below heap statics here n receiver choice m is method c wants code_is dynamic receives.1 new)
+                  (construct-safe w world assigned typings f below heap statics here n receiver choice m is method c wants code_is dynamic receives.1 new)
               | inr old ↦
-                  let plain : IsNotFresh (least_type t unset ks r) = plain_class t (least_type t unset ks r) old in
+                  let plain : IsNotFresh (least_type t (assigned.unset f.method) ks r) = plain_class t (least_type t (assigned.unset f.method) ks r) old in
                   readied-safe None (made_at (Some (Receiver c)) found) (made-none c found (subst IsNotFresh (sym same_type) plain))
-                  (run-safe w world unset typings f below heap statics here n receiver choice m is method (Receiver c) wants n m method code_is refl dynamic
-                  (ready-receiver (length m.sig.args + 1) (result_given m.sig.result) (cell (least_types t unset ks f.stack) (length m.sig.args)) c (subst IsNotFresh (sym at.seen) plain))
-                  (subst (λ d. Below t (least_type t unset ks r) (Class d)) receives.1 old))
+                  (run-safe w world assigned typings f below heap statics here n receiver choice m is method (Receiver c) wants n m method code_is refl dynamic
+                  (ready-receiver (length m.sig.args + 1) (result_given m.sig.result) (cell (least_types t (assigned.unset f.method) ks f.stack) (length m.sig.args)) c (subst IsNotFresh (sym at.seen) plain))
+                  (subst (λ d. Below t (least_type t (assigned.unset f.method) ks r) (Class d)) receives.1 old))
             ]
         named-safe (Value Bottom) wants code_is dynamic receives = absurd receives
         named-safe (Value Short) wants code_is dynamic receives = absurd receives

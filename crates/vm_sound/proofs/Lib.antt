@@ -28,5 +28,7 @@ pub mod Dispatching
 pub mod Receivers
 pub mod Calling
 pub mod Invoking
+pub mod Numbered
 pub mod Starting
 pub mod Sound
+pub mod Handed

@@ -21,7 +21,7 @@ use Rattle.vm_store.specs.Cells.{tagged}
 use Rattle.vm_store.specs.State.{Frame, Object, rotated}
 use Rattle.vm_step.specs.Values.{moved, with_move}
 use Rattle.vm_step.specs.Settled.{goes_to}
-use Rattle.vm_sound.specs.Frames.{least_types, types_in, IsStacked}
+use Rattle.vm_sound.specs.Frames.{Typings, least_types, types_in, IsStacked}
 use Rattle.vm_sound.specs.Laws.{IsSafe}
 use Rattle.vm_sound.proofs.Handles.{kinds_of}
 use Rattle.vm_sound.proofs.Turning.{Here, on-safe}
@@ -74,25 +74,25 @@ on-stack-alone moves.DuplicateTwo = refl
 on-stack-alone (moves.CopyUnder copied under) = refl
 on-stack-alone (moves.Exchange top under) = refl
 
-module _ (w : Linked) (world : IsWorld w) (unset : Ty) (f : Frame Cell) (below : List (Frame Cell)) (heap : List (Object Cell)) (statics : List Cell)
-    (here : Here w unset f below heap statics)
+module _ (w : Linked) (world : IsWorld w) (assigned : Typings) (f : Frame Cell) (below : List (Frame Cell)) (heap : List (Object Cell)) (statics : List Cell)
+    (here : Here w assigned f below heap statics)
   where
     pub move-safe :
         (m : Move) → here.turn.operation ≡ ops.Move m
-        → IsSafe w unset (goes_to tagged w (here.turn.stands.instruction.place + here.turn.stands.instruction.insn.len) (record { frames = f ∷ below; heap = heap; statics = statics })
+        → IsSafe w assigned (goes_to tagged w (here.turn.stands.instruction.place + here.turn.stands.instruction.insn.len) (record { frames = f ∷ below; heap = heap; statics = statics })
         (with_move m (record { frames = f ∷ below; heap = heap; statics = statics })))
     move-safe m is =
         let ks = kinds_of heap in
-        let exact = types_in w.classes unset ks f in
+        let exact = types_in w.classes (assigned.unset f.method) ks f in
         let a = here.turn.applies in
         let after = here.turn.after in
         let e : effect w here.turn.operation exact ≡ on_stack (move_effect m).change = ap (λ o. effect w o exact) is ∙ on-stack-alone m in
         let stack_is : after.stack ≡ changed (move_effect m).change exact.stack = a.stack ∙ ap (λ (z : Effect). changed z.change exact.stack) e in
         let regs_are : after.regs ≡ exact.regs = subst (λ (z : Effect). Stores w.classes Flow z.store exact.regs after.regs) e a.regs in
-        let stack_now : least_types w.classes unset ks (moved m f.stack) ≡ after.stack = moved-types (least_type w.classes unset ks) m f.stack ∙ sym stack_is in
-        on-safe w world unset f below heap statics here f.registers (moved m f.stack) heap statics (ap falls_from is)
+        let stack_now : least_types w.classes (assigned.unset f.method) ks (moved m f.stack) ≡ after.stack = moved-types (least_type w.classes (assigned.unset f.method) ks) m f.stack ∙ sym stack_is in
+        on-safe w world assigned f below heap statics here f.registers (moved m f.stack) heap statics (ap falls_from is)
         (record {
           regs = subst (CellsBelow w.classes exact.regs) (sym regs_are) (cells-same w.classes exact.regs);
-          stack = subst (CellsBelow w.classes (least_types w.classes unset ks (moved m f.stack))) stack_now (cells-same w.classes (least_types w.classes unset ks (moved m f.stack)));
+          stack = subst (CellsBelow w.classes (least_types w.classes (assigned.unset f.method) ks (moved m f.stack))) stack_now (cells-same w.classes (least_types w.classes (assigned.unset f.method) ks (moved m f.stack)));
         })
         (moved-all (IsStacked w here.turn.stands.rec ks) m f.stack here.turn.stacked) here.store refl

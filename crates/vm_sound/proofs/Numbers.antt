@@ -2,7 +2,6 @@
 use Rattle.std.proofs.Common.{◌≡◌, ℕ, ◌+◌, true, List, [], ◌∷◌, refl, ap, ◌∙◌}
 use Rattle.std.specs.Prelude.{ℤ, Option}
 use Rattle.std.proofs.lemmas.List.Elements.{All-nil}
-use Rattle.jc_base.specs.declared.ty.Ty.{Ty}
 use Rattle.jc_base.specs.Order.{same}
 use Rattle.jc_base.specs.World.{Linked, IsWorld}
 use Rattle.jc_ops.specs.declared.operation.Width.{Width}
@@ -27,41 +26,41 @@ use Rattle.vm_step.specs.Act.{goes}
 use Rattle.vm_step.specs.Numbers.{short_at, int_on, number_on, number_cells, replaced}
 use Rattle.vm_step.specs.Values.{with_constant, binary, negated, computed, arithmetic_act}
 use Rattle.vm_step.specs.Settled.{goes_to, settled}
-use Rattle.vm_sound.specs.Frames.{types_in, IsStacked}
+use Rattle.vm_sound.specs.Frames.{Typings, types_in, IsStacked}
 use Rattle.vm_sound.specs.Laws.{IsSafe}
 use Rattle.vm_sound.proofs.Handles.{kinds_of}
 use Rattle.vm_sound.proofs.Cells.{one-stacked, two-stacked}
 use Rattle.vm_sound.proofs.Turning.{Here, replace-safe, some-safe}
 
-module _ (w : Linked) (world : IsWorld w) (unset : Ty) (f : Frame Cell) (below : List (Frame Cell)) (heap : List (Object Cell)) (statics : List Cell)
-    (here : Here w unset f below heap statics)
+module _ (w : Linked) (world : IsWorld w) (assigned : Typings) (f : Frame Cell) (below : List (Frame Cell)) (heap : List (Object Cell)) (statics : List Cell)
+    (here : Here w assigned f below heap statics)
   where
     -- a number in place of cells of the stack
     number-safe :
         (taken : ℕ) (width : Width) (n : ℤ) (op : Operation)
-        → here.turn.operation ≡ op → effect w op (types_in w.classes unset (kinds_of heap) f) ≡ replacing taken (number_given width) → falls_from op ≡ true
-        → IsSafe w unset (goes_to tagged w (here.turn.stands.instruction.place + here.turn.stands.instruction.insn.len) (record { frames = f ∷ below; heap = heap; statics = statics })
+        → here.turn.operation ≡ op → effect w op (types_in w.classes (assigned.unset f.method) (kinds_of heap) f) ≡ replacing taken (number_given width) → falls_from op ≡ true
+        → IsSafe w assigned (goes_to tagged w (here.turn.stands.instruction.place + here.turn.stands.instruction.insn.len) (record { frames = f ∷ below; heap = heap; statics = statics })
         (replaced (record { frames = f ∷ below; heap = heap; statics = statics }) taken (number_cells tagged width n)))
     number-safe taken widths.Short n op is does falls =
-        replace-safe w world unset f below heap statics here taken (given.One _) (cells.Short n ∷ []) heap statics
-        (ap (λ o. effect w o (types_in w.classes unset (kinds_of heap) f)) is ∙ does) (ap falls_from is ∙ falls)
+        replace-safe w world assigned f below heap statics here taken (given.One _) (cells.Short n ∷ []) heap statics
+        (ap (λ o. effect w o (types_in w.classes (assigned.unset f.method) (kinds_of heap) f)) is ∙ does) (ap falls_from is ∙ falls)
         (more_cells same no_cells) (one-stacked w here.turn.stands.rec (kinds_of heap) (cells.Short n) tt) here.store refl
     number-safe taken widths.Int n op is does falls =
-        replace-safe w world unset f below heap statics here taken given.Int (cells.Low (low_word n) ∷ cells.High (high_word n) ∷ []) heap statics
-        (ap (λ o. effect w o (types_in w.classes unset (kinds_of heap) f)) is ∙ does) (ap falls_from is ∙ falls)
+        replace-safe w world assigned f below heap statics here taken given.Int (cells.Low (low_word n) ∷ cells.High (high_word n) ∷ []) heap statics
+        (ap (λ o. effect w o (types_in w.classes (assigned.unset f.method) (kinds_of heap) f)) is ∙ does) (ap falls_from is ∙ falls)
         (more_cells same (more_cells same no_cells)) (two-stacked w here.turn.stands.rec (kinds_of heap) (cells.Low (low_word n)) (cells.High (high_word n)) tt tt) here.store refl
 
     pub constant-safe :
         (c : Constant) → here.turn.operation ≡ ops.Constant c
-        → IsSafe w unset (goes_to tagged w (here.turn.stands.instruction.place + here.turn.stands.instruction.insn.len) (record { frames = f ∷ below; heap = heap; statics = statics })
+        → IsSafe w assigned (goes_to tagged w (here.turn.stands.instruction.place + here.turn.stands.instruction.insn.len) (record { frames = f ∷ below; heap = heap; statics = statics })
         (with_constant tagged c (record { frames = f ∷ below; heap = heap; statics = statics })))
     constant-safe constants.Nothing is =
-        replace-safe w world unset f below heap statics here 0 given.Nothing [] heap statics
-        (ap (λ o. effect w o (types_in w.classes unset (kinds_of heap) f)) is) (ap falls_from is)
+        replace-safe w world assigned f below heap statics here 0 given.Nothing [] heap statics
+        (ap (λ o. effect w o (types_in w.classes (assigned.unset f.method) (kinds_of heap) f)) is) (ap falls_from is)
         no_cells (All-nil (IsStacked w here.turn.stands.rec (kinds_of heap))) here.store refl
     constant-safe constants.Null is =
-        replace-safe w world unset f below heap statics here 0 (given.One _) (cells.Ref 0 ∷ []) heap statics
-        (ap (λ o. effect w o (types_in w.classes unset (kinds_of heap) f)) is) (ap falls_from is)
+        replace-safe w world assigned f below heap statics here 0 (given.One _) (cells.Ref 0 ∷ []) heap statics
+        (ap (λ o. effect w o (types_in w.classes (assigned.unset f.method) (kinds_of heap) f)) is) (ap falls_from is)
         (more_cells same no_cells) (one-stacked w here.turn.stands.rec (kinds_of heap) (cells.Ref 0) tt) here.store refl
     constant-safe (constants.Short n) is = number-safe 0 widths.Short (int_to_short n) (ops.Constant (constants.Short n)) is refl refl
     constant-safe (constants.Int n) is = number-safe 0 widths.Int n (ops.Constant (constants.Int n)) is refl refl
@@ -70,18 +69,18 @@ module _ (w : Linked) (world : IsWorld w) (unset : Ty) (f : Frame Cell) (below :
 
     computed-safe :
         (taken : ℕ) (width : Width) (result : Option ℤ) (op : Operation)
-        → here.turn.operation ≡ op → effect w op (types_in w.classes unset (kinds_of heap) f) ≡ replacing taken (number_given width) → falls_from op ≡ true
-        → IsSafe w unset (settled tagged w (here.turn.stands.instruction.place + here.turn.stands.instruction.insn.len)
+        → here.turn.operation ≡ op → effect w op (types_in w.classes (assigned.unset f.method) (kinds_of heap) f) ≡ replacing taken (number_given width) → falls_from op ≡ true
+        → IsSafe w assigned (settled tagged w (here.turn.stands.instruction.place + here.turn.stands.instruction.insn.len)
         (record { frames = f ∷ below; heap = heap; statics = statics })
         (computed tagged width (record { frames = f ∷ below; heap = heap; statics = statics }) taken result))
     computed-safe taken width result op is does falls =
-        some-safe w world unset f below heap statics here (here.turn.stands.instruction.place + here.turn.stands.instruction.insn.len) exceptions.Arithmetic result
+        some-safe w world assigned f below heap statics here (here.turn.stands.instruction.place + here.turn.stands.instruction.insn.len) exceptions.Arithmetic result
         (λ n. goes (replaced (record { frames = f ∷ below; heap = heap; statics = statics }) taken (number_cells tagged width n)))
         (λ n e. number-safe taken width n op is does falls)
 
     pub arithmetic-safe :
         (a : Arithmetic) → here.turn.operation ≡ ops.Arithmetic a
-        → IsSafe w unset (settled tagged w (here.turn.stands.instruction.place + here.turn.stands.instruction.insn.len)
+        → IsSafe w assigned (settled tagged w (here.turn.stands.instruction.place + here.turn.stands.instruction.insn.len)
         (record { frames = f ∷ below; heap = heap; statics = statics })
         (arithmetic_act tagged a (record { frames = f ∷ below; heap = heap; statics = statics })))
     arithmetic-safe (arithmetic.Binary o widths.Short) is =

@@ -34,7 +34,7 @@ use Rattle.vm_step.specs.Act.{goes, makes, raises, throws}
 use Rattle.vm_step.specs.Numbers.{handle_at, short_at, dropped}
 use Rattle.vm_step.specs.Objects.{kind_of_type, new_act, array_of_count, new_array_act, throw_act, kind_passes, passes, may_cast, truth, type_test_act}
 use Rattle.vm_step.specs.Settled.{goes_to, settled}
-use Rattle.vm_sound.specs.Frames.{types_in, class_made, class_of_new, class_made_by, IsStacked, IsTypedFrame, AreWaiting, result_of}
+use Rattle.vm_sound.specs.Frames.{Typings, types_in, class_made, class_of_new, class_made_by, IsStacked, IsTypedFrame, AreWaiting, result_of}
 use Rattle.vm_sound.specs.State.{IsMade}
 use Rattle.vm_sound.specs.Laws.{IsSafe}
 use Rattle.vm_sound.proofs.CellTypes.{stacked-filled, stacked-falls, types-fall, some-from}
@@ -55,8 +55,8 @@ top-and-rest : (xs : List Cell) → 0 < length xs → slice_index_or xs 0 cells.
 top-and-rest [] h = absurd (omega (arith, h))
 top-and-rest (x ∷ xs) h = refl
 
-module _ (w : Linked) (world : IsWorld w) (unset : Ty) (f : Frame Cell) (below : List (Frame Cell)) (heap : List (Object Cell)) (statics : List Cell)
-    (here : Here w unset f below heap statics)
+module _ (w : Linked) (world : IsWorld w) (assigned : Typings) (f : Frame Cell) (below : List (Frame Cell)) (heap : List (Object Cell)) (statics : List Cell)
+    (here : Here w assigned f below heap statics)
   where
     -- ---- new objects
 
@@ -64,11 +64,11 @@ module _ (w : Linked) (world : IsWorld w) (unset : Ty) (f : Frame Cell) (below :
     made-safe :
         (taken : ℕ) (made_type : Ty) (kind : ObjectKind) (cs : List Cell) (reference : ℕ → Cell) (op : Operation)
         → here.turn.operation ≡ op
-        → effect w op (types_in w.classes unset (kinds_of heap) f) ≡ replacing taken (given.One made_type) → falls_from op ≡ true
+        → effect w op (types_in w.classes (assigned.unset f.method) (kinds_of heap) f) ≡ replacing taken (given.One made_type) → falls_from op ≡ true
         → IsTypedStore w (heap ++ record { kind = kind; cells = cs } ∷ []) statics
-        → Below w.classes (least_type w.classes unset (kinds_of heap ++ kind ∷ []) (reference (length heap + 1))) made_type
+        → Below w.classes (least_type w.classes (assigned.unset f.method) (kinds_of heap ++ kind ∷ []) (reference (length heap + 1))) made_type
         → IsStacked w here.turn.stands.rec (kinds_of heap ++ kind ∷ []) (reference (length heap + 1))
-        → IsSafe w unset (settled tagged w (here.turn.stands.instruction.place + here.turn.stands.instruction.insn.len) (record { frames = f ∷ below; heap = heap; statics = statics })
+        → IsSafe w assigned (settled tagged w (here.turn.stands.instruction.place + here.turn.stands.instruction.insn.len) (record { frames = f ∷ below; heap = heap; statics = statics })
         (makes kind cs reference (dropped (record { frames = f ∷ below; heap = heap; statics = statics }) taken)))
     made-safe taken made_type kind cs reference op is does falls store lower stacked =
         let o : Object Cell = record { kind = kind; cells = cs } in
@@ -79,19 +79,19 @@ module _ (w : Linked) (world : IsWorld w) (unset : Ty) (f : Frame Cell) (below :
         let new : List Cell = c ∷ drop taken f.stack in
         let next : ℕ = st.instruction.place + st.instruction.insn.len in
         let top : Frame Cell = record { method = f.method; place = next; registers = f.registers; stack = new } in
-        let under = replaced-below w world unset f below heap statics here taken (given.One made_type) (c ∷ []) more (ap (λ o. effect w o (types_in w.classes unset ks f)) is ∙ does)
-        (more_cells lower no_cells) (types-fall w.classes unset ks (kind ∷ []) f.registers) (types-fall w.classes unset ks (kind ∷ []) f.stack) in
+        let under = replaced-below w world assigned f below heap statics here taken (given.One made_type) (c ∷ []) more (ap (λ o. effect w o (types_in w.classes (assigned.unset f.method) ks f)) is ∙ does)
+        (more_cells lower no_cells) (types-fall w.classes (assigned.unset f.method) ks (kind ∷ []) f.registers) (types-fall w.classes (assigned.unset f.method) ks (kind ∷ []) f.stack) in
         let all : All (IsStacked w st.rec more) new =
         All-cons (IsStacked w st.rec more) c (drop taken f.stack) stacked
         (All-drop (IsStacked w st.rec more) taken f.stack (All-weaker (IsStacked w st.rec ks) (IsStacked w st.rec more) (stacked-falls w st.rec ks (kind ∷ [])) f.stack here.turn.stacked)) in
         let same = sym (kinds-more heap o) in
-        makes-safe w unset (record f { stack = drop taken f.stack }) next below heap statics kind cs reference here.store (record {
+        makes-safe w assigned (record f { stack = drop taken f.stack }) next below heap statics kind cs reference here.store (record {
           made = store.made;
           heap = store.objects;
           statics = store.fields;
           frames = (
-            subst (λ xs. IsTypedFrame w unset xs top) same (typed-after w world unset f below heap statics here more f.registers new (ap falls_from is ∙ falls) under all),
-            subst (λ xs. AreWaiting w unset xs (result_of w f.method) below) same (all-waiting-fall w unset ks (kind ∷ []) (result_of w f.method) below here.waits),
+            subst (λ xs. IsTypedFrame w assigned xs top) same (typed-after w world assigned f below heap statics here more f.registers new (ap falls_from is ∙ falls) under all),
+            subst (λ xs. AreWaiting w assigned xs (result_of w f.method) below) same (all-waiting-fall w assigned ks (kind ∷ []) (result_of w f.method) below here.waits),
           );
         })
 
@@ -106,7 +106,7 @@ module _ (w : Linked) (world : IsWorld w) (unset : Ty) (f : Frame Cell) (below :
 
     pub new-safe :
         (place class : ℕ) → here.turn.operation ≡ ops.New place class → here.turn.stands.instruction.place ≡ place → IsConcrete w.classes w.methods class
-        → IsSafe w unset (settled tagged w (here.turn.stands.instruction.place + here.turn.stands.instruction.insn.len) (record { frames = f ∷ below; heap = heap; statics = statics })
+        → IsSafe w assigned (settled tagged w (here.turn.stands.instruction.place + here.turn.stands.instruction.insn.len) (record { frames = f ∷ below; heap = heap; statics = statics })
         (new_act tagged w.classes place class (record { frames = f ∷ below; heap = heap; statics = statics })))
     new-safe place class is at concrete =
         let o : Object Cell = record { kind = Instance class; cells = instance_cells tagged w.classes class } in
@@ -167,9 +167,9 @@ module _ (w : Linked) (world : IsWorld w) (unset : Ty) (f : Frame Cell) (below :
 
     array-safe :
         (ty : Ty) (count : ℤ) → here.turn.operation ≡ ops.NewArray ty → IsArray ty → IsNamedType w.classes ty
-        → IsSafe w unset (settled tagged w (here.turn.stands.instruction.place + here.turn.stands.instruction.insn.len) (record { frames = f ∷ below; heap = heap; statics = statics })
+        → IsSafe w assigned (settled tagged w (here.turn.stands.instruction.place + here.turn.stands.instruction.insn.len) (record { frames = f ∷ below; heap = heap; statics = statics })
         (array_of_count tagged (kind_of_type ty) count (dropped (record { frames = f ∷ below; heap = heap; statics = statics }) 1)))
-    array-safe ty (negsuc n) is array named = raise-safe w world unset f below heap statics here exceptions.NegativeSize
+    array-safe ty (negsuc n) is array named = raise-safe w world assigned f below heap statics here exceptions.NegativeSize
     array-safe ty (pos count) is array named =
         let kind : ObjectKind = kind_of_type ty in
         let cs : List Cell = array_cells tagged kind count in
@@ -183,7 +183,7 @@ module _ (w : Linked) (world : IsWorld w) (unset : Ty) (f : Frame Cell) (below :
 
     pub new-array-safe :
         (ty : Ty) → here.turn.operation ≡ ops.NewArray ty → IsArray ty → IsNamedType w.classes ty
-        → IsSafe w unset (settled tagged w (here.turn.stands.instruction.place + here.turn.stands.instruction.insn.len) (record { frames = f ∷ below; heap = heap; statics = statics })
+        → IsSafe w assigned (settled tagged w (here.turn.stands.instruction.place + here.turn.stands.instruction.insn.len) (record { frames = f ∷ below; heap = heap; statics = statics })
         (new_array_act tagged ty (record { frames = f ∷ below; heap = heap; statics = statics })))
     new-array-safe ty is array named = array-safe ty (short_at tagged f.stack 0) is array named
 
@@ -191,18 +191,18 @@ module _ (w : Linked) (world : IsWorld w) (unset : Ty) (f : Frame Cell) (below :
 
     pub throw-act-safe :
         here.turn.operation ≡ ops.Throw
-        → IsSafe w unset (settled tagged w (here.turn.stands.instruction.place + here.turn.stands.instruction.insn.len) (record { frames = f ∷ below; heap = heap; statics = statics })
+        → IsSafe w assigned (settled tagged w (here.turn.stands.instruction.place + here.turn.stands.instruction.insn.len) (record { frames = f ∷ below; heap = heap; statics = statics })
         (throw_act tagged (record { frames = f ∷ below; heap = heap; statics = statics })))
     throw-act-safe is =
         let c : Cell = slice_index_or f.stack 0 cells.Empty in
         let ty : Ty = Class (throwable w.classes) in
-        let asked = asked-of w world unset f below heap statics here ops.Throw is in
-        let wanted = cell-at w.classes unset (kinds_of heap) f.stack 0 (λ a. Below w.classes a ty) asked.0 in
-        let handle = reference-handle w.classes world.chains unset (kinds_of heap) c ty tt wanted.holds in
-        null-safe w world unset f below heap statics here (here.turn.stands.instruction.place + here.turn.stands.instruction.insn.len) (word_of c) throws
+        let asked = asked-of w world assigned f below heap statics here ops.Throw is in
+        let wanted = cell-at w.classes (assigned.unset f.method) (kinds_of heap) f.stack 0 (λ a. Below w.classes a ty) asked.0 in
+        let handle = reference-handle w.classes world.chains (assigned.unset f.method) (kinds_of heap) c ty tt wanted.holds in
+        null-safe w world assigned f below heap statics here (here.turn.stands.instruction.place + here.turn.stands.instruction.insn.len) (word_of c) throws
         (λ some.
         let o = handle-object w.classes world.chains heap (word_of c) ty tt some handle in
-        throw-safe w world unset f below heap statics here (word_of c) o.object.kind o.kind_is)
+        throw-safe w world assigned f below heap statics here (word_of c) o.object.kind o.kind_is)
 
     -- ---- casts
 
@@ -238,33 +238,33 @@ module _ (w : Linked) (world : IsWorld w) (unset : Ty) (f : Frame Cell) (below :
 
     pub type-test-safe :
         (test : TypeTest) (ty : Ty) → here.turn.operation ≡ ops.TypeTest test ty → IsNamedType w.classes ty
-        → IsSafe w unset (settled tagged w (here.turn.stands.instruction.place + here.turn.stands.instruction.insn.len) (record { frames = f ∷ below; heap = heap; statics = statics })
+        → IsSafe w assigned (settled tagged w (here.turn.stands.instruction.place + here.turn.stands.instruction.insn.len) (record { frames = f ∷ below; heap = heap; statics = statics })
         (type_test_act tagged w.classes test ty (record { frames = f ∷ below; heap = heap; statics = statics })))
     type-test-safe tests.InstanceOf ty is named =
         let now : State Cell = record { frames = f ∷ below; heap = heap; statics = statics } in
         let c : Cell = cells.Short (truth (passes w.classes now ty (handle_at tagged f.stack 0))) in
-        replace-safe w world unset f below heap statics here 1 (given.One Short) (c ∷ []) heap statics
-        (ap (λ o. effect w o (types_in w.classes unset (kinds_of heap) f)) is) (ap falls_from is)
+        replace-safe w world assigned f below heap statics here 1 (given.One Short) (c ∷ []) heap statics
+        (ap (λ o. effect w o (types_in w.classes (assigned.unset f.method) (kinds_of heap) f)) is) (ap falls_from is)
         (more_cells same no_cells) (one-stacked w here.turn.stands.rec (kinds_of heap) c tt) here.store refl
     type-test-safe tests.Cast ty is named = go (may_cast w.classes (record { frames = f ∷ below; heap = heap; statics = statics }) ty (word_of (slice_index_or f.stack 0 cells.Empty))) refl
       where
         go : (b : Bool) → may_cast w.classes (record { frames = f ∷ below; heap = heap; statics = statics }) ty (word_of (slice_index_or f.stack 0 cells.Empty)) ≡ b
-            → IsSafe w unset (settled tagged w (here.turn.stands.instruction.place + here.turn.stands.instruction.insn.len) (record { frames = f ∷ below; heap = heap; statics = statics })
+            → IsSafe w assigned (settled tagged w (here.turn.stands.instruction.place + here.turn.stands.instruction.insn.len) (record { frames = f ∷ below; heap = heap; statics = statics })
             (if b then goes (record { frames = f ∷ below; heap = heap; statics = statics }) else raises exceptions.ClassCast))
-        go false e = raise-safe w world unset f below heap statics here exceptions.ClassCast
+        go false e = raise-safe w world assigned f below heap statics here exceptions.ClassCast
         go true e =
             let t = w.classes in
             let ks = kinds_of heap in
             let c : Cell = slice_index_or f.stack 0 cells.Empty in
-            let asked = asked-of w world unset f below heap statics here (ops.TypeTest tests.Cast ty) is in
-            let at = cell-at t unset ks f.stack 0 (λ a. Below t a (Class (object t))) asked.0 in
+            let asked = asked-of w world assigned f below heap statics here (ops.TypeTest tests.Cast ty) is in
+            let at = cell-at t (assigned.unset f.method) ks f.stack 0 (λ a. Below t a (Class (object t))) asked.0 in
             let filled = stacked-filled w here.turn.stands.rec ks c (stacked-at w here.turn.stands.rec ks f.stack 0 at.inside here.turn.stacked) in
-            let lower : Below t (least_type t unset ks c) (seen t ty) =
-            subst (λ a. Below t a (seen t ty)) (sym (reference-same t world.chains unset ks c (Class (object t)) tt filled at.holds)) (may-cast-below ty (word_of c) named e) in
-            subst (λ xs. IsSafe w unset (goes_to tagged w (here.turn.stands.instruction.place + here.turn.stands.instruction.insn.len) (record { frames = f ∷ below; heap = heap; statics = statics })
+            let lower : Below t (least_type t (assigned.unset f.method) ks c) (seen t ty) =
+            subst (λ a. Below t a (seen t ty)) (sym (reference-same t world.chains (assigned.unset f.method) ks c (Class (object t)) tt filled at.holds)) (may-cast-below ty (word_of c) named e) in
+            subst (λ xs. IsSafe w assigned (goes_to tagged w (here.turn.stands.instruction.place + here.turn.stands.instruction.insn.len) (record { frames = f ∷ below; heap = heap; statics = statics })
             (record { frames = record { method = f.method; place = f.place; registers = f.registers; stack = xs } ∷ below; heap = heap; statics = statics })))
             (top-and-rest f.stack at.inside)
-            (replace-safe w world unset f below heap statics here 1 (given.One (seen t ty)) (c ∷ []) heap statics
-            (ap (λ o. effect w o (types_in t unset ks f)) is) (ap falls_from is)
+            (replace-safe w world assigned f below heap statics here 1 (given.One (seen t ty)) (c ∷ []) heap statics
+            (ap (λ o. effect w o (types_in t (assigned.unset f.method) ks f)) is) (ap falls_from is)
             (more_cells lower no_cells)
-            (one-stacked w here.turn.stands.rec ks c (value-ready t world.chains unset ks c (Class (object t)) filled tt tt at.holds)) here.store refl)
+            (one-stacked w here.turn.stands.rec ks c (value-ready t world.chains (assigned.unset f.method) ks c (Class (object t)) filled tt tt at.holds)) here.store refl)

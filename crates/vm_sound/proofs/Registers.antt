@@ -35,7 +35,7 @@ use Rattle.vm_store.specs.Cells.{tagged, loaded_as}
 use Rattle.vm_store.specs.State.{Frame, Object}
 use Rattle.vm_step.specs.Values.{with_load, with_store, incremented, with_increment}
 use Rattle.vm_step.specs.Settled.{goes_to}
-use Rattle.vm_sound.specs.Frames.{least_types, types_in, IsStacked}
+use Rattle.vm_sound.specs.Frames.{Typings, least_types, types_in, IsStacked}
 use Rattle.vm_sound.specs.Laws.{IsSafe}
 use Rattle.vm_sound.proofs.CellTypes.{IsReadyCell}
 use Rattle.vm_sound.proofs.Handles.{kinds_of}
@@ -114,36 +114,36 @@ module _ (t : ClassTable) (are : AreClasses t) (unset : Ty) (ks : List ObjectKin
   low-loaded (cells.Ref n) b = record { below = b; ready = tt }
   low-loaded (cells.Fresh n p) b = record { below = b; ready = value-ready t are unset ks (cells.Fresh n p) IntLow tt tt tt b }
 
-module _ (w : Linked) (world : IsWorld w) (unset : Ty) (f : Frame Cell) (below : List (Frame Cell)) (heap : List (Object Cell)) (statics : List Cell)
-    (here : Here w unset f below heap statics)
+module _ (w : Linked) (world : IsWorld w) (assigned : Typings) (f : Frame Cell) (below : List (Frame Cell)) (heap : List (Object Cell)) (statics : List Cell)
+    (here : Here w assigned f below heap statics)
   where
     -- what the operation asks of the least types of cells
-    pub asked-of : (op : Operation) → here.turn.operation ≡ op → AllHold w.classes (types_in w.classes unset (kinds_of heap) f) (demands w op)
-    asked-of op is = subst (λ o. AllHold w.classes (types_in w.classes unset (kinds_of heap) f) (demands w o)) is here.turn.applies.asked
+    pub asked-of : (op : Operation) → here.turn.operation ≡ op → AllHold w.classes (types_in w.classes (assigned.unset f.method) (kinds_of heap) f) (demands w op)
+    asked-of op is = subst (λ o. AllHold w.classes (types_in w.classes (assigned.unset f.method) (kinds_of heap) f) (demands w o)) is here.turn.applies.asked
 
     pub load-safe :
         (sort : Sort) (x : ℕ) → here.turn.operation ≡ ops.Load sort x
-        → IsSafe w unset (goes_to tagged w (here.turn.stands.instruction.place + here.turn.stands.instruction.insn.len) (record { frames = f ∷ below; heap = heap; statics = statics })
+        → IsSafe w assigned (goes_to tagged w (here.turn.stands.instruction.place + here.turn.stands.instruction.insn.len) (record { frames = f ∷ below; heap = heap; statics = statics })
         (with_load tagged sort x (record { frames = f ∷ below; heap = heap; statics = statics })))
     load-safe sorts.Reference x is =
         let ks = kinds_of heap in
         let c : Cell = slice_index_or f.registers x cells.Empty in
         let asked = asked-of (ops.Load sorts.Reference x) is in
-        let at = cell-at w.classes unset ks f.registers x (λ ty. Below w.classes ty (Class (object w.classes))) asked.1.0 in
-        let loaded = reference-loaded w.classes world.chains unset ks c (object w.classes) at.holds in
-        replace-safe w world unset f below heap statics here 0 (given.One (or_null (slice_index_or (least_types w.classes unset ks f.registers) x Top)))
+        let at = cell-at w.classes (assigned.unset f.method) ks f.registers x (λ ty. Below w.classes ty (Class (object w.classes))) asked.1.0 in
+        let loaded = reference-loaded w.classes world.chains (assigned.unset f.method) ks c (object w.classes) at.holds in
+        replace-safe w world assigned f below heap statics here 0 (given.One (or_null (slice_index_or (least_types w.classes (assigned.unset f.method) ks f.registers) x Top)))
         (loaded_as made.Reference c ∷ []) heap statics
-        (ap (λ o. effect w o (types_in w.classes unset ks f)) is) (ap falls_from is)
-        (more_cells (subst (Below w.classes (least_type w.classes unset ks (loaded_as made.Reference c))) (sym (ap or_null at.seen)) loaded.below) no_cells)
+        (ap (λ o. effect w o (types_in w.classes (assigned.unset f.method) ks f)) is) (ap falls_from is)
+        (more_cells (subst (Below w.classes (least_type w.classes (assigned.unset f.method) ks (loaded_as made.Reference c))) (sym (ap or_null at.seen)) loaded.below) no_cells)
         (one-stacked w here.turn.stands.rec ks (loaded_as made.Reference c) loaded.ready) here.store refl
     load-safe sorts.Short x is =
         let ks = kinds_of heap in
         let c : Cell = slice_index_or f.registers x cells.Empty in
         let asked = asked-of (ops.Load sorts.Short x) is in
-        let at = cell-at w.classes unset ks f.registers x (λ ty. Below w.classes ty Short) asked.1.0 in
-        let loaded = short-loaded w.classes world.chains unset ks c at.holds in
-        replace-safe w world unset f below heap statics here 0 (given.One Short) (loaded_as made.Short c ∷ []) heap statics
-        (ap (λ o. effect w o (types_in w.classes unset ks f)) is) (ap falls_from is)
+        let at = cell-at w.classes (assigned.unset f.method) ks f.registers x (λ ty. Below w.classes ty Short) asked.1.0 in
+        let loaded = short-loaded w.classes world.chains (assigned.unset f.method) ks c at.holds in
+        replace-safe w world assigned f below heap statics here 0 (given.One Short) (loaded_as made.Short c ∷ []) heap statics
+        (ap (λ o. effect w o (types_in w.classes (assigned.unset f.method) ks f)) is) (ap falls_from is)
         (more_cells loaded.below no_cells)
         (one-stacked w here.turn.stands.rec ks (loaded_as made.Short c) loaded.ready) here.store refl
     load-safe sorts.Int x is =
@@ -151,10 +151,10 @@ module _ (w : Linked) (world : IsWorld w) (unset : Ty) (f : Frame Cell) (below :
         let c : Cell = slice_index_or f.registers x cells.Empty in
         let d : Cell = slice_index_or f.registers (x + 1) cells.Empty in
         let asked = asked-of (ops.Load sorts.Int x) is in
-        let high = high-loaded w.classes world.chains unset ks c (cell-at w.classes unset ks f.registers x (λ ty. Below w.classes ty IntHigh) asked.1.0).holds in
-        let low = low-loaded w.classes world.chains unset ks d (cell-at w.classes unset ks f.registers (x + 1) (λ ty. Below w.classes ty IntLow) asked.1.1.0).holds in
-        replace-safe w world unset f below heap statics here 0 given.Int (loaded_as made.Low d ∷ loaded_as made.High c ∷ []) heap statics
-        (ap (λ o. effect w o (types_in w.classes unset ks f)) is) (ap falls_from is)
+        let high = high-loaded w.classes world.chains (assigned.unset f.method) ks c (cell-at w.classes (assigned.unset f.method) ks f.registers x (λ ty. Below w.classes ty IntHigh) asked.1.0).holds in
+        let low = low-loaded w.classes world.chains (assigned.unset f.method) ks d (cell-at w.classes (assigned.unset f.method) ks f.registers (x + 1) (λ ty. Below w.classes ty IntLow) asked.1.1.0).holds in
+        replace-safe w world assigned f below heap statics here 0 given.Int (loaded_as made.Low d ∷ loaded_as made.High c ∷ []) heap statics
+        (ap (λ o. effect w o (types_in w.classes (assigned.unset f.method) ks f)) is) (ap falls_from is)
         (more_cells low.below (more_cells high.below no_cells))
         (two-stacked w here.turn.stands.rec ks (loaded_as made.Low d) (loaded_as made.High c) low.ready high.ready) here.store refl
 
@@ -164,9 +164,9 @@ module _ (w : Linked) (world : IsWorld w) (unset : Ty) (f : Frame Cell) (below :
     stored-safe :
         (taken x : ℕ) (c : Cell) (ty : Ty) (op : Operation)
         → here.turn.operation ≡ op
-        → effect w op (types_in w.classes unset (kinds_of heap) f) ≡ storing taken x (given.One ty) → falls_from op ≡ true
-        → Below w.classes (least_type w.classes unset (kinds_of heap) c) ty
-        → IsSafe w unset (goes_to tagged w (here.turn.stands.instruction.place + here.turn.stands.instruction.insn.len) (record { frames = f ∷ below; heap = heap; statics = statics })
+        → effect w op (types_in w.classes (assigned.unset f.method) (kinds_of heap) f) ≡ storing taken x (given.One ty) → falls_from op ≡ true
+        → Below w.classes (least_type w.classes (assigned.unset f.method) (kinds_of heap) c) ty
+        → IsSafe w assigned (goes_to tagged w (here.turn.stands.instruction.place + here.turn.stands.instruction.insn.len) (record { frames = f ∷ below; heap = heap; statics = statics })
         (record {
           frames = record { method = f.method; place = f.place; registers = set f.registers x c; stack = drop taken f.stack } ∷ below;
           heap = heap;
@@ -174,20 +174,20 @@ module _ (w : Linked) (world : IsWorld w) (unset : Ty) (f : Frame Cell) (below :
         }))
     stored-safe taken x c ty op is does falls lower =
         let ks = kinds_of heap in
-        let exact = types_in w.classes unset ks f in
+        let exact = types_in w.classes (assigned.unset f.method) ks f in
         let a = here.turn.applies in
         let after = here.turn.after in
         let e : effect w here.turn.operation exact ≡ storing taken x (given.One ty) = ap (λ o. effect w o exact) is ∙ does in
         let stack_is : after.stack ≡ drop taken exact.stack = a.stack ∙ ap (λ (z : Effect). changed z.change exact.stack) e in
         let wrote : Writes w.classes Flow x ty exact.regs after.regs = subst (λ (z : Effect). Stores w.classes Flow z.store exact.regs after.regs) e a.regs in
         let regs_are : after.regs ≡ set exact.regs x ty = wrote.after_is ∙ ap (set exact.regs x) wrote.stored in
-        on-safe w world unset f below heap statics here (set f.registers x c) (drop taken f.stack) heap statics (ap falls_from is ∙ falls)
+        on-safe w world assigned f below heap statics here (set f.registers x c) (drop taken f.stack) heap statics (ap falls_from is ∙ falls)
         (record {
-          regs = subst (CellsBelow w.classes (least_types w.classes unset ks (set f.registers x c))) (sym regs_are)
-              (subst (λ ts. CellsBelow w.classes ts (set exact.regs x ty)) (sym (map-set (least_type w.classes unset ks) f.registers x c))
+          regs = subst (CellsBelow w.classes (least_types w.classes (assigned.unset f.method) ks (set f.registers x c))) (sym regs_are)
+              (subst (λ ts. CellsBelow w.classes ts (set exact.regs x ty)) (sym (map-set (least_type w.classes (assigned.unset f.method) ks) f.registers x c))
               (cells-set w.classes x lower (cells-same w.classes exact.regs)));
-          stack = subst (CellsBelow w.classes (least_types w.classes unset ks (drop taken f.stack))) (sym stack_is)
-              (subst (λ ts. CellsBelow w.classes ts (drop taken exact.stack)) (drop-map (least_type w.classes unset ks) taken f.stack)
+          stack = subst (CellsBelow w.classes (least_types w.classes (assigned.unset f.method) ks (drop taken f.stack))) (sym stack_is)
+              (subst (λ ts. CellsBelow w.classes ts (drop taken exact.stack)) (drop-map (least_type w.classes (assigned.unset f.method) ks) taken f.stack)
               (cells-same w.classes (drop taken exact.stack)));
         })
         (All-drop (IsStacked w here.turn.stands.rec ks) taken f.stack here.turn.stacked) here.store refl
@@ -196,9 +196,9 @@ module _ (w : Linked) (world : IsWorld w) (unset : Ty) (f : Frame Cell) (below :
     stored-int-safe :
         (taken x : ℕ) (c d : Cell) (op : Operation)
         → here.turn.operation ≡ op
-        → effect w op (types_in w.classes unset (kinds_of heap) f) ≡ storing taken x given.Int → falls_from op ≡ true
-        → Below w.classes (least_type w.classes unset (kinds_of heap) c) IntHigh → Below w.classes (least_type w.classes unset (kinds_of heap) d) IntLow
-        → IsSafe w unset (goes_to tagged w (here.turn.stands.instruction.place + here.turn.stands.instruction.insn.len) (record { frames = f ∷ below; heap = heap; statics = statics })
+        → effect w op (types_in w.classes (assigned.unset f.method) (kinds_of heap) f) ≡ storing taken x given.Int → falls_from op ≡ true
+        → Below w.classes (least_type w.classes (assigned.unset f.method) (kinds_of heap) c) IntHigh → Below w.classes (least_type w.classes (assigned.unset f.method) (kinds_of heap) d) IntLow
+        → IsSafe w assigned (goes_to tagged w (here.turn.stands.instruction.place + here.turn.stands.instruction.insn.len) (record { frames = f ∷ below; heap = heap; statics = statics })
         (record {
           frames = record { method = f.method; place = f.place; registers = set (set f.registers x c) (x + 1) d; stack = drop taken f.stack } ∷ below;
           heap = heap;
@@ -206,8 +206,8 @@ module _ (w : Linked) (world : IsWorld w) (unset : Ty) (f : Frame Cell) (below :
         }))
     stored-int-safe taken x c d op is does falls high low =
         let ks = kinds_of heap in
-        let ty : Cell → Ty = least_type w.classes unset ks in
-        let exact = types_in w.classes unset ks f in
+        let ty : Cell → Ty = least_type w.classes (assigned.unset f.method) ks in
+        let exact = types_in w.classes (assigned.unset f.method) ks f in
         let a = here.turn.applies in
         let after = here.turn.after in
         let e : effect w here.turn.operation exact ≡ storing taken x given.Int = ap (λ o. effect w o exact) is ∙ does in
@@ -216,41 +216,41 @@ module _ (w : Linked) (world : IsWorld w) (unset : Ty) (f : Frame Cell) (below :
         let between : wrote.between ≡ set exact.regs x IntHigh = wrote.high.after_is ∙ ap (set exact.regs x) wrote.high.stored in
         let regs_are : after.regs ≡ set (set exact.regs x IntHigh) (x + 1) IntLow =
         wrote.low.after_is ∙ (ap (set wrote.between (x + 1)) wrote.low.stored ∙ ap (λ ts. set ts (x + 1) IntLow) between) in
-        let split : least_types w.classes unset ks (set (set f.registers x c) (x + 1) d) ≡ set (set exact.regs x (ty c)) (x + 1) (ty d) =
+        let split : least_types w.classes (assigned.unset f.method) ks (set (set f.registers x c) (x + 1) d) ≡ set (set exact.regs x (ty c)) (x + 1) (ty d) =
         map-set ty (set f.registers x c) (x + 1) d ∙ ap (λ ts. set ts (x + 1) (ty d)) (map-set ty f.registers x c) in
-        on-safe w world unset f below heap statics here (set (set f.registers x c) (x + 1) d) (drop taken f.stack) heap statics (ap falls_from is ∙ falls)
+        on-safe w world assigned f below heap statics here (set (set f.registers x c) (x + 1) d) (drop taken f.stack) heap statics (ap falls_from is ∙ falls)
         (record {
-          regs = subst (CellsBelow w.classes (least_types w.classes unset ks (set (set f.registers x c) (x + 1) d))) (sym regs_are)
+          regs = subst (CellsBelow w.classes (least_types w.classes (assigned.unset f.method) ks (set (set f.registers x c) (x + 1) d))) (sym regs_are)
               (subst (λ ts. CellsBelow w.classes ts (set (set exact.regs x IntHigh) (x + 1) IntLow)) (sym split)
               (cells-set w.classes (x + 1) low (cells-set w.classes x high (cells-same w.classes exact.regs))));
-          stack = subst (CellsBelow w.classes (least_types w.classes unset ks (drop taken f.stack))) (sym stack_is)
+          stack = subst (CellsBelow w.classes (least_types w.classes (assigned.unset f.method) ks (drop taken f.stack))) (sym stack_is)
               (subst (λ ts. CellsBelow w.classes ts (drop taken exact.stack)) (drop-map ty taken f.stack) (cells-same w.classes (drop taken exact.stack)));
         })
         (All-drop (IsStacked w here.turn.stands.rec ks) taken f.stack here.turn.stacked) here.store refl
 
     pub store-safe :
         (sort : Sort) (x : ℕ) → here.turn.operation ≡ ops.Store sort x
-        → IsSafe w unset (goes_to tagged w (here.turn.stands.instruction.place + here.turn.stands.instruction.insn.len) (record { frames = f ∷ below; heap = heap; statics = statics })
+        → IsSafe w assigned (goes_to tagged w (here.turn.stands.instruction.place + here.turn.stands.instruction.insn.len) (record { frames = f ∷ below; heap = heap; statics = statics })
         (with_store tagged sort x (record { frames = f ∷ below; heap = heap; statics = statics })))
     store-safe sorts.Reference x is =
         let ks = kinds_of heap in
         let asked = asked-of (ops.Store sorts.Reference x) is in
-        let at = cell-at w.classes unset ks f.stack 0 (λ ty. Below w.classes ty (Class (object w.classes))) asked.1.0 in
-        stored-safe 1 x (slice_index_or f.stack 0 cells.Empty) (cell (least_types w.classes unset ks f.stack) 0) (ops.Store sorts.Reference x) is refl refl
-        (subst (Below w.classes (least_type w.classes unset ks (slice_index_or f.stack 0 cells.Empty))) (sym at.seen) same)
+        let at = cell-at w.classes (assigned.unset f.method) ks f.stack 0 (λ ty. Below w.classes ty (Class (object w.classes))) asked.1.0 in
+        stored-safe 1 x (slice_index_or f.stack 0 cells.Empty) (cell (least_types w.classes (assigned.unset f.method) ks f.stack) 0) (ops.Store sorts.Reference x) is refl refl
+        (subst (Below w.classes (least_type w.classes (assigned.unset f.method) ks (slice_index_or f.stack 0 cells.Empty))) (sym at.seen) same)
     store-safe sorts.Short x is =
         let asked = asked-of (ops.Store sorts.Short x) is in
         stored-safe 1 x (slice_index_or f.stack 0 cells.Empty) Short (ops.Store sorts.Short x) is refl refl
-        (cell-at w.classes unset (kinds_of heap) f.stack 0 (λ ty. Below w.classes ty Short) asked.1.0).holds
+        (cell-at w.classes (assigned.unset f.method) (kinds_of heap) f.stack 0 (λ ty. Below w.classes ty Short) asked.1.0).holds
     store-safe sorts.Int x is =
         let asked = asked-of (ops.Store sorts.Int x) is in
         stored-int-safe 2 x (slice_index_or f.stack 1 cells.Empty) (slice_index_or f.stack 0 cells.Empty) (ops.Store sorts.Int x) is refl refl
-        (cell-at w.classes unset (kinds_of heap) f.stack 1 (λ ty. Below w.classes ty IntHigh) asked.1.1.0).holds
-        (cell-at w.classes unset (kinds_of heap) f.stack 0 (λ ty. Below w.classes ty IntLow) asked.1.0).holds
+        (cell-at w.classes (assigned.unset f.method) (kinds_of heap) f.stack 1 (λ ty. Below w.classes ty IntHigh) asked.1.1.0).holds
+        (cell-at w.classes (assigned.unset f.method) (kinds_of heap) f.stack 0 (λ ty. Below w.classes ty IntLow) asked.1.0).holds
 
     pub increment-safe :
         (width : Width) (x : ℕ) (amount : ℤ) → here.turn.operation ≡ ops.Increment width x amount
-        → IsSafe w unset (goes_to tagged w (here.turn.stands.instruction.place + here.turn.stands.instruction.insn.len) (record { frames = f ∷ below; heap = heap; statics = statics })
+        → IsSafe w assigned (goes_to tagged w (here.turn.stands.instruction.place + here.turn.stands.instruction.insn.len) (record { frames = f ∷ below; heap = heap; statics = statics })
         (with_increment tagged width x amount (record { frames = f ∷ below; heap = heap; statics = statics })))
     increment-safe widths.Short x amount is =
         stored-safe 0 x (cells.Short (incremented tagged widths.Short f.registers x amount)) Short (ops.Increment widths.Short x amount) is refl refl same

@@ -15,6 +15,7 @@ use Rattle.jc_rules.specs.Demand.{AllHold}
 use Rattle.jc_rules.specs.Effect.{listed}
 use Rattle.jc_rules.specs.Rule.{result_at, result_given, value_wanted}
 use Rattle.jc_rules.specs.Flow.{CellsBelow, no_cells, more_cells}
+use Rattle.jc_rules.proofs.CellLists.{cells-trans}
 use Rattle.vm_store.specs.declared.cell.Cell.{Cell}
 use Rattle.vm_store.specs.declared.cell.Cell.TheVariants as cells
 use Rattle.vm_store.specs.Cells.{tagged}
@@ -24,9 +25,9 @@ use Rattle.vm_step.specs.declared.ending.Value.TheVariants as values
 use Rattle.vm_step.specs.Numbers.{handle_at, short_at, int_on}
 use Rattle.vm_step.specs.Calls.{return_act}
 use Rattle.vm_step.specs.Settled.{given_to, settled}
-use Rattle.vm_sound.specs.Frames.{least_types, types_in, IsStacked, AreWaiting}
+use Rattle.vm_sound.specs.Frames.{Typings, least_types, types_in, IsStacked, AreWaiting}
 use Rattle.vm_sound.specs.Laws.{IsSafe}
-use Rattle.vm_sound.proofs.CellTypes.{stacked-filled}
+use Rattle.vm_sound.proofs.CellTypes.{stacked-filled, bottoms-below}
 use Rattle.vm_sound.proofs.Handles.{kinds_of}
 use Rattle.vm_sound.proofs.Ready.{value-ready}
 use Rattle.vm_sound.proofs.Cells.{cell-at, one-stacked, two-stacked, stacked-at}
@@ -40,53 +41,54 @@ record IsOneResult (ty : Ty) : Type 0 where
   given_is : listed (result_given (Some ty)) ≡ ty ∷ []
   wanted : value_wanted ty ≡ CellAsked 0 (Value ty) ∷ []
 
-module _ (w : Linked) (world : IsWorld w) (unset : Ty) (f : Frame Cell) (below : List (Frame Cell)) (heap : List (Object Cell)) (statics : List Cell)
-    (here : Here w unset f below heap statics)
+module _ (w : Linked) (world : IsWorld w) (assigned : Typings) (f : Frame Cell) (below : List (Frame Cell)) (heap : List (Object Cell)) (statics : List Cell)
+    (here : Here w assigned f below heap statics)
   where
-    waits-for : (result : Option Ty) → result ≡ here.turn.stands.rec.sig.result → AreWaiting w unset (kinds_of heap) result below
+    waits-for : (result : Option Ty) → result ≡ here.turn.stands.rec.sig.result → AreWaiting w assigned (kinds_of heap) result below
     waits-for result is =
-        subst (λ r. AreWaiting w unset (kinds_of heap) r below) (ap result_at here.turn.stands.is_method ∙ sym is) here.waits
+        subst (λ r. AreWaiting w assigned (kinds_of heap) r below) (ap result_at here.turn.stands.is_method ∙ sym is) here.waits
 
     -- a value of one cell
     one-given :
         (ty : Ty) (value : Given) → here.turn.operation ≡ ops.Return (Some ty) → Some ty ≡ here.turn.stands.rec.sig.result → IsDeclared w.classes ty → IsOneResult ty
-        → IsSafe w unset (given_to tagged w value (slice_index_or f.stack 0 cells.Empty ∷ []) (record { frames = below; heap = heap; statics = statics }))
+        → IsSafe w assigned (given_to tagged w value (slice_index_or f.stack 0 cells.Empty ∷ []) (record { frames = below; heap = heap; statics = statics }))
     one-given ty value is result declared one =
         let t = w.classes in
         let ks = kinds_of heap in
         let c : Cell = slice_index_or f.stack 0 cells.Empty in
-        let asked = subst (AllHold t (types_in t unset ks f)) one.wanted (asked-of w world unset f below heap statics here (ops.Return (Some ty)) is) in
-        let at = cell-at t unset ks f.stack 0 (λ a. Below t a ty) asked.0 in
+        let asked = subst (AllHold t (types_in t (assigned.unset f.method) ks f)) one.wanted (asked-of w world assigned f below heap statics here (ops.Return (Some ty)) is) in
+        let at = cell-at t (assigned.unset f.method) ks f.stack 0 (λ a. Below t a ty) asked.0 in
         let filled = stacked-filled w here.turn.stands.rec ks c (stacked-at w here.turn.stands.rec ks f.stack 0 at.inside here.turn.stacked) in
-        let ready = value-ready t world.chains unset ks c ty filled (declared-kept t ty declared) (declared-topless t ty declared) at.holds in
-        gives-safe w unset below heap statics (Some ty) value (c ∷ []) here.store (waits-for (Some ty) result)
-        (subst (CellsBelow t (least_types t unset ks (c ∷ []))) (sym one.given_is) (more_cells at.holds no_cells))
+        let ready = value-ready t world.chains (assigned.unset f.method) ks c ty filled (declared-kept t ty declared) (declared-topless t ty declared) at.holds in
+        gives-safe w assigned below heap statics (Some ty) value (c ∷ []) here.store (waits-for (Some ty) result)
+        (cells-trans t (bottoms-below t (assigned.unset f.method) ks (c ∷ []))
+        (subst (CellsBelow t (least_types t (assigned.unset f.method) ks (c ∷ []))) (sym one.given_is) (more_cells at.holds no_cells)))
         (λ m. one-stacked w m ks c ready)
 
     int-given :
         (value : Given) → here.turn.operation ≡ ops.Return (Some IntHigh) → Some IntHigh ≡ here.turn.stands.rec.sig.result
-        → IsSafe w unset (given_to tagged w value (slice_index_or f.stack 1 cells.Empty ∷ slice_index_or f.stack 0 cells.Empty ∷ []) (record { frames = below; heap = heap; statics = statics }))
+        → IsSafe w assigned (given_to tagged w value (slice_index_or f.stack 1 cells.Empty ∷ slice_index_or f.stack 0 cells.Empty ∷ []) (record { frames = below; heap = heap; statics = statics }))
     int-given value is result =
         let t = w.classes in
         let ks = kinds_of heap in
         let st = here.turn.stands in
         let c : Cell = slice_index_or f.stack 0 cells.Empty in
         let d : Cell = slice_index_or f.stack 1 cells.Empty in
-        let asked = asked-of w world unset f below heap statics here (ops.Return (Some IntHigh)) is in
-        let low = cell-at t unset ks f.stack 0 (λ a. Below t a IntLow) asked.0 in
-        let high = cell-at t unset ks f.stack 1 (λ a. Below t a IntHigh) asked.1.0 in
+        let asked = asked-of w world assigned f below heap statics here (ops.Return (Some IntHigh)) is in
+        let low = cell-at t (assigned.unset f.method) ks f.stack 0 (λ a. Below t a IntLow) asked.0 in
+        let high = cell-at t (assigned.unset f.method) ks f.stack 1 (λ a. Below t a IntHigh) asked.1.0 in
         let low_filled = stacked-filled w st.rec ks c (stacked-at w st.rec ks f.stack 0 low.inside here.turn.stacked) in
         let high_filled = stacked-filled w st.rec ks d (stacked-at w st.rec ks f.stack 1 high.inside here.turn.stacked) in
-        gives-safe w unset below heap statics (Some IntHigh) value (d ∷ c ∷ []) here.store (waits-for (Some IntHigh) result)
-        (more_cells low.holds (more_cells high.holds no_cells))
-        (λ m. two-stacked w m ks c d (value-ready t world.chains unset ks c IntLow low_filled tt tt low.holds) (value-ready t world.chains unset ks d IntHigh high_filled tt tt high.holds))
+        gives-safe w assigned below heap statics (Some IntHigh) value (d ∷ c ∷ []) here.store (waits-for (Some IntHigh) result)
+        (cells-trans t (bottoms-below t (assigned.unset f.method) ks (c ∷ d ∷ [])) (more_cells low.holds (more_cells high.holds no_cells)))
+        (λ m. two-stacked w m ks c d (value-ready t world.chains (assigned.unset f.method) ks c IntLow low_filled tt tt low.holds) (value-ready t world.chains (assigned.unset f.method) ks d IntHigh high_filled tt tt high.holds))
 
     pub return-safe :
         (result : Option Ty) → here.turn.operation ≡ ops.Return result → result ≡ here.turn.stands.rec.sig.result → IfSome result (IsResult w.classes)
-        → IsSafe w unset (settled tagged w (here.turn.stands.instruction.place + here.turn.stands.instruction.insn.len) (record { frames = f ∷ below; heap = heap; statics = statics })
+        → IsSafe w assigned (settled tagged w (here.turn.stands.instruction.place + here.turn.stands.instruction.insn.len) (record { frames = f ∷ below; heap = heap; statics = statics })
         (return_act tagged result (record { frames = f ∷ below; heap = heap; statics = statics })))
     return-safe None is result known =
-        gives-safe w unset below heap statics None values.Void [] here.store (waits-for None result) no_cells (λ m. All-nil (IsStacked w m (kinds_of heap)))
+        gives-safe w assigned below heap statics None values.Void [] here.store (waits-for None result) no_cells (λ m. All-nil (IsStacked w m (kinds_of heap)))
     return-safe (Some Short) is result known = one-given Short (values.Short (short_at tagged f.stack 0)) is result known.declared (record { given_is = refl; wanted = refl })
     return-safe (Some IntHigh) is result known = int-given (values.Int (int_on tagged f.stack 0)) is result
     return-safe (Some IntLow) is result known = absurd (known.no_low refl)

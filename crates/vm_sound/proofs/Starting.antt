@@ -16,11 +16,11 @@ use Rattle.jc_base.specs.declared.record.ArrayRec.{ArrayRec}
 use Rattle.jc_base.specs.Class.{ClassTable}
 use Rattle.jc_base.specs.Order.{Below, same, null_object, null_array, of_booleans, of_bytes, of_shorts, of_ints, of_references}
 use Rattle.jc_base.specs.Cell.{IsReference, IsOfKind, AreWhole, no_cells as no_whole, whole_int, one_cell, IsNoHalf, IsInitialHandle, AreWordsOf, AreElementsOf}
-use Rattle.jc_base.specs.Linked.{IsStatic, lacks_code}
+use Rattle.jc_base.specs.Linked.{IsStatic, lacks_code, receiver_words}
 use Rattle.jc_base.specs.World.{Linked, IsWorld}
 use Rattle.jc_base.proofs.Lists.{All-slice_get, slice_get-front}
 use Rattle.jc_rules.specs.Flow.{CellsBelow, no_cells, more_cells, receiver_of}
-use Rattle.jc_rules.proofs.CellLists.{cells-append}
+use Rattle.jc_rules.proofs.CellLists.{cells-append, cells-length}
 use Rattle.vm_store.specs.declared.cell.Cell.{Cell}
 use Rattle.vm_store.specs.declared.cell.Cell.TheVariants as cells
 use Rattle.vm_store.specs.declared.kind.ObjectKind.{ObjectKind}
@@ -37,9 +37,10 @@ use Rattle.vm_step.specs.Arguments.{Argument, number, null as no_object, bytes}
 use Rattle.vm_step.specs.Objects.{kind_of_type}
 use Rattle.vm_step.specs.Methods.{of_method}
 use Rattle.vm_step.specs.Start.{field_cells, int_cells, element_cells, initial_object, with_arrays, argument_cells, cells_handed, can_begin, is_parameter, parameters, fits, first_misfit, or_room, entry_fault, entry_state}
-use Rattle.vm_sound.specs.Frames.{least_types}
+use Rattle.vm_sound.specs.Frames.{Typings, least_types}
 use Rattle.vm_sound.specs.State.{IsMade, field_types, static_types, IsTypedState}
-use Rattle.vm_sound.specs.Laws.{AreTypedMethods, StartsAreTyped}
+use Rattle.vm_sound.specs.Laws.{AreTypings, StartsAreTyped}
+use Rattle.vm_sound.specs.Handed.{nargs_of, StartsHandAll}
 use Rattle.vm_sound.proofs.CellTypes.{some-is}
 use Rattle.vm_sound.proofs.Handles.{kinds_of, kind-type, new-kind, kinds-more}
 use Rattle.vm_sound.proofs.References.{null-reference}
@@ -349,11 +350,11 @@ begins-by true false x y misfit room e = absurd (none-some y (sym e))
 begins-by true true x y None room e = (refl, refl, refl)
 begins-by true true x y (Some n) room e = absurd (none-some _ (sym e))
 
-module _ (w : Linked) (world : IsWorld w) (unset : Ty) (typings : AreTypedMethods w unset) (entry : ℕ) (args : List Argument) where
+module _ (w : Linked) (world : IsWorld w) (assigned : Typings) (typings : AreTypings w assigned) (entry : ℕ) (args : List Argument) where
   -- a static method with code, whose parameters the arguments fit
   method-starts :
       (m : MethodRec) → slice_get w.methods entry ≡ Some m → can_begin w m ≡ true → length args ≡ length (parameters m) → first_misfit 0 args (parameters m) ≡ None
-      → IsTypedState w unset (entry_state tagged w entry args)
+      → IsTypedState w assigned (entry_state tagged w entry args)
   method-starts m is begins count fit =
       let heap : List (Object Cell) = map (initial_object tagged) w.arrays in
       let statics : List Cell = flat_map (λ (f : StaticRec). field_cells tagged f.kind f.initial) w.statics in
@@ -362,7 +363,7 @@ module _ (w : Linked) (world : IsWorld w) (unset : Ty) (typings : AreTypedMethod
       let two = and_parts m.is_static (not (lacks_code w.classes m)) begins in
       let code : lacks_code w.classes m ≡ false = not-true (lacks_code w.classes m) two.1 in
       let store = arrays-store w args heap statics (initial-store w world) in
-      let handed = handed-below w unset args (parameters m) 0 heap statics count fit in
+      let handed = handed-below w (assigned.unset entry) args (parameters m) 0 heap statics count fit in
       let objects : length heap ≡ length w.arrays = length-map w.arrays (initial_object tagged) in
       let types_are : of_method [] parameters (slice_get w.methods entry) ≡ parameters m = ap (of_method [] parameters) is in
       let cells_are : List Cell = cells_handed tagged (length w.arrays) args (of_method [] parameters (slice_get w.methods entry)) in
@@ -370,22 +371,55 @@ module _ (w : Linked) (world : IsWorld w) (unset : Ty) (typings : AreTypedMethod
       ap (λ n. cells_handed tagged n args (parameters m)) objects ∙ ap (cells_handed tagged (length w.arrays) args) (sym types_are) in
       let words : words_of (parameters m) ≡ receiver_of m ++ m.sig.args =
       words-are (method-known w world entry m is).whole ∙ sym (ap (λ (b : Bool). (if b then [] else Class m.class ∷ []) ++ m.sig.args) two.0) in
-      let lower : CellsBelow w.classes (least_types w.classes unset ks cells_are) (receiver_of m ++ m.sig.args) =
-      subst (CellsBelow w.classes (least_types w.classes unset ks cells_are)) words
-      (subst (λ cs. CellsBelow w.classes (least_types w.classes unset ks cs) (words_of (parameters m))) same_cells handed) in
+      let lower : CellsBelow w.classes (least_types w.classes (assigned.unset entry) ks cells_are) (receiver_of m ++ m.sig.args) =
+      subst (CellsBelow w.classes (least_types w.classes (assigned.unset entry) ks cells_are)) words
+      (subst (λ cs. CellsBelow w.classes (least_types w.classes (assigned.unset entry) ks cs) (words_of (parameters m))) same_cells handed) in
       record {
         made = store.made;
         heap = store.objects;
         statics = store.fields;
-        frames = (entered-typed w world unset typings ks entry m is code cells_are lower, tt);
+        frames = (entered-typed w world assigned typings ks entry m is code cells_are lower, tt);
       }
 
-  entry-starts : (o : Option MethodRec) → slice_get w.methods entry ≡ o → entry_fault w args o ≡ None → IsTypedState w unset (entry_state tagged w entry args)
+  entry-starts : (o : Option MethodRec) → slice_get w.methods entry ≡ o → entry_fault w args o ≡ None → IsTypedState w assigned (entry_state tagged w entry args)
   entry-starts None is e = absurd (none-some _ (sym e))
   entry-starts (Some m) is e =
       let parts = begins-by (can_begin w m) (length args == length (parameters m)) _ _ (first_misfit 0 args (parameters m)) _ e in
       method-starts m is parts.0 (eqb-true (length args) (length (parameters m)) parts.1) parts.2
 
 pub starts-are-typed : (w : Linked) → IsWorld w → StartsAreTyped w
-starts-are-typed w world unset entry args s typings starts =
-    subst (IsTypedState w unset) (sym starts.state) (entry-starts w world unset typings entry args (slice_get w.methods entry) refl starts.begins)
+starts-are-typed w world assigned entry args s typings starts =
+    subst (IsTypedState w assigned) (sym starts.state) (entry-starts w world assigned typings entry args (slice_get w.methods entry) refl starts.begins)
+
+-- ---- as many cells as parameters
+
+module _ (w : Linked) (world : IsWorld w) (entry : ℕ) (args : List Argument) where
+  method-handed :
+      (m : MethodRec) → slice_get w.methods entry ≡ Some m → length args ≡ length (parameters m) → first_misfit 0 args (parameters m) ≡ None → m.is_static ≡ true
+      → length (cells_handed tagged (length w.arrays) args (of_method [] parameters (slice_get w.methods entry))) ≡ nargs_of w entry
+  method-handed m is count fit static =
+      let heap : List (Object Cell) = map (initial_object tagged) w.arrays in
+      let statics : List Cell = flat_map (λ (f : StaticRec). field_cells tagged f.kind f.initial) w.statics in
+      let ks : List ObjectKind = kinds_of (with_arrays tagged args (record { frames = []; heap = heap; statics = statics })).heap in
+      let cs : List Cell = cells_handed tagged (length heap) args (parameters m) in
+      let same = cells-length w.classes (handed-below w Bottom args (parameters m) 0 heap statics count fit) in
+      let known = method-known w world entry m is in
+      let words : words_of (parameters m) ≡ m.sig.args = words-are known.whole in
+      let many : length cs ≡ length m.sig.args = sym (length-map cs (least_type w.classes Bottom ks)) ∙ (same ∙ ap length words) in
+      let none : receiver_words m.is_static ≡ 0 = ap receiver_words static in
+      let total : m.nargs ≡ length m.sig.args + receiver_words m.is_static = known.words in
+      ap (λ o. length (cells_handed tagged (length w.arrays) args (of_method [] parameters o))) is
+      ∙ (ap (λ n. length (cells_handed tagged n args (parameters m))) (sym (length-map w.arrays (initial_object tagged)))
+      ∙ (omega (arith, many, none, total) ∙ sym (ap (of_method 0 (λ (x : MethodRec). x.nargs)) is)))
+
+  entry-handed :
+      (o : Option MethodRec) → slice_get w.methods entry ≡ o → entry_fault w args o ≡ None
+      → length (cells_handed tagged (length w.arrays) args (of_method [] parameters (slice_get w.methods entry))) ≡ nargs_of w entry
+  entry-handed None is e = absurd (none-some _ (sym e))
+  entry-handed (Some m) is e =
+      let parts = begins-by (can_begin w m) (length args == length (parameters m)) _ _ (first_misfit 0 args (parameters m)) _ e in
+      let two = and_parts m.is_static (not (lacks_code w.classes m)) parts.0 in
+      method-handed m is (eqb-true (length args) (length (parameters m)) parts.1) parts.2 two.0
+
+pub starts-hand-all : (w : Linked) → IsWorld w → StartsHandAll w
+starts-hand-all w world entry args begins = entry-handed w world entry args (slice_get w.methods entry) refl begins

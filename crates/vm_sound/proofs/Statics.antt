@@ -31,7 +31,7 @@ use Rattle.vm_store.specs.Value.{byte_of_word}
 use Rattle.vm_store.specs.Laws.{IsFilled, CellsHave}
 use Rattle.vm_step.specs.Fields.{with_static_read, with_static_write}
 use Rattle.vm_step.specs.Settled.{goes_to}
-use Rattle.vm_sound.specs.Frames.{types_in, IsStacked}
+use Rattle.vm_sound.specs.Frames.{Typings, types_in, IsStacked}
 use Rattle.vm_sound.specs.State.{field_types, static_types}
 use Rattle.vm_sound.specs.Laws.{IsSafe}
 use Rattle.vm_sound.proofs.CellTypes.{has-below, IsReadyCell}
@@ -121,13 +121,13 @@ slot-at w world slot kind ty (k, x, lt, is, of) =
     let e : slot ≡ found.0 = omega (arith, found.1) in
     subst (IsFieldAt (static_types w.statics) kind ty) (sym e) found.2
 
-module _ (w : Linked) (world : IsWorld w) (unset : Ty) (f : Frame Cell) (below : List (Frame Cell)) (heap : List (Object Cell)) (statics : List Cell)
-    (here : Here w unset f below heap statics)
+module _ (w : Linked) (world : IsWorld w) (assigned : Typings) (f : Frame Cell) (below : List (Frame Cell)) (heap : List (Object Cell)) (statics : List Cell)
+    (here : Here w assigned f below heap statics)
   where
     -- ---- reads
 
     record IsReadStatic (i : ℕ) (ty : Ty) : Type 0 where
-      lower : Below w.classes (least_type w.classes unset (kinds_of heap) (slice_index_or statics i cells.Empty)) ty
+      lower : Below w.classes (least_type w.classes (assigned.unset f.method) (kinds_of heap) (slice_index_or statics i cells.Empty)) ty
       ready : IsReadyCell (slice_index_or statics i cells.Empty)
 
     static-cell : (i : ℕ) (ty : Ty) → IsNotTop ty → IsNotFresh ty → slice_get (static_types w.statics) i ≡ Some ty → IsReadStatic i ty
@@ -135,14 +135,14 @@ module _ (w : Linked) (world : IsWorld w) (unset : Ty) (f : Frame Cell) (below :
         let c : Cell = slice_index_or statics i cells.Empty in
         let read = some-nth (λ c. HasType w.classes (kinds_of heap) c ty × IsFilled c) statics i cells.Empty
         (have-read w.classes (kinds_of heap) statics (static_types w.statics) i ty here.store.fields e) in
-        let lower = has-below w.classes unset (kinds_of heap) world.chains c ty read.0 read.1 in
-        record { lower = lower; ready = value-ready w.classes world.chains unset (kinds_of heap) c ty read.1 fresh top lower }
+        let lower = has-below w.classes (assigned.unset f.method) (kinds_of heap) world.chains c ty read.0 read.1 in
+        record { lower = lower; ready = value-ready w.classes world.chains (assigned.unset f.method) (kinds_of heap) c ty read.1 fresh top lower }
 
     static-one :
         (slot : ℕ) (kind : Kind) (ty : Ty) → width kind ≡ 1
         → here.turn.operation ≡ ops.StaticRead (record { slot = slot; kind = kind; ty = ty })
         → IsStaticOf w (record { slot = slot; kind = kind; ty = ty })
-        → IsSafe w unset (goes_to tagged w (here.turn.stands.instruction.place + here.turn.stands.instruction.insn.len) (record { frames = f ∷ below; heap = heap; statics = statics })
+        → IsSafe w assigned (goes_to tagged w (here.turn.stands.instruction.place + here.turn.stands.instruction.insn.len) (record { frames = f ∷ below; heap = heap; statics = statics })
         (record {
           frames = record { method = f.method; place = f.place; registers = f.registers; stack = slice_index_or statics slot cells.Empty ∷ f.stack } ∷ below;
           heap = heap;
@@ -152,15 +152,15 @@ module _ (w : Linked) (world : IsWorld w) (unset : Ty) (f : Frame Cell) (below :
         let c : Cell = slice_index_or statics slot cells.Empty in
         let at = slot-at w world slot kind ty field.there in
         let read = static-cell slot ty (declared-topless w.classes ty field.ty) (declared-kept w.classes ty field.ty) at.first in
-        replace-safe w world unset f below heap statics here 0 (given.One ty) (c ∷ []) heap statics
-        (ap (λ o. effect w o (types_in w.classes unset (kinds_of heap) f)) is ∙ ap (replacing 0) (one-cell kind ty field.kind one).given_is) (ap falls_from is)
+        replace-safe w world assigned f below heap statics here 0 (given.One ty) (c ∷ []) heap statics
+        (ap (λ o. effect w o (types_in w.classes (assigned.unset f.method) (kinds_of heap) f)) is ∙ ap (replacing 0) (one-cell kind ty field.kind one).given_is) (ap falls_from is)
         (more_cells read.lower no_cells) (one-stacked w here.turn.stands.rec (kinds_of heap) c read.ready) here.store refl
 
     pub static-read-safe :
         (slot : ℕ) (kind : Kind) (ty : Ty)
         → here.turn.operation ≡ ops.StaticRead (record { slot = slot; kind = kind; ty = ty })
         → IsStaticOf w (record { slot = slot; kind = kind; ty = ty })
-        → IsSafe w unset (goes_to tagged w (here.turn.stands.instruction.place + here.turn.stands.instruction.insn.len) (record { frames = f ∷ below; heap = heap; statics = statics })
+        → IsSafe w assigned (goes_to tagged w (here.turn.stands.instruction.place + here.turn.stands.instruction.insn.len) (record { frames = f ∷ below; heap = heap; statics = statics })
         (with_static_read tagged (record { slot = slot; kind = kind; ty = ty }) (record { frames = f ∷ below; heap = heap; statics = statics })))
     static-read-safe slot fields.Ref ty is field = static-one slot fields.Ref ty refl is field
     static-read-safe slot fields.Byte ty is field = static-one slot fields.Byte ty refl is field
@@ -171,8 +171,8 @@ module _ (w : Linked) (world : IsWorld w) (unset : Ty) (f : Frame Cell) (below :
         let at = slot-at w world slot fields.Int ty field.there in
         let high = static-cell slot IntHigh tt tt (at.first ∙ ap Some field.kind) in
         let low = static-cell (slot + 1) IntLow tt tt (at.second refl) in
-        replace-safe w world unset f below heap statics here 0 given.Int (d ∷ c ∷ []) heap statics
-        (ap (λ o. effect w o (types_in w.classes unset (kinds_of heap) f)) is ∙ ap (λ a. replacing 0 (value_given a)) field.kind) (ap falls_from is)
+        replace-safe w world assigned f below heap statics here 0 given.Int (d ∷ c ∷ []) heap statics
+        (ap (λ o. effect w o (types_in w.classes (assigned.unset f.method) (kinds_of heap) f)) is ∙ ap (λ a. replacing 0 (value_given a)) field.kind) (ap falls_from is)
         (more_cells low.lower (more_cells high.lower no_cells)) (two-stacked w here.turn.stands.rec (kinds_of heap) d c low.ready high.ready) here.store refl
 
     -- ---- writes
@@ -185,7 +185,7 @@ module _ (w : Linked) (world : IsWorld w) (unset : Ty) (f : Frame Cell) (below :
         → here.turn.operation ≡ ops.StaticWrite (record { slot = slot; kind = kind; ty = ty })
         → IsStaticOf w (record { slot = slot; kind = kind; ty = ty })
         → HasType w.classes (kinds_of heap) c ty → IsFilled c
-        → IsSafe w unset (goes_to tagged w (here.turn.stands.instruction.place + here.turn.stands.instruction.insn.len) (record { frames = f ∷ below; heap = heap; statics = statics })
+        → IsSafe w assigned (goes_to tagged w (here.turn.stands.instruction.place + here.turn.stands.instruction.insn.len) (record { frames = f ∷ below; heap = heap; statics = statics })
         (record {
           frames = record { method = f.method; place = f.place; registers = f.registers; stack = drop 1 f.stack } ∷ below;
           heap = heap;
@@ -193,8 +193,8 @@ module _ (w : Linked) (world : IsWorld w) (unset : Ty) (f : Frame Cell) (below :
         }))
     write-static slot kind ty c one is field has filled =
         let at = slot-at w world slot kind ty field.there in
-        replace-safe w world unset f below heap statics here 1 given.Nothing [] heap (set statics slot c)
-        (ap (λ o. effect w o (types_in w.classes unset (kinds_of heap) f)) is ∙ ap (λ n. replacing n given.Nothing) (one-cell kind ty field.kind one).size) (ap falls_from is)
+        replace-safe w world assigned f below heap statics here 1 given.Nothing [] heap (set statics slot c)
+        (ap (λ o. effect w o (types_in w.classes (assigned.unset f.method) (kinds_of heap) f)) is ∙ ap (λ n. replacing n given.Nothing) (one-cell kind ty field.kind one).size) (ap falls_from is)
         no_cells (All-nil (IsStacked w here.turn.stands.rec (kinds_of heap)))
         (store-with (set statics slot c) (have-write w.classes (kinds_of heap) statics (static_types w.statics) slot ty c here.store.fields at.first has filled)) refl
 
@@ -202,18 +202,18 @@ module _ (w : Linked) (world : IsWorld w) (unset : Ty) (f : Frame Cell) (below :
         (slot : ℕ) (kind : Kind) (ty : Ty)
         → here.turn.operation ≡ ops.StaticWrite (record { slot = slot; kind = kind; ty = ty })
         → IsStaticOf w (record { slot = slot; kind = kind; ty = ty })
-        → IsSafe w unset (goes_to tagged w (here.turn.stands.instruction.place + here.turn.stands.instruction.insn.len) (record { frames = f ∷ below; heap = heap; statics = statics })
+        → IsSafe w assigned (goes_to tagged w (here.turn.stands.instruction.place + here.turn.stands.instruction.insn.len) (record { frames = f ∷ below; heap = heap; statics = statics })
         (with_static_write tagged (record { slot = slot; kind = kind; ty = ty }) (record { frames = f ∷ below; heap = heap; statics = statics })))
     static-write-safe slot fields.Ref ty is field =
-        let asked = asked-of w world unset f below heap statics here (ops.StaticWrite (record { slot = slot; kind = fields.Ref; ty = ty })) is in
-        let value = value-held w world unset f below heap statics here ty (one-cell fields.Ref ty field.kind refl) field.ty asked in
+        let asked = asked-of w world assigned f below heap statics here (ops.StaticWrite (record { slot = slot; kind = fields.Ref; ty = ty })) is in
+        let value = value-held w world assigned f below heap statics here ty (one-cell fields.Ref ty field.kind refl) field.ty asked in
         write-static slot fields.Ref ty (slice_index_or f.stack 0 cells.Empty) refl is field value.has value.filled
     static-write-safe slot fields.Byte ty is field =
         let c : Cell = cells.Short (byte_of_word (word_of (slice_index_or f.stack 0 cells.Empty))) in
         write-static slot fields.Byte ty c refl is field (subst (HasType w.classes (kinds_of heap) c) (sym field.kind) short) tt
     static-write-safe slot fields.Short ty is field =
-        let asked = asked-of w world unset f below heap statics here (ops.StaticWrite (record { slot = slot; kind = fields.Short; ty = ty })) is in
-        let value = value-held w world unset f below heap statics here ty (one-cell fields.Short ty field.kind refl) field.ty asked in
+        let asked = asked-of w world assigned f below heap statics here (ops.StaticWrite (record { slot = slot; kind = fields.Short; ty = ty })) is in
+        let value = value-held w world assigned f below heap statics here ty (one-cell fields.Short ty field.kind refl) field.ty asked in
         write-static slot fields.Short ty (slice_index_or f.stack 0 cells.Empty) refl is field value.has value.filled
     static-write-safe slot fields.Int ty is field =
         let t = w.classes in
@@ -221,13 +221,13 @@ module _ (w : Linked) (world : IsWorld w) (unset : Ty) (f : Frame Cell) (below :
         let types = static_types w.statics in
         let c : Cell = slice_index_or f.stack 1 cells.Empty in
         let d : Cell = slice_index_or f.stack 0 cells.Empty in
-        let asked = asked-of w world unset f below heap statics here (ops.StaticWrite (record { slot = slot; kind = fields.Int; ty = ty })) is in
-        let halves = subst (λ a. AllHold t (types_in t unset ks f) (value_wanted a)) field.kind asked in
-        let lower = held-at w world unset f below heap statics here 0 IntLow tt halves.0 in
-        let upper = held-at w world unset f below heap statics here 1 IntHigh tt halves.1.0 in
+        let asked = asked-of w world assigned f below heap statics here (ops.StaticWrite (record { slot = slot; kind = fields.Int; ty = ty })) is in
+        let halves = subst (λ a. AllHold t (types_in t (assigned.unset f.method) ks f) (value_wanted a)) field.kind asked in
+        let lower = held-at w world assigned f below heap statics here 0 IntLow tt halves.0 in
+        let upper = held-at w world assigned f below heap statics here 1 IntHigh tt halves.1.0 in
         let at = slot-at w world slot fields.Int ty field.there in
         let once = have-write t ks statics types slot IntHigh c here.store.fields (at.first ∙ ap Some field.kind) upper.has upper.filled in
         let twice = have-write t ks (set statics slot c) types (slot + 1) IntLow d once (at.second refl) lower.has lower.filled in
-        replace-safe w world unset f below heap statics here 2 given.Nothing [] heap (set (set statics slot c) (slot + 1) d)
-        (ap (λ o. effect w o (types_in t unset ks f)) is ∙ ap (λ a. replacing (value_size a) given.Nothing) field.kind) (ap falls_from is)
+        replace-safe w world assigned f below heap statics here 2 given.Nothing [] heap (set (set statics slot c) (slot + 1) d)
+        (ap (λ o. effect w o (types_in t (assigned.unset f.method) ks f)) is ∙ ap (λ a. replacing (value_size a) given.Nothing) field.kind) (ap falls_from is)
         no_cells (All-nil (IsStacked w here.turn.stands.rec ks)) (store-with (set (set statics slot c) (slot + 1) d) twice) refl

@@ -4,7 +4,6 @@ use Rattle.std.specs.Prelude.{Option, Some, None, All, slice_index, ◌==◌}
 use Rattle.std.proofs.lemmas.Bool.{eqb-false}
 use Rattle.std.proofs.lemmas.List.{map-append, drop-map, append-nil}
 use Rattle.std.proofs.lemmas.List.Elements.{All-append, All-drop}
-use Rattle.jc_base.specs.declared.ty.Ty.{Ty}
 use Rattle.jc_base.specs.declared.ty.Ty.TheVariants.{Class}
 use Rattle.jc_base.specs.World.{Linked, IsWorld}
 use Rattle.jc_base.specs.Dispatch.{cells_of, IsConcrete}
@@ -35,7 +34,7 @@ use Rattle.vm_step.specs.Act.{Act, raises, role_of, unless_null, if_some}
 use Rattle.vm_step.specs.Calls.{class_in}
 use Rattle.vm_step.specs.Raising.{ends, thrown, raised}
 use Rattle.vm_step.specs.Settled.{goes_to, settled}
-use Rattle.vm_sound.specs.Frames.{least_types, types_in, IsStacked, IsTypedFrame, result_of, AreWaiting}
+use Rattle.vm_sound.specs.Frames.{Typings, least_types, types_in, IsStacked, IsTypedFrame, result_of, AreWaiting}
 use Rattle.vm_sound.specs.Laws.{IsSafe}
 use Rattle.vm_sound.proofs.CellTypes.{some-from, types-fall}
 use Rattle.vm_sound.proofs.Going.{goes-on}
@@ -47,70 +46,70 @@ use Rattle.vm_sound.proofs.Unwinding.{IsThrowable, kind-throwable, AreCatching, 
 use Rattle.vm_sound.proofs.Stores.{with-instance}
 
 -- the frame on top at its turn, over frames that wait, in a state whose objects and static fields are typed
-pub record Here (w : Linked) (unset : Ty) (f : Frame Cell) (below : List (Frame Cell)) (heap : List (Object Cell)) (statics : List Cell) : Type 0 where
-  pub turn : Turn w unset (kinds_of heap) f
-  pub waits : AreWaiting w unset (kinds_of heap) (result_of w f.method) below
+pub record Here (w : Linked) (assigned : Typings) (f : Frame Cell) (below : List (Frame Cell)) (heap : List (Object Cell)) (statics : List Cell) : Type 0 where
+  pub turn : Turn w assigned (kinds_of heap) f
+  pub waits : AreWaiting w assigned (kinds_of heap) (result_of w f.method) below
   pub store : IsTypedStore w heap statics
 
-module _ (w : Linked) (world : IsWorld w) (unset : Ty) (f : Frame Cell) (below : List (Frame Cell)) (heap : List (Object Cell)) (statics : List Cell)
-    (here : Here w unset f below heap statics)
+module _ (w : Linked) (world : IsWorld w) (assigned : Typings) (f : Frame Cell) (below : List (Frame Cell)) (heap : List (Object Cell)) (statics : List Cell)
+    (here : Here w assigned f below heap statics)
   where
     -- a frame whose cells are below what the rule gives is typed after the instruction, be the objects as they were or others
     pub typed-after :
         (ks : List ObjectKind) (registers stack : List Cell) → falls_from here.turn.operation ≡ true
-        → FrameBelow w.classes (record { regs = least_types w.classes unset ks registers; stack = least_types w.classes unset ks stack }) here.turn.after
+        → FrameBelow w.classes (record { regs = least_types w.classes (assigned.unset f.method) ks registers; stack = least_types w.classes (assigned.unset f.method) ks stack }) here.turn.after
         → All (IsStacked w here.turn.stands.rec ks) stack
-        → IsTypedFrame w unset ks (record { method = f.method; place = here.turn.stands.instruction.place + here.turn.stands.instruction.insn.len; registers = registers; stack = stack })
+        → IsTypedFrame w assigned ks (record { method = f.method; place = here.turn.stands.instruction.place + here.turn.stands.instruction.insn.len; registers = registers; stack = stack })
     typed-after ks registers stack falls lower stacked =
         let st = here.turn.stands in
-        lands w world unset (kinds_of heap) f here.turn ks registers stack (st.instruction.place + st.instruction.insn.len)
+        lands w world assigned (kinds_of heap) f here.turn ks registers stack (st.instruction.place + st.instruction.insn.len)
         (falls_through (goes-on w st.rec st.instruction.place st.instruction.insn here.turn.operation here.turn.resolves falls)) lower stacked
 
     -- on to the next instruction, with other cells in the same objects
     pub on-safe :
         (registers stack : List Cell) (objects : List (Object Cell)) (fields : List Cell)
         → falls_from here.turn.operation ≡ true
-        → FrameBelow w.classes (record { regs = least_types w.classes unset (kinds_of heap) registers; stack = least_types w.classes unset (kinds_of heap) stack }) here.turn.after
+        → FrameBelow w.classes (record { regs = least_types w.classes (assigned.unset f.method) (kinds_of heap) registers; stack = least_types w.classes (assigned.unset f.method) (kinds_of heap) stack }) here.turn.after
         → All (IsStacked w here.turn.stands.rec (kinds_of heap)) stack
         → IsTypedStore w objects fields → kinds_of objects ≡ kinds_of heap
-        → IsSafe w unset (goes_to tagged w (here.turn.stands.instruction.place + here.turn.stands.instruction.insn.len) (record { frames = f ∷ below; heap = heap; statics = statics })
+        → IsSafe w assigned (goes_to tagged w (here.turn.stands.instruction.place + here.turn.stands.instruction.insn.len) (record { frames = f ∷ below; heap = heap; statics = statics })
         (record { frames = record { method = f.method; place = f.place; registers = registers; stack = stack } ∷ below; heap = objects; statics = fields }))
     on-safe registers stack objects fields falls lower stacked store same =
         let st = here.turn.stands in
         let next : ℕ = st.instruction.place + st.instruction.insn.len in
         let now : Frame Cell = record { method = f.method; place = next; registers = registers; stack = stack } in
-        goes-safe w unset (record { frames = f ∷ below; heap = heap; statics = statics }) (record { method = f.method; place = f.place; registers = registers; stack = stack }) next below objects fields
+        goes-safe w assigned (record { frames = f ∷ below; heap = heap; statics = statics }) (record { method = f.method; place = f.place; registers = registers; stack = stack }) next below objects fields
         (record {
           made = store.made;
           heap = store.objects;
           statics = store.fields;
           frames = (
-            subst (λ ks. IsTypedFrame w unset ks now) (sym same) (typed-after (kinds_of heap) registers stack falls lower stacked),
-            subst (λ ks. AreWaiting w unset ks (result_of w f.method) below) (sym same) here.waits,
+            subst (λ ks. IsTypedFrame w assigned ks now) (sym same) (typed-after (kinds_of heap) registers stack falls lower stacked),
+            subst (λ ks. AreWaiting w assigned ks (result_of w f.method) below) (sym same) here.waits,
           );
         })
 
     -- what an operation that replaces cells of the stack gives, be the objects as they were or more
     pub replaced-below :
         (taken : ℕ) (given : Cells) (value : List Cell) (ks : List ObjectKind)
-        → effect w here.turn.operation (types_in w.classes unset (kinds_of heap) f) ≡ replacing taken given
-        → CellsBelow w.classes (least_types w.classes unset ks value) (listed given)
-        → CellsBelow w.classes (least_types w.classes unset ks f.registers) (least_types w.classes unset (kinds_of heap) f.registers)
-        → CellsBelow w.classes (least_types w.classes unset ks f.stack) (least_types w.classes unset (kinds_of heap) f.stack)
+        → effect w here.turn.operation (types_in w.classes (assigned.unset f.method) (kinds_of heap) f) ≡ replacing taken given
+        → CellsBelow w.classes (least_types w.classes (assigned.unset f.method) ks value) (listed given)
+        → CellsBelow w.classes (least_types w.classes (assigned.unset f.method) ks f.registers) (least_types w.classes (assigned.unset f.method) (kinds_of heap) f.registers)
+        → CellsBelow w.classes (least_types w.classes (assigned.unset f.method) ks f.stack) (least_types w.classes (assigned.unset f.method) (kinds_of heap) f.stack)
         → FrameBelow w.classes
-        (record { regs = least_types w.classes unset ks f.registers; stack = least_types w.classes unset ks (value ++ drop taken f.stack) }) here.turn.after
+        (record { regs = least_types w.classes (assigned.unset f.method) ks f.registers; stack = least_types w.classes (assigned.unset f.method) ks (value ++ drop taken f.stack) }) here.turn.after
     replaced-below taken given value ks is lower regs stack =
-        let exact = types_in w.classes unset (kinds_of heap) f in
+        let exact = types_in w.classes (assigned.unset f.method) (kinds_of heap) f in
         let a = here.turn.applies in
         let after = here.turn.after in
         let stack_is : after.stack ≡ listed given ++ drop taken exact.stack = a.stack ∙ ap (λ (e : Effect). changed e.change exact.stack) is in
         let regs_are : after.regs ≡ exact.regs = subst (λ (e : Effect). Stores w.classes Flow e.store exact.regs after.regs) is a.regs in
-        let split : least_types w.classes unset ks (value ++ drop taken f.stack) ≡ least_types w.classes unset ks value ++ drop taken (least_types w.classes unset ks f.stack) =
-        map-append (least_type w.classes unset ks) value (drop taken f.stack)
-        ∙ ap (λ ts. least_types w.classes unset ks value ++ ts) (sym (drop-map (least_type w.classes unset ks) taken f.stack)) in
+        let split : least_types w.classes (assigned.unset f.method) ks (value ++ drop taken f.stack) ≡ least_types w.classes (assigned.unset f.method) ks value ++ drop taken (least_types w.classes (assigned.unset f.method) ks f.stack) =
+        map-append (least_type w.classes (assigned.unset f.method) ks) value (drop taken f.stack)
+        ∙ ap (λ ts. least_types w.classes (assigned.unset f.method) ks value ++ ts) (sym (drop-map (least_type w.classes (assigned.unset f.method) ks) taken f.stack)) in
         record {
-          regs = subst (CellsBelow w.classes (least_types w.classes unset ks f.registers)) (sym regs_are) regs;
-          stack = subst (CellsBelow w.classes (least_types w.classes unset ks (value ++ drop taken f.stack))) (sym stack_is)
+          regs = subst (CellsBelow w.classes (least_types w.classes (assigned.unset f.method) ks f.registers)) (sym regs_are) regs;
+          stack = subst (CellsBelow w.classes (least_types w.classes (assigned.unset f.method) ks (value ++ drop taken f.stack))) (sym stack_is)
               (subst (λ ts. CellsBelow w.classes ts (listed given ++ drop taken exact.stack)) (sym split)
               (cells-append w.classes lower (cells-drop w.classes taken stack)));
         }
@@ -118,12 +117,12 @@ module _ (w : Linked) (world : IsWorld w) (unset : Ty) (f : Frame Cell) (below :
     -- on, with a value in place of cells of the stack
     pub replace-safe :
         (taken : ℕ) (given : Cells) (value : List Cell) (objects : List (Object Cell)) (fields : List Cell)
-        → effect w here.turn.operation (types_in w.classes unset (kinds_of heap) f) ≡ replacing taken given
+        → effect w here.turn.operation (types_in w.classes (assigned.unset f.method) (kinds_of heap) f) ≡ replacing taken given
         → falls_from here.turn.operation ≡ true
-        → CellsBelow w.classes (least_types w.classes unset (kinds_of heap) value) (listed given)
+        → CellsBelow w.classes (least_types w.classes (assigned.unset f.method) (kinds_of heap) value) (listed given)
         → All (IsStacked w here.turn.stands.rec (kinds_of heap)) value
         → IsTypedStore w objects fields → kinds_of objects ≡ kinds_of heap
-        → IsSafe w unset (goes_to tagged w (here.turn.stands.instruction.place + here.turn.stands.instruction.insn.len) (record { frames = f ∷ below; heap = heap; statics = statics })
+        → IsSafe w assigned (goes_to tagged w (here.turn.stands.instruction.place + here.turn.stands.instruction.insn.len) (record { frames = f ∷ below; heap = heap; statics = statics })
         (record {
           frames = record { method = f.method; place = f.place; registers = f.registers; stack = value ++ drop taken f.stack } ∷ below;
           heap = objects;
@@ -131,31 +130,31 @@ module _ (w : Linked) (world : IsWorld w) (unset : Ty) (f : Frame Cell) (below :
         }))
     replace-safe taken given value objects fields is falls lower stacked store same =
         on-safe f.registers (value ++ drop taken f.stack) objects fields falls
-        (replaced-below taken given value (kinds_of heap) is lower (cells-same w.classes (least_types w.classes unset (kinds_of heap) f.registers))
-        (cells-same w.classes (least_types w.classes unset (kinds_of heap) f.stack)))
+        (replaced-below taken given value (kinds_of heap) is lower (cells-same w.classes (least_types w.classes (assigned.unset f.method) (kinds_of heap) f.registers))
+        (cells-same w.classes (least_types w.classes (assigned.unset f.method) (kinds_of heap) f.stack)))
         (All-append (IsStacked w here.turn.stands.rec (kinds_of heap)) value (drop taken f.stack) stacked
         (All-drop (IsStacked w here.turn.stands.rec (kinds_of heap)) taken f.stack here.turn.stacked))
         store same
 
     -- ---- what is thrown
 
-    catching : (more : List ObjectKind) → AreCatching w unset (kinds_of heap ++ more) (f ∷ below)
+    catching : (more : List ObjectKind) → AreCatching w assigned (kinds_of heap ++ more) (f ∷ below)
     unfolding AreCatching
     catching more = (
       record {
         stands = here.turn.stands;
-        regs = some-from (λ (g : Types). CellsBelow w.classes (least_types w.classes unset (kinds_of heap ++ more) f.registers) g.regs)
-            (here.turn.stands.frames f.place) here.turn.above here.turn.held
-            (cells-trans w.classes (types-fall w.classes unset (kinds_of heap) more f.registers) here.turn.under.regs);
+        regs = some-from (λ (g : Types). CellsBelow w.classes (least_types w.classes (assigned.unset f.method) (kinds_of heap ++ more) f.registers) g.regs)
+            ((assigned.frames f.method) f.place) here.turn.above here.turn.held
+            (cells-trans w.classes (types-fall w.classes (assigned.unset f.method) (kinds_of heap) more f.registers) here.turn.under.regs);
       },
-      all-waiting-fall w unset (kinds_of heap) more (result_of w f.method) below here.waits,
+      all-waiting-fall w assigned (kinds_of heap) more (result_of w f.method) below here.waits,
     )
 
-    catching-now : AreCatching w unset (kinds_of heap) (f ∷ below)
-    catching-now = subst (λ ks. AreCatching w unset ks (f ∷ below)) (append-nil (kinds_of heap)) (catching [])
+    catching-now : AreCatching w assigned (kinds_of heap) (f ∷ below)
+    catching-now = subst (λ ks. AreCatching w assigned ks (f ∷ below)) (append-nil (kinds_of heap)) (catching [])
 
     throwable : (ks : List ObjectKind) (handle : ℕ) (k : ObjectKind) → kind_of_handle ks handle ≡ Some k
-        → IsThrowable w.classes unset ks (class_in w.classes (kind_of_handle ks handle)) handle
+        → IsThrowable w.classes ks (class_in w.classes (kind_of_handle ks handle)) handle
     unfolding IsThrowable
     throwable ks handle k e = λ d on.
         subst (λ ty. Below w.classes ty (Class d)) (sym (kind-type w.classes ks handle k e))
@@ -164,9 +163,9 @@ module _ (w : Linked) (world : IsWorld w) (unset : Ty) (f : Frame Cell) (below :
     -- an object
     pub throw-safe :
         (handle : ℕ) (k : ObjectKind) → kind_of_handle (kinds_of heap) handle ≡ Some k
-        → IsSafe w unset (thrown tagged w handle (record { frames = f ∷ below; heap = heap; statics = statics }))
+        → IsSafe w assigned (thrown tagged w handle (record { frames = f ∷ below; heap = heap; statics = statics }))
     throw-safe handle k e =
-        unwound-safe w unset heap statics here.store (class_in w.classes (kind_of_handle (kinds_of heap) handle)) handle (throwable (kinds_of heap) handle k e)
+        unwound-safe w assigned heap statics here.store (class_in w.classes (kind_of_handle (kinds_of heap) handle)) handle (throwable (kinds_of heap) handle k e)
         (f ∷ below) (f ∷ below) catching-now
 
     role-range : (e : Exception) → (2 ≤ role_of e) × (role_of e < 8)
@@ -177,7 +176,7 @@ module _ (w : Linked) (world : IsWorld w) (unset : Ty) (f : Frame Cell) (below :
     role-range exceptions.ClassCast = (lit≤ tt, lit< tt)
     role-range exceptions.ArrayStore = (lit≤ tt, lit< tt)
 
-    made-thrown : (c : ℕ) → IsConcrete w.classes w.methods c → IsSafe w unset (thrown tagged w (length heap + 1)
+    made-thrown : (c : ℕ) → IsConcrete w.classes w.methods c → IsSafe w assigned (thrown tagged w (length heap + 1)
         (with_object (record { frames = f ∷ below; heap = heap; statics = statics }) (Instance c) (instance_cells tagged w.classes c)))
     made-thrown c concrete =
         let o : Object Cell = record { kind = Instance c; cells = instance_cells tagged w.classes c } in
@@ -185,38 +184,38 @@ module _ (w : Linked) (world : IsWorld w) (unset : Ty) (f : Frame Cell) (below :
         let handle : ℕ = length heap + 1 in
         let kind : kind_of_handle (kinds_of objects) handle ≡ Some (Instance c) =
         subst (λ ks. kind_of_handle ks handle ≡ Some (Instance c)) (sym (kinds-more heap o)) (new-kind heap o) in
-        unwound-safe w unset objects statics (with-instance w heap statics here.store world c concrete) (class_in w.classes (kind_of_handle (kinds_of objects) handle)) handle
+        unwound-safe w assigned objects statics (with-instance w heap statics here.store world c concrete) (class_in w.classes (kind_of_handle (kinds_of objects) handle)) handle
         (throwable (kinds_of objects) handle (Instance c) kind) (f ∷ below) (f ∷ below)
-        (subst (λ ks. AreCatching w unset ks (f ∷ below)) (sym (kinds-more heap o)) (catching (Instance c ∷ [])))
+        (subst (λ ks. AreCatching w assigned ks (f ∷ below)) (sym (kinds-more heap o)) (catching (Instance c ∷ [])))
 
     -- an exception, of which an object is made where it has room
-    pub raise-safe : (exception : Exception) → IsSafe w unset (raised tagged w exception (record { frames = f ∷ below; heap = heap; statics = statics }))
+    pub raise-safe : (exception : Exception) → IsSafe w assigned (raised tagged w exception (record { frames = f ∷ below; heap = heap; statics = statics }))
     raise-safe exception =
         let now : State Cell = record { frames = f ∷ below; heap = heap; statics = statics } in
         let class : ℕ = slice_index w.classes.roles (role_of exception) in
-        safe-if w unset (has_room now (length (cells_of w.classes class)))
+        safe-if w assigned (has_room now (length (cells_of w.classes class)))
         (thrown tagged w (length heap + 1) (with_object now (Instance class) (instance_cells tagged w.classes class)))
         (ends (endings.Plain HeapFull) now)
         (made-thrown class (world.roles.others (role_of exception) (role-range exception).0 (role-range exception).1).concrete)
-        (plain-safe w unset HeapFull (f ∷ below) heap statics here.store)
+        (plain-safe w assigned HeapFull (f ∷ below) heap statics here.store)
 
     -- ---- acts that may throw
 
     -- where an object is there
     pub null-safe :
         (next h : ℕ) (rest : ℕ → Act Cell)
-        → ((h ≡ 0 → ⊥) → IsSafe w unset (settled tagged w next (record { frames = f ∷ below; heap = heap; statics = statics }) (rest h)))
-        → IsSafe w unset (settled tagged w next (record { frames = f ∷ below; heap = heap; statics = statics }) (unless_null h rest))
+        → ((h ≡ 0 → ⊥) → IsSafe w assigned (settled tagged w next (record { frames = f ∷ below; heap = heap; statics = statics }) (rest h)))
+        → IsSafe w assigned (settled tagged w next (record { frames = f ∷ below; heap = heap; statics = statics }) (unless_null h rest))
     null-safe next h rest safe = go (h == 0) refl
       where
         go : (b : Bool) → (h == 0) ≡ b
-            → IsSafe w unset (settled tagged w next (record { frames = f ∷ below; heap = heap; statics = statics }) (if b then raises exceptions.NullPointer else rest h))
+            → IsSafe w assigned (settled tagged w next (record { frames = f ∷ below; heap = heap; statics = statics }) (if b then raises exceptions.NullPointer else rest h))
         go true e = raise-safe exceptions.NullPointer
         go false e = safe (eqb-false h 0 e)
 
     pub some-safe :
         {X : Type 0} (next : ℕ) (exception : Exception) (o : Option X) (rest : X → Act Cell)
-        → ((x : X) → o ≡ Some x → IsSafe w unset (settled tagged w next (record { frames = f ∷ below; heap = heap; statics = statics }) (rest x)))
-        → IsSafe w unset (settled tagged w next (record { frames = f ∷ below; heap = heap; statics = statics }) (if_some exception o rest))
+        → ((x : X) → o ≡ Some x → IsSafe w assigned (settled tagged w next (record { frames = f ∷ below; heap = heap; statics = statics }) (rest x)))
+        → IsSafe w assigned (settled tagged w next (record { frames = f ∷ below; heap = heap; statics = statics }) (if_some exception o rest))
     some-safe next exception None rest safe = raise-safe exception
     some-safe next exception (Some x) rest safe = safe x refl

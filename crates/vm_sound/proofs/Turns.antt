@@ -43,7 +43,7 @@ use Rattle.vm_step.specs.declared.ending.Fault.TheVariants.{TypeFault, StackFaul
 use Rattle.vm_step.specs.Methods.{of_method, code_at, instruction_at}
 use Rattle.vm_step.specs.Settled.{place_after}
 use Rattle.vm_step.specs.Tests.{fault_before}
-use Rattle.vm_sound.specs.Frames.{least_types, types_in, types_with, IsStacked, Standing, IsTypedFrame, at_next, IsWaiting}
+use Rattle.vm_sound.specs.Frames.{Typings, least_types, types_in, types_with, IsStacked, Standing, IsTypedFrame, at_next, IsWaiting}
 use Rattle.vm_sound.proofs.CellTypes.{some-both, some-is, some-from, some-weaker, not_bottoms, bottoms-below}
 use Rattle.vm_sound.proofs.Places.{IsThere, instruction-there, place-instruction}
 
@@ -51,51 +51,51 @@ pub frame-trans : (t : ClassTable) {f g h : Types} → FrameBelow t f g → Fram
 frame-trans t a b = record { regs = cells-trans t a.regs b.regs; stack = cells-trans t a.stack b.stack }
 
 -- the turn of a frame: what the typing holds above it, and what the rule gives of the least types of its cells
-pub record Turn (w : Linked) (unset : Ty) (ks : List ObjectKind) (f : Frame Cell) : Type 0 where
-  pub stands : Standing w unset f
+pub record Turn (w : Linked) (assigned : Typings) (ks : List ObjectKind) (f : Frame Cell) : Type 0 where
+  pub stands : Standing w assigned f
   pub stacked : All (IsStacked w stands.rec ks) f.stack
   pub above : Types
-  pub held : stands.frames f.place ≡ Some above
-  pub under : FrameBelow w.classes (types_in w.classes unset ks f) above
+  pub held : (assigned.frames f.method) f.place ≡ Some above
+  pub under : FrameBelow w.classes (types_in w.classes (assigned.unset f.method) ks f) above
   pub fit : IsFit (method_with w f.method stands.rec) above
-  pub followed : IsFollowed w (method_with w f.method stands.rec) stands.frames stands.instruction above
+  pub followed : IsFollowed w (method_with w f.method stands.rec) (assigned.frames f.method) stands.instruction above
   pub operation : Operation
   pub resolves : Resolves w stands.rec stands.instruction.place stands.instruction.insn (Ok operation)
   pub after : Types
   pub outcome : Outcome
-  pub applies : OperationApplies w stands.rec.max_stack operation Flow (types_in w.classes unset ks f) after outcome
+  pub applies : OperationApplies w stands.rec.max_stack operation Flow (types_in w.classes (assigned.unset f.method) ks f) after outcome
   pub lower : FrameBelow w.classes after followed.after
   pub asked : AllHold w.classes (types_in w.classes Bottom ks f) (demands w operation)
 
-module _ (w : Linked) (world : IsWorld w) (unset : Ty) where
+module _ (w : Linked) (world : IsWorld w) (assigned : Typings) where
   order : IsOrderOfTypes w.classes
   order = order-of-types w.classes world.chains
 
-  pub turn : (ks : List ObjectKind) (f : Frame Cell) → IsTypedFrame w unset ks f → Turn w unset ks f
+  pub turn : (ks : List ObjectKind) (f : Frame Cell) → IsTypedFrame w assigned ks f → Turn w assigned ks f
   turn ks f typed =
       let st = typed.stands in
       let m = method_with w f.method st.rec in
       let there = instruction-there (code_of w.infos st.rec) f.place st.instruction st.there in
-      let rules : At st.frames f.place (IsFollowed w m st.frames st.instruction) =
-      subst (λ p. At st.frames p (IsFollowed w m st.frames st.instruction)) there.at
+      let rules : At (assigned.frames f.method) f.place (IsFollowed w m (assigned.frames f.method) st.instruction) =
+      subst (λ p. At (assigned.frames f.method) p (IsFollowed w m (assigned.frames f.method) st.instruction)) there.at
       (st.typing.rules st.instruction there.stands (subst (IsReached m) (sym there.at) st.reached)) in
-      let fit : At st.frames f.place (IsFit m) = st.typing.fit f.place st.reached in
-      let exact = types_in w.classes unset ks f in
-      let all = some-is (λ (g : Types). FrameBelow w.classes exact g × (IsFollowed w m st.frames st.instruction g × IsFit m g)) (st.frames f.place)
-      (some-both (FrameBelow w.classes exact) (λ g. IsFollowed w m st.frames st.instruction g × IsFit m g) (st.frames f.place) typed.below
-      (some-both (IsFollowed w m st.frames st.instruction) (IsFit m) (st.frames f.place) rules fit)) in
+      let fit : At (assigned.frames f.method) f.place (IsFit m) = st.typing.fit f.place st.reached in
+      let exact = types_in w.classes (assigned.unset f.method) ks f in
+      let all = some-is (λ (g : Types). FrameBelow w.classes exact g × (IsFollowed w m (assigned.frames f.method) st.instruction g × IsFit m g)) ((assigned.frames f.method) f.place)
+      (some-both (FrameBelow w.classes exact) (λ g. IsFollowed w m (assigned.frames f.method) st.instruction g × IsFit m g) ((assigned.frames f.method) f.place) typed.below
+      (some-both (IsFollowed w m (assigned.frames f.method) st.instruction) (IsFit m) ((assigned.frames f.method) f.place) rules fit)) in
       let above : Types = all.0 in
       let below : FrameBelow w.classes exact above = all.2.0 in
-      let followed : IsFollowed w m st.frames st.instruction above = all.2.1.0 in
+      let followed : IsFollowed w m (assigned.frames f.method) st.instruction above = all.2.1.0 in
       let fits : IsFit m above = all.2.1.1 in
       let r : RuleApplies w st.rec st.instruction.place st.instruction.insn Flow above followed.after followed.steps.0 = followed.steps.1 in
       let given : OperationFallsTo w st.rec.max_stack r.operation Flow exact followed.after =
       operation-falls w order st.rec.max_stack r.operation Flow above exact followed.after followed.steps.0 below fits.no_top
-      (not_bottoms w st.rec unset ks f.stack typed.stacked) r.does in
+      (not_bottoms w st.rec (assigned.unset f.method) ks f.stack typed.stacked) r.does in
       let least = types_in w.classes Bottom ks f in
       let least_below : FrameBelow w.classes least above =
       frame-trans w.classes
-      (record { regs = bottoms-below w.classes unset ks f.registers; stack = bottoms-below w.classes unset ks f.stack }) below in
+      (record { regs = bottoms-below w.classes (assigned.unset f.method) ks f.registers; stack = bottoms-below w.classes (assigned.unset f.method) ks f.stack }) below in
       let tested : OperationFallsTo w st.rec.max_stack r.operation Flow least followed.after =
       operation-falls w order st.rec.max_stack r.operation Flow above least followed.after followed.steps.0 least_below fits.no_top
       (not_bottoms w st.rec Bottom ks f.stack typed.stacked) r.does in
@@ -118,7 +118,7 @@ module _ (w : Linked) (world : IsWorld w) (unset : Ty) where
 
   -- ---- where control goes from there
 
-  module _ (f : Frame Cell) (st : Standing w unset f) where
+  module _ (f : Frame Cell) (st : Standing w assigned f) where
     at-instruction : IsThere (code_of w.infos st.rec) f.place st.instruction
     at-instruction = instruction-there (code_of w.infos st.rec) f.place st.instruction st.there
 
@@ -136,11 +136,11 @@ module _ (w : Linked) (world : IsWorld w) (unset : Ty) where
 
   -- a frame whose cells are below what the rule gave is typed at each successor
   pub lands :
-      (ks : List ObjectKind) (f : Frame Cell) (turn : Turn w unset ks f) (more : List ObjectKind) (registers stack : List Cell) (q : ℕ)
+      (ks : List ObjectKind) (f : Frame Cell) (turn : Turn w assigned ks f) (more : List ObjectKind) (registers stack : List Cell) (q : ℕ)
       → IsSuccessor (code_of w.infos turn.stands.rec) turn.stands.instruction q
-      → FrameBelow w.classes (record { regs = least_types w.classes unset more registers; stack = least_types w.classes unset more stack }) turn.after
+      → FrameBelow w.classes (record { regs = least_types w.classes (assigned.unset f.method) more registers; stack = least_types w.classes (assigned.unset f.method) more stack }) turn.after
       → All (IsStacked w turn.stands.rec more) stack
-      → IsTypedFrame w unset more (record { method = f.method; place = q; registers = registers; stack = stack })
+      → IsTypedFrame w assigned more (record { method = f.method; place = q; registers = registers; stack = stack })
   lands ks f turn more registers stack q to below stacked =
       let st = turn.stands in
       let at = place-instruction (code_of w.infos st.rec) q (successor-place f st to) in
@@ -151,24 +151,23 @@ module _ (w : Linked) (world : IsWorld w) (unset : Ty) where
           instruction = at.0;
           there = at.1;
           reached = follows (at-instruction f st).stands (instruction-reached f st) to;
-          frames = st.frames;
           typing = st.typing;
         };
         below = some-weaker (FrameBelow w.classes turn.followed.after)
-            (FrameBelow w.classes (record { regs = least_types w.classes unset more registers; stack = least_types w.classes unset more stack }))
+            (FrameBelow w.classes (record { regs = least_types w.classes (assigned.unset f.method) more registers; stack = least_types w.classes (assigned.unset f.method) more stack }))
             (λ g b. frame-trans w.classes below (frame-trans w.classes turn.lower b))
-            (st.frames q) (turn.followed.below q to);
+            ((assigned.frames f.method) q) (turn.followed.below q to);
         stacked = stacked;
       }
 
   -- a caller whose cells, with a result on the stack, are below what the rule gave waits for that result
   pub waits :
-      (ks : List ObjectKind) (f : Frame Cell) (turn : Turn w unset ks f) (registers stack : List Cell) (result : Option Ty)
+      (ks : List ObjectKind) (f : Frame Cell) (turn : Turn w assigned ks f) (registers stack : List Cell) (result : Option Ty)
       → IsSuccessor (code_of w.infos turn.stands.rec) turn.stands.instruction (turn.stands.instruction.place + turn.stands.instruction.insn.len)
-      → CellsBelow w.classes (least_types w.classes unset ks registers) turn.above.regs
-      → FrameBelow w.classes (types_with w.classes unset ks result (record { method = f.method; place = f.place; registers = registers; stack = stack })) turn.after
+      → CellsBelow w.classes (least_types w.classes (assigned.unset f.method) ks registers) turn.above.regs
+      → FrameBelow w.classes (types_with w.classes (assigned.unset f.method) ks result (record { method = f.method; place = f.place; registers = registers; stack = stack })) turn.after
       → All (IsStacked w turn.stands.rec ks) stack
-      → IsWaiting w unset ks result (record { method = f.method; place = f.place; registers = registers; stack = stack })
+      → IsWaiting w assigned ks result (record { method = f.method; place = f.place; registers = registers; stack = stack })
   waits ks f turn registers stack result to held below stacked =
       let st = turn.stands in
       let code : List ℕ = code_of w.infos st.rec in
@@ -178,7 +177,7 @@ module _ (w : Linked) (world : IsWorld w) (unset : Ty) where
       let here : instruction_at (code_at w f.method) f.place ≡ Some st.instruction =
       ap (λ bytes. instruction_at bytes f.place) (ap (of_method [] (code_of w.infos)) st.is_method) ∙ st.there in
       let next : q ≡ (at_next w caller).place = ap place_after (sym here) in
-      let exact : Types = types_with w.classes unset ks result caller in
+      let exact : Types = types_with w.classes (assigned.unset f.method) ks result caller in
       record {
         stands = record {
           rec = st.rec;
@@ -186,27 +185,26 @@ module _ (w : Linked) (world : IsWorld w) (unset : Ty) where
           instruction = st.instruction;
           there = st.there;
           reached = st.reached;
-          frames = st.frames;
           typing = st.typing;
         };
-        regs = some-from (λ (g : Types). CellsBelow w.classes (least_types w.classes unset ks registers) g.regs) (st.frames f.place) turn.above turn.held held;
+        regs = some-from (λ (g : Types). CellsBelow w.classes (least_types w.classes (assigned.unset f.method) ks registers) g.regs) ((assigned.frames f.method) f.place) turn.above turn.held held;
         next = record {
           rec = st.rec;
           is_method = st.is_method;
           instruction = at.0;
           there = subst (λ p. instruction_at (code_of w.infos st.rec) p ≡ Some at.0) next at.1;
           reached = subst (IsReached (method_with w f.method st.rec)) next (follows (at-instruction f st).stands (instruction-reached f st) to);
-          frames = st.frames;
           typing = st.typing;
         };
-        below = subst (λ p. At st.frames p (FrameBelow w.classes exact)) next
+        below = subst (λ p. At (assigned.frames f.method) p (FrameBelow w.classes exact)) next
             (some-weaker (FrameBelow w.classes turn.followed.after) (FrameBelow w.classes exact) (λ g b. frame-trans w.classes below (frame-trans w.classes turn.lower b))
-            (st.frames q) (turn.followed.below q to));
+            ((assigned.frames f.method) q) (turn.followed.below q to));
         stacked = stacked;
       }
 
-  -- ---- the tests before an operation
+-- ---- the tests before an operation
 
+module _ (w : Linked) (world : IsWorld w) where
   pick : {X : Type 0} (x y z : Option X) (a b c : Bool) → a ≡ false → b ≡ false → c ≡ true → (if a then x else if b then y else if c then None else z) ≡ None
   pick x y z true b c h k l = absurd (false≢true (sym h))
   pick x y z false true c h k l = absurd (false≢true (sym k))
@@ -221,7 +219,7 @@ module _ (w : Linked) (world : IsWorld w) (unset : Ty) where
   hold-tests types [] h = refl
   hold-tests types (d ∷ ds) h =
       and (holds w.classes types d) (list_all (holds w.classes types) ds)
-      (true-of (holds w.classes types d) (Holds w.classes types d) ((are-decided w.classes order).demand types d) h.0)
+      (true-of (holds w.classes types d) (Holds w.classes types d) ((are-decided w.classes (order-of-types w.classes world.chains)).demand types d) h.0)
       (hold-tests types ds h.1)
 
   pub passes-before :

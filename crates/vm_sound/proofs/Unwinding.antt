@@ -5,7 +5,7 @@ use Rattle.std.proofs.lemmas.Bool.{false≢true}
 use Rattle.std.proofs.lemmas.Bool.{le-ltb, leb-true, ltb-true}
 use Rattle.std.proofs.lemmas.List.Elements.{All-cons, All-nil, All-contains}
 use Rattle.jc_base.specs.declared.ty.Ty.{Ty}
-use Rattle.jc_base.specs.declared.ty.Ty.TheVariants.{Class}
+use Rattle.jc_base.specs.declared.ty.Ty.TheVariants.{Bottom, Class}
 use Rattle.jc_base.specs.declared.record.Handler.{Handler}
 use Rattle.jc_base.specs.declared.record.MethodRec.{MethodRec}
 use Rattle.jc_base.specs.Class.{ClassTable, AreClasses}
@@ -37,7 +37,7 @@ use Rattle.vm_step.specs.Methods.{of_method, max_stack_of}
 use Rattle.vm_step.specs.Calls.{class_in}
 use Rattle.vm_step.specs.Raising.{running, ends, catches, handler_for, caught_by, caught_or, unwound}
 use Rattle.vm_step.specs.Raising.{caught as caught_in}
-use Rattle.vm_sound.specs.Frames.{least_types, IsStacked, Standing, IsTypedFrame, result_of, AreWaiting}
+use Rattle.vm_sound.specs.Frames.{Typings, least_types, IsStacked, Standing, IsTypedFrame, result_of, AreWaiting}
 use Rattle.vm_sound.specs.Laws.{IsSafe}
 use Rattle.vm_sound.proofs.CellTypes.{some-is, some-both, some-weaker}
 use Rattle.vm_sound.proofs.Places.{place-instruction}
@@ -45,8 +45,8 @@ use Rattle.vm_sound.proofs.Turns.{frame-trans}
 use Rattle.vm_sound.proofs.Finish.{IsTypedStore, plain-safe}
 
 -- what is thrown is of each class that catches it
-unfoldable pub IsThrowable : ClassTable → Ty → List ObjectKind → ℕ → ℕ → Type 0
-IsThrowable t unset ks class handle = (d : ℕ) → is_on_chain t d class ≡ true → Below t (least_type t unset ks (cells.Ref handle)) (Class d)
+unfoldable pub IsThrowable : ClassTable → List ObjectKind → ℕ → ℕ → Type 0
+IsThrowable t ks class handle = (d : ℕ) → is_on_chain t d class ≡ true → Below t (least_type t Bottom ks (cells.Ref handle)) (Class d)
 
 pub kind-throwable : (t : ClassTable) → AreClasses t → (k : ObjectKind) (d : ℕ) → is_on_chain t d (class_in t (Some k)) ≡ true → Below t (type_of_kind t k) (Class d)
 unfolding is_below
@@ -57,17 +57,17 @@ kind-throwable t are Shorts d h = array_object of_shorts (sym (on_object t are d
 kind-throwable t are Ints d h = array_object of_ints (sym (on_object t are d h))
 kind-throwable t are (References c) d h = array_object of_references (sym (on_object t are d h))
 
-module _ (w : Linked) (unset : Ty) (ks : List ObjectKind) where
+module _ (w : Linked) (assigned : Typings) (ks : List ObjectKind) where
   -- a frame whose registers are typed where it stands, so that its handlers are
   pub record IsCatching (f : Frame Cell) : Type 0 where
-    pub stands : Standing w unset f
-    pub regs : At stands.frames f.place (λ (g : Types). CellsBelow w.classes (least_types w.classes unset ks f.registers) g.regs)
+    pub stands : Standing w assigned f
+    pub regs : At (assigned.frames f.method) f.place (λ (g : Types). CellsBelow w.classes (least_types w.classes (assigned.unset f.method) ks f.registers) g.regs)
 
   unfoldable pub AreCatching : List (Frame Cell) → Type 0
   AreCatching [] = ⊤
-  AreCatching (f ∷ fs) = IsCatching f × AreWaiting w unset ks (result_of w f.method) fs
+  AreCatching (f ∷ fs) = IsCatching f × AreWaiting w assigned ks (result_of w f.method) fs
 
-  pub waiting-catching : (result : Option Ty) (fs : List (Frame Cell)) → AreWaiting w unset ks result fs → AreCatching fs
+  pub waiting-catching : (result : Option Ty) (fs : List (Frame Cell)) → AreWaiting w assigned ks result fs → AreCatching fs
   unfolding AreCatching
   waiting-catching result [] h = tt
   waiting-catching result (f ∷ fs) h = (record { stands = h.0.stands; regs = h.0.regs }, h.1)
@@ -95,9 +95,9 @@ module _ (w : Linked) (unset : Ty) (ks : List ObjectKind) where
   -- the method has room for the reference, and the frame is typed at the handler
   record IsCaught (f : Frame Cell) (h : Handler) (handle : ℕ) : Type 0 where
     room : 1 ≤ max_stack_of w f.method
-    typed : IsTypedFrame w unset ks (caught_in tagged h handle f)
+    typed : IsTypedFrame w assigned ks (caught_in tagged h handle f)
 
-  catch-typed : (f : Frame Cell) (class handle : ℕ) (h : Handler) → IsCatching f → IsThrowable w.classes unset ks class handle → handler_for w class f ≡ Some h → IsCaught f h handle
+  catch-typed : (f : Frame Cell) (class handle : ℕ) (h : Handler) → IsCatching f → IsThrowable w.classes ks class handle → handler_for w class f ≡ Some h → IsCaught f h handle
   unfolding IsThrowable
   catch-typed f class handle h catching thrown e =
       let st = catching.stands in
@@ -105,13 +105,13 @@ module _ (w : Linked) (unset : Ty) (ks : List ObjectKind) where
       let by = catcher f st.rec st.is_method class h e in
       let handlers = st.typing.handlers f.place h st.reached by.listed by.covers in
       let entered : IsReached m h.entry = caught st.reached by.listed by.covers in
-      let here = some-is (λ (g : Types). CellsBelow w.classes (least_types w.classes unset ks f.registers) g.regs × At st.frames h.entry (FrameBelow w.classes (caught_frame h g)))
-      (st.frames f.place)
-      (some-both (λ (g : Types). CellsBelow w.classes (least_types w.classes unset ks f.registers) g.regs) (λ g. At st.frames h.entry (FrameBelow w.classes (caught_frame h g)))
-      (st.frames f.place) catching.regs handlers) in
-      let there = some-is (λ (g : Types). FrameBelow w.classes (caught_frame h here.0) g × IsFit m g) (st.frames h.entry)
-      (some-both (FrameBelow w.classes (caught_frame h here.0)) (IsFit m) (st.frames h.entry) here.2.1 (st.typing.fit h.entry entered)) in
-      let exact : Types = record { regs = least_types w.classes unset ks f.registers; stack = least_type w.classes unset ks (cells.Ref handle) ∷ [] } in
+      let here = some-is (λ (g : Types). CellsBelow w.classes (least_types w.classes (assigned.unset f.method) ks f.registers) g.regs × At (assigned.frames f.method) h.entry (FrameBelow w.classes (caught_frame h g)))
+      ((assigned.frames f.method) f.place)
+      (some-both (λ (g : Types). CellsBelow w.classes (least_types w.classes (assigned.unset f.method) ks f.registers) g.regs) (λ g. At (assigned.frames f.method) h.entry (FrameBelow w.classes (caught_frame h g)))
+      ((assigned.frames f.method) f.place) catching.regs handlers) in
+      let there = some-is (λ (g : Types). FrameBelow w.classes (caught_frame h here.0) g × IsFit m g) ((assigned.frames f.method) h.entry)
+      (some-both (FrameBelow w.classes (caught_frame h here.0)) (IsFit m) ((assigned.frames f.method) h.entry) here.2.1 (st.typing.fit h.entry entered)) in
+      let exact : Types = record { regs = least_types w.classes (assigned.unset f.method) ks f.registers; stack = least_type w.classes (assigned.unset f.method) ks (cells.Ref handle) ∷ [] } in
       let lower : FrameBelow w.classes exact (caught_frame h here.0) =
       record { regs = here.2.0; stack = more_cells (thrown h.class by.on) no_cells } in
       let place = (All-contains (IsHandlerOf (code_of w.infos st.rec)) st.rec.handlers h st.typing.formed.handlers by.listed).entry in
@@ -126,43 +126,42 @@ module _ (w : Linked) (unset : Ty) (ks : List ObjectKind) where
             instruction = at.0;
             there = at.1;
             reached = entered;
-            frames = st.frames;
             typing = st.typing;
           };
-          below = some-weaker (FrameBelow w.classes (caught_frame h here.0)) (FrameBelow w.classes exact) (λ g b. frame-trans w.classes lower b) (st.frames h.entry) here.2.1;
+          below = some-weaker (FrameBelow w.classes (caught_frame h here.0)) (FrameBelow w.classes exact) (λ g b. frame-trans w.classes lower b) ((assigned.frames f.method) h.entry) here.2.1;
           stacked = All-cons (IsStacked w st.rec ks) (cells.Ref handle) [] tt (All-nil (IsStacked w st.rec ks));
         };
       }
 
 -- ---- the frames from the top down
 
-module _ (w : Linked) (unset : Ty) (heap : List (Object Cell)) (statics : List Cell) (store : IsTypedStore w heap statics) (class handle : ℕ)
-    (thrown : IsThrowable w.classes unset (map (λ (o : Object Cell). o.kind) heap) class handle)
+module _ (w : Linked) (assigned : Typings) (heap : List (Object Cell)) (statics : List Cell) (store : IsTypedStore w heap statics) (class handle : ℕ)
+    (thrown : IsThrowable w.classes (map (λ (o : Object Cell). o.kind) heap) class handle)
   where
     caught-safe :
         (frames : List (Frame Cell)) (f : Frame Cell) (below : List (Frame Cell)) (h : Handler)
-        → IsCaught w unset (map (λ (o : Object Cell). o.kind) heap) f h handle
-        → AreWaiting w unset (map (λ (o : Object Cell). o.kind) heap) (result_of w f.method) below
-        → IsSafe w unset (caught_by tagged w h handle (record { frames = frames; heap = heap; statics = statics }) f below)
+        → IsCaught w assigned (map (λ (o : Object Cell). o.kind) heap) f h handle
+        → AreWaiting w assigned (map (λ (o : Object Cell). o.kind) heap) (result_of w f.method) below
+        → IsSafe w assigned (caught_by tagged w h handle (record { frames = frames; heap = heap; statics = statics }) f below)
     caught-safe frames f below h is waits = go (nat_lt (max_stack_of w f.method) 1) (le-ltb (max_stack_of w f.method) 1 is.room)
       where
         go : (b : Bool) → b ≡ false
-            → IsSafe w unset (if true && b then ends (endings.Faulted StackFault) (record { frames = frames; heap = heap; statics = statics })
+            → IsSafe w assigned (if true && b then ends (endings.Faulted StackFault) (record { frames = frames; heap = heap; statics = statics })
             else running (record { frames = caught_in tagged h handle f ∷ below; heap = heap; statics = statics }))
         go true e = absurd (false≢true (sym e))
         go false e = record { made = store.made; heap = store.objects; statics = store.fields; frames = (is.typed, waits) }
 
     pub unwound-safe :
-        (frames fs : List (Frame Cell)) → AreCatching w unset (map (λ (o : Object Cell). o.kind) heap) fs
-        → IsSafe w unset (unwound tagged w class handle (record { frames = frames; heap = heap; statics = statics }) fs)
+        (frames fs : List (Frame Cell)) → AreCatching w assigned (map (λ (o : Object Cell). o.kind) heap) fs
+        → IsSafe w assigned (unwound tagged w class handle (record { frames = frames; heap = heap; statics = statics }) fs)
     unfolding AreCatching
-    unwound-safe frames [] h = plain-safe w unset (Threw class handle) frames heap statics store
+    unwound-safe frames [] h = plain-safe w assigned (Threw class handle) frames heap statics store
     unwound-safe frames (f ∷ fs) h =
-        go (handler_for w class f) refl (unwound-safe frames fs (waiting-catching w unset (map (λ (o : Object Cell). o.kind) heap) (result_of w f.method) fs h.1))
+        go (handler_for w class f) refl (unwound-safe frames fs (waiting-catching w assigned (map (λ (o : Object Cell). o.kind) heap) (result_of w f.method) fs h.1))
       where
         go : (o : Option Handler) → handler_for w class f ≡ o
-            → IsSafe w unset (unwound tagged w class handle (record { frames = frames; heap = heap; statics = statics }) fs)
-            → IsSafe w unset (caught_or tagged w handle (record { frames = frames; heap = heap; statics = statics }) f fs
+            → IsSafe w assigned (unwound tagged w class handle (record { frames = frames; heap = heap; statics = statics }) fs)
+            → IsSafe w assigned (caught_or tagged w handle (record { frames = frames; heap = heap; statics = statics }) f fs
             (unwound tagged w class handle (record { frames = frames; heap = heap; statics = statics }) fs) o)
         go None e rest = rest
-        go (Some x) e rest = caught-safe frames f fs x (catch-typed w unset (map (λ (o : Object Cell). o.kind) heap) f class handle x h.0 thrown e) h.1
+        go (Some x) e rest = caught-safe frames f fs x (catch-typed w assigned (map (λ (o : Object Cell). o.kind) heap) f class handle x h.0 thrown e) h.1

@@ -21,7 +21,7 @@ use Rattle.vm_store.specs.Laws.{IsFilled, CellsHave, IsTypedHeap, cell_types, ty
 use Rattle.vm_store.proofs.TypedHeaps.{kinds-write, heap-read, heap-write}
 use Rattle.vm_step.specs.Numbers.{dropped}
 use Rattle.vm_step.specs.Settled.{goes_to}
-use Rattle.vm_sound.specs.Frames.{types_in, IsStacked}
+use Rattle.vm_sound.specs.Frames.{Typings, types_in, IsStacked}
 use Rattle.vm_sound.specs.State.{IsMade, static_types}
 use Rattle.vm_sound.specs.Laws.{IsSafe}
 use Rattle.vm_sound.proofs.Finish.{IsTypedStore}
@@ -66,37 +66,37 @@ module _ (w : Linked) (heap : List (Object Cell)) (statics : List Cell) where
         fields = subst (λ ks. CellsHave w.classes ks statics (static_types w.statics)) same store.fields;
       }
 
-module _ (w : Linked) (world : IsWorld w) (unset : Ty) (f : Frame Cell) (below : List (Frame Cell)) (heap : List (Object Cell)) (statics : List Cell)
-    (here : Here w unset f below heap statics)
+module _ (w : Linked) (world : IsWorld w) (assigned : Typings) (f : Frame Cell) (below : List (Frame Cell)) (heap : List (Object Cell)) (statics : List Cell)
+    (here : Here w assigned f below heap statics)
   where
     pub write-safe :
         (h i : ℕ) (ty : Ty) (c : Cell) (taken : ℕ) (op : Operation)
         → here.turn.operation ≡ op
-        → effect w op (types_in w.classes unset (kinds_of heap) f) ≡ replacing taken given.Nothing → falls_from op ≡ true
+        → effect w op (types_in w.classes (assigned.unset f.method) (kinds_of heap) f) ≡ replacing taken given.Nothing → falls_from op ≡ true
         → (h ≡ 0 → ⊥) → type_at w.classes (with_heap heap) h i ≡ Some ty → HasType w.classes (kinds_of heap) c ty → IsFilled c
-        → IsSafe w unset (goes_to tagged w (here.turn.stands.instruction.place + here.turn.stands.instruction.insn.len) (record { frames = f ∷ below; heap = heap; statics = statics })
+        → IsSafe w assigned (goes_to tagged w (here.turn.stands.instruction.place + here.turn.stands.instruction.insn.len) (record { frames = f ∷ below; heap = heap; statics = statics })
         (with_object_value (dropped (record { frames = f ∷ below; heap = heap; statics = statics }) taken) h i (c ∷ [])))
     write-safe zero i ty c taken op is does falls some e has filled = absurd (some refl)
     write-safe (suc h) i ty c taken op is does falls some e has filled =
-        replace-safe w world unset f below heap statics here taken given.Nothing [] (write_object heap h i c) statics
-        (ap (λ o. effect w o (types_in w.classes unset (kinds_of heap) f)) is ∙ does) (ap falls_from is ∙ falls)
+        replace-safe w world assigned f below heap statics here taken given.Nothing [] (write_object heap h i c) statics
+        (ap (λ o. effect w o (types_in w.classes (assigned.unset f.method) (kinds_of heap) f)) is ∙ does) (ap falls_from is ∙ falls)
         no_cells (All-nil (IsStacked w here.turn.stands.rec (kinds_of heap)))
         (store-write w heap statics h i ty c here.store e has filled) (kinds-write heap h i c)
 
     pub write-int-safe :
         (h i : ℕ) (ty low : Ty) (c d : Cell) (taken : ℕ) (op : Operation)
         → here.turn.operation ≡ op
-        → effect w op (types_in w.classes unset (kinds_of heap) f) ≡ replacing taken given.Nothing → falls_from op ≡ true
+        → effect w op (types_in w.classes (assigned.unset f.method) (kinds_of heap) f) ≡ replacing taken given.Nothing → falls_from op ≡ true
         → (h ≡ 0 → ⊥) → type_at w.classes (with_heap heap) h i ≡ Some ty → HasType w.classes (kinds_of heap) c ty → IsFilled c
         → type_at w.classes (with_heap heap) h (i + 1) ≡ Some low → HasType w.classes (kinds_of heap) d low → IsFilled d
-        → IsSafe w unset (goes_to tagged w (here.turn.stands.instruction.place + here.turn.stands.instruction.insn.len) (record { frames = f ∷ below; heap = heap; statics = statics })
+        → IsSafe w assigned (goes_to tagged w (here.turn.stands.instruction.place + here.turn.stands.instruction.insn.len) (record { frames = f ∷ below; heap = heap; statics = statics })
         (with_object_value (dropped (record { frames = f ∷ below; heap = heap; statics = statics }) taken) h i (c ∷ d ∷ [])))
     write-int-safe zero i ty low c d taken op is does falls some e has filled e2 has2 filled2 = absurd (some refl)
     write-int-safe (suc h) i ty low c d taken op is does falls some e has filled e2 has2 filled2 =
         let first : List (Object Cell) = write_object heap h i c in
         let same : kinds_of first ≡ kinds_of heap = kinds-write heap h i c in
-        replace-safe w world unset f below heap statics here taken given.Nothing [] (write_object first h (i + 1) d) statics
-        (ap (λ o. effect w o (types_in w.classes unset (kinds_of heap) f)) is ∙ does) (ap falls_from is ∙ falls)
+        replace-safe w world assigned f below heap statics here taken given.Nothing [] (write_object first h (i + 1) d) statics
+        (ap (λ o. effect w o (types_in w.classes (assigned.unset f.method) (kinds_of heap) f)) is ∙ does) (ap falls_from is ∙ falls)
         no_cells (All-nil (IsStacked w here.turn.stands.rec (kinds_of heap)))
         (store-write w first statics h (i + 1) low d (store-write w heap statics h i ty c here.store e has filled)
         (type-kept w.classes heap h i (i + 1) c ∙ e2) (subst (λ ks. HasType w.classes ks d low) (sym same) has2) filled2)

@@ -62,20 +62,24 @@ IsStacked w m ks _ = ⊤
 
 -- ---- frames
 
--- where a frame stands: the record of its method, the instruction at its place, which control reaches, and a dataflow typing of the method
-pub record Standing (w : Linked) (unset : Ty) (f : Frame Cell) : Type 0 where
+-- dataflow typings of methods by their numbers: the type of the registers of a method that are unset, and its typing
+pub record Typings : Type 0 where
+  pub unset : ℕ → Ty
+  pub frames : ℕ → ℕ → Option Types
+
+-- where a frame stands: the record of its method, the instruction at its place, which control reaches, and that its method is typed as said
+pub record Standing (w : Linked) (typings : Typings) (f : Frame Cell) : Type 0 where
   pub rec : MethodRec
   pub is_method : slice_get w.methods f.method ≡ Some rec
   pub instruction : Placed
   pub there : instruction_at (code_of w.infos rec) f.place ≡ Some instruction
   pub reached : IsReached (method_with w f.method rec) f.place
-  pub frames : ℕ → Option Types
-  pub typing : FlowTyping w (method_with w f.method rec) unset frames
+  pub typing : FlowTyping w (method_with w f.method rec) (typings.unset f.method) (typings.frames f.method)
 
 -- the frame on top: the least types of its cells are below those of the typing before its instruction
-pub record IsTypedFrame (w : Linked) (unset : Ty) (ks : List ObjectKind) (f : Frame Cell) : Type 0 where
-  pub stands : Standing w unset f
-  pub below : At stands.frames f.place (FrameBelow w.classes (types_in w.classes unset ks f))
+pub record IsTypedFrame (w : Linked) (typings : Typings) (ks : List ObjectKind) (f : Frame Cell) : Type 0 where
+  pub stands : Standing w typings f
+  pub below : At (typings.frames f.method) f.place (FrameBelow w.classes (types_in w.classes (typings.unset f.method) ks f))
   pub stacked : All (IsStacked w stands.rec ks) f.stack
 
 -- the frame at the instruction after its own
@@ -84,11 +88,13 @@ at_next w f = record f { place = place_after (instruction_at (code_at w f.method
 
 -- a frame whose method waits for the result of a call: its registers are typed at the call, for what may be thrown, and all of it is
 -- after the call, once the result lies on the stack
-pub record IsWaiting (w : Linked) (unset : Ty) (ks : List ObjectKind) (result : Option Ty) (f : Frame Cell) : Type 0 where
-  pub stands : Standing w unset f
-  pub regs : At stands.frames f.place (λ g. CellsBelow w.classes (least_types w.classes unset ks f.registers) g.regs)
-  pub next : Standing w unset (at_next w f)
-  pub below : At next.frames (at_next w f).place (FrameBelow w.classes (types_with w.classes unset ks result f))
+pub record IsWaiting (w : Linked) (typings : Typings) (ks : List ObjectKind) (result : Option Ty) (f : Frame Cell) : Type 0 where
+  pub stands : Standing w typings f
+  pub regs : At (typings.frames f.method) f.place
+      (λ g. CellsBelow w.classes (least_types w.classes (typings.unset f.method) ks f.registers) g.regs)
+  pub next : Standing w typings (at_next w f)
+  pub below : At (typings.frames f.method) (at_next w f).place
+      (FrameBelow w.classes (types_with w.classes (typings.unset f.method) ks result f))
   pub stacked : All (IsStacked w next.rec ks) f.stack
 
 -- the result of the method of a number
@@ -96,10 +102,10 @@ abbrev pub result_of : Linked → ℕ → Option Ty
 result_of w method = result_at (slice_get w.methods method)
 
 -- the frames under one whose method has a result, each of which waits for that of the one above
-abbrev pub AreWaiting : Linked → Ty → List ObjectKind → Option Ty → List (Frame Cell) → Type 0
-AreWaiting w unset ks result [] = ⊤
-AreWaiting w unset ks result (f ∷ fs) = IsWaiting w unset ks result f × AreWaiting w unset ks (result_of w f.method) fs
+abbrev pub AreWaiting : Linked → Typings → List ObjectKind → Option Ty → List (Frame Cell) → Type 0
+AreWaiting w typings ks result [] = ⊤
+AreWaiting w typings ks result (f ∷ fs) = IsWaiting w typings ks result f × AreWaiting w typings ks (result_of w f.method) fs
 
-abbrev pub AreTypedFrames : Linked → Ty → List ObjectKind → List (Frame Cell) → Type 0
-AreTypedFrames w unset ks [] = ⊤
-AreTypedFrames w unset ks (f ∷ fs) = IsTypedFrame w unset ks f × AreWaiting w unset ks (result_of w f.method) fs
+abbrev pub AreTypedFrames : Linked → Typings → List ObjectKind → List (Frame Cell) → Type 0
+AreTypedFrames w typings ks [] = ⊤
+AreTypedFrames w typings ks (f ∷ fs) = IsTypedFrame w typings ks f × AreWaiting w typings ks (result_of w f.method) fs

@@ -1,4 +1,5 @@
 pub mod Frames
 pub mod State
 pub mod Laws
+pub mod Handed
 pub mod Worked

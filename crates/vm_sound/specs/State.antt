@@ -13,7 +13,7 @@ use Rattle.vm_store.specs.declared.kind.ObjectKind.TheVariants.{Instance, Refere
 use Rattle.vm_store.specs.State.{State}
 use Rattle.vm_store.specs.Objects.{kinds}
 use Rattle.vm_store.specs.Laws.{CellsHave, IsTypedHeap}
-use Rattle.vm_sound.specs.Frames.{AreTypedFrames}
+use Rattle.vm_sound.specs.Frames.{Typings, AreTypedFrames}
 
 -- what an object can be: an instance of a class of which objects can be made, or an array
 abbrev pub IsMade : Linked → ObjectKind → Type 0
@@ -33,8 +33,8 @@ static_types (f ∷ fs) = field_types f.kind f.ty ++ static_types fs
 
 -- objects and static fields have cells of their types; the frame on top is typed before its instruction, and each under it waits for the
 -- result of the one above
-pub record IsTypedState (w : Linked) (unset : Ty) (s : State Cell) : Type 0 where
+pub record IsTypedState (w : Linked) (typings : Typings) (s : State Cell) : Type 0 where
   pub made : All (IsMade w) (kinds s)
   pub heap : IsTypedHeap w.classes s
   pub statics : CellsHave w.classes (kinds s) s.statics (static_types w.statics)
-  pub frames : AreTypedFrames w unset (kinds s) s.frames
+  pub frames : AreTypedFrames w typings (kinds s) s.frames

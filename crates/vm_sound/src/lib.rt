@@ -5,4 +5,4 @@
 
 mod laws;
 
-pub use laws::typed_code_never_fails;
+pub use laws::{arguments_are_handed, typed_code_never_fails};

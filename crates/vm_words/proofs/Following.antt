@@ -42,9 +42,9 @@ use Rattle.vm_step.specs.Tests.{fault_before}
 use Rattle.vm_acts.specs.Reaches.{Reaches}
 use Rattle.vm_checks.specs.Shaped.{IsShaped, IsShapedFrame}
 use Rattle.vm_checks.specs.Machine.{KnowsTypes, KeepsShape, TestsReach, StepsStay, StepsEnd}
-use Rattle.vm_sound.specs.Frames.{types_in, Standing, AreWaiting, result_of}
+use Rattle.vm_sound.specs.Frames.{Typings, types_in, Standing, AreWaiting, result_of}
 use Rattle.vm_sound.specs.State.{IsTypedState}
-use Rattle.vm_sound.specs.Laws.{AreTypedMethods, IsSafe, StepsAreSafe}
+use Rattle.vm_sound.specs.Laws.{AreTypings, IsSafe, StepsAreSafe}
 use Rattle.vm_erasure.specs.Erasure.{erased_act, erased_outcome, ActsErase, TypedStepsFollow, TypedStatesApply}
 use Rattle.vm_turns.specs.declared.known.Known.TheVariants.{Verified}
 use Rattle.vm_turns.specs.Known.{CanResume}
@@ -67,17 +67,17 @@ held (running s) = s
 held (ended e s) = s
 
 module _ (w : Linked) (follow : TypedStepsFollow w) (safe : StepsAreSafe w) where
-  stays-by : (z : State ℕ) (t : State Cell) (o : Outcome Cell) → running z ≡ erased_outcome o → AreTypedMethods w Bottom → IsSafe w Bottom o → IsShaped w t → Steps tagged w t o
-      → StepsStay tagged (IsShaped w) w → AreTypedWords w z
-  stays-by z t (running y) e typings typed shaped step stay =
+  stays-by : (z : State ℕ) (t : State Cell) (o : Outcome Cell) → running z ≡ erased_outcome o → (typings : Typings) → ((n : ℕ) → typings.unset n ≡ Bottom) → AreTypings w typings → IsSafe w typings o
+      → IsShaped w t → Steps tagged w t o → StepsStay tagged (IsShaped w) w → AreTypedWords w z
+  stays-by z t (running y) e typings unset are typed shaped step stay =
       let same : z ≡ erased y = ap held e in
-      record { methods = typings; state = y; words = same; typed = typed; shaped = stay t y shaped step }
-  stays-by z t (ended ending y) e typings typed shaped step stay = absurd (cc)
+      record { typings = typings; unset = unset; methods = are; state = y; words = same; typed = typed; shaped = stay t y shaped step }
+  stays-by z t (ended ending y) e typings unset are typed shaped step stay = absurd (cc)
 
   pub steps-stay : StepsStay tagged (IsShaped w) w → StepsStay words (AreTypedWords w) w
   steps-stay stay s z kept step =
-      let there = follow Bottom kept.state (running z) kept.methods kept.typed (subst (λ (x : State ℕ). Steps words w x (running z)) kept.words step) in
-      stays-by z kept.state there.0 there.2 kept.methods (safe Bottom kept.state there.0 kept.methods kept.typed there.1) kept.shaped there.1 stay
+      let there = follow kept.typings kept.state (running z) kept.methods kept.typed (subst (λ (x : State ℕ). Steps words w x (running z)) kept.words step) in
+      stays-by z kept.state there.0 there.2 kept.typings kept.unset kept.methods (safe kept.typings kept.state there.0 kept.methods kept.typed there.1) kept.shaped there.1 stay
 
   ends-by : (z : State ℕ) (e : Ending) (t : State Cell) (o : Outcome Cell) → ended e z ≡ erased_outcome o → IsShaped w t → Steps tagged w t o → StepsEnd tagged (IsShaped w) w → IsShaped w z
   ends-by z e t (running y) is shaped step last = absurd (cc)
@@ -87,7 +87,7 @@ module _ (w : Linked) (follow : TypedStepsFollow w) (safe : StepsAreSafe w) wher
 
   pub steps-end : StepsEnd tagged (IsShaped w) w → StepsEnd words (AreTypedWords w) w
   steps-end last s z e kept step =
-      let there = follow Bottom kept.state (ended e z) kept.methods kept.typed (subst (λ (x : State ℕ). Steps words w x (ended e z)) kept.words step) in
+      let there = follow kept.typings kept.state (ended e z) kept.methods kept.typed (subst (λ (x : State ℕ). Steps words w x (ended e z)) kept.words step) in
       ends-by z e kept.state there.0 there.2 kept.shaped there.1 last
 
 -- ---- a step of the cells
@@ -96,14 +96,14 @@ all-of : {X : Type 0} (P : X → Type 0) → ((x : X) → P x) → (xs : List X)
 all-of P p [] = All-nil P
 all-of P p (x ∷ xs) = All-cons P x xs (p x) (all-of P p xs)
 
-passed : (w : Linked) (s : State Cell) (o : Option Fault) (x : Outcome Cell) → IsSafe w Bottom (unless_fault s o x) → (o ≡ None) × IsSafe w Bottom x
-passed w s None x safe = (refl, safe)
-passed w s (Some fault) x safe = absurd safe
+passed : (w : Linked) (assigned : Typings) (s : State Cell) (o : Option Fault) (x : Outcome Cell) → IsSafe w assigned (unless_fault s o x) → (o ≡ None) × IsSafe w assigned x
+passed w assigned s None x safe = (refl, safe)
+passed w assigned s (Some fault) x safe = absurd safe
 
-module _ (w : Linked) (is : IsWorld w) (erase : StatesErase w.methods w.classes) (safe : StepsAreSafe w) (typings : AreTypedMethods w Bottom)
+module _ (w : Linked) (is : IsWorld w) (erase : StatesErase w.methods w.classes) (safe : StepsAreSafe w) (assigned : Typings) (bottom : (n : ℕ) → assigned.unset n ≡ Bottom) (typings : AreTypings w assigned)
     (reach : TestsReach 510 tagged (IsShaped w) w) (known : KnowsTypes tagged (IsShaped w) w)
     (f : Frame Cell) (below : List (Frame Cell)) (heap : List (Object Cell)) (statics : List Cell)
-    (typed : IsTypedState w Bottom (record { frames = f ∷ below; heap = heap; statics = statics }))
+    (typed : IsTypedState w assigned (record { frames = f ∷ below; heap = heap; statics = statics }))
     (shaped : IsShaped w (record { frames = f ∷ below; heap = heap; statics = statics }))
   where
     abbrev now : State Cell
@@ -114,10 +114,10 @@ module _ (w : Linked) (is : IsWorld w) (erase : StatesErase w.methods w.classes)
 
     -- the step of the cells is safe, so that the tests before it are passed
     step-safe : (m : MethodRec) (i : Placed) (op : Operation) → Fetches w now m i → Resolves w m i.place i.insn (Ok op)
-        → (fault_before tagged w op now ≡ None) × IsSafe w Bottom (settled tagged w (i.place + i.insn.len) now (act tagged w i.insn op now))
+        → (fault_before tagged w op now ≡ None) × IsSafe w assigned (settled tagged w (i.place + i.insn.len) now (act tagged w i.insn op now))
     step-safe m i op fetched names =
-        passed w now (fault_before tagged w op now) (settled tagged w (i.place + i.insn.len) now (act tagged w i.insn op now))
-        (safe Bottom now (performed tagged w i op now) typings typed (performs fetched op names refl))
+        passed w assigned now (fault_before tagged w op now) (settled tagged w (i.place + i.insn.len) now (act tagged w i.insn op now))
+        (safe assigned now (performed tagged w i op now) typings typed (performs fetched op names refl))
 
     reached : (m : MethodRec) (i : Placed) (op : Operation) → Fetches w now m i → max_stack_of w f.method ≤ 255 → Resolves w m i.place i.insn (Ok op) → Reaches 510 tagged w i.insn op now
     reached m i op fetched few names = reach now m i op shaped fetched few names (step-safe m i op fetched names).0
@@ -147,11 +147,12 @@ module _ (w : Linked) (is : IsWorld w) (erase : StatesErase w.methods w.classes)
     room-left : OperationsAreSound w → OperationLeaves w → TypedStatesApply w → (m : MethodRec) (i : Placed) (op : Operation) → Fetches w now m i → max_stack_of w f.method ≤ 255
         → Resolves w m i.place i.insn (Ok op) → length f.stack + (footprint w op).given ≤ 255 + (footprint w op).taken
     room-left sound leaves applies m i op fetched few names =
-        let a = applies Bottom now m i op typed fetched names in
-        let before = types_in w.classes Bottom (kinds now) f in
-        let done = leaves m.max_stack m i.place op _ before a.0 a.1 (sound m i.place i.insn op (method-is m fetched.method).result names) (frame-known m fetched.method) a.2 in
+        let a = applies assigned now m i op typed fetched names in
+        let before = types_in w.classes (assigned.unset f.method) (kinds now) f in
+        let known_frame = subst (λ u. AreKnown w.classes (types_in w.classes u (kinds now) f)) (sym (bottom f.method)) (frame-known m fetched.method) in
+        let done = leaves m.max_stack m i.place op _ before a.0 a.1 (sound m i.place i.insn op (method-is m fetched.method).result names) known_frame a.2 in
         let limit : max_stack_of w f.method ≡ m.max_stack = ap (of_method 0 (λ (x : MethodRec). x.max_stack)) fetched.method in
-        omega (arith, done.taken, done.depth, a.2.room, few, limit, length-map f.stack (least_type w.classes Bottom (kinds now)))
+        omega (arith, done.taken, done.depth, a.2.room, few, limit, length-map f.stack (least_type w.classes (assigned.unset f.method) (kinds now)))
 
     words-reach : OperationsAreSound w → OperationLeaves w → TypedStatesApply w → (m : MethodRec) (i : Placed) (op : Operation) → Fetches w (erased now) m i → max_stack_of w f.method ≤ 255
         → Resolves w m i.place i.insn (Ok op) → Reaches 255 words w i.insn op (erased now)
@@ -168,22 +169,22 @@ module _ (w : Linked) (is : IsWorld w) (erase : StatesErase w.methods w.classes)
 
     -- ---- where control goes
 
-    standing-there : (g : Frame Cell) (st : Standing w Bottom g) → IsSome (instruction_at (code_at w g.method) g.place)
+    standing-there : (g : Frame Cell) (st : Standing w assigned g) → IsSome (instruction_at (code_at w g.method) g.place)
     standing-there g st =
         let there : instruction_at (code_at w g.method) g.place ≡ Some st.instruction =
         ap (λ bytes. instruction_at bytes g.place) (ap (of_method [] (code_of w.infos)) st.is_method) ∙ st.there in
         subst (λ (o : Option Placed). IsSome o) (sym there) refl
 
     words-name : (m : MethodRec) (i : Placed) (fault : RuleFault) → Fetches w (erased now) m i → ¬ (Resolves w m i.place i.insn (Err fault))
-    words-name m i fault fetched names = safe Bottom now _ typings typed (unresolved refl (fetched-cells m i fetched) fault names)
+    words-name m i fault fetched names = safe assigned now _ typings typed (unresolved refl (fetched-cells m i fetched) fault names)
 
     target-passes : (z : State Cell) (x : Outcome Cell) (over there : Bool)
-        → IsSafe w Bottom (unless_fault z (if over then Some StackFault else if there then None else Some JumpFault) x) → there ≡ true
+        → IsSafe w assigned (unless_fault z (if over then Some StackFault else if there then None else Some JumpFault) x) → there ≡ true
     target-passes z x true there h = absurd h
     target-passes z x false true h = refl
     target-passes z x false false h = absurd h
 
-    jump-lands : (next : ℕ) (a : Act Cell) (to : ℤ) (z : State ℕ) → IsSafe w Bottom (settled tagged w next now a) → Stays tagged w now a → erased_act a ≡ jumps to z → is_target (code_at w f.method) to ≡ true
+    jump-lands : (next : ℕ) (a : Act Cell) (to : ℤ) (z : State ℕ) → IsSafe w assigned (settled tagged w next now a) → Stays tagged w now a → erased_act a ≡ jumps to z → is_target (code_at w f.method) to ≡ true
     jump-lands next (jumps from y) to z h stays e =
         let same : from ≡ to = cc in
         let lands : is_target (code_at w (top y).method) from ≡ true =
@@ -204,29 +205,29 @@ module _ (w : Linked) (is : IsWorld w) (erase : StatesErase w.methods w.classes)
         (sym (acts i.insn op now (omega arith)) ∙ e)
 
     next-passes : (s : State Cell) (x : Outcome Cell) (over past : Bool)
-        → IsSafe w Bottom (unless_fault s (if over then Some StackFault else if past then Some JumpFault else None) x) → over ≡ false
+        → IsSafe w assigned (unless_fault s (if over then Some StackFault else if past then Some JumpFault else None) x) → over ≡ false
     next-passes s x true past h = absurd h
     next-passes s x false past h = refl
 
-    taken-if : (b : Bool) (x y : Outcome Cell) → b ≡ true → IsSafe w Bottom (if b then x else y) → IsSafe w Bottom x
+    taken-if : (b : Bool) (x y : Outcome Cell) → b ≡ true → IsSafe w assigned (if b then x else y) → IsSafe w assigned x
     taken-if true x y e h = h
     taken-if false x y e h = absurd (cc)
 
-    given-fits : (g : Frame Cell) (gs : List (Frame Cell)) (value : Value) (cs : List Cell) → IsSafe w Bottom (given_to tagged w value cs (record { frames = g ∷ gs; heap = heap; statics = statics }))
+    given-fits : (g : Frame Cell) (gs : List (Frame Cell)) (value : Value) (cs : List Cell) → IsSafe w assigned (given_to tagged w value cs (record { frames = g ∷ gs; heap = heap; statics = statics }))
         → length (with_value cs g.stack) ≤ max_stack_of w g.method
     given-fits g gs value cs h =
         let z : State Cell = record { frames = g ∷ gs; heap = heap; statics = statics } in
         let back : State Cell = with_stack z (with_value cs g.stack) in
         let after : ℕ = place_after (instruction_at (code_at w g.method) g.place) in
         let some : nat_lt 0 (length (g ∷ gs)) ≡ true = grind (arith, nat_tests) in
-        let goes_on : IsSafe w Bottom (goes_to tagged w after z back) = taken-if (nat_lt 0 (length (g ∷ gs))) (goes_to tagged w after z back) (ends (Plain (Returned value)) z) some h in
+        let goes_on : IsSafe w assigned (goes_to tagged w after z back) = taken-if (nat_lt 0 (length (g ∷ gs))) (goes_to tagged w after z back) (ends (Plain (Returned value)) z) some h in
         ltb-false (max_stack_of w g.method) (length (with_value cs g.stack))
         (next-passes z (running (with_place back after)) (is_over w back (length (with_value cs g.stack))) (is_past w back after) goes_on)
 
     waits-fit :
         (bs : List (Frame Cell)) (next : ℕ) (a : Act Cell) (value : Value) (cells : List ℕ) (result : Option Ty)
-        → AreWaiting w Bottom (kinds now) result bs → All (IsShapedFrame w) bs
-        → erased_act a ≡ gives value cells → IsSafe w Bottom (settled tagged w next (record { frames = f ∷ bs; heap = heap; statics = statics }) a)
+        → AreWaiting w assigned (kinds now) result bs → All (IsShapedFrame w) bs
+        → erased_act a ≡ gives value cells → IsSafe w assigned (settled tagged w next (record { frames = f ∷ bs; heap = heap; statics = statics }) a)
         → 0 < length (map (map_frame word_of) bs)
         → CanResume 255 w Verified (length cells) (without_top (erased (record { frames = f ∷ bs; heap = heap; statics = statics })))
     waits-fit [] next a value cells result waits shapes e h lt = absurd (omega (arith, lt))
@@ -272,26 +273,26 @@ cells-run s t e runs =
 module _ (w : Linked) (is : IsWorld w) (erase : StatesErase w.methods w.classes) (safe : StepsAreSafe w)
     (reach : TestsReach 510 tagged (IsShaped w) w) (known : KnowsTypes tagged (IsShaped w) w)
   where
-    verified-by : ActsErase w → (fs : List (Frame Cell)) (heap : List (Object Cell)) (statics : List Cell) → AreTypedMethods w Bottom
-        → IsTypedState w Bottom (record { frames = fs; heap = heap; statics = statics }) → IsShaped w (record { frames = fs; heap = heap; statics = statics }) → 0 < length fs
+    verified-by : ActsErase w → (fs : List (Frame Cell)) (heap : List (Object Cell)) (statics : List Cell) → (assigned : Typings) → ((n : ℕ) → assigned.unset n ≡ Bottom) → AreTypings w assigned
+        → IsTypedState w assigned (record { frames = fs; heap = heap; statics = statics }) → IsShaped w (record { frames = fs; heap = heap; statics = statics }) → 0 < length fs
         → IsVerified 255 words w (erased (record { frames = fs; heap = heap; statics = statics }))
-    verified-by acts [] heap statics typings typed shaped lt = absurd (omega (arith, lt))
-    verified-by acts (f ∷ below) heap statics typings typed shaped lt =
-        words-verified w is erase safe typings reach known f below heap statics typed shaped acts
+    verified-by acts [] heap statics assigned bottom typings typed shaped lt = absurd (omega (arith, lt))
+    verified-by acts (f ∷ below) heap statics assigned bottom typings typed shaped lt =
+        words-verified w is erase safe assigned bottom typings reach known f below heap statics typed shaped acts
 
     pub are-verified : ActsErase w → AreVerified 255 words (AreTypedWords w) w
     are-verified acts untested s kept runs =
         subst (λ (x : State ℕ). IsVerified 255 words w x) (sym kept.words)
-        (verified-by acts kept.state.frames kept.state.heap kept.state.statics kept.methods kept.typed kept.shaped (cells-run s kept.state kept.words runs))
+        (verified-by acts kept.state.frames kept.state.heap kept.state.statics kept.typings kept.unset kept.methods kept.typed kept.shaped (cells-run s kept.state kept.words runs))
 
     reach-by : OperationsAreSound w → OperationLeaves w → TypedStatesApply w → (fs : List (Frame Cell)) (heap : List (Object Cell)) (statics : List Cell) (m : MethodRec) (i : Placed) (op : Operation)
-        → AreTypedMethods w Bottom → IsTypedState w Bottom (record { frames = fs; heap = heap; statics = statics }) → IsShaped w (record { frames = fs; heap = heap; statics = statics }) → 0 < length fs
+        → (assigned : Typings) → ((n : ℕ) → assigned.unset n ≡ Bottom) → AreTypings w assigned → IsTypedState w assigned (record { frames = fs; heap = heap; statics = statics }) → IsShaped w (record { frames = fs; heap = heap; statics = statics }) → 0 < length fs
         → Fetches w (erased (record { frames = fs; heap = heap; statics = statics })) m i
         → max_stack_of w (top (erased (record { frames = fs; heap = heap; statics = statics }))).method ≤ 255
         → Resolves w m i.place i.insn (Ok op) → Reaches 255 words w i.insn op (erased (record { frames = fs; heap = heap; statics = statics }))
-    reach-by sound leaves applies [] heap statics m i op typings typed shaped lt fetched few names = absurd (omega (arith, lt))
-    reach-by sound leaves applies (f ∷ below) heap statics m i op typings typed shaped lt fetched few names =
-        words-reach w is erase safe typings reach known f below heap statics typed shaped sound leaves applies m i op fetched few names
+    reach-by sound leaves applies [] heap statics m i op assigned bottom typings typed shaped lt fetched few names = absurd (omega (arith, lt))
+    reach-by sound leaves applies (f ∷ below) heap statics m i op assigned bottom typings typed shaped lt fetched few names =
+        words-reach w is erase safe assigned bottom typings reach known f below heap statics typed shaped sound leaves applies m i op fetched few names
 
     pub tests-reach : OperationsAreSound w → OperationLeaves w → TypedStatesApply w → TestsReach 255 words (AreTypedWords w) w
     tests-reach sound leaves applies s m i op kept fetched few names none =
@@ -299,4 +300,4 @@ module _ (w : Linked) (is : IsWorld w) (erase : StatesErase w.methods w.classes)
         let here : Fetches w (erased t) m i = subst (λ (x : State ℕ). Fetches w x m i) kept.words fetched in
         let most : max_stack_of w (top (erased t)).method ≤ 255 = subst (λ (x : State ℕ). max_stack_of w (top x).method ≤ 255) kept.words few in
         subst (λ (x : State ℕ). Reaches 255 words w i.insn op x) (sym kept.words)
-        (reach-by sound leaves applies t.frames t.heap t.statics m i op kept.methods kept.typed kept.shaped (cells-run s t kept.words fetched.runs) here most names)
+        (reach-by sound leaves applies t.frames t.heap t.statics m i op kept.typings kept.unset kept.methods kept.typed kept.shaped (cells-run s t kept.words fetched.runs) here most names)

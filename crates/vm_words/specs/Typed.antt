@@ -5,15 +5,18 @@ use Rattle.jc_base.specs.declared.ty.Ty.TheVariants.{Bottom}
 use Rattle.jc_base.specs.World.{Linked}
 use Rattle.vm_store.specs.declared.cell.Cell.{Cell}
 use Rattle.vm_store.specs.State.{State, erased}
+use Rattle.vm_sound.specs.Frames.{Typings}
 use Rattle.vm_sound.specs.State.{IsTypedState}
-use Rattle.vm_sound.specs.Laws.{AreTypedMethods}
+use Rattle.vm_sound.specs.Laws.{AreTypings}
 use Rattle.vm_checks.specs.Shaped.{IsShaped}
 
 -- each method with code of the world has a dataflow typing in which unset registers hold no value; and there is a state whose words
 -- these are, and which is typed
 pub record AreTypedWords (w : Linked) (s : State ℕ) : Type 0 where
-  pub methods : AreTypedMethods w Bottom
+  pub typings : Typings
+  pub unset : (n : ℕ) → typings.unset n ≡ Bottom
+  pub methods : AreTypings w typings
   pub state : State Cell
   pub words : s ≡ erased state
-  pub typed : IsTypedState w Bottom state
+  pub typed : IsTypedState w typings state
   pub shaped : IsShaped w state

@@ -1,6 +1,10 @@
+use Rattle.vm_sound.proofs.Numbered.{methods-have-typings}
 use Rattle.vm_sound.proofs.Starting.{starts-are-typed}
 use Rattle.vm_sound.proofs.Sound.{steps-are-safe, runs-are-safe, typed-is-fault-free}
 use Rattle.vm_sound.proofs.laws.typed_code_never_fails.Goals as goal
+
+pub returns-clause-typings : goal.returns-clause-typings
+returns-clause-typings c = methods-have-typings c.args.world.now
 
 pub returns-clause-steps : goal.returns-clause-steps
 returns-clause-steps c = steps-are-safe c.args.world.now c.classes.ensures.links

@@ -12,7 +12,7 @@ use Rattle.vm_words.specs.declared.words.Counts.{Counts}
 use Rattle.vm_words.specs.WordStore.{state_of}
 use Rattle.vm_words.specs.Words.{AreLaid, words_state}
 use Rattle.vm_offend.specs.declared.machine.Machine.{Machine}
-use Rattle.vm_offend.proofs.Accepting.{accepted-typed}
+use Rattle.vm_offend.proofs.Accepting.{accepted-has}
 use Rattle.vm_offend.specs.Held.{IsReached, AreWordsOf, IsRunOf, Follows}
 use Rattle.vm_offend.proofs.Moved.{moved}
 use Rattle.vm_offend.proofs.Ran.{Ran, can-run, run-keeps, run-plain, follows-each, run-after}
@@ -21,19 +21,19 @@ use Rattle.vm_offend.proofs.machine.Machine.go_on.Goals as goal
 pub run-ending-requires-clause-running : goal.run-ending-requires-clause-running
 run-ending-requires-clause-running c =
     let w = c.args.world.now in
-    can-run w (accepted-typed w c.requires.accepted) c.typed_code_never_fails.ensures.starts c.typed_code_never_fails.ensures.runs c.runs_are_runs_of_steps.ensures.tagged_steps c.runs_exist.ensures
+    can-run w (accepted-has w c.typed_code_never_fails.ensures.typings c.requires.accepted) c.typed_code_never_fails.ensures.starts c.typed_code_never_fails.ensures.runs c.runs_are_runs_of_steps.ensures.tagged_steps c.runs_exist.ensures
     c.args.self.now c.args.ram.now c.args.heap.now c.args.statics.now c.requires.going c.requires.run _ c.over-store.ensures.state
 
 pub run-ending-requires-clause-keeps : goal.run-ending-requires-clause-keeps
 run-ending-requires-clause-keeps c =
     let w = c.args.world.now in
-    run-keeps w (accepted-typed w c.requires.accepted) c.typed_code_never_fails.ensures.starts c.typed_code_never_fails.ensures.runs c.starts_are_shaped.ensures c.tests_suffice.ensures.stays
+    run-keeps w (accepted-has w c.typed_code_never_fails.ensures.typings c.requires.accepted) c.typed_code_never_fails.ensures.starts c.typed_code_never_fails.ensures.runs c.starts_are_shaped.ensures c.tests_suffice.ensures.stays
     c.args.self.now c.args.ram.now c.args.heap.now c.args.statics.now c.requires.going c.requires.run _ c.over-store.ensures.state
 
 pub plain-self-requires : goal.plain-self-requires
 plain-self-requires c =
     let w = c.args.world.now in
-    run-plain w (accepted-typed w c.requires.accepted) c.typed_code_never_fails.ensures.starts c.typed_code_never_fails.ensures.runs c.words_run_alike.ensures.runs_follow
+    run-plain w (accepted-has w c.typed_code_never_fails.ensures.typings c.requires.accepted) c.typed_code_never_fails.ensures.starts c.typed_code_never_fails.ensures.runs c.words_run_alike.ensures.runs_follow
     c.args.self.now c.args.ram.now c.args.heap.now c.args.statics.now c.requires.going c.requires.run c.args.budget _ _ c.run-ending.result c.over-store.ensures.state c.run-ending.ensures.runs
 
 pub returns-clause-follows : goal.returns-clause-follows
@@ -59,7 +59,7 @@ returns-clause-follows c =
     } in
     moved (λ (x y u : List ℕ). (o : Outcome Cell) → IsReached w o → AreWordsOf w c.args.self.now c.args.ram.now c.args.heap.now c.args.statics.now o
     → Follows w c.args.budget o m x y u c.spent_or.result) _ _ _ z.ram.now z.heap.now z.statics.now (search rules) (search rules) (search rules)
-    (follows-each w (accepted-typed w c.requires.accepted) c.typed_code_never_fails.ensures.starts c.typed_code_never_fails.ensures.runs c.words_run_alike.ensures.runs_follow
+    (follows-each w (accepted-has w c.typed_code_never_fails.ensures.typings c.requires.accepted) c.typed_code_never_fails.ensures.starts c.typed_code_never_fails.ensures.runs c.words_run_alike.ensures.runs_follow
     c.args.self.now c.args.ram.now c.args.heap.now c.args.statics.now c.args.budget m z.ram.now z.heap.now z.statics.now c.spent_or.result ran)
 
 pub returns-clause-run : goal.returns-clause-run
@@ -84,6 +84,6 @@ returns-clause-run c =
       answer_is = c.spent_or.ensures;
     } in
     moved (IsRunOf w m) _ _ _ z.ram.now z.heap.now z.statics.now (search rules) (search rules) (search rules)
-    (run-after w (accepted-typed w c.requires.accepted) c.typed_code_never_fails.ensures.starts c.typed_code_never_fails.ensures.runs c.words_run_alike.ensures.runs_follow
+    (run-after w (accepted-has w c.typed_code_never_fails.ensures.typings c.requires.accepted) c.typed_code_never_fails.ensures.starts c.typed_code_never_fails.ensures.runs c.words_run_alike.ensures.runs_follow
     c.args.self.now c.args.ram.now c.args.heap.now c.args.statics.now c.args.budget m z.ram.now z.heap.now z.statics.now c.spent_or.result ran
     c.runs_are_runs_of_steps.ensures.tagged_on c.requires.run)
