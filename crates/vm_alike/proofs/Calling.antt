@@ -41,8 +41,8 @@ use Rattle.vm_sound.proofs.Cells.{cell-at}
 use Rattle.vm_sound.proofs.Fields.{declared-kept, declared-topless}
 use Rattle.vm_sound.proofs.Ready.{not-over-top}
 use Rattle.xf_landed.specs.Laid.{renamed}
-use Rattle.vm_alike.specs.Alike.{IsOneToOne, renamed_cell}
-use Rattle.vm_alike.proofs.Cells.{type-renamed, value-stays, ready-stays, all-ready-renamed, nth-renamed, word-at, short-is, int-is, take-stays}
+use Rattle.vm_alike.specs.Alike.{ArePlain, IsOneToOne, KeepsPlain, renamed_cell}
+use Rattle.vm_alike.proofs.Cells.{type-renamed, value-plain, value-stays, ready-stays, all-ready-renamed, nth-renamed, word-at, short-is, int-is, take-stays}
 use Rattle.vm_alike.proofs.Twins.{Pair, two, first, second, Does, calls_both, gives_both, lacks_both, stack-twins, null-does}
 use Rattle.vm_alike.proofs.Acting.{other_stack}
 use Rattle.vm_alike.proofs.Storing.{CellStays}
@@ -300,39 +300,68 @@ module _ (x : Pair) (t : ClassTable) (are : AreClasses t) where
 
   -- ---- returns
 
-  gives-by : (value other : Given) (cs ds : List Cell) → other ≡ value → ds ≡ cs → Does x (gives value cs) (gives other ds)
-  gives-by value other cs ds e g =
+  gives-by :
+      (value other : Given) (cs ds : List Cell) → other ≡ value → ds ≡ cs → ArePlain tagged cs
+      → Does x (gives value cs) (gives other ds)
+  gives-by value other cs ds e g plain =
       subst (λ k. Does x (gives value cs) (gives k ds)) (sym e)
-      (subst (λ k. Does x (gives value cs) (gives value k)) (sym g) (gives_both value cs))
+      (subst (λ k. Does x (gives value cs) (gives value k)) (sym g) (gives_both value cs plain))
+
+  -- every map that keeps plain cells keeps this one
+  abbrev CellIsPlain : ℕ → Type 0
+  CellIsPlain n = (f : Cell → Cell) → KeepsPlain tagged f → f (nth tagged x.frame.stack n) ≡ nth tagged x.frame.stack n
+
+  tested-plain :
+      (n : ℕ) (ty : Ty) → IsNotFresh ty → IsNotTop ty → IsSomeAnd (slice_get stack_types n) (Meets t (Value ty)) → CellIsPlain n
+  tested-plain n ty fresh top h f keeps =
+      value-plain f keeps t are made_kinds (nth tagged x.frame.stack n) ty fresh top
+      (cell-at t Bottom made_kinds x.frame.stack n (Meets t (Value ty)) h).holds
+
+  declared-plain :
+      (n : ℕ) (ty : Ty) → IsDeclared t ty → IsSomeAnd (slice_get stack_types n) (Meets t (Value ty)) → CellIsPlain n
+  declared-plain n ty d h = tested-plain n ty (declared-kept t ty d) (declared-topless t ty d) h
+
+  renamed-keeps : KeepsPlain tagged (renamed_cell x.rename)
+  renamed-keeps = record { empty = refl; short = λ n. refl; high = λ n. refl; low = λ n. refl; reference = λ h. refl }
+
+  plain-stays : (n : ℕ) → CellIsPlain n → CellStays x n
+  plain-stays n plain = plain (renamed_cell x.rename) renamed-keeps
 
   nth-same : (n : ℕ) → CellStays x n → nth tagged (other_stack x) n ≡ nth tagged x.frame.stack n
   nth-same n h = nth-renamed x.rename x.frame.stack n ∙ h
 
   reference-does :
-      CellStays x 0
+      CellIsPlain 0
       → Does x (gives (values.Ref (handle_at tagged x.frame.stack 0)) (nth tagged x.frame.stack 0 ∷ []))
       (gives (values.Ref (handle_at tagged (other_stack x) 0)) (nth tagged (other_stack x) 0 ∷ []))
-  reference-does h = gives-by _ _ _ _ (ap values.Ref (word-at x.rename x.frame.stack 0)) (ap (λ c. c ∷ []) (nth-same 0 h))
+  reference-does h =
+      gives-by _ _ _ _ (ap values.Ref (word-at x.rename x.frame.stack 0)) (ap (λ c. c ∷ []) (nth-same 0 (plain-stays 0 h)))
+      (λ f keeps. ap (λ c. c ∷ []) (h f keeps))
 
   pub return-does :
       (regs : List Ty) (result : Option Ty) → IfSome result (IsDeclared t)
       → AllHold t (record { regs = regs; stack = stack_types }) (return_demands result)
       → Does x (return_act tagged result (first x)) (return_act tagged result (second x))
-  return-does regs None d h = gives_both values.Void []
+  return-does regs None d h = gives_both values.Void [] (λ f keeps. refl)
   return-does regs (Some Short) d h =
+      let plain = tested-plain 0 Short tt tt h.0 in
       gives-by _ _ _ _ (ap values.Short (short-is x.rename x.frame.stack 0))
-      (ap (λ c. c ∷ []) (nth-same 0 (tested-stays 0 Short tt tt h.0)))
+      (ap (λ c. c ∷ []) (nth-same 0 (plain-stays 0 plain)))
+      (λ f keeps. ap (λ c. c ∷ []) (plain f keeps))
   return-does regs (Some IntHigh) d h =
+      let high = tested-plain 1 IntHigh tt tt h.1.0 in
+      let low = tested-plain 0 IntLow tt tt h.0 in
       gives-by _ _ _ _ (ap values.Int (int-is x.rename x.frame.stack 1 0))
-      (cc (nth-same 1 (tested-stays 1 IntHigh tt tt h.1.0), nth-same 0 (tested-stays 0 IntLow tt tt h.0)))
-  return-does regs (Some Bottom) d h = reference-does (declared-stays 0 Bottom d h.0)
-  return-does regs (Some IntLow) d h = reference-does (declared-stays 0 IntLow d h.0)
-  return-does regs (Some Null) d h = reference-does (declared-stays 0 Null d h.0)
-  return-does regs (Some (Class c)) d h = reference-does (declared-stays 0 (Class c) d h.0)
-  return-does regs (Some ArrBool) d h = reference-does (declared-stays 0 ArrBool d h.0)
-  return-does regs (Some ArrByte) d h = reference-does (declared-stays 0 ArrByte d h.0)
-  return-does regs (Some ArrShort) d h = reference-does (declared-stays 0 ArrShort d h.0)
-  return-does regs (Some ArrInt) d h = reference-does (declared-stays 0 ArrInt d h.0)
-  return-does regs (Some (ArrRef c)) d h = reference-does (declared-stays 0 (ArrRef c) d h.0)
-  return-does regs (Some (Fresh p c)) d h = reference-does (declared-stays 0 (Fresh p c) d h.0)
-  return-does regs (Some Top) d h = reference-does (declared-stays 0 Top d h.0)
+      (cc (nth-same 1 (plain-stays 1 high), nth-same 0 (plain-stays 0 low)))
+      (λ f keeps. let a = high f keeps in let b = low f keeps in cc)
+  return-does regs (Some Bottom) d h = reference-does (declared-plain 0 Bottom d h.0)
+  return-does regs (Some IntLow) d h = reference-does (declared-plain 0 IntLow d h.0)
+  return-does regs (Some Null) d h = reference-does (declared-plain 0 Null d h.0)
+  return-does regs (Some (Class c)) d h = reference-does (declared-plain 0 (Class c) d h.0)
+  return-does regs (Some ArrBool) d h = reference-does (declared-plain 0 ArrBool d h.0)
+  return-does regs (Some ArrByte) d h = reference-does (declared-plain 0 ArrByte d h.0)
+  return-does regs (Some ArrShort) d h = reference-does (declared-plain 0 ArrShort d h.0)
+  return-does regs (Some ArrInt) d h = reference-does (declared-plain 0 ArrInt d h.0)
+  return-does regs (Some (ArrRef c)) d h = reference-does (declared-plain 0 (ArrRef c) d h.0)
+  return-does regs (Some (Fresh p c)) d h = reference-does (declared-plain 0 (Fresh p c) d h.0)
+  return-does regs (Some Top) d h = reference-does (declared-plain 0 Top d h.0)

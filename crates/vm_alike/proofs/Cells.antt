@@ -34,7 +34,19 @@ use Rattle.vm_step.specs.Numbers.{handle_at, short_at, number_on}
 use Rattle.vm_step.specs.Values.{moved}
 use Rattle.vm_sound.proofs.Ready.{not-over-top, not-over-seen}
 use Rattle.xf_landed.specs.Laid.{renamed}
-use Rattle.vm_alike.specs.Alike.{IsOneToOne, renamed_cell}
+use Rattle.vm_alike.specs.Alike.{IsOneToOne, KeepsPlain, renamed_cell}
+
+-- a cell whose type lies below one that values have is plain
+pub value-plain :
+    (f : Cell → Cell) → KeepsPlain tagged f → (t : ClassTable) → AreClasses t → (ks : List ObjectKind) (c : Cell) (ty : Ty)
+    → IsNotFresh ty → IsNotTop ty → Below t (least_type t Bottom ks c) ty → f c ≡ c
+value-plain f keeps t are ks (cells.Fresh zero p) ty fresh top b = absurd (not-over-top t are ty top b)
+value-plain f keeps t are ks (cells.Fresh (suc h) p) ty fresh top b = absurd (not-over-seen t are p (slice_get ks h) ty fresh top b)
+value-plain f keeps t are ks cells.Empty ty fresh top b = keeps.empty
+value-plain f keeps t are ks (cells.Short n) ty fresh top b = keeps.short n
+value-plain f keeps t are ks (cells.High n) ty fresh top b = keeps.high n
+value-plain f keeps t are ks (cells.Low n) ty fresh top b = keeps.low n
+value-plain f keeps t are ks (cells.Ref h) ty fresh top b = keeps.reference h
 
 module _ (f : ℕ → ℕ) where
   -- ---- one cell

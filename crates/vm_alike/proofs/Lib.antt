@@ -11,3 +11,4 @@ pub mod Doing
 pub mod Settling
 pub mod Together
 pub mod Ready
+pub mod Begins

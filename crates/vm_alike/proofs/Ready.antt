@@ -116,7 +116,7 @@ module _ (w : Linked) (world : IsWorld w) where
       (statics-kept fs (All-tail (IsStatic (length w.infos) w.classes w.arrays) f fs all))
 
   pub typed-states-stay : TypedStatesStay w
-  typed-states-stay unset place s typed = (
+  typed-states-stay typings place s typed = (
     objects-stay place _ s.heap typed.heap,
     cells-stay place w.classes _ s.statics (static_types w.statics) (statics-kept w.statics world.statics) typed.statics,
   )

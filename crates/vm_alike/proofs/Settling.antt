@@ -12,6 +12,7 @@ use Rattle.jc_control.specs.WellFormed.{IsPlace, IsTargetPlace}
 use Rattle.jc_control.proofs.Listed.{place-inside}
 use Rattle.jc_ops.specs.declared.operation.Operation.{Operation}
 use Rattle.jc_rules.specs.Footprint.{footprint}
+use Rattle.jc_ops.specs.Next.{falls_from}
 use Rattle.vm_store.specs.declared.cell.Cell.{Cell}
 use Rattle.vm_store.specs.declared.kind.ObjectKind.{ObjectKind}
 use Rattle.vm_store.specs.Cells.{tagged}
@@ -21,8 +22,9 @@ use Rattle.vm_step.specs.declared.ending.Plain.TheVariants.{TooDeep, HeapFull, I
 use Rattle.vm_step.specs.declared.ending.Ending.TheVariants.{Plain}
 use Rattle.vm_step.specs.declared.ending.Fault.{Fault}
 use Rattle.vm_step.specs.declared.ending.Fault.TheVariants.{StackFault, JumpFault}
-use Rattle.vm_step.specs.Act.{Act}
+use Rattle.vm_step.specs.Act.{Act, calls}
 use Rattle.vm_step.specs.Methods.{code_at, max_stack_of}
+use Rattle.vm_step.specs.Performed.{act}
 use Rattle.vm_step.specs.Raising.{Outcome, running, ended, ends}
 use Rattle.vm_step.specs.Settled.{unless_fault, fault_next, fault_target, is_target, is_there, place_of, with_new, goes_to, jumps_to, made, entered_call, settled}
 use Rattle.vm_sound.proofs.Places.{place-instruction}
@@ -172,6 +174,7 @@ module _ (x : Pair) where
       (print_is : x.print ≡ footprint v a) (other_is : x.other_print ≡ footprint v b)
       (led : x.targets ≡ targets (code_at v x.frame.method) i) (also : x.other_targets ≡ targets (code_at w x.method) j)
       (leads : All (IsTargetPlace (code_at w x.method)) (targets (code_at w x.method) j))
+      (falls_is : x.falls ≡ falls_from b)
       (goes_on : x.falls ≡ true → IsPlace (code_at w x.method) (j.place + j.insn.len))
       (room : max_stack_of v x.frame.method ≤ max_stack_of w x.method) where
     abbrev Come : Outcome Cell → Outcome Cell → Type 0
@@ -239,7 +242,7 @@ module _ (x : Pair) where
         come (goes_to tagged v next (first x) z) (goes_to tagged w after (second x) y) (running (with_place z next))
         (running (with_place y after))
         passed.1 (ap (λ o. unless_fault (second x) o (running (with_place y after))) fine)
-        (next_alike (by-footprints (with_place z next) (with_place y after) (placed z y next after h)) refl refl)
+        (next_alike (by-footprints (with_place z next) (with_place y after) (placed z y next after h)) (sym falls_is ∙ falls) refl refl)
 
     leads-come :
         (n : ℕ) (to on : ℤ) (z y : State Cell) → slice_get x.targets n ≡ Some to → slice_get x.other_targets n ≡ Some on
@@ -297,14 +300,15 @@ module _ (x : Pair) where
         ∙ ap (λ r. if r then also_new else ends (Plain HeapFull) y) (room-same z y (length cs) h))
         (if-come (has_room z (length cs)) new (ends (Plain HeapFull) z) also_new (ends (Plain HeapFull) y)
         (next_alike (by-footprints (with_place (with_new z kind cs c) next) (with_place (with_new y kind cs d) after)
-        (renewed z y kind cs c d next after d_is stay h)) refl refl)
+        (renewed z y kind cs c d next after d_is stay h)) (sym falls_is ∙ falls) refl refl)
         (end-come z y h))
 
     calls-come :
         (method count : ℕ) (z y : State Cell) → AfterBoth z y → (top z).place ≡ x.frame.place → (top y).place ≡ x.place
         → arguments count (top y).stack ≡ arguments count (top z).stack
+        → act tagged v i.insn a (first x) ≡ calls method count z
         → Come (entered_call tagged v method count z) (entered_call tagged w method count y)
-    calls-come method count z y h here there same =
+    calls-come method count z y h here there same own =
         come (entered_call tagged v method count z) (entered_call tagged w method count y)
         (entered_call tagged v method count z)
         (if nat_lt (length z.frames) frame_limit then running (with_call tagged w.methods y method count) else ends (Plain TooDeep)
@@ -314,20 +318,21 @@ module _ (x : Pair) where
         (if-come (nat_lt (length z.frames) frame_limit) (running (with_call tagged v.methods z method count))
         (ends (Plain TooDeep) z)
         (running (with_call tagged w.methods y method count)) (ends (Plain TooDeep) y)
-        (call_alike method count (by-footprints z y h) here there same refl refl)
+        (call_alike method count (by-footprints z y h) here there same own refl refl)
         (come (ends (Plain TooDeep) z) (ends (Plain TooDeep) y) (ended (Plain TooDeep) (without_frames z))
         (ended (Plain TooDeep) (without_frames z))
         refl (ap (λ k. ended (Plain TooDeep) k) (ended-same z y h)) (end_alike TooDeep (without_frames z))))
 
     pub settles :
-        {act other : Act Cell} → Does x act other → IsNoFault (settled tagged v next (first x) act)
-        → Come (settled tagged v next (first x) act) (settled tagged w after (second x) other)
-    settles (goes_both {z = z} {y = y} falls h) no_fault = goes-come z y falls h no_fault
-    settles (leads_both n {to = to} {on = on} {z = z} {y = y} here there h) no_fault = leads-come n to on z y here there h no_fault
-    settles (makes_both {kind = k} {cs = cs} {reference = r} {other = u} {z = z} {y = y} falls same stay h) no_fault =
+        {deed other : Act Cell} → act tagged v i.insn a (first x) ≡ deed → Does x deed other
+        → IsNoFault (settled tagged v next (first x) deed)
+        → Come (settled tagged v next (first x) deed) (settled tagged w after (second x) other)
+    settles own (goes_both {z = z} {y = y} falls h) no_fault = goes-come z y falls h no_fault
+    settles own (leads_both n {to = to} {on = on} {z = z} {y = y} here there h) no_fault = leads-come n to on z y here there h no_fault
+    settles own (makes_both {kind = k} {cs = cs} {reference = r} {other = u} {z = z} {y = y} falls same stay h) no_fault =
         makes-come k cs r u z y falls same stay h no_fault
-    settles (calls_both method count {z = z} {y = y} h here there same) no_fault = calls-come method count z y h here there same
-    settles (gives_both value cs) no_fault = return_alike value cs refl refl
-    settles (raises_both exception) no_fault = exception_alike exception refl refl
-    settles (throws_both handle) no_fault = throw_alike handle refl refl
-    settles (lacks_both class) no_fault = end_alike (InterfaceMissing class) (without_frames (first x))
+    settles own (calls_both method count {z = z} {y = y} h here there same) no_fault = calls-come method count z y h here there same own
+    settles own (gives_both value cs plain) no_fault = return_alike value cs plain own refl refl
+    settles own (raises_both exception) no_fault = exception_alike exception own refl refl
+    settles own (throws_both handle) no_fault = throw_alike handle own refl refl
+    settles own (lacks_both class) no_fault = end_alike (InterfaceMissing class) (without_frames (first x))

@@ -1,7 +1,6 @@
 -- The law over steps in other code.
 use Rattle.std.proofs.Common.{◌≡◌, ℕ, ◌+◌, ◌≤◌, true, if◌then◌else◌, List, [], ◌∷◌, length, map, refl, sym, ap, ◌∙◌, subst, arith}
 use Rattle.std.specs.Prelude.{Option, Some, None, option_map, slice_get}
-use Rattle.jc_base.specs.declared.ty.Ty.TheVariants.{Bottom}
 use Rattle.jc_base.specs.declared.record.MethodRec.{MethodRec}
 use Rattle.jc_base.specs.World.{Linked, IsWorld}
 use Rattle.jc_decode.specs.declared.insn.Case.{Case}
@@ -171,7 +170,7 @@ module _
         i.place a b seen sound named read asked in
         let fine : fault_before tagged recoded b t ≡ None =
         ap (λ (ds : List Demand). unmet tagged v ds t) (demands-same b)
-        ∙ passes-before v world Bottom
+        ∙ passes-before v world
         (record { method = method; place = place; registers = registers; stack = map (renamed_cell f) frame.stack }) under heap
         statics b there in (
           performed tagged recoded j b t,
@@ -180,7 +179,7 @@ module _
               (sym (o_is ∙ passed.1))
               (subst (λ u. ComeAlike tagged (renamed_cell f) v recoded s t i j a b leads u)
               (sym (ap (λ u. unless_fault t u also) fine))
-              (settles x v recoded i j a b refl refl refl refl run.targets run.next run.room acts
+              (settles x v recoded i j a b refl refl refl refl run.targets refl run.next run.room refl acts
               (subst IsNoFault (o_is ∙ passed.1) no_fault))),
         )
 

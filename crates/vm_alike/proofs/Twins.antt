@@ -4,6 +4,7 @@ use Rattle.std.specs.Prelude.{ℤ, Option, Some, None, slice_get}
 use Rattle.jc_rules.specs.Footprint.{Footprint}
 use Rattle.vm_store.specs.declared.cell.Cell.{Cell}
 use Rattle.vm_store.specs.declared.kind.ObjectKind.{ObjectKind}
+use Rattle.vm_store.specs.Cells.{tagged}
 use Rattle.vm_store.specs.State.{State, Frame, Object, map_object, top, arguments}
 use Rattle.vm_store.specs.Value.{with_value}
 use Rattle.vm_step.specs.declared.ending.Value.{Value}
@@ -11,7 +12,7 @@ use Rattle.vm_step.specs.declared.exception.Exception.{Exception}
 use Rattle.vm_step.specs.declared.exception.Exception.TheVariants as exceptions
 use Rattle.vm_step.specs.Act.{Act, goes, jumps, makes, calls, gives, raises, throws, lacks, unless_null, if_some}
 use Rattle.vm_step.specs.Numbers.{replaced}
-use Rattle.vm_alike.specs.Alike.{renamed_cell, StayAlike}
+use Rattle.vm_alike.specs.Alike.{ArePlain, renamed_cell, StayAlike}
 use Rattle.vm_alike.proofs.Cells.{replaced-renamed}
 
 -- the two states before the step: of the second what is not in the first. The footprints of the two operations, whether the second
@@ -92,7 +93,7 @@ pub data Does (x : Pair) : Act Cell → Act Cell → Type 0 where
       → (top y).place ≡ x.place
       → arguments count (top y).stack ≡ arguments count (top z).stack
       → Does x (calls method count z) (calls method count y)
-  gives_both : (value : Value) (cs : List Cell) → Does x (gives value cs) (gives value cs)
+  gives_both : (value : Value) (cs : List Cell) → ArePlain tagged cs → Does x (gives value cs) (gives value cs)
   raises_both : (exception : Exception) → Does x (raises exception) (raises exception)
   throws_both : (handle : ℕ) → Does x (throws handle) (throws handle)
   lacks_both : (class : ℕ) → Does x (lacks class) (lacks class)

@@ -1,11 +1,12 @@
 -- States of two machines that run the same method in other code: their operand stacks are equal but for the places that
 -- uninitialised objects carry (JCVM 2.2, section 3.5; Leroy 2002, section 2).
-use Rattle.std.specs.Prelude.{◌≡◌, ℕ, ◌+◌, ◌<◌, ◌≤◌, ◌⊎◌, ◌∷◌, length, map, slice_get}
+use Rattle.std.specs.Prelude.{◌≡◌, ℕ, ℤ, ◌+◌, ◌<◌, ◌≤◌, ◌⊎◌, List, ◌∷◌, length, map, slice_get}
 use Rattle.jc_ops.specs.declared.operation.Operation.{Operation}
 use Rattle.jc_ops.specs.declared.operation.Operation.TheVariants.{New}
 use Rattle.jc_rules.specs.Footprint.{Footprint}
 use Rattle.vm_store.specs.declared.cell.Cell.{Cell}
 use Rattle.vm_store.specs.declared.cell.Cell.TheVariants.{Fresh}
+use Rattle.vm_store.specs.Cells.{Cells}
 use Rattle.vm_store.specs.State.{State, map_object, top, other_frames}
 
 -- ---- places
@@ -23,6 +24,18 @@ renamed_cell place c = c
 abbrev pub renamed_new : (ℕ → ℕ) → Operation → Operation
 renamed_new place (New p class) = New (place p) class
 renamed_new place op = op
+
+-- a map of cells leaves numbers, ready references and what was never stored as they are
+pub record KeepsPlain {A : Type 0} (k : Cells A) (f : A → A) : Type 0 where
+  pub empty : f k.empty ≡ k.empty
+  pub short : (n : ℤ) → f (k.short n) ≡ k.short n
+  pub high : (n : ℕ) → f (k.high n) ≡ k.high n
+  pub low : (n : ℕ) → f (k.low n) ≡ k.low n
+  pub reference : (h : ℕ) → f (k.reference h) ≡ k.reference h
+
+-- such cells alone are among these: every such map leaves them as they are
+abbrev pub ArePlain : {A : Type 0} → Cells A → List A → Type 0
+ArePlain {A = A} k cells = (f : A → A) → KeepsPlain k f → map f cells ≡ cells
 
 -- ---- states
 

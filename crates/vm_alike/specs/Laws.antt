@@ -1,6 +1,5 @@
 -- The law over steps in other code.
 use Rattle.std.specs.Prelude.{◌≡◌, ℕ, map}
-use Rattle.jc_base.specs.declared.ty.Ty.{Ty}
 use Rattle.jc_base.specs.World.{Linked}
 use Rattle.jc_decode.specs.declared.insn.Placed.{Placed}
 use Rattle.jc_ops.specs.declared.operation.Operation.{Operation}
@@ -9,6 +8,7 @@ use Rattle.vm_store.specs.Cells.{tagged}
 use Rattle.vm_store.specs.State.{State, map_object}
 use Rattle.vm_step.specs.Raising.{Outcome}
 use Rattle.vm_step.specs.Step.{Steps}
+use Rattle.vm_sound.specs.Frames.{Typings}
 use Rattle.vm_sound.specs.State.{IsTypedState}
 use Rattle.vm_erasure.specs.Erasure.{IsNoFault}
 use Rattle.xf_landed.specs.Apart.{IsSameBut}
@@ -33,6 +33,6 @@ StepsAreAlike v =
 -- a typed state keeps no uninitialised object in objects and static fields, so no map of places changes their cells
 abbrev pub TypedStatesStay : Linked → Type 0
 TypedStatesStay w =
-    (unset : Ty) (place : ℕ → ℕ) (s : State Cell)
-    → IsTypedState w unset s
+    (typings : Typings) (place : ℕ → ℕ) (s : State Cell)
+    → IsTypedState w typings s
     → (map (map_object (renamed_cell place)) s.heap ≡ s.heap) × (map (renamed_cell place) s.statics ≡ s.statics)

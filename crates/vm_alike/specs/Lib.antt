@@ -1,4 +1,6 @@
 pub mod Alike
 pub mod Running
 pub mod Laws
+pub mod Starting
+pub mod Ends
 pub mod Worked

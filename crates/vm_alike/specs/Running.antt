@@ -21,11 +21,13 @@ use Rattle.vm_step.specs.declared.ending.Value.{Value}
 use Rattle.vm_step.specs.declared.ending.Plain.{Plain}
 use Rattle.vm_step.specs.declared.ending.Ending.TheVariants as endings
 use Rattle.vm_step.specs.declared.exception.Exception.{Exception}
+use Rattle.vm_step.specs.Act.{calls, gives, raises, throws}
 use Rattle.vm_step.specs.Methods.{code_at, max_stack_of}
+use Rattle.vm_step.specs.Performed.{act}
 use Rattle.vm_step.specs.Raising.{Outcome, running, ended, thrown, raised}
 use Rattle.vm_step.specs.Settled.{given_to}
 use Rattle.vm_step.specs.Step.{Fetches}
-use Rattle.vm_alike.specs.Alike.{renamed_new, AreAlike, StayAlike}
+use Rattle.vm_alike.specs.Alike.{renamed_new, AreAlike, ArePlain, StayAlike}
 
 -- ---- before the step
 
@@ -77,6 +79,7 @@ pub data ComeAlike {A : Type 0}
     next_alike :
         {z y : State A}
         → StayAlike e (footprint v a) (footprint v b) s z t y
+        → falls_from b ≡ true
         → (top z).place ≡ i.place + i.insn.len
         → (top y).place ≡ j.place + j.insn.len
         → ComeAlike k e v w s t i j a b (running z) (running y)
@@ -94,24 +97,29 @@ pub data ComeAlike {A : Type 0}
         → (top z).place ≡ (top s).place
         → (top y).place ≡ (top t).place
         → arguments count (top y).stack ≡ arguments count (top z).stack
+        → act k v i.insn a s ≡ calls method count z
         → o ≡ running (with_call k v.methods z method count)
         → p ≡ running (with_call k w.methods y method count)
         → ComeAlike k e v w s t i j a b o p
-    -- both return the same value, in the same cells
+    -- both return the same value, in the same cells, none of which is an uninitialised object
     return_alike :
         (value : Value) (cells : List A) {o p : Outcome A}
+        → ArePlain k cells
+        → act k v i.insn a s ≡ gives value cells
         → o ≡ given_to k v value cells (without_top s)
         → p ≡ given_to k w value cells (without_top t)
         → ComeAlike k e v w s t i j a b o p
     -- both throw an exception of the same role
     exception_alike :
         (exception : Exception) {o p : Outcome A}
+        → act k v i.insn a s ≡ raises exception
         → o ≡ raised k v exception s
         → p ≡ raised k w exception t
         → ComeAlike k e v w s t i j a b o p
     -- both throw the same object
     throw_alike :
         (handle : ℕ) {o p : Outcome A}
+        → act k v i.insn a s ≡ throws handle
         → o ≡ thrown k v handle s
         → p ≡ thrown k w handle t
         → ComeAlike k e v w s t i j a b o p

@@ -1,4 +1,5 @@
 ghost use Rattle.vm_alike.specs.Laws.{StepsAreAlike, TypedStatesStay};
+ghost use Rattle.vm_alike.specs.Starting.{MethodsAreNumberedAlike, StartsRefuseAlike};
 
 use jc_base::World;
 use jc_ops::operations_are_sound;
@@ -17,6 +18,15 @@ pub fn steps_are_alike(world: &World<'_>)
 /// places.
 pub fn typed_states_stay(world: &World<'_>)
     ensures { TypedStatesStay world.now }
+{
+    let _ = world.classes().records();
+}
+
+/// Worlds that differ in the code of methods alone begin runs with the same arguments, and refuse others for the same
+/// reason; and in both a method is found by the same numbers.
+pub fn starts_refuse_alike(world: &World<'_>)
+    ensures refused { StartsRefuseAlike world.now }
+    ensures numbered { MethodsAreNumberedAlike world.now }
 {
     let _ = world.classes().records();
 }

@@ -7,4 +7,4 @@
 
 mod laws;
 
-pub use laws::{steps_are_alike, typed_states_stay};
+pub use laws::{starts_refuse_alike, steps_are_alike, typed_states_stay};

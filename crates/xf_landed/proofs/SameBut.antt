@@ -37,7 +37,7 @@ use Rattle.jc_rules.specs.Flow.{FlowTyping, IsFollowed}
 use Rattle.card_typing.specs.Typing.{Subject, TypingIn, IsTypedIn, code_in_bytes}
 use Rattle.xf_landed.specs.Apart.{apart_from_code, IsSameBut}
 use Rattle.xf_landed.specs.Laid.{code_in_symbols}
-use Rattle.xf_landed.specs.Laws.{CardTypingsAreKept, FlowTypingsAreKept, MethodsAreKept, SymbolTypingsAreKept}
+use Rattle.xf_landed.specs.Laws.{CardTypingsAreKept, DemandsAreKept, FlowTypingsAreKept, MethodsAreKept, OperationsAreKept, SymbolTypingsAreKept}
 
 -- ---- lists that are tested alike
 
@@ -300,3 +300,35 @@ flow-typings-are-kept v w m unset frames same t = subst (λ u. FlowTyping u m un
 
 pub methods-are-kept : MethodsAreKept
 methods-are-kept v w n same = alike-at v w.infos w.methods w.indexes same.methods n
+
+-- ---- operations
+
+module _ (w : Linked) (m : MethodRec) (place : ℕ) (i : Insn) where
+  apart-table : map (λ row. resolved w m place i row) table ≡ map (λ row. resolved w (apart_from_code m) place i row) table
+  unfolding table by_sort by_width by_kind first_four by_register literals binary orders_all branching unused
+  apart-table = refl
+
+  apart-unused : resolved w m place i unused ≡ resolved w (apart_from_code m) place i unused
+  unfolding unused
+  apart-unused = refl
+
+  apart-resolved : resolved w m place i (row_at i.op) ≡ resolved w (apart_from_code m) place i (row_at i.op)
+  unfolding row_at
+  apart-resolved =
+      sym (get_or-map (λ row. resolved w m place i row) table i.op unused)
+      ∙ ap (λ rs. get_or rs i.op (resolved w m place i unused)) apart-table
+      ∙ ap (λ r. get_or (map (λ row. resolved w (apart_from_code m) place i row) table) i.op r) apart-unused
+      ∙ get_or-map (λ row. resolved w (apart_from_code m) place i row) table i.op unused
+
+pub operations-are-kept : OperationsAreKept
+operations-are-kept v w m n place i r same alike e =
+    e
+    ∙ subst (λ u. resolved v m place i (row_at i.op) ≡ resolved u m place i (row_at i.op)) (whole v w same)
+    (resolved-same v w.infos w.methods w.indexes same.methods m place i)
+    ∙ apart-resolved w m place i
+    ∙ ap (λ k. resolved w k place i (row_at i.op)) alike
+    ∙ sym (apart-resolved w n place i)
+
+pub demands-are-kept : DemandsAreKept
+demands-are-kept v w op same =
+    subst (λ u. demands v op ≡ demands u op) (whole v w same) (demands-same v w.infos w.methods w.indexes same.methods op)

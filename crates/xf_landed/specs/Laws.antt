@@ -1,5 +1,5 @@
 -- Laws of typings where code is laid, and where the code of a world is another.
-use Rattle.std.specs.Prelude.{◌≡◌, ℕ, List, length, All, Contains, Option, option_map, IfSome, slice_get}
+use Rattle.std.specs.Prelude.{◌≡◌, ℕ, List, length, All, Contains, Option, option_map, IfSome, Result, slice_get}
 use Rattle.jc_base.specs.declared.ty.Ty.{Ty}
 use Rattle.jc_base.specs.declared.record.Handler.{Handler}
 use Rattle.jc_base.specs.declared.record.Member.{Member}
@@ -8,12 +8,17 @@ use Rattle.jc_base.specs.Cell.{IsDeclared}
 use Rattle.jc_base.specs.Class.{ClassTable}
 use Rattle.jc_base.specs.Linked.{Catches, IsHandler}
 use Rattle.jc_base.specs.World.{Linked}
+use Rattle.jc_decode.specs.declared.insn.Insn.{Insn}
 use Rattle.jc_decode.specs.declared.symbols.Laid.{Laid}
 use Rattle.jc_decode.specs.declared.symbols.Symbols.{Symbols}
 use Rattle.jc_decode.specs.Standing.{StandsAt}
 use Rattle.jc_decode.specs.Symbols.{steps}
 use Rattle.jc_control.specs.Method.{Method}
+use Rattle.jc_ops.specs.declared.fault.RuleFault.{RuleFault}
+use Rattle.jc_ops.specs.declared.operation.Operation.{Operation}
+use Rattle.jc_ops.specs.Resolve.{Resolves}
 use Rattle.jc_rules.specs.Demand.{Frame}
+use Rattle.jc_rules.specs.Rule.{demands}
 use Rattle.jc_rules.specs.Flow.{FlowTyping}
 use Rattle.card_typing.specs.Typing.{TypingIn, CardTyping}
 use Rattle.xf_landed.specs.Apart.{apart_from_code, IsSameBut}
@@ -27,6 +32,19 @@ MethodsAreKept =
     (v w : Linked) (n : ℕ)
     → IsSameBut v w
     → option_map apart_from_code (slice_get v.methods n) ≡ option_map apart_from_code (slice_get w.methods n)
+
+-- an instruction has the same operation in both, in methods that are the same apart from code
+abbrev pub OperationsAreKept : Type 0
+OperationsAreKept =
+    (v w : Linked) (m n : MethodRec) (place : ℕ) (i : Insn) (r : Result Operation RuleFault)
+    → IsSameBut v w
+    → apart_from_code m ≡ apart_from_code n
+    → Resolves v m place i r
+    → Resolves w n place i r
+
+-- and an operation asks the same
+abbrev pub DemandsAreKept : Type 0
+DemandsAreKept = (v w : Linked) (op : Operation) → IsSameBut v w → demands v op ≡ demands w op
 
 -- a card typing of a method in one is one of it in the other
 abbrev pub CardTypingsAreKept : Type 0

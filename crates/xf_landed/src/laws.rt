@@ -1,4 +1,4 @@
-ghost use Rattle.xf_landed.specs.Laws.{CardTypingsAreKept, CatchesByPool, FlowTypingsAreKept, LaidIsTyped, MethodsAreKept, SymbolTypingsAreKept};
+ghost use Rattle.xf_landed.specs.Laws.{CardTypingsAreKept, CatchesByPool, DemandsAreKept, FlowTypingsAreKept, LaidIsTyped, MethodsAreKept, OperationsAreKept, SymbolTypingsAreKept};
 
 use jc_base::World;
 use jc_decode::instructions_are_listed;
@@ -16,6 +16,12 @@ pub fn typings_are_kept()
 /// A number names the same method in worlds that differ in code alone, apart from its code.
 pub fn methods_are_kept()
     ensures { MethodsAreKept }
+{}
+
+/// An instruction has the same operation in worlds that differ in code alone, and this asks the same.
+pub fn operations_are_kept()
+    ensures operations { OperationsAreKept }
+    ensures demands { DemandsAreKept }
 {}
 
 /// All handlers of a method with one number of the constant pool catch the same class.

@@ -5,4 +5,6 @@
 
 mod laws;
 
-pub use laws::{catches_by_pool, laid_is_typed, methods_are_kept, typings_are_kept};
+pub use laws::{
+    catches_by_pool, laid_is_typed, methods_are_kept, operations_are_kept, typings_are_kept,
+};

@@ -32,3 +32,6 @@ pub mod Named
 pub mod Asked
 pub mod Whole
 pub mod Typed
+pub mod Below
+pub mod Edging
+pub mod Forks

@@ -21,7 +21,7 @@ use Rattle.xf_typing.proofs.Copies.{AreUnder, none_under, more_under}
 use Rattle.xf_typing.proofs.Wholes.{high-only, low-only, no-half-above}
 use Rattle.xf_typing.proofs.Running.{AreLaws}
 
-home-one : (slot : ℕ) (pre : List Ty) (a : Ty) (us : List Ty) (k : ℕ) → IsNoHalf a → IsNotTop a
+pub home-one : (slot : ℕ) (pre : List Ty) (a : Ty) (us : List Ty) (k : ℕ) → IsNoHalf a → IsNotTop a
     → cells_from slot (pre ++ a ∷ us) (length pre) (suc k) ≡ record { slot = slot + length pre; ty = a } ∷ cells_from slot ((pre ++ a ∷ []) ++ us) (length (pre ++ a ∷ [])) k
 home-one slot pre a us k h n =
     let e = longer-by pre a in
@@ -30,7 +30,7 @@ home-one slot pre a us k h n =
     ∙ ap (λ (j : ℕ). record { slot = slot + length pre; ty = a } ∷ cells_from slot (pre ++ a ∷ us) j k) e
     ∙ ap (λ (ts : List Ty). record { slot = slot + length pre; ty = a } ∷ cells_from slot ts (length (pre ++ a ∷ [])) k) (sym shape)
 
-home-int : (slot : ℕ) (pre us : List Ty) (k : ℕ)
+pub home-int : (slot : ℕ) (pre us : List Ty) (k : ℕ)
     → cells_from slot (pre ++ IntHigh ∷ IntLow ∷ us) (length pre) (suc (suc k)) ≡ record { slot = slot + length pre; ty = IntHigh } ∷ cells_from slot ((pre ++ IntHigh ∷ IntLow ∷ []) ++ us) (length (pre ++ IntHigh ∷ IntLow ∷ [])) k
 home-int slot pre us k =
     let all = pre ++ IntHigh ∷ IntLow ∷ us in

@@ -1,3 +1,5 @@
 pub mod Whole
 pub mod Typed
 pub mod Laws
+pub mod Planned
+pub mod Edges

@@ -5,4 +5,4 @@
 
 mod laws;
 
-pub use laws::{derived_are_whole, rewritten_is_typed};
+pub use laws::{derived_are_whole, edges_carry, rewritten_is_typed};

@@ -55,26 +55,26 @@ marks-reached m typing reached p =
 -- ---- a method of the world with code
 
 module _ (w : Linked) (laws : AreLaws w) (n : ℕ) (r : MethodRec) (here : slice_get w.methods n ≡ Some r) (filled : 0 < r.code_len) where
-  abbrev own : Method
+  abbrev pub own : Method
   own = method_with w n r
 
-  method-links : IsMethod w.infos w.pools w.classes r
+  pub method-links : IsMethod w.infos w.pools w.classes r
   method-links = All-slice_get (IsMethod w.infos w.pools w.classes) w.methods n r laws.links.methods here
 
-  its-bytes : AreBytes own.code
+  pub its-bytes : AreBytes own.code
   its-bytes = All-slice_get (λ s. AreBytes (code_of w.infos s)) w.methods n r laws.bytes here
 
-  is-method : IsMethodOf w own
+  pub is-method : IsMethodOf w own
   is-method =
       let size = length-take r.code_len (drop r.code_at (list_at w.infos r.package)) in
       let rest = length-drop r.code_at (list_at w.infos r.package) in
       record { rec = here; code = refl; filled = omega (arith, size, rest, filled, method-links.inside) }
 
   module _ (laid : Laid) (is : IsLaidFor w own laid) where
-    abbrev control : Marked
+    abbrev pub control : Marked
     control = record { reached = map is_some is.typing; leaders = is.rewritten.leaders; listing = bare own.code }
 
-    flow : IsControlFlow own control
+    pub flow : IsControlFlow own control
     flow = record {
       formed = is.typed.least.typing.formed;
       reached = marks-reached own is.typing is.typed.reached;

@@ -1,4 +1,4 @@
--- That code is made of bytes, which the lists of a world don't say. No public promise rests on it.
+-- That code is made of bytes, which the lists of a world don't say.
 use Rattle.std.specs.Prelude.{All}
 use Rattle.jc_base.specs.World.{Linked, code_of}
 use Rattle.jc_decode.specs.Decoding.{AreBytes}

@@ -18,7 +18,7 @@ fn are_bytes(bytes: &[u8])
 }
 
 /// The code of each method is made of bytes: a fact for proofs, which only the slices of bytes themselves tell.
-fn codes_are_bytes(world: &World<'_>)
+pub fn codes_are_bytes(world: &World<'_>)
     ensures { CodesAreBytes world.now }
 {
     'methods: for number in 0..world.method_count() {

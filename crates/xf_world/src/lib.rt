@@ -4,4 +4,4 @@
 
 mod laws;
 
-pub use laws::laid_is_accepted;
+pub use laws::{codes_are_bytes, laid_is_accepted};
