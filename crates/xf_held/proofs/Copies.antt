@@ -8,7 +8,7 @@ use Rattle.jc_base.specs.declared.ty.Ty.{Ty}
 use Rattle.jc_base.specs.declared.ty.Ty.TheVariants.{Bottom, Short, IntHigh}
 use Rattle.jc_base.specs.declared.record.MethodRec.{MethodRec}
 use Rattle.jc_base.specs.Each.{Each}
-use Rattle.jc_base.specs.World.{Linked, IsWorld}
+use Rattle.jc_base.specs.World.{Linked}
 use Rattle.jc_decode.specs.Listing.{listing}
 use Rattle.jc_decode.specs.Standing.{AreSteps}
 use Rattle.jc_decode.specs.Symbols.{Step}
@@ -16,7 +16,6 @@ use Rattle.jc_control.specs.WellFormed.{IsPlace}
 use Rattle.jc_ops.specs.declared.operation.Operation.TheVariants as ops
 use Rattle.jc_ops.specs.declared.operation.Sort.{Sort}
 use Rattle.jc_ops.specs.declared.operation.Sort.TheVariants as sorts
-use Rattle.jc_ops.specs.Sound.{OperationsAreSound}
 use Rattle.jc_rules.specs.Demand.{AllHold}
 use Rattle.jc_rules.specs.Rule.{demands}
 use Rattle.vm_store.specs.declared.cell.Cell.{Cell}
@@ -42,7 +41,7 @@ use Rattle.xf_plan.specs.Plan.{or_first, register}
 use Rattle.xf_emission.specs.Move.{with_byte, store_op}
 use Rattle.xf_held.specs.Held.{Holds}
 use Rattle.xf_held.specs.Laws.{AreApart}
-use Rattle.xf_held.specs.Moves.{size, copied, AreFilled, end_of, letter_of, StandFrom, load_of, copy_of, IsAtStep, CanLoad, OwnRegisters, HomesOwnRegisters, IsCopy, AreCopied, HomesAreCopied}
+use Rattle.xf_held.specs.Moves.{CanRun, size, copied, AreFilled, end_of, letter_of, StandFrom, load_of, copy_of, IsAtStep, CanLoad, OwnRegisters, HomesOwnRegisters, IsCopy, AreCopied, HomesAreCopied}
 use Rattle.xf_held.proofs.Copying.{copied-count, copies-keep-homes}
 use Rattle.xf_held.proofs.Going.{copies-run}
 use Rattle.xf_held.proofs.Loading.{load-resolves, store-resolves, step-place}
@@ -123,7 +122,7 @@ module _ (w : Linked) (ks : List ObjectKind) (registers others : List Cell) (r :
 -- ---- copies
 
 module _
-    (w : Linked) (world : IsWorld w) (sound : OperationsAreSound w) (place : ℕ → ℕ) (steps : List Step) (s : Source)
+    (w : Linked) (world : CanRun w) (place : ℕ → ℕ) (steps : List Step) (s : Source)
     (own : OwnRegisters s)
     (values : List Cell) (h : Home) (has : HasRegister s.homes h)
     (method : ℕ) (stack : List Cell) (below : List (Frame Cell)) (heap : List (Object Cell)) (statics : List Cell)
@@ -156,11 +155,11 @@ module _
   one-copy n registers k stand store further can copy =
       let t : State Cell = at (place n) registers in
       let r : ℕ = register s h in
-      let ex = steps-execute w world sound t m place steps n 0 (record { insn = load_of s h; targets = []; keys = [] })
+      let ex = steps-execute w world t m place steps n 0 (record { insn = load_of s h; targets = []; keys = [] })
       (ops.Load letter r)
       (omega arith) is_method are stand refl (load-resolves w m 0 r h.ty can.0) in
       let t1 : State Cell = with_place (with_load tagged letter r t) (end_of ex.instruction) in
-      let ey = steps-execute w world sound t1 m place steps (n + 1) 0
+      let ey = steps-execute w world t1 m place steps (n + 1) 0
       (record { insn = with_byte (store_op k.ty) (register s k); targets = []; keys = [] })
       (ops.Store (letter_of k.ty) (register s k))
       (omega arith) is_method are store ex.ends (store-resolves w m 0 (register s k) k.ty copy.small) in
@@ -168,7 +167,7 @@ module _
       let last : end_of ey.instruction ≡ place (n + 2) = ey.ends ∙ ap place two in
       let width_is : width k.ty ≡ size letter = wide k.ty ∙ ap size copy.letter in
       let fits = copy.inside in
-      let ran = copies-run w world t ex.instruction ey.instruction letter r (register s k) ex.executes
+      let ran = copies-run w world.chains t ex.instruction ey.instruction letter r (register s k) ex.executes
       (subst (λ l. Executes w t1 ey.instruction (ops.Store l (register s k))) copy.letter ey.executes)
       can.1.asked can.1.filled (omega (arith, fits, width_is)) room
       (subst (IsPlace (code_at w method)) (sym ex.ends)
@@ -244,6 +243,7 @@ module _
       record {
         registers = registers;
         runs = subst (λ k. Runs tagged w 0 (at (place n) registers) (running (at (place k) registers))) e stands;
+        count = refl;
         copies = tt;
         others = λ a owns value. value;
       }
@@ -271,6 +271,7 @@ module _
             count
             (subst (λ x. Runs tagged w (2 + 2 * length ks) (at (place n) registers) (running (at (place x) rest.registers)))
             place_is whole);
+        count = rest.count ∙ copied-count letter (register s h) (register s k) registers;
         copies = (
           moved (place (n + 2)) (place n) rest.registers k
               (rest.others k copies.0.own (keeps (place n) (place (n + 2)) registers k k held copies.0 copies.0.own (inl refl))),
@@ -282,7 +283,7 @@ module _
       }
 
 copies-by :
-    (w : Linked) → IsWorld w → OperationsAreSound w
+    (w : Linked) → CanRun w
     → (place : ℕ → ℕ) (steps : List Step) (fs : List (Frame Cell)) (heap : List (Object Cell)) (statics : List Cell) (n : ℕ)
     (s : Source)
     (values : List Cell) (h : Home) (ks : List Home)
@@ -295,9 +296,9 @@ copies-by :
     → Each (IsCopy s (length (first_frame fs).registers) h) ks
     → size (letter_of h.ty) + length (first_frame fs).stack ≤ max_stack_of w (first_frame fs).method
     → AreCopied w s values (record { frames = fs; heap = heap; statics = statics }) ks (place (n + 2 * length ks))
-copies-by w world sound place steps [] heap statics n s values h ks own is stand has can held copies room =
+copies-by w world place steps [] heap statics n s values h ks own is stand has can held copies room =
     absurd (let lt = is.runs in omega (arith, lt))
-copies-by w world sound place steps (f ∷ below) heap statics n s values h ks own is stand has can held copies room =
+copies-by w world place steps (f ∷ below) heap statics n s values h ks own is stand has can held copies room =
     subst
     (λ p.
     CanLoad w s
@@ -315,10 +316,10 @@ copies-by w world sound place steps (f ∷ below) heap statics n s values h ks o
     }) ks
     (place (n + 2 * length ks))) (sym is.at)
     (λ now holds.
-    copies-from w world sound place steps s own values h has f.method f.stack below heap statics is.method is.is_method is.are room
+    copies-from w world place steps s own values h has f.method f.stack below heap statics is.method is.is_method is.are room
     n f.registers ks stand is.further now holds copies)
     can held
 
-pub homes-are-copied : (w : Linked) → IsWorld w → OperationsAreSound w → HomesAreCopied w
-homes-are-copied w world sound place steps t n s values h ks own is stand has can held copies room =
-    copies-by w world sound place steps t.frames t.heap t.statics n s values h ks own is stand has can held copies room
+pub homes-are-copied : (w : Linked) → CanRun w → HomesAreCopied w
+homes-are-copied w world place steps t n s values h ks own is stand has can held copies room =
+    copies-by w world place steps t.frames t.heap t.statics n s values h ks own is stand has can held copies room

@@ -5,8 +5,8 @@ use Rattle.std.proofs.lemmas.Bool.{le-ltb, lt-leb}
 use Rattle.std.proofs.lemmas.List.{length-map}
 use Rattle.jc_base.specs.declared.ty.Ty.{Ty}
 use Rattle.jc_base.specs.declared.ty.Ty.TheVariants.{Bottom, Short, IntHigh, IntLow, Class}
-use Rattle.jc_base.specs.Class.{object}
-use Rattle.jc_base.specs.World.{Linked, IsWorld}
+use Rattle.jc_base.specs.Class.{AreClasses, object}
+use Rattle.jc_base.specs.World.{Linked}
 use Rattle.jc_decode.specs.declared.insn.Placed.{Placed}
 use Rattle.jc_decode.proofs.Listed.{all-are-listed}
 use Rattle.jc_control.specs.WellFormed.{IsPlace}
@@ -39,8 +39,8 @@ use Rattle.vm_step.specs.Tests.{fault_before}
 use Rattle.vm_step.specs.Values.{with_load, with_store}
 use Rattle.vm_sound.specs.Frames.{least_types, types_in}
 use Rattle.vm_sound.proofs.Cells.{cell-at}
-use Rattle.vm_sound.proofs.Turns.{passes-before}
 use Rattle.vm_alike.specs.Running.{Executes}
+use Rattle.xf_held.proofs.Passing.{passes-before}
 use Rattle.xf_held.specs.Moves.{size, copied, with_registers, AreFilled, end_of, OperationsGoOn, CopiesRun}
 
 pick : {X : Type 0} (x y : Option X) (a b : Bool) → a ≡ false → b ≡ false → (if a then x else if b then y else None) ≡ None
@@ -56,7 +56,7 @@ loaded-filled made.High Empty h = absurd h
 loaded-filled made.Low Empty h = absurd h
 loaded-filled _ _ h = refl
 
-module _ (w : Linked) (world : IsWorld w) where
+module _ (w : Linked) (chains : AreClasses w.classes) where
   -- ---- one step
 
   go-on :
@@ -71,7 +71,7 @@ module _ (w : Linked) (world : IsWorld w) where
   go-on f below heap statics z j op ex asked does room next =
       let t : State Cell = record { frames = f ∷ below; heap = heap; statics = statics } in
       let code : List ℕ = code_at w (top z).method in
-      let before : fault_before tagged w op t ≡ None = passes-before w world Bottom f below heap statics op asked in
+      let before : fault_before tagged w op t ≡ None = passes-before w chains f below heap statics op asked in
       let after : fault_next tagged w z (length (top z).stack) (end_of j) ≡ None =
       pick (Some StackFault) (Some JumpFault) (nat_lt (max_stack_of w (top z).method) (length (top z).stack))
       (nat_le (length code) (end_of j))

@@ -6,7 +6,7 @@ use Rattle.jc_base.specs.declared.ty.Ty.{Ty}
 use Rattle.jc_base.specs.declared.ty.Ty.TheVariants.{Bottom, Short, IntHigh}
 use Rattle.jc_base.specs.declared.record.MethodRec.{MethodRec}
 use Rattle.jc_base.specs.Each.{Each}
-use Rattle.jc_base.specs.World.{Linked, IsWorld}
+use Rattle.jc_base.specs.World.{Linked}
 use Rattle.jc_decode.specs.Listing.{listing}
 use Rattle.jc_decode.specs.Standing.{AreSteps}
 use Rattle.jc_decode.specs.Symbols.{Step}
@@ -16,7 +16,6 @@ use Rattle.jc_ops.specs.declared.operation.Sort.{Sort}
 use Rattle.jc_ops.specs.declared.operation.Sort.TheVariants as sorts
 use Rattle.jc_ops.specs.Row.{table, row_at, unused, by_sort, by_width, by_kind, first_four, by_register, literals, binary, orders_all, branching}
 use Rattle.jc_ops.specs.Resolve.{resolved, Resolves}
-use Rattle.jc_ops.specs.Sound.{OperationsAreSound}
 use Rattle.jc_rules.specs.Demand.{AllHold}
 use Rattle.jc_rules.specs.Rule.{demands}
 use Rattle.vm_store.specs.declared.cell.Cell.{Cell}
@@ -36,7 +35,7 @@ use Rattle.xf_emission.specs.Move.{with_byte, load_op, store_op}
 use Rattle.xf_homes.specs.declared.home.Home.{Home}
 use Rattle.xf_plan.specs.Source.{Source}
 use Rattle.xf_plan.specs.Plan.{register}
-use Rattle.xf_held.specs.Moves.{AreFilled, end_of, letter_of, StandFrom, load_of, IsAtStep, CanLoad, value_at, loaded_stack, LoadsRun}
+use Rattle.xf_held.specs.Moves.{CanRun, AreFilled, end_of, letter_of, StandFrom, load_of, IsAtStep, CanLoad, value_at, loaded_stack, LoadsRun}
 use Rattle.xf_held.proofs.Going.{loaded-filled, operations-go-on}
 use Rattle.xf_held.proofs.Standing.{steps-stand-at-places, steps-execute}
 
@@ -77,7 +76,7 @@ step-place code place steps n are lt =
     (here.instruction, there.stands, there.at)
 
 module _
-    (w : Linked) (world : IsWorld w) (sound : OperationsAreSound w) (place : ℕ → ℕ) (steps : List Step) (s : Source)
+    (w : Linked) (world : CanRun w) (place : ℕ → ℕ) (steps : List Step) (s : Source)
     (method : ℕ) (registers : List Cell) (below : List (Frame Cell)) (heap : List (Object Cell)) (statics : List Cell)
     (m : MethodRec) (is_method : slice_get w.methods method ≡ Some m)
     (are : AreSteps (code_at w method) place 0 steps (listing (code_at w method))) where
@@ -141,14 +140,14 @@ module _
   one-load n p h stack first stand further can room =
       let letter : Sort = letter_of h.ty in
       let r : ℕ = register s h in
-      let ex = steps-execute w world sound (at (place n) stack) m place steps n 0
+      let ex = steps-execute w world (at (place n) stack) m place steps n 0
       (record { insn = load_of s h; targets = []; keys = [] }) (ops.Load letter r)
       (omega arith) is_method are stand refl (load-resolves w m 0 r h.ty can.0) in
       let z : State Cell = with_load tagged letter r (at (place n) stack) in
       let next : IsPlace (code_at w method) (place (n + 1)) = step-place (code_at w method) place steps (n + 1) are
       (omega (arith, further)) in
       let went : Steps tagged w (at (place n) stack) (running (with_place z (end_of ex.instruction))) =
-      operations-go-on w world (at (place n) stack) z ex.instruction (ops.Load letter r) ex.executes
+      operations-go-on w world.chains (at (place n) stack) z ex.instruction (ops.Load letter r) ex.executes
       (asked-over letter r first stack can.1.asked) refl
       (let d = load-depth letter r (place n) stack in let k = ap (max_stack_of w) (load-method letter r (place n) stack) in omega
       (arith, room, d, k))
@@ -190,7 +189,7 @@ module _
       (loads-from (n + 1) hs more first p stand.1 (omega (arith, further)) can.1 room))
 
 loads-by :
-    (w : Linked) → IsWorld w → OperationsAreSound w
+    (w : Linked) → CanRun w
     → (place : ℕ → ℕ) (steps : List Step) (fs : List (Frame Cell)) (heap : List (Object Cell)) (statics : List Cell) (n : ℕ)
     (s : Source) (hs : List Home)
     → IsAtStep w place steps (record { frames = fs; heap = heap; statics = statics }) n (length hs)
@@ -201,8 +200,8 @@ loads-by :
     (running (with_place (with_stack (record { frames = fs; heap = heap; statics = statics })
     (loaded_stack s (first_frame fs).registers hs (first_frame fs).stack))
     (place (n + length hs))))
-loads-by w world sound place steps [] heap statics n s hs is stand can room = absurd (let lt = is.runs in omega (arith, lt))
-loads-by w world sound place steps (f ∷ below) heap statics n s hs is stand can room =
+loads-by w world place steps [] heap statics n s hs is stand can room = absurd (let lt = is.runs in omega (arith, lt))
+loads-by w world place steps (f ∷ below) heap statics n s hs is stand can room =
     subst
     (λ p. Runs tagged w (length hs)
     (record {
@@ -222,9 +221,9 @@ loads-by w world sound place steps (f ∷ below) heap statics n s hs is stand ca
       heap = heap;
       statics = statics;
     }))) (sym is.at)
-    (loads-from w world sound place steps s f.method f.registers below heap statics is.method is.is_method is.are n hs f.stack
+    (loads-from w world place steps s f.method f.registers below heap statics is.method is.is_method is.are n hs f.stack
     f.stack f.place stand is.further can room)
 
-pub loads-run : (w : Linked) → IsWorld w → OperationsAreSound w → LoadsRun w
-loads-run w world sound place steps t n s hs is stand can room =
-    loads-by w world sound place steps t.frames t.heap t.statics n s hs is stand can room
+pub loads-run : (w : Linked) → CanRun w → LoadsRun w
+loads-run w world place steps t n s hs is stand can room =
+    loads-by w world place steps t.frames t.heap t.statics n s hs is stand can room

@@ -23,7 +23,7 @@ use Rattle.xf_held.specs.Moves.{size, letter_of, value_at, loaded_stack, LoadedI
 use Rattle.xf_held.proofs.Copies.{wide}
 
 -- the cells up to one more, from the top
-more-taken : (xs : List Cell) (j : ℕ) → j < length xs → reverse (take (suc j) xs) ≡ nth tagged xs j ∷ reverse (take j xs)
+pub more-taken : (xs : List Cell) (j : ℕ) → j < length xs → reverse (take (suc j) xs) ≡ nth tagged xs j ∷ reverse (take j xs)
 more-taken xs j lt = ap reverse (take-suc xs j Empty lt) ∙ reverse-append (take j xs) (nth tagged xs j ∷ [])
 
 module _ (s : Source) (g : Frame Cell) (regs xs : List Cell) where

@@ -3,7 +3,9 @@ use Rattle.std.proofs.Common.{◌≡◌, ℕ, zero, suc, ◌+◌, ◌-◌, ◌<�
 use Rattle.std.specs.Prelude.{Some, Ok, IfSome, find, slice_get}
 use Rattle.std.proofs.lemmas.Bool.{eq-eqb}
 use Rattle.std.proofs.lemmas.Bool.Decides.{nat_tests}
+use Rattle.std.proofs.lemmas.List.Elements.{All-weaker}
 use Rattle.std.proofs.lemmas.Option.{slice_get_within}
+use Rattle.jc_base.specs.declared.record.MethodRec.{MethodRec}
 use Rattle.jc_base.specs.Cell.{IsDeclared}
 use Rattle.jc_base.specs.Linked.{IsMethod}
 use Rattle.jc_base.specs.World.{Linked, IsWorld}
@@ -23,6 +25,7 @@ use Rattle.jc_decode.specs.Listing.{listing}
 use Rattle.jc_decode.specs.Standing.{IsStep, AreSteps}
 use Rattle.jc_decode.specs.Symbols.{Step}
 use Rattle.vm_step.specs.Methods.{code_at, instruction_at}
+use Rattle.xf_held.specs.Moves.{CanRun}
 use Rattle.xf_held.specs.Laws.{StepsStandAtPlaces, StepsExecute}
 
 differ : (a b : ℕ) → a < b → (a == b) ≡ false
@@ -97,7 +100,7 @@ module _ (code : List ℕ) (place : ℕ → ℕ) (steps : List Step) (are : AreS
       let e : suc (a + suc d) ≡ a + suc (suc d) = omega arith in
       subst (λ n. place a < place n) e (omega (arith, before, last))
 
-  rises : (a b : ℕ) → a < b → b ≤ length steps → place a < place b
+  pub rises : (a b : ℕ) → a < b → b ≤ length steps → place a < place b
   rises a b lt le =
       let e : a + suc (b - suc a) ≡ b = omega (arith, lt) in
       subst (λ n. place a < place n) e (rises-far a (b - suc a) (omega (arith, lt, le)))
@@ -122,14 +125,24 @@ renamed-alike : (f : ℕ → ℕ) (op : Operation) → operation_renamed f op �
 renamed-alike f (ops.New p class) = refl
 renamed-alike f _ = refl
 
-pub steps-execute : (w : Linked) → IsWorld w → OperationsAreSound w → StepsExecute w
-steps-execute w world sound t m place steps n q step op runs method are e at resolves =
+-- a world whose operations are sound can run code
+pub can-run : (w : Linked) → IsWorld w → OperationsAreSound w → CanRun w
+can-run w world sound = record {
+  chains = world.chains;
+  results =
+      All-weaker (IsMethod w.infos w.pools w.classes) (λ (r : MethodRec). IfSome r.sig.result (IsDeclared w.classes)) (λ r h. h.result) w.methods
+      world.methods;
+  sound = sound;
+}
+
+pub steps-execute : (w : Linked) → CanRun w → StepsExecute w
+steps-execute w world t m place steps n q step op runs method are e at resolves =
     let code : List ℕ = code_at w (top t).method in
     let here = steps-stand-at-places code place steps n step are e in
     let declared : IfSome m.sig.result (IsDeclared w.classes) =
-    (All-slice_get (IsMethod w.infos w.pools w.classes) w.methods (top t).method m world.methods method).result in
+    All-slice_get (λ (r : MethodRec). IfSome r.sig.result (IsDeclared w.classes)) w.methods (top t).method m world.results method in
     let named : Resolves w m (place n) here.instruction.insn (Ok (operation_renamed (λ k. place n) op)) =
-    resolves-renamed w m sound declared (λ k. place n) q here.instruction.insn step.insn op here.is.same resolves in
+    resolves-renamed w m world.sound declared (λ k. place n) q here.instruction.insn step.insn op here.is.same resolves in
     let own : Resolves w m here.instruction.place here.instruction.insn (Ok (renamed_new (λ k. place n) op)) =
     subst (λ o. Resolves w m here.instruction.place here.instruction.insn (Ok o)) (renamed-alike (λ k. place n) op)
     (subst (λ p. Resolves w m p here.instruction.insn (Ok (operation_renamed (λ k. place n) op))) (sym here.begins) named) in

@@ -1,4 +1,6 @@
 pub mod Held
 pub mod Laws
 pub mod Moves
+pub mod Edges
+pub mod Stores
 pub mod Worked

@@ -1,5 +1,7 @@
 -- Steps that rewritten code takes alone: a value goes from one home to another (JCVM 2.2, chapter 7, the loads and stores).
-use Rattle.std.specs.Prelude.{◌≡◌, ◌<◌, ◌≤◌, ◌+◌, ◌*◌, ◌⊎◌, ℕ, List, [], ◌∷◌, ◌++◌, length, map, flat_map, slice_get, slice_set, Some, ⊤}
+use Rattle.std.specs.Prelude.{◌≡◌, ◌<◌, ◌≤◌, ◌+◌, ◌*◌, ◌⊎◌, ℕ, List, [], ◌∷◌, ◌++◌, length, map, flat_map, slice_get, slice_set, All, Some, IfSome, ⊤}
+use Rattle.jc_base.specs.Cell.{IsDeclared}
+use Rattle.jc_base.specs.Class.{AreClasses}
 use Rattle.jc_base.specs.declared.ty.Ty.{Ty}
 use Rattle.jc_base.specs.declared.ty.Ty.TheVariants.{Bottom, Short, IntHigh}
 use Rattle.jc_base.specs.declared.record.MethodRec.{MethodRec}
@@ -15,6 +17,7 @@ use Rattle.jc_ops.specs.declared.operation.Operation.{Operation}
 use Rattle.jc_ops.specs.declared.operation.Operation.TheVariants.{Load, Store}
 use Rattle.jc_ops.specs.declared.operation.Sort.{Sort}
 use Rattle.jc_ops.specs.declared.operation.Sort.TheVariants as sorts
+use Rattle.jc_ops.specs.Sound.{OperationsAreSound}
 use Rattle.jc_rules.specs.Demand.{AllHold}
 use Rattle.jc_rules.specs.Rule.{demands}
 use Rattle.vm_store.specs.declared.cell.Cell.{Cell}
@@ -40,6 +43,12 @@ use Rattle.xf_plan.specs.Plan.{register}
 use Rattle.xf_emission.specs.Move.{with_byte, load_op, store_op}
 use Rattle.xf_held.specs.Held.{Holds, slots}
 use Rattle.xf_held.specs.Laws.{AreApart}
+
+-- what running code rests on in a world: its classes, that its methods have declared results, and operations that speak of what is there
+pub record CanRun (w : Linked) : Type 0 where
+  pub chains : AreClasses w.classes
+  pub results : All (λ m. IfSome m.sig.result (IsDeclared w.classes)) w.methods
+  pub sound : OperationsAreSound w
 
 -- how many registers a value of a letter takes
 abbrev pub size : Sort → ℕ
@@ -193,6 +202,7 @@ pub record IsCopy (s : Source) (count : ℕ) (h k : Home) : Type 0 where
 pub record AreCopied (w : Linked) (s : Source) (values : List Cell) (t : State Cell) (ks : List Home) (last : ℕ) : Type 0 where
   pub registers : List Cell
   pub runs : Runs tagged w (2 * length ks) t (running (with_registers t last registers))
+  pub count : length registers ≡ length (top t).registers
   pub copies : Each (Holds s values (record (top t) { registers = registers })) ks
   pub others :
       (h : Home)

@@ -1,9 +1,15 @@
+ghost use Rattle.jc_base.specs.World.{Linked};
 ghost use Rattle.vm_store.specs.declared.cell.Cell.{Cell};
-ghost use Rattle.xf_held.specs.Moves.{CopiesKeepHomes, CopiesRun, HomesAreCopied, HomesOwnRegisters, LoadedIsStack, LoadsRun, OperationsGoOn};
+ghost use Rattle.xf_held.specs.Edges.{CellsAreFew, CellsRun, CopiesAreFew, EdgesRun, KeptStacksStay, LeadersLoad, OperandsLoad, StacksSpill, StartsHold, UnderHold, UnderLoads};
+ghost use Rattle.xf_held.specs.Moves.{CanRun, CopiesKeepHomes, CopiesRun, HomesAreCopied, HomesOwnRegisters, LoadedIsStack, LoadsRun, OperationsGoOn};
+ghost use Rattle.xf_held.specs.Stores.{StoresRun};
 ghost use Rattle.xf_held.specs.Laws.{HomesStay, IncrementsRunAlike, KeptRunAlike, LoadsRunAlike, LoadsWriteNone, LocalsStay, NamesNoneWritesNone, StepsExecute, StepsStandAtPlaces, StoresRunAlike, WrittenHold};
 
-use jc_base::World;
+use jc_base::{World, subclasses_extend, types_are_ordered};
 use jc_ops::operations_are_sound;
+use jc_rules::rule_laws;
+use xf_homes::{homes_serve, needed_are_kept};
+use xf_typing::edges_carry;
 
 /// Instructions that name no register, loads and increments of a local from a home that holds it, and stores into a home
 /// run alike to those of the source.
@@ -73,4 +79,71 @@ pub fn none_are_written(world: &World<'_>)
     ensures loads { LoadsWriteNone world.now }
 {
     let _ = world.classes().records();
+}
+
+/// In code of each world that can run: the loads of a leader put its stack back, and the stores before one keep the stack
+/// in homes.
+pub fn stacks_move(source: &World<'_>)
+    ensures loads { (w : Linked) → CanRun w → LeadersLoad source.now w }
+    ensures stores { (w : Linked) → CanRun w → StacksSpill source.now w }
+{
+    homes_serve(source);
+    edges_carry(source);
+    rule_laws(source);
+    types_are_ordered(source.classes());
+    subclasses_extend(source.classes());
+}
+
+/// There the copies of an edge bring each local into all homes that are needed where it leads, and those of cells each cell
+/// into its home; at a method's start the arguments stand in theirs.
+pub fn edges_run(source: &World<'_>)
+    ensures locals { (w : Linked) → CanRun w → EdgesRun source.now w }
+    ensures cells { (w : Linked) → CanRun w → CellsRun source.now w }
+    ensures starts { StartsHold source.now }
+{
+    homes_serve(source);
+    edges_carry(source);
+    rule_laws(source);
+    types_are_ordered(source.classes());
+    subclasses_extend(source.classes());
+}
+
+/// There the loads after the stores of a conditional's stack put its operands back, and the cells under them, which stand in their
+/// homes after the branch as before it.
+pub fn operands_load(source: &World<'_>)
+    ensures operands { (w : Linked) → CanRun w → OperandsLoad source.now w }
+    ensures under { (w : Linked) → CanRun w → UnderLoads source.now w }
+    ensures holds { (w : Linked) → CanRun w → UnderHold source.now w }
+{
+    homes_serve(source);
+    edges_carry(source);
+    rule_laws(source);
+    types_are_ordered(source.classes());
+    subclasses_extend(source.classes());
+}
+
+/// No more cells are kept than a stack has, and an edge has no more copies than there are homes. A stack that is kept has no
+/// uninitialised object.
+pub fn moves_are_few(source: &World<'_>)
+    ensures cells { CellsAreFew source.now }
+    ensures copies { CopiesAreFew source.now }
+    ensures stacks { (w : Linked) → CanRun w → KeptStacksStay source.now w }
+{
+    homes_serve(source);
+    needed_are_kept(source);
+    edges_carry(source);
+    rule_laws(source);
+    types_are_ordered(source.classes());
+    subclasses_extend(source.classes());
+}
+
+/// There a store of the source goes into the first home that is needed afterwards, and from there to the others.
+pub fn stores_run(source: &World<'_>)
+    ensures stores { (w : Linked) → CanRun w → StoresRun source.now w }
+{
+    homes_serve(source);
+    edges_carry(source);
+    rule_laws(source);
+    types_are_ordered(source.classes());
+    subclasses_extend(source.classes());
 }

@@ -17,6 +17,7 @@ use Rattle.jc_resolve.specs.declared.fault.LinkFault.{LinkFault}
 use Rattle.jc_resolve.specs.declared.fault.LinkFault.TheVariants.{TooManyPackages}
 use Rattle.jc_resolve.proofs.Faultless.{IsOneOf}
 use Rattle.jc_rewritten.specs.Last.{and_last}
+use Rattle.xf_alike.specs.Laws.{LaidEndAlike}
 use Rattle.xf_world.specs.Laws.{LaidIsAccepted}
 use Rattle.xf_pack.specs.declared.end.TransformEnd.{TransformEnd}
 use Rattle.xf_pack.specs.declared.end.TransformEnd.TheVariants.{Link, Library, Typing, Limit, PartLong, Memory}
@@ -55,8 +56,9 @@ module _ (ps : List PackageRecord) (roles : List ℕ) (w : Linked) (linked : IsL
     last-may-be-laid agreed few = may-be-laid parted.0 p roles w last-linked first is laid each all agreed (own-reference p agreed) few
 
     module _ (accepted : AreAcceptedLibraries w) (typed : IsTypedLast w) where
-      pub transformed : StandsFor p.parts p → LaidIsAccepted w → (parts : List Lent) → HaveRewritten p laid parts → IsTransformed ps roles w parts
-      transformed agreed law parts again =
+      pub transformed : StandsFor p.parts p → LaidIsAccepted w → LaidEndAlike w → (parts : List Lent) → HaveRewritten p laid parts
+          → IsTransformed ps roles w parts
+      transformed agreed law alike parts again =
           let code = are-laid parted.0 p roles w last-linked first is laid each all in
           let new = law parted.0 p again.made p.parts parts roles laid agreed again.stands again.rewritten last-linked accepted code in
           record {
@@ -72,6 +74,7 @@ module _ (ps : List PackageRecord) (roles : List ℕ) (w : Linked) (linked : IsL
             stands = again.stands;
             world = new.0;
             anew = new.1;
+            alike = alike parted.0 p again.made p.parts parts roles laid new.0 agreed again.stands again.rewritten last-linked accepted code new.1;
           }
 
       pub part-long : (size : ℕ) → IsTooLong p laid size → IsPartLong ps w size

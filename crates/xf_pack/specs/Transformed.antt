@@ -8,12 +8,13 @@ use Rattle.jc_base.specs.World.{Linked}
 use Rattle.jc_decode.specs.declared.symbols.Laid.{Laid}
 use Rattle.jc_link.specs.World.{IsLinked}
 use Rattle.jc_rewritten.specs.Last.{and_last}
+use Rattle.vm_alike.specs.Ends.{EndsAlike}
 use Rattle.xf_world.specs.Laid.{AreLaidOf}
 use Rattle.xf_world.specs.Laws.{IsWorldAnew}
 use Rattle.xf_pack.specs.Ends.{AreAcceptedLibraries, IsTypedLast}
 
 -- the libraries are accepted, the last package has its typings, and the parts stand for that package with what is laid for its methods;
--- with the libraries it makes a world in which each method with code has a card typing
+-- with the libraries it makes a world in which each method with code has a card typing, and every run ends as it does in the former world
 pub record IsTransformed (packages : List PackageRecord) (roles : List ℕ) (w : Linked) (parts : List Lent) : Type 0 where
   pub accepted : AreAcceptedLibraries w
   pub typed : IsTypedLast w
@@ -27,6 +28,7 @@ pub record IsTransformed (packages : List PackageRecord) (roles : List ℕ) (w :
   pub stands : StandsFor parts made
   pub world : Linked
   pub anew : IsWorldAnew libraries made roles w world
+  pub alike : EndsAlike w world
 
 -- the same of the world that the packages make with the roles
 pub record AreTransformed (packages : List PackageRecord) (roles : List ℕ) (parts : List Lent) : Type 0 where

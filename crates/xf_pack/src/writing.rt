@@ -10,6 +10,7 @@ use cap_write::{WriteEnd, write_package};
 use jc_base::World;
 use jc_decode::Laid;
 use std::alloc::Global;
+use xf_alike::laid_end_alike;
 use xf_world::laid_is_accepted;
 
 /// The parts of the last package with what is laid for its methods.
@@ -31,6 +32,7 @@ pub(crate) fn write_last(
     ensures end { IfErr result (TellsOf packages.now world.now) }
 {
     laid_is_accepted(world);
+    laid_end_alike(world);
     let package = packages.at(packages.len() - 1);
     // Its parts stand for it, and its handlers are no more than one byte counts.
     let _parts = package.parts();

@@ -1,0 +1,9 @@
+pub mod Typed
+pub mod Settling
+pub mod Throwing
+pub mod Keeping
+pub mod Simulating
+pub mod Beginning
+pub mod Filling
+pub mod Sounding
+pub mod Laid

@@ -1,0 +1,3 @@
+pub mod Counterparts
+pub mod Beside
+pub mod Laws

@@ -1,0 +1,9 @@
+pub mod Laid
+pub mod Steps
+pub mod Beside
+pub mod Comes
+pub mod Body
+pub mod Laws
+pub mod Storing
+pub mod Increasing
+pub mod Fields

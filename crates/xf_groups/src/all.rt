@@ -1,0 +1,28 @@
+ghost use Rattle.xf_groups.specs.Laws.{GroupsRun};
+
+use crate::branches::branch_groups_run;
+use crate::fields::{fields_in_groups, writes_in_groups};
+use crate::increments::increments_in_groups;
+use crate::laws::{groups_stand_at_steps, plain_groups_run};
+use crate::stores::stores_in_groups;
+use jc_base::World;
+use xf_held::{edges_run, moves_are_few, stacks_move};
+use xf_typing::edges_carry;
+
+/// From the group of a typed frame's place laid code comes to what the step of the source comes to, in one step at least
+/// and in at most 2,000.
+pub fn groups_run(world: &World<'_>)
+    ensures { GroupsRun world.now }
+{
+    edges_carry(world);
+    stacks_move(world);
+    edges_run(world);
+    moves_are_few(world);
+    groups_stand_at_steps();
+    plain_groups_run(world);
+    stores_in_groups(world);
+    increments_in_groups(world);
+    fields_in_groups(world);
+    writes_in_groups(world);
+    branch_groups_run(world);
+}
