@@ -1,0 +1,12 @@
+pub mod Loops
+pub mod ByKind
+pub mod OfProgram
+pub mod Apart
+pub mod Agreeing
+pub mod Counted
+pub mod Standing
+pub mod Placed
+pub mod Rows
+pub mod Typed
+pub mod Linking
+pub mod Alone

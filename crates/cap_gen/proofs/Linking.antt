@@ -1,0 +1,134 @@
+-- The generated package alone makes a world: what each condition on linking asks is computed, for every seed at once.
+use Rattle.std.specs.Prelude.{◌≡◌, refl, ℕ, false, List, [], ◌∷◌, map, replicate, Option, Some, None}
+use Rattle.std.specs.List.{range_with_len}
+use Rattle.std.specs.Option.{option_to_list}
+use Rattle.std.proofs.Common.{sym, subst}
+use Rattle.first_fault.specs.First.{AllEmpty, at_fault}
+use Rattle.cap_laying.specs.HandlerTable.{entry_bytes}
+use Rattle.cap_desc.specs.TypeFormat.{types_in}
+use Rattle.cap_components.specs.Descriptions.{field_type}
+use Rattle.cap_components.specs.PackageRecord.{PackageRecord, names_interface}
+use Rattle.cap_package.specs.HeaderChecks.{header_in}
+use Rattle.jc_base.specs.Class.{is_interface, parent_of, chain, chain_over, height}
+use Rattle.jc_base.specs.Dispatch.{package_of, public_of, visible_of, cell_count, own_cells, cells_of, entry_at, nearest_of, visible_in, dispatched, is_concrete}
+use Rattle.jc_base.specs.Leads.{leads_below}
+use Rattle.jc_base.specs.Order.{is_on_chain, is_below}
+use Rattle.jc_base.specs.World.{Linked}
+use Rattle.jc_resolve.specs.Conditions.{no_package_fault, class_references, no_class_fault}
+use Rattle.jc_resolve.specs.Named.{infos_of, is_interface as named_interface, package_of as named_package}
+use Rattle.jc_resolve.specs.NamedClasses.{fields_described, instance_fields, with_token, cells_of_field, cells_of_fields, entry_of, interface_named, named_class, named_classes}
+use Rattle.jc_resolve.specs.NamedMethods.{handler_named, body_of, class_described, have_headers, named_method, named_methods}
+use Rattle.jc_resolve.specs.Numbering.{class_at, is_interface_number, method_at}
+use Rattle.jc_resolve.specs.References.{met_by, class_named}
+use Rattle.jc_resolve.specs.WorldTypes.{type_of, kind_of, signature_of}
+use Rattle.jc_hierarchy.specs.Ancestor.{superclass, extended, is_above}
+use Rattle.jc_resolve.specs.declared.named.NamedClass.{NamedClass}
+use Rattle.jc_hierarchy.specs.Conditions.{numbered, names_class, super_fault, cycle_fault, role_fault, root_fault, interface_fault}
+use Rattle.jc_classes.specs.Conditions.{hole_fault, layout_above, override_fault, long_fault, interface_fault as unserved_fault}
+use Rattle.jc_classes.specs.Entries.{reach, named_by, entries_of, overlaid_at}
+use Rattle.jc_classes.specs.Layout.{public_table, visible_table, own_of, home_run, public_entries, visible_entries, instance_cells, layout_of, layout_from, at_home}
+use Rattle.jc_classes.specs.Tables.{record_from}
+use Rattle.jc_members.specs.Catches.{catches, catch_fault}
+use Rattle.jc_members.specs.Entries.{class_in, field_place, method_place}
+use Rattle.jc_members.specs.Members.{class_member, member_of}
+use Rattle.jc_members.specs.Pools.{pools, member_fault}
+use Rattle.jc_members.specs.Roles.{role_fault as abstract_fault}
+use Rattle.jc_statics.specs.Arrays.{array_records}
+use Rattle.jc_statics.specs.Room.{statics_fault}
+use Rattle.cap_package.specs.StaticChecks.{place_in}
+use Rattle.jc_indexes.specs.Indexes.{indexes_of}
+use Rattle.jc_link.specs.World.{classes_of, conditions, table_of, methods_of, statics_of, IsLinked}
+use Rattle.cap_gen.specs.Methods.{each_from, method_bytes, entry_table, entries, method_info}
+use Rattle.cap_gen.specs.Described.{methods, described_bytes, descriptor_bytes, location_bytes}
+use Rattle.cap_gen.specs.Record.{package_record}
+use Rattle.cap_gen.specs.Linked.{roles, method_record}
+
+abbrev pub alone : ℕ → List PackageRecord
+alone seed = package_record seed ∷ []
+
+-- its classes, by number: object, throwable, and six classes below throwable
+abbrev named_as : Option ℕ → NamedClass
+named_as parent = record {
+  «package» = 0;
+  interface = false;
+  parent = parent;
+  interfaces = [];
+  public = record { base = 0; entries = [] };
+  visible = record { base = 0; entries = [] };
+  own = [];
+}
+
+abbrev eight : List NamedClass
+eight = named_as None ∷ named_as (Some 0) ∷ replicate 6 (named_as (Some 1))
+
+eight_named : (seed : ℕ) → classes_of (alone seed) roles ≡ eight
+unfolding fields_described instance_fields with_token cells_of_field cells_of_fields entry_of interface_named named_class named_classes class_at class_named
+eight_named seed = refl
+
+-- none is above itself
+no_cycles : at_fault (cycle_fault eight) (numbered eight) ≡ []
+unfolding cycle_fault is_above leads_below superclass extended
+no_cycles = refl
+
+-- those in the roles are classes, from role 2 on below throwable
+fit_roles : at_fault (role_fault eight 8 1) (numbered roles) ≡ []
+unfolding role_fault is_above leads_below superclass extended names_class
+fit_roles = refl
+
+few_statics : (seed : ℕ) → option_to_list (statics_fault (alone seed)) ≡ []
+unfolding place_in field_type kind_of
+few_statics seed = refl
+
+faultless : (seed : ℕ) → AllEmpty (conditions (alone seed) roles)
+unfolding entry_bytes each_from method_bytes entry_table entries method_info methods described_bytes descriptor_bytes location_bytes types_in field_type names_interface header_in is_interface parent_of chain chain_over height package_of public_of visible_of cell_count own_cells cells_of entry_at nearest_of visible_in dispatched is_concrete is_on_chain is_below no_package_fault class_references no_class_fault named_interface named_package fields_described instance_fields with_token cells_of_field cells_of_fields entry_of interface_named named_class named_classes handler_named body_of class_described have_headers named_method named_methods class_at is_interface_number method_at met_by class_named type_of kind_of signature_of superclass extended is_above names_class super_fault cycle_fault role_fault root_fault interface_fault hole_fault layout_above override_fault long_fault unserved_fault reach named_by entries_of overlaid_at public_table visible_table own_of home_run public_entries visible_entries instance_cells layout_of layout_from at_home record_from catches catch_fault class_in field_place method_place class_member member_of member_fault abstract_fault
+faultless seed = (
+  refl,
+  (
+    refl,
+    (
+      refl,
+      (
+        refl,
+        (
+          refl,
+          (
+            refl,
+            (
+              subst (λ (cs : List NamedClass). at_fault (cycle_fault cs) (numbered cs) ≡ []) (sym (eight_named seed)) no_cycles,
+              (
+                subst (λ (cs : List NamedClass). at_fault (role_fault cs 8 1) (numbered roles) ≡ []) (sym (eight_named seed)) fit_roles,
+                (refl, (refl, (refl, (refl, (refl, (refl, (few_statics seed, (refl, (refl, (refl, (refl, tt))))))))))),
+              ),
+            ),
+          ),
+        ),
+      ),
+    ),
+  ),
+)
+
+-- the world of the package
+abbrev pub world_of : ℕ → Linked
+world_of seed = record {
+  infos = infos_of (alone seed);
+  pools = pools (alone seed) (table_of (alone seed) roles) (statics_of (alone seed) roles);
+  classes = table_of (alone seed) roles;
+  methods = methods_of (alone seed) roles;
+  statics = statics_of (alone seed) roles;
+  arrays = array_records (alone seed);
+  indexes = indexes_of (alone seed) (methods_of (alone seed) roles);
+}
+
+pub packages_link : (seed : ℕ) → (w : Linked) × IsLinked (alone seed) roles w
+packages_link seed = (
+  world_of seed,
+  record {
+    faultless = faultless seed;
+    lists = record { infos = refl; pools = refl; classes = refl; methods = refl; statics = refl; arrays = refl; indexes = refl };
+  },
+)
+
+-- its methods
+pub methods_are : (seed : ℕ) → named_methods (alone seed) roles ≡ map method_record (range_with_len 0 200)
+unfolding entry_bytes each_from method_bytes entry_table entries method_info methods described_bytes descriptor_bytes types_in names_interface header_in handler_named body_of class_described have_headers named_method named_methods class_at is_interface_number class_named type_of signature_of
+methods_are seed = refl

@@ -1,0 +1,8 @@
+pub mod Shape
+pub mod Methods
+pub mod Described
+pub mod Generated
+pub mod Record
+pub mod Linked
+pub mod Laws
+pub mod Plain

@@ -1,0 +1,5 @@
+//! Packages that are generated, read and transformed.
+#![tactic(auto)]
+
+#[cfg(test)]
+mod transformed;
