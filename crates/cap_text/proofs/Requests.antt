@@ -14,7 +14,7 @@ use Rattle.cap_text.specs.Entry.{IsEntryWord}
 use Rattle.std.specs.List.{after_first}
 use Rattle.cap_text.specs.Run.{RunRequest, AreRunWords, is_end}
 use Rattle.cap_text.specs.Transform.{TransformRequest, IsTransform}
-use Rattle.cap_text.specs.Request.{Request, probe, show, check, verify, defend, run, transform, IsRequest, IsUsage, OneRequest}
+use Rattle.cap_text.specs.Request.{Request, probe, show, check, verify, defend, run, transform, trial, IsRequest, IsUsage, OneRequest}
 use Rattle.cap_text.specs.declared.entry.Entry.{Entry}
 use Rattle.vm_step.specs.Arguments.{Argument, number, null, bytes}
 use Rattle.hex.specs.Hex.{encode_lower, decode_of, IsBytes}
@@ -121,6 +121,7 @@ key_of (verify v) = 11806
 key_of (defend r) = 10006
 key_of (run r) = 11403
 key_of (transform t) = 11609
+key_of (trial r) = 11605
 
 named : (name : List ℕ) (operands : List (List ℕ)) (r : Request) → IsRequest (name ∷ operands) r → key name ≡ key_of r
 unfolding first key key_of
@@ -131,6 +132,7 @@ named name operands (verify v) is = ap key is.0
 named name operands (defend r) is = ap key is.0
 named name operands (run r) is = ap key is.0
 named name operands (transform t) is = ap key is.0
+named name operands (trial r) is = ap key is.0
 
 apart : (m n : ℕ) → (m == n) ≡ false → m ≡ n → ⊥
 apart m n differ same = grind (arith, nat_tests)
@@ -170,5 +172,6 @@ one_request (name ∷ operands) (verify v) (verify w) is_r is_s = ap verify (one
 one_request (name ∷ operands) (defend r) (defend s) is_r is_s = ap defend (one_run operands r s is_r.1 is_s.1)
 one_request (name ∷ operands) (run r) (run s) is_r is_s = ap run (one_run operands r s is_r.1 is_s.1)
 one_request (name ∷ operands) (transform t) (transform u) is_r is_s = ap transform (one_transform operands t u is_r.1 is_s.1)
+one_request (name ∷ operands) (trial r) (trial s) is_r is_s = ap trial (one_run operands r s is_r.1 is_s.1)
 one_request (name ∷ operands) r s is_r is_s =
     absurd (apart (key_of r) (key_of s) refl (sym (named name operands r is_r) ∙ named name operands s is_s))

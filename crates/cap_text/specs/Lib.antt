@@ -19,5 +19,6 @@ pub mod Room
 pub mod Ending
 pub mod Line
 pub mod Transformed
+pub mod Trial
 pub mod Table
 pub mod Worked

@@ -7,7 +7,7 @@ use Rattle.cap_text.specs.Verify.{VerifyRequest, IsVerify, verify_request}
 use Rattle.cap_text.specs.Run.{RunRequest, AreRunWords, run_request}
 use Rattle.cap_text.specs.Transform.{TransformRequest, IsTransform, transform_request}
 use Rattle.cap_text.specs.declared.command.Command.{Command}
-use Rattle.cap_text.specs.declared.command.Command.TheVariants.{Probe, Show, Check, Verify, Defend, Run, Transform}
+use Rattle.cap_text.specs.declared.command.Command.TheVariants.{Probe, Show, Check, Verify, Defend, Run, Transform, Trial}
 
 -- a command with its operands
 pub data Request : Type 0 where
@@ -18,6 +18,7 @@ pub data Request : Type 0 where
   defend : RunRequest → Request
   run : RunRequest → Request
   transform : TransformRequest → Request
+  trial : RunRequest → Request
 
 -- the words are the command's name and then operands of its grammar
 abbrev pub IsRequest : List (List ℕ) → Request → Type 0
@@ -29,6 +30,7 @@ IsRequest (name ∷ operands) (verify v) = (name ≡ codes "verify") × IsVerify
 IsRequest (name ∷ operands) (defend r) = (name ≡ codes "defend") × AreRunWords operands r
 IsRequest (name ∷ operands) (run r) = (name ≡ codes "run") × AreRunWords operands r
 IsRequest (name ∷ operands) (transform t) = (name ≡ codes "transform") × IsTransform operands t
+IsRequest (name ∷ operands) (trial r) = (name ≡ codes "trial") × AreRunWords operands r
 
 -- the words are outside the grammar
 abbrev pub IsUsage : List (List ℕ) → Type 0
@@ -43,6 +45,7 @@ request_of (Verify v) = verify (verify_request v)
 request_of (Defend r) = defend (run_request r)
 request_of (Run r) = run (run_request r)
 request_of (Transform t) = transform (transform_request t)
+request_of (Trial r) = trial (run_request r)
 
 -- a list of words asks for one thing
 abbrev pub OneRequest : List (List ℕ) → Type 0

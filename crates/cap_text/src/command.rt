@@ -20,6 +20,7 @@ pub enum Command<'a> {
     Defend(Run<'a>),
     Run(Run<'a>),
     Transform(Transform<'a>),
+    Trial(Run<'a>),
 }
 
 /// The command that the words spell, where they spell one. The arguments of a run take memory.
@@ -53,6 +54,9 @@ pub fn read_command<'a>(alloc: Global, words: &'a Words) -> Result<Option<Comman
     }
     if name == "transform" {
         return Ok(Transform::read(operands).map(Command::Transform));
+    }
+    if name == "trial" {
+        return Ok(Run::read(alloc, operands)?.map(Command::Trial));
     }
     Ok(None)
 }

@@ -23,6 +23,7 @@ mod start;
 mod table;
 mod transform;
 mod transform_line;
+mod trial;
 mod verify;
 mod word;
 
@@ -42,5 +43,6 @@ pub use show::Show;
 pub use table::component_table;
 pub use transform::Transform;
 pub use transform_line::{limit_code, limit_part, limit_registers, limit_stack, transformed};
+pub use trial::tried;
 pub use verify::Verify;
 pub use word::{OwnedArg, argument, folder_word, folder_words, number};

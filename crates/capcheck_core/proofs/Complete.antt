@@ -13,7 +13,7 @@ use Rattle.cap_text.specs.Check.{CheckRequest}
 use Rattle.cap_text.specs.Verify.{VerifyRequest}
 use Rattle.cap_text.specs.Run.{RunRequest}
 use Rattle.cap_text.specs.Transform.{TransformRequest}
-use Rattle.cap_text.specs.Request.{Request, probe, show, check, verify, defend, run, transform}
+use Rattle.cap_text.specs.Request.{Request, probe, show, check, verify, defend, run, transform, trial}
 use Rattle.capcheck_core.specs.declared.verdict.Verdict.{Verdict}
 use Rattle.capcheck_core.specs.declared.verdict.Verdict.TheVariants.{Done, Refused, Limit, Malformed, Usage, ReadFault, StoreFault, Memory}
 use Rattle.capcheck_core.specs.Verdict.{status_of}
@@ -21,11 +21,12 @@ use Rattle.capcheck_core.specs.Check.{ChecksWorld, Checks}
 use Rattle.capcheck_core.specs.Verify.{AreCarded, VerifiesWorld, Verifies}
 use Rattle.capcheck_core.specs.Defend.{run_fault, DefendsWorld, Defends}
 use Rattle.capcheck_core.specs.Run.{RunsWorld, Runs}
-use Rattle.capcheck_core.specs.Transform.{TransformsWorld, Transforms}
+use Rattle.capcheck_core.specs.Transform.{StopsBefore, TransformsWorld, Transforms}
+use Rattle.capcheck_core.specs.Trial.{TriesWorld, Tries}
 use Rattle.capcheck_core.specs.World.{of_world}
 use Rattle.capcheck_core.specs.Outside.{Outside}
 use Rattle.capcheck_core.specs.Answers.{Answers, IsVerdict}
-use Rattle.capcheck_core.specs.Completeness.{CanProbe, CanShow, CanCheck, CanVerify, CanDefend, CanRun, CanTransform, CanDo, NoFault, Completes}
+use Rattle.capcheck_core.specs.Completeness.{CanProbe, CanShow, CanCheck, CanVerify, CanDefend, CanRun, CanBring, CanTransform, CanTry, CanDo, NoFault, Completes}
 use Rattle.capcheck_core.specs.MethodFile.{IsMethodFile}
 use Rattle.capcheck_core.specs.Probe.{ProbesFolder, FailsMethodPart, Probes, OfMethodPart, OfMethod, IsRefusal, IsUnstarted, IsNoMethod, method_key}
 use Rattle.capcheck_core.specs.Report.{Seen, IsReported}
@@ -35,6 +36,7 @@ use Rattle.capcheck_core.specs.Typed.{AreTyped}
 use Rattle.capcheck_core.proofs.MethodFiles.{same_method, no_breach}
 use Rattle.capcheck_core.proofs.Loads.{one_list, none_long}
 use Rattle.capcheck_core.proofs.WorldComplete.{no_fault, reaches}
+use Rattle.cap_package.specs.PackageRecord.{PackageRecord}
 use Rattle.cap_package.specs.StandsFor.{StandsFor}
 use Rattle.jc_base.specs.World.{Linked}
 
@@ -215,20 +217,29 @@ can_run r before after sink put verdict can calm answers =
       | inr own ↦ ran r can.world before after verdict can.carded can.begins own
     ]
 
--- nor does that of a transformation where what it needs is there, and no store fails
+-- nor does a package that can be brought into another form keep from it
+not_stopped : (packages : List PackageRecord) (w : Linked) (verdict : Verdict) → CanBring packages w → StopsBefore packages w verdict
+    → (status_of verdict ≡ 0) ⊎ (status_of verdict ≡ 6)
+not_stopped packages w Memory can stops = inr refl
+not_stopped packages w (Refused text) can (inl says) = absurd (says.is.first.lacks (can.accepted says.is.method says.is.first.asked))
+not_stopped packages w (Refused text) can (inr says) = absurd (says.is.first.lacks (can.typed says.is.method says.is.first.asked))
+not_stopped packages w (Limit text) can (inl says) = absurd (can.within says.is.method says.is.of_last says.limit says.is.passes)
+not_stopped packages w (Limit text) can (inr says) = absurd (can.short says.size says.is)
+not_stopped packages w (Done text) can stops = absurd stops
+not_stopped packages w (Malformed text) can stops = absurd stops
+not_stopped packages w Usage can stops = absurd stops
+not_stopped packages w ReadFault can stops = absurd stops
+not_stopped packages w StoreFault can stops = absurd stops
+
+-- so a transformation where what it needs is there, and no store fails, does its work
 brought : (t : TransformRequest) (before after : Outside) (sink put : Seen) (verdict : Verdict) (can : CanTransform t before.folders)
     → NoFault before.folders after.folders sink put → TransformsWorld t can.links.made.packages can.links.roles can.world before after verdict
     → (status_of verdict ≡ 0) ⊎ (status_of verdict ≡ 6)
 brought t before after sink put (Done text) can calm own = inl refl
-brought t before after sink put Memory can calm own = inr refl
 brought t before after sink put StoreFault can calm own = absurd (calm.stores own.1.broken.rose)
-brought t before after sink put (Refused text) can calm (card, (same, inl says)) =
-    absurd (says.is.first.lacks (can.accepted says.is.method says.is.first.asked))
-brought t before after sink put (Refused text) can calm (card, (same, inr says)) =
-    absurd (says.is.first.lacks (can.typed says.is.method says.is.first.asked))
-brought t before after sink put (Limit text) can calm (card, (same, inl says)) =
-    absurd (can.within says.is.method says.is.of_last says.limit says.is.passes)
-brought t before after sink put (Limit text) can calm (card, (same, inr says)) = absurd (can.short says.size says.is)
+brought t before after sink put Memory can calm own = not_stopped can.links.made.packages can.world Memory can.brings own.1.1
+brought t before after sink put (Refused text) can calm own = not_stopped can.links.made.packages can.world (Refused text) can.brings own.1.1
+brought t before after sink put (Limit text) can calm own = not_stopped can.links.made.packages can.world (Limit text) can.brings own.1.1
 brought t before after sink put (Malformed text) can calm own = absurd own.1.1
 brought t before after sink put Usage can calm own = absurd own.1.1
 brought t before after sink put ReadFault can calm own = absurd own.1.1
@@ -241,6 +252,27 @@ can_transform t before after sink put verdict can calm answers =
       | inr own ↦ brought t before after sink put verdict can calm own
     ]
 
+-- and so does a trial whose entry begins
+tried : (r : RunRequest) (packages : List PackageRecord) (roles : List ℕ) (w : Linked) (before after : Outside) (verdict : Verdict)
+    → CanBring packages w → run_fault w r ≡ None → TriesWorld r packages roles w before after verdict
+    → (status_of verdict ≡ 0) ⊎ (status_of verdict ≡ 6)
+tried r packages roles w before after (Done text) can begins own = inl refl
+tried r packages roles w before after (Malformed text) can begins own = let first = own.1.unbegun.first in absurd (cc)
+tried r packages roles w before after Memory can begins own = not_stopped packages w Memory can own.1
+tried r packages roles w before after (Refused text) can begins own = not_stopped packages w (Refused text) can own.1
+tried r packages roles w before after (Limit text) can begins own = not_stopped packages w (Limit text) can own.1
+tried r packages roles w before after Usage can begins own = absurd own.1
+tried r packages roles w before after ReadFault can begins own = absurd own.1
+tried r packages roles w before after StoreFault can begins own = absurd own.1
+
+can_try : (r : RunRequest) (before after : Outside) (sink put : Seen) (verdict : Verdict) → CanTry r before.folders
+    → NoFault before.folders after.folders sink put → Tries r before after verdict → (status_of verdict ≡ 0) ⊎ (status_of verdict ≡ 6)
+can_try r before after sink put verdict can calm answers =
+    elim (reaches (TriesWorld r) r.dirs before after can.world verdict can.links calm.loads answers) [
+      | inl memory ↦ inr memory
+      | inr own ↦ tried r can.links.made.packages can.links.roles can.world before after verdict can.brings can.begins own
+    ]
+
 can_do : (r : Request) (before after : Outside) (sink put : Seen) (verdict : Verdict) → CanDo r before.folders → NoFault before.folders after.folders sink put
     → Answers r before after verdict → (status_of verdict ≡ 0) ⊎ (status_of verdict ≡ 6)
 can_do (probe p) before after sink put verdict can calm answers = can_probe p before.folders after.folders sink put verdict can calm answers.0
@@ -250,6 +282,7 @@ can_do (verify v) before after sink put verdict can calm answers = can_verify v 
 can_do (defend r) before after sink put verdict can calm answers = can_defend r before after sink put verdict can calm answers
 can_do (run r) before after sink put verdict can calm answers = can_run r before after sink put verdict can calm answers
 can_do (transform t) before after sink put verdict can calm answers = can_transform t before after sink put verdict can calm answers
+can_do (trial r) before after sink put verdict can calm answers = can_try r before after sink put verdict can calm answers
 
 reported : (verdict : Verdict) (before after : Folders) (sink put : Seen) (status : ℕ) → NoFault before after sink put → IsReported verdict sink put status
     → (status_of verdict ≡ 0) ⊎ (status_of verdict ≡ 6) → (status ≡ 0) ⊎ (status ≡ 6)

@@ -38,7 +38,7 @@ pub no_fault : (parts : List Lent) (p : PackageRecord) (fault : PackFault) → S
 no_fault parts p fault stands told = let same = stands_told parts p (Err fault) stands told in absurd (cc)
 
 -- parts stand for one package
-one_package : (parts : List Lent) (p q : PackageRecord) → StandsFor parts p → StandsFor parts q → p ≡ q
+pub one_package : (parts : List Lent) (p q : PackageRecord) → StandsFor parts p → StandsFor parts q → p ≡ q
 one_package parts p q s t = let a = stands_only parts p s in let b = stands_only parts q t in cc
 
 same_packages : (parts : List (List Lent)) (ps qs : List PackageRecord) → AllZip StandsFor parts ps → AllZip StandsFor parts qs → ps ≡ qs

@@ -10,7 +10,7 @@ use Rattle.cap_text.specs.Check.{CheckRequest}
 use Rattle.cap_text.specs.Verify.{VerifyRequest}
 use Rattle.cap_text.specs.Run.{RunRequest}
 use Rattle.cap_text.specs.Transform.{TransformRequest}
-use Rattle.cap_text.specs.Request.{Request, probe, show, check, verify, defend, run, transform, IsRequest}
+use Rattle.cap_text.specs.Request.{Request, probe, show, check, verify, defend, run, transform, trial, IsRequest}
 use Rattle.cap_package.specs.Parts.{Lent}
 use Rattle.cap_package.specs.PackageRecord.{PackageRecord}
 use Rattle.cap_package.specs.StandsFor.{StandsFor}
@@ -98,15 +98,25 @@ pub record CanRun (r : RunRequest) (before : Folders) : Type 0 where
 abbrev pub AreWithinLimits : Linked → Type 0
 AreWithinLimits w = (m : Method) → IsOfLast w m → (limit : MethodLimit) → PassesLimit w m limit → ⊥
 
--- the folders make a world, the libraries are accepted, every method with code of the last package has a typing, and no limit is
--- passed
+-- the libraries are accepted, every method with code of the last package has a typing, and no limit is passed
+pub record CanBring (packages : List PackageRecord) (w : Linked) : Type 0 where
+  pub accepted : AreAcceptedLibraries w
+  pub typed : AreTyped w
+  pub within : AreWithinLimits w
+  pub short : (n : ℕ) → IsPartLong packages w n → ⊥
+
+-- the folders make a world, and the last package can be brought into the form that a verifier on the card accepts
 pub record CanTransform (t : TransformRequest) (before : Folders) : Type 0 where
   pub world : Linked
   pub links : CanLink t.dirs before world
-  pub accepted : AreAcceptedLibraries world
-  pub typed : AreTyped world
-  pub within : AreWithinLimits world
-  pub short : (n : ℕ) → IsPartLong links.made.packages world n → ⊥
+  pub brings : CanBring links.made.packages world
+
+-- so it is, and nothing keeps the run from beginning
+pub record CanTry (r : RunRequest) (before : Folders) : Type 0 where
+  pub world : Linked
+  pub links : CanLink r.dirs before world
+  pub brings : CanBring links.made.packages world
+  pub begins : run_fault world r ≡ None
 
 -- what a command needs is there
 abbrev pub CanDo : Request → Folders → Type 0
@@ -117,6 +127,7 @@ CanDo (verify v) before = CanVerify v before
 CanDo (defend r) before = CanDefend r before
 CanDo (run r) before = CanRun r before
 CanDo (transform t) before = CanTransform t before
+CanDo (trial r) before = CanTry r before
 
 -- where the words ask for something, what it needs is there and no device failed, the work is done or there was no memory
 abbrev pub Completes : List (List ℕ) → Folders → Folders → Seen → Seen → ℕ → Type 0

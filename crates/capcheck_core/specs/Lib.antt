@@ -19,6 +19,7 @@ pub mod Defend
 pub mod Run
 pub mod Stores
 pub mod Transform
+pub mod Trial
 pub mod CheckEnds
 pub mod Step
 pub mod Answers

@@ -13,7 +13,8 @@ use Rattle.vm_offend.specs.Held.{state_of}
 use Rattle.vm_offend.specs.Sized.{static_cells}
 use Rattle.vm_text.specs.Text.{outcome_text}
 use Rattle.card_verify.specs.Answers.{AreAccepted, IsFirstRefused}
-use Rattle.cap_text.specs.Run.{RunRequest}
+use Rattle.cap_text.specs.Run.{RunRequest, run_request}
+use Rattle.capcheck_core.specs.declared.running.Bounded.{Bounded}
 use Rattle.capcheck_core.specs.declared.running.RunStop.{RunStop}
 use Rattle.capcheck_core.specs.declared.running.RunStop.TheVariants as stops
 use Rattle.capcheck_core.specs.declared.verdict.Verdict.{Verdict}
@@ -23,6 +24,14 @@ use Rattle.capcheck_core.specs.OverFolders.{OverFolders}
 use Rattle.capcheck_core.specs.World.{of_world, OverWorld}
 use Rattle.capcheck_core.specs.Verify.{AreCarded, IsUncarded}
 use Rattle.capcheck_core.specs.Defend.{ComesTo, IsUnbegun, run_fault}
+
+-- the same entry and arguments, within so many steps
+abbrev pub within : ℕ → RunRequest → RunRequest
+within steps r = record r { budget = steps }
+
+-- what is run
+abbrev pub bounded_request : Bounded → RunRequest
+bounded_request b = within b.steps (run_request b.run.now)
 
 -- the card's memory has the lengths that a run of any world needs
 pub record IsWhole (c : Card) : Type 0 where

@@ -1,11 +1,12 @@
 -- The last steps of the commands over a world.
 use Rattle.capcheck_core.specs.declared.step.Step.{Step}
-use Rattle.capcheck_core.specs.declared.step.Step.TheVariants.{Check, Verify, Defend, Run, Transform}
+use Rattle.capcheck_core.specs.declared.step.Step.TheVariants.{Check, Verify, Defend, Run, Transform, Trial}
 use Rattle.capcheck_core.specs.Check.{ChecksWorld}
 use Rattle.capcheck_core.specs.Verify.{VerifiesWorld}
 use Rattle.capcheck_core.specs.Defend.{DefendsWorld}
 use Rattle.capcheck_core.specs.Run.{RunsWorld}
 use Rattle.capcheck_core.specs.Transform.{TransformsWorld}
+use Rattle.capcheck_core.specs.Trial.{TriesWorld}
 use Rattle.capcheck_core.specs.World.{Own, of_world}
 use Rattle.cap_text.specs.Run.{run_request}
 use Rattle.cap_text.specs.Transform.{transform_request}
@@ -17,3 +18,4 @@ OwnAnswers Verify = of_world VerifiesWorld
 OwnAnswers (Defend run) = of_world (DefendsWorld (run_request run.now))
 OwnAnswers (Run run) = of_world (RunsWorld (run_request run.now))
 OwnAnswers (Transform transform) = TransformsWorld (transform_request transform.now)
+OwnAnswers (Trial run) = TriesWorld (run_request run.now)

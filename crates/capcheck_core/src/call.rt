@@ -128,5 +128,14 @@ fn perform<F: Folder>(
             heap,
             statics,
         ),
+        Command::Trial(operands) => over_folders(
+            alloc,
+            Step::Trial(operands),
+            operands.dirs,
+            folder,
+            ram,
+            heap,
+            statics,
+        ),
     }
 }

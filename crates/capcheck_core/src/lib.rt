@@ -18,6 +18,7 @@ mod step;
 mod storing;
 mod sure;
 mod transforming;
+mod trying;
 mod typing;
 mod verdict;
 mod world;

@@ -14,7 +14,7 @@ ghost use Rattle.vm_text.specs.Lent.{words_left, IsLentRun};
 ghost use Rattle.vm_text.specs.Text.{left_text, most_text};
 ghost use Rattle.capcheck_core.specs.Defend.{method_entered};
 ghost use Rattle.capcheck_core.specs.Outside.{Card, card};
-ghost use Rattle.capcheck_core.specs.Run.{IsWhole, IsLeft, IsRun, StopsRun, RunsWorldIn};
+ghost use Rattle.capcheck_core.specs.Run.{bounded_request, IsWhole, IsLeft, IsRun, StopsRun, RunsWorldIn};
 
 use crate::defending::{lent, method_entered};
 use crate::typing::number_of;
@@ -27,6 +27,25 @@ use std::alloc::Global;
 use vm_offend::{Machine, sizes, start};
 use vm_step::{Args, Ending, Plain, StartFault};
 use vm_text::{LentRun, room, texts_are_alike, write_run};
+
+/// A run that words ask for, with the most steps that it may take here.
+#[derive(Clone, Copy)]
+pub(crate) struct Bounded<'a> {
+    pub run: &'a Run<'a>,
+    pub steps: u64,
+}
+
+impl<'a> Bounded<'a> {
+    /// The run with as many steps as the words ask for.
+    pub(crate) fn asked(run: &'a Run<'a>) -> Bounded<'a>
+        ensures { bounded_request result ≡ run_request run.now }
+    {
+        Bounded {
+            run,
+            steps: u64::from(run.budget),
+        }
+    }
+}
 
 /// Why a run of a world does not begin.
 #[derive(Clone, Copy)]
@@ -42,16 +61,16 @@ pub(crate) enum RunStop {
 pub(crate) fn run_in_card(
     alloc: Global,
     world: &World<'_>,
-    run: &Run<'_>,
+    run: Bounded<'_>,
     ram: &mut [u16],
     heap: &mut [u16],
     statics: &mut [u16],
 ) -> Verdict
     requires { IsWhole (card ram.old heap.old statics.old) }
-    ensures { RunsWorldIn world.now (run_request run.now) (card ram.new heap.new statics.new) result }
+    ensures { RunsWorldIn world.now (bounded_request run.entry) (card ram.new heap.new statics.new) result }
 {
-    match lent(alloc, &run.args) {
-        Ok(args) => with_arguments(alloc, world, run, &args, ram, heap, statics),
+    match lent(alloc, &run.run.args) {
+        Ok(args) => with_arguments(alloc, world, &run, &args, ram, heap, statics),
         Err(_) => Verdict::Memory,
     }
 }
@@ -60,15 +79,15 @@ pub(crate) fn run_in_card(
 fn with_arguments(
     alloc: Global,
     world: &World<'_>,
-    run: &Run<'_>,
+    run: &Bounded<'_>,
     args: &Args<'_>,
     ram: &mut [u16],
     heap: &mut [u16],
     statics: &mut [u16],
 ) -> Verdict
     requires card { IsWhole (card ram.old heap.old statics.old) }
-    requires handed { args.now ≡ map argument_read run.now.args.items }
-    ensures { RunsWorldIn world.now (run_request run.now) (card ram.new heap.new statics.new) result }
+    requires handed { args.now ≡ map argument_read run.now.run.now.args.items }
+    ensures { RunsWorldIn world.now (bounded_request run.now) (card ram.new heap.new statics.new) result }
 {
     let Ok(mut text) = room(alloc, world) else {
         return Verdict::Memory;
@@ -81,11 +100,11 @@ fn with_arguments(
 
 // The verdict for a run that does not begin. Its line is written into the room of the text.
 #[tactic(auto, using(crate::proofs::Cardings::number_below))]
-fn not_run(world: &World<'_>, run: &Run<'_>, stop: RunStop, text: Room) -> Verdict
-    requires stops { StopsRun world.now (run_request run.now) stop }
+fn not_run(world: &World<'_>, run: &Bounded<'_>, stop: RunStop, text: Room) -> Verdict
+    requires stops { StopsRun world.now (bounded_request run.now) stop }
     requires empty { IsEmpty text }
     requires room { HasRoom text (most_text world.now) }
-    ensures { (c : Card) → RunsWorldIn world.now (run_request run.now) c result }
+    ensures { (c : Card) → RunsWorldIn world.now (bounded_request run.now) c result }
 {
     match stop {
         RunStop::Refused(method, fault) => {
@@ -121,7 +140,7 @@ fn unstarted_line(text: Room, fault: StartFault) -> String
 // The same with the room of the text. From here on no memory is taken.
 fn run_verified(
     world: &World<'_>,
-    run: &Run<'_>,
+    run: &Bounded<'_>,
     args: &Args<'_>,
     text: &mut Room,
     ram: &mut [u16],
@@ -129,12 +148,12 @@ fn run_verified(
     statics: &mut [u16],
 ) -> Result<(), RunStop>
     requires card { IsWhole (card ram.old heap.old statics.old) }
-    requires handed { args.now ≡ map argument_read run.now.args.items }
+    requires handed { args.now ≡ map argument_read run.now.run.now.args.items }
     requires empty { IsEmpty text.old }
     requires room { HasRoom text.old (most_text world.now) }
     ensures runs { MatchResult result
-        (λ _. IsRun world.now (run_request run.now) (card ram.new heap.new statics.new) text.new.text)
-        (StopsRun world.now (run_request run.now)) }
+        (λ _. IsRun world.now (bounded_request run.now) (card ram.new heap.new statics.new) text.new.text)
+        (StopsRun world.now (bounded_request run.now)) }
     ensures room { IfErr result (λ _. text.new ≡ text.old) }
 {
     let mut room = CardRoom::new();
@@ -147,7 +166,7 @@ fn run_verified(
 // The same over the accepted world.
 fn run_accepted(
     accepted: &Accepted<'_>,
-    run: &Run<'_>,
+    run: &Bounded<'_>,
     args: &Args<'_>,
     text: &mut Room,
     ram: &mut [u16],
@@ -156,15 +175,15 @@ fn run_accepted(
 ) -> Result<(), RunStop>
     requires accepted { AreAccepted accepted.now }
     requires card { IsWhole (card ram.old heap.old statics.old) }
-    requires handed { args.now ≡ map argument_read run.now.args.items }
+    requires handed { args.now ≡ map argument_read run.now.run.now.args.items }
     requires empty { IsEmpty text.old }
     requires room { HasRoom text.old (most_text accepted.now) }
     ensures runs { MatchResult result
-        (λ _. IsRun accepted.now (run_request run.now) (card ram.new heap.new statics.new) text.new.text)
-        (StopsRun accepted.now (run_request run.now)) }
+        (λ _. IsRun accepted.now (bounded_request run.now) (card ram.new heap.new statics.new) text.new.text)
+        (StopsRun accepted.now (bounded_request run.now)) }
     ensures room { IfErr result (λ _. text.new ≡ text.old) }
 {
-    match method_entered(accepted.world(), run.entry) {
+    match method_entered(accepted.world(), run.run.entry) {
         Some(number) => run_entry(accepted, run, number, args, text, ram, heap, statics),
         None => Err(RunStop::NotStarted(StartFault::NoEntry)),
     }
@@ -173,7 +192,7 @@ fn run_accepted(
 // Runs the method of a number, with its static fields in the first words of those for them.
 fn run_entry(
     accepted: &Accepted<'_>,
-    run: &Run<'_>,
+    run: &Bounded<'_>,
     number: u16,
     args: &Args<'_>,
     text: &mut Room,
@@ -182,14 +201,14 @@ fn run_entry(
     statics: &mut [u16],
 ) -> Result<(), RunStop>
     requires accepted { AreAccepted accepted.now }
-    requires entered { method_entered accepted.now run.now.entry ≡ Some number }
+    requires entered { method_entered accepted.now run.now.run.now.entry ≡ Some number }
     requires card { IsWhole (card ram.old heap.old statics.old) }
-    requires handed { args.now ≡ map argument_read run.now.args.items }
+    requires handed { args.now ≡ map argument_read run.now.run.now.args.items }
     requires empty { IsEmpty text.old }
     requires room { HasRoom text.old (most_text accepted.now) }
     ensures runs { MatchResult result
-        (λ _. IsRun accepted.now (run_request run.now) (card ram.new heap.new statics.new) text.new.text)
-        (StopsRun accepted.now (run_request run.now)) }
+        (λ _. IsRun accepted.now (bounded_request run.now) (card ram.new heap.new statics.new) text.new.text)
+        (StopsRun accepted.now (bounded_request run.now)) }
     ensures room { IfErr result (λ _. text.new ≡ text.old) }
 {
     let count = field_words(accepted.world());
@@ -209,7 +228,7 @@ fn field_words(world: &World<'_>) -> usize
 // Begins the run of the method of a number in memory of the lengths that the world needs, and goes on with it.
 fn begin(
     accepted: &Accepted<'_>,
-    run: &Run<'_>,
+    run: &Bounded<'_>,
     number: u16,
     args: &Args<'_>,
     text: &mut Room,
@@ -218,14 +237,14 @@ fn begin(
     statics: &mut [u16],
 ) -> Result<(), RunStop>
     requires accepted { AreAccepted accepted.now }
-    requires entered { method_entered accepted.now run.now.entry ≡ Some number }
+    requires entered { method_entered accepted.now run.now.run.now.entry ≡ Some number }
     requires sized { AreSized accepted.now ram.old heap.old statics.old }
-    requires handed { args.now ≡ map argument_read run.now.args.items }
+    requires handed { args.now ≡ map argument_read run.now.run.now.args.items }
     requires empty { IsEmpty text.old }
     requires room { HasRoom text.old (most_text accepted.now) }
     ensures runs { MatchResult result
-        (λ _. IsRun accepted.now (run_request run.now) (card ram.new heap.new statics.new) text.new.text)
-        (StopsRun accepted.now (run_request run.now)) }
+        (λ _. IsRun accepted.now (bounded_request run.now) (card ram.new heap.new statics.new) text.new.text)
+        (StopsRun accepted.now (bounded_request run.now)) }
     ensures length { length statics.new ≡ length statics.old }
     ensures room { IfErr result (λ _. text.new ≡ text.old) }
 {
@@ -241,7 +260,7 @@ fn begin(
 // Takes the steps of a run that has begun, and writes what comes of it.
 fn go_on(
     accepted: &Accepted<'_>,
-    run: &Run<'_>,
+    run: &Bounded<'_>,
     number: u16,
     machine: Machine,
     text: &mut Room,
@@ -249,15 +268,15 @@ fn go_on(
     heap: &mut [u16],
     statics: &mut [u16],
 )
-    requires entered { method_entered accepted.now run.now.entry ≡ Some number }
-    requires begun { IsBegun accepted.now number (run_request run.now).args machine ram.old heap.old statics.old }
+    requires entered { method_entered accepted.now run.now.run.now.entry ≡ Some number }
+    requires begun { IsBegun accepted.now number (bounded_request run.now).args machine ram.old heap.old statics.old }
     requires run { IsRunOf accepted.now machine ram.old heap.old statics.old }
     requires empty { IsEmpty text.old }
     requires room { HasRoom text.old (most_text accepted.now) }
-    ensures { IsLeft accepted.now (run_request run.now) (card ram.new heap.new statics.new) text.new.text }
+    ensures { IsLeft accepted.now (bounded_request run.now) (card ram.new heap.new statics.new) text.new.text }
 {
     let mut machine = machine;
-    let ending = machine.run(accepted, ram, heap, statics, u64::from(run.budget));
+    let ending = machine.run(accepted, ram, heap, statics, run.steps);
     texts_are_alike(accepted.world());
     write_left(
         text,

@@ -5,8 +5,9 @@ ghost use Rattle.capcheck_core.specs.Step.{OwnAnswers};
 
 use crate::carding::verify_methods;
 use crate::defending::defend;
-use crate::running::run_in_card;
+use crate::running::{Bounded, run_in_card};
 use crate::transforming::transform_last;
+use crate::trying::try_last;
 use crate::typing::type_methods;
 use crate::verdict::Verdict;
 use cap_files::Folder;
@@ -28,6 +29,8 @@ pub enum Step<'a> {
     Run(&'a Run<'a>),
     /// Stores the last package in the form that a verifier on the card accepts.
     Transform(&'a Transform<'a>),
+    /// Runs an entry of the last package, and then of it in that form in the memory of the card.
+    Trial(&'a Run<'a>),
 }
 
 /// Takes a command's last step. It is handed all that a command may change.
@@ -52,9 +55,10 @@ pub(crate) fn take_step<F: Folder>(
         Step::Check => type_methods(alloc, world),
         Step::Verify => verify_methods(alloc, world),
         Step::Defend(run) => defend(alloc, world, run),
-        Step::Run(run) => run_in_card(alloc, world, run, ram, heap, statics),
+        Step::Run(run) => run_in_card(alloc, world, Bounded::asked(run), ram, heap, statics),
         Step::Transform(transform) => {
             transform_last(alloc, transform.out, packages, roles, world, folder)
         }
+        Step::Trial(run) => try_last(alloc, packages, roles, world, run, ram, heap, statics),
     }
 }

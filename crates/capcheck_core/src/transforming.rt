@@ -85,8 +85,8 @@ fn count_of_last(world: &World<'_>) -> u16
     count
 }
 
-// The verdict where the last of the packages is not transformed. Nothing is stored.
-fn untransformed(
+/// The verdict where the last of the packages is not transformed. Nothing is stored.
+pub(crate) fn untransformed(
     alloc: Global,
     _packages: &Packages<'_, '_>,
     world: &World<'_>,

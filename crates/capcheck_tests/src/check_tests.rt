@@ -1,9 +1,10 @@
 use crate::filling::{ROLES, put_package, put_plain};
 use crate::run::{Failing, gives, gives_failing};
 use crate::small_packages::{BELOW, CUT_METHOD, OLDER_BELOW, OVERRIDING};
+use cap_bytes::Part;
 use cap_files::{MemFolder, SureFolder};
 use cap_tests::{
-    Change, DIRECTORY, EXPORT, File, HEADER, IMPORT, METHOD, OLDER, PLAIN, PLAIN_ROLES,
+    Change, DESCRIPTOR, DIRECTORY, EXPORT, File, HEADER, IMPORT, METHOD, OLDER, PLAIN, PLAIN_ROLES,
 };
 use std::alloc::{AllocError, Global};
 
@@ -185,7 +186,7 @@ fn packages_of_both_formats_stand_in_one_world(rt: HostRuntime) -> Result<(), Al
     Ok(())
 }
 
-static WRONG: [Check; 7] = [
+static WRONG: [Check; 10] = [
     (
         "check T U",
         &PLAIN_ROLES,
@@ -216,6 +217,31 @@ static WRONG: [Check; 7] = [
         &[],
         &IMPORTING,
         "not linked NoPackage 1 0\n",
+        7,
+    ),
+    (
+        "check T",
+        &PLAIN_ROLES,
+        &[Change::Size(METHOD, 20)],
+        &[],
+        "malformed package 0 SizeDisagrees 7 20 19\n",
+        7,
+    ),
+    // the bytecode_count of the first method, and of the second
+    (
+        "check T",
+        &PLAIN_ROLES,
+        &[Change::Byte(DESCRIPTOR, 27, 5)],
+        &[],
+        "malformed package 0 MethodOverlaps 1 7\n",
+        7,
+    ),
+    (
+        "check T",
+        &PLAIN_ROLES,
+        &[Change::Byte(DESCRIPTOR, 39, 11)],
+        &[],
+        "malformed package 0 MethodOutside 7\n",
         7,
     ),
     // the roles cut, too long, and with one that is no class
@@ -251,25 +277,28 @@ fn check_names_what_is_wrong_with_the_packages(rt: HostRuntime) -> Result<(), Al
     Ok(())
 }
 
-/// Whether roles longer than any part are named.
-fn names_long_roles(alloc: Global) -> Result<bool, AllocError> {
+/// Whether a file of package T that is longer than any part is named so.
+fn names_long_part(alloc: Global, part: Part, text: &str) -> Result<bool, AllocError> {
     let long = vec![in alloc; 0u8; 65_539]?;
     let mut folder = SureFolder::new(alloc, 48, 70_000)?;
     Ok(
-        fill(alloc, &mut folder, &long, &[], &[])?
-            && gives(
-                alloc,
-                "check T U",
-                &mut folder,
-                "malformed package 0 PartTooLong 0\n",
-                7,
-            )?,
+        fill(alloc, &mut folder, &PLAIN_ROLES, &[], &[])?
+            && folder.set("T", part, &long)
+            && gives(alloc, "check T U", &mut folder, text, 7)?,
+    )
+}
+
+/// Whether roles and a Method component that are too long are named.
+fn names_long_parts(alloc: Global) -> Result<bool, AllocError> {
+    Ok(
+        names_long_part(alloc, ROLES, "malformed package 0 PartTooLong 0\n")?
+            && names_long_part(alloc, METHOD, "malformed package 0 PartTooLong 7\n")?,
     )
 }
 
 #[test]
-fn check_names_roles_that_are_too_long(rt: HostRuntime) -> Result<(), AllocError> {
-    assert!(rt; names_long_roles(rt.alloc())?);
+fn check_names_parts_that_are_too_long(rt: HostRuntime) -> Result<(), AllocError> {
+    assert!(rt; names_long_parts(rt.alloc())?);
     Ok(())
 }
 

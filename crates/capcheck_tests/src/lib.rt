@@ -1,14 +1,20 @@
-//! Worked commands: what `capcheck_core` prints for `probe`, `show`, `check`, `verify`, `defend`, `run` and `transform` over folders in
-//! memory, with package T of `cap_tests` and two more small packages, what `run` leaves in the memory of the card, and where a
-//! device fails.
+//! Worked commands: what `capcheck_core` prints for `probe`, `show`, `check`, `verify`, `defend`, `run`, `transform` and
+//! `trial` over folders in memory, with package T of `cap_tests`, two more small packages and the counter of the examples,
+//! what `run` and `trial` leave in the memory of the card, and where a device fails.
 #![tactic(auto)]
 
 #[cfg(test)]
 mod check_tests;
 #[cfg(test)]
+mod counter_packages;
+#[cfg(test)]
+mod counter_tests;
+#[cfg(test)]
 mod defend_tests;
 #[cfg(test)]
 mod filling;
+#[cfg(test)]
+mod length_tests;
 #[cfg(test)]
 mod probe_tests;
 #[cfg(test)]
@@ -21,6 +27,8 @@ mod show_tests;
 mod small_packages;
 #[cfg(test)]
 mod transform_tests;
+#[cfg(test)]
+mod trial_tests;
 #[cfg(test)]
 mod typing_tests;
 #[cfg(test)]

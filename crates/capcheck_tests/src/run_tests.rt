@@ -126,7 +126,7 @@ fn run_runs_an_entry_of_accepted_packages(rt: HostRuntime) -> Result<(), AllocEr
 }
 
 /// Commands over package T with changes, and what they leave.
-type Leaving = (&'static str, &'static [Change<'static>], Left);
+pub(crate) type Leaving = (&'static str, &'static [Change<'static>], Left);
 
 /// Takes an array of bytes, puts 5 in its first element, and gives it.
 const FIVE: [Change<'static>; 4] = [
@@ -209,7 +209,10 @@ fn is_left(alloc: Global, leaving: &Leaving) -> Result<bool, AllocError> {
 }
 
 /// The number of the first command that leaves something else.
-fn first_other_left(alloc: Global, all: &'static [Leaving]) -> Result<Option<usize>, AllocError> {
+pub(crate) fn first_other_left(
+    alloc: Global,
+    all: &'static [Leaving],
+) -> Result<Option<usize>, AllocError> {
     for (n, leaving) in all.iter().enumerate() {
         if !is_left(alloc, leaving)? {
             return Ok(Some(n));

@@ -1,7 +1,7 @@
 -- what the run leaves, in a world whose methods are all accepted; or why it does not begin
 use Rattle.std.proofs.Common.{ap, sym, ◌∙◌}
 use Rattle.vm_step.specs.Start.{start_fault}
-use Rattle.cap_text.specs.Run.{run_request}
+use Rattle.capcheck_core.specs.Run.{bounded_request}
 use Rattle.capcheck_core.specs.Defend.{fault_of}
 use Rattle.capcheck_core.proofs.Cardings.{all_carded}
 use Rattle.capcheck_core.proofs.running.begin.Goals as goal
@@ -12,6 +12,6 @@ returns-in-Ok-clause-runs c = record { carded = all_carded c.args.accepted.now c
 pub returns-in-Err-clause-runs : goal.returns-in-Err-clause-runs
 returns-in-Err-clause-runs c = (
   c.requires.accepted,
-  ap (fault_of c.args.accepted.now (run_request c.args.run.now).args) c.requires.entered
+  ap (fault_of c.args.accepted.now (bounded_request c.args.run.now).args) c.requires.entered
       ∙ ap (start_fault c.args.accepted.now c.args.number) (sym c.requires.handed) ∙ c.in-Err.ensures.refused,
 )

@@ -5,14 +5,14 @@ use Rattle.vm_step.specs.Raising.{running}
 use Rattle.vm_step.specs.Start.{entry_state}
 use Rattle.vm_offend.specs.Held.{Follows}
 use Rattle.vm_text.specs.Laws.{TextsAreAlike}
-use Rattle.cap_text.specs.Run.{run_request}
+use Rattle.capcheck_core.specs.Run.{bounded_request}
 use Rattle.capcheck_core.proofs.Ran.{reached, lent_run, left, lent_in, written_in}
 use Rattle.capcheck_core.proofs.running.go_on.Goals as goal
 
 pub write_left-requires-clause-left : goal.write_left-requires-clause-left
 write_left-requires-clause-left c =
     let w = c.args.accepted.now in
-    let r = run_request c.args.run.now in
+    let r = bounded_request c.args.run.now in
     let before = running (entry_state tagged w c.args.number r.args) in
     let is = reached w c.args.number r c.args.machine c.args.ram.now c.args.heap.now c.args.statics.now c.requires.begun in
     let follows = c.run-ending.ensures.follows before is c.requires.begun.words in
@@ -22,11 +22,10 @@ write_left-requires-clause-left c =
 pub returns : goal.returns
 returns c =
     let w = c.args.accepted.now in
-    let r = run_request c.args.run.now in
+    let r = bounded_request c.args.run.now in
     let before = running (entry_state tagged w c.args.number r.args) in
     let is = reached w c.args.number r c.args.machine c.args.ram.now c.args.heap.now c.args.statics.now c.requires.begun in
-    let follows = subst (λ budget. Follows w budget before c.run-ending.new.self c.run-ending.new.ram c.run-ending.new.heap c.run-ending.new.statics c.run-ending.result)
-    c.from.ensures (c.run-ending.ensures.follows before is c.requires.begun.words) in
+    let follows = c.run-ending.ensures.follows before is c.requires.begun.words in
     left w c.args.number r c.args.machine c.args.ram.now c.args.heap.now c.args.statics.now c.args.text.now c.write_left.new.text c.run-ending.result
     c.requires.entered c.requires.begun c.run-ending.new.self c.run-ending.new.ram c.run-ending.new.heap c.run-ending.new.statics follows
     (subst TextsAreAlike c.world.ensures.is c.texts_are_alike.ensures) c.requires.empty

@@ -1,6 +1,6 @@
 -- the line of the first reason
 use Rattle.std.proofs.Common.{subst}
-use Rattle.cap_text.specs.Run.{run_request}
+use Rattle.capcheck_core.specs.Run.{bounded_request}
 use Rattle.capcheck_core.specs.Run.{StopsRun}
 use Rattle.capcheck_core.proofs.Cardings.{all_carded, first_uncarded, number_below}
 use Rattle.capcheck_core.proofs.running.not_run.Goals as goal
@@ -8,14 +8,14 @@ use Rattle.capcheck_core.proofs.running.not_run.Goals as goal
 pub returns-in-Refused : goal.returns-in-Refused
 returns-in-Refused c =
     let w = c.args.world.now in
-    let first = subst (StopsRun w (run_request c.args.run.now)) c.in-Refused.is c.requires.stops in
+    let first = subst (StopsRun w (bounded_request c.args.run.now)) c.in-Refused.is c.requires.stops in
     λ card. first_uncarded w c.in-Refused.method c.in-Refused.fault c.code-code.result.now c.number_of.result _ first c.code-code.ensures.is
     c.code-code.ensures.len c.number_of.ensures c.refusal_line.ensures
 
 pub returns-in-NotStarted : goal.returns-in-NotStarted
 returns-in-NotStarted c =
     let w = c.args.world.now in
-    let stops = subst (StopsRun w (run_request c.args.run.now)) c.in-NotStarted.is c.requires.stops in
+    let stops = subst (StopsRun w (bounded_request c.args.run.now)) c.in-NotStarted.is c.requires.stops in
     λ card. record {
       carded = all_carded w stops.0;
       unbegun = record { fault = c.in-NotStarted.fault; first = stops.1; prints = c.unstarted_line.ensures };

@@ -1,0 +1,117 @@
+-- The package that was made anew makes one world with the libraries, and nothing keeps its runs from beginning.
+use Rattle.std.proofs.Common.{◌≡◌, ℕ, List, [], ◌∷◌, ◌++◌, length, map, Some, None, refl, sym, ap, subst, ◌∙◌}
+use Rattle.std.specs.Prelude.{◌-◌, ◌+◌, ◌*◌, suc, Err}
+use Rattle.std.proofs.lemmas.List.{length-map}
+use Rattle.cap_package.specs.PackageRecord.{PackageRecord}
+use Rattle.cap_package.specs.Parts.{Lent}
+use Rattle.cap_package.specs.StandsFor.{StandsFor, HavePackage}
+use Rattle.jc_base.specs.World.{Linked, method_numbered}
+use Rattle.jc_control.specs.Asked.{AllHave}
+use Rattle.jc_control.specs.Method.{IsMethodOf}
+use Rattle.card_typing.specs.Typing.{HasCardTyping}
+use Rattle.xf_landed.specs.Apart.{IsSameBut}
+use Rattle.jc_link.specs.World.{IsLinked, LinkTells}
+use Rattle.jc_link.specs.LinkEnd.{LinkEnd}
+use Rattle.jc_link.specs.LinkEnd.TheVariants as ends
+use Rattle.jc_link.specs.LinkFault.{LinkFault}
+use Rattle.jc_link.proofs.OneWorld.{one_world, linked_faultless}
+use Rattle.jc_rewritten.specs.Last.{and_last}
+use Rattle.xf_pack.specs.Transformed.{IsTransformed}
+use Rattle.vm_alike.specs.Starting.{StartsRefuseAlike, MethodsAreNumberedAlike}
+use Rattle.cap_text.specs.Run.{RunRequest}
+use Rattle.cap_text.specs.Trial.{trial_text}
+use Rattle.capcheck_core.specs.declared.verdict.Verdict.{Verdict}
+use Rattle.capcheck_core.specs.declared.verdict.Verdict.TheVariants.{Done, Refused, Limit, Malformed, Usage, ReadFault, StoreFault, Memory}
+use Rattle.capcheck_core.specs.Defend.{method_entered, fault_of, run_fault, IsDefended}
+use Rattle.capcheck_core.specs.Outside.{Card}
+use Rattle.capcheck_core.specs.Run.{within, IsRun, RunsWorldIn}
+use Rattle.capcheck_core.specs.Transform.{StopsBefore}
+use Rattle.capcheck_core.specs.Trial.{steps_each, HasNew, IsDoneOrMemory, IsTried, TriesIn}
+use Rattle.capcheck_core.proofs.WorldComplete.{one_package}
+
+-- what is not made is not tried
+pub untried : (packages : List PackageRecord) (roles : List ℕ) (w : Linked) (r : RunRequest) (c : Card) (verdict : Verdict)
+    → StopsBefore packages w verdict → TriesIn packages roles w r c verdict
+untried packages roles w r c (Done text) stops = absurd stops
+untried packages roles w r c (Malformed text) stops = absurd stops
+untried packages roles w r c (Refused text) stops = stops
+untried packages roles w r c (Limit text) stops = stops
+untried packages roles w r c Usage stops = absurd stops
+untried packages roles w r c ReadFault stops = absurd stops
+untried packages roles w r c StoreFault stops = absurd stops
+untried packages roles w r c Memory stops = stops
+
+module _ (packages : List PackageRecord) (roles : List ℕ) (w : Linked) (parts : List Lent) (t : IsTransformed packages roles w parts) where
+  pub have : HavePackage parts
+  have = record { made = t.made; stands = t.stands }
+
+  -- the libraries with the package that the parts stand for
+  pub with_made : (made : PackageRecord) (all : List PackageRecord) → StandsFor parts made
+      → ((ls : List PackageRecord) (source : PackageRecord) → packages ≡ and_last ls source → all ≡ and_last ls made)
+      → all ≡ and_last t.libraries t.made
+  with_made made all stands pushed =
+      pushed t.libraries t.source t.are ∙ ap (λ p. and_last t.libraries p) (one_package parts made t.made stands t.stands)
+
+  pub has_new : (all : List PackageRecord) (new : Linked) → all ≡ and_last t.libraries t.made → IsLinked all roles new → HasNew packages roles w parts new
+  has_new all new are linked =
+      (t, one_world (and_last t.libraries t.made) roles t.world new t.anew.linked (subst (λ ps. IsLinked ps roles new) are linked))
+
+  pub never_at_fault : (all : List PackageRecord) (fault : LinkFault) → all ≡ and_last t.libraries t.made → LinkTells all roles (Err (ends.Fault fault)) → ⊥
+  never_at_fault all fault are tells =
+      linked_faultless (and_last t.libraries t.made) roles t.world fault t.anew.linked
+      (subst (λ ps. LinkTells ps roles (Err (ends.Fault fault))) are tells)
+
+-- ---- the second run
+
+as_many : (ls : List PackageRecord) (p q : PackageRecord) → length (ls ++ p ∷ []) ≡ length (ls ++ q ∷ [])
+as_many [] p q = refl
+as_many (l ∷ ls) p q = ap suc (as_many ls p q)
+
+infos_counted : (ps : List PackageRecord) (roles : List ℕ) (w : Linked) → IsLinked ps roles w → length w.infos ≡ length ps
+infos_counted ps roles w linked = ap length linked.lists.infos ∙ length-map ps (λ (p : PackageRecord). p.methods.info)
+
+module _ (packages : List PackageRecord) (roles : List ℕ) (w : Linked) (linked : IsLinked packages roles w) (parts : List Lent) (new : Linked)
+    (has : HasNew packages roles w parts new) (alike : StartsRefuseAlike w) (numbered : MethodsAreNumberedAlike w)
+  where
+    abbrev t : IsTransformed packages roles w parts
+    t = has.0
+
+    counted : length new.infos ≡ length w.infos
+    counted =
+        ap (λ v. length (v.infos)) (sym has.1) ∙ infos_counted (and_last t.libraries t.made) roles t.world t.anew.linked
+        ∙ as_many t.libraries t.made t.source ∙ ap length (sym t.are) ∙ sym (infos_counted packages roles w linked)
+
+    -- the entry of the new package is a method that begins where its source does
+    begins : (r : RunRequest) (text : List ℕ) → IsDefended w r text → run_fault new r ≡ None
+    begins r text d =
+        let same : IsSameBut w new = subst (λ v. IsSameBut w v) has.1 t.anew.same in
+        let entered : method_entered new r.entry ≡ Some d.comes.number =
+        ap (λ n. method_numbered new.methods (n - 1) r.entry.class_no r.entry.method_no) counted
+        ∙ sym (numbered new (length w.infos - 1) r.entry.class_no r.entry.method_no same) ∙ d.comes.entered in
+        ap (fault_of new r.args) entered ∙ sym (alike new d.comes.number r.args same) ∙ d.comes.begins
+
+    pub new_runs : (r : RunRequest) (steps : ℕ) (c : Card) (text : List ℕ) (verdict : Verdict) → IsDefended w r text
+        → RunsWorldIn new (within steps r) c verdict → IsDoneOrMemory verdict
+    new_runs r steps c text (Done said) d runs = tt {0}
+    new_runs r steps c text Memory d runs = tt {0}
+    new_runs r steps c text (Refused said) d runs =
+        absurd (runs.first.lacks (subst (λ v. AllHave (IsMethodOf v) (HasCardTyping v)) has.1 t.anew.carded runs.method runs.first.asked))
+    new_runs r steps c text (Malformed said) d runs = let first = runs.unbegun.first in let none = begins r text d in absurd (cc)
+    new_runs r steps c text (Limit said) d runs = absurd runs
+    new_runs r steps c text Usage d runs = absurd runs
+    new_runs r steps c text ReadFault d runs = absurd runs
+    new_runs r steps c text StoreFault d runs = absurd runs
+
+-- what is told of both
+pub tried : (packages : List PackageRecord) (roles : List ℕ) (w : Linked) (parts : List Lent) (new : Linked) (r : RunRequest) (steps : ℕ) (c : Card)
+    (source target text : List ℕ) → HasNew packages roles w parts new → steps ≡ steps_each * r.budget → IsDefended w r source
+    → IsRun new (within steps r) c target → text ≡ trial_text source target → IsTried packages roles w r c text
+tried packages roles w parts new r steps c source target text has count d run prints = record {
+  parts = parts;
+  made = has.0;
+  source = source;
+  defended = d;
+  target = target;
+  run = subst (λ v. IsRun v (within (steps_each * r.budget) r) c target) (sym has.1) (subst (λ n. IsRun new (within n r) c target) count run);
+  prints = prints;
+}

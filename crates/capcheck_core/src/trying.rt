@@ -1,0 +1,178 @@
+ghost use Rattle.std.specs.Prelude.{◌≡◌, IfOk, List, MatchResult};
+ghost use Rattle.cap_package.specs.PackageRecord.{PackageRecord};
+ghost use Rattle.jc_rewritten.specs.Last.{and_last};
+ghost use Rattle.cap_text.specs.Run.{run_request};
+ghost use Rattle.jc_link.specs.World.{IsLinked};
+ghost use Rattle.xf_pack.specs.Transformed.{IsTransformed};
+ghost use Rattle.capcheck_core.specs.Defend.{IsDefended};
+ghost use Rattle.capcheck_core.specs.Outside.{card};
+ghost use Rattle.capcheck_core.specs.Run.{IsWhole};
+ghost use Rattle.capcheck_core.specs.Trial.{HasNew, IsDoneOrMemory, TriesIn};
+
+use crate::defending::defend;
+use crate::running::{Bounded, run_in_card};
+use crate::transforming::untransformed;
+use crate::verdict::Verdict;
+use cap_package::{OwnedParts, Package, Packages, agreed_package};
+use cap_text::{Run, tried};
+use jc_base::World;
+use jc_link::{LinkEnd, link};
+use std::alloc::{AllocError, Global};
+use vm_alike::starts_refuse_alike;
+use xf_pack::transform_linked;
+
+// The steps of the new package that one of its source may take.
+const STEPS_EACH: u64 = 2000;
+
+/// Brings the last package of a world into the form that a verifier on the card accepts. Runs an entry of its source on the
+/// machine that tests what it does, and then the same entry of the new package in the memory of the card.
+pub(crate) fn try_last(
+    alloc: Global,
+    packages: &Packages<'_, '_>,
+    roles: [u8; 8],
+    world: &World<'_>,
+    run: &Run<'_>,
+    ram: &mut [u16],
+    heap: &mut [u16],
+    statics: &mut [u16],
+) -> Verdict
+    requires card { IsWhole (card ram.old heap.old statics.old) }
+    requires linked { IsLinked packages.now roles world.now }
+    ensures { TriesIn packages.now roles world.now (run_request run.now) (card ram.new heap.new statics.new) result }
+{
+    match transform_linked(alloc, packages, roles, world) {
+        Ok(parts) => try_parts(
+            alloc, packages, roles, world, &parts, run, ram, heap, statics,
+        ),
+        Err(end) => untransformed(alloc, packages, world, end),
+    }
+}
+
+// The same with the parts of the new package. Its source is run first.
+fn try_parts(
+    alloc: Global,
+    packages: &Packages<'_, '_>,
+    roles: [u8; 8],
+    world: &World<'_>,
+    parts: &OwnedParts,
+    run: &Run<'_>,
+    ram: &mut [u16],
+    heap: &mut [u16],
+    statics: &mut [u16],
+) -> Verdict
+    requires card { IsWhole (card ram.old heap.old statics.old) }
+    requires linked { IsLinked packages.now roles world.now }
+    requires made { IsTransformed packages.now roles world.now parts.now }
+    ensures { TriesIn packages.now roles world.now (run_request run.now) (card ram.new heap.new statics.new) result }
+{
+    match defend(alloc, world, run) {
+        Verdict::Done(source) => try_new(
+            alloc,
+            packages,
+            roles,
+            world,
+            parts,
+            source.as_str(),
+            run,
+            ram,
+            heap,
+            statics,
+        ),
+        Verdict::Malformed(text) => Verdict::Malformed(text),
+        Verdict::Memory => Verdict::Memory,
+        _ => unreachable!(),
+    }
+}
+
+// Links the libraries with the new package, whose source was run.
+fn try_new(
+    alloc: Global,
+    packages: &Packages<'_, '_>,
+    roles: [u8; 8],
+    world: &World<'_>,
+    parts: &OwnedParts,
+    source: &str,
+    run: &Run<'_>,
+    ram: &mut [u16],
+    heap: &mut [u16],
+    statics: &mut [u16],
+) -> Verdict
+    requires card { IsWhole (card ram.old heap.old statics.old) }
+    requires linked { IsLinked packages.now roles world.now }
+    requires made { IsTransformed packages.now roles world.now parts.now }
+    requires defended { IsDefended world.now (run_request run.now) source.now }
+    ensures { TriesIn packages.now roles world.now (run_request run.now) (card ram.new heap.new statics.new) result }
+{
+    let Ok(lent) = parts.lend(alloc) else {
+        return Verdict::Memory;
+    };
+    let made = agreed_package(&lent);
+    let Ok(all) = with_last(alloc, packages, made) else {
+        return Verdict::Memory;
+    };
+    match link(alloc, &all, roles) {
+        Ok(new) => run_new(
+            alloc, packages, roles, world, parts, &new, source, run, ram, heap, statics,
+        ),
+        Err(LinkEnd::Fault(_)) => unreachable!(),
+        Err(LinkEnd::Memory) => Verdict::Memory,
+    }
+}
+
+// The libraries of packages, and another package in place of the last.
+fn with_last<'p, 'a>(
+    alloc: Global,
+    packages: &Packages<'p, 'a>,
+    last: Package<'p, 'a>,
+) -> Result<Packages<'p, 'a>, AllocError>
+    ensures { IfOk result
+        (λ all.
+        (libraries : List PackageRecord) (source : PackageRecord)
+        → packages.now ≡ and_last libraries source
+        → all ≡ and_last libraries last.entry) }
+{
+    let mut all = packages.libraries(alloc)?;
+    all.push(last)?;
+    Ok(all)
+}
+
+// Runs the entry of the new package in the memory of the card, and tells both runs.
+fn run_new(
+    alloc: Global,
+    _packages: &Packages<'_, '_>,
+    _roles: [u8; 8],
+    world: &World<'_>,
+    _parts: &OwnedParts,
+    new: &World<'_>,
+    source: &str,
+    run: &Run<'_>,
+    ram: &mut [u16],
+    heap: &mut [u16],
+    statics: &mut [u16],
+) -> Verdict
+    requires card { IsWhole (card ram.old heap.old statics.old) }
+    requires linked { IsLinked _packages.now _roles world.now }
+    requires made { HasNew _packages.now _roles world.now _parts.now new.now }
+    requires defended { IsDefended world.now (run_request run.now) source.now }
+    ensures { TriesIn _packages.now _roles world.now (run_request run.now) (card ram.new heap.new statics.new) result }
+{
+    starts_refuse_alike(world);
+    let steps = STEPS_EACH * u64::from(run.budget);
+    let verdict = run_in_card(alloc, new, Bounded { run, steps }, ram, heap, statics);
+    match text_of(verdict) {
+        Ok(target) => Verdict::done(tried(alloc, source, target.as_str())),
+        Err(_) => Verdict::Memory,
+    }
+}
+
+// The text of a command that did its work, unless there was no memory.
+fn text_of(verdict: Verdict) -> Result<String, AllocError>
+    requires { IsDoneOrMemory verdict }
+    ensures { MatchResult result (λ text. verdict ≡ Verdict.Done text) (λ _. verdict ≡ Verdict.Memory) }
+{
+    match verdict {
+        Verdict::Done(text) => Ok(text),
+        Verdict::Memory => Err(AllocError),
+        _ => unreachable!(),
+    }
+}
