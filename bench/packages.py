@@ -3,7 +3,7 @@ import os
 
 AID = bytes([0xF0, 1, 2, 3, 4])
 NAMES = {1: "Header", 2: "Directory", 3: "Applet", 4: "Import", 5: "ConstantPool", 6: "Class", 7: "Method",
-         8: "StaticField", 9: "RefLocation", 10: "Export", 11: "Descriptor", 128: "Custom128"}
+         8: "StaticField", 9: "RefLocation", 10: "Export", 11: "Descriptor", 12: "Debug"}
 INDEX_AID = bytes.fromhex("F06C65726F79")   # of the custom component that is a target index
 BOOLEAN, SHORT = 0x8002, 0x8004
 NO_SUPERCLASS = 0xFFFF
@@ -14,18 +14,24 @@ def u2(n):
     return n.to_bytes(2, "big")
 
 
+def file_name(tag):
+    """The name of a component's file; from tag 128 on components are custom ones."""
+    return NAMES.get(tag, "Custom%d" % tag) + ".cap"
+
+
 def write_component(folder, tag, info):
     """Writes a component's file into a folder, which is made where it is missing."""
     assert len(info) <= MOST, (folder, tag, len(info))
     os.makedirs(folder, exist_ok=True)
-    with open(os.path.join(folder, NAMES[tag] + ".cap"), "wb") as file:
+    with open(os.path.join(folder, file_name(tag)), "wb") as file:
         file.write(bytes([tag]) + u2(len(info)) + info)
 
 
-def class_record(public=(), visible=(), above=NO_SUPERCLASS, cells=0, base=0):
-    """A class with its superclass's reference, so many cells of its own, and two tables: the public one begins
-    at the token `base`, the package-visible one at 0."""
-    head = bytes([0]) + u2(above) + bytes([cells, 0xFF, 0, base, len(public), 0, len(visible)])
+def class_record(public=(), visible=(), above=NO_SUPERCLASS, cells=0, base=0, visible_base=0, references=(0xFF, 0)):
+    """A class with its superclass's reference, so many cells of its own, and two tables: the public one begins at the token
+    `base`, the package-visible one at `visible_base`. Those of its fields that are references have tokens in a row: the
+    first, and how many they are."""
+    head = bytes([0]) + u2(above) + bytes([cells, *references, base, len(public), visible_base, len(visible)])
     return head + b"".join(map(u2, public)) + b"".join(map(u2, visible))
 
 
@@ -61,7 +67,7 @@ class Package:
         self.pool = []          # entries of four bytes
         self.pool_types = None  # for each entry its type in the Descriptor; None: zeros
         self.classes = []       # Class records
-        self.described = []     # for each a pair of field records and method records
+        self.described = []     # for each its token, its flags, field records and method records
         self.handlers = b""
         self.methods = b""
         self.indices = []       # where indices of two bytes into the pool stand in the info of Method
@@ -74,10 +80,14 @@ class Package:
         self.types = bytes([1, 0x10])   # the first: no argument, void
         self.roles = None
         self.index = None       # for each method with code the places that a target index lists
+        self.customs = {}       # by tag the AID and the info of a custom component
+        self.debug = None
+        self.has_ints = False
 
-    def add_class(self, record, fields=(), methods=()):
+    def add_class(self, record, fields=(), methods=(), token=None, flags=1):
+        """Adds a class, with its token and its flags in the Descriptor; the token is its number where none is given."""
         self.classes.append(record)
-        self.described.append((fields, methods))
+        self.described.append((token, flags, fields, methods))
 
     def next_class(self):
         """The offset of the next class in the Class component."""
@@ -93,9 +103,10 @@ class Package:
 
     def descriptor(self):
         info, at = bytes([min(len(self.described), 255)]), 2
-        for token, (record, (fields, methods)) in enumerate(list(zip(self.classes, self.described))[:255]):
-            info += bytes([token, 1]) + u2(at) + bytes([0]) + u2(len(fields)) + u2(len(methods))
-            info += b"".join(fields) + b"".join(methods)
+        for number, (record, described) in enumerate(list(zip(self.classes, self.described))[:255]):
+            token, flags, fields, methods = described
+            info += bytes([number if token is None else token, flags]) + u2(at)
+            info += bytes([0]) + u2(len(fields)) + u2(len(methods)) + b"".join(fields) + b"".join(methods)
             at += len(record)
         pool_types = self.pool_types or [0] * len(self.pool)
         return info + u2(len(self.pool)) + b"".join(map(u2, pool_types)) + self.types
@@ -109,21 +120,24 @@ class Package:
         return 2 * self.references + self.zeros + len(self.values)
 
     def directory(self, infos):
+        customs = b"".join(bytes([tag]) + u2(len(infos[tag])) + bytes([len(aid)]) + aid
+                           for tag, (aid, _) in sorted(self.all_customs().items()))
         sizes = {tag: len(info) for tag, info in infos.items()}
-        sizes[2] = 33 if self.index is None else 43
+        sizes[2] = 33 + len(customs)
         array_bytes = sum(len(values) for _, values in self.arrays)
         info = b"".join(u2(sizes.get(tag, 0)) for tag in range(1, 13))
         info += u2(self.image_size()) + u2(len(self.arrays)) + u2(array_bytes & 0xFFFF)
-        info += bytes([len(self.imports), len(self.applets)])
-        if self.index is None:
-            return info + bytes([0])
-        return info + bytes([1, 128]) + u2(len(infos[128])) + bytes([len(INDEX_AID)]) + INDEX_AID
+        return info + bytes([len(self.imports), len(self.applets), len(self.all_customs())]) + customs
+
+    def all_customs(self):
+        """The custom components, with that of the target index."""
+        return self.customs if self.index is None else {**self.customs, 128: (INDEX_AID, self.target_index())}
 
     def target_index(self):
         return u2(len(self.index)) + b"".join(u2(len(places)) + b"".join(map(u2, places)) for places in self.index)
 
     def infos(self):
-        flags = (0 if self.export is None else 2) + (4 if self.applets else 0)
+        flags = (1 if self.has_ints else 0) + (0 if self.export is None else 2) + (4 if self.applets else 0)
         infos = {
             1: bytes.fromhex("DECAFFED0202") + bytes([flags, 0, 1, len(self.aid)]) + self.aid + bytes([0]),
             4: bytes([len(self.imports)]) + b"".join(bytes([0, 1, len(aid)]) + aid for aid in self.imports),
@@ -137,8 +151,9 @@ class Package:
             infos[3] += b"".join(bytes([len(aid)]) + aid + u2(install) for aid, install in self.applets)
         if self.export is not None:
             infos[10] = self.export
-        if self.index is not None:
-            infos[128] = self.target_index()
+        if self.debug is not None:
+            infos[12] = self.debug
+        infos.update((tag, info) for tag, (_, info) in self.all_customs().items())
         infos[2] = self.directory(infos)
         return infos
 

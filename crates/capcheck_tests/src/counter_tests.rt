@@ -69,16 +69,6 @@ static ANSWERS: [Answer; 9] = [
         0,
     ),
     (
-        "trial 500 5.3 R C -- 1 3",
-        "source\nreturned short 12\nstatic 0 null\nstatic 1 reference 1\nstatic 2 reference 2\n\
-          static 3 reference 3\nstatic 4 reference 4\nstatic 5 reference 5\nstatic 6 short 0\n\
-          static 7 short 0\nstatic 8 short 9\nstatic 9 short 1\nstatic 10 int 70000\n\
-          target\nreturned short 12\nstatic 0 null\nstatic 1 reference 1\nstatic 2 reference 2\n\
-          static 3 reference 3\nstatic 4 reference 4\nstatic 5 reference 5\nstatic 6 short 0\n\
-          static 7 short 0\nstatic 8 short 9\nstatic 9 short 1\nstatic 10 int 70000\n",
-        0,
-    ),
-    (
         "defend 800 5.3 R C -- 2 9",
         "returned short -200\nstatic 0 null\nstatic 1 reference 1\nstatic 2 reference 2\n\
           static 3 reference 3\nstatic 4 reference 4\nstatic 5 reference 5\nstatic 6 short 0\n\
