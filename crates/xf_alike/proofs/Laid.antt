@@ -39,7 +39,7 @@ use Rattle.xf_groups.specs.Steps.{GroupsStandAtSteps}
 use Rattle.xf_alike.specs.Counterparts.{IsKept, IsKeptOrRewritten, kept, rewritten, AreCounterparts}
 use Rattle.xf_alike.specs.Laws.{CounterpartsEndAlike, LaidEndAlike}
 use Rattle.xf_alike.proofs.Filling.{laid-filled}
-use Rattle.xf_alike.proofs.Sounding.{can-run}
+use Rattle.xf_groups.proofs.Sounding.{can-run}
 use Rattle.xf_alike.proofs.Typed.{method-is}
 
 method-there : (w : Linked) (n : ℕ) (P : Method → Type 0) → IsSomeAnd (method_in w n) P → (r : MethodRec) × (slice_get w.methods n ≡ Some r) × P (method_with w n r)
@@ -152,22 +152,24 @@ module _ (v : Linked) (laws : AreLaws v) (catches : CatchesByPool) (card : CardI
         record {
           world = refl;
           new = runs;
-          same = same;
           planned = planned;
           room = is.room;
           catches = λ h among.
               catches v.classes (list_at v.pools r.package) r.code_len r.handlers h h.class links.handlers among
               (All-contains (IsHandler v.classes (list_at v.pools r.package) r.code_len) r.handlers h links.handlers among).catches;
-          target = method_with w n target.0;
-          is_target = record {
-            rec = target.1;
-            code = refl;
-            filled = subst (λ (c : List ℕ). 0 < length c) (sym target.2.code) (laid-filled source places l planned steps stands);
+          code = record {
+            same = same;
+            target = method_with w n target.0;
+            is_target = record {
+              rec = target.1;
+              code = refl;
+              filled = subst (λ (c : List ℕ). 0 < length c) (sym target.2.code) (laid-filled source places l planned steps stands);
+            };
+            number = refl;
+            laid = l;
+            has = target.2;
+            stands = stands;
           };
-          number = refl;
-          laid = l;
-          has = target.2;
-          stands = stands;
         }
 
     own-assigned : Assigned v w n

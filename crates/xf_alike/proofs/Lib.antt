@@ -5,5 +5,4 @@ pub mod Keeping
 pub mod Simulating
 pub mod Beginning
 pub mod Filling
-pub mod Sounding
 pub mod Laid

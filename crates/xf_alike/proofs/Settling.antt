@@ -197,7 +197,7 @@ module _ (v w : Linked) (typings : Typings) (laws : AreLaws v) (pair : AreCounte
         let words : nargs_of v n ≡ s.method.rec.nargs =
         ap (of_method 0 (λ (m : MethodRec). m.nargs)) (ap (slice_get v.methods) (sym r.number) ∙ (its-method v w typings n s place r).rec) in
         to-group s place begun also_begun 0 refl r under typed
-        (laws.enter w s place begun also_begun args r.laid (typed-at v typings w s place laws.stay begun refl typed r)
+        (laws.enter w s place r.laid begun also_begun args (typed-at v typings w s place laws.stay begun refl typed r)
         (equal-but begun also_begun refl refl under same_heap same_statics) (many ∙ words)
         (ap (λ k. entered tagged v.methods k args) (sym r.number)) (ap (λ k. entered tagged w.methods k args) (sym r.number)))
 
@@ -301,7 +301,7 @@ module _ (v w : Linked) (typings : Typings) (laws : AreLaws v) (pair : AreCounte
         rewritten-given : Settles v w typings (given_to tagged v value cells waiting) (given_to tagged w value cells also_waiting)
         rewritten-given =
             let i : Placed = call.within.instruction in
-            let end = laws.calls_end w s place f g r.laid reached call in
+            let end = laws.calls_end w s place r.laid f g reached call in
             let method : g.method ≡ f.method = of_call.target ∙ sym of_call.source in
             let room : max_stack_of w g.method ≡ max_stack_of v f.method + 1 = ap (max_stack_of w) method ∙ more-room s place f.method r in
             let fits : length (with_value cells g.stack) ≤ max_stack_of w g.method =
@@ -314,7 +314,7 @@ module _ (v w : Linked) (typings : Typings) (laws : AreLaws v) (pair : AreCounte
             settles-as v w typings (given_to tagged v value cells waiting) (given_to tagged w value cells also_waiting) (running given) (running also_given)
             is.goes (also-goes fits inside)
             (to-group s place given also_given 0 refl r under is.typed
-            (laws.calls_return w s place given also_given i r.laid typed
+            (laws.calls_return w s place r.laid given also_given i typed
             (equal-but given also_given refl refl under same_heap same_statics)
             (record {
               stands = call.within.stands;

@@ -133,7 +133,7 @@ module _ (v w : Linked) (typings : Typings) (laws : AreLaws v) (pair : AreCounte
     rewritten-steps : IsAtGroup s place (top z) (top t) → (o : Outcome Cell) → Steps tagged v z o → IsSafe v typings o → StepComes o t
     rewritten-steps group o step safe =
         group-comes o
-        (laws.groups w s place z t o r.laid (typed-at v typings w s place laws.stay z first typed r) group
+        (laws.groups w s place r.laid z t o (typed-at v typings w s place laws.stay z first typed r) group
         (equal-but v w typings laws pair z t first second under heap statics) step (stays-typed v typings w s place laws.stay (top z).method r o safe)) safe
 
   -- ---- a step

@@ -127,7 +127,7 @@ module _ (v w : Linked) (typings : Typings) (laws : AreLaws v) (pair : AreCounte
           settles-as v w typings (first_by (handler_for v class f)) (second_by (handler_for w class g)) (running z) (running t)
           (e ∙ is.goes) (ap second_by caught_there ∙ also-caught k g gs room)
           (to-group v w typings laws pair s place z t 1 refl r under is.typed
-          (laws.handlers w s place z t n f.place h r.laid (typed-at v typings w s place laws.stay z refl is.typed r)
+          (laws.handlers w s place r.laid z t n f.place h (typed-at v typings w s place laws.stay z refl is.typed r)
           (equal-but v w typings laws pair z t refl refl under same_heap same_statics)
           (record {
             listed = listed;
@@ -145,7 +145,7 @@ module _ (v w : Linked) (typings : Typings) (laws : AreLaws v) (pair : AreCounte
     unwinds-one : {f g : Frame Cell} (fs gs : List (Frame Cell)) → AreUnder v w typings fs gs → CatchBeside v w typings f g → Unwinds fs gs → Unwinds (f ∷ fs) (g ∷ gs)
     unwinds-one fs gs under (catch_kept {f = f} k) rest safe = kept-unwinds f fs gs under k rest safe
     unwinds-one fs gs under (catch_rewritten {f = f} {g = g} s place r reached within) rest safe =
-        caught-by f g fs gs under s place r reached within rest (laws.catch w s place class f g r.laid reached within) safe
+        caught-by f g fs gs under s place r reached within rest (laws.catch w s place r.laid class f g reached within) safe
 
     unwinds : {fs gs : List (Frame Cell)} → AreUnder v w typings fs gs → Unwinds fs gs
     unwinds no_frames safe =

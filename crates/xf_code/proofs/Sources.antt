@@ -24,7 +24,9 @@ use Rattle.xf_plan.specs.Plan.{stack_of}
 use Rattle.xf_emission.specs.Emission.{rewritten}
 use Rattle.xf_emission.specs.Laws.{IsCode, HasFrames, ItemsSuit, LiveAreKept, PlainSizeFits, RangesStand}
 use Rattle.xf_emission.specs.Live.{KeepsLive}
+use Rattle.xf_groups.specs.Matching.{MatchesFrames, MatchesMethod, RewrittenMatches}
 use Rattle.xf_typing.specs.Laws.{RewrittenIsTyped}
+use Rattle.xf_typing.specs.Planned.{IsPlanned}
 use Rattle.xf_typing.specs.Typed.{HasTypes}
 use Rattle.xf_code.proofs.Subjects.{code-short}
 
@@ -67,3 +69,31 @@ module _ (w : Linked) (m : Method) (typing : List (Option Frame)) (control : Mar
 
     pub typed-by : RewrittenIsTyped w → AreDerived w m typing → AreHomes w m (state_at typing) homes → register_sum homes ≤ 255 → HasTypes w m homes symbols
     typed-by law derived are few = subst (HasTypes w m homes) (sym e) (law _ refl is-code has-frames mo typed.least.typing derived flow.leaders are few)
+
+  pub is-planned :
+      AreDerived w m typing → AreHomes w m (state_at typing) homes → register_sum homes ≤ 255
+      → IsPlanned (record { world = w; method = m; frames = state_at typing; leaders = control.leaders; homes = homes })
+  is-planned derived are few =
+      record {
+        method = mo;
+        code = is-code;
+        frames = has-frames;
+        typing = typed.least.typing;
+        derived = derived;
+        registers = typed.registers;
+        leaders = flow.leaders;
+        homes = are;
+        few = few;
+      }
+
+  pub matches-by :
+      RewrittenMatches w → AreDerived w m typing → AreHomes w m (state_at typing) homes → register_sum homes ≤ 255 → m.rec.max_stack < 255
+      → (symbols : Symbols) → symbols ≡ rewritten (record { world = w; method = m; frames = state_at typing; leaders = control.leaders; homes = homes })
+      → MatchesMethod w m (state_at typing) homes symbols
+  matches-by law derived are few room symbols e =
+      record {
+        leaders = control.leaders;
+        marked = flow.leaders;
+        matches = subst (MatchesFrames (record { world = w; method = m; frames = state_at typing; leaders = control.leaders; homes = homes })) (sym e)
+            (law _ refl (is-planned derived are few) room);
+      }

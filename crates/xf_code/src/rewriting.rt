@@ -12,6 +12,7 @@ ghost use Rattle.xf_code.specs.Known.{IsSubject};
 ghost use Rattle.xf_emission.specs.Live.{KeepsLive};
 ghost use Rattle.xf_emission.specs.Numbers.{HasNumbers};
 ghost use Rattle.xf_typing.specs.Typed.{HasTypes};
+ghost use Rattle.xf_groups.specs.Matching.{MatchesMethod};
 
 use crate::edge::{Scratch, copies};
 use crate::group::groups;
@@ -25,6 +26,7 @@ use jc_decode::{Item, Sequence, Symbols, instructions_are_listed};
 use jc_rules::Typing;
 use std::alloc::{AllocError, Global};
 use xf_emission::{Origin, items_suit, live_are_kept, plain_size_fits, ranges_stand};
+use xf_groups::rewritten_matches;
 use xf_homes::{Homes, Walk};
 use xf_plan::Plan;
 use xf_typing::rewritten_is_typed;
@@ -126,6 +128,9 @@ pub fn rewrite<'a>(
     // They have a card typing, in which each home's registers have the home's type.
     ensures typed { IsSomeAnd (method_in world.now method)
         (λ m. IfOk result (HasTypes world.now m homes.now)) }
+    // Wherever they are laid, they do what the method does: its frames come to the same, step by step.
+    ensures matches { IsSomeAnd (method_in world.now method)
+        (λ m. IfOk result (MatchesMethod world.now m (state_at typing.now) homes.now)) }
     // Each live handler has a range, and no other.
     ensures live { IsSomeAnd (method_in world.now method)
         (λ m. IfOk result (λ symbols. KeepsLive m m.rec.handlers symbols.ranges)) }
@@ -151,6 +156,7 @@ pub fn rewrite<'a>(
     items_suit(world);
     plain_size_fits(world);
     rewritten_is_typed(world);
+    rewritten_matches(world);
     are_few(homes);
     let rec = world.method(method);
     is_a_byte(rec.max_stack);

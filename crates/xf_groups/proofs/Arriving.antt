@@ -93,7 +93,7 @@ module _ (v w : Linked) (s : Source) (place : ℕ → ℕ) (laid : IsLaidIn v w 
       → IsAtStep w place (steps_of s) t n count
   at-step t n count runs method at further = record {
     runs = runs;
-    method = laid.target.rec;
+    method = laid.code.target.rec;
     is_method = ap (slice_get w.methods) method ∙ target-at v w s place laid;
     are =
         subst (λ m. AreSteps (code_at w m) place 0 (steps_of s) (listing (code_at w m))) (sym method) (steps-are v w s place laid);
@@ -109,7 +109,7 @@ module _ (v w : Linked) (s : Source) (place : ℕ → ℕ) (laid : IsLaidIn v w 
       → AreOf s (top z) (top t)
       → IsBeside w s (top z).place (top z) t
   beside z t typed heap of =
-      let classes : v.classes ≡ w.classes = laid.same.classes in
+      let classes : v.classes ≡ w.classes = laid.code.same.classes in
       let own = target-room v w s place laid in
       let method = ap (max_stack_of w) of.target in
       record {

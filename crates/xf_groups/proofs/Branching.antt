@@ -163,17 +163,17 @@ module _
   runs-too : IsRunning u
   runs-too = let same = equal_too.frames in let going = ex.fetched.runs in omega (arith, same, going)
 
-  resolves-there : Resolves w laid.target.rec i.place j.step.insn (Ok op)
+  resolves-there : Resolves w laid.code.target.rec i.place j.step.insn (Ok op)
   resolves-there =
       let bytes = op-fits s.method.code i.place i.insn laid.planned.code.bytes ((listed s.method.code).decodes i stands) in
       let own = jump-resolves v ex.method ex.method i.place i.place n i.insn i op bytes refl some ex.resolved in
-      operations v w ex.method laid.target.rec i.place j.step.insn (Ok op) laid.same
-      (ap apart_from_code method ∙ sym laid.has.same)
+      operations v w ex.method laid.code.target.rec i.place j.step.insn (Ok op) laid.code.same
+      (ap apart_from_code method ∙ sym laid.code.has.same)
       (subst (λ k. Resolves v ex.method i.place k (Ok op)) (sym j.insn_is) own)
 
   there : ExecutesStep w u place m j.step op
   there =
-      executed u laid.target.rec place (steps_of s) m i.place j.step op runs-too
+      executed u laid.code.target.rec place (steps_of s) m i.place j.step op runs-too
       (ap (slice_get w.methods) of.target ∙ target-at v w s place laid)
       (subst (λ k. AreSteps (code_at w k) place 0 (steps_of s) (listing (code_at w k))) (sym of.target) (steps-are v w s place laid))
       j.found at resolves-there
@@ -228,7 +228,7 @@ module _
   named-same = same-named v f op n some
 
   none-there : registers_asked (demands w (renamed_new f op)) ≡ 0
-  none-there = ap (λ a. registers_asked (demands w a)) named-same ∙ (ap registers_asked (sym (asked v w op laid.same)) ∙ none-here)
+  none-there = ap (λ a. registers_asked (demands w a)) named-same ∙ (ap registers_asked (sym (asked v w op laid.code.same)) ∙ none-here)
 
   none-own : registers_asked (demands v (renamed_new f op)) ≡ 0
   none-own = ap (λ a. registers_asked (demands v a)) named-same ∙ none-here
@@ -322,6 +322,6 @@ module _
       (same-named v (rename s place) op n some ∙ sym named-same) equal in
       let run = run_alike (renamed_cell (rename s place)) (rename s place) v w z u i there.instruction op (renamed_new f op)
       states agree are none-here none-there in
-      let p = alike_steps w (rename s place) z u i there.instruction op (renamed_new f op) (running y) laid.same
+      let p = alike_steps w (rename s place) z u i there.instruction op (renamed_new f op) (running y) laid.code.same
       (one_to_one w s place laid) ex there.executes run step tt in
       (p.0, p.1, comes (running y) p.0 refl p.2)

@@ -438,7 +438,7 @@ module _
       let other : handlers_of w g.method ≡ map (catching hs) (map laying (ranges s)) =
       ap (handlers_of w) within_group.of.target
       ∙ (ap (of_method [] (λ (m : MethodRec). m.handlers)) (target-at v w s place laid)
-      ∙ (laid.has.handlers ∙ ap (map (catching hs)) laid.stands.handlers)) in
+      ∙ (laid.code.has.handlers ∙ ap (map (catching hs)) laid.code.stands.handlers)) in
       by x own other
     where
       by :
@@ -455,7 +455,7 @@ module _
           (ap (find (catches w.classes g.place class)) other
           ∙ (ap (λ p. find (catches w.classes p class) (map (catching hs) (map laying (ranges_from s 0 hs)))) within_group.at
           ∙ (ap (λ t. find (catches t (place within_group.step) class) (map (catching hs) (map laying (ranges_from s 0 hs))))
-          (sym laid.same.classes) ∙ b)))
+          (sym laid.code.same.classes) ∙ b)))
       by (both m h k a at covers b entry) own other =
           both_catch m h k
           (ap (find (catches v.classes f.place class)) own
@@ -464,10 +464,10 @@ module _
           (ap (find (catches w.classes g.place class)) other
           ∙ (ap (λ p. find (catches w.classes p class) (map (catching hs) (map laying (ranges_from s 0 hs)))) within_group.at
           ∙ (ap (λ t. find (catches t (place within_group.step) class) (map (catching hs) (map laying (ranges_from s 0 hs))))
-          (sym laid.same.classes) ∙ b)))
+          (sym laid.code.same.classes) ∙ b)))
           entry
 
 pub groups-catch :
     LabelsStandOnce → GroupsStand → InstructionsAreListed → GroupsStandAtSteps → GroupsFollow → (v : Linked) → GroupsCatch v
-groups-catch once groups listed stand follow v w s place class f g laid reached within_group =
+groups-catch once groups listed stand follow v w s place laid class f g reached within_group =
     groups-catch-here once groups listed stand follow v w s place laid class f g reached within_group

@@ -38,22 +38,22 @@ module _ (v w : Linked) (s : Source) (place : ℕ → ℕ) (laid : IsLaidIn v w 
   pub typing-of : FlowTyping v s.method Top s.frames
   typing-of = subst (λ u. FlowTyping u s.method Top s.frames) laid.world laid.planned.typing
 
-  pub target-at : slice_get w.methods s.method.number ≡ Some laid.target.rec
-  target-at = ap (slice_get w.methods) (sym laid.number) ∙ laid.is_target.rec
+  pub target-at : slice_get w.methods s.method.number ≡ Some laid.code.target.rec
+  target-at = ap (slice_get w.methods) (sym laid.code.number) ∙ laid.code.is_target.rec
 
-  pub code-is : code_at w s.method.number ≡ laid.laid.code
-  code-is = ap (of_method [] (code_of w.infos)) target-at ∙ (sym laid.is_target.code ∙ laid.has.code)
+  pub code-is : code_at w s.method.number ≡ laid.code.laid.code
+  code-is = ap (of_method [] (code_of w.infos)) target-at ∙ (sym laid.code.is_target.code ∙ laid.code.has.code)
 
   pub steps-are : AreSteps (code_at w s.method.number) place 0 (steps_of s) (listing (code_at w s.method.number))
   unfolding rewritten
-  steps-are = subst (λ c. AreSteps c place 0 (steps_of s) (listing c)) (sym code-is) laid.stands.instructions
+  steps-are = subst (λ c. AreSteps c place 0 (steps_of s) (listing c)) (sym code-is) laid.code.stands.instructions
 
   pub source-room : max_stack_of v s.method.number ≡ s.method.rec.max_stack
   source-room = ap (of_method 0 (λ (m : MethodRec). m.max_stack)) method-of.rec
 
   pub target-room : max_stack_of w s.method.number ≡ s.method.rec.max_stack + 1
   unfolding rewritten
-  target-room = ap (of_method 0 (λ (m : MethodRec). m.max_stack)) target-at ∙ (laid.has.max_stack ∙ laid.stands.max_stack)
+  target-room = ap (of_method 0 (λ (m : MethodRec). m.max_stack)) target-at ∙ (laid.code.has.max_stack ∙ laid.code.stands.max_stack)
 
   pub source-code : code_at v s.method.number ≡ s.method.code
   source-code = ap (of_method [] (code_of v.infos)) method-of.rec ∙ sym method-of.code

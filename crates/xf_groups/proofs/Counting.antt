@@ -281,9 +281,9 @@ module _
       let low : r < 256 = small-register v serves s h laid.world laid.planned local_home.has in
       let bytes = op-fits s.method.code i.place i.insn laid.planned.code.bytes ((listed s.method.code).decodes i b.stands) in
       let same_method = method-is v w s place laid (executed w laid.new) i op z t b g in
-      let resolves : Resolves w laid.target.rec i.place insn (Ok other) =
-      operations v w b.executes.method laid.target.rec i.place insn (Ok other) laid.same
-      (ap apart_from_code same_method ∙ sym laid.has.same)
+      let resolves : Resolves w laid.code.target.rec i.place insn (Ok other) =
+      operations v w b.executes.method laid.code.target.rec i.place insn (Ok other) laid.code.same
+      (ap apart_from_code same_method ∙ sym laid.code.has.same)
       (sym (increased-at v b.executes.method b.executes.method i.place i.place i.insn counted x r amount bytes low (sym b.executes.resolved))) in
       let there = ex v w s place laid (executed w laid.new) i op z t b g insn other count found resolves refl in
       let agree = codes v w s place laid (executed w laid.new) i op z t b g insn other count found resolves refl refl
@@ -295,7 +295,7 @@ module _
       wide home.ty ∙ (ap size home.letter_is ∙ sym (written-width v counted x amount)) in
       let run = run_alike (renamed_cell (rename s place)) (rename s place) v w z t i there.instruction s h counted amount
       (alike v w s place laid (executed w laid.new) i op z t b g) agree held wide_enough in
-      let p = alike_steps w (rename s place) z t i there.instruction op other o laid.same (one_to_one w s place laid)
+      let p = alike_steps w (rename s place) z t i there.instruction op other o laid.code.same (one_to_one w s place laid)
       b.executes there.executes run step fine in
       let serve : Serve s.world s.method s.frames s.homes =
       (subst HomesServe (sym laid.world) serves) s.method s.frames s.homes laid.planned.homes in

@@ -135,7 +135,7 @@ module _
         let found : slice_get (steps_of s) n ≡ Some (record { insn = jump 168; targets = group_at s q ∷ []; keys = [] }) =
         step-at s n (goto q) [] (record { insn = jump 168; targets = place_of q (items s) ∷ []; keys = [] }) [] rest refl in
         let method : (top u1).method ≡ s.method.number = of.target in
-        let jumped = goto-steps w laid.new executed place (steps_of s) u1 laid.target.rec n (group_at s q) (omega arith)
+        let jumped = goto-steps w laid.new executed place (steps_of s) u1 laid.code.target.rec n (group_at s q) (omega arith)
         (ap (slice_get w.methods) method ∙ target-at v w s place laid)
         (subst (λ k. AreSteps (code_at w k) place 0 (steps_of s) (listing (code_at w k))) (sym method) (steps-are v w s place laid))
         found refl (group-inside v w s place laid stand follow q typed.reached) (omega arith) in

@@ -83,9 +83,9 @@ module _
       let found = step-at s own (Plain i.insn) [] (record { insn = i.insn; targets = []; keys = [] }) []
       (stand-as s own (body s i op) (Plain i.insn ∷ []) kept g.body_steps) refl in
       let same_method = method-is v w s place laid (executed w laid.new) i op z t b g in
-      let resolves : Resolves w laid.target.rec i.place i.insn (Ok op) =
-      operations v w b.executes.method laid.target.rec i.place i.insn (Ok op) laid.same
-      (ap apart_from_code same_method ∙ sym laid.has.same) b.executes.resolved in
+      let resolves : Resolves w laid.code.target.rec i.place i.insn (Ok op) =
+      operations v w b.executes.method laid.code.target.rec i.place i.insn (Ok op) laid.code.same
+      (ap apart_from_code same_method ∙ sym laid.code.has.same) b.executes.resolved in
       let declared : IfSome b.executes.method.sig.result (IsDeclared v.classes) =
       (All-slice_get (IsMethod v.infos v.pools v.classes) v.methods (top z).method b.executes.method world.methods b.executes.fetched.method).result in
       let is_sound : IsSound v s.method.rec i.place op =
@@ -97,14 +97,14 @@ module _
       (λ falls. subst (λ m. IsPlace (code_at w m) (place (own + 1))) (sym b.of.target)
       (next-place v w s place laid stand follow i op b.stands b.reached b.does count (sym (falls-renamed f op) ∙ falls))) in
       let also : registers_asked (demands w (renamed_new f op)) ≡ 0 =
-      ap registers_asked (demands-renamed w f op ∙ sym (asked v w op laid.same)) ∙ none in
+      ap registers_asked (demands-renamed w f op ∙ sym (asked v w op laid.code.same)) ∙ none in
       let own_none : registers_asked (demands v (renamed_new f op)) ≡ 0 = ap registers_asked (demands-renamed v f op) ∙ none in
       let are : IsAlike (renamed_new (rename s place) op) (renamed_new f op) =
       subst (λ k. IsAlike (renamed_new (rename s place) op) k) renamed equal in
       let run : RunAlike (renamed_cell (rename s place)) (rename s place) v w z t i there.instruction op (renamed_new f op) =
       run_alike (renamed_cell (rename s place)) (rename s place) v w z t i there.instruction op (renamed_new f op)
       (alike v w s place laid (executed w laid.new) i op z t b g) agree are none also in
-      let p = alike_steps w (rename s place) z t i there.instruction op (renamed_new f op) o laid.same (one_to_one w s place laid)
+      let p = alike_steps w (rename s place) z t i there.instruction op (renamed_new f op) o laid.code.same (one_to_one w s place laid)
       b.executes there.executes run step fine in
       record {
         count = 1;

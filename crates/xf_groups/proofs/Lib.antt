@@ -37,3 +37,5 @@ mod Running
 pub mod FieldCells
 pub mod ThisWrites
 pub mod ThisWriting
+pub mod Sounding
+mod Matching

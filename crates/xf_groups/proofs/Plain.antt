@@ -155,7 +155,7 @@ module _
       (insn : Insn) (other : Operation)
       (one : count_of (body s i op) ≡ 1)
       (found : slice_get (steps_of s) n ≡ Some (record { insn = insn; targets = []; keys = [] }))
-      (resolves : Resolves w laid.target.rec i.place insn (Ok other)) (same_falls : falls_from other ≡ falls_from op) where
+      (resolves : Resolves w laid.code.target.rec i.place insn (Ok other)) (same_falls : falls_from other ≡ falls_from op) where
     abbrev plain : Step
     plain = record { insn = insn; targets = []; keys = [] }
 
@@ -164,7 +164,7 @@ module _
 
     pub ex : ExecutesStep w t place n plain other
     ex =
-        executed t laid.target.rec place (steps_of s) n i.place plain other runs-too
+        executed t laid.code.target.rec place (steps_of s) n i.place plain other runs-too
         (ap (slice_get w.methods) b.of.target ∙ target-at v w s place laid)
         (subst (λ m. AreSteps (code_at w m) place 0 (steps_of s) (listing (code_at w m))) (sym b.of.target)
         (steps-are v w s place laid))

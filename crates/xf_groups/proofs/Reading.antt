@@ -195,9 +195,9 @@ module _
       let reached_here = some-reached v w s place laid i.place b.reached in
       let local_home = needed-local v w s place laid needs i.place x h reached_here home.among in
       let low : r < 256 = small s h laid.world laid.planned local_home.has in
-      let resolves : Resolves w laid.target.rec i.place insn (Ok other) =
-      subst (λ k. Resolves w laid.target.rec i.place insn (Ok (ops.Load k r))) home.letter_is
-      (load-resolves w laid.target.rec i.place r home.ty low) in
+      let resolves : Resolves w laid.code.target.rec i.place insn (Ok other) =
+      subst (λ k. Resolves w laid.code.target.rec i.place insn (Ok (ops.Load k r))) home.letter_is
+      (load-resolves w laid.code.target.rec i.place r home.ty low) in
       let there = ex v w s place laid (executed w laid.new) i op z t b g insn other count found resolves refl in
       let agree = codes v w s place laid (executed w laid.new) i op z t b g insn other count found resolves refl refl
       (λ falls. subst (λ m. IsPlace (code_at w m) (place (own + 1))) (sym b.of.target)
@@ -208,7 +208,7 @@ module _
       wide home.ty ∙ (ap size home.letter_is ∙ sym (given-width v letter x)) in
       let run = run_alike (renamed_cell (rename s place)) (rename s place) v w z t i there.instruction s h letter
       (alike v w s place laid (executed w laid.new) i op z t b g) agree held wide_enough in
-      let p = alike_steps w (rename s place) z t i there.instruction op other o laid.same (one_to_one w s place laid)
+      let p = alike_steps w (rename s place) z t i there.instruction op other o laid.code.same (one_to_one w s place laid)
       b.executes there.executes run step fine in
       record {
         count = 1;

@@ -43,7 +43,7 @@ unfolding body
 call-kept s i c = refl
 
 pub calls-end : GroupsStandAtSteps → GroupsFollow → (v : Linked) → CallsEnd v
-calls-end stand follow v w s place f g laid reached under =
+calls-end stand follow v w s place laid f g reached under =
     let i = under.within.instruction in
     let op = Call under.callee in
     let some : is_some (s.frames i.place) ≡ true =

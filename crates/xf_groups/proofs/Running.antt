@@ -51,7 +51,7 @@ pub groups-run :
     → ForkGroupsRun v
     → GroupsRun v
 groups-run v stand follow needs fill loading spills stay edges few_copies few_cells kept loads stores increments reads writes gotos forks
-    w s place z t o laid typed group equal step stays =
+    w s place laid z t o typed group equal step stays =
     let turn = turn-of v w s place laid z o typed step stays in
     by turn.instruction turn.op turn.executes
   where

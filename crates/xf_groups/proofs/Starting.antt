@@ -112,10 +112,10 @@ module _
   registers-are : register_count w.methods s.method.number ≡ register_sum s.homes
   unfolding rewritten
   registers-are =
-      let one : register_count w.methods s.method.number ≡ laid.target.rec.nargs + laid.target.rec.max_locals =
+      let one : register_count w.methods s.method.number ≡ laid.code.target.rec.nargs + laid.code.target.rec.max_locals =
       ap registers_of (target-at v w s place laid) in
-      let two : laid.target.rec.nargs ≡ s.method.rec.nargs = laid.has.nargs ∙ laid.stands.nargs in
-      let three : laid.target.rec.max_locals ≡ register_sum s.homes - s.method.rec.nargs = laid.has.max_locals ∙ laid.stands.max_locals in
+      let two : laid.code.target.rec.nargs ≡ s.method.rec.nargs = laid.code.has.nargs ∙ laid.code.stands.nargs in
+      let three : laid.code.target.rec.max_locals ≡ register_sum s.homes - s.method.rec.nargs = laid.code.has.max_locals ∙ laid.code.stands.max_locals in
       let least = homes-counted in
       omega (arith, one, two, three, least)
 
@@ -194,7 +194,7 @@ module _
         let frames = equal.frames in
         let runs = typed.runs in
         let going : IsRunning t = omega (arith, frames, runs) in
-        let origin : (top t).place ≡ place 0 = ap (λ (f : Frame Cell). f.place) from_there ∙ sym laid.stands.begins in
+        let origin : (top t).place ≡ place 0 = ap (λ (f : Frame Cell). f.place) from_there ∙ sym laid.code.stands.begins in
         let near : IsBeside w s 0 (top z) t =
         subst (λ q. IsBeside w s q (top z) t) at-zero (beside v w s place laid z t typed equal.heap of-both) in
         let depth = ap length bare-too in

@@ -298,7 +298,7 @@ module _
     frames_t = frames-are t (omega (arith, b.equal.frames))
 
     classes_are : v.classes ≡ w.classes
-    classes_are = laid.same.classes
+    classes_are = laid.code.same.classes
 
     kinds_are : ks ≡ kinds t
     kinds_are = ap (λ (os : List (Object Cell)). map (λ (o : Object Cell). o.kind) os) (sym b.equal.heap)

@@ -248,7 +248,7 @@ module _
       let found : slice_get (steps_of s) k ≡ Some (record { insn = jump 168; targets = group_at s q ∷ []; keys = [] }) =
       step-at s k (goto q) [] (record { insn = jump 168; targets = place_of q (items s) ∷ []; keys = [] }) [] rest refl in
       let method : (top x1).method ≡ s.method.number = of.target in
-      let jumped = goto-steps w laid.new executed place (steps_of s) x1 laid.target.rec k (group_at s q) (omega arith)
+      let jumped = goto-steps w laid.new executed place (steps_of s) x1 laid.code.target.rec k (group_at s q) (omega arith)
       (ap (slice_get w.methods) method ∙ target-at v w s place laid)
       (subst (λ r. AreSteps (code_at w r) place 0 (steps_of s) (listing (code_at w r))) (sym method) (steps-are v w s place laid))
       found refl (group-inside v w s place laid stand follow q typed.reached) (omega arith) in

@@ -152,14 +152,14 @@ module _
       let found = step-at s own (Plain i.insn) [] (record { insn = i.insn; targets = []; keys = [] }) []
       (stand-as s own (body s i op) (Plain i.insn ∷ []) kept g.body_steps) refl in
       let same_method = method-is v w s place laid (executed w laid.new) i op z t b g in
-      let resolves : Resolves w laid.target.rec i.place i.insn (Ok op) =
-      operations v w b.executes.method laid.target.rec i.place i.insn (Ok op) laid.same
-      (ap apart_from_code same_method ∙ sym laid.has.same) b.executes.resolved in
+      let resolves : Resolves w laid.code.target.rec i.place i.insn (Ok op) =
+      operations v w b.executes.method laid.code.target.rec i.place i.insn (Ok op) laid.code.same
+      (ap apart_from_code same_method ∙ sym laid.code.has.same) b.executes.resolved in
       let there = ex v w s place laid (executed w laid.new) i op z t b g i.insn op count found resolves refl in
       let agree = codes v w s place laid (executed w laid.new) i op z t b g i.insn op count found resolves refl reads.still
       (λ falls. subst (λ m. IsPlace (code_at w m) (place (own + 1))) (sym b.of.target)
       (next-place v w s place laid stand follow i op b.stands b.reached b.does count reads.falls)) in
-      let again : demands w (renamed_new f op) ≡ demands v op = ap (demands w) (reads.same f) ∙ sym (demanded v w op laid.same) in
+      let again : demands w (renamed_new f op) ≡ demands v op = ap (demands w) (reads.same f) ∙ sym (demanded v w op laid.code.same) in
       let held : Holds s (top z).registers (top t) h =
       among-each (Holds s (top z).registers (top t)) (needed s i.place 0) h (b.held.locals 0) among in
       let wide_enough = some-width ty in
@@ -180,7 +180,7 @@ module _
             ∙ (ap (λ c. c ∷ []) first ∙ sym (ap (map (slice_get (top z).registers)) reads.read)));
         room = agree.room;
       } in
-      let p = alike_steps w (rename s place) z t i there.instruction op (renamed_new f op) o laid.same (one_to_one w s place laid)
+      let p = alike_steps w (rename s place) z t i there.instruction op (renamed_new f op) o laid.code.same (one_to_one w s place laid)
       b.executes there.executes run step fine in
       record {
         count = 1;

@@ -230,18 +230,18 @@ module _
 
     -- ---- the field
 
-    resolves : Resolves w laid.target.rec i.place (record i.insn { op = i.insn.op - 42 }) (Ok (ops.FieldRead fd holders.Stack))
+    resolves : Resolves w laid.code.target.rec i.place (record i.insn { op = i.insn.op - 42 }) (Ok (ops.FieldRead fd holders.Stack))
     resolves =
         let same_method = method-is v w s place laid (executed w laid.new) i (ops.FieldRead fd holders.This) z t b g in
-        let own : Resolves w laid.target.rec i.place i.insn (Ok (ops.FieldRead fd holders.This)) =
-        operations v w b.executes.method laid.target.rec i.place i.insn (Ok (ops.FieldRead fd holders.This)) laid.same
-        (ap apart_from_code same_method ∙ sym laid.has.same) b.executes.resolved in
+        let own : Resolves w laid.code.target.rec i.place i.insn (Ok (ops.FieldRead fd holders.This)) =
+        operations v w b.executes.method laid.code.target.rec i.place i.insn (Ok (ops.FieldRead fd holders.This)) laid.code.same
+        (ap apart_from_code same_method ∙ sym laid.code.has.same) b.executes.resolved in
         let small = op-fits s.method.code i.place i.insn laid.planned.code.bytes ((all-are-listed s.method.code).decodes i b.stands) in
-        sym (read-on-stack w laid.target.rec laid.target.rec i.place i.place i.insn fd small refl (sym own))
+        sym (read-on-stack w laid.code.target.rec laid.code.target.rec i.place i.place i.insn fd small refl (sym own))
 
     ex : ExecutesStep w t1 place (body_at s i.place + 1) (record { insn = record i.insn { op = i.insn.op - 42 }; targets = []; keys = [] }) (ops.FieldRead fd holders.Stack)
     ex =
-        executed w laid.new t1 laid.target.rec place (steps_of s) (body_at s i.place + 1) i.place (record { insn = record i.insn { op = i.insn.op - 42 }; targets = []; keys = [] })
+        executed w laid.new t1 laid.code.target.rec place (steps_of s) (body_at s i.place + 1) i.place (record { insn = record i.insn { op = i.insn.op - 42 }; targets = []; keys = [] })
         (ops.FieldRead fd holders.Stack) (omega arith)
         (ap (slice_get w.methods) b.of.target ∙ target-at v w s place laid)
         (subst (λ m. AreSteps (code_at w m) place 0 (steps_of s) (listing (code_at w m))) (sym b.of.target) (steps-are v w s place laid))
@@ -251,7 +251,7 @@ module _
     asked =
         let at_source = (cell-at v.classes Bottom (map (λ (q : Object Cell). q.kind) heap) f.registers 0 (λ u. Below v.classes u (Class fd.class)) has.asked.1.0).holds in
         let kinds_are : map (λ (q : Object Cell). q.kind) heap ≡ kinds t = ap (λ (os : List (Object Cell)). map (λ (q : Object Cell). q.kind) os) (sym b.equal.heap) in (
-          subst (λ (k : ClassTable). Below k (least_type k Bottom (kinds t) (nth tagged f.registers 0)) (Class fd.class)) laid.same.classes
+          subst (λ (k : ClassTable). Below k (least_type k Bottom (kinds t) (nth tagged f.registers 0)) (Class fd.class)) laid.code.same.classes
               (subst (λ (os : List ObjectKind). Below v.classes (least_type v.classes Bottom os (nth tagged f.registers 0)) (Class fd.class)) kinds_are at_source),
           tt,
         )

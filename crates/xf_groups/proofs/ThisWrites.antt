@@ -174,11 +174,11 @@ module _
 
     -- ---- the swap
 
-    own : Resolves w laid.target.rec i.place i.insn (Ok (ops.FieldWrite fd holders.This))
+    own : Resolves w laid.code.target.rec i.place i.insn (Ok (ops.FieldWrite fd holders.This))
     own =
         let same_method = method-is v w s place laid (executed w laid.new) i (ops.FieldWrite fd holders.This) z t b g in
-        operations v w b.executes.method laid.target.rec i.place i.insn (Ok (ops.FieldWrite fd holders.This)) laid.same
-        (ap apart_from_code same_method ∙ sym laid.has.same) b.executes.resolved
+        operations v w b.executes.method laid.code.target.rec i.place i.insn (Ok (ops.FieldWrite fd holders.This)) laid.code.same
+        (ap apart_from_code same_method ∙ sym laid.code.has.same) b.executes.resolved
 
     kind_is : IsOfKind fd.kind fd.ty
     kind_is =
@@ -199,7 +199,7 @@ module _
         let there_is = swaps v.classes world.chains types (map (λ (q : Object Cell). q.kind) heap) fd.class (rename s place) regs (nth tagged f.registers 0) at_source
         fd.kind fd.ty f.stack (least_types v.classes Bottom (map (λ (q : Object Cell). q.kind) heap) f.registers) kind_is has.asked.1 in
         subst (λ (cs : List Cell). Swaps w.classes (kinds t) (cells_of_kind fd.kind) (λ ds. value_on tagged fd.kind ds) fd.ty fd.class (rename s place) regs (nth tagged f.registers 0) f.stack cs) (sym b.held.stack)
-        (subst (λ (k : ClassTable). Swaps k (kinds t) (cells_of_kind fd.kind) (λ ds. value_on tagged fd.kind ds) fd.ty fd.class (rename s place) regs (nth tagged f.registers 0) f.stack (map (renamed_cell (rename s place)) f.stack)) laid.same.classes
+        (subst (λ (k : ClassTable). Swaps k (kinds t) (cells_of_kind fd.kind) (λ ds. value_on tagged fd.kind ds) fd.ty fd.class (rename s place) regs (nth tagged f.registers 0) f.stack (map (renamed_cell (rename s place)) f.stack)) laid.code.same.classes
         (subst (λ (os : List ObjectKind). Swaps v.classes os (cells_of_kind fd.kind) (λ ds. value_on tagged fd.kind ds) fd.ty fd.class (rename s place) regs (nth tagged f.registers 0) f.stack (map (renamed_cell (rename s place)) f.stack)) kinds_are there_is))
 
     abbrev t2 : State Cell
@@ -221,11 +221,11 @@ module _
 
     ex2 : ExecutesStep w t1 place (body_at s i.place + 1) (record { insn = with_byte 64 (swap_words fd.kind); targets = []; keys = [] }) (ops.Move (shifts.Exchange 1 (cells_of_kind fd.kind)))
     ex2 =
-        executed w laid.new t1 laid.target.rec place (steps_of s) (body_at s i.place + 1) i.place (record { insn = with_byte 64 (swap_words fd.kind); targets = []; keys = [] })
+        executed w laid.new t1 laid.code.target.rec place (steps_of s) (body_at s i.place + 1) i.place (record { insn = with_byte 64 (swap_words fd.kind); targets = []; keys = [] })
         (ops.Move (shifts.Exchange 1 (cells_of_kind fd.kind))) (omega arith)
         (ap (slice_get w.methods) b.of.target ∙ target-at v w s place laid)
         (subst (λ m. AreSteps (code_at w m) place 0 (steps_of s) (listing (code_at w m))) (sym b.of.target) (steps-are v w s place laid))
-        there.1.0 refl (swap-is w laid.target.rec i.place fd.kind)
+        there.1.0 refl (swap-is w laid.code.target.rec i.place fd.kind)
 
     swapping : Runs tagged w 1 t1 (running t2)
     swapping =
@@ -239,14 +239,14 @@ module _
 
     -- ---- the field
 
-    resolves : Resolves w laid.target.rec i.place (record i.insn { op = i.insn.op - 46 }) (Ok (ops.FieldWrite fd holders.Stack))
+    resolves : Resolves w laid.code.target.rec i.place (record i.insn { op = i.insn.op - 46 }) (Ok (ops.FieldWrite fd holders.Stack))
     resolves =
         let small = op-fits s.method.code i.place i.insn laid.planned.code.bytes ((all-are-listed s.method.code).decodes i b.stands) in
-        sym (write-on-stack w laid.target.rec laid.target.rec i.place i.place i.insn fd small refl (sym own))
+        sym (write-on-stack w laid.code.target.rec laid.code.target.rec i.place i.place i.insn fd small refl (sym own))
 
     ex : ExecutesStep w t2 place (body_at s i.place + 1 + 1) (record { insn = record i.insn { op = i.insn.op - 46 }; targets = []; keys = [] }) (ops.FieldWrite fd holders.Stack)
     ex =
-        executed w laid.new t2 laid.target.rec place (steps_of s) (body_at s i.place + 1 + 1) i.place (record { insn = record i.insn { op = i.insn.op - 46 }; targets = []; keys = [] })
+        executed w laid.new t2 laid.code.target.rec place (steps_of s) (body_at s i.place + 1 + 1) i.place (record { insn = record i.insn { op = i.insn.op - 46 }; targets = []; keys = [] })
         (ops.FieldWrite fd holders.Stack) (omega arith)
         (ap (slice_get w.methods) b.of.target ∙ target-at v w s place laid)
         (subst (λ m. AreSteps (code_at w m) place 0 (steps_of s) (listing (code_at w m))) (sym b.of.target) (steps-are v w s place laid))

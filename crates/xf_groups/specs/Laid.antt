@@ -6,6 +6,7 @@ use Rattle.jc_base.specs.World.{Linked}
 use Rattle.jc_decode.specs.declared.insn.Placed.{Placed}
 use Rattle.jc_decode.specs.declared.symbols.Item.{Item}
 use Rattle.jc_decode.specs.declared.symbols.Laid.{Laid}
+use Rattle.jc_decode.specs.declared.symbols.Symbols.{Symbols}
 use Rattle.jc_decode.specs.Standing.{StandsAt}
 use Rattle.jc_decode.specs.Symbols.{Step, is_instruction, place_of, steps}
 use Rattle.jc_control.specs.Method.{Method, IsMethodOf}
@@ -53,19 +54,23 @@ rename s place p = if is_some (s.frames p) then place (body_at s p) else place (
 
 -- ---- the method
 
--- the source is a method of the world v that can be rewritten, and no limit is passed; w differs from v in code alone, and there the
--- method of the same number has what is laid for the rewritten code, whose steps stand at these places
+-- the world w differs from v in code alone, and there the method of the same number has what is laid for these symbols, whose steps stand
+-- at these places
+pub record AreLaidIn (v w : Linked) (m : Method) (symbols : Symbols) (place : ℕ → ℕ) : Type 0 where
+  pub same : IsSameBut v w
+  pub target : Method
+  pub is_target : IsMethodOf w target
+  pub number : target.number ≡ m.number
+  pub laid : Laid
+  pub has : HasLaid m.rec laid target
+  pub stands : StandsAt place m.code symbols laid
+
+-- the source is a method of the world v that can be rewritten, no limit is passed, and its rewritten code is laid in the world w
 pub record IsLaidIn (v w : Linked) (s : Source) (place : ℕ → ℕ) : Type 0 where
   pub world : s.world ≡ v
   pub new : CanRun w
-  pub same : IsSameBut v w
   pub planned : IsPlanned s
   pub room : s.method.rec.max_stack < 255
   -- what a handler catches is told by its pool number
   pub catches : (h : Handler) → Contains s.method.rec.handlers h → class_by s.method.rec.handlers h.index ≡ h.class
-  pub target : Method
-  pub is_target : IsMethodOf w target
-  pub number : target.number ≡ s.method.number
-  pub laid : Laid
-  pub has : HasLaid s.method.rec laid target
-  pub stands : StandsAt place s.method.code (rewritten s) laid
+  pub code : AreLaidIn v w s.method (rewritten s) place

@@ -42,16 +42,18 @@ RenamesOneToOne v = (w : Linked) (s : Source) (place : ℕ → ℕ) → IsLaidIn
 -- ---- groups
 
 -- from the group of a typed frame's place steps lead to what the step of the source comes to
-abbrev pub GroupsRun : Linked → Type 0
-GroupsRun v =
-    (w : Linked) (s : Source) (place : ℕ → ℕ) (z t : State Cell) (o : Outcome Cell)
-    → IsLaidIn v w s place
+abbrev pub RunFromGroups : Linked → Linked → Source → (ℕ → ℕ) → Type 0
+RunFromGroups v w s place =
+    (z t : State Cell) (o : Outcome Cell)
     → IsTypedAt v s z
     → IsAtGroup s place (top z) (top t)
     → AreEqualBut z t
     → Steps tagged v z o
     → StaysTyped v s o
     → GroupRuns v w s place z t o
+
+abbrev pub GroupsRun : Linked → Type 0
+GroupsRun v = (w : Linked) (s : Source) (place : ℕ → ℕ) → IsLaidIn v w s place → RunFromGroups v w s place
 
 -- so it is where the operation names no register and leads to no target
 abbrev pub KeptGroupsRun : Linked → Type 0
@@ -115,20 +117,18 @@ pub record EndsAtNext (w : Linked) (s : Source) (place : ℕ → ℕ) (f g : Fra
   pub next : place_after (instruction_at (code_at w g.method) g.place) ≡ place (body_at s f.place + 1)
   pub there : IsPlace (code_at w g.method) (place (body_at s f.place + 1))
 
+abbrev pub EndCalls : Linked → Source → (ℕ → ℕ) → Type 0
+EndCalls w s place = (f g : Frame Cell) → IsReached s.method f.place → IsUnderCall s place f g → EndsAtNext w s place f g
+
 abbrev pub CallsEnd : Linked → Type 0
-CallsEnd v =
-    (w : Linked) (s : Source) (place : ℕ → ℕ) (f g : Frame Cell)
-    → IsLaidIn v w s place
-    → IsReached s.method f.place
-    → IsUnderCall s place f g
-    → EndsAtNext w s place f g
+CallsEnd v = (w : Linked) (s : Source) (place : ℕ → ℕ) → IsLaidIn v w s place → EndCalls w s place
 
 -- the stack of a laid method has room for one cell more
+abbrev pub HasMoreRoom : Linked → Linked → Source → Type 0
+HasMoreRoom v w s = max_stack_of w s.method.number ≡ max_stack_of v s.method.number + 1
+
 abbrev pub HasRoomForMore : Linked → Type 0
-HasRoomForMore v =
-    (w : Linked) (s : Source) (place : ℕ → ℕ)
-    → IsLaidIn v w s place
-    → max_stack_of w s.method.number ≡ max_stack_of v s.method.number + 1
+HasRoomForMore v = (w : Linked) (s : Source) (place : ℕ → ℕ) → IsLaidIn v w s place → HasMoreRoom v w s
 
 -- the frames after the call of the instruction i, with the result on their stacks
 pub record IsAfterCall (s : Source) (place : ℕ → ℕ) (i : Placed) (f g : Frame Cell) : Type 0 where
@@ -143,14 +143,16 @@ pub record IsAfterCall (s : Source) (place : ℕ → ℕ) (i : Placed) (f g : Fr
   pub locals : HoldsLocals s i.place f g
 
 -- after a call at most 1,000 steps lead to the group of the next place
-abbrev pub CallsReturn : Linked → Type 0
-CallsReturn v =
-    (w : Linked) (s : Source) (place : ℕ → ℕ) (z t : State Cell) (i : Placed)
-    → IsLaidIn v w s place
+abbrev pub ReturnToGroups : Linked → Linked → Source → (ℕ → ℕ) → Type 0
+ReturnToGroups v w s place =
+    (z t : State Cell) (i : Placed)
     → IsTypedAt v s z
     → AreEqualBut z t
     → IsAfterCall s place i (top z) (top t)
     → ComesWithin w 0 1000 t (ComesToGroup s place z t)
+
+abbrev pub CallsReturn : Linked → Type 0
+CallsReturn v = (w : Linked) (s : Source) (place : ℕ → ℕ) → IsLaidIn v w s place → ReturnToGroups v w s place
 
 -- ---- at a handler
 
@@ -168,14 +170,16 @@ pub record IsCaught (s : Source) (place : ℕ → ℕ) (n : ℕ) (h : Handler) (
   pub locals : HoldsLocals s p f g
 
 -- from its stub at least one step and at most 1,000 lead to the group of the entry
-abbrev pub HandlersEnter : Linked → Type 0
-HandlersEnter v =
-    (w : Linked) (s : Source) (place : ℕ → ℕ) (z t : State Cell) (n p : ℕ) (h : Handler)
-    → IsLaidIn v w s place
+abbrev pub EnterFromStubs : Linked → Linked → Source → (ℕ → ℕ) → Type 0
+EnterFromStubs v w s place =
+    (z t : State Cell) (n p : ℕ) (h : Handler)
     → IsTypedAt v s z
     → AreEqualBut z t
     → IsCaught s place n h p (top z) (top t)
     → ComesWithin w 1 1000 t (ComesToGroup s place z t)
+
+abbrev pub HandlersEnter : Linked → Type 0
+HandlersEnter v = (w : Linked) (s : Source) (place : ℕ → ℕ) → IsLaidIn v w s place → EnterFromStubs v w s place
 
 -- from a step of the group of a place the same handler catches as from that place, in the target at its stub
 pub data CatchAlike (v w : Linked) (s : Source) (place : ℕ → ℕ) (class : ℕ) (f g : Frame Cell) : Type 0 where
@@ -189,24 +193,28 @@ pub data CatchAlike (v w : Linked) (s : Source) (place : ℕ → ℕ) (class : �
       → k.entry ≡ place (place_of (handler_label n) (items s))
       → CatchAlike v w s place class f g
 
-abbrev pub GroupsCatch : Linked → Type 0
-GroupsCatch v =
-    (w : Linked) (s : Source) (place : ℕ → ℕ) (class : ℕ) (f g : Frame Cell)
-    → IsLaidIn v w s place
+abbrev pub CatchInGroups : Linked → Linked → Source → (ℕ → ℕ) → Type 0
+CatchInGroups v w s place =
+    (class : ℕ) (f g : Frame Cell)
     → IsReached s.method f.place
     → IsWithin s place f g
     → CatchAlike v w s place class f g
 
+abbrev pub GroupsCatch : Linked → Type 0
+GroupsCatch v = (w : Linked) (s : Source) (place : ℕ → ℕ) → IsLaidIn v w s place → CatchInGroups v w s place
+
 -- ---- at the start
 
 -- from the method's start at most 1,000 steps lead to the group of its first place
-abbrev pub StartsEnter : Linked → Type 0
-StartsEnter v =
-    (w : Linked) (s : Source) (place : ℕ → ℕ) (z t : State Cell) (args : List Cell)
-    → IsLaidIn v w s place
+abbrev pub EnterFromStart : Linked → Linked → Source → (ℕ → ℕ) → Type 0
+EnterFromStart v w s place =
+    (z t : State Cell) (args : List Cell)
     → IsTypedAt v s z
     → AreEqualBut z t
     → length args ≡ s.method.rec.nargs
     → top z ≡ entered tagged v.methods s.method.number args
     → top t ≡ entered tagged w.methods s.method.number args
     → ComesWithin w 0 1000 t (ComesToGroup s place z t)
+
+abbrev pub StartsEnter : Linked → Type 0
+StartsEnter v = (w : Linked) (s : Source) (place : ℕ → ℕ) → IsLaidIn v w s place → EnterFromStart v w s place

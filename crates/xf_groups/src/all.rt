@@ -1,12 +1,17 @@
 ghost use Rattle.xf_groups.specs.Laws.{GroupsRun};
+ghost use Rattle.xf_groups.specs.Matching.{RewrittenMatches};
 
 use crate::branches::branch_groups_run;
 use crate::fields::{fields_in_groups, writes_in_groups};
 use crate::increments::increments_in_groups;
-use crate::laws::{groups_stand_at_steps, plain_groups_run};
+use crate::laws::{
+    groups_are_entered, groups_catch, groups_stand_at_steps, places_are_renamed, plain_groups_run,
+};
 use crate::stores::stores_in_groups;
 use jc_base::World;
+use jc_ops::operations_are_sound;
 use xf_held::{edges_run, moves_are_few, stacks_move};
+use xf_landed::{catches_by_pool, methods_are_kept, operations_are_kept};
 use xf_typing::edges_carry;
 
 /// From the group of a typed frame's place laid code comes to what the step of the source comes to, in one step at least
@@ -25,4 +30,20 @@ pub fn groups_run(world: &World<'_>)
     fields_in_groups(world);
     writes_in_groups(world);
     branch_groups_run(world);
+}
+
+/// The symbols that stand for a method do beside it what it does, wherever they are laid: from its start, from the group of each
+/// place, after a call and at a handler.
+pub fn rewritten_matches(world: &World<'_>)
+    ensures { RewrittenMatches world.now }
+{
+    methods_are_kept();
+    operations_are_kept();
+    catches_by_pool();
+    operations_are_sound(world);
+    places_are_renamed(world);
+    groups_catch(world);
+    groups_are_entered(world);
+    groups_run(world);
+    let _ = world.classes().records();
 }

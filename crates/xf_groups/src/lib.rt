@@ -10,7 +10,7 @@ mod increments;
 mod laws;
 mod stores;
 
-pub use all::groups_run;
+pub use all::{groups_run, rewritten_matches};
 pub use branches::branch_groups_run;
 pub use fields::{fields_in_groups, writes_in_groups};
 pub use increments::increments_in_groups;

@@ -1,6 +1,5 @@
 -- When a frame of rewritten code holds a frame of its source: each value stands in the registers of the homes in which it has to
--- stand
--- (Leroy 2002, section 4.1).
+-- stand (Leroy 2002, section 4.1).
 use Rattle.std.specs.Prelude.{◌≡◌, ℕ, ◌+◌, ◌<◌, ◌≤◌, List, [], ◌++◌, length, map, reverse, slice_get}
 use Rattle.jc_base.specs.Each.{Each}
 use Rattle.vm_store.specs.State.{Frame}
@@ -27,8 +26,7 @@ abbrev pub HoldsLocals : {A : Type 0} → Source → ℕ → Frame A → Frame A
 HoldsLocals s p f g = (x : ℕ) → Each (Holds s f.registers g) (needed s p x)
 
 -- before the instruction of a place: the stacks are equal but for a map of cells, which gives uninitialised objects the place where
--- their
--- `new` stands in the rewritten code. A frame under a call is held so too, at the place of the call, once its operands are popped
+-- their `new` stands in the rewritten code. A frame under a call is held so too, at the place of the call, once its operands are popped
 pub record Held {A : Type 0} (e : A → A) (s : Source) (p : ℕ) (f g : Frame A) : Type 0 where
   pub stack : g.stack ≡ map e f.stack
   pub locals : HoldsLocals s p f g

@@ -1,5 +1,5 @@
--- A store of the source in rewritten code: the value goes into the first home that is needed afterwards, and from there to the others; where
--- none is needed, it is popped (Leroy 2002, section 4.1).
+-- A store of the source in rewritten code: the value goes into the first home that is needed afterwards, and from there to the
+-- others; where none is needed, it is popped (Leroy 2002, section 4.1).
 use Rattle.std.specs.Prelude.{◌≡◌, ◌≤◌, ◌+◌, ◌++◌, ℕ, List, length}
 use Rattle.jc_base.specs.declared.ty.Ty.TheVariants.{Bottom}
 use Rattle.jc_base.specs.Each.{Each}

@@ -1,2 +1,7 @@
 pub mod OneMethod
 pub mod Typed
+mod Unlike
+mod Refusing
+mod ZeroRefused
+mod CopyRefused
+mod ReloadRefused

@@ -1,1 +1,3 @@
 pub mod OneMethod
+pub mod Beside
+pub mod Refused

@@ -1,4 +1,4 @@
-use Rattle.std.proofs.Common.{◌≡◌, ◌<◌, All, Some, option_map, slice_get}
+use Rattle.std.proofs.Common.{◌≡◌, ◌<◌, All, Some, arith, option_map, slice_get}
 use Rattle.jc_base.specs.World.{code_of}
 use Rattle.jc_control.specs.ControlFlow.{IsControlFlow}
 use Rattle.jc_control.specs.Method.{Method, IsMethodOf, method_in}
@@ -11,9 +11,10 @@ use Rattle.xf_homes.proofs.Answered.{number-below, of-method, to-method, flaw-ne
 use Rattle.xf_emission.specs.Emission.{IsPlainSize}
 use Rattle.xf_emission.specs.Live.{KeepsLive}
 use Rattle.xf_emission.specs.Numbers.{HasNumbers}
+use Rattle.xf_groups.specs.Matching.{MatchesMethod}
 use Rattle.xf_typing.specs.Typed.{HasTypes}
 use Rattle.xf_code.proofs.Numbers.{has-numbers, has-size}
-use Rattle.xf_code.proofs.Sources.{live-by, ranged-by, items-by, small-by, typed-by}
+use Rattle.xf_code.proofs.Sources.{live-by, ranged-by, items-by, small-by, matches-by, typed-by}
 use Rattle.xf_code.proofs.Subjects.{is-subject}
 use Rattle.xf_code.proofs.rewriting.rewrite.Goals as goal
 
@@ -137,3 +138,20 @@ returns-in-Ok-rewritten-clause-typed c =
     to-method w n rec code c.method-rec.ensures.is bytes (λ m. HasTypes w m c.args.homes.now c.in-Ok-rewritten.symbols)
     (typed-by w m c.args.typing.now c.in-Ok.control c.args.homes.now typed flow (c.instructions_are_placed.ensures m typed.least.typing.formed) (c.instructions_are_listed.ensures code) mo
     c.method-rec.ensures.links c.are_bytes.ensures c.in-Ok-rewritten.symbols c.in-Ok-rewritten.ensures c.rewritten_is_typed.ensures derived are c.are_few.ensures)
+
+pub returns-in-Ok-rewritten-clause-matches : goal.returns-in-Ok-rewritten-clause-matches
+returns-in-Ok-rewritten-clause-matches c =
+    let w = c.args.world.now in
+    let n = c.args.method in
+    let rec = c.method-rec.result.now in
+    let code = c.of-code.result.bytes.now in
+    let m : Method = record { number = n; rec = rec; code = code } in
+    let bytes : option_map (code_of w.infos) (slice_get w.methods n) ≡ Some code = cc in
+    let mo : IsMethodOf w m = of-method w n rec code c.method-rec.ensures.is bytes (IsMethodOf w) c.in-Ok.ensures.known in
+    let flow : IsControlFlow m c.in-Ok.control = of-method w n rec code c.method-rec.ensures.is bytes (λ m. IsControlFlow m c.in-Ok.control) c.in-Ok.ensures.formed in
+    let typed : IsTypingOf w m c.args.typing.now = of-method w n rec code c.method-rec.ensures.is bytes (λ m. IsTypingOf w m c.args.typing.now) c.requires.typing in
+    let derived : AreDerived w m c.args.typing.now = of-method w n rec code c.method-rec.ensures.is bytes (λ m. AreDerived w m c.args.typing.now) c.requires.derived in
+    let are : AreHomes w m (state_at c.args.typing.now) c.args.homes.now = of-method w n rec code c.method-rec.ensures.is bytes (λ m. AreHomes w m (state_at c.args.typing.now) c.args.homes.now) c.requires.homes in
+    to-method w n rec code c.method-rec.ensures.is bytes (λ m. MatchesMethod w m (state_at c.args.typing.now) c.args.homes.now c.in-Ok-rewritten.symbols)
+    (matches-by w m c.args.typing.now c.in-Ok.control c.args.homes.now typed flow (c.instructions_are_placed.ensures m typed.least.typing.formed) (c.instructions_are_listed.ensures code) mo
+    c.method-rec.ensures.links c.are_bytes.ensures c.rewritten_matches.ensures derived are c.are_few.ensures (omega (arith, c.is_a_byte.ensures, c.if-rec.false)) c.in-Ok-rewritten.symbols c.in-Ok-rewritten.ensures)
