@@ -1,11 +1,14 @@
--- The code's table of formats is the definition's, opcode by opcode.
-use Rattle.std.proofs.Common.{◌≡◌, ◌∙◌, sym, ℕ, ◌<◌, Option, None, List, refl, ap, arith, get_or}
-use Rattle.std.specs.Prelude.{map}
-use Rattle.std.specs.List.{range_with_len}
+-- The code's table of formats is the definition's, opcode by opcode; and what a test of all rows says of one opcode.
+use Rattle.std.proofs.Common.{◌≡◌, ◌∙◌, sym, ℕ, ◌<◌, Bool, true, false, Option, Some, None, List, [], ◌∷◌, ◌==◌, refl, ap, subst, arith, get_or}
+use Rattle.std.specs.Prelude.{map, find, if◌then◌else◌}
+use Rattle.std.specs.Option.{option_map}
+use Rattle.std.specs.List.{list_all, range_with_len}
+use Rattle.std.proofs.lemmas.Bool.{eqb-true}
 use Rattle.std.proofs.lemmas.List.FromFn.{get_or-map-range_with_len}
+use Rattle.jc_decode.proofs.Passed.{and-parts}
 use Rattle.cap_bare.specs.declared.format.TheConstants.{FORMATS}
 use Rattle.cap_bare.specs.declared.format.Format.{Format}
-use Rattle.cap_bare.specs.Format.{format_of}
+use Rattle.cap_bare.specs.Format.{formats, format_of}
 
 -- what stands at a place of the table, or nothing after its end
 abbrev pub entry_at : ℕ → Option Format
@@ -20,3 +23,26 @@ entry-is opcode h =
     sym (get_or-map-range_with_len entry_at 0 256 opcode opcode None h (omega arith))
     ∙ ap (λ (t : List (Option Format)). get_or t opcode None) entries-are
     ∙ get_or-map-range_with_len format_of 0 256 opcode opcode None h (omega arith)
+
+module _ (test : ℕ → Format → Bool) (op : ℕ) (f : Format) where
+  abbrev row_of : Option (ℕ × Format) → Option Format
+  row_of o = option_map (λ row. row.1) o
+
+  passes-in : (rows : List (ℕ × Format)) → list_all (λ row. test row.0 row.1) rows ≡ true
+      → row_of (find (λ row. row.0 == op) rows) ≡ Some f → test op f ≡ true
+  passes-in [] all h = absurd (cc)
+  passes-in (row ∷ rows) all h =
+      let both = and-parts (test row.0 row.1) (list_all (λ row. test row.0 row.1) rows) all in
+      by_test (row.0 == op) refl both.0 (passes-in rows both.1) h
+    where
+      by_test : (b : Bool) → (row.0 == op) ≡ b → test row.0 row.1 ≡ true
+          → (row_of (find (λ row. row.0 == op) rows) ≡ Some f → test op f ≡ true)
+          → row_of (if b then Some row else find (λ row. row.0 == op) rows) ≡ Some f → test op f ≡ true
+      by_test true e here more h =
+          let same : row.1 ≡ f = cc in
+          subst (λ (n : ℕ). test n f ≡ true) (eqb-true row.0 op e) (subst (λ (g : Format). test row.0 g ≡ true) same here)
+      by_test false e here more h = more h
+
+  pub row-passes : list_all (λ row. test row.0 row.1) formats ≡ true → format_of op ≡ Some f → test op f ≡ true
+  unfolding format_of
+  row-passes all h = passes-in formats all h

@@ -1,95 +1,221 @@
--- The list of the code's instructions, one step at a time.
-use Rattle.std.specs.List.{list_any}
-use Rattle.std.proofs.Common.{◌≡◌, subst, Bool, true, ℕ, zero, suc, ◌+◌, ◌<◌, ◌≤◌, Option, Some, None, Result, Ok, Err, List, [], ◌∷◌, length, refl, arith}
+-- The instructions of the code, one after another: those of its listing, up to the first that bare methods do not have.
+use Rattle.std.proofs.Common.{◌≡◌, ◌∙◌, sym, ap, subst, cond, Bool, true, false, ℕ, zero, suc, ◌+◌, ◌<◌, ◌≤◌, ◌⊎◌, inl, inr, ⊎_elim, Option, Some, None, Result, Ok, Err, List, [], ◌∷◌, ◌++◌, length, refl, arith, Contains}
+use Rattle.std.proofs.lemmas.List.{append-nil}
+use Rattle.std.proofs.Common.{append_assoc}
+use Rattle.std.proofs.lemmas.List.Elements.{All-contains, All-contains_itself, All-take, Contains-append_right}
+use Rattle.std.proofs.lemmas.List.Sums.{take_while-cons}
+use Rattle.std.specs.List.{prefix_len, take_while}
 use Rattle.cap_bytes.specs.Number.{number_at}
 use Rattle.jc_decode.specs.declared.insn.Insn.{Insn}
+use Rattle.jc_decode.specs.declared.insn.Placed.{Placed}
 use Rattle.jc_decode.specs.declared.insn.CodeEnd.{CodeEnd}
+use Rattle.jc_decode.specs.declared.insn.CodeEnd.TheVariants.{OutOfScope}
 use Rattle.jc_decode.specs.Decoding.{decoded}
-use Rattle.jc_decode.proofs.Decoded.{IsWithin-decoded}
-use Rattle.cap_bare.specs.declared.code.Placed.{Placed}
-use Rattle.cap_bare.specs.declared.format.Format.{Format}
-use Rattle.cap_bare.specs.Format.{format_of}
-use Rattle.cap_bare.specs.Code.{fetched, of_opcode, of_format, placed_from, placed}
-use Rattle.cap_bare.specs.Walk.{at_most, ahead, instructions_from}
+use Rattle.jc_decode.specs.Listing.{listing, listing_from, end_from}
+use Rattle.jc_decode.proofs.Decoded.{Begins-decoded, IsWithin-decoded}
+use Rattle.jc_decode.proofs.Listing.{listing_from-more, listing_from-end, listing_from-start}
+use Rattle.jc_decode.proofs.Elements.{Contains-either, Contains-first, Contains-later, nothing-in}
+use Rattle.jc_decode.proofs.Listed.{all-are-listed}
+use Rattle.cap_bare.specs.Format.{is_bare}
+use Rattle.cap_bare.specs.Code.{in_scope, fetched, instructions, instructions_from, code_end, place_after, Stands}
+use Rattle.cap_bare.specs.Window.{IsReached}
 
--- an instruction stands at its place, has a byte at least, and ends within the code
-pub record IsInside (code : List ℕ) (at : ℕ) (i : Placed) : Type 0 where
-  pub place : i.place ≡ at
-  pub farther : at < i.next
-  pub inside : i.next ≤ length code
+abbrev pub here : ℕ → Insn → Placed
+here at i = record { place = at; insn = i }
 
-inside-placed : (code : List ℕ) (at : ℕ) (f : Format) (r : Result Insn CodeEnd) (i : Placed) → decoded code at ≡ r → placed_from at f r ≡ Ok i
-    → IsInside code at i
-inside-placed code at f (Ok insn) i e h =
-    let within = IsWithin-decoded code at insn e in
-    let same : placed at f insn ≡ i = cc in
-    subst (IsInside code at) same (record { place = refl; farther = omega arith; inside = within.reaches })
-inside-placed code at f (Err end) i e h = absurd (cc)
+scope-ok : (o : Option ℕ) (r : Result Insn CodeEnd) (i : Insn) → in_scope o r ≡ Ok i → r ≡ Ok i
+scope-ok None r i h = h
+scope-ok (Some op) r i h = by_test (is_bare op) h
+  where
+    by_test : (b : Bool) → cond b r (Err (OutOfScope op)) ≡ Ok i → r ≡ Ok i
+    by_test true h = h
+    by_test false h = absurd (cc)
 
-inside-format : (code : List ℕ) (at op : ℕ) (f : Option Format) (i : Placed) → of_format code at op f ≡ Ok i → IsInside code at i
-inside-format code at op (Some f) i h = inside-placed code at f (decoded code at) i refl h
-inside-format code at op None i h = absurd (cc)
+scope-bare : (op : ℕ) (r : Result Insn CodeEnd) (i : Insn) → in_scope (Some op) r ≡ Ok i → is_bare op ≡ true
+scope-bare op r i h = by_test (is_bare op) h
+  where
+    by_test : (b : Bool) → cond b r (Err (OutOfScope op)) ≡ Ok i → b ≡ true
+    by_test true h = refl
+    by_test false h = absurd (cc)
 
-inside-opcode : (code : List ℕ) (at : ℕ) (o : Option ℕ) (i : Placed) → of_opcode code at o ≡ Ok i → IsInside code at i
-inside-opcode code at (Some op) i h = inside-format code at op (format_of op) i h
-inside-opcode code at None i h = absurd (cc)
+module _ (code : List ℕ) where
+  pub fetched-decoded : (at : ℕ) (i : Insn) → fetched code at ≡ Ok i → decoded code at ≡ Ok i
+  unfolding fetched
+  fetched-decoded at i h = scope-ok (number_at 1 at code) (decoded code at) i h
 
-pub fetched-inside : (code : List ℕ) (at : ℕ) (i : Placed) → fetched code at ≡ Ok i → IsInside code at i
-unfolding fetched
-fetched-inside code at i h = inside-opcode code at (number_at 1 at code) i h
+  pub fetched-bare : (at : ℕ) (i : Insn) → fetched code at ≡ Ok i → is_bare i.op ≡ true
+  unfolding fetched
+  fetched-bare at i h =
+      let opcode = (Begins-decoded code at i (fetched-decoded at i h)).opcode in
+      scope-bare i.op (decoded code at) i (ap (λ (o : Option ℕ). in_scope o (decoded code at)) (sym opcode) ∙ h)
 
--- the list has the instructions from a place on, one after the other, to where none is
-abbrev pub Lists : List ℕ → ℕ → List Placed → Type 0
-Lists code at [] = (end : CodeEnd) × (fetched code at ≡ Err end)
-Lists code at (i ∷ is) = (fetched code at ≡ Ok i) × Lists code i.next is
+  decoded-fetched : (at : ℕ) (i : Insn) → decoded code at ≡ Ok i → is_bare i.op ≡ true → fetched code at ≡ Ok i
+  unfolding fetched
+  decoded-fetched at i h bare = let opcode = (Begins-decoded code at i h).opcode in rw (opcode, bare) h
 
-lists-ahead : (code : List ℕ) (at n : ℕ) (r : Result Placed CodeEnd) → fetched code at ≡ r
-    → ((i : Placed) → fetched code at ≡ Ok i → Lists code i.next (at_most n code i.next)) → Lists code at (ahead r (at_most n code))
-lists-ahead code at n (Ok i) e more = (e, more i e)
-lists-ahead code at n (Err end) e more = (end, e)
+  -- where an instruction is found the list begins with it, and where none is it ends
+  pub instructions-found : (at : ℕ) (i : Insn) → fetched code at ≡ Ok i
+      → instructions_from code at ≡ here at i ∷ instructions_from code (at + i.len)
+  unfolding instructions_from
+  instructions-found at i h =
+      let bare = fetched-bare at i h in
+      rw (listing_from-more code at i (fetched-decoded at i h))
+      (take_while-cons (λ j. is_bare j.insn.op) (here at i) (listing_from code (at + i.len)) ∙ rw bare refl)
 
-none-farther : (code : List ℕ) (at : ℕ) (r : Result Placed CodeEnd) → fetched code at ≡ r → length code ≤ at → Lists code at []
-none-farther code at (Ok i) e h = let inside = fetched-inside code at i e in absurd (omega arith)
-none-farther code at (Err end) e h = (end, e)
+  pub instructions-none : (at : ℕ) (end : CodeEnd) → fetched code at ≡ Err end → instructions_from code at ≡ []
+  unfolding instructions_from
+  instructions-none at end h = by_decoded (decoded code at) refl
+    where
+      by_bare : (i : Insn) → decoded code at ≡ Ok i → (b : Bool) → is_bare i.op ≡ b
+          → cond b (here at i ∷ take_while (λ j. is_bare j.insn.op) (listing_from code (at + i.len))) [] ≡ []
+      by_bare i e true bare = let found = decoded-fetched at i e bare in absurd (cc)
+      by_bare i e false bare = refl
 
-lists-at_most : (code : List ℕ) (n at : ℕ) → length code ≤ n + at → Lists code at (at_most n code at)
-unfolding at_most
-lists-at_most code zero at h = none-farther code at (fetched code at) refl (omega arith)
-lists-at_most code (suc n) at h =
-    lists-ahead code at n (fetched code at) refl
-    (λ i e. let inside = fetched-inside code at i e in lists-at_most code n i.next (omega arith))
+      by_decoded : (r : Result Insn CodeEnd) → decoded code at ≡ r → instructions_from code at ≡ []
+      by_decoded (Ok i) e =
+          rw (listing_from-more code at i e)
+          (take_while-cons (λ j. is_bare j.insn.op) (here at i) (listing_from code (at + i.len)) ∙ by_bare i e (is_bare i.op) refl)
+      by_decoded (Err f) e = rw (listing_from-end code at f e) refl
 
-pub lists-instructions : (code : List ℕ) (at : ℕ) → Lists code at (instructions_from code at)
-unfolding instructions_from
-lists-instructions code at = lists-at_most code (length code) at (omega arith)
+  -- an instruction stands here
+  pub record IsHere (at : ℕ) (i : Placed) : Type 0 where
+    pub place : i.place ≡ at
+    pub found : fetched code at ≡ Ok i.insn
 
--- there is one such list
-pub lists-one : (code : List ℕ) (at : ℕ) (xs ys : List Placed) → Lists code at xs → Lists code at ys → xs ≡ ys
-lists-one code at [] [] h k = refl
-lists-one code at [] (y ∷ ys) h k = absurd (cc (h.1, k.0))
-lists-one code at (x ∷ xs) [] h k = absurd (cc (h.0, k.1))
-lists-one code at (x ∷ xs) (y ∷ ys) h k =
-    let same : x ≡ y = cc (h.0, k.0) in
-    let tail : Lists code y.next xs = subst (λ (i : Placed). Lists code i.next xs) same h.1 in
-    let rest = lists-one code y.next xs ys tail k.1 in cc
+  pub is-here : (at : ℕ) (i : Insn) → fetched code at ≡ Ok i → IsHere at (here at i)
+  is-here at i h = record { place = refl; found = h }
 
--- where an instruction is found the list begins with it
-pub instructions-found : (code : List ℕ) (at : ℕ) (i : Placed) → fetched code at ≡ Ok i → instructions_from code at ≡ i ∷ instructions_from code i.next
-instructions-found code at i h =
-    lists-one code at (instructions_from code at) (i ∷ instructions_from code i.next) (lists-instructions code at) (h, lists-instructions code i.next)
+  -- it has a byte at least, and ends within the code
+  pub record IsInside (at : ℕ) (i : Placed) : Type 0 where
+    pub place : i.place ≡ at
+    pub farther : at < place_after i
+    pub inside : place_after i ≤ length code
 
--- where none is it ends
-pub instructions-none : (code : List ℕ) (at : ℕ) (end : CodeEnd) → fetched code at ≡ Err end → instructions_from code at ≡ []
-instructions-none code at end h =
-    lists-one code at (instructions_from code at) [] (lists-instructions code at) (end, h)
+  pub here-inside : (at : ℕ) (i : Placed) → IsHere at i → IsInside at i
+  here-inside at i h =
+      let within = IsWithin-decoded code at i.insn (fetched-decoded at i.insn h.found) in
+      record { place = h.place; farther = omega (arith, h.place, within.one); inside = omega (arith, h.place, within.reaches) }
 
--- as is after the last byte
-pub instructions-past : (code : List ℕ) (at : ℕ) → length code ≤ at → instructions_from code at ≡ []
-instructions-past code at h =
-    lists-one code at (instructions_from code at) [] (lists-instructions code at) (none-farther code at (fetched code at) refl h)
+  -- after the end of the code none is found
+  pub none-past : (at : ℕ) → length code ≤ at → (r : Result Insn CodeEnd) → fetched code at ≡ r
+      → (end : CodeEnd) × (fetched code at ≡ Err end)
+  none-past at le (Ok i) e = let inside = here-inside at (here at i) (is-here at i e) in absurd (omega (arith, inside.farther, inside.inside))
+  none-past at le (Err end) e = (end, e)
 
-pub ruleset walking = (instructions-found, instructions-none, instructions-past)
+  -- the list has the instructions from a place on, one after the other, to where none is
+  abbrev pub Lists : ℕ → List Placed → Type 0
+  Lists at [] = (end : CodeEnd) × (fetched code at ≡ Err end)
+  Lists at (i ∷ is) = IsHere at i × Lists (place_after i) is
 
--- a test that the first element passes
-pub any-here : {A : Type 0} (test : A → Bool) (x : A) (xs : List A) → test x ≡ true → list_any test (x ∷ xs) ≡ true
-any-here test x xs h = rw h refl
+  one-list : (n at : ℕ) → length code ≤ n + at → Lists at (instructions_from code at)
+  one-list zero at enough = let past = none-past at (omega arith) (fetched code at) refl in rw (instructions-none at past.0 past.1) past
+  one-list (suc n) at enough = by_found (fetched code at) refl (one-list n)
+    where
+      by_found : (r : Result Insn CodeEnd) → fetched code at ≡ r
+          → ((next : ℕ) → length code ≤ n + next → Lists next (instructions_from code next))
+          → Lists at (instructions_from code at)
+      by_found (Err end) e more = rw (instructions-none at end e) (end, e)
+      by_found (Ok i) e more =
+          let inside = here-inside at (here at i) (is-here at i e) in
+          rw (instructions-found at i e) (is-here at i e, more (at + i.len) (omega (arith, inside.farther)))
+
+  pub lists-instructions : (at : ℕ) → Lists at (instructions_from code at)
+  lists-instructions at = one-list (length code) at (omega arith)
+
+  -- what stands in the code
+  pub record IsListed (at : ℕ) (is : List Placed) (i : Placed) : Type 0 where
+    pub from : at ≤ i.place
+    pub here : IsHere i.place i
+    pub inside : place_after i ≤ end_from at is
+    pub next : (place_after i ≡ end_from at is) ⊎ (j : Placed) × Contains is j × (j.place ≡ place_after i)
+
+  end-farther : (at : ℕ) (is : List Placed) → at ≤ end_from at is
+  end-farther at [] = omega arith
+  end-farther at (i ∷ is) = let le = end-farther (at + i.insn.len) is in omega arith
+
+  pub listed : (at : ℕ) (is : List Placed) (i : Placed) → Lists at is → Contains is i → IsListed at is i
+  listed at [] i l c = absurd (nothing-in i c)
+  listed at (k ∷ is) i l c = ⊎_elim first (λ d. later (listed (place_after k) is i l.1 d)) (Contains-either k is i c)
+    where
+      after : place_after k ≡ at + k.insn.len
+      after = ap (λ (n : ℕ). n + k.insn.len) l.0.place
+
+      next-in : (js : List Placed) → Lists (place_after k) js
+          → (place_after k ≡ end_from (at + k.insn.len) js) ⊎ (j : Placed) × Contains (k ∷ js) j × (j.place ≡ place_after k)
+      next-in [] m = inl after
+      next-in (j ∷ js) m = inr (j, Contains-later k (j ∷ js) j (Contains-first j js), m.0.place)
+
+      first : k ≡ i → IsListed at (k ∷ is) i
+      first e = subst (IsListed at (k ∷ is)) e (record {
+        from = omega (arith, l.0.place);
+        here = record { place = refl; found = subst (λ (n : ℕ). fetched code n ≡ Ok k.insn) (sym l.0.place) l.0.found };
+        inside = omega (arith, after, end-farther (at + k.insn.len) is);
+        next = next-in is l.1;
+      })
+
+      later : IsListed (place_after k) is i → IsListed at (k ∷ is) i
+      later d =
+          let m = subst (λ (n : ℕ). IsListed n is i) after d in
+          record {
+            from = omega (arith, m.from);
+            here = m.here;
+            inside = m.inside;
+            next = ⊎_elim (λ e. inl e) (λ j. inr (j.0, Contains-later k is j.0 j.1, j.2)) m.next;
+          }
+
+  pub stands-listed : (i : Placed) → Stands code i → IsListed 0 (instructions code) i
+  stands-listed i s = listed 0 (instructions code) i (lists-instructions 0) s
+
+  -- the laws of listings
+  in-listing : (i : Placed) → Stands code i → Contains (listing code) i
+  unfolding instructions_from
+  in-listing i s =
+      let all = listing_from code 0 in
+      subst (λ (is : List Placed). Contains is i) (listing_from-start code)
+      (All-contains (Contains all) _ i (All-take (Contains all) (prefix_len (λ j. is_bare j.insn.op) all) all (All-contains_itself all)) s)
+
+  pub one-at : (i j : Placed) → Stands code i → Stands code j → i.place ≡ j.place → i ≡ j
+  one-at i j s t e = (all-are-listed code).one i j (in-listing i s) (in-listing j t) e
+
+  pub apart : (i j : Placed) → Stands code i → Stands code j → i.place < j.place → place_after i ≤ j.place
+  apart i j s t lt = (all-are-listed code).after i j (in-listing i s) (in-listing j t) lt
+
+  -- ---- the places that are reached by decoding one instruction after another
+
+  unfoldable pub reached-first : IsReached code 0
+  reached-first = record { before = []; whole = refl; ends = refl }
+
+  pub end-more : (at : ℕ) (is : List Placed) (i : Placed) → end_from at (is ++ i ∷ []) ≡ end_from at is + i.insn.len
+  end-more at [] i = refl
+  end-more at (k ∷ is) i = end-more (at + k.insn.len) is i
+
+  pub split-at : (at : ℕ) (i : Placed) → (r : IsReached code at) → IsHere at i
+      → instructions code ≡ r.before ++ i ∷ instructions_from code (place_after i)
+  split-at at i r h =
+      let same : here at i.insn ≡ i = ap (λ (n : ℕ). here n i.insn) (sym h.place) in
+      let after : at + i.insn.len ≡ place_after i = ap (λ (n : ℕ). n + i.insn.len) (sym h.place) in
+      r.whole ∙ ap (λ (is : List Placed). r.before ++ is) (instructions-found at i.insn h.found
+      ∙ ap (λ (k : Placed). k ∷ instructions_from code (at + i.insn.len)) same ∙ ap (λ (n : ℕ). i ∷ instructions_from code n) after)
+
+  unfoldable pub reached-after : (at : ℕ) (i : Placed) → IsReached code at → IsHere at i → IsReached code (place_after i)
+  reached-after at i r h = record {
+    before = r.before ++ i ∷ [];
+    whole = split-at at i r h ∙ sym (append_assoc r.before (i ∷ []) (instructions_from code (place_after i)));
+    ends = end-more 0 r.before i ∙ ap (λ (n : ℕ). n + i.insn.len) (r.ends ∙ sym h.place);
+  }
+
+  pub stands-at : (at : ℕ) (i : Placed) → IsReached code at → IsHere at i → Stands code i
+  stands-at at i r h =
+      subst (λ (is : List Placed). Contains is i) (sym (split-at at i r h))
+      (Contains-append_right r.before (i ∷ instructions_from code (place_after i)) i (Contains-first i (instructions_from code (place_after i))))
+
+  -- where no instruction is found they end
+  pub ends-at : (at : ℕ) (end : CodeEnd) → (r : IsReached code at) → fetched code at ≡ Err end → code_end code ≡ at
+  ends-at at end r h =
+      ap (end_from 0) (r.whole ∙ ap (λ (is : List Placed). r.before ++ is) (instructions-none at end h) ∙ append-nil r.before) ∙ r.ends
+
+  -- and all that stand are before it
+  pub before-end : (i : Placed) → Stands code i → i.place < code_end code
+  before-end i s = let k = stands-listed i s in let inside = here-inside i.place i k.here in omega (arith, k.inside, inside.farther)
+
+pub ruleset walking = (instructions-found, instructions-none)

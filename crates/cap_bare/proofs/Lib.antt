@@ -2,6 +2,7 @@ pub mod Formats
 pub mod Operands
 pub mod Instructions
 pub mod Places
+pub mod Near
 pub mod WellFormed
 pub mod Rule
 pub mod Passing
@@ -9,5 +10,3 @@ pub mod Walks
 pub mod Running
 pub mod Verdict
 pub mod Stepping
-pub mod Near
-pub mod Seeking

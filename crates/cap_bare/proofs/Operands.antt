@@ -1,141 +1,165 @@
--- The operands that the formats read are those of their opcodes.
-use Rattle.std.proofs.Common.{◌≡◌, ◌∙◌, sym, subst, ℕ, ℤ, pos, negsuc, ◌<◌, Bool, true, false, Option, Some, None, Result, Ok, Err, List, refl, ap, arith, get_or}
-use Rattle.std.specs.Prelude.{map, not, FitsSigned, ◌&&◌}
-use Rattle.std.specs.Int.{w8, w16}
-use Rattle.std.specs.List.{range_with_len}
-use Rattle.std.proofs.lemmas.List.FromFn.{get_or-map-range_with_len}
+-- What the rows of the table of formats have in common: the operands that each reads are those of its opcode, none is a
+-- switch, and where an instruction leads is what its opcode says.
+use Rattle.std.proofs.Common.{◌≡◌, ◌∙◌, sym, ℕ, ℤ, Bool, true, false, Option, Some, None, Result, Ok, Err, refl, ap, arith}
+use Rattle.std.specs.Prelude.{not, is_some, FitsSigned, ◌&&◌, ◌||◌}
+use Rattle.std.specs.Option.{option_map, unwrap_or}
+use Rattle.std.specs.Int.{w8}
 use Rattle.jc_decode.specs.declared.layout.Operand.{Operand}
-use Rattle.jc_decode.specs.declared.layout.Operand.TheVariants.{Absent, U1, U2, S1, S2, S4, DupWords, SwapWords, ArrayType, TestedType}
+use Rattle.jc_decode.specs.declared.layout.Operand.TheVariants.{U1, S1, S2}
 use Rattle.jc_decode.specs.declared.layout.Layout.{Layout}
 use Rattle.jc_decode.specs.declared.insn.CodeEnd.{CodeEnd}
 use Rattle.jc_decode.specs.declared.insn.Insn.{Insn}
 use Rattle.jc_decode.specs.Layout.{layout_of, opcode}
+use Rattle.jc_decode.specs.Cases.{is_switch}
+use Rattle.jc_decode.specs.Listing.{is_branch, falls, jumps}
 use Rattle.jc_decode.specs.Decoding.{FitsOperand, FitsLayout}
+use Rattle.jc_decode.proofs.Passed.{and-parts, or-rest}
 use Rattle.cap_bare.specs.declared.instruction.Instruction.{Instruction}
-use Rattle.cap_bare.specs.Effects.{is_branch}
+use Rattle.cap_bare.specs.declared.instruction.Instruction.TheVariants.{Nop, Test, Compare, Goto, Return}
 use Rattle.cap_bare.specs.declared.format.Format.{Format}
-use Rattle.cap_bare.specs.declared.format.Format.TheVariants.{Implied, Constant, Loads, Stores, Increments, Tests, Compares, Goes}
-use Rattle.cap_bare.specs.Format.{format_of, FitsFormat, IsByte}
+use Rattle.cap_bare.specs.declared.format.Format.TheVariants.{Implied, Constant, Loads, Stores, Increments}
+use Rattle.cap_bare.specs.Format.{format_of, is_bare, resolved, instruction_of, FitsFormat}
+use Rattle.cap_bare.proofs.Formats.{row-passes}
+
+abbrev is_s1 : Operand → Bool
+is_s1 S1 = true
+is_s1 _ = false
 
 abbrev is_short : Operand → Bool
 is_short S1 = true
 is_short S2 = true
 is_short _ = false
 
-abbrev is_signed_byte : Operand → Bool
-is_signed_byte S1 = true
-is_signed_byte _ = false
+abbrev is_u1 : Operand → Bool
+is_u1 U1 = true
+is_u1 _ = false
 
-abbrev is_byte : Operand → Bool
-is_byte U1 = true
-is_byte _ = false
+s1-fits : (o : Operand) (v : ℤ) → is_s1 o ≡ true → FitsOperand o v → FitsSigned w8 v
+s1-fits S1 v e h = h
+s1-fits _ v e h = absurd (cc)
 
-short-fits : (o : Operand) (v : ℤ) → is_short o ≡ true → FitsOperand o v → FitsSigned w16 v
+short-fits : (o : Operand) (v : ℤ) → is_short o ≡ true → FitsOperand o v → FitsOperand S2 v
 short-fits S1 v e h = omega arith
 short-fits S2 v e h = h
-short-fits Absent v e h = absurd (cc)
-short-fits U1 v e h = absurd (cc)
-short-fits U2 v e h = absurd (cc)
-short-fits S4 v e h = absurd (cc)
-short-fits DupWords v e h = absurd (cc)
-short-fits SwapWords v e h = absurd (cc)
-short-fits ArrayType v e h = absurd (cc)
-short-fits TestedType v e h = absurd (cc)
+short-fits _ v e h = absurd (cc)
 
-signed-byte-fits : (o : Operand) (v : ℤ) → is_signed_byte o ≡ true → FitsOperand o v → FitsSigned w8 v
-signed-byte-fits S1 v e h = h
-signed-byte-fits Absent v e h = absurd (cc)
-signed-byte-fits U1 v e h = absurd (cc)
-signed-byte-fits U2 v e h = absurd (cc)
-signed-byte-fits S2 v e h = absurd (cc)
-signed-byte-fits S4 v e h = absurd (cc)
-signed-byte-fits DupWords v e h = absurd (cc)
-signed-byte-fits SwapWords v e h = absurd (cc)
-signed-byte-fits ArrayType v e h = absurd (cc)
-signed-byte-fits TestedType v e h = absurd (cc)
+u1-fits : (o : Operand) (v : ℤ) → is_u1 o ≡ true → FitsOperand o v → FitsOperand U1 v
+u1-fits U1 v e h = h
+u1-fits _ v e h = absurd (cc)
 
-byte-fits : (o : Operand) (v : ℤ) → is_byte o ≡ true → FitsOperand o v → IsByte v
-byte-fits U1 (pos n) e h = h
-byte-fits U1 (negsuc n) e h = h
-byte-fits Absent v e h = absurd (cc)
-byte-fits S1 v e h = absurd (cc)
-byte-fits S2 v e h = absurd (cc)
-byte-fits U2 v e h = absurd (cc)
-byte-fits S4 v e h = absurd (cc)
-byte-fits DupWords v e h = absurd (cc)
-byte-fits SwapWords v e h = absurd (cc)
-byte-fits ArrayType v e h = absurd (cc)
-byte-fits TestedType v e h = absurd (cc)
-
--- the operands are of the form that the format reads
 abbrev reads : Format → Layout → Bool
 reads (Implied i) l = true
 reads Constant l = is_short l.x
-reads Loads l = is_byte l.x
-reads Stores l = is_byte l.x
-reads Increments l = is_byte l.x && is_short l.y
-reads _ l = is_signed_byte l.x
+reads Loads l = is_u1 l.x
+reads Stores l = is_u1 l.x
+reads Increments l = is_u1 l.x && is_short l.y
 
-abbrev agrees : Option Format → Result Layout CodeEnd → Bool
-agrees None l = true
-agrees (Some f) (Err e) = false
-agrees (Some f) (Ok l) = reads f l
+abbrev has : (Layout → Bool) → Result Layout CodeEnd → Bool
+has test (Ok l) = test l
+has test (Err e) = false
 
-abbrev agrees_at : ℕ → Bool
-agrees_at op = agrees (format_of op) (layout_of op)
+-- whether control may go to an instruction's target, and to the place after it
+abbrev pub branches : Instruction → Bool
+branches (Test c) = true
+branches (Compare c) = true
+branches Goto = true
+branches _ = false
 
-all-agree : map agrees_at (range_with_len 0 256) ≡ map (λ op. true) (range_with_len 0 256)
-unfolding format_of layout_of opcode
-all-agree = refl
+abbrev pub goes_on : Instruction → Bool
+goes_on Goto = false
+goes_on Return = false
+goes_on _ = true
 
-agree-at : (op : ℕ) → op < 256 → agrees (format_of op) (layout_of op) ≡ true
-agree-at op h =
-    sym (get_or-map-range_with_len agrees_at 0 256 op op true h (omega arith))
-    ∙ ap (λ (t : List Bool). get_or t op true) all-agree
-    ∙ get_or-map-range_with_len (λ (op : ℕ). true) 0 256 op op true h (omega arith)
+-- the instruction of a format but for its operands
+abbrev shape : Format → Instruction
+shape (Implied i) = i
+shape _ = Nop
 
-both : (a b : Bool) → (a && b) ≡ true → (a ≡ true) × (b ≡ true)
-both true true e = (refl, refl)
-both true false e = absurd (cc)
-both false b e = absurd (cc)
+abbrev agrees : ℕ → Format → Bool
+agrees op f =
+    has (reads f) (layout_of op) && (not (is_switch op) && ((not (is_branch op) || has (λ l. is_s1 l.x) (layout_of op))
+    && ((not (branches (shape f)) || jumps op) && (not (goes_on (shape f)) || falls op))))
+
+record Agrees (op : ℕ) (f : Format) : Type 0 where
+  pub reads : has (reads f) (layout_of op) ≡ true
+  pub single : not (is_switch op) ≡ true
+  pub near : (not (is_branch op) || has (λ l. is_s1 l.x) (layout_of op)) ≡ true
+  pub branches : (not (branches (shape f)) || jumps op) ≡ true
+  pub goes_on : (not (goes_on (shape f)) || falls op) ≡ true
+
+all-agree : (op : ℕ) (f : Format) → format_of op ≡ Some f → agrees op f ≡ true
+unfolding layout_of opcode
+all-agree op f h = row-passes agrees op f refl h
+
+agree-at : (op : ℕ) (f : Format) → format_of op ≡ Some f → Agrees op f
+agree-at op f h =
+    let a = and-parts _ _ (all-agree op f h) in
+    let b = and-parts _ _ a.1 in
+    let c = and-parts _ _ b.1 in
+    let d = and-parts _ _ c.1 in
+    record { reads = a.0; single = b.0; near = c.0; branches = d.0; goes_on = d.1 }
 
 reads-fits : (f : Format) (l : Layout) (insn : Insn) → reads f l ≡ true → FitsLayout insn (Ok l) → FitsFormat f insn
 reads-fits (Implied i) l insn e h = tt
 reads-fits Constant l insn e h = short-fits l.x insn.x e h.0
-reads-fits Loads l insn e h = byte-fits l.x insn.x e h.0
-reads-fits Stores l insn e h = byte-fits l.x insn.x e h.0
-reads-fits Increments l insn e h =
-    (byte-fits l.x insn.x (both (is_byte l.x) (is_short l.y) e).0 h.0, short-fits l.y insn.y (both (is_byte l.x) (is_short l.y) e).1 h.1)
-reads-fits (Tests c) l insn e h = signed-byte-fits l.x insn.x e h.0
-reads-fits (Compares c) l insn e h = signed-byte-fits l.x insn.x e h.0
-reads-fits Goes l insn e h = signed-byte-fits l.x insn.x e h.0
+reads-fits Loads l insn e h = u1-fits l.x insn.x e h.0
+reads-fits Stores l insn e h = u1-fits l.x insn.x e h.0
+reads-fits Increments l insn e h = let two = and-parts (is_u1 l.x) (is_short l.y) e in (u1-fits l.x insn.x two.0 h.0, short-fits l.y insn.y two.1 h.1)
 
-agrees-fits : (f : Format) (l : Result Layout CodeEnd) (insn : Insn) → agrees (Some f) l ≡ true → FitsLayout insn l → FitsFormat f insn
-agrees-fits f (Ok l) insn e h = reads-fits f l insn e h
-agrees-fits f (Err end) insn e h = absurd h
+has-fits : (f : Format) (l : Result Layout CodeEnd) (insn : Insn) → has (reads f) l ≡ true → FitsLayout insn l → FitsFormat f insn
+has-fits f (Ok l) insn e h = reads-fits f l insn e h
+has-fits f (Err end) insn e h = absurd h
 
 -- what a layout's operands fit, the format of the same opcode reads
-pub format-fits : (op : ℕ) (f : Format) (insn : Insn) → op < 256 → format_of op ≡ Some f → FitsLayout insn (layout_of op) → FitsFormat f insn
-format-fits op f insn small e h =
-    let a : agrees (Some f) (layout_of op) ≡ true = subst (λ (o : Option Format). agrees o (layout_of op) ≡ true) e (agree-at op small)
-    in agrees-fits f (layout_of op) insn a h
+pub format-fits : (op : ℕ) (f : Format) (insn : Insn) → format_of op ≡ Some f → FitsLayout insn (layout_of op) → FitsFormat f insn
+format-fits op f insn e h = has-fits f (layout_of op) insn (agree-at op f e).reads h
 
--- an opcode alone makes no branch
-abbrev is_plain : Option Format → Bool
-is_plain (Some (Implied i)) = not (is_branch i)
-is_plain _ = true
+-- an opcode of bare methods has a row
+bare-row : (o : Option Format) → is_some o ≡ true → (f : Format) × (o ≡ Some f)
+bare-row None h = absurd (cc)
+bare-row (Some f) h = (f, refl)
 
-abbrev is_plain_at : ℕ → Bool
-is_plain_at op = is_plain (format_of op)
+module _ (i : Insn) (bare : is_bare i.op ≡ true) where
+  abbrev row : (f : Format) × (format_of i.op ≡ Some f)
+  row = bare-row (format_of i.op) bare
 
-all-plain : map is_plain_at (range_with_len 0 256) ≡ map (λ op. true) (range_with_len 0 256)
-unfolding format_of
-all-plain = refl
+  not-true : (b : Bool) → not b ≡ true → b ≡ false
+  not-true true h = absurd (cc)
+  not-true false h = refl
 
-pub plain-at : (op : ℕ) (i : Instruction) → op < 256 → format_of op ≡ Some (Implied i) → not (is_branch i) ≡ true
-plain-at op i h e =
-    let plain : is_plain_at op ≡ true =
-    sym (get_or-map-range_with_len is_plain_at 0 256 op op true h (omega arith))
-    ∙ ap (λ (t : List Bool). get_or t op true) all-plain
-    ∙ get_or-map-range_with_len (λ (op : ℕ). true) 0 256 op op true h (omega arith) in
-    subst (λ (o : Option Format). is_plain o ≡ true) e plain
+  pub no-switch : is_switch i.op ≡ false
+  no-switch = not-true (is_switch i.op) (agree-at i.op row.0 row.1).single
+
+  x-near : (l : Result Layout CodeEnd) → has (λ l. is_s1 l.x) l ≡ true → FitsLayout i l → FitsSigned w8 i.x
+  x-near (Ok l) e h = s1-fits l.x i.x e h.0
+  x-near (Err end) e h = absurd h
+
+  either : (a b : Bool) → (a || b) ≡ true → b ≡ false → a ≡ true
+  either true b h e = refl
+  either false b h e = absurd (cc)
+
+  -- the distance of a target is a signed byte
+  pub distance-fits : jumps i.op ≡ true → FitsLayout i (layout_of i.op) → FitsSigned w8 i.x
+  distance-fits j fits =
+      x-near (layout_of i.op) (or-rest (is_branch i.op) _ (agree-at i.op row.0 row.1).near (either (is_branch i.op) (is_switch i.op) j no-switch)) fits
+
+  shaped : (f : Format) → (branches (resolved f i) ≡ branches (shape f)) × (goes_on (resolved f i) ≡ goes_on (shape f))
+  shaped (Implied k) = (refl, refl)
+  shaped Constant = (refl, refl)
+  shaped Loads = (refl, refl)
+  shaped Stores = (refl, refl)
+  shaped Increments = (refl, refl)
+
+  is-resolved : instruction_of i ≡ resolved row.0 i
+  is-resolved = ap (λ (o : Option Format). unwrap_or (option_map (λ f. resolved f i) o) Nop) row.1
+
+  -- where an instruction leads, its opcode says
+  pub branches-jumps : branches (instruction_of i) ≡ true → jumps i.op ≡ true
+  branches-jumps h =
+      or-rest (branches (shape row.0)) (jumps i.op) (agree-at i.op row.0 row.1).branches
+      (sym (shaped row.0).0 ∙ ap branches (sym is-resolved) ∙ h)
+
+  pub goes_on-falls : goes_on (instruction_of i) ≡ true → falls i.op ≡ true
+  goes_on-falls h =
+      or-rest (goes_on (shape row.0)) (falls i.op) (agree-at i.op row.0 row.1).goes_on
+      (sym (shaped row.0).1 ∙ ap goes_on (sym is-resolved) ∙ h)

@@ -1,182 +1,184 @@
--- The instructions that stand in the code are those of the list, and its places lie in order.
-use Rattle.std.proofs.Common.{◌≡◌, ◌∙◌, sym, ap, subst, ℕ, ◌<◌, ◌≤◌, Bool, true, false, Option, Some, None, Ok, Err, List, [], ◌∷◌, ◌++◌, refl, arith, append_assoc, inl, inr, ◌⊎◌, ◌==◌, eq-eqb}
-use Rattle.std.specs.Prelude.{ℤ, pos, negsuc, ◌||◌}
+-- The tests of places and of targets, and what a search along the code finds.
+use Rattle.std.proofs.Common.{◌≡◌, ◌∙◌, sym, ap, subst, ℕ, zero, suc, ◌+◌, ◌<◌, ◌≤◌, ◌⊎◌, inl, inr, ⊎_elim, Bool, true, false, Some, None, Result, Ok, Err, List, [], refl, arith, ◌==◌, eq-eqb, Contains, All}
+use Rattle.std.specs.Prelude.{ℤ, pos, negsuc, is_ok, IsTrue, ◌↔◌, slice_get}
+use Rattle.std.specs.List.{list_any}
 use Rattle.std.proofs.lemmas.Bool.{eqb-true}
-use Rattle.std.specs.List.{list_any, AllByRecursion}
+use Rattle.std.proofs.lemmas.Bool.Decides.{nat_tests}
+use Rattle.std.proofs.lemmas.List.Elements.{All-weaker, All-contains_itself}
+use Rattle.std.proofs.lemmas.List.Folds.{Any-from_list_any, list_any_at}
+use Rattle.jc_decode.specs.declared.insn.Insn.{Insn}
+use Rattle.jc_decode.specs.declared.insn.Placed.{Placed}
 use Rattle.jc_decode.specs.declared.insn.CodeEnd.{CodeEnd}
-use Rattle.cap_bare.specs.declared.code.Placed.{Placed}
-use Rattle.cap_bare.specs.Effects.{target_of}
-use Rattle.cap_bare.specs.Code.{fetched, IsReached, reached_first, reached_next, Stands, IsTargetPlace, IsTarget}
-use Rattle.cap_bare.specs.Walk.{instructions, instructions_from, is_place, is_at, is_target}
-use Rattle.cap_bare.proofs.Instructions.{fetched-inside, Lists, lists-instructions, instructions-found}
+use Rattle.jc_decode.specs.declared.layout.Layout.{Layout}
+use Rattle.jc_decode.specs.Layout.{layout_of, total_width}
+use Rattle.jc_decode.specs.declared.layout.Cases.{Cases}
+use Rattle.jc_decode.specs.declared.layout.Cases.TheVariants.{Range, Pairs}
+use Rattle.jc_decode.specs.declared.layout.Cases.TheVariants.{Absent as NoCases}
+use Rattle.jc_decode.specs.Cases.{cases, cases_by, cases_in, is_table, has_cases, is_switch}
+use Rattle.jc_decode.specs.Listing.{targets, target, jumps}
+use Rattle.jc_decode.proofs.Elements.{Contains-slice_get, slice_get-Contains}
+use Rattle.jc_decode.proofs.Targets.{targets-none, targets-first, targets-later}
+use Rattle.cap_bare.specs.Code.{fetched, instructions, Stands, IsPlace, IsTargetPlace, IsTarget}
+use Rattle.cap_bare.specs.Walk.{is_place, is_at, leads_to, is_target}
+use Rattle.cap_bare.specs.Machine.{branch_target}
+use Rattle.cap_bare.specs.Window.{IsReached, IsTrailing}
+use Rattle.cap_bare.proofs.Operands.{no-switch}
+use Rattle.cap_bare.proofs.Instructions.{here, is-here, fetched-bare, stands-listed, one-at, apart, reached-after, stands-at, ends-at, before-end}
+
+-- a test finds an element exactly where one passes it
+any-of : {A : Type 0} (test : A → Bool) (xs : List A) (x : A) → Contains xs x → test x ≡ true → list_any test xs ≡ true
+any-of test xs x c h = list_any_at test xs c.0 x c.1 (ap test c.2 ∙ h)
+
+any-from : {A : Type 0} (test : A → Bool) (xs : List A) → list_any test xs ≡ true → (x : A) × Contains xs x × (test x ≡ true)
+any-from test xs h = let a = Any-from_list_any test xs h in (a.1, (a.0, a.2, a.3), a.4)
+
+-- two tests that say the same
+same-test : (a b : Bool) → (a ≡ true → b ≡ true) → (b ≡ true → a ≡ true) → a ≡ b
+same-test true b f g = sym (f refl)
+same-test false true f g = g refl
+same-test false false f g = refl
+
+at-true : (place : ℕ) (t : ℤ) → t ≡ pos place → is_at place t ≡ true
+at-true place t e = rw e (eq-eqb place place refl)
+
+at-from : (place : ℕ) (t : ℤ) → is_at place t ≡ true → t ≡ pos place
+at-from place (pos n) h = ap pos (eqb-true n place h)
+at-from place (negsuc n) h = absurd (cc)
 
 module _ (code : List ℕ) where
-  pub stands-at : (at : ℕ) (i : Placed) → IsReached code at → fetched code at ≡ Ok i → Stands code i
-  stands-at at i r h =
-      let e = (fetched-inside code at i h).place in
-      record { reached = subst (IsReached code) (sym e) r; found = subst (λ p. fetched code p ≡ Ok i) (sym e) h }
-
-  pub reached-farther : (i : Placed) → Stands code i → IsReached code i.next
-  reached-farther i s = reached_next i s.reached s.found
-
-  pub reached-after : (at : ℕ) (i : Placed) → IsReached code at → fetched code at ≡ Ok i → IsReached code i.next
-  reached-after at i r h = reached-farther i (stands-at at i r h)
-
-  -- every instruction of the list stands in the code
-  pub all-stand : (is : List Placed) (at : ℕ) → IsReached code at → Lists code at is → AllByRecursion (Stands code) is
-  all-stand [] at r h = tt
-  all-stand (i ∷ is) at r h = (stands-at at i r h.0, all-stand is i.next (reached-after at i r h.0) h.1)
-
-  pub instructions-stand : AllByRecursion (Stands code) (instructions code)
-  instructions-stand = all-stand (instructions code) 0 reached_first (lists-instructions code 0)
-
-  -- and the list from a reached place on is the end of the whole list
-  record IsSplit (place : ℕ) : Type 0 where
-    before : List Placed
-    whole : instructions code ≡ before ++ instructions_from code place
-
-  split-at : (place : ℕ) → IsReached code place → IsSplit place
-  split-at _ reached_first = record { before = []; whole = refl }
-  split-at _ (reached_next i r f) =
-      let s = split-at i.place r in
-      record {
-        before = s.before ++ i ∷ [];
-        whole = s.whole ∙ ap (λ xs. s.before ++ xs) (instructions-found code i.place i f) ∙ sym (append_assoc s.before (i ∷ []) (instructions_from code i.next));
-      }
-
-  -- what holds of all elements holds of one in the middle
-  all-middle : (P : Placed → Type 0) (xs : List Placed) (i : Placed) (ys : List Placed) → AllByRecursion P (xs ++ i ∷ ys) → P i
-  all-middle P [] i ys h = h.0
-  all-middle P (x ∷ xs) i ys h = all-middle P xs i ys h.1
-
-  -- what holds of the list holds of each instruction that stands in the code
-  pub all-of : (P : Placed → Type 0) (i : Placed) → Stands code i → AllByRecursion P (instructions code) → P i
-  all-of P i s h =
-      let split = split-at i.place s.reached in
-      let e : instructions code ≡ split.before ++ i ∷ instructions_from code i.next =
-      split.whole ∙ ap (λ xs. split.before ++ xs) (instructions-found code i.place i s.found) in
-      all-middle P split.before i (instructions_from code i.next) (subst (AllByRecursion P) e h)
-
-  any-middle : (test : Placed → Bool) (xs : List Placed) (i : Placed) (ys : List Placed) → test i ≡ true → list_any test (xs ++ i ∷ ys) ≡ true
-  any-middle test [] i ys h = rw h refl
-  any-middle test (x ∷ xs) i ys h = or-true (test x) (any-middle test xs i ys h)
-    where
-      or-true : (b : Bool) {c : Bool} → c ≡ true → (b || c) ≡ true
-      or-true true h = refl
-      or-true false h = h
-
-  -- a test finds an instruction exactly where one that passes it stands in the code
-  pub any-of : (test : Placed → Bool) (i : Placed) → Stands code i → test i ≡ true → list_any test (instructions code) ≡ true
-  any-of test i s h =
-      let split = split-at i.place s.reached in
-      let e : instructions code ≡ split.before ++ i ∷ instructions_from code i.next =
-      split.whole ∙ ap (λ xs. split.before ++ xs) (instructions-found code i.place i s.found) in
-      subst (λ xs. list_any test xs ≡ true) (sym e) (any-middle test split.before i (instructions_from code i.next) h)
-
-  any-in : (test : Placed → Bool) (is : List Placed) → AllByRecursion (Stands code) is → list_any test is ≡ true
-      → (i : Placed) × Stands code i × (test i ≡ true)
-  any-in test [] s h = absurd (cc)
-  any-in test (i ∷ is) s h = by_test (test i) refl (any-in test is s.1) h
-    where
-      by_test : (b : Bool) → test i ≡ b → (list_any test is ≡ true → (j : Placed) × Stands code j × (test j ≡ true))
-          → (b || list_any test is) ≡ true → (j : Placed) × Stands code j × (test j ≡ true)
-      by_test true e more h = (i, s.0, e)
-      by_test false e more h = more h
-
-  pub any-from : (test : Placed → Bool) → list_any test (instructions code) ≡ true → (i : Placed) × Stands code i × (test i ≡ true)
-  any-from test h = any-in test (instructions code) instructions-stand h
-
   -- the test of a place
   pub place-true : (t : ℤ) → IsTargetPlace code t → is_place code t ≡ true
-  place-true (pos p) h = any-of (λ i. i.place == p) h.0 h.2 (eq-eqb _ _ h.1)
+  place-true (pos p) h = any-of (λ i. i.place == p) (instructions code) h.0 h.1 (eq-eqb _ _ h.2)
   place-true (negsuc n) h = absurd h
 
   pub place-from : (t : ℤ) → is_place code t ≡ true → IsTargetPlace code t
-  place-from (pos p) h = let found = any-from (λ i. i.place == p) h in (found.0, eqb-true _ _ found.2, found.1)
+  place-from (pos p) h = let found = any-from (λ (i : Placed). i.place == p) (instructions code) h in (found.0, found.1, eqb-true _ _ found.2)
   place-from (negsuc n) h = absurd (cc)
 
-  pub at-true : (o : Option ℤ) (p : ℕ) → o ≡ Some (pos p) → is_at o p ≡ true
-  at-true o p e = rw e (eq-eqb p p refl)
-
-  pub at-from : (o : Option ℤ) (p : ℕ) → is_at o p ≡ true → o ≡ Some (pos p)
-  at-from None p h = absurd (cc)
-  at-from (Some (pos t)) p h = ap (λ (n : ℕ). Some (pos n)) (eqb-true t p h)
-  at-from (Some (negsuc t)) p h = absurd (cc)
+  pub place-means : (t : ℤ) → IsTrue (is_place code t) ↔ IsTargetPlace code t
+  place-means t = (place-from t, place-true t)
 
   -- the test of a target
   pub target-true : (p : ℕ) → IsTarget code p → is_target code p ≡ true
-  target-true p h = any-of (λ i. is_at (target_of i.instruction) p) h.from h.stands (at-true (target_of h.from.instruction) p h.leads)
+  target-true p h =
+      any-of (leads_to code p) (instructions code) h.from h.stands
+      (any-of (is_at p) (targets code h.from) (pos p) h.leads (at-true p (pos p) refl))
 
   pub target-from : (p : ℕ) → is_target code p ≡ true → IsTarget code p
   target-from p h =
-      let found = any-from (λ i. is_at (target_of i.instruction) p) h in
-      record { from = found.0; stands = found.1; leads = at-from (target_of found.0.instruction) p found.2 }
+      let found = any-from (leads_to code p) (instructions code) h in
+      let leads = any-from (is_at p) (targets code found.0) found.2 in
+      record { from = found.0; stands = found.1; leads = subst (Contains (targets code found.0)) (at-from p leads.0 leads.2) leads.1 }
 
-  -- a place is reached from another
-  data IsFrom (at : ℕ) : ℕ → Type 0 where
-    from_here : IsFrom at at
-    from_next : (i : Placed) → IsFrom at i.place → fetched code i.place ≡ Ok i → IsFrom at i.next
+  pub target-is : (place : ℕ) (r : Bool) → (r ≡ true → IsTarget code place) → (IsTarget code place → r ≡ true)
+      → r ≡ is_target code place
+  target-is place r f g = same-test r (is_target code place) (λ e. target-true place (f e)) (λ e. g (target-from place e))
 
-  from-first : (q : ℕ) → IsReached code q → IsFrom 0 q
-  from-first _ reached_first = from_here
-  from-first _ (reached_next i r f) = from_next i (from-first i.place r) f
+  -- ---- an instruction leads to one place at most
 
-  from-le : (p q : ℕ) → IsFrom p q → p ≤ q
-  from-le p _ from_here = omega arith
-  from-le p _ (from_next i k f) = let le = from-le p i.place k in let inside = fetched-inside code i.place i f in omega arith
+  pub leads-there : (i : Placed) → jumps i.insn.op ≡ true → Contains (targets code i) (target i.place i.insn.x)
+  leads-there i h = Contains-slice_get (targets code i) 0 _ (targets-first code i h)
 
-  -- by way of the instruction there
-  from-step : (p q : ℕ) (j : Placed) → IsFrom p q → fetched code p ≡ Ok j → (p ≡ q) ⊎ IsFrom j.next q
-  from-step p _ j from_here f = inl refl
-  from-step p _ j (from_next i k g) f = by_case (from-step p i.place j k f)
+  pub branch-leads : (i : Placed) → jumps i.insn.op ≡ true → branch_target code i ≡ target i.place i.insn.x
+  unfolding targets
+  branch-leads i h = rw h refl
+
+  no-table : (k : Cases) (table : ℕ) (i : Insn) → is_table k ≡ false → cases_in k code table i ≡ []
+  no-table NoCases table i h = refl
+  no-table Range table i h = absurd (cc)
+  no-table (Pairs key) table i h = absurd (cc)
+
+  no-cases-in : (l : Result Layout CodeEnd) (at : ℕ) (i : Insn) → has_cases l ≡ false → cases_by l code at i ≡ []
+  no-cases-in (Err e) at i h = refl
+  no-cases-in (Ok l) at i h = no-table l.cases (at + 1 + total_width l) i h
+
+  no-cases : (i : Placed) → is_switch i.insn.op ≡ false → cases code i.place i.insn ≡ []
+  unfolding cases
+  no-cases i h = no-cases-in (layout_of i.insn.op) i.place i.insn h
+
+  pub leads-one : (i : Placed) (t : ℤ) → Stands code i → Contains (targets code i) t
+      → (jumps i.insn.op ≡ true) × (t ≡ target i.place i.insn.x)
+  leads-one i t s c = by_number (slice_get-Contains (targets code i) t c) (jumps i.insn.op) refl
     where
-      by_case : (p ≡ i.place) ⊎ IsFrom j.next i.place → (p ≡ i.next) ⊎ IsFrom j.next i.next
-      by_case (inl e) =
-          let same : j ≡ i = cc in inr (subst (λ (n : Placed). IsFrom n.next i.next) (sym same) from_here)
-      by_case (inr m) = inr (from_next i m g)
+      none : cases code i.place i.insn ≡ []
+      none = no-cases i (no-switch i.insn (fetched-bare code i.place i.insn (stands-listed code i s).here.found))
 
-  -- of two reached places one is reached from the other
-  ordered : (p q : ℕ) → IsReached code p → IsReached code q → IsFrom p q ⊎ IsFrom q p
-  ordered p _ r reached_first = inr (from-first p r)
-  ordered p _ r (reached_next j s f) = by_case (ordered p j.place r s)
+      by_number : (n : ℕ) × (slice_get (targets code i) n ≡ Some t) → (b : Bool) → jumps i.insn.op ≡ b
+          → (jumps i.insn.op ≡ true) × (t ≡ target i.place i.insn.x)
+      by_number (n, h) false j = let no = targets-none code i n j in absurd (cc)
+      by_number (zero, h) true j = let first = targets-first code i j in (j, cc)
+      by_number (suc n, h) true j =
+          let later = targets-later code i (suc n) j (omega arith) in
+          let nothing : slice_get (targets code i) (suc n) ≡ None = later ∙ (rw none refl) in absurd (cc)
+
+  -- the first of those that it names
+  pub leads-first : (i : Placed) (t : ℤ) → Stands code i → Contains (targets code i) t → slice_get (targets code i) 0 ≡ Some t
+  leads-first i t s c = let one = leads-one i t s c in targets-first code i one.0 ∙ ap Some (sym one.1)
+
+  pub leads-all : (P : ℤ → Type 0) (i : Placed) → Stands code i → ((t : ℤ) → slice_get (targets code i) 0 ≡ Some t → P t)
+      → All P (targets code i)
+  leads-all P i s f =
+      All-weaker (Contains (targets code i)) P (λ t c. f t (leads-first i t s c)) (targets code i) (All-contains_itself (targets code i))
+
+  pub leads-some : (i : Placed) (place : ℕ) (t : ℤ) → Stands code i → Some t ≡ slice_get (targets code i) 0 → (b : Bool)
+      → b ≡ is_at place t
+      → IsTrue b ↔ Contains (targets code i) (pos place)
+  leads-some i place t s e b is = (
+    (λ h. subst (Contains (targets code i)) (at-from place t (sym is ∙ h)) (Contains-slice_get (targets code i) 0 t (sym e))),
+    (λ c. let first = leads-first i (pos place) s c in is ∙ at-true place t (cc (e, first))),
+  )
+
+  pub leads-none : (i : Placed) (place : ℕ) → Stands code i → None ≡ slice_get (targets code i) 0
+      → IsTrue false ↔ Contains (targets code i) (pos place)
+  leads-none i place s e = ((λ h. absurd (cc)), (λ c. let first = leads-first i (pos place) s c in absurd (cc)))
+
+  -- ---- a search from an instruction on
+
+  -- a place ahead is not passed by
+  pub place-ahead : (at place : ℕ) (i : Insn) → IsReached code at → fetched code at ≡ Ok i → at < place → IsPlace code place
+      → at + i.len ≤ place
+  place-ahead at place i r f lt p =
+      let le = apart code (here at i) p.0 (stands-at code at (here at i) r (is-here code at i f)) p.1 (omega (arith, p.2)) in omega (arith, p.2)
+
+  pub place-none : (at place : ℕ) (end : CodeEnd) → IsReached code at → fetched code at ≡ Err end → at ≤ place
+      → IsPlace code place → ⊥
+  place-none at place end r f le p = let before = before-end code p.0 p.1 in omega (arith, p.2, ends-at code at end r f)
+
+  -- where the search comes to the place, an instruction begins there or none does
+  pub place-here : (at place : ℕ) (q : Result Insn CodeEnd) (b : Bool) → IsReached code at → fetched code at ≡ q
+      → b ≡ is_ok q → at ≡ place
+      → IsTrue b ↔ IsPlace code place
+  place-here at place (Ok i) b r f is e = ((λ h. (here at i, stands-at code at (here at i) r (is-here code at i f), e)), (λ p. is))
+  place-here at place (Err end) b r f is e = ((λ h. absurd (cc (h, is))), (λ p. absurd (place-none at place end r f (omega arith) p)))
+
+  -- nor is a branch ahead
+  pub target-ahead : (at place : ℕ) (i : Insn) → IsReached code at → fetched code at ≡ Ok i
+      → ¬ (Contains (targets code (here at i)) (pos place))
+      → (t : IsTarget code place) → at ≤ t.from.place → at + i.len ≤ t.from.place
+  target-ahead at place i r f no_branch t le =
+      ⊎_elim (λ e. absurd (no_branch (is_there e))) (λ lt. apart code (here at i) t.from stands t.stands lt)
+      (by_order (at == t.from.place) refl)
     where
-      back : (j.place ≡ p) ⊎ IsFrom j.next p → IsFrom p j.next ⊎ IsFrom j.next p
-      back (inl e) = inl (from_next j (subst (λ (n : ℕ). IsFrom n j.place) e from_here) f)
-      back (inr m) = inr m
+      stands : Stands code (here at i)
+      stands = stands-at code at (here at i) r (is-here code at i f)
 
-      by_case : IsFrom p j.place ⊎ IsFrom j.place p → IsFrom p j.next ⊎ IsFrom j.next p
-      by_case (inl k) = inl (from_next j k f)
-      by_case (inr k) = back (from-step j.place p j k f)
+      by_order : (b : Bool) → (at == t.from.place) ≡ b → (at ≡ t.from.place) ⊎ (at < t.from.place)
+      by_order true e = inl (eqb-true at t.from.place e)
+      by_order false e = inr (grind (arith, nat_tests))
 
-  -- a reached place after an instruction's place is not inside it
-  pub apart : (i : Placed) (q : ℕ) → Stands code i → IsReached code q → i.place < q → i.next ≤ q
-  apart i q s r h = by_case (ordered i.place q s.reached r)
-    where
-      forward : (i.place ≡ q) ⊎ IsFrom i.next q → i.next ≤ q
-      forward (inl e) = absurd (omega arith)
-      forward (inr m) = from-le i.next q m
+      is_there : at ≡ t.from.place → Contains (targets code (here at i)) (pos place)
+      is_there e = subst (λ (k : Placed). Contains (targets code k) (pos place)) (sym (one-at code (here at i) t.from stands t.stands e)) t.leads
 
-      by_case : IsFrom i.place q ⊎ IsFrom q i.place → i.next ≤ q
-      by_case (inl k) = forward (from-step i.place q i k s.found)
-      by_case (inr k) = let le = from-le q i.place k in absurd (omega arith)
+  pub target-none : (at place : ℕ) (end : CodeEnd) → IsReached code at → fetched code at ≡ Err end
+      → (t : IsTarget code place) → at ≤ t.from.place → ⊥
+  target-none at place end r f t le = let before = before-end code t.from t.stands in omega (arith, ends-at code at end r f)
 
-  stuck : (p q : ℕ) (end : CodeEnd) → IsFrom p q → fetched code p ≡ Err end → q ≡ p
-  stuck p _ end from_here f = refl
-  stuck p _ end (from_next i k g) f = let e = stuck p i.place end k f in absurd (cc)
+  -- a step of the instruction that trails
+  pub trails-on : (farther at : ℕ) (i : Insn) → IsTrailing code farther at → fetched code farther ≡ Ok i
+      → farther + i.len + 128 ≤ at
+      → IsTrailing code (farther + i.len) at
+  trails-on farther at i h f le = record { reached = reached-after code farther (here farther i) h.reached (is-here code farther i f); far = inr le }
 
-  -- the code ends at one place
-  pub ends-once : (p q : ℕ) (e f : CodeEnd) → IsReached code p → IsReached code q → fetched code p ≡ Err e → fetched code q ≡ Err f → p ≡ q
-  ends-once p q e f r s g h = by_case (ordered p q r s)
-    where
-      by_case : IsFrom p q ⊎ IsFrom q p → p ≡ q
-      by_case (inl k) = sym (stuck p q e k g)
-      by_case (inr k) = stuck q p f k h
-
-  -- after the place where the code ends no instruction stands
-  pub stops : (at place : ℕ) (i : Placed) (end : CodeEnd) → IsReached code at → IsReached code place → fetched code at ≡ Err end → fetched code place ≡ Ok i
-      → at ≤ place → ⊥
-  stops at place i end r s f g le = by_case (ordered at place r s)
-    where
-      by_case : IsFrom at place ⊎ IsFrom place at → ⊥
-      by_case (inl k) = let e = stuck at place end k f in cc
-      by_case (inr k) = let ge = from-le place at k in let e : place ≡ at = omega arith in cc
+  pub trails-later : (farther at later : ℕ) → IsTrailing code farther at → at ≤ later → IsTrailing code farther later
+  trails-later farther at later h le =
+      record { reached = h.reached; far = ⊎_elim (λ e. inl e) (λ far. inr (omega arith)) h.far }

@@ -6,7 +6,7 @@ use Rattle.std.proofs.lemmas.List.{replicate-append-replicate, length-replicate,
 use Rattle.std.specs.Prelude.{if◌then◌else◌, nat_lt, IfSome, IsSomeAnd, slice_get}
 use Rattle.cap_bare.specs.declared.bare.Bare.{Bare}
 use Rattle.cap_bare.specs.declared.instruction.Instruction.{Instruction}
-use Rattle.cap_bare.specs.declared.instruction.Instruction.TheVariants.{Nop, Push, Load, Store, Increment, Pop, Duplicate, Unary, Binary, Test, Compare, Goto, Return}
+use Rattle.cap_bare.specs.declared.instruction.Instruction.TheVariants.{Load, Store, Increment}
 use Rattle.cap_bare.specs.declared.fault.BareKind.{BareKind}
 use Rattle.cap_bare.specs.declared.fault.BareKind.TheVariants.{NoLocal, Underflow, Overflow}
 use Rattle.cap_bare.specs.Effects.{register_of, register_read, register_written, cells_taken, cells_given}
@@ -42,32 +42,12 @@ shorts-rest d n rest e =
 pub read-named : (i : Instruction) (n : ℕ) → IfSome (register_of i) (λ x. x < n) → IfSome (register_read i) (λ x. x < n)
 read-named (Load x) n h = h
 read-named (Increment x k) n h = h
-read-named (Store x) n h = tt
-read-named Nop n h = tt
-read-named (Push k) n h = tt
-read-named Pop n h = tt
-read-named Duplicate n h = tt
-read-named (Unary o) n h = tt
-read-named (Binary o) n h = tt
-read-named (Test k t) n h = tt
-read-named (Compare k t) n h = tt
-read-named (Goto t) n h = tt
-read-named Return n h = tt
+read-named _ n h = tt
 
 pub written-named : (i : Instruction) (n : ℕ) → IfSome (register_of i) (λ x. x < n) → IfSome (register_written i) (λ x. x < n)
-written-named (Load x) n h = tt
 written-named (Increment x k) n h = h
 written-named (Store x) n h = h
-written-named Nop n h = tt
-written-named (Push k) n h = tt
-written-named Pop n h = tt
-written-named Duplicate n h = tt
-written-named (Unary o) n h = tt
-written-named (Binary o) n h = tt
-written-named (Test k t) n h = tt
-written-named (Compare k t) n h = tt
-written-named (Goto t) n h = tt
-written-named Return n h = tt
+written-named _ n h = tt
 
 below-any : (k : Kind) → IsBelow k short
 below-any bottom = below_short
@@ -104,11 +84,13 @@ within-ok bare (Some x) depth after rest h = by_test (nat_lt x (register_count b
 abbrev cells : ℕ → ℕ → ℕ → ℕ → Result ℕ BareKind
 cells taken max depth after = if nat_lt depth taken then Err Underflow else if nat_lt max after then Err Overflow else Ok after
 
-cells-ok : (taken max depth next after : ℕ) → cells taken max depth next ≡ Ok after → (taken ≤ depth) × (next ≤ max) × (after ≡ next)
+cells-ok : (taken max depth next after : ℕ) → cells taken max depth next ≡ Ok after
+    → (taken ≤ depth) × (next ≤ max) × (after ≡ next)
 cells-ok taken max depth next after h = by_test (nat_lt depth taken) refl (nat_lt max next) refl h
   where
     by_test : (b : Bool) → nat_lt depth taken ≡ b → (c : Bool) → nat_lt max next ≡ c
-        → (if b then Err Underflow else if c then Err Overflow else Ok next) ≡ Ok after → (taken ≤ depth) × (next ≤ max) × (after ≡ next)
+        → (if b then Err Underflow else if c then Err Overflow else Ok next) ≡ Ok after
+        → (taken ≤ depth) × (next ≤ max) × (after ≡ next)
     by_test true d c e h = absurd (cc)
     by_test false d true e h = absurd (cc)
     by_test false d false e h = (grind (arith, nat_tests), grind (arith, nat_tests), cc)
@@ -161,14 +143,16 @@ within-err : (bare : Bare) (i : Instruction) (o : Option ℕ) (stack : List Kind
 within-err bare i None stack depth kind rest e more h = more tt h
 within-err bare i (Some x) stack depth kind rest e more h = by_test (nat_lt x (register_count bare)) refl h
   where
-    by_test : (b : Bool) → nat_lt x (register_count bare) ≡ b → (if b then rest else Err (NoLocal x)) ≡ Err kind → Fails bare i stack kind
+    by_test : (b : Bool) → nat_lt x (register_count bare) ≡ b → (if b then rest else Err (NoLocal x)) ≡ Err kind
+        → Fails bare i stack kind
     by_test true t h = more (ltb-true _ _ t) h
     by_test false t h =
         let same : NoLocal x ≡ kind = cc in
         let le : register_count bare ≤ x = grind (arith, nat_tests) in
         subst (Fails bare i stack) same (fails_local x e le)
 
-pub applied-err : (bare : Bare) (i : Instruction) (depth : ℕ) (kind : BareKind) → applied bare i depth ≡ Err kind → Fails bare i (shorts depth) kind
+pub applied-err : (bare : Bare) (i : Instruction) (depth : ℕ) (kind : BareKind) → applied bare i depth ≡ Err kind
+    → Fails bare i (shorts depth) kind
 applied-err bare i depth kind h =
     within-err bare i (register_of i) (shorts depth) depth kind _ refl
     (λ local k. by_test local (nat_lt depth (cells_taken i)) refl (nat_lt bare.max_stack (depth - cells_taken i + cells_given i)) refl k) h

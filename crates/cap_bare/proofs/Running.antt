@@ -1,54 +1,69 @@
 -- Code with a card typing never meets a fault.
-use Rattle.std.proofs.Common.{◌≡◌, ◌∙◌, sym, ap, subst, ℕ, zero, suc, ◌+◌, ◌-◌, ◌<◌, ◌≤◌, Bool, true, false, Option, Some, None, Result, Ok, Err, List, [], length, drop, replicate, refl, arith, inl, inr, ◌⊎◌}
+use Rattle.std.proofs.Common.{◌≡◌, ◌∙◌, sym, ap, subst, ℕ, zero, suc, ◌+◌, ◌-◌, ◌<◌, ◌≤◌, Bool, true, false, Option, Some, None, Result, Ok, Err, List, [], length, drop, replicate, refl, arith, inl, inr, ◌⊎◌, ⊎_elim, Contains}
 use Rattle.std.proofs.lemmas.Bool.{ltb-true, lt-ltb}
 use Rattle.std.proofs.lemmas.Bool.Decides.{nat_tests}
 use Rattle.std.proofs.lemmas.List.{length-replicate, length-append, length-drop}
+use Rattle.std.proofs.lemmas.List.Elements.{All-contains}
 use Rattle.std.proofs.Math.ListN.{length-set}
-use Rattle.std.specs.Prelude.{if◌then◌else◌, ℤ, pos, negsuc, IfSome, MatchBool, nat_lt, is_some}
+use Rattle.std.specs.Prelude.{if◌then◌else◌, ℤ, pos, negsuc, IfSome, MatchBool, nat_lt}
 use Rattle.jc_decode.specs.declared.insn.CodeEnd.{CodeEnd}
 use Rattle.cap_bare.specs.declared.bare.Bare.{Bare}
-use Rattle.cap_bare.specs.declared.code.Placed.{Placed}
+use Rattle.jc_decode.specs.declared.insn.Insn.{Insn}
+use Rattle.jc_decode.specs.declared.insn.Placed.{Placed}
+use Rattle.jc_decode.specs.Listing.{falls, jumps, targets}
 use Rattle.cap_bare.specs.declared.instruction.Instruction.{Instruction}
-use Rattle.cap_bare.specs.declared.instruction.Instruction.TheVariants.{Nop, Push, Load, Store, Increment, Pop, Duplicate, Unary, Binary, Test, Compare, Goto, Return}
-use Rattle.cap_bare.specs.Arithmetic.{holds}
-use Rattle.cap_bare.specs.Effects.{register_of, cells_taken, cells_given, target_of, falls_through}
-use Rattle.cap_bare.specs.Code.{fetched, IsReached, reached_first, Stands, IsPlace, IsTargetPlace}
+use Rattle.cap_bare.specs.declared.instruction.Instruction.TheVariants.{Nop, Push, Load, Store, Increment, Pop, Duplicate, Negate, ToByte, Binary, Test, Compare, Goto, Return}
+use Rattle.vm_arithmetic.specs.Arithmetic.{holds}
+use Rattle.cap_bare.specs.Format.{is_bare, instruction_of}
+use Rattle.cap_bare.specs.Effects.{register_of, cells_taken, cells_given}
+use Rattle.cap_bare.specs.Code.{fetched, place_after, Stands, IsPlace, IsTargetPlace}
 use Rattle.cap_bare.specs.Typing.{Kind, shorts, register_count, IsTyped, CardTyping}
 use Rattle.cap_bare.specs.Walk.{is_place}
-use Rattle.cap_bare.specs.Machine.{Frame, State, Outcome, running, returned, faulted, jump_fault, local_fault, stack_fault, Lead, leads, gives, frame, top, second, acted, has_register, at_place, settled, performed, step, go_on, after, entered, IsFault, IsSafe, IsFaultFree}
-use Rattle.cap_bare.proofs.Instructions.{fetched-inside}
-use Rattle.cap_bare.proofs.Places.{stands-at, reached-farther, ends-once, place-true}
-use Rattle.cap_bare.proofs.WellFormed.{none-at-end}
+use Rattle.cap_bare.specs.Machine.{Frame, State, Outcome, running, returned, faulted, jump_fault, local_fault, stack_fault, Lead, leads, gives, frame, top, second, acted, acts, branch_target, has_register, at_place, settled, performed, step, go_on, after, entered, IsFault, IsSafe, IsFaultFree}
+use Rattle.cap_bare.proofs.Operands.{branches, goes_on as falls_on, branches-jumps, goes_on-falls}
+use Rattle.cap_bare.proofs.Instructions.{here, is-here, fetched-bare, reached-first, stands-at, stands-listed, ends-at}
+use Rattle.cap_bare.proofs.Places.{place-true, leads-there, branch-leads}
 use Rattle.cap_bare.proofs.Rule.{shorts-length}
 
 -- where an instruction may lead, and what it does to the numbers of registers and of cells
-pub data IsActed (i : Instruction) (next : ℕ) (r s : List ℤ) : Lead → Type 0 where
-  acts_on : (to : ℤ) (f : Frame) → ((to ≡ pos next) × (falls_through i ≡ true)) ⊎ (target_of i ≡ Some to)
-      → length f.registers ≡ length r → length f.stack ≡ length s - cells_taken i + cells_given i → IsActed i next r s (leads to f)
-  acts_out : (n : ℤ) → cells_given i ≡ 0 → IsActed i next r s (gives n)
+pub data IsActed (i : Instruction) (t : ℤ) (next : ℕ) (r s : List ℤ) : Lead → Type 0 where
+  acts_on : (to : ℤ) (f : Frame) → ((to ≡ pos next) × (falls_on i ≡ true)) ⊎ ((to ≡ t) × (branches i ≡ true))
+      → length f.registers ≡ length r → length f.stack ≡ length s - cells_taken i + cells_given i
+      → IsActed i t next r s (leads to f)
+  acts_out : (n : ℤ) → cells_given i ≡ 0 → IsActed i t next r s (gives n)
 
-acted-either : (i : Instruction) (next : ℕ) (r s : List ℤ) (b : Bool) (target : ℤ) (f : Frame) → target_of i ≡ Some target → falls_through i ≡ true
+acted-either : (i : Instruction) (t : ℤ) (next : ℕ) (r s : List ℤ) (b : Bool) (f : Frame) → branches i ≡ true → falls_on i ≡ true
     → length f.registers ≡ length r → length f.stack ≡ length s - cells_taken i + cells_given i
-    → IsActed i next r s (leads (if b then target else pos next) f)
-acted-either i next r s true target f e t k l = acts_on target f (inr e) k l
-acted-either i next r s false target f e t k l = acts_on (pos next) f (inl (refl, t)) k l
+    → IsActed i t next r s (leads (if b then t else pos next) f)
+acted-either i t next r s true f e g k l = acts_on t f (inr (refl, e)) k l
+acted-either i t next r s false f e g k l = acts_on (pos next) f (inl (refl, g)) k l
 
-pub acted-is : (i : Instruction) (next : ℕ) (r s : List ℤ) → cells_taken i ≤ length s → IsActed i next r s (acted i next r s)
-acted-is Nop next r s h = acts_on _ _ (inl (refl, refl)) refl (omega arith)
-acted-is (Push n) next r s h = acts_on _ _ (inl (refl, refl)) refl (omega arith)
-acted-is (Load x) next r s h = acts_on _ _ (inl (refl, refl)) refl (omega arith)
-acted-is (Store x) next r s h = acts_on _ _ (inl (refl, refl)) (length-set r x (top s)) (omega (arith, length-drop 1 s))
-acted-is (Increment x n) next r s h = acts_on _ _ (inl (refl, refl)) (length-set r x _) (omega arith)
-acted-is Pop next r s h = acts_on _ _ (inl (refl, refl)) refl (omega (arith, length-drop 1 s))
-acted-is Duplicate next r s h = acts_on _ _ (inl (refl, refl)) refl (omega arith)
-acted-is (Unary o) next r s h = acts_on _ _ (inl (refl, refl)) refl (omega (arith, length-drop 1 s))
-acted-is (Binary o) next r s h = acts_on _ _ (inl (refl, refl)) refl (omega (arith, length-drop 2 s))
-acted-is (Test c t) next r s h =
-    acted-either (Test c t) next r s (holds c (top s) (pos 0)) t (frame r (drop 1 s)) refl refl refl (omega (arith, length-drop 1 s))
-acted-is (Compare c t) next r s h =
-    acted-either (Compare c t) next r s (holds c (second s) (top s)) t (frame r (drop 2 s)) refl refl refl (omega (arith, length-drop 2 s))
-acted-is (Goto t) next r s h = acts_on t (frame r s) (inr refl) refl (omega arith)
-acted-is Return next r s h = acts_out (top s) refl
+acted-is : (i : Instruction) (t : ℤ) (next : ℕ) (r s : List ℤ) → cells_taken i ≤ length s
+    → IsActed i t next r s (acted i t next r s)
+acted-is Nop t next r s h = acts_on _ _ (inl (refl, refl)) refl (omega arith)
+acted-is (Push n) t next r s h = acts_on _ _ (inl (refl, refl)) refl (omega arith)
+acted-is (Load x) t next r s h = acts_on _ _ (inl (refl, refl)) refl (omega arith)
+acted-is (Store x) t next r s h = acts_on _ _ (inl (refl, refl)) (length-set r x (top s)) (omega (arith, length-drop 1 s))
+acted-is (Increment x n) t next r s h = acts_on _ _ (inl (refl, refl)) (length-set r x _) (omega arith)
+acted-is Pop t next r s h = acts_on _ _ (inl (refl, refl)) refl (omega (arith, length-drop 1 s))
+acted-is Duplicate t next r s h = acts_on _ _ (inl (refl, refl)) refl (omega arith)
+acted-is Negate t next r s h = acts_on _ _ (inl (refl, refl)) refl (omega (arith, length-drop 1 s))
+acted-is ToByte t next r s h = acts_on _ _ (inl (refl, refl)) refl (omega (arith, length-drop 1 s))
+acted-is (Binary o) t next r s h = acts_on _ _ (inl (refl, refl)) refl (omega (arith, length-drop 2 s))
+acted-is (Test c) t next r s h =
+    acted-either (Test c) t next r s (holds c (top s) (pos 0)) (frame r (drop 1 s)) refl refl refl (omega (arith, length-drop 1 s))
+acted-is (Compare c) t next r s h =
+    acted-either (Compare c) t next r s (holds c (second s) (top s)) (frame r (drop 2 s)) refl refl refl (omega (arith, length-drop 2 s))
+acted-is Goto t next r s h = acts_on t (frame r s) (inr (refl, refl)) refl (omega arith)
+acted-is Return t next r s h = acts_out (top s) refl
+
+-- where an instruction of the code may lead
+abbrev pub IsActing : List ℕ → Placed → Frame → Lead → Type 0
+IsActing code i f l = IsActed (instruction_of i.insn) (branch_target code i) (place_after i) f.registers f.stack l
+
+pub acting : (code : List ℕ) (i : Placed) (f : Frame) → cells_taken (instruction_of i.insn) ≤ length f.stack
+    → IsActing code i f (acts code i f)
+acting code i f h = acted-is (instruction_of i.insn) (branch_target code i) (place_after i) f.registers f.stack h
 
 has-register : (bare : Bare) (o : Option ℕ) → IfSome o (λ x. x < register_count bare) → has_register bare o ≡ true
 has-register bare None h = refl
@@ -66,41 +81,42 @@ less-not a b h = grind (arith, nat_tests)
 
 module _ (code : List ℕ) (bare : Bare) where
   -- a step's tests, passed
-  pub record Sound (s : State) (i : Placed) : Type 0 where
+  pub record Sound (s : State) (i : Insn) : Type 0 where
     pub found : fetched code s.place ≡ Ok i
-    pub local : IfSome (register_of i.instruction) (λ x. x < register_count bare)
-    pub cells : cells_taken i.instruction ≤ length s.frame.stack
-    pub is : step code bare s ≡ settled code bare (acted i.instruction i.next s.frame.registers s.frame.stack)
+    pub local : IfSome (register_of (instruction_of i)) (λ x. x < register_count bare)
+    pub cells : cells_taken (instruction_of i) ≤ length s.frame.stack
+    pub is : step code bare s ≡ settled code bare (acts code (here s.place i) s.frame)
 
   -- a step that meets no fault passes them
   abbrev NoFault : Outcome → Type 0
   NoFault o = IsFault o → ⊥
 
-  sound-from : (s : State) (b : Bool) → is_place code (pos s.place) ≡ b → (r : Result Placed CodeEnd) → fetched code s.place ≡ r
-      → step code bare s ≡ (if b then performed code bare s.frame r else faulted jump_fault)
-      → NoFault (if b then performed code bare s.frame r else faulted jump_fault) → (i : Placed) × Sound s i
+  sound-from : (s : State) (b : Bool) → is_place code (pos s.place) ≡ b → (r : Result Insn CodeEnd) → fetched code s.place ≡ r
+      → step code bare s ≡ (if b then performed code bare s r else faulted jump_fault)
+      → NoFault (if b then performed code bare s r else faulted jump_fault) → (i : Insn) × Sound s i
   sound-from s false p r f e h = absurd (h tt)
   sound-from s true p (Err end) f e h = absurd (h tt)
   sound-from s true p (Ok i) f e h =
-      by_tests (has_register bare (register_of i.instruction)) refl (nat_lt (length s.frame.stack) (cells_taken i.instruction)) refl e h
+      by_tests (has_register bare (register_of (instruction_of i))) refl (nat_lt (length s.frame.stack) (cells_taken (instruction_of i))) refl e h
     where
-      by_tests : (b : Bool) → has_register bare (register_of i.instruction) ≡ b → (c : Bool) → nat_lt (length s.frame.stack) (cells_taken i.instruction) ≡ c
-          → step code bare s ≡ (if b then (if c then faulted stack_fault else settled code bare (acted i.instruction i.next s.frame.registers s.frame.stack)) else faulted local_fault)
-          → NoFault (if b then (if c then faulted stack_fault else settled code bare (acted i.instruction i.next s.frame.registers s.frame.stack)) else faulted local_fault)
-          → (i : Placed) × Sound s i
+      by_tests : (b : Bool) → has_register bare (register_of (instruction_of i)) ≡ b → (c : Bool)
+          → nat_lt (length s.frame.stack) (cells_taken (instruction_of i)) ≡ c
+          → step code bare s ≡ (if b then (if c then faulted stack_fault else settled code bare (acts code (here s.place i) s.frame)) else faulted local_fault)
+          → NoFault (if b then (if c then faulted stack_fault else settled code bare (acts code (here s.place i) s.frame)) else faulted local_fault)
+          → (i : Insn) × Sound s i
       by_tests false l c k e h = absurd (h tt)
       by_tests true l true k e h = absurd (h tt)
       by_tests true l false k e h = (
         i,
         record {
           found = f;
-          local = register-there bare (register_of i.instruction) l;
+          local = register-there bare (register_of (instruction_of i)) l;
           cells = less-not _ _ k;
           is = e;
         },
       )
 
-  pub sound : (s : State) → (IsFault (step code bare s) → ⊥) → (i : Placed) × Sound s i
+  pub sound : (s : State) → (IsFault (step code bare s) → ⊥) → (i : Insn) × Sound s i
   unfolding step
   sound s h = sound-from s (is_place code (pos s.place)) refl (fetched code s.place) refl refl h
 
@@ -149,15 +165,16 @@ module _ (code : List ℕ) (bare : Bare) where
   after-none s = refl
 
   module _ (filled : 1 ≤ length code) (t : CardTyping code bare) where
-    -- a reached place before the end is that of an instruction
-    there : (p : ℕ) → IsReached code p → p < length code → IsPlace code p
-    there p r lt = by_found (fetched code p) refl
+    -- an instruction stands at the first place, and after each but the last
+    first-place : IsPlace code 0
+    first-place = by_found (fetched code 0) refl
       where
-        by_found : (q : Result Placed CodeEnd) → fetched code p ≡ q → IsPlace code p
-        by_found (Ok i) e = (i, (fetched-inside code p i e).place, stands-at code p i r e)
-        by_found (Err end) e =
-            let last = none-at-end code (fetched code (length code)) refl in
-            let same = ends-once code p (length code) end last.0 r t.well_formed.ends e last.1 in absurd (omega arith)
+        by_found : (q : Result Insn CodeEnd) → fetched code 0 ≡ q → IsPlace code 0
+        by_found (Ok i) e = (here 0 i, stands-at code 0 (here 0 i) (reached-first code) (is-here code 0 i e), refl)
+        by_found (Err end) e = let ends = ends-at code 0 end (reached-first code) e in absurd (omega (arith, ends, t.well_formed.ends, filled))
+
+    next-place : (i : Placed) → Stands code i → place_after i < length code → IsPlace code (place_after i)
+    next-place i s lt = ⊎_elim (λ e. absurd (omega (arith, e, t.well_formed.ends, lt))) (λ j. j) (stands-listed code i s).next
 
     -- a state has the registers, the cells and a place that the typing says
     record Agrees (s : State) : Type 0 where
@@ -181,73 +198,89 @@ module _ (code : List ℕ) (bare : Bare) where
       stack : length (t.stacks place) ≡ length left
 
     next-falls : (i : Placed) (k : IsTyped code bare t.registers t.stacks i) → Stands code i → (b : Bool) → b ≡ true
-        → MatchBool b ((i.next < length code) × (t.stacks i.next ≡ k.after)) (t.stacks i.next ≡ []) → Next k.after (pos i.next)
-    next-falls i k s true e h = record { place = i.next; is = refl; there = there i.next (reached-farther code i s) h.0; stack = ap length h.1 }
+        → MatchBool b ((place_after i < length code) × (t.stacks (place_after i) ≡ k.after)) (t.stacks (place_after i) ≡ [])
+        → Next k.after (pos (place_after i))
+    next-falls i k s true e h = record { place = place_after i; is = refl; there = next-place i s h.0; stack = ap length h.1 }
     next-falls i k s false e h = absurd (cc)
 
-    branching : (o : Option ℤ) (to : ℤ) → o ≡ Some to → is_some o ≡ true
-    branching None to e = absurd (cc)
-    branching (Some u) to e = refl
-
-    next-branch : (i : Placed) (k : IsTyped code bare t.registers t.stacks i) → Stands code i → (to : ℤ) → target_of i.instruction ≡ Some to
-        → IsTargetPlace code to → Next k.after to
-    next-branch i k s (pos p) e h = record {
+    next-branch : (i : Placed) (k : IsTyped code bare t.registers t.stacks i) → Stands code i → (to : ℤ) → jumps i.insn.op ≡ true
+        → Contains (targets code i) to → IsTargetPlace code to → Next k.after to
+    next-branch i k s (pos p) j c h = record {
       place = p;
       is = refl;
       there = h;
-      stack =
-          ap length (t.targets p (record { from = i; stands = s; leads = e }))
-          ∙ sym (ap length (k.branch (branching (target_of i.instruction) (pos p) e)));
+      stack = ap length (t.targets p (record { from = i; stands = s; leads = c })) ∙ sym (ap length (k.branch j));
     }
-    next-branch i k s (negsuc n) e h = absurd h
+    next-branch i k s (negsuc n) j c h = absurd h
+
+    abbrev LeadsTo : Placed → ℤ → Type 0
+    LeadsTo i to =
+        ((to ≡ pos (place_after i)) × (falls_on (instruction_of i.insn) ≡ true))
+        ⊎ ((to ≡ branch_target code i) × (branches (instruction_of i.insn) ≡ true))
 
     next-of : (i : Placed) (k : IsTyped code bare t.registers t.stacks i) → Stands code i → (to : ℤ)
-        → ((to ≡ pos i.next) × (falls_through i.instruction ≡ true)) ⊎ (target_of i.instruction ≡ Some to) → Next k.after to
-    next-of i k s to (inl h) = subst (Next k.after) (sym h.0) (next-falls i k s (falls_through i.instruction) h.1 k.next)
-    next-of i k s to (inr h) = next-branch i k s to h (t.well_formed.leads i to s h)
+        → LeadsTo i to
+        → Next k.after to
+    next-of i k s to where_to = by_case where_to
+      where
+        bare_one : is_bare i.insn.op ≡ true
+        bare_one = fetched-bare code i.place i.insn (stands-listed code i s).here.found
+
+        by_case : LeadsTo i to
+            → Next k.after to
+        by_case (inl h) = subst (Next k.after) (sym h.0) (next-falls i k s (falls i.insn.op) (goes_on-falls i.insn bare_one h.1) k.next)
+        by_case (inr h) =
+            let j = branches-jumps i.insn bare_one h.1 in
+            let leads : Contains (targets code i) to = subst (Contains (targets code i)) (sym (h.0 ∙ branch-leads code i j)) (leads-there code i j) in
+            next-branch i k s to j leads (All-contains (IsTargetPlace code) (targets code i) to (t.well_formed.leads i s) leads)
 
     -- the tests before an instruction pass
-    performed-is : (s : State) (i : Placed) → Agrees s → fetched code s.place ≡ Ok i → has_register bare (register_of i.instruction) ≡ true
-        → cells_taken i.instruction ≤ length s.frame.stack
-        → step code bare s ≡ settled code bare (acted i.instruction i.next s.frame.registers s.frame.stack)
+    performed-is : (s : State) (i : Insn) → Agrees s → fetched code s.place ≡ Ok i
+        → has_register bare (register_of (instruction_of i)) ≡ true
+        → cells_taken (instruction_of i) ≤ length s.frame.stack
+        → step code bare s ≡ settled code bare (acts code (here s.place i) s.frame)
     unfolding step
     performed-is s i a f r c =
         let p : is_place code (pos s.place) ≡ true = place-true code (pos s.place) a.place in
-        let k = not-less (length s.frame.stack) (cells_taken i.instruction) c in rw (p, f, r, k) refl
+        let k = not-less (length s.frame.stack) (cells_taken (instruction_of i)) c in rw (p, f, r, k) refl
 
     one-step : (s : State) → Agrees s → Goes s
     one-step s a =
-        by_lead (acted i.instruction i.next s.frame.registers s.frame.stack)
-        (acted-is i.instruction i.next s.frame.registers s.frame.stack cells)
-        (performed-is s i a f (has-register bare (register_of i.instruction) k.applies.local) cells)
+        by_lead (acts code i s.frame)
+        (acting code i s.frame cells)
+        (performed-is s i.insn a f (has-register bare (register_of (instruction_of i.insn)) k.applies.local) cells
+        ∙ ap (λ (j : Placed). settled code bare (acts code j s.frame)) same)
       where
         i : Placed
         i = a.place.0
 
-        f : fetched code s.place ≡ Ok i
-        f = subst (λ (p : ℕ). fetched code p ≡ Ok i) a.place.1 a.place.2.found
+        f : fetched code s.place ≡ Ok i.insn
+        f = subst (λ (p : ℕ). fetched code p ≡ Ok i.insn) a.place.2 (stands-listed code i a.place.1).here.found
+
+        same : here s.place i.insn ≡ i
+        same = ap (λ (p : ℕ). here p i.insn) (sym a.place.2)
 
         k : IsTyped code bare t.registers t.stacks i
-        k = t.typed i a.place.2
+        k = t.typed i a.place.1
 
-        depth : length s.frame.stack ≡ cells_taken i.instruction + length k.applies.rest
+        depth : length s.frame.stack ≡ cells_taken (instruction_of i.insn) + length k.applies.rest
         depth =
-            a.stack ∙ ap (λ (p : ℕ). length (t.stacks p)) (sym a.place.1) ∙ ap length k.applies.takes
-            ∙ length-append (shorts (cells_taken i.instruction)) k.applies.rest
-            ∙ ap (λ (n : ℕ). n + length k.applies.rest) (shorts-length (cells_taken i.instruction))
+            a.stack ∙ ap (λ (p : ℕ). length (t.stacks p)) (sym a.place.2) ∙ ap length k.applies.takes
+            ∙ length-append (shorts (cells_taken (instruction_of i.insn))) k.applies.rest
+            ∙ ap (λ (n : ℕ). n + length k.applies.rest) (shorts-length (cells_taken (instruction_of i.insn)))
 
-        left : length k.after ≡ cells_given i.instruction + length k.applies.rest
+        left : length k.after ≡ cells_given (instruction_of i.insn) + length k.applies.rest
         left =
             ap length k.applies.gives
-            ∙ length-append (shorts (cells_given i.instruction)) k.applies.rest
-            ∙ ap (λ (n : ℕ). n + length k.applies.rest) (shorts-length (cells_given i.instruction))
+            ∙ length-append (shorts (cells_given (instruction_of i.insn))) k.applies.rest
+            ∙ ap (λ (n : ℕ). n + length k.applies.rest) (shorts-length (cells_given (instruction_of i.insn)))
 
-        cells : cells_taken i.instruction ≤ length s.frame.stack
+        cells : cells_taken (instruction_of i.insn) ≤ length s.frame.stack
         cells = let d = depth in omega arith
 
-        by_lead : (l : Lead) → IsActed i.instruction i.next s.frame.registers s.frame.stack l → step code bare s ≡ settled code bare l → Goes s
+        by_lead : (l : Lead) → IsActing code i s.frame l → step code bare s ≡ settled code bare l → Goes s
         by_lead _ (acts_on to g where_to r c) e =
-            let n = next-of i k a.place.2 to where_to in
+            let n = next-of i k a.place.1 to where_to in
             let d = depth in
             let l = left in
             let same : length g.stack ≡ length k.after = omega arith in
@@ -275,7 +308,7 @@ module _ (code : List ℕ) (bare : Bare) where
     fault-free args e n h =
         safe n (entered bare args)
         (record {
-          place = there 0 reached_first (omega arith);
+          place = first-place;
           registers = length-append args (replicate bare.max_locals (pos 0)) ∙ omega (arith, e, length-replicate bare.max_locals (pos 0));
           stack = sym (ap length t.entry);
         }) h

@@ -7,41 +7,44 @@ use lib.Signed.{non_neg}
 use mir.Val.{Fits, to_z, of_z}
 use Rattle.jc_decode.specs.declared.insn.CodeEnd.{CodeEnd}
 use Rattle.cap_bare.specs.declared.bare.Bare.{Bare}
-use Rattle.cap_bare.specs.declared.code.Placed.{Placed}
+use Rattle.cap_bare.specs.declared.instruction.Instruction.{Instruction}
+use Rattle.jc_decode.specs.declared.insn.Insn.{Insn}
 use Rattle.cap_bare.specs.Effects.{register_of, cells_taken, cells_given}
-use Rattle.cap_bare.specs.Code.{fetched, IsTargetPlace}
+use Rattle.cap_bare.specs.Format.{instruction_of}
+use Rattle.cap_bare.specs.Code.{fetched, place_after, IsTargetPlace}
 use Rattle.cap_bare.specs.Typing.{register_count}
-use Rattle.cap_bare.specs.Machine.{Frame, State, running, returned, Lead, leads, gives, frame, acted, at_place, settled, step, IsFault, IsSafe}
+use Rattle.cap_bare.specs.Machine.{Frame, State, running, returned, Lead, leads, gives, frame, acted, acts, branch_target, at_place, settled, step, IsFault, IsSafe}
 use Rattle.cap_bare.specs.Leading.{CanAct, state_at}
-use Rattle.cap_bare.proofs.Instructions.{fetched-inside}
+use Rattle.cap_bare.proofs.Instructions.{here, here-inside, stands-listed}
 use Rattle.cap_bare.proofs.Places.{place-from}
-use Rattle.cap_bare.proofs.Running.{IsActed, acts_on, acts_out, acted-is, Sound, sound, settled-from, safe-step}
+use Rattle.cap_bare.proofs.Running.{IsActing, acts_on, acts_out, acting, Sound, sound, settled-from, safe-step}
 
 module _ (code : List ℕ) (bare : Bare) (s : State) (safe : IsSafe code bare s) where
   pub never-none : (end : CodeEnd) → fetched code s.place ≡ Err end → ⊥
   never-none end e = let k = sound code bare s (safe-step code bare s safe) in let found = k.1.found in cc
 
-  module _ (i : Placed) (e : fetched code s.place ≡ Ok i) where
+  module _ (i : Insn) (e : fetched code s.place ≡ Ok i) where
     pub sound-at : Sound code bare s i
     sound-at =
         let k = sound code bare s (safe-step code bare s safe) in
         let found = k.1.found in
         let same : k.0 ≡ i = cc in subst (Sound code bare s) same k.1
 
-    settles : (l : Lead) → acted i.instruction i.next s.frame.registers s.frame.stack ≡ l → IsFault (settled code bare l) → ⊥
+    settles : (l : Lead) → acts code (here s.place i) s.frame ≡ l → IsFault (settled code bare l) → ⊥
     settles l e h =
         let is : step code bare s ≡ settled code bare l = sound-at.is ∙ ap (settled code bare) e in
         safe-step code bare s safe (subst IsFault (sym is) h)
 
-    pub can-act : length s.frame.registers ≡ register_count bare → bare.max_stack ≤ 15 → CanAct i.instruction s.frame
+    pub can-act : length s.frame.registers ≡ register_count bare → bare.max_stack ≤ 15 → CanAct (instruction_of i) s.frame
     can-act registers low = record {
-      local = subst (λ (n : ℕ). IfSome (register_of i.instruction) (λ x. x < n)) (sym registers) sound-at.local;
+      local = subst (λ (n : ℕ). IfSome (register_of (instruction_of i)) (λ x. x < n)) (sym registers) sound-at.local;
       cells = sound-at.cells;
-      room = by_lead _ (acted-is i.instruction i.next s.frame.registers s.frame.stack sound-at.cells) (settles _ refl);
+      room = by_lead _ (acting code (here s.place i) s.frame sound-at.cells) (settles _ refl);
     }
       where
-        by_lead : (l : Lead) → IsActed i.instruction i.next s.frame.registers s.frame.stack l → (IsFault (settled code bare l) → ⊥)
-            → 0 < cells_given i.instruction → length s.frame.stack - cells_taken i.instruction + cells_given i.instruction ≤ 15
+        by_lead : (l : Lead) → IsActing code (here s.place i) s.frame l → (IsFault (settled code bare l) → ⊥)
+            → 0 < cells_given (instruction_of i)
+            → length s.frame.stack - cells_taken (instruction_of i) + cells_given (instruction_of i) ≤ 15
         by_lead _ (acts_on to f w r c) h lt = let k = (settled-from code bare to f h).room in omega arith
         by_lead _ (acts_out n z) h lt = absurd (omega arith)
 
@@ -54,26 +57,35 @@ module _ (code : List ℕ) (bare : Bare) (s : State) (safe : IsSafe code bare s)
 
     going-at : (to : ℤ) (f : Frame) → IsTargetPlace code to → step code bare s ≡ running (state_at (at_place to) f) → Going to f
     going-at (pos p) f h e =
-        let inside = fetched-inside code h.0.place h.0 h.2.found in
-        let small : p < length code = omega (arith, h.1, inside.farther, inside.inside) in
+        let inside = here-inside code h.0.place h.0 (stands-listed code h.0 h.1).here in
+        let small : p < length code = omega (arith, h.2, inside.farther, inside.inside) in
         record { place = p; is = refl; small = small; stepped = e }
     going-at (negsuc n) f h e = absurd h
 
-    pub step-to : (to : ℤ) (f : Frame) → acted i.instruction i.next s.frame.registers s.frame.stack ≡ leads to f → Going to f
-    step-to to f a =
-        let k = settled-from code bare to f (settles (leads to f) a) in
-        going-at to f (place-from code to k.there) (sound-at.is ∙ ap (settled code bare) a ∙ k.is)
+    -- what the code makes of the frame, with this instruction and this target
+    module _ (k : Instruction) (t : ℤ) (same : k ≡ instruction_of i) (target : t ≡ branch_target code (here s.place i)) where
+      abbrev made : Lead
+      made = acted k t (place_after (here s.place i)) s.frame.registers s.frame.stack
 
-    pub step-out : (n : ℤ) → acted i.instruction i.next s.frame.registers s.frame.stack ≡ gives n → step code bare s ≡ returned n
-    step-out n a = sound-at.is ∙ ap (settled code bare) a
+      is-made : (l : Lead) → l ≡ made → acts code (here s.place i) s.frame ≡ l
+      is-made l a = sym (a ∙ (rw (same, target) refl))
+
+      pub step-to : (to : ℤ) (f : Frame) → leads to f ≡ made → Going to f
+      step-to to f a =
+          let e = is-made (leads to f) a in
+          let k = settled-from code bare to f (settles (leads to f) e) in
+          going-at to f (place-from code to k.there) (sound-at.is ∙ ap (settled code bare) e ∙ k.is)
+
+      pub step-out : (n : ℤ) → gives n ≡ made → step code bare s ≡ returned n
+      step-out n a = sound-at.is ∙ ap (settled code bare) (is-made (gives n) a)
 
   -- a step keeps the number of registers
   pub registers-kept : (t : State) → step code bare s ≡ running t → length t.frame.registers ≡ length s.frame.registers
   registers-kept t e =
       let k = sound code bare s (safe-step code bare s safe) in
-      by_lead k.0 _ (acted-is k.0.instruction k.0.next s.frame.registers s.frame.stack k.1.cells) (sym k.1.is ∙ e)
+      by_lead k.0 _ (acting code (here s.place k.0) s.frame k.1.cells) (sym k.1.is ∙ e)
     where
-      by_lead : (i : Placed) (l : Lead) → IsActed i.instruction i.next s.frame.registers s.frame.stack l → settled code bare l ≡ running t
+      by_lead : (i : Insn) (l : Lead) → IsActing code (here s.place i) s.frame l → settled code bare l ≡ running t
           → length t.frame.registers ≡ length s.frame.registers
       by_lead i _ (acts_on to f w r c) h =
           let k = settled-from code bare to f (λ fault. subst IsFault h fault) in

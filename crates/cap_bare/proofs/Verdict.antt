@@ -1,17 +1,18 @@
 -- What the two walks find, in the words of the contract.
-use Rattle.std.proofs.Common.{◌≡◌, ◌∙◌, sym, subst, ℕ, ◌≤◌, Result, Ok, Err, List, length, refl}
+use Rattle.std.proofs.Common.{◌≡◌, ap, ℕ, ◌≤◌, ⊎_elim, Result, Ok, Err, List, length, refl}
 use Rattle.std.specs.Prelude.{IsOk, OnOk, IfErr, ◌↔◌}
 use Rattle.cap_bare.specs.declared.bare.Bare.{Bare}
 use Rattle.cap_bare.specs.declared.fault.BareFault.{BareFault}
 use Rattle.cap_bare.specs.declared.fault.BareKind.{BareKind}
 use Rattle.cap_bare.specs.declared.instruction.Instruction.{Instruction}
-use Rattle.cap_bare.specs.declared.code.Placed.{Placed}
+use Rattle.jc_decode.specs.declared.insn.Placed.{Placed}
+use Rattle.cap_bare.specs.Format.{instruction_of}
 use Rattle.cap_bare.specs.Code.{IsFirstFlaw, IsFlawKind, IsWellFormed}
 use Rattle.cap_bare.specs.Typing.{CardTyping, Kind}
 use Rattle.cap_bare.specs.Met.{IsRefused, IsWrong, Fails, fails_local, fails_cells, fails_room, wrong_target, wrong_rule, wrong_branch, wrong_end, refused_flaw, refused_state}
-use Rattle.cap_bare.specs.Walk.{instructions, first_flaw, first_wrong, verdict, in_turn}
+use Rattle.cap_bare.specs.Walk.{Finds}
 use Rattle.cap_bare.specs.Machine.{IsFaultFree}
-use Rattle.cap_bare.proofs.WellFormed.{flaw-none, flaw-some, flaw-first, flaw-not, flaw-kind, well-formed-none}
+use Rattle.cap_bare.proofs.WellFormed.{flaw-not, flaw-kind, first-one}
 use Rattle.cap_bare.proofs.Walks.{typing, refused-at, accepts}
 use Rattle.cap_bare.proofs.Running.{fault-free}
 
@@ -21,10 +22,11 @@ fails-kind bare i stack _ (fails_local x e le) h = h
 fails-kind bare i stack _ (fails_cells l lt) h = h
 fails-kind bare i stack _ (fails_room l rest e lt) h = h
 
-wrong-kind : (code : List ℕ) (bare : Bare) (i : Placed) (registers stack : List Kind) (kind : BareKind) → IsWrong code bare i registers stack kind
+wrong-kind : (code : List ℕ) (bare : Bare) (i : Placed) (registers stack : List Kind) (kind : BareKind)
+    → IsWrong code bare i registers stack kind
     → IsFlawKind kind → ⊥
 wrong-kind code bare i registers stack _ (wrong_target t ne) h = h
-wrong-kind code bare i registers stack kind (wrong_rule k empty f) h = fails-kind bare i.instruction stack kind f h
+wrong-kind code bare i registers stack kind (wrong_rule k empty f) h = fails-kind bare (instruction_of i.insn) stack kind f h
 wrong-kind code bare i registers stack _ (wrong_branch after empty a b ne) h = h
 wrong-kind code bare i registers stack _ (wrong_end after empty a b f e) h = h
 
@@ -35,46 +37,32 @@ refused-kind code bare _ (refused_state i registers stack kind w s m k) =
     ((λ h _. wrong-kind code bare i registers stack kind k h), (λ h. absurd (h w)))
 
 module _ (code : List ℕ) (bare : Bare) where
-  record Met (r : Result (Unit {0}) BareFault) : Type 0 where
-    accepted : OnOk r (CardTyping code bare)
-    refused : IfErr r (λ f. IsRefused code bare f)
+  pub verdict-accepted : (r : Result (Unit {0}) BareFault) → Finds code bare r → OnOk r (CardTyping code bare)
+  verdict-accepted (Ok u) h = typing code bare h.0 h.1
+  verdict-accepted (Err f) h = tt
 
-  by_walks : (p q : Result (Unit {0}) BareFault) → first_flaw code 0 (instructions code) ≡ p → first_wrong code bare 0 (instructions code) ≡ q
-      → Met (in_turn p q)
-  by_walks (Err f) q e k = record { accepted = tt; refused = refused_flaw f (flaw-some code f e) }
-  by_walks (Ok u) (Err f) e k = record { accepted = tt; refused = refused-at code bare (flaw-none code e) f k }
-  by_walks (Ok u) (Ok v) e k = record { accepted = typing code bare (flaw-none code e) k; refused = tt }
+  refused-by : (f : BareFault) → Finds code bare (Err f) → IsRefused code bare f
+  refused-by f h = ⊎_elim (λ first. refused_flaw f first) (λ wrong. refused-at code bare wrong.0 f wrong.1) h
 
-  met : Met (verdict code bare)
-  met = by_walks (first_flaw code 0 (instructions code)) (first_wrong code bare 0 (instructions code)) refl refl
+  pub verdict-refused : (r : Result (Unit {0}) BareFault) → Finds code bare r → IfErr r (λ f. IsRefused code bare f)
+  verdict-refused (Ok u) h = tt
+  verdict-refused (Err f) h = refused-by f h
 
-  module _ (r : Result (Unit {0}) BareFault) (e : r ≡ verdict code bare) where
-    pub verdict-accepted : OnOk r (CardTyping code bare)
-    verdict-accepted = subst (λ (x : Result (Unit {0}) BareFault). OnOk x (CardTyping code bare)) (sym e) met.accepted
+  pub verdict-complete : (r : Result (Unit {0}) BareFault) → Finds code bare r → CardTyping code bare → IsOk r
+  verdict-complete (Ok u) h t = refl
+  verdict-complete (Err f) h t =
+      ⊎_elim (λ first. absurd (flaw-not code f t.well_formed first.flaw)) (λ wrong. let ok = accepts code bare t in absurd (cc (ok, wrong.1))) h
 
-    pub verdict-refused : IfErr r (λ f. IsRefused code bare f)
-    verdict-refused = subst (λ (x : Result (Unit {0}) BareFault). IfErr x (λ f. IsRefused code bare f)) (sym e) met.refused
+  pub verdict-first : (r : Result (Unit {0}) BareFault) → Finds code bare r → (f : BareFault) → IsFirstFlaw code f → r ≡ Err f
+  verdict-first (Ok u) h f k = absurd (flaw-not code f h.0 k.flaw)
+  verdict-first (Err g) h f k =
+      ⊎_elim (λ first. ap Err (first-one code g f first k)) (λ wrong. absurd (flaw-not code f wrong.0 k.flaw)) h
 
-    pub verdict-complete : CardTyping code bare → IsOk r
-    verdict-complete t =
-        let first = well-formed-none code t.well_formed in
-        let second = accepts code bare t in
-        let ok : verdict code bare ≡ Ok tt = rw (first, second) refl in
-        subst (λ (x : Result (Unit {0}) BareFault). IsOk x) (sym (e ∙ ok)) refl
+  pub verdict-kind : (r : Result (Unit {0}) BareFault) → Finds code bare r
+      → IfErr r (λ f. IsFlawKind f.kind ↔ (IsWellFormed code → ⊥))
+  verdict-kind (Ok u) h = tt
+  verdict-kind (Err f) h = refused-kind code bare f (refused-by f h)
 
-    pub verdict-first : (f : BareFault) → IsFirstFlaw code f → r ≡ Err f
-    verdict-first f h = let first = flaw-first code f h in e ∙ (rw first refl)
-
-    pub verdict-kind : IfErr r (λ f. IsFlawKind f.kind ↔ (IsWellFormed code → ⊥))
-    verdict-kind = by_answer r verdict-refused
-      where
-        by_answer : (x : Result (Unit {0}) BareFault) → IfErr x (λ f. IsRefused code bare f) → IfErr x (λ f. IsFlawKind f.kind ↔ (IsWellFormed code → ⊥))
-        by_answer (Ok u) h = tt
-        by_answer (Err f) h = refused-kind code bare f h
-
-    pub verdict-safe : 1 ≤ length code → OnOk r (IsFaultFree code bare)
-    verdict-safe filled = by_answer r verdict-accepted
-      where
-        by_answer : (x : Result (Unit {0}) BareFault) → OnOk x (CardTyping code bare) → OnOk x (IsFaultFree code bare)
-        by_answer (Ok u) t = fault-free code bare filled t
-        by_answer (Err f) h = tt
+  pub verdict-safe : (r : Result (Unit {0}) BareFault) → Finds code bare r → 1 ≤ length code → OnOk r (IsFaultFree code bare)
+  verdict-safe (Ok u) h filled = fault-free code bare filled (typing code bare h.0 h.1)
+  verdict-safe (Err f) h filled = tt

@@ -1,31 +1,30 @@
 -- The second walk accepts exactly what has a card typing, and refuses at a met state.
-use Rattle.std.proofs.Common.{◌≡◌, ◌≢◌, ◌∙◌, sym, ap, subst, ℕ, zero, suc, ◌+◌, ◌-◌, ◌<◌, ◌≤◌, Bool, true, false, Option, Some, None, Result, Ok, Err, List, [], ◌∷◌, length, replicate, refl, arith, ◌==◌, eq-eqb}
+use Rattle.std.proofs.Common.{◌≡◌, ◌≢◌, ◌∙◌, sym, ap, subst, ℕ, zero, suc, ◌+◌, ◌-◌, ◌<◌, ◌≤◌, Bool, true, false, Option, Some, None, Result, Ok, Err, List, [], ◌∷◌, ⊎_elim, Contains, length, replicate, refl, arith, ◌==◌, eq-eqb}
 use Rattle.std.proofs.lemmas.Bool.{eqb-true}
 use Rattle.std.proofs.lemmas.List.{length-replicate, length-append}
+use Rattle.std.proofs.lemmas.List.Elements.{All-contains}
+use Rattle.jc_decode.proofs.Elements.{Contains-either, nothing-in}
 use Rattle.std.proofs.Math.ListN.{length-set}
 use Rattle.std.specs.Prelude.{if◌then◌else◌, pos, IfSome, IsSomeAnd, MatchBool, slice_get}
-use Rattle.std.specs.List.{AllByRecursion}
 use Rattle.cap_bare.specs.declared.bare.Bare.{Bare}
-use Rattle.cap_bare.specs.declared.code.Placed.{Placed}
+use Rattle.jc_decode.specs.declared.insn.Placed.{Placed}
+use Rattle.jc_decode.specs.Listing.{falls, targets}
 use Rattle.cap_bare.specs.declared.fault.BareFault.{BareFault}
 use Rattle.cap_bare.specs.declared.fault.BareKind.{BareKind}
-use Rattle.cap_bare.specs.Effects.{register_written, cells_taken, cells_given, is_branch, falls_through}
-use Rattle.cap_bare.specs.Code.{fetched, IsReached, reached_first, Stands, IsPlace, IsTarget, IsWellFormed, fault}
+use Rattle.cap_bare.specs.Format.{instruction_of}
+use Rattle.cap_bare.specs.Effects.{register_written, cells_taken, cells_given}
+use Rattle.cap_bare.specs.Code.{instructions, place_after, Stands, IsPlace, IsTargetPlace, IsTarget, IsWellFormed, fault}
+use Rattle.cap_bare.specs.Window.{IsReached}
 use Rattle.cap_bare.specs.Typing.{Kind, bottom, short, IsBelow, below_itself, shorts, register_count, Applies, IsTyped, CardTyping}
 use Rattle.cap_bare.specs.Met.{declared, raised, raised_at, Passes, IsMet, met_entry, met_next, IsRefused, refused_state}
-use Rattle.cap_bare.specs.Walk.{instructions, instructions_from, passed, then_on, first_wrong}
-use Rattle.cap_bare.proofs.Instructions.{IsInside, fetched-inside, Lists, lists-instructions, lists-one, instructions-past}
-use Rattle.cap_bare.proofs.Places.{stands-at, reached-after, all-of, ends-once, target-true, target-from}
-use Rattle.cap_bare.proofs.Rule.{Applied, applied-from, applies, shorts-none, shorts-length, written-named}
+use Rattle.cap_bare.specs.Walk.{passed, then_on, first_wrong}
+use Rattle.cap_bare.proofs.Instructions.{IsInside, here-inside, IsHere, IsListed, listed, stands-listed, Lists, lists-instructions, reached-first, reached-after, stands-at, ends-at}
+use Rattle.cap_bare.proofs.Places.{target-true, target-from}
+use Rattle.cap_bare.proofs.Rule.{applied-from, applies, shorts-none, shorts-length, written-named}
 use Rattle.cap_bare.proofs.Passing.{Passing, Leaves, passed-ok, passed-is, passed-err}
-use Rattle.cap_bare.proofs.WellFormed.{none-at-end}
 
 true≢false : (b : Bool) → b ≡ true → b ≡ false → ⊥
 true≢false b e f = cc
-
-all-map2 : {A : Type 0} (P Q R : A → Type 0) → ((x : A) → P x → Q x → R x) → (xs : List A) → AllByRecursion P xs → AllByRecursion Q xs → AllByRecursion R xs
-all-map2 P Q R f [] p q = tt
-all-map2 P Q R f (x ∷ xs) p q = (f x p.0 q.0, all-map2 P Q R f xs p.1 q.1)
 
 -- the register list of shorts
 get-short : (n x : ℕ) → x < n → IsSomeAnd (slice_get (shorts n) x) (λ k. IsBelow short k)
@@ -33,7 +32,8 @@ get-short zero x h = absurd (omega arith)
 get-short (suc n) zero h = below_itself
 get-short (suc n) (suc x) h = get-short n x (omega arith)
 
-written-short : (o : Option ℕ) (n : ℕ) → IfSome o (λ x. x < n) → IfSome o (λ x. IsSomeAnd (slice_get (shorts n) x) (λ k. IsBelow short k))
+written-short : (o : Option ℕ) (n : ℕ) → IfSome o (λ x. x < n)
+    → IfSome o (λ x. IsSomeAnd (slice_get (shorts n) x) (λ k. IsBelow short k))
 written-short None n h = tt
 written-short (Some x) n h = get-short n x h
 
@@ -47,14 +47,6 @@ declared-length bare =
     ∙ omega (arith, length-replicate bare.nargs short, length-replicate bare.max_locals bottom)
 
 module _ (code : List ℕ) (bare : Bare) where
-  -- an instruction fits the number of cells before it and before the next place
-  record Fits (i : Placed) (depth next : ℕ) : Type 0 where
-    target : IsTarget code i.place → depth ≡ 0
-    after : ℕ
-    rule : Applied bare i.instruction depth after
-    branch : is_branch i.instruction ≡ true → after ≡ 0
-    leaves : MatchBool (falls_through i.instruction) ((i.next < length code) × (next ≡ after)) (next ≡ 0)
-
   -- the number of cells before each place, read off the walk
   abbrev next_depth : Result ℕ BareKind → ℕ
   next_depth (Ok next) = next
@@ -63,21 +55,6 @@ module _ (code : List ℕ) (bare : Bare) where
   abbrev depth_at : ℕ → List Placed → ℕ → ℕ
   depth_at depth [] place = 0
   depth_at depth (i ∷ is) place = if i.place == place then depth else depth_at (next_depth (passed code bare i depth)) is place
-
-  -- the places of a list rise
-  record IsAfter (at : ℕ) (i : Placed) : Type 0 where
-    from : at ≤ i.place
-    more : i.place < i.next
-
-  farther-more : (at next : ℕ) (is : List Placed) → at ≤ next → AllByRecursion (IsAfter next) is → AllByRecursion (IsAfter at) is
-  farther-more at next [] le h = tt
-  farther-more at next (i ∷ is) le h = let b = h.0 in (record { from = omega (arith, b.from, le); more = b.more }, farther-more at next is le h.1)
-
-  farther : (is : List Placed) (at : ℕ) → Lists code at is → AllByRecursion (IsAfter at) is
-  farther [] at l = tt
-  farther (i ∷ is) at l =
-      let inside = fetched-inside code at i l.0 in
-      (record { from = omega arith; more = omega arith }, farther-more at i.next is (omega arith) (farther is i.next l.1))
 
   depth-here : (depth : ℕ) (i : Placed) (is : List Placed) (p : ℕ) → i.place ≡ p → depth_at depth (i ∷ is) p ≡ depth
   depth-here depth i is p e = let t : (i.place == p) ≡ true = eq-eqb i.place p e in rw t refl
@@ -94,92 +71,98 @@ module _ (code : List ℕ) (bare : Bare) where
   -- after an instruction stands the next one, or nothing
   depth-next : (is : List Placed) (at depth : ℕ) → Lists code at is → (is ≡ [] → depth ≡ 0) → depth_at depth is at ≡ depth
   depth-next [] at depth l h = sym (h refl)
-  depth-next (j ∷ js) at depth l h = depth-here depth j js at (fetched-inside code at j l.0).place
+  depth-next (j ∷ js) at depth l h = depth-here depth j js at (here-inside code at j l.0).place
+
+  list-past : (at : ℕ) (is : List Placed) → Lists code at is → length code ≤ at → is ≡ []
+  list-past at [] l le = refl
+  list-past at (i ∷ is) l le = let inside = here-inside code at i l.0 in absurd (omega (arith, inside.farther, inside.inside))
 
   module _ (w : IsWellFormed code) where
     -- the code ends at no other place than its end
     none-left : (at : ℕ) (is : List Placed) → IsReached code at → Lists code at is → is ≡ [] → at ≡ length code
-    none-left at [] r l e =
-        let last = none-at-end code (fetched code (length code)) refl in ends-once code at (length code) l.0 last.0 r w.ends l.1 last.1
+    none-left at [] r l e = sym (ends-at code at l.0 r l.1) ∙ w.ends
     none-left at (i ∷ is) r l e = absurd (cc)
 
-    fits-leaves : (i : Placed) (after next : ℕ) (falls : Bool) → i.next ≤ length code → Leaves code i after next falls
-        → MatchBool falls ((i.next < length code) × (next ≡ after)) (next ≡ 0)
+    fits-leaves : (i : Placed) (after next : ℕ) (falls : Bool) → (place_after i) ≤ length code → Leaves code i after next falls
+        → MatchBool falls ((place_after i < length code) × (next ≡ after)) (next ≡ 0)
     fits-leaves i after next true le h = let ne = h.0 in (omega arith, h.1)
     fits-leaves i after next false le h = h
 
-    nothing-left : (i : Placed) (after next : ℕ) (falls : Bool) → Leaves code i after next falls → i.next ≡ length code → next ≡ 0
+    nothing-left : (i : Placed) (after next : ℕ) (falls : Bool) → Leaves code i after next falls
+        → place_after i ≡ length code → next ≡ 0
     nothing-left i after next true h e = absurd (h.0 e)
     nothing-left i after next false h e = h
 
     -- what the walk accepts fits, instruction by instruction
     abbrev FitsIn : ℕ → List Placed → Placed → Type 0
-    FitsIn depth is i = Fits i (depth_at depth is i.place) (depth_at depth is i.next)
+    FitsIn depth is i = Passing code bare i (depth_at depth is i.place) (depth_at depth is (place_after i))
 
-    fits-more : (depth next : ℕ) (i : Placed) (is : List Placed) → passed code bare i depth ≡ Ok next → i.place < i.next
-        → (j : Placed) → FitsIn next is j → IsAfter i.next j → FitsIn depth (i ∷ is) j
-    fits-more depth next i is p lt j f b =
+    fits-more : (depth next : ℕ) (i : Placed) (is : List Placed) → passed code bare i depth ≡ Ok next → i.place < place_after i
+        → (j : Placed) → FitsIn next is j → IsListed code (place_after i) is j → FitsIn depth (i ∷ is) j
+    fits-more depth next i is p lt j f k =
         let e : next_depth (passed code bare i depth) ≡ next = ap next_depth p in
+        let inside = here-inside code j.place j k.here in
         let here : depth_at depth (i ∷ is) j.place ≡ depth_at next is j.place =
-        depth-there depth i is j.place (omega (arith, b.from, lt)) ∙ ap (λ (n : ℕ). depth_at n is j.place) e in
-        let ahead : depth_at depth (i ∷ is) j.next ≡ depth_at next is j.next =
-        depth-there depth i is j.next (omega (arith, b.from, b.more, lt)) ∙ ap (λ (n : ℕ). depth_at n is j.next) e in
-        subst (λ (n : ℕ). Fits j n (depth_at depth (i ∷ is) j.next)) (sym here)
-        (subst (λ (n : ℕ). Fits j (depth_at next is j.place) n) (sym ahead) f)
+        depth-there depth i is j.place (omega (arith, k.from, lt)) ∙ ap (λ (n : ℕ). depth_at n is j.place) e in
+        let ahead : depth_at depth (i ∷ is) (place_after j) ≡ depth_at next is (place_after j) =
+        depth-there depth i is (place_after j) (omega (arith, k.from, inside.farther, lt)) ∙ ap (λ (n : ℕ). depth_at n is (place_after j)) e in
+        subst (λ (n : ℕ). Passing code bare j n (depth_at depth (i ∷ is) (place_after j))) (sym here)
+        (subst (λ (n : ℕ). Passing code bare j (depth_at next is j.place) n) (sym ahead) f)
 
-    fits-head : (i : Placed) (is : List Placed) (depth next : ℕ) → Stands code i → Lists code i.next is
+    fits-head : (at : ℕ) (i : Placed) (is : List Placed) (depth next : ℕ) → IsReached code at → IsHere code at i
+        → Lists code (place_after i) is
         → passed code bare i depth ≡ Ok next → FitsIn depth (i ∷ is) i
-    fits-head i is depth next s l p =
-        let inside = fetched-inside code i.place i s.found in
+    fits-head at i is depth next r h l p =
+        let inside = here-inside code at i h in
         let k = passed-ok code bare i depth next p in
         let e : next_depth (passed code bare i depth) ≡ next = ap next_depth p in
         let here : depth_at depth (i ∷ is) i.place ≡ depth = depth-here depth i is i.place refl in
-        let none = λ (none : is ≡ []). nothing-left i k.after next (falls_through i.instruction) k.leaves
-        (none-left i.next is (reached-after code i.place i s.reached s.found) l none) in
-        let ahead : depth_at depth (i ∷ is) i.next ≡ next =
-        depth-there depth i is i.next (omega (arith, inside.farther)) ∙ ap (λ (n : ℕ). depth_at n is i.next) e ∙ depth-next is i.next next l none in
-        let f : Fits i depth next = record {
-          target = λ t. k.target (target-true code i.place t);
-          after = k.after;
-          rule = k.rule;
-          branch = k.branch;
-          leaves = fits-leaves i k.after next (falls_through i.instruction) inside.inside k.leaves;
-        } in
-        subst (λ (n : ℕ). Fits i n (depth_at depth (i ∷ is) i.next)) (sym here) (subst (λ (n : ℕ). Fits i depth n) (sym ahead) f)
+        let none = λ (none : is ≡ []). nothing-left i k.after next (falls i.insn.op) k.leaves
+        (none-left (place_after i) is (reached-after code at i r h) l none) in
+        let ahead : depth_at depth (i ∷ is) (place_after i) ≡ next =
+        depth-there depth i is (place_after i) (omega (arith, inside.farther, inside.place))
+        ∙ ap (λ (n : ℕ). depth_at n is (place_after i)) e ∙ depth-next is (place_after i) next l none in
+        subst (λ (n : ℕ). Passing code bare i n (depth_at depth (i ∷ is) (place_after i))) (sym here)
+        (subst (λ (n : ℕ). Passing code bare i depth n) (sym ahead) k)
 
     accepted : (is : List Placed) (at depth : ℕ) → IsReached code at → Lists code at is → first_wrong code bare depth is ≡ Ok tt
-        → AllByRecursion (FitsIn depth is) is
-    accepted [] at depth r l h = tt
-    accepted (i ∷ is) at depth r l h =
-        by_answer (passed code bare i depth) refl (λ next. accepted is i.next next (reached-after code at i r l.0) l.1) h
+        → (j : Placed) → Contains is j → FitsIn depth is j
+    accepted [] at depth r l h j c = absurd (nothing-in j c)
+    accepted (i ∷ is) at depth r l h j c =
+        by_answer (passed code bare i depth) refl (λ next k. accepted is (place_after i) next (reached-after code at i r l.0) l.1 k j) h
       where
+        inside : IsInside code at i
+        inside = here-inside code at i l.0
+
         by_answer : (q : Result ℕ BareKind) → passed code bare i depth ≡ q
-            → ((next : ℕ) → first_wrong code bare next is ≡ Ok tt → AllByRecursion (FitsIn next is) is)
-            → then_on i.place q (λ next. first_wrong code bare next is) ≡ Ok tt → AllByRecursion (FitsIn depth (i ∷ is)) (i ∷ is)
+            → ((next : ℕ) → first_wrong code bare next is ≡ Ok tt → Contains is j → FitsIn next is j)
+            → then_on i.place q (λ next. first_wrong code bare next is) ≡ Ok tt → FitsIn depth (i ∷ is) j
         by_answer (Err kind) e more h = absurd (cc)
         by_answer (Ok next) e more h =
-            let inside = fetched-inside code at i l.0 in
-            let lt : i.place < i.next = omega (arith, inside.place, inside.farther) in (
-              fits-head i is depth next (stands-at code at i r l.0) l.1 e,
-              all-map2 (FitsIn next is) (IsAfter i.next) (FitsIn depth (i ∷ is)) (fits-more depth next i is e lt) is (more next h) (farther is i.next l.1),
-            )
+            ⊎_elim (λ same. subst (FitsIn depth (i ∷ is)) same (fits-head at i is depth next r l.0 l.1 e))
+            (λ later. fits-more depth next i is e (omega (arith, inside.place, inside.farther)) j (more next h later)
+            (listed code (place_after i) is j l.1 later))
+            (Contains-either i is j c)
 
     -- so the stacks that are read off it make a card typing, with a register list of shorts
     abbrev depths : ℕ → ℕ
     depths place = depth_at 0 (instructions code) place
 
-    typed-next : (i : Placed) (after : ℕ) (falls : Bool) → MatchBool falls ((i.next < length code) × (depths i.next ≡ after)) (depths i.next ≡ 0)
-        → MatchBool falls ((i.next < length code) × (shorts (depths i.next) ≡ shorts after)) (shorts (depths i.next) ≡ [])
+    typed-next : (i : Placed) (after : ℕ) (falls : Bool)
+        → MatchBool falls ((place_after i < length code) × (depths (place_after i) ≡ after)) (depths (place_after i) ≡ 0)
+        → MatchBool falls ((place_after i < length code) × (shorts (depths (place_after i)) ≡ shorts after)) (shorts (depths (place_after i)) ≡ [])
     typed-next i after true h = (h.0, ap shorts h.1)
     typed-next i after false h = ap shorts h
 
-    typed-from : (i : Placed) → FitsIn 0 (instructions code) i → IsTyped code bare (shorts (register_count bare)) (λ p. shorts (depths p)) i
-    typed-from i f = record {
+    typed-from : (i : Placed) → Stands code i → FitsIn 0 (instructions code) i
+        → IsTyped code bare (shorts (register_count bare)) (λ p. shorts (depths p)) i
+    typed-from i s f = record {
       after = shorts f.after;
-      applies = applies bare i.instruction (shorts (register_count bare)) (depths i.place) f.after (shorts-length (register_count bare)) f.rule;
-      stored = written-short (register_written i.instruction) (register_count bare) (written-named i.instruction (register_count bare) f.rule.local);
+      applies = applies bare (instruction_of i.insn) (shorts (register_count bare)) (depths i.place) f.after (shorts-length (register_count bare)) f.rule;
+      stored = written-short (register_written (instruction_of i.insn)) (register_count bare) (written-named (instruction_of i.insn) (register_count bare) f.rule.local);
       branch = λ t. ap shorts (f.branch t);
-      next = typed-next i f.after (falls_through i.instruction) f.leaves;
+      next = typed-next i f.after (falls i.insn.op)
+          (fits-leaves i f.after (depths (place_after i)) (falls i.insn.op) (here-inside code i.place i (stands-listed code i s).here).inside f.leaves);
     }
 
     first-depth : (is : List Placed) → Lists code 0 is → depth_at 0 is 0 ≡ 0
@@ -187,12 +170,12 @@ module _ (code : List ℕ) (bare : Bare) where
 
     pub typing : first_wrong code bare 0 (instructions code) ≡ Ok tt → CardTyping code bare
     typing h =
-        let all = accepted (instructions code) 0 0 reached_first (lists-instructions code 0) h in
+        let all = accepted (instructions code) 0 0 (reached-first code) (lists-instructions code 0) h in
         let at_target : (place : ℕ) → IsTarget code place → depths place ≡ 0 =
         λ place t.
-        let p : IsPlace code place = w.leads t.from (pos place) t.stands t.leads in
-        let f = all-of code (FitsIn 0 (instructions code)) p.0 p.2 all in
-        subst (λ (n : ℕ). depths n ≡ 0) p.1 (f.target (subst (IsTarget code) (sym p.1) t)) in
+        let p : IsPlace code place = All-contains (IsTargetPlace code) (targets code t.from) (pos place) (w.leads t.from t.stands) t.leads in
+        let f = all p.0 p.1 in
+        subst (λ (n : ℕ). depths n ≡ 0) p.2 (f.target (target-true code p.0.place (subst (IsTarget code) (sym p.2) t))) in
         record {
           well_formed = w;
           registers = shorts (register_count bare);
@@ -201,88 +184,89 @@ module _ (code : List ℕ) (bare : Bare) where
           arguments = λ x lt. get-short (register_count bare) x (omega arith);
           entry = ap shorts (first-depth (instructions code) (lists-instructions code 0));
           targets = λ place t. ap shorts (at_target place t);
-          typed = λ i s. typed-from i (all-of code (FitsIn 0 (instructions code)) i s all);
+          typed = λ i s. typed-from i s (all i s);
         }
 
     -- what the walk refuses, it refuses at a met state
     refused : (is : List Placed) (at depth : ℕ) (registers : List Kind) (f : BareFault) → IsReached code at → Lists code at is
-        → length registers ≡ register_count bare → IsMet code bare at registers (shorts depth) → first_wrong code bare depth is ≡ Err f
+        → length registers ≡ register_count bare → IsMet code bare at registers (shorts depth)
+        → first_wrong code bare depth is ≡ Err f
         → IsRefused code bare f
     refused [] at depth registers f r l e m h = absurd (cc)
     refused (i ∷ is) at depth registers f r l e m h =
         by_answer (passed code bare i depth) refl
-        (λ next. refused is i.next next (raised i.instruction registers) f (reached-after code at i r l.0) l.1
-        (raised-length (register_written i.instruction) registers ∙ e)) h
+        (λ next. refused is (place_after i) next (raised (instruction_of i.insn) registers) f (reached-after code at i r l.0) l.1
+        (raised-length (register_written (instruction_of i.insn)) registers ∙ e)) h
       where
         s : Stands code i
         s = stands-at code at i r l.0
 
         inside : IsInside code at i
-        inside = fetched-inside code at i l.0
+        inside = here-inside code at i l.0
 
         met : IsMet code bare i.place registers (shorts depth)
         met = subst (λ (n : ℕ). IsMet code bare n registers (shorts depth)) (sym inside.place) m
 
-        goes-on : (after next : ℕ) (falls : Bool) → Leaves code i after next falls → falls ≡ true → i.next < length code
+        goes-on : (after next : ℕ) (falls : Bool) → Leaves code i after next falls → falls ≡ true → place_after i < length code
         goes-on after next true k t = let ne = k.0 in let le = inside.inside in omega arith
         goes-on after next false k t = absurd (cc)
 
-        stack-next : (after next : ℕ) (falls : Bool) → Leaves code i after next falls → (if falls then shorts after else []) ≡ shorts next
+        stack-next : (after next : ℕ) (falls : Bool) → Leaves code i after next falls
+            → (if falls then shorts after else []) ≡ shorts next
         stack-next after next true k = ap shorts (sym k.1)
         stack-next after next false k = ap shorts (sym k)
 
-        by_end : (next : ℕ) → Passing code bare i depth next → (b : Bool) → (i.next == length code) ≡ b
-            → (IsMet code bare i.next (raised i.instruction registers) (shorts next) → first_wrong code bare next is ≡ Err f → IsRefused code bare f)
+        by_end : (next : ℕ) → Passing code bare i depth next → (b : Bool) → ((place_after i) == length code) ≡ b
+            → (IsMet code bare (place_after i) (raised (instruction_of i.insn) registers) (shorts next) → first_wrong code bare next is ≡ Err f → IsRefused code bare f)
             → first_wrong code bare next is ≡ Err f → IsRefused code bare f
         by_end next p true t more h =
-            let last = eqb-true i.next (length code) t in
-            let none : instructions_from code i.next ≡ [] = instructions-past code i.next (omega arith) in
-            let empty : is ≡ [] = lists-one code i.next is (instructions_from code i.next) l.1 (lists-instructions code i.next) ∙ none in
+            let last = eqb-true (place_after i) (length code) t in
+            let empty : is ≡ [] = list-past (place_after i) is l.1 (omega arith) in
             let ok : first_wrong code bare next is ≡ Ok tt = ap (first_wrong code bare next) empty in absurd (cc)
         by_end next p false t more h =
-            let ne : i.next ≢ length code = λ k. true≢false (i.next == length code) (eq-eqb i.next (length code) k) t in
+            let ne : (place_after i) ≢ length code = λ k. true≢false ((place_after i) == length code) (eq-eqb (place_after i) (length code) k) t in
             let le = inside.inside in
             let passes : Passes code bare i registers (shorts depth) (shorts p.after) = record {
               stands = s;
               target = λ k. ap shorts (p.target (target-true code i.place k));
-              applies = applies bare i.instruction registers depth p.after e p.rule;
+              applies = applies bare (instruction_of i.insn) registers depth p.after e p.rule;
               branch = λ k. ap shorts (p.branch k);
-              goes_on = goes-on p.after next (falls_through i.instruction) p.leaves;
+              goes_on = goes-on p.after next (falls i.insn.op) p.leaves;
             } in
             more
-            (subst (IsMet code bare i.next (raised i.instruction registers)) (stack-next p.after next (falls_through i.instruction) p.leaves)
+            (subst (IsMet code bare (place_after i) (raised (instruction_of i.insn) registers)) (stack-next p.after next (falls i.insn.op) p.leaves)
             (met_next i registers (shorts depth) (shorts p.after) met passes (omega arith))) h
 
         by_answer : (q : Result ℕ BareKind) → passed code bare i depth ≡ q
-            → ((next : ℕ) → IsMet code bare i.next (raised i.instruction registers) (shorts next) → first_wrong code bare next is ≡ Err f → IsRefused code bare f)
+            → ((next : ℕ) → IsMet code bare (place_after i) (raised (instruction_of i.insn) registers) (shorts next) → first_wrong code bare next is ≡ Err f → IsRefused code bare f)
             → then_on i.place q (λ next. first_wrong code bare next is) ≡ Err f → IsRefused code bare f
         by_answer (Err kind) k more h =
             let same : fault i.place kind ≡ f = cc in
             subst (IsRefused code bare) same (refused_state i registers (shorts depth) kind w s met (passed-err code bare i depth kind registers e k))
-        by_answer (Ok next) k more h = by_end next (passed-ok code bare i depth next k) (i.next == length code) refl (more next) h
+        by_answer (Ok next) k more h = by_end next (passed-ok code bare i depth next k) ((place_after i) == length code) refl (more next) h
 
     pub refused-at : (f : BareFault) → first_wrong code bare 0 (instructions code) ≡ Err f → IsRefused code bare f
     refused-at f h =
-        refused (instructions code) 0 0 (declared bare) f reached_first (lists-instructions code 0) (declared-length bare) met_entry h
+        refused (instructions code) 0 0 (declared bare) f (reached-first code) (lists-instructions code 0) (declared-length bare) met_entry h
 
   -- a method with a card typing is accepted
   module _ (t : CardTyping code bare) where
     typed-leaves : (i : Placed) (after : ℕ) (stack : List Kind) (falls : Bool) → stack ≡ shorts after
-        → MatchBool falls ((i.next < length code) × (t.stacks i.next ≡ stack)) (t.stacks i.next ≡ [])
-        → (next : ℕ) × Leaves code i after next falls × (t.stacks i.next ≡ shorts next)
+        → MatchBool falls ((place_after i < length code) × (t.stacks (place_after i) ≡ stack)) (t.stacks (place_after i) ≡ [])
+        → (next : ℕ) × Leaves code i after next falls × (t.stacks (place_after i) ≡ shorts next)
     typed-leaves i after stack true e h = let lt = h.0 in (after, ((λ last. absurd (omega arith)), refl), h.1 ∙ e)
     typed-leaves i after stack false e h = (0, refl, h)
 
     passing-typed : (i : Placed) (depth : ℕ) → Stands code i → t.stacks i.place ≡ shorts depth
-        → (next : ℕ) × Passing code bare i depth next × (t.stacks i.next ≡ shorts next)
+        → (next : ℕ) × Passing code bare i depth next × (t.stacks (place_after i) ≡ shorts next)
     passing-typed i depth s e =
         let k = t.typed i s in
-        let a = applied-from bare i.instruction t.registers depth k.after (subst (λ ks. Applies bare i.instruction t.registers ks k.after) e k.applies) in
-        let leaves = typed-leaves i (depth - cells_taken i.instruction + cells_given i.instruction) k.after (falls_through i.instruction) a.1 k.next in (
+        let a = applied-from bare (instruction_of i.insn) t.registers depth k.after (subst (λ ks. Applies bare (instruction_of i.insn) t.registers ks k.after) e k.applies) in
+        let leaves = typed-leaves i (depth - cells_taken (instruction_of i.insn) + cells_given (instruction_of i.insn)) k.after (falls i.insn.op) a.1 k.next in (
           leaves.0,
           (record {
             target = λ h. shorts-none depth (sym e ∙ t.targets i.place (target-from code i.place h));
-            after = depth - cells_taken i.instruction + cells_given i.instruction;
+            after = depth - cells_taken (instruction_of i.insn) + cells_given (instruction_of i.insn);
             rule = a.0;
             branch = λ h. shorts-none _ (sym a.1 ∙ k.branch h);
             leaves = leaves.1;
@@ -294,10 +278,10 @@ module _ (code : List ℕ) (bare : Bare) where
         → first_wrong code bare depth is ≡ Ok tt
     walked [] at depth r l e = refl
     walked (i ∷ is) at depth r l e =
-        let place = (fetched-inside code at i l.0).place in
+        let place = (here-inside code at i l.0).place in
         let p = passing-typed i depth (stands-at code at i r l.0) (ap t.stacks place ∙ e) in
         let ok : passed code bare i depth ≡ Ok p.0 = passed-is code bare i depth p.0 p.1 in
-        rw ok (walked is i.next p.0 (reached-after code at i r l.0) l.1 p.2)
+        rw ok (walked is (place_after i) p.0 (reached-after code at i r l.0) l.1 p.2)
 
     pub accepts : first_wrong code bare 0 (instructions code) ≡ Ok tt
-    accepts = walked (instructions code) 0 0 reached_first (lists-instructions code 0) t.entry
+    accepts = walked (instructions code) 0 0 (reached-first code) (lists-instructions code 0) t.entry

@@ -1,51 +1,51 @@
 -- The instructions of a bare method's code, and when the code is well formed (JCVM 2.2, section 7.5).
-use Rattle.std.specs.Prelude.{ℕ, ℤ, pos, negsuc, ◌+◌, ◌≡◌, ◌≢◌, ◌≤◌, List, length, Option, Some, None, Result, Ok, Err}
+use Rattle.std.specs.Prelude.{ℕ, ℤ, pos, negsuc, ◌+◌, ◌≡◌, ◌≢◌, ◌≤◌, List, [], ◌∷◌, length, All, Contains, Option, Some, None, Result, Err, if◌then◌else◌}
+use Rattle.std.proofs.Common.{refl}
+use Rattle.std.specs.List.{take_while}
 use Rattle.cap_bytes.specs.Number.{number_at}
-use Rattle.jc_decode.specs.declared.Insn.{Insn}
-use Rattle.jc_decode.specs.declared.CodeEnd.{CodeEnd}
-use Rattle.jc_decode.specs.declared.CodeEnd.TheVariants.{Cut, OutOfScope}
+use Rattle.jc_decode.specs.declared.insn.Insn.{Insn}
+use Rattle.jc_decode.specs.declared.insn.Placed.{Placed}
+use Rattle.jc_decode.specs.declared.insn.CodeEnd.{CodeEnd}
+use Rattle.jc_decode.specs.declared.insn.CodeEnd.TheVariants.{OutOfScope}
 use Rattle.jc_decode.specs.Decoding.{decoded}
-use Rattle.cap_bare.specs.declared.format.Format.{Format}
-use Rattle.cap_bare.specs.declared.code.Placed.{Placed}
+use Rattle.jc_decode.specs.Layout.{layout_of, opcode}
+use Rattle.jc_decode.specs.Listing.{at_most, listing_from, end_from, targets}
 use Rattle.cap_bare.specs.declared.fault.BareFault.{BareFault}
 use Rattle.cap_bare.specs.declared.fault.BareKind.{BareKind}
 use Rattle.cap_bare.specs.declared.fault.BareKind.TheVariants.{Code, BadTarget}
-use Rattle.cap_bare.specs.Format.{format_of, resolved}
-use Rattle.cap_bare.specs.Effects.{target_of}
+use Rattle.cap_bare.specs.Format.{format_of, is_bare}
 
-abbrev pub placed : ℕ → Format → Insn → Placed
-placed at format insn = record { place = at; instruction = resolved format at insn; next = at + insn.len }
+-- what is decoded where this opcode stands: one that bare methods do not have is out of scope, whatever follows it
+abbrev pub in_scope : Option ℕ → Result Insn CodeEnd → Result Insn CodeEnd
+in_scope None found = found
+in_scope (Some opcode) found = if is_bare opcode then found else Err (OutOfScope opcode)
 
-abbrev pub placed_from : ℕ → Format → Result Insn CodeEnd → Result Placed CodeEnd
-placed_from at format (Ok insn) = Ok (placed at format insn)
-placed_from at format (Err end) = Err end
+-- the instruction that begins at a place
+unfoldable pub fetched : List ℕ → ℕ → Result Insn CodeEnd
+fetched code at = in_scope (number_at 1 at code) (decoded code at)
 
-abbrev pub of_format : List ℕ → ℕ → ℕ → Option Format → Result Placed CodeEnd
-of_format code at opcode None = Err (OutOfScope opcode)
-of_format code at opcode (Some format) = placed_from at format (decoded code at)
+-- the instructions of the code from a place on, up to the first that bare methods do not have
+unfoldable pub instructions_from : List ℕ → ℕ → List Placed
+instructions_from code at = take_while (λ i. is_bare i.insn.op) (listing_from code at)
 
-abbrev pub of_opcode : List ℕ → ℕ → Option ℕ → Result Placed CodeEnd
-of_opcode code at None = Err Cut
-of_opcode code at (Some opcode) = of_format code at opcode (format_of opcode)
+abbrev pub instructions : List ℕ → List Placed
+instructions code = instructions_from code 0
 
--- the instruction that begins at a place: an opcode outside the list of bare methods is out of scope, whatever
--- follows it
-unfoldable pub fetched : List ℕ → ℕ → Result Placed CodeEnd
-fetched code at = of_opcode code at (number_at 1 at code)
+-- where they end
+abbrev pub code_end : List ℕ → ℕ
+code_end code = end_from 0 (instructions code)
 
--- the places that are reached by decoding one instruction after another from place 0
-pub data IsReached (code : List ℕ) : ℕ → Type 0 where
-  reached_first : IsReached code 0
-  reached_next : (i : Placed) → IsReached code i.place → fetched code i.place ≡ Ok i → IsReached code i.next
+-- the place after an instruction
+abbrev pub place_after : Placed → ℕ
+place_after i = i.place + i.insn.len
 
 -- i is one of the instructions of the code
-pub record Stands (code : List ℕ) (i : Placed) : Type 0 where
-  pub reached : IsReached code i.place
-  pub found : fetched code i.place ≡ Ok i
+abbrev pub Stands : List ℕ → Placed → Type 0
+Stands code i = Contains (instructions code) i
 
 -- an instruction of the code begins at this place
 abbrev pub IsPlace : List ℕ → ℕ → Type 0
-IsPlace code place = (i : Placed) × (i.place ≡ place) × Stands code i
+IsPlace code place = (i : Placed) × Stands code i × (i.place ≡ place)
 
 abbrev pub IsTargetPlace : List ℕ → ℤ → Type 0
 IsTargetPlace code (pos place) = IsPlace code place
@@ -55,12 +55,12 @@ IsTargetPlace code (negsuc n) = ⊥
 pub record IsTarget (code : List ℕ) (place : ℕ) : Type 0 where
   pub from : Placed
   pub stands : Stands code from
-  pub leads : target_of from.instruction ≡ Some (pos place)
+  pub leads : Contains (targets code from) (pos place)
 
 -- the code decodes to its end, and each branch leads to the place of an instruction
 pub record IsWellFormed (code : List ℕ) : Type 0 where
-  pub ends : IsReached code (length code)
-  pub leads : (i : Placed) (target : ℤ) → Stands code i → target_of i.instruction ≡ Some target → IsTargetPlace code target
+  pub ends : code_end code ≡ length code
+  pub leads : (i : Placed) → Stands code i → All (IsTargetPlace code) (targets code i)
 
 abbrev pub fault : ℕ → BareKind → BareFault
 fault place kind = record { place = place; kind = kind }
@@ -68,9 +68,9 @@ fault place kind = record { place = place; kind = kind }
 -- a place that keeps the code from being well formed: no instruction is there though the code goes on, or the
 -- branch there leads to no place
 pub data IsFlaw (code : List ℕ) : BareFault → Type 0 where
-  flaw_end : (place : ℕ) (end : CodeEnd) → IsReached code place → place ≢ length code → fetched code place ≡ Err end
-      → IsFlaw code (fault place (Code end))
-  flaw_target : (i : Placed) (target : ℤ) → Stands code i → target_of i.instruction ≡ Some target → (IsTargetPlace code target → ⊥)
+  flaw_end : (end : CodeEnd) → code_end code ≢ length code → fetched code (code_end code) ≡ Err end
+      → IsFlaw code (fault (code_end code) (Code end))
+  flaw_target : (i : Placed) (target : ℤ) → Stands code i → Contains (targets code i) target → ¬ (IsTargetPlace code target)
       → IsFlaw code (fault i.place (BadTarget target))
 
 -- the flaw at the least place
@@ -83,3 +83,14 @@ abbrev pub IsFlawKind : BareKind → Type 0
 IsFlawKind (Code end) = Unit {0}
 IsFlawKind (BadTarget target) = Unit {0}
 IsFlawKind _ = ⊥
+
+-- sconst_0, and an invokestatic, which bare methods do not have
+stops : instructions (3 ∷ 141 ∷ 0 ∷ 0 ∷ [])
+    ≡ record { place = 0; insn = record { op = 3; x = pos 0; y = pos 0; z = pos 0; len = 1 } } ∷ []
+unfolding instructions_from listing_from at_most decoded layout_of opcode format_of
+stops = refl
+
+-- half a goto_w is out of scope too
+half : fetched (168 ∷ 0 ∷ []) 0 ≡ Err (OutOfScope 168)
+unfolding fetched decoded layout_of opcode format_of
+half = refl

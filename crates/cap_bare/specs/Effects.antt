@@ -1,7 +1,7 @@
 -- What each instruction names, takes and gives (JCVM 2.2, chapter 7).
-use Rattle.std.specs.Prelude.{ℕ, ℤ, Bool, true, false, Option, Some, None, is_some}
+use Rattle.std.specs.Prelude.{ℕ, Option, Some, None}
 use Rattle.cap_bare.specs.declared.instruction.Instruction.{Instruction}
-use Rattle.cap_bare.specs.declared.instruction.Instruction.TheVariants.{Push, Load, Store, Increment, Pop, Duplicate, Unary, Binary, Test, Compare, Goto, Return}
+use Rattle.cap_bare.specs.declared.instruction.Instruction.TheVariants.{Push, Load, Store, Increment, Pop, Duplicate, Negate, ToByte, Binary, Test, Compare, Return}
 
 -- the register that it names
 abbrev pub register_of : Instruction → Option ℕ
@@ -27,10 +27,11 @@ abbrev pub cells_taken : Instruction → ℕ
 cells_taken (Store x) = 1
 cells_taken Pop = 1
 cells_taken Duplicate = 1
-cells_taken (Unary operator) = 1
+cells_taken Negate = 1
+cells_taken ToByte = 1
 cells_taken (Binary operator) = 2
-cells_taken (Test condition target) = 1
-cells_taken (Compare condition target) = 2
+cells_taken (Test order) = 1
+cells_taken (Compare order) = 2
 cells_taken Return = 1
 cells_taken _ = 0
 
@@ -39,22 +40,7 @@ abbrev pub cells_given : Instruction → ℕ
 cells_given (Push n) = 1
 cells_given (Load x) = 1
 cells_given Duplicate = 2
-cells_given (Unary operator) = 1
+cells_given Negate = 1
+cells_given ToByte = 1
 cells_given (Binary operator) = 1
 cells_given _ = 0
-
--- the place that it branches to
-abbrev pub target_of : Instruction → Option ℤ
-target_of (Test condition target) = Some target
-target_of (Compare condition target) = Some target
-target_of (Goto target) = Some target
-target_of _ = None
-
-abbrev pub is_branch : Instruction → Bool
-is_branch i = is_some (target_of i)
-
--- whether the instruction after it may come next
-abbrev pub falls_through : Instruction → Bool
-falls_through (Goto target) = false
-falls_through Return = false
-falls_through _ = true

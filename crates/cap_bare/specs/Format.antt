@@ -1,16 +1,16 @@
 -- The instructions of bare methods: the opcodes of JCVM 2.2, chapter 7, that work on shorts alone, each with
 -- what it makes of its operands.
-use Rattle.std.specs.Prelude.{ℕ, ℤ, pos, negsuc, ◌+ℤ◌, ◌<◌, ◌^◌, ◌==◌, unsigned_abs, List, [], ◌∷◌, Option, find, FitsSigned}
-use Rattle.std.specs.Option.{option_map}
-use Rattle.std.specs.Int.{w8, w16}
-use Rattle.jc_decode.specs.declared.Insn.{Insn}
-use Rattle.cap_bare.specs.declared.arithmetic.Condition.TheVariants.{Equal, NotEqual, Less, GreaterOrEqual, Greater, LessOrEqual}
-use Rattle.cap_bare.specs.declared.arithmetic.Unary.TheVariants.{Negate, ToByte}
-use Rattle.cap_bare.specs.declared.arithmetic.Binary.TheVariants.{Add, Subtract, Multiply, ShiftLeft, ShiftRight, ShiftRightUnsigned, And, Or, Xor}
+use Rattle.std.specs.Prelude.{ℕ, pos, negsuc, ◌==◌, Bool, is_some, unsigned_abs, List, [], ◌∷◌, Option, find}
+use Rattle.std.specs.Option.{option_map, unwrap_or}
+use Rattle.jc_decode.specs.declared.layout.Operand.TheVariants.{U1, S2}
+use Rattle.jc_decode.specs.declared.insn.Insn.{Insn}
+use Rattle.jc_decode.specs.Decoding.{FitsOperand}
+use Rattle.jc_ops.specs.declared.operation.Order.TheVariants.{Equal, NotEqual, Less, GreaterOrEqual, Greater, LessOrEqual}
+use Rattle.jc_ops.specs.declared.operation.Operator.TheVariants.{Add, Subtract, Multiply, ShiftLeft, ShiftRight, ShiftRightUnsigned, And, Or, ExclusiveOr}
 use Rattle.cap_bare.specs.declared.instruction.Instruction.{Instruction}
-use Rattle.cap_bare.specs.declared.instruction.Instruction.TheVariants.{Nop, Push, Load, Store, Increment, Pop, Duplicate, Unary, Binary, Test, Compare, Goto, Return}
+use Rattle.cap_bare.specs.declared.instruction.Instruction.TheVariants.{Nop, Push, Load, Store, Increment, Pop, Duplicate, Negate, ToByte, Binary, Test, Compare, Goto, Return}
 use Rattle.cap_bare.specs.declared.format.Format.{Format}
-use Rattle.cap_bare.specs.declared.format.Format.TheVariants.{Implied, Constant, Loads, Stores, Increments, Tests, Compares, Goes}
+use Rattle.cap_bare.specs.declared.format.Format.TheVariants.{Implied, Constant, Loads, Stores, Increments}
 
 -- each opcode that a bare method may have
 abbrev pub formats : List (ℕ × Format)
@@ -40,28 +40,28 @@ formats =
     ∷ (65, Implied (Binary Add))  -- sadd
     ∷ (67, Implied (Binary Subtract))  -- ssub
     ∷ (69, Implied (Binary Multiply))  -- smul
-    ∷ (75, Implied (Unary Negate))  -- sneg
+    ∷ (75, Implied Negate)  -- sneg
     ∷ (77, Implied (Binary ShiftLeft))  -- sshl
     ∷ (79, Implied (Binary ShiftRight))  -- sshr
     ∷ (81, Implied (Binary ShiftRightUnsigned))  -- sushr
     ∷ (83, Implied (Binary And))  -- sand
     ∷ (85, Implied (Binary Or))  -- sor
-    ∷ (87, Implied (Binary Xor))  -- sxor
+    ∷ (87, Implied (Binary ExclusiveOr))  -- sxor
     ∷ (89, Increments)  -- sinc
-    ∷ (91, Implied (Unary ToByte))  -- s2b
-    ∷ (96, Tests Equal)  -- ifeq
-    ∷ (97, Tests NotEqual)
-    ∷ (98, Tests Less)
-    ∷ (99, Tests GreaterOrEqual)
-    ∷ (100, Tests Greater)
-    ∷ (101, Tests LessOrEqual)
-    ∷ (106, Compares Equal)  -- if_scmpeq
-    ∷ (107, Compares NotEqual)
-    ∷ (108, Compares Less)
-    ∷ (109, Compares GreaterOrEqual)
-    ∷ (110, Compares Greater)
-    ∷ (111, Compares LessOrEqual)
-    ∷ (112, Goes)  -- goto
+    ∷ (91, Implied ToByte)  -- s2b
+    ∷ (96, Implied (Test Equal))  -- ifeq
+    ∷ (97, Implied (Test NotEqual))
+    ∷ (98, Implied (Test Less))
+    ∷ (99, Implied (Test GreaterOrEqual))
+    ∷ (100, Implied (Test Greater))
+    ∷ (101, Implied (Test LessOrEqual))
+    ∷ (106, Implied (Compare Equal))  -- if_scmpeq
+    ∷ (107, Implied (Compare NotEqual))
+    ∷ (108, Implied (Compare Less))
+    ∷ (109, Implied (Compare GreaterOrEqual))
+    ∷ (110, Implied (Compare Greater))
+    ∷ (111, Implied (Compare LessOrEqual))
+    ∷ (112, Implied Goto)  -- goto
     ∷ (120, Implied Return)  -- sreturn
     ∷ []
 
@@ -69,28 +69,26 @@ formats =
 unfoldable pub format_of : ℕ → Option Format
 format_of opcode = option_map (λ row. row.1) (find (λ row. row.0 == opcode) formats)
 
--- the instruction that stands at a place with these operands; a target counts from the branch's own opcode
-abbrev pub resolved : Format → ℕ → Insn → Instruction
-resolved (Implied instruction) place insn = instruction
-resolved Constant place insn = Push insn.x
-resolved Loads place insn = Load (unsigned_abs insn.x)
-resolved Stores place insn = Store (unsigned_abs insn.x)
-resolved Increments place insn = Increment (unsigned_abs insn.x) insn.y
-resolved (Tests condition) place insn = Test condition (pos place +ℤ insn.x)
-resolved (Compares condition) place insn = Compare condition (pos place +ℤ insn.x)
-resolved Goes place insn = Goto (pos place +ℤ insn.x)
+-- whether bare methods have an opcode
+abbrev pub is_bare : ℕ → Bool
+is_bare opcode = is_some (format_of opcode)
 
--- the operand is an unsigned byte
-abbrev pub IsByte : ℤ → Type 0
-IsByte (pos n) = n < 2 ^ 8
-IsByte (negsuc n) = ⊥
+-- the instruction with these operands
+abbrev pub resolved : Format → Insn → Instruction
+resolved (Implied instruction) insn = instruction
+resolved Constant insn = Push insn.x
+resolved Loads insn = Load (unsigned_abs insn.x)
+resolved Stores insn = Store (unsigned_abs insn.x)
+resolved Increments insn = Increment (unsigned_abs insn.x) insn.y
 
--- the operands that a format reads lie in their ranges: a byte for a register, a signed byte for the distance of a
--- target, a short for the others
+-- what the instruction does; one that bare methods do not have does nothing
+abbrev pub instruction_of : Insn → Instruction
+instruction_of insn = unwrap_or (option_map (λ format. resolved format insn) (format_of insn.op)) Nop
+
+-- the operands that a format reads lie in their ranges: a byte for a register, a short for the others
 abbrev pub FitsFormat : Format → Insn → Type 0
 FitsFormat (Implied instruction) insn = Unit {0}
-FitsFormat Loads insn = IsByte insn.x
-FitsFormat Stores insn = IsByte insn.x
-FitsFormat Increments insn = IsByte insn.x × FitsSigned w16 insn.y
-FitsFormat Constant insn = FitsSigned w16 insn.x
-FitsFormat _ insn = FitsSigned w8 insn.x
+FitsFormat Constant insn = FitsOperand S2 insn.x
+FitsFormat Loads insn = FitsOperand U1 insn.x
+FitsFormat Stores insn = FitsOperand U1 insn.x
+FitsFormat Increments insn = FitsOperand U1 insn.x × FitsOperand S2 insn.y

@@ -1,4 +1,3 @@
-pub mod Arithmetic
 pub mod Effects
 pub mod Format
 pub mod Code

@@ -2,17 +2,22 @@
 -- that is missing, a register or a place that is not there ends the run with a fault: a machine that checks each
 -- of them, and the measure of code that never makes it do so.
 use Rattle.std.specs.Prelude.{ℕ, zero, suc, ◌≡◌, ℤ, pos, Bool, true, List, [], ◌∷◌, ◌++◌, length, drop, replicate, slice_index_or, slice_set, Option, Some, None, Result, Ok, Err, nat_lt, if◌then◌else◌}
-use Rattle.std.specs.Int.{w16, int_wrapping_add}
+use Rattle.std.specs.Int.{w16, int_wrapping_add, int_wrapping_neg}
+use Rattle.std.specs.Option.{unwrap_or}
 use Rattle.jc_decode.specs.declared.insn.CodeEnd.{CodeEnd}
+use Rattle.jc_decode.specs.declared.insn.Insn.{Insn}
+use Rattle.jc_decode.specs.declared.insn.Placed.{Placed}
+use Rattle.jc_decode.specs.Listing.{targets}
+use Rattle.jc_ops.specs.declared.operation.Operator.{Operator}
+use Rattle.vm_arithmetic.specs.Arithmetic.{of_shorts, short_to_byte, holds}
 use Rattle.cap_bare.specs.declared.bare.Bare.{Bare}
 use Rattle.cap_bare.specs.declared.run.BareEnd.{BareEnd}
 use Rattle.cap_bare.specs.declared.run.BareEnd.TheVariants.{Returned, Spent}
 use Rattle.cap_bare.specs.declared.instruction.Instruction.{Instruction}
-use Rattle.cap_bare.specs.declared.instruction.Instruction.TheVariants.{Nop, Push, Load, Store, Increment, Pop, Duplicate, Unary, Binary, Test, Compare, Goto, Return}
-use Rattle.cap_bare.specs.declared.code.Placed.{Placed}
-use Rattle.cap_bare.specs.Arithmetic.{holds, unary, binary}
+use Rattle.cap_bare.specs.declared.instruction.Instruction.TheVariants.{Nop, Push, Load, Store, Increment, Pop, Duplicate, Negate, ToByte, Binary, Test, Compare, Goto, Return}
 use Rattle.cap_bare.specs.Effects.{register_of, cells_taken}
-use Rattle.cap_bare.specs.Code.{fetched}
+use Rattle.cap_bare.specs.Format.{instruction_of}
+use Rattle.cap_bare.specs.Code.{fetched, place_after}
 use Rattle.cap_bare.specs.Walk.{is_place}
 use Rattle.cap_bare.specs.Typing.{register_count}
 
@@ -51,22 +56,35 @@ second stack = slice_index_or stack 1 (pos 0)
 abbrev pub frame : List ℤ → List ℤ → Frame
 frame registers stack = record { registers = registers; stack = stack }
 
--- what an instruction does with the registers r and the stack s, before the instruction at `next` (JCVM 2.2,
--- chapter 7)
-abbrev pub acted : Instruction → ℕ → List ℤ → List ℤ → Lead
-acted Nop next r s = leads (pos next) (frame r s)
-acted (Push n) next r s = leads (pos next) (frame r (n ∷ s))
-acted (Load x) next r s = leads (pos next) (frame r (slice_index_or r x (pos 0) ∷ s))
-acted (Store x) next r s = leads (pos next) (frame (slice_set r x (top s)) (drop 1 s))
-acted (Increment x n) next r s = leads (pos next) (frame (slice_set r x (int_wrapping_add w16 (slice_index_or r x (pos 0)) n)) s)
-acted Pop next r s = leads (pos next) (frame r (drop 1 s))
-acted Duplicate next r s = leads (pos next) (frame r (top s ∷ s))
-acted (Unary operator) next r s = leads (pos next) (frame r (unary operator (top s) ∷ drop 1 s))
-acted (Binary operator) next r s = leads (pos next) (frame r (binary operator (second s) (top s) ∷ drop 2 s))
-acted (Test condition target) next r s = leads (if holds condition (top s) (pos 0) then target else pos next) (frame r (drop 1 s))
-acted (Compare condition target) next r s = leads (if holds condition (second s) (top s) then target else pos next) (frame r (drop 2 s))
-acted (Goto target) next r s = leads target (frame r s)
-acted Return next r s = gives (top s)
+-- bare methods have no division, and so a result for any two shorts
+abbrev pub binary : Operator → ℤ → ℤ → ℤ
+binary operator a b = unwrap_or (of_shorts operator a b) (pos 0)
+
+-- what an instruction that names the target t does with the registers r and the stack s, before the instruction at
+-- `next` (JCVM 2.2, chapter 7)
+abbrev pub acted : Instruction → ℤ → ℕ → List ℤ → List ℤ → Lead
+acted Nop t next r s = leads (pos next) (frame r s)
+acted (Push n) t next r s = leads (pos next) (frame r (n ∷ s))
+acted (Load x) t next r s = leads (pos next) (frame r (slice_index_or r x (pos 0) ∷ s))
+acted (Store x) t next r s = leads (pos next) (frame (slice_set r x (top s)) (drop 1 s))
+acted (Increment x n) t next r s = leads (pos next) (frame (slice_set r x (int_wrapping_add w16 (slice_index_or r x (pos 0)) n)) s)
+acted Pop t next r s = leads (pos next) (frame r (drop 1 s))
+acted Duplicate t next r s = leads (pos next) (frame r (top s ∷ s))
+acted Negate t next r s = leads (pos next) (frame r (int_wrapping_neg w16 (top s) ∷ drop 1 s))
+acted ToByte t next r s = leads (pos next) (frame r (short_to_byte (top s) ∷ drop 1 s))
+acted (Binary operator) t next r s = leads (pos next) (frame r (binary operator (second s) (top s) ∷ drop 2 s))
+acted (Test order) t next r s = leads (if holds order (top s) (pos 0) then t else pos next) (frame r (drop 1 s))
+acted (Compare order) t next r s = leads (if holds order (second s) (top s) then t else pos next) (frame r (drop 2 s))
+acted Goto t next r s = leads t (frame r s)
+acted Return t next r s = gives (top s)
+
+-- the place that an instruction names, if it names one
+abbrev pub branch_target : List ℕ → Placed → ℤ
+branch_target code i = slice_index_or (targets code i) 0 (pos 0)
+
+-- what an instruction of the code does in a frame
+abbrev pub acts : List ℕ → Placed → Frame → Lead
+acts code i f = acted (instruction_of i.insn) (branch_target code i) (place_after i) f.registers f.stack
 
 abbrev pub has_register : Bare → Option ℕ → Bool
 has_register bare None = true
@@ -85,17 +103,17 @@ settled code bare (leads to f) =
     else faulted jump_fault
 
 -- the tests before an instruction: its register, and cells enough
-abbrev pub performed : List ℕ → Bare → Frame → Result Placed CodeEnd → Outcome
-performed code bare f (Err end) = faulted jump_fault
-performed code bare f (Ok i) =
-    if has_register bare (register_of i.instruction)
-    then (if nat_lt (length f.stack) (cells_taken i.instruction) then faulted stack_fault
-    else settled code bare (acted i.instruction i.next f.registers f.stack))
+abbrev pub performed : List ℕ → Bare → State → Result Insn CodeEnd → Outcome
+performed code bare s (Err end) = faulted jump_fault
+performed code bare s (Ok insn) =
+    if has_register bare (register_of (instruction_of insn))
+    then (if nat_lt (length s.frame.stack) (cells_taken (instruction_of insn)) then faulted stack_fault
+    else settled code bare (acts code (record { place = s.place; insn = insn }) s.frame))
     else faulted local_fault
 
 -- one step
 unfoldable pub step : List ℕ → Bare → State → Outcome
-step code bare s = if is_place code (pos s.place) then performed code bare s.frame (fetched code s.place) else faulted jump_fault
+step code bare s = if is_place code (pos s.place) then performed code bare s (fetched code s.place) else faulted jump_fault
 
 abbrev pub go_on : Outcome → (State → Outcome) → Outcome
 go_on (running s) rest = rest s

@@ -3,12 +3,14 @@
 use Rattle.std.specs.Prelude.{ℕ, ◌<◌, ◌≤◌, ◌≡◌, ◌≢◌, List, [], ◌++◌, length, replicate, slice_set, Option, Some, None, IfSome, IsTrue, if◌then◌else◌}
 use Rattle.cap_bare.specs.declared.bare.Bare.{Bare}
 use Rattle.cap_bare.specs.declared.instruction.Instruction.{Instruction}
-use Rattle.cap_bare.specs.declared.code.Placed.{Placed}
+use Rattle.jc_decode.specs.declared.insn.Placed.{Placed}
+use Rattle.jc_decode.specs.Listing.{falls, jumps}
 use Rattle.cap_bare.specs.declared.fault.BareFault.{BareFault}
 use Rattle.cap_bare.specs.declared.fault.BareKind.{BareKind}
 use Rattle.cap_bare.specs.declared.fault.BareKind.TheVariants.{NoLocal, Underflow, Overflow, StackAtTarget, StackAtBranch, FallsOff}
-use Rattle.cap_bare.specs.Effects.{register_of, register_written, cells_taken, cells_given, is_branch, falls_through}
-use Rattle.cap_bare.specs.Code.{Stands, IsTarget, IsWellFormed, IsFirstFlaw, fault}
+use Rattle.cap_bare.specs.Effects.{register_of, register_written, cells_taken, cells_given}
+use Rattle.cap_bare.specs.Format.{instruction_of}
+use Rattle.cap_bare.specs.Code.{place_after, Stands, IsTarget, IsWellFormed, IsFirstFlaw, fault}
 use Rattle.cap_bare.specs.Typing.{Kind, bottom, short, shorts, register_count, Applies}
 
 -- the registers as a method is entered: its arguments, and nothing in the others
@@ -27,20 +29,20 @@ raised i registers = raised_at (register_written i) registers
 pub record Passes (code : List ℕ) (bare : Bare) (i : Placed) (registers stack after : List Kind) : Type 0 where
   pub stands : Stands code i
   pub target : IsTarget code i.place → stack ≡ []
-  pub applies : Applies bare i.instruction registers stack after
-  pub branch : IsTrue (is_branch i.instruction) → after ≡ []
-  pub goes_on : IsTrue (falls_through i.instruction) → i.next < length code
+  pub applies : Applies bare (instruction_of i.insn) registers stack after
+  pub branch : IsTrue (jumps i.insn.op) → after ≡ []
+  pub goes_on : IsTrue (falls i.insn.op) → place_after i < length code
 
 -- The states that are met: the one of the method's entry, and what follows a met state at which nothing is wrong.
 -- After the last instruction another pass begins at place 0.
 pub data IsMet (code : List ℕ) (bare : Bare) : ℕ → List Kind → List Kind → Type 0 where
   met_entry : IsMet code bare 0 (declared bare) []
   met_next : (i : Placed) (registers stack after : List Kind) → IsMet code bare i.place registers stack
-      → Passes code bare i registers stack after → i.next < length code
-      → IsMet code bare i.next (raised i.instruction registers) (if falls_through i.instruction then after else [])
+      → Passes code bare i registers stack after → place_after i < length code
+      → IsMet code bare (place_after i) (raised (instruction_of i.insn) registers) (if falls i.insn.op then after else [])
   met_again : (i : Placed) (registers stack after : List Kind) → IsMet code bare i.place registers stack
-      → Passes code bare i registers stack after → i.next ≡ length code
-      → IsMet code bare 0 (raised i.instruction registers) []
+      → Passes code bare i registers stack after → place_after i ≡ length code
+      → IsMet code bare 0 (raised (instruction_of i.insn) registers) []
 
 -- the first failure of an instruction's rule on a stack: its register, the cells that it takes, the room
 pub data Fails (bare : Bare) (i : Instruction) (stack : List Kind) : BareKind → Type 0 where
@@ -55,22 +57,32 @@ LandsEmpty code i stack = IsTarget code i.place → stack ≡ []
 
 -- no branch is left with cells on the stack
 abbrev pub LeavesEmpty : Placed → List Kind → Type 0
-LeavesEmpty i after = IsTrue (is_branch i.instruction) → after ≡ []
+LeavesEmpty i after = IsTrue (jumps i.insn.op) → after ≡ []
 
 -- what is wrong first at an instruction with these registers and this stack before it: it is a target that is fallen into with cells on the
 -- stack; its rule; it is a branch that is left with cells on the stack; it is the last and falls through
 pub data IsWrong (code : List ℕ) (bare : Bare) (i : Placed) (registers stack : List Kind) : BareKind → Type 0 where
   wrong_target : IsTarget code i.place → stack ≢ [] → IsWrong code bare i registers stack StackAtTarget
-  wrong_rule : (kind : BareKind) → LandsEmpty code i stack → Fails bare i.instruction stack kind → IsWrong code bare i registers stack kind
+  wrong_rule :
+      (kind : BareKind)
+      → LandsEmpty code i stack
+      → Fails bare (instruction_of i.insn) stack kind
+      → IsWrong code bare i registers stack kind
   wrong_branch :
       (after : List Kind)
       → LandsEmpty code i stack
-      → Applies bare i.instruction registers stack after
-      → IsTrue (is_branch i.instruction)
+      → Applies bare (instruction_of i.insn) registers stack after
+      → IsTrue (jumps i.insn.op)
       → after ≢ []
       → IsWrong code bare i registers stack StackAtBranch
-  wrong_end : (after : List Kind) → LandsEmpty code i stack → Applies bare i.instruction registers stack after → LeavesEmpty i after
-      → IsTrue (falls_through i.instruction) → i.next ≡ length code → IsWrong code bare i registers stack FallsOff
+  wrong_end :
+      (after : List Kind)
+      → LandsEmpty code i stack
+      → Applies bare (instruction_of i.insn) registers stack after
+      → LeavesEmpty i after
+      → IsTrue (falls i.insn.op)
+      → place_after i ≡ length code
+      → IsWrong code bare i registers stack FallsOff
 
 -- the reasons to refuse a method: its first flaw, or what is wrong with a met state of a well-formed one
 pub data IsRefused (code : List ℕ) (bare : Bare) : BareFault → Type 0 where

@@ -4,9 +4,11 @@
 use Rattle.std.specs.Prelude.{ℕ, ◌+◌, ◌<◌, ◌≤◌, ◌≡◌, List, [], ◌++◌, length, replicate, slice_get, IfSome, IsSomeAnd, IsTrue, MatchBool}
 use Rattle.cap_bare.specs.declared.bare.Bare.{Bare}
 use Rattle.cap_bare.specs.declared.instruction.Instruction.{Instruction}
-use Rattle.cap_bare.specs.declared.code.Placed.{Placed}
-use Rattle.cap_bare.specs.Effects.{register_of, register_read, register_written, cells_taken, cells_given, is_branch, falls_through}
-use Rattle.cap_bare.specs.Code.{Stands, IsTarget, IsWellFormed}
+use Rattle.jc_decode.specs.declared.insn.Placed.{Placed}
+use Rattle.jc_decode.specs.Listing.{falls, jumps}
+use Rattle.cap_bare.specs.Effects.{register_of, register_read, register_written, cells_taken, cells_given}
+use Rattle.cap_bare.specs.Format.{instruction_of}
+use Rattle.cap_bare.specs.Code.{place_after, Stands, IsTarget, IsWellFormed}
 
 -- The types of cells. Of the verifier's types only two occur where all values are shorts: that of a register into
 -- which nothing was stored, and that of shorts.
@@ -47,10 +49,10 @@ pub record Applies (bare : Bare) (i : Instruction) (registers stack after : List
 -- gives, or the empty one where it doesn't fall through. The last instruction doesn't fall through.
 pub record IsTyped (code : List ℕ) (bare : Bare) (registers : List Kind) (stacks : ℕ → List Kind) (i : Placed) : Type 0 where
   pub after : List Kind
-  pub applies : Applies bare i.instruction registers (stacks i.place) after
-  pub stored : IfSome (register_written i.instruction) (λ x. IsSomeAnd (slice_get registers x) (λ k. IsBelow short k))
-  pub branch : IsTrue (is_branch i.instruction) → after ≡ []
-  pub next : MatchBool (falls_through i.instruction) ((i.next < length code) × (stacks i.next ≡ after)) (stacks i.next ≡ [])
+  pub applies : Applies bare (instruction_of i.insn) registers (stacks i.place) after
+  pub stored : IfSome (register_written (instruction_of i.insn)) (λ x. IsSomeAnd (slice_get registers x) (λ k. IsBelow short k))
+  pub branch : IsTrue (jumps i.insn.op) → after ≡ []
+  pub next : MatchBool (falls i.insn.op) ((place_after i < length code) × (stacks (place_after i) ≡ after)) (stacks (place_after i) ≡ [])
 
 -- a card typing of a well-formed method: one register list, and a stack before each place
 pub record CardTyping (code : List ℕ) (bare : Bare) : Type 0 where

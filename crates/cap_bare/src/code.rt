@@ -1,38 +1,25 @@
-ghost use Rattle.std.specs.Prelude.{◌≡◌, ◌<◌, ◌≤◌, ◌^◌, length, IfOk};
+ghost use Rattle.std.specs.Prelude.{◌≡◌, ◌≤◌, length, IfOk, Ok};
+ghost use Rattle.jc_decode.specs.Decoding.{decoded, FitsLayout, IsWithin};
+ghost use Rattle.jc_decode.specs.Layout.{layout_of};
 ghost use Rattle.cap_bare.specs.Code.{fetched};
 
 use crate::format::Format;
-use crate::instruction::Instruction;
 use cap_bytes::View;
-use jc_decode::{CodeEnd, decode};
-
-/// An instruction of a method's code, where it stands and where the next one begins.
-#[derive(Clone, Copy)]
-pub struct Placed {
-    pub place: u16,
-    pub instruction: Instruction,
-    pub next: u16,
-}
+use jc_decode::{CodeEnd, Insn, decode};
 
 /// The instruction that begins at a place, of those that bare methods have.
 #[tactic(auto, unfolding(crate::specs::Code::fetched))]
-pub fn fetch(code: View<'_>, place: u16) -> Result<Placed, CodeEnd>
+pub fn fetch(code: View<'_>, place: u16) -> Result<Insn, CodeEnd>
     requires { length code.bytes.now ≤ 32767 }
     ensures value { result ≡ fetched code.entry.bytes.now place }
-    ensures next { IfOk result (λ i. (i.place ≡ place) × (place < i.next) × (i.next ≤ length code.entry.bytes.now)) }
+    ensures decoded { IfOk result (λ i. decoded code.entry.bytes.now place ≡ Ok i) }
+    ensures within { IfOk result (λ i. IsWithin code.entry.bytes.now place i) }
+    ensures operands { IfOk result (λ i. FitsLayout i (layout_of i.op)) }
 {
-    let opcode = match code.u1(u32::from(place)) {
-        Some(opcode) => opcode,
-        None => return Err(CodeEnd::Cut),
-    };
-    let format = match Format::of(opcode) {
-        Some(format) => format,
-        None => return Err(CodeEnd::OutOfScope(opcode)),
-    };
-    let insn = decode(code, place)?;
-    Ok(Placed {
-        place,
-        instruction: format.resolved(place, insn),
-        next: place + insn.len as u16,
-    })
+    if let Some(opcode) = code.u1(u32::from(place)) {
+        if Format::of(opcode).is_none() {
+            return Err(CodeEnd::OutOfScope(opcode));
+        }
+    }
+    decode(code, place)
 }

@@ -1,12 +1,15 @@
-ghost use Rattle.std.specs.Prelude.{◌≡◌, pos, ◌+ℤ◌, FitsSigned};
-ghost use Rattle.std.specs.Int.{w8};
-ghost use Rattle.cap_bare.specs.Format.{format_of, resolved, FitsFormat};
+ghost use Rattle.std.specs.Prelude.{◌≡◌};
+ghost use Rattle.jc_decode.specs.Layout.{layout_of};
+ghost use Rattle.jc_decode.specs.Decoding.{FitsLayout};
+ghost use Rattle.cap_bare.specs.Format.{format_of, resolved, instruction_of, FitsFormat};
 
-use self::Format::{Compares, Constant, Goes, Implied, Increments, Loads, Stores, Tests};
-use crate::arithmetic::{Binary, Condition, Unary};
+use self::Format::{Constant, Implied, Increments, Loads, Stores};
 use crate::instruction::Instruction;
-use crate::instruction::Instruction::{Duplicate, Load, Nop, Pop, Push, Return, Store};
+use crate::instruction::Instruction::{
+    Binary, Compare, Duplicate, Goto, Load, Negate, Nop, Pop, Push, Return, Store, Test, ToByte,
+};
 use jc_decode::Insn;
+use jc_ops::{Operator, Order};
 
 /// How an opcode and its operands make an instruction of a bare method.
 #[derive(Clone, Copy)]
@@ -21,12 +24,6 @@ pub enum Format {
     Stores,
     /// The operands are a register and what is added to it.
     Increments,
-    /// The operand is the distance of the target.
-    Tests(Condition),
-    /// The operand is the distance of the target.
-    Compares(Condition),
-    /// The operand is the distance of the target.
-    Goes,
 }
 
 impl Format {
@@ -41,10 +38,10 @@ impl Format {
         }
     }
 
-    /// The instruction that stands at a place with these operands.
-    pub fn resolved(self, place: u16, insn: Insn) -> Instruction
+    /// The instruction with these operands.
+    fn resolved(self, insn: Insn) -> Instruction
         requires { FitsFormat self insn }
-        ensures { result ≡ resolved self place insn }
+        ensures { result ≡ resolved self insn }
     {
         match self {
             Format::Implied(instruction) => instruction,
@@ -52,19 +49,19 @@ impl Format {
             Format::Loads => Instruction::Load(insn.x as u8),
             Format::Stores => Instruction::Store(insn.x as u8),
             Format::Increments => Instruction::Increment(insn.x as u8, insn.y as i16),
-            Format::Tests(condition) => Instruction::Test(condition, target(place, insn.x)),
-            Format::Compares(condition) => Instruction::Compare(condition, target(place, insn.x)),
-            Format::Goes => Instruction::Goto(target(place, insn.x)),
         }
     }
 }
 
-/// The place at a distance from a place.
-fn target(place: u16, distance: i32) -> i32
-    requires { FitsSigned w8 distance }
-    ensures { result ≡ pos place +ℤ distance }
+/// What the instruction does, where bare methods have its opcode.
+pub fn instruction_of(insn: Insn) -> Instruction
+    requires { FitsLayout insn (layout_of insn.op) }
+    ensures { result ≡ instruction_of insn }
 {
-    i32::from(place) + distance
+    match Format::of(insn.op) {
+        Some(format) => format.resolved(insn),
+        None => Instruction::Nop,
+    }
 }
 
 /// The instructions of bare methods, by opcode.
@@ -145,68 +142,68 @@ static FORMATS: [Option<Format>; 121] = [
     None,
     None,
     // 65: sadd
-    Some(Implied(Instruction::Binary(Binary::Add))),
+    Some(Implied(Binary(Operator::Add))),
     None,
     // 67: ssub
-    Some(Implied(Instruction::Binary(Binary::Subtract))),
+    Some(Implied(Binary(Operator::Subtract))),
     None,
     // 69: smul
-    Some(Implied(Instruction::Binary(Binary::Multiply))),
+    Some(Implied(Binary(Operator::Multiply))),
     None,
     None,
     None,
     None,
     None,
     // 75: sneg
-    Some(Implied(Instruction::Unary(Unary::Negate))),
+    Some(Implied(Negate)),
     None,
     // 77: sshl
-    Some(Implied(Instruction::Binary(Binary::ShiftLeft))),
+    Some(Implied(Binary(Operator::ShiftLeft))),
     None,
     // 79: sshr
-    Some(Implied(Instruction::Binary(Binary::ShiftRight))),
+    Some(Implied(Binary(Operator::ShiftRight))),
     None,
     // 81: sushr
-    Some(Implied(Instruction::Binary(Binary::ShiftRightUnsigned))),
+    Some(Implied(Binary(Operator::ShiftRightUnsigned))),
     None,
     // 83: sand
-    Some(Implied(Instruction::Binary(Binary::And))),
+    Some(Implied(Binary(Operator::And))),
     None,
     // 85: sor
-    Some(Implied(Instruction::Binary(Binary::Or))),
+    Some(Implied(Binary(Operator::Or))),
     None,
     // 87: sxor
-    Some(Implied(Instruction::Binary(Binary::Xor))),
+    Some(Implied(Binary(Operator::ExclusiveOr))),
     None,
     // 89: sinc
     Some(Increments),
     None,
     // 91: s2b
-    Some(Implied(Instruction::Unary(Unary::ToByte))),
+    Some(Implied(ToByte)),
     None,
     None,
     None,
     None,
     // 96: ifeq
-    Some(Tests(Condition::Equal)),
-    Some(Tests(Condition::NotEqual)),
-    Some(Tests(Condition::Less)),
-    Some(Tests(Condition::GreaterOrEqual)),
-    Some(Tests(Condition::Greater)),
-    Some(Tests(Condition::LessOrEqual)),
+    Some(Implied(Test(Order::Equal))),
+    Some(Implied(Test(Order::NotEqual))),
+    Some(Implied(Test(Order::Less))),
+    Some(Implied(Test(Order::GreaterOrEqual))),
+    Some(Implied(Test(Order::Greater))),
+    Some(Implied(Test(Order::LessOrEqual))),
     None,
     None,
     None,
     None,
     // 106: if_scmpeq
-    Some(Compares(Condition::Equal)),
-    Some(Compares(Condition::NotEqual)),
-    Some(Compares(Condition::Less)),
-    Some(Compares(Condition::GreaterOrEqual)),
-    Some(Compares(Condition::Greater)),
-    Some(Compares(Condition::LessOrEqual)),
+    Some(Implied(Compare(Order::Equal))),
+    Some(Implied(Compare(Order::NotEqual))),
+    Some(Implied(Compare(Order::Less))),
+    Some(Implied(Compare(Order::GreaterOrEqual))),
+    Some(Implied(Compare(Order::Greater))),
+    Some(Implied(Compare(Order::LessOrEqual))),
     // 112: goto
-    Some(Goes),
+    Some(Implied(Goto)),
     None,
     None,
     None,

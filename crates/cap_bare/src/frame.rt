@@ -1,12 +1,13 @@
 ghost use Rattle.std.specs.Prelude.{◌≡◌, ◌<◌, ◌≤◌, ◌+◌, ℤ, pos, [], ◌∷◌, ◌++◌, length, drop, replicate, slice_index_or, slice_set, if◌then◌else◌};
-ghost use Rattle.cap_bare.specs.Arithmetic.{holds};
+ghost use Rattle.vm_arithmetic.specs.Arithmetic.{holds};
 ghost use Rattle.cap_bare.specs.Machine.{acted, frame, leads, top, second};
 
-use crate::arithmetic::Condition;
 use crate::bare::Bare;
-use crate::instruction::Instruction;
+use crate::instruction::{Instruction, binary};
 use arrayvec::ArrayVec;
+use jc_ops::Order;
 use std::marker::Model;
+use vm_arithmetic::{holds, negate_short, short_to_byte};
 
 /// The greatest numbers of registers and of cells that a compact header can say.
 const REGISTERS: usize = 30;
@@ -113,41 +114,37 @@ impl Frame {
         self.give(value, next)
     }
 
-    fn test(&mut self, condition: Condition, target: i32, next: i32) -> Lead
+    fn test(&mut self, order: Order, target: i32, next: i32) -> Lead
         requires { 0 < length self.old.stack }
         ensures { leading result self.new
             ≡ leads
-            (if holds condition (top self.old.stack) (pos 0) then target else next)
+            (if holds order (top self.old.stack) (pos 0) then target else next)
             (frame self.old.registers (drop 1 self.old.stack)) }
     {
         let value = self.pop();
-        Lead::To(if condition.holds(value, 0) {
-            target
-        } else {
-            next
-        })
+        Lead::To(if holds(order, value, 0) { target } else { next })
     }
 
-    fn compare(&mut self, condition: Condition, target: i32, next: i32) -> Lead
+    fn compare(&mut self, order: Order, target: i32, next: i32) -> Lead
         requires { 1 < length self.old.stack }
         ensures { leading result self.new
             ≡ leads
-            (if holds condition (second self.old.stack) (top self.old.stack) then target else next)
+            (if holds order (second self.old.stack) (top self.old.stack) then target else next)
             (frame self.old.registers (drop 2 self.old.stack)) }
     {
         let second = self.pop();
         let first = self.pop();
-        Lead::To(if condition.holds(first, second) {
+        Lead::To(if holds(order, first, second) {
             target
         } else {
             next
         })
     }
 
-    /// Does what an instruction says, before the instruction at `next`.
-    pub fn act(&mut self, instruction: Instruction, next: u16) -> Lead
+    /// Does what an instruction says that names this target, if any, before the instruction at `next`.
+    pub fn act(&mut self, instruction: Instruction, target: i32, next: u16) -> Lead
         requires { CanAct instruction self.old }
-        ensures { leading result self.new ≡ acted instruction next self.old.registers self.old.stack }
+        ensures { leading result self.new ≡ acted instruction target next self.old.registers self.old.stack }
     {
         let next = i32::from(next);
         match instruction {
@@ -168,18 +165,22 @@ impl Frame {
                 Lead::To(next)
             }
             Instruction::Duplicate => self.duplicate(next),
-            Instruction::Unary(operator) => {
+            Instruction::Negate => {
                 let value = self.pop();
-                self.give(operator.of(value), next)
+                self.give(negate_short(value), next)
+            }
+            Instruction::ToByte => {
+                let value = self.pop();
+                self.give(short_to_byte(value), next)
             }
             Instruction::Binary(operator) => {
                 let second = self.pop();
                 let first = self.pop();
-                self.give(operator.of(first, second), next)
+                self.give(binary(operator, first, second), next)
             }
-            Instruction::Test(condition, target) => self.test(condition, target, next),
-            Instruction::Compare(condition, target) => self.compare(condition, target, next),
-            Instruction::Goto(target) => Lead::To(target),
+            Instruction::Test(order) => self.test(order, target, next),
+            Instruction::Compare(order) => self.compare(order, target, next),
+            Instruction::Goto => Lead::To(target),
             Instruction::Return => Lead::Gives(self.pop()),
         }
     }

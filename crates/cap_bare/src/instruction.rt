@@ -1,7 +1,19 @@
 ghost use Rattle.std.specs.Prelude.{◌≡◌};
-ghost use Rattle.cap_bare.specs.Effects.{register_of, cells_taken, cells_given, target_of, falls_through, is_branch};
+ghost use Rattle.cap_bare.specs.Effects.{register_of, cells_taken, cells_given};
+ghost use Rattle.cap_bare.specs.Machine.{binary};
 
-use crate::arithmetic::{Binary, Condition, Unary};
+use jc_ops::{Operator, Order};
+use vm_arithmetic::of_shorts;
+
+/// What is computed of two shorts, of which the second was on top of the stack.
+pub fn binary(operator: Operator, first: i16, second: i16) -> i16
+    ensures { result ≡ binary operator first second }
+{
+    match of_shorts(operator, first, second) {
+        Some(value) => value,
+        None => 0,
+    }
+}
 
 /// What an instruction of a bare method does, with its operands.
 #[derive(Clone, Copy)]
@@ -20,16 +32,18 @@ pub enum Instruction {
     Pop,
     /// `dup`
     Duplicate,
-    /// Computes with the short on top.
-    Unary(Unary),
+    /// `sneg`
+    Negate,
+    /// `s2b`: the low eight bits of the short on top, as a signed byte.
+    ToByte,
     /// Computes with the two shorts on top.
-    Binary(Binary),
-    /// `if<cond>`: compares the short on top with 0, and goes to the target where that holds.
-    Test(Condition, i32),
-    /// `if_scmp<cond>`: compares the two shorts on top, and goes to the target where that holds.
-    Compare(Condition, i32),
+    Binary(Operator),
+    /// `if<cond>`: compares the short on top with 0, and goes to its target where that holds.
+    Test(Order),
+    /// `if_scmp<cond>`: compares the two shorts on top, and goes to its target where that holds.
+    Compare(Order),
     /// `goto`
-    Goto(i32),
+    Goto,
     /// `sreturn`
     Return,
 }
@@ -51,8 +65,11 @@ impl Instruction {
     {
         match self {
             Instruction::Store(_) | Instruction::Pop | Instruction::Duplicate => 1,
-            Instruction::Unary(_) | Instruction::Test(..) | Instruction::Return => 1,
-            Instruction::Binary(_) | Instruction::Compare(..) => 2,
+            Instruction::Negate
+            | Instruction::ToByte
+            | Instruction::Test(_)
+            | Instruction::Return => 1,
+            Instruction::Binary(_) | Instruction::Compare(_) => 2,
             _ => 0,
         }
     }
@@ -63,34 +80,9 @@ impl Instruction {
     {
         match self {
             Instruction::Push(_) | Instruction::Load(_) => 1,
-            Instruction::Unary(_) | Instruction::Binary(_) => 1,
+            Instruction::Negate | Instruction::ToByte | Instruction::Binary(_) => 1,
             Instruction::Duplicate => 2,
             _ => 0,
         }
-    }
-
-    /// The place that it branches to, which may lie outside the code.
-    pub fn target(self) -> Option<i32>
-        ensures { result ≡ target_of self }
-    {
-        match self {
-            Instruction::Test(_, target) | Instruction::Compare(_, target) => Some(target),
-            Instruction::Goto(target) => Some(target),
-            _ => None,
-        }
-    }
-
-    /// Whether the instruction after it may come next.
-    pub fn falls_through(self) -> bool
-        ensures { result ≡ falls_through self }
-    {
-        !matches!(self, Instruction::Goto(_) | Instruction::Return)
-    }
-
-    /// Whether it is a branch.
-    pub fn is_branch(self) -> bool
-        ensures { result ≡ is_branch self }
-    {
-        self.target().is_some()
     }
 }

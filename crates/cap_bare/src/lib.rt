@@ -1,10 +1,10 @@
 //! Bare methods: one static method of shorts, given alone as the info of a Method component. Here they are
 //! read from that file, verified as on the card (Leroy 2002; Java Card 2.2 VM Specification, chapters 3 and
-//! 7) and run. It stands on `cap_bytes` for bytes, on `jc_decode` for instructions, on `cap_package` for the
-//! faults of a file and on `arrayvec`, and takes no memory.
+//! 7) and run. It stands on `cap_bytes` for bytes, on `jc_decode` for instructions and where they lead, on
+//! `vm_arithmetic` for the arithmetic of shorts, on `cap_components` for the faults of a file and on `arrayvec`,
+//! and takes no memory.
 #![tactic(auto)]
 
-mod arithmetic;
 mod bare;
 mod code;
 mod fault;

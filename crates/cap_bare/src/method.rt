@@ -8,7 +8,7 @@ ghost use Rattle.cap_bare.specs.BareFile.{file, IsVerifiable};
 
 use crate::bare::Bare;
 use cap_bytes::{Cursor, FormFault, FormKind, View};
-use cap_package::PackFault;
+use cap_components::PackFault;
 
 /// The tag of the Method component.
 const METHOD: u8 = 7;

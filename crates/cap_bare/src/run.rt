@@ -1,12 +1,15 @@
-ghost use Rattle.std.specs.Prelude.{◌≡◌, ◌≤◌, length};
+ghost use Rattle.std.specs.Prelude.{◌≡◌, ◌≤◌, length, Ok};
+ghost use Rattle.jc_decode.specs.Decoding.{decoded};
 ghost use Rattle.cap_bare.specs.Typing.{CardTyping, IsCompact, register_count};
-ghost use Rattle.cap_bare.specs.Machine.{Answers, after, entered, step, IsSafe};
+ghost use Rattle.cap_bare.specs.Machine.{Answers, after, branch_target, entered, step, IsSafe};
 ghost use Rattle.cap_bare.specs.Leading.{state_at, stepped};
 
 use crate::bare::Bare;
 use crate::code::fetch;
+use crate::format::instruction_of;
 use crate::frame::{Frame, Lead};
 use cap_bytes::View;
+use jc_decode::{Placed, target};
 
 /// How the run of a bare method ends.
 #[derive(Clone, Copy)]
@@ -54,12 +57,25 @@ fn step(code: View<'_>, bare: Bare, frame: &mut Frame, place: u16) -> Progress
     requires registers { length frame.old.registers ≡ register_count bare }
     ensures { stepped result frame.new ≡ step code.entry.bytes.now bare (state_at place frame.old) }
 {
-    let placed = match fetch(code, place) {
-        Ok(placed) => placed,
+    let insn = match fetch(code, place) {
+        Ok(insn) => insn,
         Err(_) => unreachable!(),
     };
-    match frame.act(placed.instruction, placed.next) {
+    let target = branch_target(code, Placed { place, insn });
+    match frame.act(instruction_of(insn), target, place + insn.len as u16) {
         Lead::To(next) => Progress::At(next as u16),
         Lead::Gives(value) => Progress::Ended(value),
+    }
+}
+
+/// The place that an instruction names, if it names one.
+fn branch_target(code: View<'_>, placed: Placed) -> i32
+    requires short { length code.bytes.now ≤ 32767 }
+    requires decoded { decoded code.bytes.now placed.place ≡ Ok placed.insn }
+    ensures { result ≡ branch_target code.entry.bytes.now placed }
+{
+    match target(code, placed, 0) {
+        Some(target) => target,
+        None => 0,
     }
 }

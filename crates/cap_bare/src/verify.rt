@@ -1,19 +1,21 @@
-ghost use Rattle.std.specs.Prelude.{ℤ, ◌≡◌, ◌≤◌, ◌<◌, ◌+◌, ◌↔◌, length, IfOk, IfErr, IsOk, IsTrue, OnOk};
-ghost use Rattle.jc_decode.specs.Decoding.{AreBytes};
-ghost use Rattle.cap_bare.specs.declared.fault.BareFault.{BareFault};
-ghost use Rattle.cap_bare.specs.Effects.{target_of};
-ghost use Rattle.cap_bare.specs.Code.{IsFirstFlaw, IsFlawKind, IsReached, IsTarget, IsTargetPlace, IsWellFormed, Stands};
+ghost use Rattle.std.specs.Prelude.{ℤ, ◌≡◌, ◌≤◌, ◌+◌, ◌↔◌, pos, length, All, Contains, IfOk, IfErr, IfSome, IfNone, IsOk, IsTrue, OnOk};
+ghost use Rattle.jc_decode.specs.Decoding.{AreBytes, FitsLayout};
+ghost use Rattle.jc_decode.specs.Layout.{layout_of};
+ghost use Rattle.jc_decode.specs.Listing.{targets};
+ghost use Rattle.cap_bare.specs.Code.{instructions, IsFirstFlaw, IsFlawKind, IsPlace, IsTarget, IsTargetPlace, IsWellFormed, Stands};
 ghost use Rattle.cap_bare.specs.Typing.{CardTyping, IsCompact};
 ghost use Rattle.cap_bare.specs.Met.{IsRefused};
-ghost use Rattle.cap_bare.specs.Walk.{instructions, has_place, is_place, is_at, is_target, led, first_flaw, applied, passed, first_wrong, verdict};
-ghost use Rattle.cap_bare.specs.Window.{IsFromOn, IsTrailing};
+ghost use Rattle.cap_bare.specs.Walk.{is_at, is_place, is_target, applied, passed, first_wrong, Finds};
+ghost use Rattle.cap_bare.specs.Window.{IsFromOn, IsReached, IsTrailing};
 ghost use Rattle.cap_bare.specs.Machine.{IsFaultFree};
 
 use crate::bare::Bare;
-use crate::code::{Placed, fetch};
+use crate::code::fetch;
 use crate::fault::{BareFault, BareKind};
+use crate::format::instruction_of;
 use crate::instruction::Instruction;
 use cap_bytes::View;
+use jc_decode::{Placed, target};
 
 /// Verifies a bare method as a verifier on the card does, in one walk for its form and one for its types.
 ///
@@ -41,7 +43,7 @@ pub fn bare_verify(code: View<'_>, bare: Bare) -> Result<(), BareFault>
 fn walked(code: View<'_>, bare: Bare) -> Result<(), BareFault>
     requires short { length code.bytes.now ≤ 32767 }
     requires stack { bare.max_stack ≤ 15 }
-    ensures { result ≡ verdict code.entry.bytes.now bare }
+    ensures { Finds code.entry.bytes.now bare result }
 {
     find_flaw(code)?;
     find_wrong(code, bare)
@@ -49,44 +51,46 @@ fn walked(code: View<'_>, bare: Bare) -> Result<(), BareFault>
 
 /// The first flaw of the code, if it is not well formed: the place of an instruction that is missing or leads
 /// nowhere.
-#[tactic(auto, using(crate::proofs::Instructions::walking))]
 fn find_flaw(code: View<'_>) -> Result<(), BareFault>
     requires { length code.bytes.now ≤ 32767 }
-    ensures { result ≡ first_flaw code.entry.bytes.now 0 (instructions code.entry.bytes.now) }
+    ensures formed { OnOk result (IsWellFormed code.entry.bytes.now) }
+    ensures flawed { IfErr result (λ flaw. IsFirstFlaw code.entry.bytes.now flaw) }
 {
     let mut at = 0;
     let mut farther = 0;
     'walk: while usize::from(at) < code.bytes.len() {
-        let placed = match fetch(code, at) {
-            Ok(placed) => placed,
+        let insn = match fetch(code, at) {
+            Ok(insn) => insn,
             Err(end) => return Err(BareFault {
                 place: at,
                 kind: BareKind::Code(end),
             }),
         };
         farther = trailed(code, farther, at);
-        if let Err(kind) = lead(code, farther, placed) {
+        if let Some(target) = stray_target(code, farther, Placed { place: at, insn }) {
             return Err(BareFault {
-                place: placed.place,
-                kind,
+                place: at,
+                kind: BareKind::BadTarget(target),
             });
         }
-        at = placed.next;
+        at += insn.len as u16;
     }
     Ok(())
 }
 
-/// Whether a branch leads to the place of an instruction.
-fn lead(code: View<'_>, farther: u16, placed: Placed) -> Result<(), BareKind>
+/// The target of an instruction, if no instruction begins there.
+fn stray_target(code: View<'_>, farther: u16, placed: Placed) -> Option<i32>
     requires short { length code.bytes.now ≤ 32767 }
     requires stands { Stands code.bytes.now placed }
     requires trailing { IsTrailing code.bytes.now farther placed.place }
-    ensures { result ≡ led code.entry.bytes.now (target_of placed.instruction) }
+    ensures none { IfNone result (All (IsTargetPlace code.entry.bytes.now) (targets code.entry.bytes.now placed)) }
+    ensures some { IfSome result
+        (λ t. Contains (targets code.entry.bytes.now placed) t × ¬ (IsTargetPlace code.entry.bytes.now t)) }
 {
     are_bytes(code.bytes);
-    match placed.instruction.target() {
-        Some(target) if !is_place(code, farther, target) => Err(BareKind::BadTarget(target)),
-        _ => Ok(()),
+    match target(code, placed, 0) {
+        Some(target) if !is_place(code, farther, target) => Some(target),
+        _ => None,
     }
 }
 
@@ -97,11 +101,12 @@ fn trailed(code: View<'_>, from: u16, at: u16) -> u16
     ensures { IsTrailing code.entry.bytes.now result at }
 {
     let mut farther = from;
-    'walk: while let Ok(placed) = fetch(code, farther) {
-        if u32::from(placed.next) + 128 > u32::from(at) {
+    'walk: while let Ok(insn) = fetch(code, farther) {
+        let next = farther + insn.len as u16;
+        if u32::from(next) + 128 > u32::from(at) {
             return farther;
         }
-        farther = placed.next;
+        farther = next;
     }
     farther
 }
@@ -112,8 +117,7 @@ fn is_place(code: View<'_>, from: u16, place: i32) -> bool
     requires short { length code.bytes.now ≤ 32767 }
     requires reached { IsReached code.bytes.now from }
     requires from_on { IsFromOn from place }
-    ensures value { result ≡ is_place code.entry.bytes.now place }
-    ensures meaning { IsTrue result ↔ IsTargetPlace code.entry.bytes.now place }
+    ensures { IsTrue result ↔ IsTargetPlace code.entry.bytes.now place }
 {
     match u32::try_from(place) {
         Ok(place) => begins(code, from, place),
@@ -126,12 +130,12 @@ fn begins(code: View<'_>, from: u16, place: u32) -> bool
     requires short { length code.bytes.now ≤ 32767 }
     requires reached { IsReached code.bytes.now from }
     requires from_on { from ≤ place }
-    ensures { result ≡ has_place (instructions code.entry.bytes.now) place }
+    ensures { IsTrue result ↔ IsPlace code.entry.bytes.now place }
 {
     let mut at = from;
     'walk: while u32::from(at) < place {
         match fetch(code, at) {
-            Ok(placed) => at = placed.next,
+            Ok(insn) => at += insn.len as u16,
             Err(_) => return false,
         }
     }
@@ -143,19 +147,18 @@ fn begins(code: View<'_>, from: u16, place: u32) -> bool
 fn is_target(code: View<'_>, farther: u16, place: u16) -> bool
     requires short { length code.bytes.now ≤ 32767 }
     requires trailing { IsTrailing code.bytes.now farther place }
-    ensures value { result ≡ is_target code.entry.bytes.now place }
-    ensures meaning { IsTrue result ↔ IsTarget code.entry.bytes.now place }
+    ensures { result ≡ is_target code.entry.bytes.now place }
 {
     are_bytes(code.bytes);
     let mut at = farther;
-    'walk: while let Ok(placed) = fetch(code, at) {
-        if branches_to(placed.instruction, place) {
+    'walk: while let Ok(insn) = fetch(code, at) {
+        if branches_to(code, Placed { place: at, insn }, place) {
             return true;
         }
         if u32::from(at) > u32::from(place) + 128 {
             return false;
         }
-        at = placed.next;
+        at += insn.len as u16;
     }
     false
 }
@@ -168,13 +171,21 @@ fn are_bytes(bytes: &[u8])
 }
 
 /// Whether an instruction branches to this place.
-fn branches_to(instruction: Instruction, place: u16) -> bool
-    ensures { result ≡ is_at (target_of instruction) place }
+fn branches_to(code: View<'_>, placed: Placed, place: u16) -> bool
+    requires short { length code.bytes.now ≤ 32767 }
+    requires stands { Stands code.bytes.now placed }
+    ensures { IsTrue result ↔ Contains (targets code.entry.bytes.now placed) (pos place) }
 {
-    match instruction.target() {
-        Some(target) => target == i32::from(place),
+    match target(code, placed, 0) {
+        Some(target) => is_at(place, target),
         None => false,
     }
+}
+
+fn is_at(place: u16, target: i32) -> bool
+    ensures { result ≡ is_at place target }
+{
+    target == i32::from(place)
 }
 
 /// The number of cells after an instruction, over a stack of so many shorts.
@@ -208,6 +219,7 @@ fn passed(
     depth: usize,
 ) -> Result<usize, BareKind>
     requires short { length code.bytes.now ≤ 32767 }
+    requires operands { FitsLayout placed.insn (layout_of placed.insn.op) }
     requires trailing { IsTrailing code.bytes.now farther placed.place }
     requires low { depth ≤ 30 }
     ensures value { result ≡ passed code.entry.bytes.now bare placed depth }
@@ -216,14 +228,14 @@ fn passed(
     if depth > 0 && is_target(code, farther, placed.place) {
         return Err(BareKind::StackAtTarget);
     }
-    let after = applied(bare, placed.instruction, depth)?;
-    if placed.instruction.is_branch() && after > 0 {
+    let after = applied(bare, instruction_of(placed.insn), depth)?;
+    if placed.insn.jumps() && after > 0 {
         return Err(BareKind::StackAtBranch);
     }
-    if !placed.instruction.falls_through() {
+    if !placed.insn.falls() {
         return Ok(0);
     }
-    if usize::from(placed.next) == code.bytes.len() {
+    if usize::from(placed.place) + placed.insn.len as usize == code.bytes.len() {
         return Err(BareKind::FallsOff);
     }
     Ok(after)
@@ -243,16 +255,13 @@ fn find_wrong(code: View<'_>, bare: Bare) -> Result<(), BareFault>
     let mut at = 0;
     let mut farther = 0;
     let mut depth = 0;
-    'walk: while let Ok(placed) = fetch(code, at) {
+    'walk: while let Ok(insn) = fetch(code, at) {
         farther = trailed(code, farther, at);
-        depth = match passed(code, bare, farther, placed, depth) {
+        depth = match passed(code, bare, farther, Placed { place: at, insn }, depth) {
             Ok(after) => after,
-            Err(kind) => return Err(BareFault {
-                place: placed.place,
-                kind,
-            }),
+            Err(kind) => return Err(BareFault { place: at, kind }),
         };
-        at = placed.next;
+        at += insn.len as u16;
     }
     Ok(())
 }

@@ -1,7 +1,5 @@
 use Rattle.cap_bare.proofs.Verdict.{verdict-accepted, verdict-complete, verdict-refused, verdict-first, verdict-kind, verdict-safe}
-use Rattle.std.proofs.Common.{refl}
-use Rattle.cap_bare.specs.Walk.{is_place}
-use Rattle.cap_bare.proofs.Seeking.{place-means}
+use Rattle.cap_bare.proofs.Places.{place-means}
 use Rattle.cap_bare.proofs.verify.bare_verify.Goals as goal
 
 pub returns-clause-accepted : goal.returns-clause-accepted
@@ -23,4 +21,4 @@ pub returns-clause-fault_free : goal.returns-clause-fault_free
 returns-clause-fault_free c = verdict-safe c.args.code.bytes.now c.args.bare c.walked.result c.walked.ensures c.requires.filled
 
 pub returns-clause-places : goal.returns-clause-places
-returns-clause-places c = λ z. place-means c.args.code.bytes.now z (is_place c.args.code.bytes.now z) refl
+returns-clause-places c = place-means c.args.code.bytes.now

@@ -1,5 +1,6 @@
 use Rattle.std.proofs.Common.{◌≤◌, ◌-◌}
-use Rattle.cap_bare.specs.Code.{IsPlace, IsReached}
+use Rattle.cap_bare.specs.Code.{IsPlace}
+use Rattle.cap_bare.specs.Window.{IsReached}
 use Rattle.cap_bare.proofs.verify.begins.Given as goal
 
 abbrev pub invariant-walk : goal.invariant-walk

@@ -1,5 +1,6 @@
 use Rattle.std.proofs.Common.{◌≤◌, ◌-◌, length}
-use Rattle.cap_bare.specs.Code.{IsReached, IsTarget}
+use Rattle.cap_bare.specs.Code.{IsTarget}
+use Rattle.cap_bare.specs.Window.{IsReached}
 use Rattle.cap_bare.proofs.verify.is_target.Given as goal
 
 abbrev pub invariant-walk : goal.invariant-walk
