@@ -61,6 +61,7 @@ impl<'a> Iterator for Classes<'a> {
     ghost remaining = { item_count classes_left };
 
     #[tactic(auto, using(cap_bytes::proofs::Loops::yielding))]
+    #[inline(always)]
     fn next(&mut self) -> Option<ClassInfo<'a>> {
         if self.left == 0 {
             return None;

@@ -42,6 +42,7 @@ fn pass_interfaces(items: &mut Cursor<'_>, count: u8, extended: bool) -> Result<
 
 /// The next so many interfaces.
 #[tactic(auto, using(cap_bytes::proofs::Loops::yielding))]
+#[inline(always)]
 fn interfaces<'a>(
     items: &mut Cursor<'a>,
     left: u8,
@@ -59,6 +60,7 @@ fn interfaces<'a>(
 }
 
 /// The superclass, and what an instance has of its own.
+#[inline(always)]
 fn instance(items: &mut Cursor<'_>) -> Result<Instance, FormFault>
     ensures { Takes instance_seen instance_info items.old result items.new }
 {
@@ -75,6 +77,7 @@ fn instance(items: &mut Cursor<'_>) -> Result<Instance, FormFault>
 }
 
 /// A dispatch table of at most 255 entries.
+#[inline(always)]
 fn dispatch<'a>(items: &mut Cursor<'a>, count: u8) -> Result<Table<'a>, FormFault>
     ensures taken { Takes numbers (table count) items.old result items.new }
     ensures few { IfOk result (λ t. length (numbers t) ≤ 255) }
@@ -83,6 +86,7 @@ fn dispatch<'a>(items: &mut Cursor<'a>, count: u8) -> Result<Table<'a>, FormFaul
 }
 
 /// Both dispatch tables.
+#[inline(always)]
 fn tables<'a>(items: &mut Cursor<'a>) -> Result<DispatchTables<'a>, FormFault>
     ensures { Takes tables_seen tables_info items.old result items.new }
 {
@@ -102,6 +106,7 @@ fn tables<'a>(items: &mut Cursor<'a>) -> Result<DispatchTables<'a>, FormFault>
 
 /// A table of no entries.
 #[tactic(auto, using(crate::proofs::Records::empty))]
+#[inline(always)]
 fn no_table<'a>(items: &Cursor<'a>) -> Table<'a>
     ensures { numbers result ≡ [] }
 {
@@ -113,6 +118,7 @@ fn no_table<'a>(items: &Cursor<'a>) -> Table<'a>
 }
 
 /// The tables of an interface, which has none.
+#[inline(always)]
 fn no_tables<'a>(items: &Cursor<'a>) -> DispatchTables<'a>
     ensures { tables_seen result ≡ record { public_base = 0; package_base = 0; public = []; visible = [] } }
 {
@@ -125,6 +131,7 @@ fn no_tables<'a>(items: &Cursor<'a>) -> DispatchTables<'a>
 }
 
 /// A record after its first byte, which stands at this offset.
+#[inline(always)]
 fn beyond_first<'a>(
     items: &mut Cursor<'a>,
     offset: u16,
@@ -164,6 +171,7 @@ fn beyond_first<'a>(
 
 /// The next record, which stands after a class or not.
 #[tactic(auto, unfolding(crate::specs::ClassFormat::record_info))]
+#[inline(always)]
 pub(crate) fn record<'a>(
     items: &mut Cursor<'a>,
     after_class: bool,
@@ -190,6 +198,7 @@ impl<'a> Iterator for Interfaces<'a> {
     ghost remaining = { item_count interfaces_left };
 
     #[tactic(auto, using(cap_bytes::proofs::Loops::yielding))]
+    #[inline(always)]
     fn next(&mut self) -> Option<Implemented<'a>> {
         if self.left == 0 {
             return None;

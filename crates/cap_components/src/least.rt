@@ -1,4 +1,4 @@
-ghost use Rattle.std.specs.Prelude.{◌≡◌};
+ghost use Rattle.std.specs.Prelude.{◌≡◌, Some};
 ghost use Rattle.cap_components.specs.Order.{place_of as pack_place, lesser, refused};
 
 use crate::fault::PackFault;
@@ -30,11 +30,25 @@ impl Fault for PackFault {
     }
 }
 
+/// The fault that is named of the least so far and another.
+#[cold]
+#[inline(never)]
+fn lesser_of(least: Option<PackFault>, fault: PackFault) -> Option<PackFault>
+    ensures { result ≡ lesser least (Some fault) }
+{
+    first_fault::lesser(least, Some(fault))
+}
+
 /// The fault that is named, when one more thing was seen that may be at fault.
+#[tactic(auto, unfolding(first_fault::specs::Least::lesser))]
 pub fn lesser(least: Option<PackFault>, fault: Option<PackFault>) -> Option<PackFault>
     ensures { result ≡ lesser least fault }
 {
-    first_fault::lesser(least, fault)
+    // Where nothing is at fault, as mostly, this is short and takes no call.
+    match fault {
+        Some(fault) => lesser_of(least, fault),
+        None => least,
+    }
 }
 
 /// A condition holds unless a fault of it is named.

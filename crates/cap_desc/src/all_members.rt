@@ -12,6 +12,7 @@ impl Iterator for MethodsOf<'_> {
 
     ghost remaining = { item_count methods_of_left };
 
+    #[inline(always)]
     fn next(&mut self) -> Option<MethodInfo> {
         'classes: loop {
             if let Some(method) = self.methods.next() {
@@ -34,6 +35,7 @@ impl Iterator for MethodsBut<'_, '_> {
 
     ghost remaining = { item_count methods_but_left };
 
+    #[inline(always)]
     fn next(&mut self) -> Option<MethodInfo> {
         'classes: loop {
             if let Some(method) = self.methods.next() {
@@ -58,6 +60,7 @@ impl Iterator for FieldsOf<'_> {
 
     ghost remaining = { item_count fields_of_left };
 
+    #[inline(always)]
     fn next(&mut self) -> Option<FieldInfo> {
         'classes: loop {
             if let Some(field) = self.fields.next() {

@@ -15,6 +15,7 @@ impl Iterator for DescFields<'_> {
     ghost remaining = { item_count fields_left };
 
     #[tactic(auto, using(cap_bytes::proofs::Loops::yielding))]
+    #[inline(always)]
     fn next(&mut self) -> Option<FieldInfo> {
         if self.left == 0 {
             return None;
@@ -45,6 +46,7 @@ impl Iterator for DescMethods<'_> {
     ghost remaining = { item_count methods_left };
 
     #[tactic(auto, using(cap_bytes::proofs::Loops::yielding))]
+    #[inline(always)]
     fn next(&mut self) -> Option<MethodInfo> {
         if self.left == 0 {
             return None;
@@ -74,6 +76,7 @@ impl<'a> Iterator for DescClasses<'a> {
     ghost remaining = { item_count classes_left };
 
     #[tactic(auto, using(cap_bytes::proofs::Loops::yielding))]
+    #[inline(always)]
     fn next(&mut self) -> Option<DescClass<'a>> {
         if self.left == 0 {
             return None;

@@ -12,6 +12,7 @@ use crate::records::{FieldInfo, MethodInfo};
 use cap_bytes::{Cursor, FormFault};
 
 /// The next `field_descriptor_info`.
+#[inline(always)]
 pub(crate) fn field_info(items: &mut Cursor<'_>) -> Result<FieldInfo, FormFault>
     ensures { Takes field_seen field_info items.old result items.new }
 {
@@ -28,6 +29,7 @@ pub(crate) fn field_info(items: &mut Cursor<'_>) -> Result<FieldInfo, FormFault>
 }
 
 /// The next `method_descriptor_info`.
+#[inline(always)]
 pub(crate) fn method_info(items: &mut Cursor<'_>) -> Result<MethodInfo, FormFault>
     ensures { Takes method_seen method_info items.old result items.new }
 {
@@ -50,6 +52,7 @@ pub(crate) fn method_info(items: &mut Cursor<'_>) -> Result<MethodInfo, FormFaul
 }
 
 /// The next so many fields.
+#[inline(always)]
 pub(crate) fn fields<'a>(items: &mut Cursor<'a>, count: u16) -> Result<DescFields<'a>, FormFault>
     ensures { Takes fields_left (repeat count field_info) items.old result items.new }
 {
@@ -62,6 +65,7 @@ pub(crate) fn fields<'a>(items: &mut Cursor<'a>, count: u16) -> Result<DescField
 }
 
 /// The next so many methods.
+#[inline(always)]
 pub(crate) fn methods<'a>(items: &mut Cursor<'a>, count: u16) -> Result<DescMethods<'a>, FormFault>
     ensures { Takes methods_left (repeat count method_info) items.old result items.new }
 {
@@ -74,6 +78,7 @@ pub(crate) fn methods<'a>(items: &mut Cursor<'a>, count: u16) -> Result<DescMeth
 }
 
 /// The next `class_descriptor_info`.
+#[inline(always)]
 pub(crate) fn class_info<'a>(items: &mut Cursor<'a>) -> Result<DescClass<'a>, FormFault>
     ensures { Takes class_seen class_info items.old result items.new }
 {

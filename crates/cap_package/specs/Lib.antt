@@ -19,6 +19,7 @@ pub use Rattle.cap_components.specs.Saying
 pub use Rattle.cap_components.specs.MethodPlaces
 pub mod NameChecks
 pub mod TypeChecks
+pub mod ClassSearch
 pub mod CountChecks
 pub mod Agreement
 pub mod Customs

@@ -1,14 +1,15 @@
-ghost use Rattle.std.specs.Prelude.{◌≡◌, ◌≤◌, ◌*◌, length};
-ghost use Rattle.cap_class.specs.ClassPart.{records};
+ghost use Rattle.std.specs.Prelude.{◌≡◌, ◌≤◌, ◌*◌, length, option_map};
+ghost use Rattle.cap_class.specs.ClassPart.{class_seen as entry_seen, records};
 ghost use Rattle.cap_method.specs.StaticPart.{statics_seen, arrays_left};
 ghost use Rattle.cap_desc.specs.ClassRecords.{class_seen, classes_left};
 ghost use Rattle.cap_desc.specs.MemberRecords.{field_seen};
 ghost use Rattle.cap_desc.specs.MemberLists.{fields_left};
 ghost use Rattle.cap_components.specs.Order.{least_of, least_from, refused};
 ghost use Rattle.cap_components.specs.Descriptions.{description};
-ghost use Rattle.cap_package.specs.CountChecks.{differ, array_bytes, cells_of, instance_cells, instance_fault};
+ghost use Rattle.cap_package.specs.CountChecks.{differ, array_bytes, cells_of, instance_cells, instance_by, instance_fault};
 
-use cap_class::ClassPart;
+use crate::class_search::ClassSearch;
+use cap_class::{ClassInfo, ClassPart};
 use cap_components::{PackFault, field_type, lesser, refuse, words_of};
 use cap_desc::{DescClass, DescPart, FieldInfo};
 use cap_method::StaticPart;
@@ -72,15 +73,15 @@ fn instance_cells(descriptor: &DescPart<'_>, class: &DescClass<'_>) -> u32
     cells
 }
 
-#[tactic(auto, unfolding(crate::specs::CountChecks::instance_fault))]
+/// The declared instance size of a class, whose record may not be there, is another than the cells of its fields.
 fn instance_fault(
-    classes: &ClassPart<'_>,
+    entry: Option<ClassInfo<'_>>,
     descriptor: &DescPart<'_>,
     class: &DescClass<'_>,
 ) -> Option<PackFault>
-    ensures { result ≡ instance_fault (records classes.now) (description descriptor.now) (class_seen class.now) }
+    ensures { result ≡ instance_by (description descriptor.now) (class_seen class.now) (option_map entry_seen entry.entry) }
 {
-    let entry = classes.entry(class.class_ref())?;
+    let entry = entry?;
     if entry.flags().is_interface() {
         return None;
     }
@@ -102,9 +103,11 @@ pub(crate) fn instances_agree(
         (instance_fault (records classes.now) (description descriptor.now))
         (description descriptor.now).items.classes) }
 {
+    let mut search = ClassSearch::of(classes);
     let mut least = None;
     'classes: for class in descriptor.classes() {
-        least = lesser(least, instance_fault(classes, descriptor, &class));
+        let entry = search.at(class.class_ref());
+        least = lesser(least, instance_fault(entry, descriptor, &class));
     }
     refuse(least)
 }

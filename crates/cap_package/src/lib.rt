@@ -5,6 +5,7 @@
 
 mod agreement;
 mod class_checks;
+mod class_search;
 mod count_checks;
 mod custom;
 mod handler_checks;

@@ -72,6 +72,7 @@ fn unmark(lineage: &Lineage, c: u16, marks: &mut [bool])
 impl<'a> Line<'a> {
     /// Whether a class is the class of the line or one of its superclasses.
     #[tactic(auto, using(crate::proofs::Marks::reading))]
+    #[inline(always)]
     fn has(self, d: u16) -> bool
         requires { d < length self.lineage.now.records }
         ensures { result ≡ is_on_chain self.entry.lineage.now d self.entry.class }
@@ -80,6 +81,7 @@ impl<'a> Line<'a> {
     }
 
     /// Whether a method can stand in a dispatch list of the class.
+    #[inline(always)]
     fn may_hold(self, method: &MethodRec) -> bool
         requires { method.now.class < length self.lineage.now.records }
         ensures { result ≡ may_stand self.entry.lineage.now self.entry.class (Some method.now) }
@@ -89,6 +91,7 @@ impl<'a> Line<'a> {
 
     /// What is wrong with an entry of a dispatch list of the class.
     #[tactic(auto, using(crate::proofs::Folds::class_known), unfolding(crate::specs::Conditions::hole_fault))]
+    #[inline(always)]
     fn hole_fault(self, methods: &Methods, token: u16, entry: Option<u16>) -> Option<LinkFault>
         requires known { All (λ m. m.class < length self.lineage.now.records) methods.now }
         ensures { result

@@ -24,6 +24,7 @@ fn reach(table: &DispatchTable) -> usize
 
 /// The method that a table names for a token.
 #[tactic(auto, unfolding(crate::specs::Entries::named_by))]
+#[inline(always)]
 fn named_by(table: &DispatchTable, token: usize) -> Option<u16>
     ensures { result ≡ named_by table.now token }
 {
@@ -36,6 +37,7 @@ fn named_by(table: &DispatchTable, token: usize) -> Option<u16>
 }
 
 /// The entry of a list at a token.
+#[inline(always)]
 pub(crate) fn entry_at(list: &[Option<u16>], token: usize) -> Option<u16>
     ensures { result ≡ option_flatten (slice_get list.now token) }
 {
@@ -47,6 +49,7 @@ pub(crate) fn entry_at(list: &[Option<u16>], token: usize) -> Option<u16>
 }
 
 #[tactic(auto, unfolding(crate::specs::Entries::overlaid_at))]
+#[inline(always)]
 fn overlaid_at(table: &DispatchTable, inherited: &[Option<u16>], token: usize) -> Option<u16>
     ensures { result ≡ overlaid_at table.now inherited.now token }
 {

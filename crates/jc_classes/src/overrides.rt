@@ -15,6 +15,7 @@ use jc_resolve::{LinkFault, NamedClasses, lesser, refuse};
 
 /// What is wrong with an entry that replaces an inherited one.
 #[tactic(auto, unfolding(crate::specs::Conditions::override_fault))]
+#[inline(always)]
 fn override_fault(
     methods: &Methods,
     c: u16,

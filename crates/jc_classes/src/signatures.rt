@@ -41,6 +41,7 @@ pub(crate) fn same_sig(a: &Sig, b: &Sig) -> bool
 }
 
 /// The method of an entry of a dispatch list.
+#[inline(always)]
 pub(crate) fn method_in<'a>(methods: &'a Methods, entry: Option<u16>) -> Option<&'a MethodRec>
     ensures is { option_map (λ m. m.now) result ≡ method_in methods.now entry }
     ensures there { IfSome result (λ m. Some m.now ≡ method_in methods.now entry) }
@@ -55,6 +56,7 @@ pub(crate) fn method_in<'a>(methods: &'a Methods, entry: Option<u16>) -> Option<
 
 /// Whether two entries have methods of one signature, or neither has a method.
 #[tactic(auto, using(crate::proofs::SameTypes::signatures))]
+#[inline(always)]
 pub(crate) fn same_signature(methods: &Methods, a: Option<u16>, b: Option<u16>) -> bool
     ensures is { result ≡ same_signature (signature_in methods.now a) (signature_in methods.now b) }
     ensures exact { IsTrue result ↔ signature_in methods.now a ≡ signature_in methods.now b }
@@ -63,6 +65,7 @@ pub(crate) fn same_signature(methods: &Methods, a: Option<u16>, b: Option<u16>) 
     is_same_entry(a, b) || are_alike(method_in(methods, a), method_in(methods, b))
 }
 
+#[inline(always)]
 fn is_same_entry(a: Option<u16>, b: Option<u16>) -> bool
     ensures { IsTrue result → a ≡ b }
 {

@@ -26,3 +26,5 @@ pub mod Pairwise
 pub mod ClassPlaces
 pub mod MethodPlaces
 pub mod ExportLaws
+pub mod ImportLaws
+pub mod FieldOrder

@@ -100,9 +100,9 @@ position_of : (place : RecordPlace) (n : ℕ) (cs : List NumberedClass) → posi
 position_of place n [] = refl
 position_of place n (c ∷ cs) = ap (λ o. cond (same_place place (place_of_class c)) (Some n) o) (position_of place (n + 1) cs)
 
-pub class_numbered : (ps : List PackageRecord) (t : Numbered) (flags : List Bool) (m : Numbered) (exports : List (List Exported)) (place : RecordPlace) → AreIndexed ps t flags m exports → number_at t.entries place ≡ class_at ps place
+pub class_numbered : (ps : List PackageRecord) (t : Numbered) (flags : List Bool) (m : Numbered) (exports : List (List Exported)) (met : List (List (Option ℕ))) (place : RecordPlace) → AreIndexed ps t flags m exports met → number_at t.entries place ≡ class_at ps place
 unfolding class_at
-class_numbered ps t flags m exports place h =
+class_numbered ps t flags m exports met place h =
     ap (λ (x : Numbered). number_at x.entries place) h.numbers
     ∙ numbered-first (class_spots 0 ps) place
     ∙ ap (position (is_at place)) (spots-are 0 ps)
@@ -140,20 +140,20 @@ flags-are k (p ∷ ps) =
     flags_of [] = refl
     flags_of (c ∷ cs) = ap (λ l. is_interface c.flags ∷ l) (flags_of cs)
 
-pub flags_many : (ps : List PackageRecord) (t : Numbered) (flags : List Bool) (m : Numbered) (exports : List (List Exported)) → AreIndexed ps t flags m exports → length flags ≡ length (numbered_classes ps)
-flags_many ps t flags m exports h = ap length h.flags_are ∙ ap length (flags-are 0 ps) ∙ length-map (numbered_classes ps) _
+pub flags_many : (ps : List PackageRecord) (t : Numbered) (flags : List Bool) (m : Numbered) (exports : List (List Exported)) (met : List (List (Option ℕ))) → AreIndexed ps t flags m exports met → length flags ≡ length (numbered_classes ps)
+flags_many ps t flags m exports met h = ap length h.flags_are ∙ ap length (flags-are 0 ps) ∙ length-map (numbered_classes ps) _
 
 flag_by : (o : Option NumberedClass) (b : Bool) → option_map (λ (c : NumberedClass). is_interface c.record_of.flags) o ≡ Some b → b ≡ flagged_interface o
 flag_by None b h = absurd cc
 flag_by (Some c) b h = cc
 
-pub flag_numbered : (ps : List PackageRecord) (t : Numbered) (flags : List Bool) (m : Numbered) (exports : List (List Exported)) (c : ℕ) (b : Bool) → AreIndexed ps t flags m exports → slice_get flags c ≡ Some b → b ≡ is_interface_number ps c
+pub flag_numbered : (ps : List PackageRecord) (t : Numbered) (flags : List Bool) (m : Numbered) (exports : List (List Exported)) (met : List (List (Option ℕ))) (c : ℕ) (b : Bool) → AreIndexed ps t flags m exports met → slice_get flags c ≡ Some b → b ≡ is_interface_number ps c
 unfolding is_interface_number
-flag_numbered ps t flags m exports c b h at =
+flag_numbered ps t flags m exports met c b h at =
     flag_by (slice_get (numbered_classes ps) c) b (sym (slice_get-map _ (numbered_classes ps) c) ∙ ap (λ l. slice_get l c) (sym (h.flags_are ∙ flags-are 0 ps)) ∙ at)
 
-pub flag_read : (ps : List PackageRecord) (t : Numbered) (flags : List Bool) (m : Numbered) (exports : List (List Exported)) (c : ℕ) (b : Bool) → AreIndexed ps t flags m exports → c < length flags → b ≡ get_or flags c b → b ≡ is_interface_number ps c
-flag_read ps t flags m exports c b h lt e = flag_numbered ps t flags m exports c b h (slice_get-get_or flags c b lt ∙ ap Some (sym e))
+pub flag_read : (ps : List PackageRecord) (t : Numbered) (flags : List Bool) (m : Numbered) (exports : List (List Exported)) (met : List (List (Option ℕ))) (c : ℕ) (b : Bool) → AreIndexed ps t flags m exports met → c < length flags → b ≡ get_or flags c b → b ≡ is_interface_number ps c
+flag_read ps t flags m exports met c b h lt e = flag_numbered ps t flags m exports met c b h (slice_get-get_or flags c b lt ∙ ap Some (sym e))
 
 -- ---- methods
 
@@ -173,9 +173,9 @@ method_spots_are k (p ∷ ps) =
     ap₂ ◌++◌ (spots_of k p 0 p.description.items.classes) (method_spots_are (k + 1) ps)
     ∙ sym (map-append place_of_method (methods_of_classes k p 0 p.description.items.classes) (methods_after (k + 1) ps))
 
-pub method_numbered : (ps : List PackageRecord) (t : Numbered) (flags : List Bool) (m : Numbered) (exports : List (List Exported)) (place : RecordPlace) → AreIndexed ps t flags m exports → number_at m.entries place ≡ method_at ps place
+pub method_numbered : (ps : List PackageRecord) (t : Numbered) (flags : List Bool) (m : Numbered) (exports : List (List Exported)) (met : List (List (Option ℕ))) (place : RecordPlace) → AreIndexed ps t flags m exports met → number_at m.entries place ≡ method_at ps place
 unfolding method_at
-method_numbered ps t flags m exports place h =
+method_numbered ps t flags m exports met place h =
     ap (λ (x : Numbered). number_at x.entries place) h.methods
     ∙ numbered-first (method_spots 0 ps) place
     ∙ ap (position (is_at place)) (method_spots_are 0 ps)

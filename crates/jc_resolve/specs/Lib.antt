@@ -2,6 +2,7 @@ pub mod Fault
 pub mod Due
 pub mod Numbering
 pub mod References
+pub mod Imports
 pub mod WorldTypes
 pub mod NamedClasses
 pub mod NamedMethods

@@ -10,6 +10,7 @@ use Rattle.cap_package.specs.Agreement.{or_none}
 use Rattle.jc_resolve.specs.declared.place.RecordPlace.{RecordPlace}
 use Rattle.jc_resolve.specs.Numbering.{same_place}
 use Rattle.jc_resolve.specs.Counts.{class_total, method_total}
+use Rattle.jc_resolve.specs.Imports.{imports_met}
 
 -- the numbers that are kept, and the next one
 pub record Numbered : Type 0 where
@@ -64,13 +65,15 @@ method_spots k (p ∷ ps) = spots_of_classes k (names_interface p.classes) p.des
 abbrev pub exported_classes : List PackageRecord → List (List Exported)
 exported_classes = map (λ (p : PackageRecord). or_none p.export)
 
--- the numbers and the flags of the classes and methods of packages, which are so few, and what they export
+-- the numbers and the flags of the classes and methods of packages, which are so few, what they export, and what meets
+-- their imports
 pub record AreIndexed (ps : List PackageRecord) (t : Numbered) (flags : List Bool) (m : Numbered)
-    (exports : List (List Exported)) : Type 0 where
+    (exports : List (List Exported)) (met : List (List (Option ℕ))) : Type 0 where
   pub numbers : t ≡ with_all none_numbered (class_spots 0 ps)
   pub flags_are : flags ≡ class_flags ps
   pub methods : m ≡ with_all none_numbered (method_spots 0 ps)
   pub exports_are : exports ≡ exported_classes ps
+  pub imports : met ≡ imports_met ps
   pub few : class_total ps ≤ 4096
   pub few_methods : method_total ps ≤ 32768
   pub packages : length ps ≤ 16

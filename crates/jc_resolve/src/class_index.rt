@@ -5,10 +5,10 @@ ghost use Rattle.cap_pool.specs.Export.{class_seen};
 ghost use Rattle.jc_resolve.specs.Counts.{class_total, method_total};
 ghost use Rattle.jc_resolve.specs.Numbering.{numbered_classes, numbered_methods, class_at, method_at, is_interface_number};
 ghost use Rattle.jc_resolve.specs.Numbers.{spot_of_class, with_all, none_numbered, class_spots, class_flags};
-ghost use Rattle.jc_resolve.specs.References.{class_named, exported_class, exported_offset, exported_field, exported_method};
+ghost use Rattle.jc_resolve.specs.References.{met_by, class_named, exported_class, exported_offset, exported_field, exported_method};
 
 use crate::exports::{Exports, exported_classes, exported_in};
-use crate::imports::met_by;
+use crate::imports::{Met, imports_met, met_among};
 use crate::method_index::number_methods;
 use crate::numbers::Numbers;
 use crate::place::RecordPlace;
@@ -29,6 +29,8 @@ pub(crate) struct Index<'n, 'p, 'a> {
     methods: Numbers,
     /// By package and token the exported classes.
     exports: Items<Exports<'a>>,
+    /// By package and token the packages that meet the imports.
+    met: Items<Met>,
 }
 
 impl<'n, 'p, 'a> Model for Index<'n, 'p, 'a> {
@@ -43,7 +45,7 @@ impl<'n, 'p, 'a> Model for Index<'n, 'p, 'a> {
 
     ghost view = { λ x. x.packages.now };
 
-    ghost invariant = { λ x. AreIndexed x.packages.now x.numbers x.interfaces.items x.methods (map (map class_seen) x.exports) };
+    ghost invariant = { λ x. AreIndexed x.packages.now x.numbers x.interfaces.items x.methods (map (map class_seen) x.exports) x.met };
 }
 
 /// Numbers the classes of one package.
@@ -112,12 +114,14 @@ pub(crate) fn index_packages<'n, 'p, 'a>(
     let classes = number_all(alloc, packages)?;
     let methods = number_methods(alloc, packages)?;
     let exports = exported_classes(alloc, packages)?;
+    let met = imports_met(alloc, packages)?;
     Ok(Index {
         packages,
         numbers: classes.numbers,
         interfaces: classes.interfaces,
         methods,
         exports,
+        met,
     })
 }
 
@@ -173,6 +177,14 @@ impl<'n, 'p, 'a> Index<'n, 'p, 'a> {
         exported.methods.at(token as u16)
     }
 
+    /// The package that meets the import of a package with a token.
+    pub(crate) fn import_met(&self, package: u16, token: u8) -> Option<u16>
+        ensures is { result ≡ met_by self.now «package» token }
+        ensures earlier { IfSome result (λ n. n < «package») }
+    {
+        met_among(&self.met, package, token)
+    }
+
     /// The class that a reference of a package names.
     #[tactic(auto, unfolding(crate::specs::References::class_named))]
     pub(crate) fn class_named(&self, package: u16, reference: u16) -> Option<u16>
@@ -186,7 +198,7 @@ impl<'n, 'p, 'a> Index<'n, 'p, 'a> {
             });
         }
         let import = ((reference - 0x8000) / 256) as u8;
-        let home = met_by(self.packages, package, import)?;
+        let home = self.import_met(package, import)?;
         let offset = self.exported_offset(home, (reference % 256) as u8)?;
         self.class_at(RecordPlace {
             package: home,

@@ -7,7 +7,7 @@ ghost use Rattle.cap_desc.specs.MemberLists.{fields_left};
 ghost use Rattle.cap_desc.specs.MemberRecords.{field_seen};
 ghost use Rattle.cap_package.specs.Descriptions.{description};
 ghost use Rattle.jc_resolve.specs.Named.{IsByteTable, IsSized};
-ghost use Rattle.jc_resolve.specs.NamedClasses.{is_instance, instance_fields, with_token, cells_of_field, cells_of_fields, entry_of, table_of, no_table, implemented_interfaces, interface_in, named_proper, named_class};
+ghost use Rattle.jc_resolve.specs.NamedClasses.{is_instance, instance_fields, with_token, cells_of_field, cells_of_fields, tokens_end, entry_of, table_of, no_table, implemented_interfaces, interface_in, named_proper, named_class};
 ghost use Rattle.jc_resolve.specs.Numbering.{numbered_class, numbered_classes, classes_of};
 
 use crate::class_index::Index;
@@ -20,9 +20,6 @@ use cap_desc::{DescClass, DescClasses, DescFields, DescPart, FieldInfo};
 use cap_package::{Packages, field_type};
 use jc_base::{Iface, Items, Ty};
 use std::alloc::{AllocError, Global};
-
-/// The tokens of fields are bytes.
-const TOKENS: u16 = 256;
 
 /// An entry of a dispatch table.
 #[tactic(auto, unfolding(crate::specs::NamedClasses::entry_of))]
@@ -166,8 +163,21 @@ fn push_token(
     Ok(())
 }
 
+/// The token after the greatest of the fields', which are bytes.
+#[tactic(auto, unfolding(crate::specs::NamedClasses::tokens_end))]
+fn tokens_end(fields: &[FieldInfo]) -> u16
+    ensures is { result ≡ tokens_end (map field_seen fields.now) }
+    ensures few { result ≤ 256 }
+{
+    let mut end: u16 = 0;
+    'fields: for field in fields {
+        end = end.max(field.bytes[2] as u16 + 1);
+    }
+    end
+}
+
 /// The types of the cells of instance fields, in the order of the fields' tokens.
-#[tactic(auto, unfolding(crate::specs::NamedClasses::cells_of_fields), using(crate::proofs::FieldSteps::token_step))]
+#[tactic(auto, unfolding(crate::specs::NamedClasses::cells_of_fields), using(crate::proofs::FieldOrder::placing))]
 fn cells_of_fields(
     alloc: Global,
     index: &Index<'_, '_, '_>,
@@ -183,7 +193,7 @@ fn cells_of_fields(
         (map field_seen fields.now)) }
 {
     let mut cells = Vec::new(alloc);
-    'tokens: for token in 0..TOKENS {
+    'tokens: for token in 0..tokens_end(fields) {
         push_token(
             &mut cells, index, object, package, descriptor, fields, token,
         )?;

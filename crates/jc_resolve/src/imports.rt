@@ -1,9 +1,12 @@
-ghost use Rattle.std.specs.Prelude.{◌≡◌, ◌<◌, IfSome, length, position};
-ghost use Rattle.cap_frame.specs.Packages.{package_seen};
+ghost use Rattle.std.specs.Prelude.{◌≡◌, ◌<◌, ◌≤◌, IfOk, IfSome, length, map, position};
+ghost use Rattle.cap_frame.specs.Packages.{package_seen, packages_left};
+ghost use Rattle.jc_resolve.specs.Imports.{first_meeting, imports_met, met_among};
 ghost use Rattle.jc_resolve.specs.References.{meets, met_by};
 
-use cap_frame::PackageInfo;
+use cap_frame::{PackageInfo, PackageInfos};
 use cap_package::{Package, Packages};
+use jc_base::Items;
+use std::alloc::{AllocError, Global};
 
 /// Whether a package meets an import.
 fn meets(asked: &PackageInfo<'_>, package: &Package<'_, '_>) -> bool
@@ -13,12 +16,24 @@ fn meets(asked: &PackageInfo<'_>, package: &Package<'_, '_>) -> bool
     this.aid == asked.aid && this.major == asked.major && this.minor >= asked.minor
 }
 
-/// The first package that meets an import.
-fn first_meeting(packages: &[Package<'_, '_>], asked: PackageInfo<'_>) -> Option<usize>
+/// Where the first package stands that meets an import.
+fn place_meeting(packages: &[Package<'_, '_>], asked: PackageInfo<'_>) -> Option<usize>
     ensures is { result ≡ position (meets (package_seen asked.entry)) packages.now }
     ensures below { IfSome result (λ n. n < length packages.now) }
 {
     packages.iter().position(|p| meets(&asked, p))
+}
+
+/// The first package that meets an import.
+fn first_meeting(packages: &[Package<'_, '_>], asked: PackageInfo<'_>) -> Option<u16>
+    requires { length packages.now ≤ 65535 }
+    ensures is { result ≡ first_meeting packages.now (package_seen asked.entry) }
+    ensures below { IfSome result (λ n. n < length packages.now) }
+{
+    match place_meeting(packages, asked) {
+        Some(n) => Some(n as u16),
+        None => None,
+    }
 }
 
 /// The package that meets the import with a token: the first of the earlier ones that does.
@@ -32,8 +47,55 @@ pub(crate) fn met_by(packages: &Packages<'_, '_>, package: u16, token: u8) -> Op
     }
     let asked = packages.at(package as usize).imports().at(token)?;
     let earlier = &packages.as_slice()[..package as usize];
-    match first_meeting(earlier, asked) {
-        Some(n) => Some(n as u16),
+    first_meeting(earlier, asked)
+}
+
+/// The packages that meet the imports of one, by token.
+pub(crate) type Met = Items<Option<u16>>;
+
+/// For each import the first package that meets it.
+fn met_in(
+    alloc: Global,
+    packages: &[Package<'_, '_>],
+    imports: PackageInfos<'_>,
+) -> Result<Met, AllocError>
+    requires { length packages.now ≤ 65535 }
+    ensures { IfOk result (λ met. met ≡ map (first_meeting packages.now) (packages_left imports.entry)) }
+{
+    let mut met = Vec::new(alloc);
+    'imports: for asked in imports {
+        met.push(first_meeting(packages, asked))?;
+    }
+    Ok(Items::of(met))
+}
+
+/// The packages that meet the imports of each, by package and token.
+pub(crate) fn imports_met(
+    alloc: Global,
+    packages: &Packages<'_, '_>,
+) -> Result<Items<Met>, AllocError>
+    requires { length packages.now ≤ 16 }
+    ensures { IfOk result (λ met. met ≡ imports_met packages.now) }
+{
+    let all = packages.as_slice();
+    let mut met = Vec::new(alloc);
+    'packages: for (k, package) in all.iter().enumerate() {
+        met.push(met_in(alloc, &all[..k], package.imports().iter())?)?;
+    }
+    Ok(Items::of(met))
+}
+
+/// The package that meets the import with a token, where they are known.
+pub(crate) fn met_among(met: &Items<Met>, package: u16, token: u8) -> Option<u16>
+    ensures { result ≡ met_among met.now «package» token }
+{
+    match met
+        .as_slice()
+        .get(package as usize)?
+        .as_slice()
+        .get(token as usize)
+    {
+        Some(met) => *met,
         None => None,
     }
 }

@@ -7,7 +7,6 @@ ghost use Rattle.jc_resolve.specs.References.{met_by, class_named, exported_fiel
 ghost use Rattle.jc_resolve.specs.WorldTypes.{type_of};
 
 use crate::class_index::Index;
-use crate::imports::met_by;
 use crate::named::NamedClasses;
 use crate::place::RecordPlace;
 use crate::world_types::type_of;
@@ -107,7 +106,7 @@ impl<'n, 'p, 'a> Names<'n, 'p, 'a> {
         ensures is { result ≡ met_by self.now.packages «package» import }
         ensures earlier { IfSome result (λ n. n < «package») }
     {
-        met_by(self.index.packages(), package, import)
+        self.index.import_met(package, import)
     }
 
     /// The offset of the static field that a package exports, by its class's token and its own.

@@ -5,7 +5,7 @@ use Rattle.jc_resolve.proofs.class_index.Index.is_interface.Goals as goal
 
 pub returns-in-Some : goal.returns-in-Some
 returns-in-Some c =
-    flag_read _ _ c.self.inside.interfaces.items _ _ c.args.class c.in-Some.interface.now c.self.invariant
+    flag_read _ _ c.self.inside.interfaces.items _ _ _ c.args.class c.in-Some.interface.now c.self.invariant
     (subst (λ l. c.args.class < length l) c.deref.ensures.value c.in-Some.ensures.lookup.3.0)
     (c.in-Some.ensures.lookup.1 ∙ ap (λ l. get_or l c.args.class c.in-Some.interface.now) c.deref.ensures.value)
     ∙ ap (λ ps. is_interface_number ps c.args.class) c.self.view_is
@@ -13,7 +13,7 @@ returns-in-Some c =
 pub returns-in-None : goal.returns-in-None
 returns-in-None c =
     let many : length c.deref.result.now ≡ length (numbered_classes c.args.self.now) =
-    ap length c.deref.ensures.value ∙ flags_many _ _ _ _ _ c.self.invariant ∙ ap (λ ps. length (numbered_classes ps)) c.self.view_is in
+    ap length c.deref.ensures.value ∙ flags_many _ _ _ _ _ _ c.self.invariant ∙ ap (λ ps. length (numbered_classes ps)) c.self.view_is in
     let le = c.in-None.ensures.lookup.3 in
     let lt = c.requires in
     absurd (omega arith)

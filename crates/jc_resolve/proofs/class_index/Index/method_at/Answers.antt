@@ -6,7 +6,7 @@ use Rattle.jc_resolve.proofs.class_index.Index.method_at.Goals as goal
 pub returns-clause-below : goal.returns-clause-below
 returns-clause-below c =
     subst (λ ps. IfSome c.at.result (λ n. n < length (numbered_methods ps))) c.self.view_is
-    (method_below c.self.inside.packages.now c.args.place c.at.result (c.at.ensures ∙ method_numbered _ _ _ _ _ c.args.place c.self.invariant))
+    (method_below c.self.inside.packages.now c.args.place c.at.result (c.at.ensures ∙ method_numbered _ _ _ _ _ _ c.args.place c.self.invariant))
 
 pub returns-clause-is : goal.returns-clause-is
-returns-clause-is c = c.at.ensures ∙ method_numbered _ _ _ _ _ c.args.place c.self.invariant ∙ ap (λ ps. method_at ps c.args.place) c.self.view_is
+returns-clause-is c = c.at.ensures ∙ method_numbered _ _ _ _ _ _ c.args.place c.self.invariant ∙ ap (λ ps. method_at ps c.args.place) c.self.view_is
