@@ -1,6 +1,6 @@
 -- The first cells of a list are those of another.
-use Rattle.std.proofs.Common.{◌≡◌, ℕ, zero, suc, ◌+◌, ◌<◌, ◌≤◌, List, [], ◌∷◌, ◌++◌, length, get_or, set, take, drop, reverse, length-append, length-drop, refl, sym, ◌∙◌, ap, arith, add-one}
-use Rattle.std.proofs.Math.Seq.{take-length, take-append_seam}
+use Rattle.std.proofs.Common.{◌≡◌, ℕ, ◌≤◌, List, ◌++◌, length, take, drop, reverse, length-append, length-drop, sym, ◌∙◌, ap, arith}
+use Rattle.std.proofs.Math.Seq.{take-append_seam}
 use Rattle.std.proofs.lemmas.List.{append-nil, drop_all}
 use Rattle.jc_base.specs.declared.ty.Ty.{Ty}
 use Rattle.jc_rules.specs.Stack.{cells}

@@ -4,8 +4,7 @@ use Rattle.jc_base.specs.Class.{ClassTable}
 use Rattle.jc_base.specs.Order.{IsKnown}
 use Rattle.jc_rules.specs.Demand.{Frame}
 use Rattle.jc_rules.specs.Flow.{Merges}
-use Rattle.jc_rules.specs.Typing.{state_at, rises_of, Clashes, IsMerged}
-use Rattle.jc_rules.specs.declared.state.Merged.{Merged}
+use Rattle.jc_rules.specs.Typing.{state_at, rises_of, Clashes}
 use Rattle.jc_flow.specs.declared.table.PutEnd.{PutEnd}
 use Rattle.jc_flow.specs.declared.table.PutEnd.TheVariants.{Clash, Memory}
 
@@ -63,8 +62,3 @@ pub data Lands (t : ClassTable) (old : Found) (place : ℕ) (f : Frame) (new : F
 abbrev pub Prevents : ClassTable → Found → ℕ → Frame → PutEnd → Type 0
 Prevents t old place f Clash = IsSomeAnd (state_at old.states place) (λ g. Clashes t g f)
 Prevents t old place f Memory = ⊤
-
--- what became of the frame that was there
-abbrev pub IsMergedThere : ClassTable → Option Frame → Frame → Option Frame → Merged → Type 0
-IsMergedThere t (Some g) f (Some j) how = IsMerged t g f j how
-IsMergedThere t _ f _ how = ⊥

@@ -17,7 +17,6 @@ use jc_control::ControlFlow;
 use jc_decode::Insn;
 use jc_ops::RuleFault;
 use jc_rules::Site;
-use std::alloc::Global;
 
 /// The dataflow analysis of a well-formed method.
 #[derive(Clone, Copy)]
@@ -33,7 +32,6 @@ impl Analysis<'_> {
     /// Puts a frame at a place: the registers, and the stack with its top last.
     pub fn raise(
         &self,
-        alloc: Global,
         table: &mut StateTable,
         to: u16,
         regs: &[Ty],
@@ -50,7 +48,7 @@ impl Analysis<'_> {
             (Prevents self.now.world.now.classes table.old to
             (record { regs = regs.now; stack = reverse stack.now })) }
     {
-        table.put(alloc, self.world.classes(), to, regs, stack)
+        table.put(self.world.classes(), to, regs, stack)
     }
 
     /// Whether an uninitialised object on the stack would come to a leader.

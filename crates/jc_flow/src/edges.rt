@@ -14,7 +14,6 @@ use jc_base::{Handler, Ty};
 use jc_control::{Targets, covers, place_of};
 use jc_decode::{Insn, Placed};
 use jc_ops::RuleFault;
-use std::alloc::Global;
 
 /// The instruction at a place, with the frames before and after its rule. The frame before is there where the
 /// method has handlers.
@@ -40,7 +39,6 @@ impl Analysis<'_> {
     /// Leads to the entry of a handler, if it covers the place.
     fn raise_handler(
         &self,
-        alloc: Global,
         table: &mut StateTable,
         step: Step<'_>,
         handler: Handler,
@@ -60,19 +58,14 @@ impl Analysis<'_> {
             return Err(FlowEnd::NoTyping(step.place, RuleFault::Overflow));
         }
         let caught = [Ty::Class(handler.class)];
-        match self.raise(alloc, table, handler.entry, step.before.regs(), &caught) {
+        match self.raise(table, handler.entry, step.before.regs(), &caught) {
             Ok(()) => Ok(()),
             Err(end) => Err(broken(step.place, end)),
         }
     }
 
     /// Leads to the instruction after, if the one at the place falls through.
-    pub fn raise_next(
-        &self,
-        alloc: Global,
-        table: &mut StateTable,
-        step: Step<'_>,
-    ) -> Result<(), FlowEnd>
+    pub fn raise_next(&self, table: &mut StateTable, step: Step<'_>) -> Result<(), FlowEnd>
         requires analysis { IsAnalysis self.now }
         requires held { AreHeld (world_of self.now) (analysed self.now) table.old }
         requires step { IsStep (world_of self.now) (analysed self.now) step }
@@ -87,7 +80,7 @@ impl Analysis<'_> {
         if self.keeps_fresh(next, step.after.stack()) {
             return Err(FlowEnd::NoTyping(step.place, RuleFault::FreshKept));
         }
-        match self.raise(alloc, table, next, step.after.regs(), step.after.stack()) {
+        match self.raise(table, next, step.after.regs(), step.after.stack()) {
             Ok(()) => Ok(()),
             Err(end) => Err(broken(step.place, end)),
         }
@@ -96,7 +89,6 @@ impl Analysis<'_> {
     /// Leads to a target.
     fn raise_target(
         &self,
-        alloc: Global,
         table: &mut StateTable,
         step: Step<'_>,
         target: i32,
@@ -110,19 +102,14 @@ impl Analysis<'_> {
         ensures failed { IfErr result (IsFailure (world_of self.now) (analysed self.now)) }
     {
         let to = place_of(target);
-        match self.raise(alloc, table, to, step.after.regs(), step.after.stack()) {
+        match self.raise(table, to, step.after.regs(), step.after.stack()) {
             Ok(()) => Ok(()),
             Err(end) => Err(broken(step.place, end)),
         }
     }
 
     /// Leads to the entries of the handlers that cover the place.
-    pub fn raise_handlers(
-        &self,
-        alloc: Global,
-        table: &mut StateTable,
-        step: Step<'_>,
-    ) -> Result<(), FlowEnd>
+    pub fn raise_handlers(&self, table: &mut StateTable, step: Step<'_>) -> Result<(), FlowEnd>
         requires analysis { IsAnalysis self.now }
         requires held { AreHeld (world_of self.now) (analysed self.now) table.old }
         requires step { IsStep (world_of self.now) (analysed self.now) step }
@@ -134,7 +121,7 @@ impl Analysis<'_> {
         ensures failed { IfErr result (IsFailure (world_of self.now) (analysed self.now)) }
     {
         'handlers: for handler in self.rec.handlers.as_slice() {
-            if let Err(end) = self.raise_handler(alloc, table, step, *handler) {
+            if let Err(end) = self.raise_handler(table, step, *handler) {
                 return Err(end);
             }
         }
@@ -142,12 +129,7 @@ impl Analysis<'_> {
     }
 
     /// Leads to the targets of a branch or switch.
-    pub fn raise_targets(
-        &self,
-        alloc: Global,
-        table: &mut StateTable,
-        step: Step<'_>,
-    ) -> Result<(), FlowEnd>
+    pub fn raise_targets(&self, table: &mut StateTable, step: Step<'_>) -> Result<(), FlowEnd>
         requires analysis { IsAnalysis self.now }
         requires held { AreHeld (world_of self.now) (analysed self.now) table.old }
         requires step { IsStep (world_of self.now) (analysed self.now) step }
@@ -164,7 +146,7 @@ impl Analysis<'_> {
             insn: step.insn,
         };
         'targets: for target in Targets::of(self.code, placed) {
-            if let Err(end) = self.raise_target(alloc, table, step, target) {
+            if let Err(end) = self.raise_target(table, step, target) {
                 return Err(end);
             }
         }

@@ -117,7 +117,7 @@ impl Analysis<'_> {
             Ok(regs) => regs,
             Err(_) => return Err(FlowEnd::Memory),
         };
-        match self.raise(alloc, table, 0, regs.as_slice(), &[]) {
+        match self.raise(table, 0, regs.as_slice(), &[]) {
             Ok(()) => Ok(()),
             Err(end) => Err(broken(0, end)),
         }
@@ -138,7 +138,7 @@ impl Analysis<'_> {
         let mut before = Scratch::new(alloc, registers, self.rec.max_stack)?;
         let mut after = Scratch::new(alloc, registers, self.rec.max_stack)?;
         self.begin(alloc, &mut table)?;
-        self.settle(alloc, &mut table, &mut before, &mut after)?;
+        self.settle(&mut table, &mut before, &mut after)?;
         Ok(table)
     }
 }

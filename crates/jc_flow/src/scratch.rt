@@ -1,5 +1,6 @@
 ghost use Rattle.std.specs.Prelude.{◌≡◌, ◌≤◌, [], ◌++◌, drop, length, reverse, replicate, All, IfOk, IsSomeAnd, slice_get};
 ghost use Rattle.jc_base.specs.Order.{IsKnown};
+ghost use Rattle.jc_rules.specs.Held.{lent};
 ghost use Rattle.jc_flow.specs.Scratch.{Scratched, SuitsMethod, IsStepped};
 
 use jc_base::{Ty, World};
@@ -65,10 +66,10 @@ impl Scratch {
     }
 
     /// Takes the frame of a state.
-    pub fn load(&mut self, state: &State)
-        requires registers { length state.now.regs ≡ length self.old.frame.regs }
-        requires room { length state.now.stack ≤ self.old.room }
-        ensures { self.new ≡ record { frame = state.now; room = self.old.room } }
+    pub fn load(&mut self, state: State<'_>)
+        requires registers { length (lent state).regs ≡ length self.old.frame.regs }
+        requires room { length (lent state).stack ≤ self.old.room }
+        ensures { self.new ≡ record { frame = lent state.entry; room = self.old.room } }
     {
         let stack = state.stack();
         copy(state.regs(), &mut self.regs);

@@ -1,9 +1,10 @@
-ghost use Rattle.std.specs.Prelude.{◌≡◌, ◌<◌, ◌≤◌, Some, None, true, false, length, replicate, reverse, All, IfOk, IfErr, OnOk, IfSome, IsSome, MatchOption, MatchResult, option_copied, slice_set, slice_index_or};
+ghost use Rattle.std.specs.Prelude.{◌≡◌, ◌<◌, ◌≤◌, Some, None, true, false, length, replicate, reverse, All, IfOk, IfErr, OnOk, IfSome, MatchOption, MatchResult, option_map, slice_set, slice_index_or};
 ghost use Rattle.std.specs.List.{AllWithin};
 ghost use Rattle.jc_base.specs.Order.{IsKnown};
 ghost use Rattle.jc_rules.specs.Demand.{Frame};
+ghost use Rattle.jc_rules.specs.Held.{lent};
 ghost use Rattle.jc_rules.specs.Typing.{state_at, Clashes};
-ghost use Rattle.jc_flow.specs.Found.{Found, IsPending, IsLeastPending, NonePending, taken, with_state, HasKnown, Lands, Prevents, IsMergedThere};
+ghost use Rattle.jc_flow.specs.Found.{Found, IsPending, IsLeastPending, NonePending, taken, with_state, HasKnown, Lands, Prevents};
 
 use jc_base::{Classes, Ty};
 use jc_rules::{Merged, State, Typing};
@@ -13,7 +14,7 @@ use std::marker::Model;
 /// The state that is found for each place of a method's code, and which places wait.
 #[derive(Drop)]
 pub struct StateTable {
-    states: Vec<Option<State>>,
+    typing: Typing,
     pending: Vec<bool>,
     /// No place before this one waits.
     low: usize,
@@ -27,9 +28,9 @@ impl Model for StateTable {
     ghost use Rattle.std.specs.Prelude.{length};
     ghost use Rattle.jc_flow.specs.Found.{AreFlags};
 
-    ghost view = { λ t. record { states = t.states.items; pending = t.pending.items } };
+    ghost view = { λ t. record { states = t.typing; pending = t.pending.items } };
 
-    ghost invariant = { λ t. AreFlags (length t.states.items) t.pending.items t.low };
+    ghost invariant = { λ t. AreFlags (length t.typing) t.pending.items t.low };
 }
 
 /// Why a state was not put into the table.
@@ -56,26 +57,18 @@ impl StateTable {
         requires { places ≤ 65535 }
         ensures { IfOk result (λ t. t ≡ record { states = replicate places None; pending = replicate places false }) }
     {
-        let mut states = Vec::with_capacity(alloc, places)?;
-        for _ in 0..places {
-            states.push(None)?;
-        }
         Ok(StateTable {
-            states,
+            typing: Typing::new(alloc, places)?,
             pending: vec![in alloc; false; places]?,
             low: 0,
         })
     }
 
     /// The state at a place.
-    #[tactic(auto, unfolding(jc_rules::specs::Typing::state_at))]
-    pub fn state(&self, place: u16) -> Option<&State>
-        ensures { option_copied result ≡ state_at self.now.states place }
+    pub fn state(&self, place: u16) -> Option<State<'_>>
+        ensures { option_map lent result ≡ state_at self.now.states place }
     {
-        match self.states.as_slice().get(place as usize) {
-            Some(Some(state)) => Some(state),
-            _ => None,
-        }
+        self.typing.state(place)
     }
 
     /// The least place that waits. It waits no more.
@@ -97,7 +90,6 @@ impl StateTable {
     /// stands there. After an end the table is of no more use.
     pub fn put(
         &mut self,
-        alloc: Global,
         classes: &Classes,
         place: u16,
         regs: &[Ty],
@@ -115,12 +107,12 @@ impl StateTable {
             (Prevents classes.now self.old place
             (record { regs = regs.now; stack = reverse stack.now })) }
     {
-        if self.state(place).is_none() {
-            self.states[place as usize] = Some(State::of(alloc, regs, stack)?);
+        if !self.typing.reached(place) {
+            self.typing.put(place, regs, stack)?;
             self.wait(place as usize);
             return Ok(());
         }
-        match merge(&mut self.states[place as usize], classes, regs, stack) {
+        match self.typing.merge(classes, place, regs, stack) {
             Merged::Same => Ok(()),
             Merged::Risen => {
                 self.wait(place as usize);
@@ -134,7 +126,7 @@ impl StateTable {
     pub fn into_typing(self) -> Typing
         ensures { result ≡ self.states }
     {
-        Typing::of(self.states)
+        self.typing
     }
 
     /// The place waits.
@@ -144,20 +136,6 @@ impl StateTable {
     {
         self.pending[place] = true;
         self.low = self.low.min(place);
-    }
-}
-
-/// Merges registers and a stack into the state that is there.
-fn merge(there: &mut Option<State>, classes: &Classes, regs: &[Ty], stack: &[Ty]) -> Merged
-    requires there { IsSome there.old }
-    requires regs_known { All (IsKnown classes.now) regs.now }
-    requires stack_known { All (IsKnown classes.now) stack.now }
-    requires held_known { IfSome there.old (HasKnown classes.now (length regs.now)) }
-    ensures { IsMergedThere classes.now there.old (record { regs = regs.now; stack = reverse stack.now }) there.new result }
-{
-    match there {
-        Some(state) => state.merge(classes, regs, stack),
-        None => unreachable!(),
     }
 }
 

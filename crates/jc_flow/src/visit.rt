@@ -1,5 +1,6 @@
 ghost use Rattle.std.specs.Prelude.{◌≡◌, ◌≤◌, ◌<◌, length, IfErr, OnOk};
 ghost use Rattle.jc_rules.specs.Flow.{At, FrameBelow, IsLeastTyping, start_frame};
+ghost use Rattle.jc_rules.specs.Held.{lent};
 ghost use Rattle.jc_rules.specs.Typing.{state_at};
 ghost use Rattle.jc_base.specs.declared.ty.Ty.TheVariants.{Top};
 ghost use Rattle.jc_flow.specs.Found.{IsPending, taken, NonePending};
@@ -15,14 +16,13 @@ use crate::end::FlowEnd;
 use crate::scratch::Scratch;
 use crate::table::StateTable;
 use jc_rules::State;
-use std::alloc::Global;
 
 impl Analysis<'_> {
     /// Keeps the frame of a state for the method's handlers, if it has any.
-    fn keep(&self, state: &State, before: &mut Scratch)
-        requires registers { length state.now.regs ≡ length before.old.frame.regs }
-        requires room { length state.now.stack ≤ before.old.room }
-        ensures kept { 0 < length self.now.rec.now.handlers → before.new.frame ≡ state.now }
+    fn keep(&self, state: State<'_>, before: &mut Scratch)
+        requires registers { length (lent state).regs ≡ length before.old.frame.regs }
+        requires room { length (lent state).stack ≤ before.old.room }
+        ensures kept { 0 < length self.now.rec.now.handlers → before.new.frame ≡ lent state.entry }
         ensures registers { length before.new.frame.regs ≡ length before.old.frame.regs }
         ensures room { before.new.room ≡ before.old.room }
     {
@@ -34,7 +34,6 @@ impl Analysis<'_> {
     /// Leads from the state at a place to wherever control goes next.
     pub fn visit(
         &self,
-        alloc: Global,
         table: &mut StateTable,
         place: u16,
         before: &mut Scratch,
@@ -63,16 +62,15 @@ impl Analysis<'_> {
             before,
             after,
         };
-        self.raise_handlers(alloc, table, step)?;
-        self.raise_next(alloc, table, step)?;
-        self.raise_targets(alloc, table, step)?;
+        self.raise_handlers(table, step)?;
+        self.raise_next(table, step)?;
+        self.raise_targets(table, step)?;
         Ok(())
     }
 
     /// Visits the places that wait, the least first, until none waits.
     pub fn settle(
         &self,
-        alloc: Global,
         table: &mut StateTable,
         before: &mut Scratch,
         after: &mut Scratch,
@@ -91,7 +89,7 @@ impl Analysis<'_> {
         ensures failed { IfErr result (IsFailure (world_of self.now) (analysed self.now)) }
     {
         'places: while let Some(place) = table.take_least() {
-            if let Err(end) = self.visit(alloc, table, place, before, after) {
+            if let Err(end) = self.visit(table, place, before, after) {
                 return Err(end);
             }
         }

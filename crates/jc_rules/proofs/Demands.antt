@@ -1,14 +1,19 @@
 -- Lemmas on lists of demands, met one after another.
-use Rattle.std.proofs.Common.{◌≡◌, ℕ, ◌+◌, ◌<◌, List, [], ◌∷◌, ◌++◌, ◌-◌, ◌∙◌, ap, reverse, zero, suc, ◌≤◌, length, get_or, drop, subst, sym, arith, Result, Ok, Err, MatchResult}
+use Rattle.std.proofs.Common.{◌≡◌, ℕ, ◌+◌, ◌<◌, List, [], ◌∷◌, ◌++◌, ◌-◌, ◌∙◌, ap, reverse, zero, suc, ◌≤◌, length, get_or, drop, subst, sym, arith, Result, Ok, Err, MatchResult, Option, Some, IsSomeAnd}
 use Rattle.std.proofs.lemmas.List.{drop_more, drop_all, length-reverse, get_or-reverse}
 use Rattle.jc_base.specs.declared.ty.Ty.{Ty}
 use Rattle.jc_base.specs.Class.{ClassTable}
+use Rattle.jc_base.specs.Order.{same}
 use Rattle.jc_ops.specs.declared.fault.RuleFault.{RuleFault}
 use Rattle.jc_rules.specs.declared.demand.Demand.{Demand}
 use Rattle.jc_rules.specs.declared.demand.Demand.TheVariants.{Cell}
 use Rattle.jc_ops.specs.declared.want.Want.TheVariants.{Value}
 use Rattle.jc_rules.specs.Rule.{cells_wanted}
-use Rattle.jc_rules.specs.Demand.{Frame, Holds, AllHold, Breaks, here, later, refused, IsKnownDemand, AreKnownDemands}
+use Rattle.jc_rules.specs.Demand.{Frame, Meets, Holds, AllHold, Breaks, here, later, refused, IsKnownDemand, AreKnownDemands}
+
+-- the very type that is wanted is as wanted
+pub meets-itself : (t : ClassTable) (found : Option Ty) (ty : Ty) → found ≡ Some ty → IsSomeAnd found (Meets t (Value ty))
+meets-itself t found ty e = subst (λ o. IsSomeAnd o (Meets t (Value ty))) (sym e) same
 
 -- what breaks the rest of the demands breaks them all
 abbrev pub Carries : ClassTable → Frame → List Demand → ℕ → Type 0

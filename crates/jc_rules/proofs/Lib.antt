@@ -8,6 +8,7 @@ pub mod Effects
 pub mod Plans
 pub mod Keeps
 pub mod Raising
+pub mod Spans
 pub mod Cards
 pub mod Decides
 pub mod Footprints

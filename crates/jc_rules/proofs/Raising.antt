@@ -8,7 +8,7 @@ use Rattle.jc_base.specs.declared.ty.Ty.{Ty}
 use Rattle.jc_base.specs.declared.ty.Ty.TheVariants.{Top}
 use Rattle.jc_base.specs.Class.{ClassTable}
 use Rattle.jc_base.proofs.Lists.{All-reverse, All-turned}
-use Rattle.jc_base.specs.Order.{Below, same, anything, IsJoin, IsKnown, rises_left}
+use Rattle.jc_base.specs.Order.{Below, same, anything, IsJoin, IsKnown, StaysOrRises, rises_left}
 use Rattle.jc_rules.specs.declared.state.Merged.TheVariants.{Same, Risen}
 use Rattle.jc_rules.specs.Flow.{CellsJoin, none_joined, more_joined, IsNotTop}
 use Rattle.jc_rules.specs.Typing.{Clashes, depths, cells, IsMerged}
@@ -147,3 +147,8 @@ top-above t _ b h = absurd (h tt)
 
 pub not_both : {b : Bool} → b ≡ false → b ≡ true → ⊥
 not_both e f = cc
+
+-- a type above another has fewer rises left, where they are not the same
+pub rises-above : (t : ClassTable) (a b : Ty) → StaysOrRises t a b → ¬ (b ≡ a) → rises_left t b < rises_left t a
+rises-above t a b (inl e) n = absurd (n (sym e))
+rises-above t a b (inr h) n = h

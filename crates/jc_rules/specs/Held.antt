@@ -1,7 +1,10 @@
--- A frame that is held as one list of cells: the registers, and then the stack with its top last.
-use Rattle.std.specs.Prelude.{ℕ, ◌≤◌, ◌+◌, List, length, take, drop, reverse}
+-- How frames are held: the cells of many in one list, of each the registers and then the stack with its top last.
+use Rattle.std.specs.Prelude.{◌≡◌, ℕ, ◌+◌, ◌≤◌, ◌⊎◌, List, length, map, take, drop, reverse, Option, Some, option_map, slice_get}
 use Rattle.jc_base.specs.declared.ty.Ty.{Ty}
 use Rattle.jc_rules.specs.Demand.{Frame}
+use Rattle.jc_rules.specs.Typing.{flat}
+use Rattle.jc_rules.specs.declared.held.State.{State}
+use Rattle.jc_rules.specs.declared.typing.Span.{Span}
 
 -- the frame of so many registers
 abbrev pub parted : ℕ → List Ty → Frame
@@ -11,3 +14,33 @@ parted registers cells = record { regs = take registers cells; stack = reverse (
 pub record IsParted (registers : ℕ) (cells : List Ty) : Type 0 where
   pub room : registers ≤ length cells
   pub depth : length cells ≤ registers + 255
+
+-- the frame that is lent
+abbrev pub lent : State → Frame
+lent s = record { regs = s.regs.now; stack = reverse s.stack.now }
+
+-- where the cells of a span end
+abbrev pub end_of : Span → ℕ
+end_of s = s.at + (s.registers + s.depth)
+
+-- the frame of a span
+abbrev pub frame_at : List Ty → Span → Frame
+frame_at cells s = parted s.registers (take (s.registers + s.depth) (drop s.at cells))
+
+-- the span of a place, where it has one
+abbrev pub span_at : List (Option Span) → ℕ → Option Span
+span_at spans place = flat (slice_get spans place)
+
+-- the frame of each place that has one
+abbrev pub frames_at : List Ty → List (Option Span) → List (Option Frame)
+frames_at cells spans = map (option_map (frame_at cells)) spans
+
+-- two spans have no cell in common
+abbrev pub AreApart : Span → Span → Type 0
+AreApart s u = (end_of s ≤ u.at) ⊎ (end_of u ≤ s.at)
+
+-- the spans lie within the cells, and those of two places are apart
+pub record AreSpans (cells : List Ty) (spans : List (Option Span)) : Type 0 where
+  pub within : (p : ℕ) (s : Span) → span_at spans p ≡ Some s → end_of s ≤ length cells
+  pub few : (p : ℕ) (s : Span) → span_at spans p ≡ Some s → s.depth ≤ 255
+  pub apart : (p q : ℕ) (s u : Span) → ¬ (p ≡ q) → span_at spans p ≡ Some s → span_at spans q ≡ Some u → AreApart s u

@@ -1,5 +1,5 @@
 -- A dataflow typing as it is held: a list with a frame, or none, for each place of the code (Leroy 2002, section 2.3).
-use Rattle.std.specs.Prelude.{◌≡◌, ℕ, ◌+◌, ◌<◌, List, length, All, sum_by, Option, Some, None, slice_get}
+use Rattle.std.specs.Prelude.{◌≡◌, ℕ, ◌+◌, ◌<◌, List, length, All, sum_by, Option, Some, None, slice_get, slice_set}
 use Rattle.jc_base.specs.declared.ty.Ty.{Ty}
 use Rattle.jc_base.specs.Class.{ClassTable}
 use Rattle.jc_base.specs.Order.{IsJoin, IsKnown, rises_left}
@@ -35,3 +35,13 @@ abbrev pub IsMerged : ClassTable → Frame → Frame → Frame → Merged → Ty
 IsMerged t old other new Same = Merges t old other old × (new ≡ old)
 IsMerged t old other new Risen = Merges t old other new × (rises_of t new < rises_of t old)
 IsMerged t old other new Clashing = Clashes t old other
+
+-- a frame is merged into the one at a place, and no other place changes
+pub record IsMergedAt
+    (t : ClassTable) (old : List (Option Frame)) (place : ℕ) (f : Frame) (new : List (Option Frame)) (how : Merged) : Type 0
+  where
+    pub held : Frame
+    pub joined : Frame
+    pub there : state_at old place ≡ Some held
+    pub set : new ≡ slice_set old place (Some joined)
+    pub merged : IsMerged t held f joined how

@@ -1,11 +1,11 @@
 ghost use Rattle.std.specs.Prelude.{◌≡◌, ◌↔◌, ◌≤◌, ◌<◌, length, reverse, IsTrue, All, slice_get, MatchOption, MatchResult, IfSome, IsSomeAnd};
-ghost use Rattle.jc_base.specs.Class.{IsClass, object};
+ghost use Rattle.jc_base.specs.Class.{ClassTable, IsClass, object};
 ghost use Rattle.jc_base.specs.Order.{IsKnown};
 ghost use Rattle.jc_base.specs.declared.ty.Ty.TheVariants.{IntLow, IntHigh};
 ghost use Rattle.jc_ops.specs.Sound.{IsKnownWant};
 ghost use Rattle.jc_rules.specs.Demand.{AllHold, AreKnownDemands, AreKnown, frame, Meets, Holds, Breaks, refusal, refused, IsKnownDemand, IsArrayOrNull, IsHalf, IsFreshOf, Splits, refused_at, is_array_or_null, is_half, is_fresh_of, meets};
 
-use jc_base::{Classes, Ty, World, below};
+use jc_base::{Classes, Ty, World, below, same_type};
 use jc_ops::{RuleFault, Want};
 
 /// One thing that an instruction asks before it changes anything. Cells are counted from the top of
@@ -59,6 +59,23 @@ impl Before<'_> {
             ¬ (Holds self.now.world.now.classes (frame self.now) demand)
             × (fault ≡ refused self.now.world.now.classes (frame self.now) demand)) }
     {
+        if self.plainly_holds(demand) {
+            None
+        } else {
+            self.fault_of(demand)
+        }
+    }
+
+    /// The same, where more than the very type that is wanted may do.
+    fn fault_of(&self, demand: Demand) -> Option<RuleFault>
+        requires frame { AreKnown self.now.world.now.classes (frame self.now) }
+        requires demand { IsKnownDemand self.now.world.now.classes demand }
+        ensures { MatchOption result
+            (Holds self.now.world.now.classes (frame self.now) demand)
+            (λ fault.
+            ¬ (Holds self.now.world.now.classes (frame self.now) demand)
+            × (fault ≡ refused self.now.world.now.classes (frame self.now) demand)) }
+    {
         match demand {
             Demand::Registers(x, n) if x as usize + n as usize <= self.regs.len() => None,
             Demand::Registers(x, _) => Some(RuleFault::NoLocal(x)),
@@ -78,6 +95,19 @@ impl Before<'_> {
                 self.reg(x),
                 RuleFault::NoLocal(x),
             ),
+        }
+    }
+
+    /// Whether the demand is met, as most are, by the very type that is wanted: the order of types is not asked.
+    fn plainly_holds(&self, demand: Demand) -> bool
+        ensures { IsTrue result → Holds self.now.world.now.classes (frame self.now) demand }
+    {
+        match demand {
+            Demand::Registers(x, n) => x as usize + n as usize <= self.regs.len(),
+            Demand::Depth(n) => n as usize <= self.stack.len(),
+            Demand::Cell(n, want) => plainly_meets(want, self.cell(n)),
+            Demand::Held(x, ty) => is_that(self.reg(x), ty),
+            Demand::Cut(_) => false,
         }
     }
 
@@ -143,6 +173,26 @@ fn judged(classes: &Classes, want: Want, found: Option<Ty>, absent: RuleFault) -
         None => Some(absent),
         Some(found) if meets(classes, want, found) => None,
         Some(found) => Some(refusal(classes, want, found)),
+    }
+}
+
+/// Whether what was found is the very type that is wanted.
+fn plainly_meets(want: Want, found: Option<Ty>) -> bool
+    ensures { (t : ClassTable) → IsTrue result → IsSomeAnd found (Meets t want) }
+{
+    match want {
+        Want::Value(ty) => is_that(found, ty),
+        _ => false,
+    }
+}
+
+/// Whether a type was found, and is that one.
+fn is_that(found: Option<Ty>, ty: Ty) -> bool
+    ensures { IsTrue result ↔ (found ≡ Some ty) }
+{
+    match found {
+        Some(found) => same_type(found, ty),
+        None => false,
     }
 }
 

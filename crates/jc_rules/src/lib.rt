@@ -11,6 +11,7 @@
 mod calls;
 mod demand;
 mod effect;
+mod held;
 mod laws;
 mod objects;
 mod rule;
@@ -20,11 +21,12 @@ mod values;
 
 pub use demand::{Before, Demand, meets};
 pub use effect::{Cells, Change, Effect, Mode, Store};
+pub use held::State;
 pub use jc_ops::{RuleFault, Site};
 pub use laws::{
     demands_are_decided, footprint_laws, operation_laws, rule_decides, rule_falls, rule_keeps,
     rule_laws, rule_raises, typing_laws,
 };
 pub use rule::{Outcome, apply};
-pub use state::{Merged, State};
+pub use state::Merged;
 pub use typing::Typing;

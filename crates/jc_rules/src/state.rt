@@ -2,32 +2,11 @@ ghost use Rattle.std.specs.Prelude.{◌≡◌, ◌≤◌, ◌<◌, length, take,
 ghost use Rattle.jc_base.specs.Order.{IsKnown, rises_left};
 ghost use Rattle.jc_rules.specs.Demand.{Frame};
 ghost use Rattle.jc_rules.specs.Flow.{CellsJoin, IsNotTop};
-ghost use Rattle.jc_rules.specs.Held.{IsParted, parted};
+ghost use Rattle.jc_rules.specs.Held.{IsParted, parted, lent};
 ghost use Rattle.jc_rules.specs.Typing.{IsMerged, RaisesOrStays};
 
+use crate::held::State;
 use jc_base::{Classes, Ty, below, join, same_type, types_are_ordered};
-use std::alloc::{AllocError, Global};
-use std::marker::Model;
-
-/// The types of a method's registers and of its operand stack before the instruction at a place.
-#[derive(Drop)]
-pub struct State {
-    /// The registers, and then the stack with its top last.
-    cells: Vec<Ty>,
-    registers: usize,
-}
-
-impl Model for State {
-    ghost use Rattle.jc_rules.specs.Demand.{Frame};
-
-    ghost Value = { Frame };
-
-    ghost use Rattle.jc_rules.specs.Held.{IsParted, parted};
-
-    ghost view = { λ s. parted s.registers s.cells.items };
-
-    ghost invariant = { λ s. IsParted s.registers s.cells.items };
-}
 
 /// What became of a state that another was merged into.
 #[derive(Clone, Copy)]
@@ -40,51 +19,24 @@ pub enum Merged {
     Clashing,
 }
 
-impl State {
-    /// The state of these registers, and of this stack with its top last.
-    pub fn of(alloc: Global, regs: &[Ty], stack: &[Ty]) -> Result<State, AllocError>
-        requires { length stack.now ≤ 255 }
-        ensures { IfOk result (λ s. s ≡ record { regs = regs.now; stack = reverse stack.now }) }
-    {
-        let mut cells = Vec::with_capacity(alloc, regs.len() + stack.len())?;
-        cells.extend_from_slice(regs)?;
-        cells.extend_from_slice(stack)?;
-        Ok(State {
-            cells,
-            registers: regs.len(),
-        })
-    }
-
+impl State<'_> {
     pub fn regs(&self) -> &[Ty]
-        ensures { result.now ≡ self.now.regs }
+        ensures { result.now ≡ (lent self.now).regs }
     {
-        &self.cells[..self.registers]
+        self.regs
     }
 
     /// The stack, with its top last.
     pub fn stack(&self) -> &[Ty]
-        ensures is { self.now.stack ≡ reverse result.now }
+        ensures is { (lent self.now).stack ≡ reverse result.now }
         ensures few { length result.now ≤ 255 }
     {
-        &self.cells[self.registers..]
-    }
-
-    /// Raises the state to the join with these registers and this stack, whose top is last. Where the stacks do
-    /// not merge it is left anyhow.
-    pub fn merge(&mut self, classes: &Classes, regs: &[Ty], stack: &[Ty]) -> Merged
-        requires count { length regs.now ≡ length self.old.regs }
-        requires regs_known { All (IsKnown classes.now) regs.now }
-        requires stack_known { All (IsKnown classes.now) stack.now }
-        requires own_regs_known { All (IsKnown classes.now) self.old.regs }
-        requires own_stack_known { All (IsKnown classes.now) self.old.stack }
-        ensures { IsMerged classes.now self.old (record { regs = regs.now; stack = reverse stack.now }) self.new result }
-    {
-        merge_cells(classes, &mut self.cells, self.registers, regs, stack)
+        self.stack
     }
 }
 
-/// The same, where so many of the cells are the registers.
-fn merge_cells(
+/// Raises a frame of so many registers to the join with another. Where the stacks do not merge it is left anyhow.
+pub(crate) fn merge_cells(
     classes: &Classes,
     cells: &mut [Ty],
     registers: usize,
@@ -178,17 +130,18 @@ fn raised(classes: &Classes, held: &Ty, other: &Ty) -> Option<Ty>
     higher(classes, *held, *other)
 }
 
-/// The same for cells that are not equal.
+/// The same for cells that are not equal. What is held mostly rises by a step to the other, so that is asked first.
 fn higher(classes: &Classes, held: Ty, other: Ty) -> Option<Ty>
     requires held_known { IsKnown classes.now held }
     requires other_known { IsKnown classes.now other }
+    requires differ { ¬ (other ≡ held) }
     ensures { RaisesOrStays classes.now held other result }
 {
     types_are_ordered(classes);
-    if below(classes, other, held) {
-        None
-    } else if below(classes, held, other) {
+    if below(classes, held, other) {
         Some(other)
+    } else if below(classes, other, held) {
+        None
     } else {
         Some(join(classes, held, other))
     }

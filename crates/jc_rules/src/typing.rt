@@ -1,15 +1,30 @@
-ghost use Rattle.std.specs.Prelude.{◌≡◌, ◌<◌, ⊤, Some, length, reverse, is_some, option_copied, slice_get};
+ghost use Rattle.std.specs.Prelude.{◌≡◌, ◌+◌, ◌<◌, ◌≤◌, ◌⊎◌, ◌++◌, ℕ, ⊤, List, Some, None, length, take, drop, reverse, replicate, All, IfOk, OnOk, OnErr, IsSomeAnd, is_some, option_map, slice_get, slice_set};
+ghost use Rattle.jc_base.specs.Order.{IsKnown};
 ghost use Rattle.jc_rules.specs.Flow.{At};
-ghost use Rattle.jc_rules.specs.Typing.{state_at};
+ghost use Rattle.jc_rules.specs.Held.{lent, end_of, frame_at, span_at};
+ghost use Rattle.jc_rules.specs.Typing.{state_at, IsMerged, IsMergedAt};
 
-use crate::state::State;
-use jc_base::Ty;
+use crate::held::State;
+use crate::state::{Merged, merge_cells};
+use jc_base::{Classes, Ty};
+use std::alloc::{AllocError, Global};
 use std::marker::Model;
 
 /// A dataflow typing of a method: a state for each place that control reaches.
 #[derive(Drop)]
 pub struct Typing {
-    states: Vec<Option<State>>,
+    /// The cells of all states.
+    cells: Vec<Ty>,
+    /// By place which of them are the state there.
+    spans: Vec<Option<Span>>,
+}
+
+/// The cells of one state: its registers, and then the stack with its top last.
+#[derive(Clone, Copy)]
+struct Span {
+    at: usize,
+    registers: usize,
+    depth: usize,
 }
 
 impl Model for Typing {
@@ -18,25 +33,65 @@ impl Model for Typing {
 
     ghost Value = { List (Option Frame) };
 
-    ghost view = { λ t. t.states.items };
+    ghost use Rattle.jc_rules.specs.Held.{AreSpans, frames_at};
+
+    ghost view = { λ t. frames_at t.cells.items t.spans.items };
+
+    ghost invariant = { λ t. AreSpans t.cells.items t.spans.items };
 }
 
 impl Typing {
-    /// The typing of these states, by place.
-    pub fn of(states: Vec<Option<State>>) -> Typing
-        ensures { result ≡ states.items }
+    /// No state at any of so many places.
+    pub fn new(alloc: Global, places: usize) -> Result<Typing, AllocError>
+        ensures { IfOk result (λ t. t ≡ replicate places None) }
     {
-        Typing { states }
+        let spans = vec![in alloc; None; places]?;
+        Ok(Typing {
+            cells: Vec::new(alloc),
+            spans,
+        })
     }
 
     /// The state before the instruction at a place, where control reaches it.
-    #[tactic(auto, unfolding(crate::specs::Typing::state_at))]
-    pub fn state(&self, place: u16) -> Option<&State>
-        ensures { option_copied result ≡ state_at self.now place }
+    pub fn state(&self, place: u16) -> Option<State<'_>>
+        ensures { option_map lent result ≡ state_at self.now place }
     {
-        match self.states.as_slice().get(place as usize) {
-            Some(Some(state)) => Some(state),
-            _ => None,
+        match span_of(&self.spans, place) {
+            Some(span) => Some(lend(&self.cells, span)),
+            None => None,
+        }
+    }
+
+    /// Puts a state at a place: the registers, and the stack with its top last.
+    pub fn put(&mut self, place: u16, regs: &[Ty], stack: &[Ty]) -> Result<(), AllocError>
+        requires place { place < length self.old }
+        requires few { length stack.now ≤ 255 }
+        ensures put { OnOk result (self.new ≡ slice_set self.old place (Some (record { regs = regs.now; stack = reverse stack.now }))) }
+        ensures kept { OnErr result (self.new ≡ self.old) }
+    {
+        let at = self.cells.len();
+        append(&mut self.cells, regs, stack)?;
+        self.spans[place as usize] = Some(Span {
+            at,
+            registers: regs.len(),
+            depth: stack.len(),
+        });
+        Ok(())
+    }
+
+    /// Raises the state at a place to the join with these registers and this stack, whose top is last. Where the
+    /// stacks do not merge it is left anyhow.
+    pub fn merge(&mut self, classes: &Classes, place: u16, regs: &[Ty], stack: &[Ty]) -> Merged
+        requires count { IsSomeAnd (state_at self.old place) (λ f. length regs.now ≡ length f.regs) }
+        requires regs_known { All (IsKnown classes.now) regs.now }
+        requires stack_known { All (IsKnown classes.now) stack.now }
+        requires own_regs_known { IsSomeAnd (state_at self.old place) (λ f. All (IsKnown classes.now) f.regs) }
+        requires own_stack_known { IsSomeAnd (state_at self.old place) (λ f. All (IsKnown classes.now) f.stack) }
+        ensures { IsMergedAt classes.now self.old place (record { regs = regs.now; stack = reverse stack.now }) self.new result }
+    {
+        match span_of(&self.spans, place) {
+            Some(span) => merge_span(classes, &mut self.cells, span, regs, stack),
+            None => unreachable!(),
         }
     }
 
@@ -79,4 +134,58 @@ impl Typing {
             None => unreachable!(),
         }
     }
+}
+
+/// The span of a place, where there is one.
+fn span_of(spans: &[Option<Span>], place: u16) -> Option<Span>
+    ensures { result ≡ span_at spans.now place }
+{
+    match spans.get(place as usize) {
+        Some(span) => *span,
+        None => None,
+    }
+}
+
+/// The state of a span.
+fn lend<'a>(cells: &'a [Ty], span: Span) -> State<'a>
+    requires within { end_of span ≤ length cells.now }
+    requires few { span.depth ≤ 255 }
+    ensures { lent result ≡ frame_at cells.now span }
+{
+    let own = &cells[span.at..span.at + (span.registers + span.depth)];
+    State {
+        regs: &own[..span.registers],
+        stack: &own[span.registers..],
+    }
+}
+
+/// Adds registers and a stack to the cells.
+fn append(cells: &mut Vec<Ty>, regs: &[Ty], stack: &[Ty]) -> Result<(), AllocError>
+    ensures value { OnOk result (cells.new.items ≡ cells.old.items ++ (regs.now ++ stack.now)) }
+    ensures kept { (more : List Ty) × (cells.new.items ≡ cells.old.items ++ more) }
+{
+    cells.extend_from_slice(regs)?;
+    cells.extend_from_slice(stack)?;
+    Ok(())
+}
+
+/// Raises the frame of a span to the join with another, where their stacks merge.
+fn merge_span(classes: &Classes, cells: &mut [Ty], span: Span, regs: &[Ty], stack: &[Ty]) -> Merged
+    requires within { end_of span ≤ length cells.old }
+    requires few { span.depth ≤ 255 }
+    requires count { length regs.now ≡ span.registers }
+    requires regs_known { All (IsKnown classes.now) regs.now }
+    requires stack_known { All (IsKnown classes.now) stack.now }
+    requires own_regs_known { All (IsKnown classes.now) (frame_at cells.old span).regs }
+    requires own_stack_known { All (IsKnown classes.now) (frame_at cells.old span).stack }
+    ensures merged { IsMerged classes.now (frame_at cells.old span)
+        (record { regs = regs.now; stack = reverse stack.now })
+        (frame_at cells.new span) result }
+    ensures len { length cells.new ≡ length cells.old }
+    // The cells before and after the span stay.
+    ensures elsewhere { (b n : ℕ) → (b + n ≤ span.at) ⊎ (end_of span ≤ b) → take n (drop b cells.new) ≡ take n (drop b cells.old) }
+{
+    let (_, from) = cells.split_at_mut(span.at);
+    let (own, _) = from.split_at_mut(span.registers + span.depth);
+    merge_cells(classes, own, span.registers, regs, stack)
 }

@@ -100,4 +100,5 @@ TypedStatesApply w =
     → IsTypedState w typings s
     → Fetches w s m i
     → Resolves w m i.place i.insn (Ok op)
-    → (after : Types) × (o : Rule) × OperationApplies w m.max_stack op Flow (types_in w.classes (typings.unset (top s).method) (kinds s) (top s)) after o
+    → (after : Types) × (o : Rule)
+    × OperationApplies w m.max_stack op Flow (types_in w.classes (typings.unset (top s).method) (kinds s) (top s)) after o
