@@ -1,37 +1,14 @@
-use crate::counter_packages::{COUNTER, RUNTIME};
-use crate::filling::ROLES;
-use crate::transform_tests::{answers, is_file};
+use crate::counter_packages::COUNTER;
+use crate::filling::Kept;
+use crate::rows::{Answer, Story, goes_in, stories_go_so};
+use crate::transform_tests::is_file;
 use cap_bytes::Part;
 use cap_files::MemFolder;
-use cap_tests::{DEBUG, File, HEADER};
+use cap_tests::DEBUG;
 use std::alloc::{AllocError, Global};
-
-/// The positions of the roles in the base package.
-const RUNTIME_ROLES: [u8; 8] = [0, 1, 4, 5, 6, 7, 8, 9];
 
 /// The custom component of the counter.
 const CUSTOM: Part = Part(129);
-
-/// Puts a package under a word, and tells whether there was room for it.
-fn put(folder: &mut MemFolder, dir: &str, files: &[File<'_>]) -> bool {
-    let mut fits = true;
-    for (part, bytes) in files {
-        fits = folder.set(dir, *part, bytes) && fits;
-    }
-    fits
-}
-
-/// Folders with the base package in `R` and the counter in `C`, and room for what is stored in `U`.
-fn folders(alloc: Global) -> Result<Option<MemFolder>, AllocError> {
-    let mut folder = MemFolder::new(alloc, 40, 8000)?;
-    let fits = put(&mut folder, "R", &RUNTIME)
-        && folder.set("R", ROLES, &RUNTIME_ROLES)
-        && put(&mut folder, "C", &COUNTER);
-    Ok(if fits { Some(folder) } else { None })
-}
-
-/// A command, its text and its status.
-type Answer = (&'static str, &'static str, u8);
 
 /// In this order, with what `transform` stores in `U`. The counter of kind 1 counts three times, and that of kind 2 nine times,
 /// where the seventh time passes its limit.
@@ -84,20 +61,6 @@ static ANSWERS: [Answer; 9] = [
     ),
 ];
 
-/// The first command that is answered otherwise.
-fn first_other(
-    alloc: Global,
-    folder: &mut MemFolder,
-    expected: &'static [Answer],
-) -> Result<&'static str, AllocError> {
-    for (line, text, status) in expected {
-        if !answers(alloc, folder, line, text, *status)? {
-            return Ok(line);
-        }
-    }
-    Ok("")
-}
-
 /// The file of the counter's custom component.
 fn custom_file() -> Option<&'static [u8]> {
     COUNTER
@@ -106,48 +69,37 @@ fn custom_file() -> Option<&'static [u8]> {
         .map(|(_, file)| *file)
 }
 
-/// What is wrong with the commands on the counter.
-fn wrong(alloc: Global) -> Result<&'static str, AllocError> {
-    let Some(mut folder) = folders(alloc)? else {
-        return Ok("there is no room");
-    };
-    let other = first_other(alloc, &mut folder, &ANSWERS)?;
-    if !other.is_empty() {
-        return Ok(other);
-    }
-    let kept = is_file(alloc, &mut folder, DEBUG, None)?
-        && is_file(alloc, &mut folder, CUSTOM, custom_file())?;
-    Ok(if kept { "" } else { "the parts" })
+/// Whether the commands give this, and what is stored has no Debug component and the custom one.
+fn is_served(alloc: Global, folder: &mut MemFolder) -> Result<bool, AllocError> {
+    Ok(
+        goes_in(alloc, folder, &(Kept::Counter, 0, 0, &ANSWERS))?
+            && is_file(alloc, folder, DEBUG, None)?
+            && is_file(alloc, folder, CUSTOM, custom_file())?,
+    )
+}
+
+fn serves(alloc: Global) -> Result<bool, AllocError> {
+    let mut folder = MemFolder::new(alloc, 40, 8000)?;
+    is_served(alloc, &mut folder)
 }
 
 #[test]
 fn commands_answer_for_a_counter(rt: HostRuntime) -> Result<(), AllocError> {
-    assert_eq!(rt; wrong(rt.alloc())?, "");
+    assert!(rt; serves(rt.alloc())?);
     Ok(())
 }
 
-/// Where a store failed, and then at once again.
-static AFTER_A_STORE: [Answer; 3] = [
+/// The fifth store fails, and the Header is absent; then at once again.
+const AFTER_A_STORE: [Answer; 4] = [
+    ("transform U R C", "store fault\n", 4),
     ("verify R U", "malformed package 1 MissingPart 1\n", 7),
     ("transform U R C", "transformed 20 methods\n", 0),
     ("verify R U", "accepted 37 methods\n", 0),
 ];
 
-/// Whether the fifth store, refused, leaves no Header, and the next try stores the package.
-fn fifth_store_fails(alloc: Global) -> Result<bool, AllocError> {
-    let Some(mut folder) = folders(alloc)? else {
-        return Ok(false);
-    };
-    Ok(
-        folder.fail_store(5, 0)
-            && answers(alloc, &mut folder, "transform U R C", "store fault\n", 4)?
-            && is_file(alloc, &mut folder, HEADER, None)?
-            && first_other(alloc, &mut folder, &AFTER_A_STORE)?.is_empty(),
-    )
-}
+static FIFTH: [Story; 1] = [(Kept::Counter, 5, 0, &AFTER_A_STORE)];
 
 #[test]
 fn a_counter_whose_fifth_store_fails_has_no_header(rt: HostRuntime) -> Result<(), AllocError> {
-    assert!(rt; fifth_store_fails(rt.alloc())?);
-    Ok(())
+    stories_go_so(&rt, rt.alloc(), &FIFTH)
 }

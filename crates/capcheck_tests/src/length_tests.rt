@@ -1,4 +1,4 @@
-use crate::filling::{ROLES, put_package};
+use crate::filling::put_with_roles;
 use crate::run::gives;
 use cap_bytes::Part;
 use cap_files::SureFolder;
@@ -16,7 +16,18 @@ fn is_told(
     Ok(folder.set("T", part, file) && gives(alloc, "check T", folder, text, 7)?)
 }
 
-/// Whether each shorter beginning of a file is told as cut, at its end.
+/// Whether a beginning of a file is told as cut, at its end.
+fn cut_is_told(
+    alloc: Global,
+    folder: &mut SureFolder,
+    part: Part,
+    cut: &[u8],
+) -> Result<bool, AllocError> {
+    let text = format!(in alloc; "malformed package 0 Form {} {} Cut\n", part.0, cut.len())?;
+    is_told(alloc, folder, part, cut, &text)
+}
+
+/// Whether each shorter beginning of a file is told so.
 fn cuts_are_told(
     alloc: Global,
     folder: &mut SureFolder,
@@ -24,13 +35,17 @@ fn cuts_are_told(
     file: &[u8],
 ) -> Result<bool, AllocError> {
     let mut told = true;
-    let mut cut = Vec::new(alloc);
-    'lengths: for byte in file {
-        let text = format!(in alloc; "malformed package 0 Form {} {} Cut\n", part.0, cut.len())?;
-        told = is_told(alloc, folder, part, &cut, &text)? && told;
-        cut.push(*byte)?;
+    for length in 0..file.len() {
+        told = cut_is_told(alloc, folder, part, &file[..length])? & told;
     }
     Ok(told)
+}
+
+/// A file with one byte more.
+fn longer(alloc: Global, file: &[u8]) -> Result<Vec<u8>, AllocError> {
+    let mut longer = Vec::from_slice(alloc, file)?;
+    longer.push(0)?;
+    Ok(longer)
 }
 
 /// Whether a file with one byte more is told, at its old end.
@@ -40,32 +55,43 @@ fn more_is_told(
     part: Part,
     file: &[u8],
 ) -> Result<bool, AllocError> {
-    let mut longer = Vec::new(alloc);
-    longer.extend_from_slice(file)?;
-    longer.push(0)?;
     let text = format!(in alloc;
         "malformed package 0 Form {} {} Trailing\n",
         part.0,
         file.len()
     )?;
+    let longer = longer(alloc, file)?;
     is_told(alloc, folder, part, &longer, &text)
 }
 
+/// Whether all other lengths of a file are told, and the file is put back.
+fn lengths_are_told(
+    alloc: Global,
+    folder: &mut SureFolder,
+    part: Part,
+    file: &[u8],
+) -> Result<bool, AllocError> {
+    let cut = cuts_are_told(alloc, folder, part, file)?;
+    let more = more_is_told(alloc, folder, part, file)?;
+    Ok(folder.set("T", part, file) & cut & more)
+}
+
 /// The tag of the first component of package T whose other lengths are not told so.
-fn first_untold(alloc: Global) -> Result<Option<u8>, AllocError> {
-    let mut folder = SureFolder::new(alloc, 12, 2000)?;
-    let fits = put_package(alloc, &mut folder, "T", &PLAIN, &[])?;
-    if !(fits && folder.set("T", ROLES, &PLAIN_ROLES)) {
+fn first_untold_in(alloc: Global, folder: &mut SureFolder) -> Result<Option<u8>, AllocError> {
+    if !put_with_roles(alloc, folder, "T", &PLAIN, &[], &PLAIN_ROLES)? {
         return Ok(Some(0));
     }
     for (part, file) in PLAIN.iter() {
-        let told = cuts_are_told(alloc, &mut folder, *part, file)?
-            && more_is_told(alloc, &mut folder, *part, file)?;
-        if !(told && folder.set("T", *part, file)) {
+        if !lengths_are_told(alloc, folder, *part, file)? {
             return Ok(Some(part.0));
         }
     }
     Ok(None)
+}
+
+fn first_untold(alloc: Global) -> Result<Option<u8>, AllocError> {
+    let mut folder = SureFolder::new(alloc, 12, 2000)?;
+    first_untold_in(alloc, &mut folder)
 }
 
 #[test]

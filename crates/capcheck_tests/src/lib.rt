@@ -1,5 +1,5 @@
-//! Worked commands: what `capcheck_core` prints for `probe`, `show`, `check`, `verify`, `defend`, `run`, `transform` and
-//! `trial` over folders in memory, with package T of `cap_tests`, two more small packages and the counter of the examples,
+//! Worked commands: what `capcheck_core` prints for `probe`, `show`, `check`, `verify`, `defend`, `run`, `transform`, `trial`
+//! and `gen` over folders in memory, with package T of `cap_tests`, two more small packages and the counter of the examples,
 //! what `run` and `trial` leave in the memory of the card, and where a device fails.
 #![tactic(auto)]
 
@@ -14,9 +14,13 @@ mod defend_tests;
 #[cfg(test)]
 mod filling;
 #[cfg(test)]
+mod gen_tests;
+#[cfg(test)]
 mod length_tests;
 #[cfg(test)]
 mod probe_tests;
+#[cfg(test)]
+mod rows;
 #[cfg(test)]
 mod run;
 #[cfg(test)]

@@ -1,61 +1,27 @@
-ghost use Rattle.std.specs.Prelude.{◌≡◌, IfOk, vec_len};
+ghost use Rattle.std.specs.Prelude.{◌≡◌, IfOk, length, vec_len};
 
 use cap_files::{Folder, MemFolder, MemSink, Sink, SureFolder, SureSink, Words};
 use capcheck_core::capcheck;
 use std::alloc::{AllocError, Global};
 
-/// A memory of the card, of so many words.
+/// Words of a memory, from a place on.
+pub(crate) type Piece = (usize, &'static [u16]);
+
+/// Words of the three memories of the card.
+pub(crate) type Pieces = (Piece, Piece, Piece);
+
+/// No words are looked at.
+const NO_WORDS: Pieces = ((0, &[]), (0, &[]), (0, &[]));
+
+/// What a command leaves: its text and its status, and words of the three memories of the card.
+pub(crate) type Left<'a> = (&'a str, u8, Pieces);
+
+/// A memory of the card, of so many words, that held something else.
 fn memory(alloc: Global, words: usize) -> Result<Vec<u16>, AllocError>
     ensures { IfOk result (λ v. vec_len v ≡ words) }
 {
-    vec![in alloc; 0u16; words]
+    vec![in alloc; 0xA55Au16; words]
 }
-
-fn words_of(alloc: Global, line: &str) -> Result<Words, AllocError> {
-    let mut words = Words::new(alloc);
-    for word in line.split(' ') {
-        words.push(word)?;
-    }
-    Ok(words)
-}
-
-/// Runs a command, its words parted by single spaces.
-pub(crate) fn run_over<F: Folder, K: Sink>(
-    alloc: Global,
-    line: &str,
-    folder: &mut F,
-    out: &mut K,
-) -> Result<u8, AllocError> {
-    let words = words_of(alloc, line)?;
-    let mut ram = memory(alloc, 32_832)?;
-    let mut heap = memory(alloc, 45_056)?;
-    let mut statics = memory(alloc, 32_768)?;
-    Ok(capcheck(
-        alloc,
-        &words,
-        folder,
-        out,
-        &mut ram,
-        &mut heap,
-        &mut statics,
-    ))
-}
-
-/// Whether a command over a folder gives this text and this status.
-pub(crate) fn gives(
-    alloc: Global,
-    line: &str,
-    folder: &mut SureFolder,
-    text: &str,
-    status: u8,
-) -> Result<bool, AllocError> {
-    let mut out = SureSink::new(alloc, 400)?;
-    let answer = run_over(alloc, line, folder, &mut out)?;
-    Ok(answer == status && out.received() == text.as_bytes())
-}
-
-/// Words of a memory, from a place on.
-pub(crate) type Piece = (usize, &'static [u16]);
 
 /// Whether words stand in a memory from their place on.
 fn has(memory: &[u16], piece: Piece) -> bool {
@@ -66,38 +32,95 @@ fn has(memory: &[u16], piece: Piece) -> bool {
         .all(|(n, word)| memory.get(from.wrapping_add(n)) == Some(word))
 }
 
-/// What a command leaves: its text and its status, and words of the three memories of the card.
-pub(crate) type Left = (&'static str, u8, Piece, Piece, Piece);
+fn words_of(alloc: Global, line: &str) -> Result<Words, AllocError> {
+    let mut words = Words::new(alloc);
+    for word in line.split(' ') {
+        words.push(word)?;
+    }
+    Ok(words)
+}
 
-/// Whether a command over a folder leaves this, on a card whose memory held other words.
+/// A status, and whether words stand in the memories that were looked at.
+type End = (u8, bool);
+
+fn over_statics<F: Folder, K: Sink>(
+    alloc: Global,
+    words: &Words,
+    folder: &mut F,
+    out: &mut K,
+    ram: &mut [u16],
+    heap: &mut [u16],
+    left: Piece,
+) -> Result<End, AllocError>
+    requires ram { length ram.old ≡ 32832 }
+    requires heap { length heap.old ≡ 45056 }
+{
+    let mut statics = memory(alloc, 32_768)?;
+    let status = capcheck(alloc, words, folder, out, ram, heap, &mut statics);
+    Ok((status, has(&statics, left)))
+}
+
+fn over_heap<F: Folder, K: Sink>(
+    alloc: Global,
+    words: &Words,
+    folder: &mut F,
+    out: &mut K,
+    ram: &mut [u16],
+    left: &Pieces,
+) -> Result<End, AllocError>
+    requires { length ram.old ≡ 32832 }
+{
+    let mut heap = memory(alloc, 45_056)?;
+    let (status, kept) = over_statics(alloc, words, folder, out, ram, &mut heap, left.2)?;
+    Ok((status, has(&heap, left.1) & kept))
+}
+
+fn over_ram<F: Folder, K: Sink>(
+    alloc: Global,
+    words: &Words,
+    folder: &mut F,
+    out: &mut K,
+    left: &Pieces,
+) -> Result<End, AllocError> {
+    let mut ram = memory(alloc, 32_832)?;
+    let (status, kept) = over_heap(alloc, words, folder, out, &mut ram, left)?;
+    Ok((status, has(&ram, left.0) & kept))
+}
+
+/// Runs a command, its words parted by single spaces, on a card of its own.
+fn run_over<F: Folder, K: Sink>(
+    alloc: Global,
+    line: &str,
+    folder: &mut F,
+    out: &mut K,
+    left: &Pieces,
+) -> Result<End, AllocError> {
+    let words = words_of(alloc, line)?;
+    over_ram(alloc, &words, folder, out, left)
+}
+
+/// Whether a command over a folder leaves this.
 pub(crate) fn leaves(
     alloc: Global,
     line: &str,
     folder: &mut SureFolder,
-    left: &Left,
+    left: &Left<'_>,
 ) -> Result<bool, AllocError> {
-    let (text, status, in_ram, in_heap, in_statics) = left;
-    let words = words_of(alloc, line)?;
+    let (text, status, pieces) = left;
     let mut out = SureSink::new(alloc, 400)?;
-    let mut ram = vec![in alloc; 0xA55Au16; 32_832]?;
-    let mut heap = vec![in alloc; 0xA55Au16; 45_056]?;
-    let mut statics = vec![in alloc; 0xA55Au16; 32_768]?;
-    let answer = capcheck(
-        alloc,
-        &words,
-        folder,
-        &mut out,
-        &mut ram,
-        &mut heap,
-        &mut statics,
-    );
-    Ok(
-        answer == *status
-            && out.received() == text.as_bytes()
-            && has(&ram, *in_ram)
-            && has(&heap, *in_heap)
-            && has(&statics, *in_statics),
-    )
+    let (answer, kept) = run_over(alloc, line, folder, &mut out, pieces)?;
+    Ok(kept & (answer == *status) & (out.received() == text.as_bytes()))
+}
+
+/// Whether a command over a folder gives this text and this status.
+pub(crate) fn gives(
+    alloc: Global,
+    line: &str,
+    folder: &mut SureFolder,
+    text: &str,
+    status: u8,
+) -> Result<bool, AllocError> {
+    leaves(alloc, line, folder, &(text, status, NO_WORDS))
 }
 
 /// A command; which of its loads fails, which of its puts, and after how many bytes; the text that is received,
@@ -111,8 +134,8 @@ pub(crate) fn gives_failing(
     failing: &Failing,
 ) -> Result<bool, AllocError> {
     let (line, load, put, keep, text, status) = failing;
-    let mut out = MemSink::new(alloc, 400)?;
-    let listed = folder.fail_load(*load) && out.fail_put(*put, *keep);
-    let answer = run_over(alloc, line, folder, &mut out)?;
-    Ok(listed && answer == *status && out.received() == text.as_bytes())
+    let mut out = MemSink::new(alloc, 1000)?;
+    let listed = folder.fail_load(*load) & out.fail_put(*put, *keep);
+    let (answer, _) = run_over(alloc, line, folder, &mut out, &NO_WORDS)?;
+    Ok(listed & (answer == *status) & (out.received() == text.as_bytes()))
 }

@@ -1,10 +1,9 @@
-use crate::check_tests::{Check, fill, first_wrong};
-use crate::defend_tests::{FIRST_FIVE, Run, first_other_run, first_wrong_call, is_full};
-use crate::run::{Left, leaves};
+use crate::defend_tests::FIRST_FIVE;
+use crate::filling::{Held, UNCHANGED};
+use crate::rows::{Leaving, Row, rows_hold, words_are_left};
 use cap_bytes::Part;
-use cap_files::SureFolder;
-use cap_tests::{Change, DESCRIPTOR, DIRECTORY, METHOD, PLAIN_ROLES};
-use std::alloc::{AllocError, Global};
+use cap_tests::{Change, DESCRIPTOR, DIRECTORY, METHOD};
+use std::alloc::AllocError;
 
 /// The component of the target index.
 const INDEX: Part = Part(128);
@@ -33,100 +32,76 @@ pub(crate) const REWRITTEN: [Change<'static>; 6] = [
     ),
 ];
 
-static ANSWERS: [Check; 11] = [
+static ANSWERS: [Row; 11] = [
     (
         "verify T",
-        &PLAIN_ROLES,
-        &REWRITTEN,
-        &[],
+        Held::Changed(&REWRITTEN),
         "accepted 2 methods\n",
         0,
     ),
     // fourteen steps, the last of them the return
     (
         "run 14 0.1 T -- 5 0",
-        &PLAIN_ROLES,
-        &REWRITTEN,
-        &[],
+        Held::Changed(&REWRITTEN),
         "returned short 7\nstatic 0 short 7\n",
         0,
     ),
     (
         "run 13 0.1 T -- 5 0",
-        &PLAIN_ROLES,
-        &REWRITTEN,
-        &[],
+        Held::Changed(&REWRITTEN),
         "spent\nstatic 0 short 7\n",
         0,
     ),
     (
         "run 0 0.0 T -- 41",
-        &PLAIN_ROLES,
-        &REWRITTEN,
-        &[],
+        Held::Changed(&REWRITTEN),
         "spent\nstatic 0 short 7\n",
         0,
     ),
     // what a card does not accept is refused before the entry is looked for
     (
         "run 6 0.1 T -- 5 0",
-        &PLAIN_ROLES,
-        &[],
-        &[],
+        UNCHANGED,
         "refused package 0 method 0.1 place 2 StackAtBranch\n",
         1,
     ),
     (
         "run 6 0.2 T -- 5 0",
-        &PLAIN_ROLES,
-        &[],
-        &[],
+        UNCHANGED,
         "refused package 0 method 0.1 place 2 StackAtBranch\n",
         1,
     ),
     (
         "run 6 0.2 T -- 5 0",
-        &PLAIN_ROLES,
-        &REWRITTEN,
-        &[],
+        Held::Changed(&REWRITTEN),
         "not started NoEntry\n",
         7,
     ),
     (
         "run 6 0.1 T",
-        &PLAIN_ROLES,
-        &REWRITTEN,
-        &[],
+        Held::Changed(&REWRITTEN),
         "not started ArgCount 0 2\n",
         7,
     ),
     (
         "run 6 0.1 T -- 5 null",
-        &PLAIN_ROLES,
-        &REWRITTEN,
-        &[],
+        Held::Changed(&REWRITTEN),
         "not started ArgKind 1\n",
         7,
     ),
     (
         "run 6 0.1 E -- 5 0",
-        &PLAIN_ROLES,
-        &[],
-        &[],
+        UNCHANGED,
         "malformed package 0 MissingPart 1\n",
         7,
     ),
-    ("run 6 0.1", &PLAIN_ROLES, &[], &[], "usage\n", 2),
+    ("run 6 0.1", UNCHANGED, "usage\n", 2),
 ];
 
 #[test]
 fn run_runs_an_entry_of_accepted_packages(rt: HostRuntime) -> Result<(), AllocError> {
-    assert_eq!(rt; first_wrong(rt.alloc(), &ANSWERS)?, "");
-    Ok(())
+    rows_hold(&rt, rt.alloc(), &ANSWERS)
 }
-
-/// Commands over package T with changes, and what they leave.
-pub(crate) type Leaving = (&'static str, &'static [Change<'static>], Left);
 
 /// Takes an array of bytes, puts 5 in its first element, and gives it.
 const FIVE: [Change<'static>; 4] = [
@@ -140,168 +115,137 @@ static LEAVING: [Leaving; 3] = [
     // before the return: method 1 at place 20, with one cell on its stack; its registers; that cell, in word 258
     (
         "run 13 0.1 T -- 5 0",
-        &REWRITTEN,
+        Held::Changed(&REWRITTEN),
         (
             "spent\nstatic 0 short 7\n",
             0,
-            (0, &[1, 20, 1, 5, 0, 5, 2]),
-            (0, &[0xA55A]),
-            (0, &[7, 0xA55A]),
+            (
+                (0, &[1, 20, 1, 5, 0, 5, 2]),
+                (0, &[0xA55A]),
+                (0, &[7, 0xA55A]),
+            ),
         ),
     ),
     (
         "run 13 0.1 T -- 5 0",
-        &REWRITTEN,
+        Held::Changed(&REWRITTEN),
         (
             "spent\nstatic 0 short 7\n",
             0,
-            (258, &[7]),
-            (12_288, &[0xA55A]),
-            (0, &[7]),
+            ((258, &[7]), (12_288, &[0xA55A]), (0, &[7])),
         ),
     ),
     (
         "run 14 0.1 T -- 5 0",
-        &REWRITTEN,
+        Held::Changed(&REWRITTEN),
         (
             "returned short 7\nstatic 0 short 7\n",
             0,
-            (0, &[]),
-            (0, &[0xA55A]),
-            (0, &[7]),
+            ((0, &[]), (0, &[0xA55A]), (0, &[7])),
         ),
     ),
 ];
+
+#[test]
+fn run_leaves_the_words_of_frames_and_static_fields(rt: HostRuntime) -> Result<(), AllocError> {
+    words_are_left(&rt, rt.alloc(), &LEAVING)
+}
 
 /// What a run leaves of the array that it was handed: the words of bytes, no cell before it, three elements; and the cells.
 static ARRAYS: [Leaving; 2] = [
     (
         "run 6 0.1 T -- #0102ff",
-        &FIVE,
+        Held::Changed(&FIVE),
         (
             "returned reference 1\narray 1 byte 3 5 2 -1\nstatic 0 short 7\n",
             0,
-            (0, &[]),
-            (0, &[0xF001, 0, 3]),
-            (0, &[7]),
+            ((0, &[]), (0, &[0xF001, 0, 3]), (0, &[7])),
         ),
     ),
     (
         "run 6 0.1 T -- #0102ff",
-        &FIVE,
+        Held::Changed(&FIVE),
         (
             "returned reference 1\narray 1 byte 3 5 2 -1\nstatic 0 short 7\n",
             0,
-            (0, &[]),
-            (12_288, &[5, 2, 65_535]),
-            (0, &[7]),
+            ((0, &[]), (12_288, &[5, 2, 65_535]), (0, &[7])),
         ),
     ),
 ];
 
-fn is_left(alloc: Global, leaving: &Leaving) -> Result<bool, AllocError> {
-    let (line, changes, left) = leaving;
-    let mut folder = SureFolder::new(alloc, 48, 70_000)?;
-    Ok(
-        fill(alloc, &mut folder, &PLAIN_ROLES, changes, &[])?
-            && leaves(alloc, line, &mut folder, left)?,
-    )
-}
-
-/// The number of the first command that leaves something else.
-pub(crate) fn first_other_left(
-    alloc: Global,
-    all: &'static [Leaving],
-) -> Result<Option<usize>, AllocError> {
-    for (n, leaving) in all.iter().enumerate() {
-        if !is_left(alloc, leaving)? {
-            return Ok(Some(n));
-        }
-    }
-    Ok(None)
-}
-
-#[test]
-fn run_leaves_the_words_of_frames_and_static_fields(rt: HostRuntime) -> Result<(), AllocError> {
-    assert_eq!(rt; first_other_left(rt.alloc(), &LEAVING)?, None);
-    Ok(())
-}
-
 #[test]
 fn run_leaves_the_words_of_objects(rt: HostRuntime) -> Result<(), AllocError> {
-    assert_eq!(rt; first_other_left(rt.alloc(), &ARRAYS)?, None);
-    Ok(())
+    words_are_left(&rt, rt.alloc(), &ARRAYS)
 }
 
 /// Runs of package T with another second method. The first method of the package is accepted as it is.
-static RUNS: [Run; 6] = [
+static RUNS: [Row; 7] = [
     (
         "run 6 0.1 T -- #0102ff",
-        (
-            FIRST_FIVE,
-            false,
-            "returned reference 1\narray 1 byte 3 5 2 -1\nstatic 0 short 7\n",
-            0,
-        ),
+        Held::Second(FIRST_FIVE, false),
+        "returned reference 1\narray 1 byte 3 5 2 -1\nstatic 0 short 7\n",
+        0,
     ),
     // no element: the machine's own exception
     (
         "run 6 0.1 T -- #",
-        (
-            FIRST_FIVE,
-            false,
-            "threw class 4 reference 2\nstatic 0 short 7\n",
-            0,
-        ),
+        Held::Second(FIRST_FIVE, false),
+        "threw class 4 reference 2\nstatic 0 short 7\n",
+        0,
     ),
     (
         "run 6 0.1 T -- null",
-        (
-            FIRST_FIVE,
-            false,
-            "threw class 2 reference 1\nstatic 0 short 7\n",
-            0,
-        ),
+        Held::Second(FIRST_FIVE, false),
+        "threw class 2 reference 1\nstatic 0 short 7\n",
+        0,
     ),
-    ("run 6 0.1 T -- #0", (FIRST_FIVE, false, "usage\n", 2)),
+    (
+        "run 6 0.1 T -- #0",
+        Held::Second(FIRST_FIVE, false),
+        "usage\n",
+        2,
+    ),
     (
         "run 6 0.1 T -- 5",
-        (FIRST_FIVE, false, "not started ArgKind 0\n", 7),
+        Held::Second(FIRST_FIVE, false),
+        "not started ArgKind 0\n",
+        7,
     ),
     // one number on the stack, and a sum: no fault is met, since the method is refused
     (
         "run 9 0.1 T -- 5 0",
-        (
-            (b"\x03\x44\x40", b"\x02\x20", b"\x04\x41\x78"),
-            false,
-            "refused package 0 method 0.1 place 1 Underflow\n",
-            1,
-        ),
+        Held::Second((b"\x03\x44\x40", b"\x02\x20", b"\x04\x41\x78"), false),
+        "refused package 0 method 0.1 place 1 Underflow\n",
+        1,
+    ),
+    // the initial arrays leave no room for the array of the argument
+    (
+        "run 6 0.1 T -- #00",
+        Held::Crowded(FIRST_FIVE),
+        "not started ArgRoom 0\n",
+        7,
     ),
 ];
 
 #[test]
 fn run_tells_arrays_and_exceptions(rt: HostRuntime) -> Result<(), AllocError> {
-    assert_eq!(rt; first_other_run(rt.alloc(), &RUNS)?, "");
-    Ok(())
-}
-
-#[test]
-fn an_array_without_room_keeps_run_from_beginning(rt: HostRuntime) -> Result<(), AllocError> {
-    assert!(rt; is_full(rt.alloc(), "run 6 0.1 T -- #00")?);
-    Ok(())
+    rows_hold(&rt, rt.alloc(), &RUNS)
 }
 
 /// Runs of the package of calls, and what they print.
-static CALLS: [(&str, &str); 4] = [
-    ("run 9 1.1 I -- #00", "interface missing class 1\n"),
-    ("run 9 1.2 I -- #00", "returned short 5\n"),
-    ("run 4 1.2 I -- #00", "spent\n"),
-    ("run 9 1.3 I", "interface missing class 2\n"),
+static CALLS: [Row; 4] = [
+    (
+        "run 9 1.1 I -- #00",
+        Held::Calls,
+        "interface missing class 1\n",
+        0,
+    ),
+    ("run 9 1.2 I -- #00", Held::Calls, "returned short 5\n", 0),
+    ("run 4 1.2 I -- #00", Held::Calls, "spent\n", 0),
+    ("run 9 1.3 I", Held::Calls, "interface missing class 2\n", 0),
 ];
 
 #[test]
 fn run_finds_methods_of_interfaces_and_of_object(rt: HostRuntime) -> Result<(), AllocError> {
-    assert_eq!(rt; first_wrong_call(rt.alloc(), &CALLS)?, "");
-    Ok(())
+    rows_hold(&rt, rt.alloc(), &CALLS)
 }

@@ -1,113 +1,112 @@
-use crate::check_tests::{Check, first_wrong};
-use crate::run_tests::{Leaving, REWRITTEN, first_other_left};
-use cap_tests::PLAIN_ROLES;
-use std::alloc::{AllocError, Global};
+use crate::filling::{Held, UNCHANGED};
+use crate::rows::{Leaving, Row, rows_hold, words_are_left};
+use crate::run_tests::REWRITTEN;
+use cap_tests::{Change, DESCRIPTOR, METHOD};
+use std::alloc::AllocError;
 
-static ANSWERS: [Check; 9] = [
+/// What makes the second method of package T one with a handler: its local holds its first argument, of class 2, and then
+/// its second, of class 3, which is thrown, caught, and given back from the local as of class 1.
+const CAUGHT: [Change<'static>; 8] = [
+    Change::Splice(METHOD, 12, 22, b"\x18\x2D\x19\x2D\x1A\x93\x3B\x1A\x77"),
+    Change::Splice(METHOD, 10, 12, b"\x01\x21"),
+    Change::Splice(METHOD, 3, 4, b"\x01\x00\x13\x80\x04\x00\x17\x00\x00"),
+    Change::Splice(
+        DESCRIPTOR,
+        111,
+        114,
+        b"\x0F\x60\x01\x66\x00\x20\x60\x00\xC0",
+    ),
+    Change::Byte(DESCRIPTOR, 41, 1),
+    Change::Byte(DESCRIPTOR, 39, 9),
+    Change::Byte(DESCRIPTOR, 35, 15),
+    Change::Byte(DESCRIPTOR, 23, 9),
+];
+
+static ANSWERS: [Row; 10] = [
     (
         "trial 10 0.1 T -- 5 1",
-        &PLAIN_ROLES,
-        &[],
-        &[],
+        UNCHANGED,
         "source\nreturned short 6\nstatic 0 short 7\ntarget\nreturned short 6\nstatic 0 short 7\n",
         0,
     ),
     (
         "trial 10 0.1 T -- 5 0",
-        &PLAIN_ROLES,
-        &[],
-        &[],
+        UNCHANGED,
         "source\nreturned short 7\nstatic 0 short 7\ntarget\nreturned short 7\nstatic 0 short 7\n",
         0,
     ),
     // the second run has 2,000 steps for each of the first
     (
         "trial 1 0.1 T -- 5 1",
-        &PLAIN_ROLES,
-        &[],
-        &[],
+        UNCHANGED,
         "source\nspent\nstatic 0 short 7\ntarget\nreturned short 6\nstatic 0 short 7\n",
         0,
     ),
     (
         "trial 0 0.1 T -- 5 1",
-        &PLAIN_ROLES,
-        &[],
-        &[],
+        UNCHANGED,
         "source\nspent\nstatic 0 short 7\ntarget\nspent\nstatic 0 short 7\n",
         0,
     ),
     // a package that a card accepts as it is
     (
         "trial 14 0.1 T -- 5 0",
-        &PLAIN_ROLES,
-        &REWRITTEN,
-        &[],
+        Held::Changed(&REWRITTEN),
         "source\nreturned short 7\nstatic 0 short 7\ntarget\nreturned short 7\nstatic 0 short 7\n",
         0,
     ),
+    // an argument of null is copied into the local, and thrown: the machine's own exception is caught
     (
-        "trial 10 0.2 T",
-        &PLAIN_ROLES,
-        &[],
-        &[],
-        "not started NoEntry\n",
-        7,
+        "trial 100 0.1 T -- null null",
+        Held::Changed(&CAUGHT),
+        "source\nreturned null\nstatic 0 short 7\ntarget\nreturned null\nstatic 0 short 7\n",
+        0,
     ),
+    ("trial 10 0.2 T", UNCHANGED, "not started NoEntry\n", 7),
     (
         "trial 10 0.1 T -- 5 null",
-        &PLAIN_ROLES,
-        &[],
-        &[],
+        UNCHANGED,
         "not started ArgKind 1\n",
         7,
     ),
     (
         "trial 10 0.1 E -- 5 0",
-        &PLAIN_ROLES,
-        &[],
-        &[],
+        UNCHANGED,
         "malformed package 0 MissingPart 1\n",
         7,
     ),
-    ("trial 10 0.1", &PLAIN_ROLES, &[], &[], "usage\n", 2),
+    ("trial 10 0.1", UNCHANGED, "usage\n", 2),
 ];
 
 #[test]
 fn trial_tells_both_runs(rt: HostRuntime) -> Result<(), AllocError> {
-    assert_eq!(rt; first_wrong(rt.alloc(), &ANSWERS)?, "");
-    Ok(())
+    rows_hold(&rt, rt.alloc(), &ANSWERS)
 }
 
 /// The memory of the card has what the second run leaves: its frame is popped, and the static field stands in its word.
 static LEAVING: [Leaving; 2] = [
     (
         "trial 10 0.1 T -- 5 0",
-        &[],
+        UNCHANGED,
         (
             "source\nreturned short 7\nstatic 0 short 7\ntarget\nreturned short 7\nstatic 0 short 7\n",
             0,
-            (0, &[]),
-            (0, &[0xA55A]),
-            (0, &[7, 0xA55A]),
+            ((0, &[]), (0, &[0xA55A]), (0, &[7, 0xA55A])),
         ),
     ),
     // method 1 waits at its first place with its two arguments
     (
         "trial 0 0.1 T -- 5 0",
-        &[],
+        UNCHANGED,
         (
             "source\nspent\nstatic 0 short 7\ntarget\nspent\nstatic 0 short 7\n",
             0,
-            (0, &[1, 0, 0, 5, 0]),
-            (0, &[0xA55A]),
-            (0, &[7]),
+            ((0, &[1, 0, 0, 5, 0]), (0, &[0xA55A]), (0, &[7])),
         ),
     ),
 ];
 
 #[test]
 fn trial_leaves_the_words_of_the_second_run(rt: HostRuntime) -> Result<(), AllocError> {
-    assert_eq!(rt; first_other_left(rt.alloc(), &LEAVING)?, None);
-    Ok(())
+    words_are_left(&rt, rt.alloc(), &LEAVING)
 }

@@ -1,6 +1,6 @@
-use crate::check_tests::{Check, first_wrong};
-use crate::typing_tests::{Method, first_other};
-use cap_tests::{Change, DESCRIPTOR, METHOD, PLAIN_ROLES};
+use crate::filling::{Held, UNCHANGED};
+use crate::rows::{Row, rows_hold};
+use cap_tests::{Change, DESCRIPTOR, METHOD};
 use std::alloc::AllocError;
 
 /// What gives the second method of package T a handler of all that is thrown, and a stack without room for it: `nop`
@@ -16,64 +16,45 @@ const WITHOUT_ROOM: [Change<'static>; 8] = [
     Change::Byte(DESCRIPTOR, 23, 9),
 ];
 
-static VERIFIED: [Check; 9] = [
+static VERIFIED: [Row; 9] = [
     // the stack is not empty at a branch
     (
         "verify T",
-        &PLAIN_ROLES,
-        &[],
-        &[],
+        UNCHANGED,
         "refused package 0 method 0.1 place 2 StackAtBranch\n",
         1,
     ),
-    (
-        "verify T U",
-        &PLAIN_ROLES,
-        &[],
-        &[],
-        "not linked NoSuper 8\n",
-        7,
-    ),
-    ("verify", &PLAIN_ROLES, &[], &[], "usage\n", 2),
-    ("verify T --", &PLAIN_ROLES, &[], &[], "usage\n", 2),
+    ("verify T U", UNCHANGED, "not linked NoSuper 8\n", 7),
+    ("verify", UNCHANGED, "usage\n", 2),
+    ("verify T --", UNCHANGED, "usage\n", 2),
     (
         "verify E",
-        &PLAIN_ROLES,
-        &[],
-        &[],
+        UNCHANGED,
         "malformed package 0 MissingPart 1\n",
         7,
     ),
     (
         "verify U",
-        &PLAIN_ROLES,
-        &[],
-        &[],
+        UNCHANGED,
         "malformed package 0 MissingPart 0\n",
         7,
     ),
     (
         "verify T T T T T T T T T T T T T T T T T",
-        &PLAIN_ROLES,
-        &[],
-        &[],
+        UNCHANGED,
         "not linked TooManyPackages 17\n",
         7,
     ),
     // no room for what a handler catches: the card verifier names the handler's entry, and the dataflow a place under it
     (
         "verify T",
-        &PLAIN_ROLES,
-        &WITHOUT_ROOM,
-        &[],
+        Held::Changed(&WITHOUT_ROOM),
         "refused package 0 method 0.1 place 2 Overflow\n",
         1,
     ),
     (
         "check T",
-        &PLAIN_ROLES,
-        &WITHOUT_ROOM,
-        &[],
+        Held::Changed(&WITHOUT_ROOM),
         "refused package 0 method 0.1 place 0 Overflow\n",
         1,
     ),
@@ -81,67 +62,78 @@ static VERIFIED: [Check; 9] = [
 
 #[test]
 fn verify_answers_for_all_packages(rt: HostRuntime) -> Result<(), AllocError> {
-    assert_eq!(rt; first_wrong(rt.alloc(), &VERIFIED)?, "");
-    Ok(())
+    rows_hold(&rt, rt.alloc(), &VERIFIED)
 }
 
-static METHODS: [Method; 6] = [
+static METHODS: [Row; 6] = [
     // nothing but `return`
     (
-        (b"\x01\x10", b"\x06\x00", b"\x7A"),
-        false,
+        "verify T",
+        Held::Second((b"\x01\x10", b"\x06\x00", b"\x7A"), false),
         "accepted 2 methods\n",
         0,
     ),
     // the first pass raises register 1 to the type of the argument, class 0, at the last store; the second finds it
     // at the `athrow`, which wants a throwable
     (
-        (
-            b"\x06\x60\x00\x21",
-            b"\x01\x11",
-            b"\x19\x66\x04\x19\x93\x18\x2C\x70\xF9",
+        "verify T",
+        Held::Second(
+            (
+                b"\x06\x60\x00\x21",
+                b"\x01\x11",
+                b"\x19\x66\x04\x19\x93\x18\x2C\x70\xF9",
+            ),
+            false,
         ),
-        false,
         "refused package 0 method 0.1 place 4 Mismatch found class 0 wanted class 1\n",
         1,
     ),
     // the same with an argument of class 3, a throwable
     (
-        (
-            b"\x06\x60\x02\x01",
-            b"\x01\x11",
-            b"\x19\x66\x04\x19\x93\x18\x2C\x70\xF9",
+        "verify T",
+        Held::Second(
+            (
+                b"\x06\x60\x02\x01",
+                b"\x01\x11",
+                b"\x19\x66\x04\x19\x93\x18\x2C\x70\xF9",
+            ),
+            false,
         ),
-        false,
         "accepted 2 methods\n",
         0,
     ),
     // a local that holds a short and then a reference
     (
-        (
-            b"\x06\x60\x00\x23",
-            b"\x01\x11",
-            b"\x04\x30\x1D\x3B\x18\x2C\x19\x3B\x03\x78",
+        "verify T",
+        Held::Second(
+            (
+                b"\x06\x60\x00\x23",
+                b"\x01\x11",
+                b"\x04\x30\x1D\x3B\x18\x2C\x19\x3B\x03\x78",
+            ),
+            false,
         ),
-        false,
         "refused package 0 method 0.1 place 6 Mismatch found top wanted class 0\n",
         1,
     ),
     // new, dup, a condition, and only then the constructor
     (
-        (
-            b"\x02\x41",
-            b"\x03\x10",
-            b"\x8F\x00\x00\x3D\x1C\x60\x05\x04\x70\x03\x03\x8C\x00\x00\x3B\x7A",
+        "verify T",
+        Held::Second(
+            (
+                b"\x02\x41",
+                b"\x03\x10",
+                b"\x8F\x00\x00\x3D\x1C\x60\x05\x04\x70\x03\x03\x8C\x00\x00\x3B\x7A",
+            ),
+            true,
         ),
-        true,
         "refused package 0 method 0.1 place 5 StackAtBranch\n",
         1,
     ),
     // code that ends in the middle of an instruction, after the last branch
     (
-        (b"\x01\x10", b"\x06\x00", b"\x7A\x11\x00"),
-        false,
+        "verify T",
+        Held::Second((b"\x01\x10", b"\x06\x00", b"\x7A\x11\x00"), false),
         "refused package 0 method 0.1 place 1 Cut\n",
         1,
     ),
@@ -149,6 +141,5 @@ static METHODS: [Method; 6] = [
 
 #[test]
 fn verify_names_the_method_without_a_card_typing(rt: HostRuntime) -> Result<(), AllocError> {
-    assert_eq!(rt; first_other(rt.alloc(), "verify T", &METHODS)?, None);
-    Ok(())
+    rows_hold(&rt, rt.alloc(), &METHODS)
 }

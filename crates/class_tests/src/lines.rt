@@ -29,29 +29,27 @@ pub(crate) const ROOT: Line<'static> = Line {
     cells: 0,
 };
 
-/// A class that implements nothing.
-pub(crate) fn below(parent: u16) -> Line<'static> {
-    Line {
-        parent: Some(parent),
-        ..ROOT
-    }
-}
+/// A class below class 0, 1 or 2 that implements nothing.
+pub(crate) const BELOW_0: Line<'static> = Line {
+    parent: Some(0),
+    ..ROOT
+};
 
-pub(crate) fn implementing(parent: u16, interfaces: &[u16]) -> Line<'_> {
-    Line {
-        parent: Some(parent),
-        interfaces,
-        ..ROOT
-    }
-}
+pub(crate) const BELOW_1: Line<'static> = Line {
+    parent: Some(1),
+    ..ROOT
+};
 
-pub(crate) fn interface(interfaces: &[u16]) -> Line<'_> {
-    Line {
-        interface: true,
-        interfaces,
-        ..ROOT
-    }
-}
+pub(crate) const BELOW_2: Line<'static> = Line {
+    parent: Some(2),
+    ..ROOT
+};
+
+/// An interface that extends none.
+pub(crate) const INTERFACE: Line<'static> = Line {
+    interface: true,
+    ..ROOT
+};
 
 fn table(alloc: Global, entries: Entries<'_>) -> Result<DispatchTable, AllocError> {
     Ok(DispatchTable {

@@ -1,11 +1,10 @@
 use crate::lending::lent;
-use crate::reading::read;
+use crate::reading::{Source, owned, read};
 use cap_package::{OwnedParts, Packages};
-use cap_tests::{Change, DIRECTORY, HEADER, IMPORT, PLAIN, PLAIN_ROLES, changed};
+use cap_tests::{Change, DIRECTORY, HEADER, IMPORT, PLAIN, PLAIN_ROLES};
 use class_tests::{Told, named};
 use jc_resolve::{Names, names};
 use std::alloc::{AllocError, Global};
-use std::test::Fail;
 
 /// What makes package T another one that imports it.
 const IMPORTING: [Change<'static>; 3] = [
@@ -19,7 +18,7 @@ fn number(n: usize) -> u32 {
 }
 
 /// How many classes and methods the names of packages number, or why there are none.
-fn told(alloc: Global, packages: &Packages<'_, '_>) -> Told {
+fn told_of(alloc: Global, packages: &Packages<'_, '_>) -> Told {
     match names(alloc, packages, PLAIN_ROLES) {
         Ok(names) => (
             "names",
@@ -30,49 +29,76 @@ fn told(alloc: Global, packages: &Packages<'_, '_>) -> Told {
     }
 }
 
-fn told_of(alloc: Global, packages: &[OwnedParts]) -> Result<Told, AllocError> {
+fn told(alloc: Global, packages: &[OwnedParts]) -> Result<Told, AllocError> {
     let parts = lent(alloc, packages)?;
     let packages = read(alloc, &parts)?;
-    Ok(told(alloc, &packages))
+    Ok(told_of(alloc, &packages))
 }
 
-/// What the names tell of the second of two packages.
-fn second(names: Names<'_, '_, '_>) -> (usize, u16, u16, u16, usize) {
-    (
-        names.packages().len(),
-        names.import_met(1, 0).unwrap_or(99),
-        names.class_named(1, 12).unwrap_or(99),
-        names.method_at(1, 7).unwrap_or(99),
-        names.into_methods().len(),
-    )
+/// Packages, and what is told of their names.
+type Case = (&'static [Source], Told);
+
+static CASES: [Case; 4] = [
+    (&[], ("TooManyPackages", 0, 0)),
+    (&[(&PLAIN, &[])], ("names", 8, 2)),
+    (&[(&PLAIN, &[]), (&PLAIN, &IMPORTING)], ("names", 16, 4)),
+    (&[(&PLAIN, &IMPORTING), (&PLAIN, &[])], ("NoPackage", 0, 0)),
+];
+
+fn is_told(alloc: Global, case: &Case) -> Result<bool, AllocError> {
+    let (sources, want) = case;
+    let packages = owned(alloc, sources)?;
+    Ok(told(alloc, &packages)? == *want)
+}
+
+/// The number of the first case of which something else is told.
+fn first_other(alloc: Global) -> Result<Option<usize>, AllocError> {
+    for (n, case) in CASES.iter().enumerate() {
+        if !is_told(alloc, case)? {
+            return Ok(Some(n));
+        }
+    }
+    Ok(None)
 }
 
 #[test]
-fn classes_and_methods_are_numbered_over_all_packages(rt: HostRuntime) -> Result<(), Fail> {
-    let alloc = rt.alloc();
-    let none = Packages::new(alloc);
-    assert_eq!(rt; told(alloc, &none), ("TooManyPackages", 0, 0));
-    let plain = changed(alloc, &PLAIN, &[])?;
-    assert_eq!(rt; told_of(alloc, &[plain])?, ("names", 8, 2));
-    let user = changed(alloc, &PLAIN, &IMPORTING)?;
-    let plain = changed(alloc, &PLAIN, &[])?;
-    assert_eq!(rt; told_of(alloc, &[user, plain])?, ("NoPackage", 0, 0));
+fn classes_and_methods_are_numbered_over_all_packages(rt: HostRuntime) -> Result<(), AllocError> {
+    assert_eq!(rt; first_other(rt.alloc())?, None);
     Ok(())
 }
 
-#[test]
-fn a_package_that_imports_another_is_numbered_after_it(rt: HostRuntime) -> Result<(), Fail> {
-    let alloc = rt.alloc();
-    let owned = [
-        changed(alloc, &PLAIN, &[])?,
-        changed(alloc, &PLAIN, &IMPORTING)?,
-    ];
-    let parts = lent(alloc, &owned)?;
-    let packages = read(alloc, &parts)?;
-    assert_eq!(rt; told(alloc, &packages), ("names", 16, 4));
-    match names(alloc, &packages, PLAIN_ROLES) {
-        Ok(names) => assert_eq!(rt; second(names), (2, 0, 9, 3, 4)),
-        Err(end) => assert_eq!(rt; named(end), ("names", 16, 4)),
+/// Whether the names tell this of the second of two packages.
+fn tells_second(names: &Names<'_, '_, '_>) -> bool {
+    names.packages().len() == 2
+        && names.import_met(1, 0) == Some(0)
+        && names.class_named(1, 12) == Some(9)
+        && names.method_at(1, 7) == Some(3)
+}
+
+fn is_numbered(alloc: Global, packages: &Packages<'_, '_>) -> bool {
+    match names(alloc, packages, PLAIN_ROLES) {
+        Ok(names) => {
+            let told = tells_second(&names);
+            names.into_methods().len() == 4 && told
+        }
+        Err(_) => false,
     }
+}
+
+fn are_numbered(alloc: Global, packages: &[OwnedParts]) -> Result<bool, AllocError> {
+    let parts = lent(alloc, packages)?;
+    let packages = read(alloc, &parts)?;
+    Ok(is_numbered(alloc, &packages))
+}
+
+/// Whether package T and the one that imports it are numbered so.
+fn both_are_numbered(alloc: Global) -> Result<bool, AllocError> {
+    let packages = owned(alloc, &[(&PLAIN, &[]), (&PLAIN, &IMPORTING)])?;
+    are_numbered(alloc, &packages)
+}
+
+#[test]
+fn a_package_that_imports_another_is_numbered_after_it(rt: HostRuntime) -> Result<(), AllocError> {
+    assert!(rt; both_are_numbered(rt.alloc())?);
     Ok(())
 }

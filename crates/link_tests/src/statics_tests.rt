@@ -2,13 +2,13 @@ ghost use Rattle.std.specs.Prelude.{◌≤◌};
 ghost use Rattle.jc_statics.specs.Statics.{static_cells};
 
 use crate::lending::lent;
-use crate::reading::read;
-use cap_tests::{Change, DESCRIPTOR, DIRECTORY, PLAIN, PLAIN_ROLES, STATIC_FIELD, changed};
-use jc_base::{Kind, Ty};
+use crate::reading::{owned, read};
+use cap_package::{OwnedParts, Packages};
+use cap_tests::{Change, DESCRIPTOR, DIRECTORY, PLAIN, PLAIN_ROLES, STATIC_FIELD};
+use jc_base::{ArrayRec, Kind, StaticRec, Ty};
 use jc_resolve::{Names, names};
 use jc_statics::{arrays, arrays_fit, statics, statics_fit};
 use std::alloc::{AllocError, Global};
-use std::test::Fail;
 
 /// Two initial arrays, three references, two zero bytes and seven values.
 const IMAGE: [u8; 32] = [
@@ -62,7 +62,18 @@ fn kind_number(kind: Kind) -> u16 {
     }
 }
 
-/// Package, offset, kind, type, slot and initial words of each static field.
+/// Tells package, offset, kind, type, slot and initial words of a static field.
+fn push_field(field: &StaticRec, told: &mut Vec<u16>) -> Result<(), AllocError> {
+    told.extend_from_slice(&[
+        field.package,
+        field.offset,
+        kind_number(field.kind),
+        type_number(field.ty),
+        field.slot,
+    ])?;
+    told.extend_from_slice(field.initial.as_slice())
+}
+
 fn push_fields(
     alloc: Global,
     names: &Names<'_, '_, '_>,
@@ -70,35 +81,44 @@ fn push_fields(
 ) -> Result<(), AllocError>
     requires { static_cells names.now.packages ≤ 32768 }
 {
-    for field in statics(alloc, names)?.as_slice() {
-        told.push(field.package)?;
-        told.push(field.offset)?;
-        told.push(kind_number(field.kind))?;
-        told.push(type_number(field.ty))?;
-        told.push(field.slot)?;
-        for word in field.initial.as_slice() {
-            told.push(*word)?;
-        }
+    let fields = statics(alloc, names)?;
+    for field in fields.as_slice() {
+        push_field(field, told)?;
     }
     Ok(())
 }
 
-/// How many packages there are, their initial arrays, and their static fields.
-fn told(alloc: Global, names: &Names<'_, '_, '_>) -> Result<Vec<u16>, AllocError> {
+/// Tells the type and the initial words of an initial array.
+fn push_array(array: &ArrayRec, told: &mut Vec<u16>) -> Result<(), AllocError> {
+    told.push(type_number(array.kind))?;
+    told.extend_from_slice(array.initial.as_slice())
+}
+
+fn push_arrays(
+    alloc: Global,
+    packages: &Packages<'_, '_>,
+    told: &mut Vec<u16>,
+) -> Result<(), AllocError> {
+    let arrays = arrays(alloc, packages)?;
+    for array in arrays.as_slice() {
+        push_array(array, told)?;
+    }
+    Ok(())
+}
+
+/// Tells how many packages there are, their initial arrays, and their static fields.
+fn push_all(
+    alloc: Global,
+    names: &Names<'_, '_, '_>,
+    told: &mut Vec<u16>,
+) -> Result<(), AllocError> {
     let packages = names.packages();
-    let mut told = Vec::new(alloc);
     told.push(packages.len() as u16)?;
     if statics_fit(packages).is_err() || arrays_fit(packages).is_err() {
-        return Ok(told);
+        return Ok(());
     }
-    for array in arrays(alloc, packages)?.as_slice() {
-        told.push(type_number(array.kind))?;
-        for word in array.initial.as_slice() {
-            told.push(*word)?;
-        }
-    }
-    push_fields(alloc, names, &mut told)?;
-    Ok(told)
+    push_arrays(alloc, packages, told)?;
+    push_fields(alloc, names, told)
 }
 
 /// What is told of the package twice, as two packages.
@@ -118,19 +138,32 @@ const WANTED: [u16; 99] = [
     9, 3, 1, 13, 0x1234, 1, 6, 2, 1, 14, 0, 1, 2, 1, 6, 15, 4,
 ];
 
-#[test]
-fn statics_and_arrays_have_their_initial_words(rt: HostRuntime) -> Result<(), Fail> {
-    let alloc = rt.alloc();
-    let owned = [
-        changed(alloc, &PLAIN, &STATICS)?,
-        changed(alloc, &PLAIN, &STATICS)?,
-    ];
-    let parts = lent(alloc, &owned)?;
+fn is_told(alloc: Global, names: &Names<'_, '_, '_>) -> Result<bool, AllocError> {
+    let mut told = Vec::new(alloc);
+    push_all(alloc, names, &mut told)?;
+    Ok(told.as_slice() == WANTED.as_slice())
+}
+
+fn is_told_of(alloc: Global, packages: &Packages<'_, '_>) -> Result<bool, AllocError> {
+    match names(alloc, packages, PLAIN_ROLES) {
+        Ok(names) => is_told(alloc, &names),
+        Err(_) => Ok(false),
+    }
+}
+
+fn are_told(alloc: Global, packages: &[OwnedParts]) -> Result<bool, AllocError> {
+    let parts = lent(alloc, packages)?;
     let packages = read(alloc, &parts)?;
-    let told = match names(alloc, &packages, PLAIN_ROLES) {
-        Ok(names) => told(alloc, &names)?,
-        Err(_) => Vec::new(alloc),
-    };
-    assert_eq!(&rt; told.as_slice(), WANTED.as_slice());
+    is_told_of(alloc, &packages)
+}
+
+fn both_are_told(alloc: Global) -> Result<bool, AllocError> {
+    let packages = owned(alloc, &[(&PLAIN, &STATICS), (&PLAIN, &STATICS)])?;
+    are_told(alloc, &packages)
+}
+
+#[test]
+fn statics_and_arrays_have_their_initial_words(rt: HostRuntime) -> Result<(), AllocError> {
+    assert!(rt; both_are_told(rt.alloc())?);
     Ok(())
 }

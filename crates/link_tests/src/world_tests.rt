@@ -1,14 +1,11 @@
 use crate::lending::lent;
-use crate::reading::read;
+use crate::reading::{owned, read};
 use crate::{LIBRARY, LIBRARY_ROLES, USER};
-use cap_package::Packages;
-use cap_tests::{PLAIN, PLAIN_ROLES, changed};
-use class_tests::named;
-use jc_base::{Kind, Member, World};
+use cap_package::{OwnedParts, Packages};
+use cap_tests::{PLAIN, PLAIN_ROLES};
+use jc_base::{Handler, Kind, Member, StaticRec, World};
 use jc_link::{class_table, link};
-use std::alloc::Global;
-use std::process::Abort;
-use std::test::Fail;
+use std::alloc::{AllocError, Global};
 
 /// The kind of a member, and what it names.
 type Named = (&'static str, u32, u32);
@@ -38,96 +35,126 @@ fn names_of(member: Member) -> Named {
     }
 }
 
+fn has_member(world: &World<'_>, n: u16, want: Named) -> bool {
+    world.package_count() == 2 && n < world.pool_count(1) && names_of(world.member(1, n)) == want
+}
+
 /// The members of the user's pool.
-fn has_members(rt: &impl Abort, world: &World<'_>) {
-    assert!(rt; world.package_count() == 2);
-    assert_eq!(rt; world.pool_count(1) as usize, MEMBERS.len());
-    for (n, want) in MEMBERS.iter().enumerate() {
-        assert!(rt; n < world.pool_count(1) as usize);
-        assert_eq!(rt; names_of(world.member(1, n as u16)), *want);
+fn has_members(world: &World<'_>) -> bool {
+    let mut n = 0u16;
+    for want in MEMBERS.iter() {
+        if !has_member(world, n, *want) {
+            return false;
+        }
+        n = n.wrapping_add(1);
     }
+    world.package_count() == 2 && world.pool_count(1) == n
 }
 
 /// The dispatch lists of a class are these.
-fn has_lists(rt: &impl Abort, world: &World<'_>, class: u16, public: &[u16], visible: &[u16]) {
-    assert!(rt; class < world.class_count());
+fn has_lists(world: &World<'_>, class: u16, public: &[u16], visible: &[u16]) -> bool {
+    if class >= world.class_count() {
+        return false;
+    }
     let record = world.class(class);
-    assert!(rt; record.public.as_slice() == public);
-    assert!(rt; record.visible.as_slice() == visible);
+    record.public.as_slice() == public && record.visible.as_slice() == visible
+}
+
+/// The code of the user's method with a handler.
+static CODE: [u8; 5] = [0x04, 0x78, 0x3B, 0x03, 0x78];
+
+fn is_handler(handler: &Handler) -> bool {
+    handler.start == 0 && handler.end == 2 && handler.entry == 2 && handler.class == 2
 }
 
 /// The user's method with a handler.
-fn has_handler(rt: &impl Abort, world: &World<'_>) {
-    assert!(rt; world.method_count() == 7);
-    let code: [u8; 5] = [0x04, 0x78, 0x3B, 0x03, 0x78];
-    assert!(rt; world.code(5) == code.as_slice());
+fn has_handler(world: &World<'_>) -> bool {
+    if world.method_count() != 7 {
+        return false;
+    }
     let handlers = world.method(5).handlers.as_slice();
-    assert!(rt; handlers.len() == 1);
-    assert_eq!(rt;
-        (handlers[0].start, handlers[0].end, handlers[0].entry),
-        (0, 2, 2)
-    );
-    assert_eq!(rt; handlers[0].class, 2);
+    world.code(5) == CODE.as_slice() && handlers.len() == 1 && handlers.iter().all(is_handler)
 }
 
 /// The user's class, below throwable.
-fn has_class(rt: &impl Abort, world: &World<'_>) {
-    has_lists(rt, world, 2, &[1], &[2]);
-    has_lists(rt, world, 3, &[4, 5], &[6]);
-    assert!(rt; world.class_count() == 4);
-    assert_eq!(rt; world.class(3).cells, 1);
-    assert!(rt; world.is_concrete(3));
+fn has_class(world: &World<'_>) -> bool {
+    world.class_count() == 4
+        && has_lists(world, 2, &[1], &[2])
+        && has_lists(world, 3, &[4, 5], &[6])
+        && world.class(3).cells == 1
+        && world.is_concrete(3)
 }
 
-/// The world of the library and its user, and the table of its classes.
-fn are_linked(rt: &impl Abort, alloc: Global, packages: &Packages<'_, '_>) {
+/// The world of the library and its user.
+fn is_linked(alloc: Global, packages: &Packages<'_, '_>) -> bool {
     match link(alloc, packages, LIBRARY_ROLES) {
-        Ok(world) => {
-            has_members(rt, &world);
-            has_class(rt, &world);
-            has_handler(rt, &world);
-        }
-        Err(end) => assert_eq!(rt; named(end), ("world", 4, 7)),
+        Ok(world) => has_members(&world) && has_class(&world) && has_handler(&world),
+        Err(_) => false,
     }
+}
+
+/// The table of its classes.
+fn has_table(alloc: Global, packages: &Packages<'_, '_>) -> bool {
     match class_table(alloc, packages, LIBRARY_ROLES) {
-        Ok(table) => assert_eq!(rt; table.len(), 4),
-        Err(end) => assert_eq!(rt; named(end), ("table", 4, 0)),
+        Ok(table) => table.len() == 4,
+        Err(_) => false,
     }
+}
+
+fn are_linked(alloc: Global, packages: &[OwnedParts]) -> Result<bool, AllocError> {
+    let parts = lent(alloc, packages)?;
+    let packages = read(alloc, &parts)?;
+    Ok(is_linked(alloc, &packages) && has_table(alloc, &packages))
+}
+
+fn both_are_linked(alloc: Global) -> Result<bool, AllocError> {
+    let packages = owned(alloc, &[(&LIBRARY, &[]), (&USER, &[])])?;
+    are_linked(alloc, &packages)
 }
 
 #[test]
 fn a_library_and_its_user_have_their_members_classes_and_handlers(
     rt: HostRuntime,
-) -> Result<(), Fail> {
-    let alloc = rt.alloc();
-    let both = [changed(alloc, &LIBRARY, &[])?, changed(alloc, &USER, &[])?];
-    let parts = lent(alloc, &both)?;
-    let packages = read(alloc, &parts)?;
-    are_linked(&rt, alloc, &packages);
+) -> Result<(), AllocError> {
+    assert!(rt; both_are_linked(rt.alloc())?);
     Ok(())
 }
 
-/// The world of package T: eight classes, two methods and one static cell, that of a short.
-fn is_plain(rt: &impl Abort, world: &World<'_>) {
-    assert_eq!(rt; world.class_count(), 8);
-    assert_eq!(rt; world.method_count(), 2);
-    assert_eq!(rt; world.static_count(), 1);
-    let field = world.static_field(0);
-    assert!(rt; matches!(field.kind, Kind::Short));
-    assert_eq!(rt; field.slot, 0);
-    let words: [u16; 1] = [7];
-    assert!(rt; field.initial.as_slice() == words.as_slice());
+/// A short in cell 0, of value 7.
+fn is_seven(field: &StaticRec) -> bool {
+    matches!(field.kind, Kind::Short)
+        && field.slot == 0
+        && field.initial.as_slice() == [7].as_slice()
+}
+
+/// The world of package T: eight classes, two methods and one static cell.
+fn is_plain(world: &World<'_>) -> bool {
+    world.class_count() == 8
+        && world.method_count() == 2
+        && world.static_count() == 1
+        && is_seven(world.static_field(0))
+}
+
+fn links_plain(alloc: Global, packages: &Packages<'_, '_>) -> bool {
+    match link(alloc, packages, PLAIN_ROLES) {
+        Ok(world) => is_plain(&world),
+        Err(_) => false,
+    }
+}
+
+fn link_plain(alloc: Global, packages: &[OwnedParts]) -> Result<bool, AllocError> {
+    let parts = lent(alloc, packages)?;
+    let packages = read(alloc, &parts)?;
+    Ok(links_plain(alloc, &packages))
+}
+
+fn plain_is_linked(alloc: Global) -> Result<bool, AllocError> {
+    let packages = owned(alloc, &[(&PLAIN, &[])])?;
+    link_plain(alloc, &packages)
 }
 
 #[test]
-fn a_plain_package_has_its_static_field(rt: HostRuntime) -> Result<(), Fail> {
-    let alloc = rt.alloc();
-    let plain = [changed(alloc, &PLAIN, &[])?];
-    let parts = lent(alloc, &plain)?;
-    let packages = read(alloc, &parts)?;
-    match link(alloc, &packages, PLAIN_ROLES) {
-        Ok(world) => is_plain(&rt, &world),
-        Err(end) => assert_eq!(rt; named(end), ("world", 8, 2)),
-    }
+fn a_plain_package_has_its_static_field(rt: HostRuntime) -> Result<(), AllocError> {
+    assert!(rt; plain_is_linked(rt.alloc())?);
     Ok(())
 }
