@@ -9,7 +9,7 @@ use Rattle.cap_package.specs.PackageRecord.{PackageRecord}
 use Rattle.cap_package.specs.Parts.{Lent}
 use Rattle.cap_package.specs.StandsFor.{StandsFor}
 use Rattle.cap_write.specs.Condition.{MayBeLaid}
-use Rattle.cap_write.specs.WrittenPackage.{HaveRewritten, IsTooLong}
+use Rattle.cap_write.specs.WrittenPackage.{HaveRewritten, IsTooLong, IsWritten}
 use Rattle.jc_base.specs.World.{Linked}
 use Rattle.jc_decode.specs.declared.symbols.Laid.{Laid}
 use Rattle.jc_link.specs.World.{IsLinked}
@@ -56,9 +56,9 @@ module _ (ps : List PackageRecord) (roles : List ℕ) (w : Linked) (linked : IsL
     last-may-be-laid agreed few = may-be-laid parted.0 p roles w last-linked first is laid each all agreed (own-reference p agreed) few
 
     module _ (accepted : AreAcceptedLibraries w) (typed : IsTypedLast w) where
-      pub transformed : StandsFor p.parts p → LaidIsAccepted w → LaidEndAlike w → (parts : List Lent) → HaveRewritten p laid parts
+      pub transformed : StandsFor p.parts p → LaidIsAccepted w → LaidEndAlike w → (parts : List Lent) → IsWritten p laid parts → HaveRewritten p laid parts
           → IsTransformed ps roles w parts
-      transformed agreed law alike parts again =
+      transformed agreed law alike parts written again =
           let code = are-laid parted.0 p roles w last-linked first is laid each all in
           let new = law parted.0 p again.made p.parts parts roles laid agreed again.stands again.rewritten last-linked accepted code in
           record {
@@ -69,6 +69,7 @@ module _ (ps : List PackageRecord) (roles : List ℕ) (w : Linked) (linked : IsL
             are = parted.1;
             laid = laid;
             code = code;
+            written = written;
             made = again.made;
             rewritten = again.rewritten;
             stands = again.stands;

@@ -4,6 +4,7 @@ use Rattle.cap_package.specs.PackageRecord.{PackageRecord}
 use Rattle.cap_package.specs.Parts.{Lent}
 use Rattle.cap_package.specs.StandsFor.{StandsFor}
 use Rattle.cap_rewritten.specs.Rewritten.{IsRewritten}
+use Rattle.cap_write.specs.WrittenPackage.{IsWritten}
 use Rattle.jc_base.specs.World.{Linked}
 use Rattle.jc_decode.specs.declared.symbols.Laid.{Laid}
 use Rattle.jc_link.specs.World.{IsLinked}
@@ -13,8 +14,9 @@ use Rattle.xf_world.specs.Laid.{AreLaidOf}
 use Rattle.xf_world.specs.Laws.{IsWorldAnew}
 use Rattle.xf_pack.specs.Ends.{AreAcceptedLibraries, IsTypedLast}
 
--- the libraries are accepted, the last package has its typings, and the parts stand for that package with what is laid for its methods;
--- with the libraries it makes a world in which each method with code has a card typing, and every run ends as it does in the former world
+-- the libraries are accepted, and the last package has its typings. Its methods are written anew with what is laid for them, and every other
+-- file is kept but for what tells of methods; the parts stand for that package with this code. With the libraries it makes a world in which each
+-- method with code has a card typing, and every run ends as it does in the former world
 pub record IsTransformed (packages : List PackageRecord) (roles : List ℕ) (w : Linked) (parts : List Lent) : Type 0 where
   pub accepted : AreAcceptedLibraries w
   pub typed : IsTypedLast w
@@ -23,6 +25,7 @@ pub record IsTransformed (packages : List PackageRecord) (roles : List ℕ) (w :
   pub are : packages ≡ and_last libraries source
   pub laid : List (Option Laid)
   pub code : AreLaidOf w laid
+  pub written : IsWritten source laid parts
   pub made : PackageRecord
   pub rewritten : IsRewritten source laid made
   pub stands : StandsFor parts made
