@@ -1,4 +1,8 @@
-"""Times a command on each shape of input, at its full size and at half of it, side by side."""
+#!/usr/bin/env python3
+"""Times a command on each shape of input, at its full size and at half of it, side by side; and one command alone:
+
+    bench/timing.py PROGRAM WORD..
+"""
 import os
 import subprocess
 import sys
@@ -41,3 +45,9 @@ def run(usage, commands, shapes, make):
         for command in commands.split():
             row = [name + " " + answered(words[1], command, after) for name, after in made] if len(words) > 1 else []
             print("%-9s %-13s %s" % (command, shape.__name__, "   ".join(row)), flush=True)
+
+
+if __name__ == "__main__":
+    if len(sys.argv) < 3:
+        sys.exit(__doc__)
+    print(timed(sys.argv[1:]))

@@ -14,7 +14,8 @@ use Rattle.cap_text.specs.Entry.{IsEntryWord}
 use Rattle.std.specs.List.{after_first}
 use Rattle.cap_text.specs.Run.{RunRequest, AreRunWords, is_end}
 use Rattle.cap_text.specs.Transform.{TransformRequest, IsTransform}
-use Rattle.cap_text.specs.Request.{Request, probe, show, check, verify, defend, run, transform, trial, IsRequest, IsUsage, OneRequest}
+use Rattle.cap_text.specs.Generate.{GenerateRequest, IsGenerate}
+use Rattle.cap_text.specs.Request.{Request, probe, show, check, verify, defend, run, transform, trial, generate, IsRequest, IsUsage, OneRequest}
 use Rattle.cap_text.specs.declared.entry.Entry.{Entry}
 use Rattle.vm_step.specs.Arguments.{Argument, number, null, bytes}
 use Rattle.hex.specs.Hex.{encode_lower, decode_of, IsBytes}
@@ -106,6 +107,15 @@ one_transform (out ∷ dirs) t u is_t is_u =
     let same_dirs : t.dirs ≡ u.dirs = is_t.1 ∙ sym is_u.1 in
     λ i. record { out = same_out i; dirs = same_dirs i }
 
+one_generate : (operands : List (List ℕ)) (g h : GenerateRequest) → IsGenerate operands g → IsGenerate operands h → g ≡ h
+one_generate [] g h is_g is_h = absurd is_g
+one_generate (seed ∷ []) g h is_g is_h = absurd is_g
+one_generate (seed ∷ out ∷ []) g h is_g is_h =
+    let same_seed : g.seed ≡ h.seed = decimal_injective g.seed h.seed (omega (arith, is_g.0.fits)) (omega (arith, is_h.0.fits)) (sym is_g.0.writes ∙ is_h.0.writes) in
+    let same_out : g.out ≡ h.out = is_g.1 ∙ sym is_h.1 in
+    λ i. record { seed = same_seed i; out = same_out i }
+one_generate (seed ∷ out ∷ more ∷ rest) g h is_g is_h = absurd is_g
+
 -- ---- the commands' names are apart
 
 -- a name by its first letter and its length
@@ -122,6 +132,7 @@ key_of (defend r) = 10006
 key_of (run r) = 11403
 key_of (transform t) = 11609
 key_of (trial r) = 11605
+key_of (generate g) = 10303
 
 named : (name : List ℕ) (operands : List (List ℕ)) (r : Request) → IsRequest (name ∷ operands) r → key name ≡ key_of r
 unfolding first key key_of
@@ -133,6 +144,7 @@ named name operands (defend r) is = ap key is.0
 named name operands (run r) is = ap key is.0
 named name operands (transform t) is = ap key is.0
 named name operands (trial r) is = ap key is.0
+named name operands (generate g) is = ap key is.0
 
 apart : (m n : ℕ) → (m == n) ≡ false → m ≡ n → ⊥
 apart m n differ same = grind (arith, nat_tests)
@@ -173,5 +185,6 @@ one_request (name ∷ operands) (defend r) (defend s) is_r is_s = ap defend (one
 one_request (name ∷ operands) (run r) (run s) is_r is_s = ap run (one_run operands r s is_r.1 is_s.1)
 one_request (name ∷ operands) (transform t) (transform u) is_r is_s = ap transform (one_transform operands t u is_r.1 is_s.1)
 one_request (name ∷ operands) (trial r) (trial s) is_r is_s = ap trial (one_run operands r s is_r.1 is_s.1)
+one_request (name ∷ operands) (generate g) (generate h) is_r is_s = ap generate (one_generate operands g h is_r.1 is_s.1)
 one_request (name ∷ operands) r s is_r is_s =
     absurd (apart (key_of r) (key_of s) refl (sym (named name operands r is_r) ∙ named name operands s is_s))

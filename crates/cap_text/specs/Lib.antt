@@ -20,5 +20,6 @@ pub mod Ending
 pub mod Line
 pub mod Transformed
 pub mod Trial
+pub mod Generate
 pub mod Table
 pub mod Worked

@@ -6,8 +6,9 @@ use Rattle.cap_text.specs.Check.{CheckRequest, IsCheck, check_request}
 use Rattle.cap_text.specs.Verify.{VerifyRequest, IsVerify, verify_request}
 use Rattle.cap_text.specs.Run.{RunRequest, AreRunWords, run_request}
 use Rattle.cap_text.specs.Transform.{TransformRequest, IsTransform, transform_request}
+use Rattle.cap_text.specs.Generate.{GenerateRequest, IsGenerate, generate_request}
 use Rattle.cap_text.specs.declared.command.Command.{Command}
-use Rattle.cap_text.specs.declared.command.Command.TheVariants.{Probe, Show, Check, Verify, Defend, Run, Transform, Trial}
+use Rattle.cap_text.specs.declared.command.Command.TheVariants.{Probe, Show, Check, Verify, Defend, Run, Transform, Trial, Generate}
 
 -- a command with its operands
 pub data Request : Type 0 where
@@ -19,6 +20,7 @@ pub data Request : Type 0 where
   run : RunRequest → Request
   transform : TransformRequest → Request
   trial : RunRequest → Request
+  generate : GenerateRequest → Request
 
 -- the words are the command's name and then operands of its grammar
 abbrev pub IsRequest : List (List ℕ) → Request → Type 0
@@ -31,6 +33,7 @@ IsRequest (name ∷ operands) (defend r) = (name ≡ codes "defend") × AreRunWo
 IsRequest (name ∷ operands) (run r) = (name ≡ codes "run") × AreRunWords operands r
 IsRequest (name ∷ operands) (transform t) = (name ≡ codes "transform") × IsTransform operands t
 IsRequest (name ∷ operands) (trial r) = (name ≡ codes "trial") × AreRunWords operands r
+IsRequest (name ∷ operands) (generate g) = (name ≡ codes "gen") × IsGenerate operands g
 
 -- the words are outside the grammar
 abbrev pub IsUsage : List (List ℕ) → Type 0
@@ -46,6 +49,7 @@ request_of (Defend r) = defend (run_request r)
 request_of (Run r) = run (run_request r)
 request_of (Transform t) = transform (transform_request t)
 request_of (Trial r) = trial (run_request r)
+request_of (Generate g) = generate (generate_request g)
 
 -- a list of words asks for one thing
 abbrev pub OneRequest : List (List ℕ) → Type 0

@@ -2,6 +2,7 @@ ghost use Rattle.std.specs.Prelude.{IfOk, IfSome, IfNone};
 ghost use Rattle.cap_text.specs.Request.{Request, IsRequest, IsUsage, request_of, OneRequest};
 
 use crate::check::Check;
+use crate::generate::Generate;
 use crate::probe::Probe;
 use crate::run::Run;
 use crate::show::Show;
@@ -21,6 +22,7 @@ pub enum Command<'a> {
     Run(Run<'a>),
     Transform(Transform<'a>),
     Trial(Run<'a>),
+    Generate(Generate<'a>),
 }
 
 /// The command that the words spell, where they spell one. The arguments of a run take memory.
@@ -57,6 +59,9 @@ pub fn read_command<'a>(alloc: Global, words: &'a Words) -> Result<Option<Comman
     }
     if name == "trial" {
         return Ok(Run::read(alloc, operands)?.map(Command::Trial));
+    }
+    if name == "gen" {
+        return Ok(Generate::read(operands).map(Command::Generate));
     }
     Ok(None)
 }

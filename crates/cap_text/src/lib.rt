@@ -11,6 +11,7 @@ mod ending;
 mod entry;
 mod fault;
 mod flow;
+mod generate;
 mod line;
 mod linked;
 mod printed;
@@ -32,6 +33,7 @@ pub use command::{Command, read_command};
 pub use ending::{write_array_head, write_element, write_ending, write_static};
 pub use entry::Entry;
 pub use fault::Shown;
+pub use generate::{Generate, generated};
 pub use line::{
     MethodNumber, accepted, bare_ending, malformed, not_linked, not_started, refused_bare,
     refused_card, refused_flow, typed, write_not_started, write_refused_card,

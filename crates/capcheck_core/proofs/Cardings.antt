@@ -36,7 +36,7 @@ pub all_carded : (w : Linked) → AreAccepted w → AreCarded w
 all_carded w all m is = below_carded w (length w.methods) all m is (slice_get_within w.methods m.number m.rec is.rec)
 
 -- each of them has a dataflow typing, in which an unset register holds no value
-all_typed : (w : Linked) → AreAccepted w → AreTypedMethods w Bottom
+pub all_typed : (w : Linked) → AreAccepted w → AreTypedMethods w Bottom
 all_typed w all m is =
     let code : 0 < m.rec.code_len = typings.has_code w.infos m.rec (subst (λ c. 0 < length c) is.code is.filled) in
     subst (λ k. HasFlowTyping w k Bottom) (same_method w m is) (all m.number (slice_get_within w.methods m.number m.rec is.rec) m.rec is.rec code).flow
@@ -87,6 +87,14 @@ first_uncarded w n fault code number text f is long named prints =
       tells = f.here.refused.refused;
       prints = prints ∙ ap (λ k. refused_card_line k fault) numbers;
     }
+
+-- where each method with code has a card typing, none is refused
+pub none_refused : (w : Linked) (n : ℕ) (fault : CardFault) (code : List ℕ) → AreCarded w → IsFirstRefused w n fault
+    → option_map (code_of w.infos) (slice_get w.methods n) ≡ Some code → IfSome (slice_get w.methods n) (λ m. length code ≡ m.code_len) → ⊥
+none_refused w n fault code carded f is long =
+    f.here.refused.none
+    (carded (method_with w n f.here.rec)
+    (record { rec = f.here.is; code = refl; filled = filled w (slice_get w.methods n) f.here.rec code f.here.is is long f.here.has_code }))
 
 pub number_below : (w : Linked) (n : ℕ) (fault : CardFault) → IsFirstRefused w n fault → n < length w.methods
 number_below w n fault f = slice_get_within w.methods n f.here.rec f.here.is

@@ -1,5 +1,5 @@
 -- Where what a command needs is there and no device failed, no other verdict than Done and Memory has its cause.
-use Rattle.std.proofs.Common.{◌≡◌, ◌⊎◌, List, ℕ, ℤ, ◌<◌, length, map, subst, ◌∙◌, inl, inr, refl, arith, rules, suc, zero, [], ◌∷◌, All, FitsSigned, w16}
+use Rattle.std.proofs.Common.{◌≡◌, ◌⊎◌, List, ℕ, ℤ, ◌<◌, length, map, ap, subst, ◌∙◌, inl, inr, refl, arith, rules, suc, zero, [], ◌∷◌, All, FitsSigned, w16}
 use Rattle.std.specs.Prelude.{None, IfSome, IsSomeAnd, string_bytes, slice_get}
 use Rattle.std.specs.FinMap as map
 use Rattle.cap_files.specs.Folder.{Folders, Holds, IsThere, IsAbsent, IsTooLong}
@@ -13,7 +13,10 @@ use Rattle.cap_text.specs.Check.{CheckRequest}
 use Rattle.cap_text.specs.Verify.{VerifyRequest}
 use Rattle.cap_text.specs.Run.{RunRequest}
 use Rattle.cap_text.specs.Transform.{TransformRequest}
-use Rattle.cap_text.specs.Request.{Request, probe, show, check, verify, defend, run, transform, trial}
+use Rattle.cap_text.specs.Generate.{GenerateRequest}
+use Rattle.xf_pack.specs.Ends.{IsPartLong}
+use Rattle.capcheck_core.specs.Generate.{generated, GeneratesIn, Generates}
+use Rattle.cap_text.specs.Request.{Request, probe, show, check, verify, defend, run, transform, trial, generate}
 use Rattle.capcheck_core.specs.declared.verdict.Verdict.{Verdict}
 use Rattle.capcheck_core.specs.declared.verdict.Verdict.TheVariants.{Done, Refused, Limit, Malformed, Usage, ReadFault, StoreFault, Memory}
 use Rattle.capcheck_core.specs.Verdict.{status_of}
@@ -26,7 +29,7 @@ use Rattle.capcheck_core.specs.Trial.{TriesWorld, Tries}
 use Rattle.capcheck_core.specs.World.{of_world}
 use Rattle.capcheck_core.specs.Outside.{Outside}
 use Rattle.capcheck_core.specs.Answers.{Answers, IsVerdict}
-use Rattle.capcheck_core.specs.Completeness.{CanProbe, CanShow, CanCheck, CanVerify, CanDefend, CanRun, CanBring, CanTransform, CanTry, CanDo, NoFault, Completes}
+use Rattle.capcheck_core.specs.Completeness.{CanProbe, CanShow, CanCheck, CanVerify, CanDefend, CanRun, CanBring, CanTransform, CanTry, CanGenerate, AreWithinLimits, CanDo, NoFault, Completes}
 use Rattle.capcheck_core.specs.MethodFile.{IsMethodFile}
 use Rattle.capcheck_core.specs.Probe.{ProbesFolder, FailsMethodPart, Probes, OfMethodPart, OfMethod, IsRefusal, IsUnstarted, IsNoMethod, method_key}
 use Rattle.capcheck_core.specs.Report.{Seen, IsReported}
@@ -273,6 +276,27 @@ can_try r before after sink put verdict can calm answers =
       | inr own ↦ tried r can.links.made.packages can.links.roles can.world before after verdict can.brings can.begins own
     ]
 
+-- a package is generated and its methods run, where no limit is passed and no store fails
+has_generated : (g : GenerateRequest) (w : Linked) (before after : Outside) (sink put : Seen) (verdict : Verdict)
+    → AreWithinLimits w → ((n : ℕ) → IsPartLong (generated g.seed) w n → ⊥) → NoFault before.folders after.folders sink put
+    → GeneratesIn g w before after verdict → (status_of verdict ≡ 0) ⊎ (status_of verdict ≡ 6)
+has_generated g w before after sink put (Done text) within short calm own = inl refl
+has_generated g w before after sink put Memory within short calm own = inr refl
+has_generated g w before after sink put StoreFault within short calm own = absurd (calm.stores own.broken.rose)
+has_generated g w before after sink put (Limit text) within short calm (same, inl says) = absurd (within says.is.method says.is.of_last says.limit says.is.passes)
+has_generated g w before after sink put (Limit text) within short calm (same, inr says) = absurd (short says.size says.is)
+has_generated g w before after sink put (Refused text) within short calm own = absurd own
+has_generated g w before after sink put (Malformed text) within short calm own = absurd own
+has_generated g w before after sink put Usage within short calm own = absurd own
+has_generated g w before after sink put ReadFault within short calm own = absurd own
+
+can_generate : (g : GenerateRequest) (before after : Outside) (sink put : Seen) (verdict : Verdict) → CanGenerate g
+    → NoFault before.folders after.folders sink put → Generates g before after verdict → (status_of verdict ≡ 0) ⊎ (status_of verdict ≡ 6)
+can_generate g before after sink put verdict can calm (inl stopped) = inr (ap status_of stopped.1)
+can_generate g before after sink put verdict can calm (inr of) =
+    let free = can of.world of.linked in
+    has_generated g of.world before after sink put verdict free.0 free.1 calm of.holds
+
 can_do : (r : Request) (before after : Outside) (sink put : Seen) (verdict : Verdict) → CanDo r before.folders → NoFault before.folders after.folders sink put
     → Answers r before after verdict → (status_of verdict ≡ 0) ⊎ (status_of verdict ≡ 6)
 can_do (probe p) before after sink put verdict can calm answers = can_probe p before.folders after.folders sink put verdict can calm answers.0
@@ -283,6 +307,7 @@ can_do (defend r) before after sink put verdict can calm answers = can_defend r 
 can_do (run r) before after sink put verdict can calm answers = can_run r before after sink put verdict can calm answers
 can_do (transform t) before after sink put verdict can calm answers = can_transform t before after sink put verdict can calm answers
 can_do (trial r) before after sink put verdict can calm answers = can_try r before after sink put verdict can calm answers
+can_do (generate g) before after sink put verdict can calm answers = can_generate g before after sink put verdict can calm answers
 
 reported : (verdict : Verdict) (before after : Folders) (sink put : Seen) (status : ℕ) → NoFault before after sink put → IsReported verdict sink put status
     → (status_of verdict ≡ 0) ⊎ (status_of verdict ≡ 6) → (status ≡ 0) ⊎ (status ≡ 6)

@@ -12,3 +12,4 @@ pub mod Worlds
 pub mod WorldComplete
 pub mod Complete
 pub mod Ran
+pub mod Generates

@@ -31,7 +31,7 @@ use Rattle.vm_text.specs.Text.{left_text, run_text, outcome_text}
 use Rattle.cap_text.specs.Room.{Roomed, IsEmpty, Writes}
 use Rattle.cap_text.specs.Run.{RunRequest}
 use Rattle.capcheck_core.specs.declared.running.RunStop.{RunStop}
-use Rattle.capcheck_core.specs.Outside.{Card, card}
+use Rattle.capcheck_core.specs.Outside.{card}
 use Rattle.capcheck_core.specs.Defend.{method_entered}
 use Rattle.capcheck_core.specs.Run.{HoldsWords, IsLeft, IsRun, StopsRun}
 
@@ -79,7 +79,7 @@ pub written_in : (w v : Linked) (heap statics : List ℕ) (counts : Counts) (end
 written_in w v heap statics counts ending before after same writes =
     subst (λ x. Writes before after (left_text (left_by words x (words_left heap statics counts)) (endings.Plain ending))) same writes
 
-holds : (w : Linked) (m : Machine) (ram heap statics : List ℕ) (o : Outcome Cell) → AreWordsOf w m ram heap statics o
+pub holds : (w : Linked) (m : Machine) (ram heap statics : List ℕ) (o : Outcome Cell) → AreWordsOf w m ram heap statics o
     → HoldsWords w (card ram heap statics) o
 holds w m ram heap statics o are =
     let all : take (static_cells w) statics ≡ statics
@@ -150,7 +150,7 @@ left w number r m ram heap statics before after ending entered begun n ram_after
 
 -- ---- in the whole memory of a card
 
-wider : (w : Linked) (ram heap fields others : List ℕ) (o : Outcome Cell) → length fields ≡ static_cells w → HoldsWords w (card ram heap fields) o
+pub wider : (w : Linked) (ram heap fields others : List ℕ) (o : Outcome Cell) → length fields ≡ static_cells w → HoldsWords w (card ram heap fields) o
     → HoldsWords w (card ram heap (fields ++ others)) o
 wider w ram heap fields others o long holds =
     let one : take (static_cells w) (fields ++ others) ≡ fields = ap (λ n. take n (fields ++ others)) (sym long) ∙ take-append_seam fields others in

@@ -1,6 +1,6 @@
 -- The package that was made anew makes one world with the libraries, and nothing keeps its runs from beginning.
-use Rattle.std.proofs.Common.{◌≡◌, ℕ, List, [], ◌∷◌, ◌++◌, length, map, Some, None, refl, sym, ap, subst, ◌∙◌}
-use Rattle.std.specs.Prelude.{◌-◌, ◌+◌, ◌*◌, suc, Err}
+use Rattle.std.proofs.Common.{◌≡◌, ℕ, List, [], ◌∷◌, ◌++◌, length, Some, None, refl, sym, ap, subst, ◌∙◌}
+use Rattle.std.specs.Prelude.{◌-◌, ◌*◌, suc, Err}
 use Rattle.std.proofs.lemmas.List.{length-map}
 use Rattle.cap_package.specs.PackageRecord.{PackageRecord}
 use Rattle.cap_package.specs.Parts.{Lent}
@@ -11,7 +11,6 @@ use Rattle.jc_control.specs.Method.{IsMethodOf}
 use Rattle.card_typing.specs.Typing.{HasCardTyping}
 use Rattle.xf_landed.specs.Apart.{IsSameBut}
 use Rattle.jc_link.specs.World.{IsLinked, LinkTells}
-use Rattle.jc_link.specs.LinkEnd.{LinkEnd}
 use Rattle.jc_link.specs.LinkEnd.TheVariants as ends
 use Rattle.jc_link.specs.LinkFault.{LinkFault}
 use Rattle.jc_link.proofs.OneWorld.{one_world, linked_faultless}
@@ -67,7 +66,7 @@ as_many : (ls : List PackageRecord) (p q : PackageRecord) → length (ls ++ p �
 as_many [] p q = refl
 as_many (l ∷ ls) p q = ap suc (as_many ls p q)
 
-infos_counted : (ps : List PackageRecord) (roles : List ℕ) (w : Linked) → IsLinked ps roles w → length w.infos ≡ length ps
+pub infos_counted : (ps : List PackageRecord) (roles : List ℕ) (w : Linked) → IsLinked ps roles w → length w.infos ≡ length ps
 infos_counted ps roles w linked = ap length linked.lists.infos ∙ length-map ps (λ (p : PackageRecord). p.methods.info)
 
 module _ (packages : List PackageRecord) (roles : List ℕ) (w : Linked) (linked : IsLinked packages roles w) (parts : List Lent) (new : Linked)

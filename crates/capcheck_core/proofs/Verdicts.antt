@@ -1,7 +1,7 @@
 -- A list of words asks for one thing, so the verdict for it is the verdict for whatever they ask.
 use Rattle.std.proofs.Common.{◌≡◌, List, ℕ, subst, sym, inl, refl}
 use Rattle.std.specs.Prelude.{Result, Ok, Err, IfOk, MatchResult}
-use Rattle.cap_text.specs.Request.{Request, probe, show, check, verify, defend, run, transform, trial, IsRequest, OneRequest}
+use Rattle.cap_text.specs.Request.{Request, probe, show, check, verify, defend, run, transform, trial, generate, IsRequest, OneRequest}
 use Rattle.capcheck_core.specs.declared.verdict.Verdict.{Verdict}
 use Rattle.capcheck_core.specs.declared.verdict.Verdict.TheVariants.{Memory}
 use Rattle.capcheck_core.specs.Outside.{Outside, Untouched}
@@ -24,6 +24,7 @@ no_memory (defend r) before after same = inl same
 no_memory (run r) before after same = inl same
 no_memory (transform t) before after same = inl same
 no_memory (trial r) before after same = inl same
+no_memory (generate g) before after same = inl (same, refl)
 
 pub without_memory : (words : List (List ℕ)) (outside : Outside) → IsVerdict words outside outside Memory
 without_memory words outside =

@@ -1,6 +1,6 @@
 -- What each command may answer, and what it leaves as it was.
 use Rattle.std.specs.Prelude.{◌≡◌, ℕ, List}
-use Rattle.cap_text.specs.Request.{Request, probe, show, check, verify, defend, run, transform, trial, IsRequest, IsUsage}
+use Rattle.cap_text.specs.Request.{Request, probe, show, check, verify, defend, run, transform, trial, generate, IsRequest, IsUsage}
 use Rattle.capcheck_core.specs.declared.verdict.Verdict.{Verdict}
 use Rattle.capcheck_core.specs.declared.verdict.Verdict.TheVariants.{Usage, Memory}
 use Rattle.capcheck_core.specs.Outside.{Outside, Untouched}
@@ -12,6 +12,7 @@ use Rattle.capcheck_core.specs.Defend.{Defends}
 use Rattle.capcheck_core.specs.Run.{Runs}
 use Rattle.capcheck_core.specs.Transform.{Transforms}
 use Rattle.capcheck_core.specs.Trial.{Tries}
+use Rattle.capcheck_core.specs.Generate.{Generates}
 
 -- the verdicts of each command, and what it makes of the outside
 abbrev pub Answers : Request → Outside → Outside → Verdict → Type 0
@@ -23,6 +24,7 @@ Answers (defend r) before after verdict = Defends r before after verdict
 Answers (run r) before after verdict = Runs r before after verdict
 Answers (transform t) before after verdict = Transforms t before after verdict
 Answers (trial r) before after verdict = Tries r before after verdict
+Answers (generate g) before after verdict = Generates g before after verdict
 
 -- the verdicts where the words ask for nothing
 abbrev pub SaysUsage : Verdict → Type 0

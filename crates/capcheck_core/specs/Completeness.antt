@@ -10,7 +10,8 @@ use Rattle.cap_text.specs.Check.{CheckRequest}
 use Rattle.cap_text.specs.Verify.{VerifyRequest}
 use Rattle.cap_text.specs.Run.{RunRequest}
 use Rattle.cap_text.specs.Transform.{TransformRequest}
-use Rattle.cap_text.specs.Request.{Request, probe, show, check, verify, defend, run, transform, trial, IsRequest}
+use Rattle.cap_text.specs.Generate.{GenerateRequest}
+use Rattle.cap_text.specs.Request.{Request, probe, show, check, verify, defend, run, transform, trial, generate, IsRequest}
 use Rattle.cap_package.specs.Parts.{Lent}
 use Rattle.cap_package.specs.PackageRecord.{PackageRecord}
 use Rattle.cap_package.specs.StandsFor.{StandsFor}
@@ -20,6 +21,9 @@ use Rattle.jc_control.specs.Asked.{IsOfLast}
 use Rattle.xf_pack.specs.declared.end.MethodLimit.{MethodLimit}
 use Rattle.xf_pack.specs.Ends.{AreAcceptedLibraries, IsPartLong}
 use Rattle.xf_pack.specs.Limits.{PassesLimit}
+use Rattle.cap_gen.specs.Linked.{roles}
+use Rattle.jc_link.specs.World.{IsLinked}
+use Rattle.capcheck_core.specs.Generate.{generated}
 use Rattle.capcheck_core.specs.Defend.{run_fault}
 use Rattle.capcheck_core.specs.MethodFile.{IsMethodFile}
 use Rattle.capcheck_core.specs.Loads.{AreParts}
@@ -118,6 +122,10 @@ pub record CanTry (r : RunRequest) (before : Folders) : Type 0 where
   pub brings : CanBring links.made.packages world
   pub begins : run_fault world r ≡ None
 
+-- no limit is passed on the way to the form that a verifier on the card accepts
+abbrev pub CanGenerate : GenerateRequest → Type 0
+CanGenerate g = (w : Linked) → IsLinked (generated g.seed) roles w → AreWithinLimits w × ((n : ℕ) → IsPartLong (generated g.seed) w n → ⊥)
+
 -- what a command needs is there
 abbrev pub CanDo : Request → Folders → Type 0
 CanDo (probe p) before = CanProbe p before
@@ -128,6 +136,7 @@ CanDo (defend r) before = CanDefend r before
 CanDo (run r) before = CanRun r before
 CanDo (transform t) before = CanTransform t before
 CanDo (trial r) before = CanTry r before
+CanDo (generate g) before = CanGenerate g
 
 -- where the words ask for something, what it needs is there and no device failed, the work is done or there was no memory
 abbrev pub Completes : List (List ℕ) → Folders → Folders → Seen → Seen → ℕ → Type 0

@@ -20,6 +20,7 @@ pub mod Run
 pub mod Stores
 pub mod Transform
 pub mod Trial
+pub mod Generate
 pub mod CheckEnds
 pub mod Step
 pub mod Answers

@@ -7,6 +7,7 @@ ghost use Rattle.capcheck_core.specs.Report.{IsReported, seen};
 ghost use Rattle.capcheck_core.specs.Run.{IsWhole};
 ghost use Rattle.capcheck_core.specs.declared.verdict.Verdict.{Verdict};
 
+use crate::generating::generate_and_run;
 use crate::probe::probe;
 use crate::report::report;
 use crate::show::show;
@@ -137,5 +138,8 @@ fn perform<F: Folder>(
             heap,
             statics,
         ),
+        Command::Generate(operands) => {
+            generate_and_run(alloc, operands, folder, ram, heap, statics)
+        }
     }
 }

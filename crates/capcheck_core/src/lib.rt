@@ -6,6 +6,7 @@
 mod call;
 mod carding;
 mod defending;
+mod generating;
 mod load;
 mod method_file;
 mod packages;

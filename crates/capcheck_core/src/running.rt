@@ -216,8 +216,8 @@ fn run_entry(
     begin(accepted, run, number, args, text, ram, heap, fields)
 }
 
-// How many words the static fields of a world take: not more than a card has for them.
-fn field_words(world: &World<'_>) -> usize
+/// How many words the static fields of a world take: not more than a card has for them.
+pub(crate) fn field_words(world: &World<'_>) -> usize
     ensures fields { result ≡ static_cells world.now }
     ensures most { result ≤ 32768 }
 {

@@ -2,7 +2,7 @@
 use Rattle.std.proofs.Common.{subst}
 use Rattle.capcheck_core.specs.Run.{bounded_request}
 use Rattle.capcheck_core.specs.Run.{StopsRun}
-use Rattle.capcheck_core.proofs.Cardings.{all_carded, first_uncarded, number_below}
+use Rattle.capcheck_core.proofs.Cardings.{all_carded, first_uncarded}
 use Rattle.capcheck_core.proofs.running.not_run.Goals as goal
 
 pub returns-in-Refused : goal.returns-in-Refused

@@ -1,6 +1,6 @@
 -- one store more, or the first that fails
-use Rattle.std.proofs.Common.{ℕ, ◌+◌, List, sym, subst, ◌∙◌, ap, arith, ◌++◌, ◌∷◌, take, drop}
-use Rattle.std.proofs.lemmas.List.{take_all, take-append-drop}
+use Rattle.std.proofs.Common.{◌+◌, sym, subst, ◌∙◌, ap, ◌++◌, take, drop}
+use Rattle.std.proofs.lemmas.List.{take-append-drop}
 use Rattle.jc_indexes.proofs.Listing.{next-drop, next-take}
 use Rattle.cap_package.specs.Parts.{Lent}
 use Rattle.capcheck_core.specs.Stores.{AreStored}

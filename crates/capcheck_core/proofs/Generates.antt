@@ -1,0 +1,363 @@
+-- The package that is generated makes one world, in which its methods can be run.
+use Rattle.std.proofs.Common.{◌≡◌, ◌⊎◌, ◌<◌, ◌+◌, ◌-◌, ◌/◌, ◌%◌, ℕ, zero, suc, ℤ, pos, Bool, true, false, List, [], ◌∷◌, ◌++◌, length, map, Option, Some, None, inl, inr, refl, sym, ap, subst, ◌∙◌, arith, get_or}
+use Rattle.std.specs.Prelude.{slice_get, not, nat_lt, if◌then◌else◌, fold, ◌+ℤ◌, IsSomeAnd, IfOk, MatchBool, MatchResult, Result, Ok, Err, string_bytes}
+use Rattle.std.specs.List.{range_with_len}
+use Rattle.std.proofs.lemmas.List.FromFn.{get_or-map-range_with_len}
+use Rattle.cap_gen.specs.Linked.{roles, method_record}
+use Rattle.cap_gen.specs.Record.{package_record}
+use Rattle.cap_package.specs.PackageRecord.{PackageRecord}
+use Rattle.cap_package.specs.Parts.{Lent}
+use Rattle.cap_package.specs.StandsFor.{StandsFor, HavePackage}
+use Rattle.xf_pack.specs.Transformed.{IsTransformed}
+use Rattle.vm_offend.specs.declared.machine.Machine.{Machine}
+use Rattle.vm_offend.specs.Begun.{IsBegun}
+use Rattle.vm_offend.specs.Sized.{static_cells}
+use Rattle.vm_store.specs.Cells.{tagged}
+use Rattle.cap_gen.proofs.Linking.{methods_are}
+use Rattle.cap_gen.specs.Laws.{PackagesLink, PartsStand, WorldsAreTyped}
+use Rattle.cap_gen.specs.Methods.{method_info}
+use Rattle.cap_gen.specs.Generated as parts
+use Rattle.jc_base.specs.Class.{is_interface}
+use Rattle.jc_base.specs.Linked.{IsCodeLength, IsMethod}
+use Rattle.jc_base.specs.World.{Linked, IsWorld, method_numbered}
+use Rattle.jc_base.proofs.Lists.{All-slice_get}
+use Rattle.jc_base.specs.declared.record.MethodRec.{MethodRec}
+use Rattle.jc_base.specs.declared.ty.Ty.TheVariants.{Bottom}
+use Rattle.jc_link.specs.World.{IsLinked, LinkTells}
+use Rattle.jc_link.specs.LinkEnd.TheVariants as ends
+use Rattle.jc_link.specs.LinkFault.{LinkFault}
+use Rattle.jc_link.proofs.OneWorld.{linked_faultless}
+use Rattle.jc_rewritten.specs.Last.{and_last}
+use Rattle.card_verify.specs.Answers.{AreAccepted}
+use Rattle.vm_sound.specs.Laws.{TypedCodeIsFaultFree}
+use Rattle.vm_alike.specs.Starting.{StartsRefuseAlike, MethodsAreNumberedAlike}
+use Rattle.vm_step.specs.Raising.{Outcome, running, ended}
+use Rattle.vm_step.specs.Start.{entry_fault, entry_state, method_fault, or_room}
+use Rattle.vm_defend.specs.Held.{answer}
+use Rattle.vm_step.specs.declared.start_fault.StartFault.TheVariants.{NotStatic}
+use Rattle.vm_step.specs.declared.ending.Ending.{Ending}
+use Rattle.vm_step.specs.declared.ending.Plain.TheVariants as plains
+use Rattle.vm_step.specs.declared.start_fault.StartFault.{StartFault}
+use Rattle.vm_step.specs.declared.ending.Plain.{Plain as PlainEnding}
+use Rattle.vm_step.specs.declared.ending.Ending.TheVariants as endings
+use Rattle.vm_store.specs.declared.cell.Cell.{Cell}
+use Rattle.vm_offend.specs.Held.{ending_of, Follows}
+use Rattle.xf_landed.specs.Apart.{IsSameBut}
+use Rattle.cap_text.specs.Generate.{GenerateRequest, generate_text}
+use Rattle.capcheck_core.specs.declared.verdict.Verdict.{Verdict}
+use Rattle.capcheck_core.specs.declared.verdict.Verdict.TheVariants.{Done, Refused, Limit, Malformed, Usage, ReadFault, StoreFault, Memory}
+use Rattle.capcheck_core.specs.Generate.{generated, run_of, short_of, short_ended, AreRun, ComeOfRuns, HaveEntries, GeneratesIn, IsNew, IsRunOf, RunsAll, TellsParts}
+use Rattle.capcheck_core.specs.Defend.{ComesTo, method_entered}
+use Rattle.capcheck_core.specs.Outside.{Card, Outside, card}
+use Rattle.capcheck_core.specs.Run.{HoldsWords}
+use Rattle.capcheck_core.specs.Stores.{AreInOrder, AreStored}
+use Rattle.capcheck_core.specs.Transform.{StopsBefore}
+use Rattle.capcheck_core.specs.Verify.{AreCarded}
+use Rattle.capcheck_core.proofs.Cardings.{all_typed}
+use Rattle.capcheck_core.proofs.Ran.{holds, wider}
+use Rattle.capcheck_core.proofs.Trials.{infos_counted, with_made, has_new, never_at_fault}
+use Rattle.capcheck_core.proofs.WorldComplete.{one_package}
+
+-- ---- what is not brought into the form is not generated
+
+module _ (g : GenerateRequest) (w : Linked) (linked : IsLinked (generated g.seed) roles w) (typed : WorldsAreTyped) where
+  -- there is no library
+  one_info : length w.infos ≡ 1
+  one_info = infos_counted (generated g.seed) roles w linked
+
+  pub unbrought : (before after : Outside) (verdict : Verdict) → after.folders ≡ before.folders → StopsBefore (generated g.seed) w verdict
+      → GeneratesIn g w before after verdict
+  unbrought before after (Done text) same stops = absurd stops
+  unbrought before after (Malformed text) same stops = absurd stops
+  unbrought before after Usage same stops = absurd stops
+  unbrought before after ReadFault same stops = absurd stops
+  unbrought before after StoreFault same stops = absurd stops
+  unbrought before after Memory same stops = inl same
+  unbrought before after (Limit text) same stops = (same, stops)
+  unbrought before after (Refused text) same (inl says) = let library = says.is.first.asked.before in absurd (omega (arith, library, one_info))
+  unbrought before after (Refused text) same (inr says) =
+      absurd (says.is.first.lacks (typed g.seed w linked says.is.method says.is.first.asked.method))
+
+-- ---- the methods begin
+
+at_each : {X : Type 0} (f h : ℕ → X) (d : X) (k : ℕ) → map f (range_with_len 0 200) ≡ map h (range_with_len 0 200) → k < 200 → f k ≡ h k
+at_each f h d k e below =
+    sym (get_or-map-range_with_len f 0 200 k k d below (omega arith))
+    ∙ (ap (λ (xs : List _). get_or xs k d) e ∙ get_or-map-range_with_len h 0 200 k k d below (omega arith))
+
+abbrev all_methods : List MethodRec
+all_methods = map method_record (range_with_len 0 200)
+
+entered : map (λ k. method_numbered all_methods 0 0 k) (range_with_len 0 200) ≡ map (λ k. Some k) (range_with_len 0 200)
+entered = refl
+
+found : map (λ k. slice_get all_methods k) (range_with_len 0 200) ≡ map (λ k. Some (method_record k)) (range_with_len 0 200)
+found = refl
+
+-- the reason by three tests: whether the class is an interface, and whether the arguments are shorts
+abbrev told : Bool → Bool → Bool → Option StartFault
+told i a b = if not (not i) then Some NotStatic else or_room (if a then (if b then None else Some 1) else Some 0) None
+
+told_so : (w : Linked) (k : ℕ) → method_fault w (method_record k) (run_of k).args ≡ told (is_interface w.classes 0) (nat_lt k 32768) (nat_lt ((k / 4) % 2) 32768)
+told_so w k = refl
+
+no_reason : (w : Linked) (k : ℕ) → is_interface w.classes 0 ≡ false → k < 200 → method_fault w (method_record k) (run_of k).args ≡ None
+no_reason w k class below =
+    let first : nat_lt k 32768 ≡ true = grind (arith, below) in
+    let half : (k / 4) % 2 < 2 = omega arith in
+    let second : nat_lt ((k / 4) % 2) 32768 ≡ true = grind (arith, half) in
+    told_so w k
+    ∙ (ap (λ b. told b (nat_lt k 32768) (nat_lt ((k / 4) % 2) 32768)) class
+    ∙ (ap (λ b. told false b (nat_lt ((k / 4) % 2) 32768)) first ∙ ap (λ b. told false true b) second))
+
+-- the class of a method with code is no interface
+class_of_first : (w : Linked) → IsWorld w → w.methods ≡ all_methods → is_interface w.classes 0 ≡ false
+class_of_first w world methods =
+    let there : slice_get w.methods 0 ≡ Some (method_record 0) = ap (λ (ms : List MethodRec). slice_get ms 0) methods in
+    no_interface (is_interface w.classes 0)
+    (All-slice_get (IsMethod w.infos w.pools w.classes) w.methods 0 (method_record 0) world.methods there).code
+  where
+    no_interface : (b : Bool) → MatchBool b (◌≡◌ {A = ℕ} 12 0) (IsCodeLength 12) → b ≡ false
+    no_interface true none = absurd (cc)
+    no_interface false has = refl
+
+pub entries : (seed : ℕ) (w : Linked) → IsLinked (generated seed) roles w → IsWorld w → HaveEntries w
+entries seed w linked world k below =
+    let methods : w.methods ≡ all_methods = linked.lists.methods ∙ methods_are seed in
+    let one : length w.infos ≡ 1 = infos_counted (generated seed) roles w linked in
+    let last : length w.infos - 1 ≡ 0 = omega (arith, one) in
+    let class : is_interface w.classes 0 ≡ false = class_of_first w world methods in
+    record {
+      number = k;
+      entered = ap (λ (ms : List MethodRec). method_numbered ms (length w.infos - 1) 0 k) methods
+          ∙ (ap (λ n. method_numbered all_methods n 0 k) last ∙ at_each (λ j. method_numbered all_methods 0 0 j) (λ j. Some j) None k entered below);
+      begins = ap (λ (ms : List MethodRec). entry_fault w (run_of k).args (slice_get ms k)) methods
+          ∙ (ap (entry_fault w (run_of k).args) (at_each (λ j. slice_get all_methods j) (λ j. Some (method_record j)) None k found below)
+          ∙ no_reason w k class below);
+    }
+
+-- so do they in a world that differs in their code alone
+pub new_entries : (w new : Linked) → HaveEntries w → IsSameBut w new → length new.infos ≡ length w.infos → StartsRefuseAlike w → MethodsAreNumberedAlike w
+    → HaveEntries new
+new_entries w new have same counted alike numbered k below =
+    let entry = have k below in
+    record {
+      number = entry.number;
+      entered = ap (λ n. method_numbered new.methods (n - 1) 0 k) counted ∙ (sym (numbered new (length w.infos - 1) 0 k same) ∙ entry.entered);
+      begins = sym (alike new entry.number (run_of k).args same) ∙ entry.begins;
+    }
+
+-- ---- a run
+
+abbrev plain_of : Ending → PlainEnding
+plain_of (endings.Plain p) = p
+plain_of (endings.Faulted f) = plains.Spent
+
+-- the short of what a run comes to is that of its ending
+pub ended_short : (o : Outcome Cell) (ending : PlainEnding) → answer (ending_of o) ≡ endings.Plain ending → short_of o ≡ short_ended ending
+ended_short (running s) ending is = let spent : plains.Spent ≡ ending = ap plain_of is in ap short_ended spent
+ended_short (ended (endings.Plain p) s) ending is = let same : p ≡ ending = ap plain_of is in ap short_ended same
+ended_short (ended (endings.Faulted f) s) ending is = absurd (cc)
+
+-- ---- the runs so far
+
+-- the first methods were run, and the memory holds the words of what the last of them left
+pub record HaveRun (w : Linked) (k : ℕ) (c : Card) (sum : ℤ) : Type 0 where
+  pub outcomes : List (Outcome Cell)
+  pub count : length outcomes ≡ k
+  pub come : ComeOfRuns w outcomes
+  pub total : sum ≡ fold ◌+ℤ◌ (pos 0) (map short_of outcomes)
+  pub holds : (k ≡ 0) ⊎ IsSomeAnd (slice_get outcomes (k - 1)) (HoldsWords w c)
+
+pub none_run : (w : Linked) (c : Card) → HaveRun w 0 c (pos 0)
+none_run w c = record { outcomes = []; count = refl; come = λ k o there. absurd (cc); total = refl; holds = inl refl }
+
+-- what stands in a list to which one is appended
+there_or_last : {X : Type 0} (xs : List X) (x y : X) (n : ℕ) → slice_get (xs ++ x ∷ []) n ≡ Some y
+    → (slice_get xs n ≡ Some y) ⊎ ((n ≡ length xs) × (x ≡ y))
+there_or_last [] x y zero there = inr (refl, cc)
+there_or_last [] x y (suc n) there = absurd (cc)
+there_or_last (z ∷ zs) x y zero there = inl there
+there_or_last (z ∷ zs) x y (suc n) there =
+    elim (there_or_last zs x y n there) [
+      | inl before ↦ inl before
+      | inr last ↦ inr (ap suc last.0, last.1)
+    ]
+
+last_there : {X : Type 0} (xs : List X) (x : X) → slice_get (xs ++ x ∷ []) (length xs) ≡ Some x
+last_there [] x = refl
+last_there (y ∷ ys) x = last_there ys x
+
+length_more : {X : Type 0} (xs : List X) (x : X) → length (xs ++ x ∷ []) ≡ length xs + 1
+length_more [] x = refl
+length_more (y ∷ ys) x = let more = length_more ys x in omega (arith, more)
+
+come_more : (w : Linked) (os : List (Outcome Cell)) (o : Outcome Cell) → ComeOfRuns w os → ComesTo w (run_of (length os)) o
+    → ComeOfRuns w (os ++ o ∷ [])
+come_more w os o come comes k p there =
+    elim (there_or_last os o p k there) [
+      | inl before ↦ come k p before
+      | inr last ↦ subst (λ n. ComesTo w (run_of n) p) (sym last.0) (subst (ComesTo w (run_of (length os))) last.1 comes)
+    ]
+
+sum_more : (start : ℤ) (os : List (Outcome Cell)) (o : Outcome Cell) → fold ◌+ℤ◌ start (map short_of (os ++ o ∷ []))
+    ≡ fold ◌+ℤ◌ start (map short_of os) +ℤ short_of o
+sum_more start [] o = refl
+sum_more start (p ∷ ps) o = sum_more (start +ℤ short_of p) ps o
+
+-- one more
+pub one_run_more : (w : Linked) (k : ℕ) (before c : Card) (sum more : ℤ) (ending : PlainEnding) → HaveRun w k before sum → IsRunOf w k c ending
+    → more ≡ sum +ℤ short_ended ending → HaveRun w (k + 1) c more
+one_run_more w k before c sum more ending have is adds =
+    let o = is.outcome in
+    let os = have.outcomes in
+    let count : length (os ++ o ∷ []) ≡ k + 1 = length_more os o ∙ ap (λ n. n + 1) have.count in
+    let there : slice_get (os ++ o ∷ []) k ≡ Some o = subst (λ n. slice_get (os ++ o ∷ []) n ≡ Some o) have.count (last_there os o) in
+    let before_it : (k + 1) - 1 ≡ k = omega arith in
+    let old_sum : ℤ = fold ◌+ℤ◌ (pos 0) (map short_of os) in
+    record {
+      outcomes = os ++ o ∷ [];
+      count = count;
+      come = come_more w os o have.come (subst (λ n. ComesTo w (run_of n) o) (sym have.count) is.comes);
+      total = adds ∙ (ap (λ s. s +ℤ short_ended ending) have.total ∙ (ap (λ s. old_sum +ℤ s) (sym is.short) ∙ sym (sum_more (pos 0) os o)));
+      holds = inr (subst (λ n. IsSomeAnd (slice_get (os ++ o ∷ []) n) (HoldsWords w c)) (sym before_it)
+          (subst (λ found. IsSomeAnd found (HoldsWords w c)) (sym there) is.holds));
+    }
+
+held_last : (w : Linked) (c : Card) (os : List (Outcome Cell)) → (◌≡◌ {A = ℕ} 200 0) ⊎ IsSomeAnd (slice_get os 199) (HoldsWords w c)
+    → IsSomeAnd (slice_get os 199) (HoldsWords w c)
+held_last w c os (inl none) = absurd (cc)
+held_last w c os (inr holds) = holds
+
+pub all_run : (w : Linked) (c : Card) (sum : ℤ) → HaveRun w 200 c sum → AreRun w c sum
+all_run w c sum have = record {
+  outcomes = have.outcomes;
+  count = have.count;
+  come = have.come;
+  total = have.total;
+  holds = held_last w c have.outcomes have.holds;
+}
+
+-- in the whole memory of a card
+pub run_wider : (w : Linked) (ram heap fields others : List ℕ) (sum : ℤ) → length fields ≡ static_cells w → AreRun w (card ram heap fields) sum
+    → AreRun w (card ram heap (fields ++ others)) sum
+run_wider w ram heap fields others sum long run = record {
+  outcomes = run.outcomes;
+  count = run.count;
+  come = run.come;
+  total = run.total;
+  holds = by (slice_get run.outcomes 199) run.holds;
+}
+  where
+    by : (o : Option (Outcome Cell)) → IsSomeAnd o (HoldsWords w (card ram heap fields)) → IsSomeAnd o (HoldsWords w (card ram heap (fields ++ others)))
+    by None h = h
+    by (Some o) h = wider w ram heap fields others o long h
+
+-- what comes of one run, from what its machine did
+pub one_run : (w : Linked) (k number : ℕ) (m after : Machine) (ram heap statics ram_after heap_after statics_after : List ℕ) (ending : PlainEnding)
+    → method_entered w (run_of k).entry ≡ Some number → IsBegun w number (run_of k).args m ram heap statics
+    → Follows w 1000 (running (entry_state tagged w number (run_of k).args)) after ram_after heap_after statics_after ending
+    → IsRunOf w k (card ram_after heap_after statics_after) ending
+one_run w k number m after ram heap statics ram_after heap_after statics_after ending entered begun follows = record {
+  outcome = follows.after;
+  comes = record { number = number; entered = entered; begins = begun.begins; runs = follows.runs };
+  short = ended_short follows.after ending follows.answers;
+  holds = holds w after ram_after heap_after statics_after follows.after follows.words;
+}
+
+-- ---- what is told
+
+-- one package alone has no library
+no_library : (ls : List PackageRecord) (last p : PackageRecord) → p ∷ [] ≡ ls ++ last ∷ [] → [] ≡ ls
+no_library [] last p e = refl
+no_library (l ∷ []) last p e = absurd (cc)
+no_library (l ∷ m ∷ ls) last p e = absurd (cc)
+
+-- the package that the parts stand for is the one that was made, and makes this world
+module _ (seed : ℕ) (w : Linked) (parts : List Lent) (made : PackageRecord) (all : List PackageRecord) (t : IsTransformed (generated seed) roles w parts)
+    (stands : StandsFor parts made) (are : all ≡ made ∷ [])
+  where
+    alone : all ≡ and_last t.libraries t.made
+    alone =
+        with_made (generated seed) roles w parts t made all stands
+        (λ ls last e. are ∙ ap (λ before. before ++ made ∷ []) (no_library ls last (package_record seed) e))
+
+    pub is_new : (new : Linked) (size : ℕ) → IsLinked all roles new → size ≡ length made.methods.info → IsNew seed w parts new size
+    is_new new size linked is_size =
+        let has = has_new (generated seed) roles w parts t all new alone linked in
+        let same = one_package parts made has.0.made stands has.0.stands in
+        record { made = has.0; world = has.1; is_size = is_size ∙ ap (λ (p : PackageRecord). length p.methods.info) same }
+
+    pub is_linked : (fault : LinkFault) → LinkTells all roles (Err (ends.Fault fault)) → ⊥
+    is_linked fault tells = never_at_fault (generated seed) roles w parts t all fault alone tells
+
+-- with the world, of which all is accepted
+pub run_in_card : {E : Type 0} (w : Linked) (ram heap fields others : List ℕ) (end : Result ℤ E) → length fields ≡ static_cells w → AreCarded w → AreAccepted w
+    → TypedCodeIsFaultFree w → IfOk end (AreRun w (card ram heap fields)) → IfOk end (RunsAll w (card ram heap (fields ++ others)))
+run_in_card w ram heap fields others (Ok sum) long carded accepted free run =
+    (carded, free Bottom (all_typed w accepted), run_wider w ram heap fields others sum long run)
+run_in_card w ram heap fields others (Err e) long carded accepted free run = tt {0}
+
+-- as many packages make the new world
+new_counted : (seed : ℕ) (w new : Linked) (parts : List Lent) (size : ℕ) → IsLinked (generated seed) roles w → IsNew seed w parts new size
+    → length new.infos ≡ length w.infos
+new_counted seed w new parts size linked n =
+    let t = n.made in
+    let none = no_library t.libraries t.source (package_record seed) t.are in
+    ap (λ (v : Linked). length v.infos) (sym n.world)
+    ∙ (infos_counted (and_last t.libraries t.made) roles t.world t.anew.linked
+    ∙ (ap (λ (ls : List PackageRecord). length (ls ++ t.made ∷ [])) (sym none) ∙ sym (infos_counted (generated seed) roles w linked)))
+
+pub entries_there : (seed : ℕ) (w new : Linked) (parts : List Lent) (size : ℕ) → IsLinked (generated seed) roles w → IsWorld w
+    → IsNew seed w parts new size → StartsRefuseAlike w → MethodsAreNumberedAlike w → HaveEntries new
+entries_there seed w new parts size linked world n alike numbered =
+    new_entries w new (entries seed w linked world) (subst (λ v. IsSameBut w v) n.world n.made.anew.same) (new_counted seed w new parts size linked n) alike numbered
+
+pub carded_there : (seed : ℕ) (w new : Linked) (parts : List Lent) (size : ℕ) → IsNew seed w parts new size → AreCarded new
+carded_there seed w new parts size n = subst AreCarded n.world n.made.anew.carded
+
+pub told_of : {E : Type 0} (seed : ℕ) (w new : Linked) (parts : List Lent) (c : Card) (size made_size : ℕ) (sum : ℤ) (text : Result _ E) (verdict : Verdict)
+    → IsNew seed w parts new made_size → size ≡ length (method_info seed) → RunsAll new c sum → IfOk text (λ t. string_bytes t ≡ generate_text size made_size sum)
+    → MatchResult text (λ t. verdict ≡ Done t) (λ _. verdict ≡ Memory) → TellsParts seed w parts c verdict
+told_of seed w new parts c size made_size sum (Ok t) verdict n is runs says result =
+    let there : RunsAll n.made.world c sum = subst (λ v. RunsAll v c sum) (sym n.world) runs in
+    subst (TellsParts seed w parts c) (sym result) (
+      n.made,
+      record {
+        carded = there.0;
+        fault_free = there.1;
+        sum = sum;
+        run = there.2;
+        prints = says ∙ (ap (λ k. generate_text k made_size sum) is ∙ ap (λ k. generate_text (length (method_info seed)) k sum) n.is_size);
+      },
+    )
+told_of seed w new parts c size made_size sum (Err e) verdict n is runs says result = subst (TellsParts seed w parts c) (sym result) (n.made, tt {0})
+
+-- all is stored, and of it is told
+pub all_told : (g : GenerateRequest) (w : Linked) (parts stores : List Lent) (before after : Outside) (verdict : Verdict) → AreInOrder parts (Some roles) stores
+    → AreStored g.out stores before.folders after.folders → TellsParts g.seed w parts after.card verdict → GeneratesIn g w before after verdict
+all_told g w parts stores before after (Done text) order stored told =
+    record { stored = record { stores = stores; brings = record { parts = parts; made = told.0; order = order }; stored = stored }; told = told.1 }
+all_told g w parts stores before after Memory order stored told =
+    inr (record { stores = stores; brings = record { parts = parts; made = told.0; order = order }; stored = stored })
+all_told g w parts stores before after (Refused text) order stored told = absurd told.1
+all_told g w parts stores before after (Limit text) order stored told = absurd told.1
+all_told g w parts stores before after (Malformed text) order stored told = absurd told.1
+all_told g w parts stores before after Usage order stored told = absurd told.1
+all_told g w parts stores before after ReadFault order stored told = absurd told.1
+all_told g w parts stores before after StoreFault order stored told = absurd told.1
+
+-- ---- the generated package
+
+pub source_is : (seed : ℕ) (lent : List Lent) (source : PackageRecord) → PartsStand → lent ≡ parts.generated seed → StandsFor lent source
+    → source ≡ package_record seed
+source_is seed lent source law are stands =
+    one_package lent source (package_record seed) stands (subst (λ ps. StandsFor ps (package_record seed)) (sym are) (law seed))
+
+pub have_source : (seed : ℕ) (lent : List Lent) → PartsStand → lent ≡ parts.generated seed → HavePackage lent
+have_source seed lent law are = record { made = package_record seed; stands = subst (λ ps. StandsFor ps (package_record seed)) (sym are) (law seed) }
+
+pub never_unlinked : (seed : ℕ) (all : List PackageRecord) (fault : LinkFault) → PackagesLink → all ≡ generated seed → LinkTells all roles (Err (ends.Fault fault)) → ⊥
+never_unlinked seed all fault law are tells =
+    let world = law seed in
+    linked_faultless (generated seed) roles world.0 fault world.1 (subst (λ ps. LinkTells ps roles (Err (ends.Fault fault))) are tells)
