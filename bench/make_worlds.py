@@ -14,7 +14,8 @@ since a Descriptor counts the classes of its package in one byte. The methods ar
 16,383), but for four shapes. The time of `climbing` grows with the square of its length, or more: it has
 8,192 bytes (half: 4,096). That of `waves` grows with the third power: it has 2,048 bytes (half: 1,024).
 `verify` goes over the code once for each target of `branches`, but not of `indexed`, the same code with a
-target index; and `rounds` has it do so in each of 255 passes: it has 4,096 bytes (half: 2,048). Each place of
+target index; and `rounds` has it do so in each of 255 passes: it has 4,096 bytes (half: 2,048). In the code that
+`transform` lays for `widening` each branch that becomes wide forces one more, so that it turns 8,000 times. Each place of
 `deep_handlers` takes as many steps as there are handlers, registers and superclasses, multiplied: it has 16
 such places (half: 8).
 """
@@ -282,7 +283,24 @@ def rounds(share):
     return with_method(code + to_next((size - 1 - len(code)) // 2) + RETURN, 1, 1)
 
 
-SHAPES = [tree, chain, straight, covered, deep_handlers, climbing, waves, branches, rounds, indexed]
+def forcing(unit, units):
+    """A branch to the unit after the next 31, which take 126 bytes where all their branches are wide: so it can be short, at 127,
+    as long as one of them is. The last 32 are wide, since they lead to the first."""
+    def start(n):
+        return 4 * n + -(-n // 31) + (n + 15) // 31
+
+    spare = bytes(start(unit + 1) - start(unit) - 4)
+    target = start(unit + 32) if unit + 32 < units else 0
+    return spare + bytes([SCONST_0]) + branch(IFEQ_W, target - (start(unit) + len(spare) + 1))
+
+
+def widening(share):
+    """Branches of which each becomes wide only when the one after it has."""
+    units = (part(share, 32767) - 1) * 31 // 126
+    return with_method(b"".join(forcing(unit, units) for unit in range(units)) + RETURN, 1, 1)
+
+
+SHAPES = [tree, chain, straight, covered, deep_handlers, climbing, waves, branches, rounds, indexed, widening]
 
 
 def make(shape, share, folder):
