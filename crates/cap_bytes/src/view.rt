@@ -10,6 +10,7 @@ pub struct View<'a> {
 }
 
 impl<'a> View<'a> {
+    /// These bytes, from their first one on.
     pub fn of(bytes: &'a [u8]) -> View<'a>
         ensures { result.bytes.now ≡ bytes.now }
     {

@@ -4,7 +4,7 @@ use Rattle.cap_frame.specs.Directory.{directory_items}
 use Rattle.cap_frame.specs.Imports.{packages}
 use Rattle.cap_frame.specs.Applets.{applets_of}
 use Rattle.cap_pool.specs.Pool.{entries}
-use Rattle.cap_pool.specs.Export.{classes as exported}
+use Rattle.cap_pool.specs.Export.{export_seen as exported}
 use Rattle.cap_pool.specs.Locations.{location_items}
 use Rattle.cap_class.specs.ClassPart.{records}
 use Rattle.cap_method.specs.StaticPart.{statics_seen}

@@ -1,5 +1,6 @@
 pub mod Parts
 pub mod Inside
+pub mod CountKind
 pub mod Order
 pub mod Descriptions
 pub mod MethodPlaces

@@ -7,32 +7,33 @@ use Rattle.first_fault.specs.Least as first_fault
 pub use Rattle.first_fault.specs.Least.{refused}
 use Rattle.cap_components.specs.declared.fault.PackFault.{PackFault}
 use Rattle.cap_components.specs.declared.fault.PackFault.TheVariants.{Form, MissingPart, SizeDisagrees, MethodOverlaps, MethodOutside, CountDisagrees, HandlerOutside, StaticOverlaps, NoMethodAt, ClassUndescribed, TooManyRegisters, BadType, StaticOutside, MethodLength, NoStaticAt, PartTooLong}
+use Rattle.cap_components.specs.CountKind.{number_of}
 
-unfoldable pub place_of : PackFault → Place
-place_of (Form fault) = one fault.part
-place_of (MissingPart part) = one part
-place_of (SizeDisagrees part said found) = one part
-place_of (MethodOverlaps first second) = two first second
-place_of (MethodOutside offset) = one offset
-place_of (CountDisagrees what said found) = one what
-place_of (HandlerOutside number) = one number
-place_of (StaticOverlaps first second) = two first second
-place_of (NoMethodAt offset) = one offset
-place_of (ClassUndescribed offset) = one offset
-place_of (TooManyRegisters offset n) = one offset
-place_of (BadType offset) = one offset
-place_of (StaticOutside offset) = one offset
-place_of (MethodLength offset n) = one offset
-place_of (NoStaticAt offset) = one offset
-place_of (PartTooLong part) = one part
+unfoldable pub pack_place : PackFault → Place
+pack_place (Form fault) = one fault.part
+pack_place (MissingPart part) = one part
+pack_place (SizeDisagrees part said found) = one part
+pack_place (MethodOverlaps first second) = two first second
+pack_place (MethodOutside offset) = one offset
+pack_place (CountDisagrees what said found) = one (number_of what)
+pack_place (HandlerOutside number) = one number
+pack_place (StaticOverlaps first second) = two first second
+pack_place (NoMethodAt offset) = one offset
+pack_place (ClassUndescribed offset) = one offset
+pack_place (TooManyRegisters offset n) = one offset
+pack_place (BadType offset) = one offset
+pack_place (StaticOutside offset) = one offset
+pack_place (MethodLength offset n) = one offset
+pack_place (NoStaticAt offset) = one offset
+pack_place (PartTooLong part) = one part
 
 -- the fault that is named, when a thing was seen that may be at fault
 abbrev pub lesser : Option PackFault → Option PackFault → Option PackFault
-lesser = first_fault.lesser place_of
+lesser = first_fault.lesser pack_place
 
 -- the least fault of things, where `fault` tells what is wrong with each, beside one that was seen before
 abbrev pub least_from : {X : Type 0} → Option PackFault → (X → Option PackFault) → List X → Option PackFault
-least_from = first_fault.least_from place_of
+least_from = first_fault.least_from pack_place
 
 abbrev pub least_of : {X : Type 0} → (X → Option PackFault) → List X → Option PackFault
-least_of = first_fault.least_of place_of
+least_of = first_fault.least_of pack_place

@@ -52,8 +52,8 @@ names_interface classes reference = list_any (λ (c : Class). c.offset == refere
 
 -- the methods that the Descriptor describes with a place in the Method component: those of classes. A method is one of a
 -- class unless the reference of its class names an interface, also where it names no record.
-abbrev pub described : PackageRecord → List Method
-described p = methods_but (names_interface p.classes) p.description.items.classes
+abbrev pub described_methods : PackageRecord → List Method
+described_methods p = methods_but (names_interface p.classes) p.description.items.classes
 
 -- the methods of interfaces
 abbrev pub interface_methods : PackageRecord → List Method

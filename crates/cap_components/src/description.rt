@@ -17,6 +17,7 @@ pub fn words_of(item: TypeItem) -> u16
 }
 
 /// The argument words that types tell, where they have the shape of a method's.
+#[inline(always)]
 fn words_in(types: Types<'_>) -> Option<u16>
     ensures value { result ≡ words_in (types_left types.entry) }
     ensures few { IfSome result (λ words. words ≤ 510) }
@@ -37,6 +38,7 @@ fn words_in(types: Types<'_>) -> Option<u16>
 
 /// The argument words of the method whose type descriptor stands at an offset.
 #[tactic(auto, unfolding(crate::specs::Descriptions::argument_words))]
+#[inline(always)]
 pub fn argument_words(descriptor: &DescPart<'_>, offset: u16) -> Option<u16>
     ensures value { result ≡ argument_words (description descriptor.now) offset }
     ensures few { IfSome result (λ words. words ≤ 510) }
@@ -46,6 +48,7 @@ pub fn argument_words(descriptor: &DescPart<'_>, offset: u16) -> Option<u16>
 
 /// A field's type: that of its number, or of the type descriptor of one type at that offset.
 #[tactic(auto, unfolding(crate::specs::Descriptions::field_type))]
+#[inline(always)]
 pub fn field_type(descriptor: &DescPart<'_>, ty: u16) -> Option<TypeItem>
     ensures { result ≡ field_type (description descriptor.now) ty }
 {

@@ -1,3 +1,4 @@
+use crate::count_kind::CountKind;
 use cap_bytes::FormFault;
 
 /// Why a list of parts is no package: the first condition that is broken, at the least thing that
@@ -15,7 +16,7 @@ pub enum PackFault {
     /// A described method reaches past the Method component, or begins in its handler table.
     MethodOutside(u16),
     /// Two numbers that count one thing differ: what they count, the number said and the one found.
-    CountDisagrees(u8, u32, u32),
+    CountDisagrees(CountKind, u32, u32),
     /// A handler is not owned by exactly one method, or leaves that method's code: its number.
     HandlerOutside(u32),
     /// Two static fields share a byte of the image: the offsets of both.
@@ -36,4 +37,15 @@ pub enum PackFault {
     NoStaticAt(u16),
     /// The file of the part of this tag has more bytes than a component can have.
     PartTooLong(u8),
+}
+
+impl From<FormFault> for PackFault {
+    ghost use Rattle.std.specs.Prelude.{◌≡◌};
+    ghost use Rattle.cap_components.specs.declared.fault.PackFault.TheVariants.{Form};
+
+    ghost from_gives = { λ form fault. fault ≡ Form form };
+
+    fn from(form: FormFault) -> PackFault {
+        PackFault::Form(form)
+    }
 }

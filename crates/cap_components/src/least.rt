@@ -1,5 +1,5 @@
 ghost use Rattle.std.specs.Prelude.{◌≡◌, Some};
-ghost use Rattle.cap_components.specs.Order.{place_of as pack_place, lesser, refused};
+ghost use Rattle.cap_components.specs.Order.{pack_place, lesser, refused};
 
 use crate::fault::PackFault;
 use first_fault::{Fault, Place};
@@ -7,7 +7,7 @@ use first_fault::{Fault, Place};
 impl Fault for PackFault {
     ghost place_of = { pack_place };
 
-    #[tactic(auto, unfolding(crate::specs::Order::place_of))]
+    #[tactic(auto, unfolding(crate::specs::Order::pack_place))]
     fn place(self) -> Place {
         match self {
             PackFault::Form(form) => Place::one(form.part as u32),
@@ -15,7 +15,7 @@ impl Fault for PackFault {
             PackFault::SizeDisagrees(part, _, _) => Place::one(part as u32),
             PackFault::MethodOverlaps(first, second) => Place::two(first as u32, second as u32),
             PackFault::MethodOutside(offset) => Place::one(offset as u32),
-            PackFault::CountDisagrees(what, _, _) => Place::one(what as u32),
+            PackFault::CountDisagrees(what, _, _) => Place::one(what.number() as u32),
             PackFault::HandlerOutside(number) => Place::one(number),
             PackFault::StaticOverlaps(first, second) => Place::two(first as u32, second as u32),
             PackFault::NoMethodAt(offset) => Place::one(offset as u32),

@@ -4,6 +4,7 @@
 #![tactic(auto)]
 
 mod components;
+mod count_kind;
 mod description;
 mod fault;
 mod least;
@@ -14,6 +15,7 @@ mod read;
 mod reading;
 
 pub use components::Components;
+pub use count_kind::CountKind;
 pub use description::{argument_words, field_type, words_of};
 pub use fault::PackFault;
 pub use least::{lesser, refuse};

@@ -10,7 +10,7 @@ ghost use Rattle.cap_frame.specs.Applets.{applets_of};
 ghost use Rattle.cap_frame.specs.AppletFormat.{applets_info};
 ghost use Rattle.cap_pool.specs.Pool.{entries};
 ghost use Rattle.cap_pool.specs.PoolFormat.{pool_info};
-ghost use Rattle.cap_pool.specs.Export.{classes as exported};
+ghost use Rattle.cap_pool.specs.Export.{export_seen as exported};
 ghost use Rattle.cap_pool.specs.ExportFormat.{export_info};
 ghost use Rattle.cap_pool.specs.Locations.{location_items};
 ghost use Rattle.cap_pool.specs.LocationFormat.{locations_info};
@@ -40,10 +40,7 @@ pub fn info_in<'a>(parts: &Parts<'a>, tag: u8) -> Result<View<'a>, PackFault>
 {
     match parts.get(Part(tag)) {
         None => Err(PackFault::MissingPart(tag)),
-        Some(bytes) => match frame(bytes, Part(tag)) {
-            Ok(info) => Ok(info),
-            Err(fault) => Err(PackFault::Form(fault)),
-        },
+        Some(bytes) => Ok(frame(bytes, Part(tag))?),
     }
 }
 
@@ -54,10 +51,7 @@ pub fn header_in<'a>(parts: &Parts<'a>) -> Result<Header<'a>, PackFault>
     ensures info { IfOk result (λ x. info_in parts.now 1 ≡ Ok x.info.bytes.now) }
 {
     let info = info_in(parts, 1)?;
-    match header(info) {
-        Ok(header) => Ok(header),
-        Err(fault) => Err(PackFault::Form(fault)),
-    }
+    Ok(header(info)?)
 }
 
 /// The Directory component in a format.
@@ -67,10 +61,7 @@ pub fn directory_in<'a>(parts: &Parts<'a>, format: Format) -> Result<Directory<'
     ensures info { IfOk result (λ x. info_in parts.now 2 ≡ Ok x.info.bytes.now) }
 {
     let info = info_in(parts, 2)?;
-    match directory(info, format) {
-        Ok(directory) => Ok(directory),
-        Err(fault) => Err(PackFault::Form(fault)),
-    }
+    Ok(directory(info, format)?)
 }
 
 /// The Directory component in the format that the Header names.
@@ -89,10 +80,7 @@ pub fn imports_in<'a>(parts: &Parts<'a>) -> Result<Imports<'a>, PackFault>
     ensures info { IfOk result (λ x. info_in parts.now 4 ≡ Ok x.info.bytes.now) }
 {
     let info = info_in(parts, 4)?;
-    match imports(info) {
-        Ok(imports) => Ok(imports),
-        Err(fault) => Err(PackFault::Form(fault)),
-    }
+    Ok(imports(info)?)
 }
 
 /// The ConstantPool component.
@@ -102,10 +90,7 @@ pub fn pool_in<'a>(parts: &Parts<'a>) -> Result<Pool<'a>, PackFault>
     ensures info { IfOk result (λ x. info_in parts.now 5 ≡ Ok x.info.bytes.now) }
 {
     let info = info_in(parts, 5)?;
-    match pool(info) {
-        Ok(pool) => Ok(pool),
-        Err(fault) => Err(PackFault::Form(fault)),
-    }
+    Ok(pool(info)?)
 }
 
 /// The Class component in a format.
@@ -115,10 +100,7 @@ pub fn classes_in<'a>(parts: &Parts<'a>, format: Format) -> Result<ClassPart<'a>
     ensures info { IfOk result (λ x. info_in parts.now 6 ≡ Ok x.info.bytes.now) }
 {
     let info = info_in(parts, 6)?;
-    match cap_class::classes(info, format) {
-        Ok(classes) => Ok(classes),
-        Err(fault) => Err(PackFault::Form(fault)),
-    }
+    Ok(cap_class::classes(info, format)?)
 }
 
 /// The StaticField component.
@@ -128,10 +110,7 @@ pub fn statics_in<'a>(parts: &Parts<'a>) -> Result<StaticPart<'a>, PackFault>
     ensures info { IfOk result (λ x. info_in parts.now 8 ≡ Ok x.info.bytes.now) }
 {
     let info = info_in(parts, 8)?;
-    match cap_method::statics(info) {
-        Ok(statics) => Ok(statics),
-        Err(fault) => Err(PackFault::Form(fault)),
-    }
+    Ok(cap_method::statics(info)?)
 }
 
 /// The ReferenceLocation component.
@@ -141,10 +120,7 @@ pub fn locations_in<'a>(parts: &Parts<'a>) -> Result<Locations<'a>, PackFault>
     ensures info { IfOk result (λ x. info_in parts.now 9 ≡ Ok x.info.bytes.now) }
 {
     let info = info_in(parts, 9)?;
-    match locations(info) {
-        Ok(locations) => Ok(locations),
-        Err(fault) => Err(PackFault::Form(fault)),
-    }
+    Ok(locations(info)?)
 }
 
 /// The Method component.
@@ -153,10 +129,7 @@ pub fn methods_in<'a>(parts: &Parts<'a>) -> Result<MethodPart<'a>, PackFault>
     ensures { Answers methods_seen result (read_methods parts.now) }
 {
     let info = info_in(parts, 7)?;
-    match cap_method::methods(info) {
-        Ok(methods) => Ok(methods),
-        Err(fault) => Err(PackFault::Form(fault)),
-    }
+    Ok(cap_method::methods(info)?)
 }
 
 /// The Descriptor component.
@@ -165,10 +138,7 @@ pub fn descriptor_in<'a>(parts: &Parts<'a>) -> Result<DescPart<'a>, PackFault>
     ensures { Answers description result (read_description parts.now) }
 {
     let info = info_in(parts, 11)?;
-    match cap_desc::descriptor(info) {
-        Ok(descriptor) => Ok(descriptor),
-        Err(fault) => Err(PackFault::Form(fault)),
-    }
+    Ok(cap_desc::descriptor(info)?)
 }
 
 /// The Applet component.
@@ -178,10 +148,7 @@ fn held_applets<'a>(parts: &Parts<'a>) -> Result<Applets<'a>, PackFault>
     ensures info { IfOk result (λ x. info_in parts.now 3 ≡ Ok x.info.bytes.now) }
 {
     let info = info_in(parts, 3)?;
-    match applets(info) {
-        Ok(applets) => Ok(applets),
-        Err(fault) => Err(PackFault::Form(fault)),
-    }
+    Ok(applets(info)?)
 }
 
 /// The Applet component, where it is there.
@@ -203,10 +170,7 @@ fn held_export<'a>(parts: &Parts<'a>) -> Result<Export<'a>, PackFault>
     ensures info { IfOk result (λ x. info_in parts.now 10 ≡ Ok x.info.bytes.now) }
 {
     let info = info_in(parts, 10)?;
-    match export(info) {
-        Ok(export) => Ok(export),
-        Err(fault) => Err(PackFault::Form(fault)),
-    }
+    Ok(export(info)?)
 }
 
 /// The Export component, where it is there.

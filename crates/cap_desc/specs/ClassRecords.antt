@@ -5,11 +5,11 @@ use Rattle.cap_bytes.specs.Table.{numbers}
 use Rattle.cap_bytes.specs.Taking.{given}
 use Rattle.cap_desc.specs.declared.class.DescClass.{DescClass}
 use Rattle.cap_desc.specs.declared.lists.DescClasses.{DescClasses}
-use Rattle.cap_desc.specs.DescriptorFormat.{Class, class_info}
+use Rattle.cap_desc.specs.DescriptorFormat.{Class, class_descriptor_info}
 use Rattle.cap_desc.specs.MemberLists.{fields_left, methods_left}
 
-abbrev pub class_seen : DescClass → Class
-class_seen c = record {
+abbrev pub described_class_seen : DescClass → Class
+described_class_seen c = record {
   token = c.token;
   class_ref = c.class_ref;
   interfaces = numbers c.interfaces;
@@ -17,5 +17,5 @@ class_seen c = record {
   methods = methods_left c.methods;
 }
 
-abbrev pub classes_left : DescClasses → List Class
-classes_left x = given [] (repeat x.left class_info) x.items
+abbrev pub described_left : DescClasses → List Class
+described_left x = given [] (repeat x.left class_descriptor_info) x.items

@@ -44,16 +44,16 @@ field_flags byte = bit_and byte 0x1F
 abbrev pub method_flags : ℕ → ℕ
 method_flags byte = bit_and byte 0xDF
 
-abbrev pub field_info : Grammar Field
-field_info = do
+abbrev pub field_descriptor_info : Grammar Field
+field_descriptor_info = do
   token ← u1
   flags ← u1
   bytes ← piece 3
   ty ← u2
   give (record { token = token; flags = field_flags flags; bytes = bytes; ty = ty })
 
-abbrev pub method_info : Grammar Method
-method_info = do
+abbrev pub method_descriptor_info : Grammar Method
+method_descriptor_info = do
   token ← u1
   flags ← u1
   method_offset ← u2
@@ -72,8 +72,8 @@ method_info = do
   })
 
 -- the flags of a class are unread: its record in the Class component tells whether it is an interface
-abbrev pub class_info : Grammar Class
-class_info = do
+abbrev pub class_descriptor_info : Grammar Class
+class_descriptor_info = do
   token ← u1
   flags ← u1
   class_ref ← u2
@@ -81,14 +81,14 @@ class_info = do
   field_count ← u2
   method_count ← u2
   interfaces ← table interface_count
-  fields ← repeat field_count field_info
-  methods ← repeat method_count method_info
+  fields ← repeat field_count field_descriptor_info
+  methods ← repeat method_count method_descriptor_info
   give (record { token = token; class_ref = class_ref; interfaces = interfaces; fields = fields; methods = methods })
 
 -- The type descriptors after the pool types are read where an offset names one, and not in order.
 abbrev pub descriptor_info : Grammar Descriptor
 descriptor_info = do
-  classes ← counted class_info
+  classes ← counted class_descriptor_info
   types_start ← place
   pool_types ← u2 >>= table
   give (record { classes = classes; types_start = types_start; pool_types = pool_types })

@@ -5,10 +5,10 @@ use Rattle.cap_desc.specs.declared.type_item.TypeItem.{TypeItem}
 use Rattle.cap_desc.specs.DescriptorFormat.{Descriptor}
 use Rattle.cap_desc.specs.TypeDescriptor.{TypesAt}
 use Rattle.cap_bytes.specs.Table.{numbers}
-use Rattle.cap_desc.specs.ClassRecords.{classes_left}
+use Rattle.cap_desc.specs.ClassRecords.{described_left}
 
 abbrev pub descriptor_seen : DescPart → Descriptor
-descriptor_seen d = record { classes = classes_left d.classes; types_start = d.types_start; pool_types = numbers d.pool_types }
+descriptor_seen d = record { classes = described_left d.classes; types_start = d.types_start; pool_types = numbers d.pool_types }
 
 -- a well-formed type descriptor of these types stands at an offset from the item constant_pool_count
 abbrev pub HasTypes : DescPart → ℕ → List TypeItem → Type 0

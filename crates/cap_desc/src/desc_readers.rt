@@ -4,7 +4,7 @@ ghost use Rattle.std.specs.List.{slice_get};
 ghost use Rattle.cap_desc.specs.TypeFormat.{types_at, type_at, descriptor_nibbles};
 ghost use Rattle.cap_desc.specs.Nibbles.{nibbles_in};
 ghost use Rattle.cap_bytes.specs.Table.{numbers};
-ghost use Rattle.cap_desc.specs.ClassRecords.{classes_left};
+ghost use Rattle.cap_desc.specs.ClassRecords.{described_left};
 ghost use Rattle.cap_desc.specs.TypeLists.{types_left};
 ghost use Rattle.cap_desc.specs.Members.{methods_of, methods_but, fields_of};
 ghost use Rattle.cap_desc.specs.MembersLeft.{methods_of_left, methods_but_left, fields_of_left};
@@ -29,7 +29,7 @@ impl<'a> DescPart<'a> {
 
     /// The classes and interfaces of the package, in the order of the component.
     pub fn classes(&self) -> DescClasses<'a>
-        ensures { classes_left result ≡ (descriptor_seen self.now).classes }
+        ensures { described_left result ≡ (descriptor_seen self.now).classes }
     {
         self.classes
     }
@@ -108,6 +108,7 @@ impl<'a> DescPart<'a> {
 
     /// The type of the type descriptor at an offset from the item `constant_pool_count`, where a
     /// well-formed one of one type stands there.
+    #[inline(always)]
     pub fn type_at(&self, offset: u16) -> Option<TypeItem>
         ensures value { result ≡ type_at self.now.info.bytes.now ((descriptor_seen self.now).types_start + offset) }
         ensures found { IfSome result (λ t. HasTypes self.now offset (t ∷ [])) }
@@ -118,6 +119,7 @@ impl<'a> DescPart<'a> {
 
     /// The types of the type descriptor at an offset from the item `constant_pool_count`, where a
     /// well-formed one stands there.
+    #[inline(always)]
     pub fn types_at(&self, offset: u16) -> Option<Types<'a>>
         ensures value { option_map types_left result
             ≡ types_at self.now.info.bytes.now ((descriptor_seen self.now).types_start + offset) }
@@ -130,6 +132,7 @@ impl<'a> DescPart<'a> {
 
     /// What `type_at` answers, read from the nibbles.
     #[tactic(auto, using(crate::proofs::TypesThere::chained))]
+    #[inline(always)]
     fn read_type(&self, offset: u16) -> Option<TypeItem>
         ensures { result ≡ type_at self.now.info.bytes.now ((descriptor_seen self.now).types_start + offset) }
     {
@@ -138,6 +141,7 @@ impl<'a> DescPart<'a> {
 
     /// What `types_at` answers, read from the nibbles.
     #[tactic(auto, using(crate::proofs::TypesThere::chained))]
+    #[inline(always)]
     fn read_types(&self, offset: u16) -> Option<Types<'a>>
         ensures { option_map types_left result
             ≡ types_at self.now.info.bytes.now ((descriptor_seen self.now).types_start + offset) }
@@ -152,6 +156,7 @@ impl<'a> DescPart<'a> {
     }
 
     /// The nibbles of the type descriptor at an offset, where the bytes reach.
+    #[inline(always)]
     fn nibbles_at(&self, offset: u16) -> Option<Nibbles<'a>>
         ensures { option_map nibbles_in result
             ≡ descriptor_nibbles self.now.info.bytes.now ((descriptor_seen self.now).types_start + offset) }

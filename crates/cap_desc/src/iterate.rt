@@ -21,7 +21,7 @@ impl Iterator for DescFields<'_> {
             return None;
         }
         let mut items = self.items;
-        match take::field_info(&mut items) {
+        match take::field_descriptor_info(&mut items) {
             Ok(field) => {
                 *self = DescFields {
                     items,
@@ -52,7 +52,7 @@ impl Iterator for DescMethods<'_> {
             return None;
         }
         let mut items = self.items;
-        match take::method_info(&mut items) {
+        match take::method_descriptor_info(&mut items) {
             Ok(method) => {
                 *self = DescMethods {
                     items,
@@ -69,11 +69,11 @@ impl<'a> Iterator for DescClasses<'a> {
     type Item = DescClass<'a>;
 
     ghost use Rattle.std.specs.Iterator.{YieldsFirstBy, item_count};
-    ghost use Rattle.cap_desc.specs.ClassRecords.{class_seen, classes_left};
+    ghost use Rattle.cap_desc.specs.ClassRecords.{described_class_seen, described_left};
 
-    ghost next_gives = { YieldsFirstBy class_seen classes_left };
+    ghost next_gives = { YieldsFirstBy described_class_seen described_left };
 
-    ghost remaining = { item_count classes_left };
+    ghost remaining = { item_count described_left };
 
     #[tactic(auto, using(cap_bytes::proofs::Loops::yielding))]
     #[inline(always)]
@@ -82,7 +82,7 @@ impl<'a> Iterator for DescClasses<'a> {
             return None;
         }
         let mut items = self.items;
-        match take::class_info(&mut items) {
+        match take::class_descriptor_info(&mut items) {
             Ok(class) => {
                 *self = DescClasses {
                     items,

@@ -1,6 +1,6 @@
 ghost use Rattle.cap_bytes.specs.Grammar.{repeat};
 ghost use Rattle.cap_bytes.specs.Taking.{Gives};
-ghost use Rattle.cap_desc.specs.DescriptorFormat.{field_info, method_info, class_info};
+ghost use Rattle.cap_desc.specs.DescriptorFormat.{field_descriptor_info, method_descriptor_info, class_descriptor_info};
 
 use cap_bytes::Cursor;
 
@@ -9,7 +9,7 @@ use cap_bytes::Cursor;
 pub struct DescFields<'a> {
     pub(crate) items: Cursor<'a>,
     pub(crate) left: u16,
-    ghost known: { Gives (repeat left field_info) items },
+    ghost known: { Gives (repeat left field_descriptor_info) items },
 }
 
 /// The methods of a class that are left, in the order of the component.
@@ -17,7 +17,7 @@ pub struct DescFields<'a> {
 pub struct DescMethods<'a> {
     pub(crate) items: Cursor<'a>,
     pub(crate) left: u16,
-    ghost known: { Gives (repeat left method_info) items },
+    ghost known: { Gives (repeat left method_descriptor_info) items },
 }
 
 /// The classes and interfaces that are left, in the order of the component.
@@ -25,5 +25,5 @@ pub struct DescMethods<'a> {
 pub struct DescClasses<'a> {
     pub(crate) items: Cursor<'a>,
     pub(crate) left: u8,
-    ghost known: { Gives (repeat left class_info) items },
+    ghost known: { Gives (repeat left class_descriptor_info) items },
 }

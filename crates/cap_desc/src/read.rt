@@ -3,8 +3,8 @@ ghost use Rattle.cap_bytes.specs.Grammar.{repeat};
 ghost use Rattle.cap_bytes.specs.Exact.{IsExact};
 ghost use Rattle.cap_bytes.specs.Spelling.{info_of, Stands, Breaks};
 ghost use Rattle.cap_bytes.specs.Taking.{Takes, Passes, Reads};
-ghost use Rattle.cap_desc.specs.DescriptorFormat.{class_info, descriptor_info};
-ghost use Rattle.cap_desc.specs.ClassRecords.{classes_left};
+ghost use Rattle.cap_desc.specs.DescriptorFormat.{class_descriptor_info, descriptor_info};
+ghost use Rattle.cap_desc.specs.ClassRecords.{described_left};
 ghost use Rattle.cap_desc.specs.Descriptors.{descriptor_seen};
 
 use crate::desc_part::DescPart;
@@ -18,10 +18,10 @@ const DESCRIPTOR: u8 = 11;
 /// Passes over so many classes.
 #[tactic(auto, using(cap_bytes::proofs::Loops::passing))]
 fn pass_classes(items: &mut Cursor<'_>, count: u8) -> Result<(), FormFault>
-    ensures { Passes (repeat count class_info) items.old result items.new }
+    ensures { Passes (repeat count class_descriptor_info) items.old result items.new }
 {
     'classes: for _ in 0..count {
-        take::class_info(items)?;
+        take::class_descriptor_info(items)?;
     }
     Ok(())
 }
@@ -29,7 +29,7 @@ fn pass_classes(items: &mut Cursor<'_>, count: u8) -> Result<(), FormFault>
 /// The next so many classes.
 #[tactic(auto, using(cap_bytes::proofs::Loops::yielding))]
 fn classes<'a>(items: &mut Cursor<'a>, count: u8) -> Result<DescClasses<'a>, FormFault>
-    ensures { Takes classes_left (repeat count class_info) items.old result items.new }
+    ensures { Takes described_left (repeat count class_descriptor_info) items.old result items.new }
 {
     let first = *items;
     pass_classes(items, count)?;

@@ -10,6 +10,7 @@ use crate::type_item::TypeItem;
 
 impl Nibbles<'_> {
     /// The n-th nibble, where there are so many.
+    #[inline(always)]
     fn get(&self, n: u16) -> Option<u8>
         ensures value { result ≡ number_at 1 n (nibbles_in self.now) }
         ensures small { IfSome result (λ nibble. nibble < 16) }
@@ -27,6 +28,7 @@ impl Nibbles<'_> {
     }
 
     /// The class reference in the four nibbles from a place on.
+    #[inline(always)]
     fn class_ref(&self, at: u16) -> Option<(u16, u16)>
         requires { at ≤ 256 }
         ensures value { result ≡ result_ok (nibbles_read class_nibbles (nibbles_in self.now) at) }
@@ -43,6 +45,7 @@ impl Nibbles<'_> {
     }
 
     /// The type at a place, and the place after it.
+    #[inline(always)]
     pub(crate) fn type_item(&self, at: u16) -> Option<(TypeItem, u16)>
         requires { at ≤ 255 }
         ensures value { result ≡ result_ok (nibbles_read type_item (nibbles_in self.now) at) }
@@ -67,6 +70,7 @@ impl Nibbles<'_> {
     }
 
     /// The type that the nibbles spell, where they spell one alone.
+    #[inline(always)]
     pub(crate) fn one_type(&self) -> Option<TypeItem>
         ensures { result ≡ one_type_in (nibbles_in self.now) }
     {
@@ -78,6 +82,7 @@ impl Nibbles<'_> {
     }
 
     /// How many types the nibbles spell, where they spell types to their end.
+    #[inline(always)]
     pub(crate) fn type_count(&self) -> Option<u8>
         ensures { MatchOption result (types_in (nibbles_in self.now) ≡ None) (λ n. SpellsTypes (nibbles_in self.now) n) }
     {

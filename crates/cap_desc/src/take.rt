@@ -1,8 +1,8 @@
 ghost use Rattle.cap_bytes.specs.Grammar.{repeat};
 ghost use Rattle.cap_bytes.specs.Taking.{Takes};
-ghost use Rattle.cap_desc.specs.DescriptorFormat.{field_info, method_info, class_info};
+ghost use Rattle.cap_desc.specs.DescriptorFormat.{field_descriptor_info, method_descriptor_info, class_descriptor_info};
 ghost use Rattle.cap_desc.specs.MemberRecords.{field_seen, method_seen};
-ghost use Rattle.cap_desc.specs.ClassRecords.{class_seen};
+ghost use Rattle.cap_desc.specs.ClassRecords.{described_class_seen};
 ghost use Rattle.cap_desc.specs.MemberLists.{fields_left, methods_left};
 
 use crate::access_flags::AccessFlags;
@@ -13,8 +13,8 @@ use cap_bytes::{Cursor, FormFault};
 
 /// The next `field_descriptor_info`.
 #[inline(always)]
-pub(crate) fn field_info(items: &mut Cursor<'_>) -> Result<FieldInfo, FormFault>
-    ensures { Takes field_seen field_info items.old result items.new }
+pub(crate) fn field_descriptor_info(items: &mut Cursor<'_>) -> Result<FieldInfo, FormFault>
+    ensures { Takes field_seen field_descriptor_info items.old result items.new }
 {
     let token = items.u1()?;
     let flags = items.u1()?;
@@ -30,8 +30,8 @@ pub(crate) fn field_info(items: &mut Cursor<'_>) -> Result<FieldInfo, FormFault>
 
 /// The next `method_descriptor_info`.
 #[inline(always)]
-pub(crate) fn method_info(items: &mut Cursor<'_>) -> Result<MethodInfo, FormFault>
-    ensures { Takes method_seen method_info items.old result items.new }
+pub(crate) fn method_descriptor_info(items: &mut Cursor<'_>) -> Result<MethodInfo, FormFault>
+    ensures { Takes method_seen method_descriptor_info items.old result items.new }
 {
     let token = items.u1()?;
     let flags = items.u1()?;
@@ -54,7 +54,7 @@ pub(crate) fn method_info(items: &mut Cursor<'_>) -> Result<MethodInfo, FormFaul
 /// The next so many fields.
 #[inline(always)]
 pub(crate) fn fields<'a>(items: &mut Cursor<'a>, count: u16) -> Result<DescFields<'a>, FormFault>
-    ensures { Takes fields_left (repeat count field_info) items.old result items.new }
+    ensures { Takes fields_left (repeat count field_descriptor_info) items.old result items.new }
 {
     let first = *items;
     items.piece(7 * count as u32)?;
@@ -67,7 +67,7 @@ pub(crate) fn fields<'a>(items: &mut Cursor<'a>, count: u16) -> Result<DescField
 /// The next so many methods.
 #[inline(always)]
 pub(crate) fn methods<'a>(items: &mut Cursor<'a>, count: u16) -> Result<DescMethods<'a>, FormFault>
-    ensures { Takes methods_left (repeat count method_info) items.old result items.new }
+    ensures { Takes methods_left (repeat count method_descriptor_info) items.old result items.new }
 {
     let first = *items;
     items.piece(12 * count as u32)?;
@@ -79,8 +79,8 @@ pub(crate) fn methods<'a>(items: &mut Cursor<'a>, count: u16) -> Result<DescMeth
 
 /// The next `class_descriptor_info`.
 #[inline(always)]
-pub(crate) fn class_info<'a>(items: &mut Cursor<'a>) -> Result<DescClass<'a>, FormFault>
-    ensures { Takes class_seen class_info items.old result items.new }
+pub(crate) fn class_descriptor_info<'a>(items: &mut Cursor<'a>) -> Result<DescClass<'a>, FormFault>
+    ensures { Takes described_class_seen class_descriptor_info items.old result items.new }
 {
     let token = items.u1()?;
     items.u1()?;

@@ -16,6 +16,7 @@ impl Iterator for Types<'_> {
     ghost remaining = { item_count types_left };
 
     #[tactic(auto, unfolding(crate::specs::TypeFormat::gives_types, crate::specs::TypeFormat::given_types))]
+    #[inline(always)]
     fn next(&mut self) -> Option<TypeItem> {
         if self.left == 0 {
             return None;

@@ -33,6 +33,7 @@ impl Model for Words {
 }
 
 impl Words {
+    /// No words yet: room is taken when one is pushed.
     pub fn new(alloc: Global) -> Words
         ensures { result ≡ [] }
     {
@@ -55,6 +56,7 @@ impl Words {
         Ok(())
     }
 
+    /// How many words there are.
     pub fn len(&self) -> usize
         ensures { result ≡ length self.now }
     {

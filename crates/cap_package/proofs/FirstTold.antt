@@ -1,9 +1,10 @@
 -- Conditions that are asked one after the other tell the first that is broken.
 use Rattle.std.proofs.Common.{◌≡◌, List, [], ◌++◌, length, map, Option, Some, None, Result, Ok, Err, refl, sym, ap, subst, ◌∙◌, inl, inr}
 use Rattle.cap_frame.specs.DirectoryFormat.{DirectoryItems}
+use Rattle.cap_components.specs.declared.count_kind.CountKind.TheVariants.{Imports, Applets, ImageSize, InitialArrays, ArrayBytes, PoolTypes, ImageSegments}
 use Rattle.cap_components.specs.declared.fault.PackFault.{PackFault}
 use Rattle.cap_components.specs.Parts.{Lent}
-use Rattle.cap_components.specs.Order.{place_of, refused, least_of}
+use Rattle.cap_components.specs.Order.{pack_place, refused, least_of}
 use Rattle.cap_components.specs.Components.{◌>>=◌, read_directory}
 use Rattle.cap_components.specs.PackageRecord.{PackageRecord}
 use Rattle.cap_components.specs.ReadPackage.{read_package}
@@ -13,7 +14,7 @@ use Rattle.cap_pool.specs.ExportFormat.{Exported}
 use Rattle.cap_desc.specs.DescriptorFormat as described
 use Rattle.cap_desc.specs.Members.{methods_of}
 use Rattle.cap_package.specs.Pairs.{pairs}
-use Rattle.cap_components.specs.PackageRecord.{described, interface_methods, fields}
+use Rattle.cap_components.specs.PackageRecord.{described_methods, interface_methods, fields}
 use Rattle.cap_components.specs.PartChecks.{missing, form_fault, custom_tags, size_fault, components, absent_fault, sized_fault, required, optional}
 use Rattle.cap_package.specs.MethodChecks.{overlap_pair, outside_fault}
 use Rattle.cap_package.specs.HeaderChecks.{registers_fault, length_fault, arguments_fault, abstract_fault}
@@ -23,51 +24,51 @@ use Rattle.cap_package.specs.NameChecks.{is_method_at, no_method_fault, no_entry
 use Rattle.cap_package.specs.TypeChecks.{field_type_fault, method_type_fault}
 use Rattle.cap_package.specs.CountChecks.{differ, array_bytes, image_bytes, instance_fault, count_if}
 use Rattle.cap_package.specs.Agreement.{or_none}
-use Rattle.cap_package.specs.Agreement.{places_agree, counts_agree, members_agree, package_of}
+use Rattle.cap_package.specs.Agreement.{places_agree, counts_agree, members_agree, package_from}
 use Rattle.cap_package.specs.FirstFault.{place_lists, count_lists, member_lists, conditions, conditions_of, missing_parts, Tells}
 use Rattle.first_fault.proofs.LeastFaults.{least_in, least-at_fault, least-three, least-found, least-none}
 use Rattle.first_fault.proofs.FirstTold.{first_refused, IsTold, things-told, both-told, three-told, one-told, step, last, groups-told, refused-first, accepted-empty}
 
 -- ---- the three groups of conditions
 
-places-told : (p : PackageRecord) → IsTold place_of (places_agree p) (place_lists p)
+places-told : (p : PackageRecord) → IsTold pack_place (places_agree p) (place_lists p)
 unfolding places_agree
 places-told p =
-    step place_of (both-told place_of (size_fault p.parts p.directory) components (size_fault p.parts p.directory) (custom_tags p.directory))
-    (step place_of (things-told place_of (overlap_pair p.methods.info) (pairs (described p)))
-    (last place_of (things-told place_of (outside_fault p.methods.info (length p.methods.handlers)) (described p))))
+    step pack_place (both-told pack_place (size_fault p.parts p.directory) components (size_fault p.parts p.directory) (custom_tags p.directory))
+    (step pack_place (things-told pack_place (overlap_pair p.methods.info) (pairs (described_methods p)))
+    (last pack_place (things-told pack_place (outside_fault p.methods.info (length p.methods.handlers)) (described_methods p))))
 
-counts-told : (p : PackageRecord) → IsTold place_of (counts_agree p) (count_lists p)
+counts-told : (p : PackageRecord) → IsTold pack_place (counts_agree p) (count_lists p)
 unfolding counts_agree
 counts-told p =
-    step place_of (one-told place_of (differ 1 p.directory.import_count (length p.imports)))
-    (step place_of (one-told place_of (differ 2 p.directory.applet_count (count_if p.applets)))
-    (step place_of (one-told place_of (differ 3 p.directory.image_size p.statics.image_size))
-    (step place_of (one-told place_of (differ 4 p.directory.array_init_count (length p.statics.arrays)))
-    (step place_of (one-told place_of (differ 5 p.directory.array_init_size (array_bytes p.statics.arrays)))
-    (step place_of (one-told place_of (differ 6 (length p.description.items.pool_types) (length p.pool)))
-    (step place_of (things-told place_of (arguments_fault p.methods.info p.description) (described p))
-    (step place_of (things-told place_of (instance_fault p.classes p.description) p.description.items.classes)
-    (step place_of (one-told place_of (differ 9 p.statics.image_size (image_bytes p.statics)))
-    (last place_of (things-told place_of (abstract_fault p.methods.info) (described p)))))))))))
+    step pack_place (one-told pack_place (differ Imports p.directory.import_count (length p.imports)))
+    (step pack_place (one-told pack_place (differ Applets p.directory.applet_count (count_if p.applets)))
+    (step pack_place (one-told pack_place (differ ImageSize p.directory.image_size p.statics.image_size))
+    (step pack_place (one-told pack_place (differ InitialArrays p.directory.array_init_count (length p.statics.arrays)))
+    (step pack_place (one-told pack_place (differ ArrayBytes p.directory.array_init_size (array_bytes p.statics.arrays)))
+    (step pack_place (one-told pack_place (differ PoolTypes (length p.description.items.pool_types) (length p.pool)))
+    (step pack_place (things-told pack_place (arguments_fault p.methods.info p.description) (described_methods p))
+    (step pack_place (things-told pack_place (instance_fault p.classes p.description) p.description.items.classes)
+    (step pack_place (one-told pack_place (differ ImageSegments p.statics.image_size (image_bytes p.statics)))
+    (last pack_place (things-told pack_place (abstract_fault p.methods.info) (described_methods p)))))))))))
 
-members-told : (p : PackageRecord) → IsTold place_of (members_agree p) (member_lists p)
+members-told : (p : PackageRecord) → IsTold pack_place (members_agree p) (member_lists p)
 unfolding members_agree
 members-told p =
-    step place_of (both-told place_of (numbered_fault p.methods.info (described p)) (numbered 0 p.methods.handlers) (claim_fault (length p.methods.handlers)) (described p))
-    (step place_of (things-told place_of (share_pair p.description) (pairs (fields p)))
-    (step place_of (three-told place_of (no_entry_fault (is_method_at (described p))) (table_entries p.classes) (no_method_fault (is_method_at (described p))) (exported_methods (or_none p.export)) (no_method_fault (is_method_at (described p))) (map (λ (a : Applet). a.install) (or_none p.applets)))
-    (step place_of (three-told place_of (undescribed_fault p.description.items.classes) p.classes (not_own_fault p.classes) (map (λ (d : described.Class). d.class_ref) p.description.items.classes) (no_class_fault p.classes) (map (λ (c : Exported). c.class_offset) (or_none p.export)))
-    (step place_of (things-told place_of (registers_fault p.methods.info) (described p))
-    (step place_of (three-told place_of (field_type_fault p.description) (fields p) (method_type_fault p.description 510) (methods_of p.description.items.classes) (method_type_fault p.description 254) (interface_methods p))
-    (step place_of (both-told place_of (image_fault p.statics p.description) (fields p) (filled_fault (array_kinds p.statics.arrays) p.description) (fields p))
-    (step place_of (things-told place_of (length_fault p.methods.info) (described p))
-    (last place_of (things-told place_of (no_static_fault (is_static_at (fields p))) (exported_fields (or_none p.export)))))))))))
+    step pack_place (both-told pack_place (numbered_fault p.methods.info (described_methods p)) (numbered 0 p.methods.handlers) (claim_fault (length p.methods.handlers)) (described_methods p))
+    (step pack_place (things-told pack_place (share_pair p.description) (pairs (fields p)))
+    (step pack_place (three-told pack_place (no_entry_fault (is_method_at (described_methods p))) (table_entries p.classes) (no_method_fault (is_method_at (described_methods p))) (exported_methods (or_none p.export)) (no_method_fault (is_method_at (described_methods p))) (map (λ (a : Applet). a.install) (or_none p.applets)))
+    (step pack_place (three-told pack_place (undescribed_fault p.description.items.classes) p.classes (not_own_fault p.classes) (map (λ (d : described.Class). d.class_ref) p.description.items.classes) (no_class_fault p.classes) (map (λ (c : Exported). c.class_offset) (or_none p.export)))
+    (step pack_place (things-told pack_place (registers_fault p.methods.info) (described_methods p))
+    (step pack_place (three-told pack_place (field_type_fault p.description) (fields p) (method_type_fault p.description 510) (methods_of p.description.items.classes) (method_type_fault p.description 254) (interface_methods p))
+    (step pack_place (both-told pack_place (image_fault p.statics p.description) (fields p) (filled_fault (array_kinds p.statics.arrays) p.description) (fields p))
+    (step pack_place (things-told pack_place (length_fault p.methods.info) (described_methods p))
+    (last pack_place (things-told pack_place (no_static_fault (is_static_at (fields p))) (exported_fields (or_none p.export)))))))))))
 
-all-told : (p : PackageRecord) → IsTold place_of (places_agree p >>= λ _. (counts_agree p >>= λ _. members_agree p)) (conditions p)
+all-told : (p : PackageRecord) → IsTold pack_place (places_agree p >>= λ _. (counts_agree p >>= λ _. members_agree p)) (conditions p)
 all-told p =
-    groups-told place_of (places_agree p) (counts_agree p >>= λ _. members_agree p) (place_lists p) (count_lists p ++ member_lists p) (places-told p)
-    (groups-told place_of (counts_agree p) (members_agree p) (count_lists p) (member_lists p) (counts-told p) (members-told p))
+    groups-told pack_place (places_agree p) (counts_agree p >>= λ _. members_agree p) (place_lists p) (count_lists p ++ member_lists p) (places-told p)
+    (groups-told pack_place (counts_agree p) (members_agree p) (count_lists p) (member_lists p) (counts-told p) (members-told p))
 
 -- ---- the whole
 
@@ -83,33 +84,33 @@ abbrev then_agree : List Lent → PackageRecord → Result PackageRecord PackFau
 then_agree parts p = refused (least_of (form_fault parts) (custom_tags p.directory)) >>= λ _. (places_agree p >>= λ _. (counts_agree p >>= λ _. (members_agree p >>= λ _. Ok p)))
 
 -- the conditions one after the other
-asked : (parts : List Lent) (p : PackageRecord) → IsTold place_of (refused (least_of (form_fault parts) (custom_tags p.directory)) >>= λ _. (places_agree p >>= λ _. (counts_agree p >>= λ _. members_agree p))) (conditions_of parts p)
-asked parts p = step place_of (things-told place_of (form_fault parts) (custom_tags p.directory)) (all-told p)
+asked : (parts : List Lent) (p : PackageRecord) → IsTold pack_place (refused (least_of (form_fault parts) (custom_tags p.directory)) >>= λ _. (places_agree p >>= λ _. (counts_agree p >>= λ _. members_agree p))) (conditions_of parts p)
+asked parts p = step pack_place (things-told pack_place (form_fault parts) (custom_tags p.directory)) (all-told p)
 
-agree-told : (parts : List Lent) (p : PackageRecord) → then_agree parts p ≡ (first_refused place_of (conditions_of parts p) >>= λ _. Ok p)
+agree-told : (parts : List Lent) (p : PackageRecord) → then_agree parts p ≡ (first_refused pack_place (conditions_of parts p) >>= λ _. Ok p)
 agree-told parts p =
     package_by (refused (least_of (form_fault parts) (custom_tags p.directory))) (places_agree p) (counts_agree p) (members_agree p) p
     ∙ ap (λ (r : Result (Unit {0}) PackFault). r >>= λ _. Ok p) (asked parts p).same
 
-missing-told : (parts : List Lent) (d : Result DirectoryItems PackFault) → missing parts d ≡ least_in place_of None (missing_parts parts d)
-missing-told parts (Err fault) = least-at_fault place_of (absent_fault parts) required None
-missing-told parts (Ok d) = least-three place_of (absent_fault parts) required (sized_fault parts d) optional (sized_fault parts d) (custom_tags d)
+missing-told : (parts : List Lent) (d : Result DirectoryItems PackFault) → missing parts d ≡ least_in pack_place None (missing_parts parts d)
+missing-told parts (Err fault) = least-at_fault pack_place (absent_fault parts) required None
+missing-told parts (Ok d) = least-three pack_place (absent_fault parts) required (sized_fault parts d) optional (sized_fault parts d) (custom_tags d)
 
-agreement_tells : (parts : List Lent) (p : PackageRecord) (s : Result (Unit {0}) PackFault) → first_refused place_of (conditions_of parts p) ≡ s → missing_parts parts (read_directory parts) ≡ [] → read_package parts ≡ Ok p → Tells parts (s >>= λ _. Ok p)
-agreement_tells parts p (Ok x) e none read = (none, read-said parts p read, accepted-empty place_of (conditions_of parts p) e)
-agreement_tells parts p (Err f) e none read = inr (none, inr (p, read-said parts p read, refused-first place_of (conditions_of parts p) f e))
+agreement_tells : (parts : List Lent) (p : PackageRecord) (s : Result (Unit {0}) PackFault) → first_refused pack_place (conditions_of parts p) ≡ s → missing_parts parts (read_directory parts) ≡ [] → read_package parts ≡ Ok p → Tells parts (s >>= λ _. Ok p)
+agreement_tells parts p (Ok x) e none read = (none, read-said parts p read, accepted-empty pack_place (conditions_of parts p) e)
+agreement_tells parts p (Err f) e none read = inr (none, inr (p, read-said parts p read, refused-first pack_place (conditions_of parts p) f e))
 
 reading_tells : (parts : List Lent) (r : Result PackageRecord PackFault) → read_package parts ≡ r → missing_parts parts (read_directory parts) ≡ [] → Tells parts (r >>= λ p. then_agree parts p)
 reading_tells parts (Err f) e none = inr (none, inl (read-fails parts f e))
-reading_tells parts (Ok p) e none = subst (Tells parts) (sym (agree-told parts p)) (agreement_tells parts p (first_refused place_of (conditions_of parts p)) refl none e)
+reading_tells parts (Ok p) e none = subst (Tells parts) (sym (agree-told parts p)) (agreement_tells parts p (first_refused pack_place (conditions_of parts p)) refl none e)
 
-missing_tells : (parts : List Lent) (m : Option PackFault) → least_in place_of None (missing_parts parts (read_directory parts)) ≡ m → Tells parts (refused m >>= λ _. (read_package parts >>= λ p. then_agree parts p))
-missing_tells parts (Some f) e = inl (least-found place_of (missing_parts parts (read_directory parts)) f e)
-missing_tells parts None e = reading_tells parts (read_package parts) refl (least-none place_of (missing_parts parts (read_directory parts)) e)
+missing_tells : (parts : List Lent) (m : Option PackFault) → least_in pack_place None (missing_parts parts (read_directory parts)) ≡ m → Tells parts (refused m >>= λ _. (read_package parts >>= λ p. then_agree parts p))
+missing_tells parts (Some f) e = inl (least-found pack_place (missing_parts parts (read_directory parts)) f e)
+missing_tells parts None e = reading_tells parts (read_package parts) refl (least-none pack_place (missing_parts parts (read_directory parts)) e)
 
 -- the answer tells the first fault, or that nothing is at fault
-pub first_told : (parts : List Lent) → Tells parts (package_of parts)
-unfolding package_of
+pub first_told : (parts : List Lent) → Tells parts (package_from parts)
+unfolding package_from
 first_told parts =
     let m = missing parts (read_directory parts) in
     missing_tells parts m (sym (missing-told parts (read_directory parts)))

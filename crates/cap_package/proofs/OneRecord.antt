@@ -9,10 +9,10 @@ use Rattle.cap_components.specs.ReadPackage.{read_package}
 use Rattle.cap_components.specs.Components.{info_in}
 use Rattle.cap_components.specs.Saying.{Holds, Says, SaysIf}
 use Rattle.cap_components.proofs.Saying.{info-read, said-read, fails-read}
-use Rattle.cap_package.specs.Agreement.{package_of}
+use Rattle.cap_package.specs.Agreement.{package_from}
 use Rattle.first_fault.specs.First.{IsFirst, IsLeast}
 use Rattle.first_fault.proofs.FirstTold.{none_first}
-use Rattle.cap_components.specs.Order.{place_of}
+use Rattle.cap_components.specs.Order.{pack_place}
 use Rattle.cap_package.specs.FirstFault.{conditions_of, Tells}
 use Rattle.cap_package.specs.StandsFor.{StandsFor, HavePackage}
 use Rattle.cap_package.proofs.FirstTold.{first_told}
@@ -28,15 +28,15 @@ no_answer p f r e h = absurd cc
 -- what is told of parts that stand for a package
 pub stands_told : (parts : List Lent) (p : PackageRecord) (answer : Result PackageRecord PackFault) → StandsFor parts p → Tells parts answer → answer ≡ Ok p
 stands_told parts p (Ok q) s t = ap Ok (ok_same p q (read_package parts) (said-read parts p s.said) (said-read parts q t.1))
-stands_told parts p (Err f) s (inl l) = absurd (subst (λ fs. IsLeast place_of fs f → ⊥) (sym s.missing) (λ k. k) l)
+stands_told parts p (Err f) s (inl l) = absurd (subst (λ fs. IsLeast pack_place fs f → ⊥) (sym s.missing) (λ k. k) l)
 stands_told parts p (Err f) s (inr (none, inl first)) = absurd (no_answer p f (read_package parts) (said-read parts p s.said) (fails-read parts f first))
 stands_told parts p (Err f) s (inr (none, inr (q, said, first))) =
     let same = ok_same p q (read_package parts) (said-read parts p s.said) (said-read parts q said) in
-    absurd (none_first place_of (conditions_of parts p) f s.agree (subst (λ x. IsFirst place_of (conditions_of parts x) f) same first))
+    absurd (none_first pack_place (conditions_of parts p) f s.agree (subst (λ x. IsFirst pack_place (conditions_of parts x) f) same first))
 
 -- parts that stand for a package are answered with it
-pub stands_only : (parts : List Lent) (p : PackageRecord) → StandsFor parts p → package_of parts ≡ Ok p
-stands_only parts p s = stands_told parts p (package_of parts) s (first_told parts)
+pub stands_only : (parts : List Lent) (p : PackageRecord) → StandsFor parts p → package_from parts ≡ Ok p
+stands_only parts p s = stands_told parts p (package_from parts) s (first_told parts)
 
 -- ---- the answer
 
@@ -44,7 +44,7 @@ answer_stands : (parts : List Lent) (p : PackageRecord) → Tells parts (Ok p) �
 answer_stands parts p t = record { said = t.1; missing = t.0; agree = t.2 }
 
 -- the answer is a package only where the parts stand for it
-pub answer_is : (parts : List Lent) (p : PackageRecord) → package_of parts ≡ Ok p → StandsFor parts p
+pub answer_is : (parts : List Lent) (p : PackageRecord) → package_from parts ≡ Ok p → StandsFor parts p
 answer_is parts p h = answer_stands parts p (subst (Tells parts) h (first_told parts))
 
 -- ---- the infos of the records

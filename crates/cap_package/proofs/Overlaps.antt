@@ -13,7 +13,7 @@ use Rattle.cap_bytes.specs.Number.{number_at}
 use Rattle.cap_desc.specs.DescriptorFormat.{Method, Field}
 use Rattle.cap_components.specs.declared.fault.PackFault.{PackFault}
 use Rattle.cap_components.specs.declared.fault.PackFault.TheVariants.{MethodOverlaps, StaticOverlaps}
-use Rattle.cap_components.specs.Order.{place_of, least_of}
+use Rattle.cap_components.specs.Order.{pack_place, least_of}
 use Rattle.cap_components.specs.Descriptions.{Description}
 use Rattle.cap_package.specs.Pairs.{pairs}
 use Rattle.cap_package.specs.MethodChecks.{size_by, code_start, code_end, overlap_fault, overlap_pair}
@@ -82,15 +82,15 @@ method_own info a b same lt =
     let some = method_some info b in
     omega (arith, same, lt, some)
 
-method_placed : (m n : ℕ) → place_of (MethodOverlaps m n) ≡ two m n
-unfolding place_of
+method_placed : (m n : ℕ) → pack_place (MethodOverlaps m n) ≡ two m n
+unfolding pack_place
 method_placed m n = refl
 
 pub method_neighbours : (info : List ℕ) (ms : List Method) → least_of (method_reach info (map method_start ms)) ms
     ≡ least_of (overlap_pair info) (pairs ms)
 unfolding method_reach
 method_neighbours info ms =
-    sym (least-neighbour method_start (method_end info) place_of MethodOverlaps method_placed (overlap_pair info) (method_up info)
+    sym (least-neighbour method_start (method_end info) pack_place MethodOverlaps method_placed (overlap_pair info) (method_up info)
     (method_down info) (method_own info) ms)
 
 -- what is found with the nearest start
@@ -123,8 +123,8 @@ static_down p q le =
 static_own : (p q : ImagePlace) → p.offset ≡ q.offset → p.offset < static_end p → q.offset < static_end q
 static_own p q same lt = omega (arith, takes_byte q.ty)
 
-static_placed : (m n : ℕ) → place_of (StaticOverlaps m n) ≡ two m n
-unfolding place_of
+static_placed : (m n : ℕ) → pack_place (StaticOverlaps m n) ≡ two m n
+unfolding pack_place
 static_placed m n = refl
 
 -- the pairs of fields at fault are those of their places
@@ -174,11 +174,11 @@ pub static_neighbours : (d : Description) (fs : List Field) →
     ≡ least_of (share_pair d) (pairs fs)
 unfolding static_reach
 static_neighbours d fs =
-    sym (least-neighbour static_start static_end place_of StaticOverlaps static_placed share_places static_up static_down
+    sym (least-neighbour static_start static_end pack_place StaticOverlaps static_placed share_places static_up static_down
     static_own (filter_map (place_in d) fs))
-    ∙ least-at_fault place_of share_places (pairs (filter_map (place_in d) fs)) None
-    ∙ ap (least_in place_of None) (sym (all_shared d fs))
-    ∙ sym (least-at_fault place_of (share_pair d) (pairs fs) None)
+    ∙ least-at_fault pack_place share_places (pairs (filter_map (place_in d) fs)) None
+    ∙ ap (least_in pack_place None) (sym (all_shared d fs))
+    ∙ sym (least-at_fault pack_place (share_pair d) (pairs fs) None)
 
 pub static_reaches : (t : Tallied) (starts : List ℕ) (p : ImagePlace) (near : Option ℕ) → t ≡ counted starts →
     IsNearest t p.offset near → reach_by StaticOverlaps p.offset (static_end p) near ≡ static_reach starts p

@@ -5,12 +5,13 @@ use Rattle.cap_frame.specs.AppletFormat.{Applet}
 use Rattle.cap_pool.specs.ExportFormat.{Exported}
 use Rattle.cap_desc.specs.DescriptorFormat as described
 use Rattle.cap_desc.specs.Members.{methods_of}
+use Rattle.cap_components.specs.declared.count_kind.CountKind.TheVariants.{Imports, Applets, ImageSize, InitialArrays, ArrayBytes, PoolTypes, ImageSegments}
 use Rattle.cap_components.specs.declared.fault.PackFault.{PackFault}
 use Rattle.cap_components.specs.Parts.{Lent}
 use Rattle.cap_components.specs.Order.{least_of, least_from, refused}
 use Rattle.cap_package.specs.Pairs.{pairs}
 use Rattle.cap_components.specs.Components.{◌>>=◌, read_directory}
-use Rattle.cap_components.specs.PackageRecord.{PackageRecord, described, interface_methods, fields}
+use Rattle.cap_components.specs.PackageRecord.{PackageRecord, described_methods, interface_methods, fields}
 use Rattle.cap_components.specs.ReadPackage.{read_package}
 use Rattle.cap_components.specs.PartChecks.{missing, form_fault, size_fault, components, custom_tags}
 use Rattle.cap_package.specs.MethodChecks.{overlap_pair, outside_fault}
@@ -32,28 +33,28 @@ size_condition p = least_from (least_of (size_fault p.parts p.directory) compone
     (size_fault p.parts p.directory) (custom_tags p.directory)
 
 abbrev pub overlap_condition : PackageRecord → Option PackFault
-overlap_condition p = least_of (overlap_pair p.methods.info) (pairs (described p))
+overlap_condition p = least_of (overlap_pair p.methods.info) (pairs (described_methods p))
 
 abbrev pub outside_condition : PackageRecord → Option PackFault
-outside_condition p = least_of (outside_fault p.methods.info (length p.methods.handlers)) (described p)
+outside_condition p = least_of (outside_fault p.methods.info (length p.methods.handlers)) (described_methods p)
 
 -- ---- numbers
 
 abbrev pub arguments_condition : PackageRecord → Option PackFault
-arguments_condition p = least_of (arguments_fault p.methods.info p.description) (described p)
+arguments_condition p = least_of (arguments_fault p.methods.info p.description) (described_methods p)
 
 abbrev pub instance_condition : PackageRecord → Option PackFault
 instance_condition p = least_of (instance_fault p.classes p.description) p.description.items.classes
 
 abbrev pub abstract_condition : PackageRecord → Option PackFault
-abstract_condition p = least_of (abstract_fault p.methods.info) (described p)
+abstract_condition p = least_of (abstract_fault p.methods.info) (described_methods p)
 
 -- ---- members
 
 abbrev pub handler_condition : PackageRecord → Option PackFault
 handler_condition p =
-    least_from (least_of (numbered_fault p.methods.info (described p)) (numbered 0 p.methods.handlers))
-    (claim_fault (length p.methods.handlers)) (described p)
+    least_from (least_of (numbered_fault p.methods.info (described_methods p)) (numbered 0 p.methods.handlers))
+    (claim_fault (length p.methods.handlers)) (described_methods p)
 
 abbrev pub static_condition : PackageRecord → Option PackFault
 static_condition p = least_of (share_pair p.description) (pairs (fields p))
@@ -61,9 +62,9 @@ static_condition p = least_of (share_pair p.description) (pairs (fields p))
 abbrev pub named_condition : PackageRecord → Option PackFault
 named_condition p =
     least_from
-    (least_from (least_of (no_entry_fault (is_method_at (described p))) (table_entries p.classes))
-    (no_method_fault (is_method_at (described p))) (exported_methods (or_none p.export)))
-    (no_method_fault (is_method_at (described p))) (map (λ (a : Applet). a.install) (or_none p.applets))
+    (least_from (least_of (no_entry_fault (is_method_at (described_methods p))) (table_entries p.classes))
+    (no_method_fault (is_method_at (described_methods p))) (exported_methods (or_none p.export)))
+    (no_method_fault (is_method_at (described_methods p))) (map (λ (a : Applet). a.install) (or_none p.applets))
 
 abbrev pub class_condition : PackageRecord → Option PackFault
 class_condition p =
@@ -73,7 +74,7 @@ class_condition p =
     (no_class_fault p.classes) (map (λ (c : Exported). c.class_offset) (or_none p.export))
 
 abbrev pub register_condition : PackageRecord → Option PackFault
-register_condition p = least_of (registers_fault p.methods.info) (described p)
+register_condition p = least_of (registers_fault p.methods.info) (described_methods p)
 
 abbrev pub type_condition : PackageRecord → Option PackFault
 type_condition p =
@@ -87,7 +88,7 @@ image_condition p = least_from (least_of (image_fault p.statics p.description) (
     (filled_fault (array_kinds p.statics.arrays) p.description) (fields p)
 
 abbrev pub length_condition : PackageRecord → Option PackFault
-length_condition p = least_of (length_fault p.methods.info) (described p)
+length_condition p = least_of (length_fault p.methods.info) (described_methods p)
 
 abbrev pub export_condition : PackageRecord → Option PackFault
 export_condition p = least_of (no_static_fault (is_static_at (fields p))) (exported_fields (or_none p.export))
@@ -102,15 +103,15 @@ places_agree p = do
 
 unfoldable pub counts_agree : PackageRecord → Result (Unit {0}) PackFault
 counts_agree p = do
-  imports ← refused (differ 1 p.directory.import_count (length p.imports))
-  applets ← refused (differ 2 p.directory.applet_count (count_if p.applets))
-  image ← refused (differ 3 p.directory.image_size p.statics.image_size)
-  arrays ← refused (differ 4 p.directory.array_init_count (length p.statics.arrays))
-  array_sizes ← refused (differ 5 p.directory.array_init_size (array_bytes p.statics.arrays))
-  pool ← refused (differ 6 (length p.description.items.pool_types) (length p.pool))
+  imports ← refused (differ Imports p.directory.import_count (length p.imports))
+  applets ← refused (differ Applets p.directory.applet_count (count_if p.applets))
+  image ← refused (differ ImageSize p.directory.image_size p.statics.image_size)
+  arrays ← refused (differ InitialArrays p.directory.array_init_count (length p.statics.arrays))
+  array_sizes ← refused (differ ArrayBytes p.directory.array_init_size (array_bytes p.statics.arrays))
+  pool ← refused (differ PoolTypes (length p.description.items.pool_types) (length p.pool))
   arguments ← refused (arguments_condition p)
   instances ← refused (instance_condition p)
-  sum ← refused (differ 9 p.statics.image_size (image_bytes p.statics))
+  sum ← refused (differ ImageSegments p.statics.image_size (image_bytes p.statics))
   refused (abstract_condition p)
 
 unfoldable pub members_agree : PackageRecord → Result (Unit {0}) PackFault
@@ -126,8 +127,8 @@ members_agree p = do
   refused (export_condition p)
 
 -- the package that the parts stand for, or the first fault
-unfoldable pub package_of : List Lent → Result PackageRecord PackFault
-package_of parts = do
+unfoldable pub package_from : List Lent → Result PackageRecord PackFault
+package_from parts = do
   all_there ← refused (missing parts (read_directory parts))
   p ← read_package parts
   customs ← refused (least_of (form_fault parts) (custom_tags p.directory))
@@ -138,4 +139,4 @@ package_of parts = do
 
 -- a package is what its parts stand for
 abbrev pub IsPackage : PackageRecord → Type 0
-IsPackage p = package_of p.parts ≡ Ok p
+IsPackage p = package_from p.parts ≡ Ok p

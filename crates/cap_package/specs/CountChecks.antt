@@ -7,11 +7,13 @@ use Rattle.cap_desc.specs.DescriptorFormat as described
 use Rattle.cap_desc.specs.DescriptorFormat.{Field}
 use Rattle.cap_components.specs.Descriptions.{Description, field_type, words_of}
 use Rattle.cap_package.specs.HeaderChecks.{is_static}
+use Rattle.cap_components.specs.declared.count_kind.CountKind.{CountKind}
+use Rattle.cap_components.specs.declared.count_kind.CountKind.TheVariants.{InstanceCells}
 use Rattle.cap_components.specs.declared.fault.PackFault.{PackFault}
 use Rattle.cap_components.specs.declared.fault.PackFault.TheVariants.{CountDisagrees}
 
 -- two numbers of one thing differ
-unfoldable pub differ : ℕ → ℕ → ℕ → Option PackFault
+unfoldable pub differ : CountKind → ℕ → ℕ → Option PackFault
 differ what said found = if said == found then None else Some (CountDisagrees what said found)
 
 -- the bytes of the initial arrays
@@ -37,7 +39,8 @@ instance_cells d = sum_by (cells_of d)
 -- a class's declared instance size is another than the cells of its fields
 abbrev pub instance_by : Description → described.Class → Option Class → Option PackFault
 instance_by d c None = None
-instance_by d c (Some entry) = if is_interface entry.flags then None else differ 8 entry.instance_size (instance_cells d c.fields)
+instance_by d c (Some entry) = if is_interface entry.flags then None
+    else differ InstanceCells entry.instance_size (instance_cells d c.fields)
 
 unfoldable pub instance_fault : List Class → Description → described.Class → Option PackFault
 instance_fault classes d c = instance_by d c (find (λ (r : Class). r.offset == c.class_ref) classes)

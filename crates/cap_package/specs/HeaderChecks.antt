@@ -7,6 +7,7 @@ use Rattle.cap_bytes.specs.Reading.{read}
 use Rattle.cap_method.specs.MethodFormat.{Header, header_info}
 use Rattle.cap_desc.specs.DescriptorFormat.{Method}
 use Rattle.cap_components.specs.Descriptions.{Description, argument_words}
+use Rattle.cap_components.specs.declared.count_kind.CountKind.TheVariants.{ArgumentWords, AbstractCode}
 use Rattle.cap_components.specs.declared.fault.PackFault.{PackFault}
 use Rattle.cap_components.specs.declared.fault.PackFault.TheVariants.{TooManyRegisters, MethodLength, CountDisagrees}
 
@@ -46,7 +47,7 @@ abbrev pub arguments_by : Method → Option Header → Option ℕ → Option Pac
 arguments_by m None words = None
 arguments_by m (Some h) None = None
 arguments_by m (Some h) (Some words) = if h.nargs == words + this_words m then None
-    else Some (CountDisagrees 7 h.nargs (words + this_words m))
+    else Some (CountDisagrees ArgumentWords h.nargs (words + this_words m))
 
 unfoldable pub arguments_fault : List ℕ → Description → Method → Option PackFault
 arguments_fault info d m = arguments_by m (header_in info m.method_offset) (argument_words d m.type_offset)
@@ -54,7 +55,8 @@ arguments_fault info d m = arguments_by m (header_in info m.method_offset) (argu
 -- an abstract method of a class has code
 abbrev pub abstract_by : Method → Option Header → Option PackFault
 abstract_by m None = None
-abstract_by m (Some h) = if is_abstract h && not (m.bytecode_count == 0) then Some (CountDisagrees 10 m.bytecode_count 0) else None
+abstract_by m (Some h) = if is_abstract h && not (m.bytecode_count == 0)
+    then Some (CountDisagrees AbstractCode m.bytecode_count 0) else None
 
 unfoldable pub abstract_fault : List ℕ → Method → Option PackFault
 abstract_fault info m = abstract_by m (header_in info m.method_offset)

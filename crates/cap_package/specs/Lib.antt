@@ -1,5 +1,6 @@
 pub use Rattle.cap_components.specs.Parts
 pub use Rattle.cap_components.specs.Inside
+pub use Rattle.cap_components.specs.CountKind
 pub use Rattle.cap_components.specs.Order
 pub mod Pairs
 pub mod MethodChecks
@@ -29,3 +30,4 @@ pub mod StandsFor
 pub mod StaticPlaces
 pub mod Reaches
 pub mod HandlerClaims
+pub mod PackagesLeft

@@ -3,7 +3,7 @@ ghost use Rattle.offset_set.specs.Bits.{holds};
 ghost use Rattle.offset_set.specs.Tallies.{tallied, counted};
 ghost use Rattle.cap_pool.specs.ExportFormat.{Exported};
 ghost use Rattle.cap_class.specs.ClassPart.{records};
-ghost use Rattle.cap_components.specs.PackageRecord.{names_interface, described};
+ghost use Rattle.cap_components.specs.PackageRecord.{names_interface, described_methods};
 ghost use Rattle.cap_package.specs.NameChecks.{no_method_fault, exported_methods, no_class_fault, is_class_at, is_method_at};
 ghost use Rattle.cap_package.specs.Agreement.{or_none, places_agree, counts_agree, members_agree, named_condition, class_condition, export_condition};
 ghost use Rattle.cap_package.specs.Reaches.{method_start};
@@ -22,7 +22,7 @@ use crate::offsets::{class_starts, static_offsets};
 use crate::places::StaticPlaces;
 use crate::static_checks::{statics_apart, statics_in_image};
 use crate::type_checks::types_fit;
-use cap_components::{Components, PackFault, refuse, sizes_agree};
+use cap_components::{Components, CountKind, PackFault, refuse, sizes_agree};
 use offset_set::{Offsets, Tally};
 
 /// The sizes of the parts and the places of the methods agree.
@@ -33,7 +33,7 @@ pub(crate) fn places_agree(
     starts: &Tally,
 ) -> Result<(), PackFault>
     requires known { holds interfaces.now ≡ names_interface (records all.now.classes) }
-    requires starts { tallied starts.now ≡ counted (map method_start (described (components_seen all.now))) }
+    requires starts { tallied starts.now ≡ counted (map method_start (described_methods (components_seen all.now))) }
     ensures { result ≡ places_agree (components_seen all.now) }
 {
     let described = all.descriptor.methods_but(interfaces);
@@ -57,24 +57,28 @@ pub(crate) fn counts_agree(all: &Components<'_, '_>, interfaces: &Offsets) -> Re
         None => 0,
     };
     agree(
-        1,
+        CountKind::Imports,
         directory.import_count() as u32,
         all.imports.count() as u32,
     )?;
-    agree(2, directory.applet_count() as u32, applets)?;
+    agree(CountKind::Applets, directory.applet_count() as u32, applets)?;
     agree(
-        3,
+        CountKind::ImageSize,
         directory.image_size() as u32,
         statics.image_size() as u32,
     )?;
     agree(
-        4,
+        CountKind::InitialArrays,
         directory.array_init_count() as u32,
         statics.array_init_count() as u32,
     )?;
-    agree(5, directory.array_init_size() as u32, array_bytes(statics))?;
     agree(
-        6,
+        CountKind::ArrayBytes,
+        directory.array_init_size() as u32,
+        array_bytes(statics),
+    )?;
+    agree(
+        CountKind::PoolTypes,
         all.descriptor.pool_count() as u32,
         all.pool.count() as u32,
     )?;
@@ -82,7 +86,11 @@ pub(crate) fn counts_agree(all: &Components<'_, '_>, interfaces: &Offsets) -> Re
     instances_agree(&all.classes, &all.descriptor)?;
     let references = 2 * statics.reference_count() as u32;
     let values = statics.default_value_count() as u32 + statics.non_default_value_count() as u32;
-    agree(9, statics.image_size() as u32, references + values)?;
+    agree(
+        CountKind::ImageSegments,
+        statics.image_size() as u32,
+        references + values,
+    )?;
     abstract_without_code(&all.methods, described)
 }
 
@@ -105,7 +113,7 @@ fn export_names(
 
 /// Dispatch tables, exports and applets name described methods.
 fn names_agree(all: &Components<'_, '_>, methods_at: &Offsets) -> Result<(), PackFault>
-    requires { holds methods_at.now ≡ is_method_at (described (components_seen all.now)) }
+    requires { holds methods_at.now ≡ is_method_at (described_methods (components_seen all.now)) }
     ensures { result ≡ refused (named_condition (components_seen all.now)) }
 {
     let entries = entries_named(methods_at, &all.classes);
@@ -164,7 +172,7 @@ pub(crate) fn members_agree(
     starts: &Tally,
 ) -> Result<(), PackFault>
     requires known { holds interfaces.now ≡ names_interface (records all.now.classes) }
-    requires starts { tallied starts.now ≡ counted (map method_start (described (components_seen all.now))) }
+    requires starts { tallied starts.now ≡ counted (map method_start (described_methods (components_seen all.now))) }
     ensures { result ≡ members_agree (components_seen all.now) }
 {
     let described = all.descriptor.methods_but(interfaces);

@@ -1,12 +1,12 @@
 ghost use Rattle.std.specs.Prelude.{◌≡◌, map, if◌then◌else◌, Some, None};
 ghost use Rattle.offset_set.specs.Bits.{holds};
 ghost use Rattle.offset_set.specs.Tallies.{tallied, counted, once};
-ghost use Rattle.cap_pool.specs.Export.{classes as exported};
+ghost use Rattle.cap_pool.specs.Export.{export_seen as exported};
 ghost use Rattle.cap_pool.specs.ExportFormat.{Exported};
 ghost use Rattle.cap_class.specs.ClassFormat.{Class};
 ghost use Rattle.cap_class.specs.ClassPart.{records};
 ghost use Rattle.cap_desc.specs.DescriptorFormat as desc;
-ghost use Rattle.cap_desc.specs.ClassRecords.{classes_left as described_left};
+ghost use Rattle.cap_desc.specs.ClassRecords.{described_left};
 ghost use Rattle.cap_components.specs.declared.fault.PackFault.TheVariants.{ClassUndescribed};
 ghost use Rattle.cap_components.specs.Order.{least_of, least_from};
 ghost use Rattle.cap_package.specs.NameChecks.{class_unless, own};

@@ -1,7 +1,7 @@
 ghost use Rattle.std.specs.Prelude.{◌≡◌, ◌≤◌, ◌*◌, length, option_map};
 ghost use Rattle.cap_class.specs.ClassPart.{class_seen as entry_seen, records};
 ghost use Rattle.cap_method.specs.StaticPart.{statics_seen, arrays_left};
-ghost use Rattle.cap_desc.specs.ClassRecords.{class_seen, classes_left};
+ghost use Rattle.cap_desc.specs.ClassRecords.{described_class_seen, described_left};
 ghost use Rattle.cap_desc.specs.MemberRecords.{field_seen};
 ghost use Rattle.cap_desc.specs.MemberLists.{fields_left};
 ghost use Rattle.cap_components.specs.Order.{least_of, least_from, refused};
@@ -10,13 +10,13 @@ ghost use Rattle.cap_package.specs.CountChecks.{differ, array_bytes, cells_of, i
 
 use crate::class_search::ClassSearch;
 use cap_class::{ClassInfo, ClassPart};
-use cap_components::{PackFault, field_type, lesser, refuse, words_of};
+use cap_components::{CountKind, PackFault, field_type, lesser, refuse, words_of};
 use cap_desc::{DescClass, DescPart, FieldInfo};
 use cap_method::StaticPart;
 
 /// Whether two numbers of one thing differ.
 #[tactic(auto, unfolding(crate::specs::CountChecks::differ))]
-pub(crate) fn differ(what: u8, said: u32, found: u32) -> Option<PackFault>
+pub(crate) fn differ(what: CountKind, said: u32, found: u32) -> Option<PackFault>
     ensures { result ≡ differ what said found }
 {
     if said == found {
@@ -27,7 +27,7 @@ pub(crate) fn differ(what: u8, said: u32, found: u32) -> Option<PackFault>
 }
 
 /// Two numbers of one thing are equal.
-pub(crate) fn agree(what: u8, said: u32, found: u32) -> Result<(), PackFault>
+pub(crate) fn agree(what: CountKind, said: u32, found: u32) -> Result<(), PackFault>
     ensures { result ≡ refused (differ what said found) }
 {
     refuse(differ(what, said, found))
@@ -62,7 +62,7 @@ fn cells_of(descriptor: &DescPart<'_>, field: &FieldInfo) -> u32
 
 /// The cells of a class's own instance fields.
 fn instance_cells(descriptor: &DescPart<'_>, class: &DescClass<'_>) -> u32
-    ensures { result ≡ instance_cells (description descriptor.now) (class_seen class.now).fields }
+    ensures { result ≡ instance_cells (description descriptor.now) (described_class_seen class.now).fields }
 {
     let count = class.field_count();
     let mut cells: u32 = 0;
@@ -79,14 +79,14 @@ fn instance_fault(
     descriptor: &DescPart<'_>,
     class: &DescClass<'_>,
 ) -> Option<PackFault>
-    ensures { result ≡ instance_by (description descriptor.now) (class_seen class.now) (option_map entry_seen entry.entry) }
+    ensures { result ≡ instance_by (description descriptor.now) (described_class_seen class.now) (option_map entry_seen entry.entry) }
 {
     let entry = entry?;
     if entry.flags().is_interface() {
         return None;
     }
     differ(
-        8,
+        CountKind::InstanceCells,
         entry.instance_size() as u32,
         instance_cells(descriptor, class),
     )

@@ -7,12 +7,13 @@ ghost use Rattle.cap_components.specs.Order.{least_of, refused};
 ghost use Rattle.cap_components.specs.Descriptions.{description};
 ghost use Rattle.cap_package.specs.HeaderChecks.{header_in, registers_fault, length_fault, arguments_fault, abstract_fault};
 
-use cap_components::{PackFault, argument_words, lesser, refuse};
+use cap_components::{CountKind, PackFault, argument_words, lesser, refuse};
 use cap_desc::{DescPart, MethodInfo, MethodsBut};
 use cap_method::{MethodHeader, MethodPart};
 
 /// The header of a method, where its bytes reach.
 #[tactic(auto, using(crate::proofs::HeaderKnown::header_known))]
+#[inline(always)]
 pub fn header(methods: &MethodPart<'_>, offset: u16) -> Option<MethodHeader>
     ensures value { option_map header_seen result ≡ header_in methods.now.info.bytes.now offset }
     ensures found { IfSome result (λ h. HeaderAt methods.now.info.bytes.now offset (header_seen h)) }
@@ -88,7 +89,7 @@ fn arguments_fault(
     if header.nargs as u16 == found {
         return None;
     }
-    Some(PackFault::CountDisagrees(7, header.nargs as u32, found as u32))
+    Some(PackFault::CountDisagrees(CountKind::ArgumentWords, header.nargs as u32, found as u32))
 }
 
 /// Each described method takes as many words as its type descriptor tells.
@@ -116,7 +117,11 @@ fn abstract_fault(methods: &MethodPart<'_>, method: &MethodInfo) -> Option<PackF
 {
     let header = header(methods, method.method_offset)?;
     if header.flags.is_abstract() && method.bytecode_count != 0 {
-        return Some(PackFault::CountDisagrees(10, method.bytecode_count as u32, 0));
+        return Some(PackFault::CountDisagrees(
+            CountKind::AbstractCode,
+            method.bytecode_count as u32,
+            0,
+        ));
     }
     None
 }

@@ -13,7 +13,7 @@ ghost use Rattle.cap_frame.specs.Directory.{directory_items};
 ghost use Rattle.cap_frame.specs.Imports.{packages};
 ghost use Rattle.cap_frame.specs.Applets.{applets_of};
 ghost use Rattle.cap_pool.specs.Pool.{entries};
-ghost use Rattle.cap_pool.specs.Export.{classes as exported};
+ghost use Rattle.cap_pool.specs.Export.{export_seen as exported};
 ghost use Rattle.cap_pool.specs.Locations.{location_items};
 ghost use Rattle.cap_class.specs.ClassPart.{records};
 ghost use Rattle.cap_method.specs.StaticPart.{statics_seen};
@@ -25,7 +25,7 @@ ghost use Rattle.cap_package.specs.CustomSeen.{custom_items};
 ghost use Rattle.cap_components.specs.Descriptions.{description};
 ghost use Rattle.cap_components.specs.MethodsSeen.{methods_seen};
 ghost use Rattle.cap_package.specs.StandsFor.{StandsFor};
-ghost use Rattle.cap_package.specs.Agreement.{package_of};
+ghost use Rattle.cap_package.specs.Agreement.{package_from};
 ghost use Rattle.cap_package.specs.StaticPlaces.{places_left, static_places, AreApart, IsStaticPlace};
 
 use crate::custom::Custom;
@@ -44,7 +44,7 @@ impl<'p, 'a> Package<'p, 'a> {
     pub fn parts(&self) -> &'p Parts<'a>
         ensures is { result.now ≡ self.now.parts }
         ensures agree { StandsFor self.now.parts self.now }
-        ensures only { package_of self.now.parts ≡ Ok self.now }
+        ensures only { package_from self.now.parts ≡ Ok self.now }
     {
         self.all.parts
     }

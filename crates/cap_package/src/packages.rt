@@ -1,7 +1,9 @@
-ghost use Rattle.std.specs.Prelude.{◌≡◌, ◌<◌, ◌-◌, [], ◌∷◌, ◌++◌, List, IfOk, OnOk, OnErr, Some, length, slice_get, take};
+ghost use Rattle.std.specs.Prelude.{◌≡◌, ◌<◌, ◌≤◌, ◌-◌, [], ◌∷◌, ◌++◌, List, IfOk, OnOk, OnErr, Some, length, slice_get, take};
 ghost use Rattle.cap_components.specs.PackageRecord.{PackageRecord};
+ghost use Rattle.cap_package.specs.PackagesLeft.{packages_left};
 
 use crate::package_type::Package;
+use crate::packages_iter::PackagesIter;
 use std::alloc::{AllocError, Global};
 use std::marker::Model;
 
@@ -45,11 +47,25 @@ impl<'p, 'a> Packages<'p, 'a> {
         &self.items[n]
     }
 
-    /// All packages, to go over them.
-    pub fn as_slice(&self) -> &[Package<'p, 'a>]
-        ensures { result.now ≡ self.now }
+    /// The packages in order.
+    pub fn iter(&self) -> PackagesIter<'_, 'p, 'a>
+        ensures { packages_left result ≡ self.now }
     {
-        self.items.as_slice()
+        PackagesIter {
+            packages: self.items.as_slice(),
+            given: 0,
+        }
+    }
+
+    /// Those before the n-th, in order.
+    pub fn before(&self, n: usize) -> PackagesIter<'_, 'p, 'a>
+        requires { n ≤ length self.now }
+        ensures { packages_left result ≡ take n self.now }
+    {
+        PackagesIter {
+            packages: &self.items.as_slice()[..n],
+            given: 0,
+        }
     }
 
     /// Appends a package. After an error the list is as before.

@@ -1,7 +1,7 @@
 ghost use Rattle.std.specs.Prelude.{◌≡◌, IfOk, Ok};
 ghost use Rattle.cap_components.specs.Components.{Answers};
 ghost use Rattle.cap_components.specs.ComponentsSeen.{components_seen};
-ghost use Rattle.cap_package.specs.Agreement.{package_of};
+ghost use Rattle.cap_package.specs.Agreement.{package_from};
 ghost use Rattle.cap_package.specs.FirstFault.{Tells};
 ghost use Rattle.cap_package.specs.StandsFor.{StandsFor, HavePackage};
 ghost use Rattle.cap_components.specs.Infos.{HaveInfos};
@@ -15,9 +15,9 @@ use cap_components::{
 };
 
 /// The components of the package that the parts stand for.
-#[tactic(auto, unfolding(crate::specs::Agreement::package_of))]
+#[tactic(auto, unfolding(crate::specs::Agreement::package_from))]
 fn agreeing<'p, 'a>(parts: &'p Parts<'a>) -> Result<Components<'p, 'a>, PackFault>
-    ensures value { Answers components_seen result (package_of parts.now) }
+    ensures value { Answers components_seen result (package_from parts.now) }
     ensures parts { IfOk result (λ all. all.parts.now ≡ parts.now) }
     ensures infos { IfOk result (λ all. HaveInfos all) }
 {
@@ -35,7 +35,7 @@ fn agreeing<'p, 'a>(parts: &'p Parts<'a>) -> Result<Components<'p, 'a>, PackFaul
 /// The package that the parts stand for, or why they stand for none.
 #[tactic(auto, using(crate::proofs::FirstTold::first_told))]
 pub fn package<'p, 'a>(parts: &'p Parts<'a>) -> Result<Package<'p, 'a>, PackFault>
-    ensures value { result ≡ package_of parts.now }
+    ensures value { result ≡ package_from parts.now }
     // A package exactly where nothing is at fault; else the first condition by number that is broken, at its
     // least thing.
     ensures tells { Tells parts.now result }

@@ -43,6 +43,7 @@ fn width_of(ty: TypeItem) -> u32
 
 /// Where a static field stands in the image, and of which type it is.
 #[tactic(auto, unfolding(crate::specs::StaticChecks::place_in))]
+#[inline(always)]
 pub(crate) fn place_in(descriptor: &DescPart<'_>, field: &FieldInfo) -> Option<StaticPlace>
     ensures { option_map place_seen result ≡ place_in (description descriptor.now) (field_seen field.now) }
 {
@@ -100,6 +101,7 @@ pub(crate) fn statics_apart(places: StaticPlaces<'_>) -> Result<(), PackFault>
 }
 
 /// Whether a place lies in the part of the image for its kind.
+#[inline(always)]
 fn is_in_image(statics: &StaticPart<'_>, place: &StaticPlace) -> bool
     ensures { result ≡ is_in_image (statics_seen statics.now) (place_seen place.now) }
 {
@@ -113,6 +115,7 @@ fn is_in_image(statics: &StaticPart<'_>, place: &StaticPlace) -> bool
 }
 
 #[tactic(auto, unfolding(crate::specs::StaticChecks::image_fault))]
+#[inline(always)]
 fn image_fault(
     statics: &StaticPart<'_>,
     descriptor: &DescPart<'_>,
@@ -154,6 +157,7 @@ fn kind_at(kinds: &ArrayVec<u8, MOST_ARRAYS>, offset: u16) -> Option<u8>
 }
 
 #[tactic(auto, unfolding(crate::specs::StaticChecks::filled_fault))]
+#[inline(always)]
 fn filled_fault(
     kinds: &ArrayVec<u8, MOST_ARRAYS>,
     descriptor: &DescPart<'_>,

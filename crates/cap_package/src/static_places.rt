@@ -13,6 +13,7 @@ impl Iterator for StaticPlaces<'_> {
 
     ghost remaining = { item_count places_left };
 
+    #[inline(always)]
     fn next(&mut self) -> Option<StaticPlace> {
         'fields: loop {
             let field = self.fields.next()?;

@@ -1,6 +1,6 @@
 ghost use Rattle.std.specs.Prelude.{◌≡◌};
 ghost use Rattle.offset_set.specs.Bits.{holds};
-ghost use Rattle.cap_desc.specs.ClassRecords.{classes_left};
+ghost use Rattle.cap_desc.specs.ClassRecords.{described_left};
 ghost use Rattle.cap_desc.specs.MemberLists.{methods_left};
 ghost use Rattle.cap_desc.specs.MemberRecords.{field_seen, method_seen};
 ghost use Rattle.cap_desc.specs.Members.{methods_of, methods_in, fields_of};

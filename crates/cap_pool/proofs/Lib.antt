@@ -1,1 +1,2 @@
 pub mod EntryWidth
+pub mod OwnMethods

@@ -8,8 +8,8 @@ pub record Exported : Type 0 where
   pub fields : List ℕ
   pub methods : List ℕ
 
-abbrev pub class_info : Grammar Exported
-class_info = do
+abbrev pub class_export_info : Grammar Exported
+class_export_info = do
   class_offset ← u2
   field_count ← u1
   method_count ← u1
@@ -19,6 +19,6 @@ class_info = do
 
 abbrev pub export_info : Grammar (List Exported)
 export_info = do
-  classes ← counted class_info
+  classes ← counted class_export_info
   end ← finish
   give classes

@@ -1,15 +1,16 @@
 ghost use Rattle.std.specs.Iterator.{YieldsFirstBy, item_count};
 ghost use Rattle.cap_bytes.specs.Grammar.{repeat};
 ghost use Rattle.cap_bytes.specs.Taking.{Takes, Passes};
-ghost use Rattle.cap_pool.specs.Export.{class_seen, classes_left};
-ghost use Rattle.cap_pool.specs.ExportFormat.{class_info};
+ghost use Rattle.cap_pool.specs.Export.{exported_class_seen, exported_left};
+ghost use Rattle.cap_pool.specs.ExportFormat.{class_export_info};
 
 use crate::lists::{ExportClass, ExportedClass, ExportedClasses};
 use cap_bytes::{Cursor, FormFault};
 
 /// The next class.
+#[inline(always)]
 pub(crate) fn class<'a>(items: &mut Cursor<'a>) -> Result<ExportedClass<'a>, FormFault>
-    ensures { Takes class_seen class_info items.old result items.new }
+    ensures { Takes exported_class_seen class_export_info items.old result items.new }
 {
     let class_offset = items.u2()?;
     let field_count = items.u1()?;
@@ -30,7 +31,7 @@ pub(crate) fn class<'a>(items: &mut Cursor<'a>) -> Result<ExportedClass<'a>, For
 /// Passes over so many classes.
 #[tactic(auto, using(cap_bytes::proofs::Loops::passing))]
 pub(crate) fn pass_classes(items: &mut Cursor<'_>, count: u8) -> Result<(), FormFault>
-    ensures { Passes (repeat count class_info) items.old result items.new }
+    ensures { Passes (repeat count class_export_info) items.old result items.new }
 {
     'classes: for _ in 0..count {
         class(items)?;
@@ -41,11 +42,12 @@ pub(crate) fn pass_classes(items: &mut Cursor<'_>, count: u8) -> Result<(), Form
 impl<'a> Iterator for ExportedClasses<'a> {
     type Item = ExportedClass<'a>;
 
-    ghost next_gives = { YieldsFirstBy class_seen classes_left };
+    ghost next_gives = { YieldsFirstBy exported_class_seen exported_left };
 
-    ghost remaining = { item_count classes_left };
+    ghost remaining = { item_count exported_left };
 
     #[tactic(auto, using(cap_bytes::proofs::Loops::yielding))]
+    #[inline(always)]
     fn next(&mut self) -> Option<ExportedClass<'a>> {
         if self.left == 0 {
             return None;

@@ -2,7 +2,7 @@ ghost use Rattle.std.specs.Prelude.{◌≡◌, ◌≤◌, length, IfOk, IfErr};
 ghost use Rattle.cap_bytes.specs.Exact.{IsExact};
 ghost use Rattle.cap_bytes.specs.Spelling.{info_of, Stands, Breaks};
 ghost use Rattle.cap_bytes.specs.Taking.{Reads};
-ghost use Rattle.cap_pool.specs.Export.{classes};
+ghost use Rattle.cap_pool.specs.Export.{export_seen};
 ghost use Rattle.cap_pool.specs.ExportFormat.{export_info};
 
 use crate::export_items::pass_classes;
@@ -17,7 +17,7 @@ const EXPORT: u8 = 10;
 #[tactic(auto, using(cap_bytes::proofs::Laws::whole))]
 pub fn export(info: View<'_>) -> Result<Export<'_>, FormFault>
     requires { length info.bytes.now ≤ 65535 }
-    ensures found { IfOk result (λ x. Stands export_info info.entry.bytes.now (classes x)) }
+    ensures found { IfOk result (λ x. Stands export_info info.entry.bytes.now (export_seen x)) }
     ensures fault { IfErr result (λ e. Breaks (info_of 10) export_info info.entry.bytes.now 0 e) }
     ensures exact { IsExact (info_of 10) export_info info.entry.bytes.now }
     ensures info { IfOk result (λ x. x.info ≡ info.entry) }
@@ -29,7 +29,7 @@ pub fn export(info: View<'_>) -> Result<Export<'_>, FormFault>
 #[tactic(auto, using(cap_bytes::proofs::Loops::yielding), unfolding(cap_bytes::specs::Reading::reading))]
 fn read(info: View<'_>) -> Result<Export<'_>, FormFault>
     requires { length info.bytes.now ≤ 65535 }
-    ensures value { Reads classes (info_of 10) export_info info.entry.bytes.now result }
+    ensures value { Reads export_seen (info_of 10) export_info info.entry.bytes.now result }
     ensures info { IfOk result (λ x. x.info ≡ info.entry) }
 {
     let mut items = Cursor::of(info, EXPORT);

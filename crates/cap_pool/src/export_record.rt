@@ -1,5 +1,5 @@
 ghost use Rattle.std.specs.Prelude.{◌≡◌, length, slice_get, option_map};
-ghost use Rattle.cap_pool.specs.Export.{class_seen, classes, classes_left, field_in, head_of, method_in};
+ghost use Rattle.cap_pool.specs.Export.{exported_class_seen, export_seen, exported_left, field_offset_in, head_of, method_offset_in};
 
 use crate::lists::{ExportClass, ExportedClass, ExportedClasses};
 use cap_bytes::View;
@@ -22,14 +22,14 @@ impl<'a> Export<'a> {
     /// How many classes are exported.
     #[tactic(auto, using(cap_bytes::proofs::Loops::yielding))]
     pub fn count(&self) -> u8
-        ensures { result ≡ length (classes self.now) }
+        ensures { result ≡ length (export_seen self.now) }
     {
         self.classes.left
     }
 
     /// The class with this token.
     pub fn class(&self, n: u8) -> Option<ExportClass>
-        ensures { result ≡ option_map head_of (slice_get (classes self.now) n) }
+        ensures { result ≡ option_map head_of (slice_get (export_seen self.now) n) }
     {
         match self.exported(n) {
             Some(exported) => Some(exported.class),
@@ -39,7 +39,7 @@ impl<'a> Export<'a> {
 
     /// The offset of a class's static field with this token.
     pub fn field(&self, class: u8, n: u8) -> Option<u16>
-        ensures { result ≡ field_in (classes self.now) class n }
+        ensures { result ≡ field_offset_in (export_seen self.now) class n }
     {
         match self.exported(class) {
             Some(class) => class.fields.at(n as u16),
@@ -49,7 +49,7 @@ impl<'a> Export<'a> {
 
     /// The offset of a class's static method with this token.
     pub fn method(&self, class: u8, n: u8) -> Option<u16>
-        ensures { result ≡ method_in (classes self.now) class n }
+        ensures { result ≡ method_offset_in (export_seen self.now) class n }
     {
         match self.exported(class) {
             Some(class) => class.methods.at(n as u16),
@@ -59,14 +59,14 @@ impl<'a> Export<'a> {
 
     /// The class with this token, with its offsets.
     pub fn exported(&self, n: u8) -> Option<ExportedClass<'a>>
-        ensures { option_map class_seen result ≡ slice_get (classes self.now) n }
+        ensures { option_map exported_class_seen result ≡ slice_get (export_seen self.now) n }
     {
         self.iter().nth(n as usize)
     }
 
     /// The classes by rising token.
     pub fn iter(&self) -> ExportedClasses<'a>
-        ensures { classes_left result ≡ classes self.now }
+        ensures { exported_left result ≡ export_seen self.now }
     {
         self.classes
     }

@@ -14,6 +14,7 @@ mod location_record;
 mod pool_items;
 mod pool_reader;
 mod pool_record;
+mod pool_reference;
 
 pub use export_reader::export;
 pub use export_record::Export;
@@ -22,3 +23,4 @@ pub use location_reader::locations;
 pub use location_record::Locations;
 pub use pool_reader::pool;
 pub use pool_record::{Pool, PoolEntry};
+pub use pool_reference::{PoolReference, StaticReference};

@@ -2,7 +2,7 @@ ghost use Rattle.std.specs.Prelude.{◌≡◌, length};
 ghost use Rattle.cap_bytes.specs.Grammar.{repeat};
 ghost use Rattle.cap_bytes.specs.Table.{numbers};
 ghost use Rattle.cap_bytes.specs.Taking.{Gives};
-ghost use Rattle.cap_pool.specs.ExportFormat.{class_info};
+ghost use Rattle.cap_pool.specs.ExportFormat.{class_export_info};
 ghost use Rattle.cap_pool.specs.PoolFormat.{entry_info};
 
 use cap_bytes::{Cursor, Table};
@@ -20,7 +20,7 @@ pub struct PoolEntries<'a> {
 pub struct ExportedClasses<'a> {
     pub(crate) items: Cursor<'a>,
     pub(crate) left: u8,
-    ghost known: { Gives (repeat left class_info) items },
+    ghost known: { Gives (repeat left class_export_info) items },
 }
 
 /// What the Export says of a class before the offsets.

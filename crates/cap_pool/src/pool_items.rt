@@ -9,6 +9,7 @@ use crate::pool_record::PoolEntry;
 use cap_bytes::{Cursor, FormFault, FormKind};
 
 /// The next entry.
+#[inline(always)]
 pub(crate) fn entry(items: &mut Cursor<'_>) -> Result<PoolEntry, FormFault>
     ensures { Takes entry_seen entry_info items.old result items.new }
 {
@@ -40,6 +41,7 @@ impl Iterator for PoolEntries<'_> {
     ghost remaining = { item_count entries_left };
 
     #[tactic(auto, using(cap_bytes::proofs::Loops::yielding))]
+    #[inline(always)]
     fn next(&mut self) -> Option<PoolEntry> {
         if self.left == 0 {
             return None;

@@ -1,9 +1,11 @@
 ghost use Rattle.std.specs.Prelude.{◌≡◌, length, slice_get, option_map};
 ghost use Rattle.cap_pool.specs.Pool.{entries, entries_left, entry_seen};
+ghost use Rattle.cap_pool.specs.PoolReference.{class_in, referred, static_in};
 
 use crate::lists::PoolEntries;
 use crate::pool_items::entry;
-use cap_bytes::View;
+use crate::pool_reference::{PoolReference, StaticReference};
+use cap_bytes::{ClassReference, View};
 
 /// An entry of the constant pool.
 #[derive(Clone, Copy)]
@@ -12,6 +14,55 @@ pub struct PoolEntry {
     /// 6 StaticMethodref.
     pub tag: u8,
     pub bytes: [u8; 3],
+}
+
+/// The class reference in the first two bytes.
+fn class_in(bytes: [u8; 3]) -> ClassReference
+    ensures { result ≡ class_in bytes }
+{
+    ClassReference::of(bytes[0] as u16 * 256 + bytes[1] as u16)
+}
+
+/// The static field or the method without dispatch that three bytes name.
+fn static_in(bytes: [u8; 3]) -> StaticReference
+    ensures { result ≡ static_in bytes }
+{
+    if bytes[0] < 128 {
+        return StaticReference::Internal(bytes[1] as u16 * 256 + bytes[2] as u16);
+    }
+    StaticReference::External {
+        package: bytes[0] - 128,
+        class: bytes[1],
+        token: bytes[2],
+    }
+}
+
+impl PoolEntry {
+    /// What the entry refers to.
+    #[tactic(auto, unfolding(crate::specs::PoolReference::referred))]
+    pub fn reference(self) -> PoolReference
+        ensures { result ≡ referred (entry_seen self) }
+    {
+        let PoolEntry { tag, bytes } = self;
+        let token = bytes[2];
+        match tag {
+            1 => PoolReference::Class(class_in(bytes)),
+            2 => PoolReference::InstanceField {
+                class: class_in(bytes),
+                token,
+            },
+            3 => PoolReference::VirtualMethod {
+                class: class_in(bytes),
+                token,
+            },
+            4 => PoolReference::SuperMethod {
+                class: class_in(bytes),
+                token,
+            },
+            5 => PoolReference::StaticField(static_in(bytes)),
+            _ => PoolReference::StaticMethod(static_in(bytes)),
+        }
+    }
 }
 
 /// The constant pool (section 6.7).

@@ -1,3 +1,6 @@
+ghost use Rattle.std.specs.Prelude.{IfOk};
+ghost use Rattle.cap_package.specs.Parts.{HasEachOnce};
+
 use crate::components::DIRECTORY;
 use cap_bytes::Part;
 use cap_package::OwnedParts;
@@ -173,12 +176,14 @@ fn put_all(
     Ok(())
 }
 
-/// The parts of a package after the changes, made in their order. The Directory is the last part.
+/// The parts of a package after the changes, made in their order: each part once, the Directory last.
 pub fn changed(
     alloc: Global,
     files: &[File<'_>],
     changes: &[Change<'_>],
-) -> Result<OwnedParts, AllocError> {
+) -> Result<OwnedParts, AllocError>
+    ensures { IfOk result HasEachOnce }
+{
     let mut parts = OwnedParts::new(alloc);
     put_all(alloc, &mut parts, files, changes, false)?;
     put_all(alloc, &mut parts, files, changes, true)?;

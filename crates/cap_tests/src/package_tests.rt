@@ -22,7 +22,7 @@ fn named(fault: PackFault) -> Told {
         PackFault::MethodOverlaps(a, b) => ("MethodOverlaps", a as u32, b as u32, 0),
         PackFault::MethodOutside(offset) => ("MethodOutside", offset as u32, 0, 0),
         PackFault::CountDisagrees(what, said, found) => {
-            ("CountDisagrees", what as u32, said, found)
+            ("CountDisagrees", what.number() as u32, said, found)
         }
         PackFault::HandlerOutside(number) => ("HandlerOutside", number, 0, 0),
         PackFault::StaticOverlaps(a, b) => ("StaticOverlaps", a as u32, b as u32, 0),

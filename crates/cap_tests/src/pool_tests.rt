@@ -1,6 +1,34 @@
 use crate::samples::{LOCATIONS, POOL, TWO_EXPORTS};
-use cap_bytes::View;
-use cap_pool::{Pool, export, locations, pool};
+use cap_bytes::{ClassReference, View};
+use cap_pool::{Pool, PoolEntry, PoolReference, StaticReference, export, locations, pool};
+
+/// Whether the n-th entry of the sample refers to what stands there.
+fn refers(n: usize, entry: PoolEntry) -> bool {
+    match entry.reference() {
+        PoolReference::Class(ClassReference::Internal(offset)) => n == 0 && offset == 12,
+        PoolReference::InstanceField {
+            class: ClassReference::Internal(offset),
+            token,
+        } => n == 1 && offset == 12 && token == 1,
+        PoolReference::VirtualMethod {
+            class: ClassReference::Internal(offset),
+            token,
+        } => n == 2 && offset == 12 && token == 0x82,
+        PoolReference::SuperMethod {
+            class: ClassReference::External { package, class },
+            token,
+        } => n == 3 && package == 0 && class == 1 && token == 2,
+        PoolReference::StaticField(StaticReference::Internal(offset)) => n == 4 && offset == 4,
+        PoolReference::StaticMethod(
+            StaticReference::External {
+                package,
+                class,
+                token,
+            },
+        ) => n == 5 && package == 1 && class == 2 && token == 3,
+        _ => false,
+    }
+}
 
 /// Whether a pool has one entry of each kind, in the order of their tags.
 fn has_each_kind(pool: &Pool<'_>) -> bool {
@@ -10,7 +38,7 @@ fn has_each_kind(pool: &Pool<'_>) -> bool {
         && pool
             .iter()
             .enumerate()
-            .position(|(n, entry)| entry.tag as usize != n + 1)
+            .position(|(n, entry)| !refers(n, entry))
             .is_none()
         && pool.at(6).is_none()
 }

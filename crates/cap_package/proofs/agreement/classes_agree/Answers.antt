@@ -5,7 +5,7 @@ use Rattle.offset_set.specs.Tallies.{tallied}
 use Rattle.cap_pool.specs.ExportFormat.{Exported}
 use Rattle.cap_class.specs.ClassFormat.{Class}
 use Rattle.cap_desc.specs.DescriptorFormat as desc
-use Rattle.cap_desc.specs.ClassRecords.{classes_left as described_left}
+use Rattle.cap_desc.specs.ClassRecords.{described_left}
 use Rattle.cap_components.specs.declared.fault.PackFault.{PackFault}
 use Rattle.cap_components.specs.ComponentsSeen.{components_seen}
 use Rattle.cap_components.specs.Order.{least_of, least_from, refused}

@@ -1,7 +1,7 @@
 use Rattle.std.proofs.Common.{◌≡◌, map}
 use Rattle.offset_set.specs.Tallies.{tallied, counted, with_all}
 use Rattle.cap_desc.specs.DescriptorFormat as desc
-use Rattle.cap_desc.specs.ClassRecords.{classes_left as described_left}
+use Rattle.cap_desc.specs.ClassRecords.{described_left}
 use Rattle.cap_package.proofs.class_checks.descriptions.Given as goal
 
 abbrev pub invariant-classes : goal.invariant-classes

@@ -1,7 +1,7 @@
 use Rattle.std.proofs.Common.{◌≡◌, map}
 use Rattle.offset_set.specs.Bits.{holds}
 use Rattle.cap_desc.specs.DescriptorFormat as desc
-use Rattle.cap_desc.specs.ClassRecords.{classes_left as described_left}
+use Rattle.cap_desc.specs.ClassRecords.{described_left}
 use Rattle.cap_components.specs.Order.{least_from}
 use Rattle.cap_package.specs.NameChecks.{class_unless, own}
 use Rattle.cap_package.proofs.class_checks.descriptors_named.Given as goal

@@ -1,6 +1,6 @@
 use Rattle.std.proofs.Common.{◌≡◌, map}
 use Rattle.offset_set.specs.Bits.{holds}
-use Rattle.cap_pool.specs.Export.{classes as exported, classes_left as exported_left}
+use Rattle.cap_pool.specs.Export.{export_seen as exported, exported_left}
 use Rattle.cap_pool.specs.ExportFormat.{Exported}
 use Rattle.cap_components.specs.Order.{least_from}
 use Rattle.cap_package.specs.NameChecks.{class_unless}

@@ -1,13 +1,13 @@
 -- The parts are those that were given, and the answer is what they stand for.
 use Rattle.std.proofs.Common.{ap, ◌∙◌, subst, sym}
-use Rattle.cap_package.specs.Agreement.{package_of}
+use Rattle.cap_package.specs.Agreement.{package_from}
 use Rattle.cap_package.specs.FirstFault.{Tells}
 use Rattle.cap_package.proofs.FirstTold.{first_told}
 use Rattle.cap_package.proofs.OneRecord.{answer_is, stands_only}
 use Rattle.cap_package.proofs.packaging.package.Goals as goal
 
 pub invariant_of-result : goal.invariant_of-result
-invariant_of-result c = (ap package_of c.in-Ok.ensures.parts ∙ c.in-Ok.ensures.value, c.in-Ok.ensures.infos)
+invariant_of-result c = (ap package_from c.in-Ok.ensures.parts ∙ c.in-Ok.ensures.value, c.in-Ok.ensures.infos)
 
 pub returns-in-Ok-clause-stands : goal.returns-in-Ok-clause-stands
 returns-in-Ok-clause-stands c = answer_is c.args.parts.now _ c.in-Ok.ensures.value

@@ -1,7 +1,7 @@
 use Rattle.std.proofs.Common.{◌≡◌}
 use Rattle.offset_set.specs.Bits.{holds}
 use Rattle.cap_desc.specs.Members.{methods_in}
-use Rattle.cap_desc.specs.ClassRecords.{classes_left as described_left}
+use Rattle.cap_desc.specs.ClassRecords.{described_left}
 use Rattle.cap_components.specs.Order.{least_from}
 use Rattle.cap_components.specs.Descriptions.{description}
 use Rattle.cap_package.specs.TypeChecks.{method_type_fault}

@@ -1,7 +1,7 @@
 -- The info among the parts is the one that was read.
 use Rattle.std.proofs.Common.{IfSome, subst}
 use Rattle.cap_pool.specs.ExportFormat.{export_info}
-use Rattle.cap_pool.specs.Export.{classes as exported}
+use Rattle.cap_pool.specs.Export.{export_seen as exported}
 use Rattle.cap_components.specs.PackageRecord.{PackageRecord}
 use Rattle.cap_components.specs.Saying.{Holds}
 use Rattle.cap_package.proofs.OneRecord.{answer_is, holds-if}
