@@ -1,24 +1,25 @@
 -- The instructions of the code, one after another: those of its listing, up to the first that bare methods do not have.
-use Rattle.std.proofs.Common.{◌≡◌, ◌∙◌, sym, ap, subst, cond, Bool, true, false, ℕ, zero, suc, ◌+◌, ◌<◌, ◌≤◌, ◌⊎◌, inl, inr, ⊎_elim, Option, Some, None, Result, Ok, Err, List, [], ◌∷◌, ◌++◌, length, refl, arith, Contains}
+use Rattle.std.proofs.Common.{◌≡◌, ◌∙◌, sym, ap, subst, cond, Bool, true, false, ℕ, zero, suc, ◌+◌, ◌<◌, ◌≤◌, ◌⊎◌, Option, Some, None, Result, Ok, Err, List, [], ◌∷◌, ◌++◌, length, refl, arith, Contains}
 use Rattle.std.proofs.lemmas.List.{append-nil}
 use Rattle.std.proofs.Common.{append_assoc}
-use Rattle.std.proofs.lemmas.List.Elements.{All-contains, All-contains_itself, All-take, Contains-append_right}
+use Rattle.std.proofs.lemmas.List.Elements.{Contains-append_right}
 use Rattle.std.proofs.lemmas.List.Sums.{take_while-cons}
-use Rattle.std.specs.List.{prefix_len, take_while}
+use Rattle.std.specs.List.{take_while}
 use Rattle.cap_bytes.specs.Number.{number_at}
 use Rattle.jc_decode.specs.declared.insn.Insn.{Insn}
 use Rattle.jc_decode.specs.declared.insn.Placed.{Placed}
 use Rattle.jc_decode.specs.declared.insn.CodeEnd.{CodeEnd}
 use Rattle.jc_decode.specs.declared.insn.CodeEnd.TheVariants.{OutOfScope}
 use Rattle.jc_decode.specs.Decoding.{decoded}
-use Rattle.jc_decode.specs.Listing.{listing, listing_from, end_from}
+use Rattle.jc_decode.specs.Listing.{listing_from, end_from, ListsFound}
+use Rattle.jc_decode.specs.Places.{place_after}
 use Rattle.jc_decode.proofs.Decoded.{Begins-decoded, IsWithin-decoded}
-use Rattle.jc_decode.proofs.Listing.{listing_from-more, listing_from-end, listing_from-start}
-use Rattle.jc_decode.proofs.Elements.{Contains-either, Contains-first, Contains-later, nothing-in}
-use Rattle.jc_decode.proofs.Listed.{all-are-listed}
+use Rattle.jc_decode.proofs.Listing.{listing_from-more, listing_from-end}
+use Rattle.jc_decode.proofs.Elements.{Contains-first}
+use Rattle.jc_decode.proofs.Listed.{end-after, found-in, one-in, after-in, next-in, before-in}
 use Rattle.cap_bare.specs.Format.{is_bare}
-use Rattle.cap_bare.specs.Code.{in_scope, fetched, instructions, instructions_from, code_end, place_after, Stands}
-use Rattle.cap_bare.specs.Window.{IsReached}
+use Rattle.cap_bare.specs.Code.{in_scope, fetched, instructions, instructions_from, code_end, HasInstruction, IsPlace}
+use Rattle.cap_bare.specs.Window.{IsSuffixAt}
 
 abbrev pub here : ℕ → Insn → Placed
 here at i = record { place = at; insn = i }
@@ -104,92 +105,57 @@ module _ (code : List ℕ) where
 
   -- the list has the instructions from a place on, one after the other, to where none is
   abbrev pub Lists : ℕ → List Placed → Type 0
-  Lists at [] = (end : CodeEnd) × (fetched code at ≡ Err end)
-  Lists at (i ∷ is) = IsHere at i × Lists (place_after i) is
+  Lists at is = ListsFound (fetched code) at is
+
+  pub head-here : (at : ℕ) (i : Placed) (is : List Placed) → Lists at (i ∷ is) → IsHere at i
+  head-here at i is l = record { place = l.0; found = l.1 }
+
+  pub tail-lists : (at : ℕ) (i : Placed) (is : List Placed) → Lists at (i ∷ is) → Lists (place_after i) is
+  tail-lists at i is l = subst (λ (n : ℕ). Lists n is) (ap (λ (n : ℕ). n + i.insn.len) (sym l.0)) l.2
 
   one-list : (n at : ℕ) → length code ≤ n + at → Lists at (instructions_from code at)
-  one-list zero at enough = let past = none-past at (omega arith) (fetched code at) refl in rw (instructions-none at past.0 past.1) past
+  one-list zero at enough = let past = none-past at (omega arith) (fetched code at) refl in rw (instructions-none at past.0 past.1) (rw past.1 refl)
   one-list (suc n) at enough = by_found (fetched code at) refl (one-list n)
     where
       by_found : (r : Result Insn CodeEnd) → fetched code at ≡ r
           → ((next : ℕ) → length code ≤ n + next → Lists next (instructions_from code next))
           → Lists at (instructions_from code at)
-      by_found (Err end) e more = rw (instructions-none at end e) (end, e)
+      by_found (Err end) e more = rw (instructions-none at end e) (rw e refl)
       by_found (Ok i) e more =
           let inside = here-inside at (here at i) (is-here at i e) in
-          rw (instructions-found at i e) (is-here at i e, more (at + i.len) (omega (arith, inside.farther)))
+          rw (instructions-found at i e) (refl, e, more (at + i.len) (omega (arith, inside.farther)))
 
   pub lists-instructions : (at : ℕ) → Lists at (instructions_from code at)
   lists-instructions at = one-list (length code) at (omega arith)
 
-  -- what stands in the code
-  pub record IsListed (at : ℕ) (is : List Placed) (i : Placed) : Type 0 where
-    pub from : at ≤ i.place
-    pub here : IsHere i.place i
-    pub inside : place_after i ≤ end_from at is
-    pub next : (place_after i ≡ end_from at is) ⊎ (j : Placed) × Contains is j × (j.place ≡ place_after i)
+  -- ---- what stands in the code
 
-  end-farther : (at : ℕ) (is : List Placed) → at ≤ end_from at is
-  end-farther at [] = omega arith
-  end-farther at (i ∷ is) = let le = end-farther (at + i.insn.len) is in omega arith
+  pub stands-here : (i : Placed) → HasInstruction code i → IsHere i.place i
+  stands-here i s = record { place = refl; found = (found-in (fetched code) 0 (instructions code) i (lists-instructions 0) s).is }
 
-  pub listed : (at : ℕ) (is : List Placed) (i : Placed) → Lists at is → Contains is i → IsListed at is i
-  listed at [] i l c = absurd (nothing-in i c)
-  listed at (k ∷ is) i l c = ⊎_elim first (λ d. later (listed (place_after k) is i l.1 d)) (Contains-either k is i c)
-    where
-      after : place_after k ≡ at + k.insn.len
-      after = ap (λ (n : ℕ). n + k.insn.len) l.0.place
+  -- after each the next begins, or they end
+  pub stands-next : (i : Placed) → HasInstruction code i → (place_after i ≡ code_end code) ⊎ IsPlace code (place_after i)
+  stands-next i s = next-in (fetched code) 0 (instructions code) i (lists-instructions 0) s
 
-      next-in : (js : List Placed) → Lists (place_after k) js
-          → (place_after k ≡ end_from (at + k.insn.len) js) ⊎ (j : Placed) × Contains (k ∷ js) j × (j.place ≡ place_after k)
-      next-in [] m = inl after
-      next-in (j ∷ js) m = inr (j, Contains-later k (j ∷ js) j (Contains-first j js), m.0.place)
+  pub one-at : (i j : Placed) → HasInstruction code i → HasInstruction code j → i.place ≡ j.place → i ≡ j
+  one-at i j s t e = one-in (fetched code) 0 (instructions code) i j (lists-instructions 0) s t e
 
-      first : k ≡ i → IsListed at (k ∷ is) i
-      first e = subst (IsListed at (k ∷ is)) e (record {
-        from = omega (arith, l.0.place);
-        here = record { place = refl; found = subst (λ (n : ℕ). fetched code n ≡ Ok k.insn) (sym l.0.place) l.0.found };
-        inside = omega (arith, after, end-farther (at + k.insn.len) is);
-        next = next-in is l.1;
-      })
+  pub apart : (i j : Placed) → HasInstruction code i → HasInstruction code j → i.place < j.place → place_after i ≤ j.place
+  apart i j s t lt = after-in (fetched code) 0 (instructions code) i j (lists-instructions 0) s t lt
 
-      later : IsListed (place_after k) is i → IsListed at (k ∷ is) i
-      later d =
-          let m = subst (λ (n : ℕ). IsListed n is i) after d in
-          record {
-            from = omega (arith, m.from);
-            here = m.here;
-            inside = m.inside;
-            next = ⊎_elim (λ e. inl e) (λ j. inr (j.0, Contains-later k is j.0 j.1, j.2)) m.next;
-          }
+  fetched-long : (at : ℕ) (i : Insn) → fetched code at ≡ Ok i → 1 ≤ i.len
+  fetched-long at i h = (IsWithin-decoded code at i (fetched-decoded at i h)).one
 
-  pub stands-listed : (i : Placed) → Stands code i → IsListed 0 (instructions code) i
-  stands-listed i s = listed 0 (instructions code) i (lists-instructions 0) s
-
-  -- the laws of listings
-  in-listing : (i : Placed) → Stands code i → Contains (listing code) i
-  unfolding instructions_from
-  in-listing i s =
-      let all = listing_from code 0 in
-      subst (λ (is : List Placed). Contains is i) (listing_from-start code)
-      (All-contains (Contains all) _ i (All-take (Contains all) (prefix_len (λ j. is_bare j.insn.op) all) all (All-contains_itself all)) s)
-
-  pub one-at : (i j : Placed) → Stands code i → Stands code j → i.place ≡ j.place → i ≡ j
-  one-at i j s t e = (all-are-listed code).one i j (in-listing i s) (in-listing j t) e
-
-  pub apart : (i j : Placed) → Stands code i → Stands code j → i.place < j.place → place_after i ≤ j.place
-  apart i j s t lt = (all-are-listed code).after i j (in-listing i s) (in-listing j t) lt
+  -- all that stand are before the place where they end
+  pub before-end : (i : Placed) → HasInstruction code i → i.place < code_end code
+  before-end i s = before-in (fetched code) fetched-long 0 (instructions code) i (lists-instructions 0) s
 
   -- ---- the places that are reached by decoding one instruction after another
 
-  unfoldable pub reached-first : IsReached code 0
+  unfoldable pub reached-first : IsSuffixAt code 0
   reached-first = record { before = []; whole = refl; ends = refl }
 
-  pub end-more : (at : ℕ) (is : List Placed) (i : Placed) → end_from at (is ++ i ∷ []) ≡ end_from at is + i.insn.len
-  end-more at [] i = refl
-  end-more at (k ∷ is) i = end-more (at + k.insn.len) is i
-
-  pub split-at : (at : ℕ) (i : Placed) → (r : IsReached code at) → IsHere at i
+  pub split-at : (at : ℕ) (i : Placed) → (r : IsSuffixAt code at) → IsHere at i
       → instructions code ≡ r.before ++ i ∷ instructions_from code (place_after i)
   split-at at i r h =
       let same : here at i.insn ≡ i = ap (λ (n : ℕ). here n i.insn) (sym h.place) in
@@ -197,25 +163,21 @@ module _ (code : List ℕ) where
       r.whole ∙ ap (λ (is : List Placed). r.before ++ is) (instructions-found at i.insn h.found
       ∙ ap (λ (k : Placed). k ∷ instructions_from code (at + i.insn.len)) same ∙ ap (λ (n : ℕ). i ∷ instructions_from code n) after)
 
-  unfoldable pub reached-after : (at : ℕ) (i : Placed) → IsReached code at → IsHere at i → IsReached code (place_after i)
+  unfoldable pub reached-after : (at : ℕ) (i : Placed) → IsSuffixAt code at → IsHere at i → IsSuffixAt code (place_after i)
   reached-after at i r h = record {
     before = r.before ++ i ∷ [];
     whole = split-at at i r h ∙ sym (append_assoc r.before (i ∷ []) (instructions_from code (place_after i)));
-    ends = end-more 0 r.before i ∙ ap (λ (n : ℕ). n + i.insn.len) (r.ends ∙ sym h.place);
+    ends = end-after 0 r.before i ∙ ap (λ (n : ℕ). n + i.insn.len) (r.ends ∙ sym h.place);
   }
 
-  pub stands-at : (at : ℕ) (i : Placed) → IsReached code at → IsHere at i → Stands code i
+  pub stands-at : (at : ℕ) (i : Placed) → IsSuffixAt code at → IsHere at i → HasInstruction code i
   stands-at at i r h =
       subst (λ (is : List Placed). Contains is i) (sym (split-at at i r h))
       (Contains-append_right r.before (i ∷ instructions_from code (place_after i)) i (Contains-first i (instructions_from code (place_after i))))
 
   -- where no instruction is found they end
-  pub ends-at : (at : ℕ) (end : CodeEnd) → (r : IsReached code at) → fetched code at ≡ Err end → code_end code ≡ at
+  pub ends-at : (at : ℕ) (end : CodeEnd) → (r : IsSuffixAt code at) → fetched code at ≡ Err end → code_end code ≡ at
   ends-at at end r h =
       ap (end_from 0) (r.whole ∙ ap (λ (is : List Placed). r.before ++ is) (instructions-none at end h) ∙ append-nil r.before) ∙ r.ends
-
-  -- and all that stand are before it
-  pub before-end : (i : Placed) → Stands code i → i.place < code_end code
-  before-end i s = let k = stands-listed i s in let inside = here-inside i.place i k.here in omega (arith, k.inside, inside.farther)
 
 pub ruleset walking = (instructions-found, instructions-none)

@@ -7,10 +7,10 @@ use Rattle.jc_decode.specs.declared.insn.Placed.{Placed}
 use Rattle.jc_decode.specs.Decoding.{AreBytes}
 use Rattle.jc_decode.specs.Listing.{targets, target}
 use Rattle.jc_decode.proofs.Ranges.{FitsLayout-decoded}
-use Rattle.cap_bare.specs.Code.{Stands, IsTarget}
+use Rattle.cap_bare.specs.Code.{HasInstruction, IsTarget}
 use Rattle.cap_bare.specs.Window.{IsTrailing, IsFromOn}
 use Rattle.cap_bare.proofs.Operands.{distance-fits}
-use Rattle.cap_bare.proofs.Instructions.{fetched-bare, fetched-decoded, stands-listed}
+use Rattle.cap_bare.proofs.Instructions.{fetched-bare, fetched-decoded, stands-here}
 use Rattle.cap_bare.proofs.Places.{leads-one}
 
 -- a target is near a place, if it lies in the code
@@ -23,9 +23,9 @@ near-sum place distance (pos t) h e = (omega (arith, ints), omega (arith, ints))
 near-sum place distance (negsuc n) h e = tt
 
 module _ (code : List ℕ) (bytes : AreBytes code) where
-  near : (i : Placed) (t : ℤ) → Stands code i → Contains (targets code i) t → IsNear i.place t
+  near : (i : Placed) (t : ℤ) → HasInstruction code i → Contains (targets code i) t → IsNear i.place t
   near i t s c =
-      let found = (stands-listed code i s).here.found in
+      let found = (stands-here code i s).found in
       let one = leads-one code i t s c in
       let fits = FitsLayout-decoded code i.place i.insn bytes (fetched-decoded code i.place i.insn found) in
       near-sum i.place i.insn.x t (distance-fits i.insn (fetched-bare code i.place i.insn found) one.0 fits) (sym one.1)
@@ -42,6 +42,6 @@ module _ (code : List ℕ) (bytes : AreBytes code) where
   from-on from place (pos t) h near = ⊎_elim (λ e. omega arith) (λ le. omega (arith, near.0, near.1)) h.far
   from-on from place (negsuc n) h near = tt
 
-  pub leads-from-on : (from : ℕ) (i : Placed) (t : ℤ) → IsTrailing code from i.place → Stands code i
+  pub leads-from-on : (from : ℕ) (i : Placed) (t : ℤ) → IsTrailing code from i.place → HasInstruction code i
       → Contains (targets code i) t → IsFromOn from t
   leads-from-on from i t h s c = from-on from i.place t h (near i t s c)

@@ -1,15 +1,15 @@
 -- What it means that nothing is wrong, or something is, at an instruction over a stack of shorts.
 use Rattle.std.proofs.Common.{◌≡◌, ◌≢◌, ◌∙◌, sym, ap, subst, ℕ, Bool, true, false, Result, Ok, Err, List, [], length, refl, arith, ◌==◌, eq-eqb}
-use Rattle.std.proofs.lemmas.Bool.{eqb-true, ltb-true}
+use Rattle.std.proofs.lemmas.Bool.{eqb-true, ltb-true, and_parts}
 use Rattle.std.proofs.lemmas.Bool.Decides.{nat_tests}
 use Rattle.std.specs.Prelude.{if◌then◌else◌, ◌&&◌, nat_lt}
 use Rattle.cap_bare.specs.declared.bare.Bare.{Bare}
 use Rattle.jc_decode.specs.declared.insn.Placed.{Placed}
 use Rattle.jc_decode.specs.Listing.{falls, jumps}
+use Rattle.jc_decode.specs.Places.{place_after}
 use Rattle.cap_bare.specs.declared.fault.BareKind.{BareKind}
 use Rattle.cap_bare.specs.declared.fault.BareKind.TheVariants.{StackAtTarget, StackAtBranch, FallsOff}
 use Rattle.cap_bare.specs.Format.{instruction_of}
-use Rattle.cap_bare.specs.Code.{place_after}
 use Rattle.cap_bare.specs.Typing.{Kind, shorts, register_count}
 use Rattle.cap_bare.specs.Met.{IsWrong, wrong_target, wrong_rule, wrong_branch, wrong_end, LandsEmpty}
 use Rattle.cap_bare.specs.Walk.{is_target, applied, left, passed}
@@ -42,10 +42,6 @@ not-target depth false h = by_test (nat_lt 0 depth)
     by_test : (b : Bool) → (b && false) ≡ false
     by_test true = refl
     by_test false = refl
-
-both-true : (a b : Bool) → (a && b) ≡ true → (a ≡ true) × (b ≡ true)
-both-true true b e = (refl, e)
-both-true false b e = absurd (cc)
 
 at-branch : (after : ℕ) (b : Bool) → (b && nat_lt 0 after) ≡ false → b ≡ true → after ≡ 0
 at-branch after true e h = grind (arith, nat_tests)
@@ -122,7 +118,7 @@ module _ (code : List ℕ) (bare : Bare) (i : Placed) where
           → IsWrong code bare i registers (shorts depth) kind
       leaving-err after empty a true b f fe l le h =
           let same : StackAtBranch ≡ kind = cc in
-          let two = both-true (jumps i.insn.op) (nat_lt 0 after) b in
+          let two = and_parts (jumps i.insn.op) (nat_lt 0 after) b in
           subst (IsWrong code bare i registers (shorts depth)) same
           (wrong_branch (shorts after) empty (applies bare (instruction_of i.insn) registers depth after e a) two.0 (stack-left after two.1))
       leaving-err after empty a false b true fe true le h =
@@ -138,7 +134,7 @@ module _ (code : List ℕ) (bare : Bare) (i : Placed) where
           → passing b r ≡ Err kind → IsWrong code bare i registers (shorts depth) kind
       by_test true t r a h =
           let same : StackAtTarget ≡ kind = cc in
-          let two = both-true (nat_lt 0 depth) (is_target code i.place) t in
+          let two = and_parts (nat_lt 0 depth) (is_target code i.place) t in
           subst (IsWrong code bare i registers (shorts depth)) same (wrong_target (target-from code i.place two.1) (stack-left depth two.0))
       by_test false t (Err k) a h =
           let same : k ≡ kind = cc in

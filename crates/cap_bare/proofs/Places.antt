@@ -18,12 +18,12 @@ use Rattle.jc_decode.specs.Cases.{cases, cases_by, cases_in, is_table, has_cases
 use Rattle.jc_decode.specs.Listing.{targets, target, jumps}
 use Rattle.jc_decode.proofs.Elements.{Contains-slice_get, slice_get-Contains}
 use Rattle.jc_decode.proofs.Targets.{targets-none, targets-first, targets-later}
-use Rattle.cap_bare.specs.Code.{fetched, instructions, Stands, IsPlace, IsTargetPlace, IsTarget}
+use Rattle.cap_bare.specs.Code.{fetched, instructions, HasInstruction, IsPlace, IsTargetPlace, IsTarget}
 use Rattle.cap_bare.specs.Walk.{is_place, is_at, leads_to, is_target}
 use Rattle.cap_bare.specs.Machine.{branch_target}
-use Rattle.cap_bare.specs.Window.{IsReached, IsTrailing}
+use Rattle.cap_bare.specs.Window.{IsSuffixAt, IsTrailing}
 use Rattle.cap_bare.proofs.Operands.{no-switch}
-use Rattle.cap_bare.proofs.Instructions.{here, is-here, fetched-bare, stands-listed, one-at, apart, reached-after, stands-at, ends-at, before-end}
+use Rattle.cap_bare.proofs.Instructions.{here, is-here, fetched-bare, stands-here, one-at, apart, reached-after, stands-at, ends-at, before-end}
 
 -- a test finds an element exactly where one passes it
 any-of : {A : Type 0} (test : A → Bool) (xs : List A) (x : A) → Contains xs x → test x ≡ true → list_any test xs ≡ true
@@ -96,12 +96,12 @@ module _ (code : List ℕ) where
   unfolding cases
   no-cases i h = no-cases-in (layout_of i.insn.op) i.place i.insn h
 
-  pub leads-one : (i : Placed) (t : ℤ) → Stands code i → Contains (targets code i) t
+  pub leads-one : (i : Placed) (t : ℤ) → HasInstruction code i → Contains (targets code i) t
       → (jumps i.insn.op ≡ true) × (t ≡ target i.place i.insn.x)
   leads-one i t s c = by_number (slice_get-Contains (targets code i) t c) (jumps i.insn.op) refl
     where
       none : cases code i.place i.insn ≡ []
-      none = no-cases i (no-switch i.insn (fetched-bare code i.place i.insn (stands-listed code i s).here.found))
+      none = no-cases i (no-switch i.insn (fetched-bare code i.place i.insn (stands-here code i s).found))
 
       by_number : (n : ℕ) × (slice_get (targets code i) n ≡ Some t) → (b : Bool) → jumps i.insn.op ≡ b
           → (jumps i.insn.op ≡ true) × (t ≡ target i.place i.insn.x)
@@ -112,15 +112,15 @@ module _ (code : List ℕ) where
           let nothing : slice_get (targets code i) (suc n) ≡ None = later ∙ (rw none refl) in absurd (cc)
 
   -- the first of those that it names
-  pub leads-first : (i : Placed) (t : ℤ) → Stands code i → Contains (targets code i) t → slice_get (targets code i) 0 ≡ Some t
+  pub leads-first : (i : Placed) (t : ℤ) → HasInstruction code i → Contains (targets code i) t → slice_get (targets code i) 0 ≡ Some t
   leads-first i t s c = let one = leads-one i t s c in targets-first code i one.0 ∙ ap Some (sym one.1)
 
-  pub leads-all : (P : ℤ → Type 0) (i : Placed) → Stands code i → ((t : ℤ) → slice_get (targets code i) 0 ≡ Some t → P t)
+  pub leads-all : (P : ℤ → Type 0) (i : Placed) → HasInstruction code i → ((t : ℤ) → slice_get (targets code i) 0 ≡ Some t → P t)
       → All P (targets code i)
   leads-all P i s f =
       All-weaker (Contains (targets code i)) P (λ t c. f t (leads-first i t s c)) (targets code i) (All-contains_itself (targets code i))
 
-  pub leads-some : (i : Placed) (place : ℕ) (t : ℤ) → Stands code i → Some t ≡ slice_get (targets code i) 0 → (b : Bool)
+  pub leads-some : (i : Placed) (place : ℕ) (t : ℤ) → HasInstruction code i → Some t ≡ slice_get (targets code i) 0 → (b : Bool)
       → b ≡ is_at place t
       → IsTrue b ↔ Contains (targets code i) (pos place)
   leads-some i place t s e b is = (
@@ -128,38 +128,38 @@ module _ (code : List ℕ) where
     (λ c. let first = leads-first i (pos place) s c in is ∙ at-true place t (cc (e, first))),
   )
 
-  pub leads-none : (i : Placed) (place : ℕ) → Stands code i → None ≡ slice_get (targets code i) 0
+  pub leads-none : (i : Placed) (place : ℕ) → HasInstruction code i → None ≡ slice_get (targets code i) 0
       → IsTrue false ↔ Contains (targets code i) (pos place)
   leads-none i place s e = ((λ h. absurd (cc)), (λ c. let first = leads-first i (pos place) s c in absurd (cc)))
 
   -- ---- a search from an instruction on
 
   -- a place ahead is not passed by
-  pub place-ahead : (at place : ℕ) (i : Insn) → IsReached code at → fetched code at ≡ Ok i → at < place → IsPlace code place
+  pub place-ahead : (at place : ℕ) (i : Insn) → IsSuffixAt code at → fetched code at ≡ Ok i → at < place → IsPlace code place
       → at + i.len ≤ place
   place-ahead at place i r f lt p =
       let le = apart code (here at i) p.0 (stands-at code at (here at i) r (is-here code at i f)) p.1 (omega (arith, p.2)) in omega (arith, p.2)
 
-  pub place-none : (at place : ℕ) (end : CodeEnd) → IsReached code at → fetched code at ≡ Err end → at ≤ place
+  pub place-none : (at place : ℕ) (end : CodeEnd) → IsSuffixAt code at → fetched code at ≡ Err end → at ≤ place
       → IsPlace code place → ⊥
   place-none at place end r f le p = let before = before-end code p.0 p.1 in omega (arith, p.2, ends-at code at end r f)
 
   -- where the search comes to the place, an instruction begins there or none does
-  pub place-here : (at place : ℕ) (q : Result Insn CodeEnd) (b : Bool) → IsReached code at → fetched code at ≡ q
+  pub place-here : (at place : ℕ) (q : Result Insn CodeEnd) (b : Bool) → IsSuffixAt code at → fetched code at ≡ q
       → b ≡ is_ok q → at ≡ place
       → IsTrue b ↔ IsPlace code place
   place-here at place (Ok i) b r f is e = ((λ h. (here at i, stands-at code at (here at i) r (is-here code at i f), e)), (λ p. is))
   place-here at place (Err end) b r f is e = ((λ h. absurd (cc (h, is))), (λ p. absurd (place-none at place end r f (omega arith) p)))
 
   -- nor is a branch ahead
-  pub target-ahead : (at place : ℕ) (i : Insn) → IsReached code at → fetched code at ≡ Ok i
+  pub target-ahead : (at place : ℕ) (i : Insn) → IsSuffixAt code at → fetched code at ≡ Ok i
       → ¬ (Contains (targets code (here at i)) (pos place))
       → (t : IsTarget code place) → at ≤ t.from.place → at + i.len ≤ t.from.place
   target-ahead at place i r f no_branch t le =
       ⊎_elim (λ e. absurd (no_branch (is_there e))) (λ lt. apart code (here at i) t.from stands t.stands lt)
       (by_order (at == t.from.place) refl)
     where
-      stands : Stands code (here at i)
+      stands : HasInstruction code (here at i)
       stands = stands-at code at (here at i) r (is-here code at i f)
 
       by_order : (b : Bool) → (at == t.from.place) ≡ b → (at ≡ t.from.place) ⊎ (at < t.from.place)
@@ -169,7 +169,7 @@ module _ (code : List ℕ) where
       is_there : at ≡ t.from.place → Contains (targets code (here at i)) (pos place)
       is_there e = subst (λ (k : Placed). Contains (targets code k) (pos place)) (sym (one-at code (here at i) t.from stands t.stands e)) t.leads
 
-  pub target-none : (at place : ℕ) (end : CodeEnd) → IsReached code at → fetched code at ≡ Err end
+  pub target-none : (at place : ℕ) (end : CodeEnd) → IsSuffixAt code at → fetched code at ≡ Err end
       → (t : IsTarget code place) → at ≤ t.from.place → ⊥
   target-none at place end r f t le = let before = before-end code t.from t.stands in omega (arith, ends-at code at end r f)
 

@@ -11,17 +11,18 @@ use Rattle.cap_bare.specs.declared.bare.Bare.{Bare}
 use Rattle.jc_decode.specs.declared.insn.Insn.{Insn}
 use Rattle.jc_decode.specs.declared.insn.Placed.{Placed}
 use Rattle.jc_decode.specs.Listing.{falls, jumps, targets}
+use Rattle.jc_decode.specs.Places.{place_after}
 use Rattle.cap_bare.specs.declared.instruction.Instruction.{Instruction}
 use Rattle.cap_bare.specs.declared.instruction.Instruction.TheVariants.{Nop, Push, Load, Store, Increment, Pop, Duplicate, Negate, ToByte, Binary, Test, Compare, Goto, Return}
 use Rattle.vm_arithmetic.specs.Arithmetic.{holds}
 use Rattle.cap_bare.specs.Format.{is_bare, instruction_of}
 use Rattle.cap_bare.specs.Effects.{register_of, cells_taken, cells_given}
-use Rattle.cap_bare.specs.Code.{fetched, place_after, Stands, IsPlace, IsTargetPlace}
+use Rattle.cap_bare.specs.Code.{fetched, HasInstruction, IsPlace, IsTargetPlace}
 use Rattle.cap_bare.specs.Typing.{Kind, shorts, register_count, IsTyped, CardTyping}
 use Rattle.cap_bare.specs.Walk.{is_place}
 use Rattle.cap_bare.specs.Machine.{Frame, State, Outcome, running, returned, faulted, jump_fault, local_fault, stack_fault, Lead, leads, gives, frame, top, second, acted, acts, branch_target, has_register, at_place, settled, performed, step, go_on, after, entered, IsFault, IsSafe, IsFaultFree}
 use Rattle.cap_bare.proofs.Operands.{branches, goes_on as falls_on, branches-jumps, goes_on-falls}
-use Rattle.cap_bare.proofs.Instructions.{here, is-here, fetched-bare, reached-first, stands-at, stands-listed, ends-at}
+use Rattle.cap_bare.proofs.Instructions.{here, is-here, fetched-bare, reached-first, stands-at, stands-here, stands-next, ends-at}
 use Rattle.cap_bare.proofs.Places.{place-true, leads-there, branch-leads}
 use Rattle.cap_bare.proofs.Rule.{shorts-length}
 
@@ -173,8 +174,8 @@ module _ (code : List ℕ) (bare : Bare) where
         by_found (Ok i) e = (here 0 i, stands-at code 0 (here 0 i) (reached-first code) (is-here code 0 i e), refl)
         by_found (Err end) e = let ends = ends-at code 0 end (reached-first code) e in absurd (omega (arith, ends, t.well_formed.ends, filled))
 
-    next-place : (i : Placed) → Stands code i → place_after i < length code → IsPlace code (place_after i)
-    next-place i s lt = ⊎_elim (λ e. absurd (omega (arith, e, t.well_formed.ends, lt))) (λ j. j) (stands-listed code i s).next
+    next-place : (i : Placed) → HasInstruction code i → place_after i < length code → IsPlace code (place_after i)
+    next-place i s lt = ⊎_elim (λ e. absurd (omega (arith, e, t.well_formed.ends, lt))) (λ j. j) (stands-next code i s)
 
     -- a state has the registers, the cells and a place that the typing says
     record Agrees (s : State) : Type 0 where
@@ -197,13 +198,13 @@ module _ (code : List ℕ) (bare : Bare) where
       there : IsPlace code place
       stack : length (t.stacks place) ≡ length left
 
-    next-falls : (i : Placed) (k : IsTyped code bare t.registers t.stacks i) → Stands code i → (b : Bool) → b ≡ true
+    next-falls : (i : Placed) (k : IsTyped code bare t.registers t.stacks i) → HasInstruction code i → (b : Bool) → b ≡ true
         → MatchBool b ((place_after i < length code) × (t.stacks (place_after i) ≡ k.after)) (t.stacks (place_after i) ≡ [])
         → Next k.after (pos (place_after i))
     next-falls i k s true e h = record { place = place_after i; is = refl; there = next-place i s h.0; stack = ap length h.1 }
     next-falls i k s false e h = absurd (cc)
 
-    next-branch : (i : Placed) (k : IsTyped code bare t.registers t.stacks i) → Stands code i → (to : ℤ) → jumps i.insn.op ≡ true
+    next-branch : (i : Placed) (k : IsTyped code bare t.registers t.stacks i) → HasInstruction code i → (to : ℤ) → jumps i.insn.op ≡ true
         → Contains (targets code i) to → IsTargetPlace code to → Next k.after to
     next-branch i k s (pos p) j c h = record {
       place = p;
@@ -218,13 +219,13 @@ module _ (code : List ℕ) (bare : Bare) where
         ((to ≡ pos (place_after i)) × (falls_on (instruction_of i.insn) ≡ true))
         ⊎ ((to ≡ branch_target code i) × (branches (instruction_of i.insn) ≡ true))
 
-    next-of : (i : Placed) (k : IsTyped code bare t.registers t.stacks i) → Stands code i → (to : ℤ)
+    next-of : (i : Placed) (k : IsTyped code bare t.registers t.stacks i) → HasInstruction code i → (to : ℤ)
         → LeadsTo i to
         → Next k.after to
     next-of i k s to where_to = by_case where_to
       where
         bare_one : is_bare i.insn.op ≡ true
-        bare_one = fetched-bare code i.place i.insn (stands-listed code i s).here.found
+        bare_one = fetched-bare code i.place i.insn (stands-here code i s).found
 
         by_case : LeadsTo i to
             → Next k.after to
@@ -255,7 +256,7 @@ module _ (code : List ℕ) (bare : Bare) where
         i = a.place.0
 
         f : fetched code s.place ≡ Ok i.insn
-        f = subst (λ (p : ℕ). fetched code p ≡ Ok i.insn) a.place.2 (stands-listed code i a.place.1).here.found
+        f = subst (λ (p : ℕ). fetched code p ≡ Ok i.insn) a.place.2 (stands-here code i a.place.1).found
 
         same : here s.place i.insn ≡ i
         same = ap (λ (p : ℕ). here p i.insn) (sym a.place.2)

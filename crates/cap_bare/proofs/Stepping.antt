@@ -9,13 +9,14 @@ use Rattle.jc_decode.specs.declared.insn.CodeEnd.{CodeEnd}
 use Rattle.cap_bare.specs.declared.bare.Bare.{Bare}
 use Rattle.cap_bare.specs.declared.instruction.Instruction.{Instruction}
 use Rattle.jc_decode.specs.declared.insn.Insn.{Insn}
+use Rattle.jc_decode.specs.Places.{place_after}
 use Rattle.cap_bare.specs.Effects.{register_of, cells_taken, cells_given}
 use Rattle.cap_bare.specs.Format.{instruction_of}
-use Rattle.cap_bare.specs.Code.{fetched, place_after, IsTargetPlace}
+use Rattle.cap_bare.specs.Code.{fetched, IsTargetPlace}
 use Rattle.cap_bare.specs.Typing.{register_count}
 use Rattle.cap_bare.specs.Machine.{Frame, State, running, returned, Lead, leads, gives, frame, acted, acts, branch_target, at_place, settled, step, IsFault, IsSafe}
 use Rattle.cap_bare.specs.Leading.{CanAct, state_at}
-use Rattle.cap_bare.proofs.Instructions.{here, here-inside, stands-listed}
+use Rattle.cap_bare.proofs.Instructions.{here, here-inside, stands-here}
 use Rattle.cap_bare.proofs.Places.{place-from}
 use Rattle.cap_bare.proofs.Running.{IsActing, acts_on, acts_out, acting, Sound, sound, settled-from, safe-step}
 
@@ -57,7 +58,7 @@ module _ (code : List ℕ) (bare : Bare) (s : State) (safe : IsSafe code bare s)
 
     going-at : (to : ℤ) (f : Frame) → IsTargetPlace code to → step code bare s ≡ running (state_at (at_place to) f) → Going to f
     going-at (pos p) f h e =
-        let inside = here-inside code h.0.place h.0 (stands-listed code h.0 h.1).here in
+        let inside = here-inside code h.0.place h.0 (stands-here code h.0 h.1) in
         let small : p < length code = omega (arith, h.2, inside.farther, inside.inside) in
         record { place = p; is = refl; small = small; stepped = e }
     going-at (negsuc n) f h e = absurd h

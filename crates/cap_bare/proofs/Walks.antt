@@ -4,21 +4,23 @@ use Rattle.std.proofs.lemmas.Bool.{eqb-true}
 use Rattle.std.proofs.lemmas.List.{length-replicate, length-append}
 use Rattle.std.proofs.lemmas.List.Elements.{All-contains}
 use Rattle.jc_decode.proofs.Elements.{Contains-either, nothing-in}
+use Rattle.jc_decode.proofs.Listed.{IsFound, found-in, err-of}
 use Rattle.std.proofs.Math.ListN.{length-set}
 use Rattle.std.specs.Prelude.{if◌then◌else◌, pos, IfSome, IsSomeAnd, MatchBool, slice_get}
 use Rattle.cap_bare.specs.declared.bare.Bare.{Bare}
 use Rattle.jc_decode.specs.declared.insn.Placed.{Placed}
 use Rattle.jc_decode.specs.Listing.{falls, targets}
+use Rattle.jc_decode.specs.Places.{place_after}
 use Rattle.cap_bare.specs.declared.fault.BareFault.{BareFault}
 use Rattle.cap_bare.specs.declared.fault.BareKind.{BareKind}
 use Rattle.cap_bare.specs.Format.{instruction_of}
 use Rattle.cap_bare.specs.Effects.{register_written, cells_taken, cells_given}
-use Rattle.cap_bare.specs.Code.{instructions, place_after, Stands, IsPlace, IsTargetPlace, IsTarget, IsWellFormed, fault}
-use Rattle.cap_bare.specs.Window.{IsReached}
+use Rattle.cap_bare.specs.Code.{fetched, instructions, HasInstruction, IsPlace, IsTargetPlace, IsTarget, IsWellFormed, fault}
+use Rattle.cap_bare.specs.Window.{IsSuffixAt}
 use Rattle.cap_bare.specs.Typing.{Kind, bottom, short, IsBelow, below_itself, shorts, register_count, Applies, IsTyped, CardTyping}
 use Rattle.cap_bare.specs.Met.{declared, raised, raised_at, Passes, IsMet, met_entry, met_next, IsRefused, refused_state}
 use Rattle.cap_bare.specs.Walk.{passed, then_on, first_wrong}
-use Rattle.cap_bare.proofs.Instructions.{IsInside, here-inside, IsHere, IsListed, listed, stands-listed, Lists, lists-instructions, reached-first, reached-after, stands-at, ends-at}
+use Rattle.cap_bare.proofs.Instructions.{IsInside, here-inside, IsHere, Lists, head-here, tail-lists, lists-instructions, stands-here, reached-first, reached-after, stands-at, ends-at}
 use Rattle.cap_bare.proofs.Places.{target-true, target-from}
 use Rattle.cap_bare.proofs.Rule.{applied-from, applies, shorts-none, shorts-length, written-named}
 use Rattle.cap_bare.proofs.Passing.{Passing, Leaves, passed-ok, passed-is, passed-err}
@@ -71,16 +73,16 @@ module _ (code : List ℕ) (bare : Bare) where
   -- after an instruction stands the next one, or nothing
   depth-next : (is : List Placed) (at depth : ℕ) → Lists code at is → (is ≡ [] → depth ≡ 0) → depth_at depth is at ≡ depth
   depth-next [] at depth l h = sym (h refl)
-  depth-next (j ∷ js) at depth l h = depth-here depth j js at (here-inside code at j l.0).place
+  depth-next (j ∷ js) at depth l h = depth-here depth j js at l.0
 
   list-past : (at : ℕ) (is : List Placed) → Lists code at is → length code ≤ at → is ≡ []
   list-past at [] l le = refl
-  list-past at (i ∷ is) l le = let inside = here-inside code at i l.0 in absurd (omega (arith, inside.farther, inside.inside))
+  list-past at (i ∷ is) l le = let inside = here-inside code at i (head-here code at i is l) in absurd (omega (arith, inside.farther, inside.inside))
 
   module _ (w : IsWellFormed code) where
     -- the code ends at no other place than its end
-    none-left : (at : ℕ) (is : List Placed) → IsReached code at → Lists code at is → is ≡ [] → at ≡ length code
-    none-left at [] r l e = sym (ends-at code at l.0 r l.1) ∙ w.ends
+    none-left : (at : ℕ) (is : List Placed) → IsSuffixAt code at → Lists code at is → is ≡ [] → at ≡ length code
+    none-left at [] r l e = let end = err-of (fetched code at) l in sym (ends-at code at end.0 r end.1) ∙ w.ends
     none-left at (i ∷ is) r l e = absurd (cc)
 
     fits-leaves : (i : Placed) (after next : ℕ) (falls : Bool) → (place_after i) ≤ length code → Leaves code i after next falls
@@ -98,10 +100,10 @@ module _ (code : List ℕ) (bare : Bare) where
     FitsIn depth is i = Passing code bare i (depth_at depth is i.place) (depth_at depth is (place_after i))
 
     fits-more : (depth next : ℕ) (i : Placed) (is : List Placed) → passed code bare i depth ≡ Ok next → i.place < place_after i
-        → (j : Placed) → FitsIn next is j → IsListed code (place_after i) is j → FitsIn depth (i ∷ is) j
+        → (j : Placed) → FitsIn next is j → IsFound (fetched code) (place_after i) j → FitsIn depth (i ∷ is) j
     fits-more depth next i is p lt j f k =
         let e : next_depth (passed code bare i depth) ≡ next = ap next_depth p in
-        let inside = here-inside code j.place j k.here in
+        let inside = here-inside code j.place j (record { place = refl; found = k.is }) in
         let here : depth_at depth (i ∷ is) j.place ≡ depth_at next is j.place =
         depth-there depth i is j.place (omega (arith, k.from, lt)) ∙ ap (λ (n : ℕ). depth_at n is j.place) e in
         let ahead : depth_at depth (i ∷ is) (place_after j) ≡ depth_at next is (place_after j) =
@@ -109,7 +111,7 @@ module _ (code : List ℕ) (bare : Bare) where
         subst (λ (n : ℕ). Passing code bare j n (depth_at depth (i ∷ is) (place_after j))) (sym here)
         (subst (λ (n : ℕ). Passing code bare j (depth_at next is j.place) n) (sym ahead) f)
 
-    fits-head : (at : ℕ) (i : Placed) (is : List Placed) (depth next : ℕ) → IsReached code at → IsHere code at i
+    fits-head : (at : ℕ) (i : Placed) (is : List Placed) (depth next : ℕ) → IsSuffixAt code at → IsHere code at i
         → Lists code (place_after i) is
         → passed code bare i depth ≡ Ok next → FitsIn depth (i ∷ is) i
     fits-head at i is depth next r h l p =
@@ -125,23 +127,29 @@ module _ (code : List ℕ) (bare : Bare) where
         subst (λ (n : ℕ). Passing code bare i n (depth_at depth (i ∷ is) (place_after i))) (sym here)
         (subst (λ (n : ℕ). Passing code bare i depth n) (sym ahead) k)
 
-    accepted : (is : List Placed) (at depth : ℕ) → IsReached code at → Lists code at is → first_wrong code bare depth is ≡ Ok tt
+    accepted : (is : List Placed) (at depth : ℕ) → IsSuffixAt code at → Lists code at is → first_wrong code bare depth is ≡ Ok tt
         → (j : Placed) → Contains is j → FitsIn depth is j
     accepted [] at depth r l h j c = absurd (nothing-in j c)
     accepted (i ∷ is) at depth r l h j c =
-        by_answer (passed code bare i depth) refl (λ next k. accepted is (place_after i) next (reached-after code at i r l.0) l.1 k j) h
+        by_answer (passed code bare i depth) refl (λ next k. accepted is (place_after i) next (reached-after code at i r here) rest k j) h
       where
+        here : IsHere code at i
+        here = head-here code at i is l
+
+        rest : Lists code (place_after i) is
+        rest = tail-lists code at i is l
+
         inside : IsInside code at i
-        inside = here-inside code at i l.0
+        inside = here-inside code at i here
 
         by_answer : (q : Result ℕ BareKind) → passed code bare i depth ≡ q
             → ((next : ℕ) → first_wrong code bare next is ≡ Ok tt → Contains is j → FitsIn next is j)
             → then_on i.place q (λ next. first_wrong code bare next is) ≡ Ok tt → FitsIn depth (i ∷ is) j
         by_answer (Err kind) e more h = absurd (cc)
         by_answer (Ok next) e more h =
-            ⊎_elim (λ same. subst (FitsIn depth (i ∷ is)) same (fits-head at i is depth next r l.0 l.1 e))
+            ⊎_elim (λ same. subst (FitsIn depth (i ∷ is)) same (fits-head at i is depth next r here rest e))
             (λ later. fits-more depth next i is e (omega (arith, inside.place, inside.farther)) j (more next h later)
-            (listed code (place_after i) is j l.1 later))
+            (found-in (fetched code) (place_after i) is j rest later))
             (Contains-either i is j c)
 
     -- so the stacks that are read off it make a card typing, with a register list of shorts
@@ -154,7 +162,7 @@ module _ (code : List ℕ) (bare : Bare) where
     typed-next i after true h = (h.0, ap shorts h.1)
     typed-next i after false h = ap shorts h
 
-    typed-from : (i : Placed) → Stands code i → FitsIn 0 (instructions code) i
+    typed-from : (i : Placed) → HasInstruction code i → FitsIn 0 (instructions code) i
         → IsTyped code bare (shorts (register_count bare)) (λ p. shorts (depths p)) i
     typed-from i s f = record {
       after = shorts f.after;
@@ -162,7 +170,7 @@ module _ (code : List ℕ) (bare : Bare) where
       stored = written-short (register_written (instruction_of i.insn)) (register_count bare) (written-named (instruction_of i.insn) (register_count bare) f.rule.local);
       branch = λ t. ap shorts (f.branch t);
       next = typed-next i f.after (falls i.insn.op)
-          (fits-leaves i f.after (depths (place_after i)) (falls i.insn.op) (here-inside code i.place i (stands-listed code i s).here).inside f.leaves);
+          (fits-leaves i f.after (depths (place_after i)) (falls i.insn.op) (here-inside code i.place i (stands-here code i s)).inside f.leaves);
     }
 
     first-depth : (is : List Placed) → Lists code 0 is → depth_at 0 is 0 ≡ 0
@@ -188,21 +196,27 @@ module _ (code : List ℕ) (bare : Bare) where
         }
 
     -- what the walk refuses, it refuses at a met state
-    refused : (is : List Placed) (at depth : ℕ) (registers : List Kind) (f : BareFault) → IsReached code at → Lists code at is
+    refused : (is : List Placed) (at depth : ℕ) (registers : List Kind) (f : BareFault) → IsSuffixAt code at → Lists code at is
         → length registers ≡ register_count bare → IsMet code bare at registers (shorts depth)
         → first_wrong code bare depth is ≡ Err f
         → IsRefused code bare f
     refused [] at depth registers f r l e m h = absurd (cc)
     refused (i ∷ is) at depth registers f r l e m h =
         by_answer (passed code bare i depth) refl
-        (λ next. refused is (place_after i) next (raised (instruction_of i.insn) registers) f (reached-after code at i r l.0) l.1
+        (λ next. refused is (place_after i) next (raised (instruction_of i.insn) registers) f (reached-after code at i r here) rest
         (raised-length (register_written (instruction_of i.insn)) registers ∙ e)) h
       where
-        s : Stands code i
-        s = stands-at code at i r l.0
+        here : IsHere code at i
+        here = head-here code at i is l
+
+        rest : Lists code (place_after i) is
+        rest = tail-lists code at i is l
+
+        s : HasInstruction code i
+        s = stands-at code at i r here
 
         inside : IsInside code at i
-        inside = here-inside code at i l.0
+        inside = here-inside code at i here
 
         met : IsMet code bare i.place registers (shorts depth)
         met = subst (λ (n : ℕ). IsMet code bare n registers (shorts depth)) (sym inside.place) m
@@ -221,7 +235,7 @@ module _ (code : List ℕ) (bare : Bare) where
             → first_wrong code bare next is ≡ Err f → IsRefused code bare f
         by_end next p true t more h =
             let last = eqb-true (place_after i) (length code) t in
-            let empty : is ≡ [] = list-past (place_after i) is l.1 (omega arith) in
+            let empty : is ≡ [] = list-past (place_after i) is rest (omega arith) in
             let ok : first_wrong code bare next is ≡ Ok tt = ap (first_wrong code bare next) empty in absurd (cc)
         by_end next p false t more h =
             let ne : (place_after i) ≢ length code = λ k. true≢false ((place_after i) == length code) (eq-eqb (place_after i) (length code) k) t in
@@ -257,7 +271,7 @@ module _ (code : List ℕ) (bare : Bare) where
     typed-leaves i after stack true e h = let lt = h.0 in (after, ((λ last. absurd (omega arith)), refl), h.1 ∙ e)
     typed-leaves i after stack false e h = (0, refl, h)
 
-    passing-typed : (i : Placed) (depth : ℕ) → Stands code i → t.stacks i.place ≡ shorts depth
+    passing-typed : (i : Placed) (depth : ℕ) → HasInstruction code i → t.stacks i.place ≡ shorts depth
         → (next : ℕ) × Passing code bare i depth next × (t.stacks (place_after i) ≡ shorts next)
     passing-typed i depth s e =
         let k = t.typed i s in
@@ -274,14 +288,14 @@ module _ (code : List ℕ) (bare : Bare) where
           leaves.2,
         )
 
-    walked : (is : List Placed) (at depth : ℕ) → IsReached code at → Lists code at is → t.stacks at ≡ shorts depth
+    walked : (is : List Placed) (at depth : ℕ) → IsSuffixAt code at → Lists code at is → t.stacks at ≡ shorts depth
         → first_wrong code bare depth is ≡ Ok tt
     walked [] at depth r l e = refl
     walked (i ∷ is) at depth r l e =
-        let place = (here-inside code at i l.0).place in
-        let p = passing-typed i depth (stands-at code at i r l.0) (ap t.stacks place ∙ e) in
+        let here = head-here code at i is l in
+        let p = passing-typed i depth (stands-at code at i r here) (ap t.stacks here.place ∙ e) in
         let ok : passed code bare i depth ≡ Ok p.0 = passed-is code bare i depth p.0 p.1 in
-        rw ok (walked is (place_after i) p.0 (reached-after code at i r l.0) l.1 p.2)
+        rw ok (walked is (place_after i) p.0 (reached-after code at i r here) (tail-lists code at i is l) p.2)
 
     pub accepts : first_wrong code bare 0 (instructions code) ≡ Ok tt
     accepts = walked (instructions code) 0 0 (reached-first code) (lists-instructions code 0) t.entry

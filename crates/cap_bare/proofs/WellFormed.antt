@@ -6,11 +6,12 @@ use Rattle.jc_decode.specs.declared.insn.Insn.{Insn}
 use Rattle.jc_decode.specs.declared.insn.Placed.{Placed}
 use Rattle.jc_decode.specs.declared.insn.CodeEnd.{CodeEnd}
 use Rattle.jc_decode.specs.Listing.{targets}
+use Rattle.jc_decode.proofs.Listed.{found-in}
 use Rattle.cap_bare.specs.declared.fault.BareFault.{BareFault}
 use Rattle.cap_bare.specs.declared.fault.BareKind.TheVariants.{Code, BadTarget}
-use Rattle.cap_bare.specs.Code.{fetched, instructions_from, code_end, Stands, IsTargetPlace, IsWellFormed, IsFlaw, flaw_end, flaw_target, IsFirstFlaw, IsFlawKind, fault}
-use Rattle.cap_bare.specs.Window.{IsReached}
-use Rattle.cap_bare.proofs.Instructions.{here, is-here, lists-instructions, listed, one-at, reached-first, reached-after, stands-at, ends-at, before-end, none-past}
+use Rattle.cap_bare.specs.Code.{fetched, instructions_from, code_end, HasInstruction, IsTargetPlace, IsWellFormed, IsFlaw, flaw_end, flaw_target, IsFirstFlaw, IsFlawKind, fault}
+use Rattle.cap_bare.specs.Window.{IsSuffixAt}
+use Rattle.cap_bare.proofs.Instructions.{here, is-here, lists-instructions, one-at, reached-first, reached-after, stands-at, ends-at, before-end, none-past}
 use Rattle.cap_bare.proofs.Places.{leads-one}
 
 module _ (code : List ℕ) where
@@ -19,7 +20,7 @@ module _ (code : List ℕ) where
 
   -- a place is reached, and the instructions before it lead to places
   pub record IsClear (at : ℕ) : Type 0 where
-    pub reached : IsReached code at
+    pub reached : IsSuffixAt code at
     pub leads : All Leads reached.before
 
   pub clear-first : IsClear 0
@@ -34,10 +35,10 @@ module _ (code : List ℕ) where
   }
 
   -- what stands leads to places, or is not before this one
-  either : (at : ℕ) (i : Placed) → IsClear at → Stands code i → Leads i ⊎ (at ≤ i.place)
+  either : (at : ℕ) (i : Placed) → IsClear at → HasInstruction code i → Leads i ⊎ (at ≤ i.place)
   either at i c s =
       ⊎_elim (λ before. inl (All-contains Leads c.reached.before i c.leads before))
-      (λ later. inr (listed code at (instructions_from code at) i (lists-instructions code at) later).from)
+      (λ later. inr (found-in (fetched code) at (instructions_from code at) i (lists-instructions code at) later).from)
       (Contains-append_cases c.reached.before (instructions_from code at) i (subst (λ (is : List Placed). Contains is i) c.reached.whole s))
 
   astray : (i : Placed) (t : ℤ) → Leads i → Contains (targets code i) t → ¬ (IsTargetPlace code t) → ⊥

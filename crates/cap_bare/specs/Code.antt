@@ -1,5 +1,5 @@
 -- The instructions of a bare method's code, and when the code is well formed (JCVM 2.2, section 7.5).
-use Rattle.std.specs.Prelude.{ℕ, ℤ, pos, negsuc, ◌+◌, ◌≡◌, ◌≢◌, ◌≤◌, List, [], ◌∷◌, length, All, Contains, Option, Some, None, Result, Err, if◌then◌else◌}
+use Rattle.std.specs.Prelude.{ℕ, ℤ, pos, ◌≡◌, ◌≢◌, ◌≤◌, List, [], ◌∷◌, length, Contains, Option, Some, None, Result, Err, if◌then◌else◌}
 use Rattle.std.proofs.Common.{refl}
 use Rattle.std.specs.List.{take_while}
 use Rattle.cap_bytes.specs.Number.{number_at}
@@ -10,6 +10,7 @@ use Rattle.jc_decode.specs.declared.insn.CodeEnd.TheVariants.{OutOfScope}
 use Rattle.jc_decode.specs.Decoding.{decoded}
 use Rattle.jc_decode.specs.Layout.{layout_of, opcode}
 use Rattle.jc_decode.specs.Listing.{at_most, listing_from, end_from, targets}
+use Rattle.jc_decode.specs.Places.{BeginsIn, IsTargetPlaceIn, AllLeadInto, IsTargetIn}
 use Rattle.cap_bare.specs.declared.fault.BareFault.{BareFault}
 use Rattle.cap_bare.specs.declared.fault.BareKind.{BareKind}
 use Rattle.cap_bare.specs.declared.fault.BareKind.TheVariants.{Code, BadTarget}
@@ -35,32 +36,25 @@ instructions code = instructions_from code 0
 abbrev pub code_end : List ℕ → ℕ
 code_end code = end_from 0 (instructions code)
 
--- the place after an instruction
-abbrev pub place_after : Placed → ℕ
-place_after i = i.place + i.insn.len
-
 -- i is one of the instructions of the code
-abbrev pub Stands : List ℕ → Placed → Type 0
-Stands code i = Contains (instructions code) i
+abbrev pub HasInstruction : List ℕ → Placed → Type 0
+HasInstruction code i = Contains (instructions code) i
 
 -- an instruction of the code begins at this place
 abbrev pub IsPlace : List ℕ → ℕ → Type 0
-IsPlace code place = (i : Placed) × Stands code i × (i.place ≡ place)
+IsPlace code place = BeginsIn (instructions code) place
 
 abbrev pub IsTargetPlace : List ℕ → ℤ → Type 0
-IsTargetPlace code (pos place) = IsPlace code place
-IsTargetPlace code (negsuc n) = ⊥
+IsTargetPlace code target = IsTargetPlaceIn (instructions code) target
 
 -- a branch of the code leads to this place
-pub record IsTarget (code : List ℕ) (place : ℕ) : Type 0 where
-  pub from : Placed
-  pub stands : Stands code from
-  pub leads : Contains (targets code from) (pos place)
+abbrev pub IsTarget : List ℕ → ℕ → Type 0
+IsTarget code place = IsTargetIn code (instructions code) place
 
 -- the code decodes to its end, and each branch leads to the place of an instruction
 pub record IsWellFormed (code : List ℕ) : Type 0 where
   pub ends : code_end code ≡ length code
-  pub leads : (i : Placed) → Stands code i → All (IsTargetPlace code) (targets code i)
+  pub leads : AllLeadInto code (instructions code)
 
 abbrev pub fault : ℕ → BareKind → BareFault
 fault place kind = record { place = place; kind = kind }
@@ -70,7 +64,7 @@ fault place kind = record { place = place; kind = kind }
 pub data IsFlaw (code : List ℕ) : BareFault → Type 0 where
   flaw_end : (end : CodeEnd) → code_end code ≢ length code → fetched code (code_end code) ≡ Err end
       → IsFlaw code (fault (code_end code) (Code end))
-  flaw_target : (i : Placed) (target : ℤ) → Stands code i → Contains (targets code i) target → ¬ (IsTargetPlace code target)
+  flaw_target : (i : Placed) (target : ℤ) → HasInstruction code i → Contains (targets code i) target → ¬ (IsTargetPlace code target)
       → IsFlaw code (fault i.place (BadTarget target))
 
 -- the flaw at the least place

@@ -8,6 +8,7 @@ use Rattle.jc_decode.specs.declared.insn.CodeEnd.{CodeEnd}
 use Rattle.jc_decode.specs.declared.insn.Insn.{Insn}
 use Rattle.jc_decode.specs.declared.insn.Placed.{Placed}
 use Rattle.jc_decode.specs.Listing.{targets}
+use Rattle.jc_decode.specs.Places.{place_after}
 use Rattle.jc_ops.specs.declared.operation.Operator.{Operator}
 use Rattle.vm_arithmetic.specs.Arithmetic.{of_shorts, short_to_byte, holds}
 use Rattle.cap_bare.specs.declared.bare.Bare.{Bare}
@@ -17,7 +18,7 @@ use Rattle.cap_bare.specs.declared.instruction.Instruction.{Instruction}
 use Rattle.cap_bare.specs.declared.instruction.Instruction.TheVariants.{Nop, Push, Load, Store, Increment, Pop, Duplicate, Negate, ToByte, Binary, Test, Compare, Goto, Return}
 use Rattle.cap_bare.specs.Effects.{register_of, cells_taken}
 use Rattle.cap_bare.specs.Format.{instruction_of}
-use Rattle.cap_bare.specs.Code.{fetched, place_after}
+use Rattle.cap_bare.specs.Code.{fetched}
 use Rattle.cap_bare.specs.Walk.{is_place}
 use Rattle.cap_bare.specs.Typing.{register_count}
 

@@ -5,12 +5,13 @@ use Rattle.cap_bare.specs.declared.bare.Bare.{Bare}
 use Rattle.cap_bare.specs.declared.instruction.Instruction.{Instruction}
 use Rattle.jc_decode.specs.declared.insn.Placed.{Placed}
 use Rattle.jc_decode.specs.Listing.{falls, jumps}
+use Rattle.jc_decode.specs.Places.{place_after}
 use Rattle.cap_bare.specs.declared.fault.BareFault.{BareFault}
 use Rattle.cap_bare.specs.declared.fault.BareKind.{BareKind}
 use Rattle.cap_bare.specs.declared.fault.BareKind.TheVariants.{NoLocal, Underflow, Overflow, StackAtTarget, StackAtBranch, FallsOff}
 use Rattle.cap_bare.specs.Effects.{register_of, register_written, cells_taken, cells_given}
 use Rattle.cap_bare.specs.Format.{instruction_of}
-use Rattle.cap_bare.specs.Code.{place_after, Stands, IsTarget, IsWellFormed, IsFirstFlaw, fault}
+use Rattle.cap_bare.specs.Code.{HasInstruction, IsTarget, IsWellFormed, IsFirstFlaw, fault}
 use Rattle.cap_bare.specs.Typing.{Kind, bottom, short, shorts, register_count, Applies}
 
 -- the registers as a method is entered: its arguments, and nothing in the others
@@ -27,7 +28,7 @@ raised i registers = raised_at (register_written i) registers
 
 -- nothing is wrong at an instruction, with these registers and this stack before it and that stack after it
 pub record Passes (code : List ℕ) (bare : Bare) (i : Placed) (registers stack after : List Kind) : Type 0 where
-  pub stands : Stands code i
+  pub stands : HasInstruction code i
   pub target : IsTarget code i.place → stack ≡ []
   pub applies : Applies bare (instruction_of i.insn) registers stack after
   pub branch : IsTrue (jumps i.insn.op) → after ≡ []
@@ -87,6 +88,6 @@ pub data IsWrong (code : List ℕ) (bare : Bare) (i : Placed) (registers stack :
 -- the reasons to refuse a method: its first flaw, or what is wrong with a met state of a well-formed one
 pub data IsRefused (code : List ℕ) (bare : Bare) : BareFault → Type 0 where
   refused_flaw : (first : BareFault) → IsFirstFlaw code first → IsRefused code bare first
-  refused_state : (i : Placed) (registers stack : List Kind) (kind : BareKind) → IsWellFormed code → Stands code i
+  refused_state : (i : Placed) (registers stack : List Kind) (kind : BareKind) → IsWellFormed code → HasInstruction code i
       → IsMet code bare i.place registers stack → IsWrong code bare i registers stack kind
       → IsRefused code bare (fault i.place kind)

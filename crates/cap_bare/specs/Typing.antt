@@ -6,9 +6,10 @@ use Rattle.cap_bare.specs.declared.bare.Bare.{Bare}
 use Rattle.cap_bare.specs.declared.instruction.Instruction.{Instruction}
 use Rattle.jc_decode.specs.declared.insn.Placed.{Placed}
 use Rattle.jc_decode.specs.Listing.{falls, jumps}
+use Rattle.jc_decode.specs.Places.{place_after}
 use Rattle.cap_bare.specs.Effects.{register_of, register_read, register_written, cells_taken, cells_given}
 use Rattle.cap_bare.specs.Format.{instruction_of}
-use Rattle.cap_bare.specs.Code.{place_after, Stands, IsTarget, IsWellFormed}
+use Rattle.cap_bare.specs.Code.{HasInstruction, IsTarget, IsWellFormed}
 
 -- The types of cells. Of the verifier's types only two occur where all values are shorts: that of a register into
 -- which nothing was stored, and that of shorts.
@@ -63,4 +64,4 @@ pub record CardTyping (code : List ℕ) (bare : Bare) : Type 0 where
   pub arguments : (x : ℕ) → x < bare.nargs → IsSomeAnd (slice_get registers x) (λ k. IsBelow short k)
   pub entry : stacks 0 ≡ []
   pub targets : (place : ℕ) → IsTarget code place → stacks place ≡ []
-  pub typed : (i : Placed) → Stands code i → IsTyped code bare registers stacks i
+  pub typed : (i : Placed) → HasInstruction code i → IsTyped code bare registers stacks i

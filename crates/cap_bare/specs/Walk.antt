@@ -4,6 +4,7 @@ use Rattle.std.specs.Prelude.{ℕ, ◌+◌, ◌-◌, ◌≡◌, ◌⊎◌, ℤ, 
 use Rattle.std.specs.List.{list_any}
 use Rattle.jc_decode.specs.declared.insn.Placed.{Placed}
 use Rattle.jc_decode.specs.Listing.{falls, jumps, targets}
+use Rattle.jc_decode.specs.Places.{place_after}
 use Rattle.cap_bare.specs.declared.bare.Bare.{Bare}
 use Rattle.cap_bare.specs.declared.instruction.Instruction.{Instruction}
 use Rattle.cap_bare.specs.declared.fault.BareFault.{BareFault}
@@ -11,7 +12,7 @@ use Rattle.cap_bare.specs.declared.fault.BareKind.{BareKind}
 use Rattle.cap_bare.specs.declared.fault.BareKind.TheVariants.{NoLocal, Underflow, Overflow, StackAtTarget, StackAtBranch, FallsOff}
 use Rattle.cap_bare.specs.Format.{instruction_of}
 use Rattle.cap_bare.specs.Effects.{register_of, cells_taken, cells_given}
-use Rattle.cap_bare.specs.Code.{instructions, place_after, IsWellFormed, IsFirstFlaw, fault}
+use Rattle.cap_bare.specs.Code.{instructions, IsWellFormed, IsFirstFlaw, fault}
 use Rattle.cap_bare.specs.Typing.{register_count}
 
 -- whether the code has an instruction at a place, which may lie before the code

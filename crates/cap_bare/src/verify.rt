@@ -2,11 +2,11 @@ ghost use Rattle.std.specs.Prelude.{ℤ, ◌≡◌, ◌≤◌, ◌+◌, ◌↔�
 ghost use Rattle.jc_decode.specs.Decoding.{AreBytes, FitsLayout};
 ghost use Rattle.jc_decode.specs.Layout.{layout_of};
 ghost use Rattle.jc_decode.specs.Listing.{targets};
-ghost use Rattle.cap_bare.specs.Code.{instructions, IsFirstFlaw, IsFlawKind, IsPlace, IsTarget, IsTargetPlace, IsWellFormed, Stands};
+ghost use Rattle.cap_bare.specs.Code.{instructions, IsFirstFlaw, IsFlawKind, IsPlace, IsTarget, IsTargetPlace, IsWellFormed, HasInstruction};
 ghost use Rattle.cap_bare.specs.Typing.{CardTyping, IsCompact};
 ghost use Rattle.cap_bare.specs.Met.{IsRefused};
 ghost use Rattle.cap_bare.specs.Walk.{is_at, is_place, is_target, applied, passed, first_wrong, Finds};
-ghost use Rattle.cap_bare.specs.Window.{IsFromOn, IsReached, IsTrailing};
+ghost use Rattle.cap_bare.specs.Window.{IsFromOn, IsSuffixAt, IsTrailing};
 ghost use Rattle.cap_bare.specs.Machine.{IsFaultFree};
 
 use crate::bare::Bare;
@@ -81,7 +81,7 @@ fn find_flaw(code: View<'_>) -> Result<(), BareFault>
 /// The target of an instruction, if no instruction begins there.
 fn stray_target(code: View<'_>, farther: u16, placed: Placed) -> Option<i32>
     requires short { length code.bytes.now ≤ 32767 }
-    requires stands { Stands code.bytes.now placed }
+    requires stands { HasInstruction code.bytes.now placed }
     requires trailing { IsTrailing code.bytes.now farther placed.place }
     ensures none { IfNone result (All (IsTargetPlace code.entry.bytes.now) (targets code.entry.bytes.now placed)) }
     ensures some { IfSome result
@@ -115,7 +115,7 @@ fn trailed(code: View<'_>, from: u16, at: u16) -> u16
 /// instruction on that is not after it.
 fn is_place(code: View<'_>, from: u16, place: i32) -> bool
     requires short { length code.bytes.now ≤ 32767 }
-    requires reached { IsReached code.bytes.now from }
+    requires reached { IsSuffixAt code.bytes.now from }
     requires from_on { IsFromOn from place }
     ensures { IsTrue result ↔ IsTargetPlace code.entry.bytes.now place }
 {
@@ -128,7 +128,7 @@ fn is_place(code: View<'_>, from: u16, place: i32) -> bool
 /// Whether an instruction of the code begins at this place, sought from an instruction on that is not after it.
 fn begins(code: View<'_>, from: u16, place: u32) -> bool
     requires short { length code.bytes.now ≤ 32767 }
-    requires reached { IsReached code.bytes.now from }
+    requires reached { IsSuffixAt code.bytes.now from }
     requires from_on { from ≤ place }
     ensures { IsTrue result ↔ IsPlace code.entry.bytes.now place }
 {
@@ -173,7 +173,7 @@ fn are_bytes(bytes: &[u8])
 /// Whether an instruction branches to this place.
 fn branches_to(code: View<'_>, placed: Placed, place: u16) -> bool
     requires short { length code.bytes.now ≤ 32767 }
-    requires stands { Stands code.bytes.now placed }
+    requires stands { HasInstruction code.bytes.now placed }
     ensures { IsTrue result ↔ Contains (targets code.entry.bytes.now placed) (pos place) }
 {
     match target(code, placed, 0) {

@@ -9,7 +9,7 @@ use Rattle.jc_base.specs.World.{Linked}
 use Rattle.jc_decode.specs.declared.insn.Placed.{Placed}
 use Rattle.jc_decode.specs.Listing.{falls}
 use Rattle.jc_control.specs.Method.{Method, IsMethodOf}
-use Rattle.jc_control.specs.WellFormed.{Stands, IsPlace, IsHandlerOf}
+use Rattle.jc_control.specs.WellFormed.{HasInstruction, IsPlace, IsHandlerOf}
 use Rattle.jc_control.specs.Laws.{FlawsDecide}
 use Rattle.jc_rules.specs.declared.effect.Mode.TheVariants.{Card}
 use Rattle.jc_rules.specs.declared.rule.Outcome.{Outcome}
@@ -52,20 +52,20 @@ module _ (w : Linked) (is : AreCardRules w) (m : Method) (mo : IsMethodOf w m) (
     solid : IsSolid w (stacks q)
 
   -- what the rule gives on it
-  record IsGiven (i : Placed) (there : Stands m.code i) (after : Frame) : Type 0 where
+  record IsGiven (i : Placed) (there : HasInstruction m.code i) (after : Frame) : Type 0 where
     below : FrameBelow w.classes after (record { regs = regs; stack = (ty.typed i there).after.stack })
     known : AreKnown w.classes after
     full : All IsNotBottom after.stack
     solid : IsSolid w (ty.typed i there).after.stack
 
-  fallen : (i : Placed) (there : Stands m.code i) (before : Frame) → IsHeld i.place before
+  fallen : (i : Placed) (there : HasInstruction m.code i) (before : Frame) → IsHeld i.place before
       → FallsTo w (site_of m i.place) i.insn Card before (record { regs = regs; stack = (ty.typed i there).after.stack })
   fallen i there before h =
       let t = ty.typed i there in
       let card = is.stays (site_of m i.place) i.insn (frame_at regs stacks i.place) t.after t.applies.0 (at-site w m mo t.applies.1) t.stored in
       is.falls (site_of m i.place) i.insn (frame_at regs stacks i.place) before (record { regs = regs; stack = t.after.stack }) t.applies.0 h.known h.below h.solid.no_top h.full card
 
-  given : (i : Placed) (there : Stands m.code i) (before after : Frame) (o : Outcome) → IsHeld i.place before
+  given : (i : Placed) (there : HasInstruction m.code i) (before after : Frame) (o : Outcome) → IsHeld i.place before
       → RuleApplies w m.rec i.place i.insn Card before after o → IsGiven i there after
   given i there before after o h a =
       let f = fallen i there before h in
@@ -129,7 +129,7 @@ module _ (w : Linked) (is : AreCardRules w) (m : Method) (mo : IsMethodOf w m) (
       by _ (arrives_caught c entry room catches) = absurd (ty.start.0 entry)
       by _ (arrives_full entry none) = absurd (ty.start.0 entry)
 
-  module _ (i : Placed) (there : Stands m.code i) (after : Frame) (g : IsGiven i there after) where
+  module _ (i : Placed) (there : HasInstruction m.code i) (after : Frame) (g : IsGiven i there after) where
     held-given : (q : ℕ) → stacks q ≡ (ty.typed i there).after.stack → IsHeld q after
     held-given q e = record {
       below = record { regs = g.below.regs; stack = subst (CellsBelow w.classes after.stack) (sym e) g.below.stack };
@@ -166,7 +166,7 @@ module _ (w : Linked) (is : AreCardRules w) (m : Method) (mo : IsMethodOf w m) (
 
   -- ---- what is wrong
 
-  wrong-never : (i : Placed) (before kept : Frame) (kind : CardKind) → Stands m.code i → IsHeld i.place before → IsWrong w m i before kind kept → ⊥
+  wrong-never : (i : Placed) (before kept : Frame) (kind : CardKind) → HasInstruction m.code i → IsHeld i.place before → IsWrong w m i before kind kept → ⊥
   wrong-never i before _ _ there h (wrong_entry e (inl fallen)) = no-fallen i.place fallen e
   wrong-never i before _ _ there h (wrong_entry e (inr target)) = (ty.targets i.place target).0 e
   wrong-never i before _ _ there h (wrong_room e free none) = entry-room i.place e none

@@ -11,7 +11,7 @@ use Rattle.jc_decode.specs.declared.insn.Placed.{Placed}
 use Rattle.jc_decode.specs.Cases.{cases}
 use Rattle.jc_decode.specs.Listing.{jumps, target, targets}
 use Rattle.jc_control.specs.Method.{Method, IsMethodOf}
-use Rattle.jc_control.specs.WellFormed.{Stands, IsPlace, IsTargetPlace, IsBoundary, IsHandlerOf}
+use Rattle.jc_control.specs.WellFormed.{HasInstruction, IsPlace, IsTargetPlace, IsBoundary, IsHandlerOf}
 use Rattle.jc_control.specs.Control.{IsSuccessor, falls_through, jumped, IsReached, begins, follows, caught, IsLeader, led_to, entered}
 use Rattle.jc_control.specs.Laws.{InstructionsArePlaced}
 use Rattle.jc_rules.specs.declared.effect.Mode.TheVariants.{Flow}
@@ -65,10 +65,10 @@ module _ (w : Linked) (is : AreRules w) (m : Method) (mo : IsMethodOf w m) (regs
   entry-of : (h : Handler) → Contains m.rec.handlers h → IsEntry m h.entry
   entry-of h c = record { handler = h; listed = c; begins = refl }
 
-  target-of : (i : Placed) (q : ℕ) → Stands m.code i → Contains (targets m.code i) (pos q) → IsTarget m q
+  target-of : (i : Placed) (q : ℕ) → HasInstruction m.code i → Contains (targets m.code i) (pos q) → IsTarget m q
   target-of i q there among = record { from = i; stands = there; leads = among }
 
-  succ-solid : (i : Placed) (q : ℕ) → Stands m.code i → IsSolid w (stacks i.place) → IsSuccessor m.code i q → IsSolid w (stacks q)
+  succ-solid : (i : Placed) (q : ℕ) → HasInstruction m.code i → IsSolid w (stacks i.place) → IsSuccessor m.code i q → IsSolid w (stacks q)
   succ-solid i _ there s (falls_through goes) = let t = ty.typed i there in subst (IsSolid w) (sym (t.goes_on goes).next) (given-solid i t s)
   succ-solid i q there s (jumped among) = none-solid w (stacks q) (ty.targets q (target-of i q there among)).1
 
@@ -84,7 +84,7 @@ module _ (w : Linked) (is : AreRules w) (m : Method) (mo : IsMethodOf w m) (regs
     inside-place : (q : ℕ) → IsBoundary m.code q → q < length m.code → IsPlace m.code q
     inside-place q b inside = ⊎_elim (λ end. absurd (omega arith)) (λ place. place) b
 
-    succ-place : (i : Placed) (q : ℕ) → Stands m.code i → IsSuccessor m.code i q → IsPlace m.code q
+    succ-place : (i : Placed) (q : ℕ) → HasInstruction m.code i → IsSuccessor m.code i q → IsPlace m.code q
     succ-place i _ there (falls_through goes) = inside-place (i.place + i.insn.len) ((placed m ty.formed).next i there) ((ty.typed i there).goes_on goes).inside
     succ-place i q there (jumped among) = All-contains (IsTargetPlace m.code) (targets m.code i) (pos q) (ty.formed.targets i there) among
 
@@ -93,7 +93,7 @@ module _ (w : Linked) (is : AreRules w) (m : Method) (mo : IsMethodOf w m) (regs
     reached-place _ (follows {i = i} {q = q} there r s) = succ-place i q there s
     reached-place _ (caught {h = h} r there covers) = (All-contains (IsHandlerOf m.code) m.rec.handlers h ty.formed.handlers there).entry
 
-    succ-below : (i : Placed) (there : Stands m.code i) (q : ℕ) → IsSuccessor m.code i q → FrameBelow w.classes (ty.typed i there).after (frame_at regs stacks q)
+    succ-below : (i : Placed) (there : HasInstruction m.code i) (q : ℕ) → IsSuccessor m.code i q → FrameBelow w.classes (ty.typed i there).after (frame_at regs stacks q)
     succ-below i there _ (falls_through goes) =
         let t = ty.typed i there in
         record { regs = t.stored; stack = subst (CellsBelow w.classes t.after.stack) (sym (t.goes_on goes).next) (is.order.self t.after.stack) }

@@ -10,7 +10,7 @@ use Rattle.jc_base.specs.World.{Linked}
 use Rattle.jc_decode.specs.declared.insn.Placed.{Placed}
 use Rattle.jc_decode.specs.Listing.{falls, targets, listing, Lists, end_from}
 use Rattle.jc_control.specs.Method.{Method, IsMethodOf}
-use Rattle.jc_control.specs.WellFormed.{Stands, IsPlace, IsTargetPlace, IsHandlerOf, IsWellFormed}
+use Rattle.jc_control.specs.WellFormed.{HasInstruction, IsPlace, IsTargetPlace, IsHandlerOf, IsWellFormed}
 use Rattle.jc_decode.specs.Laws.{InstructionsAreListed}
 use Rattle.jc_control.specs.Laws.{InstructionsArePlaced}
 use Rattle.jc_rules.specs.declared.rule.Outcome.{Outcome}
@@ -153,7 +153,7 @@ module _ (w : Linked) (rests : RuleRests w) (placed : InstructionsArePlaced) (or
   abbrev pub stacks : ℕ → List Ty
   stacks = stack-in w m regs true [] (listing m.code) u
 
-  visit : (i : Placed) → Stands m.code i → IsVisited w m regs stacks i
+  visit : (i : Placed) → HasInstruction m.code i → IsVisited w m regs stacks i
   visit i there = visits w m regs mo ordered stacks 0 (listing m.code) true [] u (ordered m.code).lists formed.ends (λ e. fallen_first) (omega arith) (λ q le. refl) i there
 
   open-at : (q : ℕ) → IsPlace m.code q → IsOpenTo m q (stacks q)
@@ -187,7 +187,7 @@ module _ (w : Linked) (rests : RuleRests w) (placed : InstructionsArePlaced) (or
   target-place : (q : ℕ) → IsTarget m q → IsPlace m.code q
   target-place q t = All-contains (IsTargetPlace m.code) (targets m.code t.from) (pos q) (formed.targets t.from t.stands) t.leads
 
-  target-empty : (i : Placed) → Stands m.code i → IsTarget m i.place → ¬ (IsEntry m i.place) → stacks i.place ≡ []
+  target-empty : (i : Placed) → HasInstruction m.code i → IsTarget m i.place → ¬ (IsEntry m i.place) → stacks i.place ≡ []
   target-empty i there t free = by (visit i there).may_fall refl
     where
       by : (b : Bool) → (visit i there).may_fall ≡ b → stacks i.place ≡ []
@@ -200,7 +200,7 @@ module _ (w : Linked) (rests : RuleRests w) (placed : InstructionsArePlaced) (or
       let free : ¬ (IsEntry m q) = λ e. ((open-at q here).entry e).1 t in
       (free, subst (λ p. IsTarget m p → ¬ (IsEntry m p) → stacks p ≡ []) here.2 (target-empty here.0 here.1) t free)
 
-  goes-on : (i : Placed) (there : Stands m.code i) → IsTrue (falls i.insn.op) → GoesOn m stacks i (visit i there).after
+  goes-on : (i : Placed) (there : HasInstruction m.code i) → IsTrue (falls i.insn.op) → GoesOn m stacks i (visit i there).after
   goes-on i there goes =
       let v = visit i there in
       let free : ¬ (IsEntry m (i.place + i.insn.len)) = no-entry (i.place + i.insn.len) (fallen_from i there goes) in
@@ -210,7 +210,7 @@ module _ (w : Linked) (rests : RuleRests w) (placed : InstructionsArePlaced) (or
         next = ⊎_elim (λ a. arrived-falling w m a goes free) (λ end. absurd (omega (arith, v.passed.goes_on goes, end.0))) v.next;
       }
 
-  typed-at : (i : Placed) → Stands m.code i → IsTyped w m regs stacks i
+  typed-at : (i : Placed) → HasInstruction m.code i → IsTyped w m regs stacks i
   typed-at i there =
       let v = visit i there in
       let r = rests (site_of m i.place) i.insn (frame_at regs stacks i.place) (record { regs = regs; stack = v.after }) v.outcome (at-site w m mo v.passed.applies) refl in

@@ -7,7 +7,7 @@ use Rattle.jc_base.specs.World.{Linked}
 use Rattle.jc_decode.specs.declared.insn.Placed.{Placed}
 use Rattle.jc_decode.specs.Listing.{falls, jumps}
 use Rattle.jc_control.specs.Method.{Method}
-use Rattle.jc_control.specs.WellFormed.{Stands}
+use Rattle.jc_control.specs.WellFormed.{HasInstruction}
 use Rattle.jc_rules.specs.declared.effect.Mode.TheVariants.{Card}
 use Rattle.jc_rules.specs.declared.rule.Outcome.{Outcome}
 use Rattle.jc_rules.specs.Demand.{Frame}
@@ -33,7 +33,7 @@ pub record IsOpenTo (m : Method) (q : ℕ) (stack : List Ty) : Type 0 where
 -- nothing is wrong at an instruction with this frame: its place may have the stack, its rule applies on the card, a branch
 -- or switch leaves the stack empty, and the code goes on where it falls through
 pub record IsPassed (w : Linked) (m : Method) (i : Placed) (before after : Frame) (o : Outcome) : Type 0 where
-  pub stands : Stands m.code i
+  pub stands : HasInstruction m.code i
   pub suits : IsOpenTo m i.place before.stack
   pub applies : RuleApplies w m.rec i.place i.insn Card before after o
   pub branch : IsTrue (jumps i.insn.op) → after.stack ≡ []

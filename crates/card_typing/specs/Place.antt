@@ -1,25 +1,19 @@
 -- What the verifier on the card asks of the places of a method, whatever the types (Leroy 2002, section 3; JCVM 2.2, section 7.5).
-use Rattle.std.specs.Prelude.{◌≡◌, ℕ, ℤ, ◌+◌, pos, List, Contains, IsTrue}
+use Rattle.std.specs.Prelude.{◌≡◌, ℕ, ◌+◌, List, Contains, IsTrue}
 use Rattle.jc_base.specs.declared.ty.Ty.{Ty}
 use Rattle.jc_base.specs.declared.ty.Ty.TheVariants.{Class}
 use Rattle.jc_base.specs.declared.record.Handler.{Handler}
 use Rattle.jc_base.specs.Class.{ClassTable, IsClass}
 use Rattle.jc_base.specs.Order.{Below}
 use Rattle.jc_decode.specs.declared.insn.Placed.{Placed}
-use Rattle.jc_decode.specs.Listing.{falls, targets}
+use Rattle.jc_decode.specs.Listing.{falls, listing}
+use Rattle.jc_decode.specs.Places.{IsTargetIn}
 use Rattle.jc_control.specs.Method.{Method}
-use Rattle.jc_control.specs.WellFormed.{Stands}
+use Rattle.jc_control.specs.WellFormed.{HasInstruction}
 
--- a branch or switch leads to this place, be it reached or not: one of the instructions that stand in some code, by the
--- places to which each leads
-pub record IsTargetAmong (is_there : Placed → Type 0) (leads_to : Placed → List ℤ) (q : ℕ) : Type 0 where
-  pub from : Placed
-  pub stands : is_there from
-  pub leads : Contains (leads_to from) (pos q)
-
--- in the code of a method
+-- a branch or switch of the method leads to this place, reached or not
 abbrev pub IsTarget : Method → ℕ → Type 0
-IsTarget m q = IsTargetAmong (Stands m.code) (targets m.code) q
+IsTarget m q = IsTargetIn m.code (listing m.code) q
 
 -- one of the handlers begins at this place
 pub record IsEntryAmong (handlers : List Handler) (q : ℕ) : Type 0 where
@@ -34,7 +28,7 @@ IsEntry m q = IsEntryAmong m.rec.handlers q
 -- control falls into this place: as the method begins, or from the instruction before it
 pub data IsFallenInto (m : Method) : ℕ → Type 0 where
   fallen_first : IsFallenInto m 0
-  fallen_from : (i : Placed) → Stands m.code i → IsTrue (falls i.insn.op) → IsFallenInto m (i.place + i.insn.len)
+  fallen_from : (i : Placed) → HasInstruction m.code i → IsTrue (falls i.insn.op) → IsFallenInto m (i.place + i.insn.len)
 
 -- the type is above the class that each of the handlers catches which begins at this place
 abbrev pub IsAboveCaughtBy : ClassTable → List Handler → ℕ → Ty → Type 0

@@ -6,7 +6,7 @@ use Rattle.jc_decode.specs.Listing.{falls, jumps}
 use Rattle.jc_ops.specs.declared.fault.RuleFault.{RuleFault}
 use Rattle.jc_ops.specs.declared.fault.RuleFault.TheVariants.{Overflow}
 use Rattle.jc_control.specs.Method.{Method}
-use Rattle.jc_control.specs.WellFormed.{Stands, IsWellFormed}
+use Rattle.jc_control.specs.WellFormed.{HasInstruction, IsWellFormed}
 use Rattle.jc_control.specs.Flaw.{IsFirstFlaw}
 use Rattle.jc_control.specs.declared.flaw.Flaw.{Flaw}
 use Rattle.jc_control.specs.declared.flaw.Flaw.TheVariants as flaws
@@ -81,7 +81,7 @@ pub data IsRefused (w : Linked) (m : Method) : CardFault → Frame → Type 0 wh
   refused_state :
       (i : Placed) (before kept : Frame) (kind : CardKind)
       → IsWellFormed m
-      → Stands m.code i
+      → HasInstruction m.code i
       → IsMet w m i.place before
       → IsWrong w m i before kind kept
       → IsRefused w m (fault_at i.place kind kept) kept

@@ -10,14 +10,15 @@ use Rattle.jc_base.specs.Order.{IsKnown}
 use Rattle.jc_base.specs.World.{Linked}
 use Rattle.jc_decode.specs.declared.insn.Placed.{Placed}
 use Rattle.jc_decode.specs.Listing.{falls, jumps, targets}
+use Rattle.jc_decode.specs.Places.{IsTargetAmong}
 use Rattle.jc_control.specs.Method.{Method}
-use Rattle.jc_control.specs.WellFormed.{Stands, IsWellFormed}
+use Rattle.jc_control.specs.WellFormed.{HasInstruction, IsWellFormed}
 use Rattle.jc_rules.specs.declared.effect.Mode.TheVariants.{Flow}
 use Rattle.jc_rules.specs.declared.rule.Outcome.{Outcome}
 use Rattle.jc_rules.specs.Demand.{Frame}
 use Rattle.jc_rules.specs.Apply.{RuleApplies}
 use Rattle.jc_rules.specs.Flow.{CellsBelow, IsNotFresh, start_frame}
-use Rattle.card_typing.specs.Place.{IsTargetAmong, IsEntryAmong, AreCaughtAt}
+use Rattle.card_typing.specs.Place.{IsEntryAmong, AreCaughtAt}
 
 -- the registers with the stack before a place
 abbrev pub frame_at : List Ty → (ℕ → List Ty) → ℕ → Frame
@@ -80,7 +81,7 @@ abbrev pub code_in_bytes : Method → Subject
 code_in_bytes m = record {
   rec = m.rec;
   end = length m.code;
-  stands = Stands m.code;
+  stands = HasInstruction m.code;
   after = λ i. i.place + i.insn.len;
   leads = targets m.code;
   formed = IsWellFormed m;

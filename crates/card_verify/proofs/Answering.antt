@@ -1,6 +1,7 @@
 -- What the verifier answers.
 use Rattle.std.proofs.Common.{◌≡◌, ◌↔◌, ⊎_elim, ℕ, ◌+◌, ◌<◌, ◌≤◌, Bool, true, false, List, length, MatchBool, IsSomeAnd, IfSome, IfErr, OnOk, OnErr, Option, Some, option_map, Result, Ok, Err, slice_get, sym, ◌∙◌, ap, subst, arith}
 use Rattle.std.proofs.lemmas.Bool.{false≢true, cases_lt}
+use Rattle.std.proofs.lemmas.Option.{same_Some}
 use Rattle.jc_base.specs.declared.ty.Ty.{Ty}
 use Rattle.jc_base.specs.declared.ty.Ty.TheVariants.{Bottom}
 use Rattle.jc_base.specs.declared.record.MethodRec.{MethodRec}
@@ -80,12 +81,9 @@ module _ (v : Verifier) where
 
 -- ---- a method of the world
 
-some-same : {X : Type 0} {a b : X} → ◌≡◌ {A = Option X} (Some a) (Some b) → a ≡ b
-some-same e = cc
-
 module _ (w : Linked) (n : ℕ) (rec : MethodRec) (code : List ℕ) (here : slice_get w.methods n ≡ Some rec) (bytes : option_map (code_of w.infos) (slice_get w.methods n) ≡ Some code) where
   own-code : code_of w.infos rec ≡ code
-  own-code = some-same (ap (option_map (code_of w.infos)) (sym here) ∙ bytes)
+  own-code = same_Some _ _ (ap (option_map (code_of w.infos)) (sym here) ∙ bytes)
 
   method-is : method_in w n ≡ Some (record { number = n; rec = rec; code = code })
   method-is = ap (option_map (method_with w n)) here ∙ ap (λ (c : List ℕ). Some (record { number = n; rec = rec; code = c })) own-code
@@ -113,13 +111,13 @@ refused-at : (w : Linked) (n : ℕ) (rec : MethodRec) (regs stack : List Ty) (r 
 refused-at w n rec regs stack (Ok t) none refused = tt
 refused-at w n rec regs stack (Err fault) none refused = record { none = none; kept = frame_of regs stack fault.depth; refused = refused }
 
-on-method : (w : Linked) (n : ℕ) (rec : MethodRec) (P : Method → Type 0) → slice_get w.methods n ≡ Some rec → IsSomeAnd (method_in w n) P → P (method_with w n rec)
+pub on-method : (w : Linked) (n : ℕ) (rec : MethodRec) (P : Method → Type 0) → slice_get w.methods n ≡ Some rec → IsSomeAnd (method_in w n) P → P (method_with w n rec)
 on-method w n rec P here h = subst (λ (o : Option Method). IsSomeAnd o P) (ap (option_map (method_with w n)) here) h
 
 module _ (w : Linked) (n : ℕ) (rec : MethodRec) (here : slice_get w.methods n ≡ Some rec) (r : Result (Unit {0}) CardFault) (regs stack : List Ty) where
   pub accepted-of : IsSomeAnd (method_in w n) (λ m. OnOk r (IsLeastCardTyping w m regs)) → IsSomeAnd (method_in w n) (λ m. OnOk r (HasFlowTyping w m Bottom)) → OnOk r (IsAcceptedAt w n)
   accepted-of least flow =
-      on-ok (IsAccepted w n rec) (IsAcceptedAt w n) r (λ a other is code. subst (IsAccepted w n) (some-same (sym here ∙ is)) a)
+      on-ok (IsAccepted w n rec) (IsAcceptedAt w n) r (λ a other is code. subst (IsAccepted w n) (same_Some _ _ (sym here ∙ is)) a)
       (accepted-at w n rec regs r (on-method w n rec (λ m. OnOk r (IsLeastCardTyping w m regs)) here least) (on-method w n rec (λ m. OnOk r (HasFlowTyping w m Bottom)) here flow))
 
   pub refused-of : 0 < rec.code_len → IsSomeAnd (method_in w n) (λ m. OnErr r (¬ (HasCardTyping w m))) → IsSomeAnd (method_in w n) (λ m. IfErr r (λ (fault : CardFault). IsRefused w m fault (frame_of regs stack fault.depth)))
@@ -132,7 +130,7 @@ module _ (w : Linked) (n : ℕ) (rec : MethodRec) (here : slice_get w.methods n 
       by (Err fault) h = record { rec = rec; is = here; has_code = code; refused = h }
 
 pub accepted-bare : (w : Linked) (n : ℕ) (rec : MethodRec) → slice_get w.methods n ≡ Some rec → rec.code_len ≡ 0 → IsAcceptedAt w n
-accepted-bare w n rec here none other is code = let same : rec ≡ other = some-same (sym here ∙ is) in absurd (omega (arith, none, ap (λ (m : MethodRec). m.code_len) same, code))
+accepted-bare w n rec here none other is code = let same : rec ≡ other = same_Some _ _ (sym here ∙ is) in absurd (omega (arith, none, ap (λ (m : MethodRec). m.code_len) same, code))
 
 pub accepted-more : (w : Linked) (n : ℕ) → AreAcceptedBefore w n → IsAcceptedAt w n → AreAcceptedBefore w (n + 1)
 accepted-more w n before here k lt = ⊎_elim (λ lower. before k lower) (λ le. subst (IsAcceptedAt w) (omega (arith, le, lt)) here) (cases_lt k n)

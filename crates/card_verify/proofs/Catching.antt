@@ -9,6 +9,7 @@ use Rattle.jc_base.specs.Class.{ClassTable, IsClass}
 use Rattle.jc_base.specs.Order.{Below, same, joined}
 use Rattle.jc_base.specs.Linked.{IsMethod, IsHandler, list_at}
 use Rattle.jc_base.specs.World.{Linked, IsWorld}
+use Rattle.jc_base.proofs.Lists.{All-slice_get}
 use Rattle.jc_control.specs.Method.{Method, IsMethodOf}
 use Rattle.card_typing.specs.Place.{IsEntry, CatchesAt}
 use Rattle.card_verify.specs.Walk.{IsJoined, IsCaughtWith}
@@ -113,15 +114,12 @@ next-with t hs items place n d before after same_items inside class w s =
     here None j e = absurd j
     here (Some c) j e = next-here t hs items place n d same_items inside before c e class s j
 
-all_at : {X : Type 0} (P : X → Type 0) (xs : List X) (n : ℕ) (x : X) → All P xs → slice_get xs n ≡ Some x → P x
-all_at P xs n x all e = subst P (get_or_from_slice_get xs n x x e) (all n x (slice_get_within xs n x e))
-
 -- the class that a handler of the method catches
 pub handler-class : (w : Linked) (m : Method) (t : ClassTable) (items : List Handler) (n : ℕ) (d : Handler) → t ≡ w.classes → IsWorld w → IsMethodOf w m → items ≡ m.rec.handlers → n < length items
     → IsClass t (get_or items n d).class
 handler-class w m t items n d own is mo e inside =
-    let method = all_at (IsMethod w.infos w.pools w.classes) w.methods m.number m.rec is.methods mo.rec in
+    let method = All-slice_get (IsMethod w.infos w.pools w.classes) w.methods m.number m.rec is.methods mo.rec in
     subst (λ (u : ClassTable). IsClass u (get_or items n d).class) (sym own) (subst (All (IsHandler w.classes (list_at w.pools m.rec.package) m.rec.code_len)) (sym e) method.handlers n d inside).class
 
 pub few-handlers : (w : Linked) (m : Method) → IsWorld w → IsMethodOf w m → length m.rec.handlers ≤ 255
-few-handlers w m is mo = (all_at (IsMethod w.infos w.pools w.classes) w.methods m.number m.rec is.methods mo.rec).few_handlers
+few-handlers w m is mo = (All-slice_get (IsMethod w.infos w.pools w.classes) w.methods m.number m.rec is.methods mo.rec).few_handlers

@@ -1,12 +1,12 @@
 -- A walk comes to a place with a stack, which may stand there or not.
-use Rattle.std.proofs.Common.{◌≡◌, ◌≢◌, ℕ, zero, suc, ◌<◌, ◌≤◌, ◌⊎◌, inl, inr, ⊎_elim, Bool, true, false, ◌==◌, if◌then◌else◌, List, [], ◌∷◌, length, take, set, MatchBool, refl, sym, ◌∙◌, ap, subst, arith, length-take}
-use Rattle.std.proofs.lemmas.List.{length-reverse}
+use Rattle.std.proofs.Common.{◌≡◌, ◌≢◌, ℕ, zero, suc, ◌<◌, ◌≤◌, ◌⊎◌, inl, inr, ⊎_elim, Bool, true, false, ◌==◌, if◌then◌else◌, List, [], ◌∷◌, length, set, MatchBool, refl, sym, ◌∙◌, ap, subst, arith}
 use Rattle.std.proofs.lemmas.Bool.{false≢true}
 use Rattle.jc_base.specs.declared.ty.Ty.{Ty}
 use Rattle.jc_base.specs.declared.ty.Ty.TheVariants.{Class}
 use Rattle.jc_ops.specs.declared.fault.RuleFault.TheVariants.{Overflow}
 use Rattle.jc_control.specs.Method.{Method}
 use Rattle.jc_rules.specs.Stack.{cells}
+use Rattle.jc_rules.proofs.Stacks.{length-cells}
 use Rattle.card_typing.specs.declared.fault.CardKind.TheVariants.{Rule, StackAtTarget, HandlerEntered}
 use Rattle.card_typing.specs.Place.{IsTarget, IsEntry, IsFallenInto, CatchesAt}
 use Rattle.card_typing.specs.Met.{Arrives, arrives_falling, arrives_empty, arrives_caught, arrives_full}
@@ -20,12 +20,8 @@ pub no-cells : (stack : List Ty) → cells stack 0 ≡ []
 unfolding cells
 no-cells stack = refl
 
-pub cells-length : (stack : List Ty) (depth : ℕ) → depth ≤ length stack → length (cells stack depth) ≡ depth
-unfolding cells
-cells-length stack depth le = length-reverse (take depth stack) ∙ length-take depth stack ∙ omega arith
-
 pub some-cells : (stack : List Ty) (depth : ℕ) → depth ≤ length stack → 0 < depth → cells stack depth ≢ []
-some-cells stack depth le deep e = absurd (omega (arith, cells-length stack depth le, ap length e))
+some-cells stack depth le deep e = absurd (omega (arith, length-cells stack depth le, ap length e))
 
 -- the truth of a fact from the answer that decides it
 pub when-true : (P : Type 0) (b : Bool) → MatchBool b P (¬ P) → b ≡ true → P

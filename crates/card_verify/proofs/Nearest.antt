@@ -3,12 +3,13 @@ use Rattle.std.proofs.Common.{◌≡◌, ℕ, zero, suc, ◌+◌, ◌<◌, ◌�
 use Rattle.std.specs.Prelude.{ℤ, pos, negsuc, fold, nat_le, nat_lt}
 use Rattle.std.proofs.lemmas.Bool.{false≢true, cases_lt}
 use Rattle.std.proofs.lemmas.Bool.Decides.{nat_tests}
-use Rattle.std.proofs.lemmas.List.{append-nil}
 use Rattle.std.proofs.lemmas.Option.{slice_get_within, slice_get-get_or, get_or_from_slice_get}
 use Rattle.std.proofs.lemmas.List.Elements.{Contains-append_left, Contains-push, Contains-push_cases}
 use Rattle.jc_base.specs.declared.record.Handler.{Handler}
 use Rattle.jc_decode.specs.declared.insn.Placed.{Placed}
 use Rattle.jc_decode.specs.Listing.{listing, targets}
+use Rattle.jc_decode.specs.Places.{IsTargetIn}
+use Rattle.jc_decode.proofs.Elements.{Contains-first, Contains-later, Contains-either}
 use Rattle.jc_control.specs.Method.{Method}
 use Rattle.card_typing.specs.Place.{IsTarget, IsEntry}
 use Rattle.card_verify.specs.Ahead.{IsLeastFrom, is_nearer, nearer, nearer_target}
@@ -65,45 +66,26 @@ module _ (S : ℕ → Type 0) (from : ℕ) where
   nearer-step (pos p) best h = step-here p best (nat_le from p) (is_nearer p best) refl refl h
   nearer-step (negsuc n) best h = step-before n best h
 
-in-either : {X : Type 0} (y : X) (xs : List X) (x : X) → Contains (y ∷ xs) x → (y ≡ x) ⊎ Contains xs x
-in-either y xs x c = by c.0 c.1 c.2
-  where
-    by : (n : ℕ) → n < length (y ∷ xs) → get_or (y ∷ xs) n x ≡ x → (y ≡ x) ⊎ Contains xs x
-    by zero lt e = inl e
-    by (suc n) lt e = inr (n, omega arith, e)
-
-in-later : {X : Type 0} (y : X) (xs : List X) (x : X) → Contains xs x → Contains (y ∷ xs) x
-in-later y xs x c = (suc c.0, let lt = c.1 in omega (arith, lt), c.2)
-
 -- the targets of one instruction
 pub nearest-all : (S : ℕ → Type 0) (from : ℕ) (xs : List ℤ) (best : Option ℕ) → IsLeastFrom S from best → IsLeastFrom (λ q. S q ⊎ Contains xs (pos q)) from (fold (nearer_target from) best xs)
 nearest-all S from [] best h = least-same S (λ q. S q ⊎ Contains [] (pos q)) from best (λ q s. inl s) (λ q w. ⊎_elim (λ s. s) (λ c. absurd (omega (arith, c.1))) w) h
 nearest-all S from (x ∷ xs) best h =
     least-same (λ q. (S q ⊎ (x ≡ pos q)) ⊎ Contains xs (pos q)) (λ q. S q ⊎ Contains (x ∷ xs) (pos q)) from (fold (nearer_target from) (nearer_target from best x) xs)
-    (λ q w. ⊎_elim (λ u. ⊎_elim (λ s. inl s) (λ e. inr (0, omega arith, e)) u) (λ c. inr (in-later x xs (pos q) c)) w)
-    (λ q w. ⊎_elim (λ s. inl (inl s)) (λ c. ⊎_elim (λ e. inl (inr e)) (λ later. inr later) (in-either x xs (pos q) c)) w)
+    (λ q w. ⊎_elim (λ u. ⊎_elim (λ s. inl s) (λ e. inr (subst (Contains (x ∷ xs)) e (Contains-first x xs))) u) (λ c. inr (Contains-later x xs (pos q) c)) w)
+    (λ q w. ⊎_elim (λ s. inl (inl s)) (λ c. ⊎_elim (λ e. inl (inr e)) (λ later. inr later) (Contains-either x xs (pos q) c)) w)
     (nearest-all (λ q. S q ⊎ (x ≡ pos q)) from xs (nearer_target from best x) (nearer-step S from x best h))
 
 -- ---- the targets of the instructions so far
 
-abbrev pub LedFrom : List ℕ → List Placed → ℕ → Type 0
-LedFrom code is q = (i : Placed) × Contains is i × Contains (targets code i) (pos q)
-
-pub led-none : (code : List ℕ) (from : ℕ) → IsLeastFrom (LedFrom code []) from None
-led-none code from = λ q l. absurd (omega (arith, l.1.1))
-
-pub led-more : (code : List ℕ) (from : ℕ) (is : List Placed) (i : Placed) (best : Option ℕ) → IsLeastFrom (LedFrom code is) from best → IsLeastFrom (LedFrom code (is ++ i ∷ [])) from (fold (nearer_target from) best (targets code i))
+pub led-more : (code : List ℕ) (from : ℕ) (is : List Placed) (i : Placed) (best : Option ℕ) → IsLeastFrom (IsTargetIn code is) from best → IsLeastFrom (IsTargetIn code (is ++ i ∷ [])) from (fold (nearer_target from) best (targets code i))
 led-more code from is i best h =
-    least-same (λ q. LedFrom code is q ⊎ Contains (targets code i) (pos q)) (LedFrom code (is ++ i ∷ [])) from (fold (nearer_target from) best (targets code i))
-    (λ q w. ⊎_elim (λ l. (l.0, Contains-append_left is (i ∷ []) l.0 l.1, l.2)) (λ c. (i, Contains-push is i, c)) w)
-    (λ q l. ⊎_elim (λ before. inl (l.0, before, l.2)) (λ e. inr (subst (λ (j : Placed). Contains (targets code j) (pos q)) (sym e) l.2)) (Contains-push_cases is i l.0 l.1))
-    (nearest-all (LedFrom code is) from (targets code i) best h)
+    least-same (λ q. IsTargetIn code is q ⊎ Contains (targets code i) (pos q)) (IsTargetIn code (is ++ i ∷ [])) from (fold (nearer_target from) best (targets code i))
+    (λ q w. ⊎_elim (λ l. record { from = l.from; stands = Contains-append_left is (i ∷ []) l.from l.stands; leads = l.leads }) (λ c. record { from = i; stands = Contains-push is i; leads = c }) w)
+    (λ q l. ⊎_elim (λ before. inl (record { from = l.from; stands = before; leads = l.leads })) (λ e. inr (subst (λ (j : Placed). Contains (targets code j) (pos q)) (sym e) l.leads)) (Contains-push_cases is i l.from l.stands))
+    (nearest-all (IsTargetIn code is) from (targets code i) best h)
 
-pub led-all : (m : Method) (from : ℕ) (is : List Placed) (best : Option ℕ) → is ≡ listing m.code → IsLeastFrom (LedFrom m.code is) from best → IsLeastFrom (IsTarget m) from best
-led-all m from is best e h =
-    least-same (LedFrom m.code is) (IsTarget m) from best
-    (λ q l. record { from = l.0; stands = subst (λ (ps : List Placed). Contains ps l.0) e l.1; leads = l.2 })
-    (λ q t. (t.from, subst (λ (ps : List Placed). Contains ps t.from) (sym e) t.stands, t.leads)) h
+pub led-all : (m : Method) (from : ℕ) (is : List Placed) (best : Option ℕ) → is ≡ listing m.code → IsLeastFrom (IsTargetIn m.code is) from best → IsLeastFrom (IsTarget m) from best
+led-all m from is best e h = subst (λ (ps : List Placed). IsLeastFrom (IsTargetIn m.code ps) from best) e h
 
 -- ---- the entries of the handlers so far
 
@@ -161,9 +143,6 @@ entry-next hs items from n d best r e same inside entry is s =
 -- a walk along a list
 pub next-whole : {A : Type 0} (before rest : List A) (x : A) (after whole : List A) → before ++ rest ≡ whole → rest ≡ x ∷ after → (before ++ x ∷ []) ++ after ≡ whole
 next-whole before rest x after whole h e = append_assoc before (x ∷ []) after ∙ ap (λ (r : List _). before ++ r) (sym e) ∙ h
-
-pub last-whole : {A : Type 0} (before rest whole : List A) → before ++ rest ≡ whole → rest ≡ [] → before ≡ whole
-last-whole before rest whole h e = sym (append-nil before) ∙ ap (λ (r : List _). before ++ r) (sym e) ∙ h
 
 -- whether the first is in the set, as the place that was found tells
 pub told-here : (S : ℕ → Type 0) (from : ℕ) (o : Option ℕ) (b : Bool) → IsLeastFrom S from o → MatchBool b (o ≡ Some from) (¬ (o ≡ Some from)) → MatchBool b (S from) (¬ (S from))

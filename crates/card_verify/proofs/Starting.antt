@@ -1,14 +1,14 @@
 -- The registers with which a method starts, one by one.
-use Rattle.std.proofs.Common.{◌≡◌, ℕ, zero, suc, ◌+◌, ◌-◌, ◌<◌, ◌≤◌, ⊎_elim, Bool, true, false, if◌then◌else◌, List, [], ◌∷◌, ◌++◌, length, get_or, set, replicate, All, Some, slice_get, refl, sym, ◌∙◌, ap, subst, arith, length-append}
+use Rattle.std.proofs.Common.{◌≡◌, ℕ, zero, suc, ◌+◌, ◌-◌, ◌<◌, ◌≤◌, ⊎_elim, Bool, true, false, if◌then◌else◌, List, [], ◌∷◌, ◌++◌, length, get_or, set, replicate, refl, sym, ◌∙◌, ap, arith, length-append}
 use Rattle.std.proofs.lemmas.Bool.{cases_eq}
 use Rattle.std.proofs.lemmas.List.{ext_get_or, get_or-set_same, get_or-set_other}
 use Rattle.jc_base.specs.declared.ty.Ty.{Ty}
 use Rattle.jc_base.specs.declared.ty.Ty.TheVariants.{Bottom, Class}
 use Rattle.jc_base.specs.declared.record.MethodRec.{MethodRec}
 use Rattle.std.proofs.lemmas.List.{length-replicate}
-use Rattle.std.proofs.lemmas.Option.{slice_get_within, get_or_from_slice_get}
 use Rattle.jc_base.specs.Linked.{IsMethod, receiver_words}
 use Rattle.jc_base.specs.World.{Linked, IsWorld}
+use Rattle.jc_base.proofs.Lists.{All-slice_get}
 use Rattle.jc_control.specs.Method.{Method, IsMethodOf}
 use Rattle.jc_rules.specs.Flow.{start_frame, receiver_of}
 
@@ -48,15 +48,12 @@ started-more start regs x ty inside is so_far k lt =
 pub started-all : (start regs : List Ty) (x : ℕ) → length regs ≡ length start → length regs ≤ x → ((k : ℕ) → k < x → get_or regs k Bottom ≡ get_or start k Bottom) → regs ≡ start
 started-all start regs x count all so_far = ext_get_or Bottom regs start count (λ k lt. so_far k (omega arith))
 
-all_at : {X : Type 0} (P : X → Type 0) (xs : List X) (n : ℕ) (x : X) → All P xs → slice_get xs n ≡ Some x → P x
-all_at P xs n x all e = subst P (get_or_from_slice_get xs n x x e) (all n x (slice_get_within xs n x e))
-
 receiver-length : (b : Bool) (c : ℕ) → length (if b then [] else Class c ∷ []) ≡ receiver_words b
 receiver-length true c = refl
 receiver-length false c = refl
 
 pub start-length : (w : Linked) (m : Method) → IsWorld w → IsMethodOf w m → length (start_frame m.rec Bottom).regs ≡ m.rec.nargs + m.rec.max_locals
 start-length w m is mo =
-    let method = all_at (IsMethod w.infos w.pools w.classes) w.methods m.number m.rec is.methods mo.rec in
+    let method = All-slice_get (IsMethod w.infos w.pools w.classes) w.methods m.number m.rec is.methods mo.rec in
     length-append (receiver_of m.rec ++ m.rec.sig.args) (replicate m.rec.max_locals Bottom)
     ∙ omega (arith, length-append (receiver_of m.rec) m.rec.sig.args, length-replicate m.rec.max_locals Bottom, receiver-length m.rec.is_static m.rec.class, method.words)

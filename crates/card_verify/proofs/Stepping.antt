@@ -5,11 +5,11 @@ use Rattle.jc_base.specs.declared.record.MethodRec.{MethodRec}
 use Rattle.jc_base.specs.Order.{rises_left}
 use Rattle.jc_decode.specs.declared.insn.Placed.{Placed}
 use Rattle.jc_ops.specs.declared.fault.RuleFault.{RuleFault}
-use Rattle.jc_control.specs.WellFormed.{Stands}
+use Rattle.jc_control.specs.WellFormed.{HasInstruction}
 use Rattle.jc_rules.specs.declared.effect.Mode.TheVariants.{Card}
 use Rattle.jc_rules.specs.declared.rule.Outcome.{Outcome}
 use Rattle.jc_rules.specs.Stack.{cells}
-use Rattle.jc_rules.specs.Apply.{frame_of, HasRoom, Applies, Refuses}
+use Rattle.jc_rules.specs.Apply.{frame_of, HasDeclaredLengths, Applies, Refuses}
 use Rattle.card_typing.specs.declared.fault.CardFault.{CardFault}
 use Rattle.card_typing.specs.declared.fault.CardKind.{CardKind}
 use Rattle.card_typing.specs.declared.fault.CardKind.TheVariants.{Code, Rule, StackAtTarget, StackAtBranch, HandlerEntered, BadTarget, FallsOff, BadHandler, BadIndex, NotIndexed}
@@ -22,11 +22,11 @@ use Rattle.card_verify.specs.Walk.{IsVerifier, HasSlices, IsLanded, IsMislanded,
 use Rattle.card_verify.proofs.Landing.{no-cells}
 
 module _ (v : Verifier) (is : IsVerifier v) where
-  pub has-room : (regs stack : List Ty) (depth : ℕ) → HasSlices v regs stack → depth ≤ v.rec.now.max_stack → IsSomeAnd (slice_get (world_of v).methods v.number) (λ m. HasRoom m regs stack depth)
+  pub has-room : (regs stack : List Ty) (depth : ℕ) → HasSlices v regs stack → depth ≤ v.rec.now.max_stack → IsSomeAnd (slice_get (world_of v).methods v.number) (λ m. HasDeclaredLengths m regs stack depth)
   has-room regs stack depth slices le =
-      subst (λ (o : Option MethodRec). IsSomeAnd o (λ m. HasRoom m regs stack depth)) (sym is.known.rec) (record { registers = slices.registers; cells = slices.cells; within = le })
+      subst (λ (o : Option MethodRec). IsSomeAnd o (λ m. HasDeclaredLengths m regs stack depth)) (sym is.known.rec) (record { registers = slices.registers; cells = slices.cells; within = le })
 
-  module _ (i : Placed) (there : Stands (method v).code i) (regs stack regs_after stack_after : List Ty) (depth : ℕ) (long : length stack_after ≡ v.rec.now.max_stack)
+  module _ (i : Placed) (there : HasInstruction (method v).code i) (regs stack regs_after stack_after : List Ty) (depth : ℕ) (long : length stack_after ≡ v.rec.now.max_stack)
       (suits : IsOpenTo (method v) i.place (cells stack depth)) where
     pub fail-rule : (fault : RuleFault) → depth ≤ v.rec.now.max_stack → (regs_after ≡ regs) × (stack_after ≡ stack)
         → Refuses (world_of v) (record { method = v.number; place = i.place }) i.insn (frame_of regs stack depth) fault

@@ -9,12 +9,13 @@ use Rattle.jc_base.specs.World.{Linked}
 use Rattle.jc_decode.specs.declared.insn.Placed.{Placed}
 use Rattle.jc_decode.specs.Listing.{falls, listing, Lists, end_from}
 use Rattle.jc_control.specs.Method.{Method}
-use Rattle.jc_control.specs.WellFormed.{Stands}
+use Rattle.jc_control.specs.WellFormed.{HasInstruction}
 use Rattle.jc_decode.specs.Laws.{AreListed}
 use Rattle.jc_rules.specs.declared.rule.Outcome.{Outcome}
 use Rattle.jc_rules.specs.Demand.{AreKnown}
 use Rattle.jc_rules.specs.Stack.{cells}
 use Rattle.jc_rules.specs.Apply.{frame_of}
+use Rattle.jc_rules.proofs.Stacks.{length-cells}
 use Rattle.card_typing.specs.declared.fault.CardFault.{CardFault}
 use Rattle.card_typing.specs.Place.{IsFallenInto, fallen_first, fallen_from}
 use Rattle.card_typing.specs.Met.{Arrives, arrives_falling, arrives_empty, arrives_caught, arrives_full, IsPassed, GoesTo, goes_there, goes_again, IsMet, met_next}
@@ -23,7 +24,6 @@ use Rattle.card_typing.specs.Pass.{IsQuiet, quiet_end, quiet_more}
 use Rattle.card_verify.specs.declared.verifier.Verifier.{Verifier}
 use Rattle.card_verify.specs.declared.pass.Arrival.{Arrival}
 use Rattle.card_verify.specs.Verifier.{method, world_of}
-use Rattle.card_verify.proofs.Landing.{cells-length}
 use Rattle.card_verify.specs.Walk.{IsVerifier, IsComing, IsVisited, IsStopped, IsBegun, IsRaisedBy, IsSettled, IsProgress}
 
 -- ---- lists of instructions
@@ -33,20 +33,16 @@ pub at-end : (code : List ℕ) (at : ℕ) (before : List Placed) (i : Placed) (a
 at-end code at [] i after l = l.0
 at-end code at (p ∷ ps) i after l = at-end code (at + p.insn.len) ps i after l.2
 
-pub end-after : (at : ℕ) (before : List Placed) (i : Placed) → end_from at (before ++ i ∷ []) ≡ end_from at before + i.insn.len
-end-after at [] i = refl
-end-after at (p ∷ ps) i = end-after (at + p.insn.len) ps i
-
 -- ---- places that are not fallen into
 
-module _ (m : Method) (order : AreListed m.code) (i : Placed) (there : Stands m.code i) where
+module _ (m : Method) (order : AreListed m.code) (i : Placed) (there : HasInstruction m.code i) where
   long : 0 < i.insn.len
   long = order.long i.place i.insn (order.decodes i there)
 
   pub inside : i.place < length m.code
   inside = let w = order.within i there in let l = long in omega (arith, w, l)
 
-  same-place : (j : Placed) → Stands m.code j → j.place + j.insn.len ≡ i.place + i.insn.len → j.place ≡ i.place
+  same-place : (j : Placed) → HasInstruction m.code j → j.place + j.insn.len ≡ i.place + i.insn.len → j.place ≡ i.place
   same-place j here e = ⊎_elim (λ before. earlier before) (λ le. ⊎_elim (λ later. absurd (after later)) (λ ge. omega arith) (cases_lt i.place j.place)) (cases_lt j.place i.place)
     where
       earlier : j.place < i.place → j.place ≡ i.place
@@ -99,7 +95,7 @@ module _ (v : Verifier) (is : IsVerifier v) where
       by _ given (goes_again e) a = begun.met given (subst (λ (b : Bool). Arrives (world_of v) m b [] 0 given) falling a)
 
   pub coming-next :
-      (i : Placed) (there : Stands m.code i) (before after : Arrival) (regs stack regs_after stack_after : List Ty) (o : Outcome)
+      (i : Placed) (there : HasInstruction m.code i) (before after : Arrival) (regs stack regs_after stack_after : List Ty) (o : Outcome)
       → after.may_fall ≡ falls i.insn.op
       → after.depth ≡ o.depth
       → IsComing v i.place before regs stack
@@ -133,13 +129,13 @@ module _ (v : Verifier) (is : IsVerifier v) where
 
   -- what is wrong at a place to which a walk has come
   pub refused-at :
-      (i : Placed) (there : Stands m.code i) (arrival : Arrival) (regs stack regs_after stack_after : List Ty) (fault : CardFault)
+      (i : Placed) (there : HasInstruction m.code i) (arrival : Arrival) (regs stack regs_after stack_after : List Ty) (fault : CardFault)
       → IsComing v i.place arrival regs stack
       → IsStopped v i arrival regs stack regs_after stack_after fault
       → IsRefused (world_of v) m fault (frame_of regs_after stack_after fault.depth)
   refused-at i there arrival regs stack regs_after stack_after fault coming stopped =
       let f = stopped.fails in
-      let deep = sym (cells-length stack_after fault.depth f.within) in
+      let deep = sym (length-cells stack_after fault.depth f.within) in
       let met = coming.met i.place stopped.given (goes_there (inside m (is.order m.code) i there)) stopped.arrives in
       let same : record { place = i.place; depth = length (cells stack_after fault.depth); kind = fault.kind } ≡ fault =
       ap (λ (n : ℕ). record { place = n; depth = length (cells stack_after fault.depth); kind = fault.kind }) (sym f.place)
@@ -198,12 +194,12 @@ module _ (v : Verifier) (is : IsVerifier v) where
   next-place yielded rest i after whole e =
       at-end m.code 0 yielded i after (subst (Lists m.code 0) (sym (ap (λ (r : List Placed). yielded ++ r) (sym e) ∙ whole)) (is.order m.code).lists)
 
-  pub next-stands : (yielded rest : List Placed) (i : Placed) (after : List Placed) → yielded ++ rest ≡ listing m.code → rest ≡ i ∷ after → Stands m.code i
+  pub next-stands : (yielded rest : List Placed) (i : Placed) (after : List Placed) → yielded ++ rest ≡ listing m.code → rest ≡ i ∷ after → HasInstruction m.code i
   next-stands yielded rest i after whole e =
       subst (λ (xs : List Placed). Contains xs i) (ap (λ (r : List Placed). yielded ++ r) (sym e) ∙ whole) (Contains-append_right yielded (i ∷ after) i (0, omega arith, refl))
 
   -- the types of the state that is met
-  pub known-here : (i : Placed) → Stands m.code i → (arrival : Arrival) (regs stack given : List Ty) → IsComing v i.place arrival regs stack
+  pub known-here : (i : Placed) → HasInstruction m.code i → (arrival : Arrival) (regs stack given : List Ty) → IsComing v i.place arrival regs stack
       → Arrives (world_of v) m arrival.may_fall (cells stack arrival.depth) i.place given → AreKnown (world_of v).classes (record { regs = regs; stack = given })
   known-here i there arrival regs stack given coming a =
       (is.sound m i.place (record { regs = regs; stack = given }) is.known (coming.met i.place given (goes_there (inside m (is.order m.code) i there)) a)).known

@@ -1,7 +1,7 @@
 ghost use Rattle.std.specs.Prelude.{◌≡◌, ◌||◌, ◌+◌, ◌<◌, ◌≤◌, [], ◌∷◌, length, All, IsTrue, IfOk, IfErr, IfNone, IfSome, MatchBool};
 ghost use Rattle.jc_base.specs.Order.{IsKnown};
 ghost use Rattle.jc_decode.specs.Listing.{falls, jumps};
-ghost use Rattle.jc_control.specs.WellFormed.{Stands};
+ghost use Rattle.jc_control.specs.WellFormed.{HasInstruction};
 ghost use Rattle.jc_rules.specs.Stack.{cells};
 ghost use Rattle.jc_rules.specs.Apply.{frame_of};
 ghost use Rattle.card_typing.specs.Place.{IsEntry, IsFallenInto};
@@ -83,7 +83,7 @@ impl Verifier<'_> {
         requires verifier { IsVerifier self.now }
         requires ahead { IsAhead (method self.now) ahead }
         requires here { ahead.from ≡ placed.place }
-        requires stands { Stands (method self.now).code placed }
+        requires stands { HasInstruction (method self.now).code placed }
         requires coming { IsComing self.now placed.place arrival regs.old stack.old }
         ensures passed { IfOk result (λ o. IsVisited self.now placed arrival regs.old stack.old regs.new stack.new o) }
         ensures stopped { IfErr result (λ fault. IsStopped self.now placed arrival regs.old stack.old regs.new stack.new fault) }
@@ -179,7 +179,7 @@ impl Verifier<'_> {
         depth: u8,
     ) -> Result<Outcome, CardFault>
         requires verifier { IsVerifier self.now }
-        requires stands { Stands (method self.now).code placed }
+        requires stands { HasInstruction (method self.now).code placed }
         requires slices { HasSlices self.now regs.old stack.old }
         requires depth { depth ≤ self.now.rec.now.max_stack }
         requires known { All (IsKnown (world_of self.now).classes) regs.old

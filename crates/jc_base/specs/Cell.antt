@@ -73,12 +73,12 @@ IsInitialHandle t arrays ty zero = ⊤
 IsInitialHandle t arrays ty (suc k) = IsSomeAnd (slice_get arrays k) (λ a. Below t a.kind ty)
 
 -- the initial words of a static field have its type
-abbrev pub AreWordsOf : ClassTable → List ArrayRec → Kind → Ty → List ℕ → Type 0
-AreWordsOf t arrays kinds.Ref ty (h ∷ []) = IsInitialHandle t arrays ty h
-AreWordsOf t arrays kinds.Byte ty (w ∷ []) = IsByteWord w
-AreWordsOf t arrays kinds.Short ty (w ∷ []) = ⊤
-AreWordsOf t arrays kinds.Int ty (high ∷ low ∷ []) = ⊤
-AreWordsOf t arrays _ ty _ = ⊥
+abbrev pub AreInitialWords : ClassTable → List ArrayRec → Kind → Ty → List ℕ → Type 0
+AreInitialWords t arrays kinds.Ref ty (h ∷ []) = IsInitialHandle t arrays ty h
+AreInitialWords t arrays kinds.Byte ty (w ∷ []) = IsByteWord w
+AreInitialWords t arrays kinds.Short ty (w ∷ []) = ⊤
+AreInitialWords t arrays kinds.Int ty (high ∷ low ∷ []) = ⊤
+AreInitialWords t arrays _ ty _ = ⊥
 
 -- the initial words of an array have the type of its elements; an int element takes two
 abbrev pub AreElementsOf : Ty → List ℕ → Type 0

@@ -1,8 +1,12 @@
 -- Numbers of two bytes, one after another, the high byte first: the entries of a target index.
-use Rattle.std.specs.Prelude.{ℕ, ◌+◌, ◌*◌, List, [], ◌∷◌}
+use Rattle.std.specs.Prelude.{ℕ, ◌+◌, ◌*◌, List, [], ◌∷◌, ◌≡◌, ◌<◌, Some, slice_get}
 
 -- an odd last byte is left out
 abbrev pub numbers : List ℕ → List ℕ
 numbers [] = []
 numbers (high ∷ []) = []
 numbers (high ∷ low ∷ bytes) = (high * 256 + low) ∷ numbers bytes
+
+-- each entry is above the one before it
+abbrev pub IsAscending : List ℕ → Type 0
+IsAscending index = (k p q : ℕ) → slice_get index k ≡ Some p → slice_get index (k + 1) ≡ Some q → p < q

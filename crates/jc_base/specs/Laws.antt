@@ -6,7 +6,7 @@ use Rattle.jc_base.specs.declared.ty.Ty.TheVariants.{Class}
 use Rattle.jc_base.specs.declared.record.MethodRec.{MethodRec}
 use Rattle.jc_base.specs.Class.{ClassTable, IsClass, height, object}
 use Rattle.jc_base.specs.Cell.{IsDeclared}
-use Rattle.jc_base.specs.Order.{Below, IsJoin, IsKnown, AreApart, rises_left, is_below, join_of}
+use Rattle.jc_base.specs.Order.{Below, IsJoin, IsKnown, IsAntisymmetric, rises_left, is_below, join_of}
 use Rattle.jc_base.specs.Dispatch.{IsConcrete, is_concrete, public_of, cells_of, signature_of}
 use Rattle.jc_base.specs.SameType.{same_type}
 use Rattle.jc_base.specs.Linked.{IsInherited}
@@ -15,7 +15,7 @@ use Rattle.jc_base.specs.Interface.{extended, IsOrExtends, Implements, is_or_ext
 -- the order of types is decided, and so are its joins; no two types are below each other, and none rises for ever
 pub record IsOrderOfTypes (t : ClassTable) : Type 0 where
   pub decided : (a b : Ty) → IsTrue (is_below t a b) ↔ Below t a b
-  pub apart : (a b : Ty) → AreApart t a b
+  pub apart : (a b : Ty) → IsAntisymmetric t a b
   pub seldom : (a : Ty) → rises_left t a ≤ height t + 3
   pub joins : (a b : Ty) → IsKnown t a → IsKnown t b → IsJoin t a b (join_of t a b)
   pub one_join : {a b j k : Ty} → IsJoin t a b j → IsJoin t a b k → j ≡ k

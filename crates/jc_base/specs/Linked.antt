@@ -14,7 +14,7 @@ use Rattle.jc_base.specs.declared.record.StaticRec.{StaticRec}
 use Rattle.jc_base.specs.declared.record.ArrayRec.{ArrayRec}
 use Rattle.jc_base.specs.Class.{ClassTable, IsClass, is_interface, parent_of, throwable, list_of}
 use Rattle.jc_base.specs.Order.{Below}
-use Rattle.jc_base.specs.Cell.{IsDeclared, AreWhole, IsFirstCell, IsOfKind, width, AreWordsOf}
+use Rattle.jc_base.specs.Cell.{IsDeclared, AreWhole, IsFirstCell, IsOfKind, width, AreInitialWords}
 use Rattle.jc_base.specs.Dispatch.{package_of, public_of, visible_of, cell_count, cells_of, entry_at, dispatched, signature_of, signature_at}
 
 -- ---- methods
@@ -148,7 +148,7 @@ pub record IsStatic (packages : ℕ) (t : ClassTable) (arrays : List ArrayRec) (
   pub home : f.package < packages
   pub ty : IsDeclared t f.ty
   pub kind : IsOfKind f.kind f.ty
-  pub words : AreWordsOf t arrays f.kind f.ty f.initial
+  pub words : AreInitialWords t arrays f.kind f.ty f.initial
 
 -- the cells of the static fields, in their order, follow one another from a cell on: so no two fields share one
 abbrev pub AreSlots : ℕ → List StaticRec → Type 0

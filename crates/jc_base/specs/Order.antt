@@ -64,8 +64,8 @@ abbrev pub StaysOrRises : ClassTable → Ty → Ty → Type 0
 StaysOrRises t a b = (a ≡ b) ⊎ (rises_left t b < rises_left t a)
 
 -- no two different types are below each other
-abbrev pub AreApart : ClassTable → Ty → Ty → Type 0
-AreApart t a b = Below t a b → Below t b a → a ≡ b
+abbrev pub IsAntisymmetric : ClassTable → Ty → Ty → Type 0
+IsAntisymmetric t a b = Below t a b → Below t b a → a ≡ b
 
 -- the join j of a and b is below the join of any types above them
 abbrev pub IsMonotone : ClassTable → Ty → Ty → Ty → Type 0

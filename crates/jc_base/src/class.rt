@@ -31,6 +31,7 @@ impl Classes {
         Classes { records, roles }
     }
 
+    /// How many classes and interfaces there are.
     pub fn len(&self) -> usize
         ensures { result ≡ length self.now.records }
     {
@@ -55,6 +56,7 @@ impl Classes {
         &self.records.as_slice()[n as usize]
     }
 
+    /// Whether a number is that of an interface.
     pub fn is_interface(&self, n: u16) -> bool
         requires { n < length self.now.records }
         ensures { result ≡ is_interface self.now n }

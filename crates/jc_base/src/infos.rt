@@ -36,6 +36,7 @@ impl<'a> Infos<'a> {
         Ok(())
     }
 
+    /// How many packages there are.
     pub fn len(&self) -> usize
         ensures { result ≡ length self.now }
     {

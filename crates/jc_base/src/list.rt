@@ -52,6 +52,7 @@ impl<T> Items<T> {
         Items { items }
     }
 
+    /// How many elements there are.
     pub fn len(&self) -> usize
         ensures { result ≡ length self.now }
     {

@@ -1,6 +1,6 @@
 ghost use Rattle.std.specs.Prelude.{◌≡◌, ◌+◌, ◌==◌, ◌&&◌, ◌↔◌, ◌≤◌, length, All, IsTrue};
 ghost use Rattle.jc_base.specs.Class.{IsClass, chain, height, object};
-ghost use Rattle.jc_base.specs.Order.{Below, IsJoin, IsJoinOf, IsKnown, StaysOrRises, AreApart, IsMonotone, rises_left, is_below, is_on_chain, is_reference, is_above_arrays, common, join_of, join_of_all, join_of_others};
+ghost use Rattle.jc_base.specs.Order.{Below, IsJoin, IsJoinOf, IsKnown, StaysOrRises, IsAntisymmetric, IsMonotone, rises_left, is_below, is_on_chain, is_reference, is_above_arrays, common, join_of, join_of_all, join_of_others};
 
 use crate::class::Classes;
 use crate::ty::Ty;
@@ -13,7 +13,7 @@ pub fn below(classes: &Classes, a: Ty, b: Ty) -> bool
     ensures is { IsTrue result ↔ Below classes.now a b }
     ensures computed { result ≡ is_below classes.now a b }
     // No two different types are below each other.
-    ensures apart { AreApart classes.now a b }
+    ensures apart { IsAntisymmetric classes.now a b }
     // A type rises at most as often as its class chains are long, and three times more.
     ensures rises { IsTrue result → StaysOrRises classes.now a b }
     ensures seldom { rises_left classes.now a ≤ height classes.now + 3 }

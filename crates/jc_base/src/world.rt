@@ -118,6 +118,7 @@ impl<'a> World<'a> {
         self.pools.at(package as usize)
     }
 
+    /// How many packages there are: 16 at most.
     pub fn package_count(&self) -> u16
         ensures is { result ≡ length self.now.infos }
         ensures most { result ≤ 16 }
@@ -125,6 +126,7 @@ impl<'a> World<'a> {
         self.infos.len() as u16
     }
 
+    /// How many classes and interfaces all packages have: 4,096 at most.
     pub fn class_count(&self) -> u16
         ensures is { result ≡ length self.now.classes.records }
         ensures most { result ≤ 4096 }
@@ -132,6 +134,7 @@ impl<'a> World<'a> {
         self.classes.len() as u16
     }
 
+    /// How many methods all packages have: 32,768 at most.
     pub fn method_count(&self) -> u16
         ensures is { result ≡ length self.now.methods }
         ensures most { result ≤ 32768 }
@@ -139,6 +142,7 @@ impl<'a> World<'a> {
         self.methods.len() as u16
     }
 
+    /// How many static fields all packages have: 32,768 at most.
     pub fn static_count(&self) -> u16
         ensures is { result ≡ length self.now.statics }
         ensures most { result ≤ 32768 }
@@ -146,6 +150,7 @@ impl<'a> World<'a> {
         self.statics.len() as u16
     }
 
+    /// How many initial arrays all packages have: 4,096 at most.
     pub fn array_count(&self) -> u16
         ensures is { result ≡ length self.now.arrays }
         ensures most { result ≤ 4096 }
@@ -161,6 +166,7 @@ impl<'a> World<'a> {
         self.pool(package).len() as u16
     }
 
+    /// The class or interface of this number.
     pub fn class(&self, n: u16) -> &ClassRec
         requires { n < length self.now.classes.records }
         ensures is { slice_get self.now.classes.records n ≡ Some result.now }
@@ -180,6 +186,7 @@ impl<'a> World<'a> {
         is_concrete(&self.classes, &self.methods, class)
     }
 
+    /// The method of this number.
     pub fn method(&self, n: u16) -> &MethodRec
         requires { n < length self.now.methods }
         ensures is { slice_get self.now.methods n ≡ Some result.now }
@@ -198,6 +205,7 @@ impl<'a> World<'a> {
         *self.pool(package).at(pool as usize)
     }
 
+    /// The static field of this number.
     pub fn static_field(&self, n: u16) -> &StaticRec
         requires { n < length self.now.statics }
         ensures is { slice_get self.now.statics n ≡ Some result.now }
@@ -206,6 +214,7 @@ impl<'a> World<'a> {
         self.statics.at(n as usize)
     }
 
+    /// The initial array of this number; its handle is one more.
     pub fn array(&self, n: u16) -> &ArrayRec
         requires { n < length self.now.arrays }
         ensures is { slice_get self.now.arrays n ≡ Some result.now }

@@ -9,84 +9,62 @@ use Rattle.jc_decode.specs.declared.insn.Insn.{Insn}
 use Rattle.jc_decode.specs.declared.insn.Placed.{Placed}
 use Rattle.jc_decode.specs.declared.insn.CodeEnd.{CodeEnd}
 use Rattle.jc_decode.specs.Decoding.{decoded}
-use Rattle.jc_decode.specs.Listing.{listing, listing_end, end_from, falls, targets, Lists}
+use Rattle.jc_decode.specs.Listing.{listing, listing_end, falls, targets}
 use Rattle.jc_decode.specs.Laws.{AreListed, InstructionsAreListed}
-use Rattle.jc_decode.proofs.Elements.{nothing-in, Contains-either, Contains-first, Contains-later}
+use Rattle.jc_decode.proofs.Decoded.{ok-same}
+use Rattle.jc_decode.proofs.Elements.{nothing-in}
+use Rattle.jc_decode.proofs.Listed.{next-in, first-in}
 use Rattle.jc_control.specs.Method.{Method}
-use Rattle.jc_control.specs.WellFormed.{Stands, IsPlace, IsTargetPlace, IsBoundary, IsHandlerOf, IsWellFormed}
+use Rattle.jc_control.specs.WellFormed.{HasInstruction, IsPlace, IsTargetPlace, IsBoundary, IsHandlerOf, IsWellFormed}
 use Rattle.jc_control.specs.Control.{IsSuccessor, falls_through, jumped, Covers, IsReached, begins, follows, caught, IsLeader, led_to, entered}
 use Rattle.jc_control.specs.declared.traversal.Traversal.{Traversal}
 use Rattle.jc_control.specs.Flags.{IsFlagged}
 use Rattle.jc_control.specs.Listing.{Listed, IsListingOf}
-use Rattle.jc_control.specs.Places.{BeginsIn}
 use Rattle.jc_control.specs.Traversal.{Grows, IsSound, IsLedTo, IsCaught, IsClosedAt, IsClosed, IsDone, found}
 use Rattle.jc_control.specs.ControlFlow.{IsControlFlow}
 use Rattle.jc_control.specs.Laws.{InstructionsArePlaced}
 use Rattle.jc_control.proofs.Marked.{flag-none}
 
-one-insn : (i j : Insn) (r : Result Insn CodeEnd) → r ≡ Ok i → r ≡ Ok j → i ≡ j
-one-insn i j r h k = cc
-
 -- ---- control reaches instructions, and at most the end
-
-next-in : (code : List ℕ) (at : ℕ) (ps : List Placed) (i : Placed) → Lists code at ps → Contains ps i → (i.place + i.insn.len ≡ end_from at ps) ⊎ BeginsIn ps (i.place + i.insn.len)
-next-in code at [] i l c = absurd (nothing-in i c)
-next-in code at (p ∷ ps) i l c =
-    ⊎_elim (λ here. this here ps l.2) (λ later. on (next-in code (at + p.insn.len) ps i l.2 later)) (Contains-either p ps i c)
-  where
-    here-end : p ≡ i → i.place + i.insn.len ≡ at + p.insn.len
-    here-end here = let place = ap (λ (q : Placed). q.place) here in let len = ap (λ (q : Placed). q.insn.len) here in omega (arith, l.0)
-
-    this : p ≡ i → (qs : List Placed) → Lists code (at + p.insn.len) qs → (i.place + i.insn.len ≡ end_from (at + p.insn.len) qs) ⊎ BeginsIn (p ∷ qs) (i.place + i.insn.len)
-    this here [] rest = inl (here-end here)
-    this here (q ∷ qs) rest = inr (q, Contains-later p (q ∷ qs) q (Contains-first q qs), rest.0 ∙ sym (here-end here))
-
-    on : (i.place + i.insn.len ≡ end_from (at + p.insn.len) ps) ⊎ BeginsIn ps (i.place + i.insn.len) → (i.place + i.insn.len ≡ end_from (at + p.insn.len) ps) ⊎ BeginsIn (p ∷ ps) (i.place + i.insn.len)
-    on (inl end) = inl end
-    on (inr b) = inr (b.0, Contains-later p ps b.0 b.1, b.2)
-
-first-in : (code : List ℕ) (ps : List Placed) → Lists code 0 ps → (0 ≡ end_from 0 ps) ⊎ BeginsIn ps 0
-first-in code [] l = inl refl
-first-in code (p ∷ ps) l = inr (p, Contains-first p ps, l.0)
 
 module _ (m : Method) (law : AreListed m.code) (w : IsWellFormed m) where
   at-end : (p : ℕ) → (p ≡ listing_end m.code) ⊎ IsPlace m.code p → IsBoundary m.code p
   at-end p (inl end) = inl (end ∙ w.ends)
   at-end p (inr place) = inr place
 
-  target-boundary : (i : Placed) (q : ℕ) → Stands m.code i → IsSuccessor m.code i q → IsBoundary m.code q
-  target-boundary i _ there (falls_through goes) = at-end (i.place + i.insn.len) (next-in m.code 0 (listing m.code) i law.lists there)
+  target-boundary : (i : Placed) (q : ℕ) → HasInstruction m.code i → IsSuccessor m.code i q → IsBoundary m.code q
+  target-boundary i _ there (falls_through goes) = at-end (i.place + i.insn.len) (next-in (decoded m.code) 0 (listing m.code) i law.lists there)
   target-boundary i q there (jumped among) = inr (All-contains (IsTargetPlace m.code) (targets m.code i) (pos q) (w.targets i there) among)
 
-  next-boundary : (i : Placed) → Stands m.code i → IsBoundary m.code (i.place + i.insn.len)
-  next-boundary i there = at-end (i.place + i.insn.len) (next-in m.code 0 (listing m.code) i law.lists there)
+  next-boundary : (i : Placed) → HasInstruction m.code i → IsBoundary m.code (i.place + i.insn.len)
+  next-boundary i there = at-end (i.place + i.insn.len) (next-in (decoded m.code) 0 (listing m.code) i law.lists there)
 
   -- where the code goes on, an instruction begins after each
-  pub place-after : (i : Placed) → Stands m.code i → i.place + i.insn.len < length m.code → IsPlace m.code (i.place + i.insn.len)
+  pub place-after : (i : Placed) → HasInstruction m.code i → i.place + i.insn.len < length m.code → IsPlace m.code (i.place + i.insn.len)
   place-after i there inside = ⊎_elim (λ end. absurd (omega (arith, end))) (λ place. place) (next-boundary i there)
 
   -- and one begins at place 0
   pub place-first : 0 < length m.code → IsPlace m.code 0
-  place-first filled = ⊎_elim (λ end. absurd (omega (arith, end))) (λ place. place) (at-end 0 (first-in m.code (listing m.code) law.lists))
+  place-first filled = ⊎_elim (λ end. absurd (omega (arith, end))) (λ place. place) (at-end 0 (first-in (decoded m.code) 0 (listing m.code) law.lists))
 
   reached-boundary : (p : ℕ) → IsReached m p → IsBoundary m.code p
-  reached-boundary _ begins = at-end 0 (first-in m.code (listing m.code) law.lists)
+  reached-boundary _ begins = at-end 0 (first-in (decoded m.code) 0 (listing m.code) law.lists)
   reached-boundary _ (follows {i = i} {q = q} there r succ) = target-boundary i q there succ
   reached-boundary _ (caught {h = h} r there covers) = inr ((All-contains (IsHandlerOf m.code) m.rec.handlers h w.handlers there).entry)
 
   -- an instruction that is decoded at a reached place stands there
-  pub stands-reached : (i : Placed) → IsReached m i.place → decoded m.code i.place ≡ Ok i.insn → Stands m.code i
+  pub stands-reached : (i : Placed) → IsReached m i.place → decoded m.code i.place ≡ Ok i.insn → HasInstruction m.code i
   stands-reached i r d = ⊎_elim at_end at_place (reached-boundary i.place r)
     where
-      at_end : i.place ≡ length m.code → Stands m.code i
+      at_end : i.place ≡ length m.code → HasInstruction m.code i
       at_end end = absurd (omega (arith, law.long i.place i.insn d, law.reaches i.place i.insn d))
 
-      at_place : IsPlace m.code i.place → Stands m.code i
+      at_place : IsPlace m.code i.place → HasInstruction m.code i
       at_place here =
           let found : decoded m.code i.place ≡ Ok here.0.insn = ap (decoded m.code) (sym here.2) ∙ law.decodes here.0 here.1 in
-          let insn : here.0.insn ≡ i.insn = one-insn here.0.insn i.insn (decoded m.code i.place) found d in
+          let insn : here.0.insn ≡ i.insn = ok-same here.0.insn i.insn (decoded m.code i.place) found d in
           let same : here.0 ≡ i = ap (λ (p : ℕ). record { place = p; insn = here.0.insn }) here.2 ∙ ap (λ (n : Insn). record { place = i.place; insn = n }) insn in
-          subst (Stands m.code) same here.1
+          subst (HasInstruction m.code) same here.1
 
   -- nothing follows the end
   pub closed-at-end : (s : Traversal) (p : ℕ) (e : CodeEnd) → IsReached m p → decoded m.code p ≡ Err e → IsClosedAt m s p
@@ -96,7 +74,7 @@ module _ (m : Method) (law : AreListed m.code) (w : IsWellFormed m) where
     catches = λ h there covers. absurd (uncovered h there covers);
   }
     where
-      none : (i : Placed) → Stands m.code i → i.place ≡ p → ⊥
+      none : (i : Placed) → HasInstruction m.code i → i.place ≡ p → ⊥
       none i there here = let found = law.decodes i there in let other : decoded m.code i.place ≡ Err e = ap (decoded m.code) here ∙ d in cc
 
       inside : (h : Handler) → IsHandlerOf m.code h → h.end ≤ length m.code
@@ -108,7 +86,7 @@ module _ (m : Method) (law : AreListed m.code) (w : IsWellFormed m) where
           ⊎_elim (λ end. let within = inside h formed in let before = covers.before in absurd (omega arith)) (λ place. none place.0 place.1 place.2) (reached-boundary p r)
 
 -- what the three steps from an instruction find is all that follows it
-pub closed-after : (m : Method) → AreListed m.code → (a b c : Traversal) (i : Placed) → Grows a b → Grows b c → Stands m.code i
+pub closed-after : (m : Method) → AreListed m.code → (a b c : Traversal) (i : Placed) → Grows a b → Grows b c → HasInstruction m.code i
     → (IsTrue (falls i.insn.op) → IsFlagged a.reached (i.place + i.insn.len)) → All (IsLedTo b) (targets m.code i) → All (IsCaught c i.place) m.rec.handlers → IsClosedAt m c i.place
 closed-after m law a b c i g h stands fell led entries = record {
   follows = λ j q there here succ. goes q (subst (λ (k : Placed). IsSuccessor m.code k q) (law.one j i there stands here) succ);

@@ -6,7 +6,7 @@ use Rattle.std.proofs.lemmas.List.Elements.{All-contains}
 use Rattle.jc_decode.specs.declared.insn.Placed.{Placed}
 use Rattle.jc_decode.specs.Listing.{listing, listing_end, targets}
 use Rattle.jc_control.specs.Method.{Method}
-use Rattle.jc_control.specs.WellFormed.{Stands, IsTargetPlace, IsHandlerOf, IsWellFormed}
+use Rattle.jc_control.specs.WellFormed.{HasInstruction, IsTargetPlace, IsHandlerOf, IsWellFormed}
 use Rattle.jc_control.specs.declared.flaw.Flaw.{Flaw}
 use Rattle.jc_control.specs.Flaw.{Spot, in_code, in_table, ComesBefore, IsFlaw, flaw_target, flaw_end, flaw_handler, IsFirstFlaw}
 use Rattle.jc_control.specs.FirstFailing.{IsFirstFailing}
@@ -17,7 +17,7 @@ use Rattle.jc_control.proofs.Elements.{slice_get-in, taken-in}
 
 module _ (m : Method) (law : AreListed m.code) where
   -- an instruction before the first that leads astray leads to places
-  earlier-leads : (n : ℕ) (from : Placed) → IsFirstFailing (LeadsToPlaces m.code) (listing m.code) n from → (i : Placed) → Stands m.code i → i.place < from.place → LeadsToPlaces m.code i
+  earlier-leads : (n : ℕ) (from : Placed) → IsFirstFailing (LeadsToPlaces m.code) (listing m.code) n from → (i : Placed) → HasInstruction m.code i → i.place < from.place → LeadsToPlaces m.code i
   earlier-leads n from first i s before =
       let at = slice_get-Contains (listing m.code) i s in
       ⊎_elim (λ lower. taken-in (LeadsToPlaces m.code) (listing m.code) at.0 n i first.before lower at.1)
@@ -38,7 +38,7 @@ module _ (m : Method) (law : AreListed m.code) where
     least = none-before;
   })
     where
-      stands : Stands m.code s.from
+      stands : HasInstruction m.code s.from
       stands = Contains-slice_get (listing m.code) s.number s.from s.instruction.here
 
       none-before : (other : Spot) (g : Flaw) → IsFlaw m other g → ¬ ComesBefore other (in_code s.from.place s.target_number)
@@ -54,7 +54,7 @@ module _ (m : Method) (law : AreListed m.code) where
 
 module _ (m : Method) where
   -- where all instructions lead to places no target is a flaw
-  no-stray : All (LeadsToPlaces m.code) (listing m.code) → (i : Placed) (k : ℕ) (t : ℤ) → Stands m.code i → slice_get (targets m.code i) k ≡ Some t → IsTargetPlace m.code t
+  no-stray : All (LeadsToPlaces m.code) (listing m.code) → (i : Placed) (k : ℕ) (t : ℤ) → HasInstruction m.code i → slice_get (targets m.code i) k ≡ Some t → IsTargetPlace m.code t
   no-stray all i k t there get = slice_get-in (IsTargetPlace m.code) (targets m.code i) k t (All-contains (LeadsToPlaces m.code) (listing m.code) i all there) get
 
   pub stop-first : (f : Flaw) → All (LeadsToPlaces m.code) (listing m.code) → IsStop m.code f → IsFirstFlaw m f

@@ -1,23 +1,23 @@
 -- A method is well formed exactly where it has no flaw, and has at most one first flaw.
-use Rattle.std.proofs.Common.{◌≡◌, ◌<◌, ◌≤◌, ◌⊎◌, inl, inr, ⊎_elim, ℕ, Some, Result, Ok, Err, List, [], ◌∷◌, length, get_or, refl, sym, ap, ◌∙◌, subst, arith, rules, All}
-use Rattle.std.specs.Prelude.{ℤ, pos, negsuc, slice_get, IsErr}
+use Rattle.std.proofs.Common.{◌≡◌, ◌<◌, ◌≤◌, ◌⊎◌, inl, inr, ⊎_elim, ℕ, Some, Err, List, [], ◌∷◌, length, get_or, refl, sym, ap, ◌∙◌, subst, arith, All}
+use Rattle.std.specs.Prelude.{ℤ, pos, negsuc, slice_get}
 use Rattle.std.proofs.lemmas.Bool.{cases_lt, cases_eq}
 use Rattle.std.proofs.lemmas.Option.{slice_get-get_or}
 use Rattle.jc_base.specs.declared.record.Handler.{Handler}
-use Rattle.jc_decode.specs.declared.insn.Insn.{Insn}
 use Rattle.jc_decode.specs.declared.insn.Placed.{Placed}
 use Rattle.jc_decode.specs.declared.insn.CodeEnd.{CodeEnd}
 use Rattle.jc_decode.specs.Decoding.{decoded}
 use Rattle.jc_decode.specs.Listing.{listing, listing_end, targets}
 use Rattle.jc_control.specs.Method.{Method}
-use Rattle.jc_control.specs.WellFormed.{Stands, IsPlace, IsTargetPlace, IsBoundary, IsHandlerOf, IsWellFormed}
+use Rattle.jc_control.specs.WellFormed.{HasInstruction, IsPlace, IsTargetPlace, IsBoundary, IsHandlerOf, IsWellFormed}
 use Rattle.jc_control.specs.declared.flaw.Flaw.{Flaw}
 use Rattle.jc_control.specs.declared.flaw.Flaw.TheVariants.{Code, BadTarget, BadHandler}
 use Rattle.jc_control.specs.Flaw.{Spot, in_code, in_table, ComesBefore, IsFlaw, flaw_target, flaw_end, flaw_handler, IsFirstFlaw}
-use Rattle.jc_control.specs.Places.{BeginsIn}
+use Rattle.jc_decode.specs.Places.{BeginsIn}
 use Rattle.jc_control.specs.Laws.{FlawsDecide, FirstFlawIsOne}
 use Rattle.jc_decode.specs.Laws.{AreListed, InstructionsAreListed}
 use Rattle.jc_decode.proofs.Elements.{Contains-either, Contains-first, Contains-later, nothing-in}
+use Rattle.jc_decode.proofs.Listed.{err-of}
 use Rattle.jc_control.proofs.Elements.{slice_get-in}
 
 -- ---- each condition holds or does not
@@ -70,10 +70,6 @@ flawless m w _ _ (flaw_target i n t there get astray) = astray (slice_get-in (Is
 flawless m w _ _ (flaw_end end goes_on why) = goes_on w.ends
 flawless m w _ _ (flaw_handler n h get bad) = bad (slice_get-in (IsHandlerOf m.code) m.rec.handlers n h w.handlers get)
 
-err-of : (r : Result Insn CodeEnd) → IsErr r → (e : CodeEnd) × (r ≡ Err e)
-err-of (Ok i) h = absurd (search rules)
-err-of (Err e) h = (e, refl)
-
 well-formed : (m : Method) → AreListed m.code → ((spot : Spot) (f : Flaw) → ¬ IsFlaw m spot f) → IsWellFormed m
 well-formed m law none = record {
   ends = ⊎_elim (λ same. same) (λ other. let why = err-of (decoded m.code (listing_end m.code)) law.stops in absurd (none _ _ (flaw_end why.0 other why.1))) (cases_eq (listing_end m.code) (length m.code));
@@ -90,7 +86,7 @@ module _ (m : Method) where
   record AtTarget (p n : ℕ) (f : Flaw) : Type 0 where
     from : Placed
     target : ℤ
-    stands : Stands m.code from
+    stands : HasInstruction m.code from
     here : from.place ≡ p
     get : slice_get (targets m.code from) n ≡ Some target
     is : f ≡ BadTarget p target

@@ -7,7 +7,7 @@ use Rattle.std.proofs.lemmas.List.{get_or-replicate, get_or_past, length-replica
 use Rattle.std.proofs.lemmas.List.Elements.{Contains-append_left, Contains-push, Contains-push_cases}
 use Rattle.jc_decode.specs.declared.insn.Placed.{Placed}
 use Rattle.jc_control.specs.Flags.{flag, IsFlagged, Marks}
-use Rattle.jc_control.specs.Places.{BeginsIn}
+use Rattle.jc_decode.specs.Places.{BeginsIn}
 use Rattle.jc_decode.proofs.Elements.{nothing-in}
 
 pub flag-none : (n p : ℕ) → flag (replicate n false) p ≡ false

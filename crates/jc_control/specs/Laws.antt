@@ -4,7 +4,7 @@ use Rattle.jc_base.specs.declared.record.Handler.{Handler}
 use Rattle.jc_decode.specs.declared.insn.Placed.{Placed}
 use Rattle.jc_decode.specs.Decoding.{decoded}
 use Rattle.jc_control.specs.Method.{Method}
-use Rattle.jc_control.specs.WellFormed.{Stands, IsPlace, IsBoundary, IsWellFormed}
+use Rattle.jc_control.specs.WellFormed.{HasInstruction, IsPlace, IsBoundary, IsWellFormed}
 use Rattle.jc_control.specs.Control.{IsReached, IsLeader, IsLive}
 use Rattle.jc_control.specs.declared.flaw.Flaw.{Flaw}
 use Rattle.jc_control.specs.Flaw.{Spot, IsFlaw, IsFirstFlaw}
@@ -21,9 +21,9 @@ FirstFlawIsOne = (m : Method) (f g : Flaw) → IsFirstFlaw m f → IsFirstFlaw m
 -- that control reaches the one that is decoded there, or the end
 pub record ArePlaced (m : Method) : Type 0 where
   pub first : 0 < length m.code → IsPlace m.code 0
-  pub next : (i : Placed) → Stands m.code i → IsBoundary m.code (i.place + i.insn.len)
+  pub next : (i : Placed) → HasInstruction m.code i → IsBoundary m.code (i.place + i.insn.len)
   pub reached : (p : ℕ) → IsReached m p → IsBoundary m.code p
-  pub decoded : (i : Placed) → IsReached m i.place → decoded m.code i.place ≡ Ok i.insn → Stands m.code i
+  pub decoded : (i : Placed) → IsReached m i.place → decoded m.code i.place ≡ Ok i.insn → HasInstruction m.code i
 
 abbrev pub InstructionsArePlaced : Type 0
 InstructionsArePlaced = (m : Method) → IsWellFormed m → ArePlaced m

@@ -10,7 +10,6 @@ pub mod Known
 pub mod Walk
 pub mod ControlFlow
 pub mod Subject
-pub mod Places
 pub mod FirstFailing
 pub mod Scan
 pub mod Targets

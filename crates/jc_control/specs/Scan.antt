@@ -5,6 +5,7 @@ use Rattle.jc_decode.specs.declared.insn.Placed.{Placed}
 use Rattle.jc_decode.specs.declared.insn.CodeEnd.{CodeEnd}
 use Rattle.jc_decode.specs.Decoding.{decoded}
 use Rattle.jc_decode.specs.Listing.{listing, listing_end, targets}
+use Rattle.jc_decode.specs.Places.{LeadsInto}
 use Rattle.jc_control.specs.WellFormed.{IsTargetPlace, IsHandlerOf}
 use Rattle.jc_control.specs.declared.flaw.Flaw.{Flaw}
 use Rattle.jc_control.specs.declared.flaw.Flaw.TheVariants.{Code, BadTarget, BadHandler}
@@ -12,7 +13,7 @@ use Rattle.jc_control.specs.FirstFailing.{IsFirstFailing}
 
 -- each target of the instruction is the place of an instruction
 abbrev pub LeadsToPlaces : List ℕ → Placed → Type 0
-LeadsToPlaces code i = All (IsTargetPlace code) (targets code i)
+LeadsToPlaces code i = LeadsInto code (listing code) i
 
 -- the first instruction with a target that is no place, and the first such target
 pub record IsFirstStray (code : List ℕ) (f : Flaw) : Type 0 where

@@ -4,7 +4,7 @@ use Rattle.jc_base.specs.declared.record.Handler.{Handler}
 use Rattle.jc_decode.specs.declared.insn.Placed.{Placed}
 use Rattle.jc_decode.specs.Listing.{targets}
 use Rattle.jc_control.specs.Method.{Method}
-use Rattle.jc_control.specs.WellFormed.{Stands}
+use Rattle.jc_control.specs.WellFormed.{HasInstruction}
 use Rattle.jc_control.specs.Control.{IsSuccessor, Covers, IsReached, IsLeader}
 use Rattle.jc_control.specs.declared.traversal.Traversal.{Traversal}
 use Rattle.jc_control.specs.Flags.{flag, IsFlagged}
@@ -82,8 +82,8 @@ IsCaught s place h = Covers h place → IsLed s h.entry
 
 -- all that follows a place is found
 pub record IsClosedAt (m : Method) (s : Traversal) (place : ℕ) : Type 0 where
-  pub follows : (i : Placed) (q : ℕ) → Stands m.code i → i.place ≡ place → IsSuccessor m.code i q → IsFlagged s.reached q
-  pub leads : (i : Placed) (q : ℕ) → Stands m.code i → i.place ≡ place → Contains (targets m.code i) (pos q) → IsFlagged s.leaders q
+  pub follows : (i : Placed) (q : ℕ) → HasInstruction m.code i → i.place ≡ place → IsSuccessor m.code i q → IsFlagged s.reached q
+  pub leads : (i : Placed) (q : ℕ) → HasInstruction m.code i → i.place ≡ place → Contains (targets m.code i) (pos q) → IsFlagged s.leaders q
   pub catches : (h : Handler) → Contains m.rec.handlers h → IsCaught s place h
 
 -- each place that is reached is pending, or all that follows it is found

@@ -1,21 +1,21 @@
 -- Well-formed methods: the places at which instructions begin, and that targets and handlers are such (JCVM 2.2, sections 6.9.1 and 7.5).
-use Rattle.std.specs.Prelude.{◌≡◌, ℕ, ◌<◌, ◌⊎◌, ℤ, pos, negsuc, List, length, All, Contains}
+use Rattle.std.specs.Prelude.{◌≡◌, ℕ, ◌<◌, ◌⊎◌, ℤ, List, length, All, Contains}
 use Rattle.jc_base.specs.declared.record.Handler.{Handler}
 use Rattle.jc_decode.specs.declared.insn.Placed.{Placed}
-use Rattle.jc_decode.specs.Listing.{listing, listing_end, targets}
+use Rattle.jc_decode.specs.Listing.{listing, listing_end}
+use Rattle.jc_decode.specs.Places.{BeginsIn, IsTargetPlaceIn, AllLeadInto}
 use Rattle.jc_control.specs.Method.{Method}
 
 -- one of the instructions of the code
-abbrev pub Stands : List ℕ → Placed → Type 0
-Stands code i = Contains (listing code) i
+abbrev pub HasInstruction : List ℕ → Placed → Type 0
+HasInstruction code i = Contains (listing code) i
 
 -- an instruction of the code begins at this place
 abbrev pub IsPlace : List ℕ → ℕ → Type 0
-IsPlace code place = (i : Placed) × Stands code i × (i.place ≡ place)
+IsPlace code place = BeginsIn (listing code) place
 
 abbrev pub IsTargetPlace : List ℕ → ℤ → Type 0
-IsTargetPlace code (pos place) = IsPlace code place
-IsTargetPlace code (negsuc n) = ⊥
+IsTargetPlace code target = IsTargetPlaceIn (listing code) target
 
 -- a place of the code, or its end
 abbrev pub IsBoundary : List ℕ → ℕ → Type 0
@@ -31,5 +31,5 @@ pub record IsHandlerOf (code : List ℕ) (h : Handler) : Type 0 where
 -- the code decodes to its end, each target of each instruction is a place, and each handler is well formed
 pub record IsWellFormed (m : Method) : Type 0 where
   pub ends : listing_end m.code ≡ length m.code
-  pub targets : (i : Placed) → Stands m.code i → All (IsTargetPlace m.code) (targets m.code i)
+  pub targets : AllLeadInto m.code (listing m.code)
   pub handlers : All (IsHandlerOf m.code) m.rec.handlers

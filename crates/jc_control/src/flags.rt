@@ -45,6 +45,7 @@ impl Flags {
         }
     }
 
+    /// Sets the flag of a place.
     pub fn set(&mut self, place: u16)
         requires { place < length self.old }
         ensures { self.new ≡ slice_set self.old place true }

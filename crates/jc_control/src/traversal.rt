@@ -1,6 +1,6 @@
 ghost use Rattle.std.specs.Prelude.{◌≡◌, ◌<◌, ◌+◌, length, replicate, slice_set, true, false, [], All, Contains, IsTrue, IfOk, IfSome, IfNone, OnOk};
 ghost use Rattle.jc_decode.specs.Listing.{falls, targets};
-ghost use Rattle.jc_control.specs.WellFormed.{Stands, IsTargetPlace, IsHandlerOf, IsWellFormed};
+ghost use Rattle.jc_control.specs.WellFormed.{HasInstruction, IsTargetPlace, IsHandlerOf, IsWellFormed};
 ghost use Rattle.jc_control.specs.Control.{IsReached};
 ghost use Rattle.jc_control.specs.Flags.{IsFlagged};
 ghost use Rattle.jc_control.specs.Subject.{method};
@@ -94,7 +94,7 @@ impl Traversal {
 
     /// Finds what is after a reached instruction that control may leave there.
     fn fall(&mut self, subject: Subject<'_>, placed: Placed) -> Result<(), AllocError>
-        requires stands { Stands subject.code.bytes.now placed }
+        requires stands { HasInstruction subject.code.bytes.now placed }
         requires reached { IsReached (method subject) placed.place }
         requires sound { IsSound (method subject) self.old }
         ensures sound { OnOk result (IsSound (method subject.entry) self.new) }
@@ -110,7 +110,7 @@ impl Traversal {
     /// Finds the targets of a reached instruction.
     fn jump(&mut self, subject: Subject<'_>, placed: Placed) -> Result<(), AllocError>
         requires formed { IsWellFormed (method subject) }
-        requires stands { Stands subject.code.bytes.now placed }
+        requires stands { HasInstruction subject.code.bytes.now placed }
         requires reached { IsReached (method subject) placed.place }
         requires sound { IsSound (method subject) self.old }
         ensures sound { OnOk result (IsSound (method subject.entry) self.new) }
@@ -133,7 +133,7 @@ impl Traversal {
         target: i32,
     ) -> Result<(), AllocError>
         requires formed { IsTargetPlace subject.code.bytes.now target }
-        requires stands { Stands subject.code.bytes.now placed }
+        requires stands { HasInstruction subject.code.bytes.now placed }
         requires leads { Contains (targets subject.code.bytes.now placed) target }
         requires reached { IsReached (method subject) placed.place }
         requires sound { IsSound (method subject) self.old }

@@ -22,7 +22,7 @@ use Rattle.jc_decode.specs.declared.insn.CodeEnd.TheVariants.{Cut, BadOperand, N
 use Rattle.jc_decode.specs.declared.insn.Insn.{Insn}
 use Rattle.jc_decode.specs.Layout.{Span, width, total_width, layout_of, layout_from, opcode, holds, spans, is_out_of_scope, instruction_of}
 use Rattle.jc_decode.specs.Decoding.{◌>>=◌, or_cut, reached, bad_byte, bad_operand, number_of, value, allows, operand_at, key_at, rises, keys_rise, pair_width, pairs_end, range_end, range_count, end_of_cases, table_end, decoded, AreBytes}
-use Rattle.jc_decode.specs.Refusal.{IsBegun, HasOperands, IsFirstFall, Refuses, nothing_there, left_out, unused, operands_cut, forbidden, bounds_turned, range_cut, pairs_cut, key_falls}
+use Rattle.jc_decode.specs.Refusal.{HasOpcode, HasOperands, IsFirstFall, RefusesBytes, nothing_there, left_out, unused, operands_cut, forbidden, bounds_turned, range_cut, pairs_cut, key_falls}
 use Rattle.jc_decode.proofs.Decoded.{reached-ok, reached-within, or_cut-ok}
 use Rattle.jc_decode.proofs.Ranges.{number_of-fits}
 use Rattle.jc_decode.proofs.Rising.{not-false}
@@ -159,18 +159,18 @@ reserved-left_out op h = by_test (is_out_of_scope op) h
     by_test false h = absurd (never-reserved _ h)
 
 -- an opcode that has no operands is left out or unused
-no-layout : (xs : List ℕ) (at op : ℕ) (e : CodeEnd) → AreBytes xs → number_at 1 at xs ≡ Some op → layout_of op ≡ Err e → Refuses xs at e
+no-layout : (xs : List ℕ) (at op : ℕ) (e : CodeEnd) → AreBytes xs → number_at 1 at xs ≡ Some op → layout_of op ≡ Err e → RefusesBytes xs at e
 unfolding layout_of
 no-layout xs at op e bytes there h = by_opcode (opcode op) refl h
   where
-    by_opcode : (o : Opcode) → opcode op ≡ o → layout_from op o ≡ Err e → Refuses xs at e
+    by_opcode : (o : Opcode) → opcode op ≡ o → layout_from op o ≡ Err e → RefusesBytes xs at e
     by_opcode (Instruction l) is h = absurd (cc)
     by_opcode Reserved is h =
         let out : IsTrue (is_out_of_scope op) = rw (reserved-left_out op is) refl in
-        subst (Refuses xs at) (err-same (OutOfScope op) e _ refl h) (left_out op there out)
+        subst (RefusesBytes xs at) (err-same (OutOfScope op) e _ refl h) (left_out op there out)
     by_opcode Unused is h =
         let inside = both (nat_le 185 op) (nat_le op 253) (sym (unused-at op (op-fits xs at op bytes there)) ∙ ap is_unused is) in
-        subst (Refuses xs at) (err-same (NoOpcode op) e _ refl h) (unused op there (nat_le-true 185 op inside.0) (nat_le-true op 253 inside.1))
+        subst (RefusesBytes xs at) (err-same (NoOpcode op) e _ refl h) (unused op there (nat_le-true 185 op inside.0) (nat_le-true op 253 inside.1))
 
 -- ---- operands
 
@@ -330,39 +330,39 @@ pair-there xs key t count n h inside =
 
 -- after the operands an instruction fails as its table does
 range-failed : (xs : List ℕ) (at t : ℕ) (l : Layout) (y z : ℤ) (e : CodeEnd) → HasOperands xs at l y z → l.cases ≡ Range → nat_le 1 (width l.z) ≡ true
-    → t ≡ at + 1 + total_width l → range_end l.z xs t y z ≡ Err e → Refuses xs at e
+    → t ≡ at + 1 + total_width l → range_end l.z xs t y z ≡ Err e → RefusesBytes xs at e
 range-failed xs at t l y z e has is high t_is h = by_order (int_lt z y) refl h
   where
-    by_order : (b : Bool) → int_lt z y ≡ b → cond b (Err (bad_operand xs (t - width l.z))) (reached xs (t + 2 * range_count y z)) ≡ Err e → Refuses xs at e
+    by_order : (b : Bool) → int_lt z y ≡ b → cond b (Err (bad_operand xs (t - width l.z))) (reached xs (t + 2 * range_count y z)) ≡ Err e → RefusesBytes xs at e
     by_order true turned h =
         let place : t - width l.z ≡ at + 1 + width l.x + width l.y = omega (arith, t_is) in
         let there = byte-there xs (at + 1 + width l.x + width l.y) (omega (arith, has.reaches, nat_le-true 1 (width l.z) high)) in
         let named : BadOperand there.0 ≡ e = sym there.2 ∙ (ap (bad_operand xs) (sym place) ∙ err-same _ e _ refl h) in
-        subst (Refuses xs at) named (bounds_turned l y z there.0 has is (test-less z y turned) there.1)
+        subst (RefusesBytes xs at) named (bounds_turned l y z there.0 has is (test-less z y turned) there.1)
     by_order false order h =
         let cut = reached-failed xs (t + 2 * range_count y z) e h in
-        subst (Refuses xs at) cut.1 (range_cut l y z has is (test-most y z order) (omega (arith, t_is, cut.0)))
+        subst (RefusesBytes xs at) cut.1 (range_cut l y z has is (test-most y z order) (omega (arith, t_is, cut.0)))
 
 pairs-failed : (xs : List ℕ) (at : ℕ) (l : Layout) (key : Operand) (y z : ℤ) (e : CodeEnd) → HasOperands xs at l y z → l.cases ≡ Pairs key
-    → pairs_end key xs (at + 1 + total_width l) (unsigned_abs y) ≡ Err e → Refuses xs at e
+    → pairs_end key xs (at + 1 + total_width l) (unsigned_abs y) ≡ Err e → RefusesBytes xs at e
 pairs-failed xs at l key y z e has is h =
     from_failed (reached xs (at + 1 + total_width l + pair_width key * unsigned_abs y)) _ e h
-    (λ far. let cut = reached-failed xs _ e far in subst (Refuses xs at) cut.1 (pairs_cut l key y z has is cut.0))
+    (λ far. let cut = reached-failed xs _ e far in subst (RefusesBytes xs at) cut.1 (pairs_cut l key y z has is cut.0))
     (λ end end_is h1.
     let far = reached-ok xs _ end end_is in
     by_find end (omega (arith, far.0, far.1)) (find (λ n. not (rises key xs (at + 1 + total_width l) n)) (range_with_len 1 (unsigned_abs y - 1))) refl h1)
   where
     by_find : (end : ℕ) → at + 1 + total_width l + pair_width key * unsigned_abs y ≤ length xs → (o : Option ℕ)
-        → find (λ n. not (rises key xs (at + 1 + total_width l) n)) (range_with_len 1 (unsigned_abs y - 1)) ≡ o → keys_rise key xs (at + 1 + total_width l) end o ≡ Err e → Refuses xs at e
+        → find (λ n. not (rises key xs (at + 1 + total_width l) n)) (range_with_len 1 (unsigned_abs y - 1)) ≡ o → keys_rise key xs (at + 1 + total_width l) end o ≡ Err e → RefusesBytes xs at e
     by_find end inside None is_none h = absurd (cc)
     by_find end inside (Some n) is_found h =
         let fall = FirstFall-found key xs (at + 1 + total_width l) (unsigned_abs y) n is_found in
         let there = byte-there xs (at + 1 + total_width l + pair_width key * n) (pair-there xs key (at + 1 + total_width l) (unsigned_abs y) n fall.inside inside) in
         let named : BadOperand there.0 ≡ e = sym there.2 ∙ err-same _ e _ refl h in
-        subst (Refuses xs at) named (key_falls l key y z n there.0 has is inside fall there.1)
+        subst (RefusesBytes xs at) named (key_falls l key y z n there.0 has is inside fall there.1)
 
 table-failed : (xs : List ℕ) (at : ℕ) (l : Layout) (c : Cases) (y z : ℤ) (e : CodeEnd) → HasOperands xs at l y z → l.cases ≡ c → has_high c l.z ≡ true
-    → end_of_cases c l.z xs (at + 1 + total_width l) y z ≡ Err e → Refuses xs at e
+    → end_of_cases c l.z xs (at + 1 + total_width l) y z ≡ Err e → RefusesBytes xs at e
 table-failed xs at l NoCases y z e has is high h = absurd (cc)
 table-failed xs at l Range y z e has is high h = range-failed xs at _ l y z e has is high refl h
 table-failed xs at l (Pairs key) y z e has is high h = pairs-failed xs at l key y z e has is h
@@ -373,22 +373,22 @@ from_end (Ok x) f e h = absurd (cc)
 from_end (Err d) f e h = ap Err (err-same d e _ refl h)
 
 -- where none is decoded it is refused so
-pub decoded-Refuses : (xs : List ℕ) (at : ℕ) (e : CodeEnd) → AreBytes xs → decoded xs at ≡ Err e → Refuses xs at e
+pub decoded-RefusesBytes : (xs : List ℕ) (at : ℕ) (e : CodeEnd) → AreBytes xs → decoded xs at ≡ Err e → RefusesBytes xs at e
 unfolding decoded
-decoded-Refuses xs at e bytes h =
+decoded-RefusesBytes xs at e bytes h =
     from_failed (or_cut (number_at 1 at xs)) _ e h
     (λ none.
     let cut = or_cut-failed (number_at 1 at xs) e none in
     let past = number_at-none 1 at xs cut.0 in
-    subst (Refuses xs at) cut.1 (nothing_there (omega (arith, past))))
+    subst (RefusesBytes xs at) cut.1 (nothing_there (omega (arith, past))))
     (λ op op_is h1.
     let there = or_cut-ok _ op op_is in
     from_failed (layout_of op) _ e h1
     (λ none. no-layout xs at op e bytes there none)
     (λ l l_is h2.
-    let begun : IsBegun xs at l = record { op = op; opcode = there; layout = l_is } in
+    let begun : HasOpcode xs at l = record { op = op; opcode = there; layout = l_is } in
     from_failed (reached xs (at + 1 + total_width l)) _ e h2
-    (λ far. let cut = reached-failed xs _ e far in subst (Refuses xs at) cut.1 (operands_cut l begun cut.0))
+    (λ far. let cut = reached-failed xs _ e far in subst (RefusesBytes xs at) cut.1 (operands_cut l begun cut.0))
     (λ table table_is h3.
     let place = reached-ok xs _ table table_is in
     let inside : at + 1 + total_width l ≤ length xs = omega (arith, place.0, place.1) in
@@ -398,7 +398,7 @@ decoded-Refuses xs at e bytes h =
     from_failed (operand_at l.x xs (at + 1)) _ e h3
     (λ bad.
     let f = operand_at-failed l.x xs (at + 1) e (omega (arith, inside)) bad in
-    subst (Refuses xs at) f.is (forbidden l f.byte begun inside (forbidden-byte l.x xs (at + 1) f.byte f.there f.not_allowed) f.not_allowed))
+    subst (RefusesBytes xs at) f.is (forbidden l f.byte begun inside (forbidden-byte l.x xs (at + 1) f.byte f.there f.not_allowed) f.not_allowed))
     (λ x x_is h4. from_failed (operand_at l.y xs (at + 1 + width l.x)) _ e h4
     (λ bad. absurd (never-failed l.y xs _ e (omega (arith, inside)) second.0 bad))
     (λ y y_is h5. from_failed (operand_at l.z xs (at + 1 + width l.x + width l.y)) _ e h5
@@ -435,27 +435,27 @@ pairs-end-falls key xs t count n b inside fall there =
     rw (reached-within xs (t + pair_width key * count) inside, found-FirstFall key xs t count n fall) (ap Err (bad-byte-is xs (t + pair_width key * n) b there))
 
 -- what is refused so is not decoded, for that reason
-pub Refuses-decoded : (xs : List ℕ) (at : ℕ) (e : CodeEnd) → Refuses xs at e → decoded xs at ≡ Err e
+pub RefusesBytes-decoded : (xs : List ℕ) (at : ℕ) (e : CodeEnd) → RefusesBytes xs at e → decoded xs at ≡ Err e
 unfolding decoded
-Refuses-decoded xs at _ (nothing_there past) = rw (number_at-past 1 at xs (omega (arith, past))) refl
-Refuses-decoded xs at _ (left_out op there out) =
+RefusesBytes-decoded xs at _ (nothing_there past) = rw (number_at-past 1 at xs (omega (arith, past))) refl
+RefusesBytes-decoded xs at _ (left_out op there out) =
     let yes : is_out_of_scope op ≡ true = search (rules, out) in
     rw (there, layout_of-left_out op yes) refl
-Refuses-decoded xs at _ (unused op there low high) = rw (there, layout_of-unused op low high) refl
-Refuses-decoded xs at _ (operands_cut l begun far) = rw (begun.opcode, begun.layout, reached-past xs (at + 1 + total_width l) far) refl
-Refuses-decoded xs at _ (forbidden l b begun inside there refused) =
+RefusesBytes-decoded xs at _ (unused op there low high) = rw (there, layout_of-unused op low high) refl
+RefusesBytes-decoded xs at _ (operands_cut l begun far) = rw (begun.opcode, begun.layout, reached-past xs (at + 1 + total_width l) far) refl
+RefusesBytes-decoded xs at _ (forbidden l b begun inside there refused) =
     rw (begun.opcode, begun.layout, reached-within xs (at + 1 + total_width l) inside, byte-forbidden l.x xs (at + 1) b there refused, refused) refl
-Refuses-decoded xs at _ (bounds_turned l low high b has is turned there) =
+RefusesBytes-decoded xs at _ (bounds_turned l low high b has is turned there) =
     let place : at + 1 + width l.x + width l.y ≡ at + 1 + total_width l - width l.z = omega arith in
     let named : number_at 1 (at + 1 + total_width l - width l.z) xs ≡ Some b = ap (λ (p : ℕ). number_at 1 p xs) (sym place) ∙ there in
     decoded-table xs at l low high (BadOperand b) has (rw is (range-end-turned l.z xs (at + 1 + total_width l) low high b turned named))
-Refuses-decoded xs at _ (range_cut l low high has is order far) =
+RefusesBytes-decoded xs at _ (range_cut l low high has is order far) =
     decoded-table xs at l low high Cut has (rw is (range-end-cut l.z xs (at + 1 + total_width l) low high order far))
-Refuses-decoded xs at _ (pairs_cut l key count z has is far) =
+RefusesBytes-decoded xs at _ (pairs_cut l key count z has is far) =
     decoded-table xs at l count z Cut has (rw is (pairs-end-cut key xs (at + 1 + total_width l) (unsigned_abs count) far))
-Refuses-decoded xs at _ (key_falls l key count z n b has is inside fall there) =
+RefusesBytes-decoded xs at _ (key_falls l key count z n b has is inside fall there) =
     decoded-table xs at l count z (BadOperand b) has (rw is (pairs-end-falls key xs (at + 1 + total_width l) (unsigned_abs count) n b inside fall there))
 
-pub refused-answer : (xs : List ℕ) (at : ℕ) (r : Result Insn CodeEnd) → AreBytes xs → r ≡ decoded xs at → IfErr r (Refuses xs at)
+pub refused-answer : (xs : List ℕ) (at : ℕ) (r : Result Insn CodeEnd) → AreBytes xs → r ≡ decoded xs at → IfErr r (RefusesBytes xs at)
 refused-answer xs at (Ok i) bytes h = search rules
-refused-answer xs at (Err e) bytes h = decoded-Refuses xs at e bytes (sym h)
+refused-answer xs at (Err e) bytes h = decoded-RefusesBytes xs at e bytes (sym h)

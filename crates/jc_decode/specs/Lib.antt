@@ -2,6 +2,7 @@ pub mod Layout
 pub mod Decoding
 pub mod Cases
 pub mod Listing
+pub mod Places
 pub mod Instructions
 pub mod Refusal
 pub mod Encoding

@@ -26,11 +26,15 @@ listing_from code at = at_most (length code) code at
 unfoldable pub listing : List ℕ → List Placed
 listing code = listing_from code 0
 
--- the list has the instructions from a place on, each at the place where the one before it ends, to
+-- the list has the instructions that are found from a place on, each at the place where the one before it ends, to
 -- where none is
+abbrev pub ListsFound : (ℕ → Result Insn CodeEnd) → ℕ → List Placed → Type 0
+ListsFound found at [] = IsErr (found at)
+ListsFound found at (p ∷ ps) = (p.place ≡ at) × (found at ≡ Ok p.insn) × ListsFound found (at + p.insn.len) ps
+
+-- those that are decoded from the code
 abbrev pub Lists : List ℕ → ℕ → List Placed → Type 0
-Lists code at [] = IsErr (decoded code at)
-Lists code at (p ∷ ps) = (p.place ≡ at) × (decoded code at ≡ Ok p.insn) × Lists code (at + p.insn.len) ps
+Lists code at ps = ListsFound (decoded code) at ps
 
 -- the place after the last instruction of a list that begins at a place
 abbrev pub end_from : ℕ → List Placed → ℕ

@@ -11,14 +11,14 @@ use Rattle.jc_decode.specs.Layout.{width, total_width, is_out_of_scope, layout_o
 use Rattle.jc_decode.specs.Decoding.{allows, operand_at, pair_width, key_at, range_count}
 
 -- the opcode of an instruction with these operands stands at the place
-pub record IsBegun (xs : List ℕ) (at : ℕ) (l : Layout) : Type 0 where
+pub record HasOpcode (xs : List ℕ) (at : ℕ) (l : Layout) : Type 0 where
   pub op : ℕ
   pub opcode : number_at 1 at xs ≡ Some op
   pub layout : layout_of op ≡ Ok l
 
 -- and its operands, which it allows; y and z are the last two
 pub record HasOperands (xs : List ℕ) (at : ℕ) (l : Layout) (y z : ℤ) : Type 0 where
-  pub begun : IsBegun xs at l
+  pub begun : HasOpcode xs at l
   pub reaches : at + 1 + total_width l ≤ length xs
   pub first : ℤ
   pub first_is : operand_at l.x xs (at + 1) ≡ Ok first
@@ -33,25 +33,25 @@ pub record IsFirstFall (key : Operand) (xs : List ℕ) (table count n : ℕ) : T
   pub rises : (k : ℕ) → 1 ≤ k → k < n → key_at key xs table (k - 1) <ℤ key_at key xs table k
 
 -- an operand is named by its first byte: the forbidden one, high where it is below low, a key that is not above the one before it
-pub data Refuses (xs : List ℕ) (at : ℕ) : CodeEnd → Type 0 where
-  nothing_there : length xs ≤ at → Refuses xs at Cut
-  left_out : (op : ℕ) → number_at 1 at xs ≡ Some op → IsTrue (is_out_of_scope op) → Refuses xs at (OutOfScope op)
-  unused : (op : ℕ) → number_at 1 at xs ≡ Some op → 185 ≤ op → op ≤ 253 → Refuses xs at (NoOpcode op)
-  operands_cut : (l : Layout) → IsBegun xs at l → length xs < at + 1 + total_width l → Refuses xs at Cut
+pub data RefusesBytes (xs : List ℕ) (at : ℕ) : CodeEnd → Type 0 where
+  nothing_there : length xs ≤ at → RefusesBytes xs at Cut
+  left_out : (op : ℕ) → number_at 1 at xs ≡ Some op → IsTrue (is_out_of_scope op) → RefusesBytes xs at (OutOfScope op)
+  unused : (op : ℕ) → number_at 1 at xs ≡ Some op → 185 ≤ op → op ≤ 253 → RefusesBytes xs at (NoOpcode op)
+  operands_cut : (l : Layout) → HasOpcode xs at l → length xs < at + 1 + total_width l → RefusesBytes xs at Cut
   forbidden :
       (l : Layout) (b : ℕ)
-      → IsBegun xs at l
+      → HasOpcode xs at l
       → at + 1 + total_width l ≤ length xs
       → number_at 1 (at + 1) xs ≡ Some b
       → allows l.x b ≡ false
-      → Refuses xs at (BadOperand b)
+      → RefusesBytes xs at (BadOperand b)
   bounds_turned : (l : Layout) (low high : ℤ) (b : ℕ) → HasOperands xs at l low high → l.cases ≡ Range → high <ℤ low
-      → number_at 1 (at + 1 + width l.x + width l.y) xs ≡ Some b → Refuses xs at (BadOperand b)
+      → number_at 1 (at + 1 + width l.x + width l.y) xs ≡ Some b → RefusesBytes xs at (BadOperand b)
   range_cut : (l : Layout) (low high : ℤ) → HasOperands xs at l low high → l.cases ≡ Range → low ≤ℤ high
-      → length xs < at + 1 + total_width l + 2 * range_count low high → Refuses xs at Cut
+      → length xs < at + 1 + total_width l + 2 * range_count low high → RefusesBytes xs at Cut
   pairs_cut : (l : Layout) (key : Operand) (count z : ℤ) → HasOperands xs at l count z → l.cases ≡ Pairs key
-      → length xs < at + 1 + total_width l + pair_width key * unsigned_abs count → Refuses xs at Cut
+      → length xs < at + 1 + total_width l + pair_width key * unsigned_abs count → RefusesBytes xs at Cut
   key_falls : (l : Layout) (key : Operand) (count z : ℤ) (n b : ℕ) → HasOperands xs at l count z → l.cases ≡ Pairs key
       → at + 1 + total_width l + pair_width key * unsigned_abs count ≤ length xs
       → IsFirstFall key xs (at + 1 + total_width l) (unsigned_abs count) n
-      → number_at 1 (at + 1 + total_width l + pair_width key * n) xs ≡ Some b → Refuses xs at (BadOperand b)
+      → number_at 1 (at + 1 + total_width l + pair_width key * n) xs ≡ Some b → RefusesBytes xs at (BadOperand b)

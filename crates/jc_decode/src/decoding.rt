@@ -3,7 +3,7 @@ ghost use Rattle.cap_bytes.specs.Number.{number_at};
 ghost use Rattle.jc_decode.specs.Layout.{layout_of, one, width};
 ghost use Rattle.jc_decode.specs.Decoding.{is_dup_words, is_swap_words, is_array_type, is_tested_type, or_cut, reached, bad_operand, operand_at, pair_width, key_at, rises, pairs_end, table_end, decoded, decoded_as, Begins, FitsLayout, FitsOperand, IsWithin, AreBytes};
 ghost use Rattle.jc_decode.specs.Cases.{cases, is_table_switch, KeysRise};
-ghost use Rattle.jc_decode.specs.Refusal.{Refuses};
+ghost use Rattle.jc_decode.specs.Refusal.{RefusesBytes};
 ghost use Rattle.jc_decode.specs.Encoding.{IsAllowed};
 
 use crate::insn::{CodeEnd, Insn};
@@ -21,8 +21,8 @@ pub fn decode(code: View, at: u16) -> Result<Insn, CodeEnd>
     ensures value { result ≡ decoded code.entry.bytes.now at }
     ensures begins { IfOk result (λ i. Begins code.entry.bytes.now at i) }
     ensures given { (i : Insn) → Begins code.entry.bytes.now at i → result ≡ Ok i }
-    ensures refused { IfErr result (λ e. Refuses code.entry.bytes.now at e) }
-    ensures told { (e : CodeEnd) → Refuses code.entry.bytes.now at e → result ≡ Err e }
+    ensures refused { IfErr result (λ e. RefusesBytes code.entry.bytes.now at e) }
+    ensures told { (e : CodeEnd) → RefusesBytes code.entry.bytes.now at e → result ≡ Err e }
     ensures operands { IfOk result (λ i. FitsLayout i (layout_of i.op)) }
     ensures allowed { IfOk result (λ i. IsAllowed i) }
     ensures order { IfOk result (λ i. IsTrue (is_table_switch i.op) → i.y ≤ℤ i.z) }

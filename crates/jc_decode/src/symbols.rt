@@ -16,18 +16,21 @@ impl<T> Model for Sequence<T> {
 }
 
 impl<T> Sequence<T> {
+    /// The list of these items.
     pub fn of(items: Vec<T>) -> Sequence<T>
         ensures { result ≡ items.items }
     {
         Sequence { items }
     }
 
+    /// How many items there are.
     pub fn len(&self) -> usize
         ensures { result ≡ length self.now }
     {
         self.items.len()
     }
 
+    /// The item of this number, from 0.
     pub fn at(&self, n: usize) -> &T
         requires { n < length self.now }
         ensures { slice_get self.now n ≡ Some result.now }
@@ -35,6 +38,7 @@ impl<T> Sequence<T> {
         &self.items[n]
     }
 
+    /// All items as a slice.
     pub fn as_slice(&self) -> &[T]
         ensures { result.now ≡ self.now }
     {

@@ -1,6 +1,6 @@
 -- What is answered for a method of the world.
 use Rattle.std.proofs.Common.{◌≡◌, ℕ, ◌<◌, ◌≤◌, Bool, true, false, List, length, Option, Some, option_map, IsSomeAnd, MatchBool, slice_get, sym, ◌∙◌, ap, subst, arith, length-take}
-use Rattle.std.proofs.lemmas.Option.{slice_get_within}
+use Rattle.std.proofs.lemmas.Option.{slice_get_within, same_Some}
 use Rattle.jc_base.specs.declared.ty.Ty.TheVariants.{Top, Bottom}
 use Rattle.jc_base.specs.declared.record.MethodRec.{MethodRec}
 use Rattle.jc_base.specs.Linked.{IsCodeLength, lacks_code}
@@ -26,16 +26,13 @@ use Rattle.jc_flow.proofs.Never.{none-where-fails, none-where-falls}
 pub number-below : {X : Type 0} (P : X → Type 0) (xs : List X) (n : ℕ) → IsSomeAnd (slice_get xs n) P → n < length xs
 number-below P xs n h = some_to P (n < length xs) (slice_get xs n) (λ x e p. slice_get_within xs n x e) h
 
-some-same : {X : Type 0} {a b : X} → ◌≡◌ {A = Option X} (Some a) (Some b) → a ≡ b
-some-same e = cc
-
 length-short : (b : Bool) (n : ℕ) → MatchBool b (n ≡ 0) (IsCodeLength n) → n ≤ 32767
 length-short true n h = omega (arith, h)
 length-short false n h = h.most
 
 module _ (w : Linked) (n : ℕ) (rec : MethodRec) (code : List ℕ) (here : slice_get w.methods n ≡ Some rec) (bytes : option_map (code_of w.infos) (slice_get w.methods n) ≡ Some code) where
   own_code : code_of w.infos rec ≡ code
-  own_code = some-same (ap (option_map (code_of w.infos)) (sym here) ∙ bytes)
+  own_code = same_Some _ _ (ap (option_map (code_of w.infos)) (sym here) ∙ bytes)
 
   pub method-is : method_in w n ≡ Some (record { number = n; rec = rec; code = code })
   method-is = ap (option_map (method_with w n)) here ∙ ap (λ (c : List ℕ). Some (record { number = n; rec = rec; code = c })) own_code

@@ -1,6 +1,7 @@
 -- The begin of an analysis: an empty table, and the frame of the method's start.
 use Rattle.std.proofs.Common.{◌≡◌, ℕ, zero, suc, ◌⊎◌, inl, inr, false, length, replicate, Option, Some, None, IsSomeAnd, refl, sym, ◌∙◌, ap, subst, arith}
 use Rattle.std.proofs.lemmas.List.{length-replicate}
+use Rattle.std.proofs.lemmas.Option.{none-some}
 use Rattle.jc_base.specs.declared.ty.Ty.TheVariants.{Top}
 use Rattle.jc_base.specs.World.{Linked}
 use Rattle.jc_rules.specs.Demand.{Frame}
@@ -27,15 +28,12 @@ nothing-at zero (suc p) = refl
 nothing-at (suc n) zero = refl
 nothing-at (suc n) (suc p) = nothing-at n p
 
-no-frame : {f : Frame} → ◌≡◌ {A = Option Frame} None (Some f) → ⊥
-no-frame e = cc
-
 module _ (w : Linked) (m : Method) where
   pub empty-held : (found : Found) → found ≡ empty (length m.code) → AreHeld w m found
   empty-held found e = subst (AreHeld w m) (sym e) (record {
     places = length-replicate (length m.code) None;
     flags = length-replicate (length m.code) false;
-    held = λ p f h. absurd (no-frame (sym (nothing-at (length m.code) p) ∙ h));
+    held = λ p f h. absurd (none-some _ (sym (nothing-at (length m.code) p) ∙ h));
   })
 
   pub start-held : InstructionsArePlaced → IsMethodOf w m → IsWellFormed m → IsHeld w m 0 (start_frame m.rec Top)
@@ -52,11 +50,11 @@ module _ (w : Linked) (m : Method) where
     where
       by : (state_at new.states p ≡ state_at old.states p) ⊎ IsPending new p → IsPending new p ⊎ IsClosed w m new p f
       by (inr k) = inl k
-      by (inl same) = absurd (no-frame (sym (nothing-at (length m.code) p) ∙ ap (λ (x : Found). state_at x.states p) (sym e) ∙ sym same ∙ h))
+      by (inl same) = absurd (none-some _ (sym (nothing-at (length m.code) p) ∙ ap (λ (x : Found). state_at x.states p) (sym e) ∙ sym same ∙ h))
 
   none-there : (P : Frame → Type 0) (o : Option Frame) → o ≡ None → IsSomeAnd o P → ⊥
   none-there P None e h = h
-  none-there P (Some f) e h = no-frame (sym e)
+  none-there P (Some f) e h = none-some _ (sym e)
 
   pub begin-failed : (old : Found) (f : Frame) (end : PutEnd) → old ≡ empty (length m.code) → Prevents w.classes old 0 f end → IsFailure w m (broken_at 0 end)
   begin-failed old f Memory e h = tt

@@ -17,9 +17,9 @@ use Rattle.jc_decode.specs.declared.insn.Placed.{Placed}
 use Rattle.jc_rules.specs.declared.effect.Mode.TheVariants.{Flow}
 use Rattle.jc_rules.specs.Demand.{Frame, AreKnown}
 use Rattle.jc_control.specs.Method.{Method, IsMethodOf}
-use Rattle.jc_control.specs.WellFormed.{Stands}
+use Rattle.jc_control.specs.WellFormed.{HasInstruction}
 use Rattle.jc_control.specs.Control.{IsReached, begins, follows, caught}
-use Rattle.jc_rules.specs.Flow.{IsFit, FrameBelow, At, Merges, Steps, start_frame, caught_frame, receiver_of, IsNotFresh, IsDerived, derived_start, derived_caught, derived_next, derived_joined, FlowTyping, IsFollowed}
+use Rattle.jc_rules.specs.Flow.{IsFit, FrameBelow, At, Merges, FlowSteps, start_frame, caught_frame, receiver_of, IsNotFresh, IsDerived, derived_start, derived_caught, derived_next, derived_joined, FlowTyping, IsFollowed}
 use Rattle.jc_rules.specs.Laws.{IsNotBottom, Keeps, FallsTo}
 use Rattle.jc_flow.proofs.Steps.{site_of, at-site}
 use Rattle.jc_flow.proofs.Frames.{all_none, all_more, all_same, frame-trans, join-least, join-length, join-all, full-join}
@@ -47,7 +47,7 @@ some_at P {o} {x} e h = subst (λ r. IsSomeAnd r P) e h
 pub at_some : {X : Type 0} (P : X → Type 0) {o : Option X} {x : X} → o ≡ Some x → P x → IsSomeAnd o P
 at_some P {o} {x} e h = subst (λ r. IsSomeAnd r P) (sym e) h
 
-declared-ready : (t : ClassTable) (ty : Ty) → IsDeclared t ty → IsNotFresh ty
+pub declared-ready : (t : ClassTable) (ty : Ty) → IsDeclared t ty → IsNotFresh ty
 declared-ready t Bottom h = tt
 declared-ready t Short h = tt
 declared-ready t IntHigh h = tt
@@ -142,10 +142,10 @@ module _ (w : Linked) (is : AreRules w) (m : Method) (mo : IsMethodOf w m) where
     no_bottom = all_more IsNotBottom (Class h.class) [] tt (all_none IsNotBottom);
   }
 
-  pub step-keeps : (i : Placed) (f g : Frame) → IsFine f → Steps w m i f g → Keeps w f g
+  pub step-keeps : (i : Placed) (f g : Frame) → IsFine f → FlowSteps w m i f g → Keeps w f g
   step-keeps i f g fine s = is.keeps (site_of m i.place) i.insn Flow f g s.0 fine.known (at-site w m mo s.1)
 
-  pub step-fine : (i : Placed) (f g : Frame) → IsFine f → Steps w m i f g → IsFine g
+  pub step-fine : (i : Placed) (f g : Frame) → IsFine f → FlowSteps w m i f g → IsFine g
   step-fine i f g fine s = let k = step-keeps i f g fine s in record {
     known = k.known;
     count = k.count ∙ fine.count;
@@ -183,7 +183,7 @@ module _ (w : Linked) (is : AreRules w) (m : Method) (mo : IsMethodOf w m) where
       pub followed : IsFollowed w m frames i greater
       pub fallen : FallsTo w (site_of m i.place) i.insn Flow f followed.after
 
-    pub followed-below : (i : Placed) (f : Frame) → IsFine f → IsReached m i.place → Stands m.code i → At frames i.place (FrameBelow w.classes f) → Follows i f
+    pub followed-below : (i : Placed) (f : Frame) → IsFine f → IsReached m i.place → HasInstruction m.code i → At frames i.place (FrameBelow w.classes f) → Follows i f
     followed-below i f fine reached st below =
         some_to (FrameBelow w.classes f) (Follows i f) (frames i.place)
         (λ g there le.
@@ -198,7 +198,7 @@ module _ (w : Linked) (is : AreRules w) (m : Method) (mo : IsMethodOf w m) where
         }) below
 
     -- what the rule gives for the lesser frame is below what it gives for the greater one
-    pub step-below : (i : Placed) (f g : Frame) → (s : Follows i f) → Steps w m i f g → FrameBelow w.classes g s.followed.after
+    pub step-below : (i : Placed) (f g : Frame) → (s : Follows i f) → FlowSteps w m i f g → FrameBelow w.classes g s.followed.after
     step-below i f g s steps = subst (λ x. FrameBelow w.classes x s.followed.after) ((is.decides (site_of m i.place) i.insn Flow f).one s.fallen.applies (at-site w m mo steps.1)) s.fallen.lower
 
     pub record IsUnder (p : ℕ) (f : Frame) : Type 0 where

@@ -15,7 +15,7 @@ use Rattle.jc_decode.specs.Listing.{falls, jumps, target, targets}
 use Rattle.jc_ops.specs.declared.fault.RuleFault.TheVariants.{FreshKept, StackMerge, Overflow}
 use Rattle.jc_rules.specs.Demand.{Frame}
 use Rattle.jc_control.specs.Method.{Method, IsMethodOf}
-use Rattle.jc_control.specs.WellFormed.{IsWellFormed, Stands, IsPlace, IsBoundary, IsTargetPlace, IsHandlerOf}
+use Rattle.jc_control.specs.WellFormed.{IsWellFormed, HasInstruction, IsPlace, IsBoundary, IsTargetPlace, IsHandlerOf}
 use Rattle.jc_decode.specs.Laws.{AreListed}
 use Rattle.jc_control.specs.Control.{IsSuccessor, falls_through, jumped, IsLeader, Covers}
 use Rattle.jc_rules.specs.Flow.{IsNotFresh, IsNotTop, caught_frame, derived_next, derived_caught}
@@ -57,7 +57,7 @@ target-range code listed (pos p) h short =
 target-range code listed (negsuc n) h short = absurd h
 
 -- where the code goes on after an instruction one stands
-inside-code : (code : List ℕ) → ((i : Placed) → Stands code i → IsBoundary code (i.place + i.insn.len)) → (i : Placed) → Stands code i → i.place + i.insn.len < length code → IsPlace code (i.place + i.insn.len)
+inside-code : (code : List ℕ) → ((i : Placed) → HasInstruction code i → IsBoundary code (i.place + i.insn.len)) → (i : Placed) → HasInstruction code i → i.place + i.insn.len < length code → IsPlace code (i.place + i.insn.len)
 inside-code code next i st lt = by (next i st)
   where
     by : IsBoundary code (i.place + i.insn.len) → IsPlace code (i.place + i.insn.len)
@@ -65,7 +65,7 @@ inside-code code next i st lt = by (next i st)
     by (inr place) = place
 
 module _ (w : Linked) (is : AreRules w) (m : Method) (mo : IsMethodOf w m) (formed : IsWellFormed m) (p : ℕ) (f g : Frame) (insn : Insn) (here : IsHeld w m p f) (st : HasStepped w m p f g insn) where
-  stands : Stands m.code (record { place = p; insn = insn })
+  stands : HasInstruction m.code (record { place = p; insn = insn })
   stands = stands-here m.code (is.listed m.code) p here.place insn st.decodes
 
   step-held : (q : ℕ) → IsSuccessor m.code (record { place = p; insn = insn }) q → IsPlace m.code q → (IsLeader m q → All IsNotFresh g.stack) → IsHeld w m q g

@@ -16,7 +16,7 @@ use Rattle.jc_rules.specs.declared.effect.Mode.TheVariants.{Flow}
 use Rattle.jc_rules.specs.Demand.{Frame}
 use Rattle.jc_rules.specs.Apply.{RuleRefuses}
 use Rattle.jc_control.specs.Method.{Method, IsMethodOf}
-use Rattle.jc_control.specs.WellFormed.{Stands, IsTargetPlace}
+use Rattle.jc_control.specs.WellFormed.{HasInstruction, IsTargetPlace}
 use Rattle.jc_control.specs.Control.{IsReached, follows, jumped}
 use Rattle.jc_rules.specs.Flow.{IsNotFresh, IsNotTop, FrameBelow, IsFit, caught_frame, IsDerived, derived_next, derived_caught, FlowTyping, HasFlowTyping}
 use Rattle.jc_rules.specs.Typing.{Clashes, depths, cells}
@@ -60,7 +60,7 @@ module _ (w : Linked) (is : AreRules w) (m : Method) (mo : IsMethodOf w m) (fram
       some_to (FrameBelow w.classes f) (Above q f) (frames q)
       (λ g e le. record { frame = g; there = e; below = le; fit = some_at (IsFit m) e (ty.fit q u.reached); reached = u.reached }) u.below
 
-  follow : (i : Placed) (f : Frame) → IsDerived w m Top i.place f → Stands m.code i → Follows w is m mo frames ty i f
+  follow : (i : Placed) (f : Frame) → IsDerived w m Top i.place f → HasInstruction m.code i → Follows w is m mo frames ty i f
   follow i f d st =
       let u = derived-under w is m mo frames ty d in
       followed-below w is m mo frames ty i f (derived-fine w is m mo d) u.reached st u.below
@@ -69,7 +69,7 @@ module _ (w : Linked) (is : AreRules w) (m : Method) (mo : IsMethodOf w m) (fram
   at-instruction i p f e d = subst (λ q. IsDerived w m Top q f) (sym e) d
 
   -- what the rule gives is below what stands at each target, so it has no Top under the operands of a branch
-  after-topless : (i : Placed) → (f : Frame) → (d : IsDerived w m Top i.place f) → Stands m.code i → (s : Follows w is m mo frames ty i f) → IsTrue (jumps i.insn.op) → All IsNotTop s.followed.after.stack
+  after-topless : (i : Placed) → (f : Frame) → (d : IsDerived w m Top i.place f) → HasInstruction m.code i → (s : Follows w is m mo frames ty i f) → IsTrue (jumps i.insn.op) → All IsNotTop s.followed.after.stack
   after-topless i f d st s j =
       let to = jump-leads m.code i (ty.formed.targets i st) j in
       let u = derived-under w is m mo frames ty d in

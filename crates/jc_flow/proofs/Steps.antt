@@ -14,8 +14,8 @@ use Rattle.jc_rules.specs.declared.effect.Mode.TheVariants.{Flow}
 use Rattle.jc_rules.specs.declared.rule.Outcome.{Outcome}
 use Rattle.jc_rules.specs.Apply.{Applies, Refuses, RuleApplies, RuleRefuses}
 use Rattle.jc_control.specs.Method.{Method, IsMethodOf}
-use Rattle.jc_control.specs.WellFormed.{Stands, IsPlace}
-use Rattle.jc_rules.specs.Flow.{IsNotFresh, Steps}
+use Rattle.jc_control.specs.WellFormed.{HasInstruction, IsPlace}
+use Rattle.jc_rules.specs.Flow.{IsNotFresh, FlowSteps}
 use Rattle.jc_base.proofs.Lists.{All-turned, All-reverse}
 use Rattle.jc_decode.specs.Laws.{AreListed}
 use Rattle.jc_flow.specs.Progress.{IsHeld}
@@ -59,19 +59,19 @@ module _ (code : List ℕ) (listed : AreListed code) (p : ℕ) (here : IsPlace c
   pub decodes-always : {end : CodeEnd} → decoded code p ≡ Err end → ⊥
   decodes-always e = let same = decoded-here in absurd (cc)
 
-  pub stands-here : (insn : Insn) → decoded code p ≡ Ok insn → Stands code (record { place = p; insn = insn })
+  pub stands-here : (insn : Insn) → decoded code p ≡ Ok insn → HasInstruction code (record { place = p; insn = insn })
   stands-here insn e =
       let same : here.0.insn ≡ insn = ok-same (sym decoded-here ∙ e) in
-      subst (Stands code) (ap (λ q. record { place = q; insn = here.0.insn }) here.2 ∙ ap (λ i. record { place = p; insn = i }) same) here.1
+      subst (HasInstruction code) (ap (λ q. record { place = q; insn = here.0.insn }) here.2 ∙ ap (λ i. record { place = p; insn = i }) same) here.1
 
 module _ (w : Linked) (m : Method) (listed : AreListed m.code) (p : ℕ) (f : Frame) (h : IsHeld w m p f) (insn : Insn) (d : decoded m.code p ≡ Ok insn) where
   pub fail-rule : (fault : RuleFault) → RuleRefuses w m.rec p insn f fault → FailsAt w m p fault
   fail-rule fault r = record { frame = f; derived = h.derived; fails = fails_rule (record { place = p; insn = insn }) (stands-here m.code listed p h.place insn d) refl r }
 
-  pub fail-jump : (g : Frame) → Steps w m (record { place = p; insn = insn }) f g → IsTrue (jumps insn.op) → ¬ (All IsNotFresh g.stack) → FailsAt w m p FreshKept
+  pub fail-jump : (g : Frame) → FlowSteps w m (record { place = p; insn = insn }) f g → IsTrue (jumps insn.op) → ¬ (All IsNotFresh g.stack) → FailsAt w m p FreshKept
   fail-jump g s j n = record { frame = f; derived = h.derived; fails = fails_jump (record { place = p; insn = insn }) g (stands-here m.code listed p h.place insn d) refl s j n }
 
-  pub fall-past : (g : Frame) → Steps w m (record { place = p; insn = insn }) f g → (IsTrue (jumps insn.op) → All IsNotFresh g.stack) → IsTrue (falls insn.op) → length m.code ≤ p + insn.len → FallsPast w m p
+  pub fall-past : (g : Frame) → FlowSteps w m (record { place = p; insn = insn }) f g → (IsTrue (jumps insn.op) → All IsNotFresh g.stack) → IsTrue (falls insn.op) → length m.code ≤ p + insn.len → FallsPast w m p
   fall-past g s ready on past = record {
     frame = f;
     derived = h.derived;

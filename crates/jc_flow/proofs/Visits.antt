@@ -1,5 +1,5 @@
 -- The visit of a place closes it.
-use Rattle.std.proofs.Common.{◌≡◌, ℕ, ◌+◌, ◌<◌, ◌≤◌, List, length, get_or, take, All, IsTrue, Option, Some, None, sym, ◌∙◌, ap, subst, arith}
+use Rattle.std.proofs.Common.{◌≡◌, ℕ, ◌+◌, ◌<◌, ◌≤◌, List, length, get_or, take, All, IsTrue, Option, Some, sym, ◌∙◌, ap, subst, arith}
 use Rattle.std.specs.Prelude.{ℤ, pos, negsuc, Contains}
 use Rattle.std.proofs.lemmas.List.{take_all}
 use Rattle.std.proofs.lemmas.List.Elements.{All-more}
@@ -11,7 +11,7 @@ use Rattle.jc_decode.specs.declared.insn.Placed.{Placed}
 use Rattle.jc_decode.specs.Listing.{falls, targets}
 use Rattle.jc_rules.specs.Demand.{Frame}
 use Rattle.jc_control.specs.Method.{Method, IsMethodOf}
-use Rattle.jc_control.specs.WellFormed.{Stands}
+use Rattle.jc_control.specs.WellFormed.{HasInstruction}
 use Rattle.jc_control.specs.Control.{IsSuccessor, falls_through, jumped}
 use Rattle.jc_rules.specs.Flow.{At, FrameBelow, IsFollowed, caught_frame}
 use Rattle.jc_rules.specs.Typing.{state_at}
@@ -103,7 +103,7 @@ module _ (w : Linked) (is : AreRules w) (m : Method) (t0 t1 t2 t3 : Found) (p : 
   to-successor q (falls_through falls_on) = goes-above w is.order m t2 t3 g g3 q (on falls_on)
   to-successor q (jumped c) = all_contained (IsAtTarget w g t3) (targets m.code (record { place = p; insn = insn })) (pos q) reached c
 
-  same-instruction : (i : Placed) → Stands m.code i → i.place ≡ p → record { place = p; insn = insn } ≡ i
+  same-instruction : (i : Placed) → HasInstruction m.code i → i.place ≡ p → record { place = p; insn = insn } ≡ i
   same-instruction i st e = (is.listed m.code).one (record { place = p; insn = insn }) i (stands-here m.code (is.listed m.code) p here.place insn stepped.decodes) st (sym e)
 
   visit-closed : IsClosed w m t3 p f
@@ -122,6 +122,3 @@ module _ (w : Linked) (is : AreRules w) (m : Method) (t0 t1 t2 t3 : Found) (p : 
     goes = goes-on w is.order m t0 t1 t3 g1 (goes-on w is.order m t1 t2 t3 g2 g3);
     closed = λ x ex. subst (IsClosed w m t3 p) (some-same (sym at ∙ ex)) visit-closed;
   }
-
-pub nothing-there : {f : Frame} → ◌≡◌ {A = Option Frame} None (Some f) → ⊥
-nothing-there e = cc

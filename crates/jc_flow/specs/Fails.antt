@@ -10,9 +10,9 @@ use Rattle.jc_ops.specs.declared.fault.RuleFault.TheVariants.{Overflow, FreshKep
 use Rattle.jc_rules.specs.Demand.{Frame}
 use Rattle.jc_rules.specs.Apply.{RuleRefuses}
 use Rattle.jc_control.specs.Method.{Method}
-use Rattle.jc_control.specs.WellFormed.{Stands}
+use Rattle.jc_control.specs.WellFormed.{HasInstruction}
 use Rattle.jc_control.specs.Control.{IsSuccessor, IsLeader, Covers}
-use Rattle.jc_rules.specs.Flow.{IsNotFresh, Steps, caught_frame, IsDerived}
+use Rattle.jc_rules.specs.Flow.{IsNotFresh, FlowSteps, caught_frame, IsDerived}
 use Rattle.jc_rules.specs.Typing.{Clashes}
 use Rattle.jc_flow.specs.declared.end.FlowEnd.{FlowEnd}
 use Rattle.jc_flow.specs.declared.end.FlowEnd.TheVariants.{NoTyping, Code, BadTarget, FallsOff, BadHandler, Memory}
@@ -23,32 +23,32 @@ use Rattle.jc_flow.specs.declared.end.FlowEnd.TheVariants.{NoTyping, Code, BadTa
 pub data Fails (w : Linked) (m : Method) (p : ℕ) (f : Frame) : RuleFault → Type 0 where
   fails_rule :
       {fault : RuleFault} (i : Placed)
-      → Stands m.code i
+      → HasInstruction m.code i
       → i.place ≡ p
       → RuleRefuses w m.rec p i.insn f fault
       → Fails w m p f fault
   fails_jump :
       (i : Placed) (g : Frame)
-      → Stands m.code i
+      → HasInstruction m.code i
       → i.place ≡ p
-      → Steps w m i f g
+      → FlowSteps w m i f g
       → IsTrue (jumps i.insn.op)
       → ¬ (All IsNotFresh g.stack)
       → Fails w m p f FreshKept
   fails_leader :
       (i : Placed) (g : Frame) (q : ℕ)
-      → Stands m.code i
+      → HasInstruction m.code i
       → i.place ≡ p
-      → Steps w m i f g
+      → FlowSteps w m i f g
       → IsSuccessor m.code i q
       → IsLeader m q
       → ¬ (All IsNotFresh g.stack)
       → Fails w m p f FreshKept
   fails_merge :
       (i : Placed) (g other : Frame) (q : ℕ)
-      → Stands m.code i
+      → HasInstruction m.code i
       → i.place ≡ p
-      → Steps w m i f g
+      → FlowSteps w m i f g
       → IsSuccessor m.code i q
       → IsDerived w m Top q other
       → Clashes w.classes other g
@@ -74,10 +74,10 @@ pub record FallsPast (w : Linked) (m : Method) (p : ℕ) : Type 0 where
   pub frame : Frame
   pub derived : IsDerived w m Top p frame
   pub instruction : Placed
-  pub stands : Stands m.code instruction
+  pub stands : HasInstruction m.code instruction
   pub at : instruction.place ≡ p
   pub after : Frame
-  pub steps : Steps w m instruction frame after
+  pub steps : FlowSteps w m instruction frame after
   pub ready : IsTrue (jumps instruction.insn.op) → All IsNotFresh after.stack
   pub falls_on : IsTrue (falls instruction.insn.op)
   pub past : length m.code ≤ instruction.place + instruction.insn.len

@@ -8,7 +8,7 @@ use Rattle.jc_decode.specs.declared.insn.Placed.{Placed}
 use Rattle.jc_decode.specs.Listing.{falls}
 use Rattle.jc_rules.specs.Demand.{Frame}
 use Rattle.jc_control.specs.Method.{Method}
-use Rattle.jc_control.specs.WellFormed.{Stands, IsPlace}
+use Rattle.jc_control.specs.WellFormed.{HasInstruction, IsPlace}
 use Rattle.jc_control.specs.Control.{IsLeader, Covers}
 use Rattle.jc_rules.specs.Flow.{IsNotFresh, IsNotTop, At, FrameBelow, caught_frame, IsFollowed, IsDerived}
 use Rattle.jc_rules.specs.Typing.{state_at, rises_of}
@@ -37,8 +37,8 @@ pub record IsClosed (w : Linked) (m : Method) (found : Found) (p : ℕ) (f : Fra
       → Contains m.rec.handlers h
       → Covers h p
       → At (state_at found.states) h.entry (FrameBelow w.classes (caught_frame h f))
-  pub rule : (i : Placed) → Stands m.code i → i.place ≡ p → IsFollowed w m (state_at found.states) i f
-  pub stays : (i : Placed) → Stands m.code i → i.place ≡ p → IsTrue (falls i.insn.op) → i.place + i.insn.len < length m.code
+  pub rule : (i : Placed) → HasInstruction m.code i → i.place ≡ p → IsFollowed w m (state_at found.states) i f
+  pub stays : (i : Placed) → HasInstruction m.code i → i.place ≡ p → IsTrue (falls i.insn.op) → i.place + i.insn.len < length m.code
 
 -- each frame is closed, or its place waits
 abbrev pub AreClosed : Linked → Method → Found → Type 0

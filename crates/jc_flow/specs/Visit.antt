@@ -9,7 +9,7 @@ use Rattle.jc_decode.specs.Listing.{falls, jumps}
 use Rattle.jc_rules.specs.Demand.{Frame}
 use Rattle.jc_control.specs.Method.{Method, IsMethodOf}
 use Rattle.jc_control.specs.Control.{Covers}
-use Rattle.jc_rules.specs.Flow.{IsNotFresh, Steps, At, FrameBelow, caught_frame}
+use Rattle.jc_rules.specs.Flow.{IsNotFresh, FlowSteps, At, FrameBelow, caught_frame}
 use Rattle.jc_rules.specs.Typing.{state_at}
 use Rattle.jc_flow.specs.Found.{Found}
 use Rattle.jc_flow.specs.Progress.{IsHeld, AreHeld, IsClosed, Grown, most_rises}
@@ -58,7 +58,7 @@ pub record HandlersRaised (w : Linked) (m : Method) (p : ℕ) (f : Frame) (old n
 -- the instruction at a place has taken f to g
 pub record HasStepped (w : Linked) (m : Method) (p : ℕ) (f g : Frame) (insn : Insn) : Type 0 where
   pub decodes : decoded m.code p ≡ Ok insn
-  pub steps : Steps w m (record { place = p; insn = insn }) f g
+  pub steps : FlowSteps w m (record { place = p; insn = insn }) f g
   pub ready : IsTrue (jumps insn.op) → All IsNotFresh g.stack
   pub stays : IsTrue (falls insn.op) → p + insn.len < length m.code
 

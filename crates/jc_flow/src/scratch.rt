@@ -50,6 +50,7 @@ impl Scratch {
         })
     }
 
+    /// The types of the registers.
     pub fn regs(&self) -> &[Ty]
         ensures { result.now ≡ self.now.frame.regs }
     {

@@ -135,7 +135,7 @@ IsSound w m place (ops.TypeTest test ty) = IsNamedType w.classes ty
 IsSound w m place (ops.Return result) = (result ≡ m.sig.result) × IfSome result (IsResult w.classes)
 IsSound w m place _ = ⊤
 
--- each operation of an instruction is sound, in code of any method with a declared result, be it of the world or not
+-- each operation of an instruction is sound, in code of any method with a declared result, of the world or not
 abbrev pub OperationsAreSound : Linked → Type 0
 OperationsAreSound w =
     (m : MethodRec) (place : ℕ) (i : Insn) (op : Operation)

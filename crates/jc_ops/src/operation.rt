@@ -42,6 +42,7 @@ pub enum Move {
     Exchange { top: u8, under: u8 },
 }
 
+/// What is computed of two numbers (JCVM 2.2, section 7.5, from `sadd` to `ixor`).
 #[derive(Clone, Copy)]
 pub enum Operator {
     Add,
@@ -57,6 +58,7 @@ pub enum Operator {
     ExclusiveOr,
 }
 
+/// What is computed of the numbers on top of the stack: of two, the negative of one, a conversion, or which of two ints is greater.
 #[derive(Clone, Copy)]
 pub enum Arithmetic {
     Binary(Operator, Width),
@@ -68,6 +70,7 @@ pub enum Arithmetic {
     CompareInts,
 }
 
+/// How two numbers, or a number and zero, are compared.
 #[derive(Clone, Copy)]
 pub enum Order {
     Equal,
@@ -78,6 +81,7 @@ pub enum Order {
     LessOrEqual,
 }
 
+/// How two references, or a reference and null, are compared.
 #[derive(Clone, Copy)]
 pub enum Sameness {
     Equal,
@@ -140,6 +144,7 @@ pub struct Callee {
     pub choice: Choice,
 }
 
+/// What a test of an object's type does: `checkcast` throws, and `instanceof` gives a short.
 #[derive(Clone, Copy)]
 pub enum TypeTest {
     Cast,

@@ -11,7 +11,7 @@ use Rattle.jc_ops.specs.declared.want.Want.{Want}
 use Rattle.jc_ops.specs.declared.want.Want.TheVariants.{Value, Storable, ByteArray, AnyArray, Whole, Receiver}
 use Rattle.jc_rules.specs.declared.demand.Demand.{Demand}
 use Rattle.jc_rules.specs.declared.demand.Demand.TheVariants.{Registers, Depth, Cell, Cut, Held}
-use Rattle.jc_rules.specs.Demand.{Frame, IsArrayOrNull, IsHalf, IsFreshOf, Meets, Splits, Holds, is_array_or_null, is_half, is_fresh_of, meets, is_low, is_high, met_at, holds, AreDecided}
+use Rattle.jc_rules.specs.Demand.{Frame, IsArrayOrNull, IsHalf, IsFreshOf, Meets, Splits, Satisfies, is_array_or_null, is_half, is_fresh_of, meets, is_low, is_high, met_at, satisfies, AreDecided}
 
 either : (a b : Bool) (P Q : Type 0) → MatchBool a P (¬ P) → MatchBool b Q (¬ Q) → MatchBool (a || b) (P ⊎ Q) (¬ (P ⊎ Q))
 either true b P Q p q = inl p
@@ -142,7 +142,7 @@ module _ (t : ClassTable) (are : IsOrderOfTypes t) where
   met-decided want None = λ h. h
   met-decided want (Some found) = want-decided want found
 
-  demand-decided : (f : Frame) (d : Demand) → MatchBool (holds t f d) (Holds t f d) (¬ (Holds t f d))
+  demand-decided : (f : Frame) (d : Demand) → MatchBool (satisfies t f d) (Satisfies t f d) (¬ (Satisfies t f d))
   demand-decided f (Registers x n) = at-most (x + n) (length f.regs)
   demand-decided f (Depth n) = at-most n (length f.stack)
   demand-decided f (Cell n want) = met-decided want (slice_get f.stack n)

@@ -18,16 +18,16 @@ use Rattle.jc_rules.specs.declared.effect.Mode.TheVariants.{Card, Flow}
 use Rattle.jc_rules.specs.declared.effect.Cells.{Cells}
 use Rattle.jc_rules.specs.declared.effect.Cells.TheVariants as given
 use Rattle.jc_rules.specs.Effect.{changed, reg, IsStored, Writes, WritesCells}
-use Rattle.jc_rules.specs.Demand.{Frame, AllHold, Breaks, here, later}
+use Rattle.jc_rules.specs.Demand.{Frame, SatisfiesAll, IsFirstUnmet, here, later}
 use Rattle.jc_rules.specs.Rule.{effect}
 use Rattle.jc_rules.specs.Apply.{OperationApplies, OperationRefuses, unmet, full, RuleApplies, RuleRefuses, unresolved, refused_by, Applies, Refuses}
 use Rattle.jc_rules.specs.Laws.{OperationDecides, RuleDecides}
 
-breaks-not : (t : ClassTable) (f : Frame) {ds : List Demand} {fault : RuleFault} → Breaks t f ds fault → AllHold t f ds → ⊥
+breaks-not : (t : ClassTable) (f : Frame) {ds : List Demand} {fault : RuleFault} → IsFirstUnmet t f ds fault → SatisfiesAll t f ds → ⊥
 breaks-not t f (here n e) all = n all.0
 breaks-not t f (later h b) all = breaks-not t f b all.1
 
-breaks-unique : (t : ClassTable) (f : Frame) {ds : List Demand} {fault other : RuleFault} → Breaks t f ds fault → Breaks t f ds other → fault ≡ other
+breaks-unique : (t : ClassTable) (f : Frame) {ds : List Demand} {fault other : RuleFault} → IsFirstUnmet t f ds fault → IsFirstUnmet t f ds other → fault ≡ other
 breaks-unique t f (here n e) (here m d) = e ∙ sym d
 breaks-unique t f (here n e) (later h b) = absurd (n h)
 breaks-unique t f (later h b) (here n e) = absurd (n h)

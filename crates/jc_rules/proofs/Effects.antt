@@ -45,13 +45,13 @@ use Rattle.jc_rules.specs.declared.effect.Change.{Change}
 use Rattle.jc_rules.specs.declared.effect.Change.TheVariants.{Replace, CopyUnder, Exchange, MakeReady}
 use Rattle.jc_rules.specs.declared.effect.Effect.{Effect}
 use Rattle.jc_rules.specs.Effect.{listed, ready, changed, needed, depth_after, reg}
-use Rattle.jc_rules.specs.Demand.{Frame, Meets, AllHold, AreKnown}
+use Rattle.jc_rules.specs.Demand.{Frame, Meets, SatisfiesAll, AreKnown}
 use Rattle.jc_rules.specs.Rule.{cell, number, two_numbers, size, number_given, value_given, value_wanted, value_size, on_stack, replacing, storing, constant_effect, load_demands, load_effect, or_null, store_demands, store_effect, increment_demands, increment_effect, move_demands, move_effect, arithmetic_demands, arithmetic_effect, element, array_read_demands, array_read_effect, array_write_demands, array_write_effect, branch_demands, branch_effect, field_read_demands, field_read_effect, field_write_demands, field_write_effect, cells_wanted, call_demands, call_effect, ready_with, result_given, args_at, result_at, standing, seen, type_test_effect, array_wanted, a_reference, return_demands, return_effect, demands, effect}
 use Rattle.jc_rules.specs.Known.{IsValue, IsKnownCallee, IsKnownOperation}
 use Rattle.jc_rules.specs.Flow.{IsNotFresh, IsNotTop}
 use Rattle.jc_rules.specs.Laws.{IsNotBottom}
 use Rattle.jc_rules.proofs.Falls.{plain_class, top_not_below_class, some-or}
-use Rattle.jc_rules.proofs.Demands.{AllHold-front, AllHold-rest, AllHold-append}
+use Rattle.jc_rules.proofs.Demands.{SatisfiesAll-front, SatisfiesAll-rest, SatisfiesAll-append}
 
 -- ---- the number of cells
 
@@ -265,11 +265,11 @@ module _ (t : ClassTable) (f : Frame) where
   pub suits-on_stack : (c : Change) → needed c ≤ length f.stack → ChangeKnown t c → Suits t f (on_stack c)
   suits-on_stack c h k = record { there = h; inside = omega arith; stored = tt; change = k }
 
-  number-there : (w : Width) (n : ℕ) → AllHold t f (number w n) → n + size w ≤ length f.stack
+  number-there : (w : Width) (n : ℕ) → SatisfiesAll t f (number w n) → n + size w ≤ length f.stack
   number-there widths.Short n h = cell-there f.stack n (Meets t (Value Short)) h.0
   number-there widths.Int n h = let two : n + 1 + 1 ≤ length f.stack = cell-there f.stack (n + 1) (Meets t (Value IntHigh)) h.1.0 in omega arith
 
-  two-there : (w : Width) → AllHold t f (two_numbers w) → size w + size w ≤ length f.stack
+  two-there : (w : Width) → SatisfiesAll t f (two_numbers w) → size w + size w ≤ length f.stack
   two-there widths.Short h = cell-there f.stack 1 (Meets t (Value Short)) h.1.0
   two-there widths.Int h = cell-there f.stack 3 (Meets t (Value IntHigh)) h.1.1.1.0
 
@@ -297,7 +297,7 @@ module _ (t : ClassTable) (f : Frame) where
   value-known Top k = k
 
   module _ (rest : List Demand) where
-    value-there : (ty : Ty) → AllHold t f (value_wanted ty ++ rest) → value_size ty ≤ length f.stack
+    value-there : (ty : Ty) → SatisfiesAll t f (value_wanted ty ++ rest) → value_size ty ≤ length f.stack
     value-there IntHigh h = cell-there f.stack 1 (Meets t (Value IntHigh)) h.1.0
     value-there Bottom h = cell-there f.stack 0 (Meets t (Value Bottom)) h.0
     value-there Short h = cell-there f.stack 0 (Meets t (Value Short)) h.0
@@ -387,21 +387,21 @@ module _ (t : ClassTable) (f : Frame) where
     suits-constant (constants.Short n) = suits-replacing 0 (given.One Short) (omega arith) (tt, tt)
     suits-constant (constants.Int n) = suits-replacing 0 given.Int (omega arith) tt
 
-    suits-load : (s : Sort) (x : ℕ) → AllHold t f (load_demands t s x) → Suits t f (load_effect s x f)
+    suits-load : (s : Sort) (x : ℕ) → SatisfiesAll t f (load_demands t s x) → Suits t f (load_effect s x f)
     suits-load sorts.Reference x h = let lt : x < length f.regs = omega (arith, h.0) in suits-replacing 0 (given.One (or_null (reg f.regs x))) (omega arith) (or_null-known (reg f.regs x) (reg-known x lt), or_null-full (reg f.regs x) (topless_class t (reg f.regs x) (some-or (λ ty. Below t ty (Class (object t))) f.regs x h.1.0)))
     suits-load sorts.Short x h = suits-replacing 0 (given.One Short) (omega arith) (tt, tt)
     suits-load sorts.Int x h = suits-replacing 0 given.Int (omega arith) tt
 
-    suits-store : (s : Sort) (x : ℕ) → AllHold t f (store_demands s x) → Suits t f (store_effect s x f)
+    suits-store : (s : Sort) (x : ℕ) → SatisfiesAll t f (store_demands s x) → Suits t f (store_effect s x f)
     suits-store sorts.Reference x h = let there : 0 + 1 ≤ length f.stack = cell-there f.stack 0 (Meets t Storable) h.1.0 in suits-storing 1 x (given.One (cell f.stack 0)) (omega arith) h.0 (cell-known 0 (omega arith), plain_class t (cell f.stack 0) (some-or (λ ty. Below t ty (Class (object t))) f.stack 0 h.1.0))
     suits-store sorts.Short x h = suits-storing 1 x (given.One Short) (cell-there f.stack 0 (Meets t (Value Short)) h.1.0) h.0 (tt, tt)
     suits-store sorts.Int x h = suits-storing 2 x given.Int (cell-there f.stack 1 (Meets t (Value IntHigh)) h.1.1.0) h.0 tt
 
-    suits-increment : (w : Width) (x : ℕ) → AllHold t f (increment_demands w x) → Suits t f (increment_effect w x)
+    suits-increment : (w : Width) (x : ℕ) → SatisfiesAll t f (increment_demands w x) → Suits t f (increment_effect w x)
     suits-increment widths.Short x h = suits-storing 0 x (given.One Short) (omega arith) h.0 (tt, tt)
     suits-increment widths.Int x h = suits-storing 0 x given.Int (omega arith) h.0 tt
 
-    suits-move : (m : Move) → AllHold t f (move_demands m) → Suits t f (move_effect m)
+    suits-move : (m : Move) → SatisfiesAll t f (move_demands m) → Suits t f (move_effect m)
     suits-move moves.Pop h = suits-replacing 1 given.Nothing (cell-there f.stack 0 (Meets t Whole) h.0) tt
     suits-move moves.PopTwo h = suits-replacing 2 given.Nothing h.0 tt
     suits-move moves.Duplicate h = let there : 0 + 1 ≤ length f.stack = cell-there f.stack 0 (Meets t Whole) h.0 in suits-on_stack (CopyUnder 1 0) (omega arith) tt
@@ -409,7 +409,7 @@ module _ (t : ClassTable) (f : Frame) where
     suits-move (moves.CopyUnder p n) h = suits-on_stack (CopyUnder p n) (omega (arith, h.0, h.1.1.0)) tt
     suits-move (moves.Exchange p n) h = suits-on_stack (Exchange p n) h.1.1.0 tt
 
-    suits-arithmetic : (a : Arithmetic) → AllHold t f (arithmetic_demands a) → Suits t f (arithmetic_effect a)
+    suits-arithmetic : (a : Arithmetic) → SatisfiesAll t f (arithmetic_demands a) → Suits t f (arithmetic_effect a)
     suits-arithmetic (arithmetic.Binary o widths.Short) h = suits-replacing 2 (given.One Short) (two-there widths.Short h) (tt, tt)
     suits-arithmetic (arithmetic.Binary o widths.Int) h = suits-replacing 4 given.Int (two-there widths.Int h) tt
     suits-arithmetic (arithmetic.Negate w) h = let there : 0 + size w ≤ length f.stack = number-there w 0 h in suits-replacing (size w) (number_given w) (omega arith) (number-known w)
@@ -421,51 +421,51 @@ module _ (t : ClassTable) (f : Frame) where
 
     -- ---- objects
 
-    suits-array_read : (kind : Kind) → AllHold t f (array_read_demands t kind) → Suits t f (array_read_effect kind f)
+    suits-array_read : (kind : Kind) → SatisfiesAll t f (array_read_demands t kind) → Suits t f (array_read_effect kind f)
     suits-array_read kinds.Ref h = let there : 1 + 1 ≤ length f.stack = cell-there f.stack 1 (Meets t (array_wanted t kinds.Ref)) h.1.0 in suits-replacing 2 (given.One (element (cell f.stack 1))) there (element-known (cell f.stack 1) (cell-known 1 (omega arith)), element-full (cell f.stack 1))
     suits-array_read kinds.Byte h = suits-replacing 2 (given.One Short) (cell-there f.stack 1 (Meets t (array_wanted t kinds.Byte)) h.1.0) (tt, tt)
     suits-array_read kinds.Short h = suits-replacing 2 (given.One Short) (cell-there f.stack 1 (Meets t (array_wanted t kinds.Short)) h.1.0) (tt, tt)
     suits-array_read kinds.Int h = suits-replacing 2 given.Int (cell-there f.stack 1 (Meets t (array_wanted t kinds.Int)) h.1.0) tt
 
-    suits-array_write : (kind : Kind) → AllHold t f (array_write_demands t kind) → Suits t f (array_write_effect kind)
+    suits-array_write : (kind : Kind) → SatisfiesAll t f (array_write_demands t kind) → Suits t f (array_write_effect kind)
     suits-array_write kinds.Ref h = suits-replacing 3 given.Nothing (cell-there f.stack 2 (Meets t (array_wanted t kinds.Ref)) h.1.1.0) tt
     suits-array_write kinds.Byte h = suits-replacing 3 given.Nothing (cell-there f.stack 2 (Meets t (array_wanted t kinds.Byte)) h.1.1.0) tt
     suits-array_write kinds.Short h = suits-replacing 3 given.Nothing (cell-there f.stack 2 (Meets t (array_wanted t kinds.Short)) h.1.1.0) tt
     suits-array_write kinds.Int h = suits-replacing 4 given.Nothing (cell-there f.stack 3 (Meets t (array_wanted t kinds.Int)) h.1.1.1.0) tt
 
-    suits-branch : (b : Branch) → AllHold t f (branch_demands t b) → Suits t f (branch_effect b)
+    suits-branch : (b : Branch) → SatisfiesAll t f (branch_demands t b) → Suits t f (branch_effect b)
     suits-branch branches.Always h = suits-replacing 0 given.Nothing (omega arith) tt
     suits-branch (branches.Zero o) h = suits-replacing 1 given.Nothing (number-there widths.Short 0 h) tt
     suits-branch (branches.Null e) h = suits-replacing 1 given.Nothing (cell-there f.stack 0 (Meets t (a_reference t)) h.0) tt
     suits-branch (branches.References e) h = suits-replacing 2 given.Nothing (cell-there f.stack 1 (Meets t (a_reference t)) h.1.0) tt
     suits-branch (branches.Shorts o) h = suits-replacing 2 given.Nothing (two-there widths.Short h) tt
 
-    suits-read : (h : Holder) (c : ℕ) (ty : Ty) → IsKnown t ty × IsValue ty → AllHold t f (field_read_demands h c) → Suits t f (field_read_effect h ty)
+    suits-read : (h : Holder) (c : ℕ) (ty : Ty) → IsKnown t ty × IsValue ty → SatisfiesAll t f (field_read_demands h c) → Suits t f (field_read_effect h ty)
     suits-read holders.Stack c ty known h = suits-replacing 1 (value_given ty) (cell-there f.stack 0 (Meets t (Value (Class c))) h.0) (value-known ty known)
     suits-read holders.This c ty known h = suits-replacing 0 (value_given ty) (omega arith) (value-known ty known)
 
-    suits-write : (h : Holder) (c : ℕ) (ty : Ty) → AllHold t f (field_write_demands h c ty) → Suits t f (field_write_effect h ty)
-    suits-write holders.Stack c ty h = suits-replacing (value_size ty + 1) given.Nothing (cell-there f.stack (value_size ty) (Meets t (Value (Class c))) (AllHold-rest t f (value_wanted ty) (Cell (value_size ty) (Value (Class c)) ∷ []) h).0) tt
+    suits-write : (h : Holder) (c : ℕ) (ty : Ty) → SatisfiesAll t f (field_write_demands h c ty) → Suits t f (field_write_effect h ty)
+    suits-write holders.Stack c ty h = suits-replacing (value_size ty + 1) given.Nothing (cell-there f.stack (value_size ty) (Meets t (Value (Class c))) (SatisfiesAll-rest t f (value_wanted ty) (Cell (value_size ty) (Value (Class c)) ∷ []) h).0) tt
     suits-write holders.This c ty h = suits-replacing (value_size ty) given.Nothing (value-there (Held 0 (Class c) ∷ []) ty h.1) tt
 
     suits-test : (test : TypeTest) (ty : Ty) → IsKnown t ty × IsValue ty → 0 + 1 ≤ length f.stack → Suits t f (type_test_effect test ty)
     suits-test tests.Cast ty known h = suits-replacing 1 (given.One ty) h known
     suits-test tests.InstanceOf ty known h = suits-replacing 1 (given.One Short) h (tt, tt)
 
-    suits-popped : (ty : Ty) → AllHold t f (value_wanted ty) → Suits t f (replacing (value_size ty) given.Nothing)
-    suits-popped ty h = suits-replacing (value_size ty) given.Nothing (value-there [] ty (AllHold-append t f (value_wanted ty) [] h tt)) tt
+    suits-popped : (ty : Ty) → SatisfiesAll t f (value_wanted ty) → Suits t f (replacing (value_size ty) given.Nothing)
+    suits-popped ty h = suits-replacing (value_size ty) given.Nothing (value-there [] ty (SatisfiesAll-append t f (value_wanted ty) [] h tt)) tt
 
     -- ---- calls
 
-    cells-there : (n : ℕ) (tys : List Ty) → n ≤ length f.stack → AllHold t f (cells_wanted n tys) → n + length tys ≤ length f.stack
+    cells-there : (n : ℕ) (tys : List Ty) → n ≤ length f.stack → SatisfiesAll t f (cells_wanted n tys) → n + length tys ≤ length f.stack
     cells-there n [] le h = omega arith
     cells-there n (ty ∷ tys) le h =
         let more : (n + 1) + length tys ≤ length f.stack = cells-there (n + 1) tys (cell-there f.stack n (Meets t (Value ty)) h.0) h.1 in
         omega arith
 
-    arguments-there : (args : List Ty) (ds : List Demand) → AllHold t f (cells_wanted 0 (reverse args) ++ ds) → length args ≤ length f.stack
+    arguments-there : (args : List Ty) (ds : List Demand) → SatisfiesAll t f (cells_wanted 0 (reverse args) ++ ds) → length args ≤ length f.stack
     arguments-there args ds h =
-        let there : 0 + length (reverse args) ≤ length f.stack = cells-there 0 (reverse args) (omega arith) (AllHold-front t f (cells_wanted 0 (reverse args)) ds h) in
+        let there : 0 + length (reverse args) ≤ length f.stack = cells-there 0 (reverse args) (omega arith) (SatisfiesAll-front t f (cells_wanted 0 (reverse args)) ds h) in
         omega (arith, length-reverse args)
 
     result-known : (o : Option Ty) → IfSome o (λ ty. IsKnown t ty × IsValue ty) → CellsKnown t (result_given o)
@@ -492,11 +492,11 @@ module _ (t : ClassTable) (f : Frame) where
     suits-ready taken cells (ArrRef c) want le known w = suits-on_stack (Replace taken cells) le known
     suits-ready taken cells Top want le known w = suits-on_stack (Replace taken cells) le known
 
-    suits-call : (args : List Ty) (result : Option Ty) (receiver : Option Want) → IfSome result (λ ty. IsKnown t ty × IsValue ty) → IfSome receiver (IsKnownWant t) → AllHold t f (call_demands args receiver) → Suits t f (call_effect args result receiver f)
+    suits-call : (args : List Ty) (result : Option Ty) (receiver : Option Want) → IfSome result (λ ty. IsKnown t ty × IsValue ty) → IfSome receiver (IsKnownWant t) → SatisfiesAll t f (call_demands args receiver) → Suits t f (call_effect args result receiver f)
     suits-call args result None known w h = suits-on_stack (Replace (length args) (result_given result)) (arguments-there args [] h) (result-known result known)
     suits-call args result (Some want) known w h =
         suits-ready (length args + 1) (result_given result) (cell f.stack (length args)) want
-        (cell-there f.stack (length args) (Meets t want) (AllHold-rest t f (cells_wanted 0 (reverse args)) (Cell (length args) want ∷ []) h).0)
+        (cell-there f.stack (length args) (Meets t want) (SatisfiesAll-rest t f (cells_wanted 0 (reverse args)) (Cell (length args) want ∷ []) h).0)
         (result-known result known) w
 
 -- ---- the rule
@@ -569,12 +569,12 @@ module _ (w : Linked) (is : IsWorld w) (f : Frame) (k : AreKnown w.classes f) wh
   suits-nothing : Suits w.classes f (replacing 0 given.Nothing)
   suits-nothing = suits-replacing w.classes f 0 given.Nothing (omega arith) tt
 
-  suits-return : (result : Option Ty) → AllHold w.classes f (return_demands result) → Suits w.classes f (return_effect result)
+  suits-return : (result : Option Ty) → SatisfiesAll w.classes f (return_demands result) → Suits w.classes f (return_effect result)
   suits-return (Some ty) all = suits-popped w.classes f k ty all
   suits-return None all = suits-nothing
 
   -- where what an operation asks is met, what it does suits the frame
-  pub suits : (op : Operation) → IsKnownOperation w op → AllHold w.classes f (demands w op) → Suits w.classes f (effect w op f)
+  pub suits : (op : Operation) → IsKnownOperation w op → SatisfiesAll w.classes f (demands w op) → Suits w.classes f (effect w op f)
   suits (ops.Constant c) known all = suits-constant w.classes f k c
   suits (ops.Load s x) known all = suits-load w.classes f k s x all
   suits (ops.Store s x) known all = suits-store w.classes f k s x all
@@ -598,7 +598,7 @@ module _ (w : Linked) (is : IsWorld w) (f : Frame) (k : AreKnown w.classes f) wh
   suits (ops.Return result) known all = suits-return result all
 
 -- what an operation stores where no cell is Bottom
-pub stored-full : (w : Linked) (f : Frame) (op : Operation) → AllHold w.classes f (demands w op) → All IsNotBottom f.stack → CellsFull (effect w op f).store.cells
+pub stored-full : (w : Linked) (f : Frame) (op : Operation) → SatisfiesAll w.classes f (demands w op) → All IsNotBottom f.stack → CellsFull (effect w op f).store.cells
 stored-full w f (ops.Store sorts.Reference x) all full =
     let there : 0 + 1 ≤ length f.stack = cell-there w.classes f f.stack 0 (Meets w.classes Storable) all.1.0 in
     All-get_or IsNotBottom f.stack 0 Top (omega arith) full

@@ -28,14 +28,14 @@ use Rattle.jc_rules.specs.declared.effect.Mode.{Mode}
 use Rattle.jc_rules.specs.declared.effect.Mode.TheVariants.{Card, Flow}
 use Rattle.jc_rules.specs.declared.rule.Outcome.{Outcome}
 use Rattle.jc_rules.specs.Effect.{listed, ready, changed, reg, IsStored, Writes, WritesCells, Stores, rises}
-use Rattle.jc_rules.specs.Demand.{Frame, IsArrayOrNull, IsHalf, IsFreshOf, Meets, Holds, AllHold}
+use Rattle.jc_rules.specs.Demand.{Frame, IsArrayOrNull, IsHalf, IsFreshOf, Meets, Satisfies, SatisfiesAll}
 use Rattle.jc_ops.specs.Next.{falls_from, ends_at}
 use Rattle.jc_rules.specs.Rule.{cell, or_null, element, ready_with, call_demands, call_effect, cells_wanted, args_at, result_at, result_given, load_demands, load_effect, store_effect, array_read_demands, array_read_effect, wrote, demands, effect}
 use Rattle.jc_rules.specs.Flow.{CellsBelow, no_cells, more_cells, FrameBelow, IsNotTop, IsNotFresh}
 use Rattle.jc_rules.specs.Laws.{IsNotBottom, OperationFalls, OperationFallsTo, RuleFalls}
 use Rattle.jc_rules.specs.Apply.{OperationApplies}
 use Rattle.jc_rules.proofs.CellLists.{Each, each-from_All, each-at, PairAt, cells-at, cells-or, cells-length, cells-same, cells-append, cells-take, cells-drop, cells-set}
-use Rattle.jc_rules.proofs.Demands.{AllHold-rest}
+use Rattle.jc_rules.proofs.Demands.{SatisfiesAll-rest}
 
 -- ---- what lies below and above
 
@@ -371,7 +371,7 @@ module _ (t : ClassTable) where
 
   -- f is the lesser frame, g the greater
   module _ (f g : Frame) (regs : CellsBelow t f.regs g.regs) (stack : CellsBelow t f.stack g.stack) (no_top : Each IsNotTop g.stack) (no_bottom : Each IsNotBottom f.stack) where
-    holds-falls : (d : Demand) → Holds t g d → Holds t f d
+    holds-falls : (d : Demand) → Satisfies t g d → Satisfies t f d
     holds-falls (Registers x n) h = subst (λ k. x + n ≤ k) (sym (cells-length t regs)) h
     holds-falls (Depth n) h = subst (λ k. n ≤ k) (sym (cells-length t stack)) h
     holds-falls (Cell n want) h = cell-falls want (slice_get f.stack n) (slice_get g.stack n) (cells-at t n stack) (each-at IsNotBottom f.stack n no_bottom) (each-at IsNotTop g.stack n no_top) h
@@ -381,7 +381,7 @@ module _ (t : ClassTable) where
     )
     holds-falls (Held x ty) h = held-falls ty (slice_get f.regs x) (slice_get g.regs x) (cells-at t x regs) h
 
-    all-falls : (ds : List Demand) → AllHold t g ds → AllHold t f ds
+    all-falls : (ds : List Demand) → SatisfiesAll t g ds → SatisfiesAll t f ds
     all-falls [] h = tt
     all-falls (d ∷ ds) h = (holds-falls d h.0, all-falls ds h.1)
 
@@ -659,7 +659,7 @@ each-or P (x ∷ xs) zero top h = h.0
 each-or P (x ∷ xs) (suc n) top h = each-or P xs n top h.1
 
 module _ (w : Linked) (are : IsOrderOfTypes w.classes) (f g : Frame) (regs : CellsBelow w.classes f.regs g.regs) (stack : CellsBelow w.classes f.stack g.stack) (no_bottom : Each IsNotBottom f.stack) where
-  load-falls : (s : Sort) (x : ℕ) → AllHold w.classes g (load_demands w.classes s x) → EffectBelow w.classes (load_effect s x f) (load_effect s x g)
+  load-falls : (s : Sort) (x : ℕ) → SatisfiesAll w.classes g (load_demands w.classes s x) → EffectBelow w.classes (load_effect s x f) (load_effect s x g)
   unfolding ChangeBelow GivenBelow ReferenceDown
   load-falls sorts.Reference x h = record {
     change = (
@@ -679,7 +679,7 @@ module _ (w : Linked) (are : IsOrderOfTypes w.classes) (f g : Frame) (regs : Cel
   store-falls sorts.Short x = effect-same w.classes are (store_effect sorts.Short x g)
   store-falls sorts.Int x = effect-same w.classes are (store_effect sorts.Int x g)
 
-  array-falls : (k : Kind) → AllHold w.classes g (array_read_demands w.classes k) → EffectBelow w.classes (array_read_effect k f) (array_read_effect k g)
+  array-falls : (k : Kind) → SatisfiesAll w.classes g (array_read_demands w.classes k) → EffectBelow w.classes (array_read_effect k f) (array_read_effect k g)
   unfolding ChangeBelow GivenBelow ReferencesDown
   array-falls kinds.Ref h = record {
     change = (
@@ -694,7 +694,7 @@ module _ (w : Linked) (are : IsOrderOfTypes w.classes) (f g : Frame) (regs : Cel
   array-falls kinds.Short h = effect-same w.classes are (array_read_effect kinds.Short g)
   array-falls kinds.Int h = effect-same w.classes are (array_read_effect kinds.Int g)
 
-  call-falls : (args : List Ty) (result : Option Ty) (receiver : Option Want) → AllHold w.classes g (call_demands args receiver) → EffectBelow w.classes (call_effect args result receiver f) (call_effect args result receiver g)
+  call-falls : (args : List Ty) (result : Option Ty) (receiver : Option Want) → SatisfiesAll w.classes g (call_demands args receiver) → EffectBelow w.classes (call_effect args result receiver f) (call_effect args result receiver g)
   unfolding GivenBelow
   call-falls args result None h = effect-same w.classes are (call_effect args result None g)
   call-falls args result (Some want) h = record {
@@ -702,13 +702,13 @@ module _ (w : Linked) (are : IsOrderOfTypes w.classes) (f g : Frame) (regs : Cel
         (sym (ready_with-falls w.classes are (length args + 1) (result_given result) want (cell f.stack (length args)) (cell g.stack (length args))
         (cells-or w.classes (length args) stack)
         (each-or IsNotBottom f.stack (length args) tt no_bottom)
-        (some-or (Meets w.classes want) g.stack (length args) (AllHold-rest w.classes g (cells_wanted 0 (reverse args)) (Cell (length args) want ∷ []) h).0)))
+        (some-or (Meets w.classes want) g.stack (length args) (SatisfiesAll-rest w.classes g (cells_wanted 0 (reverse args)) (Cell (length args) want ∷ []) h).0)))
         (change-same w.classes are (ready_with (length args + 1) (result_given result) (cell g.stack (length args)) want));
     register = refl;
     cells = tt;
   }
 
-  effect-falls : (op : Operation) → AllHold w.classes g (demands w op) → EffectBelow w.classes (effect w op f) (effect w op g)
+  effect-falls : (op : Operation) → SatisfiesAll w.classes g (demands w op) → EffectBelow w.classes (effect w op f) (effect w op g)
   effect-falls (ops.Load s x) h = load-falls s x h
   effect-falls (ops.Store s x) h = store-falls s x
   effect-falls (ops.ArrayRead k) h = array-falls k h
@@ -735,7 +735,7 @@ module _ (w : Linked) (are : IsOrderOfTypes w.classes) (f g : Frame) (regs : Cel
 module _ (w : Linked) (are : IsOrderOfTypes w.classes) (limit : ℕ) (op : Operation) (mode : Mode) (greater lesser after : Frame) (o : Outcome) (below : FrameBelow w.classes lesser greater)
     (no_top : All IsNotTop greater.stack) (no_bottom : All IsNotBottom lesser.stack) (a : OperationApplies w limit op mode greater after o) where
   -- what is asked is met
-  pub asked-falls : AllHold w.classes lesser (demands w op)
+  pub asked-falls : SatisfiesAll w.classes lesser (demands w op)
   asked-falls = all-falls w.classes lesser greater below.regs below.stack (each-from_All IsNotTop greater.stack no_top) (each-from_All IsNotBottom lesser.stack no_bottom) (demands w op) a.asked
 
   -- what is done is lesser

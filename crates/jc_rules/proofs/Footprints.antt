@@ -29,7 +29,7 @@ use Rattle.jc_rules.specs.declared.effect.Change.TheVariants.{Replace, CopyUnder
 use Rattle.jc_rules.specs.declared.effect.Mode.{Mode}
 use Rattle.jc_rules.specs.declared.effect.Mode.TheVariants.{Card, Flow}
 use Rattle.jc_rules.specs.Effect.{listed, changed, needed, depth_after, reg, Writes, WritesCells, Stores, rises}
-use Rattle.jc_rules.specs.Demand.{Frame, Meets, Holds, AllHold}
+use Rattle.jc_rules.specs.Demand.{Frame, Meets, Satisfies, SatisfiesAll}
 use Rattle.jc_rules.specs.Rule.{cell, on_stack, replacing, or_null, ready_with, call_effect, args_at, result_at, result_given, wrote, demands, effect}
 use Rattle.jc_rules.specs.Footprint.{cells_asked, registers_asked, registers_read, IsThere, AreThere, Footprint, footprint_of, footprint, cells_taken, cells_given, MetIsThere, AskedIsThere, AgreeOn, OperationReads, written_by, OperationLeaves, FootprintIsOne, OperationNamesNone, LeavesAlike, AlikeLeaveAlike}
 use Rattle.jc_rules.proofs.Effects.{Suits, suits, sound-known, length-changed}
@@ -40,7 +40,7 @@ read-there : (xs : List Ty) (n : ℕ) (P : Ty → Type 0) (o : Option Ty) → sl
 read-there xs n P None e h = absurd h
 read-there xs n P (Some ty) e h = slice_get_within xs n ty e
 
-met-there : (t : ClassTable) (f : Frame) (d : Demand) → Holds t f d → IsThere (length f.regs) (length f.stack) d
+met-there : (t : ClassTable) (f : Frame) (d : Demand) → Satisfies t f d → IsThere (length f.regs) (length f.stack) d
 met-there t f (Registers x n) h = h
 met-there t f (Depth n) h = h
 met-there t f (Cell n want) h = read-there f.stack n (Meets t want) (slice_get f.stack n) refl h
@@ -85,12 +85,12 @@ asked-is-there regs depth ds = record {
 -- ---- registers that are read
 
 module _ (w : Linked) (f g : Frame) (stack : f.stack ≡ g.stack) where
-  reads-hold : (ds : List Demand) → registers_asked ds ≤ length g.regs → AgreeOn (registers_read ds) f.regs g.regs → AllHold w.classes f ds → AllHold w.classes g ds
+  reads-hold : (ds : List Demand) → registers_asked ds ≤ length g.regs → AgreeOn (registers_read ds) f.regs g.regs → SatisfiesAll w.classes f ds → SatisfiesAll w.classes g ds
   reads-hold [] r a h = tt
   reads-hold (Registers x n ∷ ds) r a h = (omega arith, reads-hold ds (omega arith) a h.1)
   reads-hold (Depth n ∷ ds) r a h = (subst (λ (s : List Ty). n ≤ length s) stack h.0, reads-hold ds r a h.1)
   reads-hold (Cell n want ∷ ds) r a h = (subst (λ (s : List Ty). IsSomeAnd (slice_get s n) (Meets w.classes want)) stack h.0, reads-hold ds r a h.1)
-  reads-hold (Cut n ∷ ds) r a h = (subst (λ (s : List Ty). Holds w.classes (record { regs = f.regs; stack = s }) (Cut n)) stack h.0, reads-hold ds r a h.1)
+  reads-hold (Cut n ∷ ds) r a h = (subst (λ (s : List Ty). Satisfies w.classes (record { regs = f.regs; stack = s }) (Cut n)) stack h.0, reads-hold ds r a h.1)
   reads-hold (Held x ty ∷ ds) r a h = (subst (λ o. IsSomeAnd o (Meets w.classes (Value ty))) a.0 h.0, reads-hold ds (omega arith) a.1 h.1)
 
 -- a register that two lists hold alike

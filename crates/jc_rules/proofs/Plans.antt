@@ -15,16 +15,16 @@ use Rattle.jc_rules.specs.declared.effect.Mode.{Mode}
 use Rattle.jc_rules.specs.declared.rule.Outcome.{Outcome}
 use Rattle.jc_rules.specs.Stack.{cells}
 use Rattle.jc_rules.specs.Effect.{changed, depth_after, Stores, rises}
-use Rattle.jc_rules.specs.Demand.{Frame, AllHold, AreKnown}
+use Rattle.jc_rules.specs.Demand.{Frame, SatisfiesAll, AreKnown}
 use Rattle.jc_ops.specs.Next.{falls_from, ends_at}
 use Rattle.jc_rules.specs.Rule.{demands, effect, wrote}
 use Rattle.jc_rules.specs.Known.{IsKnownOperation}
-use Rattle.jc_rules.specs.Apply.{frame_of, HasRoom, IsPlan, OperationApplies}
+use Rattle.jc_rules.specs.Apply.{frame_of, HasDeclaredLengths, IsPlan, OperationApplies}
 use Rattle.jc_rules.proofs.Effects.{Suits, suits, sound-known, length-changed}
 
 -- the stack would pass the limit
 pub plan-full : (w : Linked) (is : IsWorld w) (f : Frame) (k : AreKnown w.classes f) (op : Operation) (e : Effect) (limit : ℕ) →
-    IsKnownOperation w op → AllHold w.classes f (demands w op) → e ≡ effect w op f → limit < depth_after e.change (length f.stack) → limit < length (changed (effect w op f).change f.stack)
+    IsKnownOperation w op → SatisfiesAll w.classes f (demands w op) → e ≡ effect w op f → limit < depth_after e.change (length f.stack) → limit < length (changed (effect w op f).change f.stack)
 plan-full w is f k op e limit known all is_effect more =
     subst (λ d. limit < d) (sym (length-changed (effect w op f).change f.stack (suits w is f k op known all).there))
     (subst (λ d. limit < depth_after d.change (length f.stack)) is_effect more)
@@ -34,14 +34,14 @@ plan-suits w is f k limit op e known p = subst (Suits w.classes f) (sym p.effect
 
 -- the lengths that a method declares
 module _ (w : Linked) (is : IsWorld w) (n : ℕ) (regs slice : List Ty) (depth : ℕ) where
-  few_at : (o : Option MethodRec) → ((m : MethodRec) → o ≡ Some m → IsMethod w.infos w.pools w.classes m) → IsSomeAnd o (λ m. HasRoom m regs slice depth) → length regs ≤ 255
+  few_at : (o : Option MethodRec) → ((m : MethodRec) → o ≡ Some m → IsMethod w.infos w.pools w.classes m) → IsSomeAnd o (λ m. HasDeclaredLengths m regs slice depth) → length regs ≤ 255
   few_at None all h = absurd h
   few_at (Some m) all h = let most : m.nargs + m.max_locals ≤ 255 = (all m refl).registers in let same : length regs ≡ m.nargs + m.max_locals = h.registers in omega arith
 
-  pub room-few : IsSomeAnd (slice_get w.methods n) (λ m. HasRoom m regs slice depth) → length regs ≤ 255
+  pub room-few : IsSomeAnd (slice_get w.methods n) (λ m. HasDeclaredLengths m regs slice depth) → length regs ≤ 255
   room-few h = few_at (slice_get w.methods n) (λ m e. All-slice_get (IsMethod w.infos w.pools w.classes) w.methods n m is.methods e) h
 
-  pub room-known : IsSomeAnd (slice_get w.methods n) (λ m. HasRoom m regs slice depth) → All (IsKnown w.classes) regs → All (IsKnown w.classes) (cells slice depth) → AreKnown w.classes (frame_of regs slice depth)
+  pub room-known : IsSomeAnd (slice_get w.methods n) (λ m. HasDeclaredLengths m regs slice depth) → All (IsKnown w.classes) regs → All (IsKnown w.classes) (cells slice depth) → AreKnown w.classes (frame_of regs slice depth)
   room-known h r s = record { few = room-few h; regs = r; stack = s; object = is.roles.objects }
 
 in_list : (w : Linked) (n : ℕ) (P : MethodRec → Type 0) (o : Option MethodRec) → slice_get w.methods n ≡ o → IsSomeAnd o P → n < length w.methods
@@ -65,7 +65,7 @@ site-known w place n op h = at (slice_get w.methods n) h
 
 -- what is planned for an operation of a site suits the frame
 pub planned-suits : (w : Linked) (is : IsWorld w) (site : Site) (op : Operation) (regs slice : List Ty) (depth limit : ℕ) (e : Effect) →
-    IsSomeAnd (slice_get w.methods site.method) (λ m. HasRoom m regs slice depth) → All (IsKnown w.classes) regs → All (IsKnown w.classes) (cells slice depth) →
+    IsSomeAnd (slice_get w.methods site.method) (λ m. HasDeclaredLengths m regs slice depth) → All (IsKnown w.classes) regs → All (IsKnown w.classes) (cells slice depth) →
     IsSomeAnd (slice_get w.methods site.method) (λ m. IsSound w m site.place op) → IsPlan w limit op (frame_of regs slice depth) e → Suits w.classes (frame_of regs slice depth) e
 planned-suits w is site op regs slice depth limit e room r s sound p =
     plan-suits w is (frame_of regs slice depth) (room-known w is site.method regs slice depth room r s) limit op e (site-known w site.place site.method op sound) p

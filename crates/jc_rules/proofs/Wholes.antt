@@ -41,12 +41,12 @@ use Rattle.jc_rules.specs.declared.demand.Demand.TheVariants.{Cell, Held}
 use Rattle.jc_rules.specs.declared.effect.Cells.{Cells}
 use Rattle.jc_rules.specs.declared.effect.Cells.TheVariants as given
 use Rattle.jc_rules.specs.Effect.{listed, ready, changed, reg}
-use Rattle.jc_rules.specs.Demand.{Frame, IsHalf, IsArrayOrNull, IsFreshOf, Meets, Splits, AllHold}
+use Rattle.jc_rules.specs.Demand.{Frame, IsHalf, IsArrayOrNull, IsFreshOf, Meets, Splits, SatisfiesAll}
 use Rattle.jc_rules.specs.Rule.{constant_effect, load_demands, load_effect, store_demands, store_effect, increment_effect, move_demands, move_effect, arithmetic_demands, arithmetic_effect, array_read_demands, array_read_effect, array_write_demands, array_write_effect, branch_demands, branch_effect, field_read_demands, field_read_effect, field_write_demands, field_write_effect, type_test_effect, return_demands, return_effect, cell, number, two_numbers, size, number_given, value_given, value_wanted, value_size, or_null, element, array_wanted, a_reference, ready_with, cells_wanted, call_demands, call_effect, result_given, args_at, result_at, seen, demands, effect}
 use Rattle.jc_rules.specs.Whole.{OperationKeepsWhole}
 use Rattle.jc_rules.specs.Flow.{IsNotTop}
 use Rattle.jc_rules.proofs.Falls.{low-up, LowUp, half-up, some-or}
-use Rattle.jc_rules.proofs.Demands.{AllHold-front, AllHold-rest, AllHold-append}
+use Rattle.jc_rules.proofs.Demands.{SatisfiesAll-front, SatisfiesAll-rest, SatisfiesAll-append}
 
 -- ---- lists
 
@@ -262,13 +262,13 @@ module _ (t : ClassTable) where
       let f : suc n + 1 ≡ suc (n + 1) = omega arith in
       subst (λ j. IsPaired (drop j (x ∷ s))) (sym e) (peel-int s n m (subst (λ j. IsSomeAnd (slice_get (x ∷ s) j) (Meets t (Value IntHigh))) f k) h)
 
-  peel-number : (s : Frame) (width : Width) (n : ℕ) → AllHold t s (number width n) → IsPaired (drop n s.stack) → IsPaired (drop (n + size width) s.stack)
+  peel-number : (s : Frame) (width : Width) (n : ℕ) → SatisfiesAll t s (number width n) → IsPaired (drop n s.stack) → IsPaired (drop (n + size width) s.stack)
   unfolding TakesNoHalf
   peel-number s widths.Short n all h = peel-one s.stack n (Value Short) ((λ k. k), tt) all.0 h
   peel-number s widths.Int n all h = peel-int s.stack n all.0 all.1.0 h
 
   -- the type of a value that a frame has is no low half
-  value-rest : (f : Frame) (ty : Ty) (rest : List Demand) → IsNotTop ty → ¬ (ty ≡ IntLow) → AllHold t f (value_wanted ty ++ rest) → IsPaired f.stack → IsPaired (drop (value_size ty) f.stack)
+  value-rest : (f : Frame) (ty : Ty) (rest : List Demand) → IsNotTop ty → ¬ (ty ≡ IntLow) → SatisfiesAll t f (value_wanted ty ++ rest) → IsPaired f.stack → IsPaired (drop (value_size ty) f.stack)
   unfolding TakesNoHalf
   value-rest f IntHigh rest top low all h = peel-int f.stack 0 all.0 all.1.0 h
   value-rest f IntLow rest top low all h = absurd (low refl)
@@ -416,7 +416,7 @@ top-one t (x ∷ s) m = paired_cell m paired_empty
 
 module _ (t : ClassTable) (f : Frame) (whole : IsPaired f.stack) where
   -- the arguments go
-  peel-args : (tys : List Ty) (n : ℕ) → IsPaired tys → All IsNotTop tys → AllHold t f (cells_wanted n tys) → IsPaired (drop n f.stack) → IsPaired (drop (n + length tys) f.stack)
+  peel-args : (tys : List Ty) (n : ℕ) → IsPaired tys → All IsNotTop tys → SatisfiesAll t f (cells_wanted n tys) → IsPaired (drop n f.stack) → IsPaired (drop (n + length tys) f.stack)
   unfolding TakesNoHalf
   peel-args _ n paired_empty top all h = let e : n + 0 ≡ n = omega arith in subst (λ j. IsPaired (drop j f.stack)) (sym e) h
   peel-args _ n (paired_int {s = rest} g) top all h =
@@ -431,13 +431,13 @@ module _ (t : ClassTable) (f : Frame) (whole : IsPaired f.stack) where
       (peel-args rest (n + 1) g (λ k d lt. top (suc k) d (omega arith)) all.1
       (peel-one t f.stack n (Value ty) (c, top 0 ty (omega arith)) all.0 h))
 
-  args-rest : (args : List Ty) (ds : List Demand) → IsPaired (reverse args) → All IsNotTop (reverse args) → AllHold t f (cells_wanted 0 (reverse args) ++ ds) → IsPaired (drop (length args) f.stack)
+  args-rest : (args : List Ty) (ds : List Demand) → IsPaired (reverse args) → All IsNotTop (reverse args) → SatisfiesAll t f (cells_wanted 0 (reverse args) ++ ds) → IsPaired (drop (length args) f.stack)
   args-rest args ds g top all =
       let e : 0 + length (reverse args) ≡ length args = omega (arith, length-reverse args) in
-      subst (λ j. IsPaired (drop j f.stack)) e (peel-args (reverse args) 0 g top (AllHold-front t f (cells_wanted 0 (reverse args)) ds all) whole)
+      subst (λ j. IsPaired (drop j f.stack)) e (peel-args (reverse args) 0 g top (SatisfiesAll-front t f (cells_wanted 0 (reverse args)) ds all) whole)
 
   keep-call : (args : List Ty) (result : Option Ty) (receiver : Option Want) → IsPaired (reverse args) → All IsNotTop (reverse args) → IfSome result (λ ty. ¬ (ty ≡ IntLow)) → IfSome receiver TakesNoHalf
-      → AllHold t f (call_demands args receiver) → IsPaired (changed (call_effect args result receiver f).change f.stack)
+      → SatisfiesAll t f (call_demands args receiver) → IsPaired (changed (call_effect args result receiver f).change f.stack)
   keep-call args result None g top low k all = whole-append (result-whole result low) (args-rest args [] g top all)
     where
       result-whole : (o : Option Ty) → IfSome o (λ ty. ¬ (ty ≡ IntLow)) → IsPaired (listed (result_given o))
@@ -445,7 +445,7 @@ module _ (t : ClassTable) (f : Frame) (whole : IsPaired f.stack) where
       result-whole (Some ty) h = whole-given t ty h
   keep-call args result (Some want) g top low k all =
       ready-keeps (length args + 1) (result_given result) (cell f.stack (length args)) want f.stack (result-whole result low)
-      (peel-one t f.stack (length args) want k (AllHold-rest t f (cells_wanted 0 (reverse args)) (Cell (length args) want ∷ []) all).0
+      (peel-one t f.stack (length args) want k (SatisfiesAll-rest t f (cells_wanted 0 (reverse args)) (Cell (length args) want ∷ []) all).0
       (args-rest args (Cell (length args) want ∷ []) g top all))
     where
       result-whole : (o : Option Ty) → IfSome o (λ ty. ¬ (ty ≡ IntLow)) → IsPaired (listed (result_given o))
@@ -479,15 +479,15 @@ module _ (t : ClassTable) (f : Frame) (whole : IsPaired f.stack) where
   unfolding TakesNoHalf
   plain_want = (tt, tt, tt)
 
-  number-gone : (width : Width) → AllHold t f (number width 0) → IsPaired (drop (size width) f.stack)
+  number-gone : (width : Width) → SatisfiesAll t f (number width 0) → IsPaired (drop (size width) f.stack)
   number-gone widths.Short all = one-gone (Value Short) a_short all.0
   number-gone widths.Int all = peel-int t f.stack 0 all.0 all.1.0 whole
 
-  two-gone : (width : Width) → AllHold t f (two_numbers width) → IsPaired (drop (size width + size width) f.stack)
+  two-gone : (width : Width) → SatisfiesAll t f (two_numbers width) → IsPaired (drop (size width + size width) f.stack)
   two-gone widths.Short all = next-gone 1 (Value Short) a_short all.1.0 (one-gone (Value Short) a_short all.0)
   two-gone widths.Int all = peel-int t f.stack 2 all.1.1.0 all.1.1.1.0 (peel-int t f.stack 0 all.0 all.1.0 whole)
 
-  keep-move : (m : Move) → AllHold t f (move_demands m) → IsPaired (changed (move_effect m).change f.stack)
+  keep-move : (m : Move) → SatisfiesAll t f (move_demands m) → IsPaired (changed (move_effect m).change f.stack)
   keep-move moves.Pop all = one-gone Whole plain_want.2 all.0
   keep-move moves.PopTwo all = (cut-at whole 2 all.1.0).rest
   keep-move moves.Duplicate all = whole-append (top-one t f.stack all.0) whole
@@ -501,7 +501,7 @@ module _ (t : ClassTable) (f : Frame) (whole : IsPaired f.stack) where
       let b = cut-at whole (m + n) all.1.1.1.0 in
       whole-append (cut-under f.stack m n a.rest all.1.1.1.0) (whole-append a.front b.rest)
 
-  keep-arithmetic : (a : Arithmetic) → AllHold t f (arithmetic_demands a) → IsPaired (changed (arithmetic_effect a).change f.stack)
+  keep-arithmetic : (a : Arithmetic) → SatisfiesAll t f (arithmetic_demands a) → IsPaired (changed (arithmetic_effect a).change f.stack)
   keep-arithmetic (arithmetic.Binary o widths.Short) all = whole-append (short-one t) (two-gone widths.Short all)
   keep-arithmetic (arithmetic.Binary o widths.Int) all = whole-append (whole-number t widths.Int) (two-gone widths.Int all)
   keep-arithmetic (arithmetic.Negate width) all = whole-append (whole-number t width) (number-gone width all)
@@ -511,19 +511,19 @@ module _ (t : ClassTable) (f : Frame) (whole : IsPaired f.stack) where
   keep-arithmetic arithmetic.IntToShort all = whole-append (short-one t) (number-gone widths.Int all)
   keep-arithmetic arithmetic.CompareInts all = whole-append (short-one t) (two-gone widths.Int all)
 
-  keep-array_read : (k : Kind) → AllHold t f (array_read_demands t k) → IsPaired (changed (array_read_effect k f).change f.stack)
+  keep-array_read : (k : Kind) → SatisfiesAll t f (array_read_demands t k) → IsPaired (changed (array_read_effect k f).change f.stack)
   keep-array_read kinds.Ref all = whole-append (whole-one t (element (cell f.stack 1)) (element-half t (cell f.stack 1))) (next-gone 1 (array_wanted t kinds.Ref) (an_array kinds.Ref) all.1.0 (one-gone (Value Short) a_short all.0))
   keep-array_read kinds.Byte all = whole-append (short-one t) (next-gone 1 (array_wanted t kinds.Byte) (an_array kinds.Byte) all.1.0 (one-gone (Value Short) a_short all.0))
   keep-array_read kinds.Short all = whole-append (short-one t) (next-gone 1 (array_wanted t kinds.Short) (an_array kinds.Short) all.1.0 (one-gone (Value Short) a_short all.0))
   keep-array_read kinds.Int all = whole-append (whole-number t widths.Int) (next-gone 1 (array_wanted t kinds.Int) (an_array kinds.Int) all.1.0 (one-gone (Value Short) a_short all.0))
 
-  keep-array_write : (k : Kind) → AllHold t f (array_write_demands t k) → IsPaired (changed (array_write_effect k).change f.stack)
+  keep-array_write : (k : Kind) → SatisfiesAll t f (array_write_demands t k) → IsPaired (changed (array_write_effect k).change f.stack)
   keep-array_write kinds.Ref all = next-gone 2 (array_wanted t kinds.Ref) (an_array kinds.Ref) all.1.1.0 (next-gone 1 (Value Short) a_short all.1.0 (one-gone (a_reference t) (a_class (object t)) all.0))
   keep-array_write kinds.Byte all = next-gone 2 (array_wanted t kinds.Byte) (an_array kinds.Byte) all.1.1.0 (next-gone 1 (Value Short) a_short all.1.0 (one-gone (Value Short) a_short all.0))
   keep-array_write kinds.Short all = next-gone 2 (array_wanted t kinds.Short) (an_array kinds.Short) all.1.1.0 (next-gone 1 (Value Short) a_short all.1.0 (one-gone (Value Short) a_short all.0))
   keep-array_write kinds.Int all = next-gone 3 (array_wanted t kinds.Int) (an_array kinds.Int) all.1.1.1.0 (next-gone 2 (Value Short) a_short all.1.1.0 (peel-int t f.stack 0 all.0 all.1.0 whole))
 
-  keep-branch : (b : Branch) → AllHold t f (branch_demands t b) → IsPaired (changed (branch_effect b).change f.stack)
+  keep-branch : (b : Branch) → SatisfiesAll t f (branch_demands t b) → IsPaired (changed (branch_effect b).change f.stack)
   keep-branch branches.Always all = whole
   keep-branch (branches.Zero o) all = one-gone (Value Short) a_short all.0
   keep-branch (branches.Null q) all = one-gone (a_reference t) (a_class (object t)) all.0
@@ -536,13 +536,13 @@ module _ (t : ClassTable) (f : Frame) (whole : IsPaired f.stack) where
   keep-constant (constants.Short n) = whole-append (short-one t) whole
   keep-constant (constants.Int n) = whole-append (whole-number t widths.Int) whole
 
-  keep-load : (s : Sort) (x : ℕ) → AllHold t f (load_demands t s x) → IsPaired (changed (load_effect s x f).change f.stack)
+  keep-load : (s : Sort) (x : ℕ) → SatisfiesAll t f (load_demands t s x) → IsPaired (changed (load_effect s x f).change f.stack)
   keep-load sorts.Reference x all =
       whole-append (whole-one t (or_null (reg f.regs x)) (or_null-half t (reg f.regs x) (below-half t (reg f.regs x) (Class (object t)) (some-or (λ ty. Below t ty (Class (object t))) f.regs x all.1.0) (λ k. k) tt))) whole
   keep-load sorts.Short x all = whole-append (short-one t) whole
   keep-load sorts.Int x all = whole-append (whole-number t widths.Int) whole
 
-  keep-store : (s : Sort) (x : ℕ) → AllHold t f (store_demands s x) → IsPaired (changed (store_effect s x f).change f.stack)
+  keep-store : (s : Sort) (x : ℕ) → SatisfiesAll t f (store_demands s x) → IsPaired (changed (store_effect s x f).change f.stack)
   keep-store sorts.Reference x all = one-gone Storable plain_want.0 all.1.0
   keep-store sorts.Short x all = one-gone (Value Short) a_short all.1.0
   keep-store sorts.Int x all = peel-int t f.stack 0 all.1.0 all.1.1.0 whole
@@ -551,16 +551,16 @@ module _ (t : ClassTable) (f : Frame) (whole : IsPaired f.stack) where
   keep-increment widths.Short x = whole
   keep-increment widths.Int x = whole
 
-  value-gone : (ty : Ty) (rest : List Demand) → IsNotTop ty → ¬ (ty ≡ IntLow) → AllHold t f (value_wanted ty ++ rest) → IsPaired (drop (value_size ty) f.stack)
+  value-gone : (ty : Ty) (rest : List Demand) → IsNotTop ty → ¬ (ty ≡ IntLow) → SatisfiesAll t f (value_wanted ty ++ rest) → IsPaired (drop (value_size ty) f.stack)
   value-gone ty rest top low all = value-rest t f ty rest top low all whole
 
-  keep-read : (h : Holder) (c : ℕ) (ty : Ty) → ¬ (ty ≡ IntLow) → AllHold t f (field_read_demands h c) → IsPaired (changed (field_read_effect h ty).change f.stack)
+  keep-read : (h : Holder) (c : ℕ) (ty : Ty) → ¬ (ty ≡ IntLow) → SatisfiesAll t f (field_read_demands h c) → IsPaired (changed (field_read_effect h ty).change f.stack)
   keep-read holders.Stack c ty low all = whole-append (whole-given t ty low) (one-gone (Value (Class c)) (a_class c) all.0)
   keep-read holders.This c ty low all = whole-append (whole-given t ty low) whole
 
-  keep-write : (h : Holder) (c : ℕ) (ty : Ty) → IsNotTop ty → ¬ (ty ≡ IntLow) → AllHold t f (field_write_demands h c ty) → IsPaired (changed (field_write_effect h ty).change f.stack)
+  keep-write : (h : Holder) (c : ℕ) (ty : Ty) → IsNotTop ty → ¬ (ty ≡ IntLow) → SatisfiesAll t f (field_write_demands h c ty) → IsPaired (changed (field_write_effect h ty).change f.stack)
   keep-write holders.Stack c ty top low all =
-      next-gone (value_size ty) (Value (Class c)) (a_class c) (AllHold-rest t f (value_wanted ty) (Cell (value_size ty) (Value (Class c)) ∷ []) all).0
+      next-gone (value_size ty) (Value (Class c)) (a_class c) (SatisfiesAll-rest t f (value_wanted ty) (Cell (value_size ty) (Value (Class c)) ∷ []) all).0
       (value-gone ty (Cell (value_size ty) (Value (Class c)) ∷ []) top low all)
   keep-write holders.This c ty top low all = value-gone ty (Held 0 (Class c) ∷ []) top low all.1
 
@@ -579,7 +579,7 @@ first-no_low None h = tt
 first-no_low (Some ty) h = λ e. subst IsFirstCell e h
 
 module _ (w : Linked) (is : IsWorld w) (f : Frame) (whole : IsPaired f.stack) (m : MethodRec) (place : ℕ) where
-  keep-called : (c : Callee) (o : Option MethodRec) → slice_get w.methods c.method ≡ o → IsCalleeOf w c → AllHold w.classes f (call_demands (args_at o) c.receiver) → IsPaired (changed (call_effect (args_at o) (result_at o) c.receiver f).change f.stack)
+  keep-called : (c : Callee) (o : Option MethodRec) → slice_get w.methods c.method ≡ o → IsCalleeOf w c → SatisfiesAll w.classes f (call_demands (args_at o) c.receiver) → IsPaired (changed (call_effect (args_at o) (result_at o) c.receiver f).change f.stack)
   keep-called c None e h all = absurd (no-method (h.is_method) e)
     where
       no-method : slice_get w.methods c.method ≡ Some h.rec → slice_get w.methods c.method ≡ None → ⊥
@@ -589,11 +589,11 @@ module _ (w : Linked) (is : IsWorld w) (f : Frame) (whole : IsPaired f.stack) (m
       keep-call w.classes f whole r.sig.args r.sig.result c.receiver (paired-from method.whole) (declared-args w r method)
       (first-no_low r.sig.result method.first) (receiver-takes w c.method h.rec c.receiver c.choice h.chosen) all
 
-  keep-return : (result : Option Ty) → IfSome result (IsResult w.classes) → AllHold w.classes f (return_demands result) → IsPaired (changed (return_effect result).change f.stack)
+  keep-return : (result : Option Ty) → IfSome result (IsResult w.classes) → SatisfiesAll w.classes f (return_demands result) → IsPaired (changed (return_effect result).change f.stack)
   keep-return None h all = whole
-  keep-return (Some ty) h all = value-gone w.classes f whole ty [] (declared-topless w.classes ty h.declared) h.no_low (AllHold-append w.classes f (value_wanted ty) [] all tt)
+  keep-return (Some ty) h all = value-gone w.classes f whole ty [] (declared-topless w.classes ty h.declared) h.no_low (SatisfiesAll-append w.classes f (value_wanted ty) [] all tt)
 
-  keeps-whole : (op : Operation) → IsSound w m place op → AllHold w.classes f (demands w op) → IsPaired (changed (effect w op f).change f.stack)
+  keeps-whole : (op : Operation) → IsSound w m place op → SatisfiesAll w.classes f (demands w op) → IsPaired (changed (effect w op f).change f.stack)
   keeps-whole (ops.Constant c) sound all = keep-constant w.classes f whole c
   keeps-whole (ops.Load s x) sound all = keep-load w.classes f whole s x all
   keeps-whole (ops.Store s x) sound all = keep-store w.classes f whole s x all
@@ -607,7 +607,7 @@ module _ (w : Linked) (is : IsWorld w) (f : Frame) (whole : IsPaired f.stack) (m
   keeps-whole (ops.Switch width) sound all = number-gone w.classes f whole width all
   keeps-whole (ops.StaticRead field) sound all = whole-append (whole-given w.classes field.ty (kind-low field.kind field.ty sound.kind)) whole
   keeps-whole (ops.StaticWrite field) sound all =
-      value-gone w.classes f whole field.ty [] (declared-topless w.classes field.ty sound.ty) (kind-low field.kind field.ty sound.kind) (AllHold-append w.classes f (value_wanted field.ty) [] all tt)
+      value-gone w.classes f whole field.ty [] (declared-topless w.classes field.ty sound.ty) (kind-low field.kind field.ty sound.kind) (SatisfiesAll-append w.classes f (value_wanted field.ty) [] all tt)
   keeps-whole (ops.FieldRead field h) sound all = keep-read w.classes f whole h field.class field.ty (kind-low field.kind field.ty sound.cells.kind) all
   keeps-whole (ops.FieldWrite field h) sound all =
       keep-write w.classes f whole h field.class field.ty (declared-topless w.classes field.ty sound.ty) (kind-low field.kind field.ty sound.cells.kind) all

@@ -15,7 +15,7 @@ use Rattle.jc_rules.specs.declared.effect.Mode.{Mode}
 use Rattle.jc_rules.specs.declared.rule.Outcome.{Outcome}
 use Rattle.jc_rules.specs.Stack.{cells}
 use Rattle.jc_rules.specs.Effect.{changed, Stores, depth_after, rises}
-use Rattle.jc_rules.specs.Demand.{Frame, AllHold, Breaks}
+use Rattle.jc_rules.specs.Demand.{Frame, SatisfiesAll, IsFirstUnmet}
 use Rattle.jc_ops.specs.Next.{falls_from, ends_at}
 use Rattle.jc_rules.specs.Rule.{demands, effect, wrote}
 
@@ -24,7 +24,7 @@ abbrev pub frame_of : List Ty → List Ty → ℕ → Frame
 frame_of regs slice depth = record { regs = regs; stack = cells slice depth }
 
 -- registers and a slice of the lengths that the method declares
-pub record HasRoom (m : MethodRec) (regs slice : List Ty) (depth : ℕ) : Type 0 where
+pub record HasDeclaredLengths (m : MethodRec) (regs slice : List Ty) (depth : ℕ) : Type 0 where
   pub registers : length regs ≡ m.nargs + m.max_locals
   pub cells : length slice ≡ m.max_stack
   pub within : depth ≤ m.max_stack
@@ -34,7 +34,7 @@ pub record HasRoom (m : MethodRec) (regs slice : List Ty) (depth : ℕ) : Type 0
 -- the operation takes the frame before to the frame after, on a stack of so many cells at most: what it asks is met,
 -- and what it gives has room
 pub record OperationApplies (w : Linked) (limit : ℕ) (op : Operation) (mode : Mode) (before after : Frame) (o : Outcome) : Type 0 where
-  pub asked : AllHold w.classes before (demands w op)
+  pub asked : SatisfiesAll w.classes before (demands w op)
   pub regs : Stores w.classes mode (effect w op before).store before.regs after.regs
   pub stack : after.stack ≡ changed (effect w op before).change before.stack
   pub room : length after.stack ≤ limit
@@ -46,9 +46,9 @@ pub record OperationApplies (w : Linked) (limit : ℕ) (op : Operation) (mode : 
 
 -- the operation refuses the frame with its first fault: of what it asks in order, then of the room
 pub data OperationRefuses (w : Linked) (limit : ℕ) (op : Operation) (before : Frame) : RuleFault → Type 0 where
-  unmet : {fault : RuleFault} → Breaks w.classes before (demands w op) fault → OperationRefuses w limit op before fault
+  unmet : {fault : RuleFault} → IsFirstUnmet w.classes before (demands w op) fault → OperationRefuses w limit op before fault
   full :
-      AllHold w.classes before (demands w op)
+      SatisfiesAll w.classes before (demands w op)
       → limit < length (changed (effect w op before).change before.stack)
       → OperationRefuses w limit op before Overflow
 
@@ -87,7 +87,7 @@ pub record Refuses (w : Linked) (site : Site) (i : Insn) (before : Frame) (fault
 
 -- what is planned before anything changes
 pub record IsPlan (w : Linked) (limit : ℕ) (op : Operation) (before : Frame) (e : Effect) : Type 0 where
-  pub asked : AllHold w.classes before (demands w op)
+  pub asked : SatisfiesAll w.classes before (demands w op)
   pub effect_is : e ≡ effect w op before
   pub room : depth_after e.change (length before.stack) ≤ limit
 

@@ -77,12 +77,12 @@ abbrev pub Splits : List Ty → ℕ → Type 0
 Splits stack n = (slice_get stack (n - 1) ≡ Some IntLow) × (slice_get stack n ≡ Some IntHigh)
 
 -- the demand is met
-abbrev pub Holds : ClassTable → Frame → Demand → Type 0
-Holds t f (Registers x n) = x + n ≤ length f.regs
-Holds t f (Depth n) = n ≤ length f.stack
-Holds t f (Cell n want) = IsSomeAnd (slice_get f.stack n) (Meets t want)
-Holds t f (Cut n) = ¬ (Splits f.stack n)
-Holds t f (Held x ty) = IsSomeAnd (slice_get f.regs x) (Meets t (Value ty))
+abbrev pub Satisfies : ClassTable → Frame → Demand → Type 0
+Satisfies t f (Registers x n) = x + n ≤ length f.regs
+Satisfies t f (Depth n) = n ≤ length f.stack
+Satisfies t f (Cell n want) = IsSomeAnd (slice_get f.stack n) (Meets t want)
+Satisfies t f (Cut n) = ¬ (Splits f.stack n)
+Satisfies t f (Held x ty) = IsSomeAnd (slice_get f.regs x) (Meets t (Value ty))
 
 -- the fault of what was found, or of a cell or register that is not there
 abbrev pub refused_at : ClassTable → Want → RuleFault → Option Ty → RuleFault
@@ -90,22 +90,24 @@ refused_at t want absent None = absent
 refused_at t want absent (Some found) = refusal t want found
 
 -- the fault where the demand is not met
-abbrev pub refused : ClassTable → Frame → Demand → RuleFault
-refused t f (Registers x n) = NoLocal x
-refused t f (Depth n) = Underflow
-refused t f (Cell n want) = refused_at t want Underflow (slice_get f.stack n)
-refused t f (Cut n) = SplitInt
-refused t f (Held x ty) = refused_at t (Value ty) (NoLocal x) (slice_get f.regs x)
+abbrev pub demand_fault : ClassTable → Frame → Demand → RuleFault
+demand_fault t f (Registers x n) = NoLocal x
+demand_fault t f (Depth n) = Underflow
+demand_fault t f (Cell n want) = refused_at t want Underflow (slice_get f.stack n)
+demand_fault t f (Cut n) = SplitInt
+demand_fault t f (Held x ty) = refused_at t (Value ty) (NoLocal x) (slice_get f.regs x)
 
 -- each of the demands is met
-abbrev pub AllHold : ClassTable → Frame → List Demand → Type 0
-AllHold t f [] = ⊤
-AllHold t f (d ∷ ds) = Holds t f d × AllHold t f ds
+abbrev pub SatisfiesAll : ClassTable → Frame → List Demand → Type 0
+SatisfiesAll t f [] = ⊤
+SatisfiesAll t f (d ∷ ds) = Satisfies t f d × SatisfiesAll t f ds
 
 -- the fault is that of the first demand that is not met
-pub data Breaks (t : ClassTable) (f : Frame) : List Demand → RuleFault → Type 0 where
-  here : {d : Demand} {ds : List Demand} {fault : RuleFault} → ¬ (Holds t f d) → fault ≡ refused t f d → Breaks t f (d ∷ ds) fault
-  later : {d : Demand} {ds : List Demand} {fault : RuleFault} → Holds t f d → Breaks t f ds fault → Breaks t f (d ∷ ds) fault
+pub data IsFirstUnmet (t : ClassTable) (f : Frame) : List Demand → RuleFault → Type 0 where
+  here : {d : Demand} {ds : List Demand} {fault : RuleFault} → ¬ (Satisfies t f d) → fault ≡ demand_fault t f d
+      → IsFirstUnmet t f (d ∷ ds) fault
+  later : {d : Demand} {ds : List Demand} {fault : RuleFault} → Satisfies t f d → IsFirstUnmet t f ds fault
+      → IsFirstUnmet t f (d ∷ ds) fault
 
 -- each class number in what is asked names a class, and no interface
 abbrev pub IsKnownDemand : ClassTable → Demand → Type 0
@@ -160,19 +162,19 @@ met_at t want None = false
 met_at t want (Some found) = meets t want found
 
 -- whether the demand is met
-abbrev pub holds : ClassTable → Frame → Demand → Bool
-holds t f (Registers x n) = nat_le (x + n) (length f.regs)
-holds t f (Depth n) = nat_le n (length f.stack)
-holds t f (Cell n want) = met_at t want (slice_get f.stack n)
-holds t f (Cut n) = not (is_low (slice_get f.stack (n - 1)) && is_high (slice_get f.stack n))
-holds t f (Held x ty) = met_at t (Value ty) (slice_get f.regs x)
+abbrev pub satisfies : ClassTable → Frame → Demand → Bool
+satisfies t f (Registers x n) = nat_le (x + n) (length f.regs)
+satisfies t f (Depth n) = nat_le n (length f.stack)
+satisfies t f (Cell n want) = met_at t want (slice_get f.stack n)
+satisfies t f (Cut n) = not (is_low (slice_get f.stack (n - 1)) && is_high (slice_get f.stack n))
+satisfies t f (Held x ty) = met_at t (Value ty) (slice_get f.regs x)
 
 -- a want and a demand are decided
 pub record AreDecided (t : ClassTable) : Type 0 where
   pub want : (want : Want) (found : Ty) → MatchBool (meets t want found) (Meets t want found) (¬ (Meets t want found))
-  pub demand : (f : Frame) (d : Demand) → MatchBool (holds t f d) (Holds t f d) (¬ (Holds t f d))
+  pub demand : (f : Frame) (d : Demand) → MatchBool (satisfies t f d) (Satisfies t f d) (¬ (Satisfies t f d))
 
 -- what a check of demands answers: the effect where each is met, and else the fault of the first that is not
 abbrev pub IsJudged : ClassTable → Frame → List Demand → Effect → Result Effect RuleFault → Type 0
-IsJudged t f ds effect (Ok e) = AllHold t f ds × (e ≡ effect)
-IsJudged t f ds effect (Err fault) = Breaks t f ds fault
+IsJudged t f ds effect (Ok e) = SatisfiesAll t f ds × (e ≡ effect)
+IsJudged t f ds effect (Err fault) = IsFirstUnmet t f ds fault

@@ -11,7 +11,7 @@ use Rattle.jc_base.specs.World.{Linked}
 use Rattle.jc_decode.specs.declared.insn.Placed.{Placed}
 use Rattle.jc_decode.specs.Listing.{falls, jumps}
 use Rattle.jc_control.specs.Method.{Method}
-use Rattle.jc_control.specs.WellFormed.{Stands, IsWellFormed}
+use Rattle.jc_control.specs.WellFormed.{HasInstruction, IsWellFormed}
 use Rattle.jc_control.specs.Control.{IsSuccessor, Covers, IsReached, IsLeader}
 use Rattle.jc_rules.specs.declared.effect.Mode.TheVariants.{Flow}
 use Rattle.jc_rules.specs.declared.rule.Outcome.{Outcome}
@@ -55,14 +55,14 @@ At frames place P = IsSomeAnd (frames place) P
 -- ---- flow typings
 
 -- the rule of the instruction applies to the frame with this result, in the dataflow
-abbrev pub Steps : Linked → Method → Placed → Frame → Frame → Type 0
-Steps w m i before after = (o : Outcome) × RuleApplies w m.rec i.place i.insn Flow before after o
+abbrev pub FlowSteps : Linked → Method → Placed → Frame → Frame → Type 0
+FlowSteps w m i before after = (o : Outcome) × RuleApplies w m.rec i.place i.insn Flow before after o
 
 -- the rule applies, its result is below the frame at each successor, and under the operands of a
 -- branch or switch no object is uninitialised
 pub record IsFollowed (w : Linked) (m : Method) (frames : ℕ → Option Frame) (i : Placed) (f : Frame) : Type 0 where
   pub after : Frame
-  pub steps : Steps w m i f after
+  pub steps : FlowSteps w m i f after
   pub below : (q : ℕ) → IsSuccessor m.code i q → At frames q (FrameBelow w.classes after)
   pub ready : IsTrue (jumps i.insn.op) → All IsNotFresh after.stack
 
@@ -79,8 +79,8 @@ pub record FlowTyping (w : Linked) (m : Method) (unset : Ty) (frames : ℕ → O
   pub formed : IsWellFormed m
   pub start : At frames 0 (FrameBelow w.classes (start_frame m.rec unset))
   pub fit : (p : ℕ) → IsReached m p → At frames p (IsFit m)
-  pub rules : (i : Placed) → Stands m.code i → IsReached m i.place → At frames i.place (IsFollowed w m frames i)
-  pub stays : (i : Placed) → Stands m.code i → IsReached m i.place → IsTrue (falls i.insn.op) → i.place + i.insn.len < length m.code
+  pub rules : (i : Placed) → HasInstruction m.code i → IsReached m i.place → At frames i.place (IsFollowed w m frames i)
+  pub stays : (i : Placed) → HasInstruction m.code i → IsReached m i.place → IsTrue (falls i.insn.op) → i.place + i.insn.len < length m.code
   pub handlers :
       (p : ℕ) (h : Handler)
       → IsReached m p
@@ -129,8 +129,8 @@ pub data IsDerived (w : Linked) (m : Method) (unset : Ty) : ℕ → Frame → Ty
   derived_next :
       {i : Placed} {q : ℕ} {f g : Frame}
       → IsDerived w m unset i.place f
-      → Stands m.code i
-      → Steps w m i f g
+      → HasInstruction m.code i
+      → FlowSteps w m i f g
       → IsSuccessor m.code i q
       → IsDerived w m unset q g
   derived_joined :

@@ -16,7 +16,7 @@ use Rattle.jc_rules.specs.Effect.{listed, reg}
 use Rattle.jc_rules.specs.declared.effect.Mode.{Mode}
 use Rattle.jc_rules.specs.declared.effect.Mode.TheVariants.{Card, Flow}
 use Rattle.jc_rules.specs.declared.rule.Outcome.{Outcome}
-use Rattle.jc_rules.specs.Demand.{Frame, AllHold, AreKnown}
+use Rattle.jc_rules.specs.Demand.{Frame, SatisfiesAll, AreKnown}
 use Rattle.jc_rules.specs.Rule.{demands, effect}
 use Rattle.jc_rules.specs.Apply.{OperationApplies}
 
@@ -93,7 +93,7 @@ footprint w op = footprint_of (effect w op (record { regs = []; stack = [] }))
 abbrev pub MetIsThere : Linked → Type 0
 MetIsThere w =
     (f : Frame) (ds : List Demand)
-    → AllHold w.classes f ds
+    → SatisfiesAll w.classes f ds
     → AreThere (length f.regs) (length f.stack) ds
 
 -- what demands name is there exactly where there are as many registers and cells as they ask for
@@ -112,7 +112,7 @@ AgreeOn (x ∷ xs) regs others = (slice_get regs x ≡ slice_get others x) × Ag
 
 -- an operation rests on the stack, on the number of registers and on those that it reads alone
 pub record RestsOnRead (w : Linked) (op : Operation) (f g : Frame) : Type 0 where
-  pub asked : AllHold w.classes f (demands w op) → AllHold w.classes g (demands w op)
+  pub asked : SatisfiesAll w.classes f (demands w op) → SatisfiesAll w.classes g (demands w op)
   pub done : effect w op f ≡ effect w op g
 
 abbrev pub OperationReads : Linked → Type 0

@@ -1,6 +1,6 @@
 ghost use Rattle.std.specs.Prelude.{◌≡◌, ◌+◌, ◌≤◌, length, reverse, MatchResult, IfSome, All};
 ghost use Rattle.jc_base.specs.Order.{IsKnown};
-ghost use Rattle.jc_rules.specs.Demand.{AreKnown, AllHold, Breaks, frame, IsJudged};
+ghost use Rattle.jc_rules.specs.Demand.{AreKnown, SatisfiesAll, IsFirstUnmet, frame, IsJudged};
 ghost use Rattle.jc_ops.specs.Sound.{IsKnownWant, receiver_count};
 ghost use Rattle.jc_rules.specs.Rule.{cells_wanted, call_demands, call_effect, ready_with, result_given};
 
@@ -45,9 +45,9 @@ impl Before<'_> {
         requires few { length args.now ≤ 255 }
         ensures { MatchResult result
             (λ _.
-            AllHold self.now.world.now.classes (frame self.now)
+            SatisfiesAll self.now.world.now.classes (frame self.now)
             (cells_wanted 0 (reverse args.now)))
-            (Breaks self.now.world.now.classes (frame self.now)
+            (IsFirstUnmet self.now.world.now.classes (frame self.now)
             (cells_wanted 0 (reverse args.now))) }
     {
         let count = args.len();
@@ -68,9 +68,9 @@ impl Before<'_> {
         requires few { length sig.now.args + receiver_count receiver ≤ 255 }
         ensures { MatchResult result
             (λ _.
-            AllHold self.now.world.now.classes (frame self.now)
+            SatisfiesAll self.now.world.now.classes (frame self.now)
             (call_demands sig.now.args receiver))
-            (Breaks self.now.world.now.classes (frame self.now)
+            (IsFirstUnmet self.now.world.now.classes (frame self.now)
             (call_demands sig.now.args receiver)) }
     {
         self.check_arguments(sig.args.as_slice())?;

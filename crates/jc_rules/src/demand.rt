@@ -3,7 +3,7 @@ ghost use Rattle.jc_base.specs.Class.{ClassTable, IsClass, object};
 ghost use Rattle.jc_base.specs.Order.{IsKnown};
 ghost use Rattle.jc_base.specs.declared.ty.Ty.TheVariants.{IntLow, IntHigh};
 ghost use Rattle.jc_ops.specs.Sound.{IsKnownWant};
-ghost use Rattle.jc_rules.specs.Demand.{AllHold, AreKnownDemands, AreKnown, frame, Meets, Holds, Breaks, refusal, refused, IsKnownDemand, IsArrayOrNull, IsHalf, IsFreshOf, Splits, refused_at, is_array_or_null, is_half, is_fresh_of, meets};
+ghost use Rattle.jc_rules.specs.Demand.{SatisfiesAll, AreKnownDemands, AreKnown, frame, Meets, Satisfies, IsFirstUnmet, refusal, demand_fault, IsKnownDemand, IsArrayOrNull, IsHalf, IsFreshOf, Splits, refused_at, is_array_or_null, is_half, is_fresh_of, meets};
 
 use jc_base::{Classes, Ty, World, below, same_type};
 use jc_ops::{RuleFault, Want};
@@ -38,8 +38,8 @@ impl Before<'_> {
         requires frame { AreKnown self.now.world.now.classes (frame self.now) }
         requires demands { AreKnownDemands self.now.world.now.classes demands.now }
         ensures { MatchResult result
-            (λ _. AllHold self.now.world.now.classes (frame self.now) demands.now)
-            (Breaks self.now.world.now.classes (frame self.now) demands.now) }
+            (λ _. SatisfiesAll self.now.world.now.classes (frame self.now) demands.now)
+            (IsFirstUnmet self.now.world.now.classes (frame self.now) demands.now) }
     {
         'demands: for demand in demands {
             if let Some(fault) = self.broken(*demand) {
@@ -54,10 +54,10 @@ impl Before<'_> {
         requires frame { AreKnown self.now.world.now.classes (frame self.now) }
         requires demand { IsKnownDemand self.now.world.now.classes demand }
         ensures { MatchOption result
-            (Holds self.now.world.now.classes (frame self.now) demand)
+            (Satisfies self.now.world.now.classes (frame self.now) demand)
             (λ fault.
-            ¬ (Holds self.now.world.now.classes (frame self.now) demand)
-            × (fault ≡ refused self.now.world.now.classes (frame self.now) demand)) }
+            ¬ (Satisfies self.now.world.now.classes (frame self.now) demand)
+            × (fault ≡ demand_fault self.now.world.now.classes (frame self.now) demand)) }
     {
         if self.plainly_holds(demand) {
             None
@@ -71,10 +71,10 @@ impl Before<'_> {
         requires frame { AreKnown self.now.world.now.classes (frame self.now) }
         requires demand { IsKnownDemand self.now.world.now.classes demand }
         ensures { MatchOption result
-            (Holds self.now.world.now.classes (frame self.now) demand)
+            (Satisfies self.now.world.now.classes (frame self.now) demand)
             (λ fault.
-            ¬ (Holds self.now.world.now.classes (frame self.now) demand)
-            × (fault ≡ refused self.now.world.now.classes (frame self.now) demand)) }
+            ¬ (Satisfies self.now.world.now.classes (frame self.now) demand)
+            × (fault ≡ demand_fault self.now.world.now.classes (frame self.now) demand)) }
     {
         match demand {
             Demand::Registers(x, n) if x as usize + n as usize <= self.regs.len() => None,
@@ -100,7 +100,7 @@ impl Before<'_> {
 
     /// Whether the demand is met, as most are, by the very type that is wanted: the order of types is not asked.
     fn plainly_holds(&self, demand: Demand) -> bool
-        ensures { IsTrue result → Holds self.now.world.now.classes (frame self.now) demand }
+        ensures { IsTrue result → Satisfies self.now.world.now.classes (frame self.now) demand }
     {
         match demand {
             Demand::Registers(x, n) => x as usize + n as usize <= self.regs.len(),
@@ -132,6 +132,7 @@ impl Before<'_> {
         }
     }
 
+    /// The type in a register, if the method has it.
     pub fn reg(&self, x: u8) -> Option<Ty>
         ensures { result ≡ slice_get self.now.regs.now x }
     {

@@ -63,6 +63,7 @@ pub enum Mode {
 }
 
 impl Cells {
+    /// How many cells they are: at most two.
     pub fn count(self) -> u8
         ensures { result ≡ length (listed self) }
     {

@@ -8,7 +8,7 @@ ghost use Rattle.jc_rules.specs.Effect.{depth_after};
 ghost use Rattle.jc_rules.specs.Demand.{Frame, AreKnown, frame, IsJudged};
 ghost use Rattle.jc_rules.specs.Rule.{demands, effect, return_demands, return_effect, seen, standing, wrote};
 ghost use Rattle.jc_rules.specs.Known.{IsKnownCallee, IsKnownOperation, IsValue};
-ghost use Rattle.jc_rules.specs.Apply.{frame_of, HasRoom, Applies, Refuses, IsPlanned};
+ghost use Rattle.jc_rules.specs.Apply.{frame_of, HasDeclaredLengths, Applies, Refuses, IsPlanned};
 ghost use Rattle.jc_ops.specs.declared.operation.Operation.TheVariants.{Call};
 ghost use Rattle.jc_ops.specs.Sound.{IsNamedType};
 
@@ -170,7 +170,7 @@ pub fn apply(
     depth: u8,
     mode: Mode,
 ) -> Result<Outcome, RuleFault>
-    requires room { IsSomeAnd (slice_get world.now.methods site.method) (λ m. HasRoom m regs.old stack.old depth) }
+    requires room { IsSomeAnd (slice_get world.now.methods site.method) (λ m. HasDeclaredLengths m regs.old stack.old depth) }
     requires regs_known { All (IsKnown world.now.classes) regs.old }
     requires stack_known { All (IsKnown world.now.classes) (cells stack.old depth) }
     ensures applies { IfOk result

@@ -20,6 +20,7 @@ pub enum Merged {
 }
 
 impl State<'_> {
+    /// The types of the registers.
     pub fn regs(&self) -> &[Ty]
         ensures { result.now ≡ (lent self.now).regs }
     {

@@ -1,6 +1,6 @@
 ghost use Rattle.std.specs.Prelude.{◌≡◌, ◌+◌, ◌≤◌, ◌<◌, length, reverse, MatchResult};
 ghost use Rattle.jc_ops.specs.declared.operation.Sort.TheVariants as sorts;
-ghost use Rattle.jc_rules.specs.Demand.{AreKnown, AllHold, Breaks, frame, IsJudged};
+ghost use Rattle.jc_rules.specs.Demand.{AreKnown, SatisfiesAll, IsFirstUnmet, frame, IsJudged};
 ghost use Rattle.jc_ops.specs.Sound.{IsMove};
 ghost use Rattle.jc_rules.specs.Effect.{reg};
 ghost use Rattle.jc_rules.specs.Rule.{cell, or_null, number, number_given, size, value_given, value_wanted, value_size, replacing, constant_effect, load_demands, load_effect, store_demands, store_effect, increment_demands, increment_effect, move_demands, move_effect, arithmetic_demands, arithmetic_effect, on_stack, storing, a_reference, two_numbers};
@@ -143,9 +143,9 @@ impl Before<'_> {
         requires { AreKnown self.now.world.now.classes (frame self.now) }
         ensures { MatchResult result
             (λ _.
-            AllHold self.now.world.now.classes (frame self.now)
+            SatisfiesAll self.now.world.now.classes (frame self.now)
             (load_demands self.now.world.now.classes sorts.Int x))
-            (Breaks self.now.world.now.classes (frame self.now)
+            (IsFirstUnmet self.now.world.now.classes (frame self.now)
             (load_demands self.now.world.now.classes sorts.Int x)) }
     {
         if x as usize + 2 > self.regs.len() {
@@ -266,8 +266,8 @@ impl Before<'_> {
     pub(crate) fn check_number(&self, width: Width) -> Result<(), RuleFault>
         requires { AreKnown self.now.world.now.classes (frame self.now) }
         ensures { MatchResult result
-            (λ _. AllHold self.now.world.now.classes (frame self.now) (number width 0))
-            (Breaks self.now.world.now.classes (frame self.now) (number width 0)) }
+            (λ _. SatisfiesAll self.now.world.now.classes (frame self.now) (number width 0))
+            (IsFirstUnmet self.now.world.now.classes (frame self.now) (number width 0)) }
     {
         match width {
             Width::Short => self.check(&[Demand::Cell(0, SHORT)]),
@@ -279,8 +279,8 @@ impl Before<'_> {
     pub(crate) fn check_two_numbers(&self, width: Width) -> Result<(), RuleFault>
         requires { AreKnown self.now.world.now.classes (frame self.now) }
         ensures { MatchResult result
-            (λ _. AllHold self.now.world.now.classes (frame self.now) (two_numbers width))
-            (Breaks self.now.world.now.classes (frame self.now) (two_numbers width)) }
+            (λ _. SatisfiesAll self.now.world.now.classes (frame self.now) (two_numbers width))
+            (IsFirstUnmet self.now.world.now.classes (frame self.now) (two_numbers width)) }
     {
         match width {
             Width::Short => self.check(&[Demand::Cell(0, SHORT), Demand::Cell(1, SHORT)]),

@@ -1,11 +1,11 @@
 use Rattle.std.proofs.Common.{◌≤◌, ◌-◌}
 use Rattle.cap_bare.specs.Code.{IsPlace}
-use Rattle.cap_bare.specs.Window.{IsReached}
+use Rattle.cap_bare.specs.Window.{IsSuffixAt}
 use Rattle.cap_bare.proofs.verify.begins.Given as goal
 
 abbrev pub invariant-walk : goal.invariant-walk
 invariant-walk l = record {
-  reached : IsReached l.code.bytes.now l.at;
+  reached : IsSuffixAt l.code.bytes.now l.at;
   ahead : IsPlace l.code.bytes.now l.place → l.at ≤ l.place;
 }
 

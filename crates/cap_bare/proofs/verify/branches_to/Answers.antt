@@ -3,14 +3,14 @@ use Rattle.std.proofs.lemmas.Int.{to_z-of_z}
 use Rattle.std.specs.Int.{w32}
 use mir.Val.{SFits}
 use Rattle.cap_bare.specs.Walk.{is_at}
-use Rattle.cap_bare.proofs.Instructions.{fetched-decoded, stands-listed}
+use Rattle.cap_bare.proofs.Instructions.{fetched-decoded, stands-here}
 use Rattle.cap_bare.proofs.Places.{leads-some, leads-none}
 use Rattle.cap_bare.proofs.verify.branches_to.Goals as goal
 
 pub target-requires-clause-decoded : goal.target-requires-clause-decoded
 target-requires-clause-decoded c =
     let code = c.args.code.bytes.now in
-    let i = c.args.placed in fetched-decoded code i.place i.insn (stands-listed code i c.requires.stands).here.found
+    let i = c.args.placed in fetched-decoded code i.place i.insn (stands-here code i c.requires.stands).found
 
 pub returns-in-Some : goal.returns-in-Some
 returns-in-Some c =

@@ -7,7 +7,7 @@ use Rattle.jc_decode.specs.Listing.{targets}
 use Rattle.jc_decode.proofs.Elements.{Contains-slice_get}
 use Rattle.cap_bare.specs.Code.{IsTargetPlace}
 use Rattle.cap_bare.specs.Window.{IsFromOn}
-use Rattle.cap_bare.proofs.Instructions.{fetched-decoded, stands-listed}
+use Rattle.cap_bare.proofs.Instructions.{fetched-decoded, stands-here}
 use Rattle.cap_bare.proofs.Places.{leads-all}
 use Rattle.cap_bare.proofs.Near.{leads-from-on}
 use Rattle.cap_bare.proofs.verify.stray_target.Goals as goal
@@ -15,7 +15,7 @@ use Rattle.cap_bare.proofs.verify.stray_target.Goals as goal
 pub target-requires-clause-decoded : goal.target-requires-clause-decoded
 target-requires-clause-decoded c =
     let code = c.args.code.bytes.now in
-    let i = c.args.placed in fetched-decoded code i.place i.insn (stands-listed code i c.requires.stands).here.found
+    let i = c.args.placed in fetched-decoded code i.place i.insn (stands-here code i c.requires.stands).found
 
 pub is_place-requires-clause-from_on : goal.is_place-requires-clause-from_on
 is_place-requires-clause-from_on c =

@@ -2,7 +2,7 @@ use Rattle.std.proofs.Common.{◌≡◌, ◌<◌, ◌++◌, ℕ, false, length}
 use Rattle.jc_decode.specs.Instructions.{rest_of}
 use Rattle.jc_decode.specs.Listing.{listing}
 use Rattle.jc_control.specs.Flags.{flag, Marks}
-use Rattle.jc_control.specs.Places.{BeginsIn}
+use Rattle.jc_decode.specs.Places.{BeginsIn}
 use Rattle.jc_control.proofs.scan.mark_places.Given as goal
 
 abbrev pub invariant-clear : goal.invariant-clear

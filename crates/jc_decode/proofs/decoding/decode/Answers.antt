@@ -3,7 +3,7 @@ use Rattle.jc_decode.specs.Decoding.{decoded}
 use Rattle.jc_decode.proofs.Ranges.{begins-answer, fits-answer, allowed-answer, within-answer}
 use Rattle.jc_decode.proofs.Rising.{rising-answer, order-answer}
 use Rattle.jc_decode.proofs.Decoded.{decoded-Begins}
-use Rattle.jc_decode.proofs.Refusals.{Refuses-decoded, refused-answer}
+use Rattle.jc_decode.proofs.Refusals.{RefusesBytes-decoded, refused-answer}
 use Rattle.jc_decode.proofs.decoding.decode.Goals as goal
 
 pub returns-clause-operands : goal.returns-clause-operands
@@ -40,4 +40,4 @@ returns-clause-refused c =
 
 pub returns-clause-told : goal.returns-clause-told
 returns-clause-told c =
-    λ e refuses. (c.insn_at.ensures ∙ ap (decoded c.args.code.bytes.now) c.from.ensures) ∙ Refuses-decoded c.args.code.bytes.now c.args.at e refuses
+    λ e refuses. (c.insn_at.ensures ∙ ap (decoded c.args.code.bytes.now) c.from.ensures) ∙ RefusesBytes-decoded c.args.code.bytes.now c.args.at e refuses

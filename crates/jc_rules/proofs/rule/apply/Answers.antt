@@ -12,7 +12,7 @@ use Rattle.jc_rules.specs.declared.effect.Mode.TheVariants.{Card}
 use Rattle.jc_rules.specs.Stack.{cells}
 use Rattle.jc_rules.specs.Effect.{needed, listed, depth_after, Stores, rises}
 use Rattle.jc_rules.specs.Demand.{Frame}
-use Rattle.jc_rules.specs.Apply.{frame_of, HasRoom, Refuses, unresolved, refused_by}
+use Rattle.jc_rules.specs.Apply.{frame_of, HasDeclaredLengths, Refuses, unresolved, refused_by}
 use Rattle.jc_rules.proofs.Stacks.{length-cells}
 use Rattle.jc_rules.proofs.Effects.{cells-kept, changed-known, length-changed}
 use Rattle.jc_rules.proofs.Plans.{planned-suits, plan-applies, room-known, site-known, method-inside, method-room}
@@ -32,7 +32,7 @@ returns-in_err-operation-clause-refuses c =
     (refuses-unresolved c.args.world.now c.args.site c.args.insn (frame_of c.args.regs.now c.args.stack.now c.args.depth) c.in_err-operation.field-0.0 (slice_get c.args.world.now.methods c.args.site.method) refl c.in_err-operation.ensures.resolves)
 
 pub method-requires : goal.method-requires
-method-requires c = method-inside c.args.world.now c.args.site.method (λ m. HasRoom m c.args.regs.now c.args.stack.now c.args.depth) c.requires.room
+method-requires c = method-inside c.args.world.now c.args.site.method (λ m. HasDeclaredLengths m c.args.regs.now c.args.stack.now c.args.depth) c.requires.room
 
 pub plan-requires-clause-frame : goal.plan-requires-clause-frame
 unfolding cells
@@ -54,8 +54,8 @@ returns-in_err-effect-clause-refuses c =
 pub change_stack-depth-requires-clause-there : goal.change_stack-depth-requires-clause-there
 unfolding cells
 change_stack-depth-requires-clause-there c =
-    let declared : HasRoom c.method.result.now c.args.regs.now c.args.stack.now c.args.depth =
-    method-room c.args.world.now c.args.site.method c.method.result.now (λ m. HasRoom m c.args.regs.now c.args.stack.now c.args.depth) c.method.ensures.is c.requires.room in
+    let declared : HasDeclaredLengths c.method.result.now c.args.regs.now c.args.stack.now c.args.depth =
+    method-room c.args.world.now c.args.site.method c.method.result.now (λ m. HasDeclaredLengths m c.args.regs.now c.args.stack.now c.args.depth) c.method.ensures.is c.requires.room in
     let inside : c.args.depth ≤ length c.args.stack.now = omega (arith, declared.within, declared.cells) in
     subst (λ n. needed c.in_ok-effect.effect.change ≤ n) (length-cells c.args.stack.now c.args.depth inside)
     (planned-suits c.args.world.now c.classes-classes.ensures.links c.args.site c.in_ok-operation.operation c.args.regs.now c.args.stack.now c.args.depth c.method.result.now.max_stack c.in_ok-effect.effect c.requires.room c.requires.regs_known c.requires.stack_known c.in_ok-operation.ensures.sound c.in_ok-effect.ensures).there
@@ -98,8 +98,8 @@ returns-clause-applies c =
     let w = c.args.world.now in
     let op = c.in_ok-operation.operation in
     let k = room-known c.args.world.now c.classes-classes.ensures.links c.args.site.method c.args.regs.now c.args.stack.now c.args.depth c.requires.room c.requires.regs_known c.requires.stack_known in
-    let declared : HasRoom c.method.result.now c.args.regs.now c.args.stack.now c.args.depth =
-    method-room w c.args.site.method c.method.result.now (λ m. HasRoom m c.args.regs.now c.args.stack.now c.args.depth) c.method.ensures.is c.requires.room in
+    let declared : HasDeclaredLengths c.method.result.now c.args.regs.now c.args.stack.now c.args.depth =
+    method-room w c.args.site.method c.method.result.now (λ m. HasDeclaredLengths m c.args.regs.now c.args.stack.now c.args.depth) c.method.ensures.is c.requires.room in
     let inside : c.args.depth ≤ length c.args.stack.now = omega (arith, declared.within, declared.cells) in
     let before : Frame = frame_of c.args.regs.now c.args.stack.now c.args.depth in
     let e = c.in_ok-effect.effect in

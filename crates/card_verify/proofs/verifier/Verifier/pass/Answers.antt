@@ -1,12 +1,14 @@
 use Rattle.std.proofs.Common.{rules, ◌≡◌, ◌≤◌, ◌+◌, ◌++◌, ◌||◌, ◌∷◌, [], Bool, refl, sym, ◌∙◌, ap, subst, arith}
 use Rattle.jc_decode.specs.Instructions.{rest_of}
 use Rattle.jc_decode.specs.Listing.{listing, end_from}
+use Rattle.jc_decode.proofs.Listed.{end-after}
+use Rattle.jc_control.proofs.Elements.{at-last}
 use Rattle.jc_rules.specs.Stack.{cells}
 use Rattle.card_verify.specs.declared.pass.Arrival.{Arrival}
 use Rattle.card_verify.specs.Walk.{IsComing, IsProgress}
 use Rattle.card_verify.proofs.Landing.{no-cells}
-use Rattle.card_verify.proofs.Nearest.{next-whole, last-whole}
-use Rattle.card_verify.proofs.Walking.{end-after, coming-first, coming-next, refused-at, progress-first, progress-next, pass-done, next-place, next-stands}
+use Rattle.card_verify.proofs.Nearest.{next-whole}
+use Rattle.card_verify.proofs.Walking.{coming-first, coming-next, refused-at, progress-first, progress-next, pass-done, next-place, next-stands}
 use Rattle.card_verify.proofs.verifier.Verifier.pass.Goals as goal
 
 pub walk-init : goal.walk-init
@@ -64,5 +66,5 @@ walk-preserved c =
 pub returns-clause-done : goal.returns-clause-done
 returns-clause-done c =
     pass-done c.args.self.now c.requires.verifier c.args.regs.now c.walk.rose c.walk.yielded c.walk.arrival c.walk.regs c.walk.stack
-    (last-whole c.walk.yielded (rest_of c.walk.placed-iterator) (listing c.args.self.now.code.bytes.now) c.walk.invariant.whole c.in-None.ensures.steps.0)
+    (at-last c.walk.yielded (rest_of c.walk.placed-iterator) (listing c.args.self.now.code.bytes.now) c.walk.invariant.whole c.in-None.ensures.steps.0)
     c.walk.invariant.coming c.walk.invariant.progress

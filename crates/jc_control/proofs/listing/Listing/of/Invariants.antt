@@ -3,7 +3,7 @@ use Rattle.jc_decode.specs.Instructions.{rest_of}
 use Rattle.jc_decode.specs.Listing.{listing}
 use Rattle.jc_control.specs.Flags.{Marks}
 use Rattle.jc_control.specs.Listing.{AreDecoded}
-use Rattle.jc_control.specs.Places.{BeginsIn}
+use Rattle.jc_decode.specs.Places.{BeginsIn}
 use Rattle.jc_control.proofs.listing.Listing.of.Given as goal
 
 abbrev pub invariant-walk : goal.invariant-walk

@@ -1,8 +1,9 @@
 use Rattle.std.proofs.Common.{refl, sym, ◌∙◌}
+use Rattle.std.proofs.lemmas.Option.{none-some}
 use Rattle.jc_rules.specs.Held.{lent}
 use Rattle.jc_flow.specs.Visit.{analysed}
 use Rattle.jc_flow.proofs.Leading.{goes-same}
-use Rattle.jc_flow.proofs.Visits.{load-registers, load-room, suits-loaded, held-loaded, step-loaded, caught-kept, is-step, visit-over, nothing-there}
+use Rattle.jc_flow.proofs.Visits.{load-registers, load-room, suits-loaded, held-loaded, step-loaded, caught-kept, is-step, visit-over}
 use Rattle.jc_flow.proofs.analysis.Analysis.visit.Goals as goal
 
 pub keep-requires-clause-registers : goal.keep-requires-clause-registers
@@ -20,7 +21,7 @@ load-requires-clause-room c = load-room c.args.self.now.world.now c.requires.ana
 pub returns-in-None-clause-visited : goal.returns-in-None-clause-visited
 returns-in-None-clause-visited c = record {
   goes = goes-same c.args.self.now.world.now c.requires.analysis.rules.order (analysed c.args.self.now) c.args.table.now c.requires.held;
-  closed = λ f e. absurd (nothing-there (c.in-None.ensures ∙ e));
+  closed = λ f e. absurd (none-some _ (c.in-None.ensures ∙ e));
 }
 
 pub step-requires-clause-here : goal.step-requires-clause-here
