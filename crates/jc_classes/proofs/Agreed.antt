@@ -13,7 +13,7 @@ use Rattle.jc_resolve.specs.declared.fault.LinkEnd.{LinkEnd}
 use Rattle.jc_resolve.specs.declared.fault.LinkEnd.TheVariants.{Fault, Memory}
 use Rattle.jc_resolve.specs.Due.{IsDue}
 use Rattle.jc_resolve.specs.declared.named.NamedClass.{NamedClass}
-use Rattle.jc_resolve.specs.Fault.{place_of}
+use Rattle.jc_resolve.specs.Fault.{link_place}
 use Rattle.first_fault.specs.Least.{◌>>=◌}
 use Rattle.first_fault.specs.First.{IsFirst, AllEmpty}
 use Rattle.jc_resolve.proofs.Faultless.{faultless_at}
@@ -63,19 +63,19 @@ pub ruleset building = (layouts_count)
 
 -- ---- the conditions one after the other
 
-pub agree-told : (t : ClassTable) (classes : List NamedClass) (methods : List MethodRec) → IsTold place_of (classes_agree t classes methods) (conditions t classes methods)
+pub agree-told : (t : ClassTable) (classes : List NamedClass) (methods : List MethodRec) → IsTold link_place (classes_agree t classes methods) (conditions t classes methods)
 unfolding classes_agree
 agree-told t classes methods =
-    step place_of (things-told place_of (hole_fault t methods) (flat_map (entries_in t classes) (class_numbers classes)))
-    (step place_of (things-told place_of (override_fault methods) (flat_map (replacements_in t classes) (class_numbers classes)))
-    (step place_of (things-told place_of (interface_fault methods) (flat_map (implementations_in t classes) (class_numbers classes)))
-    (last place_of (things-told place_of (long_fault t classes) (class_numbers classes)))))
+    step link_place (things-told link_place (hole_fault t methods) (flat_map (entries_in t classes) (class_numbers classes)))
+    (step link_place (things-told link_place (override_fault methods) (flat_map (replacements_in t classes) (class_numbers classes)))
+    (step link_place (things-told link_place (interface_fault methods) (flat_map (implementations_in t classes) (class_numbers classes)))
+    (last link_place (things-told link_place (long_fault t classes) (class_numbers classes)))))
 
-pub told_first : (t : ClassTable) (classes : List NamedClass) (methods : List MethodRec) (f : LinkFault) → Err f ≡ classes_agree t classes methods → IsFirst place_of (conditions t classes methods) f
-told_first t classes methods f e = refused-first place_of (conditions t classes methods) f (sym (agree-told t classes methods).same ∙ sym e)
+pub told_first : (t : ClassTable) (classes : List NamedClass) (methods : List MethodRec) (f : LinkFault) → Err f ≡ classes_agree t classes methods → IsFirst link_place (conditions t classes methods) f
+told_first t classes methods f e = refused-first link_place (conditions t classes methods) f (sym (agree-told t classes methods).same ∙ sym e)
 
 pub told_empty : (t : ClassTable) (classes : List NamedClass) (methods : List MethodRec) → Ok (tt {0}) ≡ classes_agree t classes methods → AllEmpty (conditions t classes methods)
-told_empty t classes methods e = accepted-empty place_of (conditions t classes methods) (sym (agree-told t classes methods).same ∙ sym e)
+told_empty t classes methods e = accepted-empty link_place (conditions t classes methods) (sym (agree-told t classes methods).same ∙ sym e)
 
 told-by : (t : ClassTable) (classes : List NamedClass) (methods : List MethodRec) (s : Result (Unit {0}) LinkFault) (r : Result ClassTable LinkEnd) → classes_agree t classes methods ≡ s → IsDue (s >>= λ _. Ok (class_tables t classes)) r → TellsEnd t classes methods r
 told-by t classes methods (Ok x) (Ok table) e due =

@@ -38,7 +38,7 @@ stands_by t methods e false at none =
     let no : Some (Hole e.class e.token) ≡ None = sym some ∙ none in
     absurd cc
 
-all_stand : (t : ClassTable) (methods : List MethodRec) (c token : ℕ) (list : List (Option ℕ)) → filter_map (hole_fault t methods) (entries_from c token list) ≡ [] → AllStand t c methods list
+pub all_stand : (t : ClassTable) (methods : List MethodRec) (c token : ℕ) (list : List (Option ℕ)) → filter_map (hole_fault t methods) (entries_from c token list) ≡ [] → AllStand t c methods list
 all_stand t methods c token [] e = tt {0}
 all_stand t methods c token (m ∷ ms) e =
     let entry : Entry = record { class = c; token = token; method = m } in

@@ -10,7 +10,7 @@ use Rattle.jc_base.proofs.Lists.{All-slice_get}
 use Rattle.jc_base.specs.Class.{ClassTable, AreClasses, chain, list_of, parent_of}
 use Rattle.jc_base.proofs.Chains.{next_on_chain}
 use Rattle.jc_base.proofs.Climbs.{chain-length, chain-front, parent_of-class}
-use Rattle.jc_classes.specs.Known.{AreKnown}
+use Rattle.jc_classes.specs.Known.{HaveSuperclasses}
 use Rattle.jc_classes.proofs.Climbs.{chain_from, chain_step, climbed_whole, head_same, tail_same, no_end}
 use Rattle.jc_resolve.specs.declared.named.NamedClass.{NamedClass}
 use Rattle.jc_resolve.specs.Named.{IsSized}
@@ -95,7 +95,7 @@ own_few_by : (o : Option NamedClass) → IfSome o IsSized → length (of_class [
 own_few_by None h = omega arith
 own_few_by (Some k) h = h.own
 
-sized_at : (classes : List NamedClass) (c : ℕ) (o : Option NamedClass) → slice_get classes c ≡ o → All IsSized classes → IfSome o IsSized
+pub sized_at : (classes : List NamedClass) (c : ℕ) (o : Option NamedClass) → slice_get classes c ≡ o → All IsSized classes → IfSome o IsSized
 sized_at classes c None e all = tt
 sized_at classes c (Some k) e all = All-slice_get IsSized classes c k all e
 
@@ -123,7 +123,7 @@ above_few t classes (Some p) all few = cells_few t classes p all few
 pub up_is : (t : ClassTable) (classes : List NamedClass) (slots : List (Option ClassLayout)) (above : Option ℕ) (up : Option ClassLayout) → up ≡ option_and_then (slot_at slots) above → IfSome above (IsFilled t classes slots) → up ≡ option_map (layout_of t classes) above
 up_is t classes slots above up e made = e ∙ above_filled t classes slots above made
 
-pub up_few : (t : ClassTable) (classes : List NamedClass) (slots : List (Option ClassLayout)) (above : Option ℕ) (up : Option ClassLayout) → up ≡ option_and_then (slot_at slots) above → IfSome above (IsFilled t classes slots) → AreKnown t classes
+pub up_few : (t : ClassTable) (classes : List NamedClass) (slots : List (Option ClassLayout)) (above : Option ℕ) (up : Option ClassLayout) → up ≡ option_and_then (slot_at slots) above → IfSome above (IsFilled t classes slots) → HaveSuperclasses t classes
     → (above_or_nothing up).cells ≤ 536993790
 up_few t classes slots above up e made known = rw (up_is t classes slots above up e made) (above_few t classes above known.sized (omega (arith, known.few, known.count)))
 
@@ -173,7 +173,7 @@ down_step t path rest x above c are e whole = chain_from t are rest c x (list_of
 pub down_whole : (t : ClassTable) (path rest : List ℕ) (x : ℕ) (above : Option ℕ) (c : ℕ) → AreClasses t → path ≡ rest ++ (x ∷ []) → path ++ list_of (chain t) above ≡ chain t c → rest ++ list_of (chain t) (Some x) ≡ chain t c
 down_whole t path rest x above c are e whole = ap (λ (xs : List ℕ). rest ++ xs) (down_step t path rest x above c are e whole) ∙ taken t path rest x above c e whole
 
-pub down_known : (t : ClassTable) (classes : List NamedClass) (path rest : List ℕ) (x : ℕ) (above : Option ℕ) (c : ℕ) → AreClasses t → AreKnown t classes → c < length classes → path ≡ rest ++ (x ∷ []) → path ++ list_of (chain t) above ≡ chain t c
+pub down_known : (t : ClassTable) (classes : List NamedClass) (path rest : List ℕ) (x : ℕ) (above : Option ℕ) (c : ℕ) → AreClasses t → HaveSuperclasses t classes → c < length classes → path ≡ rest ++ (x ∷ []) → path ++ list_of (chain t) above ≡ chain t c
     → x < length classes
 down_known t classes path rest x above c are known h e whole =
     let low : c < length t.records = omega (arith, known.count) in
@@ -189,11 +189,11 @@ pub record IsDescent (t : ClassTable) (classes : List NamedClass) (first : List 
   pub filled : IfSome above (IsFilled t classes slots)
   pub known : IfSome above (λ p. p < length classes)
 
-above_counted : (t : ClassTable) (classes : List NamedClass) (above : Option ℕ) → AreKnown t classes → IfSome above (λ p. p < length t.records) → IfSome above (λ p. p < length classes)
+above_counted : (t : ClassTable) (classes : List NamedClass) (above : Option ℕ) → HaveSuperclasses t classes → IfSome above (λ p. p < length t.records) → IfSome above (λ p. p < length classes)
 above_counted t classes None known h = tt
 above_counted t classes (Some p) known h = omega (arith, known.count, h)
 
-pub descent_first : (t : ClassTable) (classes : List NamedClass) (slots : List (Option ClassLayout)) (c : ℕ) (path : List ℕ) (above : Option ℕ) → AreKnown t classes → AreSlots t classes slots → IsClimb t slots c path above → IsDescent t classes slots slots c path above
+pub descent_first : (t : ClassTable) (classes : List NamedClass) (slots : List (Option ClassLayout)) (c : ℕ) (path : List ℕ) (above : Option ℕ) → HaveSuperclasses t classes → AreSlots t classes slots → IsClimb t slots c path above → IsDescent t classes slots slots c path above
 descent_first t classes slots c path above known are climb = record {
   whole = climb.whole;
   right = are;
@@ -202,7 +202,7 @@ descent_first t classes slots c path above known are climb = record {
   known = above_counted t classes above known climb.known;
 }
 
-pub descent_next : (t : ClassTable) (classes : List NamedClass) (first slots next : List (Option ClassLayout)) (c : ℕ) (path rest : List ℕ) (x : ℕ) (above : Option ℕ) → AreClasses t → AreKnown t classes → c < length classes → path ≡ rest ++ (x ∷ [])
+pub descent_next : (t : ClassTable) (classes : List NamedClass) (first slots next : List (Option ClassLayout)) (c : ℕ) (path rest : List ℕ) (x : ℕ) (above : Option ℕ) → AreClasses t → HaveSuperclasses t classes → c < length classes → path ≡ rest ++ (x ∷ [])
     → IsDescent t classes first slots c path above → IsMade t classes slots next x → IsDescent t classes first next c rest (Some x)
 descent_next t classes first slots next c path rest x above are known low e d made = record {
   whole = down_whole t path rest x above c are e d.whole;

@@ -1,30 +1,31 @@
 -- The least fault of the things of all classes, class by class.
-use Rattle.std.proofs.Common.{◌≡◌, ℕ, suc, ◌+◌, ◌≤◌, ◌<◌, min, inl, inr, get_or, drop, drop-cons, append-nil, List, [], ◌∷◌, ◌++◌, length, map, flat_map, Option, Some, None, refl, sym, ap, ◌∙◌, arith}
+use Rattle.std.proofs.Common.{◌≡◌, ℕ, suc, ◌+◌, ◌≤◌, ◌<◌, get_or, drop, drop-cons, append-nil, List, [], ◌∷◌, ◌++◌, length, map, flat_map, Option, Some, None, refl, sym, ap, ◌∙◌, arith}
 use Rattle.std.specs.Prelude.{All, Bool, nat_lt, if◌then◌else◌, IfSome, slice_get, option_map}
-use Rattle.std.proofs.lemmas.Bool.{cases_lt}
 use Rattle.std.specs.List.{range_with_len}
 use Rattle.std.proofs.lemmas.List.Sums.{fold-append}
 use Rattle.std.proofs.lemmas.List.{drop_all, map-id}
 use Rattle.std.proofs.lemmas.Grind.{flat_map-append}
 use Rattle.std.proofs.lemmas.List.FromFn.{map-range_with_len_more, get_or-map-range_with_len, length-map-range_with_len}
+use Rattle.jc_resolve.specs.NamedClasses.{no_table}
 use Rattle.jc_base.proofs.Lists.{All-slice_get}
 use Rattle.jc_base.specs.declared.record.MethodRec.{MethodRec}
-use Rattle.jc_base.specs.Class.{ClassTable, chain, parent_of}
+use Rattle.jc_base.specs.Class.{ClassTable, chain}
 use Rattle.jc_resolve.specs.declared.fault.LinkFault.{LinkFault}
 use Rattle.jc_resolve.specs.declared.fault.LinkFault.TheVariants.{InstanceLong}
 use Rattle.jc_resolve.specs.declared.named.DispatchTable.{DispatchTable}
 use Rattle.jc_resolve.specs.declared.named.NamedClass.{NamedClass}
 use Rattle.jc_resolve.specs.Named.{IsByteTable, IsSized}
-use Rattle.jc_resolve.specs.Fault.{place_of}
+use Rattle.jc_resolve.specs.Fault.{link_place}
 use Rattle.first_fault.specs.Least.{least_from, least_of, lesser}
-use Rattle.jc_classes.specs.Known.{AreKnown}
+use Rattle.jc_classes.specs.Known.{HaveSuperclasses}
 use Rattle.jc_classes.specs.declared.layout.ClassLayout.{ClassLayout}
 use Rattle.jc_classes.specs.Entries.{reach, reach_from, reach_of}
-use Rattle.jc_classes.specs.Layout.{above_or_nothing, at_home, no_table, of_class, public_table, visible_table, home_run, public_entries, visible_entries, instance_cells, layout_of, layouts}
+use Rattle.jc_classes.specs.Layout.{of_class, public_table, visible_table, home_run, public_entries, visible_entries, instance_cells, layout_of, layouts}
 use Rattle.jc_classes.specs.Slots.{IsShort}
 use Rattle.jc_classes.specs.Signatures.{method_in}
-use Rattle.jc_classes.specs.Conditions.{Entry, entries_from, Replacement, replacements_from, replacements_in, layout_above, visible_above, long_fault}
+use Rattle.jc_classes.specs.Conditions.{Entry, entries_from, Replacement, replacements_from, long_fault}
 use Rattle.jc_classes.proofs.Overlays.{length-entries}
+use Rattle.jc_classes.proofs.Fills.{sized_at}
 
 -- the class of a method of an entry
 pub class_known : (methods : List MethodRec) (n : ℕ) (entry : Option ℕ) (m : MethodRec) → All (λ (k : MethodRec). k.class < n) methods → Some m ≡ method_in methods entry → m.class < n
@@ -34,12 +35,12 @@ class_known methods n (Some k) m all e = All-slice_get (λ (k : MethodRec). k.cl
 -- ---- entry by entry
 
 pub entries_next : (fault : Entry → Option LinkFault) (c token i : ℕ) (list : List (Option ℕ)) (least : Option LinkFault) (d : Option ℕ) → i < length list
-    → least_from place_of least fault (entries_from c token (drop i list)) ≡ least_from place_of (lesser place_of least (fault (record { class = c; token = token; method = get_or list i d }))) fault (entries_from c (token + 1) (drop (i + 1) list))
+    → least_from link_place least fault (entries_from c token (drop i list)) ≡ least_from link_place (lesser link_place least (fault (record { class = c; token = token; method = get_or list i d }))) fault (entries_from c (token + 1) (drop (i + 1) list))
 entries_next fault c token i list least d h =
     let more : suc i ≡ i + 1 = omega arith in
-    ap (λ (es : List (Option ℕ)). least_from place_of least fault (entries_from c token es)) (drop-cons list i d h ∙ ap (λ (k : ℕ). get_or list i d ∷ drop k list) more)
+    ap (λ (es : List (Option ℕ)). least_from link_place least fault (entries_from c token es)) (drop-cons list i d h ∙ ap (λ (k : ℕ). get_or list i d ∷ drop k list) more)
 
-pub entries_end : (fault : Entry → Option LinkFault) (c token i : ℕ) (list : List (Option ℕ)) (least : Option LinkFault) → length list ≤ i → least_from place_of least fault (entries_from c token (drop i list)) ≡ least
+pub entries_end : (fault : Entry → Option LinkFault) (c token i : ℕ) (list : List (Option ℕ)) (least : Option LinkFault) → length list ≤ i → least_from link_place least fault (entries_from c token (drop i list)) ≡ least
 entries_end fault c token i list least h = rw (drop_all i list h) refl
 
 pub ruleset entry_folds = (entries_next, entries_end)
@@ -58,14 +59,14 @@ flat_range f n =
     ∙ flat_map-append f (range_with_len 0 n) (n ∷ [])
     ∙ ap (λ xs. flat_map f (range_with_len 0 n) ++ xs) (append-nil (f n))
 
-pub least_next : {X : Type 0} (fault : X → Option LinkFault) (f : ℕ → List X) (n : ℕ) (least : Option LinkFault) → least ≡ least_of place_of fault (flat_map f (range_with_len 0 n))
-    → least_from place_of least fault (f n) ≡ least_of place_of fault (flat_map f (range_with_len 0 (n + 1)))
+pub least_next : {X : Type 0} (fault : X → Option LinkFault) (f : ℕ → List X) (n : ℕ) (least : Option LinkFault) → least ≡ least_of link_place fault (flat_map f (range_with_len 0 n))
+    → least_from link_place least fault (f n) ≡ least_of link_place fault (flat_map f (range_with_len 0 (n + 1)))
 least_next fault f n least e =
-    ap (λ (o : Option LinkFault). least_from place_of o fault (f n)) e
+    ap (λ (o : Option LinkFault). least_from link_place o fault (f n)) e
     ∙ sym (fold-append _ None (flat_map f (range_with_len 0 n)) (f n))
-    ∙ ap (least_of place_of fault) (sym (flat_range f n))
+    ∙ ap (least_of link_place fault) (sym (flat_range f n))
 
-pub least_both : {X : Type 0} (fault : X → Option LinkFault) (xs ys : List X) (least : Option LinkFault) → least_from place_of (least_from place_of least fault xs) fault ys ≡ least_from place_of least fault (xs ++ ys)
+pub least_both : {X : Type 0} (fault : X → Option LinkFault) (xs ys : List X) (least : Option LinkFault) → least_from link_place (least_from link_place least fault xs) fault ys ≡ least_from link_place least fault (xs ++ ys)
 least_both fault xs ys least = sym (fold-append _ least xs ys)
 
 -- ---- how long dispatch lists are
@@ -84,10 +85,6 @@ empty_table = record { base = omega arith; count = omega arith }
 table_few_by : (f : NamedClass → DispatchTable) → ((k : NamedClass) → IsSized k → IsByteTable (f k)) → (o : Option NamedClass) → IfSome o IsSized → IsByteTable (of_class no_table f o)
 table_few_by f each None h = empty_table
 table_few_by f each (Some k) h = each k h
-
-sized_at : (classes : List NamedClass) (c : ℕ) (o : Option NamedClass) → slice_get classes c ≡ o → All IsSized classes → IfSome o IsSized
-sized_at classes c None e all = tt
-sized_at classes c (Some k) e all = All-slice_get IsSized classes c k all e
 
 public_few : (classes : List NamedClass) (c : ℕ) → All IsSized classes → reach (public_table classes c) ≤ 510
 unfolding public_table
@@ -112,7 +109,7 @@ lists_short t classes c all = record {
 pub layout_is : (t : ClassTable) (classes : List NamedClass) (all : List ClassLayout) (c : ℕ) (d : ClassLayout) → all ≡ layouts t classes → c < length classes → get_or all c d ≡ layout_of t classes c
 layout_is t classes all c d e h = ap (λ (ls : List ClassLayout). get_or ls c d) e ∙ get_or-map-range_with_len (layout_of t classes) 0 (length classes) c c d h (omega arith)
 
-pub layout_short : (t : ClassTable) (classes : List NamedClass) (all : List ClassLayout) (c : ℕ) (d : ClassLayout) → all ≡ layouts t classes → c < length classes → AreKnown t classes → IsShort (get_or all c d)
+pub layout_short : (t : ClassTable) (classes : List NamedClass) (all : List ClassLayout) (c : ℕ) (d : ClassLayout) → all ≡ layouts t classes → c < length classes → HaveSuperclasses t classes → IsShort (get_or all c d)
 layout_short t classes all c d e h known = rw (layout_is t classes all c d e h) (lists_short t classes c known.sized)
 
 pub layouts_count : (t : ClassTable) (classes : List NamedClass) (all : List ClassLayout) → all ≡ layouts t classes → length all ≡ length classes
@@ -126,34 +123,18 @@ layout_at t classes all c l e h is = is ∙ layout_is t classes all c l e h
 -- ---- replacement by replacement
 
 pub replacements_next : (fault : Replacement → Option LinkFault) (c first i : ℕ) (inherited list : List (Option ℕ)) (least : Option LinkFault) (d e : Option ℕ) → i < length inherited → i < length list
-    → least_from place_of least fault (replacements_from c (first + i) (drop i inherited) (drop i list))
-    ≡ least_from place_of (lesser place_of least (fault (record { class = c; token = first + i; inherited = get_or inherited i d; method = get_or list i e }))) fault (replacements_from c (first + (i + 1)) (drop (i + 1) inherited) (drop (i + 1) list))
+    → least_from link_place least fault (replacements_from c (first + i) (drop i inherited) (drop i list))
+    ≡ least_from link_place (lesser link_place least (fault (record { class = c; token = first + i; inherited = get_or inherited i d; method = get_or list i e }))) fault (replacements_from c (first + (i + 1)) (drop (i + 1) inherited) (drop (i + 1) list))
 replacements_next fault c first i inherited list least d e h k =
     let more : suc i ≡ i + 1 = omega arith in
     let token : first + i + 1 ≡ first + (i + 1) = omega arith in
-    ap (λ (es : List (Option ℕ)). least_from place_of least fault (replacements_from c (first + i) es (drop i list))) (drop-cons inherited i d h ∙ ap (λ (n : ℕ). get_or inherited i d ∷ drop n inherited) more)
-    ∙ ap (λ (es : List (Option ℕ)). least_from place_of least fault (replacements_from c (first + i) (get_or inherited i d ∷ drop (i + 1) inherited) es)) (drop-cons list i e k ∙ ap (λ (n : ℕ). get_or list i e ∷ drop n list) more)
-    ∙ ap (λ (n : ℕ). least_from place_of (lesser place_of least (fault (record { class = c; token = first + i; inherited = get_or inherited i d; method = get_or list i e }))) fault (replacements_from c n (drop (i + 1) inherited) (drop (i + 1) list))) token
-
-no_more : (c token : ℕ) (inherited list : List (Option ℕ)) → inherited ≡ [] → replacements_from c token inherited list ≡ []
-no_more c token inherited list e = rw e refl
-
-none_left_by : (c token : ℕ) (inherited list : List (Option ℕ)) → list ≡ [] → replacements_from c token inherited list ≡ []
-none_left_by c token [] list e = refl
-none_left_by c token (x ∷ xs) list e = rw e refl
-
-pub replacements_end : (fault : Replacement → Option LinkFault) (c token i : ℕ) (inherited list : List (Option ℕ)) (least : Option LinkFault) → min (length inherited) (length list) ≤ i
-    → least_from place_of least fault (replacements_from c token (drop i inherited) (drop i list)) ≡ least
-replacements_end fault c token i inherited list least h = ap (least_from place_of least fault) (elim (cases_lt i (length inherited)) [
-  | inl lt ↦ none_left_by c token (drop i inherited) (drop i list) (drop_all i list (omega arith))
-  | inr le ↦ no_more c token (drop i inherited) (drop i list) (drop_all i inherited le)
-])
-
-pub ruleset replacement_folds = (replacements_next, replacements_end)
+    ap (λ (es : List (Option ℕ)). least_from link_place least fault (replacements_from c (first + i) es (drop i list))) (drop-cons inherited i d h ∙ ap (λ (n : ℕ). get_or inherited i d ∷ drop n inherited) more)
+    ∙ ap (λ (es : List (Option ℕ)). least_from link_place least fault (replacements_from c (first + i) (get_or inherited i d ∷ drop (i + 1) inherited) es)) (drop-cons list i e k ∙ ap (λ (n : ℕ). get_or list i e ∷ drop n list) more)
+    ∙ ap (λ (n : ℕ). least_from link_place (lesser link_place least (fault (record { class = c; token = first + i; inherited = get_or inherited i d; method = get_or list i e }))) fault (replacements_from c n (drop (i + 1) inherited) (drop (i + 1) list))) token
 
 -- ---- the superclass among all classes
 
-pub above_at : (t : ClassTable) (classes : List NamedClass) (all : List ClassLayout) (p : ℕ) (d : ClassLayout) (o : Option ℕ) → all ≡ layouts t classes → p < length t.records → AreKnown t classes → Some p ≡ o → d ≡ get_or all p d
+pub above_at : (t : ClassTable) (classes : List NamedClass) (all : List ClassLayout) (p : ℕ) (d : ClassLayout) (o : Option ℕ) → all ≡ layouts t classes → p < length t.records → HaveSuperclasses t classes → Some p ≡ o → d ≡ get_or all p d
     → Some d ≡ option_map (layout_of t classes) o
 above_at t classes all p d o e h known is at =
     let low : p < length classes = omega (arith, known.count) in
@@ -161,28 +142,13 @@ above_at t classes all p d o e h known is at =
 
 pub ruleset above_in_all = (above_at, layouts_count)
 
-pub ruleset compares = (least_both, layout_at, layouts_count)
-
--- both lists of a class compared with those of its superclass
-pub class_compared : (t : ClassTable) (classes : List NamedClass) (c : ℕ) (fault : Replacement → Option LinkFault) (least middle last : Option LinkFault) (own : ClassLayout) (up : Option ClassLayout) (home : Bool) (above_public public above_visible visible : List (Option ℕ))
-    → own ≡ layout_of t classes c → up ≡ option_map (layout_of t classes) (parent_of t c) → home ≡ at_home t (parent_of t c) c
-    → above_public ≡ (above_or_nothing up).public → public ≡ own.public → above_visible ≡ (if home then (above_or_nothing up).visible else []) → visible ≡ own.visible
-    → middle ≡ least_from place_of least fault (replacements_from c 0 above_public public) → last ≡ least_from place_of middle fault (replacements_from c 128 above_visible visible)
-    → last ≡ least_from place_of least fault (replacements_in t classes c)
-unfolding layout_above layout_of
-class_compared t classes c fault least middle last own up home above_public public above_visible visible is_own is_up is_home e1 e2 e3 e4 m l =
-    l
-    ∙ rw (m, e1, e2, e3, e4, is_home, is_own, is_up) (least_both fault
-    (replacements_from c 0 (layout_above t classes c).public (public_entries t classes c))
-    (replacements_from c 128 (visible_above t classes c) (visible_entries t classes c)) least)
-
 -- ---- class numbers one by one
 
-pub least_one : (fault : ℕ → Option LinkFault) (n : ℕ) (least : Option LinkFault) → least ≡ least_of place_of fault (range_with_len 0 n) → lesser place_of least (fault n) ≡ least_of place_of fault (range_with_len 0 (n + 1))
+pub least_one : (fault : ℕ → Option LinkFault) (n : ℕ) (least : Option LinkFault) → least ≡ least_of link_place fault (range_with_len 0 n) → lesser link_place least (fault n) ≡ least_of link_place fault (range_with_len 0 (n + 1))
 least_one fault n least e =
-    ap (λ (o : Option LinkFault). lesser place_of o (fault n)) e
+    ap (λ (o : Option LinkFault). lesser link_place o (fault n)) e
     ∙ sym (fold-append _ None (range_with_len 0 n) (n ∷ []))
-    ∙ ap (least_of place_of fault) (sym (range_more n))
+    ∙ ap (least_of link_place fault) (sym (range_more n))
 
 long_by : (c cells : ℕ) (t : ClassTable) (classes : List NamedClass) (b : Bool) → nat_lt 32767 cells ≡ b → cells ≡ instance_cells t classes c → (if b then Some (InstanceLong c cells) else None) ≡ long_fault t classes c
 unfolding long_fault
@@ -193,13 +159,21 @@ unfolding layout_of
 cells_are t classes all c l e h is = ap (λ (x : ClassLayout). x.cells) (layout_at t classes all c l e h is)
 
 pub long_next : (t : ClassTable) (classes : List NamedClass) (all : List ClassLayout) (c : ℕ) (d : ClassLayout) (least fault : Option LinkFault) → all ≡ layouts t classes → c < length classes → d ≡ get_or all c d
-    → fault ≡ (if nat_lt 32767 d.cells then Some (InstanceLong c d.cells) else None) → least ≡ least_of place_of (long_fault t classes) (range_with_len 0 c)
-    → lesser place_of least fault ≡ least_of place_of (long_fault t classes) (range_with_len 0 (c + 1))
+    → fault ≡ (if nat_lt 32767 d.cells then Some (InstanceLong c d.cells) else None) → least ≡ least_of link_place (long_fault t classes) (range_with_len 0 c)
+    → lesser link_place least fault ≡ least_of link_place (long_fault t classes) (range_with_len 0 (c + 1))
 long_next t classes all c d least fault e h at is before =
-    ap (lesser place_of least) (is ∙ long_by c d.cells t classes (nat_lt 32767 d.cells) refl (cells_are t classes all c d e h at)) ∙ least_one (long_fault t classes) c least before
+    ap (lesser link_place least) (is ∙ long_by c d.cells t classes (nat_lt 32767 d.cells) refl (cells_are t classes all c d e h at)) ∙ least_one (long_fault t classes) c least before
 
 pub ruleset long_folds = (long_next, layouts_count)
 
 pub public_at : (t : ClassTable) (classes : List NamedClass) (all : List ClassLayout) (c : ℕ) (l : ClassLayout) → all ≡ layouts t classes → c < length classes → l ≡ get_or all c l → l.public ≡ public_entries t classes c
 unfolding layout_of
 public_at t classes all c l e h is = ap (λ (x : ClassLayout). x.public) (layout_at t classes all c l e h is)
+
+pub public_is : (t : ClassTable) (classes : List NamedClass) (all : List ClassLayout) (c : ℕ) (d : ClassLayout) → all ≡ layouts t classes → c < length classes → (get_or all c d).public ≡ public_entries t classes c
+unfolding layout_of
+public_is t classes all c d e h = ap (λ (x : ClassLayout). x.public) (layout_is t classes all c d e h)
+
+pub visible_is : (t : ClassTable) (classes : List NamedClass) (all : List ClassLayout) (c : ℕ) (d : ClassLayout) → all ≡ layouts t classes → c < length classes → (get_or all c d).visible ≡ visible_entries t classes c
+unfolding layout_of
+visible_is t classes all c d e h = ap (λ (x : ClassLayout). x.visible) (layout_is t classes all c d e h)

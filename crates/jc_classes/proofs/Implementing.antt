@@ -11,7 +11,7 @@ use Rattle.jc_base.specs.Class.{ClassTable}
 use Rattle.jc_resolve.specs.declared.fault.LinkFault.{LinkFault}
 use Rattle.jc_resolve.specs.declared.fault.LinkFault.TheVariants.{InterfaceType}
 use Rattle.jc_resolve.specs.declared.named.NamedClass.{NamedClass}
-use Rattle.jc_resolve.specs.Fault.{place_of}
+use Rattle.jc_resolve.specs.Fault.{link_place}
 use Rattle.first_fault.specs.Least.{least_from, lesser}
 use Rattle.jc_classes.specs.Layout.{public_entries}
 use Rattle.jc_classes.specs.Conditions.{Implementation, serves, serves_all, interface_fault, implemented_by, implementations_in}
@@ -48,16 +48,16 @@ abbrev implementation : ℕ → List (Option ℕ) → Iface → Implementation
 implementation c public i = record { class = c; public = public; iface = i }
 
 pub implementations_next : (methods : List MethodRec) (c : ℕ) (public : List (Option ℕ)) (interfaces : List Iface) (i : ℕ) (x : Iface) (least : Option LinkFault) → i < length interfaces → x ≡ get_or interfaces i x
-    → least_from place_of least (interface_fault methods) (map (implementation c public) (drop i interfaces))
-    ≡ least_from place_of (lesser place_of least (interface_fault methods (implementation c public x))) (interface_fault methods) (map (implementation c public) (drop (i + 1) interfaces))
+    → least_from link_place least (interface_fault methods) (map (implementation c public) (drop i interfaces))
+    ≡ least_from link_place (lesser link_place least (interface_fault methods (implementation c public x))) (interface_fault methods) (map (implementation c public) (drop (i + 1) interfaces))
 implementations_next methods c public interfaces i x least h at =
     let more : suc i ≡ i + 1 = omega arith in
-    ap (λ (xs : List Iface). least_from place_of least (interface_fault methods) (map (implementation c public) xs))
+    ap (λ (xs : List Iface). least_from link_place least (interface_fault methods) (map (implementation c public) xs))
     (drop-cons interfaces i x h ∙ ap (λ (y : Iface). y ∷ drop (suc i) interfaces) (sym at) ∙ ap (λ (k : ℕ). x ∷ drop k interfaces) more)
 
 pub implementations_end : (methods : List MethodRec) (c : ℕ) (public : List (Option ℕ)) (interfaces : List Iface) (i : ℕ) (least : Option LinkFault) → length interfaces ≤ i
-    → least_from place_of least (interface_fault methods) (map (implementation c public) (drop i interfaces)) ≡ least
-implementations_end methods c public interfaces i least h = ap (λ (xs : List Iface). least_from place_of least (interface_fault methods) (map (implementation c public) xs)) (drop_all i interfaces h)
+    → least_from link_place least (interface_fault methods) (map (implementation c public) (drop i interfaces)) ≡ least
+implementations_end methods c public interfaces i least h = ap (λ (xs : List Iface). least_from link_place least (interface_fault methods) (map (implementation c public) xs)) (drop_all i interfaces h)
 
 pub ruleset implementation_folds = (implementations_next, implementations_end)
 

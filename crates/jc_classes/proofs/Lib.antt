@@ -6,6 +6,7 @@ pub mod Fills
 pub mod SameTypes
 pub mod Marks
 pub mod Folds
+pub mod Inherited
 pub mod Grouping
 pub mod Passing
 pub mod Implementing
@@ -13,4 +14,5 @@ pub mod Built
 pub mod Lines
 pub mod Agreed
 pub mod Faultless
+pub mod Growths
 pub mod Linking

@@ -28,7 +28,7 @@ use Rattle.jc_resolve.specs.Named as named
 use Rattle.first_fault.specs.First.{AllEmpty}
 use Rattle.jc_hierarchy.specs.Lines.{HaveLines}
 use Rattle.jc_hierarchy.specs.Outline.{outline, outlined}
-use Rattle.jc_classes.specs.Known.{AreKnown}
+use Rattle.jc_classes.specs.Known.{HaveSuperclasses}
 use Rattle.jc_classes.specs.declared.layout.ClassLayout.{ClassLayout}
 use Rattle.jc_classes.specs.Entries.{overlaid, overlaid_at, reach}
 use Rattle.jc_classes.specs.Layout.{layout_of, public_entries, visible_entries, instance_cells, above_or_nothing, at_home}
@@ -86,7 +86,7 @@ there classes c h = elim ((slice_get_cases classes c).1) [
   | inr none ↦ absurd (omega (arith, none.0))
 ]
 
-parent_counted : (t : ClassTable) (classes : List NamedClass) (c p : ℕ) → AreClasses t → AreKnown t classes → parent_of t c ≡ Some p → p < length classes
+parent_counted : (t : ClassTable) (classes : List NamedClass) (c p : ℕ) → AreClasses t → HaveSuperclasses t classes → parent_of t c ≡ Some p → p < length classes
 parent_counted t classes c p are known e =
     let number = (next_on_chain t c p are (parent_of-class t c p e) e).class.number in
     omega (arith, known.count, number)
@@ -150,13 +150,13 @@ interface_is t classes c o = ap is_interface_record (outline_at t classes c o) �
   by None = refl
   by (Some k) = refl
 
-type_class : (t : ClassTable) (classes : List NamedClass) (c : ℕ) → IsOutline t classes → AreClasses t → AreKnown t classes → named.IsTypeClass classes (object t) c → IsClass (class_tables t classes) c
+type_class : (t : ClassTable) (classes : List NamedClass) (c : ℕ) → IsOutline t classes → AreClasses t → HaveSuperclasses t classes → named.IsTypeClass classes (object t) c → IsClass (class_tables t classes) c
 type_class t classes c o are known (inl e) = class-alike t (class_tables t classes) (tables-alike t classes o) c (subst (IsClass t) (sym e) are.objects)
 type_class t classes c o are known (inr h) =
     let number : c < length t.records = omega (arith, known.count, h.0) in
     class-alike t (class_tables t classes) (tables-alike t classes o) c (record { number = number; class = interface_is t classes c o ∙ h.1 })
 
-pub declared_by : (t : ClassTable) (classes : List NamedClass) → IsOutline t classes → AreClasses t → AreKnown t classes → (ty : Ty) → named.IsDeclared classes (object t) ty → IsDeclared (class_tables t classes) ty
+pub declared_by : (t : ClassTable) (classes : List NamedClass) → IsOutline t classes → AreClasses t → HaveSuperclasses t classes → (ty : Ty) → named.IsDeclared classes (object t) ty → IsDeclared (class_tables t classes) ty
 declared_by t classes o are known Bottom h = h
 declared_by t classes o are known Short h = h
 declared_by t classes o are known IntHigh h = h
@@ -190,7 +190,7 @@ serves_by methods entries i m l test e =
     served_at methods entries (slice_get i.tokens m.token) l
     ∙ same_signature-equal (option_and_then (λ token. signature_in methods (option_flatten (slice_get entries token))) (slice_get i.tokens m.token)) (Some m.sig) tested
 
-implemented_linked : (t u : ClassTable) (classes : List NamedClass) (methods : List MethodRec) (entries : List (Option ℕ)) (is : List Iface) → AreAlike t u → AreKnown t classes → IsListed entries → All (λ (i : Iface). i.class < length classes) is → All (λ (i : Iface). is_interface t i.class ≡ true) is → AllServed methods entries is
+implemented_linked : (t u : ClassTable) (classes : List NamedClass) (methods : List MethodRec) (entries : List (Option ℕ)) (is : List Iface) → AreAlike t u → HaveSuperclasses t classes → IsListed entries → All (λ (i : Iface). i.class < length classes) is → All (λ (i : Iface). is_interface t i.class ≡ true) is → AllServed methods entries is
     → All (IsImplemented u methods (methods_listed entries)) is
 implemented_linked t u classes methods entries is alike known l numbers interfaces served = λ j d h.
     let i = get_or is j d in
@@ -208,7 +208,7 @@ implemented_linked t u classes methods entries is alike known l numbers interfac
 pub record IsSound (packages : ℕ) (t : ClassTable) (classes : List NamedClass) (methods : List MethodRec) : Type 0 where
   pub outline : IsOutline t classes
   pub are : AreClasses t
-  pub known : AreKnown t classes
+  pub known : HaveSuperclasses t classes
   pub lines : HaveLines classes t
   pub named : All (named.IsNamedClass packages (length methods) classes (object t)) classes
   pub holes : holes t classes methods ≡ []
@@ -216,7 +216,7 @@ pub record IsSound (packages : ℕ) (t : ClassTable) (classes : List NamedClass)
   pub unserved : unserved t classes methods ≡ []
   pub long : long_instances t classes ≡ []
 
-parents_counted : (t : ClassTable) (classes : List NamedClass) (c : ℕ) (o : Option ℕ) → AreClasses t → AreKnown t classes → parent_of t c ≡ o → IfSome o (λ p. p < length classes)
+parents_counted : (t : ClassTable) (classes : List NamedClass) (c : ℕ) (o : Option ℕ) → AreClasses t → HaveSuperclasses t classes → parent_of t c ≡ o → IfSome o (λ p. p < length classes)
 parents_counted t classes c None are known e = tt
 parents_counted t classes c (Some p) are known e = parent_counted t classes c p are known e
 
@@ -228,7 +228,7 @@ package_here : (t : ClassTable) (classes : List NamedClass) (c : ℕ) (k : Named
 unfolding package_of
 package_here t classes c k o e = ap (of_record 0 (λ r. r.«package»)) (outline_at t classes c o ∙ ap (option_map outlined) e)
 
-extended_linked : (t u : ClassTable) (classes : List NamedClass) (is : List Iface) → AreAlike t u → AreKnown t classes → All (λ (i : Iface). i.class < length classes) is → All (λ (i : Iface). is_interface t i.class ≡ true) is → All (IsExtended u) is
+extended_linked : (t u : ClassTable) (classes : List NamedClass) (is : List Iface) → AreAlike t u → HaveSuperclasses t classes → All (λ (i : Iface). i.class < length classes) is → All (λ (i : Iface). is_interface t i.class ≡ true) is → All (IsExtended u) is
 extended_linked t u classes is alike known numbers interfaces = λ j d h.
     let i = get_or is j d in
     let low = numbers j d h in
@@ -237,7 +237,7 @@ extended_linked t u classes is alike known numbers interfaces = λ j d h.
       interface = alike.interfaces i.class ∙ interfaces j d h;
     }
 
-implements_by : (t u : ClassTable) (classes : List NamedClass) (methods : List MethodRec) (entries : List (Option ℕ)) (k : NamedClass) (b : Bool) → AreAlike t u → AreKnown t classes → IsListed entries → All (λ (i : Iface). i.class < length classes) k.interfaces
+implements_by : (t u : ClassTable) (classes : List NamedClass) (methods : List MethodRec) (entries : List (Option ℕ)) (k : NamedClass) (b : Bool) → AreAlike t u → HaveSuperclasses t classes → IsListed entries → All (λ (i : Iface). i.class < length classes) k.interfaces
     → All (λ (i : Iface). is_interface t i.class ≡ true) k.interfaces → AllServed methods entries (if b then [] else k.interfaces)
     → MatchBool b (All (IsExtended u) k.interfaces) (All (IsImplemented u methods (methods_listed entries)) k.interfaces)
 implements_by t u classes methods entries k true alike known l numbers interfaces served = extended_linked t u classes k.interfaces alike known numbers interfaces
@@ -311,7 +311,7 @@ tables_linked packages t classes methods s = λ c. by c (slice_get classes c) re
   by c None e = subst (λ (o : Option ClassRec). IfSome o (IsLinkedClass packages (class_tables t classes) methods c)) (sym (record_is t classes c ∙ ap (option_map (λ x. record_from x (layout_of t classes c))) e)) tt
   by c (Some k) e = subst (λ (o : Option ClassRec). IfSome o (IsLinkedClass packages (class_tables t classes) methods c)) (sym (record_is t classes c ∙ ap (option_map (λ x. record_from x (layout_of t classes c))) e)) (class_linked packages t classes methods c k s e)
 
-pub links : (t : ClassTable) (classes : List NamedClass) (methods : List MethodRec) (table : ClassTable) → table ≡ class_tables t classes → t ≡ outline classes t.roles → AreClasses t → AreKnown t classes → HaveLines classes t → AllEmpty (conditions t classes methods)
+pub links : (t : ClassTable) (classes : List NamedClass) (methods : List MethodRec) (table : ClassTable) → table ≡ class_tables t classes → t ≡ outline classes t.roles → AreClasses t → HaveSuperclasses t classes → HaveLines classes t → AllEmpty (conditions t classes methods)
     → Links t classes methods table
 links t classes methods table e o are known lines empty = λ packages named_all.
     subst (λ (u : ClassTable). AreLinkedClasses packages u methods) (sym e) (tables_linked packages t classes methods (record {
@@ -327,6 +327,6 @@ links t classes methods table e o are known lines empty = λ packages named_all.
     }))
 
 -- the table of an answer that is due is what a world needs of its classes
-pub due-links : (t : ClassTable) (classes : List NamedClass) (methods : List MethodRec) (r : Result ClassTable LinkEnd) → IsDue (tables_of t classes methods) r → t ≡ outline classes t.roles → AreClasses t → AreKnown t classes → HaveLines classes t → IfOk r (λ table. Links t classes methods table)
+pub due-links : (t : ClassTable) (classes : List NamedClass) (methods : List MethodRec) (r : Result ClassTable LinkEnd) → IsDue (tables_of t classes methods) r → t ≡ outline classes t.roles → AreClasses t → HaveSuperclasses t classes → HaveLines classes t → IfOk r (λ table. Links t classes methods table)
 due-links t classes methods (Ok table) due o are known lines = let told = due-tells t classes methods (Ok table) due in links t classes methods table told.0 o are known lines told.1
 due-links t classes methods (Err end) due o are known lines = tt

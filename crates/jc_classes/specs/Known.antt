@@ -6,7 +6,7 @@ use Rattle.jc_resolve.specs.declared.named.NamedClass.{NamedClass}
 use Rattle.jc_resolve.specs.Named.{IsSized}
 
 -- classes by number, of which the table has the superclasses
-pub record AreKnown (t : ClassTable) (classes : List NamedClass) : Type 0 where
+pub record HaveSuperclasses (t : ClassTable) (classes : List NamedClass) : Type 0 where
   pub count : length t.records ≡ length classes
   pub few : length classes ≤ 4096
   pub sized : All IsSized classes

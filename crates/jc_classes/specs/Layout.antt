@@ -1,6 +1,7 @@
 -- The dispatch lists and the instance cells of each class (JCVM 2.2, sections 4.3.7.6 and 6.8.2).
 use Rattle.std.specs.Prelude.{ℕ, ◌+◌, Bool, false, ◌==◌, if◌then◌else◌, List, [], length, map, sum_by, Option, Some, None, slice_get}
 use Rattle.std.specs.List.{range_with_len, take_while}
+use Rattle.jc_resolve.specs.NamedClasses.{no_table}
 use Rattle.jc_base.specs.declared.ty.Ty.{Ty}
 use Rattle.jc_base.specs.Class.{ClassTable, chain}
 use Rattle.jc_base.specs.Dispatch.{package_of}
@@ -13,9 +14,6 @@ use Rattle.jc_classes.specs.Entries.{entries_of, overlaid}
 abbrev pub of_class : {A : Type 0} → A → (NamedClass → A) → Option NamedClass → A
 of_class d f None = d
 of_class d f (Some k) = f k
-
-abbrev pub no_table : DispatchTable
-no_table = record { base = 0; entries = [] }
 
 -- the dispatch tables and the types of the own cells of the class of a number
 unfoldable pub public_table : List NamedClass → ℕ → DispatchTable

@@ -6,3 +6,4 @@ pub mod Known
 pub mod Tables
 pub mod Slots
 pub mod Groups
+pub mod Growth

@@ -10,7 +10,7 @@ use Rattle.jc_resolve.specs.declared.fault.LinkFault.{LinkFault}
 use Rattle.jc_resolve.specs.declared.fault.LinkEnd.{LinkEnd}
 use Rattle.jc_resolve.specs.declared.fault.LinkEnd.TheVariants.{Fault, Memory}
 use Rattle.jc_resolve.specs.declared.named.NamedClass.{NamedClass}
-use Rattle.jc_resolve.specs.Fault.{place_of}
+use Rattle.jc_resolve.specs.Fault.{link_place}
 use Rattle.first_fault.specs.Least.{◌>>=◌, least_of, refused}
 use Rattle.first_fault.specs.First.{IsFirst, AllEmpty}
 use Rattle.jc_classes.specs.declared.layout.ClassLayout.{ClassLayout}
@@ -46,10 +46,10 @@ class_tables t classes = record { records = records_from t classes 0 classes; ro
 -- what is asked, in the order of the numbers
 unfoldable pub classes_agree : ClassTable → List NamedClass → List MethodRec → Result (Unit {0}) LinkFault
 classes_agree t classes methods =
-    refused (least_of place_of (hole_fault t methods) (flat_map (entries_in t classes) (class_numbers classes))) >>= λ _.
-    (refused (least_of place_of (override_fault methods) (flat_map (replacements_in t classes) (class_numbers classes))) >>= λ _.
-    (refused (least_of place_of (interface_fault methods) (flat_map (implementations_in t classes) (class_numbers classes))) >>= λ _.
-    refused (least_of place_of (long_fault t classes) (class_numbers classes))))
+    refused (least_of link_place (hole_fault t methods) (flat_map (entries_in t classes) (class_numbers classes))) >>= λ _.
+    (refused (least_of link_place (override_fault methods) (flat_map (replacements_in t classes) (class_numbers classes))) >>= λ _.
+    (refused (least_of link_place (interface_fault methods) (flat_map (implementations_in t classes) (class_numbers classes))) >>= λ _.
+    refused (least_of link_place (long_fault t classes) (class_numbers classes))))
 
 -- the table, where they hold
 unfoldable pub tables_of : ClassTable → List NamedClass → List MethodRec → Result ClassTable LinkFault
@@ -58,7 +58,7 @@ tables_of t classes methods = classes_agree t classes methods >>= λ _. Ok (clas
 -- the table exactly where nothing is at fault; else the first condition by number that is broken, at its least thing
 abbrev pub Tells : ClassTable → List NamedClass → List MethodRec → Result ClassTable LinkFault → Type 0
 Tells t classes methods (Ok table) = (table ≡ class_tables t classes) × AllEmpty (conditions t classes methods)
-Tells t classes methods (Err fault) = IsFirst place_of (conditions t classes methods) fault
+Tells t classes methods (Err fault) = IsFirst link_place (conditions t classes methods) fault
 
 -- the same of what linking ends with; out of memory tells nothing
 abbrev pub TellsEnd : ClassTable → List NamedClass → List MethodRec → Result ClassTable LinkEnd → Type 0

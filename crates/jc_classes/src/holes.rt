@@ -1,17 +1,20 @@
-ghost use Rattle.std.specs.Prelude.{ℕ, false, slice_index_or, ◌≡◌, ◌≤◌, ◌<◌, ◌+◌, ◌++◌, All, length, map, flat_map, option_map, IfSome, Some, None};
+ghost use Rattle.std.specs.Prelude.{ℕ, false, slice_index_or, ◌≡◌, ◌≤◌, ◌<◌, ◌+◌, ◌++◌, All, length, map, flat_map, option_map, IfSome, IsTrue, Some, None};
 ghost use Rattle.std.specs.List.{range_with_len};
 ghost use Rattle.jc_base.specs.Class.{chain, list_of};
 ghost use Rattle.jc_base.specs.Order.{is_on_chain};
-ghost use Rattle.jc_resolve.specs.Fault.{place_of};
+ghost use Rattle.jc_resolve.specs.Fault.{link_place};
 ghost use Rattle.first_fault.specs.Least.{least_of, least_from, refused};
-ghost use Rattle.jc_classes.specs.Known.{AreKnown};
+ghost use Rattle.jc_classes.specs.Known.{HaveSuperclasses};
 ghost use Rattle.jc_classes.specs.Layout.{layout_of, layouts};
 ghost use Rattle.jc_classes.specs.Signatures.{method_in};
 ghost use Rattle.jc_classes.specs.Slots.{IsShort};
+ghost use Rattle.jc_classes.specs.Growth.{is_own, AddsOwn, Grows};
 ghost use Rattle.jc_classes.specs.Conditions.{may_stand, entries_from, entries_in, hole_fault, class_numbers};
 
 use crate::layout::ClassLayout;
-use crate::signatures::method_in;
+use crate::made_list::{MadeList, public_list, visible_list};
+use crate::overlay::reach;
+use crate::signatures::{is_same_entry, method_in};
 use jc_base::{MethodRec, Methods};
 use jc_hierarchy::Lineage;
 use jc_resolve::{LinkFault, NamedClasses, lesser, refuse};
@@ -121,7 +124,7 @@ impl<'a> Line<'a> {
         requires known { All (λ m. m.class < length self.lineage.now.records) methods.now }
         requires few { first + length list.now ≤ 65535 }
         ensures { result
-            ≡ least_from place_of least
+            ≡ least_from link_place least
             (hole_fault self.entry.lineage.now methods.now)
             (entries_from self.entry.class first list.now) }
     {
@@ -153,7 +156,7 @@ fn holes_of(
     ensures room { length marks.new ≡ length lineage.now.records }
     ensures none { (k : ℕ) → k < length marks.new → slice_index_or marks.new k false ≡ false }
     ensures is { result
-        ≡ least_from place_of least
+        ≡ least_from link_place least
         (hole_fault lineage.now methods.now)
         (entries_from c 0 layout.now.public ++ entries_from c 128 layout.now.visible) }
 {
@@ -169,6 +172,98 @@ fn holes_of(
     both
 }
 
+/// Whether an entry has a method of the class itself that can stand in a dispatch list.
+#[inline(always)]
+fn is_own(methods: &Methods, c: u16, entry: Option<u16>) -> bool
+    ensures { result ≡ is_own methods.now c entry }
+{
+    match method_in(methods, entry) {
+        Some(method) => method.class == c && (!method.is_static && !method.is_init),
+        None => false,
+    }
+}
+
+/// Whether a list has what it inherits, and beside it methods of the class itself alone. Outside the tokens of its
+/// table it has what it inherits.
+fn adds_own(methods: &Methods, c: u16, lists: MadeList<'_>) -> bool
+    ensures { IsTrue result → AddsOwn methods.now c lists.entry.inherited.now lists.entry.list.now }
+{
+    let inherited = lists.inherited;
+    let list = lists.list;
+    let first = (lists.table.base as usize).min(inherited.len());
+    let end = reach(lists.table).min(list.len());
+    'tokens: for token in first..end {
+        let entry = list[token];
+        let is_inherited = token < inherited.len() && is_same_entry(entry, inherited[token]);
+        if !is_inherited && !is_own(methods, c, entry) {
+            return false;
+        }
+    }
+    true
+}
+
+/// Whether the superclass of a class, where there is one, comes before it.
+fn comes_after(above: Option<u16>, c: u16) -> bool
+    ensures { IsTrue result → IfSome above (λ p. p < c) }
+{
+    match above {
+        Some(p) => p < c,
+        None => true,
+    }
+}
+
+/// Whether a class adds methods of its own alone to both of its lists.
+fn grows(
+    lineage: &Lineage,
+    classes: &NamedClasses,
+    methods: &Methods,
+    all: &[ClassLayout],
+    c: u16,
+) -> bool
+    requires known { HaveSuperclasses lineage.now classes.now }
+    requires layouts { all.now ≡ layouts lineage.now classes.now }
+    requires class { c < length classes.now }
+    ensures { IsTrue result → Grows lineage.now classes.now methods.now c }
+{
+    adds_own(methods, c, public_list(lineage, classes, all, c))
+        && adds_own(methods, c, visible_list(lineage, classes, all, c))
+}
+
+/// The least fault so far, when the lists of a class were seen after those of the classes before. Where nothing is at
+/// fault so far, what is inherited from one of those is not.
+#[tactic(auto, using(crate::proofs::Folds::folds))]
+fn holes_after(
+    lineage: &Lineage,
+    classes: &NamedClasses,
+    methods: &Methods,
+    all: &[ClassLayout],
+    c: u16,
+    marks: &mut [bool],
+    least: Option<LinkFault>,
+) -> Option<LinkFault>
+    requires known { HaveSuperclasses lineage.now classes.now }
+    requires layouts { all.now ≡ layouts lineage.now classes.now }
+    requires class { c < length classes.now }
+    requires methods { All (λ m. m.class < length lineage.now.records) methods.now }
+    requires room { length marks.now ≡ length lineage.now.records }
+    requires none { (k : ℕ) → k < length marks.now → slice_index_or marks.now k false ≡ false }
+    requires before { least
+        ≡ least_of link_place
+        (hole_fault lineage.now methods.now)
+        (flat_map (entries_in lineage.now classes.now) (range_with_len 0 c)) }
+    ensures room { length marks.new ≡ length lineage.now.records }
+    ensures none { (k : ℕ) → k < length marks.new → slice_index_or marks.new k false ≡ false }
+    ensures is { result
+        ≡ least_from link_place least (hole_fault lineage.now methods.now) (entries_in lineage.now classes.now c) }
+{
+    let above = lineage.parent(c);
+    if least.is_none() && comes_after(above, c) && grows(lineage, classes, methods, all, c) {
+        None
+    } else {
+        holes_of(lineage, methods, &all[c as usize], c, marks, least)
+    }
+}
+
 /// Each entry of each dispatch list has a method of the class or of one of its superclasses. `marks` is
 /// room for a mark a class.
 #[tactic(auto, using(crate::proofs::Folds::folds))]
@@ -179,20 +274,20 @@ pub(crate) fn no_holes(
     all: &[ClassLayout],
     marks: &mut [bool],
 ) -> Result<(), LinkFault>
-    requires known { AreKnown lineage.now classes.now }
+    requires known { HaveSuperclasses lineage.now classes.now }
     requires layouts { all.now ≡ layouts lineage.now classes.now }
     requires methods { All (λ m. m.class < length lineage.now.records) methods.now }
     requires room { length marks.now ≡ length lineage.now.records }
     ensures { result
         ≡ refused
-        (least_of place_of
+        (least_of link_place
         (hole_fault lineage.now methods.now)
         (flat_map (entries_in lineage.now classes.now) (class_numbers classes.now))) }
 {
     clear(marks);
     let mut least = None;
     'classes: for c in 0..classes.len() {
-        least = holes_of(lineage, methods, &all[c], c as u16, marks, least);
+        least = holes_after(lineage, classes, methods, all, c as u16, marks, least);
     }
     refuse(least)
 }

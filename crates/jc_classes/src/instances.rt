@@ -1,8 +1,8 @@
 ghost use Rattle.std.specs.Prelude.{◌≡◌, nat_lt, if◌then◌else◌, Some, None};
 ghost use Rattle.jc_resolve.specs.declared.fault.LinkFault.TheVariants.{InstanceLong};
-ghost use Rattle.jc_resolve.specs.Fault.{place_of};
+ghost use Rattle.jc_resolve.specs.Fault.{link_place};
 ghost use Rattle.first_fault.specs.Least.{least_of, refused};
-ghost use Rattle.jc_classes.specs.Known.{AreKnown};
+ghost use Rattle.jc_classes.specs.Known.{HaveSuperclasses};
 ghost use Rattle.jc_classes.specs.Layout.{layouts};
 ghost use Rattle.jc_classes.specs.Conditions.{long_fault, class_numbers};
 
@@ -28,9 +28,9 @@ pub(crate) fn instances_fit(
     classes: &NamedClasses,
     all: &[ClassLayout],
 ) -> Result<(), LinkFault>
-    requires known { AreKnown lineage.now classes.now }
+    requires known { HaveSuperclasses lineage.now classes.now }
     requires layouts { all.now ≡ layouts lineage.now classes.now }
-    ensures { result ≡ refused (least_of place_of (long_fault lineage.now classes.now) (class_numbers classes.now)) }
+    ensures { result ≡ refused (least_of link_place (long_fault lineage.now classes.now) (class_numbers classes.now)) }
 {
     let mut least = None;
     'classes: for c in 0..classes.len() {

@@ -1,9 +1,9 @@
 ghost use Rattle.std.specs.Prelude.{◌≡◌, ◌≤◌, ◌<◌, ◌+◌, ◌==◌, All, Some, length, map, flat_map};
 ghost use Rattle.std.specs.List.{list_all};
 ghost use Rattle.jc_base.specs.declared.record.Iface.{Iface};
-ghost use Rattle.jc_resolve.specs.Fault.{place_of};
+ghost use Rattle.jc_resolve.specs.Fault.{link_place};
 ghost use Rattle.first_fault.specs.Least.{least_of, least_from, refused};
-ghost use Rattle.jc_classes.specs.Known.{AreInRange, AreKnown};
+ghost use Rattle.jc_classes.specs.Known.{AreInRange, HaveSuperclasses};
 ghost use Rattle.jc_classes.specs.Layout.{layouts};
 ghost use Rattle.jc_classes.specs.Conditions.{Implementation, serves, interface_fault, implemented_by, implementations_in, class_numbers};
 ghost use Rattle.jc_classes.specs.Groups.{AreGroups};
@@ -78,7 +78,7 @@ fn unserved_in(
     requires grouped { AreGroups (length groups.now) methods.now groups.now }
     requires known { All (λ (i : Iface). i.class < length groups.now) interfaces.now }
     ensures { result
-        ≡ least_from place_of least (interface_fault methods.now)
+        ≡ least_from link_place least (interface_fault methods.now)
         (map
         (λ (i : Iface). record { class = c; public = public.now; iface = i })
         interfaces.now) }
@@ -102,7 +102,7 @@ fn unserved_by(
     requires grouped { AreGroups (length groups.now) methods.now groups.now }
     requires known { All (λ (i : Iface). i.class < length groups.now) class.now.interfaces }
     ensures { result
-        ≡ least_from place_of least (interface_fault methods.now)
+        ≡ least_from link_place least (interface_fault methods.now)
         (map
         (λ (i : Iface). record { class = c; public = public.now; iface = i })
         (implemented_by (Some class.now))) }
@@ -130,13 +130,13 @@ pub(crate) fn interfaces_served(
     all: &[ClassLayout],
     groups: &[Group<'_>],
 ) -> Result<(), LinkFault>
-    requires known { AreKnown lineage.now classes.now }
+    requires known { HaveSuperclasses lineage.now classes.now }
     requires layouts { all.now ≡ layouts lineage.now classes.now }
     requires grouped { AreGroups (length classes.now) methods.now groups.now }
     requires interfaces { AreInRange classes.now }
     ensures { result
         ≡ refused
-        (least_of place_of (interface_fault methods.now)
+        (least_of link_place (interface_fault methods.now)
         (flat_map (implementations_in lineage.now classes.now) (class_numbers classes.now))) }
 {
     let mut least = None;

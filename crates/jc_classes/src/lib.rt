@@ -9,6 +9,7 @@ mod holes;
 mod instances;
 mod interfaces;
 mod layout;
+mod made_list;
 mod overlay;
 mod overrides;
 mod signatures;

@@ -11,7 +11,7 @@ use std::alloc::{AllocError, Global};
 
 /// The token after the last entry of a table, and 0 where it has none.
 #[tactic(auto, unfolding(crate::specs::Entries::reach))]
-fn reach(table: &DispatchTable) -> usize
+pub(crate) fn reach(table: &DispatchTable) -> usize
     requires few { length table.now.entries ≤ 255 }
     ensures { result ≡ reach table.now }
 {
@@ -60,7 +60,7 @@ fn overlaid_at(table: &DispatchTable, inherited: &[Option<u16>], token: usize) -
 }
 
 /// The inherited list, overwritten and extended by a table.
-#[tactic(auto, using(crate::proofs::Ranges::ranges))]
+#[tactic(auto, using(crate::proofs::Ranges::ranges, crate::proofs::Inherited::copies))]
 pub(crate) fn overlay(
     alloc: Global,
     table: &DispatchTable,
@@ -69,10 +69,15 @@ pub(crate) fn overlay(
     requires few { IsByteTable table.now }
     ensures { IfOk result (λ entries. entries ≡ overlaid table.now inherited.now) }
 {
-    let len = inherited.len().max(reach(table));
-    let mut entries = Vec::with_capacity(alloc, len)?;
-    'tokens: for token in 0..len {
+    let end = reach(table);
+    let mut entries = Vec::with_capacity(alloc, inherited.len().max(end))?;
+    // What stands before and after the tokens of the table is inherited as it is.
+    let first = (table.base as usize).min(inherited.len());
+    entries.extend_from_slice(&inherited[..first])?;
+    'tokens: for token in first..end {
         entries.push(overlaid_at(table, inherited, token))?;
     }
+    let made = entries.len().min(inherited.len());
+    entries.extend_from_slice(&inherited[made..])?;
     Ok(Items::of(entries))
 }

@@ -66,7 +66,7 @@ pub(crate) fn same_signature(methods: &Methods, a: Option<u16>, b: Option<u16>) 
 }
 
 #[inline(always)]
-fn is_same_entry(a: Option<u16>, b: Option<u16>) -> bool
+pub(crate) fn is_same_entry(a: Option<u16>, b: Option<u16>) -> bool
     ensures { IsTrue result → a ≡ b }
 {
     match a {

@@ -3,7 +3,7 @@ ghost use Rattle.std.specs.Option.{option_map, option_and_then};
 ghost use Rattle.jc_base.specs.Class.{chain, list_of, parent_of};
 ghost use Rattle.jc_base.specs.Dispatch.{package_of};
 ghost use Rattle.jc_resolve.specs.Named.{IsSized};
-ghost use Rattle.jc_classes.specs.Known.{AreKnown};
+ghost use Rattle.jc_classes.specs.Known.{HaveSuperclasses};
 ghost use Rattle.jc_classes.specs.Layout.{layout_of, layouts, layout_from, above_or_nothing, at_home};
 ghost use Rattle.jc_classes.specs.Slots.{IsFilled, AreSlots, IsMade, IsClimb, slot_at};
 
@@ -137,7 +137,7 @@ fn make(
     above: Option<u16>,
     c: u16,
 ) -> Result<(), AllocError>
-    requires known { AreKnown lineage.now classes.now }
+    requires known { HaveSuperclasses lineage.now classes.now }
     requires class { c < length classes.now }
     requires above_known { IfSome above (λ p. p < length classes.now) }
     requires step { chain lineage.now c ≡ c ∷ list_of (chain lineage.now) above }
@@ -161,7 +161,7 @@ fn fill(
     slots: &mut Vec<Option<ClassLayout>>,
     c: u16,
 ) -> Result<(), AllocError>
-    requires known { AreKnown lineage.now classes.now }
+    requires known { HaveSuperclasses lineage.now classes.now }
     requires class { c < length classes.now }
     requires slots { AreSlots lineage.now classes.now slots.now.items }
     ensures { IfOk result (λ _. IsMade lineage.now classes.now slots.old.items slots.new.items c) }
@@ -212,7 +212,7 @@ pub(crate) fn layouts(
     lineage: &Lineage,
     classes: &NamedClasses,
 ) -> Result<Vec<ClassLayout>, AllocError>
-    requires known { AreKnown lineage.now classes.now }
+    requires known { HaveSuperclasses lineage.now classes.now }
     ensures { IfOk result (λ all. all.items ≡ layouts lineage.now classes.now) }
 {
     let count = classes.len();

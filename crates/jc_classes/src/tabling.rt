@@ -2,7 +2,7 @@ ghost use Rattle.std.specs.Prelude.{◌≡◌, ◌<◌, All, IfOk, [], length, f
 ghost use Rattle.jc_resolve.specs.Due.{IsDue};
 ghost use Rattle.jc_hierarchy.specs.Outline.{outline};
 ghost use Rattle.jc_hierarchy.specs.Lines.{HaveLines};
-ghost use Rattle.jc_classes.specs.Known.{AreInRange, AreKnown};
+ghost use Rattle.jc_classes.specs.Known.{AreInRange, HaveSuperclasses};
 ghost use Rattle.jc_classes.specs.Layout.{layouts};
 ghost use Rattle.jc_classes.specs.Signatures.{TellsSame};
 ghost use Rattle.jc_classes.specs.Groups.{AreGroups};
@@ -32,7 +32,7 @@ fn agree(
     groups: &[Group<'_>],
     marks: &mut [bool],
 ) -> Result<(), LinkFault>
-    requires known { AreKnown lineage.now classes.now }
+    requires known { HaveSuperclasses lineage.now classes.now }
     requires layouts { all.now ≡ layouts lineage.now classes.now }
     requires methods { All (λ m. m.class < length lineage.now.records) methods.now }
     requires grouped { AreGroups (length classes.now) methods.now groups.now }
@@ -84,7 +84,7 @@ fn tables_or_fault(
     methods: &Methods,
 ) -> Result<Classes, LinkEnd>
     requires outline { lineage.now ≡ outline classes.now lineage.now.roles }
-    requires known { AreKnown lineage.now classes.now }
+    requires known { HaveSuperclasses lineage.now classes.now }
     requires interfaces { AreInRange classes.now }
     requires methods { All (λ m. m.class < length classes.now) methods.now }
     ensures { IsDue (tables_of lineage.now classes.now methods.now) result }
@@ -112,7 +112,7 @@ pub fn tables(
     methods: &Methods,
 ) -> Result<Classes, LinkEnd>
     requires outline { lineage.now ≡ outline classes.now lineage.now.roles }
-    requires known { AreKnown lineage.now classes.now }
+    requires known { HaveSuperclasses lineage.now classes.now }
     requires interfaces { AreInRange classes.now }
     requires methods { All (λ m. m.class < length classes.now) methods.now }
     requires lines { HaveLines classes.now lineage.now }

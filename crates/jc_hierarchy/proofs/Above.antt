@@ -1,5 +1,5 @@
 -- What stands above a class or an interface is a class or an interface, and whether something does is decided.
-use Rattle.std.proofs.Common.{◌≡◌, ℕ, ◌<◌, Bool, true, false, List, [], length, Option, Some, None, refl, sym, subst, arith}
+use Rattle.std.proofs.Common.{◌≡◌, ℕ, ◌<◌, Bool, true, false, List, [], length, Option, Some, None, refl, subst, arith}
 use Rattle.std.specs.Prelude.{All, Contains, IfSome, slice_get}
 use Rattle.std.specs.Option.{option_to_list}
 use Rattle.std.proofs.lemmas.List.Elements.{All-contains, All-map, All-cons, All-nil}
@@ -11,6 +11,7 @@ use Rattle.jc_hierarchy.specs.Known.{HasKnownLine}
 use Rattle.jc_base.specs.Leads.{Leads}
 use Rattle.jc_hierarchy.specs.Ancestor.{superclass, superclass_in, extended, extended_in, above, is_above, TellsAbove}
 use Rattle.jc_base.proofs.Leading.{leads-sound, leads-complete}
+use Rattle.jc_base.proofs.Tests.{same_truth}
 
 nothing : (b : ℕ) (A : Type 0) → Contains [] b → A
 nothing b A h = absurd (omega (arith, h.1))
@@ -64,11 +65,6 @@ is_above-complete cs interfaces a c h = leads-complete (above cs interfaces) (le
 
 pub tells-above : (cs : List NamedClass) → TellsAbove cs
 tells-above cs interfaces a c = (is_above-sound cs interfaces a c, is_above-complete cs interfaces a c)
-
-same_truth : (b d : Bool) → (b ≡ true → d ≡ true) → (d ≡ true → b ≡ true) → b ≡ d
-same_truth true d f g = sym (f refl)
-same_truth false true f g = g refl
-same_truth false false f g = refl
 
 pub is_above-is : (cs : List NamedClass) (interfaces : Bool) (a c : ℕ) (b : Bool) → (b ≡ true → Leads (above cs interfaces) c a) → (Leads (above cs interfaces) c a → b ≡ true) → b ≡ is_above cs interfaces a c
 is_above-is cs interfaces a c b sound complete =

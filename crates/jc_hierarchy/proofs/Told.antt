@@ -13,7 +13,7 @@ use Rattle.jc_resolve.specs.declared.fault.LinkFault.{LinkFault}
 use Rattle.jc_resolve.specs.declared.fault.LinkEnd.{LinkEnd}
 use Rattle.jc_resolve.specs.declared.fault.LinkEnd.TheVariants.{Fault, Memory}
 use Rattle.jc_resolve.specs.declared.named.NamedClass.{NamedClass}
-use Rattle.jc_resolve.specs.Fault.{place_of}
+use Rattle.jc_resolve.specs.Fault.{link_place}
 use Rattle.first_fault.specs.Least.{◌>>=◌}
 use Rattle.first_fault.specs.First.{AllEmpty}
 use Rattle.jc_resolve.specs.Named.{package_of, package_by}
@@ -27,17 +27,17 @@ use Rattle.jc_hierarchy.proofs.Kinship.{chain-ancestors, acyclic}
 use Rattle.jc_hierarchy.proofs.Faultless.{NoFault, no_fault}
 use Rattle.jc_hierarchy.proofs.Descent.{class-made, parent-class, parent-made, parent-plain, role-plain, role-thrown, are-classes}
 
-lines-told : (cs : List NamedClass) (first : ℕ) (roles : List ℕ) → IsTold place_of (lines_agree cs first roles) (conditions cs first roles)
+lines-told : (cs : List NamedClass) (first : ℕ) (roles : List ℕ) → IsTold link_place (lines_agree cs first roles) (conditions cs first roles)
 unfolding lines_agree
 lines-told cs first roles =
-    step place_of (things-told place_of (super_fault cs) (numbered cs))
-    (step place_of (things-told place_of (cycle_fault cs) (numbered cs))
-    (step place_of (things-told place_of (role_fault cs first (slice_index roles 1)) (numbered roles))
-    (step place_of (things-told place_of (root_fault (slice_index roles 0)) (numbered cs))
-    (last place_of (things-told place_of (interface_fault cs) (named_interfaces cs))))))
+    step link_place (things-told link_place (super_fault cs) (numbered cs))
+    (step link_place (things-told link_place (cycle_fault cs) (numbered cs))
+    (step link_place (things-told link_place (role_fault cs first (slice_index roles 1)) (numbered roles))
+    (step link_place (things-told link_place (root_fault (slice_index roles 0)) (numbered cs))
+    (last link_place (things-told link_place (interface_fault cs) (named_interfaces cs))))))
 
 pub agreed-empty : (cs : List NamedClass) (first : ℕ) (roles : List ℕ) → lines_agree cs first roles ≡ Ok (tt {0}) → AllEmpty (conditions cs first roles)
-agreed-empty cs first roles e = accepted-empty place_of (conditions cs first roles) (sym (lines-told cs first roles).same ∙ e)
+agreed-empty cs first roles e = accepted-empty link_place (conditions cs first roles) (sym (lines-told cs first roles).same ∙ e)
 
 told-by : (cs : List NamedClass) (first : ℕ) (roles : List ℕ) (s : Result (Unit {0}) LinkFault) (r : Result ClassTable LinkEnd) → lines_agree cs first roles ≡ s → IsDue (s >>= λ _. Ok (outline cs roles)) r → Tells cs first roles r
 told-by cs first roles (Ok x) (Ok t) e due =
@@ -48,7 +48,7 @@ told-by cs first roles (Ok x) (Err Memory) e due = tt {0}
 told-by cs first roles (Err g) (Ok t) e due = absurd cc
 told-by cs first roles (Err g) (Err (Fault f)) e due =
     let same : g ≡ f = cc in
-    refused-first place_of (conditions cs first roles) f (sym (lines-told cs first roles).same ∙ e ∙ ap Err same)
+    refused-first link_place (conditions cs first roles) f (sym (lines-told cs first roles).same ∙ e ∙ ap Err same)
 told-by cs first roles (Err g) (Err Memory) e due = tt {0}
 
 pub due-tells : (cs : List NamedClass) (first : ℕ) (roles : List ℕ) (r : Result ClassTable LinkEnd) → IsDue (lineage_of cs first roles) r → Tells cs first roles r

@@ -9,7 +9,7 @@ use Rattle.jc_resolve.specs.declared.fault.LinkFault.{LinkFault}
 use Rattle.jc_resolve.specs.declared.fault.LinkEnd.{LinkEnd}
 use Rattle.jc_resolve.specs.declared.fault.LinkEnd.TheVariants.{Fault, Memory}
 use Rattle.jc_resolve.specs.declared.named.NamedClass.{NamedClass}
-use Rattle.jc_resolve.specs.Fault.{place_of}
+use Rattle.jc_resolve.specs.Fault.{link_place}
 use Rattle.first_fault.specs.Least.{◌>>=◌, least_of, refused}
 use Rattle.first_fault.specs.First.{IsFirst, AllEmpty}
 use Rattle.jc_hierarchy.specs.Ancestor.{IsAncestor, IsSuperinterface}
@@ -19,11 +19,11 @@ use Rattle.jc_hierarchy.specs.Outline.{outline}
 -- the conditions, one after the other
 unfoldable pub lines_agree : List NamedClass → ℕ → List ℕ → Result (Unit {0}) LinkFault
 lines_agree cs first roles = do
-  supers ← refused (least_of place_of (super_fault cs) (numbered cs))
-  cycles ← refused (least_of place_of (cycle_fault cs) (numbered cs))
-  fitting ← refused (least_of place_of (role_fault cs first (slice_index roles 1)) (numbered roles))
-  rooted ← refused (least_of place_of (root_fault (slice_index roles 0)) (numbered cs))
-  refused (least_of place_of (interface_fault cs) (named_interfaces cs))
+  supers ← refused (least_of link_place (super_fault cs) (numbered cs))
+  cycles ← refused (least_of link_place (cycle_fault cs) (numbered cs))
+  fitting ← refused (least_of link_place (role_fault cs first (slice_index roles 1)) (numbered roles))
+  rooted ← refused (least_of link_place (root_fault (slice_index roles 0)) (numbered cs))
+  refused (least_of link_place (interface_fault cs) (named_interfaces cs))
 
 -- the table, where they hold
 unfoldable pub lineage_of : List NamedClass → ℕ → List ℕ → Result ClassTable LinkFault
@@ -34,7 +34,7 @@ lineage_of cs first roles = do
 -- the table exactly where nothing is at fault; else the first condition that is broken, at its least thing
 abbrev pub Tells : List NamedClass → ℕ → List ℕ → Result ClassTable LinkEnd → Type 0
 Tells cs first roles (Ok t) = (t ≡ outline cs roles) × AllEmpty (conditions cs first roles)
-Tells cs first roles (Err (Fault fault)) = IsFirst place_of (conditions cs first roles) fault
+Tells cs first roles (Err (Fault fault)) = IsFirst link_place (conditions cs first roles) fault
 Tells cs first roles (Err Memory) = Unit {0}
 
 -- what is known of the classes where nothing is at fault

@@ -1,6 +1,6 @@
 ghost use Rattle.std.specs.Prelude.{◌≡◌, ◌≤◌, length, false, IfOk, IsTrue, All, slice_index_or};
 ghost use Rattle.std.specs.List.{list_all};
-ghost use Rattle.jc_resolve.specs.Fault.{place_of};
+ghost use Rattle.jc_resolve.specs.Fault.{link_place};
 ghost use Rattle.first_fault.specs.Least.{least_of};
 ghost use Rattle.jc_hierarchy.specs.Known.{HasKnownLine};
 ghost use Rattle.jc_hierarchy.specs.Ancestor.{is_above};
@@ -69,7 +69,7 @@ pub(crate) fn least_cycle(
 ) -> Result<Option<LinkFault>, AllocError>
     requires few { length classes.now ≤ 4096 }
     requires known { All (HasKnownLine classes.now) classes.now }
-    ensures { IfOk result (λ fault. fault ≡ least_of place_of (cycle_fault classes.now) (numbered classes.now)) }
+    ensures { IfOk result (λ fault. fault ≡ least_of link_place (cycle_fault classes.now) (numbered classes.now)) }
 {
     let mut least = None;
     let mut settled = Vec::with_capacity(alloc, classes.len())?;

@@ -1,5 +1,5 @@
 ghost use Rattle.std.specs.Prelude.{◌≡◌, ◌≤◌, length, map, slice_get};
-ghost use Rattle.jc_resolve.specs.Fault.{place_of};
+ghost use Rattle.jc_resolve.specs.Fault.{link_place};
 ghost use Rattle.jc_resolve.specs.Named.{is_interface};
 ghost use Rattle.first_fault.specs.Least.{least_of, least_from, refused};
 ghost use Rattle.jc_hierarchy.specs.Conditions.{numbered, names_class, super_fault, root_fault, named_interfaces, interface_fault};
@@ -42,7 +42,7 @@ fn super_fault(classes: &NamedClasses, c: u16, class: &NamedClass) -> Option<Lin
 /// No superclass is an interface.
 pub(crate) fn supers_are_classes(classes: &NamedClasses) -> Result<(), LinkFault>
     requires { length classes.now ≤ 4096 }
-    ensures { result ≡ refused (least_of place_of (super_fault classes.now) (numbered classes.now)) }
+    ensures { result ≡ refused (least_of link_place (super_fault classes.now) (numbered classes.now)) }
 {
     let mut least = None;
     'classes: for (c, class) in classes.as_slice().iter().enumerate() {
@@ -65,7 +65,7 @@ fn root_fault(object: u16, c: u16, class: &NamedClass) -> Option<LinkFault>
 /// Object has no superclass, and every other class has one.
 pub(crate) fn classes_have_supers(classes: &NamedClasses, object: u16) -> Result<(), LinkFault>
     requires { length classes.now ≤ 4096 }
-    ensures { result ≡ refused (least_of place_of (root_fault object) (numbered classes.now)) }
+    ensures { result ≡ refused (least_of link_place (root_fault object) (numbered classes.now)) }
 {
     let mut least = None;
     'classes: for (c, class) in classes.as_slice().iter().enumerate() {
@@ -92,7 +92,7 @@ fn interface_faults(
     interfaces: &Ifaces,
     least: Option<LinkFault>,
 ) -> Option<LinkFault>
-    ensures { result ≡ least_from place_of least (interface_fault classes.now) (map (λ i. (c, i)) interfaces.now) }
+    ensures { result ≡ least_from link_place least (interface_fault classes.now) (map (λ i. (c, i)) interfaces.now) }
 {
     let mut least = least;
     'interfaces: for interface in interfaces.as_slice() {
@@ -104,7 +104,7 @@ fn interface_faults(
 /// What classes implement and interfaces extend are interfaces.
 pub(crate) fn named_are_interfaces(classes: &NamedClasses) -> Result<(), LinkFault>
     requires { length classes.now ≤ 4096 }
-    ensures { result ≡ refused (least_of place_of (interface_fault classes.now) (named_interfaces classes.now)) }
+    ensures { result ≡ refused (least_of link_place (interface_fault classes.now) (named_interfaces classes.now)) }
 {
     let mut least = None;
     'classes: for (c, class) in classes.as_slice().iter().enumerate() {

@@ -1,5 +1,5 @@
 ghost use Rattle.std.specs.Prelude.{◌≡◌, ◌≤◌, length, IfOk, All};
-ghost use Rattle.jc_resolve.specs.Fault.{place_of};
+ghost use Rattle.jc_resolve.specs.Fault.{link_place};
 ghost use Rattle.first_fault.specs.Least.{least_of};
 ghost use Rattle.jc_hierarchy.specs.Known.{HasKnownLine};
 ghost use Rattle.jc_hierarchy.specs.Conditions.{numbered, role_fault};
@@ -40,7 +40,7 @@ pub(crate) fn least_role(
 ) -> Result<Option<LinkFault>, AllocError>
     requires known { All (HasKnownLine classes.now) classes.now }
     requires few { length roles.now ≤ 8 }
-    ensures { IfOk result (λ fault. fault ≡ least_of place_of (role_fault classes.now first throwable) (numbered roles.now)) }
+    ensures { IfOk result (λ fault. fault ≡ least_of link_place (role_fault classes.now first throwable) (numbered roles.now)) }
 {
     let mut least = None;
     'roles: for (k, c) in roles.iter().enumerate() {

@@ -1,15 +1,13 @@
 -- The target index of a package: the custom component with tag 128 and this application identifier (JCVM 2.2, sections
 -- 4.2 and 6.1.2).
-use Rattle.std.specs.Prelude.{ℕ, List, [], ◌∷◌, Option, Some, None, Result, Ok, Err, option_and_then, bytes_eq, if◌then◌else◌}
+use Rattle.std.specs.Prelude.{ℕ, List, [], Option, Some, None, Result, Ok, Err, option_and_then, bytes_eq, if◌then◌else◌}
 use Rattle.cap_bytes.specs.declared.fault.FormFault.{FormFault}
 use Rattle.cap_bytes.specs.Spelling.{info_of}
 use Rattle.cap_bytes.specs.Reading.{reading}
+use Rattle.cap_frame.specs.Tags.{index_aid}
 use Rattle.cap_package.specs.Customs.{CustomItems, custom_in}
 use Rattle.cap_package.specs.PackageRecord.{PackageRecord}
 use Rattle.jc_indexes.specs.IndexFormat.{index_info}
-
-abbrev pub index_aid : List ℕ
-index_aid = 0xF0 ∷ 0x6C ∷ 0x65 ∷ 0x72 ∷ 0x6F ∷ 0x79 ∷ []
 
 abbrev pub info_with_aid : CustomItems → Option (List ℕ)
 info_with_aid c = if bytes_eq c.aid index_aid then Some c.info else None

@@ -5,14 +5,14 @@ use Rattle.jc_base.specs.Linked.{list_at}
 use Rattle.jc_indexes.specs.Indexes.{has_code, is_coded}
 
 -- the lists that are left, by package
-abbrev pub Left : Type 0
-Left = List (List (List ℕ))
+abbrev pub ListsLeft : Type 0
+ListsLeft = List (List (List ℕ))
 
 -- a method with code takes the first list that is left of its package
-abbrev pub taken : Left → MethodRec → Option (List ℕ)
+abbrev pub taken : ListsLeft → MethodRec → Option (List ℕ)
 taken lists m = if has_code m then slice_get (list_at lists m.package) 0 else None
 
-pub record IsTakenFrom (before : Left) (m : MethodRec) (index : Option (List ℕ)) (after : Left) : Type 0 where
+pub record IsTakenFrom (before : ListsLeft) (m : MethodRec) (index : Option (List ℕ)) (after : ListsLeft) : Type 0 where
   pub is : index ≡ taken before m
   pub size : length after ≡ length before
   pub left : (k : ℕ)

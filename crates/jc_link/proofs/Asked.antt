@@ -11,7 +11,7 @@ use Rattle.jc_base.specs.Linked.{IsMember}
 use Rattle.jc_resolve.specs.declared.fault.LinkFault.{LinkFault}
 use Rattle.jc_resolve.specs.declared.fault.LinkEnd.{LinkEnd}
 use Rattle.jc_resolve.specs.declared.fault.LinkEnd.TheVariants.{Fault, Memory}
-use Rattle.jc_resolve.specs.Fault.{place_of}
+use Rattle.jc_resolve.specs.Fault.{link_place}
 use Rattle.jc_resolve.specs.Names.{NamesRecord}
 use Rattle.first_fault.specs.Least.{least_of, refused}
 use Rattle.first_fault.specs.First.{IsLeast, IsFirst, AllEmpty}
@@ -39,17 +39,17 @@ module _ (ps : List PackageRecord) (roles : List ℕ) (qs : List PackageRecord) 
   abbrev pub HasStatics : Type 0
   HasStatics = option_to_list (statics_fault ps) ≡ []
 
-  pub statics_first : (f : LinkFault) → Err f ≡ refused (statics_fault qs) → IsFirst place_of (member_conditions ps roles) f
-  statics_first f h = inl (one-refused place_of (statics_fault ps) f (h ∙ ap (λ (xs : List PackageRecord). refused (statics_fault xs)) a.packages))
+  pub statics_first : (f : LinkFault) → Err f ≡ refused (statics_fault qs) → IsFirst link_place (member_conditions ps roles) f
+  statics_first f h = inl (one-refused link_place (statics_fault ps) f (h ∙ ap (λ (xs : List PackageRecord). refused (statics_fault xs)) a.packages))
 
   pub statics_none : (x : Unit {0}) → Ok x ≡ refused (statics_fault qs) → HasStatics
-  statics_none x h = one-none place_of (statics_fault ps) x (h ∙ ap (λ (xs : List PackageRecord). refused (statics_fault xs)) a.packages)
+  statics_none x h = one-none link_place (statics_fault ps) x (h ∙ ap (λ (xs : List PackageRecord). refused (statics_fault xs)) a.packages)
 
   pub arrays_none : (x : Unit {0}) → Ok x ≡ refused (arrays_fault qs) → option_to_list (arrays_fault ps) ≡ []
-  arrays_none x h = one-none place_of (arrays_fault ps) x (h ∙ ap (λ (xs : List PackageRecord). refused (arrays_fault xs)) a.packages)
+  arrays_none x h = one-none link_place (arrays_fault ps) x (h ∙ ap (λ (xs : List PackageRecord). refused (arrays_fault xs)) a.packages)
 
-  pub catches_none : (x : Unit {0}) → Ok x ≡ refused (least_of place_of (catch_fault ps t) (handler_places ps)) → bad_catches ps t ≡ []
-  catches_none x h = things-none place_of (catch_fault ps t) (handler_places ps) x h
+  pub catches_none : (x : Unit {0}) → Ok x ≡ refused (least_of link_place (catch_fault ps t) (handler_places ps)) → bad_catches ps t ≡ []
+  catches_none x h = things-none link_place (catch_fault ps t) (handler_places ps) x h
 
   catches_same : bad_catches ps t ≡ bad_catches ps (table_of ps roles)
   catches_same = ap (λ (u : ClassTable). bad_catches ps u) a.table.is
@@ -59,18 +59,18 @@ module _ (ps : List PackageRecord) (roles : List ℕ) (qs : List PackageRecord) 
 
   -- ---- handlers, initial arrays and roles
 
-  pub catches_first : (f : LinkFault) → Err f ≡ refused (least_of place_of (catch_fault ps t) (handler_places ps)) → IsFirst place_of (rest_conditions ps roles) f
-  catches_first f h = inl (subst (λ (fs : List LinkFault). IsLeast place_of fs f) catches_same (things-refused place_of (catch_fault ps t) (handler_places ps) f h))
+  pub catches_first : (f : LinkFault) → Err f ≡ refused (least_of link_place (catch_fault ps t) (handler_places ps)) → IsFirst link_place (rest_conditions ps roles) f
+  catches_first f h = inl (subst (λ (fs : List LinkFault). IsLeast link_place fs f) catches_same (things-refused link_place (catch_fault ps t) (handler_places ps) f h))
 
-  pub arrays_first : (f : LinkFault) → bad_catches ps t ≡ [] → Err f ≡ refused (arrays_fault qs) → IsFirst place_of (rest_conditions ps roles) f
-  arrays_first f caught h = inr (sym catches_same ∙ caught, inl (one-refused place_of (arrays_fault ps) f (h ∙ ap (λ (xs : List PackageRecord). refused (arrays_fault xs)) a.packages)))
+  pub arrays_first : (f : LinkFault) → bad_catches ps t ≡ [] → Err f ≡ refused (arrays_fault qs) → IsFirst link_place (rest_conditions ps roles) f
+  arrays_first f caught h = inr (sym catches_same ∙ caught, inl (one-refused link_place (arrays_fault ps) f (h ∙ ap (λ (xs : List PackageRecord). refused (arrays_fault xs)) a.packages)))
 
-  pub roles_first : (f : LinkFault) → bad_catches ps t ≡ [] → option_to_list (arrays_fault ps) ≡ [] → Err f ≡ refused (least_of place_of (role_fault t methods) thrown_roles) → IsFirst place_of (rest_conditions ps roles) f
+  pub roles_first : (f : LinkFault) → bad_catches ps t ≡ [] → option_to_list (arrays_fault ps) ≡ [] → Err f ≡ refused (least_of link_place (role_fault t methods) thrown_roles) → IsFirst link_place (rest_conditions ps roles) f
   roles_first f caught arrays h =
-      inr (sym catches_same ∙ caught, inr (arrays, inl (subst (λ (fs : List LinkFault). IsLeast place_of fs f) roles_same (things-refused place_of (role_fault t methods) thrown_roles f h))))
+      inr (sym catches_same ∙ caught, inr (arrays, inl (subst (λ (fs : List LinkFault). IsLeast link_place fs f) roles_same (things-refused link_place (role_fault t methods) thrown_roles f h))))
 
-  pub rest_empty : (x : Unit {0}) → bad_catches ps t ≡ [] → option_to_list (arrays_fault ps) ≡ [] → Ok x ≡ refused (least_of place_of (role_fault t methods) thrown_roles) → AllEmpty (rest_conditions ps roles)
-  rest_empty x caught arrays h = (sym catches_same ∙ caught, (arrays, (sym roles_same ∙ things-none place_of (role_fault t methods) thrown_roles x h, tt {0})))
+  pub rest_empty : (x : Unit {0}) → bad_catches ps t ≡ [] → option_to_list (arrays_fault ps) ≡ [] → Ok x ≡ refused (least_of link_place (role_fault t methods) thrown_roles) → AllEmpty (rest_conditions ps roles)
+  rest_empty x caught arrays h = (sym catches_same ∙ caught, (arrays, (sym roles_same ∙ things-none link_place (role_fault t methods) thrown_roles x h, tt {0})))
 
   -- ---- static fields and pools before them
 
@@ -78,8 +78,8 @@ module _ (ps : List PackageRecord) (roles : List ℕ) (qs : List PackageRecord) 
     missing_same : missing_members ps t statics ≡ missing_members ps (table_of ps roles) (statics_of ps roles)
     missing_same = ap (λ (u : ClassTable). missing_members ps u statics) a.table.is ∙ ap (λ (xs : List StaticRec). missing_members ps (table_of ps roles) xs) s
 
-    pub members_first : (f : LinkFault) → HasStatics → IsLeast place_of (missing_members ps t statics) f → IsFirst place_of (member_conditions ps roles) f
-    members_first f none h = inr (none, inl (subst (λ (fs : List LinkFault). IsLeast place_of fs f) missing_same h))
+    pub members_first : (f : LinkFault) → HasStatics → IsLeast link_place (missing_members ps t statics) f → IsFirst link_place (member_conditions ps roles) f
+    members_first f none h = inr (none, inl (subst (λ (fs : List LinkFault). IsLeast link_place fs f) missing_same h))
 
     pub rest_told : (end : LinkEnd) → HasStatics → missing_members ps t statics ≡ [] → TellsFirst {A = Unit {0}} (rest_conditions ps roles) (Err end) → TellsFirst {A = Resolved} (member_conditions ps roles) (Err end)
     rest_told (Fault f) none members h = inr (none, inr (sym missing_same ∙ members, h))

@@ -1,9 +1,13 @@
 -- What the handlers of named methods catch, where nothing is at fault.
 use Rattle.std.proofs.Common.{◌≡◌, ℕ, zero, suc, ◌+◌, ◌<◌, Bool, true, false, List, length, Option, Some, None, refl, sym, ap, ◌∙◌, arith}
-use Rattle.std.specs.Prelude.{All, map, slice_get, option_and_then, unwrap_or, not, ◌==◌, ◌||◌, if◌then◌else◌}
+use Rattle.std.specs.Prelude.{All, map, slice_get, option_map, option_and_then, unwrap_or, not, ◌==◌, ◌||◌, if◌then◌else◌}
 use Rattle.std.proofs.lemmas.Bool.{false≢true, and_parts, eqb-true, eq-eqb}
 use Rattle.std.proofs.lemmas.List.Elements.{All-nil, All-map, All-take, All-drop, All-weaker}
+use Rattle.cap_bytes.specs.declared.class_reference.ClassReference.{ClassReference}
 use Rattle.cap_pool.specs.PoolFormat.{Entry}
+use Rattle.cap_pool.specs.declared.pool_reference.PoolReference.{PoolReference}
+use Rattle.cap_pool.specs.declared.pool_reference.PoolReference.TheVariants.{Class as ClassEntry}
+use Rattle.cap_pool.specs.PoolReference.{referred}
 use Rattle.cap_method.specs.declared.handler.HandlerInfo.{HandlerInfo}
 use Rattle.cap_method.specs.MethodFormat.{Header}
 use Rattle.cap_desc.specs.DescriptorFormat.{Method}
@@ -21,11 +25,10 @@ use Rattle.jc_base.specs.Linked.{Catches}
 use Rattle.jc_base.proofs.Lists.{IfSome-is}
 use Rattle.jc_base.proofs.Subtypes.{Below-from_is_below}
 use Rattle.jc_resolve.specs.Numbering.{numbered_classes}
-use Rattle.jc_resolve.specs.References.{class_named}
-use Rattle.jc_resolve.specs.NamedMethods.{reference_in, class_in_entry, caught, handler_named, body_by, body_of, offset_in_info}
-use Rattle.jc_members.specs.Entries.{class_in}
-use Rattle.jc_members.specs.Members.{class_member, member_of}
-use Rattle.jc_members.specs.Catches.{caught_by, thrown_by, catches}
+use Rattle.jc_resolve.specs.References.{class_referred}
+use Rattle.jc_resolve.specs.NamedMethods.{class_or_none, class_in_entry, caught, handler_named, body_by, body_of, offset_in_info}
+use Rattle.jc_members.specs.Members.{class_member, member_referred, member_of}
+use Rattle.jc_members.specs.Catches.{class_caught, caught_by, thrown_by, catches}
 use Rattle.jc_members.proofs.Known.{class-below}
 
 -- what a handler catches is there, and is thrown
@@ -47,30 +50,28 @@ not_true false e = refl
 
 module _ (ps : List PackageRecord) (t : ClassTable) (statics : List StaticRec) (k : ℕ) (pool : List Entry) (members : List Member) (are : AreCaught ps t statics k pool members) where
   -- a Classref's member
-  class_is : (e : Entry) (c : ℕ) → (e.tag == 1) ≡ true → class_in ps k e ≡ Some c → member_of ps t statics k e ≡ Some (ClassOf c)
+  class_is : (e : Entry) (r : ClassReference) (c : ℕ) → referred e ≡ ClassEntry r → class_referred ps k r ≡ Some c → member_of ps t statics k e ≡ Some (ClassOf c)
   unfolding member_of class_member
-  class_is e c tag in_is = rw (tag, in_is) refl
+  class_is e r c is in_is = ap (member_referred ps t statics k) is ∙ ap (option_map ClassOf) in_is
 
-  found_class : (n : ℕ) (e : Entry) (o : Option ℕ) → slice_get pool (suc n) ≡ Some e → (e.tag == 1) ≡ true → class_in ps k e ≡ o → thrown_by t o ≡ true → CatchesThrown t members (suc n) (unwrap_or o 0)
-  unfolding class_in
-  found_class n e None at tag is h = absurd (false≢true h)
-  found_class n e (Some c) at tag is h =
+  found_class : (n : ℕ) (e : Entry) (r : ClassReference) (o : Option ℕ) → slice_get pool (suc n) ≡ Some e → referred e ≡ ClassEntry r → class_referred ps k r ≡ o → thrown_by t o ≡ true → CatchesThrown t members (suc n) (unwrap_or o 0)
+  found_class n e r None at entry is h = absurd (false≢true h)
+  found_class n e r (Some c) at entry is h =
       let both = and_parts (not (is_interface t c)) (is_below t (Class c) (Class (throwable t))) h in
-      let low : c < length (numbered_classes ps) = IfSome-is (λ d. d < length (numbered_classes ps)) (class_named ps k (reference_in e.bytes)) c (class-below ps k (reference_in e.bytes)) is in
+      let low : c < length (numbered_classes ps) = IfSome-is (λ d. d < length (numbered_classes ps)) (class_referred ps k r) c (class-below ps k r) is in
       record {
-        catches = are.at (suc n) ∙ ap (option_and_then (member_of ps t statics k)) at ∙ class_is e c tag is;
+        catches = are.at (suc n) ∙ ap (option_and_then (member_of ps t statics k)) at ∙ class_is e r c entry is;
         class = record { number = omega (arith, are.count, low); class = not_true (is_interface t c) both.0 };
         thrown = Below-from_is_below t are.chains (Class c) (Class (throwable t)) both.1;
       }
 
-  by_tag : (n : ℕ) (e : Entry) (b : Bool) → slice_get pool (suc n) ≡ Some e → (e.tag == 1) ≡ b → thrown_by t (if b then class_in ps k e else None) ≡ true → CatchesThrown t members (suc n) (if b then unwrap_or (class_in ps k e) 0 else 0)
-  by_tag n e true at tag h = found_class n e (class_in ps k e) at tag refl h
-  by_tag n e false at tag h = absurd (false≢true h)
+  by_reference : (n : ℕ) (e : Entry) (x : PoolReference) → slice_get pool (suc n) ≡ Some e → referred e ≡ x → thrown_by t (class_caught ps k x) ≡ true → CatchesThrown t members (suc n) (class_or_none ps k x)
+  by_reference n e (ClassEntry r) at is h = found_class n e r (class_referred ps k r) at is refl h
+  by_reference n e other at is h = absurd (false≢true h)
 
   by_entry : (n : ℕ) (o : Option Entry) → slice_get pool (suc n) ≡ o → thrown_by t (caught_by ps k o) ≡ true → CatchesThrown t members (suc n) (class_in_entry ps k o)
-  unfolding class_in
   by_entry n None at h = absurd (false≢true h)
-  by_entry n (Some e) at h = by_tag n e (e.tag == 1) at refl h
+  by_entry n (Some e) at h = by_reference n e (referred e) at refl h
 
   by_index : (index : ℕ) (b : Bool) → (index == 0) ≡ b → (b || thrown_by t (caught_by ps k (slice_get pool index))) ≡ true → CatchesThrown t members index (if b then throwable t else class_in_entry ps k (slice_get pool index))
   by_index zero true e h = record { catches = refl; class = are.throwables; thrown = same }

@@ -7,13 +7,13 @@ use Rattle.cap_package.specs.PackageRecord.{PackageRecord}
 use Rattle.jc_base.specs.World.{Linked}
 use Rattle.jc_resolve.specs.declared.fault.LinkFault.{LinkFault}
 use Rattle.jc_resolve.specs.declared.fault.LinkFault.TheVariants.{TooManyPackages}
-use Rattle.jc_resolve.specs.Fault.{place_of}
+use Rattle.jc_resolve.specs.Fault.{link_place}
 use Rattle.first_fault.specs.First.{IsFirst}
 use Rattle.first_fault.proofs.FirstTold.{none_first}
 use Rattle.jc_link.specs.World.{conditions, IsLinked}
 
-pub linked_faultless : (ps : List PackageRecord) (roles : List ℕ) (w : Linked) (f : LinkFault) → IsLinked ps roles w → IsFirst place_of (conditions ps roles) f → ⊥
-linked_faultless ps roles w f l first = none_first place_of (conditions ps roles) f l.faultless first
+pub linked_faultless : (ps : List PackageRecord) (roles : List ℕ) (w : Linked) (f : LinkFault) → IsLinked ps roles w → IsFirst link_place (conditions ps roles) f → ⊥
+linked_faultless ps roles w f l first = none_first link_place (conditions ps roles) f l.faultless first
 
 few : (n : ℕ) (fault : LinkFault) (a b : Bool) → nat_lt 16 n ≡ b → option_to_list (if a || b then Some fault else None) ≡ [] → n ≤ 16
 few n fault true b is none = absurd cc

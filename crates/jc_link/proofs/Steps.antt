@@ -11,9 +11,10 @@ use Rattle.jc_resolve.specs.declared.fault.LinkFault.{LinkFault}
 use Rattle.jc_resolve.specs.declared.fault.LinkEnd.{LinkEnd}
 use Rattle.jc_resolve.specs.declared.fault.LinkEnd.TheVariants.{Fault, Memory}
 use Rattle.jc_resolve.specs.declared.named.NamedClass.{NamedClass}
-use Rattle.jc_resolve.specs.Fault.{place_of}
+use Rattle.jc_resolve.specs.Fault.{link_place}
 use Rattle.first_fault.specs.Least.{◌>>=◌}
 use Rattle.first_fault.specs.First.{IsFirst, AllEmpty}
+use Rattle.jc_base.proofs.Bodies.{linked_more}
 use Rattle.jc_resolve.specs.Named.{AreNamed, IsNamedMethod, IsSized, infos_of}
 use Rattle.jc_resolve.specs.Conditions as names
 use Rattle.jc_resolve.specs.Due.{IsDue}
@@ -26,14 +27,14 @@ use Rattle.jc_hierarchy.specs.Lines.{HaveLines}
 use Rattle.jc_hierarchy.specs.Outline.{outline}
 use Rattle.jc_hierarchy.proofs.Naming.{named-known}
 use Rattle.jc_classes.specs.Conditions as classes
-use Rattle.jc_classes.specs.Known.{AreKnown, AreInRange}
+use Rattle.jc_classes.specs.Known.{HaveSuperclasses, AreInRange}
 use Rattle.jc_classes.specs.Tables.{class_tables, Links, TellsEnd}
 use Rattle.jc_members.specs.Fields.{HasCellsOf}
 use Rattle.jc_link.specs.World.{classes_of, lineage_of, table_of, methods_of, first_classes, class_conditions, table_conditions, member_conditions, conditions, TellsFirst, TableTells, LinkTells}
 use Rattle.jc_link.specs.declared.linking.Resolved.{Resolved}
 use Rattle.jc_link.specs.declared.tabling.Tabled.{Tabled}
 use Rattle.jc_link.specs.Known.{AreNamesOf, IsTableOf}
-use Rattle.jc_link.proofs.Tables.{sized, in_range, methods_in, linked-more, has-cells, counted, role-class}
+use Rattle.jc_link.proofs.Tables.{sized, in_range, methods_in, has-cells, counted, role-class}
 
 -- ---- names
 
@@ -97,7 +98,7 @@ module _ (ps : List PackageRecord) (roles : List ℕ) (n : NamesRecord) (of : Ar
       subst (λ (xs : List MethodRec). All (λ (m : MethodRec). m.class < length cs) xs) (sym (f ∙ methods-are))
       (subst (λ (xs : List NamedClass). All (λ (m : MethodRec). m.class < length xs) (methods_of ps roles)) (sym (e ∙ classes-are)) (methods_in (infos_of ps) (slice_index roles 0) (classes_of ps roles) (methods_of ps roles) of.known.methods))
 
-  pub classes_known : (cs : List NamedClass) (t : ClassTable) → cs ≡ n.classes → length cs ≤ 4096 → HaveLines cs t → AreKnown t cs
+  pub classes_known : (cs : List NamedClass) (t : ClassTable) → cs ≡ n.classes → length cs ≤ 4096 → HaveLines cs t → HaveSuperclasses t cs
   classes_known cs t e few have = record {
     count = have.count;
     few = few;
@@ -105,10 +106,10 @@ module _ (ps : List PackageRecord) (roles : List ℕ) (n : NamesRecord) (of : Ar
   }
 
   -- the first fault of superclasses, roles and interfaces
-  pub line_first : (cs : List NamedClass) (first : ℕ) (f : LinkFault) → cs ≡ n.classes → first ≡ first_classes ps → IsFirst place_of (lineage.conditions cs first roles) f → IsFirst place_of (class_conditions ps roles) f
+  pub line_first : (cs : List NamedClass) (first : ℕ) (f : LinkFault) → cs ≡ n.classes → first ≡ first_classes ps → IsFirst link_place (lineage.conditions cs first roles) f → IsFirst link_place (class_conditions ps roles) f
   line_first cs first f e g h =
-      IsFirst-append_left place_of (lineage.conditions (classes_of ps roles) (first_classes ps) roles) (classes.conditions (lineage_of ps roles) (classes_of ps roles) (methods_of ps roles)) f
-      (subst (λ (k : ℕ). IsFirst place_of (lineage.conditions (classes_of ps roles) k roles) f) g (subst (λ (xs : List NamedClass). IsFirst place_of (lineage.conditions xs first roles) f) (e ∙ classes-are) h))
+      IsFirst-append_left link_place (lineage.conditions (classes_of ps roles) (first_classes ps) roles) (classes.conditions (lineage_of ps roles) (classes_of ps roles) (methods_of ps roles)) f
+      (subst (λ (k : ℕ). IsFirst link_place (lineage.conditions (classes_of ps roles) k roles) f) g (subst (λ (xs : List NamedClass). IsFirst link_place (lineage.conditions xs first roles) f) (e ∙ classes-are) h))
 
   line_empty : (cs : List NamedClass) (first : ℕ) → cs ≡ n.classes → first ≡ first_classes ps → AllEmpty (lineage.conditions cs first roles) → AllEmpty (lineage.conditions (classes_of ps roles) (first_classes ps) roles)
   line_empty cs first e g h = subst (λ (k : ℕ). AllEmpty (lineage.conditions (classes_of ps roles) k roles)) g (subst (λ (xs : List NamedClass). AllEmpty (lineage.conditions xs first roles)) (e ∙ classes-are) h)
@@ -125,11 +126,11 @@ module _ (ps : List PackageRecord) (roles : List ℕ) (n : NamesRecord) (of : Ar
 
   -- the first fault of dispatch lists and instances
   pub class_first : (cs : List NamedClass) (ms : List MethodRec) (first : ℕ) (t : ClassTable) (f : LinkFault) → cs ≡ n.classes → ms ≡ n.methods → first ≡ first_classes ps → t ≡ outline cs roles
-      → AllEmpty (lineage.conditions cs first roles) → IsFirst place_of (classes.conditions t cs ms) f → IsFirst place_of (class_conditions ps roles) f
+      → AllEmpty (lineage.conditions cs first roles) → IsFirst link_place (classes.conditions t cs ms) f → IsFirst link_place (class_conditions ps roles) f
   class_first cs ms first t f e m g o none h =
-      IsFirst-append_right place_of (lineage.conditions (classes_of ps roles) (first_classes ps) roles) (classes.conditions (lineage_of ps roles) (classes_of ps roles) (methods_of ps roles)) f
+      IsFirst-append_right link_place (lineage.conditions (classes_of ps roles) (first_classes ps) roles) (classes.conditions (lineage_of ps roles) (classes_of ps roles) (methods_of ps roles)) f
       (line_empty cs first e g none)
-      (subst (λ (lists : List (List LinkFault)). IsFirst place_of lists f) (conditions_same cs ms t e m o) h)
+      (subst (λ (lists : List (List LinkFault)). IsFirst link_place lists f) (conditions_same cs ms t e m o) h)
 
   -- the same of what linking ends with
   pub line_told : (cs : List NamedClass) (first : ℕ) (end : LinkEnd) → cs ≡ n.classes → first ≡ first_classes ps → lines.Tells cs first roles (Err end) → TellsFirst {A = ClassTable} (class_conditions ps roles) (Err end)
@@ -186,7 +187,7 @@ module _ (ps : List PackageRecord) (roles : List ℕ) (n : NamesRecord) (of : Ar
       (subst (λ (u : ClassTable). AreLinkedClasses (length ps) u (methods_of ps roles)) (sym is.is) is.linked))
 
   pub linked_few : (t : ClassTable) → IsTableOf ps roles t → length n.packages ≤ 16 → AreLinkedClasses 16 t n.methods
-  linked_few t is few = linked-more (length n.packages) 16 t n.methods few (linked_known t is)
+  linked_few t is few = linked_more (length n.packages) 16 t n.methods few (linked_known t is)
 
   pub count_known : (t : ClassTable) → IsTableOf ps roles t → length t.records ≡ length n.classes
   count_known t is = ap (λ (u : ClassTable). length u.records) is.is ∙ counted ps roles ∙ ap length (sym classes-are)
@@ -206,17 +207,17 @@ outline_roles cs roles t e = e ∙ ap (outline cs) (sym (ap (λ (u : ClassTable)
 -- ---- the conditions one after the other
 
 module _ (ps : List PackageRecord) (roles : List ℕ) (f : LinkFault) where
-  pub names_table : IsFirst place_of (names.conditions ps) f → IsFirst place_of (table_conditions ps roles) f
-  names_table h = IsFirst-append_left place_of (names.conditions ps) (class_conditions ps roles) f h
+  pub names_table : IsFirst link_place (names.conditions ps) f → IsFirst link_place (table_conditions ps roles) f
+  names_table h = IsFirst-append_left link_place (names.conditions ps) (class_conditions ps roles) f h
 
-  pub classes_table : AllEmpty (names.conditions ps) → IsFirst place_of (class_conditions ps roles) f → IsFirst place_of (table_conditions ps roles) f
-  classes_table none h = IsFirst-append_right place_of (names.conditions ps) (class_conditions ps roles) f none h
+  pub classes_table : AllEmpty (names.conditions ps) → IsFirst link_place (class_conditions ps roles) f → IsFirst link_place (table_conditions ps roles) f
+  classes_table none h = IsFirst-append_right link_place (names.conditions ps) (class_conditions ps roles) f none h
 
-  pub table_all : IsFirst place_of (table_conditions ps roles) f → IsFirst place_of (conditions ps roles) f
-  table_all h = IsFirst-append_left place_of (table_conditions ps roles) (member_conditions ps roles) f h
+  pub table_all : IsFirst link_place (table_conditions ps roles) f → IsFirst link_place (conditions ps roles) f
+  table_all h = IsFirst-append_left link_place (table_conditions ps roles) (member_conditions ps roles) f h
 
-  pub members_all : AllEmpty (table_conditions ps roles) → IsFirst place_of (member_conditions ps roles) f → IsFirst place_of (conditions ps roles) f
-  members_all none h = IsFirst-append_right place_of (table_conditions ps roles) (member_conditions ps roles) f none h
+  pub members_all : AllEmpty (table_conditions ps roles) → IsFirst link_place (member_conditions ps roles) f → IsFirst link_place (conditions ps roles) f
+  members_all none h = IsFirst-append_right link_place (table_conditions ps roles) (member_conditions ps roles) f none h
 
 module _ (ps : List PackageRecord) (roles : List ℕ) where
   pub table_empty : AllEmpty (names.conditions ps) → AllEmpty (class_conditions ps roles) → AllEmpty (table_conditions ps roles)

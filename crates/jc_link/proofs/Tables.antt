@@ -1,9 +1,8 @@
 -- What the table of the classes of packages is.
 use Rattle.std.proofs.Common.{◌≡◌, ℕ, ◌+◌, ◌<◌, ◌≤◌, List, [], ◌∷◌, length, refl, ap, ◌∙◌, arith}
-use Rattle.std.specs.Prelude.{All, map, slice_get, slice_index}
+use Rattle.std.specs.Prelude.{All, map, slice_index}
 use Rattle.std.proofs.lemmas.List.{length-map}
 use Rattle.std.proofs.lemmas.List.Elements.{All-weaker}
-use Rattle.std.proofs.lemmas.Option.{IfSome_then}
 use Rattle.cap_package.specs.PackageRecord.{PackageRecord}
 use Rattle.jc_base.specs.declared.ty.Ty.{Ty}
 use Rattle.jc_base.specs.declared.ty.Ty.TheVariants.{Class}
@@ -12,7 +11,6 @@ use Rattle.jc_base.specs.declared.record.MethodRec.{MethodRec}
 use Rattle.jc_base.specs.Class.{ClassTable, IsClass, AreClasses, is_interface, throwable}
 use Rattle.jc_base.specs.Order.{Below, is_below}
 use Rattle.jc_base.specs.Cell.{IsDeclared}
-use Rattle.jc_base.specs.Linked.{AreLinkedClasses, IsLinkedClass}
 use Rattle.jc_base.proofs.Subtypes.{Below-from_is_below, is_below-from_Below}
 use Rattle.jc_resolve.specs.declared.named.NamedClass.{NamedClass}
 use Rattle.jc_resolve.specs.Named as named
@@ -42,25 +40,6 @@ pub own-kept : (t : ClassTable) (all ks : List NamedClass) (c : ℕ) → map (λ
 unfolding record_from
 own-kept t all [] c = refl
 own-kept t all (k ∷ ks) c = ap (λ (l : List (List Ty)). k.own ∷ l) (own-kept t all ks (c + 1))
-
--- ---- more packages
-
-home-more : (n m : ℕ) (t : ClassTable) (methods : List MethodRec) (c : ℕ) (r : ClassRec) → n ≤ m → IsLinkedClass n t methods c r → IsLinkedClass m t methods c r
-home-more n m t methods c r le is =
-    let low = is.home in
-    record {
-      home = omega arith;
-      earlier = is.earlier;
-      cells = is.cells;
-      size = is.size;
-      own = is.own;
-      public = is.public;
-      visible = is.visible;
-      implements = is.implements;
-    }
-
-pub linked-more : (n m : ℕ) (t : ClassTable) (methods : List MethodRec) → n ≤ m → AreLinkedClasses n t methods → AreLinkedClasses m t methods
-linked-more n m t methods le are = λ c. IfSome_then (slice_get t.records c) (are c) (λ r is. home-more n m t methods c r le is)
 
 -- ---- the table of packages
 

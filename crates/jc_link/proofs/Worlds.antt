@@ -17,7 +17,7 @@ use Rattle.first_fault.specs.First.{AllEmpty}
 use Rattle.jc_resolve.specs.Names.{NamesRecord}
 use Rattle.jc_indexes.specs.Indexes.{indexes_of}
 use Rattle.jc_indexes.proofs.Listing.{indexes-each}
-use Rattle.jc_statics.specs.Arrays.{array_records, cells_of}
+use Rattle.jc_statics.specs.Arrays.{array_records, initial_cells}
 use Rattle.jc_members.specs.Pools.{pools}
 use Rattle.jc_link.specs.declared.linking.Resolved.{Resolved}
 use Rattle.jc_link.specs.World.{classes_of, table_of, methods_of, statics_of, AreListsOf, table_conditions, member_conditions, IsLinked}
@@ -132,7 +132,7 @@ module _ (ps : List PackageRecord) (roles : List ℕ) (n : NamesRecord) (of : Ar
     slots = resolved.slots;
     fields = resolved.fields;
     arrays = subst (λ (bs : List ArrayRec). length bs ≤ 4096) (sym a) resolved.arrays;
-    array_cells = subst (λ (bs : List ArrayRec). cells_of bs ≤ 32768) (sym a) resolved.array_cells;
+    array_cells = subst (λ (bs : List ArrayRec). initial_cells bs ≤ 32768) (sym a) resolved.array_cells;
     elements = elements;
   }
 

@@ -7,7 +7,7 @@ use Rattle.jc_base.specs.Linked.{AreLinkedClasses, AreSlots, IsMember, IsStatic}
 use Rattle.jc_resolve.specs.Named.{AreNamed, infos_of}
 use Rattle.jc_resolve.specs.Names.{NamesRecord, named}
 use Rattle.jc_hierarchy.specs.Lines.{HaveLines}
-use Rattle.jc_statics.specs.Arrays.{array_records, cells_of}
+use Rattle.jc_statics.specs.Arrays.{array_records, initial_cells}
 use Rattle.jc_members.specs.Pools.{pools}
 use Rattle.jc_link.specs.declared.linking.Resolved.{Resolved}
 use Rattle.jc_link.specs.World.{classes_of, lineage_of, table_of, methods_of, statics_of}
@@ -43,4 +43,4 @@ pub record AreResolved (ps : List PackageRecord) (roles : List ℕ) (x : Resolve
   pub entries : All (λ pool. length pool ≤ 65535) x.pools
   pub members : All (All (IsMember (table_of ps roles) (methods_of ps roles) x.statics)) x.pools
   pub arrays : length (array_records ps) ≤ 4096
-  pub array_cells : cells_of (array_records ps) ≤ 32768
+  pub array_cells : initial_cells (array_records ps) ≤ 32768

@@ -12,7 +12,7 @@ use Rattle.jc_resolve.specs.declared.fault.LinkFault.{LinkFault}
 use Rattle.jc_resolve.specs.declared.fault.LinkEnd.{LinkEnd}
 use Rattle.jc_resolve.specs.declared.fault.LinkEnd.TheVariants.{Fault, Memory}
 use Rattle.jc_resolve.specs.declared.named.NamedClass.{NamedClass}
-use Rattle.jc_resolve.specs.Fault.{place_of}
+use Rattle.jc_resolve.specs.Fault.{link_place}
 use Rattle.first_fault.specs.First.{IsFirst, AllEmpty}
 use Rattle.jc_resolve.specs.NamedClasses.{named_classes}
 use Rattle.jc_resolve.specs.NamedMethods.{named_methods}
@@ -98,7 +98,7 @@ abbrev pub member_conditions : List PackageRecord → List ℕ → List (List Li
 member_conditions ps roles =
     -- static cells
     option_to_list (statics_fault ps)
-    -- pool entries that have not exactly one member
+    -- pool entries that do not have exactly one member
     ∷ missing_members ps (table_of ps roles) (statics_of ps roles)
     ∷ rest_conditions ps roles
 
@@ -108,7 +108,7 @@ conditions ps roles = table_conditions ps roles ++ member_conditions ps roles
 -- an answer where nothing of these conditions is at fault; else the first condition by number that is broken, at its least thing
 abbrev pub TellsFirst : {A : Type 0} → List (List LinkFault) → Result A LinkEnd → Type 0
 TellsFirst lists (Ok x) = AllEmpty lists
-TellsFirst lists (Err (Fault fault)) = IsFirst place_of lists fault
+TellsFirst lists (Err (Fault fault)) = IsFirst link_place lists fault
 TellsFirst lists (Err Memory) = Unit {0}
 
 -- ---- the definition
@@ -117,7 +117,7 @@ TellsFirst lists (Err Memory) = Unit {0}
 -- by number that is broken, at its least thing
 abbrev pub TableTells : List PackageRecord → List ℕ → Result ClassTable LinkEnd → Type 0
 TableTells ps roles (Ok t) = (t ≡ table_of ps roles) × AllEmpty (table_conditions ps roles)
-TableTells ps roles (Err (Fault fault)) = IsFirst place_of (table_conditions ps roles) fault
+TableTells ps roles (Err (Fault fault)) = IsFirst link_place (table_conditions ps roles) fault
 TableTells ps roles (Err Memory) = Unit {0}
 
 -- packages and roles make this world
@@ -128,5 +128,5 @@ pub record IsLinked (ps : List PackageRecord) (roles : List ℕ) (w : Linked) : 
 -- the world exactly where nothing is at fault; else the first condition by number that is broken, at its least thing
 abbrev pub LinkTells : List PackageRecord → List ℕ → Result Linked LinkEnd → Type 0
 LinkTells ps roles (Ok w) = IsLinked ps roles w
-LinkTells ps roles (Err (Fault fault)) = IsFirst place_of (conditions ps roles) fault
+LinkTells ps roles (Err (Fault fault)) = IsFirst link_place (conditions ps roles) fault
 LinkTells ps roles (Err Memory) = Unit {0}

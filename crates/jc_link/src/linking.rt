@@ -1,6 +1,6 @@
 ghost use Rattle.std.specs.Prelude.{◌≤◌, length, IfOk, OnOk};
 ghost use Rattle.first_fault.specs.First.{AllEmpty};
-ghost use Rattle.jc_statics.specs.Arrays.{array_records, cells_of};
+ghost use Rattle.jc_statics.specs.Arrays.{array_records, initial_cells};
 ghost use Rattle.jc_link.specs.World.{TellsFirst, LinkTells, table_conditions, member_conditions, rest_conditions};
 ghost use Rattle.jc_link.specs.Known.{AreNamesOf, IsTableOf, AreResolved};
 
@@ -27,7 +27,7 @@ fn rest_fits(names: &Names<'_, '_, '_>, classes: &Classes) -> Result<(), LinkEnd
     requires table { IsTableOf names.now.packages names.now.roles classes.now }
     ensures first { TellsFirst (rest_conditions names.now.packages names.now.roles) result }
     ensures arrays { OnOk result (length (array_records names.now.packages) ≤ 4096) }
-    ensures cells { OnOk result (cells_of (array_records names.now.packages) ≤ 32768) }
+    ensures cells { OnOk result (initial_cells (array_records names.now.packages) ≤ 32768) }
 {
     let packages = names.packages();
     handlers_fit(names, classes)?;

@@ -11,7 +11,7 @@ pub(crate) fn infos<'a>(alloc: Global, packages: &Packages<'_, 'a>) -> Result<In
     ensures few { IfOk result (All (λ info. length info ≤ 65535)) }
 {
     let mut infos = Infos::new(alloc);
-    'packages: for package in packages.as_slice() {
+    'packages: for package in packages.iter() {
         let methods = package.methods();
         infos.push(methods.info().bytes)?;
     }

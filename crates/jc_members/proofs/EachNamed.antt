@@ -14,16 +14,14 @@ use Rattle.jc_resolve.specs.declared.fault.LinkFault.TheVariants.{NoMember}
 use Rattle.jc_resolve.specs.declared.fault.LinkEnd.{LinkEnd}
 use Rattle.jc_resolve.specs.declared.fault.LinkEnd.TheVariants.{Fault, Memory}
 use Rattle.jc_resolve.specs.Due.{IsDue}
-use Rattle.jc_resolve.specs.Fault.{place_of}
+use Rattle.jc_resolve.specs.Fault.{link_place}
 use Rattle.first_fault.specs.Order.{comes_before}
 use Rattle.first_fault.specs.Least.{◌>>=◌, lesser, least_from, least_of, refused}
-use Rattle.jc_resolve.specs.Named.{IsAgreed}
 use Rattle.jc_members.specs.Members.{member_of}
 use Rattle.jc_members.specs.Naming.{NamesMember, NamesOnly, IsEntry, AreNamed, NamesNone, IsMissing, NamesEach}
 use Rattle.jc_members.specs.Pools.{PoolPlace, places_from, places_after, pool_places, member_fault, missing_members, pools, pools_of}
 use Rattle.jc_members.proofs.Faultless.{pools-some}
 use Rattle.jc_members.proofs.NamingLaws.{member-names, names-member, names-only}
-use Rattle.jc_members.proofs.PoolTags.{tag-known}
 use Rattle.jc_members.proofs.Told.{due-tells}
 
 -- ---- the fault that is named is that of a thing
@@ -32,16 +30,16 @@ chosen : (a g f : LinkFault) (b : Bool) → cond b (Some g) (Some a) ≡ Some f 
 chosen a g f true h = inr h
 chosen a g f false h = inl h
 
-lesser_one : (a b : Option LinkFault) (f : LinkFault) → lesser place_of a b ≡ Some f → (a ≡ Some f) ⊎ (b ≡ Some f)
+lesser_one : (a b : Option LinkFault) (f : LinkFault) → lesser link_place a b ≡ Some f → (a ≡ Some f) ⊎ (b ≡ Some f)
 unfolding lesser
 lesser_one a None f h = inl h
 lesser_one None (Some g) f h = inr h
-lesser_one (Some a) (Some g) f h = chosen a g f (comes_before (place_of g) (place_of a)) h
+lesser_one (Some a) (Some g) f h = chosen a g f (comes_before (link_place g) (link_place a)) h
 
-from_one : {X : Type 0} (fault : X → Option LinkFault) (xs : List X) (before : Option LinkFault) (f : LinkFault) → least_from place_of before fault xs ≡ Some f
+from_one : {X : Type 0} (fault : X → Option LinkFault) (xs : List X) (before : Option LinkFault) (f : LinkFault) → least_from link_place before fault xs ≡ Some f
     → (before ≡ Some f) ⊎ ((i : ℕ) × (x : X) × (slice_get xs i ≡ Some x) × (fault x ≡ Some f))
 from_one fault [] before f h = inl h
-from_one fault (x ∷ xs) before f h = elim (from_one fault xs (lesser place_of before (fault x)) f h) [
+from_one fault (x ∷ xs) before f h = elim (from_one fault xs (lesser link_place before (fault x)) f h) [
   | inl e ↦ elim (lesser_one before (fault x) f e) [
     | inl a ↦ inl a
     | inr b ↦ inr (0, x, refl, b)
@@ -49,7 +47,7 @@ from_one fault (x ∷ xs) before f h = elim (from_one fault xs (lesser place_of 
   | inr r ↦ inr (suc r.0, r.1, r.2, r.3)
 ]
 
-of_one : {X : Type 0} (fault : X → Option LinkFault) (xs : List X) (f : LinkFault) → least_of place_of fault xs ≡ Some f → (i : ℕ) × (x : X) × (slice_get xs i ≡ Some x) × (fault x ≡ Some f)
+of_one : {X : Type 0} (fault : X → Option LinkFault) (xs : List X) (f : LinkFault) → least_of link_place fault xs ≡ Some f → (i : ℕ) × (x : X) × (slice_get xs i ≡ Some x) × (fault x ≡ Some f)
 of_one fault xs f h = elim (from_one fault xs None f h) [
   | inl e ↦ absurd (none_some f e)
   | inr r ↦ r
@@ -85,12 +83,12 @@ module _ (ps : List PackageRecord) where
   all_places : All IsPlace (pool_places ps)
   all_places = in_pools 0 ps (λ j q e. let same : 0 + j ≡ j = omega arith in rw same e)
 
-module _ (ps : List PackageRecord) (t : ClassTable) (statics : List StaticRec) (agreed : All IsAgreed ps) where
+module _ (ps : List PackageRecord) (t : ClassTable) (statics : List StaticRec) where
   -- ---- the members
 
-  names_one : (k n : ℕ) (e : Entry) (m : Member) → IsEntry ps k n e → member_of ps t statics k e ≡ Some m → NamesOnly ps t statics k e m
-  names_one k n e m at is =
-      let names = member-names ps t statics k e m (tag-known ps agreed k n e at) is in
+  names_one : (k : ℕ) (e : Entry) (m : Member) → member_of ps t statics k e ≡ Some m → NamesOnly ps t statics k e m
+  names_one k e m is =
+      let names = member-names ps t statics k e m is in
       record { names = names; only = λ other h. names-only ps t statics k e m other names h }
 
   all_named : missing_members ps t statics ≡ [] → AreNamed ps t statics (pools ps t statics)
@@ -98,7 +96,7 @@ module _ (ps : List PackageRecord) (t : ClassTable) (statics : List StaticRec) (
       let x = pools-some ps t statics 0 ps k at.home none at.there n e at.entry in
       let same : 0 + k ≡ k = omega arith in
       let is : member_of ps t statics k e ≡ Some x.0 = subst (λ j. member_of ps t statics j e ≡ Some x.0) same x.2 in
-      (x.0, x.1, names_one k n e x.0 at is)
+      (x.0, x.1, names_one k e x.0 is)
 
   -- ---- the fault
 
@@ -116,7 +114,7 @@ module _ (ps : List PackageRecord) (t : ClassTable) (statics : List StaticRec) (
   unfolding member_fault
   missing_of x f h at = fault_by x f (is_none (member_of ps t statics x.home x.entry)) refl h at
 
-  fault_missing : (f : LinkFault) → least_of place_of (member_fault ps t statics) (pool_places ps) ≡ Some f → IsMissing ps t statics f
+  fault_missing : (f : LinkFault) → least_of link_place (member_fault ps t statics) (pool_places ps) ≡ Some f → IsMissing ps t statics f
   fault_missing f h =
       let x = of_one (member_fault ps t statics) (pool_places ps) f h in
       missing_of x.1 f x.3 (All-slice_get (IsPlace ps) (pool_places ps) x.0 x.1 (all_places ps) x.2)
@@ -132,5 +130,5 @@ module _ (ps : List PackageRecord) (t : ClassTable) (statics : List StaticRec) (
   due-names (Ok found) due =
       let told = due-tells ps t statics (Ok found) due in
       subst (AreNamed ps t statics) (sym told.0) (all_named told.1)
-  due-names (Err (Fault f)) due = fault_missing f (fault_of (least_of place_of (member_fault ps t statics) (pool_places ps)) (pools ps t statics) f due)
+  due-names (Err (Fault f)) due = fault_missing f (fault_of (least_of link_place (member_fault ps t statics) (pool_places ps)) (pools ps t statics) f due)
   due-names (Err Memory) due = tt {0}

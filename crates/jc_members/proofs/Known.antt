@@ -1,10 +1,11 @@
 -- What entries name is there.
 use Rattle.std.proofs.Common.{◌≡◌, ℕ, zero, suc, ◌<◌, ◌≤◌, ◌-◌, Bool, true, false, cond, List, [], ◌∷◌, ◌++◌, length, Option, Some, None, refl, sym, subst, ◌∙◌, option_and_then, slice_get, nat_lt, IfSome, Contains, All, arith}
 use Rattle.std.specs.Option.{option_to_list}
-use Rattle.std.proofs.lemmas.List.{append-nil, length-map}
+use Rattle.std.proofs.lemmas.List.{append-nil}
 use Rattle.std.proofs.lemmas.Bool.Decides.{nat_tests}
 use Rattle.std.proofs.lemmas.Option.{slice_get-get_or, slice_get_within}
 use Rattle.std.proofs.lemmas.List.Elements.{All-push, Contains-append_left, Contains-append_right}
+use Rattle.cap_bytes.specs.declared.class_reference.ClassReference.{ClassReference}
 use Rattle.cap_package.specs.PackageRecord.{PackageRecord}
 use Rattle.jc_base.specs.declared.record.Member.{Member}
 use Rattle.jc_base.specs.declared.record.MethodRec.{MethodRec}
@@ -16,9 +17,9 @@ use Rattle.jc_base.specs.Linked.{IsMember}
 use Rattle.jc_resolve.specs.declared.place.RecordPlace.{RecordPlace}
 use Rattle.jc_resolve.specs.Counts.{class_total}
 use Rattle.jc_resolve.proofs.Totals.{classes_total}
-use Rattle.jc_resolve.specs.Numbering.{numbered_classes, numbered_methods, class_at, method_at, is_at, method_places}
-use Rattle.jc_resolve.specs.References.{class_named, place_named}
-use Rattle.jc_resolve.proofs.NumberLaws.{class_below, position_below}
+use Rattle.jc_resolve.specs.Numbering.{numbered_classes, class_at}
+use Rattle.jc_resolve.specs.References.{class_referred, place_referred}
+use Rattle.jc_resolve.proofs.NumberLaws.{class_below}
 use Rattle.jc_members.specs.declared.sites.Spot.{Spot}
 use Rattle.jc_members.specs.Sites.{only, standing, same_spot}
 use Rattle.jc_members.specs.Members.{static_site, static_sites, static_at}
@@ -29,14 +30,9 @@ below_by : (ps : List PackageRecord) (o : Option RecordPlace) → IfSome (option
 below_by ps None = tt
 below_by ps (Some place) = class_below ps place (class_at ps place) refl
 
-pub class-below : (ps : List PackageRecord) (k reference : ℕ) → IfSome (class_named ps k reference) (λ c. c < length (numbered_classes ps))
-unfolding class_named
-class-below ps k reference = below_by ps (place_named ps k reference)
-
-pub method_there : (ps : List PackageRecord) (place : RecordPlace) (o : Option ℕ) → o ≡ method_at ps place → IfSome o (λ n. n < length (numbered_methods ps))
-unfolding method_at
-method_there ps place None e = tt
-method_there ps place (Some n) e = subst (λ len. n < len) (length-map (numbered_methods ps) _) (position_below (is_at place) (method_places ps) n (sym e))
+pub class-below : (ps : List PackageRecord) (k : ℕ) (reference : ClassReference) → IfSome (class_referred ps k reference) (λ c. c < length (numbered_classes ps))
+unfolding class_referred
+class-below ps k reference = below_by ps (place_referred ps k reference)
 
 pub counted : (ps : List PackageRecord) (n : ℕ) → n ≡ class_total ps → n ≡ length (numbered_classes ps)
 counted ps n e = e ∙ sym (classes_total ps)

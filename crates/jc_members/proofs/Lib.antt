@@ -14,5 +14,5 @@ pub mod FieldsLinked
 pub mod MembersLinked
 pub mod Faultless
 pub mod NamingLaws
-pub mod PoolTags
 pub mod EachNamed
+pub mod OneRecord

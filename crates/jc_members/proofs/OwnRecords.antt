@@ -15,7 +15,7 @@ use Rattle.jc_resolve.specs.declared.named.NamedClass.{NamedClass}
 use Rattle.jc_resolve.specs.Numbering.{NumberedClass, numbered_class, classes_of, classes_after, numbered_classes}
 use Rattle.jc_resolve.specs.Names.{NamesRecord}
 use Rattle.jc_resolve.specs.NamedClasses.{named_class, named_classes}
-use Rattle.jc_members.specs.Fields.{cells_before, HasRoom, HaveRoomIn, HaveRoomAfter, HaveRoom, HasCellsOf}
+use Rattle.jc_members.specs.Fields.{cells_before, FieldsFit, FieldsFitIn, AllFieldsFitAfter, AllFieldsFit, HasCellsOf}
 use Rattle.jc_members.proofs.Counted.{records_counted}
 use Rattle.jc_members.proofs.TokenCells.{cells_over, cells_first}
 use Rattle.jc_members.proofs.OwnCells.{own_of, own_named}
@@ -52,7 +52,7 @@ module _ (ps : List PackageRecord) (object_is : ℕ) (t : ClassTable) (cells : H
       }
 
   module _ (packages : ℕ) (methods : List MethodRec) (linked : AreLinkedClasses packages t methods) where
-    has_room : (c : ℕ) (n : NumberedClass) → slice_get (numbered_classes ps) c ≡ Some n → HasRoom t c (own_of ps (object t) n)
+    has_room : (c : ℕ) (n : NumberedClass) → slice_get (numbered_classes ps) c ≡ Some n → FieldsFit t c (own_of ps (object t) n)
     has_room c n e =
         let has = has_own c n e in
         let is : IsLinkedClass packages t methods c has.class = IfSome-is (IsLinkedClass packages t methods c) (slice_get t.records c) has.class (linked c) has.there in
@@ -61,17 +61,17 @@ module _ (ps : List PackageRecord) (object_is : ℕ) (t : ClassTable) (cells : H
         let size : has.class.cells ≤ 32767 = is.size in
         omega (arith, many, sum, size)
 
-    rooms_in : (k : ℕ) (p : PackageRecord) (c : ℕ) (rs : List Class) → ((i : ℕ) (n : NumberedClass) → slice_get (map (numbered_class k p) rs) i ≡ Some n → HasRoom t (c + i) (own_of ps (object t) n)) → HaveRoomIn ps t k p c rs
+    rooms_in : (k : ℕ) (p : PackageRecord) (c : ℕ) (rs : List Class) → ((i : ℕ) (n : NumberedClass) → slice_get (map (numbered_class k p) rs) i ≡ Some n → FieldsFit t (c + i) (own_of ps (object t) n)) → FieldsFitIn ps t k p c rs
     rooms_in k p c [] each = tt
     rooms_in k p c (r ∷ rs) each =
         let here : c + 0 ≡ c = omega arith in (
-          subst (λ (i : ℕ). HasRoom t i (own_of ps (object t) (numbered_class k p r))) here (each 0 (numbered_class k p r) refl),
+          subst (λ (i : ℕ). FieldsFit t i (own_of ps (object t) (numbered_class k p r))) here (each 0 (numbered_class k p r) refl),
           rooms_in k p (c + 1) rs (λ i n e.
               let next : c + suc i ≡ (c + 1) + i = omega arith in
-              subst (λ (j : ℕ). HasRoom t j (own_of ps (object t) n)) next (each (suc i) n e)),
+              subst (λ (j : ℕ). FieldsFit t j (own_of ps (object t) n)) next (each (suc i) n e)),
         )
 
-    rooms_after : (c k : ℕ) (qs : List PackageRecord) → ((i : ℕ) (n : NumberedClass) → slice_get (classes_after k qs) i ≡ Some n → HasRoom t (c + i) (own_of ps (object t) n)) → HaveRoomAfter ps t c k qs
+    rooms_after : (c k : ℕ) (qs : List PackageRecord) → ((i : ℕ) (n : NumberedClass) → slice_get (classes_after k qs) i ≡ Some n → FieldsFit t (c + i) (own_of ps (object t) n)) → AllFieldsFitAfter ps t c k qs
     rooms_after c k [] each = tt
     rooms_after c k (q ∷ qs) each = (
       rooms_in k q c q.classes (λ i n e. each i n (slice_get-front (classes_of k q) (classes_after (k + 1) qs) i n e)),
@@ -79,17 +79,17 @@ module _ (ps : List PackageRecord) (object_is : ℕ) (t : ClassTable) (cells : H
           let many : length (classes_of k q) ≡ length q.classes = length-map q.classes (numbered_class k q) in
           let place : length q.classes + i ≡ length (classes_of k q) + i = ap (λ (m : ℕ). m + i) (sym many) in
           let next : c + (length q.classes + i) ≡ (c + length q.classes) + i = omega arith in
-          subst (λ (j : ℕ). HasRoom t j (own_of ps (object t) n)) next
+          subst (λ (j : ℕ). FieldsFit t j (own_of ps (object t) n)) next
           (each (length q.classes + i) n (slice_get-farther (classes_of k q) (classes_after (k + 1) qs) i (length q.classes + i) place ∙ e))),
     )
 
     -- an instance of each class has room for its fields
-    pub have_room : HaveRoom ps t
+    pub have_room : AllFieldsFit ps t
     have_room = rooms_after 0 0 ps (λ i n e.
         let same : i ≡ 0 + i = omega arith in
-        subst (λ (j : ℕ). HasRoom t j (own_of ps (object t) n)) same (has_room i n e))
+        subst (λ (j : ℕ). FieldsFit t j (own_of ps (object t) n)) same (has_room i n e))
 
 -- the same of the names of packages
-pub room_there : (n : NamesRecord) (t : ClassTable) → n.classes ≡ named_classes n.packages (slice_index n.roles 0) → AreLinkedClasses (length n.packages) t n.methods → HasCellsOf n.classes (slice_index n.roles 0) t → HaveRoom n.packages t
+pub room_there : (n : NamesRecord) (t : ClassTable) → n.classes ≡ named_classes n.packages (slice_index n.roles 0) → AreLinkedClasses (length n.packages) t n.methods → HasCellsOf n.classes (slice_index n.roles 0) t → AllFieldsFit n.packages t
 room_there n t classes linked cells =
     have_room n.packages (slice_index n.roles 0) t (subst (λ (cs : List NamedClass). HasCellsOf cs (slice_index n.roles 0) t) classes cells) (length n.packages) n.methods linked

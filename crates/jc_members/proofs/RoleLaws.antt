@@ -8,7 +8,7 @@ use Rattle.jc_base.specs.Dispatch.{is_concrete}
 use Rattle.jc_base.specs.Laws.{ConcreteDecides}
 use Rattle.jc_resolve.specs.declared.fault.LinkFault.{LinkFault}
 use Rattle.jc_resolve.specs.declared.fault.LinkFault.TheVariants.{RoleAbstract}
-use Rattle.jc_resolve.specs.Fault.{place_of}
+use Rattle.jc_resolve.specs.Fault.{link_place}
 use Rattle.first_fault.specs.Least.{lesser, least_from, least_of, refused}
 use Rattle.jc_members.specs.Roles.{role_fault, thrown_roles, IsRoleFault, Tells}
 
@@ -27,23 +27,23 @@ module _ (t : ClassTable) (methods : List MethodRec) where
   abbrev concrete : ℕ → Bool
   concrete k = is_concrete t methods (slice_index t.roles k)
 
-  none_at : (k : ℕ) → concrete k ≡ true → lesser place_of None (role_fault t methods k) ≡ None
+  none_at : (k : ℕ) → concrete k ≡ true → lesser link_place None (role_fault t methods k) ≡ None
   unfolding role_fault lesser
   none_at k e = rw e refl
 
-  some_at : (k : ℕ) → concrete k ≡ false → lesser place_of None (role_fault t methods k) ≡ Some (RoleAbstract k)
+  some_at : (k : ℕ) → concrete k ≡ false → lesser link_place None (role_fault t methods k) ≡ Some (RoleAbstract k)
   unfolding role_fault lesser
   some_at k e = rw e refl
 
-  later : (m k : ℕ) (b : Bool) → m < k → concrete k ≡ b → lesser place_of (Some (RoleAbstract m)) (role_fault t methods k) ≡ Some (RoleAbstract m)
-  unfolding role_fault lesser place_of
+  later : (m k : ℕ) (b : Bool) → m < k → concrete k ≡ b → lesser link_place (Some (RoleAbstract m)) (role_fault t methods k) ≡ Some (RoleAbstract m)
+  unfolding role_fault lesser link_place
   later m k true lt e = rw e refl
   later m k false lt e = rw (e, le-ltb k m (omega arith), ne_eqb k m (λ same. absurd (omega (arith, same, lt)))) refl
 
-  kept : (n k m : ℕ) → m < k → least_from place_of (Some (RoleAbstract m)) (role_fault t methods) (range_with_len k n) ≡ Some (RoleAbstract m)
+  kept : (n k m : ℕ) → m < k → least_from link_place (Some (RoleAbstract m)) (role_fault t methods) (range_with_len k n) ≡ Some (RoleAbstract m)
   kept zero k m lt = refl
   kept (suc n) k m lt =
-      ap (λ o. least_from place_of o (role_fault t methods) (range_with_len (k + 1) n)) (later m k (concrete k) lt refl)
+      ap (λ o. least_from link_place o (role_fault t methods) (range_with_len (k + 1) n)) (later m k (concrete k) lt refl)
       ∙ kept n (k + 1) m (omega arith)
 
   -- what is found among n roles from the role a on
@@ -64,18 +64,18 @@ module _ (t : ClassTable) (methods : List MethodRec) where
         f.5,
       )
 
-  found : (n a : ℕ) → Found a n (least_from place_of None (role_fault t methods) (range_with_len a n))
+  found : (n a : ℕ) → Found a n (least_from link_place None (role_fault t methods) (range_with_len a n))
   found zero a = λ k low high. absurd (omega arith)
   found (suc n) a = by (concrete a) refl (found n (a + 1))
     where
-      by : (b : Bool) → concrete a ≡ b → Found (a + 1) n (least_from place_of None (role_fault t methods) (range_with_len (a + 1) n)) → Found a (suc n) (least_from place_of None (role_fault t methods) (range_with_len a (suc n)))
+      by : (b : Bool) → concrete a ≡ b → Found (a + 1) n (least_from link_place None (role_fault t methods) (range_with_len (a + 1) n)) → Found a (suc n) (least_from link_place None (role_fault t methods) (range_with_len a (suc n)))
       by true e rest =
-          let step : least_from place_of None (role_fault t methods) (range_with_len (a + 1) n) ≡ least_from place_of None (role_fault t methods) (range_with_len a (suc n)) =
-          ap (λ o. least_from place_of o (role_fault t methods) (range_with_len (a + 1) n)) (sym (none_at a e)) in
-          subst (Found a (suc n)) step (found_more a n (least_from place_of None (role_fault t methods) (range_with_len (a + 1) n)) e rest)
+          let step : least_from link_place None (role_fault t methods) (range_with_len (a + 1) n) ≡ least_from link_place None (role_fault t methods) (range_with_len a (suc n)) =
+          ap (λ o. least_from link_place o (role_fault t methods) (range_with_len (a + 1) n)) (sym (none_at a e)) in
+          subst (Found a (suc n)) step (found_more a n (least_from link_place None (role_fault t methods) (range_with_len (a + 1) n)) e rest)
       by false e rest =
-          let step : Some (RoleAbstract a) ≡ least_from place_of None (role_fault t methods) (range_with_len a (suc n)) =
-          sym (ap (λ o. least_from place_of o (role_fault t methods) (range_with_len (a + 1) n)) (some_at a e) ∙ kept n (a + 1) a (omega arith)) in
+          let step : Some (RoleAbstract a) ≡ least_from link_place None (role_fault t methods) (range_with_len a (suc n)) =
+          sym (ap (λ o. least_from link_place o (role_fault t methods) (range_with_len (a + 1) n)) (some_at a e) ∙ kept n (a + 1) a (omega arith)) in
           subst (Found a (suc n)) step (a, omega arith, omega arith, e, λ j low high. absurd (omega arith), refl)
 
   told_by : ConcreteDecides t methods → (o : Option LinkFault) → Found 2 6 o → Tells t methods (refused o)
@@ -88,5 +88,5 @@ module _ (t : ClassTable) (methods : List MethodRec) where
         first = λ j low high. (decides (slice_index t.roles j)).0 (f.4 j low high);
       })
 
-  pub roles_told : (r : Result (Unit {0}) LinkFault) → ConcreteDecides t methods → r ≡ refused (least_of place_of (role_fault t methods) thrown_roles) → Tells t methods r
-  roles_told r decides e = subst (Tells t methods) (sym e) (told_by decides (least_of place_of (role_fault t methods) thrown_roles) (found 6 2))
+  pub roles_told : (r : Result (Unit {0}) LinkFault) → ConcreteDecides t methods → r ≡ refused (least_of link_place (role_fault t methods) thrown_roles) → Tells t methods r
+  roles_told r decides e = subst (Tells t methods) (sym e) (told_by decides (least_of link_place (role_fault t methods) thrown_roles) (found 6 2))

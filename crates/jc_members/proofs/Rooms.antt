@@ -12,7 +12,7 @@ use Rattle.jc_members.specs.declared.sites.Spot.{Spot}
 use Rattle.jc_members.specs.Sites.{Site, entered, all_entered}
 use Rattle.jc_members.specs.Fields.{cells_taken, cells_before}
 
-counted : (b : Bool) (f : OwnField) (fs : List OwnField) → cells_taken (cond b (f ∷ fs) fs) ≡ cond b (width f.kind) 0 + cells_taken fs
+pub counted : (b : Bool) (f : OwnField) (fs : List OwnField) → cells_taken (cond b (f ∷ fs) fs) ≡ cond b (width f.kind) 0 + cells_taken fs
 counted true f fs = sum_by-cons (λ (g : OwnField). width g.kind) f fs
 counted false f fs = omega arith
 

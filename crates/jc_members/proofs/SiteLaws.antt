@@ -1,7 +1,7 @@
 -- A table by spots keeps the only member at a spot.
-use Rattle.std.proofs.Common.{◌≡◌, Bool, true, false, cond, eqb, ◌&&◌, List, [], ◌∷◌, Option, Some, None, refl, sym, ap, ◌∙◌, is_some}
+use Rattle.std.proofs.Common.{◌≡◌, Bool, true, false, cond, eqb, List, [], ◌∷◌, Option, Some, None, refl, sym, ap, ◌∙◌, is_some}
 use Rattle.std.specs.Option.{option_flatten}
-use Rattle.std.proofs.lemmas.Bool.{eqb-true, true≢false}
+use Rattle.std.proofs.lemmas.Bool.{eqb-true, true≢false, and_parts}
 use Rattle.indexmap.specs.IndexMap.{insert_entry}
 use Rattle.jc_base.specs.declared.record.Member.{Member}
 use Rattle.jc_members.specs.declared.sites.Spot.{Spot}
@@ -9,14 +9,9 @@ use Rattle.jc_members.specs.Sites.{Site, only, is_there, same_spot, standing, ke
 
 -- ---- spots
 
-both : (x y : Bool) → x && y ≡ true → (x ≡ true) × (y ≡ true)
-both true true h = (refl, refl)
-both true false h = absurd cc
-both false y h = absurd cc
-
 same-equal : (a b : Spot) → same_spot a b ≡ true → a ≡ b
 same-equal a b h =
-    let p = both (eqb a.owner b.owner) (eqb a.number b.number) h in
+    let p = and_parts (eqb a.owner b.owner) (eqb a.number b.number) h in
     let e = eqb-true a.owner b.owner p.0 in
     let f = eqb-true a.number b.number p.1 in
     λ i. record { owner = e i; number = f i }

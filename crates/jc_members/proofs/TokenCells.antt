@@ -1,5 +1,5 @@
 -- The cells of the fields of a class in the order of the fields' tokens.
-use Rattle.std.proofs.Common.{◌≡◌, ℕ, zero, suc, ◌+◌, ◌-◌, ◌<◌, Bool, true, false, cond, List, [], ◌∷◌, ◌++◌, length, append_assoc, refl, sym, ap, ap₂, ◌∙◌, arith, nat_lt, filter, flat_map}
+use Rattle.std.proofs.Common.{◌≡◌, ℕ, zero, suc, ◌+◌, ◌-◌, ◌<◌, Bool, cond, List, [], ◌∷◌, ◌++◌, length, append_assoc, refl, sym, ap, ap₂, ◌∙◌, arith, nat_lt, filter, flat_map}
 use Rattle.std.specs.Prelude.{◌==◌}
 use Rattle.std.specs.List.{range_with_len}
 use Rattle.std.proofs.lemmas.Bool.Decides.{nat_tests}
@@ -13,7 +13,7 @@ use Rattle.jc_base.specs.declared.ty.Kind.TheVariants.{Ref, Byte, Short, Int}
 use Rattle.jc_base.specs.Cell.{width}
 use Rattle.jc_members.specs.declared.own_field.OwnField.{OwnField}
 use Rattle.jc_members.specs.Fields.{cells_taken, cells_before}
-use Rattle.jc_members.proofs.Rooms.{taken_before}
+use Rattle.jc_members.proofs.Rooms.{taken_before, counted}
 
 -- the types of the cells of a field of a kind, by the type of the first
 abbrev pub cells_by : Kind → Ty → List Ty
@@ -48,10 +48,6 @@ taken (f ∷ fs) =
     ∙ ap₂ ◌+◌ (kind_cells f.kind f.ty) (taken fs)
     ∙ sym (sum_by-cons (λ (g : OwnField). width g.kind) f fs)
 
-kept : (b : Bool) (f : OwnField) (fs : List OwnField) → cells_taken (cond b (f ∷ fs) fs) ≡ cond b (width f.kind) 0 + cells_taken fs
-kept true f fs = sum_by-cons (λ (g : OwnField). width g.kind) f fs
-kept false f fs = omega arith
-
 one_more : (w n a : ℕ) → cond (nat_lt n (a + 1)) w 0 ≡ cond (nat_lt n a) w 0 + cond (n == a) w 0
 one_more w n a = grind (arith, nat_tests)
 
@@ -61,7 +57,7 @@ before_next [] a = refl
 before_next (f ∷ own) a =
     let next = taken_before f own (a + 1) in
     let now = taken_before f own a in
-    let here = kept (f.token == a) f (with own a) in
+    let here = counted (f.token == a) f (with own a) in
     let more = one_more (width f.kind) f.token a in
     let others = before_next own a in
     omega (arith, next, now, here, more, others)

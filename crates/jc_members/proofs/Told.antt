@@ -9,7 +9,7 @@ use Rattle.jc_base.specs.Class.{ClassTable}
 use Rattle.jc_resolve.specs.declared.fault.LinkFault.{LinkFault}
 use Rattle.jc_resolve.specs.declared.fault.LinkEnd.{LinkEnd}
 use Rattle.jc_resolve.specs.declared.fault.LinkEnd.TheVariants.{Fault, Memory}
-use Rattle.jc_resolve.specs.Fault.{place_of}
+use Rattle.jc_resolve.specs.Fault.{link_place}
 use Rattle.jc_resolve.specs.Due.{IsDue}
 use Rattle.first_fault.specs.Least.{◌>>=◌, least_of, refused}
 use Rattle.first_fault.proofs.LeastFaults.{least-at_fault, least-found, least-none}
@@ -22,21 +22,21 @@ pools-each named k [] = refl
 pools-each named k (p ∷ ps) = ap suc (pools-each named (k + 1) ps)
 
 module _ (ps : List PackageRecord) (t : ClassTable) (statics : List StaticRec) where
-  told-by : (o : Option LinkFault) (r : Result (List (List Member)) LinkEnd) → least_of place_of (member_fault ps t statics) (pool_places ps) ≡ o → IsDue (refused o >>= λ _. Ok (pools ps t statics)) r → Tells ps t statics r
+  told-by : (o : Option LinkFault) (r : Result (List (List Member)) LinkEnd) → least_of link_place (member_fault ps t statics) (pool_places ps) ≡ o → IsDue (refused o >>= λ _. Ok (pools ps t statics)) r → Tells ps t statics r
   told-by None (Ok found) e due =
       let same : pools ps t statics ≡ found = cc in
-      (sym same, least-none place_of (missing_members ps t statics) (sym (least-at_fault place_of (member_fault ps t statics) (pool_places ps) None) ∙ e))
+      (sym same, least-none link_place (missing_members ps t statics) (sym (least-at_fault link_place (member_fault ps t statics) (pool_places ps) None) ∙ e))
   told-by None (Err (Fault f)) e due = absurd cc
   told-by None (Err Memory) e due = tt {0}
   told-by (Some g) (Ok found) e due = absurd cc
   told-by (Some g) (Err (Fault f)) e due =
       let same : g ≡ f = cc in
-      least-found place_of (missing_members ps t statics) f (sym (least-at_fault place_of (member_fault ps t statics) (pool_places ps) None) ∙ e ∙ ap Some same)
+      least-found link_place (missing_members ps t statics) f (sym (least-at_fault link_place (member_fault ps t statics) (pool_places ps) None) ∙ e ∙ ap Some same)
   told-by (Some g) (Err Memory) e due = tt {0}
 
   pub due-tells : (r : Result (List (List Member)) LinkEnd) → IsDue (pools_of ps t statics) r → Tells ps t statics r
   unfolding pools_of
-  due-tells r due = told-by (least_of place_of (member_fault ps t statics) (pool_places ps)) r refl due
+  due-tells r due = told-by (least_of link_place (member_fault ps t statics) (pool_places ps)) r refl due
 
   pub due-each : (r : Result (List (List Member)) LinkEnd) → IsDue (pools_of ps t statics) r → IfOk r (λ found. length found ≡ length ps)
   due-each (Ok found) due = ap length (due-tells (Ok found) due).0 ∙ pools-each (member_of ps t statics) 0 ps

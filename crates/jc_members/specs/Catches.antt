@@ -2,19 +2,26 @@
 use Rattle.std.specs.Prelude.{ℕ, ◌+◌, Bool, false, List, [], ◌∷◌, ◌++◌, Option, Some, None, not, ◌==◌, ◌&&◌, ◌||◌, if◌then◌else◌, slice_get}
 use Rattle.cap_method.specs.declared.handler.HandlerInfo.{HandlerInfo}
 use Rattle.cap_pool.specs.PoolFormat.{Entry}
+use Rattle.cap_pool.specs.declared.pool_reference.PoolReference.{PoolReference}
+use Rattle.cap_pool.specs.declared.pool_reference.PoolReference.TheVariants.{Class as ClassEntry}
+use Rattle.cap_pool.specs.PoolReference.{referred}
 use Rattle.cap_package.specs.PackageRecord.{PackageRecord}
 use Rattle.jc_base.specs.declared.ty.Ty.TheVariants.{Class}
 use Rattle.jc_base.specs.Class.{ClassTable, is_interface, throwable}
 use Rattle.jc_base.specs.Order.{is_below}
 use Rattle.jc_resolve.specs.declared.fault.LinkFault.{LinkFault}
 use Rattle.jc_resolve.specs.declared.fault.LinkFault.TheVariants.{BadCatch}
+use Rattle.jc_resolve.specs.References.{class_referred}
 use Rattle.first_fault.specs.First.{at_fault}
-use Rattle.jc_members.specs.Entries.{class_in}
 
 -- the class or interface that an entry names, if it is a Classref
+abbrev pub class_caught : List PackageRecord → ℕ → PoolReference → Option ℕ
+class_caught ps k (ClassEntry reference) = class_referred ps k reference
+class_caught ps k other = None
+
 abbrev pub caught_by : List PackageRecord → ℕ → Option Entry → Option ℕ
 caught_by ps k None = None
-caught_by ps k (Some e) = if e.tag == 1 then class_in ps k e else None
+caught_by ps k (Some e) = class_caught ps k (referred e)
 
 -- a class below throwable
 abbrev pub thrown_by : ClassTable → Option ℕ → Bool

@@ -1,38 +1,28 @@
--- What the entries of a constant pool say (JCVM 2.2, section 6.7).
-use Rattle.std.specs.Prelude.{ℕ, ◌+◌, ◌-◌, ◌*◌, Option, Some, option_map, option_and_then, List, slice_get, slice_index, nat_lt, if◌then◌else◌}
-use Rattle.cap_pool.specs.PoolFormat.{Entry}
+-- Where the static fields and the methods without dispatch stand that a constant pool names (JCVM 2.2, section 6.7.3).
+use Rattle.std.specs.Prelude.{ℕ, Option, Some, option_map, option_and_then, List}
+use Rattle.cap_pool.specs.declared.pool_reference.StaticReference.{StaticReference}
+use Rattle.cap_pool.specs.declared.pool_reference.StaticReference.TheVariants.{Internal, External}
 use Rattle.cap_package.specs.PackageRecord.{PackageRecord}
 use Rattle.jc_resolve.specs.declared.place.RecordPlace.{RecordPlace}
-use Rattle.jc_resolve.specs.NamedMethods.{reference_in}
-use Rattle.jc_resolve.specs.References.{class_named, met_by}
+use Rattle.jc_resolve.specs.References.{met_by}
 pub use Rattle.jc_resolve.specs.References.{exported_field, exported_method}
 
--- the class or interface that the first two bytes of an entry name
-unfoldable pub class_in : List PackageRecord → ℕ → Entry → Option ℕ
-class_in ps k e = class_named ps k (reference_in e.bytes)
+-- an offset in a package
+abbrev pub place_in : ℕ → ℕ → RecordPlace
+place_in k offset = record { «package» = k; offset = offset }
 
--- the token of an instance field or of a method with dispatch
-abbrev pub token_in : Entry → ℕ
-token_in e = slice_index e.bytes 2
+-- in the package that meets an import, when the offset is told that the package exports
+abbrev pub exported_place : List PackageRecord → (ℕ → ℕ → ℕ → Option ℕ) → ℕ → ℕ → ℕ → ℕ → Option RecordPlace
+exported_place ps exported k import class token =
+    option_and_then (λ j. option_map (place_in j) (exported j class token)) (met_by ps k import)
 
--- ---- static fields and methods without dispatch: of the own package by a padding byte and an
--- offset, of another one by an import, a class token and a member token
+abbrev pub place_by : List PackageRecord → (ℕ → ℕ → ℕ → Option ℕ) → ℕ → StaticReference → Option RecordPlace
+place_by ps exported k (Internal offset) = Some (place_in k offset)
+place_by ps exported k (External import class token) = exported_place ps exported k import class token
 
--- where an entry's member stands in its own package
-abbrev pub own_place : ℕ → Entry → RecordPlace
-own_place k e = record { «package» = k; offset = slice_index e.bytes 1 * 256 + slice_index e.bytes 2 }
+-- where the static field or the method stands to which a reference of a package leads
+unfoldable pub field_place : List PackageRecord → ℕ → StaticReference → Option RecordPlace
+field_place ps k reference = place_by ps (exported_field ps) k reference
 
--- where it stands in the package that meets an import, when the offset is told that the package exports
-abbrev pub exported_place : List PackageRecord → (ℕ → ℕ → ℕ → Option ℕ) → ℕ → Entry → Option RecordPlace
-exported_place ps exported k e =
-    option_and_then (λ j. option_map (λ offset. record { «package» = j; offset = offset })
-    (exported j (slice_index e.bytes 1) (slice_index e.bytes 2)))
-    (met_by ps k (slice_index e.bytes 0 - 128))
-
--- where the static field or the method stands that an entry of a package names: the high bit of its
--- first byte tells that it is of another package
-unfoldable pub field_place : List PackageRecord → ℕ → Entry → Option RecordPlace
-field_place ps k e = if nat_lt (slice_index e.bytes 0) 128 then Some (own_place k e) else exported_place ps (exported_field ps) k e
-
-unfoldable pub method_place : List PackageRecord → ℕ → Entry → Option RecordPlace
-method_place ps k e = if nat_lt (slice_index e.bytes 0) 128 then Some (own_place k e) else exported_place ps (exported_method ps) k e
+unfoldable pub method_place : List PackageRecord → ℕ → StaticReference → Option RecordPlace
+method_place ps k reference = place_by ps (exported_method ps) k reference

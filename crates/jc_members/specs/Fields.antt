@@ -71,19 +71,19 @@ field_sites ps t = sites_after ps t 0 0 ps
 -- ---- an instance of each class has room for its fields
 
 -- its fields are those whose tokens are bytes, below 256
-abbrev pub HasRoom : ClassTable → ℕ → List OwnField → Type 0
-HasRoom t c fields = cells_above t (parent_of t c) + cells_before fields 256 ≤ 32767
+abbrev pub FieldsFit : ClassTable → ℕ → List OwnField → Type 0
+FieldsFit t c fields = cells_above t (parent_of t c) + cells_before fields 256 ≤ 32767
 
-abbrev pub HaveRoomIn : List PackageRecord → ClassTable → ℕ → PackageRecord → ℕ → List Class → Type 0
-HaveRoomIn ps t k p c [] = Unit {0}
-HaveRoomIn ps t k p c (r ∷ rs) = HasRoom t c (own_fields ps (object t) k p r) × HaveRoomIn ps t k p (c + 1) rs
+abbrev pub FieldsFitIn : List PackageRecord → ClassTable → ℕ → PackageRecord → ℕ → List Class → Type 0
+FieldsFitIn ps t k p c [] = Unit {0}
+FieldsFitIn ps t k p c (r ∷ rs) = FieldsFit t c (own_fields ps (object t) k p r) × FieldsFitIn ps t k p (c + 1) rs
 
-abbrev pub HaveRoomAfter : List PackageRecord → ClassTable → ℕ → ℕ → List PackageRecord → Type 0
-HaveRoomAfter ps t c k [] = Unit {0}
-HaveRoomAfter ps t c k (p ∷ others) = HaveRoomIn ps t k p c p.classes × HaveRoomAfter ps t (c + length p.classes) (k + 1) others
+abbrev pub AllFieldsFitAfter : List PackageRecord → ClassTable → ℕ → ℕ → List PackageRecord → Type 0
+AllFieldsFitAfter ps t c k [] = Unit {0}
+AllFieldsFitAfter ps t c k (p ∷ others) = FieldsFitIn ps t k p c p.classes × AllFieldsFitAfter ps t (c + length p.classes) (k + 1) others
 
-abbrev pub HaveRoom : List PackageRecord → ClassTable → Type 0
-HaveRoom ps t = HaveRoomAfter ps t 0 0 ps
+abbrev pub AllFieldsFit : List PackageRecord → ClassTable → Type 0
+AllFieldsFit ps t = AllFieldsFitAfter ps t 0 0 ps
 
 -- ---- the records of a table have the own cells of the named classes, and its object is theirs
 

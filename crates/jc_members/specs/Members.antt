@@ -1,7 +1,12 @@
 -- The member that an entry of a constant pool names: exactly one stands there (JCVM 2.2, section 6.7).
 use Rattle.std.specs.Prelude.{ℕ, Bool, List, Option, Some, None, option_map, option_and_then, is_some, map, find, nat_lt, ◌==◌, ◌||◌, if◌then◌else◌}
 use Rattle.std.specs.Option.{option_flatten}
+use Rattle.cap_bytes.specs.declared.class_reference.ClassReference.{ClassReference}
 use Rattle.cap_pool.specs.PoolFormat.{Entry}
+use Rattle.cap_pool.specs.declared.pool_reference.PoolReference.{PoolReference}
+use Rattle.cap_pool.specs.declared.pool_reference.PoolReference.TheVariants.{Class, InstanceField, VirtualMethod, SuperMethod, StaticField, StaticMethod}
+use Rattle.cap_pool.specs.declared.pool_reference.StaticReference.{StaticReference}
+use Rattle.cap_pool.specs.PoolReference.{referred}
 use Rattle.cap_package.specs.PackageRecord.{PackageRecord}
 use Rattle.jc_base.specs.declared.record.Member.{Member}
 use Rattle.jc_base.specs.declared.record.Member.TheVariants.{ClassOf, Field, Static, Virtual, Super, StaticCall}
@@ -10,23 +15,24 @@ use Rattle.jc_base.specs.Class.{ClassTable, is_interface, parent_of, chain}
 use Rattle.jc_base.specs.Dispatch.{entry_at, package_of}
 use Rattle.jc_resolve.specs.declared.place.RecordPlace.{RecordPlace}
 use Rattle.jc_resolve.specs.Numbering.{method_at}
+use Rattle.jc_resolve.specs.References.{class_referred}
 use Rattle.jc_members.specs.declared.sites.Spot.{Spot}
 use Rattle.jc_members.specs.Sites.{Site, only, is_there, standing, kept_at}
 use Rattle.jc_members.specs.Fields.{field_sites}
-use Rattle.jc_members.specs.Entries.{class_in, token_in, field_place, method_place}
+use Rattle.jc_members.specs.Entries.{field_place, method_place}
 
 -- ---- classes
 
 -- a Classref names a class or an interface
-unfoldable pub class_member : List PackageRecord → ℕ → Entry → Option Member
-class_member ps k e = option_map ClassOf (class_in ps k e)
+unfoldable pub class_member : List PackageRecord → ℕ → ClassReference → Option Member
+class_member ps k reference = option_map ClassOf (class_referred ps k reference)
 
--- the class that an entry names, if it is no interface
+-- the class to which a reference leads, if it is no interface
 abbrev pub proper_by : ClassTable → ℕ → Option ℕ
 proper_by t c = if is_interface t c then None else Some c
 
-unfoldable pub proper_in : List PackageRecord → ClassTable → ℕ → Entry → Option ℕ
-proper_in ps t k e = option_and_then (proper_by t) (class_in ps k e)
+unfoldable pub proper_referred : List PackageRecord → ClassTable → ℕ → ClassReference → Option ℕ
+proper_referred ps t k reference = option_and_then (proper_by t) (class_referred ps k reference)
 
 -- ---- methods with dispatch
 
@@ -34,8 +40,8 @@ proper_in ps t k e = option_and_then (proper_by t) (class_in ps k e)
 unfoldable pub virtual_by : ClassTable → ℕ → ℕ → Option Member
 virtual_by t token c = if is_some (entry_at t c token) then Some (Virtual c token) else None
 
-unfoldable pub virtual_member : List PackageRecord → ClassTable → ℕ → Entry → Option Member
-virtual_member ps t k e = option_and_then (virtual_by t (token_in e)) (proper_in ps t k e)
+unfoldable pub virtual_member : List PackageRecord → ClassTable → ℕ → ClassReference → ℕ → Option Member
+virtual_member ps t k reference token = option_and_then (virtual_by t token) (proper_referred ps t k reference)
 
 -- a class may name this token of its superclass: a package-visible one only within the package
 abbrev pub may_name : ClassTable → ℕ → ℕ → ℕ → Bool
@@ -48,8 +54,8 @@ super_by t token c p = if may_name t c token p then option_map (Super c) (entry_
 unfoldable pub super_of : ClassTable → ℕ → ℕ → Option Member
 super_of t token c = option_and_then (super_by t token c) (parent_of t c)
 
-unfoldable pub super_member : List PackageRecord → ClassTable → ℕ → Entry → Option Member
-super_member ps t k e = option_and_then (super_of t (token_in e)) (proper_in ps t k e)
+unfoldable pub super_member : List PackageRecord → ClassTable → ℕ → ClassReference → ℕ → Option Member
+super_member ps t k reference token = option_and_then (super_of t token) (proper_referred ps t k reference)
 
 -- ---- static fields
 
@@ -63,14 +69,14 @@ static_sites = map static_site
 unfoldable pub static_at : List StaticRec → RecordPlace → Option Member
 static_at statics place = only (standing (static_sites statics) (record { owner = place.package; number = place.offset }))
 
-unfoldable pub static_member : List PackageRecord → List StaticRec → ℕ → Entry → Option Member
-static_member ps statics k e = option_and_then (static_at statics) (field_place ps k e)
+unfoldable pub static_member : List PackageRecord → List StaticRec → ℕ → StaticReference → Option Member
+static_member ps statics k reference = option_and_then (static_at statics) (field_place ps k reference)
 
 -- ---- methods without dispatch
 
 -- a StaticMethodref names the method at a place
-unfoldable pub call_member : List PackageRecord → ℕ → Entry → Option Member
-call_member ps k e = option_map StaticCall (option_and_then (method_at ps) (method_place ps k e))
+unfoldable pub call_member : List PackageRecord → ℕ → StaticReference → Option Member
+call_member ps k reference = option_map StaticCall (option_and_then (method_at ps) (method_place ps k reference))
 
 -- ---- instance fields
 
@@ -101,17 +107,20 @@ kept_field entries t token c = option_map (as_of c)
     (kept_holder entries t token c))
 
 -- an InstanceFieldref names the field that a class has with a token
-unfoldable pub field_member : List PackageRecord → ClassTable → ℕ → Entry → Option Member
-field_member ps t k e = option_and_then (field_of (field_sites ps t) t (token_in e)) (proper_in ps t k e)
+unfoldable pub field_member : List PackageRecord → ClassTable → ℕ → ClassReference → ℕ → Option Member
+field_member ps t k reference token = option_and_then (field_of (field_sites ps t) t token) (proper_referred ps t k reference)
 
 -- ---- all
 
--- the member that an entry of a package names, by its tag
+-- the member that a package names by what an entry refers to
+abbrev pub member_referred : List PackageRecord → ClassTable → List StaticRec → ℕ → PoolReference → Option Member
+member_referred ps t statics k (Class reference) = class_member ps k reference
+member_referred ps t statics k (InstanceField class token) = field_member ps t k class token
+member_referred ps t statics k (VirtualMethod class token) = virtual_member ps t k class token
+member_referred ps t statics k (SuperMethod class token) = super_member ps t k class token
+member_referred ps t statics k (StaticField reference) = static_member ps statics k reference
+member_referred ps t statics k (StaticMethod reference) = call_member ps k reference
+
+-- the member that an entry of a package names
 unfoldable pub member_of : List PackageRecord → ClassTable → List StaticRec → ℕ → Entry → Option Member
-member_of ps t statics k e =
-    if e.tag == 1 then class_member ps k e
-    else (if e.tag == 2 then field_member ps t k e
-    else (if e.tag == 3 then virtual_member ps t k e
-    else (if e.tag == 4 then super_member ps t k e
-    else (if e.tag == 5 then static_member ps statics k e
-    else call_member ps k e))))
+member_of ps t statics k e = member_referred ps t statics k (referred e)

@@ -9,7 +9,7 @@ use Rattle.jc_resolve.specs.declared.fault.LinkFault.{LinkFault}
 use Rattle.jc_resolve.specs.declared.fault.LinkFault.TheVariants.{NoMember}
 use Rattle.jc_resolve.specs.declared.fault.LinkEnd.{LinkEnd}
 use Rattle.jc_resolve.specs.declared.fault.LinkEnd.TheVariants.{Fault, Memory}
-use Rattle.jc_resolve.specs.Fault.{place_of}
+use Rattle.jc_resolve.specs.Fault.{link_place}
 use Rattle.first_fault.specs.Least.{◌>>=◌, least_of, refused}
 use Rattle.first_fault.specs.First.{at_fault, IsLeast}
 use Rattle.jc_members.specs.Members.{member_of}
@@ -32,7 +32,7 @@ places_after k (p ∷ ps) = places_from k 0 p.pool ++ places_after (k + 1) ps
 abbrev pub pool_places : List PackageRecord → List PoolPlace
 pool_places = places_after 0
 
--- an entry has not exactly one member
+-- an entry does not have exactly one member
 unfoldable pub member_fault : List PackageRecord → ClassTable → List StaticRec → PoolPlace → Option LinkFault
 member_fault ps t statics at = if is_none (member_of ps t statics at.home at.entry) then Some (NoMember at.home at.number) else None
 
@@ -50,11 +50,11 @@ pools ps t statics = pools_after (member_of ps t statics) 0 ps
 -- the members where each entry has exactly one, and else the first entry that has not
 unfoldable pub pools_of : List PackageRecord → ClassTable → List StaticRec → Result (List (List Member)) LinkFault
 pools_of ps t statics = do
-  named ← refused (least_of place_of (member_fault ps t statics) (pool_places ps))
+  named ← refused (least_of link_place (member_fault ps t statics) (pool_places ps))
   Ok (pools ps t statics)
 
 -- the members exactly where no entry lacks its one member; else the least entry that lacks it
 abbrev pub Tells : List PackageRecord → ClassTable → List StaticRec → Result (List (List Member)) LinkEnd → Type 0
 Tells ps t statics (Ok found) = (found ≡ pools ps t statics) × (missing_members ps t statics ≡ [])
-Tells ps t statics (Err (Fault fault)) = IsLeast place_of (missing_members ps t statics) fault
+Tells ps t statics (Err (Fault fault)) = IsLeast link_place (missing_members ps t statics) fault
 Tells ps t statics (Err Memory) = Unit {0}

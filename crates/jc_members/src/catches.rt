@@ -3,18 +3,14 @@ ghost use Rattle.cap_method.specs.MethodPart.{handlers_left};
 ghost use Rattle.cap_pool.specs.Pool.{entries};
 ghost use Rattle.jc_base.specs.Class.{IsClass, throwable};
 ghost use Rattle.jc_resolve.specs.Numbering.{numbered_classes};
-ghost use Rattle.jc_resolve.specs.Fault.{place_of};
+ghost use Rattle.jc_resolve.specs.Fault.{link_place};
 ghost use Rattle.first_fault.specs.Least.{least_from, least_of, refused};
-ghost use Rattle.jc_members.specs.Catches.{caught_by, thrown_by, catches, handlers_from, handler_places, catch_fault};
+ghost use Rattle.jc_members.specs.Catches.{class_caught, caught_by, thrown_by, catches, handlers_from, handler_places, catch_fault};
 
-use crate::entries::class_in;
 use cap_method::{HandlerInfo, Handlers};
-use cap_pool::Pool;
+use cap_pool::{Pool, PoolReference};
 use jc_base::{Classes, Ty, below};
 use jc_resolve::{LinkFault, Names, lesser, refuse};
-
-/// The tag of a Classref.
-const CLASSREF: u8 = 1;
 
 /// A class below throwable.
 fn is_thrown(classes: &Classes, class: u16) -> bool
@@ -29,17 +25,23 @@ fn is_thrown(classes: &Classes, class: u16) -> bool
     below(classes, Ty::Class(class), Ty::Class(classes.role(1)))
 }
 
+/// The class or interface that a Classref names.
+fn class_caught(names: &Names<'_, '_, '_>, package: u16, reference: PoolReference) -> Option<u16>
+    ensures is { result ≡ class_caught names.now.packages «package» reference }
+    ensures below { IfSome result (λ c. c < length (numbered_classes names.now.packages)) }
+{
+    match reference {
+        PoolReference::Class(class) => names.class_referred(package, class),
+        _ => None,
+    }
+}
+
 /// The class or interface that an entry names, if it is a Classref.
 fn caught_by(names: &Names<'_, '_, '_>, package: u16, pool: &Pool<'_>, index: u16) -> Option<u16>
     ensures is { result ≡ caught_by names.now.packages «package» (slice_get (entries pool.now) index) }
     ensures below { IfSome result (λ c. c < length (numbered_classes names.now.packages)) }
 {
-    let entry = pool.at(index)?;
-    if entry.tag == CLASSREF {
-        class_in(names, package, entry)
-    } else {
-        None
-    }
+    class_caught(names, package, pool.at(index)?.reference())
 }
 
 /// Whether a handler of a package catches all, or a class below throwable.
@@ -101,7 +103,7 @@ fn handlers_catch(
     requires throwable { IsClass classes.now (throwable classes.now) }
     requires few { length (handlers_left handlers) ≤ 255 }
     ensures { result
-        ≡ least_from place_of least
+        ≡ least_from link_place least
         (catch_fault names.now.packages classes.now)
         (handlers_from «package» (entries pool.now) 0 (handlers_left handlers.entry)) }
 {
@@ -120,11 +122,11 @@ fn handlers_catch(
 pub fn handlers_fit(names: &Names<'_, '_, '_>, classes: &Classes) -> Result<(), LinkFault>
     requires count { length classes.now.records ≡ length names.now.classes }
     requires throwable { IsClass classes.now (throwable classes.now) }
-    ensures { result ≡ refused (least_of place_of (catch_fault names.now.packages classes.now) (handler_places names.now.packages)) }
+    ensures { result ≡ refused (least_of link_place (catch_fault names.now.packages classes.now) (handler_places names.now.packages)) }
 {
     let _numbered = names.classes();
     let mut least = None;
-    'packages: for (k, package) in names.packages().as_slice().iter().enumerate() {
+    'packages: for (k, package) in names.packages().iter().enumerate() {
         let handlers = package.methods().handlers();
         least = handlers_catch(names, classes, k as u16, &package.pool(), handlers, least);
     }

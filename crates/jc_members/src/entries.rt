@@ -1,59 +1,43 @@
 ghost use Rattle.std.specs.Prelude.{◌≡◌, ◌<◌, [], IfSome, length, slice_get};
-ghost use Rattle.cap_pool.specs.Pool.{entry_seen};
 ghost use Rattle.jc_base.specs.Class.{IsClass};
 ghost use Rattle.jc_base.specs.Dispatch.{entry_at, package_of};
 ghost use Rattle.jc_resolve.specs.Numbering.{numbered_classes};
 ghost use Rattle.jc_members.specs.Sites.{all_entered};
-ghost use Rattle.jc_members.specs.Entries.{class_in, token_in, own_place, field_place, method_place};
-ghost use Rattle.jc_members.specs.Members.{class_member, proper_in, virtual_member, may_name, super_of, super_member, static_sites, static_at, static_member, call_member};
+ghost use Rattle.jc_members.specs.Entries.{field_place, method_place};
+ghost use Rattle.jc_members.specs.Members.{class_member, proper_referred, virtual_member, may_name, super_of, super_member, static_sites, static_at, static_member, call_member};
 
 use crate::sites::{Sites, Spot};
-use cap_pool::PoolEntry;
+use cap_bytes::ClassReference;
+use cap_pool::StaticReference;
 use jc_base::{Classes, Dispatch, Member, Statics};
 use jc_resolve::{Names, RecordPlace};
-
-/// The class or interface that the first two bytes of an entry name.
-#[tactic(auto, unfolding(crate::specs::Entries::class_in))]
-pub(crate) fn class_in(names: &Names<'_, '_, '_>, package: u16, entry: PoolEntry) -> Option<u16>
-    ensures is { result ≡ class_in names.now.packages «package» (entry_seen entry) }
-    ensures below { IfSome result (λ c. c < length (numbered_classes names.now.packages)) }
-{
-    names.class_named(package, entry.bytes[0] as u16 * 256 + entry.bytes[1] as u16)
-}
-
-/// The token of an instance field or of a method with dispatch.
-pub(crate) fn token_in(entry: PoolEntry) -> u8
-    ensures { result ≡ token_in (entry_seen entry) }
-{
-    entry.bytes[2]
-}
 
 /// The class or interface that a Classref names.
 #[tactic(auto, unfolding(crate::specs::Members::class_member))]
 pub(crate) fn class_member(
     names: &Names<'_, '_, '_>,
     package: u16,
-    entry: PoolEntry,
+    reference: ClassReference,
 ) -> Option<Member>
-    ensures { result ≡ class_member names.now.packages «package» (entry_seen entry) }
+    ensures { result ≡ class_member names.now.packages «package» reference }
 {
-    let class = class_in(names, package, entry)?;
+    let class = names.class_referred(package, reference)?;
     Some(Member::ClassOf { class })
 }
 
-/// The class that an entry names, if it is no interface.
-#[tactic(auto, unfolding(crate::specs::Members::proper_in))]
-pub(crate) fn proper_in(
+/// The class to which a reference leads, if it is no interface.
+#[tactic(auto, unfolding(crate::specs::Members::proper_referred))]
+pub(crate) fn proper_referred(
     names: &Names<'_, '_, '_>,
     classes: &Classes,
     package: u16,
-    entry: PoolEntry,
+    reference: ClassReference,
 ) -> Option<u16>
     requires { length classes.now.records ≡ length (numbered_classes names.now.packages) }
-    ensures is { result ≡ proper_in names.now.packages classes.now «package» (entry_seen entry) }
+    ensures is { result ≡ proper_referred names.now.packages classes.now «package» reference }
     ensures class { IfSome result (IsClass classes.now) }
 {
-    let class = class_in(names, package, entry)?;
+    let class = names.class_referred(package, reference)?;
     if classes.is_interface(class) {
         None
     } else {
@@ -86,13 +70,13 @@ pub(crate) fn virtual_member(
     names: &Names<'_, '_, '_>,
     classes: &Classes,
     package: u16,
-    entry: PoolEntry,
+    reference: ClassReference,
+    token: u8,
 ) -> Option<Member>
     requires { length classes.now.records ≡ length (numbered_classes names.now.packages) }
-    ensures { result ≡ virtual_member names.now.packages classes.now «package» (entry_seen entry) }
+    ensures { result ≡ virtual_member names.now.packages classes.now «package» reference token }
 {
-    let class = proper_in(names, classes, package, entry)?;
-    let token = token_in(entry);
+    let class = proper_referred(names, classes, package, reference)?;
     let _method = entry_at(classes, class, token)?;
     Some(Member::Virtual { class, token })
 }
@@ -134,55 +118,66 @@ pub(crate) fn super_member(
     names: &Names<'_, '_, '_>,
     classes: &Classes,
     package: u16,
-    entry: PoolEntry,
+    reference: ClassReference,
+    token: u8,
 ) -> Option<Member>
     requires { length classes.now.records ≡ length (numbered_classes names.now.packages) }
-    ensures { result ≡ super_member names.now.packages classes.now «package» (entry_seen entry) }
+    ensures { result ≡ super_member names.now.packages classes.now «package» reference token }
 {
-    let class = proper_in(names, classes, package, entry)?;
-    super_of(classes, class, token_in(entry))
+    let class = proper_referred(names, classes, package, reference)?;
+    super_of(classes, class, token)
 }
 
-/// Where an entry's member stands in its own package.
-fn own_place(package: u16, entry: PoolEntry) -> RecordPlace
-    ensures { result ≡ own_place «package» (entry_seen entry) }
-{
-    RecordPlace {
-        package,
-        offset: entry.bytes[1] as u16 * 256 + entry.bytes[2] as u16,
-    }
-}
-
-/// Where the static field stands that an entry names.
+/// Where the static field stands to which a reference leads.
 #[tactic(auto, unfolding(crate::specs::Entries::field_place))]
-fn field_place(names: &Names<'_, '_, '_>, package: u16, entry: PoolEntry) -> Option<RecordPlace>
-    ensures { result ≡ field_place names.now.packages «package» (entry_seen entry) }
+fn field_place(
+    names: &Names<'_, '_, '_>,
+    package: u16,
+    reference: StaticReference,
+) -> Option<RecordPlace>
+    ensures { result ≡ field_place names.now.packages «package» reference }
 {
-    if entry.bytes[0] < 128 {
-        return Some(own_place(package, entry));
+    match reference {
+        StaticReference::Internal(offset) => Some(RecordPlace { package, offset }),
+        StaticReference::External {
+            package: import,
+            class,
+            token,
+        } => {
+            let home = names.import_met(package, import)?;
+            let offset = names.exported_field(home, class, token)?;
+            Some(RecordPlace {
+                package: home,
+                offset,
+            })
+        }
     }
-    let home = names.import_met(package, entry.bytes[0] - 128)?;
-    let offset = names.exported_field(home, entry.bytes[1], entry.bytes[2])?;
-    Some(RecordPlace {
-        package: home,
-        offset,
-    })
 }
 
-/// Where the method stands that an entry names.
+/// Where the method stands to which a reference leads.
 #[tactic(auto, unfolding(crate::specs::Entries::method_place))]
-fn method_place(names: &Names<'_, '_, '_>, package: u16, entry: PoolEntry) -> Option<RecordPlace>
-    ensures { result ≡ method_place names.now.packages «package» (entry_seen entry) }
+fn method_place(
+    names: &Names<'_, '_, '_>,
+    package: u16,
+    reference: StaticReference,
+) -> Option<RecordPlace>
+    ensures { result ≡ method_place names.now.packages «package» reference }
 {
-    if entry.bytes[0] < 128 {
-        return Some(own_place(package, entry));
+    match reference {
+        StaticReference::Internal(offset) => Some(RecordPlace { package, offset }),
+        StaticReference::External {
+            package: import,
+            class,
+            token,
+        } => {
+            let home = names.import_met(package, import)?;
+            let offset = names.exported_method(home, class, token)?;
+            Some(RecordPlace {
+                package: home,
+                offset,
+            })
+        }
     }
-    let home = names.import_met(package, entry.bytes[0] - 128)?;
-    let offset = names.exported_method(home, entry.bytes[1], entry.bytes[2])?;
-    Some(RecordPlace {
-        package: home,
-        offset,
-    })
 }
 
 /// The static field at a place.
@@ -204,12 +199,12 @@ pub(crate) fn static_member(
     statics: &Statics,
     sites: &Sites,
     package: u16,
-    entry: PoolEntry,
+    reference: StaticReference,
 ) -> Option<Member>
     requires { sites.now ≡ all_entered [] (static_sites statics.now) }
-    ensures { result ≡ static_member names.now.packages statics.now «package» (entry_seen entry) }
+    ensures { result ≡ static_member names.now.packages statics.now «package» reference }
 {
-    let place = field_place(names, package, entry)?;
+    let place = field_place(names, package, reference)?;
     static_at(statics, sites, place)
 }
 
@@ -218,11 +213,11 @@ pub(crate) fn static_member(
 pub(crate) fn call_member(
     names: &Names<'_, '_, '_>,
     package: u16,
-    entry: PoolEntry,
+    reference: StaticReference,
 ) -> Option<Member>
-    ensures { result ≡ call_member names.now.packages «package» (entry_seen entry) }
+    ensures { result ≡ call_member names.now.packages «package» reference }
 {
-    let place = method_place(names, package, entry)?;
+    let place = method_place(names, package, reference)?;
     let method = names.method_at(place.package, place.offset)?;
     Some(Member::StaticCall { method })
 }

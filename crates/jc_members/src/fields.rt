@@ -1,21 +1,20 @@
 ghost use Rattle.std.specs.Prelude.{◌≡◌, ◌+◌, ◌≤◌, ◌<◌, [], IfOk, IfSome, OnOk, length, slice_index};
 ghost use Rattle.cap_class.specs.ClassPart.{classes_left};
-ghost use Rattle.cap_pool.specs.Pool.{entry_seen};
 ghost use Rattle.jc_base.specs.Class.{IsClass, object, parent_of};
 ghost use Rattle.jc_base.specs.Linked.{cells_above};
 ghost use Rattle.jc_resolve.specs.Counts.{class_total};
 ghost use Rattle.jc_resolve.specs.Numbering.{numbered_classes};
-ghost use Rattle.jc_members.specs.Fields.{HasRoom, HaveRoomIn, HaveRoom, class_sites, sites_of_classes, field_sites};
+ghost use Rattle.jc_members.specs.Fields.{FieldsFit, FieldsFitIn, AllFieldsFit, class_sites, sites_of_classes, field_sites};
 ghost use Rattle.jc_members.specs.Sites.{all_entered};
 ghost use Rattle.jc_members.specs.Members.{as_of, kept_holder, kept_field, field_member};
 
-use crate::entries::{proper_in, token_in};
-use crate::own_field::{OwnField, cells_before, described_classes, own_fields};
+use crate::entries::proper_referred;
+use crate::own_field::{OwnField, cells_before, own_fields};
 use crate::sites::{Sites, Spot};
+use cap_bytes::ClassReference;
 use cap_package::Package;
-use cap_pool::PoolEntry;
 use jc_base::{Classes, Member};
-use jc_resolve::Names;
+use jc_resolve::{DescribedClasses, Names};
 use std::alloc::{AllocError, Global};
 
 /// How many cells the superclass of a class has.
@@ -40,7 +39,7 @@ fn enter_class(
     own: &Vec<OwnField>,
 ) -> Result<(), AllocError>
     requires known { class < length classes.now.records }
-    requires room { HasRoom classes.now class own.now.items }
+    requires room { FieldsFit classes.now class own.now.items }
     ensures { OnOk result (sites.new ≡ all_entered sites.old (class_sites classes.now class own.now.items)) }
 {
     let above = cells_above(classes, class);
@@ -74,14 +73,14 @@ fn enter_package(
     requires object { object classes.now ≡ slice_index names.now.roles 0 }
     requires few { length classes.now.records ≤ 4096 }
     requires known { first + length «package».now.classes ≤ length classes.now.records }
-    requires room { HaveRoomIn names.now.packages classes.now number «package».now first «package».now.classes }
+    requires room { FieldsFitIn names.now.packages classes.now number «package».now first «package».now.classes }
     ensures { OnOk result
         (sites.new
         ≡ all_entered sites.old
         (sites_of_classes names.now.packages classes.now number «package».now first
         «package».now.classes)) }
 {
-    let described = described_classes(alloc, package)?;
+    let described = DescribedClasses::of(alloc, package)?;
     let mut c = first;
     'classes: for class in package.classes().iter() {
         let own = own_fields(alloc, names, number, package, &described, class)?;
@@ -101,12 +100,12 @@ pub(crate) fn field_sites(
     requires object { object classes.now ≡ slice_index names.now.roles 0 }
     requires few { length classes.now.records ≤ 4096 }
     requires count { length classes.now.records ≡ class_total names.now.packages }
-    requires room { HaveRoom names.now.packages classes.now }
+    requires room { AllFieldsFit names.now.packages classes.now }
     ensures { IfOk result (λ sites. sites ≡ all_entered [] (field_sites names.now.packages classes.now)) }
 {
     let mut sites = Sites::new(alloc);
     let mut first: u16 = 0;
-    'packages: for (k, package) in names.packages().as_slice().iter().enumerate() {
+    'packages: for (k, package) in names.packages().iter().enumerate() {
         enter_package(alloc, &mut sites, names, classes, k as u16, package, first)?;
         first += package.classes().count();
     }
@@ -170,12 +169,13 @@ pub(crate) fn field_member(
     classes: &Classes,
     sites: &Sites,
     package: u16,
-    entry: PoolEntry,
+    reference: ClassReference,
+    token: u8,
 ) -> Option<Member>
     requires count { length classes.now.records ≡ length (numbered_classes names.now.packages) }
     requires sites { sites.now ≡ all_entered [] (field_sites names.now.packages classes.now) }
-    ensures { result ≡ field_member names.now.packages classes.now «package» (entry_seen entry) }
+    ensures { result ≡ field_member names.now.packages classes.now «package» reference token }
 {
-    let class = proper_in(names, classes, package, entry)?;
-    field_of(classes, sites, class, token_in(entry))
+    let class = proper_referred(names, classes, package, reference)?;
+    field_of(classes, sites, class, token)
 }

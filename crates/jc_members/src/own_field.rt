@@ -1,16 +1,16 @@
-ghost use Rattle.std.specs.Prelude.{◌≡◌, ◌+◌, ◌≤◌, ◌<◌, ◌++◌, IfOk, OnOk, map, filter_map, flat_map, length, slice_index};
+ghost use Rattle.std.specs.Prelude.{◌≡◌, ◌+◌, ◌≤◌, ◌<◌, ◌++◌, IfOk, OnOk, count_by, filter_map, flat_map, length, slice_index};
 ghost use Rattle.cap_class.specs.ClassPart.{class_seen as record_seen};
-ghost use Rattle.cap_desc.specs.ClassRecords.{class_seen, classes_left};
 ghost use Rattle.cap_desc.specs.MemberLists.{fields_left};
 ghost use Rattle.cap_desc.specs.MemberRecords.{field_seen};
 ghost use Rattle.cap_package.specs.Descriptions.{description};
+ghost use Rattle.jc_resolve.specs.Described.{describes_at, IsDescribedOnce};
 ghost use Rattle.jc_members.specs.Fields.{own_field, fields_in, own_fields, cells_before};
 
 use cap_class::ClassInfo;
-use cap_desc::{DescClass, DescFields, DescPart, FieldInfo};
+use cap_desc::{DescFields, DescPart, FieldInfo};
 use cap_package::{Package, field_type};
 use jc_base::{Kind, Ty};
-use jc_resolve::{Names, kind_of, width};
+use jc_resolve::{DescribedClasses, Names, kind_of, width};
 use std::alloc::{AllocError, Global};
 
 /// An instance field that a class has of its own.
@@ -46,60 +46,58 @@ fn own_field(
     })
 }
 
-/// Appends the instance fields among described fields.
-fn push_fields(
-    own: &mut Vec<OwnField>,
+/// The instance fields among described fields.
+fn owned_among(
+    alloc: Global,
     names: &Names<'_, '_, '_>,
     package: u16,
     descriptor: &DescPart<'_>,
     fields: DescFields<'_>,
-) -> Result<(), AllocError>
-    ensures { OnOk result
-        (own.new.items
-        ≡ own.old.items ++ filter_map
+) -> Result<Vec<OwnField>, AllocError>
+    ensures { IfOk result
+        (λ own.
+        own.items
+        ≡ filter_map
         (own_field names.now.packages (slice_index names.now.roles 0) «package»
         (description descriptor.now)) (fields_left fields.entry)) }
 {
+    let mut own = Vec::new(alloc);
     'fields: for field in fields {
         if let Some(field) = own_field(names, package, descriptor, field) {
             own.push(field)?;
         }
     }
-    Ok(())
+    Ok(own)
 }
 
-/// Appends those that a record of the Descriptor has of the class at an offset.
-fn push_record(
-    own: &mut Vec<OwnField>,
+/// Those of the class at an offset, by the one record that the Descriptor has of it.
+#[tactic(auto, using(crate::proofs::OneRecord::describing))]
+fn described_fields(
+    alloc: Global,
     names: &Names<'_, '_, '_>,
     package: u16,
     descriptor: &DescPart<'_>,
+    described: &DescribedClasses<'_>,
     offset: u16,
-    described: DescClass<'_>,
-) -> Result<(), AllocError>
-    ensures { OnOk result
-        (own.new.items
-        ≡ own.old.items ++ fields_in names.now.packages (slice_index names.now.roles 0) «package»
-        (description descriptor.now) offset (class_seen described.entry)) }
+) -> Result<Vec<OwnField>, AllocError>
+    requires { count_by (describes_at offset) described.now ≡ 1 }
+    ensures { IfOk result
+        (λ own.
+        own.items
+        ≡ flat_map
+        (fields_in names.now.packages (slice_index names.now.roles 0) «package»
+        (description descriptor.now) offset) described.now) }
 {
-    if offset < 0x8000 && described.class_ref() == offset {
-        return push_fields(own, names, package, descriptor, described.fields());
+    if offset >= 0x8000 {
+        return Ok(Vec::new(alloc));
     }
-    Ok(())
-}
-
-/// The records of a package's classes in its Descriptor, each read once.
-pub(crate) fn described_classes<'a>(
-    alloc: Global,
-    package: &Package<'_, 'a>,
-) -> Result<Vec<DescClass<'a>>, AllocError>
-    ensures { IfOk result (λ v. map class_seen v.items ≡ «package».now.description.items.classes) }
-{
-    let mut described = Vec::new(alloc);
-    'records: for class in package.descriptor().classes() {
-        described.push(class)?;
+    match described.at(offset) {
+        Some(class) => {
+            let own = owned_among(alloc, names, package, descriptor, class.fields())?;
+            Ok(own)
+        }
+        None => Ok(Vec::new(alloc)),
     }
-    Ok(described)
 }
 
 /// The fields that a class has of its own, by the records of all classes of its package; an interface has none.
@@ -109,26 +107,22 @@ pub(crate) fn own_fields(
     names: &Names<'_, '_, '_>,
     number: u16,
     package: &Package<'_, '_>,
-    records: &[DescClass<'_>],
+    described: &DescribedClasses<'_>,
     class: ClassInfo<'_>,
 ) -> Result<Vec<OwnField>, AllocError>
-    requires { map class_seen records.now ≡ «package».now.description.items.classes }
+    requires described { described.now ≡ «package».now.description.items.classes }
+    requires once { IsDescribedOnce «package».now.description.items.classes (record_seen class) }
     ensures { IfOk result
         (λ own.
         own.items
         ≡ own_fields names.now.packages
         (slice_index names.now.roles 0) number «package».now (record_seen class.entry)) }
 {
-    let mut own = Vec::new(alloc);
     if class.flags().is_interface() {
-        return Ok(own);
+        return Ok(Vec::new(alloc));
     }
     let descriptor = package.descriptor();
-    let offset = class.offset();
-    'records: for described in records {
-        push_record(&mut own, names, number, &descriptor, offset, *described)?;
-    }
-    Ok(own)
+    described_fields(alloc, names, number, &descriptor, described, class.offset())
 }
 
 /// The cells of the fields of lesser tokens.

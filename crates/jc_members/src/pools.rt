@@ -5,20 +5,18 @@ ghost use Rattle.jc_base.specs.Linked.{AreLinkedClasses, IsMember};
 ghost use Rattle.jc_resolve.specs.Counts.{class_total};
 ghost use Rattle.jc_resolve.specs.Due.{IsDue};
 ghost use Rattle.jc_resolve.specs.declared.fault.LinkFault.TheVariants.{NoMember};
-ghost use Rattle.jc_resolve.specs.Fault.{place_of};
+ghost use Rattle.jc_resolve.specs.Fault.{link_place};
 ghost use Rattle.first_fault.specs.Least.{least_from, least_of};
 ghost use Rattle.jc_members.specs.Fields.{HasCellsOf, field_sites};
 ghost use Rattle.jc_members.specs.Sites.{all_entered};
-ghost use Rattle.jc_members.specs.Members.{static_sites, member_of};
+ghost use Rattle.jc_members.specs.Members.{static_sites, member_referred, member_of};
 ghost use Rattle.jc_members.specs.Naming.{NamesEach};
 ghost use Rattle.jc_members.specs.Pools.{places_from, pool_places, member_fault, pools, pools_of, Tells};
 
-use crate::entries::{
-    call_member, class_member, static_member, super_member, token_in, virtual_member,
-};
+use crate::entries::{call_member, class_member, static_member, super_member, virtual_member};
 use crate::fields::{field_member, field_sites};
 use crate::sites::{Sites, static_sites};
-use cap_pool::{Pool, PoolEntry};
+use cap_pool::{Pool, PoolEntry, PoolReference};
 use jc_base::{Classes, Items, Member, Pools, Statics};
 use jc_resolve::{LinkEnd, LinkFault, Names, lesser, refuse};
 use std::alloc::{AllocError, Global};
@@ -30,32 +28,41 @@ struct MemberSites {
     fields: Sites,
 }
 
-/// The member that an entry of a package names, by its tag.
-#[tactic(auto, unfolding(crate::specs::Members::member_of), using(crate::proofs::Known::counted))]
-fn member_by_tag(
+/// The member that a package names by what an entry refers to.
+#[tactic(auto, using(crate::proofs::Known::counted))]
+fn member_referred(
     names: &Names<'_, '_, '_>,
     classes: &Classes,
     statics: &Statics,
     tables: &MemberSites,
     package: u16,
-    entry: PoolEntry,
+    reference: PoolReference,
 ) -> Option<Member>
     requires count { length classes.now.records ≡ class_total names.now.packages }
     requires statics { tables.now.statics ≡ all_entered [] (static_sites statics.now) }
     requires fields { tables.now.fields ≡ all_entered [] (field_sites names.now.packages classes.now) }
-    ensures { result ≡ member_of names.now.packages classes.now statics.now «package» (entry_seen entry) }
+    ensures { result ≡ member_referred names.now.packages classes.now statics.now «package» reference }
 {
-    match entry.tag {
-        1 => class_member(names, package, entry),
-        2 => field_member(names, classes, &tables.fields, package, entry),
-        3 => virtual_member(names, classes, package, entry),
-        4 => super_member(names, classes, package, entry),
-        5 => static_member(names, statics, &tables.statics, package, entry),
-        _ => call_member(names, package, entry),
+    match reference {
+        PoolReference::Class(class) => class_member(names, package, class),
+        PoolReference::InstanceField { class, token } => {
+            field_member(names, classes, &tables.fields, package, class, token)
+        }
+        PoolReference::VirtualMethod { class, token } => {
+            virtual_member(names, classes, package, class, token)
+        }
+        PoolReference::SuperMethod { class, token } => {
+            super_member(names, classes, package, class, token)
+        }
+        PoolReference::StaticField(field) => {
+            static_member(names, statics, &tables.statics, package, field)
+        }
+        PoolReference::StaticMethod(method) => call_member(names, package, method),
     }
 }
 
 /// The member that an entry of a package names: it is there.
+#[tactic(auto, unfolding(crate::specs::Members::member_of))]
 fn member_of(
     names: &Names<'_, '_, '_>,
     classes: &Classes,
@@ -75,8 +82,8 @@ fn member_of(
     let _classes = names.classes();
     let _methods = names.methods();
     let _records = classes.records();
-    let _token = token_in(entry);
-    member_by_tag(names, classes, statics, tables, package, entry)
+    let _token = entry.bytes[2];
+    member_referred(names, classes, statics, tables, package, entry.reference())
 }
 
 /// What is wrong with an entry, where it has no member.
@@ -99,7 +106,7 @@ fn keep(members: &mut Vec<Member>, member: Option<Member>) -> Result<(), AllocEr
     Ok(())
 }
 
-/// What the entries of a package's pool name, and the least fault so far: an entry that has not exactly one
+/// What the entries of a package's pool name, and the least fault so far: an entry that does not have exactly one
 /// member.
 #[tactic(auto, unfolding(crate::specs::Pools::member_fault), using(crate::proofs::Known::All_kept))]
 fn pool_members(
@@ -119,7 +126,7 @@ fn pool_members(
     ensures fault { IfOk result
         (λ r.
         r.1
-        ≡ least_from place_of least
+        ≡ least_from link_place least
         (member_fault names.now.packages classes.now statics.now)
         (places_from «package» 0 (entries pool.now))) }
     ensures members { IfOk result
@@ -143,7 +150,7 @@ fn pool_members(
     Ok((members, least))
 }
 
-/// What the entries of all pools name, and the least entry that has not exactly one member.
+/// What the entries of all pools name, and the least entry that does not have exactly one member.
 #[tactic(auto, using(crate::proofs::Leasts::least_entries))]
 fn named(
     alloc: Global,
@@ -160,7 +167,7 @@ fn named(
     ensures fault { IfOk result
         (λ r.
         r.1
-        ≡ least_of place_of
+        ≡ least_of link_place
         (member_fault names.now.packages classes.now statics.now)
         (pool_places names.now.packages)) }
     ensures linked { IfOk result (λ r. All (All (IsMember classes.now names.now.methods statics.now)) r.0) }
@@ -168,7 +175,7 @@ fn named(
 {
     let mut pools = Vec::with_capacity(alloc, names.packages().len())?;
     let mut least = None;
-    'packages: for (k, package) in names.packages().as_slice().iter().enumerate() {
+    'packages: for (k, package) in names.packages().iter().enumerate() {
         let pool = package.pool();
         let (members, least_then) = pool_members(
             alloc, names, classes, statics, tables, k as u16, &pool, least,
@@ -213,7 +220,7 @@ pub fn members(
     requires cells { HasCellsOf names.now.classes (slice_index names.now.roles 0) classes.now }
     requires linked { AreLinkedClasses (length names.now.packages) classes.now names.now.methods }
     ensures value { IsDue (pools_of names.now.packages classes.now statics.now) result }
-    // The pools exactly where each entry has one member; else the least entry that has not.
+    // The pools exactly where each entry has one member; else the least entry that does not.
     ensures tells { Tells names.now.packages classes.now statics.now result }
     // Each entry names one member, which the pools have; the entry that is told names none.
     ensures names { NamesEach names.now.packages classes.now statics.now result }
@@ -222,7 +229,5 @@ pub fn members(
     ensures each { IfOk result (λ pools. length pools ≡ length names.now.packages) }
     ensures few { IfOk result (λ pools. All (λ pool. length pool ≤ 65535) pools) }
 {
-    // The parts of the packages stand for them.
-    let _packages = names.packages();
     pools_of(alloc, names, classes, statics)
 }

@@ -1,6 +1,6 @@
 ghost use Rattle.std.specs.Prelude.{◌≡◌, ◌<◌, ℕ, length, slice_index};
 ghost use Rattle.jc_base.specs.Linked.{AreLinkedClasses};
-ghost use Rattle.jc_resolve.specs.Fault.{place_of};
+ghost use Rattle.jc_resolve.specs.Fault.{link_place};
 ghost use Rattle.first_fault.specs.Least.{least_of, refused};
 ghost use Rattle.jc_members.specs.Roles.{Tells, role_fault, thrown_roles};
 
@@ -36,7 +36,7 @@ fn role_fault(classes: &Classes, methods: &Methods, role: u8) -> Option<LinkFaul
 fn least_abstract(classes: &Classes, methods: &Methods) -> Option<LinkFault>
     requires known { (k : ℕ) → k < 8 → slice_index classes.now.roles k < length classes.now.records }
     requires links { AreLinkedClasses 16 classes.now methods.now }
-    ensures { result ≡ least_of place_of (role_fault classes.now methods.now) thrown_roles }
+    ensures { result ≡ least_of link_place (role_fault classes.now methods.now) thrown_roles }
 {
     let least = lesser(None, role_fault(classes, methods, 2));
     let least = lesser(least, role_fault(classes, methods, 3));
@@ -50,7 +50,7 @@ fn least_abstract(classes: &Classes, methods: &Methods) -> Option<LinkFault>
 pub fn roles_fit(classes: &Classes, methods: &Methods) -> Result<(), LinkFault>
     requires known { (k : ℕ) → k < 8 → slice_index classes.now.roles k < length classes.now.records }
     requires links { AreLinkedClasses 16 classes.now methods.now }
-    ensures is { result ≡ refused (least_of place_of (role_fault classes.now methods.now) thrown_roles) }
+    ensures is { result ≡ refused (least_of link_place (role_fault classes.now methods.now) thrown_roles) }
     // Each of them is concrete; or the first role is named whose class is not.
     ensures tells { Tells classes.now methods.now result }
 {

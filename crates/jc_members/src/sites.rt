@@ -42,6 +42,15 @@ impl Sites {
         }
     }
 
+    /// No member, and room for so many spots.
+    fn with_room(alloc: Global, count: usize) -> Result<Sites, AllocError>
+        ensures { IfOk result (λ sites. sites ≡ []) }
+    {
+        Ok(Sites {
+            map: IndexMap::with_capacity(alloc, count)?,
+        })
+    }
+
     /// Keeps one more member.
     #[tactic(auto, unfolding(crate::specs::Sites::entered))]
     pub(crate) fn enter(&mut self, spot: Spot, member: Member) -> Result<(), AllocError>
@@ -97,7 +106,7 @@ fn static_member(field: &StaticRec) -> Member
 pub(crate) fn static_sites(alloc: Global, statics: &Statics) -> Result<Sites, AllocError>
     ensures { IfOk result (λ sites. sites ≡ all_entered [] (static_sites statics.now)) }
 {
-    let mut sites = Sites::new(alloc);
+    let mut sites = Sites::with_room(alloc, statics.len())?;
     'fields: for field in statics.as_slice() {
         sites.enter(spot_of(field), static_member(field))?;
     }

@@ -8,6 +8,8 @@ use Rattle.std.proofs.lemmas.List.Elements.{All-nil, All-cons, All-head, All-tai
 use Rattle.std.proofs.lemmas.List.Quantifiers.{position-Some}
 use Rattle.std.proofs.lemmas.Option.{slice_get-map, slice_get_cases}
 use Rattle.jc_base.specs.declared.record.Iface.{Iface}
+use Rattle.cap_bytes.specs.declared.class_reference.ClassReference.{ClassReference}
+use Rattle.cap_bytes.specs.ClassReference.{reference_of}
 use Rattle.cap_class.specs.ClassFormat as format
 use Rattle.cap_class.specs.ClassFormat.{Class, Interface}
 use Rattle.cap_desc.specs.DescriptorFormat.{Field}
@@ -71,10 +73,10 @@ met_earlier : (ps : List PackageRecord) (k token j : ℕ) → met_by ps k token 
 unfolding met_by
 met_earlier ps k token j h = met_by_earlier ps k j (import_of ps k token) h
 
-refers_earlier : (ps : List PackageRecord) (object k reference c : ℕ) → Refers ps k reference c → package_of (named_classes ps object) c ≤ k
-refers_earlier ps object k reference c (internal lt at) = omega (arith, package_at ps object (record { «package» = k; offset = reference }) c at)
-refers_earlier ps object k reference c (imported j offset le met out at) =
-    omega (arith, package_at ps object (record { «package» = j; offset = offset }) c at, met_earlier ps k _ j met)
+refers_earlier : (ps : List PackageRecord) (object k : ℕ) (reference : ClassReference) (c : ℕ) → Refers ps k reference c → package_of (named_classes ps object) c ≤ k
+refers_earlier ps object k reference c (internal offset is at) = omega (arith, package_at ps object (record { «package» = k; offset = offset }) c at)
+refers_earlier ps object k reference c (imported import class j offset is met out at) =
+    omega (arith, package_at ps object (record { «package» = j; offset = offset }) c at, met_earlier ps k import j met)
 
 -- ---- classes
 
@@ -101,7 +103,7 @@ module _ (ps : List PackageRecord) (object : ℕ) where
 
   named_earlier : (k reference : ℕ) (o : Option ℕ) → class_named ps k reference ≡ o → IsEarlier k o
   named_earlier k reference None e = tt
-  named_earlier k reference (Some c) e = refers_earlier ps object k reference c (named-refers ps k reference c e)
+  named_earlier k reference (Some c) e = refers_earlier ps object k (reference_of reference) c (named-refers ps k reference c e)
 
   parent_earlier : (k reference : ℕ) → IsEarlier k (parent_named ps k reference)
   parent_earlier k reference = either (IsEarlier k) (eqb reference 0xFFFF) None (class_named ps k reference) tt (named_earlier k reference (class_named ps k reference) refl)

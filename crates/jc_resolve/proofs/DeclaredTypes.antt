@@ -7,6 +7,7 @@ use Rattle.std.proofs.lemmas.Option.{slice_get-map}
 use Rattle.jc_base.specs.declared.ty.Ty.{Ty}
 use Rattle.jc_base.specs.declared.ty.Ty.TheVariants.{Short, IntHigh, IntLow, Class, ArrBool, ArrByte, ArrShort, ArrInt, ArrRef}
 use Rattle.jc_base.specs.Cell.{IsNoHalf, AreWhole, no_cells, whole_int, one_cell, IsFirstCell}
+use Rattle.cap_bytes.specs.ClassReference.{reference_of}
 use Rattle.cap_class.specs.ClassFormat as format
 use Rattle.cap_desc.specs.declared.type_item.TypeItem.{TypeItem}
 use Rattle.cap_package.specs.Descriptions.{Description}
@@ -14,7 +15,7 @@ use Rattle.cap_package.specs.PackageRecord.{PackageRecord}
 use Rattle.jc_resolve.specs.declared.named.NamedClass.{NamedClass}
 use Rattle.jc_resolve.specs.declared.place.RecordPlace.{RecordPlace}
 use Rattle.jc_resolve.specs.Numbering.{NumberedClass, numbered_classes, class_at, flagged_interface, is_interface_number}
-use Rattle.jc_resolve.specs.References.{place_named, class_named}
+use Rattle.jc_resolve.specs.References.{place_referred, class_referred, class_named}
 use Rattle.jc_resolve.specs.WorldTypes.{class_or_object, type_class, type_of, cells_of_type, arguments_before, result_after, signature_in, types_named, signature_of}
 use Rattle.jc_resolve.specs.NamedClasses.{named_class, named_classes, named_interface, named_proper}
 use Rattle.jc_resolve.specs.Named.{interface_by, is_interface, IsTypeClass, IsDeclared}
@@ -59,8 +60,8 @@ named_at ps None = tt
 named_at ps (Some place) = class_below ps place (class_at ps place) refl
 
 pub named_below : (ps : List PackageRecord) (k reference : ℕ) → IfSome (class_named ps k reference) (λ c. c < length (numbered_classes ps))
-unfolding class_named
-named_below ps k reference = named_at ps (place_named ps k reference)
+unfolding class_named class_referred
+named_below ps k reference = named_at ps (place_referred ps k (reference_of reference))
 
 -- ---- types
 

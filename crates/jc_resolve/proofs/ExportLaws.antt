@@ -1,7 +1,7 @@
 -- What packages export is read in a table of the exported classes.
 use Rattle.std.proofs.Common.{◌≡◌, ℕ, Bool, List, [], ◌∷◌, map, Option, Some, None, slice_get, option_map, option_and_then, refl, sym, ap, ◌∙◌}
 use Rattle.std.proofs.lemmas.Option.{slice_get-map}
-use Rattle.cap_pool.specs.Export.{field_in, method_in}
+use Rattle.cap_pool.specs.Export.{field_offset_in, method_offset_in}
 use Rattle.cap_pool.specs.ExportFormat.{Exported}
 use Rattle.cap_package.specs.PackageRecord.{PackageRecord}
 use Rattle.cap_package.specs.Agreement.{or_none}
@@ -27,12 +27,12 @@ exported_there f ps exports k token h =
 
 -- ---- a member by the tokens of its class and its own
 
-field_by : (class token : ℕ) (q : Option PackageRecord) → option_and_then (λ (p : PackageRecord). field_in (or_none p.export) class token) q
+field_by : (class token : ℕ) (q : Option PackageRecord) → option_and_then (λ (p : PackageRecord). field_offset_in (or_none p.export) class token) q
     ≡ option_and_then (λ (c : Exported). slice_get c.fields token) (option_and_then (λ (p : PackageRecord). slice_get (or_none p.export) class) q)
 field_by class token None = refl
 field_by class token (Some p) = refl
 
-method_by : (class token : ℕ) (q : Option PackageRecord) → option_and_then (λ (p : PackageRecord). method_in (or_none p.export) class token) q
+method_by : (class token : ℕ) (q : Option PackageRecord) → option_and_then (λ (p : PackageRecord). method_offset_in (or_none p.export) class token) q
     ≡ option_and_then (λ (c : Exported). slice_get c.methods token) (option_and_then (λ (p : PackageRecord). slice_get (or_none p.export) class) q)
 method_by class token None = refl
 method_by class token (Some p) = refl

@@ -8,7 +8,7 @@ use Rattle.cap_desc.specs.declared.desc_part.DescPart.{DescPart}
 use Rattle.cap_desc.specs.declared.records.FieldInfo.{FieldInfo}
 use Rattle.cap_desc.specs.MemberRecords.{field_seen}
 use Rattle.cap_desc.specs.declared.type_item.TypeItem.{TypeItem}
-use Rattle.cap_desc.specs.ClassRecords.{classes_left}
+use Rattle.cap_desc.specs.ClassRecords.{described_left}
 use Rattle.cap_desc.specs.DescriptorFormat.{Class, Field}
 use Rattle.cap_desc.specs.Members.{fields_of}
 use Rattle.cap_package.specs.Descriptions.{Description, description, field_type}
@@ -104,4 +104,4 @@ instance_few (c ∷ classes) offset =
 pub own_sized : (ps : List PackageRecord) (object k : ℕ) (x : DescPart) (offset : ℕ) (fields : List FieldInfo) (cells : List Ty) → map field_seen fields ≡ instance_fields (description x).items.classes offset
     → cells ≡ cells_of_fields ps object k (description x) (map field_seen fields) → length cells ≤ 131070
 own_sized ps object k x offset fields cells e f =
-    omega (arith, ap length f, own_few ps object k (description x) (map field_seen fields), ap length e, instance_few (classes_left x.classes) offset, fields_of-few x.classes)
+    omega (arith, ap length f, own_few ps object k (description x) (map field_seen fields), ap length e, instance_few (described_left x.classes) offset, fields_of-few x.classes)

@@ -28,3 +28,5 @@ pub mod MethodPlaces
 pub mod ExportLaws
 pub mod ImportLaws
 pub mod FieldOrder
+pub mod Describing
+pub mod Restored

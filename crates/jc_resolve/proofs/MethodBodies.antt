@@ -15,7 +15,7 @@ use Rattle.jc_base.specs.declared.record.Sig.{Sig}
 use Rattle.jc_base.specs.Linked.{receiver_words, IsCodeLength}
 use Rattle.jc_resolve.specs.declared.method_records.Body.{Body}
 use Rattle.jc_resolve.proofs.Faultless.{IsOneOf}
-use Rattle.jc_resolve.specs.Named.{IsHandlerIn}
+use Rattle.jc_resolve.specs.Named.{HandlerLiesIn}
 use Rattle.jc_resolve.specs.NamedMethods.{handler_named, offset_in_info, no_body, body_after, body_by, body_of, is_class, have_headers}
 use Rattle.jc_resolve.specs.References.{class_named}
 use Rattle.jc_resolve.specs.WorldTypes.{signature_of}
@@ -31,7 +31,7 @@ pub record IsBody (info : List ℕ) (count : ℕ) (class : Bool) (b : Body) : Ty
   pub code : MatchBool b.is_abstract (b.code_len ≡ 0) (IsCodeLength b.code_len)
   pub proper : b.is_abstract ≡ false → class ≡ true
   pub inside : b.code_at + b.code_len ≤ length info
-  pub handlers : All (IsHandlerIn b.code_len) b.handlers
+  pub handlers : All (HandlerLiesIn b.code_len) b.handlers
   pub few_handlers : length b.handlers ≤ 255
 
 bodiless : (info : List ℕ) (flags : ℕ) (sig : Sig) (class : Bool) → length sig.args + receiver_words (is_static flags) ≤ 255 → IsBody info (length sig.args + receiver_words (is_static flags)) class (no_body flags sig)
@@ -41,12 +41,12 @@ bodiless info flags sig class few = record {
   code = refl;
   proper = λ e. absurd (false≢true (sym e));
   inside = omega arith;
-  handlers = All-nil (IsHandlerIn 0);
+  handlers = All-nil (HandlerLiesIn 0);
   few_handlers = omega arith;
 }
 
 module _ (ps : List PackageRecord) (throwable k : ℕ) (p : PackageRecord) (m : Method) (sig : Sig) where
-  handler_in : (code_at : ℕ) (h : HandlerInfo) → code_at ≡ code_start p.methods.info m → code_end p.methods.info m ≤ 65535 → LiesIn p.methods.info m h → IsHandlerIn m.bytecode_count (handler_named ps throwable k p.pool code_at h)
+  handler_in : (code_at : ℕ) (h : HandlerInfo) → code_at ≡ code_start p.methods.info m → code_end p.methods.info m ≤ 65535 → LiesIn p.methods.info m h → HandlerLiesIn m.bytecode_count (handler_named ps throwable k p.pool code_at h)
   unfolding handler_named code_end
   handler_in code_at h at short lies =
       let start = lies.start in
@@ -63,12 +63,12 @@ module _ (ps : List PackageRecord) (throwable k : ℕ) (p : PackageRecord) (m : 
       let short = x.short in
       omega arith
 
-  handlers_in : (x : IsPlaced p m) (code_at : ℕ) → code_at ≡ code_start p.methods.info m → All (IsHandlerIn m.bytecode_count) (map (handler_named ps throwable k p.pool code_at) (handlers_of p m))
+  handlers_in : (x : IsPlaced p m) (code_at : ℕ) → code_at ≡ code_start p.methods.info m → All (HandlerLiesIn m.bytecode_count) (map (handler_named ps throwable k p.pool code_at) (handlers_of p m))
   handlers_in x code_at at =
       let ends = x.ends in
       let short = x.short in
-      All-map (IsHandlerIn m.bytecode_count) (handler_named ps throwable k p.pool code_at) (handlers_of p m)
-      (All-weaker (LiesIn p.methods.info m) (λ h. IsHandlerIn m.bytecode_count (handler_named ps throwable k p.pool code_at h)) (λ h lies. handler_in code_at h at (omega arith) lies) (handlers_of p m) x.handlers)
+      All-map (HandlerLiesIn m.bytecode_count) (handler_named ps throwable k p.pool code_at) (handlers_of p m)
+      (All-weaker (LiesIn p.methods.info m) (λ h. HandlerLiesIn m.bytecode_count (handler_named ps throwable k p.pool code_at h)) (λ h lies. handler_in code_at h at (omega arith) lies) (handlers_of p m) x.handlers)
 
   handlers_few : (code_at : ℕ) → length p.methods.handlers ≤ 255 → length (map (handler_named ps throwable k p.pool code_at) (handlers_of p m)) ≤ 255
   handlers_few code_at few =

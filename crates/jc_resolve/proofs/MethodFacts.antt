@@ -6,6 +6,7 @@ use Rattle.std.proofs.lemmas.Bool.{ltb-false, eqb-true, eqb-false}
 use Rattle.cap_method.specs.MethodFormat.{Header}
 use Rattle.cap_desc.specs.DescriptorFormat.{Method}
 use Rattle.cap_desc.specs.Members.{methods_of}
+use Rattle.cap_components.specs.declared.count_kind.CountKind.TheVariants.{ArgumentWords, AbstractCode}
 use Rattle.cap_components.specs.declared.fault.PackFault.{PackFault}
 use Rattle.cap_components.specs.declared.fault.PackFault.TheVariants.{TooManyRegisters, MethodLength, CountDisagrees, BadType}
 use Rattle.cap_package.specs.Descriptions.{Description, argument_words}
@@ -13,7 +14,7 @@ use Rattle.cap_package.specs.HandlerChecks.{claim_fault, numbered, numbered_faul
 use Rattle.cap_package.specs.HeaderChecks.{header_in, is_abstract, registers_fault, length_fault, this_words, arguments_fault, abstract_fault}
 use Rattle.cap_package.specs.MethodChecks.{code_start, code_end, outside_fault}
 use Rattle.cap_package.specs.TypeChecks.{method_type_by, method_type_fault, field_type_fault}
-use Rattle.cap_package.specs.PackageRecord.{PackageRecord, described as described_methods, interface_methods, handlers_of, fields}
+use Rattle.cap_package.specs.PackageRecord.{PackageRecord, described_methods, interface_methods, handlers_of, fields}
 use Rattle.cap_package.specs.StandsFor.{StandsFor}
 use Rattle.cap_package.proofs.HeaderLaws.{HasHeader, has-header, ends-within}
 use Rattle.cap_package.proofs.InfoLaws.{info-short}
@@ -90,11 +91,11 @@ registers_of info m h at none = registers_most m h (ltb 255 (h.nargs + h.max_loc
 
 length_of : (info : List ℕ) (m : Method) (h : Header) → header_in info m.method_offset ≡ Some h → abstract_fault info m ≡ None → length_fault info m ≡ None → HasLength (is_abstract h) m.bytecode_count
 unfolding abstract_fault length_fault
-length_of info m h at none some = has_length m.bytecode_count (CountDisagrees 10 m.bytecode_count 0) (MethodLength m.method_offset m.bytecode_count) (is_abstract h) (rw at at none) (rw at at some)
+length_of info m h at none some = has_length m.bytecode_count (CountDisagrees AbstractCode m.bytecode_count 0) (MethodLength m.method_offset m.bytecode_count) (is_abstract h) (rw at at none) (rw at at some)
 
 nargs_of : (info : List ℕ) (d : Description) (m : Method) (h : Header) (words : ℕ) → header_in info m.method_offset ≡ Some h → argument_words d m.type_offset ≡ Some words → arguments_fault info d m ≡ None → h.nargs ≡ words + this_words m
 unfolding arguments_fault
-nargs_of info d m h words at told none = same_words h.nargs (words + this_words m) (CountDisagrees 7 h.nargs (words + this_words m)) (eqb h.nargs (words + this_words m)) refl (rw (at, told) at none)
+nargs_of info d m h words at told none = same_words h.nargs (words + this_words m) (CountDisagrees ArgumentWords h.nargs (words + this_words m)) (eqb h.nargs (words + this_words m)) refl (rw (at, told) at none)
 
 begins_at : (info : List ℕ) (m : Method) (x : HasHeader info m.method_offset) → code_start info m ≡ m.method_offset + x.header.size
 unfolding code_start

@@ -12,7 +12,7 @@ use Rattle.cap_desc.specs.DescriptorFormat as described
 use Rattle.cap_desc.specs.DescriptorFormat.{Method}
 use Rattle.cap_desc.specs.Members.{methods_but}
 use Rattle.cap_package.specs.MethodChecks.{size_by, code_start, code_end, overlap_fault, overlap_pair, outside_fault}
-use Rattle.cap_package.specs.PackageRecord.{PackageRecord, names_interface, described as described_methods}
+use Rattle.cap_package.specs.PackageRecord.{PackageRecord, names_interface, described_methods}
 use Rattle.cap_package.specs.Pairs.{pairs}
 use Rattle.cap_package.proofs.HeaderLaws.{ends-within}
 use Rattle.jc_base.specs.declared.record.MethodRec.{MethodRec}

@@ -10,7 +10,7 @@ use Rattle.cap_desc.specs.Members.{fields_of, methods_of}
 use Rattle.cap_package.specs.Descriptions.{Description}
 use Rattle.cap_package.specs.PackageRecord.{PackageRecord}
 use Rattle.jc_resolve.specs.declared.fault.LinkFault.{LinkFault}
-use Rattle.jc_resolve.specs.Fault.{place_of}
+use Rattle.jc_resolve.specs.Fault.{link_place}
 use Rattle.first_fault.specs.Least.{lesser, least_from}
 use Rattle.jc_resolve.specs.Conditions.{named_after, import_tokens, no_package_fault, import_fault, reference_fault, references_of_class, reference_of_field, references_of_record, reference_of_type, references_of_field_type, references_of_method, references_of_types, class_references, no_class_fault}
 
@@ -18,25 +18,25 @@ pub range_step : (a n : ℕ) → a < n → range_with_len a (n - a) ≡ a ∷ ra
 range_step a n lt = let e : n - a ≡ suc (n - (a + 1)) = omega arith in ap (range_with_len a) e
 
 -- pairs with one first
-least_pairs : (fault : ℕ × ℕ → Option LinkFault) (k : ℕ) (ns : List ℕ) (before : Option LinkFault) → least_from place_of before fault (map (λ n. (k, n)) ns) ≡ least_from place_of before (λ n. fault (k, n)) ns
+least_pairs : (fault : ℕ × ℕ → Option LinkFault) (k : ℕ) (ns : List ℕ) (before : Option LinkFault) → least_from link_place before fault (map (λ n. (k, n)) ns) ≡ least_from link_place before (λ n. fault (k, n)) ns
 least_pairs fault k [] before = refl
-least_pairs fault k (n ∷ ns) before = least_pairs fault k ns (lesser place_of before (fault (k, n)))
+least_pairs fault k (n ∷ ns) before = least_pairs fault k ns (lesser link_place before (fault (k, n)))
 
-least_after : (fault : ℕ × ℕ → Option LinkFault) (g : PackageRecord → List ℕ) (k : ℕ) (p : PackageRecord) (ps : List PackageRecord) (before : Option LinkFault) → least_from place_of before fault (named_after g k (p ∷ ps)) ≡ least_from place_of (least_from place_of before (λ n. fault (k, n)) (g p)) fault (named_after g (k + 1) ps)
+least_after : (fault : ℕ × ℕ → Option LinkFault) (g : PackageRecord → List ℕ) (k : ℕ) (p : PackageRecord) (ps : List PackageRecord) (before : Option LinkFault) → least_from link_place before fault (named_after g k (p ∷ ps)) ≡ least_from link_place (least_from link_place before (λ n. fault (k, n)) (g p)) fault (named_after g (k + 1) ps)
 least_after fault g k p ps before =
     fold-append _ before (map (λ n. (k, n)) (g p)) (named_after g (k + 1) ps)
-    ∙ ap (λ b. least_from place_of b fault (named_after g (k + 1) ps)) (least_pairs fault k (g p) before)
+    ∙ ap (λ b. least_from link_place b fault (named_after g (k + 1) ps)) (least_pairs fault k (g p) before)
 
-pub least_imports : (all : List PackageRecord) (k : ℕ) (p : PackageRecord) (ps : List PackageRecord) (before : Option LinkFault) → least_from place_of before (no_package_fault all) (named_after import_tokens k (p ∷ ps)) ≡ least_from place_of (least_from place_of before (import_fault all k) (import_tokens p)) (no_package_fault all) (named_after import_tokens (k + 1) ps)
+pub least_imports : (all : List PackageRecord) (k : ℕ) (p : PackageRecord) (ps : List PackageRecord) (before : Option LinkFault) → least_from link_place before (no_package_fault all) (named_after import_tokens k (p ∷ ps)) ≡ least_from link_place (least_from link_place before (import_fault all k) (import_tokens p)) (no_package_fault all) (named_after import_tokens (k + 1) ps)
 least_imports all k p ps before = least_after (no_package_fault all) import_tokens k p ps before
 
-pub least_references : (all : List PackageRecord) (k : ℕ) (p : PackageRecord) (ps : List PackageRecord) (before : Option LinkFault) → least_from place_of before (no_class_fault all) (named_after class_references k (p ∷ ps)) ≡ least_from place_of (least_from place_of before (reference_fault all k) (class_references p)) (no_class_fault all) (named_after class_references (k + 1) ps)
+pub least_references : (all : List PackageRecord) (k : ℕ) (p : PackageRecord) (ps : List PackageRecord) (before : Option LinkFault) → least_from link_place before (no_class_fault all) (named_after class_references k (p ∷ ps)) ≡ least_from link_place (least_from link_place before (reference_fault all k) (class_references p)) (no_class_fault all) (named_after class_references (k + 1) ps)
 least_references all k p ps before = least_after (no_class_fault all) class_references k p ps before
 
 module _ (all : List PackageRecord) (k : ℕ) where
   -- the least fault of references, beside one that was seen before
   abbrev in_order : Option LinkFault → List ℕ → Option LinkFault
-  in_order before = least_from place_of before (reference_fault all k)
+  in_order before = least_from link_place before (reference_fault all k)
 
   pub least_classes : (c : Class) (cs : List Class) (before : Option LinkFault) → in_order before (flat_map references_of_class (c ∷ cs)) ≡ in_order (in_order before (references_of_class c)) (flat_map references_of_class cs)
   least_classes c cs before = fold-append _ before (references_of_class c) (flat_map references_of_class cs)
@@ -44,8 +44,8 @@ module _ (all : List PackageRecord) (k : ℕ) where
   pub least_fields : (f : Field) (fs : List Field) (before : Option LinkFault) → in_order before (flat_map reference_of_field (f ∷ fs)) ≡ in_order (in_order before (reference_of_field f)) (flat_map reference_of_field fs)
   least_fields f fs before = fold-append _ before (reference_of_field f) (flat_map reference_of_field fs)
 
-  pub least_record : (d : described.Class) (before : Option LinkFault) → in_order before (references_of_record d) ≡ in_order (in_order (lesser place_of before (reference_fault all k d.class_ref)) d.interfaces) (flat_map reference_of_field d.fields)
-  least_record d before = fold-append _ (lesser place_of before (reference_fault all k d.class_ref)) d.interfaces (flat_map reference_of_field d.fields)
+  pub least_record : (d : described.Class) (before : Option LinkFault) → in_order before (references_of_record d) ≡ in_order (in_order (lesser link_place before (reference_fault all k d.class_ref)) d.interfaces) (flat_map reference_of_field d.fields)
+  least_record d before = fold-append _ (lesser link_place before (reference_fault all k d.class_ref)) d.interfaces (flat_map reference_of_field d.fields)
 
   pub least_records : (d : described.Class) (ds : List described.Class) (before : Option LinkFault) → in_order before (flat_map references_of_record (d ∷ ds)) ≡ in_order (in_order before (references_of_record d)) (flat_map references_of_record ds)
   least_records d ds before = fold-append _ before (references_of_record d) (flat_map references_of_record ds)

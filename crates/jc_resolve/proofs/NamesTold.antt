@@ -4,21 +4,21 @@ use Rattle.cap_package.specs.PackageRecord.{PackageRecord}
 use Rattle.jc_resolve.specs.declared.fault.LinkFault.{LinkFault}
 use Rattle.jc_resolve.specs.declared.fault.LinkEnd.{LinkEnd}
 use Rattle.jc_resolve.specs.declared.fault.LinkEnd.TheVariants.{Fault, Memory}
-use Rattle.jc_resolve.specs.Fault.{place_of}
+use Rattle.jc_resolve.specs.Fault.{link_place}
 use Rattle.first_fault.specs.Least.{◌>>=◌}
 use Rattle.jc_resolve.specs.Conditions.{packages_fault, classes_fault, methods_fault, no_package_fault, no_class_fault, named_in, import_tokens, class_references, conditions}
 use Rattle.jc_resolve.specs.Due.{IsDue}
 use Rattle.jc_resolve.specs.Names.{NamesRecord, named, checked, names_of, Tells}
 use Rattle.first_fault.proofs.FirstTold.{IsTold, things-told, one-told, step, last, refused-first, accepted-empty}
 
-checked-told : (ps : List PackageRecord) → IsTold place_of (checked ps) (conditions ps)
+checked-told : (ps : List PackageRecord) → IsTold link_place (checked ps) (conditions ps)
 unfolding checked
 checked-told ps =
-    step place_of (one-told place_of (packages_fault ps))
-    (step place_of (one-told place_of (classes_fault ps))
-    (step place_of (one-told place_of (methods_fault ps))
-    (step place_of (things-told place_of (no_package_fault ps) (named_in import_tokens ps))
-    (last place_of (things-told place_of (no_class_fault ps) (named_in class_references ps))))))
+    step link_place (one-told link_place (packages_fault ps))
+    (step link_place (one-told link_place (classes_fault ps))
+    (step link_place (one-told link_place (methods_fault ps))
+    (step link_place (things-told link_place (no_package_fault ps) (named_in import_tokens ps))
+    (last link_place (things-told link_place (no_class_fault ps) (named_in class_references ps))))))
 
 accepted_by : (r : Result (Unit {0}) LinkFault) (n m : NamesRecord) → (r >>= λ done. Ok n) ≡ Ok m → r ≡ Ok (tt {0})
 accepted_by (Ok x) n m h = refl
@@ -30,6 +30,6 @@ refused_by (Err g) n f h = let k : g ≡ f = cc in ap Err k
 
 pub names_told : (ps : List PackageRecord) (roles : List ℕ) (answer : Result NamesRecord LinkEnd) → IsDue (names_of ps roles) answer → Tells ps answer
 unfolding names_of
-names_told ps roles (Ok m) h = accepted-empty place_of (conditions ps) (sym (checked-told ps).same ∙ accepted_by (checked ps) (named ps roles) m h)
-names_told ps roles (Err (Fault f)) h = refused-first place_of (conditions ps) f (sym (checked-told ps).same ∙ refused_by (checked ps) (named ps roles) f h)
+names_told ps roles (Ok m) h = accepted-empty link_place (conditions ps) (sym (checked-told ps).same ∙ accepted_by (checked ps) (named ps roles) m h)
+names_told ps roles (Err (Fault f)) h = refused-first link_place (conditions ps) f (sym (checked-told ps).same ∙ refused_by (checked ps) (named ps roles) f h)
 names_told ps roles (Err Memory) h = tt

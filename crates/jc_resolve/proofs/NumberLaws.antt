@@ -1,8 +1,8 @@
 -- The numbers that the tables keep are the positions of classes and methods.
-use Rattle.std.proofs.Common.{◌≡◌, ℕ, suc, ◌+◌, ◌<◌, Bool, true, false, cond, eqb, ◌&&◌, List, [], ◌∷◌, ◌++◌, length, map, Option, Some, None, position, slice_get, option_map, IfSome, is_some, refl, sym, ap, ap₂, subst, ◌∙◌, arith, if◌then◌else◌, get_or}
+use Rattle.std.proofs.Common.{◌≡◌, ℕ, suc, ◌+◌, ◌<◌, Bool, true, false, cond, eqb, List, [], ◌∷◌, ◌++◌, length, map, Option, Some, None, position, slice_get, option_map, IfSome, is_some, refl, sym, ap, ap₂, subst, ◌∙◌, arith, if◌then◌else◌, get_or}
 use Rattle.std.specs.List.{position_from}
 use Rattle.std.specs.Map.{lookup}
-use Rattle.std.proofs.lemmas.Bool.{eqb-true}
+use Rattle.std.proofs.lemmas.Bool.{eqb-true, and_parts}
 use Rattle.std.proofs.lemmas.List.{map-append, length-map}
 use Rattle.std.proofs.lemmas.Iterator.Adapters.{position_from-zero}
 use Rattle.std.proofs.lemmas.Option.{slice_get-map, slice_get-get_or}
@@ -18,14 +18,9 @@ use Rattle.jc_resolve.specs.Numbers.{Numbered, none_numbered, number_at, entered
 
 -- ---- places
 
-both : (x y : Bool) → x && y ≡ true → (x ≡ true) × (y ≡ true)
-both true true h = (refl, refl)
-both true false h = absurd cc
-both false y h = absurd cc
-
 pub same-equal : (a b : RecordPlace) → same_place a b ≡ true → a ≡ b
 same-equal a b h =
-    let p = both (eqb a.package b.package) (eqb a.offset b.offset) h in
+    let p = and_parts (eqb a.package b.package) (eqb a.offset b.offset) h in
     let e = eqb-true a.package b.package p.0 in
     let f = eqb-true a.offset b.offset p.1 in
     λ i. record { «package» = e i; offset = f i }

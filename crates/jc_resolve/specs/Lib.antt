@@ -9,6 +9,7 @@ pub mod NamedMethods
 pub mod Named
 pub mod Counts
 pub mod Numbers
+pub mod Described
 pub mod Conditions
 pub mod Names
 pub mod OwnPlaces

@@ -102,7 +102,7 @@ pub record IsNamedClass (packages methods : ℕ) (classes : List NamedClass) (ob
 -- ---- methods
 
 -- the range and the entry of a handler lie in code of a length
-pub record IsHandlerIn (len : ℕ) (h : Handler) : Type 0 where
+pub record HandlerLiesIn (len : ℕ) (h : Handler) : Type 0 where
   pub range : h.start ≤ h.end
   pub inside : h.end ≤ len
   pub entry : h.entry < len
@@ -126,7 +126,7 @@ pub record IsNamedMethod (infos : List (List ℕ)) (classes : List NamedClass) (
   pub code : MatchBool (lacks_code classes m) (m.code_len ≡ 0) (IsCodeLength m.code_len)
   -- its code lies in the Method info of its package
   pub inside : m.code_at + m.code_len ≤ length (list_at infos m.package)
-  pub handlers : All (IsHandlerIn m.code_len) m.handlers
+  pub handlers : All (HandlerLiesIn m.code_len) m.handlers
   -- the handler table counts its entries in one byte
   pub few_handlers : length m.handlers ≤ 255
 

@@ -2,6 +2,9 @@
 use Rattle.std.specs.Prelude.{ℕ, ◌+◌, ◌-◌, ◌*◌, ◌≤◌, Bool, true, false, not, List, [], length, map, min, Option, Some, None, unwrap_or, slice_get, slice_index, ◌==◌, ◌&&◌, if◌then◌else◌}
 use Rattle.std.specs.Int.RustNames.{bit_and}
 use Rattle.cap_pool.specs.PoolFormat.{Entry}
+use Rattle.cap_pool.specs.declared.pool_reference.PoolReference.{PoolReference}
+use Rattle.cap_pool.specs.declared.pool_reference.PoolReference.TheVariants.{Class as ClassEntry}
+use Rattle.cap_pool.specs.PoolReference.{referred}
 use Rattle.cap_method.specs.declared.handler.HandlerInfo.{HandlerInfo}
 use Rattle.cap_method.specs.MethodFormat.{Header}
 use Rattle.cap_package.specs.HeaderChecks.{header_in, is_abstract, is_static}
@@ -13,7 +16,7 @@ use Rattle.jc_base.specs.declared.record.Sig.{Sig}
 use Rattle.jc_base.specs.Linked.{receiver_words}
 use Rattle.jc_resolve.specs.declared.method_records.Body.{Body}
 use Rattle.jc_resolve.specs.Numbering.{NumberedMethod, numbered_methods, is_interface_number, is_placed}
-use Rattle.jc_resolve.specs.References.{class_named}
+use Rattle.jc_resolve.specs.References.{class_referred, class_named}
 use Rattle.jc_resolve.specs.WorldTypes.{signature_of}
 
 -- ---- handlers
@@ -27,9 +30,13 @@ abbrev pub reference_in : List ℕ → ℕ
 reference_in bytes = slice_index bytes 0 * 256 + slice_index bytes 1
 
 -- the class that an entry of a constant pool names, if it is a Classref; 0 where none is named
+abbrev pub class_or_none : List PackageRecord → ℕ → PoolReference → ℕ
+class_or_none ps k (ClassEntry reference) = unwrap_or (class_referred ps k reference) 0
+class_or_none ps k other = 0
+
 abbrev pub class_in_entry : List PackageRecord → ℕ → Option Entry → ℕ
 class_in_entry ps k None = 0
-class_in_entry ps k (Some e) = if e.tag == 1 then unwrap_or (class_named ps k (reference_in e.bytes)) 0 else 0
+class_in_entry ps k (Some e) = class_or_none ps k (referred e)
 
 -- the class that a handler catches, by its catch_type_index: throwable for 0
 abbrev pub caught : List PackageRecord → ℕ → ℕ → List Entry → ℕ → ℕ

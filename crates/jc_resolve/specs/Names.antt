@@ -6,7 +6,7 @@ use Rattle.jc_resolve.specs.declared.fault.LinkFault.{LinkFault}
 use Rattle.jc_resolve.specs.declared.fault.LinkEnd.{LinkEnd}
 use Rattle.jc_resolve.specs.declared.fault.LinkEnd.TheVariants.{Fault, Memory}
 use Rattle.jc_resolve.specs.declared.named.NamedClass.{NamedClass}
-use Rattle.jc_resolve.specs.Fault.{place_of}
+use Rattle.jc_resolve.specs.Fault.{link_place}
 use Rattle.jc_resolve.specs.Named.{IsAgreed}
 use Rattle.first_fault.specs.Least.{◌>>=◌, refused, least_of}
 use Rattle.first_fault.specs.First.{IsFirst, AllEmpty}
@@ -38,14 +38,14 @@ checked ps = do
   packages ← refused (packages_fault ps)
   classes ← refused (classes_fault ps)
   methods ← refused (methods_fault ps)
-  imports ← refused (least_of place_of (no_package_fault ps) (named_in import_tokens ps))
-  refused (least_of place_of (no_class_fault ps) (named_in class_references ps))
+  imports ← refused (least_of link_place (no_package_fault ps) (named_in import_tokens ps))
+  refused (least_of link_place (no_class_fault ps) (named_in class_references ps))
 
 -- the names of packages, or the fault that is named
 unfoldable pub names_of : List PackageRecord → List ℕ → Result NamesRecord LinkFault
 names_of ps roles = checked ps >>= λ done. Ok (named ps roles)
 
--- the packages pass the conditions, or a fault of them is named, or memory wants
+-- the packages pass the conditions, or a fault of them is named, or there is no memory
 abbrev pub Checks : List PackageRecord → Result (List PackageRecord) LinkEnd → Type 0
 Checks ps (Ok qs) = (checked ps ≡ Ok (tt {0})) × (qs ≡ ps)
 Checks ps (Err (Fault fault)) = checked ps ≡ Err fault
@@ -54,5 +54,5 @@ Checks ps (Err Memory) = ⊤
 -- names exactly where nothing is at fault; else the first condition by number that is broken, at its least thing
 abbrev pub Tells : List PackageRecord → Result NamesRecord LinkEnd → Type 0
 Tells ps (Ok names) = AllEmpty (conditions ps)
-Tells ps (Err (Fault fault)) = IsFirst place_of (conditions ps) fault
+Tells ps (Err (Fault fault)) = IsFirst link_place (conditions ps) fault
 Tells ps (Err Memory) = ⊤

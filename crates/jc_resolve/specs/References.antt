@@ -1,7 +1,10 @@
 -- The package that meets an import, and the class that a class reference names (JCVM 2.2, sections 4.3.7.1, 6.6, 6.7 and 6.12).
-use Rattle.std.specs.Prelude.{◌≡◌, ◌<◌, ◌≤◌, ℕ, ◌-◌, ◌/◌, ◌%◌, Bool, List, take, Option, Some, option_map, option_and_then, position, slice_get, bytes_eq, nat_lt, nat_le, ◌==◌, ◌&&◌, if◌then◌else◌}
+use Rattle.std.specs.Prelude.{◌≡◌, ℕ, Bool, List, take, Option, Some, option_map, option_and_then, position, slice_get, bytes_eq, nat_lt, nat_le, ◌==◌, ◌&&◌}
+use Rattle.cap_bytes.specs.declared.class_reference.ClassReference.{ClassReference}
+use Rattle.cap_bytes.specs.declared.class_reference.ClassReference.TheVariants.{Internal, External}
+use Rattle.cap_bytes.specs.ClassReference.{reference_of}
 use Rattle.cap_frame.specs.PackageFormat.{Package}
-use Rattle.cap_pool.specs.Export.{field_in, method_in}
+use Rattle.cap_pool.specs.Export.{field_offset_in, method_offset_in}
 use Rattle.cap_pool.specs.ExportFormat.{Exported}
 use Rattle.cap_package.specs.PackageRecord.{PackageRecord, aid, minor, major}
 use Rattle.cap_package.specs.Agreement.{or_none}
@@ -30,20 +33,14 @@ exported_class ps k token = option_and_then (λ (p : PackageRecord). slice_get (
 
 -- the offset of the static field or method that a package exports, by its class's token and its own
 abbrev pub exported_field : List PackageRecord → ℕ → ℕ → ℕ → Option ℕ
-exported_field ps k class token = option_and_then (λ (p : PackageRecord). field_in (or_none p.export) class token) (slice_get ps k)
+exported_field ps k class token = option_and_then (λ (p : PackageRecord). field_offset_in (or_none p.export) class token) (slice_get ps k)
 
 abbrev pub exported_method : List PackageRecord → ℕ → ℕ → ℕ → Option ℕ
-exported_method ps k class token = option_and_then (λ (p : PackageRecord). method_in (or_none p.export) class token) (slice_get ps k)
+exported_method ps k class token = option_and_then (λ (p : PackageRecord). method_offset_in (or_none p.export) class token) (slice_get ps k)
 
--- an external reference has its high bit set, then the token of an import, then the token of a class that this package exports
+-- a class_ref with a clear high bit is the offset of a class of the package itself
 abbrev pub is_internal : ℕ → Bool
 is_internal reference = nat_lt reference 0x8000
-
-abbrev pub import_token : ℕ → ℕ
-import_token reference = (reference - 0x8000) / 256
-
-abbrev pub class_token : ℕ → ℕ
-class_token reference = reference % 256
 
 -- where the class stands that is exported with a token
 abbrev pub exported_offset : List PackageRecord → ℕ → ℕ → Option ℕ
@@ -52,23 +49,29 @@ exported_offset ps k token = option_map (λ (c : Exported). c.class_offset) (exp
 abbrev pub exported_place : List PackageRecord → ℕ → ℕ → Option RecordPlace
 exported_place ps k token = option_map (λ offset. record { «package» = k; offset = offset }) (exported_offset ps k token)
 
--- where the class stands that a reference names
-abbrev pub place_named : List PackageRecord → ℕ → ℕ → Option RecordPlace
-place_named ps k reference =
-    if is_internal reference then Some (record { «package» = k; offset = reference })
-    else option_and_then (λ j. exported_place ps j (class_token reference)) (met_by ps k (import_token reference))
+-- where the class stands to which a reference of a package leads
+abbrev pub place_referred : List PackageRecord → ℕ → ClassReference → Option RecordPlace
+place_referred ps k (Internal offset) = Some (record { «package» = k; offset = offset })
+place_referred ps k (External import class) = option_and_then (λ j. exported_place ps j class) (met_by ps k import)
 
--- the number of the class that a reference of a package names
+-- the number of that class
+unfoldable pub class_referred : List PackageRecord → ℕ → ClassReference → Option ℕ
+class_referred ps k reference = option_and_then (class_at ps) (place_referred ps k reference)
+
+-- the number of the class that a class_ref names
 unfoldable pub class_named : List PackageRecord → ℕ → ℕ → Option ℕ
-class_named ps k reference = option_and_then (class_at ps) (place_named ps k reference)
+class_named ps k class_ref = class_referred ps k (reference_of class_ref)
 
--- the same by cases: a reference below 0x8000 is the offset of a class of the package itself;
--- another names the class that an imported package exports
-pub data Refers (ps : List PackageRecord) (k reference c : ℕ) : Type 0 where
-  internal : reference < 0x8000 → class_at ps (record { «package» = k; offset = reference }) ≡ Some c → Refers ps k reference c
+-- the same by cases: an internal reference is the offset of a class of the package itself, an external one has the
+-- token of an import and that of a class that the imported package exports
+pub data Refers (ps : List PackageRecord) (k : ℕ) (reference : ClassReference) (c : ℕ) : Type 0 where
+  internal :
+      (offset : ℕ)
+      → reference ≡ Internal offset
+      → class_at ps (record { «package» = k; offset = offset }) ≡ Some c → Refers ps k reference c
   imported :
-      (j offset : ℕ)
-      → 0x8000 ≤ reference
-      → met_by ps k (import_token reference) ≡ Some j
-      → exported_offset ps j (class_token reference) ≡ Some offset
+      (import class j offset : ℕ)
+      → reference ≡ External import class
+      → met_by ps k import ≡ Some j
+      → exported_offset ps j class ≡ Some offset
       → class_at ps (record { «package» = j; offset = offset }) ≡ Some c → Refers ps k reference c

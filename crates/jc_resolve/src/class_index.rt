@@ -1,17 +1,19 @@
 ghost use Rattle.std.specs.Prelude.{◌≡◌, ◌+◌, ◌≤◌, ◌<◌, ◌++◌, length, map, option_map, IfOk, IfSome, OnOk};
 ghost use Rattle.cap_class.specs.ClassFormat.{Class, is_interface};
 ghost use Rattle.cap_class.specs.ClassPart.{classes_left};
-ghost use Rattle.cap_pool.specs.Export.{class_seen};
+ghost use Rattle.cap_pool.specs.Export.{exported_class_seen};
 ghost use Rattle.jc_resolve.specs.Counts.{class_total, method_total};
 ghost use Rattle.jc_resolve.specs.Numbering.{numbered_classes, numbered_methods, class_at, method_at, is_interface_number};
 ghost use Rattle.jc_resolve.specs.Numbers.{spot_of_class, with_all, none_numbered, class_spots, class_flags};
-ghost use Rattle.jc_resolve.specs.References.{met_by, class_named, exported_class, exported_offset, exported_field, exported_method};
+ghost use Rattle.jc_resolve.specs.References.{met_by, place_referred, class_referred, class_named, exported_class, exported_offset, exported_field, exported_method};
 
+use crate::counts::class_total;
 use crate::exports::{Exports, exported_classes, exported_in};
 use crate::imports::{Met, imports_met, met_among};
 use crate::method_index::number_methods;
 use crate::numbers::Numbers;
 use crate::place::RecordPlace;
+use cap_bytes::ClassReference;
 use cap_class::Classes;
 use cap_package::Packages;
 use cap_pool::ExportedClass;
@@ -40,12 +42,12 @@ impl<'n, 'p, 'a> Model for Index<'n, 'p, 'a> {
     ghost Value = { List PackageRecord };
 
     ghost use Rattle.std.specs.Prelude.{map};
-    ghost use Rattle.cap_pool.specs.Export.{class_seen};
+    ghost use Rattle.cap_pool.specs.Export.{exported_class_seen};
     ghost use Rattle.jc_resolve.specs.Numbers.{AreIndexed};
 
     ghost view = { λ x. x.packages.now };
 
-    ghost invariant = { λ x. AreIndexed x.packages.now x.numbers x.interfaces.items x.methods (map (map class_seen) x.exports) x.met };
+    ghost invariant = { λ x. AreIndexed x.packages.now x.numbers x.interfaces.items x.methods (map (map exported_class_seen) x.exports) x.met };
 }
 
 /// Numbers the classes of one package.
@@ -85,9 +87,10 @@ fn number_all(alloc: Global, packages: &Packages<'_, '_>) -> Result<ClassNumbers
     ensures numbers { IfOk result (λ x. x.numbers ≡ with_all none_numbered (class_spots 0 packages.now)) }
     ensures flags { IfOk result (λ x. x.interfaces.items ≡ class_flags packages.now) }
 {
-    let mut numbers = Numbers::new(alloc);
-    let mut interfaces = Vec::new(alloc);
-    'packages: for (k, package) in packages.as_slice().iter().enumerate() {
+    let count = class_total(packages) as usize;
+    let mut numbers = Numbers::with_room(alloc, count)?;
+    let mut interfaces = Vec::with_capacity(alloc, count)?;
+    'packages: for (k, package) in packages.iter().enumerate() {
         number_package(
             &mut numbers,
             &mut interfaces,
@@ -146,7 +149,7 @@ impl<'n, 'p, 'a> Index<'n, 'p, 'a> {
 
     /// The class that a package exports with a token.
     fn exported_class(&self, package: u16, token: u8) -> Option<ExportedClass<'a>>
-        ensures { option_map class_seen result ≡ exported_class self.now «package» token }
+        ensures { option_map exported_class_seen result ≡ exported_class self.now «package» token }
     {
         exported_in(&self.exports, package, token)
     }
@@ -185,25 +188,43 @@ impl<'n, 'p, 'a> Index<'n, 'p, 'a> {
         met_among(&self.met, package, token)
     }
 
-    /// The class that a reference of a package names.
-    #[tactic(auto, unfolding(crate::specs::References::class_named))]
-    pub(crate) fn class_named(&self, package: u16, reference: u16) -> Option<u16>
-        ensures is { result ≡ class_named self.now «package» reference }
+    /// Where the class stands to which a reference of a package leads.
+    fn place_referred(&self, package: u16, reference: ClassReference) -> Option<RecordPlace>
+        ensures { result ≡ place_referred self.now «package» reference }
+    {
+        match reference {
+            ClassReference::Internal(offset) => Some(RecordPlace { package, offset }),
+            ClassReference::External {
+                package: import,
+                class,
+            } => {
+                let home = self.import_met(package, import)?;
+                let offset = self.exported_offset(home, class)?;
+                Some(RecordPlace {
+                    package: home,
+                    offset,
+                })
+            }
+        }
+    }
+
+    /// The class to which a reference of a package leads.
+    #[tactic(auto, unfolding(crate::specs::References::class_referred))]
+    pub(crate) fn class_referred(&self, package: u16, reference: ClassReference) -> Option<u16>
+        ensures is { result ≡ class_referred self.now «package» reference }
         ensures below { IfSome result (λ c. c < length (numbered_classes self.now)) }
     {
-        if reference < 0x8000 {
-            return self.class_at(RecordPlace {
-                package,
-                offset: reference,
-            });
-        }
-        let import = ((reference - 0x8000) / 256) as u8;
-        let home = self.import_met(package, import)?;
-        let offset = self.exported_offset(home, (reference % 256) as u8)?;
-        self.class_at(RecordPlace {
-            package: home,
-            offset,
-        })
+        let place = self.place_referred(package, reference)?;
+        self.class_at(place)
+    }
+
+    /// The class that a class_ref of a package names.
+    #[tactic(auto, unfolding(crate::specs::References::class_named))]
+    pub(crate) fn class_named(&self, package: u16, class_ref: u16) -> Option<u16>
+        ensures is { result ≡ class_named self.now «package» class_ref }
+        ensures below { IfSome result (λ c. c < length (numbered_classes self.now)) }
+    {
+        self.class_referred(package, ClassReference::of(class_ref))
     }
 
     /// The number of the method at a place.

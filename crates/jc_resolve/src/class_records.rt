@@ -1,22 +1,23 @@
-ghost use Rattle.std.specs.Prelude.{◌≡◌, ◌≤◌, ◌++◌, length, map, filter, flat_map, slice_index, All, IfOk, OnOk};
+ghost use Rattle.std.specs.Prelude.{◌≡◌, ◌≤◌, ◌++◌, length, map, filter, flat_map, count_by, slice_index, All, IfOk, OnOk};
 ghost use Rattle.cap_bytes.specs.Table.{numbers};
 ghost use Rattle.cap_class.specs.ClassPart.{class_seen, classes_left};
 ghost use Rattle.cap_class.specs.Lists.{interfaces_left};
-ghost use Rattle.cap_desc.specs.ClassRecords.{class_seen as record_seen, classes_left as records_left};
 ghost use Rattle.cap_desc.specs.MemberLists.{fields_left};
 ghost use Rattle.cap_desc.specs.MemberRecords.{field_seen};
 ghost use Rattle.cap_package.specs.Descriptions.{description};
+ghost use Rattle.jc_resolve.specs.Described.{describes_at, IsDescribedOnce};
 ghost use Rattle.jc_resolve.specs.Named.{IsByteTable, IsSized};
 ghost use Rattle.jc_resolve.specs.NamedClasses.{is_instance, instance_fields, with_token, cells_of_field, cells_of_fields, tokens_end, entry_of, table_of, no_table, implemented_interfaces, interface_in, named_proper, named_class};
 ghost use Rattle.jc_resolve.specs.Numbering.{numbered_class, numbered_classes, classes_of};
 
 use crate::class_index::Index;
+use crate::described_classes::DescribedClasses;
 use crate::home::Home;
 use crate::named::{DispatchTable, NamedClass};
 use crate::place::RecordPlace;
 use crate::world_types::push_cells;
 use cap_class::{ClassInfo, Interfaces};
-use cap_desc::{DescClass, DescClasses, DescFields, DescPart, FieldInfo};
+use cap_desc::{DescFields, DescPart, FieldInfo};
 use cap_package::{Packages, field_type};
 use jc_base::{Iface, Items, Ty};
 use std::alloc::{AllocError, Global};
@@ -74,48 +75,40 @@ fn implemented_interfaces(
     Ok(named)
 }
 
-/// Appends the instance fields of a record of the Descriptor.
+/// The instance fields of a record of the Descriptor.
 #[tactic(auto, using(crate::proofs::FieldSteps::field_kept, crate::proofs::FieldSteps::field_passed))]
-fn push_fields(fields: &mut Vec<FieldInfo>, described: DescFields<'_>) -> Result<(), AllocError>
-    ensures { OnOk result
-        (map field_seen fields.new.items
-        ≡ map field_seen fields.old.items ++ filter is_instance (fields_left described.entry)) }
+fn instance_among(alloc: Global, described: DescFields<'_>) -> Result<Vec<FieldInfo>, AllocError>
+    ensures { IfOk result (λ v. map field_seen v.items ≡ filter is_instance (fields_left described.entry)) }
 {
+    let mut fields = Vec::new(alloc);
     'fields: for field in described {
         if !field.flags.is_static() {
             fields.push(field)?;
         }
     }
-    Ok(())
+    Ok(fields)
 }
 
-/// The records of the Descriptor, each read once.
-fn records_of(alloc: Global, described: DescClasses<'_>) -> Result<Vec<DescClass<'_>>, AllocError>
-    ensures { IfOk result (λ v. map record_seen v.items ≡ records_left described.entry) }
-{
-    let mut records = Vec::new(alloc);
-    'records: for record in described {
-        records.push(record)?;
-    }
-    Ok(records)
-}
-
-/// The instance fields that the Descriptor describes of the class at an offset.
-#[tactic(auto, unfolding(crate::specs::NamedClasses::instance_fields, crate::specs::NamedClasses::fields_described))]
+/// The instance fields that the Descriptor describes of the class at an offset, by the one record that it has of it.
+#[tactic(auto, using(crate::proofs::Describing::describing))]
 fn instance_fields(
     alloc: Global,
-    records: &[DescClass<'_>],
+    described: &DescribedClasses<'_>,
     offset: u16,
 ) -> Result<Vec<FieldInfo>, AllocError>
-    ensures { IfOk result (λ v. map field_seen v.items ≡ instance_fields (map record_seen records.now) offset) }
+    requires { count_by (describes_at offset) described.now ≡ 1 }
+    ensures { IfOk result (λ v. map field_seen v.items ≡ instance_fields described.now offset) }
 {
-    let mut fields = Vec::new(alloc);
-    'classes: for class in records {
-        if offset < 0x8000 && class.class_ref() == offset {
-            push_fields(&mut fields, class.fields())?;
-        }
+    if offset >= 0x8000 {
+        return Ok(Vec::new(alloc));
     }
-    Ok(fields)
+    match described.at(offset) {
+        Some(class) => {
+            let fields = instance_among(alloc, class.fields())?;
+            Ok(fields)
+        }
+        None => Ok(Vec::new(alloc)),
+    }
 }
 
 /// Appends the types of a field's cells.
@@ -236,10 +229,11 @@ fn interface_in(
 fn named_proper(
     alloc: Global,
     home: Home<'_, '_, '_, '_>,
-    records: &[DescClass<'_>],
+    described: &DescribedClasses<'_>,
     class: ClassInfo<'_>,
 ) -> Result<NamedClass, AllocError>
-    requires { map record_seen records.now ≡ home.of_package.now.description.items.classes }
+    requires described { described.now ≡ home.of_package.now.description.items.classes }
+    requires once { IsDescribedOnce home.of_package.now.description.items.classes (class_seen class) }
     ensures is { IfOk result
         (λ c.
         c
@@ -262,7 +256,7 @@ fn named_proper(
         class.package_base(),
         class.package_table(),
     )?;
-    let fields = instance_fields(alloc, records, class.offset())?;
+    let fields = instance_fields(alloc, described, class.offset())?;
     let own = cells_of_fields(alloc, index, object, number, &descriptor, fields.as_slice())?;
     let super_ref = class.super_ref();
     let parent = if super_ref == 0xFFFF {
@@ -286,10 +280,11 @@ fn named_proper(
 fn named_class(
     alloc: Global,
     home: Home<'_, '_, '_, '_>,
-    records: &[DescClass<'_>],
+    described: &DescribedClasses<'_>,
     class: ClassInfo<'_>,
 ) -> Result<NamedClass, AllocError>
-    requires { map record_seen records.now ≡ home.of_package.now.description.items.classes }
+    requires described { described.now ≡ home.of_package.now.description.items.classes }
+    requires once { IsDescribedOnce home.of_package.now.description.items.classes (class_seen class) }
     ensures is { IfOk result
         (λ c.
         c
@@ -302,7 +297,7 @@ fn named_class(
     if class.flags().is_interface() {
         interface_in(alloc, home.index, home.number, class)
     } else {
-        named_proper(alloc, home, records, class)
+        named_proper(alloc, home, described, class)
     }
 }
 
@@ -319,9 +314,9 @@ fn push_classes(
         (classes_of home.entry.number home.entry.of_package.now)) }
     ensures sized { OnOk result (All IsSized named.new.items) }
 {
-    let records = records_of(alloc, home.of_package.descriptor().classes())?;
+    let described = DescribedClasses::of(alloc, home.of_package)?;
     'classes: for class in home.of_package.classes().iter() {
-        named.push(named_class(alloc, home, records.as_slice(), class)?)?;
+        named.push(named_class(alloc, home, &described, class)?)?;
     }
     Ok(())
 }
@@ -339,7 +334,7 @@ pub(crate) fn class_records<'x, 'n, 'p, 'a>(
     ensures sized { IfOk result (λ v. All IsSized v.items) }
 {
     let mut named = Vec::new(alloc);
-    'packages: for (k, package) in packages.as_slice().iter().enumerate() {
+    'packages: for (k, package) in packages.iter().enumerate() {
         let home = Home {
             index,
             roles,

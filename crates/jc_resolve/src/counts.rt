@@ -31,12 +31,12 @@ pub(crate) fn packages_few(packages: &Packages<'_, '_>) -> Result<(), LinkFault>
 }
 
 /// How many classes and interfaces there are.
-fn class_total(packages: &Packages<'_, '_>) -> u32
+pub(crate) fn class_total(packages: &Packages<'_, '_>) -> u32
     requires { length packages.now ≤ 16 }
     ensures { result ≡ class_total packages.now }
 {
     let mut count: u32 = 0;
-    'packages: for package in packages.as_slice() {
+    'packages: for package in packages.iter() {
         count += package.classes().count() as u32;
     }
     count
@@ -71,12 +71,12 @@ fn method_count(descriptor: &DescPart<'_>) -> u32
 }
 
 /// How many methods there are.
-fn method_total(packages: &Packages<'_, '_>) -> u32
+pub(crate) fn method_total(packages: &Packages<'_, '_>) -> u32
     requires { length packages.now ≤ 16 }
     ensures { result ≡ method_total packages.now }
 {
     let mut count: u32 = 0;
-    'packages: for package in packages.as_slice() {
+    'packages: for package in packages.iter() {
         count += method_count(&package.descriptor());
     }
     count

@@ -1,5 +1,5 @@
 ghost use Rattle.std.specs.Prelude.{◌≡◌, map, option_and_then, slice_get, IfOk};
-ghost use Rattle.cap_pool.specs.Export.{class_seen, classes_left};
+ghost use Rattle.cap_pool.specs.Export.{exported_class_seen, exported_left};
 ghost use Rattle.cap_package.specs.Agreement.{or_none};
 ghost use Rattle.jc_resolve.specs.Numbers.{exported_classes};
 
@@ -13,7 +13,7 @@ pub(crate) type Exports<'a> = Items<ExportedClass<'a>>;
 
 /// Classes that are exported, in a list.
 fn listed<'a>(alloc: Global, exported: ExportedClasses<'a>) -> Result<Exports<'a>, AllocError>
-    ensures { IfOk result (λ classes. map class_seen classes ≡ classes_left exported.entry) }
+    ensures { IfOk result (λ classes. map exported_class_seen classes ≡ exported_left exported.entry) }
 {
     let mut classes = Vec::new(alloc);
     'classes: for class in exported {
@@ -24,7 +24,7 @@ fn listed<'a>(alloc: Global, exported: ExportedClasses<'a>) -> Result<Exports<'a
 
 /// The classes that one package exports, by their tokens.
 fn exports_of<'a>(alloc: Global, package: &Package<'_, 'a>) -> Result<Exports<'a>, AllocError>
-    ensures { IfOk result (λ classes. map class_seen classes ≡ or_none «package».now.export) }
+    ensures { IfOk result (λ classes. map exported_class_seen classes ≡ or_none «package».now.export) }
 {
     match package.export() {
         Some(export) => listed(alloc, export.iter()),
@@ -37,10 +37,10 @@ pub(crate) fn exported_classes<'a>(
     alloc: Global,
     packages: &Packages<'_, 'a>,
 ) -> Result<Items<Exports<'a>>, AllocError>
-    ensures { IfOk result (λ exports. map (map class_seen) exports ≡ exported_classes packages.now) }
+    ensures { IfOk result (λ exports. map (map exported_class_seen) exports ≡ exported_classes packages.now) }
 {
     let mut exports = Vec::new(alloc);
-    'packages: for package in packages.as_slice() {
+    'packages: for package in packages.iter() {
         exports.push(exports_of(alloc, package)?)?;
     }
     Ok(Items::of(exports))

@@ -35,7 +35,7 @@ pub enum LinkFault {
     InstanceLong(u16, u32),
     /// So many static cells, above 32,768.
     TooManyStatics(u32),
-    /// The package, and the number of a pool entry that has not exactly one member.
+    /// The package, and the number of a pool entry that does not have exactly one member.
     NoMember(u16, u16),
     /// The package, and the number of a handler that catches no class below throwable.
     BadCatch(u16, u16),

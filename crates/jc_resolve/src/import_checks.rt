@@ -1,7 +1,7 @@
 ghost use Rattle.std.specs.Prelude.{◌≡◌, ◌≤◌, length};
 ghost use Rattle.std.specs.List.{range_with_len};
 ghost use Rattle.jc_resolve.specs.Conditions.{import_tokens, import_fault, no_package_fault, named_in};
-ghost use Rattle.jc_resolve.specs.Fault.{place_of};
+ghost use Rattle.jc_resolve.specs.Fault.{link_place};
 ghost use Rattle.first_fault.specs.Least.{least_from, least_of, refused};
 
 use crate::fault::LinkFault;
@@ -27,7 +27,7 @@ fn imports_of(
     count: u8,
     least: Option<LinkFault>,
 ) -> Option<LinkFault>
-    ensures { result ≡ least_from place_of least (import_fault packages.now «package») (range_with_len 0 count) }
+    ensures { result ≡ least_from link_place least (import_fault packages.now «package») (range_with_len 0 count) }
 {
     let mut least = least;
     'imports: for token in 0..count {
@@ -40,10 +40,10 @@ fn imports_of(
 #[tactic(auto, using(crate::proofs::NamedFaults::least_imports))]
 pub(crate) fn imports_met(packages: &Packages<'_, '_>) -> Result<(), LinkFault>
     requires { length packages.now ≤ 16 }
-    ensures { result ≡ refused (least_of place_of (no_package_fault packages.now) (named_in import_tokens packages.now)) }
+    ensures { result ≡ refused (least_of link_place (no_package_fault packages.now) (named_in import_tokens packages.now)) }
 {
     let mut least = None;
-    'packages: for (k, package) in packages.as_slice().iter().enumerate() {
+    'packages: for (k, package) in packages.iter().enumerate() {
         least = imports_of(packages, k as u16, package.imports().count(), least);
     }
     refuse(least)

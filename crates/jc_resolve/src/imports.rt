@@ -1,10 +1,11 @@
 ghost use Rattle.std.specs.Prelude.{◌≡◌, ◌<◌, ◌≤◌, IfOk, IfSome, length, map, position};
-ghost use Rattle.cap_frame.specs.Packages.{package_seen, packages_left};
+ghost use Rattle.cap_frame.specs.Packages.{package_seen, packages_left as imports_left};
+ghost use Rattle.cap_package.specs.PackagesLeft.{packages_left};
 ghost use Rattle.jc_resolve.specs.Imports.{first_meeting, imports_met, met_among};
 ghost use Rattle.jc_resolve.specs.References.{meets, met_by};
 
 use cap_frame::{PackageInfo, PackageInfos};
-use cap_package::{Package, Packages};
+use cap_package::{Package, Packages, PackagesIter};
 use jc_base::Items;
 use std::alloc::{AllocError, Global};
 
@@ -17,18 +18,19 @@ fn meets(asked: &PackageInfo<'_>, package: &Package<'_, '_>) -> bool
 }
 
 /// Where the first package stands that meets an import.
-fn place_meeting(packages: &[Package<'_, '_>], asked: PackageInfo<'_>) -> Option<usize>
-    ensures is { result ≡ position (meets (package_seen asked.entry)) packages.now }
-    ensures below { IfSome result (λ n. n < length packages.now) }
+fn place_meeting(packages: PackagesIter<'_, '_, '_>, asked: PackageInfo<'_>) -> Option<usize>
+    ensures is { result ≡ position (meets (package_seen asked.entry)) (packages_left packages.entry) }
+    ensures below { IfSome result (λ n. n < length (packages_left packages.entry)) }
 {
-    packages.iter().position(|p| meets(&asked, p))
+    let mut packages = packages;
+    packages.position(|p| meets(&asked, p))
 }
 
 /// The first package that meets an import.
-fn first_meeting(packages: &[Package<'_, '_>], asked: PackageInfo<'_>) -> Option<u16>
-    requires { length packages.now ≤ 65535 }
-    ensures is { result ≡ first_meeting packages.now (package_seen asked.entry) }
-    ensures below { IfSome result (λ n. n < length packages.now) }
+fn first_meeting(packages: PackagesIter<'_, '_, '_>, asked: PackageInfo<'_>) -> Option<u16>
+    requires { length (packages_left packages) ≤ 65535 }
+    ensures is { result ≡ first_meeting (packages_left packages.entry) (package_seen asked.entry) }
+    ensures below { IfSome result (λ n. n < length (packages_left packages.entry)) }
 {
     match place_meeting(packages, asked) {
         Some(n) => Some(n as u16),
@@ -46,8 +48,7 @@ pub(crate) fn met_by(packages: &Packages<'_, '_>, package: u16, token: u8) -> Op
         return None;
     }
     let asked = packages.at(package as usize).imports().at(token)?;
-    let earlier = &packages.as_slice()[..package as usize];
-    first_meeting(earlier, asked)
+    first_meeting(packages.before(package as usize), asked)
 }
 
 /// The packages that meet the imports of one, by token.
@@ -56,11 +57,11 @@ pub(crate) type Met = Items<Option<u16>>;
 /// For each import the first package that meets it.
 fn met_in(
     alloc: Global,
-    packages: &[Package<'_, '_>],
+    packages: PackagesIter<'_, '_, '_>,
     imports: PackageInfos<'_>,
 ) -> Result<Met, AllocError>
-    requires { length packages.now ≤ 65535 }
-    ensures { IfOk result (λ met. met ≡ map (first_meeting packages.now) (packages_left imports.entry)) }
+    requires { length (packages_left packages) ≤ 65535 }
+    ensures { IfOk result (λ met. met ≡ map (first_meeting (packages_left packages.entry)) (imports_left imports.entry)) }
 {
     let mut met = Vec::new(alloc);
     'imports: for asked in imports {
@@ -77,10 +78,9 @@ pub(crate) fn imports_met(
     requires { length packages.now ≤ 16 }
     ensures { IfOk result (λ met. met ≡ imports_met packages.now) }
 {
-    let all = packages.as_slice();
     let mut met = Vec::new(alloc);
-    'packages: for (k, package) in all.iter().enumerate() {
-        met.push(met_in(alloc, &all[..k], package.imports().iter())?)?;
+    'packages: for (k, package) in packages.iter().enumerate() {
+        met.push(met_in(alloc, packages.before(k), package.imports().iter())?)?;
     }
     Ok(Items::of(met))
 }

@@ -1,6 +1,6 @@
 ghost use Rattle.std.specs.Prelude.{◌≡◌, Some};
 ghost use Rattle.first_fault.specs.Least.{lesser, refused};
-ghost use Rattle.jc_resolve.specs.Fault.{place_of as link_place};
+ghost use Rattle.jc_resolve.specs.Fault.{link_place};
 
 use crate::fault::LinkFault;
 use first_fault::{Fault, Place};
@@ -8,7 +8,7 @@ use first_fault::{Fault, Place};
 impl Fault for LinkFault {
     ghost place_of = { link_place };
 
-    #[tactic(auto, unfolding(crate::specs::Fault::place_of))]
+    #[tactic(auto, unfolding(crate::specs::Fault::link_place))]
     fn place(self) -> Place {
         match self {
             LinkFault::TooManyPackages(n) => Place::one(n),

@@ -7,6 +7,7 @@
 mod class_index;
 mod class_records;
 mod counts;
+mod described_classes;
 mod exports;
 mod fault;
 mod home;
@@ -23,6 +24,7 @@ mod place;
 mod reference_checks;
 mod world_types;
 
+pub use described_classes::DescribedClasses;
 pub use fault::{LinkEnd, LinkFault};
 pub use least::{lesser, refuse};
 pub use named::{DispatchTable, NamedClass, NamedClasses};

@@ -1,10 +1,11 @@
 ghost use Rattle.std.specs.Prelude.{◌≡◌, ◌+◌, ◌≤◌, ◌<◌, length, map, IfOk, OnOk};
 ghost use Rattle.offset_set.specs.Bits.{holds};
-ghost use Rattle.cap_desc.specs.ClassRecords.{classes_left};
+ghost use Rattle.cap_desc.specs.ClassRecords.{described_left};
 ghost use Rattle.cap_desc.specs.MemberLists.{methods_left};
 ghost use Rattle.jc_resolve.specs.Counts.{method_count, method_total};
 ghost use Rattle.jc_resolve.specs.Numbers.{none_numbered, method_spots, spot_of_method, spots_of_classes, with_all};
 
+use crate::counts::method_total;
 use crate::numbers::Numbers;
 use crate::place::RecordPlace;
 use cap_desc::{DescClasses, DescMethods};
@@ -47,12 +48,12 @@ fn number_classes(
     interfaces: &Offsets,
     classes: DescClasses<'_>,
 ) -> Result<(), AllocError>
-    requires { numbers.old.next + method_count (classes_left classes) < 65535 }
+    requires { numbers.old.next + method_count (described_left classes) < 65535 }
     ensures numbers { OnOk result
         (numbers.new
         ≡ with_all numbers.old
-        (spots_of_classes «package» (holds interfaces.now) (classes_left classes.entry))) }
-    ensures next { OnOk result (numbers.new.next ≡ numbers.old.next + method_count (classes_left classes.entry)) }
+        (spots_of_classes «package» (holds interfaces.now) (described_left classes.entry))) }
+    ensures next { OnOk result (numbers.new.next ≡ numbers.old.next + method_count (described_left classes.entry)) }
 {
     'classes: for class in classes {
         number_class(
@@ -74,8 +75,8 @@ pub(crate) fn number_methods(
     requires few { method_total packages.now ≤ 32768 }
     ensures { IfOk result (λ t. t ≡ with_all none_numbered (method_spots 0 packages.now)) }
 {
-    let mut numbers = Numbers::new(alloc);
-    'packages: for (k, package) in packages.as_slice().iter().enumerate() {
+    let mut numbers = Numbers::with_room(alloc, method_total(packages) as usize)?;
+    'packages: for (k, package) in packages.iter().enumerate() {
         let interfaces = interface_offsets(&package.classes());
         number_classes(
             &mut numbers,

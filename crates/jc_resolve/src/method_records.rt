@@ -1,31 +1,41 @@
-ghost use Rattle.std.specs.Prelude.{◌≡◌, ◌+◌, ◌≤◌, ◌++◌, length, map, take, drop, slice_index, All, IfOk, OnOk};
+ghost use Rattle.std.specs.Prelude.{◌≡◌, ◌+◌, ◌≤◌, ◌<◌, ◌++◌, length, map, take, drop, slice_index, All, IfOk, IfSome, OnOk};
 ghost use Rattle.offset_set.specs.Bits.{holds};
-ghost use Rattle.cap_desc.specs.ClassRecords.{class_seen, classes_left};
+ghost use Rattle.cap_desc.specs.ClassRecords.{described_class_seen, described_left};
 ghost use Rattle.cap_desc.specs.MemberLists.{methods_left};
 ghost use Rattle.cap_desc.specs.MemberRecords.{method_seen};
 ghost use Rattle.cap_method.specs.MethodPart.{handlers_left, header_seen};
 ghost use Rattle.cap_package.specs.PackageRecord.{PackageRecord, names_interface};
 ghost use Rattle.cap_pool.specs.Pool.{entries};
 ghost use Rattle.jc_resolve.specs.Named.{IsAgreed};
-ghost use Rattle.jc_resolve.specs.NamedMethods.{HasFewHandlers, caught, handler_named, offset_in_info, no_body, body_after, body_of, class_described, have_headers, is_init, named_method};
-ghost use Rattle.jc_resolve.specs.Numbering.{numbered, numbered_methods, methods_of_class, methods_of_classes};
+ghost use Rattle.jc_resolve.specs.NamedMethods.{HasFewHandlers, class_or_none, caught, handler_named, offset_in_info, no_body, body_after, body_of, class_described, have_headers, is_init, named_method};
+ghost use Rattle.jc_resolve.specs.Numbering.{numbered, numbered_classes, numbered_methods, methods_of_class, methods_of_classes};
+ghost use Rattle.jc_resolve.specs.References.{class_named};
 
 use crate::class_index::Index;
 use crate::home::Home;
-use crate::reference_checks::reference_in;
 use crate::world_types::signature_of;
 use cap_desc::{AccessFlags, DescClass, MethodInfo};
 use cap_method::{HandlerInfo, Handlers, MethodHeader};
 use cap_package::{Packages, header, interface_offsets};
-use cap_pool::Pool;
+use cap_pool::{Pool, PoolReference};
 use jc_base::{Handler, Items, MethodRec, Sig};
 use offset_set::Offsets;
 use std::alloc::{AllocError, Global};
 
-/// The tag of a Classref.
-const CLASSREF: u8 = 1;
 /// The flag of a constructor.
 const INIT: u8 = 0x80;
+
+/// The class that a Classref names; 0 where none is named.
+fn class_or_none(home: Home<'_, '_, '_, '_>, reference: PoolReference) -> u16
+    ensures { result ≡ class_or_none home.entry.index.now home.entry.number reference }
+{
+    match reference {
+        PoolReference::Class(class) => {
+            home.index.class_referred(home.number, class).unwrap_or(0)
+        }
+        _ => 0,
+    }
+}
 
 /// The class that a handler catches, by its catch_type_index.
 fn caught(home: Home<'_, '_, '_, '_>, pool: &Pool<'_>, catch_type: u16) -> u16
@@ -35,15 +45,7 @@ fn caught(home: Home<'_, '_, '_, '_>, pool: &Pool<'_>, catch_type: u16) -> u16
         return home.roles[1] as u16;
     }
     match pool.at(catch_type) {
-        Some(entry) => {
-            if entry.tag == CLASSREF {
-                home.index
-                    .class_named(home.number, reference_in(entry.bytes))
-                    .unwrap_or(0)
-            } else {
-                0
-            }
-        }
+        Some(entry) => class_or_none(home, entry.reference()),
         None => 0,
     }
 }
@@ -206,26 +208,59 @@ fn body_of(
     }
 }
 
-/// The class that a record of the Descriptor names.
-#[tactic(auto, unfolding(crate::specs::NamedMethods::class_described))]
-fn class_described(index: &Index<'_, '_, '_>, package: u16, class: DescClass<'_>) -> u16
-    ensures is { result ≡ class_described index.now «package» (class_seen class.entry) }
-{
-    index.class_named(package, class.class_ref()).unwrap_or(0)
+/// A record of the Descriptor, with its number in it, the number of the class that it names, and whether the methods of
+/// that class have headers.
+#[derive(Clone, Copy)]
+struct OfClass<'a> {
+    class_no: u16,
+    record: DescClass<'a>,
+    class: u16,
+    has_headers: bool,
 }
 
-/// Whether the methods of a record of the Descriptor have headers.
+/// Whether the methods of a record of the Descriptor have headers, by the class that it names.
 #[tactic(auto, unfolding(crate::specs::NamedMethods::have_headers))]
-fn have_headers(home: Home<'_, '_, '_, '_>, interfaces: &Offsets, class: DescClass<'_>) -> bool
-    requires { holds interfaces.now ≡ names_interface home.of_package.now.classes }
-    ensures { result ≡ have_headers home.entry.index.now home.entry.number home.entry.of_package.now (class_seen class.entry) }
+fn have_headers(
+    home: Home<'_, '_, '_, '_>,
+    interfaces: &Offsets,
+    class: DescClass<'_>,
+    named: Option<u16>,
+) -> bool
+    requires interfaces { holds interfaces.now ≡ names_interface home.of_package.now.classes }
+    requires named { named ≡ class_named home.index.now home.number (described_class_seen class).class_ref }
+    requires below { IfSome named (λ c. c < length (numbered_classes home.index.now)) }
+    ensures { result ≡ have_headers home.entry.index.now home.entry.number home.entry.of_package.now (described_class_seen class.entry) }
 {
     if interfaces.has(class.class_ref()) {
         return false;
     }
-    match home.index.class_named(home.number, class.class_ref()) {
+    match named {
         Some(class) => !home.index.is_interface(class),
         None => false,
+    }
+}
+
+/// A record of the Descriptor with the class that it names.
+#[tactic(auto, unfolding(crate::specs::NamedMethods::class_described))]
+fn of_class<'a>(
+    home: Home<'_, '_, '_, '_>,
+    interfaces: &Offsets,
+    class_no: u16,
+    record: DescClass<'a>,
+) -> OfClass<'a>
+    requires { holds interfaces.now ≡ names_interface home.of_package.now.classes }
+    ensures number { result.class_no ≡ class_no }
+    ensures record_is { described_class_seen result.record ≡ described_class_seen record.entry }
+    ensures class { result.class ≡ class_described home.entry.index.now home.entry.number (described_class_seen record.entry) }
+    ensures headers { result.has_headers
+        ≡ have_headers home.entry.index.now home.entry.number home.entry.of_package.now (described_class_seen record.entry) }
+{
+    let named = home.index.class_named(home.number, record.class_ref());
+    OfClass {
+        class_no,
+        record,
+        class: named.unwrap_or(0),
+        has_headers: have_headers(home, interfaces, record, named),
     }
 }
 
@@ -241,19 +276,19 @@ fn is_init(flags: AccessFlags) -> bool
 fn method_record(
     alloc: Global,
     home: Home<'_, '_, '_, '_>,
-    class_no: u16,
-    class: DescClass<'_>,
-    has_header: bool,
+    of_class: OfClass<'_>,
     method_no: u16,
     method: MethodInfo,
 ) -> Result<MethodRec, AllocError>
-    requires { has_header ≡ have_headers home.index.now home.number home.of_package.now (class_seen class) }
+    requires class { of_class.class ≡ class_described home.index.now home.number (described_class_seen of_class.record) }
+    requires headers { of_class.has_headers
+        ≡ have_headers home.index.now home.number home.of_package.now (described_class_seen of_class.record) }
     ensures { IfOk result
         (λ m.
         m
         ≡ named_method home.entry.index.now home.entry.roles
-        (numbered home.entry.number home.entry.of_package.now class_no
-        (class_seen class.entry) method_no (method_seen method))) }
+        (numbered home.entry.number home.entry.of_package.now of_class.entry.class_no
+        (described_class_seen of_class.entry.record) method_no (method_seen method))) }
 {
     let sig = signature_of(
         alloc,
@@ -263,12 +298,12 @@ fn method_record(
         &home.of_package.descriptor(),
         method.type_offset,
     )?;
-    let body = body_of(alloc, home, &method, &sig, has_header)?;
+    let body = body_of(alloc, home, &method, &sig, of_class.has_headers)?;
     Ok(MethodRec {
         package: home.number,
-        class: class_described(home.index, home.number, class),
+        class: of_class.class,
         token: method.token,
-        class_no,
+        class_no: of_class.class_no,
         method_no,
         is_static: method.flags.is_static(),
         is_init: is_init(method.flags),
@@ -296,15 +331,15 @@ fn push_class(
     ensures { OnOk result
         (methods.new.items
         ≡ methods.old.items ++ map (named_method home.entry.index.now home.entry.roles)
-        (methods_of_class home.entry.number home.entry.of_package.now class_no (class_seen class.entry) 0
-        (class_seen class.entry).methods)) }
+        (methods_of_class home.entry.number home.entry.of_package.now class_no (described_class_seen class.entry) 0
+        (described_class_seen class.entry).methods)) }
 {
-    let has_header = have_headers(home, interfaces, class);
+    let of_class = of_class(home, interfaces, class_no, class);
     // Their number is one that `method_count` can answer.
     let _count = class.method_count();
     let mut method_no: u16 = 0;
     'methods: for method in class.methods() {
-        methods.push(method_record(alloc, home, class_no, class, has_header, method_no, method)?)?;
+        methods.push(method_record(alloc, home, of_class, method_no, method)?)?;
         method_no += 1;
     }
     Ok(())
@@ -353,7 +388,7 @@ pub(crate) fn methods_after<'x, 'n, 'p, 'a>(
     ensures few { IfOk result (λ _. All HasFewHandlers packages.now) }
 {
     let mut methods = Vec::new(alloc);
-    'packages: for (k, package) in packages.as_slice().iter().enumerate() {
+    'packages: for (k, package) in packages.iter().enumerate() {
         let home = Home {
             index,
             roles,

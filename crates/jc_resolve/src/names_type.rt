@@ -3,13 +3,14 @@ ghost use Rattle.jc_resolve.specs.Named.{IsAgreed};
 ghost use Rattle.jc_resolve.specs.NamedClasses.{named_classes};
 ghost use Rattle.jc_resolve.specs.NamedMethods.{named_methods};
 ghost use Rattle.jc_resolve.specs.Numbering.{numbered_classes, numbered_methods, method_at};
-ghost use Rattle.jc_resolve.specs.References.{met_by, class_named, exported_field, exported_method, Refers};
+ghost use Rattle.jc_resolve.specs.References.{met_by, class_referred, exported_field, exported_method, Refers};
 ghost use Rattle.jc_resolve.specs.WorldTypes.{type_of};
 
 use crate::class_index::Index;
 use crate::named::NamedClasses;
 use crate::place::RecordPlace;
 use crate::world_types::type_of;
+use cap_bytes::ClassReference;
 use cap_desc::TypeItem;
 use cap_package::Packages;
 use jc_base::{Methods, Ty};
@@ -76,14 +77,14 @@ impl<'n, 'p, 'a> Names<'n, 'p, 'a> {
         self.methods
     }
 
-    /// The class that a reference in a package names.
-    pub fn class_named(&self, package: u16, reference: u16) -> Option<u16>
-        ensures is { result ≡ class_named self.now.packages «package» reference }
+    /// The class to which a reference in a package leads.
+    pub fn class_referred(&self, package: u16, reference: ClassReference) -> Option<u16>
+        ensures is { result ≡ class_referred self.now.packages «package» reference }
         // The one class to which it refers, by its offset in the package itself or by the tokens of an import.
         ensures refers { (c : ℕ) → (result ≡ Some c) ↔ Refers self.now.packages «package» reference c }
         ensures below { IfSome result (λ c. c < length (numbered_classes self.now.packages)) }
     {
-        self.index.class_named(package, reference)
+        self.index.class_referred(package, reference)
     }
 
     /// The method whose header stands at an offset of a package's Method component.

@@ -35,7 +35,7 @@ fn checked<'n, 'p, 'a>(
 }
 
 /// The names of packages, or the fault that is named.
-#[tactic(auto, unfolding(crate::specs::Names::names_of, crate::specs::NamedClasses::named_classes, crate::specs::NamedMethods::named_methods))]
+#[tactic(auto, unfolding(crate::specs::Names::names_of))]
 fn names_or_fault<'n, 'p, 'a>(
     alloc: Global,
     packages: &'n Packages<'p, 'a>,

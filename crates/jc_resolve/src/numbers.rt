@@ -1,4 +1,4 @@
-ghost use Rattle.std.specs.Prelude.{◌≡◌, ◌+◌, ◌<◌, OnOk};
+ghost use Rattle.std.specs.Prelude.{◌≡◌, ◌+◌, ◌<◌, IfOk, OnOk};
 ghost use Rattle.jc_resolve.specs.Numbers.{none_numbered, number_at, entered, with_next};
 
 use crate::place::RecordPlace;
@@ -22,25 +22,25 @@ impl Model for Numbers {
 }
 
 impl Numbers {
-    /// Nothing is numbered.
-    pub(crate) fn new(alloc: Global) -> Numbers
-        ensures { result ≡ none_numbered }
+    /// Nothing is numbered, and there is room for so many things.
+    pub(crate) fn with_room(alloc: Global, count: usize) -> Result<Numbers, AllocError>
+        ensures { IfOk result (λ numbers. numbers ≡ none_numbered) }
     {
-        Numbers {
-            map: IndexMap::new(alloc),
+        Ok(Numbers {
+            map: IndexMap::with_capacity(alloc, count)?,
             next: 0,
-        }
+        })
     }
 
-    /// Keeps a number at a place where none is kept.
-    #[tactic(auto, unfolding(crate::specs::Numbers::entered))]
+    /// Keeps the next number at a place where none is kept.
+    #[tactic(auto, unfolding(crate::specs::Numbers::entered), using(crate::proofs::Restored::restoring))]
     fn enter(&mut self, place: RecordPlace) -> Result<(), AllocError>
         ensures { OnOk result (self.new ≡ record { entries = entered self.old.entries place self.old.next; next = self.old.next }) }
     {
-        if self.map.contains_key(&place) {
-            return Ok(());
+        if let Some(first) = self.map.insert(place, self.next)? {
+            // It stays with the first thing there.
+            self.map.insert(place, first)?;
         }
-        self.map.insert(place, self.next)?;
         Ok(())
     }
 

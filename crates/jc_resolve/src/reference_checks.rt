@@ -3,13 +3,13 @@ ghost use Rattle.cap_bytes.specs.Table.{numbers};
 ghost use Rattle.cap_class.specs.ClassFormat.{Interface};
 ghost use Rattle.cap_class.specs.ClassPart.{class_seen, classes_left};
 ghost use Rattle.cap_class.specs.Lists.{interfaces_left};
-ghost use Rattle.cap_desc.specs.ClassRecords.{class_seen as record_seen, classes_left as records_left};
+ghost use Rattle.cap_desc.specs.ClassRecords.{described_class_seen as record_seen, described_left as records_left};
 ghost use Rattle.cap_desc.specs.Members.{fields_of, methods_of};
 ghost use Rattle.cap_desc.specs.MemberLists.{fields_left};
 ghost use Rattle.cap_desc.specs.TypeLists.{types_left};
 ghost use Rattle.cap_package.specs.Descriptions.{description};
 ghost use Rattle.jc_resolve.specs.Conditions.{reference_fault, references_of_class, reference_of_field, references_of_record, reference_of_type, references_of_field_type, references_of_method, references_of_types, class_references, no_class_fault, named_in};
-ghost use Rattle.jc_resolve.specs.Fault.{place_of};
+ghost use Rattle.jc_resolve.specs.Fault.{link_place};
 ghost use Rattle.first_fault.specs.Least.{least_from, least_of, refused};
 ghost use Rattle.jc_resolve.specs.NamedMethods.{reference_in};
 
@@ -37,7 +37,7 @@ fn reference_fault(index: &Index<'_, '_, '_>, package: u16, reference: u16) -> O
 }
 
 /// The class reference in the first two of three bytes.
-pub(crate) fn reference_in(bytes: [u8; 3]) -> u16
+fn reference_in(bytes: [u8; 3]) -> u16
     ensures { result ≡ reference_in bytes }
 {
     bytes[0] as u16 * 256 + bytes[1] as u16
@@ -51,7 +51,7 @@ fn least_of_interfaces(
     least: Option<LinkFault>,
 ) -> Option<LinkFault>
     ensures { result
-        ≡ least_from place_of least
+        ≡ least_from link_place least
         (reference_fault index.now «package»)
         (map (λ (i : Interface). i.class_ref) (interfaces_left interfaces.entry)) }
 {
@@ -69,7 +69,7 @@ fn least_of_class(
     class: ClassInfo<'_>,
     least: Option<LinkFault>,
 ) -> Option<LinkFault>
-    ensures { result ≡ least_from place_of least (reference_fault index.now «package») (references_of_class (class_seen class.entry)) }
+    ensures { result ≡ least_from link_place least (reference_fault index.now «package») (references_of_class (class_seen class.entry)) }
 {
     let super_ref = class.super_ref();
     if super_ref == 0xFFFF {
@@ -88,7 +88,7 @@ fn least_of_classes(
     least: Option<LinkFault>,
 ) -> Option<LinkFault>
     ensures { result
-        ≡ least_from place_of least
+        ≡ least_from link_place least
         (reference_fault index.now «package»)
         (flat_map references_of_class (classes_left classes.entry)) }
 {
@@ -106,7 +106,7 @@ fn table_named(
     table: Table<'_>,
     least: Option<LinkFault>,
 ) -> Option<LinkFault>
-    ensures { result ≡ least_from place_of least (reference_fault index.now «package») (numbers table.entry) }
+    ensures { result ≡ least_from link_place least (reference_fault index.now «package») (numbers table.entry) }
 {
     let mut least = least;
     'references: for reference in table {
@@ -124,7 +124,7 @@ fn fields_named(
     least: Option<LinkFault>,
 ) -> Option<LinkFault>
     ensures { result
-        ≡ least_from place_of least
+        ≡ least_from link_place least
         (reference_fault index.now «package»)
         (flat_map reference_of_field (fields_left fields.entry)) }
 {
@@ -149,7 +149,7 @@ fn record_whole(
     least: Option<LinkFault>,
 ) -> Option<LinkFault>
     ensures { result
-        ≡ least_from place_of least
+        ≡ least_from link_place least
         (reference_fault index.now «package»)
         (references_of_record (record_seen described.entry)) }
 {
@@ -170,7 +170,7 @@ fn least_of_records(
     least: Option<LinkFault>,
 ) -> Option<LinkFault>
     ensures { result
-        ≡ least_from place_of least
+        ≡ least_from link_place least
         (reference_fault index.now «package»)
         (flat_map references_of_record (records_left records.entry)) }
 {
@@ -188,7 +188,7 @@ fn type_named(
     item: TypeItem,
     least: Option<LinkFault>,
 ) -> Option<LinkFault>
-    ensures { result ≡ least_from place_of least (reference_fault index.now «package») (reference_of_type item) }
+    ensures { result ≡ least_from link_place least (reference_fault index.now «package») (reference_of_type item) }
 {
     if item.nibble == REFERENCE || item.nibble == ARRAY {
         return lesser(least, reference_fault(index, package, item.class_ref));
@@ -205,7 +205,7 @@ fn types_named(
     least: Option<LinkFault>,
 ) -> Option<LinkFault>
     ensures { result
-        ≡ least_from place_of least
+        ≡ least_from link_place least
         (reference_fault index.now «package»)
         (flat_map reference_of_type (types_left types.entry)) }
 {
@@ -225,7 +225,7 @@ fn field_types_named(
     least: Option<LinkFault>,
 ) -> Option<LinkFault>
     ensures { result
-        ≡ least_from place_of least
+        ≡ least_from link_place least
         (reference_fault index.now «package»)
         (flat_map
         (references_of_field_type (description descriptor.now))
@@ -249,7 +249,7 @@ fn method_types_named(
     least: Option<LinkFault>,
 ) -> Option<LinkFault>
     ensures { result
-        ≡ least_from place_of least
+        ≡ least_from link_place least
         (reference_fault index.now «package»)
         (flat_map
         (references_of_method (description descriptor.now))
@@ -272,7 +272,7 @@ fn package_whole(
     package: &Package<'_, '_>,
     least: Option<LinkFault>,
 ) -> Option<LinkFault>
-    ensures { result ≡ least_from place_of least (reference_fault index.now number) (class_references «package».now) }
+    ensures { result ≡ least_from link_place least (reference_fault index.now number) (class_references «package».now) }
 {
     let descriptor = package.descriptor();
     let classes = least_of_classes(index, number, package.classes().iter(), least);
@@ -288,10 +288,10 @@ pub(crate) fn classes_named(
     packages: &Packages<'_, '_>,
 ) -> Result<(), LinkFault>
     requires { length packages.now ≤ 16 }
-    ensures { result ≡ refused (least_of place_of (no_class_fault index.now) (named_in class_references packages.now)) }
+    ensures { result ≡ refused (least_of link_place (no_class_fault index.now) (named_in class_references packages.now)) }
 {
     let mut least = None;
-    'packages: for (k, package) in packages.as_slice().iter().enumerate() {
+    'packages: for (k, package) in packages.iter().enumerate() {
         least = package_whole(index, k as u16, package, least);
     }
     refuse(least)

@@ -11,7 +11,7 @@ use Rattle.jc_base.specs.Cell.{width}
 use Rattle.cap_method.specs.declared.arrays.ArrayInits.{ArrayInits}
 use Rattle.cap_method.specs.StaticFormat.{Array}
 use Rattle.cap_method.specs.StaticPart.{arrays_left}
-use Rattle.cap_desc.specs.ClassRecords.{classes_left}
+use Rattle.cap_desc.specs.ClassRecords.{described_left}
 use Rattle.cap_desc.specs.MemberLists.{fields_left}
 use Rattle.cap_desc.specs.Members.{fields_of}
 use Rattle.cap_desc.specs.MembersLeft.{fields_of_left}
@@ -25,7 +25,7 @@ use Rattle.cap_package.proofs.ArrayBytes.{arrays_short}
 use Rattle.jc_resolve.specs.WorldTypes.{kind_of}
 use Rattle.jc_resolve.proofs.DescribedFields.{fields_of-few, fields_left-few}
 use Rattle.jc_statics.specs.Words.{signed, words}
-use Rattle.jc_statics.specs.Arrays.{array_record, array_records, cells_of}
+use Rattle.jc_statics.specs.Arrays.{array_record, array_records, initial_cells}
 use Rattle.jc_statics.specs.Statics.{cells_at, static_cells}
 use Rattle.jc_statics.proofs.Steps.{next_item}
 use Rattle.jc_statics.proofs.ArrayLists.{one_package, words_length}
@@ -54,7 +54,7 @@ pub places_few : (x : StaticPlaces) → sum_by cells_at (places_left x) ≤ 2621
 places_few x =
     let a = cells_few (places_left x) in
     let b = filtered_few (place_in (description x.descriptor)) (fields_of_left x.fields) in
-    let c = length-append (fields_left x.fields.fields) (fields_of (classes_left x.fields.classes)) in
+    let c = length-append (fields_left x.fields.fields) (fields_of (described_left x.fields.classes)) in
     omega (arith, a, b, c, fields_left-few x.fields.fields, fields_of-few x.fields.classes)
 
 -- ---- cells of initial arrays
@@ -63,12 +63,12 @@ words_few : (b : Bool) (bytes : List ℕ) → length (cond b (map signed bytes) 
 words_few true bytes = omega (arith, length-map bytes signed)
 words_few false bytes = omega (arith, words_length bytes)
 
-cells_below : (arrays : List Array) → cells_of (map array_record arrays) ≤ array_bytes arrays
+cells_below : (arrays : List Array) → initial_cells (map array_record arrays) ≤ array_bytes arrays
 cells_below [] = omega arith
 cells_below (a ∷ arrays) =
     omega (arith, sum_by-cons (λ (r : ArrayRec). length r.initial) (array_record a) (map array_record arrays), sum_by-cons (λ (b : Array). length b.values) a arrays, words_few (leb a.kind 3) a.values, cells_below arrays)
 
-pub array_cells_few : (x : ArrayInits) → cells_of (map array_record (arrays_left x)) ≤ 65535
+pub array_cells_few : (x : ArrayInits) → initial_cells (map array_record (arrays_left x)) ≤ 65535
 array_cells_few x = omega (arith, cells_below (arrays_left x), arrays_short x)
 
 -- ---- package after package
@@ -76,9 +76,9 @@ array_cells_few x = omega (arith, cells_below (arrays_left x), arrays_short x)
 pub static_cells_more : (ps : List PackageRecord) (n : ℕ) (p : PackageRecord) → slice_get ps n ≡ Some p → static_cells (drop n ps) ≡ sum_by cells_at (static_places p) + static_cells (drop (n + 1) ps)
 static_cells_more ps n p e = ap static_cells (next_item ps n p e) ∙ sum_by-append cells_at (static_places p) (flat_map static_places (drop (n + 1) ps))
 
-pub array_cells_more : (ps : List PackageRecord) (n : ℕ) (p : PackageRecord) → slice_get ps n ≡ Some p → cells_of (array_records (drop n ps)) ≡ cells_of (map array_record p.statics.arrays) + cells_of (array_records (drop (n + 1) ps))
+pub array_cells_more : (ps : List PackageRecord) (n : ℕ) (p : PackageRecord) → slice_get ps n ≡ Some p → initial_cells (array_records (drop n ps)) ≡ initial_cells (map array_record p.statics.arrays) + initial_cells (array_records (drop (n + 1) ps))
 array_cells_more ps n p e =
-    ap (λ qs. cells_of (array_records qs)) (next_item ps n p e) ∙ ap cells_of (one_package p (drop (n + 1) ps))
+    ap (λ qs. initial_cells (array_records qs)) (next_item ps n p e) ∙ ap initial_cells (one_package p (drop (n + 1) ps))
     ∙ sum_by-append (λ (a : ArrayRec). length a.initial) (map array_record p.statics.arrays) (array_records (drop (n + 1) ps))
 
 pub array_count_more : (ps : List PackageRecord) (n : ℕ) (p : PackageRecord) → slice_get ps n ≡ Some p → length (array_records (drop n ps)) ≡ length p.statics.arrays + length (array_records (drop (n + 1) ps))

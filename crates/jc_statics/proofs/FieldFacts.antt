@@ -13,7 +13,7 @@ use Rattle.jc_base.specs.declared.record.StaticRec.{StaticRec}
 use Rattle.jc_base.specs.Class.{ClassTable}
 use Rattle.jc_base.specs.Order.{Below, same}
 use Rattle.jc_base.proofs.Lists.{All-slice_get, slice_get-front, slice_get-farther}
-use Rattle.jc_base.specs.Cell.{IsDeclared, IsInitialHandle, AreWordsOf}
+use Rattle.jc_base.specs.Cell.{IsDeclared, IsInitialHandle, AreInitialWords}
 use Rattle.jc_base.specs.Linked.{IsStatic}
 use Rattle.cap_method.specs.StaticFormat.{Array, Statics}
 use Rattle.cap_desc.specs.declared.type_item.TypeItem.{TypeItem}
@@ -115,7 +115,7 @@ reference_words told are n arrays t s few known kind =
     ]
 
 words_by : (told : ℕ → TypeItem → Ty) → AreTold told → (n : ℕ) (arrays : List ArrayRec) (t : ClassTable) (s : Site) → length arrays ≤ 4096 → IsSite n arrays s → (k : Kind) → kind_of s.place.ty ≡ k
-    → AreWordsOf t arrays k (type_at told s) (words_at s.first s.statics k s.place.offset)
+    → AreInitialWords t arrays k (type_at told s) (words_at s.first s.statics k s.place.offset)
 words_by told are n arrays t s few known kinds.Ref e = reference_words told are n arrays t s few known e
 words_by told are n arrays t s few known kinds.Byte e = signed_is (get_or (image s.statics) s.place.offset 0)
 words_by told are n arrays t s few known kinds.Short e = tt

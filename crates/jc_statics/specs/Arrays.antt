@@ -20,5 +20,5 @@ abbrev pub array_records : List PackageRecord → List ArrayRec
 array_records ps = map array_record (flat_map initial_arrays ps)
 
 -- the cells of arrays: one for each word
-abbrev pub cells_of : List ArrayRec → ℕ
-cells_of = sum_by (λ (a : ArrayRec). length a.initial)
+abbrev pub initial_cells : List ArrayRec → ℕ
+initial_cells = sum_by (λ (a : ArrayRec). length a.initial)

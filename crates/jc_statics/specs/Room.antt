@@ -3,7 +3,7 @@ use Rattle.std.specs.Prelude.{List, length, Option, Some, None, nat_lt, if◌the
 use Rattle.cap_package.specs.PackageRecord.{PackageRecord}
 use Rattle.jc_resolve.specs.declared.fault.LinkFault.{LinkFault}
 use Rattle.jc_resolve.specs.declared.fault.LinkFault.TheVariants.{TooManyStatics, NoRoom}
-use Rattle.jc_statics.specs.Arrays.{array_records, cells_of}
+use Rattle.jc_statics.specs.Arrays.{array_records, initial_cells}
 use Rattle.jc_statics.specs.Statics.{static_cells}
 
 -- the static cells are more than 32,768
@@ -14,4 +14,4 @@ statics_fault ps = if nat_lt 32768 (static_cells ps) then Some (TooManyStatics (
 abbrev pub arrays_fault : List PackageRecord → Option LinkFault
 arrays_fault ps =
     if nat_lt 4096 (length (array_records ps)) then Some (NoRoom (length (array_records ps)))
-    else (if nat_lt 32768 (cells_of (array_records ps)) then Some (NoRoom (cells_of (array_records ps))) else None)
+    else (if nat_lt 32768 (initial_cells (array_records ps)) then Some (NoRoom (initial_cells (array_records ps))) else None)

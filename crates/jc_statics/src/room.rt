@@ -3,7 +3,7 @@ ghost use Rattle.cap_method.specs.StaticPart.{array_seen, statics_seen};
 ghost use Rattle.cap_package.specs.StaticPlaces.{static_places};
 ghost use Rattle.first_fault.specs.Least.{refused};
 ghost use Rattle.jc_statics.specs.Words.{element_words};
-ghost use Rattle.jc_statics.specs.Arrays.{array_record, array_records, cells_of};
+ghost use Rattle.jc_statics.specs.Arrays.{array_record, array_records, initial_cells};
 ghost use Rattle.jc_statics.specs.Statics.{cells_at, static_cells};
 ghost use Rattle.jc_statics.specs.Room.{statics_fault, arrays_fault};
 
@@ -59,7 +59,7 @@ fn cells_of_array(array: &ArrayInit<'_>) -> usize
 /// The cells of the initial arrays of a package.
 #[tactic(auto, using(crate::proofs::Counts::array_cells_few))]
 fn array_cells_of_package(statics: &StaticPart<'_>) -> u32
-    ensures is { result ≡ cells_of (map array_record (statics_seen statics.now).arrays) }
+    ensures is { result ≡ initial_cells (map array_record (statics_seen statics.now).arrays) }
     ensures few { result ≤ 65535 }
 {
     let mut total: u32 = 0;
@@ -73,7 +73,7 @@ fn array_cells_of_package(statics: &StaticPart<'_>) -> u32
 #[tactic(auto, using(crate::proofs::Counts::array_cells_more))]
 fn array_cells(packages: &Packages<'_, '_>) -> u32
     requires { length packages.now ≤ 16 }
-    ensures { result ≡ cells_of (array_records packages.now) }
+    ensures { result ≡ initial_cells (array_records packages.now) }
 {
     let mut total: u32 = 0;
     'packages: for n in 0..packages.len() {
@@ -113,7 +113,7 @@ pub fn arrays_fit(packages: &Packages<'_, '_>) -> Result<(), LinkFault>
     requires { length packages.now ≤ 16 }
     ensures is { result ≡ refused (arrays_fault packages.now) }
     ensures few { OnOk result (length (array_records packages.now) ≤ 4096) }
-    ensures cells { OnOk result (cells_of (array_records packages.now) ≤ 32768) }
+    ensures cells { OnOk result (initial_cells (array_records packages.now) ≤ 32768) }
 {
     let count = array_count(packages);
     if count > MOST_ARRAYS {

@@ -1,5 +1,6 @@
 use crate::lending::lent;
 use crate::reading::{Source, owned, read};
+use cap_bytes::ClassReference;
 use cap_package::{OwnedParts, Packages};
 use cap_tests::{Change, DIRECTORY, HEADER, IMPORT, PLAIN, PLAIN_ROLES};
 use class_tests::{Told, named};
@@ -71,7 +72,7 @@ fn classes_and_methods_are_numbered_over_all_packages(rt: HostRuntime) -> Result
 fn tells_second(names: &Names<'_, '_, '_>) -> bool {
     names.packages().len() == 2
         && names.import_met(1, 0) == Some(0)
-        && names.class_named(1, 12) == Some(9)
+        && names.class_referred(1, ClassReference::Internal(12)) == Some(9)
         && names.method_at(1, 7) == Some(3)
 }
 

@@ -1,5 +1,5 @@
 use Rattle.std.proofs.Common.{◌≡◌, length}
-use Rattle.jc_resolve.specs.Fault.{place_of}
+use Rattle.jc_resolve.specs.Fault.{link_place}
 use Rattle.first_fault.specs.Least.{least_of, least_from}
 use Rattle.jc_hierarchy.specs.Conditions.{numbered, cycle_fault}
 use Rattle.jc_hierarchy.proofs.Numbered.{numbered_from}
@@ -8,7 +8,7 @@ use Rattle.jc_hierarchy.proofs.cycle_checks.least_cycle.Given as goal
 
 abbrev pub invariant-classes : goal.invariant-classes
 invariant-classes l = record {
-  so_far : least_from place_of l.least (cycle_fault l.classes) (numbered_from l.c l.classes) ≡ least_of place_of (cycle_fault l.classes) (numbered l.classes);
+  so_far : least_from link_place l.least (cycle_fault l.classes) (numbered_from l.c l.classes) ≡ least_of link_place (cycle_fault l.classes) (numbered l.classes);
   count : length l.settled.items ≡ l.c;
   settled : AreSettled l.classes l.settled.items;
 }

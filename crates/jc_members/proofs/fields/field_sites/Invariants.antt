@@ -1,12 +1,14 @@
-use Rattle.std.proofs.Common.{◌≡◌, ◌+◌, [], drop}
+use Rattle.std.proofs.Common.{◌≡◌, ◌+◌, [], length}
+use Rattle.cap_package.specs.PackagesLeft.{packages_left}
 use Rattle.jc_resolve.specs.Counts.{class_total}
 use Rattle.jc_members.specs.Sites.{all_entered}
-use Rattle.jc_members.specs.Fields.{sites_after, field_sites, HaveRoomAfter}
+use Rattle.jc_members.specs.Fields.{sites_after, field_sites, AllFieldsFitAfter}
 use Rattle.jc_members.proofs.fields.field_sites.Given as goal
 
 abbrev pub invariant-packages : goal.invariant-packages
 invariant-packages l = record {
-  entered : all_entered l.sites (sites_after l.names.packages l.classes l.first l.k (drop l.k l.names.packages)) ≡ all_entered [] (field_sites l.names.packages l.classes);
-  known : l.first + class_total (drop l.k l.names.packages) ≡ class_total l.names.packages;
-  room : HaveRoomAfter l.names.packages l.classes l.first l.k (drop l.k l.names.packages);
+  entered : all_entered l.sites (sites_after l.names.packages l.classes l.first l.k (packages_left l.package-iterator)) ≡ all_entered [] (field_sites l.names.packages l.classes);
+  known : l.first + class_total (packages_left l.package-iterator) ≡ class_total l.names.packages;
+  room : AllFieldsFitAfter l.names.packages l.classes l.first l.k (packages_left l.package-iterator);
+  count : l.k + length (packages_left l.package-iterator) ≡ length l.names.packages;
 }

@@ -1,7 +1,3 @@
-use Rattle.std.proofs.Common.{subst}
-use Rattle.std.specs.Prelude.{All, List}
-use Rattle.cap_package.specs.PackageRecord.{PackageRecord}
-use Rattle.jc_resolve.specs.Named.{IsAgreed}
 use Rattle.jc_members.proofs.EachNamed.{due-names}
 use Rattle.jc_members.proofs.Told.{due-tells, due-each}
 use Rattle.jc_members.proofs.pools.members.Goals as goal
@@ -13,6 +9,4 @@ pub returns-clause-each : goal.returns-clause-each
 returns-clause-each c = due-each c.args.names.now.packages c.args.classes.now c.args.statics.now c.pools_of.result c.pools_of.ensures.value
 
 pub returns-clause-names : goal.returns-clause-names
-returns-clause-names c =
-    let agreed = subst (λ (ps : List PackageRecord). All IsAgreed ps) c.packages-packages.ensures.is c.packages-packages.ensures.agreed in
-    due-names c.args.names.now.packages c.args.classes.now c.args.statics.now agreed c.pools_of.result c.pools_of.ensures.value
+returns-clause-names c = due-names c.args.names.now.packages c.args.classes.now c.args.statics.now c.pools_of.result c.pools_of.ensures.value

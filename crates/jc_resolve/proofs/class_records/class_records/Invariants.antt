@@ -1,5 +1,6 @@
-use Rattle.std.proofs.Common.{◌≡◌, ◌++◌, All, drop, map}
+use Rattle.std.proofs.Common.{◌≡◌, ◌+◌, ◌++◌, All, length, map}
 use Rattle.std.specs.Prelude.{slice_index}
+use Rattle.cap_package.specs.PackagesLeft.{packages_left}
 use Rattle.jc_resolve.specs.Named.{IsSized}
 use Rattle.jc_resolve.specs.NamedClasses.{named_class}
 use Rattle.jc_resolve.specs.Numbering.{classes_after, numbered_classes}
@@ -7,5 +8,6 @@ use Rattle.jc_resolve.proofs.class_records.class_records.Given as goal
 
 abbrev pub invariant-packages : goal.invariant-packages
 invariant-packages l =
-    (l.named.items ++ map (named_class l.index (slice_index l.roles 0)) (classes_after l.k (drop l.k l.packages)) ≡ map (named_class l.index (slice_index l.roles 0)) (numbered_classes l.packages))
+    (l.named.items ++ map (named_class l.index (slice_index l.roles 0)) (classes_after l.k (packages_left l.package-iterator)) ≡ map (named_class l.index (slice_index l.roles 0)) (numbered_classes l.packages))
     × All IsSized l.named.items
+    × (l.k + length (packages_left l.package-iterator) ≡ length l.packages)

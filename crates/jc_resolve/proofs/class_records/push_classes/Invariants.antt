@@ -1,6 +1,7 @@
 use Rattle.std.proofs.Common.{◌≡◌, ◌++◌, All, map}
 use Rattle.cap_class.specs.ClassPart.{classes_left}
 use Rattle.std.specs.Prelude.{slice_index}
+use Rattle.jc_resolve.specs.Described.{AreDescribedOnce}
 use Rattle.jc_resolve.specs.Named.{IsSized}
 use Rattle.jc_resolve.specs.NamedClasses.{named_class}
 use Rattle.jc_resolve.specs.Numbering.{numbered_class, classes_of}
@@ -11,3 +12,4 @@ invariant-classes l =
     (l.named.items ++ map (named_class l.home.index.now (slice_index l.home.roles 0)) (map (numbered_class l.home.number l.home.of_package.now) (classes_left l.class-iterator))
     ≡ l.initial.named.items ++ map (named_class l.home.index.now (slice_index l.home.roles 0)) (classes_of l.home.number l.home.of_package.now))
     × All IsSized l.named.items
+    × AreDescribedOnce l.home.of_package.now.description.items.classes (classes_left l.class-iterator)

@@ -1,10 +1,10 @@
 use Rattle.std.proofs.Common.{◌≡◌, ◌-◌}
 use Rattle.std.specs.List.{range_with_len}
-use Rattle.jc_resolve.specs.Fault.{place_of}
+use Rattle.jc_resolve.specs.Fault.{link_place}
 use Rattle.first_fault.specs.Least.{least_from}
 use Rattle.jc_resolve.specs.Conditions.{import_fault}
 use Rattle.jc_resolve.proofs.import_checks.imports_of.Given as goal
 
 abbrev pub invariant-imports : goal.invariant-imports
 invariant-imports l =
-    least_from place_of l.least (import_fault l.packages l.«package») (range_with_len l.token (l.count - l.token)) ≡ least_from place_of l.initial.least (import_fault l.packages l.«package») (range_with_len 0 l.count)
+    least_from link_place l.least (import_fault l.packages l.«package») (range_with_len l.token (l.count - l.token)) ≡ least_from link_place l.initial.least (import_fault l.packages l.«package») (range_with_len 0 l.count)

@@ -1,13 +1,16 @@
-use Rattle.std.proofs.Common.{◌≡◌, ◌++◌, drop, take, map}
+use Rattle.std.proofs.Common.{◌≡◌, ◌+◌, ◌++◌, length, map}
 use Rattle.std.specs.Prelude.{All}
+use Rattle.cap_package.specs.PackagesLeft.{packages_left}
 use Rattle.jc_resolve.specs.Named.{IsAgreed}
 use Rattle.jc_resolve.specs.NamedMethods.{HasFewHandlers, named_method}
 use Rattle.jc_resolve.specs.Numbering.{methods_after, numbered_methods}
 use Rattle.jc_resolve.proofs.method_records.methods_after.Given as goal
 
+-- of all packages it is known, once it is of those that are left
 abbrev pub invariant-packages : goal.invariant-packages
 invariant-packages l = record {
-  named : l.methods.items ++ map (named_method l.index l.roles) (methods_after l.k (drop l.k l.packages)) ≡ map (named_method l.index l.roles) (numbered_methods l.packages);
-  agreed : All IsAgreed (take l.k l.packages);
-  few : All HasFewHandlers (take l.k l.packages);
+  named : l.methods.items ++ map (named_method l.index l.roles) (methods_after l.k (packages_left l.package-iterator)) ≡ map (named_method l.index l.roles) (numbered_methods l.packages);
+  agreed : All IsAgreed (packages_left l.package-iterator) → All IsAgreed l.packages;
+  few : All HasFewHandlers (packages_left l.package-iterator) → All HasFewHandlers l.packages;
+  count : l.k + length (packages_left l.package-iterator) ≡ length l.packages;
 }

@@ -1,11 +1,11 @@
 use Rattle.std.proofs.Common.{◌≡◌, ◌+◌, ◌++◌, length, map}
-use Rattle.cap_desc.specs.ClassRecords.{classes_left}
+use Rattle.cap_desc.specs.ClassRecords.{described_left}
 use Rattle.jc_resolve.specs.NamedMethods.{named_method}
 use Rattle.jc_resolve.specs.Numbering.{methods_of_classes}
 use Rattle.jc_resolve.proofs.method_records.push_package.Given as goal
 
 abbrev pub invariant-classes : goal.invariant-classes
 invariant-classes l =
-    (l.methods.items ++ map (named_method l.home.index.now l.home.roles) (methods_of_classes l.home.number l.home.of_package.now l.class_no (classes_left l.class-iterator))
+    (l.methods.items ++ map (named_method l.home.index.now l.home.roles) (methods_of_classes l.home.number l.home.of_package.now l.class_no (described_left l.class-iterator))
     ≡ l.initial.methods.items ++ map (named_method l.home.index.now l.home.roles) (methods_of_classes l.home.number l.home.of_package.now 0 l.home.of_package.now.description.items.classes))
-    × (l.class_no + length (classes_left l.class-iterator) ≡ length l.home.of_package.now.description.items.classes)
+    × (l.class_no + length (described_left l.class-iterator) ≡ length l.home.of_package.now.description.items.classes)

@@ -2,11 +2,11 @@ use Rattle.std.proofs.Common.{◌≡◌, flat_map}
 use Rattle.cap_desc.specs.Members.{fields_of}
 use Rattle.cap_desc.specs.MembersLeft.{fields_of_left}
 use Rattle.cap_package.specs.Descriptions.{description}
-use Rattle.jc_resolve.specs.Fault.{place_of}
+use Rattle.jc_resolve.specs.Fault.{link_place}
 use Rattle.first_fault.specs.Least.{least_from}
 use Rattle.jc_resolve.specs.Conditions.{reference_fault, references_of_field_type}
 use Rattle.jc_resolve.proofs.reference_checks.field_types_named.Given as goal
 
 abbrev pub invariant-fields : goal.invariant-fields
 invariant-fields l =
-    least_from place_of l.least (reference_fault l.index l.«package») (flat_map (references_of_field_type (description l.descriptor)) (fields_of_left l.field-iterator)) ≡ least_from place_of l.initial.least (reference_fault l.index l.«package») (flat_map (references_of_field_type (description l.descriptor)) (fields_of (description l.descriptor).items.classes))
+    least_from link_place l.least (reference_fault l.index l.«package») (flat_map (references_of_field_type (description l.descriptor)) (fields_of_left l.field-iterator)) ≡ least_from link_place l.initial.least (reference_fault l.index l.«package») (flat_map (references_of_field_type (description l.descriptor)) (fields_of (description l.descriptor).items.classes))

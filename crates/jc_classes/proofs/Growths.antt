@@ -1,0 +1,194 @@
+-- A class that adds methods of its own to lists without open entries makes lists without open entries.
+use Rattle.std.proofs.Common.{◌≡◌, ℕ, zero, suc, ◌+◌, ◌≤◌, ◌<◌, min, get_or, Bool, true, false, not, List, [], ◌∷◌, length, flat_map, Option, Some, None, ◌⊎◌, refl, sym, ap, ◌∙◌, arith, inl, inr, eqb-true}
+use Rattle.std.specs.Prelude.{All, IfSome, is_some, ◌==◌, ◌&&◌, ◌||◌, if◌then◌else◌, filter_map, slice_get, option_map}
+use Rattle.std.specs.List.{range_with_len, list_any}
+use Rattle.std.proofs.lemmas.Bool.{cases_lt, false≢true}
+use Rattle.jc_base.proofs.Lists.{All-slice_get}
+use Rattle.jc_base.specs.declared.record.MethodRec.{MethodRec}
+use Rattle.jc_base.specs.Class.{ClassTable, chain, list_of, parent_of}
+use Rattle.jc_base.specs.Order.{is_on_chain}
+use Rattle.jc_base.proofs.Climbs.{on_chain-here}
+use Rattle.first_fault.specs.Least.{lesser, least_from, least_of}
+use Rattle.first_fault.proofs.LeastFaults.{least-at_fault, least-none}
+use Rattle.jc_resolve.specs.declared.fault.LinkFault.{LinkFault}
+use Rattle.jc_resolve.specs.declared.named.DispatchTable.{DispatchTable}
+use Rattle.jc_resolve.specs.declared.named.NamedClass.{NamedClass}
+use Rattle.jc_resolve.specs.Fault.{link_place}
+use Rattle.jc_resolve.specs.Named.{IsSized}
+use Rattle.jc_resolve.proofs.Faultless.{both_faultless}
+use Rattle.jc_classes.specs.declared.layout.ClassLayout.{ClassLayout}
+use Rattle.jc_classes.specs.Entries.{reach, overlaid}
+use Rattle.jc_classes.specs.Growth.{own_by, is_own, AddsOwn, Grows}
+use Rattle.jc_classes.specs.Layout.{above_or_nothing, at_home, layout_of, public_entries, visible_entries}
+use Rattle.jc_classes.specs.Signatures.{method_in}
+use Rattle.jc_classes.specs.Conditions.{entries_from, entries_in, hole_fault, may_stand, layout_above, visible_above}
+use Rattle.jc_classes.proofs.Faultless.{AllStand, all_stand, class_faultless}
+use Rattle.jc_classes.proofs.Folds.{least_both}
+use Rattle.jc_classes.proofs.Inherited.{IsOutside, kept, length-overlaid}
+use Rattle.jc_classes.proofs.Steps.{public_step, visible_step}
+
+-- ---- a list and what it is made of
+
+pub public_made : (t : ClassTable) (classes : List NamedClass) (c : ℕ) (above : Option ℕ) (k : NamedClass) (up : Option ClassLayout) → chain t c ≡ c ∷ list_of (chain t) above → slice_get classes c ≡ Some k → up ≡ option_map (layout_of t classes) above
+    → public_entries t classes c ≡ overlaid k.public (above_or_nothing up).public
+public_made t classes c above k up step at is = public_step t classes c above k step at ∙ ap (λ (o : Option ClassLayout). overlaid k.public (above_or_nothing o).public) (sym is)
+
+pub visible_made : (t : ClassTable) (classes : List NamedClass) (c : ℕ) (above : Option ℕ) (k : NamedClass) (up : Option ClassLayout) → chain t c ≡ c ∷ list_of (chain t) above → slice_get classes c ≡ Some k → up ≡ option_map (layout_of t classes) above
+    → visible_entries t classes c ≡ overlaid k.visible (if at_home t above c then (above_or_nothing up).visible else [])
+visible_made t classes c above k up step at is = visible_step t classes c above k step at ∙ ap (λ (o : Option ClassLayout). overlaid k.visible (if at_home t above c then (above_or_nothing o).visible else [])) (sym is)
+
+pub class_sized : (classes : List NamedClass) (c : ℕ) (k : NamedClass) → All IsSized classes → slice_get classes c ≡ Some k → IsSized k
+class_sized classes c k all at = All-slice_get IsSized classes c k all at
+
+-- ---- entry by entry
+
+-- outside the tokens of its table a list has what it inherits
+pub kept_entry : (methods : List MethodRec) (c : ℕ) (table : DispatchTable) (inherited list : List (Option ℕ)) (k : ℕ) → list ≡ overlaid table inherited → IsOutside table k → k < length inherited
+    → ((k < length inherited) × (get_or list k None ≡ get_or inherited k None)) ⊎ (is_own methods c (get_or list k None) ≡ true)
+kept_entry methods c table inherited list k e out h = inl (h, ap (λ (xs : List (Option ℕ)). get_or xs k None) e ∙ kept table inherited k None out h)
+
+-- what holds of each token from the first of the table up to its last
+pub record AddsUpTo (methods : List MethodRec) (c first to : ℕ) (inherited list : List (Option ℕ)) : Type 0 where
+  pub begun : first ≤ to
+  pub each : (k : ℕ) → first ≤ k → k < to → k < length list
+      → ((k < length inherited) × (get_or list k None ≡ get_or inherited k None)) ⊎ (is_own methods c (get_or list k None) ≡ true)
+
+pub adds_all : (methods : List MethodRec) (c first to : ℕ) (table : DispatchTable) (inherited list : List (Option ℕ)) → list ≡ overlaid table inherited → first ≡ min table.base (length inherited) → min (reach table) (length list) ≤ to
+    → AddsUpTo methods c first to inherited list → AddsOwn methods c inherited list
+adds_all methods c first to table inherited list e is past before = record {
+  each = λ k h. elim (cases_lt k first) [
+    | inl lt ↦ kept_entry methods c table inherited list k e (inl (omega (arith, lt, is))) (omega (arith, lt, is))
+    | inr ge ↦ elim (cases_lt k to) [
+      | inl lt ↦ before.each k ge lt h
+      | inr le ↦
+          let count : length list ≡ length (overlaid table inherited) = ap length e in
+          kept_entry methods c table inherited list k e (inr (omega (arith, past, le, h))) (omega (arith, past, le, h, count, length-overlaid table inherited))
+    ]
+  ];
+}
+
+-- ---- entries that may stand in a list
+
+both_first : (a b : Bool) → (a && b) ≡ true → a ≡ true
+both_first true b e = refl
+both_first false b e = absurd (false≢true e)
+
+both_second : (a b : Bool) → (a && b) ≡ true → b ≡ true
+both_second true b e = e
+both_second false b e = absurd (false≢true e)
+
+or_true : (b : Bool) → (b || true) ≡ true
+or_true true = refl
+or_true false = refl
+
+own_stands : (t : ClassTable) (c : ℕ) (o : Option MethodRec) → own_by c o ≡ true → may_stand t c o ≡ true
+own_stands t c None e = absurd (false≢true e)
+own_stands t c (Some m) e =
+    let plain : Bool = not m.is_static && not m.is_init in
+    let same : m.class ≡ c = eqb-true m.class c (both_first (m.class == c) plain e) in
+    ap (λ (d : ℕ). is_on_chain t d c && plain) same
+    ∙ ap (λ (b : Bool). b && plain) (on_chain-here t c)
+    ∙ both_second (m.class == c) plain e
+
+on_above : (t : ClassTable) (d c p : ℕ) → chain t c ≡ c ∷ chain t p → is_on_chain t d p ≡ true → is_on_chain t d c ≡ true
+unfolding is_on_chain
+on_above t d c p step on = ap (list_any (λ x. x == d)) step ∙ ap (λ (b : Bool). (c == d) || b) on ∙ or_true (c == d)
+
+above_stands : (t : ClassTable) (c p : ℕ) (o : Option MethodRec) → chain t c ≡ c ∷ chain t p → may_stand t p o ≡ true → may_stand t c o ≡ true
+above_stands t c p None step e = absurd (false≢true e)
+above_stands t c p (Some m) step e =
+    let plain : Bool = not m.is_static && not m.is_init in
+    ap (λ (b : Bool). b && plain) (on_above t m.class c p step (both_first (is_on_chain t m.class p) plain e))
+    ∙ both_second (is_on_chain t m.class p) plain e
+
+-- each entry of a list, by its token
+pub record Stand (t : ClassTable) (c : ℕ) (methods : List MethodRec) (list : List (Option ℕ)) : Type 0 where
+  pub each : (k : ℕ) → k < length list → may_stand t c (method_in methods (get_or list k None)) ≡ true
+
+stand_at : (t : ClassTable) (c : ℕ) (methods : List MethodRec) (list : List (Option ℕ)) (k : ℕ) → AllStand t c methods list → k < length list → may_stand t c (method_in methods (get_or list k None)) ≡ true
+stand_at t c methods [] k all h = absurd (omega arith)
+stand_at t c methods (e ∷ es) zero all h = all.0
+stand_at t c methods (e ∷ es) (suc k) all h = stand_at t c methods es k all.1 (omega arith)
+
+-- those of a class by those of its superclass
+grown_stand : (t : ClassTable) (c : ℕ) (methods : List MethodRec) (inherited list : List (Option ℕ)) → Stand t c methods inherited → AddsOwn methods c inherited list → Stand t c methods list
+grown_stand t c methods inherited list up adds = record {
+  each = λ k h. elim (adds.each k h) [
+    | inl same ↦ ap (λ (e : Option ℕ). may_stand t c (method_in methods e)) same.1 ∙ up.each k same.0
+    | inr own ↦ own_stands t c (method_in methods (get_or list k None)) own
+  ];
+}
+
+none_stand : (t : ClassTable) (c : ℕ) (methods : List MethodRec) → Stand t c methods []
+none_stand t c methods = record { each = λ k h. absurd (omega arith) }
+
+seen_stand : (t : ClassTable) (c p : ℕ) (methods : List MethodRec) (token : ℕ) (list : List (Option ℕ)) → chain t c ≡ c ∷ chain t p → filter_map (hole_fault t methods) (entries_from p token list) ≡ [] → Stand t c methods list
+seen_stand t c p methods token list step none = record {
+  each = λ k h. above_stands t c p (method_in methods (get_or list k None)) step (stand_at t p methods list k (all_stand t methods p token list none) h);
+}
+
+-- ---- the lists of the superclass
+
+-- nothing is at fault in the lists of a class before
+lists_seen : (t : ClassTable) (classes : List NamedClass) (methods : List MethodRec) (n p : ℕ) (least : Option LinkFault) → least ≡ None → least ≡ least_of link_place (hole_fault t methods) (flat_map (entries_in t classes) (range_with_len 0 n)) → p < n
+    → filter_map (hole_fault t methods) (entries_in t classes p) ≡ []
+lists_seen t classes methods n p least none is h =
+    let things = flat_map (entries_in t classes) (range_with_len 0 n) in
+    class_faultless (hole_fault t methods) (entries_in t classes) n p
+    (least-none link_place (filter_map (hole_fault t methods) things) (sym (least-at_fault link_place (hole_fault t methods) things None) ∙ sym is ∙ none)) h
+
+public_above_stand : (t : ClassTable) (classes : List NamedClass) (methods : List MethodRec) (c : ℕ) (above : Option ℕ) → IfSome above (λ p. filter_map (hole_fault t methods) (entries_in t classes p) ≡ []) → chain t c ≡ c ∷ list_of (chain t) above
+    → Stand t c methods (above_or_nothing (option_map (layout_of t classes) above)).public
+unfolding layout_of
+public_above_stand t classes methods c None none step = none_stand t c methods
+public_above_stand t classes methods c (Some p) none step =
+    seen_stand t c p methods 0 (public_entries t classes p) step (both_faultless (hole_fault t methods) (entries_from p 0 (public_entries t classes p)) (entries_from p 128 (visible_entries t classes p)) none).0
+
+visible_by : (t : ClassTable) (c : ℕ) (methods : List MethodRec) (list : List (Option ℕ)) (home : Bool) → Stand t c methods list → Stand t c methods (if home then list else [])
+visible_by t c methods list true all = all
+visible_by t c methods list false all = none_stand t c methods
+
+visible_above_stand : (t : ClassTable) (classes : List NamedClass) (methods : List MethodRec) (c : ℕ) (above : Option ℕ) → IfSome above (λ p. filter_map (hole_fault t methods) (entries_in t classes p) ≡ []) → chain t c ≡ c ∷ list_of (chain t) above
+    → Stand t c methods (above_or_nothing (option_map (layout_of t classes) above)).visible
+unfolding layout_of
+visible_above_stand t classes methods c None none step = none_stand t c methods
+visible_above_stand t classes methods c (Some p) none step =
+    seen_stand t c p methods 128 (visible_entries t classes p) step (both_faultless (hole_fault t methods) (entries_from p 0 (public_entries t classes p)) (entries_from p 128 (visible_entries t classes p)) none).1
+
+-- ---- no entry is open
+
+no_hole : (t : ClassTable) (methods : List MethodRec) (c token : ℕ) (m : Option ℕ) → may_stand t c (method_in methods m) ≡ true → lesser link_place None (hole_fault t methods (record { class = c; token = token; method = m })) ≡ None
+unfolding lesser hole_fault
+no_hole t methods c token m e = rw e refl
+
+no_holes : (t : ClassTable) (methods : List MethodRec) (c token : ℕ) (list : List (Option ℕ)) → ((k : ℕ) → k < length list → may_stand t c (method_in methods (get_or list k None)) ≡ true) → least_from link_place None (hole_fault t methods) (entries_from c token list) ≡ None
+no_holes t methods c token [] each = refl
+no_holes t methods c token (m ∷ ms) each =
+    ap (λ (o : Option LinkFault). least_from link_place o (hole_fault t methods) (entries_from c (token + 1) ms)) (no_hole t methods c token m (each 0 (omega arith)))
+    ∙ no_holes t methods c (token + 1) ms (λ k h. each (suc k) (omega arith))
+
+seen_by : (t : ClassTable) (classes : List NamedClass) (methods : List MethodRec) (c : ℕ) (above : Option ℕ) → ((p : ℕ) → p < c → filter_map (hole_fault t methods) (entries_in t classes p) ≡ []) → IfSome above (λ p. p < c)
+    → IfSome above (λ p. filter_map (hole_fault t methods) (entries_in t classes p) ≡ [])
+seen_by t classes methods c None each h = tt
+seen_by t classes methods c (Some p) each h = each p h
+
+none_if : (least : Option LinkFault) → is_some least ≡ false → least ≡ None
+none_if None e = refl
+none_if (Some fault) e = absurd (false≢true (sym e))
+
+-- nothing is at fault in the lists of a class that grows
+pub none_open : (t : ClassTable) (classes : List NamedClass) (methods : List MethodRec) (c : ℕ) (least : Option LinkFault) → chain t c ≡ c ∷ list_of (chain t) (parent_of t c) → is_some least ≡ false
+    → least ≡ least_of link_place (hole_fault t methods) (flat_map (entries_in t classes) (range_with_len 0 c)) → IfSome (parent_of t c) (λ p. p < c) → Grows t classes methods c
+    → None ≡ least_from link_place least (hole_fault t methods) (entries_in t classes c)
+unfolding layout_above
+none_open t classes methods c least step empty is after grows =
+    let none = none_if least empty in
+    let seen = seen_by t classes methods c (parent_of t c) (λ p h. lists_seen t classes methods c p least none is h) after in
+    let public : Stand t c methods (public_entries t classes c) = grown_stand t c methods (layout_above t classes c).public (public_entries t classes c) (public_above_stand t classes methods c (parent_of t c) seen step) grows.public in
+    let visible_up : Stand t c methods (visible_above t classes c) = visible_by t c methods (layout_above t classes c).visible (at_home t (parent_of t c) c) (visible_above_stand t classes methods c (parent_of t c) seen step) in
+    let visible : Stand t c methods (visible_entries t classes c) = grown_stand t c methods (visible_above t classes c) (visible_entries t classes c) visible_up grows.visible in
+    let fault = hole_fault t methods in
+    sym (no_holes t methods c 128 (visible_entries t classes c) visible.each)
+    ∙ ap (λ (o : Option LinkFault). least_from link_place o fault (entries_from c 128 (visible_entries t classes c))) (sym (no_holes t methods c 0 (public_entries t classes c) public.each))
+    ∙ least_both fault (entries_from c 0 (public_entries t classes c)) (entries_from c 128 (visible_entries t classes c)) None
+    ∙ ap (λ (o : Option LinkFault). least_from link_place o fault (entries_in t classes c)) (sym none)

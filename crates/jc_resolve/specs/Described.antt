@@ -1,0 +1,30 @@
+-- The records of a Descriptor by the offsets of their classes (JCVM 2.2, sections 6.8 and 6.13).
+use Rattle.std.specs.Prelude.{◌≡◌, ℕ, Bool, List, [], ◌∷◌, Option, Some, map, count_by, ◌==◌}
+use Rattle.cap_class.specs.ClassFormat.{Class}
+use Rattle.cap_desc.specs.DescriptorFormat as described
+use Rattle.jc_resolve.specs.declared.place.RecordPlace.{RecordPlace}
+use Rattle.jc_resolve.specs.Numbers.{Numbered, none_numbered, with_all}
+
+-- a record describes the class at an offset
+abbrev pub describes_at : ℕ → described.Class → Bool
+describes_at offset d = d.class_ref == offset
+
+-- one of the records describes a class
+abbrev pub IsDescribedOnce : List described.Class → Class → Type 0
+IsDescribedOnce ds c = count_by (describes_at c.offset) ds ≡ 1
+
+-- each of some classes is
+abbrev pub AreDescribedOnce : List described.Class → List Class → Type 0
+AreDescribedOnce ds [] = Unit {0}
+AreDescribedOnce ds (c ∷ cs) = IsDescribedOnce ds c × AreDescribedOnce ds cs
+
+-- ---- records that are numbered, by the offsets of their classes; one package stands for itself
+
+abbrev pub place_at : ℕ → RecordPlace
+place_at offset = record { «package» = 0; offset = offset }
+
+abbrev pub spot_of_record : described.Class → Option RecordPlace
+spot_of_record d = Some (place_at d.class_ref)
+
+pub record AreFound (ds : List described.Class) (t : Numbered) : Type 0 where
+  pub numbers : t ≡ with_all none_numbered (map spot_of_record ds)
