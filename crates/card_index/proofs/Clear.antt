@@ -6,7 +6,7 @@ use Rattle.jc_base.specs.World.{Linked}
 use Rattle.jc_decode.specs.declared.insn.Placed.{Placed}
 use Rattle.jc_decode.specs.Listing.{falls, listing, Lists}
 use Rattle.jc_control.specs.Method.{Method, IsMethodOf}
-use Rattle.jc_control.specs.WellFormed.{Stands, IsPlace, IsWellFormed}
+use Rattle.jc_control.specs.WellFormed.{HasInstruction, IsPlace, IsWellFormed}
 use Rattle.jc_control.specs.Laws.{InstructionsArePlaced}
 use Rattle.jc_decode.specs.Laws.{InstructionsAreListed}
 use Rattle.jc_rules.specs.Laws.{RuleRests}

@@ -1,14 +1,16 @@
 -- What a refusal over an index says of card typings.
-use Rattle.std.proofs.Common.{◌≡◌, ◌≢◌, ℕ, zero, suc, ◌+◌, ◌<◌, ◌≤◌, inl, inr, List, [], ◌∷◌, length, get_or, All, Some, slice_get, refl, sym, ◌∙◌, ap, subst, arith, Contains}
+use Rattle.std.proofs.Common.{◌≡◌, ◌≢◌, ℕ, zero, suc, ◌+◌, ◌<◌, ◌≤◌, inl, inr, List, [], ◌∷◌, length, get_or, All, refl, sym, ◌∙◌, ap, subst, arith}
 use Rattle.std.specs.Prelude.{ℤ, pos}
 use Rattle.std.proofs.lemmas.List.Elements.{All-contains}
-use Rattle.std.proofs.lemmas.Option.{slice_get_within, slice_get-get_or, get_or_from_slice_get}
+use Rattle.std.proofs.lemmas.Option.{slice_get-get_or}
+use Rattle.jc_base.specs.Index.{IsAscending}
 use Rattle.jc_base.specs.declared.ty.Ty.{Ty}
 use Rattle.jc_base.specs.Class.{ClassTable}
 use Rattle.jc_base.specs.World.{Linked}
 use Rattle.jc_base.proofs.Lists.{All-slice_get}
 use Rattle.jc_decode.specs.declared.insn.Placed.{Placed}
 use Rattle.jc_decode.specs.Listing.{listing, targets}
+use Rattle.jc_decode.proofs.Elements.{Contains-slice_get}
 use Rattle.jc_control.specs.Method.{Method, IsMethodOf}
 use Rattle.jc_control.specs.WellFormed.{IsPlace, IsTargetPlace, IsWellFormed}
 use Rattle.jc_rules.specs.Demand.{Frame}
@@ -19,12 +21,9 @@ use Rattle.card_typing.specs.Place.{IsTarget}
 use Rattle.card_typing.specs.Typing.{CardTyping, HasCardTyping}
 use Rattle.card_typing.specs.Refusal.{IsWrong, wrong_entry, wrong_target, IsRefused, refused_flaw, refused_state, fault_of, fault_at}
 use Rattle.card_typing.specs.Laws.{MetIsBelow, RefusalDenies}
-use Rattle.card_index.specs.IndexTyping.{IsAscending, IsIndex, IndexTyping, HasIndexTyping, IsExactIndex}
+use Rattle.card_index.specs.IndexTyping.{IsIndex, IndexTyping, HasIndexTyping, IsExactIndex}
 use Rattle.card_index.specs.Refusal.{IsBadEntry, bad_place, bad_order, IsFirstLacking, IsWrongOver, wrong_anyway, wrong_listed_entry, wrong_listed_stack, IsRefusedOver, over_flaw, over_entry, over_target, over_state}
 use Rattle.card_index.specs.Laws.{IndexedIsTyped, ExactServes, ExactRefuses, RefusalDeniesOver}
-
-pub contains-at : {A : Type 0} (xs : List A) (n : ℕ) (x : A) → slice_get xs n ≡ Some x → Contains xs x
-contains-at xs n x at = (n, slice_get_within xs n x at, get_or_from_slice_get xs n x x at)
 
 below-empty : (t : ClassTable) (xs ys : List Ty) → CellsBelow t xs ys → ys ≡ [] → xs ≡ []
 below-empty t _ _ no_cells e = refl
@@ -41,8 +40,8 @@ no-bad m index up places _ (bad_order k p q at next le) = let lt = up k p q at n
 pub lacking-target : (m : Method) (index : List ℕ) (place q : ℕ) → IsFirstLacking m.code index place (pos q) → IsTarget m q
 lacking-target m index place q first = record {
   from = first.from;
-  stands = contains-at (listing m.code) first.number first.from first.instruction.here;
-  leads = contains-at (targets m.code first.from) first.target_number (pos q) first.lacks.here;
+  stands = Contains-slice_get (listing m.code) first.number first.from first.instruction.here;
+  leads = Contains-slice_get (targets m.code first.from) first.target_number (pos q) first.lacks.here;
 }
 
 module _ (w : Linked) (below : MetIsBelow w) (denies : RefusalDenies w) where
@@ -68,7 +67,7 @@ target-place : (m : Method) → IsWellFormed m → (q : ℕ) → IsTarget m q �
 target-place m formed q t = All-contains (IsTargetPlace m.code) (targets m.code t.from) (pos q) (formed.targets t.from t.stands) t.leads
 
 exact-places : (m : Method) (index : List ℕ) → IsWellFormed m → IsExactIndex m index → All (IsPlace m.code) index
-exact-places m index formed exact k d lt = target-place m formed (get_or index k d) ((exact.targets (get_or index k d)).0 (contains-at index k (get_or index k d) (slice_get-get_or index k d lt)))
+exact-places m index formed exact k d lt = target-place m formed (get_or index k d) ((exact.targets (get_or index k d)).0 (Contains-slice_get index k (get_or index k d) (slice_get-get_or index k d lt)))
 
 pub exact-serves : (w : Linked) → ExactServes w
 exact-serves w m index exact = (

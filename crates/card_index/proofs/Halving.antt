@@ -4,7 +4,7 @@ use Rattle.std.proofs.Math.Nat.{mul_assoc, suc-mul, pow-succ'}
 use Rattle.std.proofs.Math.Pow.{pow_mono}
 use Rattle.std.proofs.lemmas.Bool.{cases_lt}
 use Rattle.std.proofs.lemmas.Option.{slice_get_within, slice_get-get_or, get_or_from_slice_get}
-use Rattle.card_index.specs.IndexTyping.{IsAscending}
+use Rattle.jc_base.specs.Index.{IsAscending}
 use Rattle.card_index.proofs.Costs.{grow}
 
 some-one : (a b : ℕ) → Some a ≡ Some b → a ≡ b

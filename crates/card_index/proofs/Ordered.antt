@@ -4,15 +4,15 @@ use Rattle.std.proofs.lemmas.Bool.{cases_lt}
 use Rattle.std.proofs.lemmas.List.{append-nil}
 use Rattle.std.proofs.lemmas.List.Elements.{Contains-push_cases}
 use Rattle.std.proofs.lemmas.Option.{slice_get_within, slice_get-get_or, get_or_from_slice_get}
+use Rattle.jc_base.specs.Index.{IsAscending}
 use Rattle.jc_base.proofs.Lists.{slice_get-farther}
 use Rattle.jc_decode.specs.declared.insn.Placed.{Placed}
 use Rattle.jc_decode.specs.Listing.{listing}
-use Rattle.jc_control.specs.WellFormed.{Stands, IsPlace}
+use Rattle.jc_control.specs.WellFormed.{HasInstruction, IsPlace}
 use Rattle.jc_decode.specs.Laws.{AreListed}
-use Rattle.card_index.specs.IndexTyping.{IsAscending}
+use Rattle.jc_decode.proofs.Elements.{Contains-slice_get}
 use Rattle.card_index.specs.Refusal.{IsBadEntry, bad_place, bad_order, IsFirstBadEntry}
 use Rattle.card_index.specs.Seeking.{IsSought, HasNone}
-use Rattle.card_index.proofs.Denying.{contains-at}
 
 number-one : (a b : ℕ) → Some a ≡ Some b → a ≡ b
 number-one a b e = cc
@@ -23,7 +23,7 @@ at-middle : (pre : List Placed) (i : Placed) (post : List Placed) → slice_get 
 at-middle pre i post = slice_get-farther pre (i ∷ post) 0 (length pre) (omega arith)
 
 -- where places rise, what comes at a greater place stands after it
-after-middle : (code : List ℕ) → AreListed code → (pre : List Placed) (i : Placed) (post : List Placed) → pre ++ i ∷ post ≡ listing code → (j : Placed) → Stands code j → i.place < j.place → Contains post j
+after-middle : (code : List ℕ) → AreListed code → (pre : List Placed) (i : Placed) (post : List Placed) → pre ++ i ∷ post ≡ listing code → (j : Placed) → HasInstruction code j → i.place < j.place → Contains post j
 after-middle code order pre i post whole j c lt = by (c.0 - length pre) refl
   where
     there : slice_get (listing code) c.0 ≡ Some j
@@ -43,7 +43,7 @@ after-middle code order pre i post whole j c lt = by (c.0 - length pre) refl
         let same : slice_get (i ∷ post) zero ≡ Some j = ap (slice_get (i ∷ post)) (sym e) ∙ rest in
         let own : i ≡ j = cc in
         absurd (omega (arith, lt, ap (λ (k : Placed). k.place) own))
-    by (suc n) e = contains-at post n j (ap (slice_get (i ∷ post)) (sym e) ∙ rest)
+    by (suc n) e = Contains-slice_get post n j (ap (slice_get (i ∷ post)) (sym e) ∙ rest)
 
 -- ---- after k entries
 
@@ -54,7 +54,7 @@ pub record IsOrderedTo (code index : List ℕ) (k least : ℕ) (left : List Plac
   pub so_far : (j q : ℕ) → j < k → slice_get index j ≡ Some q → IsPlace code q × (q < least)
   pub up : (j p q : ℕ) → j + 1 < k → slice_get index j ≡ Some p → slice_get index (j + 1) ≡ Some q → p < q
   pub last : (k ≡ 0) × (least ≡ 0) ⊎ ((j q : ℕ) × (j + 1 ≡ k) × (slice_get index j ≡ Some q) × (least ≡ q + 1))
-  pub ahead : (i : Placed) → Stands code i → least ≤ i.place → Contains left i
+  pub ahead : (i : Placed) → HasInstruction code i → least ≤ i.place → Contains left i
 
 pub ordered-first : (code index : List ℕ) → IsOrderedTo code index 0 0 (listing code)
 ordered-first code index = record {
@@ -92,7 +92,7 @@ module _ (code index : List ℕ) (order : AreListed code) (k least : ℕ) (left 
         together = append_assoc is.passed s.passed (s.found ∷ new) ∙ ap (λ xs. is.passed ++ xs) (sym s.whole) ∙ is.whole
 
         place : IsPlace code p
-        place = (s.found, subst (λ xs. Contains xs s.found) together (contains-at (before ++ s.found ∷ new) (length before) s.found (at-middle before s.found new)), s.at)
+        place = (s.found, subst (λ xs. Contains xs s.found) together (Contains-slice_get (before ++ s.found ∷ new) (length before) s.found (at-middle before s.found new)), s.at)
 
     none-before : (j : ℕ) → j < k → ¬ (IsBadEntry code index j)
     none-before j lt bad = by j bad lt

@@ -1,22 +1,24 @@
 -- How many methods are accepted over their indexes.
-use Rattle.std.proofs.Common.{◌≡◌, ℕ, zero, suc, ◌+◌, ◌<◌, ◌≤◌, ◌⊎◌, inl, inr, ⊎_elim, Bool, true, false, List, [], ◌∷◌, ◌++◌, length, Contains, MatchBool, Option, Some, None, Result, Ok, Err, OnOk, OnErr, IsSomeAnd, IsTrue, slice_get, refl, sym, ap, subst, ◌∙◌, arith}
-use Rattle.std.specs.Prelude.{option_map, is_ok}
+use Rattle.std.proofs.Common.{◌≡◌, ℕ, zero, suc, ◌+◌, ◌<◌, ◌≤◌, ◌⊎◌, inl, inr, ⊎_elim, Bool, true, false, List, [], ◌∷◌, ◌++◌, length, Contains, MatchBool, Some, None, Result, Ok, Err, OnOk, OnErr, IsSomeAnd, IsTrue, slice_get, refl, sym, ap, subst, ◌∙◌, arith}
+use Rattle.std.specs.Prelude.{is_ok}
 use Rattle.std.specs.Int.{from_bool}
 use Rattle.std.proofs.lemmas.Bool.{cases_lt}
 use Rattle.std.proofs.lemmas.List.{length-append}
 use Rattle.std.proofs.lemmas.List.Elements.{Contains-append_left, Contains-push, Contains-push_cases}
-use Rattle.std.proofs.lemmas.Option.{slice_get_within}
+use Rattle.std.proofs.lemmas.Option.{slice_get_within, same_Some}
+use Rattle.jc_base.specs.Index.{IsAscending}
 use Rattle.jc_base.specs.declared.ty.Ty.{Ty}
 use Rattle.jc_base.specs.declared.record.MethodRec.{MethodRec}
 use Rattle.jc_base.specs.World.{Linked, index_of}
-use Rattle.jc_control.specs.Method.{Method, method_with, method_in, IsMethodOf}
+use Rattle.jc_decode.proofs.Elements.{Contains-slice_get}
+use Rattle.jc_control.specs.Method.{method_with, method_in, IsMethodOf}
 use Rattle.card_typing.specs.declared.fault.CardFault.{CardFault}
 use Rattle.card_typing.specs.Typing.{HasCardTyping, IsLeastCardTyping}
 use Rattle.card_typing.specs.Laws.{CardIsFlow}
 use Rattle.card_verify.specs.Answers.{IsAccepted, IsAcceptedAt}
+use Rattle.card_verify.proofs.Answering.{on-method}
 use Rattle.card_index.specs.Counting.{IsByIndex, CountsByIndex}
-use Rattle.card_index.specs.IndexTyping.{IsAscending, HasIndexTyping}
-use Rattle.card_index.proofs.Denying.{contains-at}
+use Rattle.card_index.specs.IndexTyping.{HasIndexTyping}
 
 number-same : (a b : ℕ) → Some a ≡ Some b → a ≡ b
 number-same a b e = cc
@@ -70,7 +72,7 @@ module _ (w : Linked) (n count : ℕ) (c : CountsByIndex w n count) where
   }
     where
       rises : IsAscending (c.numbers ++ n ∷ [])
-      rises k p q at next = ascending-push c.numbers n c.ascending (λ j r there. ((c.exactly r).0 (contains-at c.numbers j r there)).0) k p q at next
+      rises k p q at next = ascending-push c.numbers n c.ascending (λ j r there. ((c.exactly r).0 (Contains-slice_get c.numbers j r there)).0) k p q at next
 
 -- the count after a method
 pub counts-by : (w : Linked) (n count : ℕ) → CountsByIndex w n count → (by : Bool) (one : ℕ) → one ≡ from_bool by → MatchBool by (IsByIndex w n) (¬ (IsByIndex w n)) → CountsByIndex w (n + 1) (count + one)
@@ -85,15 +87,9 @@ count-most n count le false one e = omega (arith, le, e)
 
 -- ---- one method
 
-some-one : {X : Type 0} {a b : X} → ◌≡◌ {A = Option X} (Some a) (Some b) → a ≡ b
-some-one e = cc
-
-on-method : (w : Linked) (n : ℕ) (rec : MethodRec) (P : Method → Type 0) → slice_get w.methods n ≡ Some rec → IsSomeAnd (method_in w n) P → P (method_with w n rec)
-on-method w n rec P here h = subst (λ (o : Option Method). IsSomeAnd o P) (ap (option_map (method_with w n)) here) h
-
 -- a method without code is none of them
 pub bare-not : (w : Linked) (n : ℕ) (rec : MethodRec) → slice_get w.methods n ≡ Some rec → rec.code_len ≡ 0 → ¬ (IsByIndex w n)
-bare-not w n rec here none by = let same : rec ≡ by.rec = some-one (sym here ∙ by.is) in let e = ap (λ (r : MethodRec). r.code_len) same in let some = by.has_code in omega (arith, none, e, some)
+bare-not w n rec here none by = let same : rec ≡ by.rec = same_Some _ _ (sym here ∙ by.is) in let e = ap (λ (r : MethodRec). r.code_len) same in let some = by.has_code in omega (arith, none, e, some)
 
 -- one without an index
 pub unindexed-not : (w : Linked) (n : ℕ) → index_of w n ≡ None → ¬ (IsByIndex w n)
@@ -105,8 +101,8 @@ module _ (w : Linked) (n : ℕ) (rec : MethodRec) (here : slice_get w.methods n 
       → MatchBool b (IsByIndex w n) (¬ (IsByIndex w n))
   served (Ok t) b e typing none = subst (λ x. MatchBool x (IsByIndex w n) (¬ (IsByIndex w n))) (sym e) (record { rec = rec; is = here; has_code = code; index = index; indexed = has; typing = on-method w n rec (λ m. HasIndexTyping w m index) here typing })
   served (Err f) b e typing none = subst (λ x. MatchBool x (IsByIndex w n) (¬ (IsByIndex w n))) (sym e) (λ by.
-      let same : by.rec ≡ rec = some-one (sym by.is ∙ here) in
-      let own : by.index ≡ index = some-one (sym by.indexed ∙ has) in
+      let same : by.rec ≡ rec = same_Some _ _ (sym by.is ∙ here) in
+      let own : by.index ≡ index = same_Some _ _ (sym by.indexed ∙ has) in
       on-method w n rec (λ m. ¬ (HasIndexTyping w m index)) here none (subst (HasIndexTyping w (method_with w n rec)) own (subst (λ r. HasIndexTyping w (method_with w n r) by.index) same by.typing)))
 
 -- a method that is accepted over its index is accepted
@@ -117,5 +113,5 @@ accepted-by w n rec regs here flow (Ok u) b e known least t other is code =
     let own = on-method w n rec (λ m. IsLeastCardTyping w m regs) here least in
     let mo = on-method w n rec (λ m. IsMethodOf w m) here known in
     let card : HasCardTyping w (method_with w n rec) = record { regs = regs; stacks = own.stacks; typing = own.typing } in
-    let same : rec ≡ other = some-one (sym here ∙ is) in
+    let same : rec ≡ other = same_Some _ _ (sym here ∙ is) in
     subst (IsAccepted w n) same (record { card = card; flow = flow (method_with w n rec) mo card })

@@ -1,7 +1,8 @@
 -- What the verifier over an index answers.
-use Rattle.std.proofs.Common.{◌≡◌, ℕ, zero, suc, ◌+◌, ◌*◌, ◌^◌, ◌<◌, ◌≤◌, List, [], length, All, Result, Ok, Err, IsErr, OnOk, OnErr, IfErr, sum_by, refl, sym, ◌∙◌, ap, subst, arith}
+use Rattle.std.proofs.Common.{◌≡◌, ◌⊎◌, inr, ℕ, zero, suc, ◌+◌, ◌*◌, ◌^◌, ◌<◌, ◌≤◌, List, [], length, All, Result, Ok, Err, IsErr, OnOk, OnErr, IfErr, sum_by, refl, sym, ◌∙◌, ap, subst, arith}
 use Rattle.std.specs.Prelude.{ℤ, pos, negsuc}
 use Rattle.std.proofs.lemmas.List.Elements.{All-contains, All-weaker}
+use Rattle.jc_base.specs.Index.{IsAscending}
 use Rattle.jc_base.specs.declared.ty.Ty.{Ty}
 use Rattle.jc_base.specs.declared.ty.Ty.TheVariants.{Bottom}
 use Rattle.jc_base.specs.Class.{height}
@@ -21,6 +22,7 @@ use Rattle.jc_rules.specs.Laws.{RuleRests}
 use Rattle.jc_control.specs.declared.flaw.Flaw.{Flaw}
 use Rattle.jc_control.specs.declared.flaw.Flaw.TheVariants as flaws
 use Rattle.jc_decode.specs.declared.insn.Placed.{Placed}
+use Rattle.jc_decode.proofs.Elements.{Contains-slice_get}
 use Rattle.card_typing.specs.declared.fault.CardFault.{CardFault}
 use Rattle.card_typing.specs.declared.fault.CardKind.{CardKind}
 use Rattle.card_typing.specs.Typing.{IsLeastCardTyping}
@@ -29,14 +31,14 @@ use Rattle.card_typing.specs.Refusal.{IsFlawKind, IsWrong, wrong_entry, wrong_ro
 use Rattle.card_verify.specs.Answers.{TellsFlaw}
 use Rattle.card_index.specs.declared.indexed.Indexed.{Indexed}
 use Rattle.card_index.specs.declared.scan.Lacking.{Lacking}
-use Rattle.card_index.specs.Bound.{AreCounted, instruction_count, target_count, most_passes, step_bound}
+use Rattle.card_index.specs.Bound.{AreCounted, AreCountedTo, AreCountedBy, instruction_count, target_count, most_passes, step_bound}
 use Rattle.card_index.specs.Indexed.{subject, world_in, listed}
-use Rattle.card_index.specs.IndexTyping.{IsAscending, IsIndex, HasIndexTyping}
+use Rattle.card_index.specs.IndexTyping.{IsIndex, HasIndexTyping}
 use Rattle.card_index.specs.Laws.{RefusalDeniesOver}
 use Rattle.card_index.specs.Refusal.{IsListedTarget, LeadsToListed, IsFirstLacking, IsFormKind, IsWrongOver, wrong_anyway, wrong_listed_entry, wrong_listed_stack, IsRefusedOver, over_flaw, over_entry, over_target, over_state}
 use Rattle.card_index.specs.Walk.{IsFinishedOver, IsPlaceNumber, IsNotIndexed}
 use Rattle.card_index.proofs.Clear.{plain, index-typing}
-use Rattle.card_index.proofs.Denying.{contains-at, no-bad, lacking-target}
+use Rattle.card_index.proofs.Denying.{no-bad, lacking-target}
 use Rattle.card_index.proofs.Costs.{grow, most-rises, whole-bound}
 
 -- ---- the form of the method and the index
@@ -61,6 +63,27 @@ formed-by m index ends handlers places leads = record {
     place-of (pos q) c = All-contains (IsPlace m.code) index q places c
     place-of (negsuc n) c = c
 
+-- ---- what a flaw tells
+
+told-flaw : (flaw : Flaw) → IsFlawKind (fault_of flaw).kind
+told-flaw (flaws.Code place end) = tt
+told-flaw (flaws.BadTarget place target) = tt
+told-flaw (flaws.BadHandler entry number) = tt
+
+flaw-form : (flaw : Flaw) → IsFormKind (fault_of flaw).kind
+flaw-form (flaws.Code place end) = tt
+flaw-form (flaws.BadTarget place target) = tt
+flaw-form (flaws.BadHandler entry number) = tt
+
+pub form-of-flaw : (m : Method) (fault : CardFault) → TellsFlaw m fault → IsFormKind fault.kind
+form-of-flaw m fault t = subst (λ (f : CardFault). IsFormKind f.kind) (sym t.2) (flaw-form t.0)
+
+pub form-flawed : (m : Method) (r : Result (Unit {0}) CardFault) → IfErr r (λ (fault : CardFault). TellsFlaw m fault) → IfErr r (λ (fault : CardFault). IsFormKind fault.kind)
+form-flawed m (Ok t) h = tt
+form-flawed m (Err fault) h = form-of-flaw m fault h
+
+-- ---- refusals
+
 module _ (w : Linked) (m : Method) (index : List ℕ) where
   pub over-of-flaw : (fault : CardFault) → TellsFlaw m fault → (kept : Frame) → IsRefusedOver w m index fault kept
   over-of-flaw fault t kept = subst (λ (f : CardFault). IsRefusedOver w m index f kept) (sym t.2) (over_flaw t.0 kept t.1)
@@ -73,7 +96,7 @@ module _ (w : Linked) (m : Method) (index : List ℕ) where
   by-target : (place : ℕ) (t : ℤ) → IsWellFormed m → IsFirstLacking m.code index place t → IsTargetPlace m.code t
   by-target place t formed first =
       All-slice_get (IsTargetPlace m.code) (targets m.code first.from) first.target_number t
-      (formed.targets first.from (contains-at (listing m.code) first.number first.from first.instruction.here)) first.lacks.here
+      (formed.targets first.from (Contains-slice_get (listing m.code) first.number first.from first.instruction.here)) first.lacks.here
 
   number-of : (t : ℤ) → InstructionsAreListed → length m.code ≤ 32767 → IsTargetPlace m.code t → IsPlaceNumber t
   number-of (pos q) ordered short place =
@@ -92,6 +115,13 @@ module _ (w : Linked) (m : Method) (index : List ℕ) where
   over-of-lacking f fault formed up places first told kept =
       over-by f fault f.target refl formed up places first (by-target f.place f.target formed first) told kept
 
+  form-by : (f : Lacking) (fault : CardFault) (t : ℤ) → f.target ≡ t → IsTargetPlace m.code t → IsNotIndexed f fault → IsFormKind fault.kind
+  form-by f fault (pos q) e place told = subst (λ (g : CardFault). IsFormKind g.kind) (sym (told q e)) tt
+  form-by f fault (negsuc n) e place told = absurd place
+
+  pub form-of-lacking : (f : Lacking) (fault : CardFault) → IsWellFormed m → IsFirstLacking m.code index f.place f.target → IsNotIndexed f fault → IsFormKind fault.kind
+  form-of-lacking f fault formed first told = form-by f fault f.target refl (by-target f.place f.target formed first) told
+
   pub none-over : (regs stack : List Ty) (r : Result (Unit {0}) CardFault) → RefusalDeniesOver w → IsMethodOf w m → IfErr r (λ (fault : CardFault). IsRefusedOver w m index fault (frame_of regs stack fault.depth)) → OnErr r (¬ (HasIndexTyping w m index))
   none-over regs stack (Ok t) denies mo h = tt
   none-over regs stack (Err fault) denies mo h = denies m index fault (frame_of regs stack fault.depth) mo h
@@ -109,11 +139,6 @@ module _ (w : Linked) (m : Method) (index : List ℕ) where
   over-never i before _ _ (wrong_anyway kind kept wrong) h = wrong-never i before kind kept wrong h
   over-never i before _ _ (wrong_listed_entry e l) h = h
   over-never i before _ _ (wrong_listed_stack f l n d) h = h
-
-  told-flaw : (flaw : Flaw) → IsFlawKind (fault_of flaw).kind
-  told-flaw (flaws.Code place end) = tt
-  told-flaw (flaws.BadTarget place target) = tt
-  told-flaw (flaws.BadHandler entry number) = tt
 
   form-never : (fault : CardFault) (kept : Frame) → FlawsAreTold w → IsWellFormed m → IsIndex m index → IsRefusedOver w m index fault kept → ¬ (IsFormKind fault.kind)
   form-never _ _ told formed whole (over_flaw flaw kept first) h = (told m (fault_of flaw) kept (refused_flaw flaw kept first)).0 (told-flaw flaw) formed
@@ -160,10 +185,19 @@ ok-always P (Err fault) h = tt
 -- ---- what is counted
 
 pub counted-of : (m : Method) (regs begun : List Ty) (before after : ℕ) (r : Result (Unit {0}) CardFault) → begun ≡ (start_frame m.rec Bottom).regs → OnOk r (before + instruction_count m ≤ after)
-    → OnOk r (¬ (regs ≡ begun) → before + 2 * instruction_count m ≤ after) → OnOk r (AreCounted m regs before after)
-counted-of m regs begun before after (Ok t) start once twice = record { once = once; twice = λ other. twice (λ same. other (same ∙ start)) }
+    → OnOk r (¬ (regs ≡ begun) → before + 2 * instruction_count m ≤ after) → OnOk r (AreCounted m 0 regs before after)
+counted-of m regs begun before after (Ok t) start once twice = record { once = omega (arith, once); twice = λ other. let paid = twice (λ same. other (same ∙ start)) in omega (arith, paid) }
 counted-of m regs begun before after (Err fault) start once twice = tt
 
-pub counted-sooner : (m : Method) (regs : List Ty) (sooner before after : ℕ) (r : Result (Unit {0}) CardFault) → sooner ≤ before → OnOk r (AreCounted m regs before after) → OnOk r (AreCounted m regs sooner after)
-counted-sooner m regs sooner before after (Ok t) le c = record { once = let old = c.once in omega (arith, le, old); twice = λ other. let old = c.twice other in omega (arith, le, old) }
-counted-sooner m regs sooner before after (Err fault) le c = tt
+-- once each entry of the index was read
+module _ (m : Method) (entries sooner before after : ℕ) (read : sooner + entries ≤ before) where
+  pub counted-sooner : (regs : List Ty) (r : Result (Unit {0}) CardFault) → OnOk r (AreCounted m 0 regs before after) → OnOk r (AreCounted m entries regs sooner after)
+  counted-sooner regs (Ok t) c = record { once = let old = c.once in omega (arith, read, old); twice = λ other. let old = c.twice other in omega (arith, read, old) }
+  counted-sooner regs (Err fault) c = tt
+
+  to-sooner : (place : ℕ) → AreCountedTo m 0 place before after → AreCountedTo m entries place sooner after
+  to-sooner place c = record { here = c.here; at = c.at; number = c.number; stands = c.stands; counted = let old = c.counted in omega (arith, read, old) }
+
+  pub counted-by-state : (r : Result (Unit {0}) CardFault) → IfErr r (λ (fault : CardFault). AreCountedTo m 0 fault.place before after) → IfErr r (AreCountedBy m entries sooner after)
+  counted-by-state (Ok t) c = tt
+  counted-by-state (Err fault) c = inr (to-sooner fault.place c)

@@ -7,16 +7,16 @@ use Rattle.jc_base.specs.Order.{rises_left}
 use Rattle.jc_decode.specs.declared.insn.Placed.{Placed}
 use Rattle.jc_decode.specs.Listing.{falls, listing, end_from}
 use Rattle.jc_control.specs.Method.{Method}
-use Rattle.jc_control.specs.WellFormed.{Stands}
+use Rattle.jc_control.specs.WellFormed.{HasInstruction}
 use Rattle.jc_rules.specs.declared.rule.Outcome.{Outcome}
 use Rattle.jc_rules.specs.Stack.{cells}
 use Rattle.jc_rules.specs.Apply.{frame_of}
+use Rattle.jc_rules.proofs.Stacks.{length-cells}
 use Rattle.card_typing.specs.declared.fault.CardFault.{CardFault}
 use Rattle.card_typing.specs.Met.{IsPassed, goes_there}
 use Rattle.card_verify.specs.declared.verifier.Verifier.{Verifier}
 use Rattle.card_verify.specs.declared.pass.Arrival.{Arrival}
 use Rattle.card_verify.specs.Walk.{IsComing, IsBegun, IsRaisedBy}
-use Rattle.card_verify.proofs.Landing.{cells-length}
 use Rattle.card_verify.proofs.Walking.{inside, begun-again}
 use Rattle.card_index.specs.declared.indexed.Indexed.{Indexed}
 use Rattle.card_index.specs.Indexed.{subject, world_in, listed}
@@ -30,12 +30,12 @@ module _ (x : Indexed) (is : IsIndexed x) where
 
   -- what is wrong at a place to which a walk has come
   pub refused-over-at :
-      (i : Placed) (there : Stands m.code i) (arrival : Arrival) (regs stack regs_after stack_after : List Ty) (fault : CardFault)
+      (i : Placed) (there : HasInstruction m.code i) (arrival : Arrival) (regs stack regs_after stack_after : List Ty) (fault : CardFault)
       → IsComing x.verifier i.place arrival regs stack
       → IsStoppedOver x i arrival regs stack regs_after stack_after fault
       → IsRefusedOver (world_in x) m (listed x) fault (frame_of regs_after stack_after fault.depth)
   refused-over-at i there arrival regs stack regs_after stack_after fault coming stopped =
-      let deep = sym (cells-length stack_after fault.depth stopped.within) in
+      let deep = sym (length-cells stack_after fault.depth stopped.within) in
       let met = coming.met i.place stopped.given (goes_there (inside m (is.verifier.order m.code) i there)) stopped.arrives in
       let same : record { place = i.place; depth = length (cells stack_after fault.depth); kind = fault.kind } ≡ fault =
       ap (λ (n : ℕ). record { place = n; depth = length (cells stack_after fault.depth); kind = fault.kind }) (sym stopped.place)

@@ -1,9 +1,10 @@
 -- How often an index suffices: the methods of a world over whose index a card typing exists.
 use Rattle.std.specs.Prelude.{◌≡◌, ◌↔◌, ℕ, ◌<◌, List, length, Some, slice_get, Contains}
+use Rattle.jc_base.specs.Index.{IsAscending}
 use Rattle.jc_base.specs.declared.record.MethodRec.{MethodRec}
 use Rattle.jc_base.specs.World.{Linked, index_of}
 use Rattle.jc_control.specs.Method.{method_with}
-use Rattle.card_index.specs.IndexTyping.{IsAscending, HasIndexTyping}
+use Rattle.card_index.specs.IndexTyping.{HasIndexTyping}
 
 -- the method of this number has code and an index, over which a card typing exists
 pub record IsByIndex (w : Linked) (number : ℕ) : Type 0 where

@@ -1,16 +1,13 @@
 -- Card typings over a target index: the places that the index lists stand for the targets (Leroy 2002, section 3; JCVM 2.2,
 -- section 7.5).
-use Rattle.std.specs.Prelude.{◌≡◌, ◌↔◌, ℕ, ◌+◌, ◌<◌, List, [], Some, All, slice_get, Contains}
+use Rattle.std.specs.Prelude.{◌≡◌, ◌↔◌, ℕ, List, [], All, Contains}
+use Rattle.jc_base.specs.Index.{IsAscending}
 use Rattle.jc_base.specs.declared.ty.Ty.{Ty}
 use Rattle.jc_base.specs.World.{Linked}
 use Rattle.jc_control.specs.Method.{Method}
 use Rattle.jc_control.specs.WellFormed.{IsPlace}
 use Rattle.card_typing.specs.Place.{IsTarget, IsEntry}
 use Rattle.card_typing.specs.Typing.{CardTyping}
-
--- each entry is above the one before it
-abbrev pub IsAscending : List ℕ → Type 0
-IsAscending index = (k p q : ℕ) → slice_get index k ≡ Some p → slice_get index (k + 1) ≡ Some q → p < q
 
 -- places of instructions alone, in ascending order, and every target among them
 pub record IsIndex (m : Method) (index : List ℕ) : Type 0 where

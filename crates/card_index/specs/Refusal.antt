@@ -1,10 +1,11 @@
 -- Why the verifier on the card refuses a method over a target index (Leroy 2002, section 3).
 use Rattle.std.specs.Prelude.{◌≡◌, ◌≢◌, ℕ, ℤ, pos, negsuc, ◌+◌, ◌<◌, ◌≤◌, List, [], Some, All, slice_get, Contains, ⊤}
+use Rattle.jc_base.specs.Index.{IsAscending}
 use Rattle.jc_base.specs.World.{Linked}
 use Rattle.jc_decode.specs.declared.insn.Placed.{Placed}
 use Rattle.jc_decode.specs.Listing.{listing, targets}
 use Rattle.jc_control.specs.Method.{Method}
-use Rattle.jc_control.specs.WellFormed.{Stands, IsPlace, IsWellFormed}
+use Rattle.jc_control.specs.WellFormed.{HasInstruction, IsPlace, IsWellFormed}
 use Rattle.jc_control.specs.FirstFailing.{IsFirstFailing}
 use Rattle.jc_control.specs.Flaw.{IsFirstFlaw}
 use Rattle.jc_control.specs.declared.flaw.Flaw.{Flaw}
@@ -15,7 +16,7 @@ use Rattle.card_typing.specs.declared.fault.CardKind.TheVariants.{Code, StackAtT
 use Rattle.card_typing.specs.Place.{IsEntry, IsFallenInto}
 use Rattle.card_typing.specs.Met.{IsMet}
 use Rattle.card_typing.specs.Refusal.{IsWrong, fault_of, fault_at}
-use Rattle.card_index.specs.IndexTyping.{IsAscending, IsIndex}
+use Rattle.card_index.specs.IndexTyping.{IsIndex}
 
 -- ---- what is wrong with an index
 
@@ -89,7 +90,7 @@ pub data IsRefusedOver (w : Linked) (m : Method) (index : List ℕ) : CardFault 
       (i : Placed) (before kept : Frame) (kind : CardKind)
       → IsWellFormed m
       → IsIndex m index
-      → Stands m.code i
+      → HasInstruction m.code i
       → IsMet w m i.place before
       → IsWrongOver w m index i before kind kept
       → IsRefusedOver w m index (fault_at i.place kind kept) kept

@@ -2,7 +2,7 @@ ghost use Rattle.std.specs.Prelude.{◌≡◌, ◌+◌, ◌<◌, All, MatchBool,
 ghost use Rattle.jc_base.specs.Order.{IsKnown, rises_left};
 ghost use Rattle.jc_rules.specs.declared.effect.Mode.TheVariants.{Card};
 ghost use Rattle.jc_rules.specs.Stack.{cells};
-ghost use Rattle.jc_rules.specs.Apply.{frame_of, HasRoom, Applies, Refuses};
+ghost use Rattle.jc_rules.specs.Apply.{frame_of, HasDeclaredLengths, Applies, Refuses};
 
 use jc_base::{Steps, Ty, World};
 use jc_decode::Insn;
@@ -20,7 +20,7 @@ pub fn apply_counted<L: Ledger>(
     mode: Mode,
     steps: &mut Steps<L>,
 ) -> Result<Outcome, RuleFault>
-    requires room { IsSomeAnd (slice_get world.now.methods site.method) (λ m. HasRoom m regs.old stack.old depth) }
+    requires room { IsSomeAnd (slice_get world.now.methods site.method) (λ m. HasDeclaredLengths m regs.old stack.old depth) }
     requires regs_known { All (IsKnown world.now.classes) regs.old }
     requires stack_known { All (IsKnown world.now.classes) (cells stack.old depth) }
     ensures one { steps.new ≡ steps.old + 1 }

@@ -1,7 +1,7 @@
 ghost use Rattle.std.specs.Prelude.{◌≡◌, ℕ, ◌+◌, ◌<◌, ◌≤◌, length, All, IfNone, IfSome, MatchBool};
+ghost use Rattle.jc_base.specs.Index.{IsAscending};
 ghost use Rattle.jc_control.specs.WellFormed.{IsPlace};
 ghost use Rattle.jc_decode.specs.Instructions.{rest_of};
-ghost use Rattle.card_index.specs.IndexTyping.{IsAscending};
 ghost use Rattle.card_index.specs.Refusal.{IsFirstBadEntry};
 ghost use Rattle.card_index.specs.Seeking.{IsSought, HasNone};
 
@@ -22,8 +22,9 @@ pub(crate) fn bad_entry<L: Ledger>(
     ensures places { IfNone result (All (IsPlace code.entry.bytes.now) index.now) }
     ensures bad { IfSome result (IsFirstBadEntry code.entry.bytes.now index.now) }
     ensures forward { steps.old ≤ steps.new }
-    // Each entry is read once at most.
+    // Each entry is read once at most, and where none is bad each is read.
     ensures cost { steps.new ≤ steps.old + length index.now }
+    ensures read { IfNone result (steps.old + length index.now ≤ steps.new) }
 {
     instructions_are_listed();
     let mut left = Instructions::of(code);

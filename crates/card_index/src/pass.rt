@@ -1,12 +1,13 @@
 ghost use Rattle.std.specs.Prelude.{◌≡◌, ℕ, ◌+◌, ◌*◌, ◌<◌, ◌≤◌, ◌^◌, [], length, All, IfOk, IfErr, OnOk, MatchBool};
 ghost use Rattle.jc_base.specs.Order.{IsKnown};
 ghost use Rattle.jc_decode.specs.Listing.{listing};
-ghost use Rattle.jc_control.specs.WellFormed.{Stands};
+ghost use Rattle.jc_control.specs.WellFormed.{HasInstruction};
 ghost use Rattle.jc_rules.specs.Stack.{cells};
 ghost use Rattle.jc_rules.specs.Apply.{frame_of};
 ghost use Rattle.card_typing.specs.Place.{IsEntry, IsFallenInto};
 ghost use Rattle.card_typing.specs.Met.{IsOpenTo};
 ghost use Rattle.card_verify.specs.Walk.{HasSlices, IsBegun, IsComing, IsFailing, IsRaisedBy, IsStepped};
+ghost use Rattle.card_index.specs.Bound.{AreCountedTo};
 ghost use Rattle.card_index.specs.Indexed.{subject, world_in, listed};
 ghost use Rattle.card_index.specs.Refusal.{IsRefusedOver};
 ghost use Rattle.card_index.specs.Walk.{IsIndexed, HasEntry, IsTold, IsBlockedOver, IsSharedOver, IsLandedOver, IsMislandedOver, IsVisitedOver, IsStoppedOver, IsSettledOver};
@@ -42,6 +43,7 @@ impl Indexed<'_, '_> {
             IsRefusedOver (world_in self.now) (subject self.now) (listed self.now) fault
             (frame_of regs.new stack.new fault.depth)) }
         ensures counted { OnOk result (steps.old + length (listing (subject self.now).code) ≤ steps.new) }
+        ensures counted_to { IfErr result (λ fault. AreCountedTo (subject self.now) 0 fault.place steps.old steps.new) }
         // At each instruction a search by halving and a rule.
         ensures cost { (b : ℕ)
             → length (listed self.now) < 2 ^ b
@@ -81,11 +83,12 @@ impl Indexed<'_, '_> {
         requires indexed { IsIndexed self.now }
         requires ahead { HasEntry self.now entries }
         requires here { entries.from ≡ placed.place }
-        requires stands { Stands (subject self.now).code placed }
+        requires stands { HasInstruction (subject self.now).code placed }
         requires coming { IsComing self.now.verifier placed.place arrival regs.old stack.old }
         ensures passed { IfOk result (λ o. IsVisitedOver self.now placed arrival regs.old stack.old regs.new stack.new o) }
         ensures stopped { IfErr result (λ fault. IsStoppedOver self.now placed arrival regs.old stack.old regs.new stack.new fault) }
         ensures counted { OnOk result (steps.old < steps.new) }
+        ensures forward { steps.old ≤ steps.new }
         ensures cost { (b : ℕ) → length (listed self.now) < 2 ^ b → steps.new ≤ steps.old + (b + 1) }
     {
         let depth = match self.land(entries, arrival, stack, steps) {
@@ -180,7 +183,7 @@ impl Indexed<'_, '_> {
         steps: &mut Steps<L>,
     ) -> Result<Outcome, CardFault>
         requires indexed { IsIndexed self.now }
-        requires stands { Stands (subject self.now).code placed }
+        requires stands { HasInstruction (subject self.now).code placed }
         requires slices { HasSlices self.now.verifier regs.old stack.old }
         requires depth { depth ≤ self.now.verifier.rec.now.max_stack }
         requires known { All (IsKnown (world_in self.now).classes) regs.old

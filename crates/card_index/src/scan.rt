@@ -1,8 +1,8 @@
 ghost use Rattle.std.specs.Prelude.{◌≡◌, ℕ, ◌+◌, ◌*◌, ◌<◌, ◌≤◌, ◌^◌, length, sum_by, All, IfNone, IfSome, MatchBool, Ok};
+ghost use Rattle.jc_base.specs.Index.{IsAscending};
 ghost use Rattle.jc_decode.specs.Decoding.{decoded};
 ghost use Rattle.jc_decode.specs.Listing.{listing, targets};
 ghost use Rattle.jc_control.specs.FirstFailing.{IsFirstFailing};
-ghost use Rattle.card_index.specs.IndexTyping.{IsAscending};
 ghost use Rattle.card_index.specs.Refusal.{IsListedTarget, LeadsToListed, IsFirstLacking};
 
 use crate::search::is_listed;

@@ -1,5 +1,5 @@
 ghost use Rattle.std.specs.Prelude.{◌≡◌, ℕ, ◌+◌, ◌<◌, ◌≤◌, ◌^◌, length, MatchBool, Contains, Some, slice_get};
-ghost use Rattle.card_index.specs.IndexTyping.{IsAscending};
+ghost use Rattle.jc_base.specs.Index.{IsAscending};
 
 use jc_base::{Steps, TargetIndex};
 use std::sync::ledger::Ledger;

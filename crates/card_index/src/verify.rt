@@ -1,4 +1,5 @@
 ghost use Rattle.std.specs.Prelude.{◌≡◌, ◌≢◌, ℕ, ◌+◌, ◌*◌, ◌<◌, ◌≤◌, ◌^◌, length, slice_get, sum_by, All, IsErr, IsSomeAnd, IfErr, OnOk, OnErr};
+ghost use Rattle.jc_base.specs.Index.{IsAscending};
 ghost use Rattle.jc_base.specs.Order.{rises_left};
 ghost use Rattle.jc_control.specs.Method.{IsMethodOf, method_in};
 ghost use Rattle.jc_control.specs.WellFormed.{IsPlace, IsWellFormed};
@@ -7,9 +8,9 @@ ghost use Rattle.jc_rules.specs.Demand.{Frame};
 ghost use Rattle.jc_rules.specs.Apply.{frame_of};
 ghost use Rattle.card_typing.specs.Typing.{IsLeastCardTyping};
 ghost use Rattle.card_verify.specs.Walk.{HasSlices, IsBegun};
-ghost use Rattle.card_index.specs.Bound.{AreCounted, instruction_count, target_count, most_passes, step_bound};
+ghost use Rattle.card_index.specs.Bound.{AreCounted, AreCountedTo, AreCountedBy, instruction_count, target_count, most_passes, step_bound};
 ghost use Rattle.card_index.specs.Indexed.{subject, world_in, listed};
-ghost use Rattle.card_index.specs.IndexTyping.{IsAscending, IsIndex, HasIndexTyping};
+ghost use Rattle.card_index.specs.IndexTyping.{IsIndex, HasIndexTyping};
 ghost use Rattle.card_index.specs.Refusal.{IsFirstBadEntry, IsFirstLacking, LeadsToListed, IsFormKind, IsRefusedOver};
 ghost use Rattle.card_index.specs.Walk.{IsIndexed, IsFinishedOver, IsPlaceNumber, IsNotIndexed};
 
@@ -55,8 +56,11 @@ pub fn verify_indexed<L: Ledger>(
         (λ fault. IsRefusedOver world.now m index.now fault (frame_of regs.new stack.new fault.depth))) }
     // Where no state is at fault, nothing has changed.
     ensures as_before { IfErr result (λ fault. IsFormKind fault.kind → (regs.new ≡ regs.old) × (stack.new ≡ stack.old)) }
-    // What is applied is counted.
-    ensures counted { IsSomeAnd (method_in world.now method) (λ m. OnOk result (AreCounted m regs.new steps.old steps.new)) }
+    // What is read and applied is counted.
+    ensures counted { IsSomeAnd (method_in world.now method)
+        (λ m. OnOk result (AreCounted m (length index.now) regs.new steps.old steps.new)) }
+    ensures counted_to { IsSomeAnd (method_in world.now method)
+        (λ m. IfErr result (AreCountedBy m (length index.now) steps.old steps.new)) }
     // Whatever the index lists, there are no more steps than this.
     ensures cost { IsSomeAnd (method_in world.now method)
         (λ m.
@@ -94,7 +98,9 @@ impl Indexed<'_, '_> {
             IsRefusedOver (world_in self.now) (subject self.now) (listed self.now) fault
             (frame_of regs.new stack.new fault.depth)) }
         ensures as_before { IfErr result (λ fault. IsFormKind fault.kind → (regs.new ≡ regs.old) × (stack.new ≡ stack.old)) }
-        ensures counted { OnOk result (AreCounted (subject self.now) regs.new steps.old steps.new) }
+        ensures counted { OnOk result
+            (AreCounted (subject self.now) (length (listed self.now)) regs.new steps.old steps.new) }
+        ensures counted_to { IfErr result (AreCountedBy (subject self.now) (length (listed self.now)) steps.old steps.new) }
         ensures cost { (b : ℕ)
             → length (listed self.now) < 2 ^ b
             → steps.new ≤ steps.old + step_bound (world_in self.now) (subject self.now) (length (listed self.now)) b }
@@ -115,7 +121,9 @@ impl Indexed<'_, '_> {
         ensures refused { IfErr result
             (λ fault.
             (kept : Frame) → IsRefusedOver (world_in self.now) (subject self.now) (listed self.now) fault kept) }
+        ensures form { IfErr result (λ fault. IsFormKind fault.kind) }
         ensures forward { steps.old ≤ steps.new }
+        ensures read { OnOk result (steps.old + length (listed self.now) ≤ steps.new) }
         ensures cost { (b : ℕ)
             → length (listed self.now) < 2 ^ b
             → steps.new ≤ steps.old + (length (listed self.now) + target_count (subject self.now) * b) }
@@ -136,6 +144,7 @@ impl Indexed<'_, '_> {
         ensures refused { IfErr result
             (λ fault.
             (kept : Frame) → IsRefusedOver (world_in self.now) (subject self.now) (listed self.now) fault kept) }
+        ensures form { IfErr result (λ fault. IsFormKind fault.kind) }
         ensures forward { steps.old ≤ steps.new }
         ensures cost { (b : ℕ)
             → length (listed self.now) < 2 ^ b
@@ -155,6 +164,7 @@ impl Indexed<'_, '_> {
         ensures refused { IfErr result
             (λ fault.
             (kept : Frame) → IsRefusedOver (world_in self.now) (subject self.now) (listed self.now) fault kept) }
+        ensures form { IfErr result (λ fault. IsFormKind fault.kind) }
     {
         match self.verifier.check_form() {
             Ok(()) => Err(CardFault {
@@ -176,6 +186,7 @@ impl Indexed<'_, '_> {
         ensures refused { IfErr result
             (λ fault.
             (kept : Frame) → IsRefusedOver (world_in self.now) (subject self.now) (listed self.now) fault kept) }
+        ensures form { IfErr result (λ fault. IsFormKind fault.kind) }
     {
         instructions_are_listed();
         match self.verifier.check_form() {
@@ -193,6 +204,7 @@ impl Indexed<'_, '_> {
         ensures refused { IfErr result
             (λ fault.
             (kept : Frame) → IsRefusedOver (world_in self.now) (subject self.now) (listed self.now) fault kept) }
+        ensures form { IfErr result (λ fault. IsFormKind fault.kind) }
     {
         if is_rest_formed(self.verifier) {
             return Ok(());
@@ -217,7 +229,8 @@ impl Indexed<'_, '_> {
             (λ fault.
             IsRefusedOver (world_in self.now) (subject self.now) (listed self.now) fault
             (frame_of regs.new stack.new fault.depth)) }
-        ensures counted { OnOk result (AreCounted (subject self.now) regs.new steps.old steps.new) }
+        ensures counted { OnOk result (AreCounted (subject self.now) 0 regs.new steps.old steps.new) }
+        ensures counted_to { IfErr result (λ fault. AreCountedTo (subject self.now) 0 fault.place steps.old steps.new) }
         ensures cost { (b : ℕ)
             → length (listed self.now) < 2 ^ b
             → steps.new
@@ -252,6 +265,7 @@ impl Indexed<'_, '_> {
         ensures twice { OnOk result
             (regs.new ≢ regs.old
             → steps.old + 2 * instruction_count (subject self.now) ≤ steps.new) }
+        ensures counted_to { IfErr result (λ fault. AreCountedTo (subject self.now) 0 fault.place steps.old steps.new) }
         // A pass but the last raises a register.
         ensures cost { (b : ℕ)
             → length (listed self.now) < 2 ^ b

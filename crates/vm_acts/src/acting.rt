@@ -4,7 +4,7 @@ ghost use Rattle.vm_step.specs.Performed.{act};
 ghost use Rattle.vm_step.specs.Branching.{branch_act, branch_width, switch_act};
 ghost use Rattle.vm_step.specs.Methods.{code_at};
 ghost use Rattle.vm_step.specs.Numbers.{number_width};
-ghost use Rattle.vm_values.specs.Lead.{told, Stays, Stands, FramesStay, lead_unless, lead_put};
+ghost use Rattle.vm_values.specs.Lead.{told, Stays, LeadStands, FramesStay, lead_unless, lead_put};
 ghost use Rattle.vm_acts.specs.Reaches.{Reaches, IsInCode};
 
 use crate::calling::call;
@@ -29,7 +29,7 @@ pub fn act<S: Store>(store: &mut S, world: &World<'_>, insn: Insn, operation: Op
     ensures act { act S.Cell.cells world.now insn operation (S.state store.old)
         ≡ told S.Cell.cells world.now (S.state store.new) result }
     ensures stays { Stays result (S.state store.old) (S.state store.new) }
-    ensures stands { Stands S.stack_room world.now (S.state store.new) result }
+    ensures stands { LeadStands S.stack_room world.now (S.state store.new) result }
     ensures frames { FramesStay (S.state store.old) (S.state store.new) }
     ensures well { S.well store.new }
     ensures fixed { S.fixed store.new ≡ S.fixed store.old }
@@ -108,7 +108,7 @@ fn take_branch<S: Store>(store: &mut S, world: &World<'_>, insn: Insn, branch: B
     requires cells { branch_width branch ≤ length (top (S.state store.old)).stack }
     ensures act { branch_act S.Cell.cells insn branch (S.state store.old) ≡ told S.Cell.cells world.now (S.state store.new) result }
     ensures stays { Stays result (S.state store.old) (S.state store.new) }
-    ensures stands { Stands S.stack_room world.now (S.state store.new) result }
+    ensures stands { LeadStands S.stack_room world.now (S.state store.new) result }
     ensures well { S.well store.new }
     ensures fixed { S.fixed store.new ≡ S.fixed store.old }
 {
@@ -129,7 +129,7 @@ fn take_switch<S: Store>(store: &mut S, world: &World<'_>, insn: Insn, width: Wi
     ensures act { switch_act S.Cell.cells (code_at world.now (top (S.state store.old)).method) insn width (S.state store.old)
         ≡ told S.Cell.cells world.now (S.state store.new) result }
     ensures stays { Stays result (S.state store.old) (S.state store.new) }
-    ensures stands { Stands S.stack_room world.now (S.state store.new) result }
+    ensures stands { LeadStands S.stack_room world.now (S.state store.new) result }
     ensures well { S.well store.new }
     ensures fixed { S.fixed store.new ≡ S.fixed store.old }
 {

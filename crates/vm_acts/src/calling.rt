@@ -8,7 +8,7 @@ ghost use Rattle.jc_ops.specs.declared.operation.Choice.TheVariants as choices;
 ghost use Rattle.vm_store.specs.State.{IsRunning, top, nth};
 ghost use Rattle.vm_store.specs.Objects.{object_at, kinds};
 ghost use Rattle.vm_step.specs.Calls.{args_of, call_act, chosen_act, class_of, made_at, readied, served};
-ghost use Rattle.vm_values.specs.Lead.{told, Stays, Stands, FramesStay, TakesCells};
+ghost use Rattle.vm_values.specs.Lead.{told, Stays, LeadStands, FramesStay, TakesCells};
 ghost use Rattle.vm_acts.specs.Reaches.{HasReceiver};
 
 use jc_base::{Ty, World, public_methods_run};
@@ -27,7 +27,7 @@ pub fn call<S: Store>(store: &mut S, world: &World<'_>, callee: Callee) -> Lead
     requires receiver { HasReceiver S.Cell.cells world.now callee callee.choice (S.state store.old) }
     ensures act { call_act S.Cell.cells world.now callee (S.state store.old) ≡ told S.Cell.cells world.now (S.state store.new) result }
     ensures stays { Stays result (S.state store.old) (S.state store.new) }
-    ensures stands { Stands S.stack_room world.now (S.state store.new) result }
+    ensures stands { LeadStands S.stack_room world.now (S.state store.new) result }
     ensures frames { FramesStay (S.state store.old) (S.state store.new) }
     ensures well { S.well store.new }
     ensures fixed { S.fixed store.new ≡ S.fixed store.old }
@@ -65,7 +65,7 @@ fn call_special<S: Store>(store: &mut S, world: &World<'_>, callee: Callee) -> L
     ensures act { chosen_act S.Cell.cells world.now.classes callee (args_of world.now callee.method) choices.Special (S.state store.old)
         ≡ told S.Cell.cells world.now (S.state store.new) result }
     ensures stays { Stays result (S.state store.old) (S.state store.new) }
-    ensures stands { Stands S.stack_room world.now (S.state store.new) result }
+    ensures stands { LeadStands S.stack_room world.now (S.state store.new) result }
     ensures frames { FramesStay (S.state store.old) (S.state store.new) }
     ensures well { S.well store.new }
     ensures fixed { S.fixed store.new ≡ S.fixed store.old }
@@ -141,7 +141,7 @@ fn call_virtual<S: Store>(
         (choices.Virtual class token)
         (S.state store.now)
         ≡ told S.Cell.cells world.now (S.state store.now) result }
-    ensures stands { Stands S.stack_room world.now (S.state store.now) result }
+    ensures stands { LeadStands S.stack_room world.now (S.state store.now) result }
 {
     let args = args_of(world, callee.method);
     let handle = handle_on(store, args as usize);
@@ -198,7 +198,7 @@ fn call_interface<S: Store>(
     requires receiver { HasReceiver S.Cell.cells world.now callee callee.choice (S.state store.now) }
     ensures act { chosen_act S.Cell.cells world.now.classes callee (args_of world.now callee.method) callee.choice (S.state store.now)
         ≡ told S.Cell.cells world.now (S.state store.now) result }
-    ensures stands { Stands S.stack_room world.now (S.state store.now) result }
+    ensures stands { LeadStands S.stack_room world.now (S.state store.now) result }
 {
     let args = args_of(world, callee.method);
     let handle = handle_on(store, args as usize);

@@ -6,7 +6,7 @@ ghost use Rattle.vm_store.specs.Objects.{object_at};
 ghost use Rattle.vm_step.specs.Numbers.{handle_at};
 ghost use Rattle.vm_step.specs.Objects.{kind_of_type, new_array_act, throw_act, type_test_act, may_cast, truth};
 ghost use Rattle.vm_step.specs.Calls.{return_act};
-ghost use Rattle.vm_values.specs.Lead.{goes_unless, told, Stays, Stands, result_width};
+ghost use Rattle.vm_values.specs.Lead.{goes_unless, told, Stays, LeadStands, result_width};
 ghost use Rattle.vm_fields.specs.Found.{IsNullOr, IsObject};
 ghost use Rattle.vm_acts.specs.Reaches.{HandleIs, IsArrayOf};
 
@@ -27,7 +27,7 @@ pub fn new_array<S: Store>(store: &mut S, world: &World<'_>, ty: Ty) -> Lead
     requires named { IsNamedType world.now.classes ty }
     ensures act { new_array_act S.Cell.cells ty (S.state store.old) ≡ told S.Cell.cells world.now (S.state store.new) result }
     ensures stays { Stays result (S.state store.old) (S.state store.new) }
-    ensures stands { Stands S.stack_room world.now (S.state store.new) result }
+    ensures stands { LeadStands S.stack_room world.now (S.state store.new) result }
     ensures well { S.well store.new }
     ensures fixed { S.fixed store.new ≡ S.fixed store.old }
 {
@@ -67,7 +67,7 @@ pub fn throw<S: Store>(store: &S, world: &World<'_>) -> Lead
     requires cells { 1 ≤ length (top (S.state store.now)).stack }
     requires object { HandleIs S.Cell.cells (S.state store.now) 0 (λ h. IsSome (object_at (S.state store.now) h)) }
     ensures act { throw_act S.Cell.cells (S.state store.now) ≡ told S.Cell.cells world.now (S.state store.now) result }
-    ensures stands { Stands S.stack_room world.now (S.state store.now) result }
+    ensures stands { LeadStands S.stack_room world.now (S.state store.now) result }
 {
     let handle = handle_on(store, 0);
     if handle == 0 {
@@ -125,7 +125,7 @@ pub fn value_given<S: Store>(store: &S, world: &World<'_>, result_type: Option<T
     requires running { IsRunning (S.state store.now) }
     requires cells { result_width result_type ≤ length (top (S.state store.now)).stack }
     ensures act { return_act S.Cell.cells result_type (S.state store.now) ≡ told S.Cell.cells world.now (S.state store.now) result }
-    ensures stands { Stands S.stack_room world.now (S.state store.now) result }
+    ensures stands { LeadStands S.stack_room world.now (S.state store.now) result }
 {
     match result_type {
         None => Lead::Gives(Value::Void),

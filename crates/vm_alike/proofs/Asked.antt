@@ -20,7 +20,7 @@ use Rattle.jc_ops.specs.declared.want.Want.TheVariants.{Value}
 use Rattle.jc_ops.specs.Sound.{IsSound}
 use Rattle.jc_rules.specs.declared.demand.Demand.{Demand}
 use Rattle.jc_rules.specs.declared.demand.Demand.TheVariants.{Registers, Depth, Cell as ACell, Cut, Held}
-use Rattle.jc_rules.specs.Demand.{Frame as Types, Meets, Holds, AllHold, holds}
+use Rattle.jc_rules.specs.Demand.{Frame as Types, Meets, Satisfies, SatisfiesAll, satisfies}
 use Rattle.jc_rules.specs.Footprint.{registers_asked, cells_asked, registers_read, AreThere, AgreeOn}
 use Rattle.jc_rules.specs.Rule.{demands}
 use Rattle.jc_rules.proofs.Decided.{are-decided}
@@ -60,31 +60,31 @@ module _ (w : Linked) (world : IsWorld w) where
   order : IsOrderOfTypes w.classes
   order = order-of-types w.classes world.chains
 
-  tests-hold : (types : Types) (ds : List Demand) → list_all (holds w.classes types) ds ≡ true → AllHold w.classes types ds
+  tests-hold : (types : Types) (ds : List Demand) → list_all (satisfies w.classes types) ds ≡ true → SatisfiesAll w.classes types ds
   tests-hold types [] h = tt
   tests-hold types (d ∷ ds) h = (
-    of-true (holds w.classes types d) (Holds w.classes types d) ((are-decided w.classes order).demand types d)
-        (and-first (holds w.classes types d) (list_all (holds w.classes types) ds) h),
-    tests-hold types ds (and-second (holds w.classes types d) (list_all (holds w.classes types) ds) h),
+    of-true (satisfies w.classes types d) (Satisfies w.classes types d) ((are-decided w.classes order).demand types d)
+        (and-first (satisfies w.classes types d) (list_all (satisfies w.classes types) ds) h),
+    tests-hold types ds (and-second (satisfies w.classes types d) (list_all (satisfies w.classes types) ds) h),
   )
 
   pub passed-asks :
       (f : Frame Cell) (below : List (Frame Cell)) (heap : List (Object Cell)) (statics : List Cell) (op : Operation)
       → fault_before tagged w op (record { frames = f ∷ below; heap = heap; statics = statics }) ≡ None
-      → AllHold w.classes (types_in w.classes Bottom (map (λ (o : Object Cell). o.kind) heap) f) (demands w op)
+      → SatisfiesAll w.classes (types_in w.classes Bottom (map (λ (o : Object Cell). o.kind) heap) f) (demands w op)
   passed-asks f below heap statics op h =
       let types = types_in w.classes Bottom (map (λ (o : Object Cell). o.kind) heap) f in
       tests-hold types (demands w op)
       (picked LocalFault StackFault TypeFault (nat_lt (length f.registers) (registers_asked (demands w op)))
       (nat_lt (length f.stack) (cells_asked (demands w op)))
-      (list_all (holds w.classes types) (demands w op)) h)
+      (list_all (satisfies w.classes types) (demands w op)) h)
 
 -- ---- another stack
 
 -- what is asked of a frame is met with other places of uninitialised objects on its stack
 stack-renamed :
     (f : ℕ → ℕ) (t : ClassTable) (regs stack : List Ty) (ds : List Demand) → are_ready ds ≡ true
-    → AllHold t (record { regs = regs; stack = stack }) ds → AllHold t (record { regs = regs; stack = map (renamed f) stack }) ds
+    → SatisfiesAll t (record { regs = regs; stack = stack }) ds → SatisfiesAll t (record { regs = regs; stack = map (renamed f) stack }) ds
 stack-renamed f t regs stack [] r h = tt
 stack-renamed f t regs stack (Registers x n ∷ ds) r h =
     (h.0, stack-renamed f t regs stack ds (and-second (ready_demand (Registers x n)) (are_ready ds) r) h.1)
@@ -154,7 +154,7 @@ module _ (w : Linked) (world : IsWorld w) (f : ℕ → ℕ) (ks : List ObjectKin
   same-asked :
       (op : Operation) → registers_asked (demands w op) ≤ length others
       → map (slice_get others) (registers_read (demands w op)) ≡ map (slice_get regs) (registers_read (demands w op))
-      → AllHold w.classes here (demands w op) → AllHold w.classes between (demands w op)
+      → SatisfiesAll w.classes here (demands w op) → SatisfiesAll w.classes between (demands w op)
   same-asked op named read h =
       (operation-reads w op here between refl (many (registers_asked (demands w op)) named)
       (agree-types w.classes ks regs others (registers_read (demands w op)) read)).asked h
@@ -174,7 +174,7 @@ module _ (w : Linked) (world : IsWorld w) (f : ℕ → ℕ) (ks : List ObjectKin
       (a b : Operation) → View f a b
       → registers_asked (demands w b) ≤ length others
       → map (slice_get others) (registers_read (demands w b)) ≡ map (slice_get regs) (registers_read (demands w a))
-      → AllHold w.classes here (demands w a) → AllHold w.classes between (demands w b)
+      → SatisfiesAll w.classes here (demands w a) → SatisfiesAll w.classes between (demands w b)
   asked-there _ _ (same_op op n) named read h = same-asked op named read h
   asked-there _ _ (new_ops p class) named read h = tt
   asked-there _ _ (load_ops sorts.Reference x y) named read h =
@@ -217,10 +217,10 @@ module _ (w : Linked) (world : IsWorld w) (f : ℕ → ℕ) (ks : List ObjectKin
       (m : MethodRec) (place : ℕ) (a b : Operation) → View f a b → IsSound w m place a
       → registers_asked (demands w b) ≤ length others
       → map (slice_get others) (registers_read (demands w b)) ≡ map (slice_get regs) (registers_read (demands w a))
-      → AllHold w.classes here (demands w a) → AllHold w.classes there (demands w b)
+      → SatisfiesAll w.classes here (demands w a) → SatisfiesAll w.classes there (demands w b)
   asked-alike m place a b alike sound named read h =
       let got = asked-there a b alike named read h in
-      subst (λ s. AllHold w.classes (record { regs = least_types w.classes Bottom ks others; stack = s }) (demands w b))
+      subst (λ s. SatisfiesAll w.classes (record { regs = least_types w.classes Bottom ks others; stack = s }) (demands w b))
       (sym (types-renamed f w.classes ks stack))
       (stack-renamed f w.classes (least_types w.classes Bottom ks others) (least_types w.classes Bottom ks stack) (demands w b)
       (demands-ready w world m (f place) b (sound-view w m f place a b alike sound)) got)

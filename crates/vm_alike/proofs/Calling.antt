@@ -19,7 +19,7 @@ use Rattle.jc_ops.specs.declared.operation.Choice.{Choice}
 use Rattle.jc_ops.specs.declared.operation.Choice.TheVariants as choices
 use Rattle.jc_ops.specs.Sound.{IsReceiverOf, IsChosen}
 use Rattle.jc_rules.specs.declared.demand.Demand.{Demand}
-use Rattle.jc_rules.specs.Demand.{Frame as Types, Meets, AllHold}
+use Rattle.jc_rules.specs.Demand.{Frame as Types, Meets, SatisfiesAll}
 use Rattle.jc_rules.specs.Flow.{IsNotFresh, IsNotTop}
 use Rattle.jc_rules.specs.Rule.{cells_wanted, receiver_wanted, call_demands, return_demands}
 use Rattle.vm_store.specs.declared.cell.Cell.{Cell}
@@ -47,7 +47,7 @@ use Rattle.vm_alike.proofs.Twins.{Pair, two, first, second, Does, calls_both, gi
 use Rattle.vm_alike.proofs.Acting.{other_stack}
 use Rattle.vm_alike.proofs.Storing.{CellStays}
 
-pub all-split : (t : ClassTable) (g : Types) (ds es : List Demand) → AllHold t g (ds ++ es) → AllHold t g ds × AllHold t g es
+pub all-split : (t : ClassTable) (g : Types) (ds es : List Demand) → SatisfiesAll t g (ds ++ es) → SatisfiesAll t g ds × SatisfiesAll t g es
 all-split t g [] es h = (tt, h)
 all-split t g (d ∷ ds) es h = let rest = all-split t g ds es h.1 in ((h.0, rest.0), rest.1)
 
@@ -102,7 +102,7 @@ module _ (x : Pair) (t : ClassTable) (are : AreClasses t) where
   module _ (regs : List Ty) where
     wanted-stay :
         (n : ℕ) (tys : List Ty) → All (IsDeclared t) tys
-        → AllHold t (record { regs = regs; stack = stack_types }) (cells_wanted n tys)
+        → SatisfiesAll t (record { regs = regs; stack = stack_types }) (cells_wanted n tys)
         → (k : ℕ) → k < length tys → CellStays x (n + k)
     wanted-stay n [] all h k lt = absurd (omega (arith, lt))
     wanted-stay n (ty ∷ tys) all h zero lt =
@@ -239,7 +239,7 @@ module _ (x : Pair) (t : ClassTable) (are : AreClasses t) where
           (v : Linked) (callee : Callee) (m : MethodRec) (args : ℕ) (choice : Choice)
           → IsChosen v callee.method m callee.receiver choice
           → ((k : ℕ) → k < args → CellStays x k)
-          → AllHold t (record { regs = regs; stack = stack_types }) (receiver_wanted args callee.receiver)
+          → SatisfiesAll t (record { regs = regs; stack = stack_types }) (receiver_wanted args callee.receiver)
           → Does x (chosen_act tagged t callee args choice (first x)) (chosen_act tagged t callee args choice (second x))
       chosen-does v callee m args choices.Static chosen stay h = call-does callee.method args stay
       chosen-does v callee m args choices.Special chosen stay h =
@@ -250,7 +250,7 @@ module _ (x : Pair) (t : ClassTable) (are : AreClasses t) where
         where
           own :
               (want : Option Want) → IsReceiverOf v m want
-              → AllHold t (record { regs = regs; stack = stack_types }) (receiver_wanted args want)
+              → SatisfiesAll t (record { regs = regs; stack = stack_types }) (receiver_wanted args want)
               → renamed_cell x.rename (ready_cell (made_at want (least_type t Bottom made_kinds (nth tagged x.frame.stack args)))
               (nth tagged x.frame.stack args))
               ≡ ready_cell (made_at want (least_type t Bottom made_kinds (nth tagged x.frame.stack args)))
@@ -262,7 +262,7 @@ module _ (x : Pair) (t : ClassTable) (are : AreClasses t) where
           own _ r h = absurd r
       chosen-does v callee m args (choices.Virtual class token) chosen stay h =
           let own : CellStays x args = tested-stays args (Class class) tt tt
-          (subst (λ want. AllHold t (record { regs = regs; stack = stack_types }) (receiver_wanted args want)) chosen.receiver_is
+          (subst (λ want. SatisfiesAll t (record { regs = regs; stack = stack_types }) (receiver_wanted args want)) chosen.receiver_is
           h).0 in
           null-does x (handle_at tagged x.frame.stack args) (handle_at tagged (other_stack x) args)
           (λ k. calls (unwrap_or (dispatched t class token (class_of t (first x) k)) callee.method) (args + 1) (first x))
@@ -270,7 +270,7 @@ module _ (x : Pair) (t : ClassTable) (are : AreClasses t) where
           (word-at x.rename x.frame.stack args) (call-does _ (args + 1) (with-receiver args stay own))
       chosen-does v callee m args (choices.Interface class token words) chosen stay h =
           let own : CellStays x args = tested-stays args (Class (object v.classes)) tt tt
-          (subst (λ want. AllHold t (record { regs = regs; stack = stack_types }) (receiver_wanted args want)) chosen.receiver_is
+          (subst (λ want. SatisfiesAll t (record { regs = regs; stack = stack_types }) (receiver_wanted args want)) chosen.receiver_is
           h).0 in
           null-does x (handle_at tagged x.frame.stack args) (handle_at tagged (other_stack x) args)
           (λ k. interface_act t class token (args + 1) (kind_of_handle (kinds (first x)) k) (first x))
@@ -284,7 +284,7 @@ module _ (x : Pair) (t : ClassTable) (are : AreClasses t) where
           (v : Linked) (callee : Callee) (m : MethodRec)
           → IsChosen v callee.method m callee.receiver callee.choice
           → All (IsDeclared t) m.sig.args
-          → AllHold t (record { regs = regs; stack = stack_types }) (call_demands m.sig.args callee.receiver)
+          → SatisfiesAll t (record { regs = regs; stack = stack_types }) (call_demands m.sig.args callee.receiver)
           → Does x (chosen_act tagged t callee (length m.sig.args) callee.choice (first x))
           (chosen_act tagged t callee (length m.sig.args) callee.choice (second x))
       asked-does v callee m chosen declared h =
@@ -340,7 +340,7 @@ module _ (x : Pair) (t : ClassTable) (are : AreClasses t) where
 
   pub return-does :
       (regs : List Ty) (result : Option Ty) → IfSome result (IsDeclared t)
-      → AllHold t (record { regs = regs; stack = stack_types }) (return_demands result)
+      → SatisfiesAll t (record { regs = regs; stack = stack_types }) (return_demands result)
       → Does x (return_act tagged result (first x)) (return_act tagged result (second x))
   return-does regs None d h = gives_both values.Void [] (λ f keeps. refl)
   return-does regs (Some Short) d h =

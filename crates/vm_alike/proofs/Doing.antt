@@ -37,7 +37,7 @@ use Rattle.jc_ops.specs.Next.{falls_from, jumps_from}
 use Rattle.jc_ops.specs.Sound.{IsResult, IsSound}
 use Rattle.jc_rules.specs.declared.demand.Demand.{Demand}
 use Rattle.jc_rules.specs.declared.demand.Demand.TheVariants.{Cell as ACell, Held}
-use Rattle.jc_rules.specs.Demand.{Frame as Types, Meets, AllHold}
+use Rattle.jc_rules.specs.Demand.{Frame as Types, Meets, SatisfiesAll}
 use Rattle.jc_rules.specs.Footprint.{registers_asked, cells_asked, registers_read, footprint, AreThere}
 use Rattle.jc_rules.specs.Flow.{IsNotFresh, IsNotTop}
 use Rattle.jc_rules.specs.Rule.{value_wanted, value_size, call_demands, args_at, demands}
@@ -200,7 +200,7 @@ module _
 
     -- what is known of the two instructions
     pub record Known (i j : Placed) (a b : Operation) : Type 0 where
-      pub asked : AllHold v.classes types (demands v a)
+      pub asked : SatisfiesAll v.classes types (demands v a)
       pub named : registers_asked (demands v b) ≤ length registers
       pub read :
           map (slice_get registers) (registers_read (demands v b)) ≡ map (slice_get frame.registers) (registers_read (demands v a))
@@ -246,22 +246,22 @@ module _
 
     value-of :
         (a b : Operation) (kind : Kind) (ty : Ty) → IsOfKind kind ty → IsDeclared v.classes ty
-        → AllHold v.classes types (value_wanted ty) → ValueStays (pair a b) kind
+        → SatisfiesAll v.classes types (value_wanted ty) → ValueStays (pair a b) kind
     value-of a b fields.Byte ty of d h = tt
     value-of a b fields.Ref ty of d h =
         declared-stays (pair a b) v.classes world.chains 0 ty d
-        (subst (AllHold v.classes types) (one-cell fields.Ref ty of refl).wanted h).0
+        (subst (SatisfiesAll v.classes types) (one-cell fields.Ref ty of refl).wanted h).0
     value-of a b fields.Short ty of d h =
         declared-stays (pair a b) v.classes world.chains 0 ty d
-        (subst (AllHold v.classes types) (one-cell fields.Short ty of refl).wanted h).0
+        (subst (SatisfiesAll v.classes types) (one-cell fields.Short ty of refl).wanted h).0
     value-of a b fields.Int ty of d h =
-        let halves = subst (λ u. AllHold v.classes types (value_wanted u)) of h in (
+        let halves = subst (λ u. SatisfiesAll v.classes types (value_wanted u)) of h in (
           tested-stays (pair a b) v.classes world.chains 1 IntHigh tt tt halves.1.0,
           tested-stays (pair a b) v.classes world.chains 0 IntLow tt tt halves.0,
         )
 
     array-value-of :
-        (a b : Operation) (kind : Kind) → AllHold v.classes types (demands v (ops.ArrayWrite kind)) → ValueStays (pair a b) kind
+        (a b : Operation) (kind : Kind) → SatisfiesAll v.classes types (demands v (ops.ArrayWrite kind)) → ValueStays (pair a b) kind
     array-value-of a b fields.Byte h = tt
     array-value-of a b fields.Ref h = tested-stays (pair a b) v.classes world.chains 0 (Class (object v.classes)) tt tt h.0
     array-value-of a b fields.Short h = tested-stays (pair a b) v.classes world.chains 0 Short tt tt h.0
@@ -459,7 +459,7 @@ module _
         (chosen_act tagged v.classes callee k callee.choice (second x))) (sym also)
         (asked-does x v.classes world.chains types.regs refl one_to_one v callee sound.rec sound.chosen
         (method_of callee.method sound.rec sound.is_method).arguments
-        (subst (λ o. AllHold v.classes types (call_demands (args_at o) callee.receiver)) sound.is_method known.asked)))
+        (subst (λ o. SatisfiesAll v.classes types (call_demands (args_at o) callee.receiver)) sound.is_method known.asked)))
     same-does i j m at (ops.New p class) n sound known = absurd n
     same-does i j m at (ops.NewArray ty) n sound known = new-array-does (pair (ops.NewArray ty) (ops.NewArray ty)) refl refl ty
     same-does i j m at ops.Throw n sound known = throw-does (pair ops.Throw ops.Throw)

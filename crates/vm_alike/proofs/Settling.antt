@@ -28,6 +28,7 @@ use Rattle.vm_step.specs.Performed.{act}
 use Rattle.vm_step.specs.Raising.{Outcome, running, ended, ends}
 use Rattle.vm_step.specs.Settled.{unless_fault, fault_next, fault_target, is_target, is_there, place_of, with_new, goes_to, jumps_to, made, entered_call, settled}
 use Rattle.vm_sound.proofs.Places.{place-instruction}
+use Rattle.vm_sound.proofs.Finish.{pick, pick-yes}
 use Rattle.vm_erasure.specs.Erasure.{IsNoFault}
 use Rattle.vm_alike.specs.Alike.{renamed_cell, StayAlike}
 use Rattle.vm_alike.specs.Running.{ComeAlike, next_alike, target_alike, call_alike, return_alike, exception_alike, throw_alike, end_alike}
@@ -50,16 +51,6 @@ picked-last :
 picked-last x y true b h = absurd (cc)
 picked-last x y false true h = (refl, refl)
 picked-last x y false false h = absurd (cc)
-
-pick : {X : Type 0} (x y : Option X) (a b : Bool) → a ≡ false → b ≡ false → (if a then x else if b then y else None) ≡ None
-pick x y true b h k = absurd (cc)
-pick x y false true h k = absurd (cc)
-pick x y false false h k = refl
-
-pick-yes : {X : Type 0} (x y : Option X) (a b : Bool) → a ≡ false → b ≡ true → (if a then x else if b then None else y) ≡ None
-pick-yes x y true b h k = absurd (cc)
-pick-yes x y false true h k = refl
-pick-yes x y false false h k = absurd (cc)
 
 -- a target of code that is an instruction's place
 target-there : (code : List ℕ) (to : ℤ) → IsTargetPlace code to → (p : ℕ) × (to ≡ pos p) × (is_target code to ≡ true)

@@ -40,7 +40,7 @@ abbrev stored : List Cell → ℕ → List Cell → List Cell
 stored statics slot [] = statics
 stored statics slot (c ∷ cs) = stored (set statics slot c) (slot + 1) cs
 
-object-written :
+pub object-written :
     (frames : List (Frame Cell)) (heap : List (Object Cell)) (statics : List Cell) (h i : ℕ) (cs : List Cell)
     → with_object_value (record { frames = frames; heap = heap; statics = statics }) h i cs
     ≡ record { frames = frames; heap = written heap h i cs; statics = statics }

@@ -49,12 +49,14 @@ pub fn int_of_words(high: u16, low: u16) -> i32
     (u32::from(high) * 0x10000 + u32::from(low)).cast_signed()
 }
 
+/// The upper 16 bits of an int.
 pub fn high_word(value: i32) -> u16
     ensures { result ≡ high_word value }
 {
     (value.cast_unsigned() >> 16) as u16
 }
 
+/// The lower 16 bits of an int.
 pub fn low_word(value: i32) -> u16
     ensures { result ≡ low_word value }
 {

@@ -24,6 +24,7 @@ pub fn of_ints(operator: Operator, first: i32, second: i32) -> Option<i32>
     }
 }
 
+/// The negative of an int, which wraps: that of the least int is itself.
 pub fn negate_int(value: i32) -> i32
     ensures { result ≡ int_wrapping_neg w32 value }
 {

@@ -24,6 +24,7 @@ pub fn of_shorts(operator: Operator, first: i16, second: i16) -> Option<i16>
     }
 }
 
+/// The negative of a short, which wraps: that of the least short is itself.
 pub fn negate_short(value: i16) -> i16
     ensures { result ≡ int_wrapping_neg w16 value }
 {

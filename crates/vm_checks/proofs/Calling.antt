@@ -12,7 +12,7 @@ use Rattle.jc_ops.specs.declared.want.Want.TheVariants.{Value}
 use Rattle.jc_ops.specs.Sound.{receiver_count}
 use Rattle.jc_rules.specs.declared.demand.Demand.{Demand}
 use Rattle.jc_rules.specs.declared.demand.Demand.TheVariants.{Cell}
-use Rattle.jc_rules.specs.Demand.{holds, AreKnownDemands, IsKnownDemand}
+use Rattle.jc_rules.specs.Demand.{satisfies, AreKnownDemands, IsKnownDemand}
 use Rattle.jc_rules.specs.Footprint.{registers_asked, cells_asked}
 use Rattle.jc_rules.specs.Rule.{cells_wanted, receiver_wanted, call_demands}
 use Rattle.vm_store.specs.Cells.{Cells}
@@ -76,10 +76,10 @@ module _ {A : Type 0} (k : Cells A) (w : Linked) (args : List Ty) (o : Option Wa
   enough : length args + receiver_count o ≤ length (top s).stack → nat_lt (length (top s).stack) (cells_asked (call_demands args o)) ≡ false
   enough le = le-ltb (length (top s).stack) (cells_asked (call_demands args o)) (omega (arith, le, call-cells args o))
 
-  pub all-met : length args + receiver_count o ≤ length (top s).stack → list_all (holds w.classes (types_of k w s)) (call_demands args o) ≡ true → None ≡ unmet k w (call_demands args o) s
+  pub all-met : length args + receiver_count o ≤ length (top s).stack → list_all (satisfies w.classes (types_of k w s)) (call_demands args o) ≡ true → None ≡ unmet k w (call_demands args o) s
   all-met le h = rw (no-registers, enough le, h) refl
 
-  pub one-unmet : length args + receiver_count o ≤ length (top s).stack → list_all (holds w.classes (types_of k w s)) (call_demands args o) ≡ false → Some TypeFault ≡ unmet k w (call_demands args o) s
+  pub one-unmet : length args + receiver_count o ≤ length (top s).stack → list_all (satisfies w.classes (types_of k w s)) (call_demands args o) ≡ false → Some TypeFault ≡ unmet k w (call_demands args o) s
   one-unmet le h = rw (no-registers, enough le, h) refl
 
 -- ---- as tests

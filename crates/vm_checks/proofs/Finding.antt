@@ -24,8 +24,9 @@ use Rattle.jc_ops.specs.declared.operation.Operation.TheVariants as ops
 use Rattle.jc_ops.specs.Sound.{IsSound, IsChosen, IsFieldOf}
 use Rattle.jc_rules.specs.declared.demand.Demand.{Demand}
 use Rattle.jc_rules.specs.declared.demand.Demand.TheVariants.{Cell, Held}
-use Rattle.jc_rules.specs.Demand.{Frame, AllHold, Holds, Meets}
+use Rattle.jc_rules.specs.Demand.{Frame, SatisfiesAll, Satisfies, Meets}
 use Rattle.jc_rules.specs.Rule.{demands, array_wanted, value_wanted, value_size, cells_wanted, receiver_wanted, args_at}
+use Rattle.jc_rules.proofs.Demands.{SatisfiesAll-rest}
 use Rattle.vm_store.specs.declared.cell.Cell.{Cell as TaggedCell}
 use Rattle.vm_store.specs.Typing.{least_type}
 use Rattle.vm_store.specs.Cells.{tagged, word_of}
@@ -41,13 +42,9 @@ use Rattle.vm_checks.proofs.Objects.{null-or}
 use Rattle.vm_checks.proofs.Tested.{cell-is}
 use Rattle.vm_checks.proofs.Reaching.{object-or-null, there-or-null, field-or-null, array-or-null, array-there-or-null, receiver-or-null, static-there}
 
-last-holds : (t : ClassTable) (f : Frame) (ds : List Demand) (d : Demand) → AllHold t f (ds ++ d ∷ []) → Holds t f d
+last-holds : (t : ClassTable) (f : Frame) (ds : List Demand) (d : Demand) → SatisfiesAll t f (ds ++ d ∷ []) → Satisfies t f d
 last-holds t f [] d h = h.0
 last-holds t f (e ∷ ds) d h = last-holds t f ds d h.1
-
-rest-hold : (t : ClassTable) (f : Frame) (ds es : List Demand) → AllHold t f (ds ++ es) → AllHold t f es
-rest-hold t f [] es h = h
-rest-hold t f (d ∷ ds) es h = rest-hold t f ds es h.1
 
 ref-size : (ty : Ty) → IsOfKind fields.Ref ty → value_size ty ≡ 1
 ref-size (Class c) h = refl
@@ -75,10 +72,10 @@ module _ (w : Linked) (is : IsWorld w) (s : State TaggedCell) (kept : IsShaped w
   abbrev on : ℕ → TaggedCell
   on n = nth tagged (top s).stack n
 
-  met : (n : ℕ) (want : Want) → Holds w.classes frame (Cell n want) → Meets w.classes want (least_type w.classes Bottom (kinds s) (nth tagged (top s).stack n))
+  met : (n : ℕ) (want : Want) → Satisfies w.classes frame (Cell n want) → Meets w.classes want (least_type w.classes Bottom (kinds s) (nth tagged (top s).stack n))
   met n want h = cell-is (λ c. least_type w.classes Bottom (kinds s) c) (top s).stack n tagged.empty (Meets w.classes want) h
 
-  held : (x : ℕ) (ty : Ty) → Holds w.classes frame (Held x ty) → Below w.classes (least_type w.classes Bottom (kinds s) (nth tagged (top s).registers x)) ty
+  held : (x : ℕ) (ty : Ty) → Satisfies w.classes frame (Held x ty) → Below w.classes (least_type w.classes Bottom (kinds s) (nth tagged (top s).registers x)) ty
   held x ty h = cell-is (λ c. least_type w.classes Bottom (kinds s) c) (top s).registers x tagged.empty (Meets w.classes (Value ty)) h
 
   -- ---- by kind
@@ -94,7 +91,7 @@ module _ (w : Linked) (is : IsWorld w) (s : State TaggedCell) (kept : IsShaped w
       by true a = tt
       by false a = (a, here)
 
-  finds-write : (i : Insn) (kind : Kind) → AllHold w.classes frame (demands w (ops.ArrayWrite kind)) → Finds tagged w i (ops.ArrayWrite kind) s
+  finds-write : (i : Insn) (kind : Kind) → SatisfiesAll w.classes frame (demands w (ops.ArrayWrite kind)) → Finds tagged w i (ops.ArrayWrite kind) s
   finds-write i fields.Ref h = (
     array-or-null w is s kept.objects fields.Ref (on 2) (met 2 (array_wanted w.classes fields.Ref) h.1.1.0),
     compare-refs (word_of (on 2)) (word_of (on 0))
@@ -106,21 +103,21 @@ module _ (w : Linked) (is : IsWorld w) (s : State TaggedCell) (kept : IsShaped w
   finds-write i fields.Short h = (array-or-null w is s kept.objects fields.Short (on 2) (met 2 (Value ArrShort) h.1.1.0), null-or (word_of (on 2)) ⊤ (inr tt))
   finds-write i fields.Int h = (array-or-null w is s kept.objects fields.Int (on 3) (met 3 (Value ArrInt) h.1.1.1.0), null-or (word_of (on 3)) ⊤ (inr tt))
 
-  finds-read : (i : Insn) (f : InstanceField) (holder : Holder) → IsFieldOf w f → AllHold w.classes frame (demands w (ops.FieldRead f holder)) → Finds tagged w i (ops.FieldRead f holder) s
+  finds-read : (i : Insn) (f : InstanceField) (holder : Holder) → IsFieldOf w f → SatisfiesAll w.classes frame (demands w (ops.FieldRead f holder)) → Finds tagged w i (ops.FieldRead f holder) s
   finds-read i f holders.Stack field h =
       (field.cells.kind, field-or-null w is s kept.objects f field (on 0) (met 0 (Value (Class f.class)) h.0))
   finds-read i f holders.This field h =
       (field.cells.kind, field-or-null w is s kept.objects f field (nth tagged (top s).registers 0) (held 0 (Class f.class) h.1.0))
 
-  finds-put : (i : Insn) (f : InstanceField) (holder : Holder) → IsFieldOf w f → AllHold w.classes frame (demands w (ops.FieldWrite f holder)) → Finds tagged w i (ops.FieldWrite f holder) s
+  finds-put : (i : Insn) (f : InstanceField) (holder : Holder) → IsFieldOf w f → SatisfiesAll w.classes frame (demands w (ops.FieldWrite f holder)) → Finds tagged w i (ops.FieldWrite f holder) s
   finds-put i f holders.Stack field h =
-      let last : Holds w.classes frame (Cell (value_size f.ty) (Value (Class f.class))) =
+      let last : Satisfies w.classes frame (Cell (value_size f.ty) (Value (Class f.class))) =
       last-holds w.classes frame (value_wanted f.ty) (Cell (value_size f.ty) (Value (Class f.class))) h in
-      let under : Holds w.classes frame (Cell (width f.kind) (Value (Class f.class))) =
-      subst (λ n. Holds w.classes frame (Cell n (Value (Class f.class)))) (size-of f.kind f.ty field.cells.kind) last in
+      let under : Satisfies w.classes frame (Cell (width f.kind) (Value (Class f.class))) =
+      subst (λ n. Satisfies w.classes frame (Cell n (Value (Class f.class)))) (size-of f.kind f.ty field.cells.kind) last in
       (field.cells.kind, field-or-null w is s kept.objects f field (on (width f.kind)) (met (width f.kind) (Value (Class f.class)) under))
   finds-put i f holders.This field h =
-      let last : Holds w.classes frame (Held 0 (Class f.class)) = last-holds w.classes frame (value_wanted f.ty) (Held 0 (Class f.class)) h.1 in
+      let last : Satisfies w.classes frame (Held 0 (Class f.class)) = last-holds w.classes frame (value_wanted f.ty) (Held 0 (Class f.class)) h.1 in
       (field.cells.kind, field-or-null w is s kept.objects f field (nth tagged (top s).registers 0) (held 0 (Class f.class) last))
 
   -- ---- calls
@@ -129,15 +126,15 @@ module _ (w : Linked) (is : IsWorld w) (s : State TaggedCell) (kept : IsShaped w
   args c = args_at (slice_get w.methods c.method)
 
   -- the cell of a receiver is of the class that is wanted
-  receiver-met : (c : Callee) (class : ℕ) → c.receiver ≡ Some (Value (Class class)) → AllHold w.classes frame (demands w (ops.Call c))
+  receiver-met : (c : Callee) (class : ℕ) → c.receiver ≡ Some (Value (Class class)) → SatisfiesAll w.classes frame (demands w (ops.Call c))
       → Below w.classes (least_type w.classes Bottom (kinds s) (nth tagged (top s).stack (args_of w c.method))) (Class class)
   receiver-met c class e h =
       let wanted = receiver_wanted (length (args c)) c.receiver in
-      let rest : AllHold w.classes frame wanted = rest-hold w.classes frame (cells_wanted 0 (reverse (args c))) wanted h in
-      let one : AllHold w.classes frame (Cell (length (args c)) (Value (Class class)) ∷ []) =
-      subst (λ o. AllHold w.classes frame (receiver_wanted (length (args c)) o)) e rest in
+      let rest : SatisfiesAll w.classes frame wanted = SatisfiesAll-rest w.classes frame (cells_wanted 0 (reverse (args c))) wanted h in
+      let one : SatisfiesAll w.classes frame (Cell (length (args c)) (Value (Class class)) ∷ []) =
+      subst (λ o. SatisfiesAll w.classes frame (receiver_wanted (length (args c)) o)) e rest in
       met (args_of w c.method) (Value (Class class))
-      (subst (λ n. Holds w.classes frame (Cell n (Value (Class class)))) (count-args (slice_get w.methods c.method)) one.0)
+      (subst (λ n. Satisfies w.classes frame (Cell n (Value (Class class)))) (count-args (slice_get w.methods c.method)) one.0)
 
   -- what is below object alone
   drop-below : (h : ℕ) → IsNullOr h (IsSome (object_at s h) × IsClass w.classes (class_of w.classes s h) × Below w.classes (Class (class_of w.classes s h)) (Class (object w.classes)))
@@ -149,7 +146,7 @@ module _ (w : Linked) (is : IsWorld w) (s : State TaggedCell) (kept : IsShaped w
       by true x = tt
       by false x = (x.0, x.1)
 
-  has-receiver : (c : Callee) (rec : MethodRec) (choice : Choice) → IsChosen w c.method rec c.receiver choice → AllHold w.classes frame (demands w (ops.Call c)) → HasReceiver tagged w c choice s
+  has-receiver : (c : Callee) (rec : MethodRec) (choice : Choice) → IsChosen w c.method rec c.receiver choice → SatisfiesAll w.classes frame (demands w (ops.Call c)) → HasReceiver tagged w c choice s
   has-receiver c rec choices.Static chosen h = tt
   has-receiver c rec choices.Special chosen h = tt
   has-receiver c rec (choices.Virtual class token) chosen h =
@@ -158,7 +155,7 @@ module _ (w : Linked) (is : IsWorld w) (s : State TaggedCell) (kept : IsShaped w
       drop-below (word_of (on (args_of w c.method)))
       (receiver-or-null w is s kept.objects (object w.classes) (on (args_of w c.method)) (receiver-met c (object w.classes) chosen.receiver_is h))
 
-  pub finds : (m : MethodRec) (place : ℕ) (i : Insn) (op : Operation) → IsSound w m place op → IsInCode w i s → AllHold w.classes frame (demands w op) → Finds tagged w i op s
+  pub finds : (m : MethodRec) (place : ℕ) (i : Insn) (op : Operation) → IsSound w m place op → IsInCode w i s → SatisfiesAll w.classes frame (demands w op) → Finds tagged w i op s
   finds m place i (ops.Constant c) sound code h = tt
   finds m place i (ops.Load sort x) sound code h = tt
   finds m place i (ops.Store sort x) sound code h = tt

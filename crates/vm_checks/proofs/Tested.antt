@@ -1,13 +1,13 @@
 -- What the tests before an operation say where they pass.
 use Rattle.std.proofs.Common.{◌≡◌, ℕ, zero, suc, ◌≤◌, Bool, true, false, List, [], ◌∷◌, length, refl, subst}
-use Rattle.std.specs.Prelude.{Some, None, if◌then◌else◌, ◌&&◌, nat_lt, MatchBool, IsSomeAnd, map, slice_get, slice_index_or}
+use Rattle.std.specs.Prelude.{Some, None, if◌then◌else◌, nat_lt, MatchBool, IsSomeAnd, map, slice_get, slice_index_or}
 use Rattle.std.specs.List.{list_all}
-use Rattle.std.proofs.lemmas.Bool.{ltb-false}
+use Rattle.std.proofs.lemmas.Bool.{ltb-false, and_parts}
 use Rattle.jc_base.specs.declared.ty.Ty.{Ty}
 use Rattle.jc_base.specs.Class.{ClassTable}
 use Rattle.jc_base.specs.World.{Linked}
 use Rattle.jc_rules.specs.declared.demand.Demand.{Demand}
-use Rattle.jc_rules.specs.Demand.{Frame, AllHold, Holds, holds, AreDecided}
+use Rattle.jc_rules.specs.Demand.{Frame, SatisfiesAll, Satisfies, satisfies, AreDecided}
 use Rattle.jc_rules.specs.Footprint.{registers_asked, cells_asked}
 use Rattle.vm_store.specs.Cells.{Cells}
 use Rattle.vm_store.specs.State.{State, top}
@@ -17,7 +17,7 @@ use Rattle.vm_step.specs.Tests.{types_of, unmet}
 pub record Pass {A : Type 0} (k : Cells A) (w : Linked) (ds : List Demand) (s : State A) : Type 0 where
   pub registers : registers_asked ds ≤ length (top s).registers
   pub cells : cells_asked ds ≤ length (top s).stack
-  pub hold : AllHold w.classes (types_of k w s) ds
+  pub hold : SatisfiesAll w.classes (types_of k w s) ds
 
 three-tests : (a b c : Bool) → (if a then Some LocalFault else if b then Some StackFault else if c then None else Some TypeFault) ≡ None → (a ≡ false) × (b ≡ false) × (c ≡ true)
 three-tests true b c e = absurd (cc)
@@ -25,17 +25,13 @@ three-tests false true c e = absurd (cc)
 three-tests false false true e = (refl, refl, refl)
 three-tests false false false e = absurd (cc)
 
-first-holds : (t : ClassTable) → AreDecided t → (f : Frame) (d : Demand) → holds t f d ≡ true → Holds t f d
-first-holds t decided f d h = subst (λ b. MatchBool b (Holds t f d) (¬ (Holds t f d))) h (decided.demand f d)
+first-holds : (t : ClassTable) → AreDecided t → (f : Frame) (d : Demand) → satisfies t f d ≡ true → Satisfies t f d
+first-holds t decided f d h = subst (λ b. MatchBool b (Satisfies t f d) (¬ (Satisfies t f d))) h (decided.demand f d)
 
-both : (a b : Bool) → (a && b) ≡ true → (a ≡ true) × (b ≡ true)
-both true b h = (refl, h)
-both false b h = absurd (cc)
-
-all-hold : (t : ClassTable) → AreDecided t → (f : Frame) (ds : List Demand) → list_all (holds t f) ds ≡ true → AllHold t f ds
+all-hold : (t : ClassTable) → AreDecided t → (f : Frame) (ds : List Demand) → list_all (satisfies t f) ds ≡ true → SatisfiesAll t f ds
 all-hold t decided f [] h = tt
 all-hold t decided f (d ∷ ds) h =
-    let parts = both (holds t f d) (list_all (holds t f) ds) h in
+    let parts = and_parts (satisfies t f d) (list_all (satisfies t f) ds) h in
     (first-holds t decided f d parts.0, all-hold t decided f ds parts.1)
 
 -- where no fault is told, each test passes
@@ -43,7 +39,7 @@ pub passes : {A : Type 0} (k : Cells A) (w : Linked) → AreDecided w.classes �
 passes k w decided ds s e =
     let regs = nat_lt (length (top s).registers) (registers_asked ds) in
     let depth = nat_lt (length (top s).stack) (cells_asked ds) in
-    let met = list_all (holds w.classes (types_of k w s)) ds in
+    let met = list_all (satisfies w.classes (types_of k w s)) ds in
     let three = three-tests regs depth met e in
     record {
       registers = ltb-false (length (top s).registers) (registers_asked ds) three.0;

@@ -3,7 +3,7 @@ ghost use Rattle.std.specs.List.{list_all};
 ghost use Rattle.jc_base.specs.Order.{IsKnown};
 ghost use Rattle.jc_ops.specs.declared.operation.Operation.TheVariants as ops;
 ghost use Rattle.jc_ops.specs.Sound.{IsKnownWant, receiver_count};
-ghost use Rattle.jc_rules.specs.Demand.{holds};
+ghost use Rattle.jc_rules.specs.Demand.{satisfies};
 ghost use Rattle.jc_rules.specs.Known.{IsKnownCallee};
 ghost use Rattle.jc_rules.specs.Rule.{cells_wanted, receiver_wanted, call_demands, demands};
 ghost use Rattle.vm_step.specs.Tests.{types_of, unmet};
@@ -40,7 +40,7 @@ fn cells_hold<S: Store>(store: &S, world: &World<'_>, args: &[Ty], receiver: Opt
     requires receiver { IfSome receiver (IsKnownWant world.now.classes) }
     ensures { result
         ≡ list_all
-        (holds world.now.classes (types_of S.Cell.cells world.now (S.state store.now)))
+        (satisfies world.now.classes (types_of S.Cell.cells world.now (S.state store.now)))
         (call_demands args.now receiver) }
 {
     if arguments_hold(store, world, args) {
@@ -67,7 +67,7 @@ fn arguments_hold<S: Store>(store: &S, world: &World<'_>, args: &[Ty]) -> bool
     requires known { All (IsKnown world.now.classes) args.now }
     ensures { result
         ≡ list_all
-        (holds world.now.classes (types_of S.Cell.cells world.now (S.state store.now)))
+        (satisfies world.now.classes (types_of S.Cell.cells world.now (S.state store.now)))
         (cells_wanted 0 (reverse args.now)) }
 {
     'arguments: for n in 0..args.len() {
@@ -85,7 +85,7 @@ fn receiver_holds<S: Store>(store: &S, world: &World<'_>, receiver: Option<Want>
     requires known { IfSome receiver (IsKnownWant world.now.classes) }
     ensures { result
         ≡ list_all
-        (holds world.now.classes (types_of S.Cell.cells world.now (S.state store.now)))
+        (satisfies world.now.classes (types_of S.Cell.cells world.now (S.state store.now)))
         (receiver_wanted n receiver) }
 {
     match receiver {

@@ -3,7 +3,7 @@ ghost use Rattle.std.specs.Prelude.{◌≡◌, ◌+◌, ◌-◌, ◌<◌, ◌≤
 ghost use Rattle.std.specs.List.{list_all};
 ghost use Rattle.jc_base.specs.Order.{IsKnown};
 ghost use Rattle.jc_ops.specs.declared.want.Want.TheVariants as wants;
-ghost use Rattle.jc_rules.specs.Demand.{AreKnownDemands, IsKnownDemand, holds, met_at, is_low, is_high};
+ghost use Rattle.jc_rules.specs.Demand.{AreKnownDemands, IsKnownDemand, satisfies, met_at, is_low, is_high};
 ghost use Rattle.jc_rules.specs.Footprint.{registers_asked, cells_asked};
 ghost use Rattle.jc_ops.specs.Sound.{IsKnownWant};
 ghost use Rattle.vm_store.specs.State.{top};
@@ -84,10 +84,10 @@ fn all_hold<S: Store>(store: &S, world: &World<'_>, demands: &[Demand]) -> bool
     requires well { S.well store.now }
     requires tested { CanTest S.Cell.cells world.now (S.state store.now) }
     requires demands { AreKnownDemands world.now.classes demands.now }
-    ensures { result ≡ list_all (holds world.now.classes (types_of S.Cell.cells world.now (S.state store.now))) demands.now }
+    ensures { result ≡ list_all (satisfies world.now.classes (types_of S.Cell.cells world.now (S.state store.now))) demands.now }
 {
     'demands: for demand in demands {
-        if !holds(store, world, *demand) {
+        if !satisfies(store, world, *demand) {
             return false;
         }
     }
@@ -95,11 +95,11 @@ fn all_hold<S: Store>(store: &S, world: &World<'_>, demands: &[Demand]) -> bool
 }
 
 /// Whether one demand holds.
-fn holds<S: Store>(store: &S, world: &World<'_>, demand: Demand) -> bool
+fn satisfies<S: Store>(store: &S, world: &World<'_>, demand: Demand) -> bool
     requires well { S.well store.now }
     requires tested { CanTest S.Cell.cells world.now (S.state store.now) }
     requires demand { IsKnownDemand world.now.classes demand }
-    ensures { result ≡ holds world.now.classes (types_of S.Cell.cells world.now (S.state store.now)) demand }
+    ensures { result ≡ satisfies world.now.classes (types_of S.Cell.cells world.now (S.state store.now)) demand }
 {
     match demand {
         Demand::Registers(x, n) => {

@@ -16,9 +16,9 @@ pub record IsBegun (w : Linked) (entry : ℕ) (args : List Argument) (run : Held
   pub goes_on : run.ending ≡ None
 
 -- the first fault, or no memory
-abbrev pub Refuses : Linked → ℕ → List Argument → StartEnd → Type 0
-Refuses w entry args (Fault fault) = start_fault w entry args ≡ Some fault
-Refuses w entry args Memory = ⊤
+abbrev pub RefusesRun : Linked → ℕ → List Argument → StartEnd → Type 0
+RefusesRun w entry args (Fault fault) = start_fault w entry args ≡ Some fault
+RefusesRun w entry args Memory = ⊤
 
 -- the state in which a run begins has the shape of its world
 abbrev pub StartsAreShaped : Linked → Type 0

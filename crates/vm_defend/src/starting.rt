@@ -2,7 +2,7 @@ ghost use Rattle.std.specs.Prelude.{◌≡◌, ◌≤◌, None, IfOk, IfErr, sum
 ghost use Rattle.jc_base.specs.Cell.{width};
 ghost use Rattle.vm_step.specs.Start.{start_fault};
 ghost use Rattle.vm_defend.specs.Held.{IsRunOf};
-ghost use Rattle.vm_defend.specs.Begun.{IsBegun, Refuses};
+ghost use Rattle.vm_defend.specs.Begun.{IsBegun, RefusesRun};
 ghost use Rattle.vm_defend.specs.Safe.{BeginsSafely};
 
 use crate::state::State;
@@ -31,7 +31,7 @@ pub fn start(
     ensures begun { IfOk result (λ s. IsBegun world.now entry args.now s) }
     ensures run { IfOk result (λ s. IsRunOf world.now s) }
     ensures safe { IfOk result (λ s. BeginsSafely world.now s) }
-    ensures refused { IfErr result (λ end. Refuses world.now entry args.now end) }
+    ensures refused { IfErr result (λ end. RefusesRun world.now entry args.now end) }
 {
     typed_code_never_fails(world);
     match start_fault(world, entry, args) {

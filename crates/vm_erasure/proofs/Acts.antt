@@ -84,7 +84,7 @@ some-erased exception (Some x) a b e = e x
 
 -- ---- lists
 
-map-reverse : (xs : List Cell) → map word_of (reverse xs) ≡ reverse (map word_of xs)
+pub map-reverse : (xs : List Cell) → map word_of (reverse xs) ≡ reverse (map word_of xs)
 map-reverse [] = refl
 map-reverse (x ∷ xs) =
     ap (map word_of) (reverse-append (x ∷ []) xs)

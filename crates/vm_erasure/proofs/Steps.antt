@@ -1,7 +1,7 @@
 -- What an act leads to over bare words is what it leads to over tagged cells, where that is no fault.
 use Rattle.std.proofs.Common.{◌≡◌, ℕ, ◌+◌, ◌<◌, Bool, true, false, ◌&&◌, if◌then◌else◌, List, [], ◌∷◌, ◌++◌, length, map, reverse, refl, sym, ap, ◌∙◌, subst, arith}
 use Rattle.std.specs.Prelude.{ℤ, Option, Some, None, nat_lt, slice_index}
-use Rattle.std.proofs.lemmas.List.{map-append, length-map, reverse-append}
+use Rattle.std.proofs.lemmas.List.{map-append, length-map}
 use Rattle.jc_base.specs.declared.record.Handler.{Handler}
 use Rattle.jc_base.specs.Dispatch.{cells_of}
 use Rattle.jc_base.specs.World.{Linked}
@@ -33,7 +33,7 @@ use Rattle.vm_step.specs.Settled.{unless_fault, fault_next, fault_target, place_
 use Rattle.vm_step.specs.Step.{Steps, misplaced, unresolved, performs, performed}
 use Rattle.vm_step.specs.Run.{Runs, stands, stops, steps}
 use Rattle.vm_erasure.specs.Erasure.{erased_act, erased_outcome, IsNoFault, StepsErase, RunsErase}
-use Rattle.vm_erasure.proofs.Acts.{act-erases}
+use Rattle.vm_erasure.proofs.Acts.{act-erases, map-reverse}
 
 -- tests that are passed
 unless-none : (s : State Cell) (o : Option Fault) (x : Outcome Cell) → IsNoFault (unless_fault s o x) → (unless_fault s o x ≡ x) × IsNoFault x
@@ -44,13 +44,6 @@ if-erased : (b : Bool) (x y : Outcome Cell) (u v : Outcome ℕ) → IsNoFault (i
     → (if b then u else v) ≡ erased_outcome (if b then x else y)
 if-erased true x y u v h e g = e h
 if-erased false x y u v h e g = g h
-
-map-reverse : (xs : List Cell) → map word_of (reverse xs) ≡ reverse (map word_of xs)
-map-reverse [] = refl
-map-reverse (x ∷ xs) =
-    ap (map word_of) (reverse-append (x ∷ []) xs)
-    ∙ (map-append word_of (reverse xs) (x ∷ [])
-    ∙ (ap (λ ys. ys ++ word_of x ∷ []) (map-reverse xs) ∙ sym (reverse-append (word_of x ∷ []) (map word_of xs))))
 
 module _ (w : Linked) where
   reads : (s : State Cell) → ReadsErased s

@@ -21,7 +21,7 @@ use Rattle.vm_sound.proofs.Starting.{starts-are-typed}
 use Rattle.vm_erasure.specs.Erasure.{erased_outcome, IsNoFault, WordsFollow, TypedStepsFollow, TypedRunsFollow}
 use Rattle.vm_erasure.proofs.Steps.{steps-erase, runs-erase}
 
-safe-free : (w : Linked) (typings : Typings) (o : Outcome Cell) → IsSafe w typings o → IsNoFault o
+pub safe-free : (w : Linked) (typings : Typings) (o : Outcome Cell) → IsSafe w typings o → IsNoFault o
 safe-free w typings (running s) h = tt
 safe-free w typings (ended (Plain plain) s) h = tt
 safe-free w typings (ended (Faulted fault) s) h = h

@@ -12,7 +12,7 @@ use Rattle.vm_step.specs.Arguments.{Argument}
 use Rattle.vm_step.specs.Raising.{running}
 use Rattle.vm_step.specs.Run.{stands}
 use Rattle.vm_step.specs.Start.{start_fault, entry_state}
-use Rattle.vm_start.specs.Laws.{StartsErase, StartsAreSized}
+use Rattle.vm_start.specs.Laws.{StartStatesErase, StartsAreSized}
 use Rattle.vm_turns.specs.Turn.{outcome}
 use Rattle.vm_words.specs.declared.words.Counts.{Counts}
 use Rattle.vm_words.specs.Words.{AreLaid, words_state}
@@ -23,7 +23,7 @@ use Rattle.vm_offend.specs.Held.{IsRunOf}
 module _ (w : Linked) (entry : ℕ) (args : List Argument) (begins : start_fault w entry args ≡ None) where
   -- the words of the entry's state, in memory of a world that is this one
   pub begun-words :
-      StartsErase → StartsAreSized w
+      StartStatesErase → StartsAreSized w
       → (m : Machine) (v : Linked) (counts : Counts) (ram heap statics : List ℕ) → v ≡ w → m.counts ≡ counts → m.ending ≡ None
       → AreLaid v ram heap counts → words_state v.methods ram heap statics counts ≡ entry_state words w entry args
       → IsBegun w entry args m ram heap statics

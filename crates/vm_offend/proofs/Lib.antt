@@ -1,4 +1,4 @@
-mod Accepting
+pub mod Accepting
 mod Beginning
 mod Reached
 mod Following

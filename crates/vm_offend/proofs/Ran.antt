@@ -26,7 +26,7 @@ use Rattle.vm_defend.specs.Safe.{IsPlainEnding}
 use Rattle.vm_words.specs.Words.{AreLaid, words_state}
 use Rattle.vm_words.specs.Typed.{AreTypedWords}
 use Rattle.vm_offend.specs.declared.machine.Machine.{Machine}
-use Rattle.vm_offend.specs.Held.{IsReached, AreWordsOf, IsRunOf, Follows}
+use Rattle.vm_offend.specs.Held.{IsOutcomeOfRun, AreWordsOf, IsRunOf, Follows}
 use Rattle.vm_offend.proofs.Reached.{reached-on, reached-safe, reached-runs, reached-keeps}
 use Rattle.vm_offend.proofs.Following.{going-on, plain-ending, ending-is, answers}
 
@@ -53,18 +53,18 @@ module _ (w : Linked) (has : HasTypings w Bottom) (starts : StartsAreTyped w) (s
       → (s : State ℕ) → s ≡ words_state w.methods ram heap statics m.counts → IsRunning s
   can-run one exist m ram heap statics going r s is =
       let t = held-state m ram heap statics going r.outcome r.words in
-      let runs : IsRunning t.0 = reached-runs w one exist t.0 (subst (IsReached w) t.1 r.reached) in
+      let runs : IsRunning t.0 = reached-runs w one exist t.0 (subst (IsOutcomeOfRun w) t.1 r.reached) in
       subst (λ (x : State ℕ). IsRunning x) (sym (is ∙ t.2)) (omega (arith, runs, length-map t.0.frames (map_frame word_of)))
 
   pub run-keeps : StartsAreShaped w → StepsStay tagged (IsShaped w) w → (m : Machine) (ram heap statics : List ℕ) → m.ending ≡ None → (r : IsRunOf w m ram heap statics)
       → (s : State ℕ) → s ≡ words_state w.methods ram heap statics m.counts → AreTypedWords w s
   run-keeps shapes stay m ram heap statics going r s is =
       let t = held-state m ram heap statics going r.outcome r.words in
-      reached-keeps w has starts safe shapes stay t.0 s (is ∙ t.2) (subst (IsReached w) t.1 r.reached)
+      reached-keeps w has starts safe shapes stay t.0 s (is ∙ t.2) (subst (IsOutcomeOfRun w) t.1 r.reached)
 
   -- ---- after them
 
-  gone : TypedRunsFollow w → (budget : ℕ) (s z : State ℕ) (e : Option Ending) (t : State Cell) → s ≡ erased t → IsReached w (running t) → Runs words w budget s (outcome e z)
+  gone : TypedRunsFollow w → (budget : ℕ) (s z : State ℕ) (e : Option Ending) (t : State Cell) → s ≡ erased t → IsOutcomeOfRun w (running t) → Runs words w budget s (outcome e z)
       → (o : Outcome Cell) × Runs tagged w budget t o × (outcome e z ≡ erased_outcome o) × IsSafe w has.typings o
   gone follow budget s z e t is r runs =
       let typed = reached-safe w has starts safe (running t) r in
@@ -75,18 +75,18 @@ module _ (w : Linked) (has : HasTypings w Bottom) (starts : StartsAreTyped w) (s
       → (budget : ℕ) (s z : State ℕ) (e : Option Ending) → s ≡ words_state w.methods ram heap statics m.counts → Runs words w budget s (outcome e z) → IfSome e IsPlainEnding
   run-plain follow m ram heap statics going r budget s z e is runs =
       let t = held-state m ram heap statics going r.outcome r.words in
-      let g = gone follow budget s z e t.0 (is ∙ t.2) (subst (IsReached w) t.1 r.reached) runs in
+      let g = gone follow budget s z e t.0 (is ∙ t.2) (subst (IsOutcomeOfRun w) t.1 r.reached) runs in
       plain-ending w has.typings e z g.0 g.2 g.3
 
   module _ (follow : TypedRunsFollow w) (m : Machine) (ram heap statics : List ℕ) (budget : ℕ) (n : Machine) (frames objects fields : List ℕ) (plain : Plain)
       (ran : Ran w m ram heap statics budget n frames objects fields plain)
     where
-      pub follows-each : (o : Outcome Cell) → IsReached w o → AreWordsOf w m ram heap statics o → Follows w budget o n frames objects fields plain
+      pub follows-each : (o : Outcome Cell) → IsOutcomeOfRun w o → AreWordsOf w m ram heap statics o → Follows w budget o n frames objects fields plain
       follows-each o r held =
           let t = held-state m ram heap statics ran.going o held in
           let s : State ℕ = words_state w.methods ram heap statics m.counts in
           let z : State ℕ = words_state w.methods frames objects fields n.counts in
-          let g = gone follow budget s z ran.ending t.0 t.2 (subst (IsReached w) t.1 r) ran.runs in
+          let g = gone follow budget s z ran.ending t.0 t.2 (subst (IsOutcomeOfRun w) t.1 r) ran.runs in
           subst (λ (x : Outcome Cell). Follows w budget x n frames objects fields plain) (sym t.1)
           (record {
             after = g.0;

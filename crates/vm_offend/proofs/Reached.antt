@@ -14,10 +14,10 @@ use Rattle.vm_checks.specs.Shaped.{IsShaped}
 use Rattle.vm_checks.specs.Machine.{StepsStay}
 use Rattle.vm_defend.specs.Begun.{StartsAreShaped}
 use Rattle.vm_words.specs.Typed.{AreTypedWords}
-use Rattle.vm_offend.specs.Held.{IsReached}
+use Rattle.vm_offend.specs.Held.{IsOutcomeOfRun}
 
 module _ (w : Linked) where
-  pub reached-on : RunsGoOn tagged w → (o z : Outcome Cell) (n : ℕ) → IsReached w o → Continues tagged w n o z → IsReached w z
+  pub reached-on : RunsGoOn tagged w → (o z : Outcome Cell) (n : ℕ) → IsOutcomeOfRun w o → Continues tagged w n o z → IsOutcomeOfRun w z
   reached-on on o z n r more = record {
     entry = r.entry;
     args = r.args;
@@ -27,7 +27,7 @@ module _ (w : Linked) where
     runs = on r.steps n (running r.start) o z r.runs more;
   }
 
-  pub reached-safe : (has : HasTypings w Bottom) → StartsAreTyped w → RunsAreSafe w → (o : Outcome Cell) → IsReached w o → IsSafe w has.typings o
+  pub reached-safe : (has : HasTypings w Bottom) → StartsAreTyped w → RunsAreSafe w → (o : Outcome Cell) → IsOutcomeOfRun w o → IsSafe w has.typings o
   reached-safe has starts safe o r = safe has.typings r.steps r.start o has.are (starts has.typings r.entry r.args r.start has.are r.starts) r.runs
 
   -- ---- shape
@@ -36,7 +36,7 @@ module _ (w : Linked) where
   runs-shaped stay stands shaped = shaped
   runs-shaped stay (steps {s = s} {z = y} first more) shaped = runs-shaped stay more (stay s y shaped first)
 
-  reached-shaped : StartsAreShaped w → StepsStay tagged (IsShaped w) w → (t : State Cell) → IsReached w (running t) → IsShaped w t
+  reached-shaped : StartsAreShaped w → StepsStay tagged (IsShaped w) w → (t : State Cell) → IsOutcomeOfRun w (running t) → IsShaped w t
   reached-shaped starts stay t r =
       runs-shaped stay r.runs (subst (IsShaped w) (sym r.starts.state) (starts r.entry r.args r.starts.begins))
 
@@ -62,7 +62,7 @@ module _ (w : Linked) where
       let same : z ≡ y = same-running z y (one s (running z) (running y) also first) in
       last-runs one rest (subst (λ (x : State Cell). Runs tagged w m x o) same more)
 
-  pub reached-runs : StepsAreOne tagged w → RunsExist w → (t : State Cell) → IsReached w (running t) → IsRunning t
+  pub reached-runs : StepsAreOne tagged w → RunsExist w → (t : State Cell) → IsOutcomeOfRun w (running t) → IsRunning t
   reached-runs one exist t r =
       let begins : IsRunning r.start = subst (λ (x : State Cell). IsRunning x) (sym r.starts.state) (omega arith) in
       last-runs one r.runs (exist (suc r.steps) r.start begins).1
@@ -70,7 +70,7 @@ module _ (w : Linked) where
   -- ---- what the words keep
 
   pub reached-keeps : HasTypings w Bottom → StartsAreTyped w → RunsAreSafe w → StartsAreShaped w → StepsStay tagged (IsShaped w) w
-      → (t : State Cell) (s : State ℕ) → s ≡ erased t → IsReached w (running t) → AreTypedWords w s
+      → (t : State Cell) (s : State ℕ) → s ≡ erased t → IsOutcomeOfRun w (running t) → AreTypedWords w s
   reached-keeps has starts safe shapes stay t s e r = record {
     typings = has.typings;
     unset = has.unset_is;

@@ -29,7 +29,7 @@ pub record AreWordsOf (w : Linked) (m : Machine) (ram heap statics : List ℕ) (
   pub words : reached w m ram heap statics ≡ erased_outcome o
 
 -- a run that begins in the world, of some entry with some arguments, comes to it in some number of steps
-pub record IsReached (w : Linked) (o : Outcome Cell) : Type 0 where
+pub record IsOutcomeOfRun (w : Linked) (o : Outcome Cell) : Type 0 where
   pub entry : ℕ
   pub args : List Argument
   pub start : State Cell
@@ -40,7 +40,7 @@ pub record IsReached (w : Linked) (o : Outcome Cell) : Type 0 where
 -- a run that was begun in the world
 pub record IsRunOf (w : Linked) (m : Machine) (ram heap statics : List ℕ) : Type 0 where
   pub outcome : Outcome Cell
-  pub reached : IsReached w outcome
+  pub reached : IsOutcomeOfRun w outcome
   pub words : AreWordsOf w m ram heap statics outcome
 
 -- the state that a run came to, and its ending, where it has one

@@ -34,7 +34,7 @@ pub struct Machine {
 }
 
 impl Machine {
-    ghost use Rattle.vm_offend.specs.Held.{IsRunOf, IsReached, AreWordsOf, Follows};
+    ghost use Rattle.vm_offend.specs.Held.{IsRunOf, IsOutcomeOfRun, AreWordsOf, Follows};
 
     /// A run before its first step.
     pub(crate) fn of(counts: Counts) -> Machine
@@ -60,7 +60,7 @@ impl Machine {
     ) -> Plain
         requires { IsRunOf accepted.now self.old ram.old heap.old statics.old }
         ensures follows { (o : Outcome Cell)
-            → IsReached accepted.now o
+            → IsOutcomeOfRun accepted.now o
             → AreWordsOf accepted.now self.old ram.old heap.old statics.old o
             → Follows accepted.now budget o self.new ram.new heap.new statics.new result }
         ensures run { IsRunOf accepted.now self.new ram.new heap.new statics.new }
@@ -84,7 +84,7 @@ impl Machine {
         requires run { IsRunOf world.now self.old ram.old heap.old statics.old }
         requires going { self.old.ending ≡ None }
         ensures follows { (o : Outcome Cell)
-            → IsReached world.now o
+            → IsOutcomeOfRun world.now o
             → AreWordsOf world.now self.old ram.old heap.old statics.old o
             → Follows world.now budget o self.new ram.new heap.new statics.new result }
         ensures run { IsRunOf world.now self.new ram.new heap.new statics.new }

@@ -35,7 +35,7 @@ use Rattle.vm_turns.specs.declared.known.Known.TheVariants.{Marked, Verified}
 use Rattle.vm_turns.specs.Known.{KnowPlaces, KnowsAt, CanResume}
 use Rattle.vm_turns.specs.Turn.{AreMethods, IsOfClass}
 use Rattle.vm_runs.specs.Leading.{LeadsOn}
-use Rattle.vm_runs.specs.Verified.{HasRoom, AreVerified}
+use Rattle.vm_runs.specs.Verified.{HasRoomToCatch, AreVerified}
 
 pub some-and : {X : Type 0} (o : Option X) (P : X → Type 0) → IsSomeAnd o P → (x : X) × (o ≡ Some x) × P x
 some-and None P h = absurd h
@@ -118,7 +118,7 @@ module _ {A : Type 0} (w : Linked) where
       record { method = f.known; call = call; room_is = λ most. let deep = f.cells in omega arith }
 
   module _ (k : Cells A) (room : ℕ) (keeps : State A → Type 0) (s z : State A) (m : MethodRec) (i : Placed) (op : Operation) (kept : keeps s) (shaped : IsShaped w s) (runs : IsRunning s)
-      (fetches : Fetches w s m i) (names : Resolves w m i.place i.insn (Ok op)) (has : HasRoom room k.checks) (verified : AreVerified room k keeps w) (stay : FramesStay s z) where
+      (fetches : Fetches w s m i) (names : Resolves w m i.place i.insn (Ok op)) (has : HasRoomToCatch room k.checks) (verified : AreVerified room k keeps w) (stay : FramesStay s z) where
     pub leads-on : (known : Known) (lead : Lead) → KnowPlaces k.checks w known → act k w i.insn op s ≡ told k w z lead → Stays lead s z → LeadsOn room w known z lead
     leads-on (Marked p) (leads.Jumps to) know e same = tt {0}
     leads-on Verified (leads.Jumps to) know e same =

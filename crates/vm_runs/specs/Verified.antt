@@ -18,7 +18,7 @@ use Rattle.vm_turns.specs.declared.known.Known.TheVariants.{Verified}
 use Rattle.vm_turns.specs.Known.{CanResume}
 
 -- room for the reference of an object that is caught; a machine that tests does so after a result of two cells was pushed
-pub record HasRoom (room : ℕ) (checks : Bool) : Type 0 where
+pub record HasRoomToCatch (room : ℕ) (checks : Bool) : Type 0 where
   pub one : 0 < room
   pub result : checks ≡ true → 257 ≤ room
 

@@ -3,7 +3,7 @@ ghost use Rattle.jc_base.specs.Cell.{width};
 ghost use Rattle.vm_store.specs.State.{IsRunning, top, without_top};
 ghost use Rattle.vm_store.specs.Store.{IsOf};
 ghost use Rattle.vm_step.specs.Settled.{goes_to, given_to, settled};
-ghost use Rattle.vm_values.specs.Lead.{Stands, PutStands, told, with_put, value_cells, value_width};
+ghost use Rattle.vm_values.specs.Lead.{LeadStands, PutStands, told, with_put, value_cells, value_width};
 ghost use Rattle.vm_turns.specs.Known.{KnowPlaces, CanResume};
 ghost use Rattle.vm_turns.specs.Turn.{outcome, AreMethods};
 ghost use Rattle.vm_runs.specs.Leading.{LeadsOn, put_width};
@@ -118,7 +118,7 @@ pub fn settle<S: Store>(
     requires places { KnowPlaces S.Cell.cells.checks world.now known }
     requires short { next ≤ 32767 }
     requires room { 0 < S.stack_room }
-    requires stands { Stands S.stack_room world.now (S.state store.old) lead }
+    requires stands { LeadStands S.stack_room world.now (S.state store.old) lead }
     requires leads { LeadsOn S.stack_room world.now known (S.state store.old) lead }
     ensures outcome { outcome result (S.state store.new)
         ≡ settled

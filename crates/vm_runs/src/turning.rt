@@ -1,4 +1,4 @@
-ghost use Rattle.vm_runs.specs.Verified.{HasRoom, AreVerified};
+ghost use Rattle.vm_runs.specs.Verified.{HasRoomToCatch, AreVerified};
 
 use jc_base::World;
 use vm_checks::Machine;
@@ -9,7 +9,7 @@ pub trait Turning: Machine {
     /// There is room on a stack for what comes on it before the room is tested, and where nothing is tested the code was
     /// verified.
     fn steps_stand(world: &World<'_>)
-        ensures room { HasRoom Self.stack_room Self.Cell.cells.checks }
+        ensures room { HasRoomToCatch Self.stack_room Self.Cell.cells.checks }
         ensures verified { AreVerified Self.stack_room Self.Cell.cells (Self.keeps world.now) world.now };
 }
 

@@ -42,7 +42,7 @@ use Rattle.vm_sound.proofs.Turning.{Here, replace-safe, replaced-below}
 
 -- ---- where an instruction leads
 
-targets-are : (code : List ℕ) (p : Placed) → jumps p.insn.op ≡ true → targets code p ≡ target p.place p.insn.x ∷ map (λ (c : Case). target p.place c.offset) (cases code p.place p.insn)
+pub targets-are : (code : List ℕ) (p : Placed) → jumps p.insn.op ≡ true → targets code p ≡ target p.place p.insn.x ∷ map (λ (c : Case). target p.place c.offset) (cases code p.place p.insn)
 unfolding targets
 targets-are code p h = ap (λ b. if b then target p.place p.insn.x ∷ map (λ (c : Case). target p.place c.offset) (cases code p.place p.insn) else []) h
 

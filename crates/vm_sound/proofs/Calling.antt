@@ -25,12 +25,12 @@ use Rattle.jc_rules.specs.declared.effect.Change.{Change}
 use Rattle.jc_rules.specs.declared.effect.Change.TheVariants.{Replace, MakeReady}
 use Rattle.jc_rules.specs.declared.effect.Effect.{Effect}
 use Rattle.jc_rules.specs.declared.effect.Mode.TheVariants.{Flow}
-use Rattle.jc_rules.specs.Demand.{AllHold, Meets}
+use Rattle.jc_rules.specs.Demand.{SatisfiesAll, Meets}
 use Rattle.jc_rules.specs.Effect.{listed, ready, changed, Stores}
 use Rattle.jc_rules.specs.Rule.{cell, cells_wanted, call_demands, call_effect, call_change, on_stack, ready_with, result_given, args_at, result_at, effect}
 use Rattle.jc_rules.specs.Flow.{CellsBelow, no_cells, more_cells, FrameBelow, receiver_of}
 use Rattle.jc_rules.proofs.CellLists.{cells-same, cells-append}
-use Rattle.jc_rules.proofs.Demands.{AllHold-front, AllHold-rest}
+use Rattle.jc_rules.proofs.Demands.{SatisfiesAll-front, SatisfiesAll-rest}
 use Rattle.jc_rules.proofs.Flowing.{is-order-of-cells}
 use Rattle.vm_store.specs.declared.cell.Cell.{Cell}
 use Rattle.vm_store.specs.declared.cell.Cell.TheVariants as cells
@@ -102,9 +102,9 @@ module _ (w : Linked) (world : IsWorld w) (assigned : Typings) (typings : AreTyp
         (is : here.turn.operation ≡ ops.Call (record { method = n; receiver = receiver; choice = choice }))
         (method : slice_get w.methods n ≡ Some m)
       where
-        demanded : AllHold w.classes (types_in w.classes (assigned.unset f.method) (kinds_of heap) f) (call_demands m.sig.args receiver)
+        demanded : SatisfiesAll w.classes (types_in w.classes (assigned.unset f.method) (kinds_of heap) f) (call_demands m.sig.args receiver)
         demanded =
-            subst (λ args. AllHold w.classes (types_in w.classes (assigned.unset f.method) (kinds_of heap) f) (call_demands args receiver)) (ap args_at method)
+            subst (λ args. SatisfiesAll w.classes (types_in w.classes (assigned.unset f.method) (kinds_of heap) f) (call_demands args receiver)) (ap args_at method)
             (asked-of w world assigned f below heap statics here (ops.Call (record { method = n; receiver = receiver; choice = choice })) is)
 
         -- the arguments are below their types, the last on top
@@ -112,7 +112,7 @@ module _ (w : Linked) (world : IsWorld w) (assigned : Typings) (typings : AreTyp
         args-below =
             let exact = types_in w.classes (assigned.unset f.method) (kinds_of heap) f in
             subst (λ k. CellsBelow w.classes (take k exact.stack) (reverse m.sig.args)) (length-reverse m.sig.args)
-            (wanted-below w.classes exact 0 (reverse m.sig.args) (AllHold-front w.classes exact (cells_wanted 0 (reverse m.sig.args)) _ demanded))
+            (wanted-below w.classes exact 0 (reverse m.sig.args) (SatisfiesAll-front w.classes exact (cells_wanted 0 (reverse m.sig.args)) _ demanded))
 
         -- what the rule gives, by the change that the call makes
         does : effect w here.turn.operation (types_in w.classes (assigned.unset f.method) (kinds_of heap) f) ≡ on_stack (call_change m.sig.args (result_given m.sig.result) receiver (types_in w.classes (assigned.unset f.method) (kinds_of heap) f))
@@ -183,8 +183,8 @@ module _ (w : Linked) (world : IsWorld w) (assigned : Typings) (typings : AreTyp
           receiver-asked : IsSomeAnd (slice_get (least_types w.classes (assigned.unset f.method) (kinds_of heap) f.stack) (length m.sig.args)) (Meets w.classes want)
           receiver-asked =
               let exact = types_in w.classes (assigned.unset f.method) (kinds_of heap) f in
-              let all = subst (λ r. AllHold w.classes exact (call_demands m.sig.args r)) wants demanded in
-              (AllHold-rest w.classes exact (cells_wanted 0 (reverse m.sig.args)) (CellAsked (length m.sig.args) want ∷ []) all).0
+              let all = subst (λ r. SatisfiesAll w.classes exact (call_demands m.sig.args r)) wants demanded in
+              (SatisfiesAll-rest w.classes exact (cells_wanted 0 (reverse m.sig.args)) (CellAsked (length m.sig.args) want ∷ []) all).0
 
           pub receiver-at : IsCellAt w.classes (assigned.unset f.method) (kinds_of heap) f.stack (length m.sig.args) (Meets w.classes want)
           receiver-at = cell-at w.classes (assigned.unset f.method) (kinds_of heap) f.stack (length m.sig.args) (Meets w.classes want) receiver-asked

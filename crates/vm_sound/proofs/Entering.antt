@@ -17,7 +17,7 @@ use Rattle.jc_control.specs.Control.{begins}
 use Rattle.jc_decode.proofs.Listed.{all-are-listed}
 use Rattle.jc_control.proofs.Closing.{instructions-are-placed}
 use Rattle.jc_control.proofs.Elements.{drop-here}
-use Rattle.jc_rules.specs.Demand.{Frame as Types, AllHold}
+use Rattle.jc_rules.specs.Demand.{Frame as Types, SatisfiesAll}
 use Rattle.jc_rules.specs.Rule.{cells_wanted}
 use Rattle.jc_rules.specs.Flow.{CellsBelow, no_cells, more_cells, FrameBelow, receiver_of, start_frame, FlowTyping}
 use Rattle.jc_rules.proofs.CellLists.{cells-same, cells-append, cells-length}
@@ -52,7 +52,7 @@ types-turned t unset ks cs = map-reverse (least_type t unset ks) cs
 -- ---- arguments
 
 -- the cells that are wanted are below their types
-pub wanted-below : (t : ClassTable) (f : Types) (n : ℕ) (tys : List Ty) → AllHold t f (cells_wanted n tys) → CellsBelow t (take (length tys) (drop n f.stack)) tys
+pub wanted-below : (t : ClassTable) (f : Types) (n : ℕ) (tys : List Ty) → SatisfiesAll t f (cells_wanted n tys) → CellsBelow t (take (length tys) (drop n f.stack)) tys
 wanted-below t f n [] h = no_cells
 wanted-below t f n (ty ∷ tys) h =
     let found = some-is (λ a. Below t a ty) (slice_get f.stack n) h.0 in

@@ -25,10 +25,10 @@ use Rattle.jc_ops.specs.Next.{falls_from}
 use Rattle.jc_rules.specs.declared.demand.Demand.TheVariants.{Cell, Held}
 use Rattle.jc_ops.specs.declared.want.Want.TheVariants.{Value}
 use Rattle.jc_rules.specs.declared.effect.Cells.TheVariants as given
-use Rattle.jc_rules.specs.Demand.{AllHold}
+use Rattle.jc_rules.specs.Demand.{SatisfiesAll}
 use Rattle.jc_rules.specs.Rule.{effect, replacing, value_given, value_wanted, value_size}
 use Rattle.jc_rules.specs.Flow.{IsNotTop, IsNotFresh}
-use Rattle.jc_rules.proofs.Demands.{AllHold-front, AllHold-rest}
+use Rattle.jc_rules.proofs.Demands.{SatisfiesAll-front, SatisfiesAll-rest}
 use Rattle.vm_store.specs.declared.cell.Cell.{Cell as StoreCell}
 use Rattle.vm_store.specs.declared.cell.Cell.TheVariants as cells
 use Rattle.vm_store.specs.declared.kind.ObjectKind.{ObjectKind}
@@ -223,17 +223,17 @@ module _ (w : Linked) (world : IsWorld w) (assigned : Typings) (f : Frame StoreC
     -- ---- writes
 
     -- the cells of the value on top of the stack have their types
-    pub value-held : (ty : Ty) → IsOneCell ty → IsDeclared w.classes ty → AllHold w.classes (types_in w.classes (assigned.unset f.method) (kinds_of heap) f) (value_wanted ty) → IsHeld w world assigned f below heap statics here 0 ty
+    pub value-held : (ty : Ty) → IsOneCell ty → IsDeclared w.classes ty → SatisfiesAll w.classes (types_in w.classes (assigned.unset f.method) (kinds_of heap) f) (value_wanted ty) → IsHeld w world assigned f below heap statics here 0 ty
     value-held ty one declared asked =
         held-at w world assigned f below heap statics here 0 ty (declared-ready w.classes ty declared)
-        (subst (AllHold w.classes (types_in w.classes (assigned.unset f.method) (kinds_of heap) f)) one.wanted asked).0
+        (subst (SatisfiesAll w.classes (types_in w.classes (assigned.unset f.method) (kinds_of heap) f)) one.wanted asked).0
 
     -- a value on top of the stack goes into an object
     pub write-value-safe :
         (h i taken : ℕ) (kind : Kind) (ty : Ty) (op : Operation)
         → here.turn.operation ≡ op
         → effect w op (types_in w.classes (assigned.unset f.method) (kinds_of heap) f) ≡ replacing taken given.Nothing → falls_from op ≡ true
-        → IsOfKind kind ty → IsDeclared w.classes ty → AllHold w.classes (types_in w.classes (assigned.unset f.method) (kinds_of heap) f) (value_wanted ty)
+        → IsOfKind kind ty → IsDeclared w.classes ty → SatisfiesAll w.classes (types_in w.classes (assigned.unset f.method) (kinds_of heap) f) (value_wanted ty)
         → (h ≡ 0 → ⊥)
         → type_at w.classes (with_heap heap) h i ≡ Some ty
         → (kind ≡ fields.Int → type_at w.classes (with_heap heap) h (i + 1) ≡ Some IntLow)
@@ -249,7 +249,7 @@ module _ (w : Linked) (world : IsWorld w) (assigned : Typings) (f : Frame StoreC
         let value = value-held ty (one-cell fields.Short ty of_kind refl) declared asked in
         write-safe w world assigned f below heap statics here h i ty (slice_index_or f.stack 0 cells.Empty) taken op is does falls some first value.has value.filled
     write-value-safe h i taken fields.Int ty op is does falls of_kind declared asked some first second =
-        let halves = subst (λ a. AllHold w.classes (types_in w.classes (assigned.unset f.method) (kinds_of heap) f) (value_wanted a)) of_kind asked in
+        let halves = subst (λ a. SatisfiesAll w.classes (types_in w.classes (assigned.unset f.method) (kinds_of heap) f) (value_wanted a)) of_kind asked in
         let lower = held-at w world assigned f below heap statics here 0 IntLow tt halves.0 in
         let upper = held-at w world assigned f below heap statics here 1 IntHigh tt halves.1.0 in
         write-int-safe w world assigned f below heap statics here h i IntHigh IntLow (slice_index_or f.stack 1 cells.Empty) (slice_index_or f.stack 0 cells.Empty) taken op is does falls some
@@ -279,7 +279,7 @@ module _ (w : Linked) (world : IsWorld w) (assigned : Typings) (f : Frame StoreC
         let fd : InstanceField = record { class = class; cell = cell; kind = kind; ty = ty } in
         let exact = types_in w.classes (assigned.unset f.method) (kinds_of heap) f in
         let asked = asked-of w world assigned f below heap statics here (ops.FieldWrite fd holders.Stack) is in
-        let object_asked = (AllHold-rest w.classes exact (value_wanted ty) (Cell (value_size ty) (Value (Class class)) ∷ []) asked).0 in
+        let object_asked = (SatisfiesAll-rest w.classes exact (value_wanted ty) (Cell (value_size ty) (Value (Class class)) ∷ []) asked).0 in
         let size = size-is kind ty field.cells.kind in
         let h : ℕ = held_handle tagged holders.Stack (width kind) now in
         let at_width = subst (λ n. IsSomeAnd (slice_get exact.stack n) (λ a. Below w.classes a (Class class))) size object_asked in
@@ -288,7 +288,7 @@ module _ (w : Linked) (world : IsWorld w) (assigned : Typings) (f : Frame StoreC
         (λ some.
         let o = handle-object w.classes world.chains heap h (Class class) tt some (holder-below holders.Stack (width kind) class at_width) in
         write-value-safe h cell (width kind + 1) kind ty (ops.FieldWrite fd holders.Stack) is (ap (λ n. replacing (n + 1) given.Nothing) size) refl field.cells.kind field.ty
-        (AllHold-front w.classes exact (value_wanted ty) (Cell (value_size ty) (Value (Class class)) ∷ []) asked) some
+        (SatisfiesAll-front w.classes exact (value_wanted ty) (Cell (value_size ty) (Value (Class class)) ∷ []) asked) some
         (field-at w.classes world.chains heap h class cell ty o field.not_object field.cells.first)
         (low-half kind h cell class o field.not_object field.cells.second))
     field-write-safe class cell kind ty holders.This is field =
@@ -296,7 +296,7 @@ module _ (w : Linked) (world : IsWorld w) (assigned : Typings) (f : Frame StoreC
         let fd : InstanceField = record { class = class; cell = cell; kind = kind; ty = ty } in
         let exact = types_in w.classes (assigned.unset f.method) (kinds_of heap) f in
         let asked = (asked-of w world assigned f below heap statics here (ops.FieldWrite fd holders.This) is).1 in
-        let object_asked = (AllHold-rest w.classes exact (value_wanted ty) (Held 0 (Class class) ∷ []) asked).0 in
+        let object_asked = (SatisfiesAll-rest w.classes exact (value_wanted ty) (Held 0 (Class class) ∷ []) asked).0 in
         let size = size-is kind ty field.cells.kind in
         let h : ℕ = held_handle tagged holders.This (width kind) now in
         null-safe w world assigned f below heap statics here (here.turn.stands.instruction.place + here.turn.stands.instruction.insn.len) h
@@ -304,6 +304,6 @@ module _ (w : Linked) (world : IsWorld w) (assigned : Typings) (f : Frame StoreC
         (λ some.
         let o = handle-object w.classes world.chains heap h (Class class) tt some (holder-below holders.This (width kind) class object_asked) in
         write-value-safe h cell (width kind + 0) kind ty (ops.FieldWrite fd holders.This) is (ap (λ n. replacing n given.Nothing) (size ∙ more-none kind)) refl field.cells.kind field.ty
-        (AllHold-front w.classes exact (value_wanted ty) (Held 0 (Class class) ∷ []) asked) some
+        (SatisfiesAll-front w.classes exact (value_wanted ty) (Held 0 (Class class) ∷ []) asked) some
         (field-at w.classes world.chains heap h class cell ty o field.not_object field.cells.first)
         (low-half kind h cell class o field.not_object field.cells.second))

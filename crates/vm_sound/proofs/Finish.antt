@@ -41,12 +41,12 @@ use Rattle.vm_sound.proofs.CellTypes.{some-is, some-both, some-weaker, stacked-a
 use Rattle.vm_sound.proofs.Places.{instruction-there}
 use Rattle.vm_sound.proofs.Turns.{frame-trans}
 
-pick : {X : Type 0} (x y : Option X) (a b : Bool) → a ≡ false → b ≡ false → (if a then x else if b then y else None) ≡ None
+pub pick : {X : Type 0} (x y : Option X) (a b : Bool) → a ≡ false → b ≡ false → (if a then x else if b then y else None) ≡ None
 pick x y true b h k = absurd (false≢true (sym h))
 pick x y false true h k = absurd (false≢true (sym k))
 pick x y false false h k = refl
 
-pick-yes : {X : Type 0} (x y : Option X) (a b : Bool) → a ≡ false → b ≡ true → (if a then x else if b then None else y) ≡ None
+pub pick-yes : {X : Type 0} (x y : Option X) (a b : Bool) → a ≡ false → b ≡ true → (if a then x else if b then None else y) ≡ None
 pick-yes x y true b h k = absurd (false≢true (sym h))
 pick-yes x y false true h k = refl
 pick-yes x y false false h k = absurd (false≢true k)

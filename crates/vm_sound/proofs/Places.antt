@@ -7,7 +7,7 @@ use Rattle.jc_base.proofs.Tests.{found-passes}
 use Rattle.jc_base.proofs.Eaching.{Contains-from_IsAmong, IsAmong-from_Contains}
 use Rattle.jc_decode.specs.declared.insn.Placed.{Placed}
 use Rattle.jc_decode.specs.Listing.{listing}
-use Rattle.jc_control.specs.WellFormed.{Stands, IsPlace}
+use Rattle.jc_control.specs.WellFormed.{HasInstruction, IsPlace}
 use Rattle.vm_step.specs.Methods.{instruction_at}
 
 -- an element that passes is found, or one before it
@@ -22,7 +22,7 @@ found-some {X} p (y ∷ ys) x (inr later) h = go (p y) (found-some p ys x later 
 
 -- the instruction at a place
 pub record IsThere (code : List ℕ) (place : ℕ) (i : Placed) : Type 0 where
-  pub stands : Stands code i
+  pub stands : HasInstruction code i
   pub at : i.place ≡ place
 
 pub instruction-there : (code : List ℕ) (place : ℕ) (i : Placed) → instruction_at code place ≡ Some i → IsThere code place i

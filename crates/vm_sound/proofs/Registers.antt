@@ -21,7 +21,7 @@ use Rattle.jc_rules.specs.declared.effect.Cells.TheVariants as given
 use Rattle.jc_rules.specs.declared.effect.Effect.{Effect}
 use Rattle.jc_rules.specs.declared.effect.Mode.TheVariants.{Flow}
 use Rattle.jc_rules.specs.Effect.{changed, Stores, Writes, WritesInt}
-use Rattle.jc_rules.specs.Demand.{AllHold}
+use Rattle.jc_rules.specs.Demand.{SatisfiesAll}
 use Rattle.jc_rules.specs.Rule.{or_null, cell, storing, effect, demands}
 use Rattle.jc_rules.specs.Flow.{CellsBelow, no_cells, more_cells}
 use Rattle.jc_rules.proofs.CellLists.{cells-same, cells-set}
@@ -118,8 +118,8 @@ module _ (w : Linked) (world : IsWorld w) (assigned : Typings) (f : Frame Cell) 
     (here : Here w assigned f below heap statics)
   where
     -- what the operation asks of the least types of cells
-    pub asked-of : (op : Operation) → here.turn.operation ≡ op → AllHold w.classes (types_in w.classes (assigned.unset f.method) (kinds_of heap) f) (demands w op)
-    asked-of op is = subst (λ o. AllHold w.classes (types_in w.classes (assigned.unset f.method) (kinds_of heap) f) (demands w o)) is here.turn.applies.asked
+    pub asked-of : (op : Operation) → here.turn.operation ≡ op → SatisfiesAll w.classes (types_in w.classes (assigned.unset f.method) (kinds_of heap) f) (demands w op)
+    asked-of op is = subst (λ o. SatisfiesAll w.classes (types_in w.classes (assigned.unset f.method) (kinds_of heap) f) (demands w o)) is here.turn.applies.asked
 
     pub load-safe :
         (sort : Sort) (x : ℕ) → here.turn.operation ≡ ops.Load sort x

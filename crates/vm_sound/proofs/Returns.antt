@@ -11,7 +11,7 @@ use Rattle.jc_ops.specs.declared.operation.Operation.TheVariants as ops
 use Rattle.jc_ops.specs.declared.want.Want.TheVariants.{Value}
 use Rattle.jc_ops.specs.Sound.{IsResult}
 use Rattle.jc_rules.specs.declared.demand.Demand.TheVariants.{Cell as CellAsked}
-use Rattle.jc_rules.specs.Demand.{AllHold}
+use Rattle.jc_rules.specs.Demand.{SatisfiesAll}
 use Rattle.jc_rules.specs.Effect.{listed}
 use Rattle.jc_rules.specs.Rule.{result_at, result_given, value_wanted}
 use Rattle.jc_rules.specs.Flow.{CellsBelow, no_cells, more_cells}
@@ -56,7 +56,7 @@ module _ (w : Linked) (world : IsWorld w) (assigned : Typings) (f : Frame Cell) 
         let t = w.classes in
         let ks = kinds_of heap in
         let c : Cell = slice_index_or f.stack 0 cells.Empty in
-        let asked = subst (AllHold t (types_in t (assigned.unset f.method) ks f)) one.wanted (asked-of w world assigned f below heap statics here (ops.Return (Some ty)) is) in
+        let asked = subst (SatisfiesAll t (types_in t (assigned.unset f.method) ks f)) one.wanted (asked-of w world assigned f below heap statics here (ops.Return (Some ty)) is) in
         let at = cell-at t (assigned.unset f.method) ks f.stack 0 (λ a. Below t a ty) asked.0 in
         let filled = stacked-filled w here.turn.stands.rec ks c (stacked-at w here.turn.stands.rec ks f.stack 0 at.inside here.turn.stacked) in
         let ready = value-ready t world.chains (assigned.unset f.method) ks c ty filled (declared-kept t ty declared) (declared-topless t ty declared) at.holds in

@@ -15,7 +15,7 @@ use Rattle.jc_base.specs.declared.record.StaticRec.{StaticRec}
 use Rattle.jc_base.specs.declared.record.ArrayRec.{ArrayRec}
 use Rattle.jc_base.specs.Class.{ClassTable}
 use Rattle.jc_base.specs.Order.{Below, same, null_object, null_array, of_booleans, of_bytes, of_shorts, of_ints, of_references}
-use Rattle.jc_base.specs.Cell.{IsReference, IsOfKind, AreWhole, no_cells as no_whole, whole_int, one_cell, IsNoHalf, IsInitialHandle, AreWordsOf, AreElementsOf}
+use Rattle.jc_base.specs.Cell.{IsReference, IsOfKind, AreWhole, no_cells as no_whole, whole_int, one_cell, IsNoHalf, IsInitialHandle, AreInitialWords, AreElementsOf}
 use Rattle.jc_base.specs.Linked.{IsStatic, lacks_code, receiver_words}
 use Rattle.jc_base.specs.World.{Linked, IsWorld}
 use Rattle.jc_base.proofs.Lists.{All-slice_get, slice_get-front}
@@ -140,7 +140,7 @@ module _ (w : Linked) (world : IsWorld w) where
       (subst (λ a. Below w.classes a ty) (sym (kind-is w.classes found.0.kind found.0.initial elements)) found.2)
 
   field-have :
-      (kind : Kind) (ty : Ty) (ws : List ℕ) → IsOfKind kind ty → AreWordsOf w.classes w.arrays kind ty ws
+      (kind : Kind) (ty : Ty) (ws : List ℕ) → IsOfKind kind ty → AreInitialWords w.classes w.arrays kind ty ws
       → CellsHave w.classes (kinds_of (map (initial_object tagged) w.arrays)) (field_cells tagged kind ws) (field_types kind ty)
   field-have fields.Ref ty (h ∷ []) of_kind words = (handle-has ty h of_kind words, tt, tt {0})
   field-have fields.Byte ty (v ∷ []) of_kind words =

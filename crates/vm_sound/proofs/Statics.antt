@@ -18,7 +18,7 @@ use Rattle.jc_ops.specs.declared.operation.Operation.TheVariants as ops
 use Rattle.jc_ops.specs.Sound.{IsStaticOf}
 use Rattle.jc_ops.specs.Next.{falls_from}
 use Rattle.jc_rules.specs.declared.effect.Cells.TheVariants as given
-use Rattle.jc_rules.specs.Demand.{AllHold}
+use Rattle.jc_rules.specs.Demand.{SatisfiesAll}
 use Rattle.jc_rules.specs.Rule.{effect, replacing, value_given, value_wanted, value_size}
 use Rattle.jc_rules.specs.Flow.{IsNotTop, IsNotFresh, no_cells, more_cells}
 use Rattle.vm_store.specs.declared.cell.Cell.{Cell}
@@ -222,7 +222,7 @@ module _ (w : Linked) (world : IsWorld w) (assigned : Typings) (f : Frame Cell) 
         let c : Cell = slice_index_or f.stack 1 cells.Empty in
         let d : Cell = slice_index_or f.stack 0 cells.Empty in
         let asked = asked-of w world assigned f below heap statics here (ops.StaticWrite (record { slot = slot; kind = fields.Int; ty = ty })) is in
-        let halves = subst (λ a. AllHold t (types_in t (assigned.unset f.method) ks f) (value_wanted a)) field.kind asked in
+        let halves = subst (λ a. SatisfiesAll t (types_in t (assigned.unset f.method) ks f) (value_wanted a)) field.kind asked in
         let lower = held-at w world assigned f below heap statics here 0 IntLow tt halves.0 in
         let upper = held-at w world assigned f below heap statics here 1 IntHigh tt halves.1.0 in
         let at = slot-at w world slot fields.Int ty field.there in

@@ -24,7 +24,7 @@ use Rattle.jc_ops.specs.Resolve.{Resolves}
 use Rattle.jc_rules.specs.declared.demand.Demand.{Demand}
 use Rattle.jc_rules.specs.declared.effect.Mode.TheVariants.{Flow}
 use Rattle.jc_rules.specs.declared.rule.Outcome.{Outcome}
-use Rattle.jc_rules.specs.Demand.{Frame as Types, AllHold, Holds, holds}
+use Rattle.jc_rules.specs.Demand.{Frame as Types, SatisfiesAll, Satisfies, satisfies}
 use Rattle.jc_rules.specs.Footprint.{registers_asked, cells_asked}
 use Rattle.jc_rules.specs.Rule.{demands}
 use Rattle.jc_rules.specs.Apply.{OperationApplies, RuleApplies}
@@ -65,7 +65,7 @@ pub record Turn (w : Linked) (assigned : Typings) (ks : List ObjectKind) (f : Fr
   pub outcome : Outcome
   pub applies : OperationApplies w stands.rec.max_stack operation Flow (types_in w.classes (assigned.unset f.method) ks f) after outcome
   pub lower : FrameBelow w.classes after followed.after
-  pub asked : AllHold w.classes (types_in w.classes Bottom ks f) (demands w operation)
+  pub asked : SatisfiesAll w.classes (types_in w.classes Bottom ks f) (demands w operation)
 
 module _ (w : Linked) (world : IsWorld w) (assigned : Typings) where
   order : IsOrderOfTypes w.classes
@@ -215,16 +215,16 @@ module _ (w : Linked) (world : IsWorld w) where
   true-of true P decided h = refl
   true-of false P decided h = absurd (decided h)
 
-  hold-tests : (types : Types) (ds : List Demand) → AllHold w.classes types ds → list_all (holds w.classes types) ds ≡ true
+  hold-tests : (types : Types) (ds : List Demand) → SatisfiesAll w.classes types ds → list_all (satisfies w.classes types) ds ≡ true
   hold-tests types [] h = refl
   hold-tests types (d ∷ ds) h =
-      and (holds w.classes types d) (list_all (holds w.classes types) ds)
-      (true-of (holds w.classes types d) (Holds w.classes types d) ((are-decided w.classes (order-of-types w.classes world.chains)).demand types d) h.0)
+      and (satisfies w.classes types d) (list_all (satisfies w.classes types) ds)
+      (true-of (satisfies w.classes types d) (Satisfies w.classes types d) ((are-decided w.classes (order-of-types w.classes world.chains)).demand types d) h.0)
       (hold-tests types ds h.1)
 
   pub passes-before :
       (f : Frame Cell) (below : List (Frame Cell)) (heap : List (Object Cell)) (statics : List Cell) (op : Operation)
-      → AllHold w.classes (types_in w.classes Bottom (map (λ (o : Object Cell). o.kind) heap) f) (demands w op)
+      → SatisfiesAll w.classes (types_in w.classes Bottom (map (λ (o : Object Cell). o.kind) heap) f) (demands w op)
       → fault_before tagged w op (record { frames = f ∷ below; heap = heap; statics = statics }) ≡ None
   passes-before f below heap statics op asked =
       let ks = map (λ (o : Object Cell). o.kind) heap in
@@ -237,5 +237,5 @@ module _ (w : Linked) (world : IsWorld w) where
       let stack : cells_asked ds ≤ length f.stack =
       subst (λ n. cells_asked ds ≤ n) (length-map f.stack (least_type w.classes Bottom ks)) (are.cells there) in
       pick (Some LocalFault) (Some StackFault) (Some TypeFault) (nat_lt (length f.registers) (registers_asked ds)) (nat_lt (length f.stack) (cells_asked ds))
-      (list_all (holds w.classes types) ds) (le-ltb (length f.registers) (registers_asked ds) regs) (le-ltb (length f.stack) (cells_asked ds) stack)
+      (list_all (satisfies w.classes types) ds) (le-ltb (length f.registers) (registers_asked ds) regs) (le-ltb (length f.stack) (cells_asked ds) stack)
       (hold-tests types ds asked)

@@ -6,7 +6,7 @@ use Rattle.jc_base.specs.declared.ty.Kind.TheVariants as fields
 use Rattle.jc_base.specs.declared.ty.Ty.{Ty}
 use Rattle.jc_base.specs.declared.record.ArrayRec.{ArrayRec}
 use Rattle.jc_base.specs.Class.{ClassTable}
-use Rattle.jc_base.specs.Cell.{width, AreWordsOf}
+use Rattle.jc_base.specs.Cell.{width, AreInitialWords}
 use Rattle.vm_store.specs.Cells.{Cells, short_of_word}
 use Rattle.vm_step.specs.Start.{field_cells}
 
@@ -25,7 +25,7 @@ field-size k fields.Short [] e = absurd (omega arith)
 field-size k fields.Short (a ∷ b ∷ ws) e = absurd (omega arith)
 
 -- as many words as the kind has cells
-pub words-size : (t : ClassTable) (arrays : List ArrayRec) (kind : Kind) (ty : Ty) (words : List ℕ) → AreWordsOf t arrays kind ty words → length words ≡ width kind
+pub words-size : (t : ClassTable) (arrays : List ArrayRec) (kind : Kind) (ty : Ty) (words : List ℕ) → AreInitialWords t arrays kind ty words → length words ≡ width kind
 words-size t arrays fields.Ref ty [] h = absurd h
 words-size t arrays fields.Ref ty (a ∷ []) h = refl
 words-size t arrays fields.Ref ty (a ∷ b ∷ ws) h = absurd h

@@ -1,5 +1,5 @@
 -- The sizes of a state in which a run begins.
-use Rattle.std.proofs.Common.{◌≡◌, ◌<◌, ◌≤◌, ◌+◌, ◌-◌, ℕ, zero, suc, List, [], ◌∷◌, ◌++◌, length, map, refl, sym, ap, ◌∙◌, subst, arith, Option, Some, None, length-append}
+use Rattle.std.proofs.Common.{◌≡◌, ◌<◌, ◌≤◌, ◌+◌, ◌-◌, ℕ, List, [], ◌∷◌, ◌++◌, length, map, refl, sym, ap, ◌∙◌, arith, Option, None, length-append}
 use Rattle.std.specs.Prelude.{All, sum_by, flat_map, slice_get, replicate}
 use Rattle.std.proofs.lemmas.List.{length-replicate}
 use Rattle.std.proofs.lemmas.List.Sums.{sum_by-cons}
@@ -13,6 +13,7 @@ use Rattle.jc_base.specs.Class.{ClassTable}
 use Rattle.jc_base.specs.Cell.{width, AreElementsOf}
 use Rattle.jc_base.specs.Linked.{IsMethod, IsStatic}
 use Rattle.jc_base.specs.World.{Linked, IsWorld}
+use Rattle.jc_base.proofs.Lists.{All-slice_get}
 use Rattle.vm_store.specs.declared.kind.ObjectKind.{ObjectKind}
 use Rattle.vm_store.specs.Cells.{Cells}
 use Rattle.vm_store.specs.State.{State, Object, entered, register_count, registers_of}
@@ -25,11 +26,6 @@ use Rattle.vm_start.proofs.Sums.{there-inside}
 use Rattle.vm_start.proofs.Fields.{field-size, words-size}
 use Rattle.vm_start.proofs.Handing.{handed-size}
 use Rattle.vm_start.proofs.Beginning.{Takes, takes}
-
-all-at : {X : Type 0} (P : X → Type 0) (xs : List X) (n : ℕ) (x : X) → All P xs → slice_get xs n ≡ Some x → P x
-all-at P [] n x all e = absurd (cc)
-all-at P (y ∷ ys) zero x all e = let same : y ≡ x = cc in subst P same (All-head P y ys all)
-all-at P (y ∷ ys) (suc n) x all e = all-at P ys n x (All-tail P y ys all) e
 
 statics-size : {A : Type 0} (k : Cells A) (packages : ℕ) (t : ClassTable) (arrays : List ArrayRec) (fs : List StaticRec) → All (IsStatic packages t arrays) fs
     → length (flat_map (λ (f : StaticRec). field_cells k f.kind f.initial) fs) ≡ sum_by (λ (f : StaticRec). width f.kind) fs
@@ -73,7 +69,7 @@ module _ {A : Type 0} (k : Cells A) where
 
   sized-by : (w : Linked) → IsWorld w → (entry : ℕ) (args : List Argument) (m : MethodRec) → Takes w entry args m → IsSized w entry (entry_state k w entry args)
   sized-by w is entry args m t =
-      let method : IsMethod w.infos w.pools w.classes m = all-at (IsMethod w.infos w.pools w.classes) w.methods entry m is.methods t.is in
+      let method : IsMethod w.infos w.pools w.classes m = All-slice_get (IsMethod w.infos w.pools w.classes) w.methods entry m is.methods t.is in
       let handed = handed-size k 0 (length w.arrays) args method.whole t.count t.fit in
       let types : parameters m ≡ of_method [] parameters (slice_get w.methods entry) = sym (ap (of_method [] parameters) t.is) in
       let cells = cells_handed k (length w.arrays) args (of_method [] parameters (slice_get w.methods entry)) in

@@ -1,9 +1,10 @@
 -- One more of a list that is gone through.
 use Rattle.std.proofs.Common.{◌≡◌, ◌<◌, ◌≤◌, ◌+◌, ℕ, zero, suc, List, [], ◌∷◌, ◌++◌, length, take, map, refl, sym, ap, ◌∙◌, arith, Option, Some, None, IsTrue, true}
-use Rattle.std.specs.Prelude.{slice_get, sum_by, flat_map, nat_lt, nat_le, ◌&&◌, Bool, All}
+use Rattle.std.specs.Prelude.{slice_get, sum_by, flat_map, nat_lt, nat_le, ◌&&◌, All}
 use Rattle.std.proofs.lemmas.Bool.Decides.{nat_tests}
 use Rattle.std.proofs.lemmas.List.{map-append, flat_map_more}
 use Rattle.std.proofs.lemmas.List.Sums.{sum_by_push, sum_by-take-le}
+use Rattle.std.proofs.lemmas.Bool.{and_from}
 
 module _ {X : Type 0} where
   pub take-next : (xs : List X) (n : ℕ) (x : X) → slice_get xs n ≡ Some x → take (n + 1) xs ≡ take n xs ++ x ∷ []
@@ -31,11 +32,8 @@ module _ {X : Type 0} where
   pub map-next : {A : Type 0} (f : X → A) (xs : List X) (n : ℕ) (x : X) → slice_get xs n ≡ Some x → map f (take (n + 1) xs) ≡ map f (take n xs) ++ f x ∷ []
   map-next f xs n x e = ap (map f) (take-next xs n x e) ∙ map-append f (take n xs) (x ∷ [])
 
-both : (a b : Bool) → a ≡ true → b ≡ true → (a && b) ≡ true
-both a b e f = ap (λ x. x && b) e ∙ f
-
 pub room-is : (objects cells : ℕ) → objects < 4096 → cells ≤ 32768 → (nat_lt objects 4096 && nat_le cells 32768) ≡ true
 room-is objects cells few small =
     let a : nat_lt objects 4096 ≡ true = grind (arith, nat_tests) in
     let b : nat_le cells 32768 ≡ true = grind (arith, nat_tests) in
-    both (nat_lt objects 4096) (nat_le cells 32768) a b
+    and_from (nat_lt objects 4096) (nat_le cells 32768) a b

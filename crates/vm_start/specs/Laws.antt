@@ -9,8 +9,9 @@ use Rattle.vm_step.specs.Start.{start_fault, entry_state}
 use Rattle.vm_start.specs.Sized.{IsSized}
 
 -- the words of the state in which a run of tagged cells begins are the state in which one of words begins
-abbrev pub StartsErase : Type 0
-StartsErase = (w : Linked) (entry : ℕ) (args : List Argument) → erased (entry_state tagged w entry args) ≡ entry_state words w entry args
+abbrev pub StartStatesErase : Type 0
+StartStatesErase = (w : Linked) (entry : ℕ) (args : List Argument) → erased (entry_state tagged w entry args)
+    ≡ entry_state words w entry args
 
 -- where a run begins, its state has the sizes of its world
 abbrev pub StartsAreSized : Linked → Type 0

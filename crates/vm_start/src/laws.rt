@@ -1,10 +1,10 @@
-ghost use Rattle.vm_start.specs.Laws.{StartsErase, StartsAreSized};
+ghost use Rattle.vm_start.specs.Laws.{StartStatesErase, StartsAreSized};
 
 use jc_base::World;
 
 /// A run of words begins with the words of the state in which one of tagged cells begins.
 pub fn starts_erase()
-    ensures { StartsErase }
+    ensures { StartStatesErase }
 {}
 
 /// The state in which a run begins has registers for its entry, and cells for each static field.

@@ -5,7 +5,7 @@ use Rattle.std.specs.List.{list_all}
 use Rattle.jc_base.specs.World.{Linked}
 use Rattle.jc_ops.specs.declared.operation.Operation.{Operation}
 use Rattle.jc_rules.specs.declared.demand.Demand.{Demand}
-use Rattle.jc_rules.specs.Demand.{Frame, holds}
+use Rattle.jc_rules.specs.Demand.{Frame, satisfies}
 use Rattle.jc_rules.specs.Footprint.{registers_asked, cells_asked}
 use Rattle.jc_rules.specs.Rule.{demands}
 use Rattle.vm_store.specs.Cells.{Cells}
@@ -27,7 +27,7 @@ abbrev pub unmet : {A : Type 0} → Cells A → Linked → List Demand → State
 unmet k w ds s =
     if nat_lt (length (top s).registers) (registers_asked ds) then Some LocalFault
     else if nat_lt (length (top s).stack) (cells_asked ds) then Some StackFault
-    else if list_all (holds w.classes (types_of k w s)) ds then None
+    else if list_all (satisfies w.classes (types_of k w s)) ds then None
     else Some TypeFault
 
 abbrev pub fault_before : {A : Type 0} → Cells A → Linked → Operation → State A → Option Fault

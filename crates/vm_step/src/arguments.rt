@@ -49,6 +49,7 @@ impl<'a> Args<'a> {
         Ok(())
     }
 
+    /// How many arguments there are.
     pub fn len(&self) -> usize
         ensures { result ≡ length self.now }
     {

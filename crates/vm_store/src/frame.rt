@@ -49,24 +49,28 @@ impl TaggedFrame {
         }
     }
 
+    /// The number of the frame's method.
     pub fn method(&self) -> u16
         ensures { result ≡ self.now.method }
     {
         self.method
     }
 
+    /// The place of the next instruction.
     pub fn place(&self) -> u16
         ensures { result ≡ self.now.place }
     {
         self.place
     }
 
+    /// Goes on at another place.
     pub fn set_place(&mut self, place: u16)
         ensures { self.new ≡ record self.old { place = place } }
     {
         self.place = place;
     }
 
+    /// How many cells are on the operand stack.
     pub fn depth(&self) -> usize
         ensures { result ≡ length self.now.stack }
     {
@@ -81,6 +85,7 @@ impl TaggedFrame {
         self.stack[self.stack.len() - 1 - n]
     }
 
+    /// Puts a cell on top of the stack.
     pub fn push(&mut self, cell: Cell)
         requires { length self.old.stack < 510 }
         ensures { self.new ≡ record self.old { stack = cell ∷ self.old.stack } }
@@ -88,6 +93,7 @@ impl TaggedFrame {
         self.stack.push(cell);
     }
 
+    /// Takes the cell on top of the stack.
     pub fn pop(&mut self) -> Cell
         requires { 0 < length self.old.stack }
         ensures value { result ≡ nth tagged self.old.stack 0 }
@@ -99,6 +105,7 @@ impl TaggedFrame {
         }
     }
 
+    /// Drops so many cells from the top of the stack.
     pub fn discard(&mut self, count: usize)
         requires { count ≤ length self.old.stack }
         ensures { self.new ≡ record self.old { stack = drop count self.old.stack } }
@@ -106,6 +113,7 @@ impl TaggedFrame {
         self.stack.truncate(self.stack.len() - count);
     }
 
+    /// Turns the first so many cells from the top: the first `by` of them go under the others.
     pub fn rotate(&mut self, count: usize, by: usize)
         requires there { count ≤ length self.old.stack }
         requires part { by ≤ count }
@@ -114,6 +122,7 @@ impl TaggedFrame {
         stack::rotate_cells(self.stack.as_mut_slice(), count, by);
     }
 
+    /// Makes each reference on the stack ready whose object the `new` at this place made.
     pub fn make_ready(&mut self, place: u16)
         ensures { self.new ≡ record self.old { stack = map (made_ready place) self.old.stack } }
     {
@@ -148,6 +157,7 @@ impl TaggedFrame {
         &cells[cells.len() - count..]
     }
 
+    /// The cell in a register.
     pub fn register(&self, x: u16) -> Cell
         requires { x < length self.now.registers }
         ensures { result ≡ nth tagged self.now.registers x }
@@ -155,6 +165,7 @@ impl TaggedFrame {
         self.registers[x as usize]
     }
 
+    /// Stores a cell in a register.
     pub fn set_register(&mut self, x: u16, cell: Cell)
         requires { x < length self.old.registers }
         ensures { self.new ≡ record self.old { registers = slice_set self.old.registers x cell } }

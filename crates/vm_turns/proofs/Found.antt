@@ -9,7 +9,7 @@ use Rattle.jc_decode.specs.declared.insn.Insn.{Insn}
 use Rattle.jc_decode.specs.declared.insn.Placed.{Placed}
 use Rattle.jc_decode.specs.Decoding.{decoded}
 use Rattle.jc_decode.specs.Listing.{listing}
-use Rattle.jc_control.specs.WellFormed.{Stands, IsPlace}
+use Rattle.jc_control.specs.WellFormed.{HasInstruction, IsPlace}
 use Rattle.jc_decode.specs.Laws.{AreListed}
 use Rattle.vm_step.specs.Methods.{instruction_at}
 use Rattle.vm_step.specs.Settled.{is_there, is_target}
@@ -72,11 +72,11 @@ no-place : (a b : ℕ) → (a ≡ b → ⊥) → (a == b) ≡ false
 no-place a b h = grind (arith, nat_tests)
 
 module _ (code : List ℕ) (listed : AreListed code) where
-  at-place : (place : ℕ) (x : Placed) → Stands code x → x.place ≡ place → instruction_at code place ≡ Some x
+  at-place : (place : ℕ) (x : Placed) → HasInstruction code x → x.place ≡ place → instruction_at code place ≡ Some x
   unfolding instruction_at
   at-place place x there is =
       only-found (λ (i : Placed). i.place == place) (listing code) x
-      (All-weaker (Stands code) (λ y. (y.place == place) ≡ true → y ≡ x) (λ y h e. listed.one y x h there (same-place y.place place e ∙ sym is)) (listing code) (All-contains_itself (listing code)))
+      (All-weaker (HasInstruction code) (λ y. (y.place == place) ≡ true → y ≡ x) (λ y h e. listed.one y x h there (same-place y.place place e ∙ sym is)) (listing code) (All-contains_itself (listing code)))
       there
       (is-place x.place place is)
 
@@ -92,7 +92,7 @@ module _ (code : List ℕ) (listed : AreListed code) where
   unfolding instruction_at
   nothing-there place none =
       none-found (λ (i : Placed). i.place == place) (listing code)
-      (All-weaker (Stands code) (λ y. (y.place == place) ≡ false) (λ y h. no-place y.place place (λ e. none (y, h, e))) (listing code) (All-contains_itself (listing code)))
+      (All-weaker (HasInstruction code) (λ y. (y.place == place) ≡ false) (λ y h. no-place y.place place (λ e. none (y, h, e))) (listing code) (All-contains_itself (listing code)))
 
 -- an instruction that is found is one of the code
 pub found-there : (code : List ℕ) (place : ℕ) (x : Placed) → instruction_at code place ≡ Some x → IsPlace code place

@@ -1,14 +1,9 @@
 -- Frames of methods of a world.
-use Rattle.std.proofs.Common.{◌≡◌, ◌<◌, ◌≤◌, ◌+◌, ◌*◌, ◌∙◌, ℕ, zero, suc, List, [], ◌∷◌, length, refl, sym, ap, arith, length-append}
-use Rattle.std.specs.Prelude.{All, map}
+use Rattle.std.proofs.Common.{◌≡◌, ◌<◌, ◌≤◌, ℕ, List, [], ◌∷◌, length, refl, sym, ap, arith}
+use Rattle.std.specs.Prelude.{All}
 use Rattle.std.proofs.lemmas.List.Elements.{All-head, All-tail}
 use Rattle.jc_base.specs.World.{Linked}
 use Rattle.vm_store.specs.State.{Frame, State, IsRunning, top, first_frame, other_frames, with_stack, without_top}
-use Rattle.vm_store.specs.declared.kind.ObjectKind.{ObjectKind}
-use Rattle.vm_store.specs.declared.kind.ObjectKind.TheVariants.{Instance, Booleans, Bytes, Shorts, Ints, References}
-use Rattle.vm_store.specs.Kind.{element_cells, element_width}
-use Rattle.vm_store.specs.Cells.{Cells, zero_cell}
-use Rattle.vm_store.specs.Objects.{repeated, array_cells}
 use Rattle.vm_turns.specs.Turn.{AreMethods}
 
 module _ {A : Type 0} where
@@ -40,20 +35,3 @@ module _ {A : Type 0} where
     go : (fs : List (Frame A)) → 0 < length fs → length (other_frames fs) < length fs
     go [] h = absurd (omega arith)
     go (f ∷ fs) h = omega arith
-
--- ---- new arrays
-
-copies-length : {A : Type 0} (n : ℕ) (xs : List A) → length (repeated n xs) ≡ length xs * n
-copies-length zero xs = omega arith
-copies-length (suc n) xs = length-append xs (repeated n xs) ∙ (ap (λ m. length xs + m) (copies-length n xs) ∙ grind arith)
-
--- an array has so many cells
-pub array_size : {A : Type 0} (k : Cells A) (kind : ObjectKind) (count : ℕ) → length (array_cells k kind count) ≡ element_width kind * count
-array_size k kind count = copies-length count (map (zero_cell k) (element_cells kind)) ∙ ap (λ n. n * count) (by-kind kind) where
-  by-kind : (kind : ObjectKind) → length (map (zero_cell k) (element_cells kind)) ≡ element_width kind
-  by-kind (Instance c) = refl
-  by-kind Booleans = refl
-  by-kind Bytes = refl
-  by-kind Shorts = refl
-  by-kind Ints = refl
-  by-kind (References c) = refl

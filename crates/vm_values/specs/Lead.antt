@@ -139,11 +139,11 @@ pub record CallStands {A : Type 0} (w : Linked) (s : State A) (method count : �
   pub cells : count ≤ length (top s).stack
 
 -- what the lead speaks of is there, and room for what comes on the stack
-abbrev pub Stands : {A : Type 0} → ℕ → Linked → State A → Lead → Type 0
-Stands room w s (leads.Puts put) = PutStands s put
-Stands room w s (leads.MakesInstance class place) = InstanceStands room w s class
-Stands room w s (leads.MakesArray kind count) = ArrayStands room w s kind
-Stands room w s (leads.Calls method count) = CallStands w s method count
-Stands room w s (leads.Gives value) = value_width value ≤ length (top s).stack
-Stands room w s (leads.Throws handle) = IsSome (object_at s handle)
-Stands room w s _ = ⊤
+abbrev pub LeadStands : {A : Type 0} → ℕ → Linked → State A → Lead → Type 0
+LeadStands room w s (leads.Puts put) = PutStands s put
+LeadStands room w s (leads.MakesInstance class place) = InstanceStands room w s class
+LeadStands room w s (leads.MakesArray kind count) = ArrayStands room w s kind
+LeadStands room w s (leads.Calls method count) = CallStands w s method count
+LeadStands room w s (leads.Gives value) = value_width value ≤ length (top s).stack
+LeadStands room w s (leads.Throws handle) = IsSome (object_at s handle)
+LeadStands room w s _ = ⊤

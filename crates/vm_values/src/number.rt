@@ -40,6 +40,7 @@ pub fn int_on<S: Store>(store: &S, n: u8) -> i32
     )
 }
 
+/// Pushes a short.
 pub fn push_short<S: Store>(store: &mut S, number: i16)
     requires well { S.well store.old }
     requires running { IsRunning (S.state store.old) }

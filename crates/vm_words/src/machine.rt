@@ -1,5 +1,5 @@
 ghost use Rattle.vm_checks.specs.Machine.{KeepsShape, KnowsTypes, TestsReach, StepsStay, StepsEnd};
-ghost use Rattle.vm_runs.specs.Verified.{HasRoom, AreVerified};
+ghost use Rattle.vm_runs.specs.Verified.{HasRoomToCatch, AreVerified};
 ghost use Rattle.vm_store.specs.Cells.{words};
 
 use crate::words::WordStore;
@@ -39,7 +39,7 @@ impl<'w, 'r, 'h, 's> Turning for WordStore<'w, 'r, 'h, 's> {
     ghost use Rattle.vm_words.specs.Typed.{AreTypedWords};
 
     fn steps_stand(world: &World<'_>)
-        ensures room { HasRoom 255 words.checks }
+        ensures room { HasRoomToCatch 255 words.checks }
         ensures verified { AreVerified 255 words (AreTypedWords world.now) world.now }
     {
         let _classes = world.classes();

@@ -17,6 +17,7 @@ const REGISTERS: usize = 3;
 /// Where the stack begins.
 const STACK: usize = 258;
 
+/// How many cells are on the operand stack.
 pub fn depth(window: &[u16], world: &World<'_>) -> usize
     requires len { length window.now ≡ 513 }
     requires fits { FitsWindow world.now.methods window.now }
@@ -35,6 +36,7 @@ pub fn cell(window: &[u16], world: &World<'_>, n: usize) -> u16
     window[STACK + window[2] as usize - 1 - n]
 }
 
+/// Puts a word on top of the stack.
 pub fn push(window: &mut [u16], world: &World<'_>, cell: u16)
     requires len { length window.old ≡ 513 }
     requires fits { FitsWindow world.now.methods window.old }
@@ -50,6 +52,7 @@ pub fn push(window: &mut [u16], world: &World<'_>, cell: u16)
     window[2] = depth + 1;
 }
 
+/// Drops so many words from the top of the stack.
 pub fn discard(window: &mut [u16], world: &World<'_>, count: usize)
     requires len { length window.old ≡ 513 }
     requires fits { FitsWindow world.now.methods window.old }
@@ -63,6 +66,7 @@ pub fn discard(window: &mut [u16], world: &World<'_>, count: usize)
     window[2] -= count as u16;
 }
 
+/// Turns the first so many words from the top: the first `by` of them go under the others.
 pub fn rotate(window: &mut [u16], world: &World<'_>, count: usize, by: usize)
     requires len { length window.old ≡ 513 }
     requires fits { FitsWindow world.now.methods window.old }
@@ -89,6 +93,7 @@ pub fn last<'w>(window: &'w [u16], world: &World<'_>, count: usize) -> &'w [u16]
     &window[end - count..end]
 }
 
+/// Goes on at another place.
 pub fn set_place(window: &mut [u16], world: &World<'_>, place: u16)
     requires len { length window.old ≡ 513 }
     requires fits { FitsWindow world.now.methods window.old }
@@ -99,6 +104,7 @@ pub fn set_place(window: &mut [u16], world: &World<'_>, place: u16)
     window[1] = place;
 }
 
+/// The word in a register.
 pub fn register(window: &[u16], world: &World<'_>, x: u16) -> u16
     requires len { length window.now ≡ 513 }
     requires fits { FitsWindow world.now.methods window.now }
@@ -108,6 +114,7 @@ pub fn register(window: &[u16], world: &World<'_>, x: u16) -> u16
     window[REGISTERS + x as usize]
 }
 
+/// Stores a word in a register.
 pub fn set_register(window: &mut [u16], world: &World<'_>, x: u16, cell: u16)
     requires len { length window.old ≡ 513 }
     requires fits { FitsWindow world.now.methods window.old }

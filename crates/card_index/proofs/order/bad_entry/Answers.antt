@@ -43,3 +43,6 @@ returns-clause-places g c =
     let code = c.args.code.bytes.now in
     ordered-places code c.args.index.now (c.instructions_are_listed.ensures code) c.entries.k c.entries.least (rest_of c.entries.left) c.entries.invariant.ordered
     (omega (arith, c.entries-test.false, c.len-k-end.ensures))
+
+pub returns-clause-read : goal.returns-clause-read
+returns-clause-read g c = omega (arith, c.entries.invariant.cost, c.entries-test.false, c.len-k-end.ensures)

@@ -4,7 +4,7 @@ use Rattle.jc_control.specs.Method.{IsMethodOf}
 use Rattle.jc_rules.specs.Apply.{frame_of}
 use Rattle.card_typing.specs.Typing.{IsLeastCardTyping}
 use Rattle.card_verify.proofs.Answering.{to-method, record-fact, is-method, own-length}
-use Rattle.card_index.specs.Bound.{AreCounted, step_bound}
+use Rattle.card_index.specs.Bound.{AreCounted, AreCountedBy, step_bound}
 use Rattle.card_index.specs.IndexTyping.{HasIndexTyping}
 use Rattle.card_index.specs.Refusal.{IsRefusedOver}
 use Rattle.card_index.proofs.verify.verify_indexed.Goals as goal
@@ -59,4 +59,9 @@ returns-clause-cost g c =
 pub returns-clause-counted : goal.returns-clause-counted
 returns-clause-counted g c =
     let bytes : option_map (code_of c.args.world.now.infos) (slice_get c.args.world.now.methods c.args.method) ≡ Some c.of-code.result.bytes.now = cc in
-    to-method c.args.world.now c.args.method c.method-rec.result.now c.of-code.result.bytes.now c.method-rec.ensures.is bytes (λ m. OnOk c.verify.result (AreCounted m c.verify.new.regs c.args.steps.now c.verify.new.steps)) c.verify.ensures.counted
+    to-method c.args.world.now c.args.method c.method-rec.result.now c.of-code.result.bytes.now c.method-rec.ensures.is bytes (λ m. OnOk c.verify.result (AreCounted m (length c.args.index.now) c.verify.new.regs c.args.steps.now c.verify.new.steps)) c.verify.ensures.counted
+
+pub returns-clause-counted_to : goal.returns-clause-counted_to
+returns-clause-counted_to g c =
+    let bytes : option_map (code_of c.args.world.now.infos) (slice_get c.args.world.now.methods c.args.method) ≡ Some c.of-code.result.bytes.now = cc in
+    to-method c.args.world.now c.args.method c.method-rec.result.now c.of-code.result.bytes.now c.method-rec.ensures.is bytes (λ m. IfErr c.verify.result (AreCountedBy m (length c.args.index.now) c.args.steps.now c.verify.new.steps)) c.verify.ensures.counted_to

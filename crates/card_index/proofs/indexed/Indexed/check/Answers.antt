@@ -1,8 +1,8 @@
-use Rattle.std.proofs.Common.{arith}
+use Rattle.std.proofs.Common.{◌+◌, ◌≤◌, length, arith}
 use Rattle.jc_control.specs.WellFormed.{IsWellFormed}
 use Rattle.card_index.specs.Indexed.{subject, listed}
 use Rattle.card_index.specs.IndexTyping.{IsIndex}
-use Rattle.card_index.proofs.Verified.{not-ok}
+use Rattle.card_index.proofs.Verified.{not-ok, ok-always}
 use Rattle.card_index.proofs.indexed.Indexed.check.Goals as goal
 
 pub returns-in-Some-clause-formed : goal.returns-in-Some-clause-formed
@@ -19,3 +19,11 @@ returns-in-None-clause-cost g c = λ b lt. omega (arith, c.bad_entry.ensures.cos
 
 pub returns-in-None-clause-forward : goal.returns-in-None-clause-forward
 returns-in-None-clause-forward g c = omega (arith, c.bad_entry.ensures.forward, c.check_targets.ensures.forward)
+
+pub returns-in-Some-clause-read : goal.returns-in-Some-clause-read
+returns-in-Some-clause-read g c = not-ok (c.args.steps.now + length (listed c.args.self.now) ≤ c.bad_entry.new.steps) c.refuse_entry.result c.refuse_entry.ensures.err
+
+pub returns-in-None-clause-read : goal.returns-in-None-clause-read
+returns-in-None-clause-read g c =
+    ok-always (c.args.steps.now + length (listed c.args.self.now) ≤ c.check_targets.new.steps) c.check_targets.result
+    (omega (arith, c.in-None.ensures.read, c.check_targets.ensures.forward))

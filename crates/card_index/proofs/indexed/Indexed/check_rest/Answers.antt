@@ -1,6 +1,6 @@
 use Rattle.std.proofs.Common.{Result, Ok, Err, IfErr}
 use Rattle.card_index.specs.Indexed.{subject, world_in, listed}
-use Rattle.card_index.proofs.Verified.{formed-by, over-flawed}
+use Rattle.card_index.proofs.Verified.{formed-by, over-flawed, form-flawed}
 use Rattle.card_index.proofs.indexed.Indexed.check_rest.Goals as goal
 
 pub returns-then-is_rest_formed-clause-formed : goal.returns-then-is_rest_formed-clause-formed
@@ -12,3 +12,6 @@ pub returns-clause-refused : goal.returns-clause-refused
 returns-clause-refused c =
     let x = c.args.self.now in
     over-flawed (world_in x) (subject x) (listed x) c.check_form.result c.check_form.ensures.flawed
+
+pub returns-clause-form : goal.returns-clause-form
+returns-clause-form c = form-flawed (subject c.args.self.now) c.check_form.result c.check_form.ensures.flawed

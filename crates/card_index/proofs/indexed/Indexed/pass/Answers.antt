@@ -1,13 +1,14 @@
 use Rattle.std.proofs.Common.{rules, ◌≡◌, ◌≤◌, ◌+◌, ◌*◌, ◌++◌, ◌||◌, ◌∷◌, [], length, Bool, refl, sym, ◌∙◌, ap, subst, arith}
 use Rattle.jc_decode.specs.Instructions.{rest_of}
 use Rattle.jc_decode.specs.Listing.{listing, end_from}
+use Rattle.jc_decode.proofs.Listed.{end-after}
 use Rattle.jc_rules.specs.Stack.{cells}
-use Rattle.jc_control.proofs.Elements.{at-next}
+use Rattle.jc_control.proofs.Elements.{at-next, at-last, here-in}
 use Rattle.card_verify.specs.declared.pass.Arrival.{Arrival}
 use Rattle.card_verify.specs.Walk.{IsComing}
 use Rattle.card_verify.proofs.Landing.{no-cells}
-use Rattle.card_verify.proofs.Nearest.{next-whole, last-whole}
-use Rattle.card_verify.proofs.Walking.{end-after, coming-first, coming-next, next-place, next-stands}
+use Rattle.card_verify.proofs.Nearest.{next-whole}
+use Rattle.card_verify.proofs.Walking.{coming-first, coming-next, next-place, next-stands}
 use Rattle.card_index.specs.Walk.{IsProgressOver}
 use Rattle.card_index.proofs.Costs.{one-more, one-more-cost, cost-within}
 use Rattle.card_index.proofs.Walked.{refused-over-at, progress-over-first, progress-over-next, pass-over-done}
@@ -52,6 +53,17 @@ returns-in-Err-clause-cost g c = λ b lt.
     let whole = at-next c.walk.yielded (rest_of c.walk.placed-iterator) c.in-Some.placed (rest_of c.next.new.self) (listing c.args.self.now.verifier.code.bytes.now) c.walk.invariant.whole c.in-Some.ensures.steps in
     omega (arith, c.walk.invariant.cost b lt, c.visit.ensures.cost b lt, cost-within c.walk.yielded c.in-Some.placed (rest_of c.next.new.self) (listing c.args.self.now.verifier.code.bytes.now) (b + 1) whole)
 
+pub returns-in-Err-clause-counted_to : goal.returns-in-Err-clause-counted_to
+returns-in-Err-clause-counted_to g c =
+    let whole = at-next c.walk.yielded (rest_of c.walk.placed-iterator) c.in-Some.placed (rest_of c.next.new.self) (listing c.args.self.now.verifier.code.bytes.now) c.walk.invariant.whole c.in-Some.ensures.steps in
+    record {
+      here = c.in-Some.placed;
+      at = sym c.in-Err.ensures.stopped.place;
+      number = length c.walk.yielded;
+      stands = here-in c.walk.yielded c.in-Some.placed (rest_of c.next.new.self) (listing c.args.self.now.verifier.code.bytes.now) whole;
+      counted = omega (arith, c.walk.invariant.counted, c.visit.ensures.forward);
+    }
+
 pub walk-preserved : goal.walk-preserved
 walk-preserved g c =
     let x = c.args.self.now in
@@ -79,15 +91,15 @@ walk-preserved g c =
 pub returns-clause-done : goal.returns-clause-done
 returns-clause-done g c =
     pass-over-done c.args.self.now c.requires.indexed c.args.regs.now c.walk.rose c.walk.yielded c.walk.arrival c.walk.regs c.walk.stack
-    (last-whole c.walk.yielded (rest_of c.walk.placed-iterator) (listing c.args.self.now.verifier.code.bytes.now) c.walk.invariant.whole c.in-None.ensures.steps.0)
+    (at-last c.walk.yielded (rest_of c.walk.placed-iterator) (listing c.args.self.now.verifier.code.bytes.now) c.walk.invariant.whole c.in-None.ensures.steps.0)
     c.walk.invariant.coming c.walk.invariant.progress
 
 pub returns-clause-cost : goal.returns-clause-cost
 returns-clause-cost g c = λ b lt.
-    let whole = last-whole c.walk.yielded (rest_of c.walk.placed-iterator) (listing c.args.self.now.verifier.code.bytes.now) c.walk.invariant.whole c.in-None.ensures.steps.0 in
+    let whole = at-last c.walk.yielded (rest_of c.walk.placed-iterator) (listing c.args.self.now.verifier.code.bytes.now) c.walk.invariant.whole c.in-None.ensures.steps.0 in
     subst (λ xs. c.walk.steps ≤ c.args.steps.now + length xs * (b + 1)) whole (c.walk.invariant.cost b lt)
 
 pub returns-clause-counted : goal.returns-clause-counted
 returns-clause-counted g c =
-    let whole = last-whole c.walk.yielded (rest_of c.walk.placed-iterator) (listing c.args.self.now.verifier.code.bytes.now) c.walk.invariant.whole c.in-None.ensures.steps.0 in
+    let whole = at-last c.walk.yielded (rest_of c.walk.placed-iterator) (listing c.args.self.now.verifier.code.bytes.now) c.walk.invariant.whole c.in-None.ensures.steps.0 in
     subst (λ xs. c.args.steps.now + length xs ≤ c.walk.steps) whole c.walk.invariant.counted

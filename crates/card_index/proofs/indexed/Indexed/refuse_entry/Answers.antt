@@ -1,6 +1,6 @@
 use Rattle.card_index.specs.Refusal.{over_entry}
 use Rattle.card_index.specs.Indexed.{subject, world_in, listed}
-use Rattle.card_index.proofs.Verified.{over-of-flaw}
+use Rattle.card_index.proofs.Verified.{over-of-flaw, form-of-flaw}
 use Rattle.card_index.proofs.indexed.Indexed.refuse_entry.Goals as goal
 
 pub returns-in-Ok-clause-refused : goal.returns-in-Ok-clause-refused
@@ -10,3 +10,6 @@ pub returns-in-Err-clause-refused : goal.returns-in-Err-clause-refused
 returns-in-Err-clause-refused c =
     let x = c.args.self.now in
     over-of-flaw (world_in x) (subject x) (listed x) c.in-Err.fault c.in-Err.ensures.flawed
+
+pub returns-in-Err-clause-form : goal.returns-in-Err-clause-form
+returns-in-Err-clause-form c = form-of-flaw (subject c.args.self.now) c.in-Err.fault c.in-Err.ensures.flawed

@@ -1,5 +1,5 @@
 use Rattle.card_index.specs.Indexed.{subject, world_in, listed}
-use Rattle.card_index.proofs.Verified.{over-of-flaw, over-of-lacking, lacking-number}
+use Rattle.card_index.proofs.Verified.{over-of-flaw, over-of-lacking, lacking-number, form-of-flaw, form-of-lacking}
 use Rattle.card_index.proofs.indexed.Indexed.refuse_target.Goals as goal
 
 pub not_indexed-requires : goal.not_indexed-requires
@@ -16,3 +16,11 @@ pub returns-in-Err-clause-refused : goal.returns-in-Err-clause-refused
 returns-in-Err-clause-refused c =
     let x = c.args.self.now in
     over-of-flaw (world_in x) (subject x) (listed x) c.in-Err.fault c.in-Err.ensures.flawed
+
+pub returns-in-Ok-clause-form : goal.returns-in-Ok-clause-form
+returns-in-Ok-clause-form c =
+    let x = c.args.self.now in
+    form-of-lacking (world_in x) (subject x) (listed x) c.args.lacks c.not_indexed.result c.in-Ok.ensures.formed c.requires.lacks c.not_indexed.ensures
+
+pub returns-in-Err-clause-form : goal.returns-in-Err-clause-form
+returns-in-Err-clause-form c = form-of-flaw (subject c.args.self.now) c.in-Err.fault c.in-Err.ensures.flawed

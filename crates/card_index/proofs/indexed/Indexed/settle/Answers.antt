@@ -27,6 +27,11 @@ returns-in-Err-clause-cost g c = λ b lt.
     let x = c.args.self.now in
     omega (arith, c.passes.invariant.cost b lt, c.pass.ensures.cost b lt, last-pass (sum_by (rises_left (world_in x).classes) c.passes.regs) (instruction_count (subject x) * (b + 1)))
 
+pub returns-in-Err-clause-counted_to : goal.returns-in-Err-clause-counted_to
+returns-in-Err-clause-counted_to g c =
+    let to = c.in-Err.ensures.counted_to in
+    record { here = to.here; at = to.at; number = to.number; stands = to.stands; counted = let old = to.counted in omega (arith, c.passes.invariant.forward, old) }
+
 pub returns-then-not-rose-clause-finished : goal.returns-then-not-rose-clause-finished
 returns-then-not-rose-clause-finished g c =
     finished-over c.args.self.now c.passes.regs c.pass.new.regs c.passes.stack c.passes.invariant.begun

@@ -1,7 +1,7 @@
-use Rattle.std.proofs.Common.{refl, arith}
+use Rattle.std.proofs.Common.{inl, length, refl, arith}
 use Rattle.jc_rules.specs.Apply.{frame_of}
 use Rattle.card_index.specs.Indexed.{subject, world_in, listed}
-use Rattle.card_index.proofs.Verified.{none-over, kept-over, bound-whole, counted-sooner}
+use Rattle.card_index.proofs.Verified.{none-over, kept-over, bound-whole, counted-sooner, counted-by-state}
 use Rattle.card_index.proofs.indexed.Indexed.verify.Goals as goal
 
 pub returns-in-Ok-clause-none : goal.returns-in-Ok-clause-none
@@ -30,7 +30,16 @@ returns-in-Err-clause-cost g c = λ b lt.
 
 pub returns-in-Ok-clause-counted : goal.returns-in-Ok-clause-counted
 returns-in-Ok-clause-counted g c =
-    counted-sooner (subject c.args.self.now) c.verify_types.new.regs c.args.steps.now c.check.new.steps c.verify_types.new.steps c.verify_types.result c.check.ensures.forward c.verify_types.ensures.counted
+    let x = c.args.self.now in
+    counted-sooner (subject x) (length (listed x)) c.args.steps.now c.check.new.steps c.verify_types.new.steps c.in-Ok.ensures.read c.verify_types.new.regs c.verify_types.result c.verify_types.ensures.counted
+
+pub returns-in-Ok-clause-counted_to : goal.returns-in-Ok-clause-counted_to
+returns-in-Ok-clause-counted_to g c =
+    let x = c.args.self.now in
+    counted-by-state (subject x) (length (listed x)) c.args.steps.now c.check.new.steps c.verify_types.new.steps c.in-Ok.ensures.read c.verify_types.result c.verify_types.ensures.counted_to
+
+pub returns-in-Err-clause-counted_to : goal.returns-in-Err-clause-counted_to
+returns-in-Err-clause-counted_to g c = inl (c.in-Err.ensures.form, c.check.ensures.forward)
 
 pub returns-in-Ok-clause-as_before : goal.returns-in-Ok-clause-as_before
 returns-in-Ok-clause-as_before g c =

@@ -42,3 +42,6 @@ returns-clause-cost g c = λ b lt. omega (arith, c.land.ensures.cost b lt, c.ste
 
 pub returns-clause-counted : goal.returns-clause-counted
 returns-clause-counted g c = answered-ok c.step.result (omega (arith, c.land.ensures.forward, c.step.ensures.one))
+
+pub returns-clause-forward : goal.returns-clause-forward
+returns-clause-forward g c = omega (arith, c.land.ensures.forward, c.step.ensures.one)

@@ -13,7 +13,7 @@ use Rattle.vm_words.specs.WordStore.{state_of}
 use Rattle.vm_words.specs.Words.{AreLaid, words_state}
 use Rattle.vm_offend.specs.declared.machine.Machine.{Machine}
 use Rattle.vm_offend.proofs.Accepting.{accepted-has}
-use Rattle.vm_offend.specs.Held.{IsReached, AreWordsOf, IsRunOf, Follows}
+use Rattle.vm_offend.specs.Held.{IsOutcomeOfRun, AreWordsOf, IsRunOf, Follows}
 use Rattle.vm_offend.proofs.Moved.{moved}
 use Rattle.vm_offend.proofs.Ran.{Ran, can-run, run-keeps, run-plain, follows-each, run-after}
 use Rattle.vm_offend.proofs.machine.Machine.go_on.Goals as goal
@@ -57,7 +57,7 @@ returns-clause-follows c =
       kept = c.plain-self.ensures;
       answer_is = c.spent_or.ensures;
     } in
-    moved (λ (x y u : List ℕ). (o : Outcome Cell) → IsReached w o → AreWordsOf w c.args.self.now c.args.ram.now c.args.heap.now c.args.statics.now o
+    moved (λ (x y u : List ℕ). (o : Outcome Cell) → IsOutcomeOfRun w o → AreWordsOf w c.args.self.now c.args.ram.now c.args.heap.now c.args.statics.now o
     → Follows w c.args.budget o m x y u c.spent_or.result) _ _ _ z.ram.now z.heap.now z.statics.now (search rules) (search rules) (search rules)
     (follows-each w (accepted-has w c.typed_code_never_fails.ensures.typings c.requires.accepted) c.typed_code_never_fails.ensures.starts c.typed_code_never_fails.ensures.runs c.words_run_alike.ensures.runs_follow
     c.args.self.now c.args.ram.now c.args.heap.now c.args.statics.now c.args.budget m z.ram.now z.heap.now z.statics.now c.spent_or.result ran)
