@@ -7,6 +7,7 @@ use Rattle.std.proofs.lemmas.List.{length-set, length-replicate}
 use Rattle.jc_decode.specs.declared.insn.Placed.{Placed}
 use Rattle.jc_decode.specs.Laws.{AreListed}
 use Rattle.jc_decode.specs.Listing.{listing, targets}
+use Rattle.jc_decode.specs.Places.{IsTargetIn}
 use Rattle.jc_decode.proofs.Elements.{nothing-in, Contains-first, Contains-later, Contains-either}
 use Rattle.jc_decode.proofs.Passed.{and-parts}
 use Rattle.jc_control.specs.Flags.{flag, IsFlagged, Marks}
@@ -111,17 +112,15 @@ all_one code place fs (j ∷ is) i q c t e lt =
     (Contains-either j is i c)
 
 record IsMarkedIn (code : List ℕ) (place : ℕ → Bool) (is : List Placed) (q : ℕ) : Type 0 where
-  from : Placed
-  stands : Contains is from
-  leads : Contains (targets code from) (pos q)
+  target : IsTargetIn code is q
   known : place q ≡ true
 
 all_only : (code : List ℕ) (place : ℕ → Bool) (fs : List Bool) (is : List Placed) (q : ℕ) → IsFlagged (all_marked code place fs is) q → IsFlagged fs q ⊎ IsMarkedIn code place is q
 all_only code place fs [] q h = inl h
 all_only code place fs (i ∷ is) q h =
     ⊎_elim
-    (λ before. ⊎_elim inl (λ m. inr (record { from = i; stands = Contains-first i is; leads = m.among; known = m.known })) (marked_only place fs (targets code i) q before))
-    (λ m. inr (record { from = m.from; stands = Contains-later i is m.from m.stands; leads = m.leads; known = m.known }))
+    (λ before. ⊎_elim inl (λ m. inr (record { target = record { from = i; stands = Contains-first i is; leads = m.among }; known = m.known })) (marked_only place fs (targets code i) q before))
+    (λ m. let t = m.target in inr (record { target = record { from = t.from; stands = Contains-later i is t.from t.stands; leads = t.leads }; known = m.known }))
     (all_only code place (marked place fs (targets code i)) is q h)
 
 -- ---- the places that are flagged
@@ -175,7 +174,7 @@ exact_of_flags code places fs index marks listed e f = subst (IsExactIndexOf cod
   ascending = λ k p q h g. rising 0 all k (k + 1) p q h g (omega arith);
   targets = λ q. (
     λ c. let r = has_flag 0 all q c in target q (subst (IsFlagged all) (omega (arith, r.place)) r.flagged),
-    λ t. subst (Contains (flagged_from 0 all)) (zero_and q) (flag_has 0 all q (all_one code (flag places) none (listing code) t.from q t.stands t.leads ((marks q).1 t.place) (inside q t.place))),
+    λ t. subst (Contains (flagged_from 0 all)) (zero_and q) (flag_has 0 all q (all_one code (flag places) none (listing code) t.target.from q t.target.stands t.target.leads ((marks q).1 t.place) (inside q t.place))),
   );
 })
   where
@@ -195,7 +194,7 @@ exact_of_flags code places fs index marks listed e f = subst (IsExactIndexOf cod
     target q h =
         ⊎_elim
         (λ before. absurd (false≢true (sym (flag-none (length code) q) ∙ before)))
-        (λ m. record { from = m.from; stands = m.stands; leads = m.leads; place = (marks q).0 m.known })
+        (λ m. record { target = m.target; place = (marks q).0 m.known })
         (all_only code (flag places) none (listing code) q h)
 
 -- there are as many flags as the code has bytes

@@ -186,7 +186,7 @@ entry_small (Written size) = omega arith
 
 -- ---- the sizes
 
-sizes_counted : (own : ℕ) (new : Sizes) (tag : ℕ) (ss : List ℕ) → length (sizes_from own new tag ss) ≡ length ss
+pub sizes_counted : (own : ℕ) (new : Sizes) (tag : ℕ) (ss : List ℕ) → length (sizes_from own new tag ss) ≡ length ss
 sizes_counted own new tag [] = refl
 sizes_counted own new tag (s ∷ ss) = ap suc (sizes_counted own new (tag + 1) ss)
 

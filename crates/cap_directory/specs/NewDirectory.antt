@@ -4,6 +4,7 @@
 use Rattle.std.specs.Prelude.{◌+◌, ◌*◌, ℕ, Bool, true, false, List, [], ◌∷◌, ◌++◌, length, filter, not, ◌==◌, ◌&&◌, if◌then◌else◌}
 use Rattle.std.specs.List.{flat_map}
 use Rattle.byteorder.specs.Endian.{big_bytes}
+use Rattle.cap_frame.specs.Tags.{index_aid}
 use Rattle.cap_frame.specs.DirectoryFormat.{Custom, DirectoryItems}
 use Rattle.cap_directory.specs.declared.sizes.IndexChange.{IndexChange}
 use Rattle.cap_directory.specs.declared.sizes.IndexChange.TheVariants.{Kept, Dropped, Written}
@@ -23,10 +24,6 @@ new_size own new tag old =
 abbrev pub sizes_from : ℕ → Sizes → ℕ → List ℕ → List ℕ
 sizes_from own new tag [] = []
 sizes_from own new tag (s ∷ ss) = new_size own new tag s ∷ sizes_from own new (tag + 1) ss
-
--- the application identifier of a target index
-abbrev pub index_aid : List ℕ
-index_aid = 0xF0 ∷ 0x6C ∷ 0x65 ∷ 0x72 ∷ 0x6F ∷ 0x79 ∷ []
 
 -- whether the entry with the tag 128 is left out
 abbrev pub drops : IndexChange → Bool

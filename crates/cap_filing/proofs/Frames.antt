@@ -1,12 +1,12 @@
 -- The frame of a component.
-use Rattle.std.proofs.Common.{◌≡◌, ◌≤◌, ◌<◌, ◌+◌, ◌*◌, ◌/◌, ◌%◌, ◌^◌, ℕ, Bool, true, false, cond, List, [], ◌∷◌, ◌++◌, length, take, drop, Some, None, refl, ap, subst, ◌∙◌, arith}
+use Rattle.std.proofs.Common.{◌≡◌, ◌≤◌, ◌<◌, ◌+◌, ◌*◌, ◌/◌, ◌%◌, ◌^◌, ℕ, Bool, true, false, cond, List, [], ◌∷◌, ◌++◌, length, Some, None, refl, ap, subst, ◌∙◌, arith}
 use Rattle.std.specs.Prelude.{◌==◌}
 use Rattle.std.proofs.lemmas.Bool.Decides.{nat_tests}
-use Rattle.std.proofs.lemmas.List.{append-nil, length-take}
+use Rattle.std.proofs.lemmas.List.{append-nil}
 use Rattle.byteorder.specs.Endian.{big_bytes}
 use Rattle.cap_bytes.specs.declared.fault.FormKind.{FormKind}
 use Rattle.cap_bytes.specs.Grammar.{give, number, piece, finish, only, ◌>>=◌}
-use Rattle.cap_bytes.specs.Spelling.{Spells, Stands}
+use Rattle.cap_bytes.specs.Spelling.{Stands}
 use Rattle.cap_frame.specs.Frame.{other_tag, component}
 use Rattle.cap_writing.specs.Writing.{Writes}
 use Rattle.cap_writing.proofs.Written.{writes_give, writes_number, writes_piece, writes_finish, writes_then, writes_stands}
@@ -51,15 +51,3 @@ file_stands tag info t s =
     let bytes : big_bytes 3 head ++ (info ++ ([] ++ [])) ≡ file_bytes tag info =
     ap (λ xs. big_bytes 3 head ++ xs) (append-nil info) ∙ ap (λ xs. xs ++ info) (three_bytes tag n t (omega arith)) in
     writes_stands (component tag) (file_bytes tag info) info (subst (λ xs. Writes total (component tag) 0 xs info) bytes all)
-
--- an info in its frame has a size of two bytes
-pub framed_short : (tag : ℕ) (file info : List ℕ) → Stands (component tag) file info → length info ≤ 65535
-unfolding Stands Spells
-framed_short tag file info s =
-    let h = s.1 in
-    let n = h.0 % 65536 in
-    let r = h.3 in
-    let part : r.0 ≡ take n (drop h.1 file) = r.2.1 in
-    let same : info ≡ r.0 = r.3.3.0 in
-    let long : length info ≡ length (take n (drop h.1 file)) = ap length (same ∙ part) in
-    omega (arith, long, length-take n (drop h.1 file))

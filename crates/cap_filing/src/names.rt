@@ -2,7 +2,7 @@ ghost use Rattle.std.specs.Prelude.{List, map, IfOk};
 ghost use Rattle.cap_filing.specs.Files.{IsRenewed, IsRenewedIf, file_seen};
 ghost use Rattle.cap_frame.specs.AppletFormat.{applets_info};
 ghost use Rattle.cap_frame.specs.Applets.{applets_of};
-ghost use Rattle.cap_pool.specs.Export.{classes as exported};
+ghost use Rattle.cap_pool.specs.Export.{export_seen as exported};
 ghost use Rattle.cap_pool.specs.ExportFormat.{export_info};
 ghost use Rattle.cap_pool.specs.PoolFormat.{pool_info};
 ghost use Rattle.cap_components.specs.Saying.{Holds};

@@ -7,7 +7,7 @@ use Rattle.first_fault.specs.First.{at_fault}
 use Rattle.cap_desc.specs.TypeFormat.{types_in}
 use Rattle.cap_components.specs.Descriptions.{argument_words}
 use Rattle.cap_components.specs.MethodPlaces.{code_start, code_end}
-use Rattle.cap_components.specs.PackageRecord.{described, names_interface}
+use Rattle.cap_components.specs.PackageRecord.{described_methods, names_interface}
 use Rattle.cap_components.specs.Components.{info_in}
 use Rattle.cap_components.specs.PartChecks.{size_fault, components, custom_tags}
 use Rattle.cap_package.specs.MethodChecks.{overlap_pair, outside_fault}
@@ -25,34 +25,34 @@ pub sizes_agree : (seed : ℕ) → at_fault (size_fault (generated seed) (packag
 unfolding entry_bytes component_bytes each_from method_bytes entry_table entries method_info methods described_bytes descriptor_bytes location_bytes info_in reading size_fault
 sizes_agree seed = refl
 
-pub inside : (seed : ℕ) → at_fault (outside_fault (method_info seed) (length entries)) (described (package_record seed)) ≡ []
+pub inside : (seed : ℕ) → at_fault (outside_fault (method_info seed) (length entries)) (described_methods (package_record seed)) ≡ []
 unfolding entry_bytes each_from method_bytes entry_table entries method_info methods names_interface outside_fault code_start code_end
 inside seed = refl
 
-pub arguments_agree : (seed : ℕ) → at_fault (arguments_fault (method_info seed) (package_record seed).description) (described (package_record seed)) ≡ []
+pub arguments_agree : (seed : ℕ) → at_fault (arguments_fault (method_info seed) (package_record seed).description) (described_methods (package_record seed)) ≡ []
 unfolding entry_bytes each_from method_bytes entry_table entries method_info methods names_interface arguments_fault described_bytes descriptor_bytes header_in argument_words types_in
 arguments_agree seed = refl
 
-pub registers_few : (seed : ℕ) → at_fault (registers_fault (method_info seed)) (described (package_record seed)) ≡ []
+pub registers_few : (seed : ℕ) → at_fault (registers_fault (method_info seed)) (described_methods (package_record seed)) ≡ []
 unfolding entry_bytes each_from method_bytes entry_table entries method_info methods names_interface registers_fault header_in
 registers_few seed = refl
 
-pub lengths_fit : (seed : ℕ) → at_fault (length_fault (method_info seed)) (described (package_record seed)) ≡ []
+pub lengths_fit : (seed : ℕ) → at_fault (length_fault (method_info seed)) (described_methods (package_record seed)) ≡ []
 unfolding entry_bytes each_from method_bytes entry_table entries method_info methods names_interface length_fault header_in
 lengths_fit seed = refl
 
-pub none_abstract : (seed : ℕ) → at_fault (abstract_fault (method_info seed)) (described (package_record seed)) ≡ []
+pub none_abstract : (seed : ℕ) → at_fault (abstract_fault (method_info seed)) (described_methods (package_record seed)) ≡ []
 unfolding entry_bytes each_from method_bytes entry_table entries method_info methods names_interface abstract_fault header_in
 none_abstract seed = refl
 
-pub handlers_home : (seed : ℕ) → at_fault (numbered_fault (method_info seed) (described (package_record seed))) (numbered 0 entries)
-    ++ at_fault (claim_fault (length entries)) (described (package_record seed)) ≡ []
+pub handlers_home : (seed : ℕ) → at_fault (numbered_fault (method_info seed) (described_methods (package_record seed))) (numbered 0 entries)
+    ++ at_fault (claim_fault (length entries)) (described_methods (package_record seed)) ≡ []
 unfolding entry_bytes each_from method_bytes entry_table entries method_info methods names_interface owners entry_fault claim_fault code_start code_end
 handlers_home seed = refl
 
-in_order : (seed : ℕ) → follow (method_info seed) 801 (described (package_record seed)) ≡ true
+in_order : (seed : ℕ) → follow (method_info seed) 801 (described_methods (package_record seed)) ≡ true
 unfolding entry_bytes each_from method_bytes entry_table entries method_info methods names_interface code_start code_end
 in_order seed = refl
 
-pub apart : (seed : ℕ) → at_fault (overlap_pair (method_info seed)) (pairs (described (package_record seed))) ≡ []
-apart seed = none_overlap (method_info seed) 801 (described (package_record seed)) (in_order seed)
+pub apart : (seed : ℕ) → at_fault (overlap_pair (method_info seed)) (pairs (described_methods (package_record seed))) ≡ []
+apart seed = none_overlap (method_info seed) 801 (described_methods (package_record seed)) (in_order seed)

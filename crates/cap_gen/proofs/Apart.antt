@@ -3,6 +3,7 @@ use Rattle.std.proofs.Common.{◌≡◌, ◌≤◌, ℕ, Bool, true, false, List
 use Rattle.std.specs.Prelude.{◌&&◌, nat_le, nat_lt}
 use Rattle.std.specs.List.{filter_map, cons_option}
 use Rattle.std.proofs.lemmas.List.Elements.{filter_map-append}
+use Rattle.std.proofs.lemmas.Bool.{and_parts}
 use Rattle.cap_desc.specs.DescriptorFormat.{Method}
 use Rattle.cap_package.specs.MethodChecks.{code_start, code_end, overlap_fault, overlap_pair}
 use Rattle.cap_package.specs.Pairs.{pairs}
@@ -16,10 +17,6 @@ abbrev BeginFrom : ℕ → List Method → Type 0
 BeginFrom at [] = Unit {0}
 BeginFrom at (m ∷ ms) = (at ≤ m.method_offset) × BeginFrom at ms
 
-both_true : (a b : Bool) → (a && b) ≡ true → (a ≡ true) × (b ≡ true)
-both_true true b e = (refl, e)
-both_true false b e = absurd (cc)
-
 later : (at from : ℕ) (ms : List Method) → at ≤ from → BeginFrom from ms → BeginFrom at ms
 later at from [] h b = tt
 later at from (m ∷ ms) h b = let first = b.0 in (omega arith, later at from ms h b.1)
@@ -31,7 +28,7 @@ ends_after info m = omega arith
 all_begin : (info : List ℕ) (at : ℕ) (ms : List Method) → follow info at ms ≡ true → BeginFrom at ms
 all_begin info at [] e = tt
 all_begin info at (m ∷ ms) e =
-    let both = both_true (nat_le at m.method_offset) (follow info (code_end info m) ms) e in
+    let both = and_parts (nat_le at m.method_offset) (follow info (code_end info m) ms) e in
     let first = leb-true at m.method_offset both.0 in
     let after = ends_after info m in
     (first, later at (code_end info m) ms (omega arith) (all_begin info (code_end info m) ms both.1))
@@ -50,7 +47,7 @@ none_after info m (y ∷ ys) b =
 pub none_overlap : (info : List ℕ) (at : ℕ) (ms : List Method) → follow info at ms ≡ true → filter_map (overlap_pair info) (pairs ms) ≡ []
 none_overlap info at [] e = refl
 none_overlap info at (m ∷ ms) e =
-    let rest = (both_true (nat_le at m.method_offset) (follow info (code_end info m) ms) e).1 in
+    let rest = (and_parts (nat_le at m.method_offset) (follow info (code_end info m) ms) e).1 in
     filter_map-append (overlap_pair info) (map (λ y. (m, y)) ms) (pairs ms)
     ∙ (ap (λ fs. fs ++ filter_map (overlap_pair info) (pairs ms)) (none_after info m ms (all_begin info (code_end info m) ms rest))
     ∙ none_overlap info (code_end info m) ms rest)

@@ -6,8 +6,9 @@ use Rattle.cap_pool.specs.ExportFormat.{Exported}
 use Rattle.cap_desc.specs.DescriptorFormat as described
 use Rattle.cap_desc.specs.Members.{methods_of}
 use Rattle.cap_desc.specs.TypeFormat.{types_in}
+use Rattle.cap_components.specs.declared.count_kind.CountKind.TheVariants.{Imports, Applets, ImageSize, InitialArrays, ArrayBytes, PoolTypes, ImageSegments}
 use Rattle.cap_components.specs.Descriptions.{argument_words, field_type}
-use Rattle.cap_components.specs.PackageRecord.{described as described_methods, interface_methods, fields, names_interface}
+use Rattle.cap_components.specs.PackageRecord.{described_methods, interface_methods, fields, names_interface}
 use Rattle.cap_components.specs.PartChecks.{form_fault, custom_tags}
 use Rattle.cap_package.specs.Pairs.{pairs}
 use Rattle.cap_package.specs.Agreement.{or_none}
@@ -25,27 +26,27 @@ module _ (seed : ℕ) where
   pub no_customs : at_fault (form_fault (generated seed)) (custom_tags (package_record seed).directory) ≡ []
   no_customs = refl
 
-  pub imports_agree : disagreements 1 (package_record seed).directory.import_count (length (package_record seed).imports) ≡ []
+  pub imports_agree : disagreements Imports (package_record seed).directory.import_count (length (package_record seed).imports) ≡ []
   unfolding differ
   imports_agree = refl
 
-  pub applets_agree : disagreements 2 (package_record seed).directory.applet_count (count_if (package_record seed).applets) ≡ []
+  pub applets_agree : disagreements Applets (package_record seed).directory.applet_count (count_if (package_record seed).applets) ≡ []
   unfolding differ
   applets_agree = refl
 
-  pub images_agree : disagreements 3 (package_record seed).directory.image_size (package_record seed).statics.image_size ≡ []
+  pub images_agree : disagreements ImageSize (package_record seed).directory.image_size (package_record seed).statics.image_size ≡ []
   unfolding differ
   images_agree = refl
 
-  pub arrays_agree : disagreements 4 (package_record seed).directory.array_init_count (length (package_record seed).statics.arrays) ≡ []
+  pub arrays_agree : disagreements InitialArrays (package_record seed).directory.array_init_count (length (package_record seed).statics.arrays) ≡ []
   unfolding differ
   arrays_agree = refl
 
-  pub array_sizes_agree : disagreements 5 (package_record seed).directory.array_init_size (array_bytes (package_record seed).statics.arrays) ≡ []
+  pub array_sizes_agree : disagreements ArrayBytes (package_record seed).directory.array_init_size (array_bytes (package_record seed).statics.arrays) ≡ []
   unfolding differ
   array_sizes_agree = refl
 
-  pub pools_agree : disagreements 6 (length (package_record seed).description.items.pool_types) (length (package_record seed).pool) ≡ []
+  pub pools_agree : disagreements PoolTypes (length (package_record seed).description.items.pool_types) (length (package_record seed).pool) ≡ []
   unfolding differ
   pools_agree = refl
 
@@ -53,7 +54,7 @@ module _ (seed : ℕ) where
   unfolding differ instance_fault cells_of field_type
   instances_agree = refl
 
-  pub sums_agree : disagreements 9 (package_record seed).statics.image_size (image_bytes (package_record seed).statics) ≡ []
+  pub sums_agree : disagreements ImageSegments (package_record seed).statics.image_size (image_bytes (package_record seed).statics) ≡ []
   unfolding differ
   sums_agree = refl
 

@@ -4,6 +4,7 @@ use Rattle.std.specs.List.{range_with_len}
 use Rattle.std.specs.Option.{option_to_list}
 use Rattle.std.proofs.Common.{sym, subst}
 use Rattle.first_fault.specs.First.{AllEmpty, at_fault}
+use Rattle.cap_pool.specs.PoolReference.{referred}
 use Rattle.cap_laying.specs.HandlerTable.{entry_bytes}
 use Rattle.cap_desc.specs.TypeFormat.{types_in}
 use Rattle.cap_components.specs.Descriptions.{field_type}
@@ -19,7 +20,7 @@ use Rattle.jc_resolve.specs.Named.{infos_of, is_interface as named_interface, pa
 use Rattle.jc_resolve.specs.NamedClasses.{fields_described, instance_fields, with_token, cells_of_field, cells_of_fields, entry_of, interface_named, named_class, named_classes}
 use Rattle.jc_resolve.specs.NamedMethods.{handler_named, body_of, class_described, have_headers, named_method, named_methods}
 use Rattle.jc_resolve.specs.Numbering.{class_at, is_interface_number, method_at}
-use Rattle.jc_resolve.specs.References.{met_by, class_named}
+use Rattle.jc_resolve.specs.References.{met_by, class_referred, class_named}
 use Rattle.jc_resolve.specs.WorldTypes.{type_of, kind_of, signature_of}
 use Rattle.jc_hierarchy.specs.Ancestor.{superclass, extended, is_above}
 use Rattle.jc_resolve.specs.declared.named.NamedClass.{NamedClass}
@@ -29,7 +30,7 @@ use Rattle.jc_classes.specs.Entries.{reach, named_by, entries_of, overlaid_at}
 use Rattle.jc_classes.specs.Layout.{public_table, visible_table, own_of, home_run, public_entries, visible_entries, instance_cells, layout_of, layout_from, at_home}
 use Rattle.jc_classes.specs.Tables.{record_from}
 use Rattle.jc_members.specs.Catches.{catches, catch_fault}
-use Rattle.jc_members.specs.Entries.{class_in, field_place, method_place}
+use Rattle.jc_members.specs.Entries.{field_place, method_place}
 use Rattle.jc_members.specs.Members.{class_member, member_of}
 use Rattle.jc_members.specs.Pools.{pools, member_fault}
 use Rattle.jc_members.specs.Roles.{role_fault as abstract_fault}
@@ -62,7 +63,7 @@ abbrev eight : List NamedClass
 eight = named_as None ∷ named_as (Some 0) ∷ replicate 6 (named_as (Some 1))
 
 eight_named : (seed : ℕ) → classes_of (alone seed) roles ≡ eight
-unfolding fields_described instance_fields with_token cells_of_field cells_of_fields entry_of interface_named named_class named_classes class_at class_named
+unfolding fields_described instance_fields with_token cells_of_field cells_of_fields entry_of interface_named named_class named_classes class_at class_referred class_named
 eight_named seed = refl
 
 -- none is above itself
@@ -80,7 +81,7 @@ unfolding place_in field_type kind_of
 few_statics seed = refl
 
 faultless : (seed : ℕ) → AllEmpty (conditions (alone seed) roles)
-unfolding entry_bytes each_from method_bytes entry_table entries method_info methods described_bytes descriptor_bytes location_bytes types_in field_type names_interface header_in is_interface parent_of chain chain_over height package_of public_of visible_of cell_count own_cells cells_of entry_at nearest_of visible_in dispatched is_concrete is_on_chain is_below no_package_fault class_references no_class_fault named_interface named_package fields_described instance_fields with_token cells_of_field cells_of_fields entry_of interface_named named_class named_classes handler_named body_of class_described have_headers named_method named_methods class_at is_interface_number method_at met_by class_named type_of kind_of signature_of superclass extended is_above names_class super_fault cycle_fault role_fault root_fault interface_fault hole_fault layout_above override_fault long_fault unserved_fault reach named_by entries_of overlaid_at public_table visible_table own_of home_run public_entries visible_entries instance_cells layout_of layout_from at_home record_from catches catch_fault class_in field_place method_place class_member member_of member_fault abstract_fault
+unfolding entry_bytes each_from method_bytes entry_table entries method_info methods described_bytes descriptor_bytes location_bytes types_in field_type names_interface header_in is_interface parent_of chain chain_over height package_of public_of visible_of cell_count own_cells cells_of entry_at nearest_of visible_in dispatched is_concrete is_on_chain is_below no_package_fault class_references no_class_fault named_interface named_package fields_described instance_fields with_token cells_of_field cells_of_fields entry_of interface_named named_class named_classes handler_named body_of class_described have_headers named_method named_methods class_at is_interface_number method_at met_by class_referred class_named type_of kind_of signature_of superclass extended is_above names_class super_fault cycle_fault role_fault root_fault interface_fault hole_fault layout_above override_fault long_fault unserved_fault reach named_by entries_of overlaid_at public_table visible_table own_of home_run public_entries visible_entries instance_cells layout_of layout_from at_home record_from catches catch_fault referred field_place method_place class_member member_of member_fault abstract_fault
 faultless seed = (
   refl,
   (
@@ -130,5 +131,5 @@ packages_link seed = (
 
 -- its methods
 pub methods_are : (seed : ℕ) → named_methods (alone seed) roles ≡ map method_record (range_with_len 0 200)
-unfolding entry_bytes each_from method_bytes entry_table entries method_info methods described_bytes descriptor_bytes types_in names_interface header_in handler_named body_of class_described have_headers named_method named_methods class_at is_interface_number class_named type_of signature_of
+unfolding entry_bytes each_from method_bytes entry_table entries method_info methods described_bytes descriptor_bytes types_in names_interface header_in handler_named body_of class_described have_headers named_method named_methods class_at is_interface_number referred class_referred class_named type_of signature_of
 methods_are seed = refl

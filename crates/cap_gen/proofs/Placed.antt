@@ -8,7 +8,7 @@ use Rattle.cap_gen.specs.Methods.{each_from, method_bytes, entry_table, entries,
 use Rattle.cap_gen.specs.Laws.{StandsThere}
 
 -- two lists by number are equal at each number
-at_each : {X : Type 0} (f g : ℕ → X) (d : X) (k : ℕ) → map f (range_with_len 0 200) ≡ map g (range_with_len 0 200) → k < 200 → f k ≡ g k
+pub at_each : {X : Type 0} (f g : ℕ → X) (d : X) (k : ℕ) → map f (range_with_len 0 200) ≡ map g (range_with_len 0 200) → k < 200 → f k ≡ g k
 at_each f g d k e h =
     sym (get_or-map-range_with_len f 0 200 k k d h (omega arith))
     ∙ (ap (λ (xs : List _). get_or xs k d) e ∙ get_or-map-range_with_len g 0 200 k k d h (omega arith))

@@ -1,6 +1,7 @@
 -- A dataflow typing of a method that is listed with its instructions: where each row passes a test, the frames are a typing.
 use Rattle.std.proofs.Common.{◌≡◌, ◌≤◌, ◌<◌, ◌+◌, ◌⊎◌, inl, inr, ℕ, zero, suc, ℤ, pos, negsuc, Bool, true, false, cond, List, [], ◌∷◌, length, map, Option, Some, None, Result, Ok, Err, refl, sym, ap, subst, ◌∙◌, arith, leb-true, ltb-true, eqb-true, eq-eqb, Contains, All}
 use Rattle.std.specs.Prelude.{is_ok, ◌&&◌, ◌==◌, not, nat_le, nat_lt, slice_get, slice_set, IsTrue, IsSomeAnd}
+use Rattle.std.proofs.lemmas.Bool.{and_parts}
 use Rattle.jc_base.specs.declared.ty.Ty.{Ty}
 use Rattle.jc_base.specs.declared.ty.Ty.TheVariants.{Bottom, Short, IntHigh, IntLow, Null, Class, ArrBool, ArrByte, ArrShort, ArrInt, ArrRef, Fresh, Top}
 use Rattle.jc_base.specs.declared.record.Handler.{Handler}
@@ -24,12 +25,12 @@ use Rattle.jc_rules.specs.declared.effect.Cells.{Cells}
 use Rattle.jc_rules.specs.declared.effect.Cells.TheVariants as given
 use Rattle.jc_rules.specs.declared.effect.Mode.TheVariants.{Flow}
 use Rattle.jc_rules.specs.declared.effect.Effect.{Effect}
-use Rattle.jc_rules.specs.Demand.{Frame, Meets, Holds, AllHold}
+use Rattle.jc_rules.specs.Demand.{Frame, Meets, Satisfies, SatisfiesAll}
 use Rattle.jc_rules.specs.Effect.{changed, WritesCells, rises}
 use Rattle.jc_rules.specs.Rule.{demands, effect, wrote}
-use Rattle.jc_rules.specs.Flow.{CellsBelow, no_cells, more_cells, FrameBelow, start_frame, caught_frame, IsNotFresh, IsNotTop, At, Steps, IsFollowed, IsFit, FlowTyping, HasFlowTyping}
+use Rattle.jc_rules.specs.Flow.{CellsBelow, no_cells, more_cells, FrameBelow, start_frame, caught_frame, IsNotFresh, IsNotTop, At, FlowSteps, IsFollowed, IsFit, FlowTyping, HasFlowTyping}
 use Rattle.jc_control.specs.Method.{Method}
-use Rattle.jc_control.specs.WellFormed.{Stands, IsPlace, IsTargetPlace, IsHandlerOf, IsWellFormed}
+use Rattle.jc_control.specs.WellFormed.{HasInstruction, IsPlace, IsTargetPlace, IsHandlerOf, IsWellFormed}
 use Rattle.jc_control.specs.Control.{IsSuccessor, falls_through, jumped, Covers, IsReached, begins, follows, caught, IsLeader, led_to, entered}
 
 -- ---- lists
@@ -41,10 +42,6 @@ all_true test (x ∷ xs) = test x && all_true test xs
 abbrev pub Has : {X : Type 0} → List X → X → Type 0
 Has [] x = ⊥
 Has (y ∷ ys) x = (y ≡ x) ⊎ Has ys x
-
-both_true : (a b : Bool) → (a && b) ≡ true → (a ≡ true) × (b ≡ true)
-both_true true b e = (refl, e)
-both_true false b e = absurd (cc)
 
 contains_has : {X : Type 0} (xs : List X) (x : X) → Contains xs x → Has xs x
 contains_has [] x (k, below, e) = absurd (omega (arith, below))
@@ -63,8 +60,8 @@ all_at P (y ∷ ys) f (suc k) d below = all_at P ys (λ x h. f x (inr h)) k d (o
 
 has_true : {X : Type 0} (test : X → Bool) (xs : List X) (x : X) → all_true test xs ≡ true → Has xs x → test x ≡ true
 has_true test [] x e h = absurd h
-has_true test (y ∷ ys) x e (inl s) = subst (λ z. test z ≡ true) s (both_true (test y) (all_true test ys) e).0
-has_true test (y ∷ ys) x e (inr h) = has_true test ys x (both_true (test y) (all_true test ys) e).1 h
+has_true test (y ∷ ys) x e (inl s) = subst (λ z. test z ≡ true) s (and_parts (test y) (all_true test ys) e).0
+has_true test (y ∷ ys) x e (inr h) = has_true test ys x (and_parts (test y) (all_true test ys) e).1 h
 
 -- ---- the order of types, where they are the same, null and a class, or the greater is Top
 
@@ -225,11 +222,11 @@ cells_below : (t : ClassTable) (xs ys : List Ty) → cells_fit xs ys ≡ true �
 cells_below t [] [] e = no_cells
 cells_below t [] (b ∷ ys) e = absurd (cc)
 cells_below t (a ∷ xs) [] e = absurd (cc)
-cells_below t (a ∷ xs) (b ∷ ys) e = let both = both_true (fits a b) (cells_fit xs ys) e in more_cells (fits_below t a b both.0) (cells_below t xs ys both.1)
+cells_below t (a ∷ xs) (b ∷ ys) e = let both = and_parts (fits a b) (cells_fit xs ys) e in more_cells (fits_below t a b both.0) (cells_below t xs ys both.1)
 
 frame_below : (t : ClassTable) (f g : Frame) → frame_fits f g ≡ true → FrameBelow t f g
 frame_below t f g e =
-    let both = both_true (cells_fit f.regs g.regs) (cells_fit f.stack g.stack) e in
+    let both = and_parts (cells_fit f.regs g.regs) (cells_fit f.stack g.stack) e in
     record { regs = cells_below t f.regs g.regs both.0; stack = cells_below t f.stack g.stack both.1 }
 
 below_at : (t : ClassTable) (rows : List Row) (f : Frame) (p : ℕ) → fits_at rows f p ≡ true → At (frame_at rows) p (FrameBelow t f)
@@ -282,16 +279,16 @@ want_met t wants.Whole (Some Short) e = λ h. h
 want_met t wants.Whole (Some (Class c)) e = λ h. h
 want_met t _ _ e = absurd (cc)
 
-demand_met : (t : ClassTable) (f : Frame) (d : Demand) → is_met f d ≡ true → Holds t f d
+demand_met : (t : ClassTable) (f : Frame) (d : Demand) → is_met f d ≡ true → Satisfies t f d
 demand_met t f (Registers x n) e = leb-true (x + n) (length f.regs) e
 demand_met t f (Depth n) e = leb-true n (length f.stack) e
 demand_met t f (Cell n want) e = want_met t want (slice_get f.stack n) e
 demand_met t f (Cut n) e = absurd (cc)
 demand_met t f (Held x ty) e = want_met t (wants.Value ty) (slice_get f.regs x) e
 
-demands_met : (t : ClassTable) (f : Frame) (ds : List Demand) → all_true (is_met f) ds ≡ true → AllHold t f ds
+demands_met : (t : ClassTable) (f : Frame) (ds : List Demand) → all_true (is_met f) ds ≡ true → SatisfiesAll t f ds
 demands_met t f [] e = tt
-demands_met t f (d ∷ ds) e = let both = both_true (is_met f d) (all_true (is_met f) ds) e in (demand_met t f d both.0, demands_met t f ds both.1)
+demands_met t f (d ∷ ds) e = let both = and_parts (is_met f d) (all_true (is_met f) ds) e in (demand_met t f d both.0, demands_met t f ds both.1)
 
 cells_written : (t : ClassTable) (x : ℕ) (cells : Cells) (regs : List Ty) → WritesCells t Flow x cells regs (written x cells regs)
 cells_written t x given.Nothing regs = refl
@@ -359,7 +356,7 @@ row_at_place (x ∷ xs) r e (inl s) =
     subst (λ (y : Row). cond (x.placed.place == y.placed.place) (Some x.before) (frame_at xs y.placed.place) ≡ Some y.before) s
     (ap (λ (b : Bool). cond b (Some x.before) (frame_at xs x.placed.place)) (same_place x.placed.place))
 row_at_place (x ∷ xs) r e (inr h) =
-    let both = both_true (all_true (is_elsewhere x) xs) (are_apart xs) e in
+    let both = and_parts (all_true (is_elsewhere x) xs) (are_apart xs) e in
     let other = not_true (x.placed.place == r.placed.place) (has_true (is_elsewhere x) xs r both.0 h) in
     ap (λ (b : Bool). cond b (Some x.before) (frame_at xs r.placed.place)) other ∙ row_at_place xs r both.1 h
 
@@ -374,7 +371,7 @@ at_some P o f e h = subst (λ x. IsSomeAnd x P) (sym e) h
 -- ---- the typing
 
 module _ (w : Linked) (m : Method) (rows : List Row) (a : AreRows w m rows) where
-  row_of : (i : Placed) → Stands m.code i → RowOf rows i
+  row_of : (i : Placed) → HasInstruction m.code i → RowOf rows i
   row_of i stands = listed_row rows i (subst (λ is. Has is i) a.listed (contains_has (listing m.code) i stands))
 
   -- what the test of a row tells
@@ -387,15 +384,15 @@ module _ (w : Linked) (m : Method) (rows : List Row) (a : AreRows w m rows) wher
   is_row : (r : Row) → Has rows r → IsRow r
   is_row r h =
       let e = has_true (passes w m.rec m.code rows) rows r a.each h in
-      let top = both_true (is_ok (resolved_row w m.rec r) && all_true (is_met r.before) (demands w (operation_of w m.rec r))) _ e in
-      let one = both_true (is_ok (resolved_row w m.rec r)) _ top.0 in
-      let two = both_true (holds_well m.rec r.before) _ top.1 in
+      let top = and_parts (is_ok (resolved_row w m.rec r) && all_true (is_met r.before) (demands w (operation_of w m.rec r))) _ e in
+      let one = and_parts (is_ok (resolved_row w m.rec r)) _ top.0 in
+      let two = and_parts (holds_well m.rec r.before) _ top.1 in
       record { resolves = one.0; asked = one.1; holds = two.0; leads = two.1 }
 
   at_row : (r : Row) → Has rows r → frame_at rows r.placed.place ≡ Some r.before
   at_row r h = row_at_place rows r a.apart h
 
-  row_stands : (r : Row) → Has rows r → Stands m.code r.placed
+  row_stands : (r : Row) → Has rows r → HasInstruction m.code r.placed
   row_stands r h = subst (λ is. Contains is r.placed) (sym a.listed) (has_contains (map placed_of rows) r.placed (row_listed rows r h))
 
   at_place : (p : ℕ) → RowAt rows p → IsPlace m.code p
@@ -415,10 +412,10 @@ module _ (w : Linked) (m : Method) (rows : List Row) (a : AreRows w m rows) wher
   leads_of : (r : Row) → Has rows r → Leads r
   leads_of r h =
       let after = after_row w m.rec r in
-      let first = both_true (nat_le (length after.stack) m.rec.max_stack && all_true is_ready after.stack) _ (is_row r h).leads in
-      let one = both_true (nat_le (length after.stack) m.rec.max_stack) (all_true is_ready after.stack) first.0 in
-      let second = both_true (falls_well m.code rows after r.placed) _ first.1 in
-      let third = both_true (all_true (fits_target rows after) (targets m.code r.placed)) (all_true (handled rows r) m.rec.handlers) second.1 in
+      let first = and_parts (nat_le (length after.stack) m.rec.max_stack && all_true is_ready after.stack) _ (is_row r h).leads in
+      let one = and_parts (nat_le (length after.stack) m.rec.max_stack) (all_true is_ready after.stack) first.0 in
+      let second = and_parts (falls_well m.code rows after r.placed) _ first.1 in
+      let third = and_parts (all_true (fits_target rows after) (targets m.code r.placed)) (all_true (handled rows r) m.rec.handlers) second.1 in
       record {
         room = leb-true (length after.stack) m.rec.max_stack one.0;
         ready = one.1;
@@ -434,7 +431,7 @@ module _ (w : Linked) (m : Method) (rows : List Row) (a : AreRows w m rows) wher
       let i = r.placed in
       let test = nat_lt (i.place + i.insn.len) (length m.code) && fits_at rows (after_row w m.rec r) (i.place + i.insn.len) in
       let e : test ≡ true = subst (λ (b : Bool). cond b test true ≡ true) goes (leads_of r h).falls_on in
-      both_true (nat_lt (i.place + i.insn.len) (length m.code)) (fits_at rows (after_row w m.rec r) (i.place + i.insn.len)) e
+      and_parts (nat_lt (i.place + i.insn.len) (length m.code)) (fits_at rows (after_row w m.rec r) (i.place + i.insn.len)) e
 
   target_to : (r : Row) → Has rows r → (q : ℕ) → Contains (targets m.code r.placed) (pos q) → fits_at rows (after_row w m.rec r) q ≡ true
   target_to r h q c = has_true (fits_target rows (after_row w m.rec r)) (targets m.code r.placed) (pos q) (leads_of r h).targets_fit (contains_has (targets m.code r.placed) (pos q) c)
@@ -465,7 +462,7 @@ module _ (w : Linked) (m : Method) (rows : List Row) (a : AreRows w m rows) wher
   target_place (pos q) f e = at_place q (fits_row rows f q e)
   target_place (negsuc n) f e = absurd (cc)
 
-  all_targets : (i : Placed) → Stands m.code i → All (IsTargetPlace m.code) (targets m.code i)
+  all_targets : (i : Placed) → HasInstruction m.code i → All (IsTargetPlace m.code) (targets m.code i)
   all_targets i stands =
       let r = row_of i stands in
       subst (λ (k : Placed). All (IsTargetPlace m.code) (targets m.code k)) r.is
@@ -474,9 +471,9 @@ module _ (w : Linked) (m : Method) (rows : List Row) (a : AreRows w m rows) wher
 
   handler_formed : (h : Handler) → is_handler_of m.code rows h ≡ true → IsHandlerOf m.code h
   handler_formed h e =
-      let first = both_true (is_there rows h.start && is_there rows h.entry) (nat_lt h.start h.end && is_there rows h.end) e in
-      let one = both_true (is_there rows h.start) (is_there rows h.entry) first.0 in
-      let two = both_true (nat_lt h.start h.end) (is_there rows h.end) first.1 in
+      let first = and_parts (is_there rows h.start && is_there rows h.entry) (nat_lt h.start h.end && is_there rows h.end) e in
+      let one = and_parts (is_there rows h.start) (is_there rows h.entry) first.0 in
+      let two = and_parts (nat_lt h.start h.end) (is_there rows h.end) first.1 in
       record {
         start = at_place h.start (there_row rows h.start one.0);
         end = inr (at_place h.end (there_row rows h.end two.1));
@@ -493,9 +490,9 @@ module _ (w : Linked) (m : Method) (rows : List Row) (a : AreRows w m rows) wher
 
   row_fit : (r : Row) → Has rows r → IsFit m r.before
   row_fit r h =
-      let first = both_true (nat_le (length r.before.stack) m.rec.max_stack) _ (is_row r h).holds in
-      let second = both_true (all_true is_typed r.before.stack) (all_true is_ready r.before.stack && all_true is_ready r.before.regs) first.1 in
-      let third = both_true (all_true is_ready r.before.stack) (all_true is_ready r.before.regs) second.1 in
+      let first = and_parts (nat_le (length r.before.stack) m.rec.max_stack) _ (is_row r h).holds in
+      let second = and_parts (all_true is_typed r.before.stack) (all_true is_ready r.before.stack && all_true is_ready r.before.regs) first.1 in
+      let third = and_parts (all_true is_ready r.before.stack) (all_true is_ready r.before.regs) second.1 in
       record {
         room = leb-true (length r.before.stack) m.rec.max_stack first.0;
         no_top = none_top r.before.stack second.0;
@@ -504,11 +501,11 @@ module _ (w : Linked) (m : Method) (rows : List Row) (a : AreRows w m rows) wher
 
   stack_ready : (r : Row) → Has rows r → All IsNotFresh r.before.stack
   stack_ready r h =
-      let first = both_true (nat_le (length r.before.stack) m.rec.max_stack) _ (is_row r h).holds in
-      let second = both_true (all_true is_typed r.before.stack) (all_true is_ready r.before.stack && all_true is_ready r.before.regs) first.1 in
-      none_fresh r.before.stack (both_true (all_true is_ready r.before.stack) (all_true is_ready r.before.regs) second.1).0
+      let first = and_parts (nat_le (length r.before.stack) m.rec.max_stack) _ (is_row r h).holds in
+      let second = and_parts (all_true is_typed r.before.stack) (all_true is_ready r.before.stack && all_true is_ready r.before.regs) first.1 in
+      none_fresh r.before.stack (and_parts (all_true is_ready r.before.stack) (all_true is_ready r.before.regs) second.1).0
 
-  row_steps : (r : Row) → Has rows r → Steps w m r.placed r.before (after_row w m.rec r)
+  row_steps : (r : Row) → Has rows r → FlowSteps w m r.placed r.before (after_row w m.rec r)
   row_steps r h =
       let s = is_row r h in
       let op = operation_of w m.rec r in

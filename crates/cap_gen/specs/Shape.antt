@@ -2,7 +2,7 @@
 -- arguments, a in local 0 and b in local 1, a short result, and a stack of two cells; c and d are constants in it.
 use Rattle.std.specs.Prelude.{ℕ, zero, suc, List, [], ◌∷◌, ◌++◌}
 use Rattle.jc_decode.specs.declared.symbols.Handler.{Handler}
-use Rattle.cap_laying.specs.HeaderBytes.{Numbers, compact_bytes}
+use Rattle.cap_laying.specs.HeaderBytes.{HeaderNumbers, compact_bytes}
 
 -- the locals beside the arguments, and the code
 pub record Shape : Type 0 where
@@ -59,7 +59,7 @@ handlers_of_kind (suc (suc zero)) =
 handlers_of_kind (suc (suc (suc n))) = []
 
 -- the numbers of its header
-abbrev pub numbers_of : Shape → Numbers
+abbrev pub numbers_of : Shape → HeaderNumbers
 numbers_of s = record { max_stack = 2; nargs = 2; max_locals = s.max_locals }
 
 -- its bytes in the Method component: a compact header, and the code

@@ -9,7 +9,7 @@ use Rattle.cap_method.specs.MethodFormat.{Header, header_info, header_after, com
 use Rattle.cap_method.specs.MethodPart.{HeaderAt}
 use Rattle.cap_writing.specs.Writing.{Writes}
 use Rattle.cap_writing.proofs.Written.{writes_give, writes_number, writes_then}
-use Rattle.cap_laying.specs.HeaderBytes.{Numbers, is_compact, compact_bytes, extended_bytes, header_bytes, header_size, header_of}
+use Rattle.cap_laying.specs.HeaderBytes.{HeaderNumbers, is_compact, compact_bytes, extended_bytes, header_bytes, header_size, header_of}
 use Rattle.cap_laying.specs.declared.member.Body.{Body}
 use Rattle.cap_laying.specs.declared.member.Body.TheVariants.{Code}
 use Rattle.cap_laying.specs.declared.member.Body.TheVariants.{Header as Lead}
@@ -29,7 +29,7 @@ compact_facts true true false h = absurd (cc)
 compact_facts true false c h = absurd (cc)
 compact_facts false b c h = absurd (cc)
 
-compact_written : (total at : ℕ) (n : Numbers) → n.max_stack ≤ 15 → n.nargs ≤ 15 → n.max_locals ≤ 15 → Writes total header_info at (compact_bytes n) (record { flags = 0; size = 2; max_stack = n.max_stack; nargs = n.nargs; max_locals = n.max_locals })
+compact_written : (total at : ℕ) (n : HeaderNumbers) → n.max_stack ≤ 15 → n.nargs ≤ 15 → n.max_locals ≤ 15 → Writes total header_info at (compact_bytes n) (record { flags = 0; size = 2; max_stack = n.max_stack; nargs = n.nargs; max_locals = n.max_locals })
 compact_written total at n a b c =
     let second = 16 * n.nargs + n.max_locals in
     let small : nat_le 128 n.max_stack ≡ false = grind arith in
@@ -47,7 +47,7 @@ compact_written total at n a b c =
     let same : read ≡ record { flags = 0; size = 2; max_stack = n.max_stack; nargs = n.nargs; max_locals = n.max_locals } = rw (flags, r, d, m) refl in
     subst (λ h. Writes total header_info at (n.max_stack ∷ second ∷ []) h) same two
 
-extended_written : (total at : ℕ) (n : Numbers) → AreBytes n → Writes total header_info at (extended_bytes n) (record { flags = 8; size = 4; max_stack = n.max_stack; nargs = n.nargs; max_locals = n.max_locals })
+extended_written : (total at : ℕ) (n : HeaderNumbers) → AreBytes n → Writes total header_info at (extended_bytes n) (record { flags = 8; size = 4; max_stack = n.max_stack; nargs = n.nargs; max_locals = n.max_locals })
 extended_written total at n are =
     let read : Header = record { flags = 8; size = 4; max_stack = n.max_stack; nargs = n.nargs; max_locals = n.max_locals } in
     let three : Writes total (u1 >>= λ k. give (record { flags = 8; size = 4; max_stack = n.max_stack; nargs = n.nargs; max_locals = k })) (at + 1 + 1 + 1) (n.max_locals ∷ []) read =
@@ -58,7 +58,7 @@ extended_written total at n are =
     writes_then total (at + 1) u1 (λ i. u1 >>= λ j. u1 >>= λ k. give (record { flags = 8; size = 4; max_stack = i; nargs = j; max_locals = k })) (n.max_stack ∷ []) (n.nargs ∷ n.max_locals ∷ []) n.max_stack read (writes_u1 total n.max_stack (at + 1) are.max_stack) two in
     writes_then total at u1 (λ first. header_after (nat_le 128 first) first) (128 ∷ []) (n.max_stack ∷ n.nargs ∷ n.max_locals ∷ []) 128 read (writes_u1 total 128 at (omega arith)) one
 
-header_written : (total at : ℕ) (n : Numbers) → AreBytes n → Writes total header_info at (header_bytes n) (header_of n)
+header_written : (total at : ℕ) (n : HeaderNumbers) → AreBytes n → Writes total header_info at (header_bytes n) (header_of n)
 unfolding header_bytes
 header_written total at n are = by (is_compact n) refl
   where
@@ -68,7 +68,7 @@ header_written total at n are = by (is_compact n) refl
         compact_written total at n (leb-true _ _ f.0) (leb-true _ _ f.1) (leb-true _ _ f.2)
     by false e = extended_written total at n are
 
-pub length_header : (n : Numbers) → length (header_bytes n) ≡ header_size n
+pub length_header : (n : HeaderNumbers) → length (header_bytes n) ≡ header_size n
 unfolding header_bytes
 length_header n = by (is_compact n)
   where
@@ -76,7 +76,7 @@ length_header n = by (is_compact n)
     by true = refl
     by false = refl
 
-pub header_back : (n : Numbers) (info : List ℕ) (at : ℕ) → AreBytes n → take (header_size n) (drop at info) ≡ header_bytes n → HeaderAt info at (header_of n)
+pub header_back : (n : HeaderNumbers) (info : List ℕ) (at : ℕ) → AreBytes n → take (header_size n) (drop at info) ≡ header_bytes n → HeaderAt info at (header_of n)
 header_back n info at are e =
     let size = header_size n in
     let long : length (take size (drop at info)) ≡ size = ap length e ∙ length_header n in
@@ -89,7 +89,7 @@ header_back n info at are e =
     (header_written (length (take at info) + (length (header_bytes n) + length after)) at n are).there (take at info) after front refl in
     (at + length (header_bytes n), subst (λ bytes. Spells header_info bytes at (header_of n) (at + length (header_bytes n))) whole s)
   where
-    some_bytes : (n : Numbers) → 2 ≤ header_size n
+    some_bytes : (n : HeaderNumbers) → 2 ≤ header_size n
     some_bytes n = by (is_compact n)
       where
         by : (b : Bool) → 2 ≤ (if b then 2 else 4)

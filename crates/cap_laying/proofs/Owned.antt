@@ -85,19 +85,19 @@ blocks_all P room ms a = append_all P (flat_map option_to_list (put_firsts (repl
 abbrev slot : List (Option Member) → ℕ → Option Member
 slot table o = slice_index_or table o None
 
-set_same : (table : List (Option Member)) (o : ℕ) (m : Member) → o < length table → slot (slice_set table o (Some m)) o ≡ Some m
+pub set_same : (table : List (Option Member)) (o : ℕ) (m : Member) → o < length table → slot (slice_set table o (Some m)) o ≡ Some m
 set_same [] o m h = absurd (omega arith)
 set_same (s ∷ ms) zero m h = refl
 set_same (s ∷ ms) (suc o) m h = set_same ms o m (omega arith)
 
-set_other : (table : List (Option Member)) (o k : ℕ) (m : Member) → (k ≡ o → ⊥) → slot (slice_set table k (Some m)) o ≡ slot table o
+pub set_other : (table : List (Option Member)) (o k : ℕ) (m : Member) → (k ≡ o → ⊥) → slot (slice_set table k (Some m)) o ≡ slot table o
 set_other [] o k m h = refl
 set_other (s ∷ ms) zero zero m h = absurd (h refl)
 set_other (s ∷ ms) (suc o) zero m h = refl
 set_other (s ∷ ms) zero (suc k) m h = refl
 set_other (s ∷ ms) (suc o) (suc k) m h = set_other ms o k m (λ e. h (ap suc e))
 
-length_set : (table : List (Option Member)) (o : ℕ) (m : Member) → length (slice_set table o (Some m)) ≡ length table
+pub length_set : (table : List (Option Member)) (o : ℕ) (m : Member) → length (slice_set table o (Some m)) ≡ length table
 length_set [] o m = refl
 length_set (s ∷ ms) zero m = refl
 length_set (s ∷ ms) (suc o) m = ap suc (length_set ms o m)
@@ -117,7 +117,7 @@ placed_own table size (m ∷ ms) len are apart =
     let long : length (put table m) ≡ size = length_set table m.offset m ∙ len in
     (placed_other (put table m) ms m.offset apart.0 ∙ set_same table m.offset m (omega arith), placed_own (put table m) size ms long are.1 apart.1)
 
-length_none : (n : ℕ) → length (replicate {A = Option Member} n None) ≡ n
+pub length_none : (n : ℕ) → length (replicate {A = Option Member} n None) ≡ n
 length_none zero = refl
 length_none (suc n) = ap suc (length_none n)
 
@@ -216,7 +216,7 @@ total_set (Some k ∷ ms) zero m = omega arith
 total_set (None ∷ ms) (suc i) m = total_set ms i m
 total_set (Some k ∷ ms) (suc i) m = let r = total_set ms i m in omega arith
 
-total_append : (xs ys : List Member) → total_handlers (xs ++ ys) ≡ total_handlers xs + total_handlers ys
+pub total_append : (xs ys : List Member) → total_handlers (xs ++ ys) ≡ total_handlers xs + total_handlers ys
 total_append [] ys = omega arith
 total_append (x ∷ xs) ys = let r = total_append xs ys in omega arith
 
@@ -246,7 +246,7 @@ total_blocks room ms =
     let d = total_none room in
     omega arith
 
-length_entries : (start : ℕ) (hs : List Handler) → length (entries_at start hs) ≡ length hs
+pub length_entries : (start : ℕ) (hs : List Handler) → length (entries_at start hs) ≡ length hs
 length_entries start [] = refl
 length_entries start (h ∷ hs) = ap suc (length_entries start hs)
 

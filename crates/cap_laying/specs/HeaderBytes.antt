@@ -4,29 +4,29 @@ use Rattle.std.specs.Prelude.{◌≡◌, ◌+◌, ◌*◌, ℕ, Bool, List, [], 
 use Rattle.cap_method.specs.MethodFormat.{Header}
 
 -- the numbers of a header
-pub record Numbers : Type 0 where
+pub record HeaderNumbers : Type 0 where
   pub max_stack : ℕ
   pub nargs : ℕ
   pub max_locals : ℕ
 
-abbrev pub is_compact : Numbers → Bool
+abbrev pub is_compact : HeaderNumbers → Bool
 is_compact n = nat_le n.max_stack 15 && nat_le n.nargs 15 && nat_le n.max_locals 15
 
-abbrev pub compact_bytes : Numbers → List ℕ
+abbrev pub compact_bytes : HeaderNumbers → List ℕ
 compact_bytes n = n.max_stack ∷ (16 * n.nargs + n.max_locals) ∷ []
 
-abbrev pub extended_bytes : Numbers → List ℕ
+abbrev pub extended_bytes : HeaderNumbers → List ℕ
 extended_bytes n = 128 ∷ n.max_stack ∷ n.nargs ∷ n.max_locals ∷ []
 
-unfoldable pub header_bytes : Numbers → List ℕ
+unfoldable pub header_bytes : HeaderNumbers → List ℕ
 header_bytes n = if is_compact n then compact_bytes n else extended_bytes n
 
 -- how many they are
-abbrev pub header_size : Numbers → ℕ
+abbrev pub header_size : HeaderNumbers → ℕ
 header_size n = if is_compact n then 2 else 4
 
 -- what is read there
-abbrev pub header_of : Numbers → Header
+abbrev pub header_of : HeaderNumbers → Header
 header_of n = record {
   flags = if is_compact n then 0 else 8;
   size = header_size n;

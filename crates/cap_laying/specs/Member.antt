@@ -6,9 +6,9 @@ use Rattle.jc_decode.specs.declared.symbols.Handler.{Handler}
 use Rattle.cap_laying.specs.declared.member.Body.{Body}
 use Rattle.cap_laying.specs.declared.member.Body.TheVariants.{Code, Header}
 use Rattle.cap_laying.specs.declared.member.Member.{Member}
-use Rattle.cap_laying.specs.HeaderBytes.{Numbers, header_bytes, header_size}
+use Rattle.cap_laying.specs.HeaderBytes.{HeaderNumbers, header_bytes, header_size}
 
-abbrev pub numbers_of : Laid → Numbers
+abbrev pub numbers_of : Laid → HeaderNumbers
 numbers_of l = record { max_stack = l.max_stack; nargs = l.nargs; max_locals = l.max_locals }
 
 -- its header, and the code after it, if it has any

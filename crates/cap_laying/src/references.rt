@@ -4,14 +4,14 @@ ghost use Rattle.cap_laying.specs.Member.{body_size, end_from, handlers_of, size
 ghost use Rattle.cap_laying.specs.NewPlaces.{AreSmallBodies, IsSmallIf};
 ghost use Rattle.cap_laying.specs.References.{block_catches, body_indices, indices_if, method_indices, references_info};
 ghost use Rattle.cap_locations.specs.Catches.{catch_places};
-ghost use Rattle.cap_locations.specs.Telling.{IsFew, Tells};
+ghost use Rattle.cap_locations.specs.Telling.{IsFew, AppendsDistances};
 ghost use Rattle.jc_decode.specs.PoolIndex.{bytes_of};
 
 use crate::headers::header_size;
 use crate::member::{Body, Member};
 use crate::places::body_size;
 use cap_bytes::View;
-use cap_locations::{Told, put_component, tell_catches, tell_indices};
+use cap_locations::{Told, component_info, tell_catches, tell_indices};
 use jc_decode::IndexWidth;
 use std::alloc::{AllocError, Global};
 
@@ -34,8 +34,7 @@ pub(crate) fn references(
     let mut byte2 = Told::new(alloc);
     tell_blocks(blocks, &mut byte2)?;
     tell_methods(IndexWidth::Two, start, table, &mut byte2)?;
-    let mut info = Vec::new(alloc);
-    put_component(&byte, &byte2, &mut info)?;
+    let info = component_info(alloc, &byte, &byte2)?;
     Ok(info)
 }
 
@@ -50,7 +49,7 @@ fn tell_methods(
     requires end { end_from start table.now ≤ 65535 }
     requires order { told.old.last ≤ start }
     requires few { IsFew told.old }
-    ensures told { OnOk result (Tells told.old (method_indices (bytes_of width) start table.now) told.new) }
+    ensures told { OnOk result (AppendsDistances told.old (method_indices (bytes_of width) start table.now) told.new) }
     ensures few { OnOk result (IsFew told.new) }
 {
     let mut at = start;
@@ -72,7 +71,7 @@ fn tell_slot(
     requires end { at + size_if slot.now ≤ 65535 }
     requires order { told.old.last ≤ at }
     requires few { IsFew told.old }
-    ensures told { OnOk result (Tells told.old (indices_if (bytes_of width) at slot.now) told.new) }
+    ensures told { OnOk result (AppendsDistances told.old (indices_if (bytes_of width) at slot.now) told.new) }
     ensures few { OnOk result (IsFew told.new) }
     ensures last { OnOk result (told.new.last ≤ at + size_if slot.now) }
     ensures end { IfOk result (λ end. end ≡ at + size_if slot.now) }
@@ -92,7 +91,7 @@ fn tell_body(width: IndexWidth, at: u16, body: Body<'_>, told: &mut Told) -> Res
     requires end { at + body_size body ≤ 65535 }
     requires order { told.old.last ≤ at }
     requires few { IsFew told.old }
-    ensures told { OnOk result (Tells told.old (body_indices (bytes_of width) at body.entry) told.new) }
+    ensures told { OnOk result (AppendsDistances told.old (body_indices (bytes_of width) at body.entry) told.new) }
     ensures few { OnOk result (IsFew told.new) }
     ensures last { OnOk result (told.new.last ≤ at + body_size body.entry) }
 {
@@ -110,7 +109,7 @@ fn tell_blocks(blocks: &[Member<'_>], told: &mut Told) -> Result<(), AllocError>
     requires few { total_handlers blocks.now ≤ 255 }
     requires order { told.old.last ≤ 1 }
     requires told { IsFew told.old }
-    ensures told { OnOk result (Tells told.old (block_catches 1 blocks.now) told.new) }
+    ensures told { OnOk result (AppendsDistances told.old (block_catches 1 blocks.now) told.new) }
     ensures few { OnOk result (IsFew told.new) }
     ensures last { OnOk result (told.new.last ≤ 1 + 8 * total_handlers blocks.now) }
 {
@@ -127,7 +126,7 @@ fn tell_block(at: u16, body: Body<'_>, told: &mut Told) -> Result<u16, AllocErro
     requires end { at + 8 * length (handlers_of body) ≤ 65535 }
     requires order { told.old.last ≤ at }
     requires few { IsFew told.old }
-    ensures told { OnOk result (Tells told.old (catch_places at (handlers_of body.entry)) told.new) }
+    ensures told { OnOk result (AppendsDistances told.old (catch_places at (handlers_of body.entry)) told.new) }
     ensures few { OnOk result (IsFew told.new) }
     ensures last { OnOk result (told.new.last ≤ at + 8 * length (handlers_of body.entry)) }
     ensures end { IfOk result (λ end. end ≡ at + 8 * length (handlers_of body.entry)) }

@@ -12,7 +12,7 @@ use Rattle.jc_decode.specs.Layout.{layout_of, opcode}
 use Rattle.jc_decode.specs.Decoding.{decoded}
 use Rattle.jc_decode.specs.Forms.{is_between, bytes_by, length_of}
 use Rattle.jc_decode.specs.PoolIndex.{has_short_index, has_index, has_second_index, first_index, second_index, pool_index}
-use Rattle.cap_locations.specs.Indices.{HasRoom}
+use Rattle.cap_locations.specs.Indices.{HasIndexInside}
 use Rattle.jc_decode.proofs.Passed.{passed-at, and-parts, or-rest}
 use Rattle.jc_decode.proofs.Sized.{length-decoded}
 
@@ -90,11 +90,11 @@ index_room i code at d = by_test (has_short_index i.op) refl (has_index i.op) re
         let l = long i code at 3 d (or-rest (i.op == 142 || is_between 148 149 i.op) _ (passed-at second_room second_room-all i.op (small-second i.op op)) op) in (omega arith, omega arith)
     by_test false e false f false g = search rules
 
-pub has_room : (i : Insn) (code : List ℕ) (at : ℕ) → decoded code at ≡ Ok i → HasRoom i
+pub has_room : (i : Insn) (code : List ℕ) (at : ℕ) → decoded code at ≡ Ok i → HasIndexInside i
 has_room i code at d = record { room = index_room i code at d }
 
 -- an index that was found
-pub index_there : (i : Insn) (n : PoolIndex) → HasRoom i → pool_index i ≡ Some n → IsRoomy i n
+pub index_there : (i : Insn) (n : PoolIndex) → HasIndexInside i → pool_index i ≡ Some n → IsRoomy i n
 index_there i n h e = of (pool_index i) e h.room
   where
     of : (o : Option PoolIndex) → o ≡ Some n → IfSome o (IsRoomy i) → IsRoomy i n

@@ -1,33 +1,34 @@
 -- Places told one after the other.
-use Rattle.std.proofs.Common.{◌≡◌, ◌≤◌, ◌+◌, ◌-◌, ◌/◌, ◌%◌, ◌*◌, ◌<◌, ℕ, zero, suc, List, [], ◌∷◌, ◌++◌, false, replicate, refl, sym, ap, ◌∙◌, arith, append_assoc, length, length-append}
+use Rattle.std.proofs.Common.{◌≡◌, ◌≤◌, ◌+◌, ◌-◌, ◌/◌, ◌%◌, ◌*◌, ◌<◌, ℕ, zero, suc, List, [], ◌∷◌, ◌++◌, false, replicate, take, drop, refl, sym, ap, ◌∙◌, arith, append_assoc, length, length-append, take-append-drop}
 use Rattle.std.specs.Prelude.{nat_eq}
 use Rattle.std.proofs.lemmas.List.{append-nil, length-replicate}
+use Rattle.std.proofs.Math.Seq.{take-append_seam}
 use Rattle.cap_locations.specs.declared.told.Told.{Told}
 use Rattle.cap_locations.specs.Distances.{distance_bytes, distances, last_of, Rise, places_in}
-use Rattle.cap_locations.specs.Telling.{Tells, IsFew}
+use Rattle.cap_locations.specs.Telling.{AppendsDistances, IsFew}
 
-pub tells_none : (told : Told) → Tells told [] told
+pub tells_none : (told : Told) → AppendsDistances told [] told
 tells_none told = record { bytes = sym (append-nil told.bytes.items); last = refl }
 
-distances_both : (last : ℕ) (ps qs : List ℕ) → distances last (ps ++ qs) ≡ distances last ps ++ distances (last_of last ps) qs
+pub distances_both : (last : ℕ) (ps qs : List ℕ) → distances last (ps ++ qs) ≡ distances last ps ++ distances (last_of last ps) qs
 distances_both last [] qs = refl
 distances_both last (p ∷ ps) qs = ap (λ xs. distance_bytes (p - last) ++ xs) (distances_both p ps qs) ∙ sym (append_assoc (distance_bytes (p - last)) (distances p ps) (distances (last_of p ps) qs))
 
-last_both : (last : ℕ) (ps qs : List ℕ) → last_of last (ps ++ qs) ≡ last_of (last_of last ps) qs
+pub last_both : (last : ℕ) (ps qs : List ℕ) → last_of last (ps ++ qs) ≡ last_of (last_of last ps) qs
 last_both last [] qs = refl
 last_both last (p ∷ ps) qs = last_both p ps qs
 
 -- the first of some places are told, and the rest is still to be
-pub told_more : (told new : Told) (xs ys zs whole : List ℕ) → zs ≡ xs ++ ys → Tells told xs new → told.bytes.items ++ distances told.last zs ≡ whole → new.bytes.items ++ distances new.last ys ≡ whole
+pub told_more : (told new : Told) (xs ys zs whole : List ℕ) → zs ≡ xs ++ ys → AppendsDistances told xs new → told.bytes.items ++ distances told.last zs ≡ whole → new.bytes.items ++ distances new.last ys ≡ whole
 told_more told new xs ys zs whole e t h =
     ap (λ bs. bs ++ distances new.last ys) t.bytes ∙ append_assoc told.bytes.items (distances told.last xs) (distances new.last ys)
     ∙ ap (λ l. told.bytes.items ++ (distances told.last xs ++ distances l ys)) t.last ∙ ap (λ bs. told.bytes.items ++ bs) (sym (distances_both told.last xs ys) ∙ ap (distances told.last) (sym e)) ∙ h
 
-pub last_more : (told new : Told) (xs ys zs : List ℕ) (last : ℕ) → zs ≡ xs ++ ys → Tells told xs new → last_of told.last zs ≡ last → last_of new.last ys ≡ last
+pub last_more : (told new : Told) (xs ys zs : List ℕ) (last : ℕ) → zs ≡ xs ++ ys → AppendsDistances told xs new → last_of told.last zs ≡ last → last_of new.last ys ≡ last
 last_more told new xs ys zs last e t h = ap (λ l. last_of l ys) t.last ∙ sym (last_both told.last xs ys) ∙ ap (last_of told.last) (sym e) ∙ h
 
 -- all are told
-pub told_all : (told initial : Told) (zs all : List ℕ) → zs ≡ [] → told.bytes.items ++ distances told.last zs ≡ initial.bytes.items ++ distances initial.last all → last_of told.last zs ≡ last_of initial.last all → Tells initial all told
+pub told_all : (told initial : Told) (zs all : List ℕ) → zs ≡ [] → told.bytes.items ++ distances told.last zs ≡ initial.bytes.items ++ distances initial.last all → last_of told.last zs ≡ last_of initial.last all → AppendsDistances initial all told
 told_all told initial zs all e b l = record {
   bytes = sym (append-nil told.bytes.items) ∙ ap (λ qs. told.bytes.items ++ distances told.last qs) (sym e) ∙ b;
   last = ap (last_of told.last) (sym e) ∙ l;
@@ -52,6 +53,17 @@ put_more d out new whole h e so_far = rw e (append_assoc out (255 ∷ []) (dista
 
 pub put_last : (d : ℕ) (out new whole : List ℕ) → d < 255 → new ≡ out ++ d ∷ [] → out ++ distance_bytes d ≡ whole → new ≡ whole
 put_last d out new whole h e so_far = e ∙ ap (λ xs. out ++ xs) (sym (distance_last d h)) ∙ so_far
+
+-- ---- what was told before stands where there is no memory for more
+
+pub begun_more : (a b c d : List ℕ) → take (length a) b ≡ a → c ≡ b ++ d → take (length a) c ≡ a
+begun_more a b c d h e =
+    let r = drop (length a) b in
+    let is : b ≡ a ++ r = sym (take-append-drop (length a) b) ∙ ap (λ xs. xs ++ r) h in
+    ap (take (length a)) (e ∙ ap (λ xs. xs ++ d) is ∙ append_assoc a r d) ∙ take-append_seam a (r ++ d)
+
+pub begun_then : (a b c : List ℕ) → take (length a) b ≡ a → take (length b) c ≡ b → take (length a) c ≡ a
+begun_then a b c h k = begun_more a b c (drop (length b) c) h (sym (take-append-drop (length b) c) ∙ ap (λ xs. xs ++ drop (length b) c) k)
 
 -- ---- what is told is read back
 
@@ -82,7 +94,7 @@ read_back last (p ∷ ps) h =
 length_distance : (d : ℕ) → length (distance_bytes d) ≡ d / 255 + 1
 length_distance d = length-append (replicate (d / 255) 255) ((d % 255) ∷ []) ∙ ap (λ n. n + 1) (length-replicate (d / 255) 255)
 
-pub few_more : (old new : Told) (place : ℕ) → IsFew old → old.last < place → Tells old (place ∷ []) new → IsFew new
+pub few_more : (old new : Told) (place : ℕ) → IsFew old → old.last < place → AppendsDistances old (place ∷ []) new → IsFew new
 few_more old new place few lt t =
     let a : length new.bytes.items ≡ length old.bytes.items + length (distance_bytes (place - old.last) ++ []) = ap length t.bytes ∙ length-append old.bytes.items (distance_bytes (place - old.last) ++ []) in
     let b : distance_bytes (place - old.last) ++ [] ≡ distance_bytes (place - old.last) = append-nil (distance_bytes (place - old.last)) in

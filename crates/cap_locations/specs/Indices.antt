@@ -19,5 +19,5 @@ abbrev pub indices : ℕ → ℕ → List Placed → List ℕ
 indices width start instructions = flat_map (index_places width start) instructions
 
 -- the first byte of an instruction's index is one of its bytes after the opcode
-pub record HasRoom (i : Insn) : Type 0 where
+pub record HasIndexInside (i : Insn) : Type 0 where
   pub room : IfSome (pool_index i) (λ n. (1 ≤ n.at) × (n.at < i.len))

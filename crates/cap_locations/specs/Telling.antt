@@ -4,7 +4,7 @@ use Rattle.cap_locations.specs.declared.told.Told.{Told}
 use Rattle.cap_locations.specs.Distances.{distances, last_of}
 
 -- the places were told: their distances were appended, and the last of them is the last one now
-pub record Tells (old : Told) (places : List ℕ) (new : Told) : Type 0 where
+pub record AppendsDistances (old : Told) (places : List ℕ) (new : Told) : Type 0 where
   pub bytes : new.bytes.items ≡ old.bytes.items ++ distances old.last places
   pub last : new.last ≡ last_of old.last places
 

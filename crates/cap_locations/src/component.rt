@@ -1,21 +1,22 @@
-ghost use Rattle.std.specs.Prelude.{◌≡◌, ◌<◌, ◌++◌, length, OnOk};
+ghost use Rattle.std.specs.Prelude.{◌≡◌, ◌<◌, ◌++◌, length, IfOk, OnOk};
 ghost use Rattle.byteorder.specs.Endian.{big_bytes};
 ghost use Rattle.cap_locations.specs.Component.{component_bytes};
 ghost use Rattle.cap_locations.specs.Telling.{IsFew};
 
 use crate::told::Told;
-use std::alloc::AllocError;
+use std::alloc::{AllocError, Global};
 
-/// Appends the info of the component: the distances to the indices of one byte, and those to the indices of two.
-/// Where there is no memory some bytes may be appended.
+/// The info of the component: the distances to the indices of one byte, and those to the indices of two.
 #[tactic(auto, using(crate::proofs::Components::steps), unfolding(crate::specs::Component::component_bytes))]
-pub fn put_component(byte: &Told, byte2: &Told, out: &mut Vec<u8>) -> Result<(), AllocError>
+pub fn component_info(alloc: Global, byte: &Told, byte2: &Told) -> Result<Vec<u8>, AllocError>
     requires byte { IsFew byte.now }
     requires byte2 { IsFew byte2.now }
-    ensures { OnOk result (out.new.items ≡ out.old.items ++ component_bytes byte.now.bytes.items byte2.now.bytes.items) }
+    ensures { IfOk result (λ info. info.items ≡ component_bytes byte.now.bytes.items byte2.now.bytes.items) }
 {
-    put_list(byte, out)?;
-    put_list(byte2, out)
+    let mut info = Vec::new(alloc);
+    put_list(byte, &mut info)?;
+    put_list(byte2, &mut info)?;
+    Ok(info)
 }
 
 /// Appends a list after the number of its bytes.

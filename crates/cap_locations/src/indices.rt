@@ -1,6 +1,6 @@
-ghost use Rattle.std.specs.Prelude.{◌≡◌, ◌≤◌, ◌<◌, ◌+◌, Some, length, OnOk};
-ghost use Rattle.cap_locations.specs.Indices.{HasRoom, index_by, indices};
-ghost use Rattle.cap_locations.specs.Telling.{IsFew, Tells};
+ghost use Rattle.std.specs.Prelude.{◌≡◌, ◌≤◌, ◌<◌, ◌+◌, Some, length, take, OnOk, OnErr};
+ghost use Rattle.cap_locations.specs.Indices.{HasIndexInside, index_by, indices};
+ghost use Rattle.cap_locations.specs.Telling.{IsFew, AppendsDistances};
 ghost use Rattle.jc_decode.specs.Encoding.{IsAllowed};
 ghost use Rattle.jc_decode.specs.Listing.{listing};
 ghost use Rattle.jc_decode.specs.PoolIndex.{bytes_of, pool_index};
@@ -11,8 +11,9 @@ use jc_decode::{IndexWidth, Insn, PoolIndex, decode};
 use std::alloc::AllocError;
 
 /// Tells the places of the indices of a width, of the instructions of a code that begins at an offset of the
-/// info of the Method component, after which the last place does not lie.
-#[tactic(auto, using(jc_decode::proofs::Listing::listing_facts))]
+/// info of the Method component, after which the last place does not lie. Where there is no memory some of them may
+/// be told.
+#[tactic(auto, using(crate::proofs::Tellings::begun_then, jc_decode::proofs::Listing::listing_facts))]
 pub fn tell_indices(
     width: IndexWidth,
     start: u16,
@@ -23,8 +24,9 @@ pub fn tell_indices(
     requires order { told.old.last ≤ start }
     requires few { IsFew told.old }
     ensures few { OnOk result (IsFew told.new) }
-    ensures told { OnOk result (Tells told.old (indices (bytes_of width) start (listing code.entry.bytes.now)) told.new) }
+    ensures told { OnOk result (AppendsDistances told.old (indices (bytes_of width) start (listing code.entry.bytes.now)) told.new) }
     ensures last { OnOk result (told.new.last ≤ start + length code.entry.bytes.now) }
+    ensures begun { OnErr result (take (length told.old.bytes.items) told.new.bytes.items ≡ told.old.bytes.items) }
 {
     let mut at: u16 = 0;
     'walk: while let Ok(insn) = decode(code, at) {
@@ -38,13 +40,14 @@ pub fn tell_indices(
 #[tactic(auto, using(crate::proofs::Tellings::tells_none))]
 fn tell_insn(width: IndexWidth, place: u16, insn: Insn, told: &mut Told) -> Result<(), AllocError>
     requires allowed { IsAllowed insn }
-    requires room { HasRoom insn }
+    requires room { HasIndexInside insn }
     requires end { place + insn.len ≤ 65535 }
     requires order { told.old.last ≤ place }
     requires few { IsFew told.old }
     ensures few { OnOk result (IsFew told.new) }
-    ensures told { OnOk result (Tells told.old (index_by (bytes_of width) place (pool_index insn)) told.new) }
+    ensures told { OnOk result (AppendsDistances told.old (index_by (bytes_of width) place (pool_index insn)) told.new) }
     ensures last { OnOk result (told.new.last ≤ place + insn.len) }
+    ensures begun { OnErr result (take (length told.old.bytes.items) told.new.bytes.items ≡ told.old.bytes.items) }
 {
     match insn.pool_index() {
         Some(index) => tell_index(width, place, index, told),
@@ -64,8 +67,9 @@ fn tell_index(
     requires order { told.old.last < place + index.at }
     requires few { IsFew told.old }
     ensures few { OnOk result (IsFew told.new) }
-    ensures told { OnOk result (Tells told.old (index_by (bytes_of width) place (Some index)) told.new) }
+    ensures told { OnOk result (AppendsDistances told.old (index_by (bytes_of width) place (Some index)) told.new) }
     ensures last { OnOk result (told.new.last ≤ place + index.at) }
+    ensures begun { OnErr result (take (length told.old.bytes.items) told.new.bytes.items ≡ told.old.bytes.items) }
 {
     if bytes_of(index.width) == bytes_of(width) {
         told.tell(place + u16::from(index.at))?;

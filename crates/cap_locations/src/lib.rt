@@ -10,7 +10,7 @@ mod laws;
 mod told;
 
 pub use catches::tell_catches;
-pub use component::put_component;
+pub use component::component_info;
 pub use indices::tell_indices;
 pub use laws::{components_stand, places_read_back};
 pub use told::Told;

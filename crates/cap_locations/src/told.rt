@@ -1,6 +1,6 @@
-ghost use Rattle.std.specs.Prelude.{◌≡◌, ◌<◌, ◌++◌, [], ◌∷◌, OnOk};
+ghost use Rattle.std.specs.Prelude.{◌≡◌, ◌<◌, ◌++◌, [], ◌∷◌, length, take, OnOk, OnErr};
 ghost use Rattle.cap_locations.specs.Distances.{distance_bytes};
-ghost use Rattle.cap_locations.specs.Telling.{IsFew, Tells};
+ghost use Rattle.cap_locations.specs.Telling.{IsFew, AppendsDistances};
 
 use std::alloc::{AllocError, Global};
 
@@ -26,13 +26,16 @@ impl Told {
         }
     }
 
-    /// Tells one more place, which comes after the last. Where there is no memory some bytes may be appended.
+    /// Tells one more place, which comes after the last. Where there is no memory the last place stays, and some bytes may
+    /// be appended.
     #[tactic(auto, using(crate::proofs::Tellings::few_more))]
     pub fn tell(&mut self, place: u16) -> Result<(), AllocError>
         requires order { self.old.last < place }
         requires few { IsFew self.old }
-        ensures told { OnOk result (Tells self.old (place ∷ []) self.new) }
+        ensures told { OnOk result (AppendsDistances self.old (place ∷ []) self.new) }
         ensures few { OnOk result (IsFew self.new) }
+        ensures begun { OnErr result (take (length self.old.bytes.items) self.new.bytes.items ≡ self.old.bytes.items) }
+        ensures stays { OnErr result (self.new.last ≡ self.old.last) }
     {
         put_distance(place - self.last, &mut self.bytes)?;
         self.last = place;
@@ -40,10 +43,11 @@ impl Told {
     }
 }
 
-/// Appends the bytes of a distance.
+/// Appends the bytes of a distance, or some of them where there is no memory.
 #[tactic(auto, using(crate::proofs::Tellings::put_more, crate::proofs::Tellings::put_last))]
 fn put_distance(distance: u16, out: &mut Vec<u8>) -> Result<(), AllocError>
-    ensures { OnOk result (out.new.items ≡ out.old.items ++ distance_bytes distance) }
+    ensures put { OnOk result (out.new.items ≡ out.old.items ++ distance_bytes distance) }
+    ensures begun { OnErr result (take (length out.old.items) out.new.items ≡ out.old.items) }
 {
     let mut left = distance;
     'whole: while left >= 255 {

@@ -12,7 +12,7 @@ use Rattle.cap_writing.proofs.Same.{spelled_same, same_part, moves_on}
 use Rattle.cap_writing.proofs.Patches.{edited_split, edited_last, inside_to, inside_from, inside_append, fit_append}
 use Rattle.cap_renewal.specs.NewMethods.{AreBytes, KeepsSmall}
 use Rattle.cap_renewal.specs.ClassEdits.{renewed_class, class_edits, classes_edits}
-use Rattle.cap_renewal.specs.Rooms.{HasRoom, AllRooms}
+use Rattle.cap_renewal.specs.Rooms.{TablesFit, AllRooms}
 use Rattle.cap_renewal.specs.Along.{number_edits, two_bytes, table_edits}
 use Rattle.cap_renewal.proofs.Items.{all_inside, all_fit, all_renewed, all_wide}
 use Rattle.cap_renewal.proofs.Numbers.{number_item, number_fit, wide_u2, length_map}
@@ -385,7 +385,7 @@ classes_renewed to format bytes out cs s r =
       within = omega (arith, h.within, len);
     })
 
-rooms_more : (size : ℕ) (c : Class) (cs : List Class) → HasRoom size c → AllRooms size cs → AllRooms size (c ∷ cs)
+rooms_more : (size : ℕ) (c : Class) (cs : List Class) → TablesFit size c → AllRooms size cs → AllRooms size (c ∷ cs)
 rooms_more size c cs a b = (a, b)
 
 room_beyond : (bytes : List ℕ) (at offset first : ℕ) (c : Class) (after : ℕ) → at ≡ offset + 1 → after ≤ length bytes → Spells (beyond_first false offset first) bytes at c after → c.offset + 10 + 2 * length c.public + 2 * length c.visible ≤ length bytes
@@ -397,14 +397,14 @@ room_beyond bytes at offset first c after e le h =
     let end = t.end in
     rw p.1 (omega arith)
 
-room_by : (bytes : List ℕ) (offset first : ℕ) (b : Bool) (c : Class) (at after : ℕ) → at ≡ offset + 1 → is_interface (class_flags first) ≡ b → after ≤ length bytes → Spells (beyond_first b offset first) bytes at c after → HasRoom (length bytes) c
+room_by : (bytes : List ℕ) (offset first : ℕ) (b : Bool) (c : Class) (at after : ℕ) → at ≡ offset + 1 → is_interface (class_flags first) ≡ b → after ≤ length bytes → Spells (beyond_first b offset first) bytes at c after → TablesFit (length bytes) c
 room_by bytes offset first true c at after e b le h =
     let flags = beyond_flags bytes at offset first true c after h in
     let is : is_interface c.flags ≡ true = ap is_interface flags.0 ∙ b in
     record { room = λ is_not. absurd (cc) }
 room_by bytes offset first false c at after e b le h = record { room = λ is_not. room_beyond bytes at offset first c after e le h }
 
-record_room : (bytes : List ℕ) (after_class : Bool) (at : ℕ) (c : Class) (after : ℕ) → after ≤ length bytes → Spells (record_info after_class) bytes at c after → HasRoom (length bytes) c
+record_room : (bytes : List ℕ) (after_class : Bool) (at : ℕ) (c : Class) (after : ℕ) → after ≤ length bytes → Spells (record_info after_class) bytes at c after → TablesFit (length bytes) c
 unfolding Spells record_info
 record_room bytes after_class at c after le h = room_by bytes h.0 h.3.0 (is_interface (class_flags h.3.0)) c h.3.1 after (omega (arith, h.2.0, h.2.1, h.3.2.2)) refl le h.3.3
 

@@ -4,7 +4,7 @@ use Rattle.std.specs.Prelude.{if◌then◌else◌}
 use Rattle.cap_bytes.specs.Grammar.{u1, u2, repeat, table}
 use Rattle.cap_bytes.specs.Spelling.{Spells, Stands, info_of}
 use Rattle.cap_bytes.proofs.Wide.{read_within}
-use Rattle.cap_desc.specs.DescriptorFormat.{Field, Method, Class, Descriptor, method_flags, field_info, method_info, class_info, descriptor_info}
+use Rattle.cap_desc.specs.DescriptorFormat.{Field, Method, Class, Descriptor, method_flags, field_descriptor_info, method_descriptor_info, class_descriptor_info, descriptor_info}
 use Rattle.cap_writing.specs.Edit.{Edit, patched_all, AreInside, FitBytes}
 use Rattle.cap_writing.specs.Renewal.{Renews, IsEdited, AreSame}
 use Rattle.cap_writing.proofs.Same.{spelled_same, same_part, moves_on}
@@ -30,7 +30,7 @@ record HasMethod (bytes : List ℕ) (at : ℕ) (m : Method) (after : ℕ) : Type
   index : Spells u2 bytes (at + 10) m.handler_index (at + 12)
   end : after ≡ at + 12
 
-has_method : (bytes : List ℕ) (at : ℕ) (m : Method) (after : ℕ) → Spells method_info bytes at m after → HasMethod bytes at m after
+has_method : (bytes : List ℕ) (at : ℕ) (m : Method) (after : ℕ) → Spells method_descriptor_info bytes at m after → HasMethod bytes at m after
 unfolding Spells
 has_method bytes at m after h =
     let f = h.3 in
@@ -61,7 +61,7 @@ has_method bytes at m after h =
       end = z ∙ m12;
     })
 
-method_made : (bytes : List ℕ) (at : ℕ) (m : Method) (after : ℕ) → HasMethod bytes at m after → Spells method_info bytes at m after
+method_made : (bytes : List ℕ) (at : ℕ) (m : Method) (after : ℕ) → HasMethod bytes at m after → Spells method_descriptor_info bytes at m after
 unfolding Spells
 method_made bytes at m after h =
     (m.token, at + 1, h.token, (h.byte, at + 2, h.flags, (m.method_offset, at + 4, h.offset, (m.type_offset, at + 6, h.type_of, (m.bytecode_count, at + 8, h.bytecodes, (m.handler_count, at + 10, h.handlers, (m.handler_index, at + 12, h.index, (same m h.byte h.flagged, h.end))))))))
@@ -88,14 +88,14 @@ edited_method bytes out at m n after len p ed =
       end = end;
     }
 
-pub method_item : (news : List (Option NewMethod)) (bytes : List ℕ) → IsItem method_info (method_edits news) method_width (renewed_method news) bytes
+pub method_item : (news : List (Option NewMethod)) (bytes : List ℕ) → IsItem method_descriptor_info (method_edits news) method_width (renewed_method news) bytes
 method_item news bytes = record {
   wide = λ at m after h. (has_method bytes at m after h).end;
   inside = λ at m after h. let e = (has_method bytes at m after h).end in (omega arith, (omega arith, (omega arith, (omega arith, omega arith))));
   renewed = λ out at m after len h ed. method_made out at (renewed_method news m) after (edited_method bytes out at m (numbers_of news m) after len (has_method bytes at m after h) ed);
 }
 
-method_fit : (news : List (Option NewMethod)) (bytes : List ℕ) → AreBytes bytes → AreSmall news → IsFit method_info (method_edits news) bytes
+method_fit : (news : List (Option NewMethod)) (bytes : List ℕ) → AreBytes bytes → AreSmall news → IsFit method_descriptor_info (method_edits news) bytes
 unfolding Spells
 method_fit news bytes are small = record {
   fit = λ at m after h.
@@ -107,7 +107,7 @@ method_fit news bytes are small = record {
 
 -- ---- a class
 
-wide_field : (bytes : List ℕ) (at : ℕ) (f : Field) (after : ℕ) → Spells field_info bytes at f after → after ≡ at + 7
+wide_field : (bytes : List ℕ) (at : ℕ) (f : Field) (after : ℕ) → Spells field_descriptor_info bytes at f after → after ≡ at + 7
 unfolding Spells
 wide_field bytes at f after h =
     let a = h.2.2 in
@@ -129,11 +129,11 @@ record HasClass (bytes : List ℕ) (at : ℕ) (c : Class) (after : ℕ) : Type 0
   fields_counted : Spells u2 bytes (at + 5) field_count (at + 7)
   methods_counted : Spells u2 bytes (at + 7) method_count (at + 9)
   interfaces : Spells (repeat interface_count u2) bytes (at + 9) c.interfaces (at + 9 + 2 * length c.interfaces)
-  fields : Spells (repeat field_count field_info) bytes (at + 9 + 2 * length c.interfaces) c.fields (at + before_methods c)
-  methods : Spells (repeat method_count method_info) bytes (at + before_methods c) c.methods after
+  fields : Spells (repeat field_count field_descriptor_info) bytes (at + 9 + 2 * length c.interfaces) c.fields (at + before_methods c)
+  methods : Spells (repeat method_count method_descriptor_info) bytes (at + before_methods c) c.methods after
   end : after ≡ at + class_width c
 
-has_class : (bytes : List ℕ) (at : ℕ) (c : Class) (after : ℕ) → Spells class_info bytes at c after → HasClass bytes at c after
+has_class : (bytes : List ℕ) (at : ℕ) (c : Class) (after : ℕ) → Spells class_descriptor_info bytes at c after → HasClass bytes at c after
 unfolding Spells table
 has_class bytes at c after h =
     let f = h.3 in
@@ -152,9 +152,9 @@ has_class bytes at c after h =
     let m9 : mc.1 ≡ at + 9 = omega (arith, mc.2.2, m7) in
     let iw = all_wide u2 2 bytes (wide_u2 bytes) ic.0 mc.1 is.0 is.1 is.2 in
     let mi : is.1 ≡ at + 9 + 2 * length is.0 = omega (arith, iw, m9) in
-    let fw = all_wide field_info 7 bytes (wide_field bytes) fc.0 is.1 fs.0 fs.1 fs.2 in
+    let fw = all_wide field_descriptor_info 7 bytes (wide_field bytes) fc.0 is.1 fs.0 fs.1 fs.2 in
     let mf : fs.1 ≡ at + (9 + 2 * length is.0 + 7 * length fs.0) = omega (arith, fw, mi) in
-    let mw = all_wide method_info 12 bytes (λ a x b s. (has_method bytes a x b s).end) mc.0 fs.1 ms.0 ms.1 ms.2 in
+    let mw = all_wide method_descriptor_info 12 bytes (λ a x b s. (has_method bytes a x b s).end) mc.0 fs.1 ms.0 ms.1 ms.2 in
     let whole : c ≡ record { token = h.0; class_ref = r.0; interfaces = is.0; fields = fs.0; methods = ms.0 } = ms.3.0 in
     let z : after ≡ ms.1 = ms.3.1 in
     rw (whole, z) (record {
@@ -174,7 +174,7 @@ has_class bytes at c after h =
       end = omega (arith, mw, mf);
     })
 
-class_made : (bytes : List ℕ) (at : ℕ) (c : Class) (after : ℕ) → HasClass bytes at c after → Spells class_info bytes at c after
+class_made : (bytes : List ℕ) (at : ℕ) (c : Class) (after : ℕ) → HasClass bytes at c after → Spells class_descriptor_info bytes at c after
 unfolding Spells table
 class_made bytes at c after h = (
   c.token,
@@ -216,7 +216,7 @@ edits_by : Bool → List (Option NewMethod) → ℕ → Class → List Edit
 edits_by b news at c = if b then [] else methods_edits news (at + before_methods c) c.methods
 
 methods_inside : (news : List (Option NewMethod)) (bytes : List ℕ) (at : ℕ) (c : Class) (after : ℕ) → HasClass bytes at c after → AreInside (methods_edits news (at + before_methods c) c.methods) (at + before_methods c) after
-methods_inside news bytes at c after p = all_inside method_info (method_edits news) method_width (renewed_method news) bytes (method_item news bytes) p.method_count (at + before_methods c) c.methods after p.methods
+methods_inside news bytes at c after p = all_inside method_descriptor_info (method_edits news) method_width (renewed_method news) bytes (method_item news bytes) p.method_count (at + before_methods c) c.methods after p.methods
 
 by_inside : (b : Bool) (news : List (Option NewMethod)) (bytes : List ℕ) (at : ℕ) (c : Class) (after : ℕ) → HasClass bytes at c after → AreInside (edits_by b news at c) at after
 unfolding edits_by
@@ -227,11 +227,11 @@ by_fit : (b : Bool) (news : List (Option NewMethod)) (bytes : List ℕ) (at : �
 unfolding edits_by
 by_fit true news bytes at c after are small p = tt
 by_fit false news bytes at c after are small p =
-    all_fit method_info (method_edits news) method_width (renewed_method news) bytes (method_item news bytes) (method_fit news bytes are small) p.method_count (at + before_methods c) c.methods after p.methods
+    all_fit method_descriptor_info (method_edits news) method_width (renewed_method news) bytes (method_item news bytes) (method_fit news bytes are small) p.method_count (at + before_methods c) c.methods after p.methods
 
-by_renewed : (b : Bool) (news : List (Option NewMethod)) (bytes out : List ℕ) (at : ℕ) (c : Class) (after : ℕ) → length out ≡ length bytes → Spells class_info bytes at c after → IsEdited (edits_by b news at c) at after bytes out → Spells class_info out at (class_by b news c) after
+by_renewed : (b : Bool) (news : List (Option NewMethod)) (bytes out : List ℕ) (at : ℕ) (c : Class) (after : ℕ) → length out ≡ length bytes → Spells class_descriptor_info bytes at c after → IsEdited (edits_by b news at c) at after bytes out → Spells class_descriptor_info out at (class_by b news c) after
 unfolding edits_by class_by
-by_renewed true news bytes out at c after len h ed = spelled_same class_info bytes out at c after len ed h
+by_renewed true news bytes out at c after len h ed = spelled_same class_descriptor_info bytes out at c after len ed h
 by_renewed false news bytes out at c after len h ed =
     let p = has_class bytes at c after h in
     let mid = at + before_methods c in
@@ -251,8 +251,8 @@ by_renewed false news bytes out at c after len h ed =
       fields_counted = spelled_same u2 bytes out (at + 5) p.field_count (at + 7) len (same_part at mid (at + 5) (at + 7) bytes out s (omega arith) (omega arith)) p.fields_counted;
       methods_counted = spelled_same u2 bytes out (at + 7) p.method_count (at + 9) len (same_part at mid (at + 7) (at + 9) bytes out s (omega arith) (omega arith)) p.methods_counted;
       interfaces = spelled_same (repeat p.interface_count u2) bytes out (at + 9) c.interfaces (at + 9 + 2 * length c.interfaces) len (same_part at mid (at + 9) (at + 9 + 2 * length c.interfaces) bytes out s (omega arith) (omega arith)) p.interfaces;
-      fields = spelled_same (repeat p.field_count field_info) bytes out (at + 9 + 2 * length c.interfaces) c.fields mid len (same_part at mid (at + 9 + 2 * length c.interfaces) mid bytes out s (omega arith) (omega arith)) p.fields;
-      methods = all_renewed method_info (method_edits news) method_width (renewed_method news) bytes (method_item news bytes) out len p.method_count mid c.methods after p.methods both.1;
+      fields = spelled_same (repeat p.field_count field_descriptor_info) bytes out (at + 9 + 2 * length c.interfaces) c.fields mid len (same_part at mid (at + 9 + 2 * length c.interfaces) mid bytes out s (omega arith) (omega arith)) p.fields;
+      methods = all_renewed method_descriptor_info (method_edits news) method_width (renewed_method news) bytes (method_item news bytes) out len p.method_count mid c.methods after p.methods both.1;
       end = omega arith;
     })
 
@@ -264,21 +264,21 @@ class_is : (interfaces : ℕ → Bool) (news : List (Option NewMethod)) (c : Cla
 unfolding class_by
 class_is interfaces news c = refl
 
-pub class_item : (interfaces : ℕ → Bool) (news : List (Option NewMethod)) (bytes : List ℕ) → IsItem class_info (class_edits interfaces news) class_width (renewed_class interfaces news) bytes
+pub class_item : (interfaces : ℕ → Bool) (news : List (Option NewMethod)) (bytes : List ℕ) → IsItem class_descriptor_info (class_edits interfaces news) class_width (renewed_class interfaces news) bytes
 class_item interfaces news bytes = record {
   wide = λ at c after h. (has_class bytes at c after h).end;
   inside = λ at c after h. subst (λ es. AreInside es at after) (sym (edits_are interfaces news at c)) (by_inside (interfaces c.class_ref) news bytes at c after (has_class bytes at c after h));
-  renewed = λ out at c after len h ed. subst (λ d. Spells class_info out at d after) (class_is interfaces news c)
+  renewed = λ out at c after len h ed. subst (λ d. Spells class_descriptor_info out at d after) (class_is interfaces news c)
       (by_renewed (interfaces c.class_ref) news bytes out at c after len h (subst (λ es. IsEdited es at after bytes out) (edits_are interfaces news at c) ed));
 }
 
-class_fit : (interfaces : ℕ → Bool) (news : List (Option NewMethod)) (bytes : List ℕ) → AreBytes bytes → AreSmall news → IsFit class_info (class_edits interfaces news) bytes
+class_fit : (interfaces : ℕ → Bool) (news : List (Option NewMethod)) (bytes : List ℕ) → AreBytes bytes → AreSmall news → IsFit class_descriptor_info (class_edits interfaces news) bytes
 class_fit interfaces news bytes are small = record {
   fit = λ at c after h. subst FitBytes (sym (edits_are interfaces news at c)) (by_fit (interfaces c.class_ref) news bytes at c after are small (has_class bytes at c after h));
 }
 
 -- the methods of a class that is no interface stand in the info
-pub class_room : (bytes : List ℕ) (at : ℕ) (c : Class) (after : ℕ) → Spells class_info bytes at c after → after ≡ at + before_methods c + 12 * length c.methods
+pub class_room : (bytes : List ℕ) (at : ℕ) (c : Class) (after : ℕ) → Spells class_descriptor_info bytes at c after → after ≡ at + before_methods c + 12 * length c.methods
 class_room bytes at c after h = let e = (has_class bytes at c after h).end in omega arith
 
 -- ---- the component
@@ -287,7 +287,7 @@ pub record HasClasses (bytes : List ℕ) (d : Descriptor) : Type 0 where
   pub count : ℕ
   pub after : ℕ
   pub head : Spells u1 bytes 0 count 1
-  pub items : Spells (repeat count class_info) bytes 1 d.classes d.types_start
+  pub items : Spells (repeat count class_descriptor_info) bytes 1 d.classes d.types_start
   pub start : d.types_start ≤ length bytes
   pub pool_count : ℕ
   pub counted : Spells u2 bytes d.types_start pool_count (d.types_start + 2)
@@ -302,7 +302,7 @@ has_classes bytes d s =
     let c : Spells u1 bytes 0 h.2.0 h.2.1 = h.2.2 in
     let one : h.2.1 ≡ 1 = omega (arith, c.2) in
     let some : h.2.1 ≤ length bytes = read_within (info_of 11) u1 bytes 0 h.2.0 h.2.1 (omega arith) c in
-    let low : h.1 ≤ length bytes = read_within (info_of 11) (repeat h.2.0 class_info) bytes h.2.1 h.0 h.1 some h.2.3 in
+    let low : h.1 ≤ length bytes = read_within (info_of 11) (repeat h.2.0 class_descriptor_info) bytes h.2.1 h.0 h.1 some h.2.3 in
     let p = h.3 in
     let place : p.0 ≡ h.1 = p.2.0 in
     let same : p.1 ≡ h.1 = p.2.1 in
@@ -317,7 +317,7 @@ has_classes bytes d s =
       count = h.2.0;
       after = t.1;
       head = subst (λ m. Spells u1 bytes 0 h.2.0 m) one c;
-      items = subst (λ m. Spells (repeat h.2.0 class_info) bytes m h.0 h.1) one h.2.3;
+      items = subst (λ m. Spells (repeat h.2.0 class_descriptor_info) bytes m h.0 h.1) one h.2.3;
       start = low;
       pool_count = n.0;
       counted = counted;
@@ -332,7 +332,7 @@ classes_made bytes d h =
     (h.after, (d.classes, d.types_start, (h.count, 1, h.head, h.items), (d.types_start, d.types_start, (refl, refl), (d.pool_types, h.after, (h.pool_count, d.types_start + 2, h.counted, h.types), (refl, refl)))))
 
 before_types : (interfaces : ℕ → Bool) (news : List (Option NewMethod)) (bytes : List ℕ) (d : Descriptor) (h : HasClasses bytes d) → AreInside (descriptor_edits interfaces news d.classes) 1 d.types_start
-before_types interfaces news bytes d h = all_inside class_info (class_edits interfaces news) class_width (renewed_class interfaces news) bytes (class_item interfaces news bytes) h.count 1 d.classes d.types_start h.items
+before_types interfaces news bytes d h = all_inside class_descriptor_info (class_edits interfaces news) class_width (renewed_class interfaces news) bytes (class_item interfaces news bytes) h.count 1 d.classes d.types_start h.items
 
 pub descriptor_inside : (interfaces : ℕ → Bool) (news : List (Option NewMethod)) (bytes : List ℕ) (d : Descriptor) → Stands descriptor_info bytes d → AreInside (descriptor_edits interfaces news d.classes) 0 (length bytes)
 descriptor_inside interfaces news bytes d s =
@@ -343,7 +343,7 @@ descriptor_inside interfaces news bytes d s =
 pub descriptor_fit : (interfaces : ℕ → Bool) (news : List (Option NewMethod)) (bytes : List ℕ) (d : Descriptor) → AreBytes bytes → AreSmall news → Stands descriptor_info bytes d → FitBytes (descriptor_edits interfaces news d.classes)
 descriptor_fit interfaces news bytes d are small s =
     let h = has_classes bytes d s in
-    all_fit class_info (class_edits interfaces news) class_width (renewed_class interfaces news) bytes (class_item interfaces news bytes) (class_fit interfaces news bytes are small) h.count 1 d.classes d.types_start h.items
+    all_fit class_descriptor_info (class_edits interfaces news) class_width (renewed_class interfaces news) bytes (class_item interfaces news bytes) (class_fit interfaces news bytes are small) h.count 1 d.classes d.types_start h.items
 
 pub record IsRenewed (interfaces : ℕ → Bool) (news : List (Option NewMethod)) (bytes out : List ℕ) (d : Descriptor) : Type 0 where
   pub stands : Stands descriptor_info out (renewed_descriptor interfaces news d)
@@ -366,7 +366,7 @@ descriptor_renewed interfaces news bytes out d s r =
         count = h.count;
         after = h.after;
         head = spelled_same u1 bytes out 0 h.count 1 len both.0 h.head;
-        items = all_renewed class_info (class_edits interfaces news) class_width (renewed_class interfaces news) bytes (class_item interfaces news bytes) out len h.count 1 d.classes d.types_start h.items last.0;
+        items = all_renewed class_descriptor_info (class_edits interfaces news) class_width (renewed_class interfaces news) bytes (class_item interfaces news bytes) out len h.count 1 d.classes d.types_start h.items last.0;
         start = omega (arith, h.start, len);
         pool_count = h.pool_count;
         counted = spelled_same u2 bytes out d.types_start h.pool_count (d.types_start + 2) len (same_part d.types_start (length bytes) d.types_start (d.types_start + 2) bytes out same (omega arith) (omega arith)) h.counted;
@@ -378,7 +378,7 @@ descriptor_renewed interfaces news bytes out d s r =
     }
 
 -- where the loop over the classes begins
-pub descriptor_begins : (interfaces : ℕ → Bool) (news : List (Option NewMethod)) (bytes : List ℕ) (d : Descriptor) → Stands descriptor_info bytes d → IsRenewing class_info (class_edits interfaces news) class_width bytes (patched_all (descriptor_edits interfaces news d.classes) bytes) 1 d.classes bytes
+pub descriptor_begins : (interfaces : ℕ → Bool) (news : List (Option NewMethod)) (bytes : List ℕ) (d : Descriptor) → Stands descriptor_info bytes d → IsRenewing class_descriptor_info (class_edits interfaces news) class_width bytes (patched_all (descriptor_edits interfaces news d.classes) bytes) 1 d.classes bytes
 descriptor_begins interfaces news bytes d s =
     let h = has_classes bytes d s in
-    record { here = has_more class_info bytes h.count 1 d.classes d.types_start h.some h.items; low = h.some; long = refl; so_far = refl }
+    record { here = has_more class_descriptor_info bytes h.count 1 d.classes d.types_start h.some h.items; low = h.some; long = refl; so_far = refl }

@@ -3,7 +3,7 @@ use Rattle.std.proofs.Common.{◌≡◌, ℕ, ◌+◌, ◌*◌, ◌≤◌, List,
 use Rattle.cap_bytes.specs.Grammar.{u1, u2, repeat, table}
 use Rattle.cap_bytes.specs.Spelling.{Spells, Stands, info_of}
 use Rattle.cap_bytes.proofs.Wide.{read_within}
-use Rattle.cap_pool.specs.ExportFormat.{Exported, class_info, export_info}
+use Rattle.cap_pool.specs.ExportFormat.{Exported, class_export_info, export_info}
 use Rattle.cap_writing.specs.Edit.{patched_all, AreInside, FitBytes}
 use Rattle.cap_writing.specs.Renewal.{Renews}
 use Rattle.cap_writing.proofs.Same.{spelled_same, same_part}
@@ -24,7 +24,7 @@ record HasExported (bytes : List ℕ) (at : ℕ) (c : Exported) (after : ℕ) : 
   methods : Spells (repeat method_count u2) bytes (at + (4 + 2 * length c.fields)) c.methods after
   end : after ≡ at + exported_width c
 
-has_exported : (bytes : List ℕ) (at : ℕ) (c : Exported) (after : ℕ) → Spells class_info bytes at c after → HasExported bytes at c after
+has_exported : (bytes : List ℕ) (at : ℕ) (c : Exported) (after : ℕ) → Spells class_export_info bytes at c after → HasExported bytes at c after
 unfolding Spells table
 has_exported bytes at c after h =
     let o = h.3 in
@@ -52,7 +52,7 @@ has_exported bytes at c after h =
       end = omega arith;
     })
 
-exported_made : (bytes : List ℕ) (at : ℕ) (c : Exported) (after : ℕ) → HasExported bytes at c after → Spells class_info bytes at c after
+exported_made : (bytes : List ℕ) (at : ℕ) (c : Exported) (after : ℕ) → HasExported bytes at c after → Spells class_export_info bytes at c after
 unfolding Spells table
 exported_made bytes at c after h =
     (c.class_offset, at + 2, h.offset, (h.field_count, at + 3, h.fields_counted, (h.method_count, at + 4, h.methods_counted, (c.fields, at + (4 + 2 * length c.fields), h.fields, (c.methods, after, h.methods, (refl, refl))))))
@@ -61,7 +61,7 @@ methods_inside : (to : ℕ → ℕ) (bytes : List ℕ) (at : ℕ) (c : Exported)
 methods_inside to bytes at c after p =
     all_inside u2 (number_edits to) two_bytes to bytes (number_item to bytes) p.method_count (at + (4 + 2 * length c.fields)) c.methods after p.methods
 
-pub exported_item : (to : ℕ → ℕ) (bytes : List ℕ) → IsItem class_info (exported_edits to) exported_width (renewed_exported to) bytes
+pub exported_item : (to : ℕ → ℕ) (bytes : List ℕ) → IsItem class_export_info (exported_edits to) exported_width (renewed_exported to) bytes
 exported_item to bytes = record {
   wide = λ at c after h. (has_exported bytes at c after h).end;
   inside = λ at c after h.
@@ -85,7 +85,7 @@ exported_item to bytes = record {
       });
 }
 
-exported_fit : (to : ℕ → ℕ) (bytes : List ℕ) → AreBytes bytes → KeepsSmall to → IsFit class_info (exported_edits to) bytes
+exported_fit : (to : ℕ → ℕ) (bytes : List ℕ) → AreBytes bytes → KeepsSmall to → IsFit class_export_info (exported_edits to) bytes
 exported_fit to bytes are keeps = record {
   fit = λ at c after h.
       let p = has_exported bytes at c after h in
@@ -95,7 +95,7 @@ exported_fit to bytes are keeps = record {
 pub record HasExport (bytes : List ℕ) (cs : List Exported) : Type 0 where
   pub count : ℕ
   pub head : Spells u1 bytes 0 count 1
-  pub items : Spells (repeat count class_info) bytes 1 cs (length bytes)
+  pub items : Spells (repeat count class_export_info) bytes 1 cs (length bytes)
   pub some : 1 ≤ length bytes
 
 pub has_export : (bytes : List ℕ) (cs : List Exported) → Stands export_info bytes cs → HasExport bytes cs
@@ -105,14 +105,14 @@ has_export bytes cs s =
     let c : Spells u1 bytes 0 h.2.0 h.2.1 = h.2.2 in
     let one : h.2.1 ≡ 1 = omega (arith, c.2) in
     let some : h.2.1 ≤ length bytes = read_within (info_of 10) u1 bytes 0 h.2.0 h.2.1 (omega arith) c in
-    let low : h.1 ≤ length bytes = read_within (info_of 10) (repeat h.2.0 class_info) bytes h.2.1 h.0 h.1 some h.2.3 in
+    let low : h.1 ≤ length bytes = read_within (info_of 10) (repeat h.2.0 class_export_info) bytes h.2.1 h.0 h.1 some h.2.3 in
     let high : length bytes ≤ h.1 = h.3.2.0 in
     let end : h.1 ≡ length bytes = omega arith in
     let e : cs ≡ h.0 = h.3.3.0 in
     record {
       count = h.2.0;
       head = subst (λ m. Spells u1 bytes 0 h.2.0 m) one c;
-      items = rw e (subst (λ m. Spells (repeat h.2.0 class_info) bytes m h.0 (length bytes)) one (subst (λ m. Spells (repeat h.2.0 class_info) bytes h.2.1 h.0 m) end h.2.3));
+      items = rw e (subst (λ m. Spells (repeat h.2.0 class_export_info) bytes m h.0 (length bytes)) one (subst (λ m. Spells (repeat h.2.0 class_export_info) bytes h.2.1 h.0 m) end h.2.3));
       some = omega arith;
     }
 
@@ -125,29 +125,29 @@ pub export_inside : (to : ℕ → ℕ) (bytes : List ℕ) (cs : List Exported) �
 export_inside to bytes cs s =
     let h = has_export bytes cs s in
     inside_from (export_edits to cs) 0 1 (length bytes) (omega arith)
-    (all_inside class_info (exported_edits to) exported_width (renewed_exported to) bytes (exported_item to bytes) h.count 1 cs (length bytes) h.items)
+    (all_inside class_export_info (exported_edits to) exported_width (renewed_exported to) bytes (exported_item to bytes) h.count 1 cs (length bytes) h.items)
 
 pub export_fit : (to : ℕ → ℕ) (bytes : List ℕ) (cs : List Exported) → AreBytes bytes → KeepsSmall to → Stands export_info bytes cs → FitBytes (export_edits to cs)
 export_fit to bytes cs are keeps s =
     let h = has_export bytes cs s in
-    all_fit class_info (exported_edits to) exported_width (renewed_exported to) bytes (exported_item to bytes) (exported_fit to bytes are keeps) h.count 1 cs (length bytes) h.items
+    all_fit class_export_info (exported_edits to) exported_width (renewed_exported to) bytes (exported_item to bytes) (exported_fit to bytes are keeps) h.count 1 cs (length bytes) h.items
 
 pub export_renewed : (to : ℕ → ℕ) (bytes out : List ℕ) (cs : List Exported) → Stands export_info bytes cs → Renews (export_edits to cs) bytes out → Stands export_info out (map (renewed_exported to) cs)
 export_renewed to bytes out cs s r =
     let h = has_export bytes cs s in
     let len = r.long in
     let is = exported_item to bytes in
-    let inside = all_inside class_info (exported_edits to) exported_width (renewed_exported to) bytes is h.count 1 cs (length bytes) h.items in
+    let inside = all_inside class_export_info (exported_edits to) exported_width (renewed_exported to) bytes is h.count 1 cs (length bytes) h.items in
     let both = edited_split [] (export_edits to cs) 0 1 (length bytes) bytes out (omega arith) inside r.inside in
     export_made out (map (renewed_exported to) cs) (record {
       count = h.count;
       head = spelled_same u1 bytes out 0 h.count 1 len both.0 h.head;
-      items = rw len (all_renewed class_info (exported_edits to) exported_width (renewed_exported to) bytes is out len h.count 1 cs (length bytes) h.items both.1);
+      items = rw len (all_renewed class_export_info (exported_edits to) exported_width (renewed_exported to) bytes is out len h.count 1 cs (length bytes) h.items both.1);
       some = omega (arith, h.some, len);
     })
 
 -- where the loop over them begins
-pub export_begins : (to : ℕ → ℕ) (bytes : List ℕ) (cs : List Exported) → Stands export_info bytes cs → IsRenewing class_info (exported_edits to) exported_width bytes (patched_all (export_edits to cs) bytes) 1 cs bytes
+pub export_begins : (to : ℕ → ℕ) (bytes : List ℕ) (cs : List Exported) → Stands export_info bytes cs → IsRenewing class_export_info (exported_edits to) exported_width bytes (patched_all (export_edits to cs) bytes) 1 cs bytes
 export_begins to bytes cs s =
     let h = has_export bytes cs s in
-    record { here = has_more class_info bytes h.count 1 cs (length bytes) h.some h.items; low = h.some; long = refl; so_far = refl }
+    record { here = has_more class_export_info bytes h.count 1 cs (length bytes) h.some h.items; low = h.some; long = refl; so_far = refl }

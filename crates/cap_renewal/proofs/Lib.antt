@@ -3,6 +3,7 @@ pub mod Numbers
 pub mod News
 pub mod AppletItems
 pub mod PoolItems
+pub mod RenewedEntries
 pub mod ExportItems
 pub mod ClassItems
 pub mod DescriptorItems

@@ -1,17 +1,22 @@
 -- A pool entry with another offset.
-use Rattle.std.proofs.Common.{◌≡◌, ℕ, ◌+◌, ◌*◌, ◌≤◌, ◌<◌, List, [], ◌∷◌, length, map, take, drop, Bool, true, false, cond, Option, Some, None, slice_index, refl, sym, ap, subst, ◌∙◌, arith}
+use Rattle.std.proofs.Common.{◌≡◌, ℕ, ◌+◌, ◌≤◌, ◌<◌, List, [], ◌∷◌, length, map, take, drop, Option, Some, None, slice_index, refl, sym, ap, subst, ◌∙◌, arith}
 use Rattle.std.proofs.lemmas.List.{get_or-take, get_or-drop, drop_more}
 use Rattle.byteorder.specs.Endian.{big_bytes}
 use Rattle.cap_bytes.specs.Grammar.{number, that, u2, repeat}
 use Rattle.cap_bytes.specs.Spelling.{Spells, Stands, info_of}
 use Rattle.cap_bytes.proofs.Wide.{read_within}
 use Rattle.cap_pool.specs.PoolFormat.{Entry, is_pool_tag, entry_info, pool_info}
+use Rattle.cap_pool.specs.declared.pool_reference.PoolReference.{PoolReference}
+use Rattle.cap_pool.specs.declared.pool_reference.PoolReference.TheVariants.{StaticMethod}
+use Rattle.cap_pool.specs.declared.pool_reference.StaticReference.TheVariants.{Internal}
+use Rattle.cap_pool.specs.PoolReference.{referred}
+use Rattle.cap_pool.proofs.OwnMethods.{own-told}
 use Rattle.cap_writing.specs.Edit.{patched_all, AreInside, FitBytes}
 use Rattle.cap_writing.specs.Renewal.{Renews, IsEdited, AreSame}
 use Rattle.cap_writing.proofs.Same.{spelled_same, same_part}
 use Rattle.cap_writing.proofs.Patches.{edited_split, inside_from}
 use Rattle.cap_renewal.specs.NewMethods.{AreBytes, KeepsSmall}
-use Rattle.cap_renewal.specs.PoolEdits.{own_method, entry_by, renewed_entry, edits_by, entry_edits, entry_width, pool_edits}
+use Rattle.cap_renewal.specs.PoolEdits.{own_offset, own_method, entry_by, renewed_entry, edits_by, entry_edits, entry_width, pool_edits}
 use Rattle.cap_renewal.proofs.Items.{IsItem, IsFit, all_inside, all_fit, all_renewed, IsRenewing, has_more}
 
 record HasEntry (bytes : List ℕ) (at : ℕ) (e : Entry) (after : ℕ) : Type 0 where
@@ -62,9 +67,9 @@ by_renewed to bytes out at e after (Some o) len h ed =
     three_bytes (at + 1) out (omega arith) ∙ ap (λ b. b ∷ take 2 (drop (at + 1 + 1) out)) (kept ∙ sym old) ∙ ap (λ bs. slice_index e.bytes 0 ∷ bs) there in
     (e.tag, at + 1, spelled_same (number 1 (that is_pool_tag)) bytes out at e.tag (at + 1) len one p.tag, (slice_index e.bytes 0 ∷ big_bytes 2 (to o), at + 4, (omega arith, sym three, omega arith), (refl, end)))
 
-by_fit : (to : ℕ → ℕ) (at v : ℕ) (b : Bool) → to v < 65536 → FitBytes (edits_by to at (cond b (Some v) None))
-by_fit to at v true h = (h, tt)
-by_fit to at v false h = tt
+by_fit : (to : ℕ → ℕ) (at : ℕ) (e : Entry) (x : PoolReference) → referred e ≡ x → slice_index e.bytes 1 < 256 → slice_index e.bytes 2 < 256 → KeepsSmall to → FitBytes (edits_by to at (own_offset x))
+by_fit to at e (StaticMethod (Internal o)) is b c keeps = let told = (own-told e o [] is).told in (keeps.each o (omega (arith, told, b, c)), tt)
+by_fit to at e other is b c keeps = tt
 
 pub entry_item : (to : ℕ → ℕ) (bytes : List ℕ) → IsItem entry_info (entry_edits to) entry_width (renewed_entry to) bytes
 entry_item to bytes = record {
@@ -81,7 +86,7 @@ entry_fit to bytes are keeps = record {
       let c = first_byte bytes at e after p 2 (omega arith) in
       let x = are.each (at + 1 + 1) in
       let y = are.each (at + 1 + 2) in
-      by_fit to at (256 * slice_index e.bytes 1 + slice_index e.bytes 2) _ (keeps.each (256 * slice_index e.bytes 1 + slice_index e.bytes 2) (omega arith));
+      by_fit to at e (referred e) refl (omega (arith, b, x)) (omega (arith, c, y)) keeps;
 }
 
 pub record HasPool (bytes : List ℕ) (es : List Entry) : Type 0 where

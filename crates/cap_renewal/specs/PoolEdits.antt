@@ -1,15 +1,21 @@
 -- The constant pool (JCVM 2.2, section 6.7) with the offsets of the package's own static methods renewed.
-use Rattle.std.specs.Prelude.{◌+◌, ◌*◌, ℕ, List, [], ◌∷◌, Option, Some, None, slice_index, nat_lt, ◌==◌, ◌&&◌, if◌then◌else◌}
+use Rattle.std.specs.Prelude.{◌+◌, ℕ, List, [], ◌∷◌, Option, Some, None, slice_index}
 use Rattle.byteorder.specs.Endian.{big_bytes}
 use Rattle.cap_pool.specs.PoolFormat.{Entry}
+use Rattle.cap_pool.specs.declared.pool_reference.PoolReference.{PoolReference}
+use Rattle.cap_pool.specs.declared.pool_reference.PoolReference.TheVariants.{StaticMethod}
+use Rattle.cap_pool.specs.declared.pool_reference.StaticReference.TheVariants.{Internal}
+use Rattle.cap_pool.specs.PoolReference.{referred}
 use Rattle.cap_writing.specs.Edit.{Edit}
 use Rattle.cap_renewal.specs.Along.{along}
 
--- the offset of the static method that an entry names: a StaticMethodref that is internal has a clear high bit in its
--- first byte, and the offset in the other two
+-- the offset of the package's own static method that an entry names: the last two of its three bytes
+abbrev pub own_offset : PoolReference → Option ℕ
+own_offset (StaticMethod (Internal offset)) = Some offset
+own_offset other = None
+
 abbrev pub own_method : Entry → Option ℕ
-own_method e = if e.tag == 6 && nat_lt (slice_index e.bytes 0) 128
-    then Some (256 * slice_index e.bytes 1 + slice_index e.bytes 2) else None
+own_method e = own_offset (referred e)
 
 abbrev pub entry_by : (ℕ → ℕ) → Entry → Option ℕ → Entry
 entry_by to e None = e

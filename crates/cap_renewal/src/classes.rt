@@ -7,7 +7,7 @@ ghost use Rattle.cap_writing.specs.Edit.{patched_all};
 ghost use Rattle.cap_writing.specs.Renewal.{Renews};
 ghost use Rattle.cap_renewal.specs.ClassEdits.{class_edits, classes_edits, renewed_class};
 ghost use Rattle.cap_renewal.specs.NewMethods.{to};
-ghost use Rattle.cap_renewal.specs.Rooms.{AllRooms, HasRoom};
+ghost use Rattle.cap_renewal.specs.Rooms.{AllRooms, TablesFit};
 
 use crate::bytes::are_bytes;
 use crate::new_methods::{NewMethods, are_small};
@@ -43,7 +43,7 @@ fn write_classes(classes: &ClassPart<'_>, news: &NewMethods, info: &mut [u8])
 /// Renews the offsets in the dispatch tables of a record. An interface has none.
 #[tactic(auto, using(crate::proofs::Steps::interface_kept, crate::proofs::Steps::two_tables))]
 fn write_class(class: &ClassInfo<'_>, news: &NewMethods, info: &mut [u8])
-    requires { HasRoom (length info.old) (class_seen class.now) }
+    requires { TablesFit (length info.old) (class_seen class.now) }
     ensures value { info.new ≡ patched_all (class_edits (to news.now) (class_seen class.now)) info.old }
     ensures long { length info.new ≡ length info.old }
 {

@@ -1,7 +1,7 @@
 ghost use Rattle.std.specs.Prelude.{◌≡◌, ◌≤◌, ◌+◌, ◌*◌, length};
 ghost use Rattle.offset_set.specs.Bits.{holds};
 ghost use Rattle.cap_bytes.specs.Spelling.{Stands};
-ghost use Rattle.cap_desc.specs.ClassRecords.{class_seen};
+ghost use Rattle.cap_desc.specs.ClassRecords.{described_class_seen};
 ghost use Rattle.cap_desc.specs.DescriptorFormat.{descriptor_info};
 ghost use Rattle.cap_desc.specs.Descriptors.{descriptor_seen};
 ghost use Rattle.cap_desc.specs.MemberLists.{methods_left};
@@ -60,10 +60,10 @@ fn write_class(
     at: usize,
     info: &mut [u8],
 ) -> usize
-    requires { at + class_width (class_seen class.now) ≤ length info.old }
-    ensures value { info.new ≡ patched_all (class_edits (holds interfaces.now) news.now at (class_seen class.now)) info.old }
+    requires { at + class_width (described_class_seen class.now) ≤ length info.old }
+    ensures value { info.new ≡ patched_all (class_edits (holds interfaces.now) news.now at (described_class_seen class.now)) info.old }
     ensures long { length info.new ≡ length info.old }
-    ensures end { result ≡ at + class_width (class_seen class.now) }
+    ensures end { result ≡ at + class_width (described_class_seen class.now) }
 {
     let interface_count = class.interface_count() as usize;
     let methods = at + (9 + 2 * interface_count + 7 * class.field_count() as usize);

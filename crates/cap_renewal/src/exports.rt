@@ -1,6 +1,6 @@
 ghost use Rattle.std.specs.Prelude.{◌≡◌, length, map};
 ghost use Rattle.cap_bytes.specs.Spelling.{Stands};
-ghost use Rattle.cap_pool.specs.Export.{classes as exported};
+ghost use Rattle.cap_pool.specs.Export.{export_seen as exported};
 ghost use Rattle.cap_pool.specs.ExportFormat.{export_info};
 ghost use Rattle.cap_writing.specs.Edit.{patched_all};
 ghost use Rattle.cap_writing.specs.Renewal.{Renews};

@@ -9,7 +9,7 @@ ghost use Rattle.cap_renewal.specs.PoolEdits.{entry_edits, own_method, pool_edit
 
 use crate::bytes::are_bytes;
 use crate::new_methods::{NewMethods, are_small};
-use cap_pool::{Pool, PoolEntry};
+use cap_pool::{Pool, PoolEntry, PoolReference, StaticReference};
 use cap_writing::{patch, patches_renew};
 
 /// Renews the offsets of the package's own static methods in the info of the ConstantPool component,
@@ -52,9 +52,8 @@ fn write_entry(entry: &PoolEntry, news: &NewMethods, at: usize, info: &mut [u8])
 fn own_method(entry: &PoolEntry) -> Option<u16>
     ensures { result ≡ own_method (entry_seen entry.now) }
 {
-    if entry.tag == 6 && entry.bytes[0] < 128 {
-        Some(256 * u16::from(entry.bytes[1]) + u16::from(entry.bytes[2]))
-    } else {
-        None
+    match entry.reference() {
+        PoolReference::StaticMethod(StaticReference::Internal(offset)) => Some(offset),
+        _ => None,
     }
 }

@@ -4,7 +4,7 @@ use Rattle.std.specs.Prelude.{if◌then◌else◌, ◌==◌, slice_index, find}
 use Rattle.std.proofs.lemmas.List.{map-append}
 use Rattle.cap_desc.specs.DescriptorFormat.{Method, Class}
 use Rattle.cap_desc.specs.Members.{methods_but}
-use Rattle.cap_components.specs.PackageRecord.{PackageRecord, described, names_interface}
+use Rattle.cap_components.specs.PackageRecord.{PackageRecord, described_methods, names_interface}
 use Rattle.cap_renewal.specs.declared.new_methods.NewMethod.{NewMethod}
 use Rattle.cap_renewal.specs.NewMethods.{at_offset, offset_or, to, numbers_or, numbers_of}
 use Rattle.cap_renewal.specs.DescriptorEdits.{renewed_method, renewed_class, method_by}
@@ -16,7 +16,7 @@ use Rattle.cap_laying.specs.Blocks.{blocks, indexes_of}
 use Rattle.cap_laying.specs.Members.{new_places, start_of}
 use Rattle.cap_laying.specs.Standing.{StandsAnew, AllStand}
 use Rattle.jc_decode.specs.declared.symbols.Laid.{Laid}
-use Rattle.cap_rewritten.specs.Changes.{Source, Change, sources, changes, changes_of, stood_at, offset_by, now_at, laid_but}
+use Rattle.cap_rewritten.specs.Changes.{FormerMethod, Change, sources, changes, changes_of, stood_at, offset_by, now_at, laid_but}
 use Rattle.cap_rewritten.specs.Rewritten.{bare_method, bare_class}
 use Rattle.cap_rewritten.specs.Writing.{IsMemberOf, AreMembersOf, IsWrittenAnew, places}
 use Rattle.cap_rewritten.proofs.Lists.{Each, Has, each_at, each_of, each_map, map_each}
@@ -27,35 +27,35 @@ use Rattle.cap_rewritten.proofs.Slots.{slot, kept, slot_none, at_offset_of, by_o
 -- ---- the pairs
 
 pub record Pair : Type 0 where
-  pub source : Source
+  pub source : FormerMethod
   pub member : Member
 
-pub pairs_of : List Source → List Member → List Pair
+pub pairs_of : List FormerMethod → List Member → List Pair
 pairs_of [] ms = []
 pairs_of (s ∷ ss) [] = []
 pairs_of (s ∷ ss) (m ∷ ms) = record { source = s; member = m } ∷ pairs_of ss ms
 
-abbrev pub source_in : Pair → Source
+abbrev pub source_in : Pair → FormerMethod
 source_in z = z.source
 
 abbrev pub member_in : Pair → Member
 member_in z = z.member
 
-pub pair_sources : (info : List ℕ) (ss : List Source) (ms : List Member) → AreMembersOf info ss ms → map source_in (pairs_of ss ms) ≡ ss
+pub pair_sources : (info : List ℕ) (ss : List FormerMethod) (ms : List Member) → AreMembersOf info ss ms → map source_in (pairs_of ss ms) ≡ ss
 unfolding pairs_of
 pair_sources info [] [] a = refl
 pair_sources info [] (m ∷ ms) a = absurd a
 pair_sources info (s ∷ ss) [] a = absurd a
 pair_sources info (s ∷ ss) (m ∷ ms) a = ap (λ xs. s ∷ xs) (pair_sources info ss ms a.1)
 
-pub pair_members : (info : List ℕ) (ss : List Source) (ms : List Member) → AreMembersOf info ss ms → map member_in (pairs_of ss ms) ≡ ms
+pub pair_members : (info : List ℕ) (ss : List FormerMethod) (ms : List Member) → AreMembersOf info ss ms → map member_in (pairs_of ss ms) ≡ ms
 unfolding pairs_of
 pair_members info [] [] a = refl
 pair_members info [] (m ∷ ms) a = absurd a
 pair_members info (s ∷ ss) [] a = absurd a
 pair_members info (s ∷ ss) (m ∷ ms) a = ap (λ xs. m ∷ xs) (pair_members info ss ms a.1)
 
-pub pair_each : (info : List ℕ) (ss : List Source) (ms : List Member) → AreMembersOf info ss ms → Each (λ (z : Pair). IsMemberOf info z.source z.member) (pairs_of ss ms)
+pub pair_each : (info : List ℕ) (ss : List FormerMethod) (ms : List Member) → AreMembersOf info ss ms → Each (λ (z : Pair). IsMemberOf info z.source z.member) (pairs_of ss ms)
 unfolding pairs_of
 pair_each info [] [] a = tt
 pair_each info [] (m ∷ ms) a = absurd a
@@ -66,7 +66,7 @@ pair_each info (s ∷ ss) (m ∷ ms) a = (a.0, pair_each info ss ms a.1)
 abbrev pub change_in : List (Option NewMethod) → Pair → Change
 change_in news z = record { source = z.source; now = renewed_method news z.source.method }
 
-changes_are : (info : List ℕ) (news : List (Option NewMethod)) (ss : List Source) (ms : List Member) → AreMembersOf info ss ms → changes_of ss (map (renewed_method news) (map method_of ss)) ≡ map (change_in news) (pairs_of ss ms)
+changes_are : (info : List ℕ) (news : List (Option NewMethod)) (ss : List FormerMethod) (ms : List Member) → AreMembersOf info ss ms → changes_of ss (map (renewed_method news) (map method_of ss)) ≡ map (change_in news) (pairs_of ss ms)
 unfolding pairs_of
 changes_are info news [] [] a = refl
 changes_are info news [] (m ∷ ms) a = absurd a
@@ -111,8 +111,8 @@ pub all_changes : (p q : PackageRecord) (laid : List (Option Laid)) (ms : List M
 all_changes p q laid ms w =
     let set = names_interface p.classes in
     let news = places p ms in
-    let was : map method_of (sources p laid) ≡ described p = sources_method 0 (described p) (laid_but set p.description.items.classes laid) (length_but set p.description.items.classes laid w.each) in
-    let is : described q ≡ map (renewed_method news) (map method_of (sources p laid)) =
+    let was : map method_of (sources p laid) ≡ described_methods p = sources_method 0 (described_methods p) (laid_but set p.description.items.classes laid) (length_but set p.description.items.classes laid w.each) in
+    let is : described_methods q ≡ map (renewed_method news) (map method_of (sources p laid)) =
     but_same (names_interface q.classes) set q.description.items.classes (λ n. ap (λ cs. names_interface cs n) w.classes ∙ same_interfaces (to news) p.classes n)
     ∙ ap (λ d. methods_but set d.classes) w.description ∙ but_renewed set news p.description.items.classes ∙ ap (map (renewed_method news)) (sym was) in
     ap (changes_of (sources p laid)) is ∙ changes_are p.methods.info news (sources p laid) ms w.members

@@ -1,6 +1,5 @@
 -- A method that is written has the code that is laid, or the header that it had.
-use Rattle.std.proofs.Common.{◌≡◌, ◌≤◌, ◌+◌, ℕ, zero, suc, List, [], ◌∷◌, ◌++◌, length, take, drop, Bool, true, false, Some, refl, sym, ap, ◌∙◌, arith, length-take, length-drop}
-use Rattle.std.specs.Prelude.{if◌then◌else◌}
+use Rattle.std.proofs.Common.{◌≡◌, ◌≤◌, ◌+◌, ℕ, zero, suc, List, [], ◌∷◌, ◌++◌, length, take, drop, Some, refl, sym, ap, ◌∙◌, arith, length-take, length-drop}
 use Rattle.std.proofs.lemmas.List.{drop-drop}
 use Rattle.cap_bytes.specs.Number.{number_at}
 use Rattle.cap_bytes.specs.Spelling.{info_of}
@@ -9,10 +8,11 @@ use Rattle.cap_method.specs.MethodFormat.{Header, header_info}
 use Rattle.cap_method.specs.MethodPart.{HeaderAt}
 use Rattle.cap_components.specs.MethodPlaces.{size_by}
 use Rattle.cap_package.specs.HeaderChecks.{header_in}
-use Rattle.cap_laying.specs.HeaderBytes.{Numbers, is_compact, compact_bytes, extended_bytes, header_bytes, header_size, header_of}
+use Rattle.cap_laying.specs.HeaderBytes.{header_bytes, header_size, header_of}
 use Rattle.cap_laying.specs.Member.{numbers_of}
 use Rattle.cap_laying.specs.Laws.{AreBytes, HeadersReadBack}
 use Rattle.jc_decode.specs.declared.symbols.Laid.{Laid}
+use Rattle.cap_laying.proofs.HeaderLaws.{length_header}
 use Rattle.cap_rewritten.specs.Written.{lead_bytes}
 use Rattle.cap_rewritten.proofs.Headers.{header_sized, some_bytes, front_of, first_same, drop_take}
 
@@ -31,14 +31,6 @@ take_more (suc k) n (x ∷ xs) = let e : suc k + n ≡ suc (k + n) = omega arith
 
 -- ---- code
 
-header_long : (n : Numbers) → length (header_bytes n) ≡ header_size n
-unfolding header_bytes
-header_long n = by (is_compact n)
-  where
-    by : (b : Bool) → length (if b then compact_bytes n else extended_bytes n) ≡ (if b then 2 else 4)
-    by true = refl
-    by false = refl
-
 pub header_there : (info : List ℕ) (at : ℕ) (h : Header) → HeaderAt info at h → header_in info at ≡ Some h
 unfolding header_in
 header_there info at h s = rw (spelled-read (info_of 7) header_info info at h s.0 s.1) refl
@@ -53,7 +45,7 @@ pub code_at : (info : List ℕ) (at : ℕ) (laid : Laid) → HeadersReadBack →
 code_at info at laid back small e =
     let n = numbers_of laid in
     let hs = header_bytes n in
-    let long = header_long n in
+    let long = length_header n in
     let lead : take (header_size n) (drop at info) ≡ hs =
     sym (take_more (header_size n) (length laid.code) (drop at info)) ∙ ap (take (header_size n)) e ∙ ap (λ k. take k (hs ++ laid.code)) (sym long) ∙ take_front hs laid.code in
     let header = header_there info at (header_of n) (back n info at small lead) in

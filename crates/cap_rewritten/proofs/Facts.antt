@@ -3,23 +3,24 @@ use Rattle.std.proofs.Common.{◌≡◌, ◌≤◌, ◌+◌, ℕ, List, [], ◌�
 use Rattle.std.specs.Prelude.{if◌then◌else◌, nat_lt, ◌==◌}
 use Rattle.std.specs.Int.RustNames.{bit_and}
 use Rattle.std.proofs.lemmas.Bool.{false≢true}
+use Rattle.jc_base.proofs.Eaching.{Each-from_All}
 use Rattle.cap_method.specs.MethodFormat.{Header}
 use Rattle.cap_desc.specs.DescriptorFormat.{Method}
 use Rattle.cap_components.specs.declared.fault.PackFault.{PackFault}
 use Rattle.cap_components.specs.Descriptions.{argument_words}
 use Rattle.cap_components.specs.Parts.{Lent}
-use Rattle.cap_components.specs.PackageRecord.{PackageRecord, described, names_interface}
+use Rattle.cap_components.specs.PackageRecord.{PackageRecord, described_methods, names_interface}
 use Rattle.cap_package.specs.MethodChecks.{code_end, outside_fault}
 use Rattle.cap_package.specs.HeaderChecks.{header_in, is_abstract, is_static, registers_fault, registers_by, length_fault, length_by, arguments_fault, arguments_by, abstract_fault, abstract_by}
 use Rattle.cap_package.proofs.HeaderLaws.{has-header, ends-within}
 use Rattle.cap_laying.specs.HeaderBytes.{header_of, is_compact}
 use Rattle.cap_laying.specs.Member.{numbers_of}
 use Rattle.jc_decode.specs.declared.symbols.Laid.{Laid}
-use Rattle.cap_rewritten.specs.Changes.{Source, Change, sources, changes, now_at, laid_but}
+use Rattle.cap_rewritten.specs.Changes.{FormerMethod, Change, sources, changes, now_at, laid_but}
 use Rattle.cap_rewritten.specs.Written.{IsAs, IsWritten}
 use Rattle.cap_rewritten.specs.Rewritten.{bare_method, IsRewritten}
 use Rattle.cap_rewritten.specs.Laying.{IsFor, IsLaidFor, AreLaidFor}
-use Rattle.cap_rewritten.proofs.Lists.{Each, Has, each_at, each_of, each_all, map_each, none_each, each_none, faults_map}
+use Rattle.cap_rewritten.proofs.Lists.{Each, Has, each_at, each_of, map_each, none_each, each_none, faults_map}
 use Rattle.cap_rewritten.proofs.Agreed.{Agrees}
 use Rattle.cap_rewritten.proofs.Zipped.{length_map, now_of, source_of, method_of, old_of, changes_now, changes_source, sources_method, length_but}
 use Rattle.cap_rewritten.proofs.Bare.{but_same, same_interfaces, alike, same_arguments}
@@ -28,44 +29,44 @@ use Rattle.cap_rewritten.proofs.Headers.{moved}
 
 -- ---- the lists
 
-pub bare_described : (p q : PackageRecord) (laid : List (Option Laid)) → IsRewritten p laid q → map bare_method (described q) ≡ map bare_method (described p)
+pub bare_described : (p q : PackageRecord) (laid : List (Option Laid)) → IsRewritten p laid q → map bare_method (described_methods q) ≡ map bare_method (described_methods p)
 bare_described p q laid r =
     let set = names_interface p.classes in
     ap (map bare_method) (but_same (names_interface q.classes) set q.description.items.classes
     (λ n. ap (λ cs. names_interface cs n) r.classes ∙ same_interfaces (now_at (changes p laid q)) p.classes n))
     ∙ (alike set p.description.items.classes q.description.items.classes r.description.classes).described
 
-many_sources : (p : PackageRecord) (laid : List (Option Laid)) (q : PackageRecord) → IsRewritten p laid q → map method_of (sources p laid) ≡ described p
-many_sources p laid q r = sources_method 0 (described p) (laid_but (names_interface p.classes) p.description.items.classes laid)
+many_sources : (p : PackageRecord) (laid : List (Option Laid)) (q : PackageRecord) → IsRewritten p laid q → map method_of (sources p laid) ≡ described_methods p
+many_sources p laid q r = sources_method 0 (described_methods p) (laid_but (names_interface p.classes) p.description.items.classes laid)
     (length_but (names_interface p.classes) p.description.items.classes laid r.each)
 
-as_many : (p q : PackageRecord) (laid : List (Option Laid)) → IsRewritten p laid q → length (sources p laid) ≡ length (described q)
+as_many : (p q : PackageRecord) (laid : List (Option Laid)) → IsRewritten p laid q → length (sources p laid) ≡ length (described_methods q)
 as_many p q laid r =
     let a = ap length (many_sources p laid q r) in
     let b = length_map method_of (sources p laid) in
     let c = ap length (bare_described p q laid r) in
-    let d = length_map bare_method (described q) in
-    let e = length_map bare_method (described p) in
+    let d = length_map bare_method (described_methods q) in
+    let e = length_map bare_method (described_methods p) in
     omega arith
 
-pub news : (p q : PackageRecord) (laid : List (Option Laid)) → IsRewritten p laid q → map now_of (changes p laid q) ≡ described q
-news p q laid r = changes_now (sources p laid) (described q) (as_many p q laid r)
+pub news : (p q : PackageRecord) (laid : List (Option Laid)) → IsRewritten p laid q → map now_of (changes p laid q) ≡ described_methods q
+news p q laid r = changes_now (sources p laid) (described_methods q) (as_many p q laid r)
 
 pub froms : (p q : PackageRecord) (laid : List (Option Laid)) → IsRewritten p laid q → map source_of (changes p laid q) ≡ sources p laid
-froms p q laid r = changes_source (sources p laid) (described q) (as_many p q laid r)
+froms p q laid r = changes_source (sources p laid) (described_methods q) (as_many p q laid r)
 
-pub olds : (p q : PackageRecord) (laid : List (Option Laid)) → IsRewritten p laid q → map old_of (changes p laid q) ≡ described p
+pub olds : (p q : PackageRecord) (laid : List (Option Laid)) → IsRewritten p laid q → map old_of (changes p laid q) ≡ described_methods p
 olds p q laid r = sym (map_twice method_of source_of (changes p laid q)) ∙ ap (map method_of) (froms p q laid r) ∙ many_sources p laid q r
 
 -- what holds of each method before holds of each change
-pub old_each : (p q : PackageRecord) (laid : List (Option Laid)) (P : Method → Type 0) → IsRewritten p laid q → Each P (described p) → Each (λ (c : Change). P c.source.method) (changes p laid q)
+pub old_each : (p q : PackageRecord) (laid : List (Option Laid)) (P : Method → Type 0) → IsRewritten p laid q → Each P (described_methods p) → Each (λ (c : Change). P c.source.method) (changes p laid q)
 old_each p q laid P r h = map_each P old_of (changes p laid q) (subst (Each P) (sym (olds p q laid r)) h)
 
-pub source_each : (p q : PackageRecord) (laid : List (Option Laid)) (P : Source → Type 0) → IsRewritten p laid q → Each P (sources p laid) → Each (λ (c : Change). P c.source) (changes p laid q)
+pub source_each : (p q : PackageRecord) (laid : List (Option Laid)) (P : FormerMethod → Type 0) → IsRewritten p laid q → Each P (sources p laid) → Each (λ (c : Change). P c.source) (changes p laid q)
 source_each p q laid P r h = map_each P source_of (changes p laid q) (subst (Each P) (sym (froms p q laid r)) h)
 
 -- nothing is at fault after where nothing is at each change
-pub no_faults : (p q : PackageRecord) (laid : List (Option Laid)) (f : Method → Option PackFault) → IsRewritten p laid q → Each (λ (c : Change). f c.now ≡ None) (changes p laid q) → filter_map f (described q) ≡ []
+pub no_faults : (p q : PackageRecord) (laid : List (Option Laid)) (f : Method → Option PackFault) → IsRewritten p laid q → Each (λ (c : Change). f c.now ≡ None) (changes p laid q) → filter_map f (described_methods q) ≡ []
 no_faults p q laid f r h = ap (filter_map f) (sym (news p q laid r)) ∙ faults_map f now_of (changes p laid q) ∙ each_none (λ c. f c.now) (changes p laid q) h
 
 each_same : (cs : List Change) → map (λ (c : Change). bare_method c.now) cs ≡ map (λ (c : Change). bare_method c.source.method) cs → Each (λ (c : Change). bare_method c.now ≡ bare_method c.source.method) cs
@@ -110,11 +111,11 @@ all_well : (p : PackageRecord) (ms : List Method) → Each (λ m. outside_fault 
 all_well p [] o r a = tt
 all_well p (m ∷ ms) o r a = (was_well p m o.0 r.0 a.0, all_well p ms o.1 r.1 a.1)
 
-pub wells : (parts : List Lent) (p : PackageRecord) → Agrees parts p → Each (WasWell p) (described p)
-wells parts p a = all_well p (described p)
-    (none_each (outside_fault p.methods.info (length p.methods.handlers)) (described p) a.outside)
-    (none_each (registers_fault p.methods.info) (described p) a.registers)
-    (none_each (arguments_fault p.methods.info p.description) (described p) a.arguments)
+pub wells : (parts : List Lent) (p : PackageRecord) → Agrees parts p → Each (WasWell p) (described_methods p)
+wells parts p a = all_well p (described_methods p)
+    (none_each (outside_fault p.methods.info (length p.methods.handlers)) (described_methods p) a.outside)
+    (none_each (registers_fault p.methods.info) (described_methods p) a.registers)
+    (none_each (arguments_fault p.methods.info p.description) (described_methods p) a.arguments)
 
 -- ---- the same method after
 
@@ -127,7 +128,7 @@ pub record IsWell (q : PackageRecord) (nargs : ℕ) (m : Method) : Type 0 where
   pub some : is_abstract header ≡ false → 1 ≤ m.bytecode_count
   pub short : is_abstract header ≡ false → m.bytecode_count ≤ 32767
 
-plain : (b : Bool) → (bit_and (if b then 0 else 8) 4 == 4) ≡ false
+pub plain : (b : Bool) → (bit_and (if b then 0 else 8) 4 == 4) ≡ false
 plain true = refl
 plain false = refl
 
@@ -181,11 +182,11 @@ all_facts p q all (c ∷ cs) w f is same = (fact p q all c w.0 f.0 is.0 same.0, 
 pub facts : (parts : List Lent) (p q : PackageRecord) (laid : List (Option Laid)) → Agrees parts p → AreLaidFor p laid → IsRewritten p laid q → Each (Fact p q) (changes p laid q)
 facts parts p q laid a f r =
     let cs = changes p laid q in
-    all_facts p q cs cs (old_each p q laid (WasWell p) r (wells parts p a)) (source_each p q laid (IsLaidFor p) r (each_all (IsLaidFor p) (sources p laid) f))
-    (each_all (IsWritten p q cs) cs r.written) (bares p q laid r)
+    all_facts p q cs cs (old_each p q laid (WasWell p) r (wells parts p a)) (source_each p q laid (IsLaidFor p) r (Each-from_All (IsLaidFor p) (sources p laid) f))
+    (Each-from_All (IsWritten p q cs) cs r.written) (bares p q laid r)
 
 pub all_written : (p q : PackageRecord) (laid : List (Option Laid)) → IsRewritten p laid q → Each (IsWritten p q (changes p laid q)) (changes p laid q)
-all_written p q laid r = each_all (IsWritten p q (changes p laid q)) (changes p laid q) r.written
+all_written p q laid r = Each-from_All (IsWritten p q (changes p laid q)) (changes p laid q) r.written
 
 -- ---- conditions on headers
 
@@ -246,10 +247,10 @@ arguments_well p q c f same =
     ∙ argued old m f.was.header f.well.header (argument_words p.description old.type_offset) f.well.arguments flags n
 
 pub record HasWellHeaders (q : PackageRecord) : Type 0 where
-  pub registers : filter_map (registers_fault q.methods.info) (described q) ≡ []
-  pub lengths : filter_map (length_fault q.methods.info) (described q) ≡ []
-  pub bare : filter_map (abstract_fault q.methods.info) (described q) ≡ []
-  pub arguments : filter_map (arguments_fault q.methods.info q.description) (described q) ≡ []
+  pub registers : filter_map (registers_fault q.methods.info) (described_methods q) ≡ []
+  pub lengths : filter_map (length_fault q.methods.info) (described_methods q) ≡ []
+  pub bare : filter_map (abstract_fault q.methods.info) (described_methods q) ≡ []
+  pub arguments : filter_map (arguments_fault q.methods.info q.description) (described_methods q) ≡ []
 
 pub well_headers : (parts : List Lent) (p q : PackageRecord) (laid : List (Option Laid)) → Agrees parts p → AreLaidFor p laid → IsRewritten p laid q → HasWellHeaders q
 well_headers parts p q laid a l r =

@@ -1,6 +1,7 @@
 -- What is written, component by component, is the package with the code that is laid.
 use Rattle.std.proofs.Common.{◌≡◌, ◌≤◌, ◌<◌, ◌+◌, ℕ, zero, suc, List, [], ◌∷◌, length, map, filter, sum_by, take, drop, All, Option, Some, None, option_map, refl, sym, ap, subst, ◌∙◌, arith}
 use Rattle.std.specs.Prelude.{if◌then◌else◌, ◌==◌, slice_index}
+use Rattle.jc_base.proofs.Eaching.{All-from_Each}
 use Rattle.cap_frame.specs.AppletFormat.{Applet}
 use Rattle.cap_pool.specs.PoolFormat.{Entry}
 use Rattle.cap_pool.specs.ExportFormat.{Exported}
@@ -25,7 +26,7 @@ use Rattle.cap_rewritten.specs.Written.{IsWritten, size_in, handlers_in, caught_
 use Rattle.cap_rewritten.specs.Laying.{AreLaidFor}
 use Rattle.cap_rewritten.specs.Rewritten.{HasSameDescription, bare_class, IsRewritten}
 use Rattle.cap_rewritten.specs.Writing.{IsWrittenAnew, places}
-use Rattle.cap_rewritten.proofs.Lists.{Each, Has, each_at, each_of, each_map, all_each}
+use Rattle.cap_rewritten.proofs.Lists.{Each, Has, each_at, each_of, each_map}
 use Rattle.cap_rewritten.proofs.Ranks.{sums_agree, sum_through}
 use Rattle.cap_rewritten.proofs.Order.{many_of, index_among, entries_among}
 use Rattle.cap_rewritten.proofs.Anew.{Pair, pairs_in, change_in, all_changes, renamed, bare_classes}
@@ -34,7 +35,7 @@ use Rattle.cap_rewritten.proofs.Indexed.{HasRank, rank, placed_known, all_handle
 
 -- ---- names
 
-map_same : {X Y : Type 0} (f g : X → Y) (xs : List X) → ((x : X) → f x ≡ g x) → map f xs ≡ map g xs
+pub map_same : {X Y : Type 0} (f g : X → Y) (xs : List X) → ((x : X) → f x ≡ g x) → map f xs ≡ map g xs
 map_same f g [] h = refl
 map_same f g (x ∷ xs) h = ap (λ y. y ∷ map f xs) (h x) ∙ ap (λ ys. g x ∷ ys) (map_same f g xs h)
 
@@ -131,7 +132,7 @@ rewrites back stand parts p q laid ms s l w =
     let ks = known parts p q laid ms s l w stand back in
     let are : changes p laid q ≡ cs = all_changes p q laid ms w in
     let name : (o : ℕ) → to news o ≡ now_at (changes p laid q) o = λ o. sym (renamed p q laid ms w (told_all p q laid ms w stand) o) in
-    let each : All (IsWritten p q cs) cs = all_each (IsWritten p q cs) cs (each_map (IsWritten p q cs) (change_in news) zs
+    let each : All (IsWritten p q cs) cs = All-from_Each (IsWritten p q cs) cs (each_map (IsWritten p q cs) (change_in news) zs
     (each_of (λ (z : Pair). IsWritten p q cs (change_in news z)) zs (λ z h. written_one parts p q laid ms z s w ks h))) in
     record {
       header = w.header;

@@ -2,17 +2,18 @@
 use Rattle.std.proofs.Common.{◌≡◌, ◌≤◌, ◌<◌, ◌+◌, ◌-◌, ℕ, zero, suc, List, [], ◌∷◌, ◌++◌, length, map, take, drop, sum_by, filter, filter_map, slice_get, max, Bool, true, false, cond, not, ◌&&◌, Option, Some, None, inl, inr, refl, sym, ap, subst, ◌∙◌, arith}
 use Rattle.std.specs.Prelude.{if◌then◌else◌, nat_lt, nat_le, ◌==◌}
 use Rattle.std.proofs.lemmas.Bool.{false≢true, leb-true}
+use Rattle.std.proofs.lemmas.Option.{slice_get_within}
 use Rattle.cap_method.specs.declared.handler.HandlerInfo.{HandlerInfo}
 use Rattle.cap_desc.specs.DescriptorFormat.{Method}
 use Rattle.cap_components.specs.declared.fault.PackFault.TheVariants.{HandlerOutside}
 use Rattle.cap_components.specs.Parts.{Lent}
-use Rattle.cap_components.specs.PackageRecord.{PackageRecord, described, handlers_of}
+use Rattle.cap_components.specs.PackageRecord.{PackageRecord, described_methods, handlers_of}
 use Rattle.cap_package.specs.MethodChecks.{code_start, code_end}
 use Rattle.cap_package.specs.HandlerChecks.{claims, owners, is_within, has_home, entry_fault, claim_fault, numbered, numbered_fault}
 use Rattle.cap_laying.specs.HandlerTable.{AreInside, entries_at}
 use Rattle.jc_decode.specs.declared.symbols.Laid.{Laid}
 use Rattle.jc_decode.specs.declared.symbols.Handler.{Handler}
-use Rattle.cap_rewritten.specs.Changes.{Source, Change, changes, sources_from}
+use Rattle.cap_rewritten.specs.Changes.{FormerMethod, Change, changes, sources_from}
 use Rattle.cap_rewritten.specs.Written.{IsAs, IsWritten, handlers_in, block_of}
 use Rattle.cap_rewritten.specs.Rewritten.{IsRewritten}
 use Rattle.cap_rewritten.specs.Laying.{IsFor, AreLaidFor}
@@ -35,22 +36,22 @@ numbered_at P n (x ∷ xs) h (suc i) lt =
     let e : n + 1 + i ≡ n + suc i = omega arith in
     (r.0, subst (λ k. P (k, r.0)) e r.1)
 
-one_home : (info : List ℕ) (h : HandlerInfo) (ms : List Method) → has_home info h ms ≡ true → length ms ≤ 1
+pub one_home : (info : List ℕ) (h : HandlerInfo) (ms : List Method) → has_home info h ms ≡ true → length ms ≤ 1
 one_home info h [] e = omega arith
 one_home info h (m ∷ []) e = omega arith
 one_home info h (m ∷ n ∷ ms) e = absurd (false≢true e)
 
-one_owner : (info : List ℕ) (ms : List Method) (number : ℕ) (h : HandlerInfo) → entry_fault info ms number h ≡ None → length (filter (claims number) ms) ≤ 1
+pub one_owner : (info : List ℕ) (ms : List Method) (number : ℕ) (h : HandlerInfo) → entry_fault info ms number h ≡ None → length (filter (claims number) ms) ≤ 1
 unfolding entry_fault owners
 one_owner info ms number h e = one_home info h (filter (claims number) ms) (is_told (has_home info h (filter (claims number) ms)) _ e)
 
 abbrev pub OwnedOnce : ℕ → List Method → Type 0
 OwnedOnce n ms = (i : ℕ) → i < n → length (filter (claims i) ms) ≤ 1
 
-pub owned_once : (parts : List Lent) (p : PackageRecord) → Agrees parts p → OwnedOnce (length p.methods.handlers) (described p)
+pub owned_once : (parts : List Lent) (p : PackageRecord) → Agrees parts p → OwnedOnce (length p.methods.handlers) (described_methods p)
 owned_once parts p a i lt =
     let info = p.methods.info in
-    let ms = described p in
+    let ms = described_methods p in
     let both = none_append (filter_map (numbered_fault info ms) (numbered 0 p.methods.handlers)) (filter_map (claim_fault (length p.methods.handlers)) ms) a.handlers in
     let at = numbered_at (λ x. numbered_fault info ms x ≡ None) 0 p.methods.handlers (none_each (numbered_fault info ms) (numbered 0 p.methods.handlers) both.0) i lt in
     let e : 0 + i ≡ i = omega arith in
@@ -69,10 +70,10 @@ claims_inside n m e some =
     let g : nat_lt n (m.handler_index + m.handler_count) ≡ false = ap (λ b. not b && nat_lt n (m.handler_index + m.handler_count)) (sym some) ∙ f in
     grind arith
 
-pub all_claims : (parts : List Lent) (p : PackageRecord) → Agrees parts p → Each (ClaimsInside (length p.methods.handlers)) (described p)
+pub all_claims : (parts : List Lent) (p : PackageRecord) → Agrees parts p → Each (ClaimsInside (length p.methods.handlers)) (described_methods p)
 all_claims parts p a =
     let info = p.methods.info in
-    let ms = described p in
+    let ms = described_methods p in
     let n = length p.methods.handlers in
     let both = none_append (filter_map (numbered_fault info ms) (numbered 0 p.methods.handlers)) (filter_map (claim_fault n) ms) a.handlers in
     let each = none_each (claim_fault n) ms both.1 in
@@ -80,13 +81,13 @@ all_claims parts p a =
 
 -- ---- blocks are apart
 
-pub distinct_numbers : (n : ℕ) (ms : List Method) (ls : List (Option Laid)) → Distinct (λ (s : Source). s.number) (sources_from n ms ls)
+pub distinct_numbers : (n : ℕ) (ms : List Method) (ls : List (Option Laid)) → Distinct (λ (s : FormerMethod). s.number) (sources_from n ms ls)
 distinct_numbers n [] ls = tt
 distinct_numbers n (m ∷ ms) [] = tt
 distinct_numbers n (m ∷ ms) (l ∷ ls) =
     let later = from_number (n + 1) (n + 1) ms ls (omega arith) in (
-      each_of (λ (s : Source). s.number ≡ n → ⊥) (sources_from (n + 1) ms ls)
-          (λ s h. λ e. let k = each_at (λ (x : Source). n + 1 ≤ x.number) (sources_from (n + 1) ms ls) s later h in absurd (omega arith)),
+      each_of (λ (s : FormerMethod). s.number ≡ n → ⊥) (sources_from (n + 1) ms ls)
+          (λ s h. λ e. let k = each_at (λ (x : FormerMethod). n + 1 ≤ x.number) (sources_from (n + 1) ms ls) s later h in absurd (omega arith)),
       distinct_numbers (n + 1) ms ls,
     )
 
@@ -167,7 +168,7 @@ pub all_blocks : (parts : List Lent) (p q : PackageRecord) (laid : List (Option 
 all_blocks parts p q laid a r =
     blocks_apart p (changes p laid q)
     (old_each p q laid (ClaimsInside (length p.methods.handlers)) r (all_claims parts p a))
-    (distinct_map (λ (s : Source). s.number) source_of (changes p laid q) (subst (Distinct (λ (s : Source). s.number)) (sym (froms p q laid r)) (distinct_numbers 0 (described p) _)))
+    (distinct_map (λ (s : FormerMethod). s.number) source_of (changes p laid q) (subst (Distinct (λ (s : FormerMethod). s.number)) (sym (froms p q laid r)) (distinct_numbers 0 (described_methods p) _)))
     (subst (OwnedOnce (length p.methods.handlers)) (sym (olds p q laid r)) (owned_once parts p a))
 
 -- ---- who owns an entry now
@@ -196,7 +197,7 @@ lies_or_claims p q all k c w = by (c.now.handler_count == 0) refl
         let i : c.now.handler_index ≡ below handlers_in (block p) all (block p c) = index_is p q all c w ∙ ap (λ b. if b then 0 else below handlers_in (block p) all (block p c)) e in
         ap (λ n. nat_le n k && nat_lt k (n + c.now.handler_count)) i
 
-owners_are : (p q : PackageRecord) (laid : List (Option Laid)) (k : ℕ) (c : Change) → IsRewritten p laid q → filter (lies_in handlers_in (block p) (changes p laid q) k) (changes p laid q) ≡ c ∷ [] → owners k (described q) ≡ c.now ∷ []
+owners_are : (p q : PackageRecord) (laid : List (Option Laid)) (k : ℕ) (c : Change) → IsRewritten p laid q → filter (lies_in handlers_in (block p) (changes p laid q) k) (changes p laid q) ≡ c ∷ [] → owners k (described_methods q) ≡ c.now ∷ []
 unfolding owners
 owners_are p q laid k c r alone =
     let cs = changes p laid q in
@@ -208,21 +209,16 @@ owners_are p q laid k c r alone =
 
 -- ---- where an entry lies
 
-get_drop : {X : Type 0} (i j : ℕ) (xs : List X) → slice_get (drop i xs) j ≡ slice_get xs (i + j)
+pub get_drop : {X : Type 0} (i j : ℕ) (xs : List X) → slice_get (drop i xs) j ≡ slice_get xs (i + j)
 get_drop zero j xs = let e : 0 + j ≡ j = omega arith in rw e refl
 get_drop (suc i) j [] = refl
 get_drop (suc i) j (x ∷ xs) = let e : suc i + j ≡ suc (i + j) = omega arith in rw e (get_drop i j xs)
 
-get_take : {X : Type 0} (n j : ℕ) (xs : List X) → j < n → slice_get (take n xs) j ≡ slice_get xs j
+pub get_take : {X : Type 0} (n j : ℕ) (xs : List X) → j < n → slice_get (take n xs) j ≡ slice_get xs j
 get_take zero j xs h = absurd (omega arith)
 get_take (suc n) j [] h = refl
 get_take (suc n) zero (x ∷ xs) h = refl
 get_take (suc n) (suc j) (x ∷ xs) h = get_take n j xs (omega arith)
-
-get_less : {X : Type 0} (xs : List X) (j : ℕ) (x : X) → slice_get xs j ≡ Some x → j < length xs
-get_less [] j x e = absurd cc
-get_less (y ∷ ys) zero x e = omega arith
-get_less (y ∷ ys) (suc j) x e = let r = get_less ys j x e in omega arith
 
 pub record IsEntryOf (start size : ℕ) (e : HandlerInfo) : Type 0 where
   pub low : start ≤ e.start
@@ -302,14 +298,14 @@ entry_home : (info : List ℕ) (ms : List Method) (k : ℕ) (h : HandlerInfo) (m
 unfolding entry_fault
 entry_home info ms k h m e w = rw (e, w) refl
 
-one_entry : (parts : List Lent) (p q : PackageRecord) (laid : List (Option Laid)) → Agrees parts p → AreLaidFor p laid → IsRewritten p laid q → (k : ℕ) (h : HandlerInfo) → slice_get q.methods.handlers k ≡ Some h → entry_fault q.methods.info (described q) k h ≡ None
+one_entry : (parts : List Lent) (p q : PackageRecord) (laid : List (Option Laid)) → Agrees parts p → AreLaidFor p laid → IsRewritten p laid q → (k : ℕ) (h : HandlerInfo) → slice_get q.methods.handlers k ≡ Some h → entry_fault q.methods.info (described_methods q) k h ≡ None
 one_entry parts p q laid a l r k h g =
     let cs = changes p laid q in
-    let less = get_less q.methods.handlers k h g in
+    let less = slice_get_within q.methods.handlers k h g in
     let o = owned handlers_in (block p) cs k (all_blocks parts p q laid a r) (omega (arith, r.handlers)) in
     let f = each_at (Fact p q) cs o.owner (facts parts p q laid a l r) o.has in
     let w = each_at (IsWritten p q cs) cs o.owner (all_written p q laid r) o.has in
-    entry_home q.methods.info (described q) k h o.owner.now (owners_are p q laid k o.owner r o.alone)
+    entry_home q.methods.info (described_methods q) k h o.owner.now (owners_are p q laid k o.owner r o.alone)
     (owner_within p q cs o.owner k h o.owner.source.laid f.was.header f.fits f.written w g o.low o.high)
 
 claim_none : (n : ℕ) (m : Method) → ((m.handler_count == 0) ≡ false → m.handler_index + m.handler_count ≤ n) → claim_fault n m ≡ None
@@ -330,10 +326,10 @@ claims_now p q all c w h many = claim_none (length q.methods.handlers) c.now (λ
     omega arith)
 
 pub all_home : (parts : List Lent) (p q : PackageRecord) (laid : List (Option Laid)) → Agrees parts p → AreLaidFor p laid → IsRewritten p laid q
-    → filter_map (numbered_fault q.methods.info (described q)) (numbered 0 q.methods.handlers) ++ filter_map (claim_fault (length q.methods.handlers)) (described q) ≡ []
+    → filter_map (numbered_fault q.methods.info (described_methods q)) (numbered 0 q.methods.handlers) ++ filter_map (claim_fault (length q.methods.handlers)) (described_methods q) ≡ []
 all_home parts p q laid a l r =
     let cs = changes p laid q in
-    let ms = described q in
+    let ms = described_methods q in
     let info = q.methods.info in
     append_none (filter_map (numbered_fault info ms) (numbered 0 q.methods.handlers)) (filter_map (claim_fault (length q.methods.handlers)) ms)
     (each_none (numbered_fault info ms) (numbered 0 q.methods.handlers) (numbered_all (λ x. numbered_fault info ms x ≡ None) 0 q.methods.handlers

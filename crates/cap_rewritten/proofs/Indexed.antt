@@ -4,7 +4,7 @@ use Rattle.std.specs.Prelude.{if◌then◌else◌, nat_lt, ◌==◌}
 use Rattle.std.proofs.lemmas.List.{map-append}
 use Rattle.std.proofs.lemmas.List.Filters.{sum_by-filter_both}
 use Rattle.cap_components.specs.Parts.{Lent}
-use Rattle.cap_components.specs.PackageRecord.{PackageRecord, described}
+use Rattle.cap_components.specs.PackageRecord.{PackageRecord, described_methods}
 use Rattle.cap_package.specs.StandsFor.{StandsFor}
 use Rattle.cap_renewal.specs.NewMethods.{to}
 use Rattle.cap_renewal.specs.DescriptorEdits.{renewed_method}
@@ -16,9 +16,9 @@ use Rattle.cap_laying.specs.MethodInfo.{method_info}
 use Rattle.cap_laying.specs.Members.{AreMembers, AreApart, IsAlone, new_places, start_of, written_info}
 use Rattle.cap_laying.proofs.HeaderLaws.{length_body}
 use Rattle.cap_laying.proofs.InfoLaws.{length_table as length_bytes}
-use Rattle.cap_laying.proofs.Owned.{to_place}
+use Rattle.cap_laying.proofs.Owned.{to_place, total_append, length_table as length_entries}
 use Rattle.jc_decode.specs.declared.symbols.Laid.{Laid}
-use Rattle.cap_rewritten.specs.Changes.{Source, Change, sources}
+use Rattle.cap_rewritten.specs.Changes.{FormerMethod, Change, sources}
 use Rattle.cap_rewritten.specs.Written.{size_in, handlers_in, stood_before, block_of, methods_begin}
 use Rattle.cap_rewritten.specs.Writing.{first_handler, IsWrittenAnew, places}
 use Rattle.cap_rewritten.proofs.Lists.{Each, Has, each_at, each_of, each_map}
@@ -32,7 +32,7 @@ use Rattle.cap_rewritten.proofs.Handlers.{ClaimsInside, OwnedOnce, owned_once, a
 use Rattle.cap_rewritten.proofs.Ranks.{sums_agree, sum_through, sums_all, split_at, late_sum, Rising, rising_map, rising_sources, rising_before, rising_after}
 use Rattle.cap_rewritten.proofs.Slots.{slot, sum_slots, size_of, key_below, Differ, AreApartBy, at_offset_of, first_of, put_all, own, holds, all_free, slot_none, sum_put, length_table, by_offset_is, firsts_is, place_is}
 use Rattle.cap_rewritten.proofs.Anew.{Pair, pairs_in, source_in, member_in, pair_sources, pair_members, change_in}
-use Rattle.cap_rewritten.proofs.Order.{many_of, present, total_sum, total_append, total_slots, IsAmong, early, late, length_entries}
+use Rattle.cap_rewritten.proofs.Order.{many_of, present, total_sum, total_slots, IsAmong, early, late}
 use Rattle.cap_rewritten.proofs.Known.{Known, was_described, of_methods, size_known}
 
 -- ---- they stood apart
@@ -118,12 +118,12 @@ placed_known p q laid ms z w ks h =
 
 -- ---- blocks
 
-pub record HadFirst (p : PackageRecord) (s : Source) (i : ℕ) : Type 0 where
+pub record HadFirst (p : PackageRecord) (s : FormerMethod) (i : ℕ) : Type 0 where
   pub some : (s.method.handler_count == 0) ≡ false
   pub index : s.method.handler_index ≡ i
   pub block : block_of p s ≡ i
 
-had_first : (p : PackageRecord) (s : Source) (i : ℕ) → first_handler s.method ≡ Some i → HadFirst p s i
+had_first : (p : PackageRecord) (s : FormerMethod) (i : ℕ) → first_handler s.method ≡ Some i → HadFirst p s i
 had_first p s i e = by (s.method.handler_count == 0) refl
   where
     none_some : None ≡ Some i → ⊥
@@ -135,14 +135,14 @@ had_first p s i e = by (s.method.handler_count == 0) refl
         let k : s.method.handler_index ≡ i = some_same s.method.handler_index i (ap (λ b. if b then None else Some s.method.handler_index) (sym h) ∙ e) in
         record { some = h; index = k; block = ap (λ b. if b then length p.methods.handlers + s.number else s.method.handler_index) h ∙ k }
 
-pub record HadNone (p : PackageRecord) (s : Source) : Type 0 where
+pub record HadNone (p : PackageRecord) (s : FormerMethod) : Type 0 where
   pub block : block_of p s ≡ length p.methods.handlers + s.number
 
-data WasFirst (p : PackageRecord) (s : Source) (o : Option ℕ) : Type 0 where
+data WasFirst (p : PackageRecord) (s : FormerMethod) (o : Option ℕ) : Type 0 where
   had : (i : ℕ) → o ≡ Some i → HadFirst p s i → WasFirst p s o
   had_not : o ≡ None → HadNone p s → WasFirst p s o
 
-was_first : (p : PackageRecord) (s : Source) → WasFirst p s (first_handler s.method)
+was_first : (p : PackageRecord) (s : FormerMethod) → WasFirst p s (first_handler s.method)
 was_first p s = by (s.method.handler_count == 0) refl
   where
     by : (b : Bool) → (s.method.handler_count == 0) ≡ b → WasFirst p s (first_handler s.method)
@@ -150,7 +150,7 @@ was_first p s = by (s.method.handler_count == 0) refl
     by false h = had s.method.handler_index (ap (λ b. if b then None else Some s.method.handler_index) h)
         (record { some = h; index = refl; block = ap (λ b. if b then length p.methods.handlers + s.number else s.method.handler_index) h })
 
-first_low : (p : PackageRecord) (s : Source) (i : ℕ) → ClaimsInside (length p.methods.handlers) s.method → HadFirst p s i → i < length p.methods.handlers
+first_low : (p : PackageRecord) (s : FormerMethod) (i : ℕ) → ClaimsInside (length p.methods.handlers) s.method → HadFirst p s i → i < length p.methods.handlers
 first_low p s i c h =
     let a = c h.some in
     let b = some_count s.method.handler_count h.some in
@@ -164,7 +164,7 @@ distinct_up : {X Y : Type 0} (key : Y → ℕ) (g : X → Y) (xs : List X) → D
 distinct_up key g [] d = tt
 distinct_up key g (x ∷ xs) d = (each_map (λ y. key y ≡ key (g x) → ⊥) g xs d.0, distinct_up key g xs d.1)
 
-was_old : (p q : PackageRecord) (laid : List (Option Laid)) (ms : List Member) → IsWrittenAnew p laid ms q → map old_of (map (change_in (places p ms)) (pairs_in p laid ms)) ≡ described p
+was_old : (p q : PackageRecord) (laid : List (Option Laid)) (ms : List Member) → IsWrittenAnew p laid ms q → map old_of (map (change_in (places p ms)) (pairs_in p laid ms)) ≡ described_methods p
 was_old p q laid ms w =
     let zs = pairs_in p laid ms in
     map_twice old_of (change_in (places p ms)) zs ∙ sym (map_twice method_of source_in zs) ∙ ap (map method_of) (pair_sources p.methods.info (sources p laid) ms w.members) ∙ was_described p q laid ms w
@@ -174,8 +174,8 @@ blocks_differ parts p q laid ms s w =
     let zs = pairs_in p laid ms in
     let a = agrees parts p s.agree in
     let cs = map (change_in (places p ms)) zs in
-    let numbers : Distinct (λ (z : Pair). z.source.number) zs = distinct_map (λ (x : Source). x.number) source_in zs
-    (subst (Distinct (λ (x : Source). x.number)) (sym (pair_sources p.methods.info (sources p laid) ms w.members)) (distinct_numbers 0 (described p) _)) in
+    let numbers : Distinct (λ (z : Pair). z.source.number) zs = distinct_map (λ (x : FormerMethod). x.number) source_in zs
+    (subst (Distinct (λ (x : FormerMethod). x.number)) (sym (pair_sources p.methods.info (sources p laid) ms w.members)) (distinct_numbers 0 (described_methods p) _)) in
     distinct_map (block p) (change_in (places p ms)) zs
     (blocks_apart p cs
     (each_map (λ (c : Change). ClaimsInside (length p.methods.handlers) c.source.method) (change_in (places p ms)) zs (of_methods p q laid ms (ClaimsInside (length p.methods.handlers)) w (all_claims parts p a)))
@@ -204,7 +204,7 @@ pub record HasRank (p : PackageRecord) (laid : List (Option Laid)) (ms : List Me
   pub among : IsAmong (blocks (length p.methods.handlers) ms) z.member before
   pub sum : before ≡ sum_by (λ (y : Pair). many_of y.member) (filter (λ (y : Pair). nat_lt (block_in p y) (block_in p z)) (pairs_in p laid ms))
 
-below_early : (p : PackageRecord) (s : Source) (o : Option ℕ) (i n : ℕ) → n ≡ i → i < length p.methods.handlers → WasFirst p s o → key_below i o ≡ nat_lt (block_of p s) n
+below_early : (p : PackageRecord) (s : FormerMethod) (o : Option ℕ) (i n : ℕ) → n ≡ i → i < length p.methods.handlers → WasFirst p s o → key_below i o ≡ nat_lt (block_of p s) n
 below_early p s o i n e lt (had j k h) = ap (key_below i) k ∙ ap (λ m. nat_lt m i) (sym h.block) ∙ ap (nat_lt (block_of p s)) (sym e)
 below_early p s o i n e lt (had_not k h) =
     let b = h.block in
@@ -251,7 +251,7 @@ had_bool : (o : Option ℕ) → had_none_of o ≡ not (not (had_none_of o))
 had_bool None = refl
 had_bool (Some i) = refl
 
-below_all : (p : PackageRecord) (s : Source) (o : Option ℕ) → ClaimsInside (length p.methods.handlers) s.method → WasFirst p s o → key_below (length p.methods.handlers) o ≡ not (had_none_of o)
+below_all : (p : PackageRecord) (s : FormerMethod) (o : Option ℕ) → ClaimsInside (length p.methods.handlers) s.method → WasFirst p s o → key_below (length p.methods.handlers) o ≡ not (had_none_of o)
 below_all p s None c f = refl
 below_all p s (Some i) c (had j k h) =
     let e = some_same i j k in
@@ -263,7 +263,7 @@ below_all p s (Some i) c (had j k h) =
 below_all p s (Some i) c (had_not k h) = absurd cc
 
 -- of two methods, one that had handlers comes before one that had none, and of those the one with the lesser number
-late_before : (p : PackageRecord) (s : Source) (o : Option ℕ) (k n : ℕ) → k ≡ length p.methods.handlers + n → s.number < n → ClaimsInside (length p.methods.handlers) s.method → WasFirst p s o → nat_lt (block_of p s) k ≡ true
+late_before : (p : PackageRecord) (s : FormerMethod) (o : Option ℕ) (k n : ℕ) → k ≡ length p.methods.handlers + n → s.number < n → ClaimsInside (length p.methods.handlers) s.method → WasFirst p s o → nat_lt (block_of p s) k ≡ true
 late_before p s o k n e lt c (had i f h) =
     let b = h.block in
     let low = first_low p s i c h in
@@ -278,7 +278,7 @@ late_before p s o k n e lt c (had_not f h) =
     lt_true : (a b : ℕ) → a < b → nat_lt a b ≡ true
     lt_true a b h = grind arith
 
-late_after : (p : PackageRecord) (s : Source) (o : Option ℕ) (k n : ℕ) → k ≡ length p.methods.handlers + n → n ≤ s.number → ClaimsInside (length p.methods.handlers) s.method → WasFirst p s o → nat_lt (block_of p s) k ≡ not (had_none_of o)
+late_after : (p : PackageRecord) (s : FormerMethod) (o : Option ℕ) (k n : ℕ) → k ≡ length p.methods.handlers + n → n ≤ s.number → ClaimsInside (length p.methods.handlers) s.method → WasFirst p s o → nat_lt (block_of p s) k ≡ not (had_none_of o)
 late_after p s o k n e le c (had i f h) =
     let b = h.block in
     let low = first_low p s i c h in
@@ -294,8 +294,8 @@ late_after p s o k n e le c (had_not f h) =
     lt_false a b h = grind arith
 
 rising_pairs : (p q : PackageRecord) (laid : List (Option Laid)) (ms : List Member) → IsWrittenAnew p laid ms q → Rising (λ (z : Pair). z.source.number) (pairs_in p laid ms)
-rising_pairs p q laid ms w = rising_map (λ (s : Source). s.number) source_in (pairs_in p laid ms)
-    (subst (Rising (λ (s : Source). s.number)) (sym (pair_sources p.methods.info (sources p laid) ms w.members)) (rising_sources 0 (described p) _))
+rising_pairs p q laid ms w = rising_map (λ (s : FormerMethod). s.number) source_in (pairs_in p laid ms)
+    (subst (Rising (λ (s : FormerMethod). s.number)) (sym (pair_sources p.methods.info (sources p laid) ms w.members)) (rising_sources 0 (described_methods p) _))
 
 -- how many handlers those methods have that had some
 early_total : (p q : PackageRecord) (laid : List (Option Laid)) (ms : List Member) → IsWrittenAnew p laid ms q → Each (Known p q ms) (pairs_in p laid ms) → AreApartBy first_of (length p.methods.handlers) ms

@@ -16,6 +16,8 @@ use Rattle.cap_package.specs.Pairs.{pairs}
 use Rattle.cap_package.specs.StaticChecks.{place_in, place_by, share_fault, share_by, share_pair, image_fault, image_by, array_kinds, filled_fault, filled_by, kind_at, image_offset, is_static_at, no_static_fault}
 use Rattle.cap_package.specs.NameChecks.{exported_fields, undescribed_fault, no_class_fault, not_own_fault}
 use Rattle.cap_package.specs.TypeChecks.{field_type_fault, field_type_by, method_type_fault, method_type_by}
+use Rattle.cap_components.specs.declared.count_kind.CountKind.{CountKind}
+use Rattle.cap_components.specs.declared.count_kind.CountKind.TheVariants.{Imports, Applets, ImageSize, InitialArrays, ArrayBytes, PoolTypes, InstanceCells, ImageSegments}
 use Rattle.cap_package.specs.CountChecks.{differ, array_bytes, image_bytes, instance_fault, instance_by, cells_of, cells_by, count_if}
 use Rattle.cap_package.specs.HeaderChecks.{is_static}
 use Rattle.cap_package.specs.Agreement.{or_none}
@@ -65,7 +67,7 @@ find_map p g (x ∷ xs) = by (p (g x)) (find_map p g xs)
 
 -- ---- numbers that two components tell
 
-differ_same : (what a b c d : ℕ) → a ≡ b → c ≡ d → disagreements what b d ≡ [] → disagreements what a c ≡ []
+differ_same : (what : CountKind) (a b c d : ℕ) → a ≡ b → c ≡ d → disagreements what b d ≡ [] → disagreements what a c ≡ []
 differ_same what a b c d e h n = rw (e, h) n
 
 count_map : {X : Type 0} (g : X → X) (o : Option (List X)) → count_if (option_map (map g) o) ≡ count_if o
@@ -73,31 +75,31 @@ count_map g None = refl
 count_map g (Some xs) = length_map g xs
 
 pub record HasSameNumbers (q : PackageRecord) : Type 0 where
-  pub imports : disagreements 1 q.directory.import_count (length q.imports) ≡ []
-  pub applets : disagreements 2 q.directory.applet_count (count_if q.applets) ≡ []
-  pub image : disagreements 3 q.directory.image_size q.statics.image_size ≡ []
-  pub arrays : disagreements 4 q.directory.array_init_count (length q.statics.arrays) ≡ []
-  pub array_sizes : disagreements 5 q.directory.array_init_size (array_bytes q.statics.arrays) ≡ []
-  pub pool : disagreements 6 (length q.description.items.pool_types) (length q.pool) ≡ []
-  pub image_sum : disagreements 9 q.statics.image_size (image_bytes q.statics) ≡ []
+  pub imports : disagreements Imports q.directory.import_count (length q.imports) ≡ []
+  pub applets : disagreements Applets q.directory.applet_count (count_if q.applets) ≡ []
+  pub image : disagreements ImageSize q.directory.image_size q.statics.image_size ≡ []
+  pub arrays : disagreements InitialArrays q.directory.array_init_count (length q.statics.arrays) ≡ []
+  pub array_sizes : disagreements ArrayBytes q.directory.array_init_size (array_bytes q.statics.arrays) ≡ []
+  pub pool : disagreements PoolTypes (length q.description.items.pool_types) (length q.pool) ≡ []
+  pub image_sum : disagreements ImageSegments q.statics.image_size (image_bytes q.statics) ≡ []
 
 pub same_numbers : (parts : List Lent) (p q : PackageRecord) (laid : List (Option Laid)) → Agrees parts p → IsRewritten p laid q → HasSameNumbers q
 same_numbers parts p q laid a r =
     let f = now_at (changes p laid q) in
     record {
-      imports = differ_same 1 q.directory.import_count p.directory.import_count (length q.imports) (length p.imports)
+      imports = differ_same Imports q.directory.import_count p.directory.import_count (length q.imports) (length p.imports)
           (ap (λ (d : DirectoryItems). d.import_count) r.directory) (ap length r.imports) a.imports;
-      applets = differ_same 2 q.directory.applet_count p.directory.applet_count (count_if q.applets) (count_if p.applets)
+      applets = differ_same Applets q.directory.applet_count p.directory.applet_count (count_if q.applets) (count_if p.applets)
           (ap (λ (d : DirectoryItems). d.applet_count) r.directory) (ap count_if r.applets ∙ count_map (renewed_applet f) p.applets) a.applets;
-      image = differ_same 3 q.directory.image_size p.directory.image_size q.statics.image_size p.statics.image_size
+      image = differ_same ImageSize q.directory.image_size p.directory.image_size q.statics.image_size p.statics.image_size
           (ap (λ (d : DirectoryItems). d.image_size) r.directory) (ap (λ (s : Statics). s.image_size) r.statics) a.image;
-      arrays = differ_same 4 q.directory.array_init_count p.directory.array_init_count (length q.statics.arrays) (length p.statics.arrays)
+      arrays = differ_same InitialArrays q.directory.array_init_count p.directory.array_init_count (length q.statics.arrays) (length p.statics.arrays)
           (ap (λ (d : DirectoryItems). d.array_init_count) r.directory) (ap (λ (s : Statics). length s.arrays) r.statics) a.arrays;
-      array_sizes = differ_same 5 q.directory.array_init_size p.directory.array_init_size (array_bytes q.statics.arrays) (array_bytes p.statics.arrays)
+      array_sizes = differ_same ArrayBytes q.directory.array_init_size p.directory.array_init_size (array_bytes q.statics.arrays) (array_bytes p.statics.arrays)
           (ap (λ (d : DirectoryItems). d.array_init_size) r.directory) (ap (λ (s : Statics). array_bytes s.arrays) r.statics) a.array_sizes;
-      pool = differ_same 6 (length q.description.items.pool_types) (length p.description.items.pool_types) (length q.pool) (length p.pool)
+      pool = differ_same PoolTypes (length q.description.items.pool_types) (length p.description.items.pool_types) (length q.pool) (length p.pool)
           (ap length r.description.pool_types) (ap length r.pool ∙ length_map (renewed_entry f) p.pool) a.pool;
-      image_sum = differ_same 9 q.statics.image_size p.statics.image_size (image_bytes q.statics) (image_bytes p.statics)
+      image_sum = differ_same ImageSegments q.statics.image_size p.statics.image_size (image_bytes q.statics) (image_bytes p.statics)
           (ap (λ (s : Statics). s.image_size) r.statics) (ap image_bytes r.statics) a.image_sum;
     }
 
@@ -110,7 +112,7 @@ same_cells set d e f h = ap (λ t. if is_static f.flags then 0 else cells_by t) 
 instance_same : (set : ℕ → Bool) (f : ℕ → ℕ) (d e : Description) (c : Class) (o : Option of_class.Class) → HasSameDescription set d e → instance_by e c (option_map (renewed_class f) o) ≡ instance_by d c o
 instance_same set f d e c None h = refl
 instance_same set f d e c (Some entry) h =
-    ap (λ n. if is_interface entry.flags then None else differ 8 entry.instance_size n) (sum_same (cells_of e) (cells_of d) c.fields (λ x. same_cells set d e x h))
+    ap (λ n. if is_interface entry.flags then None else differ InstanceCells entry.instance_size n) (sum_same (cells_of e) (cells_of d) c.fields (λ x. same_cells set d e x h))
 
 instances_same : (set : ℕ → Bool) (f : ℕ → ℕ) (classes : List of_class.Class) (d e : Description) (c : Class) → HasSameDescription set d e → instance_fault (map (renewed_class f) classes) e c ≡ instance_fault classes d c
 unfolding instance_fault
@@ -215,7 +217,7 @@ not_own_same : (f : ℕ → ℕ) (cs : List of_class.Class) (n : ℕ) → not_ow
 unfolding not_own_fault
 not_own_same f cs n = rw (any_map (λ (c : of_class.Class). c.offset == n) (renewed_class f) cs) refl
 
-offsets_same : (f : ℕ → ℕ) (o : Option (List Exported)) → map (λ (c : Exported). c.class_offset) (or_none (option_map (map (renewed_exported f)) o)) ≡ map (λ (c : Exported). c.class_offset) (or_none o)
+pub offsets_same : (f : ℕ → ℕ) (o : Option (List Exported)) → map (λ (c : Exported). c.class_offset) (or_none (option_map (map (renewed_exported f)) o)) ≡ map (λ (c : Exported). c.class_offset) (or_none o)
 offsets_same f None = refl
 offsets_same f (Some cs) = map_twice (λ (c : Exported). c.class_offset) (renewed_exported f) cs
 

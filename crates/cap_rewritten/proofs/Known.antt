@@ -1,11 +1,12 @@
 -- What is known of each method that is written.
 use Rattle.std.proofs.Common.{◌≡◌, ◌≤◌, ◌<◌, ◌+◌, ℕ, List, [], ◌∷◌, length, map, take, drop, Option, Some, None, IfSome, sym, ap, subst, ◌∙◌, arith}
 use Rattle.cap_bytes.specs.Number.{number_at}
+use Rattle.jc_base.proofs.Eaching.{Each-from_All}
 use Rattle.cap_method.specs.MethodFormat.{Header}
 use Rattle.cap_desc.specs.DescriptorFormat.{Method}
 use Rattle.cap_components.specs.MethodPlaces.{size_by, code_start}
 use Rattle.cap_components.specs.Parts.{Lent}
-use Rattle.cap_components.specs.PackageRecord.{PackageRecord, described, names_interface, handlers_of}
+use Rattle.cap_components.specs.PackageRecord.{PackageRecord, described_methods, names_interface, handlers_of}
 use Rattle.cap_package.specs.HeaderChecks.{header_in}
 use Rattle.cap_package.specs.StandsFor.{StandsFor}
 use Rattle.cap_renewal.specs.NewMethods.{to}
@@ -21,11 +22,11 @@ use Rattle.cap_laying.specs.Members.{AreMembers}
 use Rattle.cap_laying.specs.Laws.{HeadersReadBack}
 use Rattle.cap_laying.specs.Standing.{StandsAnew, MethodsStand}
 use Rattle.jc_decode.specs.declared.symbols.Laid.{Laid}
-use Rattle.cap_rewritten.specs.Changes.{Source, sources, laid_but}
+use Rattle.cap_rewritten.specs.Changes.{FormerMethod, sources, laid_but}
 use Rattle.cap_rewritten.specs.Written.{IsAs, size_in, lead_bytes}
 use Rattle.cap_rewritten.specs.Laying.{IsCodeFor, IsFor, IsLaidFor, AreLaidFor}
 use Rattle.cap_rewritten.specs.Writing.{IsBodyOf, IsMemberOf, HasSmallStack, IsWrittenAnew, places}
-use Rattle.cap_rewritten.proofs.Lists.{Each, each_at, each_of, each_all, map_each}
+use Rattle.cap_rewritten.proofs.Lists.{Each, each_at, each_of, map_each}
 use Rattle.cap_rewritten.proofs.Agreed.{agrees}
 use Rattle.cap_rewritten.proofs.Zipped.{method_of, sources_method, length_but}
 use Rattle.cap_rewritten.proofs.Facts.{WasWell, wells}
@@ -34,19 +35,19 @@ use Rattle.cap_rewritten.proofs.Handlers.{ClaimsInside, all_claims}
 use Rattle.cap_rewritten.proofs.Anew.{Pair, pairs_in, source_in, member_in, pair_sources, pair_members, pair_each, change_in, standing, IsToldOf, is_told_of}
 use Rattle.cap_rewritten.proofs.AsLaid.{IsCodeAt, code_at, IsLeadAt, lead_at}
 
-pub was_described : (p q : PackageRecord) (laid : List (Option Laid)) (ms : List Member) → IsWrittenAnew p laid ms q → map method_of (sources p laid) ≡ described p
-was_described p q laid ms w = sources_method 0 (described p) (laid_but (names_interface p.classes) p.description.items.classes laid) (length_but (names_interface p.classes) p.description.items.classes laid w.each)
+pub was_described : (p q : PackageRecord) (laid : List (Option Laid)) (ms : List Member) → IsWrittenAnew p laid ms q → map method_of (sources p laid) ≡ described_methods p
+was_described p q laid ms w = sources_method 0 (described_methods p) (laid_but (names_interface p.classes) p.description.items.classes laid) (length_but (names_interface p.classes) p.description.items.classes laid w.each)
 
 -- ---- from methods, sources and members to pairs
 
-of_sources : (p q : PackageRecord) (laid : List (Option Laid)) (ms : List Member) (P : Source → Type 0) → IsWrittenAnew p laid ms q → Each P (sources p laid) → Each (λ (z : Pair). P z.source) (pairs_in p laid ms)
+of_sources : (p q : PackageRecord) (laid : List (Option Laid)) (ms : List Member) (P : FormerMethod → Type 0) → IsWrittenAnew p laid ms q → Each P (sources p laid) → Each (λ (z : Pair). P z.source) (pairs_in p laid ms)
 of_sources p q laid ms P w h = map_each P source_in (pairs_in p laid ms) (subst (Each P) (sym (pair_sources p.methods.info (sources p laid) ms w.members)) h)
 
 pub of_members : (p q : PackageRecord) (laid : List (Option Laid)) (ms : List Member) (P : Member → Type 0) → IsWrittenAnew p laid ms q → Each P ms → Each (λ (z : Pair). P z.member) (pairs_in p laid ms)
 of_members p q laid ms P w h = map_each P member_in (pairs_in p laid ms) (subst (Each P) (sym (pair_members p.methods.info (sources p laid) ms w.members)) h)
 
-pub of_methods : (p q : PackageRecord) (laid : List (Option Laid)) (ms : List Member) (P : Method → Type 0) → IsWrittenAnew p laid ms q → Each P (described p) → Each (λ (z : Pair). P z.source.method) (pairs_in p laid ms)
-of_methods p q laid ms P w h = of_sources p q laid ms (λ (s : Source). P s.method) w (map_each P method_of (sources p laid) (subst (Each P) (sym (was_described p q laid ms w)) h))
+pub of_methods : (p q : PackageRecord) (laid : List (Option Laid)) (ms : List Member) (P : Method → Type 0) → IsWrittenAnew p laid ms q → Each P (described_methods p) → Each (λ (z : Pair). P z.source.method) (pairs_in p laid ms)
+of_methods p q laid ms P w h = of_sources p q laid ms (λ (s : FormerMethod). P s.method) w (map_each P method_of (sources p laid) (subst (Each P) (sym (was_described p q laid ms w)) h))
 
 each_within : (size : ℕ) (ms : List Member) → AreMembers size ms → Each (λ (m : Member). m.offset < size) ms
 each_within size [] a = tt
@@ -54,7 +55,7 @@ each_within size (m ∷ ms) a = (a.0.within, each_within size ms a.1)
 
 -- ---- its body
 
-abbrev pub IsBodyAt : List ℕ → List ℕ → Source → Body → ℕ → Type 0
+abbrev pub IsBodyAt : List ℕ → List ℕ → FormerMethod → Body → ℕ → Type 0
 IsBodyAt xs ys s (Code laid) at = (s.laid ≡ Some laid.now) × IsCodeAt ys at laid.now
 IsBodyAt xs ys s (Lead header) at = (s.laid ≡ None) × IsLeadAt xs ys header.now s.method.method_offset at
 
@@ -64,7 +65,7 @@ one_byte a b h = omega arith
 other_byte : (a b : ℕ) → a + b ≤ 255 → b < 256
 other_byte a b h = omega arith
 
-body_at : (xs ys : List ℕ) (s : Source) (h : Header) (b : Body) (at : ℕ) → HeadersReadBack → s.method.method_offset + size_by (number_at 1 s.method.method_offset xs) ≤ length xs → IsFor h s.laid → HasSmallStack s → IsBodyOf xs s b
+body_at : (xs ys : List ℕ) (s : FormerMethod) (h : Header) (b : Body) (at : ℕ) → HeadersReadBack → s.method.method_offset + size_by (number_at 1 s.method.method_offset xs) ≤ length xs → IsFor h s.laid → HasSmallStack s → IsBodyOf xs s b
     → take (body_size b) (drop at ys) ≡ body_bytes b → IsBodyAt xs ys s b at
 body_at xs ys s h (Code laid) at back within fits small is bytes =
     let f : IsCodeFor h laid.now = subst (IsFor h) is fits in
@@ -72,11 +73,11 @@ body_at xs ys s h (Code laid) at back within fits small is bytes =
     (is, code_at ys at laid.now back (record { max_stack = k; nargs = one_byte laid.now.nargs laid.now.max_locals f.registers; max_locals = other_byte laid.now.nargs laid.now.max_locals f.registers }) bytes)
 body_at xs ys s h (Lead header) at back within fits small is bytes = (is.0, lead_at s.method.method_offset at xs ys header.now within is.1 bytes)
 
-body_long : (xs ys : List ℕ) (s : Source) (b : Body) (at : ℕ) → IsBodyAt xs ys s b at → size_by (number_at 1 at ys) + code_size b ≡ body_size b
+body_long : (xs ys : List ℕ) (s : FormerMethod) (b : Body) (at : ℕ) → IsBodyAt xs ys s b at → size_by (number_at 1 at ys) + code_size b ≡ body_size b
 body_long xs ys s (Code laid) at i = ap (λ n. n + length laid.now.code) i.1.size
 body_long xs ys s (Lead header) at i = let a = i.1.size in let b = i.1.long in omega arith
 
-body_lead : (xs ys : List ℕ) (s : Source) (b : Body) (at : ℕ) → IsBodyAt xs ys s b at → size_by (number_at 1 at ys) ≡ lead_size b
+body_lead : (xs ys : List ℕ) (s : FormerMethod) (b : Body) (at : ℕ) → IsBodyAt xs ys s b at → size_by (number_at 1 at ys) ≡ lead_size b
 body_lead xs ys s (Code laid) at i = i.1.size
 body_lead xs ys s (Lead header) at i = i.1.size ∙ sym i.1.long
 
@@ -113,8 +114,8 @@ known parts p q laid ms s l w stand back =
     let was = of_methods p q laid ms (WasWell p) w (wells parts p a) in
     let inside = of_methods p q laid ms (ClaimsInside room) w (all_claims parts p a) in
     let within = of_members p q laid ms (λ (m : Member). m.offset < size) w (each_within size ms w.may.each) in
-    let fits = of_sources p q laid ms (IsLaidFor p) w (each_all (IsLaidFor p) (sources p laid) l) in
-    let small = of_sources p q laid ms HasSmallStack w (each_all HasSmallStack (sources p laid) w.stacks) in
+    let fits = of_sources p q laid ms (IsLaidFor p) w (Each-from_All (IsLaidFor p) (sources p laid) l) in
+    let small = of_sources p q laid ms HasSmallStack w (Each-from_All HasSmallStack (sources p laid) w.stacks) in
     each_of (Known p q ms) zs (λ z h.
     let i = each_at (λ (x : Pair). IsMemberOf p.methods.info x.source x.member) zs z is h in
     let ok = each_at (λ (x : Pair). WasWell p x.source.method) zs z was h in
@@ -147,7 +148,7 @@ start_known p q ms z k =
     let at = to (places p ms) z.member.offset in
     ap (λ n. n + size_by (number_at 1 n q.methods.info)) k.told.offset ∙ ap (λ n. at + n) (body_lead p.methods.info q.methods.info z.source z.member.body at k.body)
 
-as_laid_by : (p q : PackageRecord) (s : Source) (m : Method) (b : Body) (at : ℕ) → IsBodyAt p.methods.info q.methods.info s b at → m.method_offset ≡ at → m.bytecode_count ≡ code_size b → m.handler_count ≡ length (laid_handlers b)
+as_laid_by : (p q : PackageRecord) (s : FormerMethod) (m : Method) (b : Body) (at : ℕ) → IsBodyAt p.methods.info q.methods.info s b at → m.method_offset ≡ at → m.bytecode_count ≡ code_size b → m.handler_count ≡ length (laid_handlers b)
     → code_start q.methods.info m ≡ at + lead_size b → handlers_of q m ≡ entries_at (at + lead_size b) (laid_handlers b) → IsAs p q s.method s.laid m
 as_laid_by p q s m (Code laid) at i offset count many start handlers =
     subst (λ o. IsAs p q s.method o m) (sym i.0) (record {

@@ -1,5 +1,5 @@
 -- Facts of each element of a list, and lists in which nothing is at fault.
-use Rattle.std.proofs.Common.{◌≡◌, zero, suc, List, [], ◌∷◌, ◌++◌, map, filter, filter_map, All, Bool, true, false, cond, Option, Some, None, ◌⊎◌, inl, inr, refl, sym, ap, subst, ◌∙◌, arith}
+use Rattle.std.proofs.Common.{◌≡◌, List, [], ◌∷◌, ◌++◌, map, filter, filter_map, Bool, true, false, cond, Option, Some, None, ◌⊎◌, inl, inr, refl, sym, ap, subst, ◌∙◌}
 use Rattle.std.specs.List.{cons_option}
 
 -- ---- each element
@@ -21,15 +21,6 @@ pub each_of : {X : Type 0} (P : X → Type 0) (xs : List X) → ((x : X) → Has
 each_of P [] f = tt
 each_of P (x ∷ xs) f = (f x (inl refl), each_of P xs (λ y h. f y (inr h)))
 
-pub each_all : {X : Type 0} (P : X → Type 0) (xs : List X) → All P xs → Each P xs
-each_all P [] h = tt
-each_all P (x ∷ xs) h = (h 0 x (omega arith), each_all P xs (λ k d lt. h (suc k) d (omega arith)))
-
-pub all_each : {X : Type 0} (P : X → Type 0) (xs : List X) → Each P xs → All P xs
-all_each P [] h k d lt = absurd (omega arith)
-all_each P (x ∷ xs) h zero d lt = h.0
-all_each P (x ∷ xs) h (suc k) d lt = all_each P xs h.1 k d (omega arith)
-
 pub each_map : {X Y : Type 0} (P : Y → Type 0) (g : X → Y) (xs : List X) → Each (λ x. P (g x)) xs → Each P (map g xs)
 each_map P g [] h = tt
 each_map P g (x ∷ xs) h = (h.0, each_map P g xs h.1)
@@ -40,7 +31,7 @@ map_each P g (x ∷ xs) h = (h.0, map_each P g xs h.1)
 
 -- ---- nothing at fault
 
-fault_none : {F : Type 0} (o : Option F) (rest : List F) → cons_option o rest ≡ [] → (o ≡ None) × (rest ≡ [])
+pub fault_none : {F : Type 0} (o : Option F) (rest : List F) → cons_option o rest ≡ [] → (o ≡ None) × (rest ≡ [])
 fault_none None rest e = (refl, e)
 fault_none (Some y) rest e = absurd cc
 

@@ -10,7 +10,7 @@ use Rattle.cap_class.specs.ClassFormat.{Class}
 use Rattle.cap_desc.specs.DescriptorFormat.{Method}
 use Rattle.cap_components.specs.declared.fault.PackFault.{PackFault}
 use Rattle.cap_components.specs.Parts.{Lent}
-use Rattle.cap_components.specs.PackageRecord.{PackageRecord, described}
+use Rattle.cap_components.specs.PackageRecord.{PackageRecord, described_methods}
 use Rattle.cap_package.specs.NameChecks.{is_method_at, no_method_fault, no_entry_fault, table_entries, exported_methods}
 use Rattle.cap_package.specs.Agreement.{or_none}
 use Rattle.cap_package.specs.StandsFor.{StandsFor}
@@ -142,29 +142,29 @@ none_named old now f offsets h e =
     faults_map now f offsets ∙ each_none (λ offset. now (f offset)) offsets (each_of (λ offset. now (f offset) ≡ None) offsets (λ offset k. h offset (each_at (λ x. old x ≡ None) offsets offset each k)))
 
 pub all_named : (parts : List Lent) (p q : PackageRecord) (laid : List (Option Laid)) → StandsFor parts p → IsRewritten p laid q
-    → (filter_map (no_entry_fault (is_method_at (described q))) (table_entries q.classes)
-    ++ filter_map (no_method_fault (is_method_at (described q))) (exported_methods (or_none q.export)))
-    ++ filter_map (no_method_fault (is_method_at (described q))) (map (λ (a : Applet). a.install) (or_none q.applets)) ≡ []
+    → (filter_map (no_entry_fault (is_method_at (described_methods q))) (table_entries q.classes)
+    ++ filter_map (no_method_fault (is_method_at (described_methods q))) (exported_methods (or_none q.export)))
+    ++ filter_map (no_method_fault (is_method_at (described_methods q))) (map (λ (a : Applet). a.install) (or_none q.applets)) ≡ []
 all_named parts p q laid s r =
     let cs = changes p laid q in
     let f = now_at cs in
     let was = is_method_at (map old_of cs) in
     let is = is_method_at (map now_of cs) in
-    let before : is_method_at (described p) ≡ was = ap is_method_at (sym (olds p q laid r)) in
-    let after : is_method_at (described q) ≡ is = ap is_method_at (sym (news p q laid r)) in
+    let before : is_method_at (described_methods p) ≡ was = ap is_method_at (sym (olds p q laid r)) in
+    let after : is_method_at (described_methods q) ≡ is = ap is_method_at (sym (news p q laid r)) in
     let a = (agrees parts p s.agree).names in
     let installs : Option (List Applet) → List ℕ = λ o. map (λ (x : Applet). x.install) (or_none o) in
-    let first = none_append (filter_map (no_entry_fault (is_method_at (described p))) (table_entries p.classes) ++ filter_map (no_method_fault (is_method_at (described p))) (exported_methods (or_none p.export))) (filter_map (no_method_fault (is_method_at (described p))) (map (λ (x : Applet). x.install) (or_none p.applets))) a in
-    let second = none_append (filter_map (no_entry_fault (is_method_at (described p))) (table_entries p.classes)) (filter_map (no_method_fault (is_method_at (described p))) (exported_methods (or_none p.export))) first.0 in
-    let methods : (offsets : List ℕ) → filter_map (no_method_fault (is_method_at (described p))) offsets ≡ [] → filter_map (no_method_fault (is_method_at (described q))) (map f offsets) ≡ [] = λ offsets e.
+    let first = none_append (filter_map (no_entry_fault (is_method_at (described_methods p))) (table_entries p.classes) ++ filter_map (no_method_fault (is_method_at (described_methods p))) (exported_methods (or_none p.export))) (filter_map (no_method_fault (is_method_at (described_methods p))) (map (λ (x : Applet). x.install) (or_none p.applets))) a in
+    let second = none_append (filter_map (no_entry_fault (is_method_at (described_methods p))) (table_entries p.classes)) (filter_map (no_method_fault (is_method_at (described_methods p))) (exported_methods (or_none p.export))) first.0 in
+    let methods : (offsets : List ℕ) → filter_map (no_method_fault (is_method_at (described_methods p))) offsets ≡ [] → filter_map (no_method_fault (is_method_at (described_methods q))) (map f offsets) ≡ [] = λ offsets e.
     ap (λ t. filter_map (no_method_fault t) (map f offsets)) after
     ∙ none_named (no_method_fault was) (no_method_fault is) f offsets (method_now cs) (ap (λ t. filter_map (no_method_fault t) offsets) (sym before) ∙ e) in
-    let entries : (offsets : List ℕ) → filter_map (no_entry_fault (is_method_at (described p))) offsets ≡ [] → filter_map (no_entry_fault (is_method_at (described q))) (map f offsets) ≡ [] = λ offsets e.
+    let entries : (offsets : List ℕ) → filter_map (no_entry_fault (is_method_at (described_methods p))) offsets ≡ [] → filter_map (no_entry_fault (is_method_at (described_methods q))) (map f offsets) ≡ [] = λ offsets e.
     ap (λ t. filter_map (no_entry_fault t) (map f offsets)) after
     ∙ none_named (no_entry_fault was) (no_entry_fault is) f offsets (λ offset k. entry_now cs offset (last_stays parts p q laid s r) k) (ap (λ t. filter_map (no_entry_fault t) offsets) (sym before) ∙ e) in
-    append_none (filter_map (no_entry_fault (is_method_at (described q))) (table_entries q.classes) ++ filter_map (no_method_fault (is_method_at (described q))) (exported_methods (or_none q.export)))
-    (filter_map (no_method_fault (is_method_at (described q))) (map (λ (x : Applet). x.install) (or_none q.applets)))
-    (append_none (filter_map (no_entry_fault (is_method_at (described q))) (table_entries q.classes)) (filter_map (no_method_fault (is_method_at (described q))) (exported_methods (or_none q.export)))
-    (ap (filter_map (no_entry_fault (is_method_at (described q)))) (ap table_entries r.classes ∙ table_map f p.classes) ∙ entries (table_entries p.classes) second.0)
-    (ap (filter_map (no_method_fault (is_method_at (described q)))) (ap (λ o. exported_methods (or_none o)) r.export ∙ exported_map f p.export) ∙ methods (exported_methods (or_none p.export)) second.1))
-    (ap (filter_map (no_method_fault (is_method_at (described q)))) (ap installs r.applets ∙ installs_map f p.applets) ∙ methods (map (λ (x : Applet). x.install) (or_none p.applets)) first.1)
+    append_none (filter_map (no_entry_fault (is_method_at (described_methods q))) (table_entries q.classes) ++ filter_map (no_method_fault (is_method_at (described_methods q))) (exported_methods (or_none q.export)))
+    (filter_map (no_method_fault (is_method_at (described_methods q))) (map (λ (x : Applet). x.install) (or_none q.applets)))
+    (append_none (filter_map (no_entry_fault (is_method_at (described_methods q))) (table_entries q.classes)) (filter_map (no_method_fault (is_method_at (described_methods q))) (exported_methods (or_none q.export)))
+    (ap (filter_map (no_entry_fault (is_method_at (described_methods q)))) (ap table_entries r.classes ∙ table_map f p.classes) ∙ entries (table_entries p.classes) second.0)
+    (ap (filter_map (no_method_fault (is_method_at (described_methods q)))) (ap (λ o. exported_methods (or_none o)) r.export ∙ exported_map f p.export) ∙ methods (exported_methods (or_none p.export)) second.1))
+    (ap (filter_map (no_method_fault (is_method_at (described_methods q)))) (ap installs r.applets ∙ installs_map f p.applets) ∙ methods (map (λ (x : Applet). x.install) (or_none p.applets)) first.1)

@@ -1,15 +1,14 @@
 -- The order of the blocks of handlers, and where the entries of a method stand in it.
-use Rattle.std.proofs.Common.{◌≡◌, ◌≤◌, ◌<◌, ◌+◌, ℕ, zero, suc, List, [], ◌∷◌, ◌++◌, length, filter, replicate, sum_by, take, drop, flat_map, option_to_list, Bool, true, false, cond, Option, Some, None, is_none, inl, inr, refl, sym, ap, ◌∙◌, arith, append_assoc, length-append}
+use Rattle.std.proofs.Common.{◌≡◌, ◌≤◌, ◌<◌, ◌+◌, ℕ, zero, suc, List, [], ◌∷◌, ◌++◌, length, filter, replicate, sum_by, take, drop, flat_map, option_to_list, Bool, true, false, cond, Option, Some, None, is_none, inl, inr, refl, sym, ap, ◌∙◌, arith, append_assoc}
 use Rattle.std.specs.Prelude.{if◌then◌else◌, ◌==◌, slice_set, slice_index}
 use Rattle.std.proofs.lemmas.List.Sums.{sum_by-cons}
 use Rattle.cap_method.specs.declared.handler.HandlerInfo.{HandlerInfo}
 use Rattle.cap_renewal.specs.declared.new_methods.NewMethod.{NewMethod}
 use Rattle.cap_renewal.specs.NewMethods.{to}
-use Rattle.jc_decode.specs.declared.symbols.Handler.{Handler}
 use Rattle.cap_laying.specs.declared.member.Member.{Member}
-use Rattle.cap_laying.specs.HandlerTable.{entries_at}
 use Rattle.cap_laying.specs.Member.{handlers_of, lead_size}
 use Rattle.cap_laying.specs.Blocks.{blocks, firsts, had_none, index_after, put_indexes, indexes_of, block_entries, entries_of, total_handlers}
+use Rattle.cap_laying.proofs.Owned.{total_append, length_entries as length_at, length_table}
 use Rattle.cap_rewritten.proofs.Lists.{Each, Has, each_at}
 use Rattle.cap_rewritten.proofs.AsLaid.{take_front, drop_front}
 use Rattle.cap_rewritten.proofs.Slots.{slot, sum_slots, first_of}
@@ -25,10 +24,6 @@ present table = flat_map option_to_list table
 pub total_sum : (ms : List Member) → total_handlers ms ≡ sum_by many_of ms
 total_sum [] = refl
 total_sum (m ∷ ms) = let r = total_sum ms in let c = sum_by-cons many_of m ms in omega arith
-
-pub total_append : (xs ys : List Member) → total_handlers (xs ++ ys) ≡ total_handlers xs + total_handlers ys
-total_append [] ys = omega arith
-total_append (x ∷ xs) ys = let r = total_append xs ys in omega arith
 
 total_front : (table : List (Option Member)) (n : ℕ) → total_handlers (present (take n table)) ≡ sum_slots many_of n table
 total_front table zero = refl
@@ -181,18 +176,6 @@ index_among size bs m before a lt =
     ∙ index_stays (slice_set led m.offset (index_after before (many_of m))) (before + many_of m) m.offset a.rest a.others
     ∙ set_there led m.offset (index_after before (many_of m)) (omega arith)
 
-length_at : (start : ℕ) (hs : List Handler) → length (entries_at start hs) ≡ length hs
-length_at start [] = refl
-length_at start (h ∷ hs) = ap suc (length_at start hs)
-
-pub length_entries : (news : List (Option NewMethod)) (bs : List Member) → length (entries_of news bs) ≡ total_handlers bs
-length_entries news [] = refl
-length_entries news (b ∷ bs) =
-    let a = length-append (block_entries news b) (entries_of news bs) in
-    let e = length_at (to news b.offset + lead_size b.body) (handlers_of b.body) in
-    let r = length_entries news bs in
-    omega arith
-
 entries_parts : (news : List (Option NewMethod)) (as_ bs : List Member) → entries_of news (as_ ++ bs) ≡ entries_of news as_ ++ entries_of news bs
 entries_parts news [] bs = refl
 entries_parts news (a ∷ as_) bs = ap (λ xs. block_entries news a ++ xs) (entries_parts news as_ bs) ∙ sym (append_assoc (block_entries news a) (entries_of news as_) (entries_of news bs))
@@ -216,7 +199,7 @@ entries_among news bs m before a = by (many_of m == 0) refl
         let l = long in
         ap (λ n. take n (drop 0 (entries_of news bs))) z ∙ empty (block_entries news m) (l ∙ z)
     by false e =
-        let l = length_entries news a.lead in
+        let l = length_table news a.lead in
         let t = a.total in
         let d : drop before (entries_of news bs) ≡ block_entries news m ++ entries_of news a.rest =
         ap (λ xs. drop before (entries_of news xs)) a.is

@@ -5,7 +5,7 @@ use Rattle.std.proofs.lemmas.List.Filters.{sum_by-filter_both}
 use Rattle.std.proofs.lemmas.List.Elements.{filter-append}
 use Rattle.cap_desc.specs.DescriptorFormat.{Method}
 use Rattle.jc_decode.specs.declared.symbols.Laid.{Laid}
-use Rattle.cap_rewritten.specs.Changes.{Source, sources_from}
+use Rattle.cap_rewritten.specs.Changes.{FormerMethod, sources_from}
 use Rattle.cap_rewritten.proofs.Lists.{Each, Has, each_at, each_of, filter_map_in}
 use Rattle.cap_rewritten.proofs.Sums.{filter_every}
 use Rattle.cap_rewritten.proofs.Zipped.{from_number}
@@ -62,13 +62,13 @@ rising_map {X = X} number g (x ∷ xs) r = (each_map_back xs r.0, rising_map num
     each_map_back [] h = tt
     each_map_back (y ∷ ys) h = (h.0, each_map_back ys h.1)
 
-pub rising_sources : (n : ℕ) (ms : List Method) (ls : List (Option Laid)) → Rising (λ (s : Source). s.number) (sources_from n ms ls)
+pub rising_sources : (n : ℕ) (ms : List Method) (ls : List (Option Laid)) → Rising (λ (s : FormerMethod). s.number) (sources_from n ms ls)
 rising_sources n [] ls = tt
 rising_sources n (m ∷ ms) [] = tt
 rising_sources n (m ∷ ms) (l ∷ ls) =
     let later = from_number (n + 1) (n + 1) ms ls (omega arith) in (
-      each_of (λ (s : Source). n < s.number) (sources_from (n + 1) ms ls)
-          (λ s h. let k = each_at (λ (x : Source). n + 1 ≤ x.number) (sources_from (n + 1) ms ls) s later h in omega arith),
+      each_of (λ (s : FormerMethod). n < s.number) (sources_from (n + 1) ms ls)
+          (λ s h. let k = each_at (λ (x : FormerMethod). n + 1 ≤ x.number) (sources_from (n + 1) ms ls) s later h in omega arith),
       rising_sources (n + 1) ms ls,
     )
 

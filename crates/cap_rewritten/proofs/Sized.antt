@@ -22,11 +22,11 @@ use Rattle.cap_rewritten.proofs.Lists.{Each, Has, each_none, each_of, append_non
 
 -- ---- what is said is read
 
-part_read : {X : Type 0} (parts : List Lent) (tag : ℕ) (g : Grammar X) (items : X) → Says parts tag g items → read_part g tag parts ≡ Ok items
+pub part_read : {X : Type 0} (parts : List Lent) (tag : ℕ) (g : Grammar X) (items : X) → Says parts tag g items → read_part g tag parts ≡ Ok items
 unfolding read_part
 part_read parts tag g items h = rw (info-read parts tag g h.0 items h.1) (ap formed (reading_where (info_of tag) g h.0 items h.1.said))
 
-directory_read : (parts : List Lent) (p : PackageRecord) → AreSaid parts p → read_directory parts ≡ Ok p.directory
+pub directory_read : (parts : List Lent) (p : PackageRecord) → AreSaid parts p → read_directory parts ≡ Ok p.directory
 unfolding read_directory
 directory_read parts p s = rw (part_read parts 1 header_info p.header s.header) (part_read parts 2 (directory_info p.header.format) p.directory s.directory)
 

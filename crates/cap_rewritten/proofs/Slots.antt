@@ -6,6 +6,7 @@ use Rattle.cap_laying.specs.declared.member.Member.{Member}
 use Rattle.cap_laying.specs.Member.{placed, by_offset, body_size, size_if, end_from}
 use Rattle.cap_laying.specs.MethodInfo.{place_of}
 use Rattle.cap_laying.specs.Blocks.{put_by, put_firsts, firsts}
+use Rattle.cap_laying.proofs.Owned.{set_other, set_same, length_set, length_none}
 use Rattle.cap_rewritten.proofs.Lists.{Each, Has, each_at, each_of}
 
 abbrev pub slot : List (Option Member) → ℕ → Option Member
@@ -43,23 +44,6 @@ set_sum w (suc n) (s ∷ table) (suc i) m lt e =
     let t : nat_lt (suc i) (suc n) ≡ nat_lt i n = grind arith in
     let r = set_sum w n table i m (omega arith) e in
     rw (t, r) (omega arith)
-
-set_other : (table : List (Option Member)) (o k : ℕ) (m : Member) → (k ≡ o → ⊥) → slot (slice_set table k (Some m)) o ≡ slot table o
-set_other [] o k m h = refl
-set_other (s ∷ ms) zero zero m h = absurd (h refl)
-set_other (s ∷ ms) (suc o) zero m h = refl
-set_other (s ∷ ms) zero (suc k) m h = refl
-set_other (s ∷ ms) (suc o) (suc k) m h = set_other ms o k m (λ e. h (ap suc e))
-
-set_same : (table : List (Option Member)) (o : ℕ) (m : Member) → o < length table → slot (slice_set table o (Some m)) o ≡ Some m
-set_same [] o m h = absurd (omega arith)
-set_same (s ∷ ms) zero m h = refl
-set_same (s ∷ ms) (suc o) m h = set_same ms o m (omega arith)
-
-length_set : (table : List (Option Member)) (o : ℕ) (m : Member) → length (slice_set table o (Some m)) ≡ length table
-length_set [] o m = refl
-length_set (s ∷ ms) zero m = refl
-length_set (s ∷ ms) (suc o) m = ap suc (length_set ms o m)
 
 -- ---- all
 
@@ -177,10 +161,6 @@ holds key table (m ∷ ms) j b e = by (holds key (put_by table m (key m)) ms j b
     by (inr h) = inr (inr h.0, h.1)
 
 -- ---- an empty table
-
-length_none : (n : ℕ) → length (replicate {A = Option Member} n None) ≡ n
-length_none zero = refl
-length_none (suc n) = ap suc (length_none n)
 
 pub slot_none : (n i : ℕ) → slot (replicate n None) i ≡ None
 slot_none zero i = refl

@@ -5,7 +5,7 @@ use Rattle.cap_bytes.specs.Number.{number_at}
 use Rattle.cap_desc.specs.DescriptorFormat.{Method}
 use Rattle.cap_components.specs.MethodPlaces.{size_by}
 use Rattle.cap_components.specs.Parts.{Lent}
-use Rattle.cap_components.specs.PackageRecord.{PackageRecord, described}
+use Rattle.cap_components.specs.PackageRecord.{PackageRecord, described_methods}
 use Rattle.cap_package.specs.Pairs.{pairs}
 use Rattle.cap_package.specs.MethodChecks.{code_start, code_end, share_byte, overlap_fault, overlap_pair, outside_fault}
 use Rattle.jc_decode.specs.declared.symbols.Laid.{Laid}
@@ -63,7 +63,7 @@ distinct_map key g (x ∷ xs) d = (map_each (λ y. key y ≡ key (g x) → ⊥) 
 pub apart : (parts : List Lent) (p q : PackageRecord) (laid : List (Option Laid)) → Agrees parts p → IsRewritten p laid q → Distinct offset_of (changes p laid q)
 apart parts p q laid a r =
     distinct_map (λ (m : Method). m.method_offset) old_of (changes p laid q)
-    (subst (Distinct (λ (m : Method). m.method_offset)) (sym (olds p q laid r)) (all_apart p (described p) (wells parts p a) a.overlaps))
+    (subst (Distinct (λ (m : Method). m.method_offset)) (sym (olds p q laid r)) (all_apart p (described_methods p) (wells parts p a) a.overlaps))
 
 -- ---- they stand apart
 
@@ -113,7 +113,7 @@ no_pairs p q all (c ∷ cs) ws i d =
     faults_append (overlap_pair info) (map (λ y. (c.now, y)) (map now_of cs)) (pairs (map now_of cs))
     ∙ append_none (filter_map (overlap_pair info) (map (λ y. (c.now, y)) (map now_of cs))) (filter_map (overlap_pair info) (pairs (map now_of cs))) head (no_pairs p q all cs ws (λ y h. i y (inr h)) d.1)
 
-pub stand_apart : (parts : List Lent) (p q : PackageRecord) (laid : List (Option Laid)) → Agrees parts p → IsRewritten p laid q → filter_map (overlap_pair q.methods.info) (pairs (described q)) ≡ []
+pub stand_apart : (parts : List Lent) (p q : PackageRecord) (laid : List (Option Laid)) → Agrees parts p → IsRewritten p laid q → filter_map (overlap_pair q.methods.info) (pairs (described_methods q)) ≡ []
 stand_apart parts p q laid a r =
     let cs = changes p laid q in
     ap (λ ms. filter_map (overlap_pair q.methods.info) (pairs ms)) (sym (news p q laid r)) ∙ no_pairs p q cs cs (all_written p q laid r) (λ c h. h) (apart parts p q laid a r)
@@ -137,7 +137,7 @@ ends_inside p q all c w h long =
     let k = sum_beside (size_in q) (is_below offset_of (offset_of c)) all c (itself (offset_of c)) h in
     omega arith
 
-pub lie_inside : (p q : PackageRecord) (laid : List (Option Laid)) → IsRewritten p laid q → filter_map (outside_fault q.methods.info (length q.methods.handlers)) (described q) ≡ []
+pub lie_inside : (p q : PackageRecord) (laid : List (Option Laid)) → IsRewritten p laid q → filter_map (outside_fault q.methods.info (length q.methods.handlers)) (described_methods q) ≡ []
 lie_inside p q laid r =
     let cs = changes p laid q in
     let ws = all_written p q laid r in

@@ -4,7 +4,7 @@ use Rattle.std.specs.Prelude.{if◌then◌else◌}
 use Rattle.cap_desc.specs.DescriptorFormat.{Method, Class}
 use Rattle.cap_desc.specs.Members.{methods_of, methods_but}
 use Rattle.jc_decode.specs.declared.symbols.Laid.{Laid}
-use Rattle.cap_rewritten.specs.Changes.{Source, Change, laid_but, sources_from, changes_of}
+use Rattle.cap_rewritten.specs.Changes.{FormerMethod, Change, laid_but, sources_from, changes_of}
 use Rattle.cap_rewritten.proofs.Lists.{Each}
 
 pub length_map : {X Y : Type 0} (f : X → Y) (xs : List X) → length (map f xs) ≡ length xs
@@ -14,22 +14,22 @@ length_map f (x ∷ xs) = ap suc (length_map f xs)
 abbrev pub now_of : Change → Method
 now_of c = c.now
 
-abbrev pub source_of : Change → Source
+abbrev pub source_of : Change → FormerMethod
 source_of c = c.source
 
-abbrev pub method_of : Source → Method
+abbrev pub method_of : FormerMethod → Method
 method_of s = s.method
 
 abbrev pub old_of : Change → Method
 old_of c = c.source.method
 
-pub changes_now : (ss : List Source) (ms : List Method) → length ss ≡ length ms → map now_of (changes_of ss ms) ≡ ms
+pub changes_now : (ss : List FormerMethod) (ms : List Method) → length ss ≡ length ms → map now_of (changes_of ss ms) ≡ ms
 changes_now [] [] e = refl
 changes_now [] (m ∷ ms) e = absurd (omega arith)
 changes_now (s ∷ ss) [] e = absurd (omega arith)
 changes_now (s ∷ ss) (m ∷ ms) e = ap (λ ns. m ∷ ns) (changes_now ss ms (omega arith))
 
-pub changes_source : (ss : List Source) (ms : List Method) → length ss ≡ length ms → map source_of (changes_of ss ms) ≡ ss
+pub changes_source : (ss : List FormerMethod) (ms : List Method) → length ss ≡ length ms → map source_of (changes_of ss ms) ≡ ss
 changes_source [] [] e = refl
 changes_source [] (m ∷ ms) e = absurd (omega arith)
 changes_source (s ∷ ss) [] e = absurd (omega arith)
@@ -41,7 +41,7 @@ sources_method n (m ∷ ms) [] e = absurd (omega arith)
 sources_method n (m ∷ ms) (l ∷ ls) e = ap (λ ns. m ∷ ns) (sources_method (n + 1) ms ls (omega arith))
 
 -- the positions rise
-pub from_number : (n k : ℕ) (ms : List Method) (ls : List (Option Laid)) → k ≤ n → Each (λ (s : Source). k ≤ s.number) (sources_from n ms ls)
+pub from_number : (n k : ℕ) (ms : List Method) (ls : List (Option Laid)) → k ≤ n → Each (λ (s : FormerMethod). k ≤ s.number) (sources_from n ms ls)
 from_number n k [] ls h = tt
 from_number n k (m ∷ ms) [] h = tt
 from_number n k (m ∷ ms) (l ∷ ls) h = (h, from_number (n + 1) k ms ls (omega arith))

@@ -5,7 +5,7 @@ use Rattle.cap_components.specs.PackageRecord.{PackageRecord}
 use Rattle.cap_package.specs.HeaderChecks.{header_in, is_abstract}
 use Rattle.cap_laying.specs.HandlerTable.{AreInside}
 use Rattle.jc_decode.specs.declared.symbols.Laid.{Laid}
-use Rattle.cap_rewritten.specs.Changes.{Source, sources}
+use Rattle.cap_rewritten.specs.Changes.{FormerMethod, sources}
 
 -- code of a method: of 1 to 32,767 bytes, with the method's arguments and at most 255 registers, and handlers that lie in it
 pub record IsCodeFor (h : Header) (laid : Laid) : Type 0 where
@@ -20,7 +20,7 @@ abbrev pub IsFor : Header → Option Laid → Type 0
 IsFor h None = is_abstract h ≡ true
 IsFor h (Some laid) = IsCodeFor h laid
 
-abbrev pub IsLaidFor : PackageRecord → Source → Type 0
+abbrev pub IsLaidFor : PackageRecord → FormerMethod → Type 0
 IsLaidFor p s = (h : Header) → header_in p.methods.info s.method.method_offset ≡ Some h → IsFor h s.laid
 
 abbrev pub AreLaidFor : PackageRecord → List (Option Laid) → Type 0

@@ -2,7 +2,7 @@
 use Rattle.std.specs.Prelude.{◌≡◌, ℕ, List, Option, Some, slice_get}
 use Rattle.cap_desc.specs.DescriptorFormat.{Method}
 use Rattle.cap_components.specs.Parts.{Lent}
-use Rattle.cap_components.specs.PackageRecord.{PackageRecord, described}
+use Rattle.cap_components.specs.PackageRecord.{PackageRecord, described_methods}
 use Rattle.cap_package.specs.StandsFor.{StandsFor}
 use Rattle.jc_decode.specs.declared.symbols.Laid.{Laid}
 use Rattle.cap_rewritten.specs.Changes.{changes, now_at}
@@ -11,7 +11,7 @@ use Rattle.cap_rewritten.specs.Rewritten.{IsRewritten}
 -- the method at a position stands at an offset
 pub record Names (p : PackageRecord) (offset position : ℕ) : Type 0 where
   pub method : Method
-  pub there : slice_get (described p) position ≡ Some method
+  pub there : slice_get (described_methods p) position ≡ Some method
   pub stands : method.method_offset ≡ offset
 
 -- an offset that named a method names the one at the same position when it is renewed

@@ -1,6 +1,7 @@
 -- What it is that a package is another but for the code of its methods: for their headers, their handlers, where they stand, the
 -- sizes of components, ReferenceLocation, Debug and the target index.
 use Rattle.std.specs.Prelude.{◌≡◌, ◌+◌, ◌↔◌, ℕ, Bool, List, length, drop, map, sum_by, All, Option, Some, None, option_map, if◌then◌else◌}
+use Rattle.cap_frame.specs.Tags.{index_aid}
 use Rattle.cap_frame.specs.DirectoryFormat.{DirectoryItems}
 use Rattle.cap_desc.specs.DescriptorFormat.{Method, Class}
 use Rattle.cap_desc.specs.Members.{methods_of}
@@ -13,7 +14,6 @@ use Rattle.cap_renewal.specs.PoolEdits.{renewed_entry}
 use Rattle.cap_renewal.specs.ClassEdits.{renewed_class}
 use Rattle.cap_renewal.specs.ExportEdits.{renewed_exported}
 use Rattle.jc_decode.specs.declared.symbols.Laid.{Laid}
-use Rattle.jc_indexes.specs.Component.{index_aid}
 use Rattle.cap_rewritten.specs.Changes.{changes, now_at}
 use Rattle.cap_rewritten.specs.Written.{IsWritten, size_in, handlers_in, methods_begin}
 

@@ -19,7 +19,7 @@ use Rattle.cap_laying.specs.declared.member.Member.{Member}
 use Rattle.cap_laying.specs.Blocks.{blocks, entries_of}
 use Rattle.cap_laying.specs.Members.{MayBeWritten, new_places, written_info}
 use Rattle.jc_decode.specs.declared.symbols.Laid.{Laid}
-use Rattle.cap_rewritten.specs.Changes.{Source, sources}
+use Rattle.cap_rewritten.specs.Changes.{FormerMethod, sources}
 use Rattle.cap_rewritten.specs.Written.{lead_bytes}
 use Rattle.cap_rewritten.specs.Rewritten.{HasSameCounts, IsCustom}
 
@@ -30,24 +30,24 @@ abbrev pub first_handler : Method → Option ℕ
 first_handler m = if m.handler_count == 0 then None else Some m.handler_index
 
 -- the code that is laid for a method, or the header that stood at its offset
-abbrev pub IsBodyOf : List ℕ → Source → Body → Type 0
+abbrev pub IsBodyOf : List ℕ → FormerMethod → Body → Type 0
 IsBodyOf info s (Code laid) = s.laid ≡ Some laid.now
 IsBodyOf info s (Header header) = (s.laid ≡ None) × (header.now ≡ lead_bytes info s.method.method_offset)
 
 -- a method as it is written
-pub record IsMemberOf (info : List ℕ) (s : Source) (m : Member) : Type 0 where
+pub record IsMemberOf (info : List ℕ) (s : FormerMethod) (m : Member) : Type 0 where
   pub offset : m.offset ≡ s.method.method_offset
   pub handlers : m.handlers_from ≡ first_handler s.method
   pub body : IsBodyOf info s m.body
 
-abbrev pub AreMembersOf : List ℕ → List Source → List Member → Type 0
+abbrev pub AreMembersOf : List ℕ → List FormerMethod → List Member → Type 0
 AreMembersOf info [] [] = Unit {0}
 AreMembersOf info [] (m ∷ ms) = ⊥
 AreMembersOf info (s ∷ ss) [] = ⊥
 AreMembersOf info (s ∷ ss) (m ∷ ms) = IsMemberOf info s m × AreMembersOf info ss ms
 
 -- the code needs no more stack than one byte tells
-abbrev pub HasSmallStack : Source → Type 0
+abbrev pub HasSmallStack : FormerMethod → Type 0
 HasSmallStack s = IfSome s.laid (λ laid. laid.max_stack < 256)
 
 -- where each method is written, by its former offset

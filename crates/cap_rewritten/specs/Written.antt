@@ -9,7 +9,7 @@ use Rattle.cap_laying.specs.HeaderBytes.{header_of}
 use Rattle.cap_laying.specs.HandlerTable.{entries_at}
 use Rattle.cap_laying.specs.Member.{numbers_of}
 use Rattle.jc_decode.specs.declared.symbols.Laid.{Laid}
-use Rattle.cap_rewritten.specs.Changes.{Source, Change}
+use Rattle.cap_rewritten.specs.Changes.{FormerMethod, Change}
 
 -- ---- what it is
 
@@ -49,7 +49,7 @@ abbrev pub stood_before : Change → Change → Bool
 stood_before c other = nat_lt other.source.method.method_offset c.source.method.method_offset
 
 -- where its handlers stood in the table; those of a method that had none follow the others, in the order of the Descriptor
-abbrev pub block_of : PackageRecord → Source → ℕ
+abbrev pub block_of : PackageRecord → FormerMethod → ℕ
 block_of p s = if s.method.handler_count == 0 then length p.methods.handlers + s.number else s.method.handler_index
 
 -- handlers keep the order of the table

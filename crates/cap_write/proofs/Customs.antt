@@ -2,9 +2,10 @@
 use Rattle.std.proofs.Common.{◌≡◌, ◌≤◌, ◌<◌, ℕ, Bool, true, false, cond, List, [], ◌∷◌, ◌++◌, filter, find, Some, None, refl, sym, ap, ◌∙◌, arith}
 use Rattle.std.specs.Prelude.{◌==◌, ◌&&◌, not, nat_le, IsTrue}
 use Rattle.std.proofs.lemmas.Bool.Decides.{nat_tests}
+use Rattle.cap_frame.specs.Tags.{index_aid}
 use Rattle.cap_frame.specs.DirectoryFormat.{Custom, is_new_tag, and_that_of}
 use Rattle.cap_directory.specs.Laws.{AreCustoms}
-use Rattle.cap_directory.specs.NewDirectory.{index_aid, drops, stays, index_entry, new_customs}
+use Rattle.cap_directory.specs.NewDirectory.{drops, stays, index_entry, new_customs}
 use Rattle.cap_directory.specs.declared.sizes.IndexChange.{IndexChange}
 use Rattle.cap_directory.specs.declared.sizes.IndexChange.TheVariants.{Kept, Dropped, Written}
 

@@ -8,28 +8,17 @@ use Rattle.cap_laying.specs.declared.member.Body.{Body}
 use Rattle.cap_laying.specs.declared.member.Body.TheVariants.{Code, Header}
 use Rattle.cap_laying.specs.declared.member.Member.{Member}
 use Rattle.cap_laying.specs.HandlerTable.{table_bytes}
-use Rattle.cap_laying.specs.HeaderBytes.{Numbers, header_bytes, header_size, is_compact}
+use Rattle.cap_laying.specs.HeaderBytes.{HeaderNumbers, header_size, is_compact}
 use Rattle.cap_laying.specs.Member.{bodies, body_bytes, body_size, by_offset, end_from, handlers_of, numbers_of, placed, put, size_if}
 use Rattle.cap_laying.specs.Blocks.{blocks, entries_of, total_handlers}
 use Rattle.cap_laying.specs.Members.{new_places, start_of, written_info, written_size}
 use Rattle.cap_laying.proofs.InfoLaws.{length_table as bytes_table}
 use Rattle.cap_laying.proofs.Owned.{length_table, total_blocks}
+use Rattle.cap_laying.proofs.HeaderLaws.{length_body}
 use Rattle.cap_write.specs.Described.{body_seen, member_seen}
 use Rattle.cap_write.specs.PlainComponent.{plain_component, plain_member, plain_members}
 
 -- ---- its length
-
-header_long : (n : Numbers) → length (header_bytes n) ≡ header_size n
-unfolding header_bytes
-header_long n = by (is_compact n)
-  where
-    by : (b : Bool) → length (cond b (n.max_stack ∷ (16 * n.nargs + n.max_locals) ∷ []) (128 ∷ n.max_stack ∷ n.nargs ∷ n.max_locals ∷ [])) ≡ cond b 2 4
-    by true = refl
-    by false = refl
-
-body_long : (b : Body) → length (body_bytes b) ≡ body_size b
-body_long (Code laid) = omega (arith, length-append (header_bytes (numbers_of laid.now)) laid.now.code, header_long (numbers_of laid.now))
-body_long (Header header) = refl
 
 bodies_long : (at : ℕ) (table : List (Option Member)) → at + length (bodies table) ≡ end_from at table
 bodies_long at [] = omega arith
@@ -39,7 +28,7 @@ bodies_long at (None ∷ ms) = let r = bodies_long at ms in omega (arith, ap (λ
     plus n = omega arith
 bodies_long at (Some m ∷ ms) =
     let r = bodies_long (at + body_size m.body) ms in
-    let b = body_long m.body in
+    let b = length_body m.body in
     omega (arith, length-append (body_bytes m.body) (bodies ms))
 
 pub info_long : (size room : ℕ) (ms : List Member) → length (written_info size room ms) ≡ written_size size room ms
@@ -87,7 +76,7 @@ placed_size table (m ∷ ms) =
     let s = set_size table m.offset m in
     omega arith
 
-header_small : (n : Numbers) → header_size n ≤ 4
+header_small : (n : HeaderNumbers) → header_size n ≤ 4
 header_small n = by (is_compact n)
   where
     by : (b : Bool) → cond b 2 4 ≤ 4

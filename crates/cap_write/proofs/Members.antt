@@ -6,7 +6,7 @@ use Rattle.cap_desc.specs.DescriptorFormat.{Method, Class}
 use Rattle.cap_desc.specs.Members.{methods_but}
 use Rattle.cap_components.specs.MethodPlaces.{size_by}
 use Rattle.cap_components.specs.Parts.{Lent}
-use Rattle.cap_components.specs.PackageRecord.{PackageRecord, described, names_interface}
+use Rattle.cap_components.specs.PackageRecord.{PackageRecord, described_methods, names_interface}
 use Rattle.cap_package.specs.StandsFor.{StandsFor}
 use Rattle.jc_decode.specs.declared.symbols.Laid.{Laid}
 use Rattle.cap_laying.specs.declared.member.Body.{Body}
@@ -213,10 +213,10 @@ may_be_written parts p ls ms stands may e =
     let set = names_interface p.classes in
     let info = p.methods.info in
     let cs = p.description.items.classes in
-    let ends : AllEnd info (described p) = all_end info (length p.methods.handlers) (described p) stands.agree.1.1.1.0 in
-    let apart : AreDistinct (map offset_of (described p)) = all_apart info (described p) ends stands.agree.1.1.0 in
+    let ends : AllEnd info (described_methods p) = all_end info (length p.methods.handlers) (described_methods p) stands.agree.1.1.1.0 in
+    let apart : AreDistinct (map offset_of (described_methods p)) = all_apart info (described_methods p) ends stands.agree.1.1.0 in
     let good : AreGood (length info) (map member_seen ms) = subst (AreGood (length info)) (sym e) (good_classes set info cs ls ends (laid_well parts p ls stands may)) in
-    let offsets : map seen_offset (map member_seen ms) ≡ map offset_of (described p) = ap (map seen_offset) e ∙ offsets_classes set info cs ls in
+    let offsets : map seen_offset (map member_seen ms) ≡ map offset_of (described_methods p) = ap (map seen_offset) e ∙ offsets_classes set info cs ls in
     let total : seen_total (map member_seen ms) ≡ seen_total (seen_package p ls) = ap seen_total e in
     let few = total_classes set info cs ls in
     let most = may.few in

@@ -3,14 +3,14 @@ use Rattle.std.proofs.Common.{◌≡◌, ◌≤◌, ◌+◌, ◌*◌, ℕ, zero,
 use Rattle.std.proofs.lemmas.List.{length-map}
 use Rattle.cap_bytes.specs.Grammar.{repeat}
 use Rattle.cap_bytes.specs.Spelling.{Spells}
-use Rattle.cap_desc.specs.DescriptorFormat.{Class, class_info}
+use Rattle.cap_desc.specs.DescriptorFormat.{Class, class_descriptor_info}
 use Rattle.cap_desc.specs.Members.{methods_but}
 use Rattle.cap_components.specs.Parts.{Lent}
-use Rattle.cap_components.specs.PackageRecord.{PackageRecord, described, names_interface}
+use Rattle.cap_components.specs.PackageRecord.{PackageRecord, described_methods, names_interface}
 use Rattle.cap_package.specs.StandsFor.{StandsFor}
 use Rattle.cap_renewal.proofs.DescriptorItems.{class_room, has_classes}
-use Rattle.cap_filing.proofs.Frames.{framed_short}
 use Rattle.jc_decode.specs.declared.symbols.Laid.{Laid}
+use Rattle.cap_package.proofs.InfoLaws.{info-short}
 use Rattle.cap_code.specs.TargetIndex.{AreShortCodes}
 use Rattle.cap_laying.specs.declared.member.Member.{Member}
 use Rattle.cap_laying.specs.Members.{AreMembers}
@@ -20,7 +20,7 @@ use Rattle.cap_write.specs.PlainComponent.{AreSmallMembers}
 use Rattle.cap_write.proofs.Apart.{offset_of}
 use Rattle.cap_write.proofs.Members.{offsets_classes, seen_offset}
 
-classes_room : (set : ℕ → Bool) (bytes : List ℕ) (n at : ℕ) (cs : List Class) (after : ℕ) → Spells (repeat n class_info) bytes at cs after → at + 12 * length (methods_but set cs) ≤ after
+classes_room : (set : ℕ → Bool) (bytes : List ℕ) (n at : ℕ) (cs : List Class) (after : ℕ) → Spells (repeat n class_descriptor_info) bytes at cs after → at + 12 * length (methods_but set cs) ≤ after
 unfolding Spells
 classes_room set bytes zero at cs after h = rw h.0 (omega (arith, h.1))
 classes_room set bytes (suc n) at cs after h =
@@ -34,10 +34,10 @@ classes_room set bytes (suc n) at cs after h =
     by c cs true x y = x
     by c cs false x y = y
 
-pub few_described : (parts : List Lent) (p : PackageRecord) → StandsFor parts p → length (described p) ≤ 5461
+pub few_described : (parts : List Lent) (p : PackageRecord) → StandsFor parts p → length (described_methods p) ≤ 5461
 few_described parts p s =
     let h = s.said.description in
-    let short : length p.description.info ≤ 65535 = framed_short 11 h.file p.description.info h.framed in
+    let short : length p.description.info ≤ 65535 = info-short 11 h.file p.description.info h.framed in
     let c = has_classes p.description.info p.description.items h.said in
     let room = classes_room (names_interface p.classes) p.description.info c.count 1 p.description.items.classes p.description.items.types_start c.items in
     let start = c.start in
@@ -47,7 +47,7 @@ pub few_members : (parts : List Lent) (p : PackageRecord) (ls : List (Option Lai
 few_members parts p ls ms s e =
     let set = names_interface p.classes in
     let a : length ms ≡ length (seen_package p ls) = sym (length-map ms member_seen) ∙ ap length e in
-    let b : length (seen_package p ls) ≡ length (described p) = sym (length-map (seen_package p ls) seen_offset) ∙ ap length (offsets_classes set p.methods.info p.description.items.classes ls) ∙ length-map (described p) offset_of in
+    let b : length (seen_package p ls) ≡ length (described_methods p) = sym (length-map (seen_package p ls) seen_offset) ∙ ap length (offsets_classes set p.methods.info p.description.items.classes ls) ∙ length-map (described_methods p) offset_of in
     omega (arith, few_described parts p s)
 
 pub small_members : (size : ℕ) (ms : List Member) → AreMembers size ms → AreSmallMembers ms

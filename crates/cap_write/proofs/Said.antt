@@ -5,7 +5,7 @@ use Rattle.cap_bytes.specs.Reading.{reading}
 use Rattle.cap_bytes.specs.Spelling.{Stands, file_of}
 use Rattle.cap_bytes.proofs.Laws.{reading_where}
 use Rattle.cap_frame.specs.Frame.{component}
-use Rattle.cap_desc.specs.DescriptorFormat.{Descriptor, class_info, descriptor_info}
+use Rattle.cap_desc.specs.DescriptorFormat.{Descriptor, class_descriptor_info, descriptor_info}
 use Rattle.cap_components.specs.Parts.{Lent, held}
 use Rattle.cap_components.specs.Components.{info_in}
 use Rattle.cap_components.specs.PackageRecord.{PackageRecord, names_interface}
@@ -96,7 +96,7 @@ edits_inside : (set : ℕ → Bool) (news : List (Option NewMethod)) (bytes : Li
 edits_inside set news bytes d s =
     let h = has_classes bytes d s in
     inside_from (along (class_edits set news) class_width 1 d.classes) 0 1 d.types_start (omega arith)
-    (all_inside class_info (class_edits set news) class_width (renewed_class set news) bytes (class_item set news bytes) h.count 1 d.classes d.types_start h.items)
+    (all_inside class_descriptor_info (class_edits set news) class_width (renewed_class set news) bytes (class_item set news bytes) h.count 1 d.classes d.types_start h.items)
 
 pub same_types : (p : PackageRecord) (news : List (Option NewMethod)) (file : List ℕ) → Holds p.parts 11 descriptor_info p.description.info p.description.items
     → (r : IsRenewed p.parts 11 descriptor_info (renewed_descriptor (names_interface p.classes) news) (method_edits p news) p.description.items file) → HasSameTypes p r.info

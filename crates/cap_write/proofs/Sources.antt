@@ -2,18 +2,19 @@
 use Rattle.std.proofs.Common.{◌≡◌, ◌≤◌, ◌<◌, ◌+◌, ℕ, zero, suc, Bool, true, false, List, [], ◌∷◌, ◌++◌, length, take, drop, map, All, Option, Some, None, refl, sym, ap, subst, ◌∙◌, arith, length-append}
 use Rattle.std.specs.Prelude.{IfSome, if◌then◌else◌}
 use Rattle.std.proofs.lemmas.List.{length-map, length-take, length-drop, map-append}
+use Rattle.jc_base.proofs.Eaching.{All-from_Each}
 use Rattle.cap_desc.specs.DescriptorFormat.{Method, Class}
 use Rattle.cap_desc.specs.Members.{methods_of, methods_but}
-use Rattle.cap_components.specs.PackageRecord.{PackageRecord, described, names_interface}
+use Rattle.cap_components.specs.PackageRecord.{PackageRecord, described_methods, names_interface}
 use Rattle.cap_laying.specs.declared.member.Body.{Body}
 use Rattle.cap_laying.specs.declared.member.Body.TheVariants as body
 use Rattle.cap_laying.specs.declared.member.Member.{Member}
 use Rattle.jc_decode.specs.declared.symbols.Laid.{Laid}
-use Rattle.cap_rewritten.specs.Changes.{Source, laid_but, sources_from, sources}
+use Rattle.cap_rewritten.specs.Changes.{FormerMethod, laid_but, sources_from, sources}
 use Rattle.cap_rewritten.specs.Written.{lead_bytes}
 use Rattle.cap_rewritten.specs.Laying as laying
 use Rattle.cap_rewritten.specs.Writing as writing
-use Rattle.cap_rewritten.proofs.Lists.{Each, all_each}
+use Rattle.cap_rewritten.proofs.Lists.{Each}
 use Rattle.cap_write.specs.Described.{SeenMember, body_seen, member_seen, body_at, seen_method, seen_methods, seen_classes, seen_package}
 use Rattle.cap_write.specs.Condition.{no_method, methods_for, AreElements, MayBeLaid}
 use Rattle.cap_write.specs.Pools.{StackFits, StacksFit}
@@ -113,14 +114,14 @@ classes_zipped set info (c ∷ cs) ls e =
         ∙ ap (λ xs. zipped info c.methods (take (length c.methods) ls) ++ xs) r
         ∙ sym (zipped_both info c.methods (methods_but set cs) (take (length c.methods) ls) (laid_but set cs (drop (length c.methods) ls)) front)
 
-body_of : (info : List ℕ) (s : Source) (l : Option Laid) (b : Body) → s.laid ≡ l → body_seen b ≡ body_at info s.method.method_offset l → writing.IsBodyOf info s b
+body_of : (info : List ℕ) (s : FormerMethod) (l : Option Laid) (b : Body) → s.laid ≡ l → body_seen b ≡ body_at info s.method.method_offset l → writing.IsBodyOf info s b
 unfolding lead_bytes
 body_of info s None (body.Code laid) e h = absurd (cc)
 body_of info s None (body.Header header) e h = (e, cc)
 body_of info s (Some l) (body.Code laid) e h = let same : l ≡ laid.now = cc in e ∙ ap Some same
 body_of info s (Some l) (body.Header header) e h = absurd (cc)
 
-member_of : (info : List ℕ) (s : Source) (m : Member) → member_seen m ≡ seen_method info s.method s.laid → writing.IsMemberOf info s m
+member_of : (info : List ℕ) (s : FormerMethod) (m : Member) → member_seen m ≡ seen_method info s.method s.laid → writing.IsMemberOf info s m
 member_of info s m h = record {
   offset = ap (λ (x : SeenMember). x.offset) h;
   handlers = ap (λ (x : SeenMember). x.handlers_from) h;
@@ -143,23 +144,23 @@ members_are p laid xs l e =
     let set = names_interface p.classes in
     let cs = p.description.items.classes in
     let each = laid_each p laid l in
-    let long : length (laid_but set cs laid) ≡ length (described p) =
-    elements_counted p.methods.info (map Some (described p)) (laid_but set cs laid) (elements_but set p.methods.info cs laid l.elements) ∙ length-map {B = Option Method} (described p) Some in
-    members_from p.methods.info 0 (described p) (laid_but set cs laid) xs long (e ∙ classes_zipped set p.methods.info cs laid each)
+    let long : length (laid_but set cs laid) ≡ length (described_methods p) =
+    elements_counted p.methods.info (map Some (described_methods p)) (laid_but set cs laid) (elements_but set p.methods.info cs laid l.elements) ∙ length-map {B = Option Method} (described_methods p) Some in
+    members_from p.methods.info 0 (described_methods p) (laid_but set cs laid) xs long (e ∙ classes_zipped set p.methods.info cs laid each)
 
 -- ---- the words of stack that each needs
 
-stack_of : (info : List ℕ) (s : Source) (b : Body) → writing.IsBodyOf info s b → StackFits b → writing.HasSmallStack s
+stack_of : (info : List ℕ) (s : FormerMethod) (b : Body) → writing.IsBodyOf info s b → StackFits b → writing.HasSmallStack s
 stack_of info s (body.Code laid) h f = subst (λ o. IfSome o (λ l. l.max_stack < 256)) (sym h) f
 stack_of info s (body.Header header) h f = subst (λ o. IfSome o (λ l. l.max_stack < 256)) (sym h.0) tt
 
-small_stacks : (info : List ℕ) (ss : List Source) (ms : List Member) → writing.AreMembersOf info ss ms → StacksFit ms → Each writing.HasSmallStack ss
+small_stacks : (info : List ℕ) (ss : List FormerMethod) (ms : List Member) → writing.AreMembersOf info ss ms → StacksFit ms → Each writing.HasSmallStack ss
 small_stacks info [] ms a f = tt
 small_stacks info (s ∷ ss) [] a f = absurd a
 small_stacks info (s ∷ ss) (m ∷ ms) a f = (stack_of info s m.body a.0.body f.0, small_stacks info ss ms a.1 f.1)
 
-pub all_stacks : (info : List ℕ) (ss : List Source) (ms : List Member) → writing.AreMembersOf info ss ms → StacksFit ms → All writing.HasSmallStack ss
-all_stacks info ss ms a f = all_each writing.HasSmallStack ss (small_stacks info ss ms a f)
+pub all_stacks : (info : List ℕ) (ss : List FormerMethod) (ms : List Member) → writing.AreMembersOf info ss ms → StacksFit ms → All writing.HasSmallStack ss
+all_stacks info ss ms a f = All-from_Each writing.HasSmallStack ss (small_stacks info ss ms a f)
 
 -- ---- each has code that may be laid for it
 
@@ -172,4 +173,4 @@ pub are_laid_for : (p : PackageRecord) (laid : List (Option Laid)) → MayBeLaid
 are_laid_for p laid l =
     let set = names_interface p.classes in
     let cs = p.description.items.classes in
-    all_each (laying.IsLaidFor p) (sources p laid) (laid_all p 0 (described p) (laid_but set cs laid) (elements_but set p.methods.info cs laid l.elements))
+    All-from_Each (laying.IsLaidFor p) (sources p laid) (laid_all p 0 (described_methods p) (laid_but set cs laid) (elements_but set p.methods.info cs laid l.elements))

@@ -1,5 +1,5 @@
 -- How long the ReferenceLocation component is that is written: places that rise take few bytes, and there are few of them.
-use Rattle.std.proofs.Common.{◌≡◌, ◌≤◌, ◌<◌, ◌+◌, ◌-◌, ◌*◌, ◌/◌, ◌%◌, ℕ, Bool, true, false, cond, List, [], ◌∷◌, ◌++◌, length, replicate, Option, Some, None, refl, sym, ap, ◌∙◌, subst, arith, length-append, append_assoc}
+use Rattle.std.proofs.Common.{◌≡◌, ◌≤◌, ◌<◌, ◌+◌, ◌-◌, ◌*◌, ◌/◌, ◌%◌, ℕ, Bool, true, false, cond, List, [], ◌∷◌, ◌++◌, length, replicate, Option, Some, None, sym, ap, ◌∙◌, subst, arith, length-append}
 use Rattle.std.specs.Prelude.{◌==◌, IfSome}
 use Rattle.std.proofs.lemmas.List.{length-replicate}
 use Rattle.byteorder.specs.Endian.{big_bytes}
@@ -17,7 +17,7 @@ use Rattle.cap_code.proofs.Lengths.{plain_known}
 use Rattle.cap_locations.specs.Catches.{catch_place, catch_places}
 use Rattle.cap_locations.specs.Component.{component_bytes}
 use Rattle.cap_locations.specs.Distances.{distance_bytes, distances, last_of}
-use Rattle.cap_locations.specs.Indices.{HasRoom, index_by, index_places, indices}
+use Rattle.cap_locations.specs.Indices.{HasIndexInside, index_by, index_places, indices}
 use Rattle.cap_bytes.specs.Spelling.{Stands}
 use Rattle.cap_pool.specs.LocationFormat.{locations_info}
 use Rattle.cap_locations.proofs.Components.{components_stand}
@@ -30,14 +30,8 @@ use Rattle.cap_laying.specs.Blocks.{blocks, total_handlers}
 use Rattle.cap_laying.specs.Member.{body_size, by_offset, end_from, handlers_of, lead_size, size_if}
 use Rattle.cap_laying.specs.Members.{start_of, written_size}
 use Rattle.cap_laying.specs.References.{block_catches, body_indices, indices_if, method_indices, references_info, written_references}
-
-distances_both : (last : ℕ) (ps qs : List ℕ) → distances last (ps ++ qs) ≡ distances last ps ++ distances (last_of last ps) qs
-distances_both last [] qs = refl
-distances_both last (p ∷ ps) qs = ap (λ xs. distance_bytes (p - last) ++ xs) (distances_both p ps qs) ∙ sym (append_assoc (distance_bytes (p - last)) (distances p ps) (distances (last_of p ps) qs))
-
-last_both : (last : ℕ) (ps qs : List ℕ) → last_of last (ps ++ qs) ≡ last_of (last_of last ps) qs
-last_both last [] qs = refl
-last_both last (p ∷ ps) qs = last_both p ps qs
+use Rattle.cap_laying.proofs.PlaceLaws.{end_grows}
+use Rattle.cap_locations.proofs.Tellings.{distances_both, last_both}
 
 -- places between two others: they take a byte each, and one for each 255 on the way
 record IsSpread (last high : ℕ) (ps : List ℕ) : Type 0 where
@@ -90,7 +84,7 @@ one_index at long place Two a b c = record { one_between = between_none at (at +
 few_none : (at long : ℕ) → AreFew at long [] []
 few_none at long = record { one_between = between_none at (at + long) (omega arith); two_between = between_none at (at + long) (omega arith); few = omega arith }
 
-insn_few : (code : List ℕ) (start at : ℕ) (i : Insn) → HasRoom i → AreFew (start + at) i.len (index_by 1 (start + at) (pool_index i)) (index_by 2 (start + at) (pool_index i))
+insn_few : (code : List ℕ) (start at : ℕ) (i : Insn) → HasIndexInside i → AreFew (start + at) i.len (index_by 1 (start + at) (pool_index i)) (index_by 2 (start + at) (pool_index i))
 insn_few code start at i r = by (pool_index i) r.room
   where
     by : (o : Option PoolIndex) → IfSome o (λ n. (1 ≤ n.at) × (n.at < i.len)) → AreFew (start + at) i.len (index_by 1 (start + at) o) (index_by 2 (start + at) o)
@@ -124,10 +118,6 @@ ends_grow : (code : List ℕ) (at : ℕ) (is : List Placed) → Lists code at is
 ends_grow code at [] l = omega arith
 ends_grow code at (p ∷ ps) l = let r = ends_grow code (at + p.insn.len) ps l.2 in omega arith
 
-table_grows : (at : ℕ) (table : List (Option Member)) → at ≤ end_from at table
-table_grows at [] = omega arith
-table_grows at (m ∷ ms) = let r = table_grows (at + size_if m) ms in omega arith
-
 -- those of the instructions of a code
 insns_few : (code : List ℕ) (start at : ℕ) (is : List Placed) → Lists code at is → (long : ℕ) → at + long ≡ insns_end at is → AreFew (start + at) long (indices 1 start is) (indices 2 start is)
 insns_few code start at [] l long e = few_none (start + at) long
@@ -160,7 +150,7 @@ slot_few at (Some m) = body_few at m.body
 table_few : (at : ℕ) (table : List (Option Member)) (long : ℕ) → at + long ≡ end_from at table → AreFew at long (method_indices 1 at table) (method_indices 2 at table)
 table_few at [] long e = few_none at long
 table_few at (m ∷ ms) long e =
-    let grows = table_grows (at + size_if m) ms in
+    let grows = end_grows (at + size_if m) ms in
     let more = long - size_if m in
     let same : size_if m + more ≡ long = omega arith in
     subst (λ n. AreFew at n (method_indices 1 at (m ∷ ms)) (method_indices 2 at (m ∷ ms))) same
@@ -214,7 +204,7 @@ few_located size room ms short =
     let start = start_of room ms in
     let table = by_offset size ms in
     let bs = blocks room ms in
-    let grows = table_grows start table in
+    let grows = end_grows start table in
     let long = end_from start table - start in
     let t = table_few start table long (omega arith) in
     let c = caught_blocks 1 bs in

@@ -9,28 +9,30 @@ use Rattle.cap_bytes.specs.declared.format.Format.{Format}
 use Rattle.cap_bytes.specs.declared.format.Format.TheVariants.{V21, V22}
 use Rattle.cap_bytes.specs.Grammar.{Grammar}
 use Rattle.cap_bytes.specs.Reading.{reading}
-use Rattle.cap_bytes.specs.Spelling.{Stands, info_of, file_of}
-use Rattle.cap_bytes.proofs.Laws.{reading_where, stands}
+use Rattle.cap_bytes.specs.Spelling.{Stands, file_of}
+use Rattle.cap_bytes.proofs.Laws.{stands}
 use Rattle.cap_frame.specs.Frame.{component}
 use Rattle.cap_frame.specs.HeaderFormat.{header_info}
-use Rattle.cap_frame.specs.DirectoryFormat.{Custom, DirectoryItems, directory_info, size_count}
+use Rattle.cap_frame.specs.DirectoryFormat.{Custom, DirectoryItems, size_count}
 use Rattle.cap_frame.specs.Directory.{size_in, custom_size_in}
 use Rattle.cap_components.specs.declared.fault.PackFault.{PackFault}
 use Rattle.cap_components.specs.declared.fault.PackFault.TheVariants.{MissingPart, SizeDisagrees}
 use Rattle.cap_components.specs.Parts.{Lent, held}
-use Rattle.cap_components.specs.Components.{formed, framed, info_in, read_part, read_directory}
+use Rattle.cap_components.specs.Components.{formed, framed, info_in}
 use Rattle.cap_components.specs.PackageRecord.{PackageRecord}
 use Rattle.cap_components.specs.PartChecks.{required, optional, components, custom_tags, absent_fault, absent_by, sized_fault, form_fault, form_by, size_fault, size_by}
-use Rattle.cap_components.specs.Saying.{Holds, Says, SaysIf, AreSaid}
+use Rattle.cap_components.specs.Saying.{Holds, SaysIf}
 use Rattle.cap_components.proofs.Saying.{info-read}
 use Rattle.cap_package.specs.FirstFault.{missing_parts}
 use Rattle.cap_package.specs.StandsFor.{StandsFor}
 use Rattle.cap_rewritten.specs.Laws.{IsSizeOf}
 use Rattle.cap_rewritten.proofs.Lists.{Each, Has, each_at, none_each, none_append}
 use Rattle.cap_rewritten.proofs.Agreed.{agrees}
+use Rattle.cap_rewritten.proofs.Sized.{directory_read}
 use Rattle.cap_directory.specs.NewDirectory.{new_size, sizes_from}
 use Rattle.cap_directory.specs.declared.sizes.Sizes.{Sizes}
 use Rattle.cap_directory.proofs.Kept.{size_known}
+use Rattle.cap_directory.proofs.NewStands.{sizes_counted}
 use Rattle.cap_write.proofs.Customs.{has_tag, same_tag}
 
 -- ---- a part and its size
@@ -82,14 +84,6 @@ told_said parts d tag size g info items h s f =
     subst (IsSizeOf tag size) (sym h.there) (info, h.framed, told_size parts d tag size info (info-read parts tag g info items h) s f)
 
 -- ---- what the Directory of a package tells
-
-part_read : {X : Type 0} (parts : List Lent) (tag : ℕ) (g : Grammar X) (items : X) → Says parts tag g items → read_part g tag parts ≡ Ok items
-unfolding read_part
-part_read parts tag g items h = rw (info-read parts tag g h.0 items h.1) (ap formed (reading_where (info_of tag) g h.0 items h.1.said))
-
-directory_read : (parts : List Lent) (p : PackageRecord) → AreSaid parts p → read_directory parts ≡ Ok p.directory
-unfolding read_directory
-directory_read parts p s = rw (part_read parts 1 header_info p.header s.header) (part_read parts 2 (directory_info p.header.format) p.directory s.directory)
 
 -- the faults of no component
 record HasTold (parts : List Lent) (p : PackageRecord) : Type 0 where
@@ -180,10 +174,6 @@ sizes_at own new tag (s ∷ ss) (suc k) lt =
     let e : tag + 1 + k ≡ tag + suc k = omega arith in
     sizes_at own new (tag + 1) ss k (omega arith) ∙ ap (λ n. new_size own new n (slice_index ss k)) e
 
-sizes_long : (own : ℕ) (new : Sizes) (tag : ℕ) (ss : List ℕ) → length (sizes_from own new tag ss) ≡ length ss
-sizes_long own new tag [] = refl
-sizes_long own new tag (s ∷ ss) = ap suc (sizes_long own new (tag + 1) ss)
-
 count_least : (format : Format) → 11 ≤ size_count format
 count_least V21 = omega arith
 count_least V22 = omega arith
@@ -199,7 +189,7 @@ size_now own new d e format tag size are counted low high s =
 -- and that of Debug
 pub debug_now : (own : ℕ) (new : Sizes) (d e : DirectoryItems) (format : Format) (size : ℕ) → e.sizes ≡ sizes_from own new 1 d.sizes → length d.sizes ≡ size_count format → size_in e 12 ≡ Some size → size ≡ 0
 debug_now own new d e V21 size are counted s =
-    size_known e 12 size (omega arith) (omega arith) s ∙ ap (λ ss. slice_index ss 11) are ∙ get_or_past (sizes_from own new 1 d.sizes) 11 0 (omega (arith, sizes_long own new 1 d.sizes))
+    size_known e 12 size (omega arith) (omega arith) s ∙ ap (λ ss. slice_index ss 11) are ∙ get_or_past (sizes_from own new 1 d.sizes) 11 0 (omega (arith, sizes_counted own new 1 d.sizes))
 debug_now own new d e V22 size are counted s =
     size_known e 12 size (omega arith) (omega arith) s ∙ ap (λ ss. slice_index ss 11) are ∙ sizes_at own new 1 d.sizes 11 (omega arith)
 

@@ -4,6 +4,7 @@ use Rattle.std.specs.Prelude.{◌↔◌, ◌&&◌, not, nat_le, bytes_eq, slice_
 use Rattle.std.proofs.lemmas.Bool.{cases_eq}
 use Rattle.std.proofs.lemmas.Bool.Decides.{nat_tests}
 use Rattle.std.proofs.lemmas.Slice.Eq.{bytes_eq-Decides}
+use Rattle.cap_frame.specs.Tags.{index_aid}
 use Rattle.cap_frame.specs.AppletFormat.{applets_info}
 use Rattle.cap_frame.specs.DirectoryFormat.{Custom, DirectoryItems, none}
 use Rattle.cap_frame.specs.Directory.{size_in, custom_size_in}
@@ -30,7 +31,7 @@ use Rattle.cap_renewal.specs.PoolEdits.{pool_edits, renewed_entry}
 use Rattle.cap_filing.specs.Files.{IsRenewed}
 use Rattle.cap_filing.proofs.Frames.{file_stands}
 use Rattle.cap_directory.specs.Laws.{MayStand}
-use Rattle.cap_directory.specs.NewDirectory.{index_aid, new_directory, new_size, own_size}
+use Rattle.cap_directory.specs.NewDirectory.{new_directory, new_size, own_size}
 use Rattle.cap_laying.specs.declared.member.Member.{Member}
 use Rattle.cap_laying.specs.Blocks.{blocks, entries_of}
 use Rattle.cap_laying.specs.Members.{written_info}

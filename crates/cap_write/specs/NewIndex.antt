@@ -1,10 +1,10 @@
 -- What becomes of the custom component with the tag of a target index (JCVM 2.2, section 6.1.2).
 use Rattle.std.specs.Prelude.{◌≡◌, ◌≤◌, ℕ, Bool, true, false, List, length, Option, Some, None, bytes_eq, not}
+use Rattle.cap_frame.specs.Tags.{index_aid}
 use Rattle.cap_package.specs.Customs.{CustomItems, custom_in}
 use Rattle.cap_components.specs.PackageRecord.{PackageRecord}
 use Rattle.jc_decode.specs.declared.symbols.Laid.{Laid}
 use Rattle.cap_code.specs.TargetIndex.{IsIndexOf}
-use Rattle.cap_directory.specs.NewDirectory.{index_aid}
 use Rattle.cap_directory.specs.declared.sizes.IndexChange.{IndexChange}
 use Rattle.cap_directory.specs.declared.sizes.IndexChange.TheVariants as change
 use Rattle.cap_write.specs.declared.index.NewIndex.{NewIndex}

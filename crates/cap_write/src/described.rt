@@ -1,6 +1,6 @@
 ghost use Rattle.std.specs.Prelude.{◌≡◌, ◌++◌, drop, map, OnOk, IfOk};
 ghost use Rattle.offset_set.specs.Bits.{holds};
-ghost use Rattle.cap_desc.specs.ClassRecords.{class_seen};
+ghost use Rattle.cap_desc.specs.ClassRecords.{described_class_seen};
 ghost use Rattle.cap_desc.specs.Descriptors.{descriptor_seen};
 ghost use Rattle.cap_desc.specs.MemberLists.{methods_left};
 ghost use Rattle.cap_desc.specs.MemberRecords.{method_seen};
@@ -46,7 +46,8 @@ fn put_class<'a>(
     out: &mut Vec<Member<'a>>,
 ) -> Result<(), AllocError>
     ensures { OnOk result (map member_seen out.new.items
-        ≡ map member_seen out.old.items ++ seen_class (holds interfaces.now) info.entry.bytes.now (class_seen class.now) laid.now) }
+        ≡ map member_seen out.old.items
+        ++ seen_class (holds interfaces.now) info.entry.bytes.now (described_class_seen class.now) laid.now) }
 {
     if interfaces.has(class.class_ref()) {
         return Ok(());

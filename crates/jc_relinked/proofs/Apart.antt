@@ -19,8 +19,8 @@ use Rattle.cap_rewritten.specs.Rewritten.{IsRewritten}
 use Rattle.cap_rewritten.proofs.Lists.{Each}
 use Rattle.cap_rewritten.proofs.Bare.{same_types_named}
 use Rattle.xf_landed.specs.Apart.{apart_from_code}
+use Rattle.cap_rewritten.proofs.FromWriting.{map_same}
 use Rattle.jc_rewritten.specs.Last.{and_last}
-use Rattle.jc_rewritten.proofs.Lists.{map_alike}
 use Rattle.jc_relinked.proofs.Records.{named_method_same}
 use Rattle.jc_relinked.proofs.Twins.{Twin, before_in, after_in, are_twins}
 use Rattle.jc_relinked.proofs.Known.{IsKnownTwin, known_twins, twins_in, of_class, twin_headers, MayBeLaid, abstract_stays, abstract_bodies}
@@ -155,7 +155,7 @@ module _ (parts new_parts : List Lent) (ps : List PackageRecord) (p q : PackageR
       ap (map apart_from_code) (named_split ps q roles)
       ∙ map-append apart_from_code (map now (numbered_methods ps)) (map now (own_methods ps q))
       ∙ ap (λ ms. map apart_from_code ms ++ map apart_from_code (map now (own_methods ps q)))
-      (map_alike now old (numbered_methods ps) (named_method_same ps p q laid r roles))
+      (map_same now old (numbered_methods ps) (named_method_same ps p q laid r roles))
       ∙ ap (λ ms. map apart_from_code (map old (numbered_methods ps)) ++ ms) own
       ∙ sym (map-append apart_from_code (map old (numbered_methods ps)) (map old (own_methods ps p)))
       ∙ sym (ap (map apart_from_code) (named_split ps p roles))

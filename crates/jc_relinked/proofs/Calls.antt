@@ -1,25 +1,31 @@
 -- A StaticMethodref of the last package names the method of the same number.
 use Rattle.std.proofs.Common.{◌≡◌, ◌≤◌, ◌<◌, ◌+◌, ◌*◌, ℕ, List, [], ◌∷◌, ◌++◌, length, Bool, true, false, not, Option, Some, None, option_map, option_and_then, slice_index, ◌⊎◌, inl, inr, refl, sym, ap, subst, ◌∙◌, arith}
-use Rattle.std.specs.Prelude.{if◌then◌else◌, nat_lt, ◌==◌, ◌&&◌}
-use Rattle.std.proofs.lemmas.Bool.{false≢true}
+use Rattle.std.specs.Prelude.{if◌then◌else◌, nat_lt, ◌==◌}
+use Rattle.std.proofs.lemmas.Bool.{false≢true, and_parts}
 use Rattle.byteorder.specs.Endian.{big_bytes}
 use Rattle.byteorder.specs.Numbers.{big_number-reads_back}
 use Rattle.cap_desc.specs.DescriptorFormat.{Class, Method}
 use Rattle.cap_desc.specs.Members.{methods_but}
-use Rattle.cap_pool.specs.PoolFormat.{Entry, is_pool_tag}
+use Rattle.cap_pool.specs.PoolFormat.{Entry}
+use Rattle.cap_pool.specs.declared.pool_reference.PoolReference.{PoolReference}
+use Rattle.cap_pool.specs.declared.pool_reference.PoolReference.TheVariants.{StaticMethod}
+use Rattle.cap_pool.specs.declared.pool_reference.StaticReference.TheVariants.{Internal, External}
+use Rattle.cap_pool.specs.PoolReference.{referred}
 use Rattle.cap_package.specs.PackageRecord.{PackageRecord, names_interface}
 use Rattle.cap_package.specs.Parts.{Lent}
 use Rattle.cap_package.specs.StandsFor.{StandsFor}
-use Rattle.cap_renewal.specs.PoolEdits.{own_method, entry_by, renewed_entry}
+use Rattle.cap_renewal.specs.PoolEdits.{own_offset, entry_by, renewed_entry}
+use Rattle.cap_renewal.proofs.RenewedEntries.{none-or-own}
 use Rattle.jc_base.specs.declared.record.Member.{Member}
 use Rattle.jc_base.specs.declared.record.Member.TheVariants.{StaticCall}
 use Rattle.jc_base.specs.declared.record.StaticRec.{StaticRec}
 use Rattle.jc_base.specs.Class.{ClassTable}
 use Rattle.jc_decode.specs.declared.symbols.Laid.{Laid}
-use Rattle.jc_members.specs.Entries.{own_place, exported_method, exported_place, method_place}
+use Rattle.jc_members.specs.Entries.{place_in, method_place}
 use Rattle.jc_members.specs.Members.{call_member, member_of}
 use Rattle.jc_resolve.specs.declared.place.RecordPlace.{RecordPlace}
 use Rattle.jc_resolve.specs.Numbering.{NumberedMethod, methods_of_class, methods_of_classes, methods_after, numbered_methods, place_of_method, method_places, is_at, is_placed, method_at}
+use Rattle.jc_resolve.proofs.Pairwise.{each-append}
 use Rattle.cap_rewritten.specs.Changes.{Change, changes, now_at}
 use Rattle.cap_rewritten.specs.Written.{IsWritten}
 use Rattle.cap_rewritten.specs.Rewritten.{IsRewritten}
@@ -30,9 +36,9 @@ use Rattle.cap_rewritten.proofs.Facts.{olds, all_written}
 use Rattle.cap_rewritten.proofs.Standing.{offset_of, ends_inside, sizes_end, apart}
 use Rattle.cap_rewritten.proofs.Anew.{has_source}
 use Rattle.jc_rewritten.specs.Last.{and_last}
-use Rattle.jc_rewritten.proofs.Lists.{each_append, position_has, has_append}
+use Rattle.jc_rewritten.proofs.Lists.{position_has, has_append}
 use Rattle.jc_rewritten.proofs.Places.{last_method, now_has}
-use Rattle.jc_relinked.proofs.Members.{members_same, other_call, other_member, call_is}
+use Rattle.jc_relinked.proofs.Members.{IsSameCall, members_same, other_call, call_is}
 use Rattle.jc_relinked.proofs.Apart.{own_methods, after_split}
 
 -- ---- packages of methods
@@ -45,7 +51,7 @@ homes_class k p i c j (m ∷ ms) = (refl, homes_class k p i c (j + 1) ms)
 pub homes_classes : (k : ℕ) (p : PackageRecord) (i : ℕ) (cs : List Class)
     → Each (λ (m : NumberedMethod). m.home ≡ k) (methods_of_classes k p i cs)
 homes_classes k p i [] = tt
-homes_classes k p i (c ∷ cs) = each_append (λ (m : NumberedMethod). m.home ≡ k) (methods_of_class k p i c 0 c.methods)
+homes_classes k p i (c ∷ cs) = each-append (λ (m : NumberedMethod). m.home ≡ k) (methods_of_class k p i c 0 c.methods)
     (methods_of_classes k p (i + 1) cs) (homes_class k p i c 0 c.methods) (homes_classes k p (i + 1) cs)
 
 below_all : (k n : ℕ) (ms : List NumberedMethod) → k < n → Each (λ (m : NumberedMethod). m.home ≡ k) ms
@@ -57,7 +63,7 @@ pub homes_after : (k n : ℕ) (ps : List PackageRecord) → k + length ps ≤ n
     → Each (λ (m : NumberedMethod). m.home < n) (methods_after k ps)
 homes_after k n [] le = tt
 homes_after k n (p ∷ ps) le =
-    each_append (λ (m : NumberedMethod). m.home < n) (methods_of_classes k p 0 p.description.items.classes)
+    each-append (λ (m : NumberedMethod). m.home < n) (methods_of_classes k p 0 p.description.items.classes)
     (methods_after (k + 1) ps)
     (below_all k n (methods_of_classes k p 0 p.description.items.classes) (omega arith)
     (homes_classes k p 0 p.description.items.classes)) (homes_after (k + 1) n ps (omega arith))
@@ -66,10 +72,6 @@ homes_after k n (p ∷ ps) le =
 
 is_same : (a b : ℕ) → (a == b) ≡ true → a ≡ b
 is_same a b e = grind arith
-
-both_true : (a b : Bool) → a && b ≡ true → (a ≡ true) × (b ≡ true)
-both_true true b e = (refl, e)
-both_true false b e = absurd (false≢true e)
 
 record StandsIn (k o : ℕ) (m : NumberedMethod) : Type 0 where
   pub placed : m.placed ≡ true
@@ -83,7 +85,7 @@ stands_in k o m e = by m.placed refl e
     by : (b : Bool) → m.placed ≡ b → is_at (record { «package» = k; offset = o })
         (if b then Some (record { «package» = m.home; offset = m.record_of.method_offset }) else None) ≡ true → StandsIn k o m
     by true h f =
-        let both = both_true (k == m.home) (o == m.record_of.method_offset) f in
+        let both = and_parts (k == m.home) (o == m.record_of.method_offset) f in
         record { placed = h; home = sym (is_same k m.home both.0); offset = sym (is_same o m.record_of.method_offset both.1) }
     by false h f = absurd (false≢true f)
 
@@ -202,66 +204,35 @@ module _ (parts : List Lent) (ps : List PackageRecord) (p q : PackageRecord) (la
       ∙ subst (λ x. method_at now (record { «package» = length ps; offset = to x })
       ≡ method_at old (record { «package» = length ps; offset = x })) c.at (last_method parts ps p q laid c.change s r c.has)
 
-  turned : (a b : ℕ) → 256 * a + b ≡ a * 256 + b
-  turned a b = omega arith
-
-  abbrev with_offset : Entry → ℕ → Entry
-  with_offset e x = record { tag = e.tag; bytes = slice_index e.bytes 0 ∷ big_bytes 2 x }
-
-  call_told : (b : Bool) (e : Entry) (m : Member) → b ≡ true
-      → option_map StaticCall (option_and_then (method_at old)
-      (if b then Some (own_place (length ps) e) else exported_place old (exported_method old) (length ps) e)) ≡ Some m
-      → (n : ℕ) × (method_at old (own_place (length ps) e) ≡ Some n)
-  call_told false e m b c = absurd (false≢true b)
-  call_told true e m b c = by (method_at old (own_place (length ps) e)) refl c
+  call_told : (o : ℕ) (m : Member) → option_map StaticCall (method_at old (place_in (length ps) o)) ≡ Some m
+      → (n : ℕ) × (method_at old (place_in (length ps) o) ≡ Some n)
+  call_told o m c = by (method_at old (place_in (length ps) o)) refl c
     where
-      by : (o : Option ℕ) → method_at old (own_place (length ps) e) ≡ o → option_map StaticCall o ≡ Some m
-          → (n : ℕ) × (method_at old (own_place (length ps) e) ≡ Some n)
+      by : (found : Option ℕ) → method_at old (place_in (length ps) o) ≡ found → option_map StaticCall found ≡ Some m
+          → (n : ℕ) × (method_at old (place_in (length ps) o) ≡ Some n)
       by None f g = absurd cc
       by (Some n) f g = (n, f)
 
-  renewed_call : (e : Entry) (m : Member) → nat_lt (slice_index e.bytes 0) 128 ≡ true → call_member old (length ps) e ≡ Some m
-      → call_member now (length ps) (with_offset e (to (256 * slice_index e.bytes 1 + slice_index e.bytes 2)))
-      ≡ call_member old (length ps) e
+  renewed_call : (o : ℕ) (m : Member) → call_member old (length ps) (Internal o) ≡ Some m
+      → call_member now (length ps) (Internal (slice_index (big_bytes 2 (to o)) 0 * 256 + slice_index (big_bytes 2 (to o)) 1))
+      ≡ call_member old (length ps) (Internal o)
   unfolding call_member method_place
-  renewed_call e m own c =
-      let k = length ps in
-      let there = call_told (nat_lt (slice_index e.bytes 0) 128) e m own c in
-      let o = slice_index e.bytes 1 * 256 + slice_index e.bytes 2 in
-      let new = with_offset e (to (256 * slice_index e.bytes 1 + slice_index e.bytes 2)) in
-      ap (λ b. option_map StaticCall (option_and_then (method_at now)
-      (if b then Some (own_place k new) else exported_place now (exported_method now) k new))) own
-      ∙ ap (option_map StaticCall)
-      (ap (λ x. method_at now (own_place k (with_offset e (to x)))) (turned (slice_index e.bytes 1) (slice_index e.bytes 2))
-      ∙ own_call o there.0 there.1)
-      ∙ sym (ap (λ b. option_map StaticCall (option_and_then (method_at old)
-      (if b then Some (own_place k e) else exported_place old (exported_method old) k e))) own)
+  renewed_call o m c = let there = call_told o m c in ap (option_map StaticCall) (own_call o there.0 there.1)
 
-  -- the offset of the package's own method that an entry names, by its two tests
-  abbrev own_if : Entry → Bool → Bool → Option ℕ
-  own_if e a b = if a && b then Some (256 * slice_index e.bytes 1 + slice_index e.bytes 2) else None
+  not_own : (x : PoolReference) → own_offset x ≡ None → IsSameCall ps p q laid r (length ps) x
+  not_own (StaticMethod (Internal o)) none = absurd cc
+  not_own (StaticMethod (External asked class token)) none = other_call ps p q laid r (length ps) asked class token (omega arith)
+  not_own other none = tt {0}
 
   -- an entry that names a member names it still when its offset is renewed
-  pub renewed_member : (t : ClassTable) (statics : List StaticRec) (e : Entry) (m : Member) → is_pool_tag e.tag ≡ true
-      → member_of old t statics (length ps) e ≡ Some m
+  pub renewed_member : (t : ClassTable) (statics : List StaticRec) (e : Entry) (m : Member) → member_of old t statics (length ps) e ≡ Some m
       → member_of now t statics (length ps) (renewed_entry to e) ≡ member_of old t statics (length ps) e
-  renewed_member t statics e m known there = by (e.tag == 6) refl (nat_lt (slice_index e.bytes 0) 128) refl
-    where
-      by : (a : Bool) → (e.tag == 6) ≡ a → (b : Bool) → nat_lt (slice_index e.bytes 0) 128 ≡ b
-          → member_of now t statics (length ps) (entry_by to e (own_method e)) ≡ member_of old t statics (length ps) e
-      by false six b own =
-          ap (λ x. member_of now t statics (length ps) (entry_by to e (own_if e x (nat_lt (slice_index e.bytes 0) 128)))) six
-          ∙ other_member ps p q laid r t statics (length ps) e (omega arith) known six
-      by true six false own =
-          ap (λ x. member_of now t statics (length ps) (entry_by to e (own_if e x (nat_lt (slice_index e.bytes 0) 128)))) six
-          ∙ ap (λ x. member_of now t statics (length ps) (entry_by to e (own_if e true x))) own
-          ∙ members_same ps p q laid r t statics (length ps) e (omega arith)
-          (other_call ps p q laid r (length ps) e (omega arith) own)
-      by true six true own =
-          let tag = is_same e.tag 6 six in
-          let x = to (256 * slice_index e.bytes 1 + slice_index e.bytes 2) in
-          ap (λ x. member_of now t statics (length ps) (entry_by to e (own_if e x (nat_lt (slice_index e.bytes 0) 128)))) six
-          ∙ ap (λ x. member_of now t statics (length ps) (entry_by to e (own_if e true x))) own
-          ∙ call_is now t statics (length ps) (with_offset e x) tag
-          ∙ renewed_call e m own (sym (call_is old t statics (length ps) e tag) ∙ there)
-          ∙ sym (call_is old t statics (length ps) e tag)
+  renewed_member t statics e m there = elim (none-or-own to e) [
+    | inl none ↦
+        ap (λ o. member_of now t statics (length ps) (entry_by to e o)) none
+        ∙ members_same ps p q laid r t statics (length ps) e (omega arith) (not_own (referred e) none)
+    | inr own ↦
+        call_is now t statics (length ps) (renewed_entry to e) _ own.renewed
+        ∙ renewed_call own.offset m (sym (call_is old t statics (length ps) e (Internal own.offset) own.named) ∙ there)
+        ∙ sym (call_is old t statics (length ps) e (Internal own.offset) own.named)
+  ]

@@ -5,58 +5,37 @@ use Rattle.std.proofs.lemmas.Option.{slice_get-map, slice_get_within}
 use Rattle.cap_desc.specs.DescriptorFormat.{Method}
 use Rattle.cap_method.specs.declared.handler.HandlerInfo.{HandlerInfo}
 use Rattle.cap_pool.specs.PoolFormat.{Entry}
+use Rattle.cap_pool.specs.declared.pool_reference.PoolReference.{PoolReference}
+use Rattle.cap_pool.specs.declared.pool_reference.PoolReference.TheVariants.{Class as ClassEntry}
+use Rattle.cap_pool.specs.PoolReference.{referred}
 use Rattle.cap_package.specs.PackageRecord.{PackageRecord, handlers_of}
 use Rattle.cap_package.specs.Parts.{Lent}
 use Rattle.cap_package.specs.StandsFor.{StandsFor}
 use Rattle.cap_laying.specs.HandlerTable.{entries_at}
-use Rattle.cap_renewal.specs.PoolEdits.{own_method, entry_by, renewed_entry}
+use Rattle.cap_renewal.specs.PoolEdits.{renewed_entry}
+use Rattle.cap_renewal.proofs.RenewedEntries.{asked-same}
 use Rattle.jc_base.specs.declared.record.Handler.{Handler}
 use Rattle.jc_base.specs.Class.{ClassTable}
+use Rattle.jc_base.proofs.Eaching.{Each-from_All}
 use Rattle.jc_decode.specs.declared.symbols.Handler.{Handler as Laying}
 use Rattle.jc_decode.specs.declared.symbols.Laid.{Laid}
-use Rattle.jc_members.specs.Catches.{caught_by, thrown_by, catches, HandlerPlace, handlers_from, handlers_after, catch_fault, bad_catches}
-use Rattle.jc_members.specs.Entries.{class_in}
+use Rattle.jc_members.specs.Catches.{class_caught, caught_by, thrown_by, catches, HandlerPlace, handlers_from, handlers_after, catch_fault, bad_catches}
 use Rattle.jc_resolve.specs.declared.fault.LinkFault.TheVariants.{BadCatch}
 use Rattle.jc_resolve.specs.NamedMethods.{handler_named}
 use Rattle.cap_rewritten.specs.Changes.{Change, changes, now_at}
 use Rattle.cap_rewritten.specs.Written.{IsAs, IsWritten, handlers_in, block_of}
 use Rattle.cap_rewritten.specs.Rewritten.{IsRewritten}
-use Rattle.cap_rewritten.proofs.Lists.{Each, each_at, each_all, none_each, each_none, none_append, append_none, faults_append}
+use Rattle.cap_rewritten.proofs.Lists.{Each, each_at, none_each, each_none, none_append, append_none, faults_append}
 use Rattle.cap_rewritten.proofs.Owners.{below, owned}
 use Rattle.cap_rewritten.proofs.Agreed.{agrees}
 use Rattle.cap_rewritten.proofs.Facts.{all_written}
-use Rattle.cap_rewritten.proofs.Handlers.{all_blocks}
+use Rattle.cap_rewritten.proofs.Handlers.{all_blocks, get_drop, get_take}
 use Rattle.xf_landed.proofs.Steps.{at-contains}
+use Rattle.jc_resolve.proofs.Pairwise.{each-at}
 use Rattle.jc_rewritten.specs.Last.{and_last}
 use Rattle.jc_relinked.specs.Replaced.{HasPoolOf}
-use Rattle.jc_relinked.proofs.Elements.{get_drop, get_take}
-use Rattle.jc_rewritten.proofs.Lists.{each_get, get_each, each_take, each_drop}
-use Rattle.jc_relinked.proofs.Members.{class_in_same}
-
--- ---- a class reference stays when offsets of methods are renewed
-
-renewed_tag : (to : ℕ → ℕ) (e : Entry) (o : Option ℕ) → (entry_by to e o).tag ≡ e.tag
-renewed_tag to e None = refl
-renewed_tag to e (Some x) = refl
-
--- what is asked of a Classref
-pub classref_same : {Z : Type 0} (g : Entry → Z) (d : Z) (to : ℕ → ℕ) (e : Entry)
-    → (if (renewed_entry to e).tag == 1 then g (renewed_entry to e) else d) ≡ (if e.tag == 1 then g e else d)
-classref_same g d to e = by (e.tag == 1) refl
-  where
-    no_call : (tag : ℕ) → (tag == 1) ≡ true → (tag == 6) ≡ false
-    no_call tag h = grind arith
-
-    by : (b : Bool) → (e.tag == 1) ≡ b → (if (renewed_entry to e).tag == 1 then g (renewed_entry to e) else d)
-        ≡ (if e.tag == 1 then g e else d)
-    by true h =
-        let none : own_method e ≡ None = ap (λ b. if b && nat_lt (slice_index e.bytes 0) 128 then Some
-        (256 * slice_index e.bytes 1 + slice_index e.bytes 2) else None) (no_call e.tag h) in
-        ap (λ o. if (entry_by to e o).tag == 1 then g (entry_by to e o) else d) none
-    by false h =
-        ap (λ n. if n == 1 then g (renewed_entry to e) else d) (renewed_tag to e (own_method e))
-        ∙ ap (λ b. if b then g (renewed_entry to e) else d) h
-        ∙ sym (ap (λ b. if b then g e else d) h)
+use Rattle.jc_rewritten.proofs.Lists.{get_each, each_take, each_drop}
+use Rattle.jc_relinked.proofs.Members.{class_same}
 
 module _ (ps : List PackageRecord) (p q : PackageRecord) (laid : List (Option Laid)) (r : IsRewritten p laid q) (t : ClassTable)
   where
@@ -66,9 +45,13 @@ module _ (ps : List PackageRecord) (p q : PackageRecord) (laid : List (Option La
     abbrev old : List PackageRecord
     old = and_last ps p
 
+    caught_same : (k : ℕ) (x : PoolReference) → class_caught now k x ≡ class_caught old k x
+    caught_same k (ClassEntry c) = class_same ps p q laid r k c
+    caught_same k other = refl
+
     by_same : (k : ℕ) (o : Option Entry) → caught_by now k o ≡ caught_by old k o
     by_same k None = refl
-    by_same k (Some e) = ap (λ c. if e.tag == 1 then c else None) (class_in_same ps p q laid r k e)
+    by_same k (Some e) = caught_same k (referred e)
 
     catches_same : (k : ℕ) (pool : List Entry) (index : ℕ) → catches now t k pool index ≡ catches old t k pool index
     unfolding catches
@@ -76,7 +59,7 @@ module _ (ps : List PackageRecord) (p q : PackageRecord) (laid : List (Option La
 
     by_renewed : (k : ℕ) (to : ℕ → ℕ) (o : Option Entry) → caught_by old k (option_map (renewed_entry to) o) ≡ caught_by old k o
     by_renewed k to None = refl
-    by_renewed k to (Some e) = classref_same (class_in old k) None to e
+    by_renewed k to (Some e) = asked-same (class_caught old k) None (λ o. refl) to e
 
     catches_renewed : (k index : ℕ) → catches now t k q.pool index ≡ catches old t k p.pool index
     unfolding catches
@@ -246,7 +229,7 @@ module _ (ps : List PackageRecord) (p q : PackageRecord) (laid : List (Option La
         (each_drop (Catches old (length ps) p.pool) m.handler_index p.methods.handlers own) in
         let each = subst (Each (λ (h : Handler). catches old t (length ps) p.pool h.index ≡ true)) (sym is)
         (named_catch throwable code_at (handlers_of p m) of_method) in
-        by l.handlers (each_all (λ h. (h.pool ≡ 0) ⊎ HasPoolOf hs h) l.handlers all) each
+        by l.handlers (Each-from_All (λ h. (h.pool ≡ 0) ⊎ HasPoolOf hs h) l.handlers all) each
       where
         one : (x : Laying) → Each (λ (h : Handler). catches old t (length ps) p.pool h.index ≡ true) hs
             → (x.pool ≡ 0) ⊎ HasPoolOf hs x → catches old t (length ps) p.pool x.pool ≡ true
@@ -254,7 +237,7 @@ module _ (ps : List PackageRecord) (p q : PackageRecord) (laid : List (Option La
         one x each (inr a) =
             let there = at-contains hs a.1 (a.0, a.2, a.3) in
             ap (catches old t (length ps) p.pool) (sym a.4)
-            ∙ each_get (λ (h : Handler). catches old t (length ps) p.pool h.index ≡ true) hs a.0 a.1 each there
+            ∙ each-at (λ (h : Handler). catches old t (length ps) p.pool h.index ≡ true) hs a.0 a.1 each there
 
         by : (xs : List Laying) → Each (λ (h : Laying). (h.pool ≡ 0) ⊎ HasPoolOf hs h) xs
             → Each (λ (h : Handler). catches old t (length ps) p.pool h.index ≡ true) hs

@@ -1,21 +1,10 @@
 -- Elements of parts of a list.
-use Rattle.std.proofs.Common.{◌≡◌, ◌<◌, ◌+◌, ℕ, zero, suc, List, [], ◌∷◌, ◌++◌, length, take, drop, Some, slice_get, refl, arith}
+use Rattle.std.proofs.Common.{◌≡◌, ◌<◌, ◌+◌, ℕ, zero, suc, List, [], ◌∷◌, ◌++◌, length, take, Some, slice_get, refl, arith}
 
 pub get_front : {X : Type 0} (xs ys : List X) (n : ℕ) → n < length xs → slice_get (xs ++ ys) n ≡ slice_get xs n
 get_front [] ys n lt = absurd (omega arith)
 get_front (x ∷ xs) ys zero lt = refl
 get_front (x ∷ xs) ys (suc n) lt = get_front xs ys n (omega arith)
-
-pub get_drop : {X : Type 0} (i j : ℕ) (xs : List X) → slice_get (drop i xs) j ≡ slice_get xs (i + j)
-get_drop zero j xs = let e : 0 + j ≡ j = omega arith in rw e refl
-get_drop (suc i) j [] = refl
-get_drop (suc i) j (x ∷ xs) = let e : suc i + j ≡ suc (i + j) = omega arith in rw e (get_drop i j xs)
-
-pub get_take : {X : Type 0} (n j : ℕ) (xs : List X) → j < n → slice_get (take n xs) j ≡ slice_get xs j
-get_take zero j xs h = absurd (omega arith)
-get_take (suc n) j [] h = refl
-get_take (suc n) zero (x ∷ xs) h = refl
-get_take (suc n) (suc j) (x ∷ xs) h = get_take n j xs (omega arith)
 
 -- what is found among the first elements stands at a place below their number
 pub taken_below : {X : Type 0} (n j : ℕ) (xs : List X) (x : X) → slice_get (take n xs) j ≡ Some x → j < n

@@ -1,13 +1,12 @@
 -- What is known of each method of the last package, before and after, where the code that is laid may stand there.
 use Rattle.std.proofs.Common.{◌≡◌, ◌<◌, ◌+◌, ℕ, List, Bool, true, false, not, Option, Some, None, ◌&&◌, slice_index, refl, sym, ap, subst, ◌∙◌, arith}
-use Rattle.std.specs.Prelude.{if◌then◌else◌, ◌==◌}
-use Rattle.std.specs.Int.RustNames.{bit_and}
+use Rattle.std.specs.Prelude.{◌==◌}
 use Rattle.std.proofs.lemmas.Bool.{false≢true}
 use Rattle.cap_desc.specs.DescriptorFormat.{Method, Class}
 use Rattle.cap_desc.specs.Members.{methods_but}
 use Rattle.cap_method.specs.MethodFormat.{Header}
 use Rattle.cap_package.specs.HeaderChecks.{header_in, is_abstract, abstract_fault, abstract_by}
-use Rattle.cap_package.specs.PackageRecord.{PackageRecord, names_interface, described}
+use Rattle.cap_package.specs.PackageRecord.{PackageRecord, names_interface, described_methods}
 use Rattle.cap_package.specs.Parts.{Lent}
 use Rattle.cap_package.specs.StandsFor.{StandsFor}
 use Rattle.cap_laying.specs.HeaderBytes.{is_compact}
@@ -26,7 +25,7 @@ use Rattle.cap_rewritten.proofs.Agreed.{agrees}
 use Rattle.cap_rewritten.proofs.Zipped.{now_of}
 use Rattle.cap_rewritten.proofs.Bare.{but_same}
 use Rattle.cap_rewritten.proofs.Headers.{moved}
-use Rattle.cap_rewritten.proofs.Facts.{WasWell, wells, news, old_each, all_written, few_by}
+use Rattle.cap_rewritten.proofs.Facts.{WasWell, wells, news, old_each, all_written, few_by, plain}
 use Rattle.jc_relinked.specs.Replaced.{MayReplace}
 use Rattle.jc_rewritten.proofs.Places.{to_set}
 use Rattle.jc_relinked.proofs.Records.{with_header, without_header}
@@ -51,7 +50,7 @@ all_known parts new_parts p q laid s t r =
     let well = map_each (WasWell q) now_of cs (subst (Each (WasWell q)) (sym (news p q laid r))
     (wells new_parts q (agrees new_parts q t.agree))) in
     let bare = old_each p q laid (λ m. abstract_fault p.methods.info m ≡ None) r
-    (none_each (abstract_fault p.methods.info) (described p) a.bare) in
+    (none_each (abstract_fault p.methods.info) (described_methods p) a.bare) in
     each_of (IsKnown p q cs) cs (λ c h. record {
       has = h;
       written = each_at (IsWritten p q cs) cs c written h;
@@ -160,10 +159,6 @@ had_code ps roles k p q laid t l i may = by (have_headers ps k p t.old_class) re
         }
 
 -- ---- abstract methods stay abstract, and others do not become so
-
-plain : (b : Bool) → (bit_and (if b then 0 else 8) 4 == 4) ≡ false
-plain true = refl
-plain false = refl
 
 -- the code that is laid is that of a method that had code
 abbrev pub MayBeLaid : List PackageRecord → List ℕ → ℕ → PackageRecord → Twin → Type 0

@@ -11,6 +11,7 @@ use Rattle.first_fault.specs.First.{AllEmpty}
 use Rattle.jc_base.specs.declared.record.ArrayRec.{ArrayRec}
 use Rattle.jc_base.specs.declared.record.MethodRec.{MethodRec}
 use Rattle.jc_base.specs.World.{Linked}
+use Rattle.jc_base.proofs.Eaching.{Each-from_All}
 use Rattle.jc_decode.specs.declared.symbols.Laid.{Laid}
 use Rattle.jc_resolve.specs.declared.fault.LinkFault.{LinkFault}
 use Rattle.jc_resolve.specs.declared.fault.LinkFault.TheVariants.{TooManyStatics, NoRoom}
@@ -22,7 +23,7 @@ use Rattle.jc_hierarchy.specs.Conditions as lineage
 use Rattle.jc_hierarchy.specs.Outline.{outline}
 use Rattle.jc_classes.specs.Conditions as classes
 use Rattle.jc_classes.specs.Tables.{class_tables}
-use Rattle.jc_statics.specs.Arrays.{array_records, cells_of}
+use Rattle.jc_statics.specs.Arrays.{array_records, initial_cells}
 use Rattle.jc_statics.specs.Room.{statics_fault, arrays_fault}
 use Rattle.jc_members.specs.Catches.{bad_catches}
 use Rattle.jc_members.specs.Pools.{pools, missing_members}
@@ -31,7 +32,7 @@ use Rattle.jc_indexes.specs.Indexes.{indexes_of}
 use Rattle.jc_link.specs.World.{classes_of, lineage_of, table_of, methods_of, statics_of, first_classes, table_conditions, member_conditions, IsLinked}
 use Rattle.cap_rewritten.specs.Changes.{changes, now_at}
 use Rattle.cap_rewritten.specs.Rewritten.{IsRewritten}
-use Rattle.cap_rewritten.proofs.Lists.{Each, each_all}
+use Rattle.cap_rewritten.proofs.Lists.{Each}
 use Rattle.xf_landed.specs.Apart.{apart_from_code}
 use Rattle.jc_rewritten.specs.Last.{and_last}
 use Rattle.jc_relinked.specs.Laws.{LinksAgain}
@@ -114,9 +115,9 @@ are_parts ps p roles w before own l parted =
     (earlier_homes ps p roles)
     (last_all n (and_last ps p) roles (own_methods ps p) (homes_classes n p 0 p.description.items.classes))
     (subst (λ k. Each (λ (m : MethodRec). m.package + 1 < k) before) long
-    (each_all (λ (m : MethodRec). m.package + 1 < length w.infos) before parted.earlier))
+    (Each-from_All (λ (m : MethodRec). m.package + 1 < length w.infos) before parted.earlier))
     (subst (λ k. Each (λ (m : MethodRec). m.package + 1 ≡ k) own) long
-    (each_all (λ (m : MethodRec). m.package + 1 ≡ length w.infos) own parted.last)) in
+    (Each-from_All (λ (m : MethodRec). m.package + 1 ≡ length w.infos) own parted.last)) in
     record { before_is = r.0; own_is = r.1 }
 
 -- ---- what may be laid for each method
@@ -189,7 +190,7 @@ module _ (parts new_parts : List Lent) (ps : List PackageRecord) (p q : PackageR
   arrays_room : arrays_fault now ≡ arrays_fault old
   arrays_room =
       ap (λ (as_ : List ArrayRec). if nat_lt 4096 (length as_) then Some
-      (NoRoom (length as_)) else (if nat_lt 32768 (cells_of as_) then Some (NoRoom (cells_of as_)) else None))
+      (NoRoom (length as_)) else (if nat_lt 32768 (initial_cells as_) then Some (NoRoom (initial_cells as_)) else None))
       (arrays_same ps p q laid r)
 
   -- each handler that is laid catches all, or a class below throwable

@@ -1,11 +1,17 @@
 -- Pool entries name the same members.
 use Rattle.std.proofs.Common.{◌≡◌, ◌≤◌, ◌<◌, ◌+◌, ◌-◌, ◌*◌, ℕ, List, [], ◌∷◌, ◌++◌, length, take, map, flat_map, Bool, true, false, Option, Some, None, option_map, option_and_then, position, slice_index, refl, sym, ap, ◌∙◌, arith, length-take}
 use Rattle.std.specs.Prelude.{if◌then◌else◌, nat_lt, ◌==◌}
+use Rattle.cap_bytes.specs.declared.class_reference.ClassReference.{ClassReference}
 use Rattle.cap_class.specs.ClassFormat.{Class, is_interface}
 use Rattle.cap_desc.specs.declared.type_item.TypeItem.{TypeItem}
 use Rattle.cap_desc.specs.DescriptorFormat as described
-use Rattle.cap_pool.specs.Export.{field_in, method_in}
-use Rattle.cap_pool.specs.PoolFormat.{Entry, is_pool_tag}
+use Rattle.cap_pool.specs.Export.{field_offset_in, method_offset_in}
+use Rattle.cap_pool.specs.PoolFormat.{Entry}
+use Rattle.cap_pool.specs.declared.pool_reference.PoolReference.{PoolReference}
+use Rattle.cap_pool.specs.declared.pool_reference.PoolReference.TheVariants.{Class as ClassEntry, InstanceField, VirtualMethod, SuperMethod, StaticField, StaticMethod}
+use Rattle.cap_pool.specs.declared.pool_reference.StaticReference.{StaticReference}
+use Rattle.cap_pool.specs.declared.pool_reference.StaticReference.TheVariants.{Internal, External}
+use Rattle.cap_pool.specs.PoolReference.{referred}
 use Rattle.cap_package.specs.Agreement.{or_none}
 use Rattle.cap_package.specs.Descriptions.{Description, field_type}
 use Rattle.cap_package.specs.HeaderChecks.{is_static}
@@ -15,14 +21,13 @@ use Rattle.jc_base.specs.declared.record.Member.TheVariants.{ClassOf, StaticCall
 use Rattle.jc_base.specs.declared.record.StaticRec.{StaticRec}
 use Rattle.jc_base.specs.Class.{ClassTable, object}
 use Rattle.jc_decode.specs.declared.symbols.Laid.{Laid}
-use Rattle.jc_members.specs.Entries.{class_in, token_in, exported_field, exported_method, own_place, exported_place, field_place, method_place}
+use Rattle.jc_members.specs.Entries.{place_in, exported_field, exported_method, exported_place, field_place, method_place}
 use Rattle.jc_members.specs.Fields.{field_with, own_field, fields_in, own_fields, class_sites, sites_of_classes, sites_after, field_sites}
-use Rattle.jc_members.specs.Members.{class_member, proper_by, proper_in, virtual_by, virtual_member, super_of, super_member, static_at, static_member, call_member, field_of, field_member, member_of}
+use Rattle.jc_members.specs.Members.{class_member, proper_by, proper_referred, virtual_by, virtual_member, super_of, super_member, static_at, static_member, call_member, field_of, field_member, member_referred, member_of}
 use Rattle.jc_resolve.specs.declared.place.RecordPlace.{RecordPlace}
 use Rattle.jc_resolve.specs.NamedClasses.{describes, token_of}
-use Rattle.jc_resolve.specs.NamedMethods.{reference_in}
 use Rattle.jc_resolve.specs.Numbering.{method_at}
-use Rattle.jc_resolve.specs.References.{meets, import_of, met_by}
+use Rattle.jc_resolve.specs.References.{meets, import_of, met_by, class_referred}
 use Rattle.jc_resolve.specs.WorldTypes.{kind_of}
 use Rattle.jc_resolve.proofs.NumberLaws.{position_below}
 use Rattle.cap_rewritten.specs.Changes.{changes, now_at}
@@ -31,7 +36,7 @@ use Rattle.cap_rewritten.proofs.Lists.{faults_same}
 use Rattle.cap_rewritten.proofs.Bare.{same_field}
 use Rattle.jc_rewritten.specs.Last.{and_last}
 use Rattle.jc_rewritten.proofs.Lists.{get_earlier}
-use Rattle.jc_rewritten.proofs.Names.{met_same, named_same}
+use Rattle.jc_rewritten.proofs.Names.{met_same, referred_same}
 use Rattle.jc_rewritten.proofs.Places.{earlier_method}
 use Rattle.jc_rewritten.proofs.Classes.{type_same, flat_same, flat_bare}
 
@@ -44,25 +49,24 @@ module _ (ps : List PackageRecord) (p q : PackageRecord) (laid : List (Option La
 
   -- ---- classes
 
-  pub class_in_same : (k : ℕ) (e : Entry) → class_in now k e ≡ class_in old k e
-  unfolding class_in
-  class_in_same k e = named_same ps p q laid k (reference_in e.bytes) r
+  pub class_same : (k : ℕ) (c : ClassReference) → class_referred now k c ≡ class_referred old k c
+  class_same k c = referred_same ps p q laid k c r
 
-  class_member_same : (k : ℕ) (e : Entry) → class_member now k e ≡ class_member old k e
+  class_member_same : (k : ℕ) (c : ClassReference) → class_member now k c ≡ class_member old k c
   unfolding class_member
-  class_member_same k e = ap (option_map ClassOf) (class_in_same k e)
+  class_member_same k c = ap (option_map ClassOf) (class_same k c)
 
-  proper_same : (t : ClassTable) (k : ℕ) (e : Entry) → proper_in now t k e ≡ proper_in old t k e
-  unfolding proper_in
-  proper_same t k e = ap (option_and_then (proper_by t)) (class_in_same k e)
+  proper_same : (t : ClassTable) (k : ℕ) (c : ClassReference) → proper_referred now t k c ≡ proper_referred old t k c
+  unfolding proper_referred
+  proper_same t k c = ap (option_and_then (proper_by t)) (class_same k c)
 
-  virtual_same : (t : ClassTable) (k : ℕ) (e : Entry) → virtual_member now t k e ≡ virtual_member old t k e
+  virtual_same : (t : ClassTable) (k : ℕ) (c : ClassReference) (token : ℕ) → virtual_member now t k c token ≡ virtual_member old t k c token
   unfolding virtual_member
-  virtual_same t k e = ap (option_and_then (virtual_by t (token_in e))) (proper_same t k e)
+  virtual_same t k c token = ap (option_and_then (virtual_by t token)) (proper_same t k c)
 
-  super_same : (t : ClassTable) (k : ℕ) (e : Entry) → super_member now t k e ≡ super_member old t k e
+  super_same : (t : ClassTable) (k : ℕ) (c : ClassReference) (token : ℕ) → super_member now t k c token ≡ super_member old t k c token
   unfolding super_member
-  super_same t k e = ap (option_and_then (super_of t (token_in e))) (proper_same t k e)
+  super_same t k c token = ap (option_and_then (super_of t token)) (proper_same t k c)
 
   -- ---- instance fields
 
@@ -132,11 +136,11 @@ module _ (ps : List PackageRecord) (p q : PackageRecord) (laid : List (Option La
       ap (λ ss. ss ++ sites_after now t (c + length x.classes) (k + 1) (and_last xs q)) (earlier_sites t k x c x.classes)
       ∙ ap (λ ss. sites_of_classes old t k x c x.classes ++ ss) (all_sites t (c + length x.classes) (k + 1) xs)
 
-  instance_same : (t : ClassTable) (k : ℕ) (e : Entry) → field_member now t k e ≡ field_member old t k e
+  instance_same : (t : ClassTable) (k : ℕ) (c : ClassReference) (token : ℕ) → field_member now t k c token ≡ field_member old t k c token
   unfolding field_member
-  instance_same t k e =
-      ap (λ ss. option_and_then (field_of ss t (token_in e)) (proper_in now t k e)) (all_sites t 0 0 ps)
-      ∙ ap (option_and_then (field_of (field_sites old t) t (token_in e))) (proper_same t k e)
+  instance_same t k c token =
+      ap (λ ss. option_and_then (field_of ss t token) (proper_referred now t k c)) (all_sites t 0 0 ps)
+      ∙ ap (option_and_then (field_of (field_sites old t) t token)) (proper_same t k c)
 
   -- ---- what other packages export
 
@@ -151,142 +155,90 @@ module _ (ps : List PackageRecord) (p q : PackageRecord) (laid : List (Option La
           let long = length-take k old in
           omega (arith, below, long, le)
 
-  -- the place of what is exported, by a package that is told
-  abbrev place_in : (ℕ → ℕ → ℕ → Option ℕ) → Entry → ℕ → Option RecordPlace
-  place_in exported e j = option_map (λ offset. record { «package» = j; offset = offset })
-      (exported j (slice_index e.bytes 1) (slice_index e.bytes 2))
-
-  exported_same : {Y : Type 0} (a b : ℕ → ℕ → ℕ → Option ℕ) (f g : RecordPlace → Option Y) (k : ℕ) (e : Entry) → k ≤ length ps
+  exported_same : {Y : Type 0} (a b : ℕ → ℕ → ℕ → Option ℕ) (f g : RecordPlace → Option Y) (k asked class token : ℕ) → k ≤ length ps
       → ((j class token : ℕ) → j < length ps → a j class token ≡ b j class token)
-      → ((j offset : ℕ) → j < length ps → f (record { «package» = j; offset = offset })
-      ≡ g (record { «package» = j; offset = offset }))
-      → option_and_then f (exported_place now a k e) ≡ option_and_then g (exported_place old b k e)
-  exported_same {Y = Y} a b f g k e le same alike =
-      ap (λ o. option_and_then f (option_and_then (place_in a e) o))
-      (met_same ps p q k (slice_index e.bytes 0 - 128) r.header r.imports) ∙ by (met_by old k (slice_index e.bytes 0 - 128)) refl
+      → ((j offset : ℕ) → j < length ps → f (place_in j offset) ≡ g (place_in j offset))
+      → option_and_then f (exported_place now a k asked class token) ≡ option_and_then g (exported_place old b k asked class token)
+  exported_same {Y = Y} a b f g k asked class token le same alike =
+      ap (λ o. option_and_then f (option_and_then (λ j. option_map (place_in j) (a j class token)) o))
+      (met_same ps p q k asked r.header r.imports) ∙ by (met_by old k asked) refl
     where
-      at : (j : ℕ) (o : Option ℕ) → j < length ps → option_and_then f
-          (option_map (λ offset. record { «package» = j; offset = offset }) o)
-          ≡ option_and_then g (option_map (λ offset. record { «package» = j; offset = offset }) o)
+      at : (j : ℕ) (o : Option ℕ) → j < length ps → option_and_then f (option_map (place_in j) o) ≡ option_and_then g (option_map (place_in j) o)
       at j None lt = refl
       at j (Some offset) lt = alike j offset lt
 
-      by : (o : Option ℕ) → met_by old k (slice_index e.bytes 0 - 128) ≡ o → option_and_then f (option_and_then (place_in a e) o)
-          ≡ option_and_then g (option_and_then (place_in b e) o)
+      by : (o : Option ℕ) → met_by old k asked ≡ o → option_and_then f (option_and_then (λ j. option_map (place_in j) (a j class token)) o)
+          ≡ option_and_then g (option_and_then (λ j. option_map (place_in j) (b j class token)) o)
       by None m = refl
       by (Some j) m =
-          let lt = met_earlier k (slice_index e.bytes 0 - 128) j le m in
-          ap (λ o. option_and_then f (option_map (λ offset. record { «package» = j; offset = offset }) o))
-          (same j (slice_index e.bytes 1) (slice_index e.bytes 2) lt)
-          ∙ at j (b j (slice_index e.bytes 1) (slice_index e.bytes 2)) lt
+          let lt = met_earlier k asked j le m in
+          ap (λ o. option_and_then f (option_map (place_in j) o)) (same j class token lt) ∙ at j (b j class token) lt
 
   fields_exported : (j class token : ℕ) → j < length ps → exported_field now j class token ≡ exported_field old j class token
-  fields_exported j class token lt = ap (option_and_then (λ (x : PackageRecord). field_in (or_none x.export) class token))
+  fields_exported j class token lt = ap (option_and_then (λ (x : PackageRecord). field_offset_in (or_none x.export) class token))
       (get_earlier ps p q j lt)
 
   methods_exported : (j class token : ℕ) → j < length ps → exported_method now j class token ≡ exported_method old j class token
-  methods_exported j class token lt = ap (option_and_then (λ (x : PackageRecord). method_in (or_none x.export) class token))
+  methods_exported j class token lt = ap (option_and_then (λ (x : PackageRecord). method_offset_in (or_none x.export) class token))
       (get_earlier ps p q j lt)
 
   -- ---- static fields
 
-  static_same : (statics : List StaticRec) (k : ℕ) (e : Entry) → k ≤ length ps
-      → static_member now statics k e ≡ static_member old statics k e
+  static_same : (statics : List StaticRec) (k : ℕ) (x : StaticReference) → k ≤ length ps
+      → static_member now statics k x ≡ static_member old statics k x
   unfolding static_member field_place
-  static_same statics k e le = by (nat_lt (slice_index e.bytes 0) 128)
-    where
-      by : (b : Bool) → option_and_then (static_at statics) (if b then Some (own_place k e) else exported_place now
-          (exported_field now) k e)
-          ≡ option_and_then (static_at statics) (if b then Some (own_place k e) else exported_place old (exported_field old) k e)
-      by true = refl
-      by false = exported_same (exported_field now) (exported_field old) (static_at statics) (static_at statics) k e le
-          fields_exported (λ j offset lt. refl)
+  static_same statics k (Internal offset) le = refl
+  static_same statics k (External asked class token) le =
+      exported_same (exported_field now) (exported_field old) (static_at statics) (static_at statics) k asked class token le
+      fields_exported (λ j offset lt. refl)
 
   -- ---- methods without dispatch
 
-  -- the number of the method that an entry of another package names, and of one that a package names of its own
-  exported_call : (k : ℕ) (e : Entry) → k ≤ length ps → option_and_then (method_at now)
-      (exported_place now (exported_method now) k e) ≡ option_and_then (method_at old)
-      (exported_place old (exported_method old) k e)
-  exported_call k e le =
-      exported_same (exported_method now) (exported_method old) (method_at now) (method_at old) k e le methods_exported
-      (λ j offset lt. earlier_method ps p q laid j offset r lt)
-
-  earlier_call : (k : ℕ) (e : Entry) → k < length ps → call_member now k e ≡ call_member old k e
+  -- the number of the method of another package, and of one that a package names of its own
+  pub other_call : (k asked class token : ℕ) → k ≤ length ps
+      → call_member now k (External asked class token) ≡ call_member old k (External asked class token)
   unfolding call_member method_place
-  earlier_call k e lt = by (nat_lt (slice_index e.bytes 0) 128)
-    where
-      by : (b : Bool) → option_map StaticCall (option_and_then (method_at now)
-          (if b then Some (own_place k e) else exported_place now (exported_method now) k e))
-          ≡ option_map StaticCall (option_and_then (method_at old)
-          (if b then Some (own_place k e) else exported_place old (exported_method old) k e))
-      by true = ap (option_map StaticCall) (earlier_method ps p q laid k (slice_index e.bytes 1 * 256 + slice_index e.bytes 2) r lt)
-      by false = ap (option_map StaticCall) (exported_call k e (omega arith))
+  other_call k asked class token le =
+      ap (option_map StaticCall)
+      (exported_same (exported_method now) (exported_method old) (method_at now) (method_at old) k asked class token le methods_exported
+      (λ j offset lt. earlier_method ps p q laid j offset r lt))
 
-  pub other_call : (k : ℕ) (e : Entry) → k ≤ length ps → nat_lt (slice_index e.bytes 0) 128 ≡ false
-      → call_member now k e ≡ call_member old k e
+  earlier_call : (k : ℕ) (x : StaticReference) → k < length ps → call_member now k x ≡ call_member old k x
   unfolding call_member method_place
-  other_call k e le f =
-      ap (λ b. option_map StaticCall (option_and_then (method_at now)
-      (if b then Some (own_place k e) else exported_place now (exported_method now) k e))) f
-      ∙ ap (option_map StaticCall) (exported_call k e le)
-      ∙ sym (ap (λ b. option_map StaticCall (option_and_then (method_at old)
-      (if b then Some (own_place k e) else exported_place old (exported_method old) k e))) f)
+  earlier_call k (Internal offset) lt = ap (option_map StaticCall) (earlier_method ps p q laid k offset r lt)
+  earlier_call k (External asked class token) lt = other_call k asked class token (omega arith)
 
   -- ---- all kinds
 
+  -- which method is called
+  abbrev pub IsSameCall : ℕ → PoolReference → Type 0
+  IsSameCall k (StaticMethod x) = call_member now k x ≡ call_member old k x
+  IsSameCall k other = Unit {0}
+
+  referred_same_by : (t : ClassTable) (statics : List StaticRec) (k : ℕ) (x : PoolReference) → k ≤ length ps → IsSameCall k x
+      → member_referred now t statics k x ≡ member_referred old t statics k x
+  referred_same_by t statics k (ClassEntry c) le call = class_member_same k c
+  referred_same_by t statics k (InstanceField c token) le call = instance_same t k c token
+  referred_same_by t statics k (VirtualMethod c token) le call = virtual_same t k c token
+  referred_same_by t statics k (SuperMethod c token) le call = super_same t k c token
+  referred_same_by t statics k (StaticField x) le call = static_same statics k x le
+  referred_same_by t statics k (StaticMethod x) le call = call
+
   pub members_same : (t : ClassTable) (statics : List StaticRec) (k : ℕ) (e : Entry) → k ≤ length ps
-      → call_member now k e ≡ call_member old k e → member_of now t statics k e ≡ member_of old t statics k e
+      → IsSameCall k (referred e) → member_of now t statics k e ≡ member_of old t statics k e
   unfolding member_of
-  members_same t statics k e le call =
-      rw (class_member_same k e, instance_same t k e, virtual_same t k e, super_same t k e, static_same statics k e le, call) refl
+  members_same t statics k e le call = referred_same_by t statics k (referred e) le call
+
+  calls_same : (k : ℕ) (x : PoolReference) → k < length ps → IsSameCall k x
+  calls_same k (StaticMethod x) lt = earlier_call k x lt
+  calls_same k other lt = tt {0}
 
   pub earlier_member : (t : ClassTable) (statics : List StaticRec) (k : ℕ) (e : Entry) → k < length ps
       → member_of now t statics k e ≡ member_of old t statics k e
-  earlier_member t statics k e lt = members_same t statics k e (omega arith) (earlier_call k e lt)
-
-  -- an entry of another kind than StaticMethodref
-  pub other_member : (t : ClassTable) (statics : List StaticRec) (k : ℕ) (e : Entry) → k ≤ length ps → is_pool_tag e.tag ≡ true
-      → (e.tag == 6) ≡ false → member_of now t statics k e ≡ member_of old t statics k e
-  unfolding member_of
-  other_member t statics k e le known six = by (e.tag == 5) refl
-    where
-      not_five : (tag : ℕ) → is_pool_tag tag ≡ true → (tag == 6) ≡ false → (tag == 5) ≡ false → (tag == 1) ≡ false
-          → (tag == 2) ≡ false → (tag == 3) ≡ false → (tag == 4) ≡ false → ⊥
-      not_five tag known f g a b c d = absurd (grind arith)
-
-      others : (a b c d : Bool) → (e.tag == 1) ≡ a → (e.tag == 2) ≡ b → (e.tag == 3) ≡ c → (e.tag == 4) ≡ d → (e.tag == 5) ≡ false
-          → (if a then class_member now k e else (if b then field_member now t k
-          e else (if c then virtual_member now t k e else (if d then super_member now t k
-          e else (if e.tag == 5 then static_member now statics k e else call_member now k e)))))
-          ≡ (if a then class_member old k e else (if b then field_member old t k
-          e else (if c then virtual_member old t k e else (if d then super_member old t k
-          e else (if e.tag == 5 then static_member old statics k e else call_member old k e)))))
-      others true b c d ea eb ec ed five = class_member_same k e
-      others false true c d ea eb ec ed five = instance_same t k e
-      others false false true d ea eb ec ed five = virtual_same t k e
-      others false false false true ea eb ec ed five = super_same t k e
-      others false false false false ea eb ec ed five = absurd (not_five e.tag known six five ea eb ec ed)
-
-      by : (b : Bool) → (e.tag == 5) ≡ b → member_of now t statics k e ≡ member_of old t statics k e
-      by true five = rw (
-        class_member_same k e,
-        instance_same t k e,
-        virtual_same t k e,
-        super_same t k e,
-        static_same statics k e
-            le,
-        five,
-      ) refl
-      by false five = others (e.tag == 1) (e.tag == 2) (e.tag == 3) (e.tag == 4) refl refl refl refl five
+  earlier_member t statics k e lt = members_same t statics k e (omega arith) (calls_same k (referred e) lt)
 
 -- a StaticMethodref names what is called
-pub call_is : (xs : List PackageRecord) (t : ClassTable) (statics : List StaticRec) (k : ℕ) (e : Entry) → e.tag ≡ 6
-    → member_of xs t statics k e ≡ call_member xs k e
+pub call_is : (xs : List PackageRecord) (t : ClassTable) (statics : List StaticRec) (k : ℕ) (e : Entry) (x : StaticReference) → referred e ≡ StaticMethod x
+    → member_of xs t statics k e ≡ call_member xs k x
 unfolding member_of
-call_is xs t statics k e tag =
-    ap (λ n. if n == 1 then class_member xs k e
-    else (if n == 2 then field_member xs t k e
-    else (if n == 3 then virtual_member xs t k e
-    else (if n == 4 then super_member xs t k e
-    else (if n == 5 then static_member xs statics k e else call_member xs k e))))) tag
+call_is xs t statics k e x is = ap (member_referred xs t statics k) is

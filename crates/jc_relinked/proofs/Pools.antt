@@ -2,8 +2,7 @@
 use Rattle.std.proofs.Common.{◌≡◌, ◌≤◌, ◌<◌, ◌+◌, ℕ, List, [], ◌∷◌, ◌++◌, length, map, filter_map, true, Option, Some, None, refl, sym, ap, subst, ◌∙◌, arith}
 use Rattle.std.specs.Prelude.{if◌then◌else◌, is_none}
 use Rattle.std.specs.List.{cons_option}
-use Rattle.std.proofs.lemmas.List.Elements.{All-nil, All-cons}
-use Rattle.cap_pool.specs.PoolFormat.{Entry, is_pool_tag}
+use Rattle.cap_pool.specs.PoolFormat.{Entry}
 use Rattle.cap_package.specs.PackageRecord.{PackageRecord}
 use Rattle.cap_package.specs.Parts.{Lent}
 use Rattle.cap_package.specs.StandsFor.{StandsFor}
@@ -14,25 +13,13 @@ use Rattle.jc_base.specs.Class.{ClassTable}
 use Rattle.jc_decode.specs.declared.symbols.Laid.{Laid}
 use Rattle.jc_members.specs.Members.{member_of}
 use Rattle.jc_members.specs.Pools.{PoolPlace, places_from, places_after, member_fault, missing_members, pools_after, pools}
-use Rattle.jc_members.proofs.PoolTags.{tag-known}
 use Rattle.jc_resolve.specs.declared.fault.LinkFault.TheVariants.{NoMember}
-use Rattle.jc_resolve.specs.Named.{IsAgreed}
 use Rattle.cap_rewritten.specs.Changes.{changes, now_at}
 use Rattle.cap_rewritten.specs.Rewritten.{IsRewritten}
 use Rattle.cap_rewritten.proofs.Lists.{Each, none_each, none_append, append_none, faults_append}
 use Rattle.jc_rewritten.specs.Last.{and_last}
-use Rattle.jc_rewritten.proofs.Lists.{get_each}
 use Rattle.jc_relinked.proofs.Members.{earlier_member}
 use Rattle.jc_relinked.proofs.Calls.{renewed_member}
-
-abbrev HasTag : Entry → Type 0
-HasTag e = is_pool_tag e.tag ≡ true
-
-pool_tags : (parts : List Lent) (p : PackageRecord) → StandsFor parts p → Each HasTag p.pool
-pool_tags parts p s =
-    let agreed : IsAgreed p = subst (λ xs. StandsFor xs p) (sym s.said.same) s in
-    get_each HasTag p.pool (λ n e there. tag-known (p ∷ []) (All-cons IsAgreed p [] agreed (All-nil IsAgreed)) 0 n e
-    (record { home = p; there = refl; entry = there }))
 
 named_some : (o : Option Member) (k n : ℕ) → (if is_none o then Some (NoMember k n) else None) ≡ None → (m : Member) × (o ≡ Some m)
 named_some None k n e = absurd cc
@@ -76,15 +63,15 @@ module _ (parts : List Lent) (ps : List PackageRecord) (p q : PackageRecord) (la
     pub members : filter_map (member_of now t statics (length ps)) (map (renewed_entry to) es)
         ≡ filter_map (member_of old t statics (length ps)) es
 
-  last_pool : (n : ℕ) (es : List Entry) → Each HasTag es → Each (λ (x : PoolPlace). member_fault old t statics x ≡ None)
+  last_pool : (n : ℕ) (es : List Entry) → Each (λ (x : PoolPlace). member_fault old t statics x ≡ None)
       (places_from (length ps) n es) → AreSamePool n es
   unfolding member_fault
-  last_pool n [] tags none = record { none = refl; members = refl }
-  last_pool n (e ∷ es) tags none =
+  last_pool n [] none = record { none = refl; members = refl }
+  last_pool n (e ∷ es) none =
       let k = length ps in
       let m = named_some (member_of old t statics k e) k n none.0 in
-      let same = renewed_member parts ps p q laid s r short t statics e m.0 tags.0 m.1 in
-      let rest = last_pool (n + 1) es tags.1 none.1 in
+      let same = renewed_member parts ps p q laid s r short t statics e m.0 m.1 in
+      let rest = last_pool (n + 1) es none.1 in
       record {
         none = ap (λ o. cons_option o (filter_map (member_fault now t statics) (places_from k (n + 1) (map (renewed_entry to) es))))
             (is_there (member_of now t statics k (renewed_entry to e)) k n m.0 (same ∙ m.1)) ∙ rest.none;
@@ -107,7 +94,7 @@ module _ (parts : List Lent) (ps : List PackageRecord) (p q : PackageRecord) (la
       let before = subst (λ j. filter_map fault (places_after j (p ∷ [])) ≡ []) (sym z) none in
       let both = none_append (filter_map fault (places_from (length ps) 0 p.pool)) []
       (sym (faults_append fault (places_from (length ps) 0 p.pool) []) ∙ before) in
-      let last = last_pool 0 p.pool (pool_tags parts p s) (none_each fault (places_from (length ps) 0 p.pool) both.0) in
+      let last = last_pool 0 p.pool (none_each fault (places_from (length ps) 0 p.pool) both.0) in
       record {
         none = ap (λ es. filter_map (member_fault now t statics) (places_from (length ps) 0 es ++ [])) r.pool
             ∙ faults_append (member_fault now t statics) (places_from (length ps) 0 (map (renewed_entry to) p.pool)) []

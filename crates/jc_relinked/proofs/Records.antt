@@ -9,18 +9,21 @@ use Rattle.cap_package.specs.Descriptions.{Description}
 use Rattle.cap_package.specs.HeaderChecks.{header_in}
 use Rattle.cap_package.specs.PackageRecord.{PackageRecord, handlers_of}
 use Rattle.cap_pool.specs.PoolFormat.{Entry}
+use Rattle.cap_pool.specs.declared.pool_reference.PoolReference.{PoolReference}
+use Rattle.cap_pool.specs.declared.pool_reference.PoolReference.TheVariants.{Class as ClassEntry}
+use Rattle.cap_pool.specs.PoolReference.{referred}
 use Rattle.jc_base.specs.declared.record.Sig.{Sig}
 use Rattle.jc_base.specs.declared.ty.Ty.TheVariants.{IntHigh, IntLow}
 use Rattle.jc_decode.specs.declared.symbols.Laid.{Laid}
 use Rattle.jc_resolve.specs.Numbering.{NumberedMethod, numbered, is_placed}
 use Rattle.jc_resolve.specs.References.{class_named}
 use Rattle.jc_resolve.specs.WorldTypes.{cells_of_type, arguments_before, result_after, signature_in, types_named, signature_of}
-use Rattle.jc_resolve.specs.NamedMethods.{reference_in, class_in_entry, caught, offset_in_info, handler_named, no_body, body_after, body_by, body_of, class_described, is_class, have_headers, method_with, method_as, named_method}
+use Rattle.jc_resolve.specs.NamedMethods.{class_or_none, class_in_entry, caught, offset_in_info, handler_named, no_body, body_after, body_by, body_of, class_described, is_class, have_headers, method_with, method_as, named_method}
 use Rattle.cap_rewritten.specs.Changes.{changes, now_at}
 use Rattle.cap_rewritten.specs.Rewritten.{IsRewritten}
+use Rattle.cap_rewritten.proofs.FromWriting.{map_same}
 use Rattle.jc_rewritten.specs.Last.{and_last}
-use Rattle.jc_rewritten.proofs.Lists.{map_alike}
-use Rattle.jc_rewritten.proofs.Names.{named_same, interface_number_same}
+use Rattle.jc_rewritten.proofs.Names.{referred_same, named_same, interface_number_same}
 use Rattle.jc_rewritten.proofs.Classes.{type_same}
 
 module _ (ps : List PackageRecord) (p q : PackageRecord) (laid : List (Option Laid)) (r : IsRewritten p laid q) where
@@ -59,9 +62,13 @@ module _ (ps : List PackageRecord) (p q : PackageRecord) (laid : List (Option La
 
   -- ---- handlers, headers and code
 
+  reference_same : (k : ℕ) (x : PoolReference) → class_or_none now k x ≡ class_or_none was k x
+  reference_same k (ClassEntry c) = ap (λ o. unwrap_or o 0) (referred_same ps p q laid k c r)
+  reference_same k other = refl
+
   entry_same : (k : ℕ) (o : Option Entry) → class_in_entry now k o ≡ class_in_entry was k o
   entry_same k None = refl
-  entry_same k (Some e) = ap (λ c. if e.tag == 1 then unwrap_or c 0 else 0) (named_same ps p q laid k (reference_in e.bytes) r)
+  entry_same k (Some e) = reference_same k (referred e)
 
   pub caught_same : (throwable k : ℕ) (pool : List Entry) (index : ℕ)
       → caught now throwable k pool index ≡ caught was throwable k pool index
@@ -86,7 +93,7 @@ module _ (ps : List PackageRecord) (p q : PackageRecord) (laid : List (Option La
   body_same throwable k x m sig (Some h) =
       let code_at = offset_in_info (m.method_offset + h.size) in
       ap (λ hs. record (body_after now throwable k x m h code_at) { handlers = hs })
-      (map_alike (handler_named now throwable k x.pool code_at) (handler_named was throwable k x.pool code_at) (handlers_of x m)
+      (map_same (handler_named now throwable k x.pool code_at) (handler_named was throwable k x.pool code_at) (handlers_of x m)
       (handler_same throwable k x.pool code_at))
 
   bodies_same : (throwable k : ℕ) (x : PackageRecord) (m : Method) (sig : Sig) (b : Bool)

@@ -9,8 +9,9 @@ use Rattle.cap_desc.specs.DescriptorFormat.{Method}
 use Rattle.cap_method.specs.declared.handler.HandlerInfo.{HandlerInfo}
 use Rattle.cap_method.specs.MethodFormat.{Header}
 use Rattle.cap_pool.specs.PoolFormat.{Entry}
+use Rattle.cap_renewal.proofs.RenewedEntries.{asked-same}
 use Rattle.cap_package.specs.HandlerChecks.{claims, owners, is_within, has_home, entry_fault, numbered, numbered_fault}
-use Rattle.cap_package.specs.PackageRecord.{PackageRecord, names_interface, described, handlers_of}
+use Rattle.cap_package.specs.PackageRecord.{PackageRecord, names_interface, described_methods, handlers_of}
 use Rattle.cap_package.specs.Parts.{Lent}
 use Rattle.cap_package.specs.StandsFor.{StandsFor}
 use Rattle.cap_package.proofs.InfoLaws.{info-short}
@@ -24,36 +25,37 @@ use Rattle.jc_base.specs.Linked.{list_at}
 use Rattle.jc_base.specs.World.{Linked}
 use Rattle.jc_base.specs.World as world
 use Rattle.jc_base.proofs.Lists.{slice_get-farther}
+use Rattle.jc_base.proofs.Eaching.{Each-from_All}
 use Rattle.jc_control.specs.Method.{method_with}
 use Rattle.jc_decode.specs.declared.symbols.Handler.{Handler as Laying}
 use Rattle.jc_decode.specs.declared.symbols.Laid.{Laid}
 use Rattle.jc_resolve.specs.Named.{infos_of}
 use Rattle.jc_resolve.specs.Numbering.{numbered_methods}
-use Rattle.jc_resolve.specs.References.{class_named}
-use Rattle.jc_resolve.specs.NamedMethods.{reference_in, class_in_entry, caught, offset_in_info, handler_named, have_headers, named_method}
+use Rattle.jc_resolve.specs.NamedMethods.{class_or_none, class_in_entry, caught, offset_in_info, handler_named, have_headers, named_method}
 use Rattle.jc_link.specs.World.{IsLinked}
 use Rattle.cap_rewritten.specs.Changes.{changes, now_at}
 use Rattle.cap_rewritten.specs.Written.{HasCode, IsAs}
 use Rattle.cap_rewritten.specs.Rewritten.{IsRewritten}
-use Rattle.cap_rewritten.proofs.Lists.{Each, Has, each_all, none_each, none_append, has_filter}
+use Rattle.cap_rewritten.proofs.Lists.{Each, Has, none_each, none_append, has_filter}
 use Rattle.cap_rewritten.proofs.Agreed.{Agrees, agrees}
 use Rattle.cap_rewritten.proofs.Facts.{news}
-use Rattle.cap_rewritten.proofs.Handlers.{has_map}
+use Rattle.cap_rewritten.proofs.Handlers.{has_map, get_drop, get_take}
 use Rattle.cap_rewritten.proofs.Headers.{header_sized}
 use Rattle.cap_rewritten.proofs.Names.{is_told}
 use Rattle.cap_rewritten.proofs.Zipped.{now_of}
 use Rattle.xf_landed.specs.Laid.{class_by, catching, HasLaid}
 use Rattle.xf_landed.proofs.Steps.{at-contains}
+use Rattle.jc_resolve.proofs.Pairwise.{each-at}
+use Rattle.cap_rewritten.proofs.Kept.{map_twice}
+use Rattle.cap_rewritten.proofs.FromWriting.{map_same}
 use Rattle.jc_rewritten.specs.Last.{and_last}
 use Rattle.jc_relinked.specs.Replaced.{HasPoolOf, EachMayReplace, AreMethodsOf, MethodsStand}
-use Rattle.jc_rewritten.proofs.Names.{map_twice}
-use Rattle.jc_relinked.proofs.Elements.{get_front, get_drop, get_take, taken_below}
-use Rattle.jc_rewritten.proofs.Lists.{map_alike, get_each, each_get}
+use Rattle.jc_relinked.proofs.Elements.{get_front, taken_below}
+use Rattle.jc_rewritten.proofs.Lists.{get_each}
 use Rattle.jc_relinked.proofs.Records.{caught_same, headers_same, named_method_same, with_header, without_header}
 use Rattle.jc_relinked.proofs.Twins.{Twin, before_in, after_in, laid_in, are_twins}
 use Rattle.jc_relinked.proofs.Known.{IsKnownTwin, known_twins, twins_in, of_class, twin_headers, had_code, MayBeLaid}
 use Rattle.jc_relinked.proofs.Apart.{own_methods, named_split, twin_apart}
-use Rattle.jc_relinked.proofs.Catches.{classref_same}
 use Rattle.jc_relinked.proofs.Linking.{are_parts, earlier_homes, may_twins}
 
 -- ---- lists
@@ -102,12 +104,12 @@ one_home info h (x ∷ []) m e (inl s) = ap (is_within info h) s ∙ e
 one_home info h (x ∷ []) m e (inr k) = absurd k
 one_home info h (x ∷ y ∷ ms) m e k = absurd (false≢true e)
 
-entry_within : (q : PackageRecord) (m : Method) (n : ℕ) (h : HandlerInfo) → entry_fault q.methods.info (described q) n h ≡ None
-    → Has (described q) m → claims n m ≡ true → is_within q.methods.info h m ≡ true
+entry_within : (q : PackageRecord) (m : Method) (n : ℕ) (h : HandlerInfo) → entry_fault q.methods.info (described_methods q) n h ≡ None
+    → Has (described_methods q) m → claims n m ≡ true → is_within q.methods.info h m ≡ true
 unfolding entry_fault owners
 entry_within q m n h e k c =
-    one_home q.methods.info h (owners n (described q)) m (is_told (has_home q.methods.info h (owners n (described q))) _ e)
-    (has_filter (claims n) (described q) m k c)
+    one_home q.methods.info h (owners n (described_methods q)) m (is_told (has_home q.methods.info h (owners n (described_methods q))) _ e)
+    (has_filter (claims n) (described_methods q) m k c)
 
 four_parts : (a b c d : Bool) → a && b && c && d ≡ true → (b ≡ true)
 four_parts true true c d e = refl
@@ -121,20 +123,20 @@ claimed m j lt =
     rw (a, b) refl
 
 -- the handlers of a described method end in the info
-pub handlers_end : (parts : List Lent) (q : PackageRecord) (m : Method) → Agrees parts q → Has (described q) m
+pub handlers_end : (parts : List Lent) (q : PackageRecord) (m : Method) → Agrees parts q → Has (described_methods q) m
     → Each (λ (h : HandlerInfo). h.start + h.length ≤ code_end q.methods.info m) (handlers_of q m)
 handlers_end parts q m a has =
     let info = q.methods.info in
     let both = none_append _ _ a.handlers in
-    let each = none_each (numbered_fault info (described q)) (numbered 0 q.methods.handlers) both.0 in
+    let each = none_each (numbered_fault info (described_methods q)) (numbered 0 q.methods.handlers) both.0 in
     get_each (λ (h : HandlerInfo). h.start + h.length ≤ code_end info m) (handlers_of q m) (λ j h e.
     let less = taken_below m.handler_count j (drop m.handler_index q.methods.handlers) h e in
     let there : slice_get q.methods.handlers (m.handler_index + j) ≡ Some h =
     sym (get_drop m.handler_index j q.methods.handlers) ∙ sym (get_take m.handler_count j (drop m.handler_index q.methods.handlers) less) ∙ e in
-    let fault = numbered_get (λ x. numbered_fault info (described q) x ≡ None) 0 q.methods.handlers (m.handler_index + j) h each
+    let fault = numbered_get (λ x. numbered_fault info (described_methods q) x ≡ None) 0 q.methods.handlers (m.handler_index + j) h each
     there in
     let z : 0 + (m.handler_index + j) ≡ m.handler_index + j = omega arith in
-    let within = entry_within q m (m.handler_index + j) h (subst (λ n. entry_fault info (described q) n h ≡ None) z fault) has
+    let within = entry_within q m (m.handler_index + j) h (subst (λ n. entry_fault info (described_methods q) n h ≡ None) z fault) has
     (claimed m j less) in
     leb-true (h.start + h.length) (code_end info m) (four_parts (nat_le (code_start info m) h.start)
     (nat_le (h.start + h.length) (code_end info m)) (nat_le (code_start info m) h.entry) (nat_lt h.entry (code_end info m)) within))
@@ -190,7 +192,7 @@ module _ (parts new_parts : List Lent) (ps : List PackageRecord) (p q : PackageR
   entry_renewed : (k : ℕ) (to : ℕ → ℕ) (o : Option Entry) → class_in_entry old k (option_map (renewed_entry to) o)
       ≡ class_in_entry old k o
   entry_renewed k to None = refl
-  entry_renewed k to (Some e) = classref_same (λ x. unwrap_or (class_named old k (reference_in x.bytes)) 0) 0 to e
+  entry_renewed k to (Some e) = asked-same (class_or_none old k) 0 (λ o. refl) to e
 
   caught_stays : (throwable k index : ℕ) → caught now throwable k q.pool index ≡ caught old throwable k p.pool index
   caught_stays throwable k index =
@@ -327,7 +329,7 @@ module _ (parts new_parts : List Lent) (ps : List PackageRecord) (p q : PackageR
       let own_is : own ≡ map (λ x. named_old (before_in last p x)) ts = is.own_is ∙ ap (map named_old) (sym two.before)
       ∙ map_twice named_old (before_in last p) ts in
       let first_now : map named_now (numbered_methods ps) ≡ before =
-      map_alike named_now named_old (numbered_methods ps) (named_method_same ps p q laid r roles) ∙ sym is.before_is in
+      map_same named_now named_old (numbered_methods ps) (named_method_same ps p q laid r roles) ∙ sym is.before_is in
       let own_now : map named_now (own_methods ps q) ≡ map (λ x. named_now (after_in last q x)) ts =
       ap (map named_now) (sym two.after) ∙ map_twice named_now (after_in last q) ts in
       let methods_now : new.methods ≡ before ++ map (λ x. named_now (after_in last q x)) ts =
@@ -351,10 +353,10 @@ module _ (parts new_parts : List Lent) (ps : List PackageRecord) (p q : PackageR
         replaced = λ k m c e g pools.
             let a = twin_at (λ x. named_old (before_in last p x)) ts k m (Some c) (ap (λ ms. slice_get ms k) (sym own_is)
             ∙ e) (ap (λ ls. slice_get ls k) two.laid_is ∙ g) in
-            let i = each_get (IsKnownTwin p q laid) ts k a.twin known a.there in
-            let b = each_get (MayBeLaid old roles last p) ts k a.twin mays a.there in
+            let i = each-at (IsKnownTwin p q laid) ts k a.twin known a.there in
+            let b = each-at (MayBeLaid old roles last p) ts k a.twin mays a.there in
             let each = subst (λ (y : MethodRec). Each (HasPoolOf y.handlers) c.handlers) (sym a.method)
-            (each_all (HasPoolOf m.handlers) c.handlers pools) in
+            (Each-from_All (HasPoolOf m.handlers) c.handlers pools) in
             let laid_there = laid_stands new (length before + k) a.twin c n i a.laid_is b each in
             subst (λ o. IsSomeAnd (option_map (method_with new (length before + k)) o) (HasLaid m c)) (sym (here k a.twin a.there))
             (subst (λ y. HasLaid y c (method_with new (length before + k) (named_now (after_in last q a.twin)))) a.method
@@ -362,7 +364,7 @@ module _ (parts new_parts : List Lent) (ps : List PackageRecord) (p q : PackageR
         bare = λ k m e g.
             let a = twin_at (λ x. named_old (before_in last p x)) ts k m None (ap (λ ms. slice_get ms k) (sym own_is)
             ∙ e) (ap (λ ls. slice_get ls k) two.laid_is ∙ g) in
-            let i = each_get (IsKnownTwin p q laid) ts k a.twin known a.there in
+            let i = each-at (IsKnownTwin p q laid) ts k a.twin known a.there in
             subst (λ o. IsSomeAnd (option_map (method_with new (length before + k)) o) (λ y. y.code ≡ []))
             (sym (here k a.twin a.there)) (bare_stands new a.twin i a.laid_is);
       }
@@ -382,5 +384,5 @@ module _ (parts new_parts : List Lent) (ps : List PackageRecord) (p q : PackageR
       as_were w new l n ms homes k (Some m) e =
           ap (option_map (method_with new k)) e
           ∙ ap (λ code. Some (record { number = k; rec = m; code = code }))
-          (same_code w new l n m (each_get (λ (y : MethodRec). y.package < length ps) ms k m homes e))
+          (same_code w new l n m (each-at (λ (y : MethodRec). y.package < length ps) ms k m homes e))
           ∙ sym (ap (option_map (method_with w k)) e)

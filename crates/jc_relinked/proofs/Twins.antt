@@ -8,11 +8,11 @@ use Rattle.cap_desc.specs.Members.{methods_of, methods_but}
 use Rattle.cap_package.specs.PackageRecord.{PackageRecord}
 use Rattle.jc_decode.specs.declared.symbols.Laid.{Laid}
 use Rattle.jc_resolve.specs.Numbering.{NumberedMethod, numbered, methods_of_class, methods_of_classes}
+use Rattle.jc_resolve.proofs.Pairwise.{each-split, each-append}
 use Rattle.cap_rewritten.specs.Changes.{Change, laid_but, sources_from, changes_of}
 use Rattle.cap_rewritten.specs.Rewritten.{bare_method, bare_class}
 use Rattle.cap_rewritten.proofs.Lists.{Each}
 use Rattle.cap_rewritten.proofs.Zipped.{length_map}
-use Rattle.jc_rewritten.proofs.Lists.{each_append, each_parts}
 
 -- a method of the Descriptor before and after, with the numbers of its class and of itself, its class before and after, and what is
 -- laid for it
@@ -196,11 +196,11 @@ told_by : (set : ℕ → Bool) (P : Change → Type 0) (n i : ℕ) (c d : Class)
     → ((k : ℕ) → Each P (changes_of (sources_from k rest lrest) nrest) → Each (IsTwin set P) others)
     → Each (IsTwin set P) (twins_of_class i c d 0 c.methods d.methods ls ++ others)
 told_by set P n i c d ls lrest rest nrest others true e r bares long h more =
-    each_append (IsTwin set P) (twins_of_class i c d 0 c.methods d.methods ls) others
+    each-append (IsTwin set P) (twins_of_class i c d 0 c.methods d.methods ls) others
     (is_class set P i c d 0 c.methods d.methods ls r bares (λ f. absurd (false≢true (sym f ∙ e)))) (more n h)
 told_by set P n i c d ls lrest rest nrest others false e r bares long h more =
     let t = told_class P n i c d 0 c.methods d.methods ls rest lrest nrest (as_many c.methods d.methods bares) long h in
-    each_append (IsTwin set P) (twins_of_class i c d 0 c.methods d.methods ls) others
+    each-append (IsTwin set P) (twins_of_class i c d 0 c.methods d.methods ls) others
     (is_class set P i c d 0 c.methods d.methods ls r bares (λ f. t.0)) (more (n + length c.methods) t.1)
 
 pub each_twin : (set : ℕ → Bool) (P : Change → Type 0) (n i : ℕ) (cs ds : List Class) (laid : List (Option Laid))
@@ -270,7 +270,7 @@ each_change set P n i (c ∷ cs) (d ∷ ds) laid e f h =
     let t : map (bare_class set) ds ≡ map (bare_class set) cs = cc in
     let r : d.class_ref ≡ c.class_ref = ap (λ (x : Class). x.class_ref) s in
     let left = drop (length c.methods) laid in
-    let parts = each_parts (OfClass set P) (twins_of_class i c d 0 c.methods d.methods (take (length c.methods) laid))
+    let parts = each-split (OfClass set P) (twins_of_class i c d 0 c.methods d.methods (take (length c.methods) laid))
     (twins (i + 1) cs ds left) h in
     subst (λ b. Each P (changes_of (sources_from n (methods_but set (c ∷ cs)) (laid_but set (c ∷ cs) laid))
     (if b then methods_but set ds else d.methods ++ methods_but set ds))) (sym (ap set r))

@@ -10,7 +10,7 @@ use Rattle.cap_desc.specs.DescriptorFormat.{Field, Method}
 use Rattle.cap_components.specs.declared.fault.PackFault.TheVariants.{NoMethodAt}
 use Rattle.cap_package.specs.Parts.{Lent}
 use Rattle.cap_package.specs.PackageRecord.{PackageRecord, names_interface}
-use Rattle.cap_package.specs.PackageRecord.{described as class_methods}
+use Rattle.cap_package.specs.PackageRecord.{described_methods as class_methods}
 use Rattle.cap_package.specs.Descriptions.{Description, field_type}
 use Rattle.cap_package.specs.NameChecks.{is_method_at, no_entry_fault, no_method_fault, table_entries}
 use Rattle.cap_package.specs.StandsFor.{StandsFor}
@@ -22,6 +22,7 @@ use Rattle.jc_resolve.specs.Numbering.{numbered_class, method_at}
 use Rattle.jc_resolve.specs.References.{class_named}
 use Rattle.jc_resolve.specs.WorldTypes.{class_or_object, type_class, type_of}
 use Rattle.jc_resolve.specs.NamedClasses.{fields_described, instance_fields, by_token, cells_by, cells_of_field, cells_of_fields, entry_of, interface_named, implemented_interfaces, parent_named, named_class, named_classes}
+use Rattle.jc_resolve.proofs.Pairwise.{each-split}
 use Rattle.cap_rewritten.specs.Changes.{Change, changes, now_at}
 use Rattle.cap_rewritten.specs.Written.{IsWritten}
 use Rattle.cap_rewritten.specs.Rewritten.{bare_class, IsRewritten}
@@ -33,7 +34,6 @@ use Rattle.cap_rewritten.proofs.Facts.{olds, all_written}
 use Rattle.cap_rewritten.proofs.Standing.{offset_of, ends_inside, sizes_end, sizes_some, apart}
 use Rattle.cap_rewritten.proofs.Names.{last_stays, is_told}
 use Rattle.jc_rewritten.specs.Last.{and_last}
-use Rattle.jc_rewritten.proofs.Lists.{each_parts}
 use Rattle.jc_rewritten.proofs.Names.{named_same, interface_number_same, classes_alike}
 use Rattle.jc_rewritten.proofs.Places.{earlier_method, last_method, now_has}
 
@@ -228,8 +228,8 @@ tables_named : (P : ℕ → Type 0) (cs : List Class) → Each P (table_entries 
     → Each (λ (c : Class). Each P c.public × Each P c.visible) cs
 tables_named P [] h = tt
 tables_named P (c ∷ cs) h =
-    let a = each_parts P c.public (c.visible ++ table_entries cs) h in
-    let b = each_parts P c.visible (table_entries cs) a.1 in
+    let a = each-split P c.public (c.visible ++ table_entries cs) h in
+    let b = each-split P c.visible (table_entries cs) a.1 in
     ((a.0, b.0), tables_named P cs b.1)
 
 pub classes_link : (parts : List Lent) (ps : List PackageRecord) (p q : PackageRecord) (laid : List (Option Laid)) (object : ℕ)

@@ -1,5 +1,5 @@
 -- Lists that are the same seen by a view.
-use Rattle.std.proofs.Common.{◌≡◌, ◌<◌, ◌+◌, ℕ, zero, suc, List, [], ◌∷◌, ◌++◌, length, take, drop, map, flat_map, slice_get, get_or, position, Bool, true, cond, not, Option, Some, None, ◌⊎◌, inl, inr, option_and_then, refl, ap, subst, ◌∙◌, arith}
+use Rattle.std.proofs.Common.{◌≡◌, ◌<◌, ◌+◌, ℕ, zero, suc, List, [], ◌∷◌, ◌++◌, length, take, drop, map, flat_map, slice_get, get_or, position, Bool, true, cond, not, Option, Some, None, ◌⊎◌, inl, inr, option_and_then, refl, ap, ◌∙◌, arith}
 use Rattle.std.specs.Prelude.{nat_lt}
 use Rattle.std.specs.List.{position_or_len}
 use Rattle.std.proofs.lemmas.List.Quantifiers.{position-Some}
@@ -44,10 +44,6 @@ position_alike p q xs ys e =
     ap (λ n. cond (nat_lt n (length xs)) (Some n) None) r.0
     ∙ ap (λ n. cond (nat_lt (position_or_len q ys) n) (Some (position_or_len q ys)) None) r.1
 
-pub map_alike : {X Y : Type 0} (f g : X → Y) (xs : List X) → ((x : X) → f x ≡ g x) → map f xs ≡ map g xs
-map_alike f g [] h = refl
-map_alike f g (x ∷ xs) h = ap (λ y. y ∷ map f xs) (h x) ∙ ap (λ ys. g x ∷ ys) (map_alike f g xs h)
-
 pub flat_last : {X Y : Type 0} (f : X → List Y) (ps : List X) (p q : X) → f q ≡ f p
     → flat_map f (ps ++ q ∷ []) ≡ flat_map f (ps ++ p ∷ [])
 flat_last f [] p q e = ap (λ ys. ys ++ []) e
@@ -61,19 +57,6 @@ get_earlier (x ∷ xs) p q zero lt = refl
 get_earlier (x ∷ xs) p q (suc j) lt = get_earlier xs p q j (omega arith)
 
 -- ---- what holds of each element
-
-pub each_append : {X : Type 0} (P : X → Type 0) (xs ys : List X) → Each P xs → Each P ys → Each P (xs ++ ys)
-each_append P [] ys a b = b
-each_append P (x ∷ xs) ys a b = (a.0, each_append P xs ys a.1 b)
-
-pub each_parts : {X : Type 0} (P : X → Type 0) (xs ys : List X) → Each P (xs ++ ys) → Each P xs × Each P ys
-each_parts P [] ys h = (tt, h)
-each_parts P (x ∷ xs) ys h = let r = each_parts P xs ys h.1 in ((h.0, r.0), r.1)
-
-pub each_get : {X : Type 0} (P : X → Type 0) (xs : List X) (n : ℕ) (x : X) → Each P xs → slice_get xs n ≡ Some x → P x
-each_get P [] n x h e = absurd cc
-each_get P (y ∷ ys) zero x h e = let s : y ≡ x = cc in subst P s h.0
-each_get P (y ∷ ys) (suc n) x h e = each_get P ys n x h.1 e
 
 pub get_each : {X : Type 0} (P : X → Type 0) (xs : List X) → ((n : ℕ) (x : X) → slice_get xs n ≡ Some x → P x) → Each P xs
 get_each P [] h = tt

@@ -2,6 +2,9 @@
 use Rattle.std.proofs.Common.{◌≡◌, ◌<◌, ◌+◌, ℕ, zero, suc, List, [], ◌∷◌, ◌++◌, length, take, map, slice_get, position, Bool, true, false, Option, Some, None, option_map, option_and_then, refl, sym, ap, subst, ◌∙◌, arith}
 use Rattle.std.specs.Prelude.{if◌then◌else◌}
 use Rattle.std.proofs.lemmas.List.{map-append}
+use Rattle.cap_bytes.specs.declared.class_reference.ClassReference.{ClassReference}
+use Rattle.cap_bytes.specs.declared.class_reference.ClassReference.TheVariants.{Internal, External}
+use Rattle.cap_bytes.specs.ClassReference.{reference_of}
 use Rattle.cap_frame.specs.PackageFormat.{Package}
 use Rattle.cap_pool.specs.ExportFormat.{Exported}
 use Rattle.cap_class.specs.ClassFormat.{Class, is_interface}
@@ -12,10 +15,11 @@ use Rattle.cap_renewal.specs.ExportEdits.{renewed_exported}
 use Rattle.jc_decode.specs.declared.symbols.Laid.{Laid}
 use Rattle.jc_resolve.specs.declared.place.RecordPlace.{RecordPlace}
 use Rattle.jc_resolve.specs.Numbering.{NumberedClass, numbered_class, classes_of, classes_after, numbered_classes, place_of_class, class_places, class_at, same_place, flagged_interface, is_interface_number}
-use Rattle.jc_resolve.specs.References.{meets, import_of, met_by, exported_offset, exported_place, place_named, class_named, is_internal, import_token, class_token}
+use Rattle.jc_resolve.specs.References.{meets, import_of, met_by, exported_offset, exported_place, place_referred, class_referred, class_named}
 use Rattle.cap_rewritten.specs.Changes.{changes, now_at}
 use Rattle.cap_rewritten.specs.Rewritten.{IsRewritten}
 use Rattle.cap_rewritten.proofs.Lists.{Each, each_of}
+use Rattle.cap_rewritten.proofs.Kept.{offsets_same}
 use Rattle.jc_rewritten.specs.Last.{and_last}
 use Rattle.jc_rewritten.proofs.Lists.{map_last, get_view, take_view, position_alike}
 
@@ -135,50 +139,39 @@ offset_view [] k token = refl
 offset_view (p ∷ ps) zero token = get_offset (or_none p.export) token
 offset_view (p ∷ ps) (suc k) token = offset_view ps k token
 
-pub map_twice : {X Y Z : Type 0} (h : Y → Z) (g : X → Y) (xs : List X) → map h (map g xs) ≡ map (λ x. h (g x)) xs
-map_twice h g [] = refl
-map_twice h g (x ∷ xs) = ap (λ zs. h (g x) ∷ zs) (map_twice h g xs)
-
-offsets_by : (f : ℕ → ℕ) (o : Option (List Exported)) → map (λ (c : Exported). c.class_offset)
-    (or_none (option_map (map (renewed_exported f)) o)) ≡ map (λ (c : Exported). c.class_offset) (or_none o)
-offsets_by f None = refl
-offsets_by f (Some cs) = map_twice (λ (c : Exported). c.class_offset) (renewed_exported f) cs
-
 exported_same : (f : ℕ → ℕ) (ps : List PackageRecord) (p q : PackageRecord) (k token : ℕ)
     → q.export ≡ option_map (map (renewed_exported f)) p.export → exported_offset (and_last ps q) k token
     ≡ exported_offset (and_last ps p) k token
 exported_same f ps p q k token e =
     offset_view (and_last ps q) k token
     ∙ ap (λ xs. option_and_then (λ os. slice_get os token) (slice_get xs k))
-    (map_last offsets_of ps p q (ap (λ o. map (λ (c : Exported). c.class_offset) (or_none o)) e ∙ offsets_by f p.export))
+    (map_last offsets_of ps p q (ap (λ o. map (λ (c : Exported). c.class_offset) (or_none o)) e ∙ offsets_same f p.export))
     ∙ sym (offset_view (and_last ps p) k token)
 
-pub named_same : (ps : List PackageRecord) (p q : PackageRecord) (laid : List (Option Laid)) (k reference : ℕ)
-    → IsRewritten p laid q → class_named (and_last ps q) k reference ≡ class_named (and_last ps p) k reference
-unfolding class_named
-named_same ps p q laid k reference r =
-    let f = now_at (changes p laid q) in
-    let at : (o : Option RecordPlace) → option_and_then (class_at (and_last ps q)) o
-    ≡ option_and_then (class_at (and_last ps p)) o = at_place in
-    at (place_named (and_last ps q) k reference) ∙ ap (option_and_then (class_at (and_last ps p)))
-    (place_same (is_internal reference))
+pub referred_same : (ps : List PackageRecord) (p q : PackageRecord) (laid : List (Option Laid)) (k : ℕ) (reference : ClassReference)
+    → IsRewritten p laid q → class_referred (and_last ps q) k reference ≡ class_referred (and_last ps p) k reference
+unfolding class_referred
+referred_same ps p q laid k reference r =
+    at_place (place_referred (and_last ps q) k reference) ∙ ap (option_and_then (class_at (and_last ps p))) (place_same reference)
   where
     at_place : (o : Option RecordPlace) → option_and_then (class_at (and_last ps q)) o
         ≡ option_and_then (class_at (and_last ps p)) o
     at_place None = refl
     at_place (Some place) = class_at_same (now_at (changes p laid q)) ps p q place r.classes
 
-    exported : (o : Option ℕ) → option_and_then (λ j. exported_place (and_last ps q) j (class_token reference)) o
-        ≡ option_and_then (λ j. exported_place (and_last ps p) j (class_token reference)) o
-    exported None = refl
-    exported (Some j) = ap (option_map (λ offset. record { «package» = j; offset = offset }))
-        (exported_same (now_at (changes p laid q)) ps p q j (class_token reference) r.export)
+    exported : (class : ℕ) (o : Option ℕ) → option_and_then (λ j. exported_place (and_last ps q) j class) o
+        ≡ option_and_then (λ j. exported_place (and_last ps p) j class) o
+    exported class None = refl
+    exported class (Some j) = ap (option_map (λ offset. record { «package» = j; offset = offset }))
+        (exported_same (now_at (changes p laid q)) ps p q j class r.export)
 
-    place_same : (b : Bool) → (if b then Some (record { «package» = k; offset = reference }) else option_and_then (λ j.
-        exported_place (and_last ps q) j (class_token reference)) (met_by (and_last ps q) k (import_token reference)))
-        ≡ (if b then Some (record { «package» = k; offset = reference }) else option_and_then (λ j. exported_place (and_last ps p) j
-        (class_token reference)) (met_by (and_last ps p) k (import_token reference)))
-    place_same true = refl
-    place_same false = ap (option_and_then (λ j. exported_place (and_last ps q) j (class_token reference)))
-        (met_same ps p q k (import_token reference) r.header r.imports)
-        ∙ exported (met_by (and_last ps p) k (import_token reference))
+    place_same : (reference : ClassReference) → place_referred (and_last ps q) k reference ≡ place_referred (and_last ps p) k reference
+    place_same (Internal offset) = refl
+    place_same (External import class) = ap (option_and_then (λ j. exported_place (and_last ps q) j class))
+        (met_same ps p q k import r.header r.imports)
+        ∙ exported class (met_by (and_last ps p) k import)
+
+pub named_same : (ps : List PackageRecord) (p q : PackageRecord) (laid : List (Option Laid)) (k reference : ℕ)
+    → IsRewritten p laid q → class_named (and_last ps q) k reference ≡ class_named (and_last ps p) k reference
+unfolding class_named
+named_same ps p q laid k reference r = referred_same ps p q laid k (reference_of reference) r

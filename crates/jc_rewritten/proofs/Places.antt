@@ -21,9 +21,9 @@ use Rattle.cap_rewritten.proofs.Bare.{but_same, same_interfaces}
 use Rattle.cap_rewritten.proofs.Facts.{news, olds, all_written}
 use Rattle.cap_rewritten.proofs.Standing.{offset_of, apart, compare, one_ends, sizes_end, sizes_some}
 use Rattle.cap_rewritten.proofs.Names.{same_number}
+use Rattle.cap_rewritten.proofs.Kept.{map_twice}
 use Rattle.jc_rewritten.specs.Last.{and_last}
 use Rattle.jc_rewritten.proofs.Lists.{position_alike}
-use Rattle.jc_rewritten.proofs.Names.{map_twice}
 
 -- ---- which methods of a package stand at an offset
 

@@ -13,7 +13,7 @@ use Rattle.jc_decode.specs.Listing.{targets}
 use Rattle.jc_decode.proofs.Listed.{all-are-listed}
 use Rattle.jc_control.specs.Method.{method_with}
 use Rattle.jc_control.specs.Control.{IsReached}
-use Rattle.jc_control.specs.WellFormed.{IsPlace, IsTargetPlace, Stands}
+use Rattle.jc_control.specs.WellFormed.{IsPlace, IsTargetPlace, HasInstruction}
 use Rattle.jc_control.proofs.Closing.{instructions-are-placed}
 use Rattle.jc_ops.specs.declared.operation.Operation.{Operation}
 use Rattle.jc_ops.specs.declared.operation.Operation.TheVariants as ops
@@ -21,7 +21,7 @@ use Rattle.jc_ops.specs.Alike.{IsAlike, equal}
 use Rattle.jc_ops.specs.Next.{falls_from}
 use Rattle.jc_ops.specs.Resolve.{Resolves}
 use Rattle.jc_rules.specs.Footprint.{Footprint, footprint, cells_asked, registers_asked, registers_read}
-use Rattle.jc_rules.specs.Demand.{holds}
+use Rattle.jc_rules.specs.Demand.{satisfies}
 use Rattle.jc_rules.specs.Rule.{demands}
 use Rattle.vm_store.specs.declared.cell.Cell.{Cell}
 use Rattle.vm_store.specs.declared.cell.Cell.TheVariants as cells
@@ -43,12 +43,13 @@ use Rattle.vm_sound.specs.Laws.{IsSafe}
 use Rattle.vm_sound.proofs.Going.{goes-on}
 use Rattle.vm_sound.proofs.Places.{IsThere, instruction-there}
 use Rattle.vm_erasure.specs.Erasure.{IsNoFault}
+use Rattle.vm_erasure.proofs.Together.{safe-free}
 use Rattle.vm_alike.specs.Alike.{renamed_cell, renamed_new, KeepsPlain, StayAlike}
 use Rattle.vm_alike.specs.Running.{HaveKeys, keys_at, Executes, RunAlike, ComeAlike, next_alike, target_alike, call_alike, return_alike, exception_alike, throw_alike, end_alike}
 use Rattle.vm_alike.proofs.Settling.{unless-none}
 use Rattle.xf_alike.specs.Counterparts.{IsKept, AreCounterparts}
 use Rattle.xf_alike.specs.Beside.{AreTop, top_kept, WaitBeside, wait_kept, AreUnder, more_frames, both_run, both_end}
-use Rattle.xf_alike.proofs.Typed.{AreLaws, first-runs, safe-free, frames-typed}
+use Rattle.xf_alike.proofs.Typed.{AreLaws, first-runs, frames-typed}
 use Rattle.xf_alike.proofs.Settling.{Settles, settled-now, settles-as, under-length, beside, enters, gives, kept-code, kept-room}
 use Rattle.xf_alike.proofs.Throwing.{CatchBeside, catch_kept, throws-settle, raises-settle}
 
@@ -215,8 +216,8 @@ module _ (v w : Linked) (typings : Typings) (laws : AreLaws v) (pair : AreCounte
       here : IsThere (code_at v n) (top z).place i
       here = instruction-there (code_at v n) (top z).place i fetched.instruction
 
-      stands-here : Stands (code_of v.infos st.rec) i
-      stands-here = subst (λ c. Stands c i) code-is here.stands
+      stands-here : HasInstruction (code_of v.infos st.rec) i
+      stands-here = subst (λ c. HasInstruction c i) code-is here.stands
 
       code-there : code_of v.infos st.rec ≡ code_at w (top t).method
       code-there = sym code-is ∙ sym code-same
@@ -249,7 +250,7 @@ module _ (v w : Linked) (typings : Typings) (laws : AreLaws v) (pair : AreCounte
           let few : registers_asked (demands v op) ≤ length (top z).registers =
           ltb-false (length (top z).registers) (registers_asked (demands v op))
           (first-passed LocalFault StackFault TypeFault (nat_lt (length (top z).registers) (registers_asked (demands v op)))
-          (nat_lt (length (top z).stack) (cells_asked (demands v op))) (list_all (holds v.classes (types_of tagged v z)) (demands v op)) passed) in
+          (nat_lt (length (top z).stack) (cells_asked (demands v op))) (list_all (satisfies v.classes (types_of tagged v z)) (demands v op)) passed) in
           let stay = laws.stay typings own z typed in
           record {
             operations = subst (λ x. IsAlike x op) (sym (own-new op)) equal;

@@ -33,7 +33,7 @@ use Rattle.xf_code.proofs.Sources.{is-code, has-frames}
 use Rattle.xf_world.specs.Laid.{IsLaidFor, AreLaidOf}
 use Rattle.xf_world.proofs.Own.{AreLaws, control, flow, is-method, its-bytes, keeps-live, method-links}
 use Rattle.xf_world.proofs.Catching.{element-at, element-there, pools-laid}
-use Rattle.xf_held.specs.Moves.{CanRun}
+use Rattle.xf_held.specs.Moves.{IsExecutable}
 use Rattle.xf_groups.specs.Laid.{IsLaidIn}
 use Rattle.xf_groups.specs.Steps.{GroupsStandAtSteps}
 use Rattle.xf_alike.specs.Counterparts.{IsKept, IsKeptOrRewritten, kept, rewritten, AreCounterparts}
@@ -67,7 +67,7 @@ of-goes v w typings n (goes_rewritten s place number laid) unset frames =
     rewritten s place (record { number = number; laid = laid; unset = unset; frames = frames })
 
 module _ (v : Linked) (laws : AreLaws v) (catches : CatchesByPool) (card : CardIsFlow v) (laid : List (Option Laid)) (are : AreLaidOf v laid)
-    (accepted : AllHave (IsOfLibrary v) (HasCardTyping v)) (steps : GroupsStandAtSteps) (w : Linked) (runs : CanRun w) (same : IsSameBut v w)
+    (accepted : AllHave (IsOfLibrary v) (HasCardTyping v)) (steps : GroupsStandAtSteps) (w : Linked) (runs : IsExecutable w) (same : IsSameBut v w)
     (stand : MethodsStand are.libraries are.own laid v w) where
   abbrev first : ℕ
   first = length are.libraries
@@ -250,6 +250,6 @@ pub laid-end-alike :
 laid-end-alike v laws catches card stand steps methods operations sound alike libraries source made parts new_parts roles laid w s t r linked accepted are anew =
     let cut : AreMethodsOf v are.libraries are.own = record { parts = are.parts; earlier = are.before; last = are.last } in
     let standing = stand parts new_parts libraries source made laid roles v w are.libraries are.own s t r linked anew.linked cut (may-replace v laws laid are) in
-    let runs : CanRun w = can-run v w anew.same methods operations laws.links sound in
+    let runs : IsExecutable w = can-run v w anew.same methods operations laws.links sound in
     alike w (by_number v laws catches card laid are accepted steps w runs anew.same standing)
     (counterparts v laws catches card laid are accepted steps w runs anew.same standing)

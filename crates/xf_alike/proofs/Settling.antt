@@ -47,13 +47,14 @@ use Rattle.xf_homes.specs.declared.home.Home.{Home}
 use Rattle.xf_held.specs.Held.{Holds, HoldsLocals}
 use Rattle.xf_plan.specs.Source.{Source}
 use Rattle.xf_plan.specs.Plan.{needed}
+use Rattle.vm_erasure.proofs.Together.{safe-free}
 use Rattle.xf_groups.specs.Laid.{body_at, rename}
 use Rattle.xf_groups.specs.Beside.{AreEqualBut, AreOf, IsUnderCall, IsWithin}
 use Rattle.xf_groups.specs.Comes.{ComesToGroup, ComesWithin}
 use Rattle.xf_groups.specs.Laws.{CatchAlike, none_catches, both_catch}
 use Rattle.xf_alike.specs.Counterparts.{IsKept, IsRewritten, IsKeptOrRewritten, kept, rewritten, AreCounterparts}
 use Rattle.xf_alike.specs.Beside.{AreTop, top_kept, top_rewritten, WaitBeside, wait_kept, wait_rewritten, AreUnder, no_frames, more_frames, AreBeside, OutcomesBeside, both_run, both_end}
-use Rattle.xf_alike.proofs.Typed.{AreLaws, its-method, running-first, stands-at, safe-free, reached-at, typed-at}
+use Rattle.xf_alike.proofs.Typed.{AreLaws, its-method, stands-at, reached-at, typed-at}
 
 -- how many steps may still follow: an ending comes at once
 abbrev pub extra : Outcome Cell → ℕ

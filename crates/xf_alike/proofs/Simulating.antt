@@ -20,6 +20,7 @@ use Rattle.vm_sound.specs.Laws.{IsSafe}
 use Rattle.xf_plan.specs.Source.{Source}
 use Rattle.xf_groups.specs.Beside.{IsAtGroup}
 use Rattle.xf_groups.specs.Comes.{ComesWithin, AreAtGroup, CallAlike, GroupComes, group_calls, group_gives, group_raises, group_throws, group_ends, GroupRuns, group_leaves, group_stays}
+use Rattle.xf_groups.proofs.Plain.{one-step}
 use Rattle.xf_alike.specs.Counterparts.{IsKept, IsRewritten, AreCounterparts}
 use Rattle.xf_alike.specs.Beside.{AreTop, top_kept, top_rewritten, WaitBeside, wait_rewritten, AreUnder, more_frames, AreBeside, OutcomesBeside, both_run, both_end}
 use Rattle.xf_alike.proofs.Typed.{AreLaws, its-method, method-is, typed-at, stays-typed, reached-at}
@@ -35,10 +36,6 @@ most (ended ending s) = 1000
 most-is : (o : Outcome Cell) → 1000 + extra o ≡ most o
 most-is (running s) = refl
 most-is (ended ending s) = refl
-
-ends-once : (w : Linked) (t : State Cell) (p : Outcome Cell) → Steps tagged w t p → Runs tagged w 1 t p
-ends-once w t (running u) step = steps step stands
-ends-once w t (ended ending u) step = stops step
 
 module _ (v w : Linked) (typings : Typings) (laws : AreLaws v) (pair : AreCounterparts v w typings) where
   abbrev StepComes : Outcome Cell → State Cell → Type 0
@@ -144,7 +141,7 @@ module _ (v w : Linked) (typings : Typings) (laws : AreLaws v) (pair : AreCounte
   steps-by z t f g (top_kept k) here there b o step safe =
       let same : top t ≡ top z = there ∙ sym here in
       let done = kept-steps v w typings laws pair z t b.first b.second b.under b.heap b.statics b.typed (subst (λ (x : Frame Cell). IsKept v w x.method) (sym here) k) same o step safe in
-      settles-then o t 1 done.0 (omega arith) (omega arith) (ends-once w t done.0 done.1) done.2
+      settles-then o t 1 done.0 (omega arith) (omega arith) (one-step w t done.0 done.1) done.2
   steps-by z t f g (top_rewritten s place r group) here there b o step safe =
       let its : IsRewritten v w typings (top z).method s place = subst (λ (x : Frame Cell). IsRewritten v w typings x.method s place) (sym here) r in
       let at : IsAtGroup s place (top z) (top t) = subst (λ x. IsAtGroup s place x (top t)) (sym here) (subst (λ x. IsAtGroup s place f x) (sym there) group) in

@@ -1,5 +1,5 @@
 -- What is known of a typed state whose method on top is rewritten, and the laws that the simulation rests on.
-use Rattle.std.proofs.Common.{◌≡◌, ℕ, suc, ◌+◌, ◌<◌, List, [], ◌∷◌, length, refl, sym, ap, ◌∙◌, subst, arith}
+use Rattle.std.proofs.Common.{◌≡◌, ℕ, suc, ◌+◌, List, ◌∷◌, length, sym, ap, ◌∙◌, subst, arith}
 use Rattle.std.specs.Prelude.{Option, Some, slice_get}
 use Rattle.std.proofs.lemmas.Option.{same_Some}
 use Rattle.jc_base.specs.declared.ty.Ty.{Ty}
@@ -10,12 +10,12 @@ use Rattle.jc_decode.specs.declared.insn.Placed.{Placed}
 use Rattle.jc_decode.proofs.Listed.{all-are-listed}
 use Rattle.jc_control.specs.Control.{IsReached}
 use Rattle.jc_control.specs.Method.{Method, IsMethodOf, method_with}
-use Rattle.jc_control.specs.WellFormed.{Stands}
+use Rattle.jc_control.specs.WellFormed.{HasInstruction}
 use Rattle.jc_rules.specs.Demand.{Frame as Types}
 use Rattle.jc_rules.specs.Flow.{At, FrameBelow}
 use Rattle.vm_store.specs.declared.cell.Cell.{Cell}
 use Rattle.vm_store.specs.declared.kind.ObjectKind.{ObjectKind}
-use Rattle.vm_store.specs.State.{Frame, State, IsRunning, top, first_frame, other_frames}
+use Rattle.vm_store.specs.State.{State, IsRunning, top, other_frames}
 use Rattle.vm_store.specs.Objects.{kinds}
 use Rattle.vm_step.specs.declared.ending.Ending.TheVariants.{Plain, Faulted}
 use Rattle.vm_step.specs.Methods.{instruction_at}
@@ -25,13 +25,13 @@ use Rattle.vm_sound.specs.State.{IsTypedState}
 use Rattle.vm_sound.specs.Laws.{IsSafe, StepsAreSafe, StartsAreTyped}
 use Rattle.vm_sound.specs.Handed.{OnlyCallsCall, CallsHandAll, StartsHandAll}
 use Rattle.vm_sound.proofs.Places.{instruction-there, place-instruction}
-use Rattle.vm_erasure.specs.Erasure.{IsNoFault}
 use Rattle.vm_alike.specs.Laws.{StepsAreAlike, TypedStatesStay}
 use Rattle.vm_alike.specs.Starting.{StartsRefuseAlike}
 use Rattle.xf_landed.specs.Laws.{OperationsAreKept, DemandsAreKept}
 use Rattle.xf_plan.specs.Source.{Source}
 use Rattle.xf_groups.specs.Beside.{IsTypedAt, StaysTyped}
 use Rattle.xf_groups.specs.Laws.{GroupsRun, CallsEnd, HasRoomForMore, CallsReturn, HandlersEnter, GroupsCatch, StartsEnter}
+use Rattle.xf_groups.proofs.Plain.{frames-are}
 use Rattle.xf_alike.specs.Counterparts.{IsRewritten}
 
 pub record AreLaws (v : Linked) : Type 0 where
@@ -56,13 +56,6 @@ pub record AreLaws (v : Linked) : Type 0 where
 
 -- ---- frames of a state
 
-pub running-first : (z : State Cell) → IsRunning z → z.frames ≡ top z ∷ other_frames z.frames
-running-first z runs = go z.frames runs
-  where
-    go : (fs : List (Frame Cell)) → 0 < length fs → fs ≡ first_frame fs ∷ other_frames fs
-    go [] lt = absurd (omega (arith, lt))
-    go (f ∷ fs) lt = refl
-
 pub first-runs : (z : State Cell) → z.frames ≡ top z ∷ other_frames z.frames → IsRunning z
 first-runs z first =
     let long : length z.frames ≡ suc (length (other_frames z.frames)) = ap length first in
@@ -70,7 +63,7 @@ first-runs z first =
 
 -- ---- instructions
 
-pub stands-at : (code : List ℕ) (place : ℕ) (i : Placed) → Stands code i → i.place ≡ place → instruction_at code place ≡ Some i
+pub stands-at : (code : List ℕ) (place : ℕ) (i : Placed) → HasInstruction code i → i.place ≡ place → instruction_at code place ≡ Some i
 stands-at code place i stands at =
     let found = place-instruction code place (i, stands, at) in
     let there = instruction-there code place found.0 found.1 in
@@ -90,11 +83,6 @@ pub its-method : (v w : Linked) (typings : Typings) (n : ℕ) (s : Source) (plac
 its-method v w typings n s place r = subst (λ (x : Linked). IsMethodOf x s.method) r.laid.world r.laid.planned.method
 
 -- ---- typed states
-
-pub safe-free : (v : Linked) (typings : Typings) (o : Outcome Cell) → IsSafe v typings o → IsNoFault o
-safe-free v typings (running s) h = tt
-safe-free v typings (ended (Plain plain) s) h = tt
-safe-free v typings (ended (Faulted fault) s) h = h
 
 module _ (v : Linked) (typings : Typings) where
   pub frames-typed :
@@ -130,6 +118,6 @@ module _ (v : Linked) (typings : Typings) where
     pub stays-typed :
         TypedStatesStay v → (n : ℕ) → IsRewritten v w typings n s place → (o : Outcome Cell) → IsSafe v typings o → StaysTyped v s o
     stays-typed stay n r (running z) safe =
-        λ runs method. typed-at stay z (running-first z runs) safe (subst (λ k. IsRewritten v w typings k s place) (sym r.number ∙ sym method) r)
+        λ runs method. typed-at stay z (frames-are z runs) safe (subst (λ k. IsRewritten v w typings k s place) (sym r.number ∙ sym method) r)
     stays-typed stay n r (ended (Plain plain) z) safe = tt
     stays-typed stay n r (ended (Faulted fault) z) safe = safe

@@ -27,7 +27,7 @@ use Rattle.xf_emission.specs.Live.{KeepsLive}
 use Rattle.xf_groups.specs.Matching.{MatchesFrames, MatchesMethod, RewrittenMatches}
 use Rattle.xf_typing.specs.Laws.{RewrittenIsTyped}
 use Rattle.xf_typing.specs.Planned.{IsPlanned}
-use Rattle.xf_typing.specs.Typed.{HasTypes}
+use Rattle.xf_typing.specs.Typed.{HasTypingByHomes}
 use Rattle.xf_code.proofs.Subjects.{code-short}
 
 module _ (w : Linked) (m : Method) (typing : List (Option Frame)) (control : Marked) (homes : List Home) (typed : IsTypingOf w m typing) (flow : IsControlFlow m control) (placed : ArePlaced m) (listed : AreListed m.code) (mo : IsMethodOf w m)
@@ -67,8 +67,8 @@ module _ (w : Linked) (m : Method) (typing : List (Option Frame)) (control : Mar
     unfolding rewritten
     small-by law are few room = subst (λ (y : Symbols). plain_size y.items < 2 ^ 32) (sym e) (law _ refl is-code has-frames are few (λ p. shallow room p))
 
-    pub typed-by : RewrittenIsTyped w → AreDerived w m typing → AreHomes w m (state_at typing) homes → register_sum homes ≤ 255 → HasTypes w m homes symbols
-    typed-by law derived are few = subst (HasTypes w m homes) (sym e) (law _ refl is-code has-frames mo typed.least.typing derived flow.leaders are few)
+    pub typed-by : RewrittenIsTyped w → AreDerived w m typing → AreHomes w m (state_at typing) homes → register_sum homes ≤ 255 → HasTypingByHomes w m homes symbols
+    typed-by law derived are few = subst (HasTypingByHomes w m homes) (sym e) (law _ refl is-code has-frames mo typed.least.typing derived flow.leaders are few)
 
   pub is-planned :
       AreDerived w m typing → AreHomes w m (state_at typing) homes → register_sum homes ≤ 255

@@ -1,8 +1,7 @@
 -- Steps of loops that append items.
 use Rattle.std.proofs.Common.{◌≡◌, ℕ, zero, suc, ◌+◌, ◌<◌, ◌≤◌, List, [], ◌∷◌, ◌++◌, length, drop, All, map, flat_map, refl, sym, ◌∙◌, ap, arith, append_assoc, drop-cons, subst}
-use Rattle.std.specs.Prelude.{get_or, Contains}
+use Rattle.std.specs.Prelude.{get_or}
 use Rattle.std.proofs.lemmas.List.{append-nil}
-use Rattle.std.proofs.lemmas.List.Elements.{Contains-append_right}
 use Rattle.std.proofs.lemmas.List.Concat.{flat_map-cons}
 
 -- what is appended was first among what is left
@@ -29,14 +28,6 @@ map-first f xs n d lt = ap (map f) (rest-cons xs n d lt)
 
 pub flat-first : {X Y : Type 0} (f : X → List Y) (xs : List X) (n : ℕ) (d : X) → n < length xs → flat_map f (drop n xs) ≡ f (get_or xs n d) ++ flat_map f (drop (n + 1) xs)
 flat-first f xs n d lt = ap (flat_map f) (rest-cons xs n d lt) ∙ flat_map-cons f (get_or xs n d) (drop (n + 1) xs)
-
--- an element that comes next stands in the whole
-pub stands-next : {X : Type 0} (before rest after whole : List X) (x : X) → rest ≡ x ∷ after → before ++ rest ≡ whole → Contains whole x
-stands-next before rest after whole x e inv =
-    subst (λ xs. Contains xs x) (ap (λ xs. before ++ xs) (sym e) ∙ inv) (Contains-append_right before (x ∷ after) x (0, omega arith, refl))
-
-pub moves-on : {X : Type 0} (before rest after whole : List X) (x : X) → rest ≡ x ∷ after → before ++ rest ≡ whole → (before ++ x ∷ []) ++ after ≡ whole
-moves-on before rest after whole x e inv = goes-on before (x ∷ []) rest after whole (before ++ x ∷ []) e refl inv
 
 pub all-first : {X : Type 0} (P : X → Type 0) (xs after : List X) (x : X) → xs ≡ x ∷ after → All P xs → P x
 all-first P xs after x e h = let all : All P (x ∷ after) = subst (All P) e h in all 0 x (omega arith)

@@ -2,7 +2,7 @@
 use Rattle.std.specs.Prelude.{◌+◌, ◌≤◌, length}
 use Rattle.jc_decode.specs.declared.insn.Placed.{Placed}
 use Rattle.jc_control.specs.Method.{IsMethodOf}
-use Rattle.jc_control.specs.WellFormed.{Stands}
+use Rattle.jc_control.specs.WellFormed.{HasInstruction}
 use Rattle.xf_homes.specs.Subject.{walked}
 use Rattle.xf_plan.specs.declared.plan.Plan.{Plan}
 use Rattle.xf_emission.specs.Jump.{AreLed}
@@ -17,4 +17,4 @@ pub record IsInstruction (p : Plan) (i : Placed) : Type 0 where
 pub record IsSubject (p : Plan) : Type 0 where
   pub method : IsMethodOf p.walk.world.now (walked p.walk)
   pub short : length p.walk.code.bytes.now ≤ 32767
-  pub instructions : (i : Placed) → Stands p.walk.code.bytes.now i → IsInstruction p i
+  pub instructions : (i : Placed) → HasInstruction p.walk.code.bytes.now i → IsInstruction p i

@@ -30,6 +30,7 @@ fn cut(plan: &Plan<'_>, fork: Fork) -> u16
             .saturating_sub(u16::from(fork.operands))
 }
 
+/// Whether the stack is deeper than the operands of a branch or switch.
 pub fn is_over(plan: &Plan<'_>, fork: Fork) -> bool
     ensures { result ≡ is_over (source plan.now) fork.place fork.operands }
 {

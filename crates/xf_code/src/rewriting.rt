@@ -11,7 +11,7 @@ ghost use Rattle.xf_emission.specs.Emission.{IsPlainSize, IsRewritten, items, ra
 ghost use Rattle.xf_code.specs.Known.{IsSubject};
 ghost use Rattle.xf_emission.specs.Live.{KeepsLive};
 ghost use Rattle.xf_emission.specs.Numbers.{HasNumbers};
-ghost use Rattle.xf_typing.specs.Typed.{HasTypes};
+ghost use Rattle.xf_typing.specs.Typed.{HasTypingByHomes};
 ghost use Rattle.xf_groups.specs.Matching.{MatchesMethod};
 
 use crate::edge::{Scratch, copies};
@@ -127,7 +127,7 @@ pub fn rewrite<'a>(
         (λ m. IfOk result (IsRewritten world.now m (state_at typing.now) homes.now)) }
     // They have a card typing, in which each home's registers have the home's type.
     ensures typed { IsSomeAnd (method_in world.now method)
-        (λ m. IfOk result (HasTypes world.now m homes.now)) }
+        (λ m. IfOk result (HasTypingByHomes world.now m homes.now)) }
     // Wherever they are laid, they do what the method does: its frames come to the same, step by step.
     ensures matches { IsSomeAnd (method_in world.now method)
         (λ m. IfOk result (MatchesMethod world.now m (state_at typing.now) homes.now)) }

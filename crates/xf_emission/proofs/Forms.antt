@@ -136,6 +136,3 @@ other-opcode i op e f a = by (layout_of i.op) (layout_of op) e f a
         )
     by (Ok l) (Err g) e f a = absurd (cc)
     by (Err g) k e f a = absurd (cc)
-
-pub parts : (a b : Bool) → (a && b) ≡ true → (a ≡ true) × (b ≡ true)
-parts a b e = and-parts a b e

@@ -1,5 +1,5 @@
 -- The items of a rewritten method are such as are laid.
-use Rattle.std.proofs.Common.{ℕ, zero, suc, ◌<◌, Bool, true, false, if◌then◌else◌, List, [], ◌∷◌, ◌++◌, map, reverse, flat_map, Option, Some, None, refl, lit<}
+use Rattle.std.proofs.Common.{ℕ, zero, suc, ◌<◌, Bool, true, false, if◌then◌else◌, List, [], ◌∷◌, map, reverse, flat_map, Option, Some, None, refl, lit<}
 use Rattle.jc_base.specs.Each.{Each}
 use Rattle.jc_base.specs.declared.ty.Kind.{Kind}
 use Rattle.jc_base.specs.declared.ty.Kind.TheVariants as kinds
@@ -17,6 +17,7 @@ use Rattle.xf_homes.specs.Walk.{has, same_home}
 use Rattle.xf_plan.specs.Source.{Source}
 use Rattle.xf_plan.specs.Plan.{register, cells, needed}
 use Rattle.jc_ops.specs.declared.operation.Operation.{Operation}
+use Rattle.xf_homes.proofs.Rising.{each-append}
 use Rattle.xf_emission.specs.declared.origin.Origin.{Origin}
 use Rattle.xf_emission.specs.declared.origin.Origin.TheVariants.{After}
 use Rattle.xf_emission.specs.Move.{with_byte, load_op, store_op, load, store, copy, loads, spill}
@@ -25,10 +26,6 @@ use Rattle.xf_emission.specs.Jump.{under, taken}
 use Rattle.xf_emission.specs.Group.{popped, swap_words}
 
 -- ---- lists
-
-pub each-append : {X : Type 0} (P : X → Type 0) (xs ys : List X) → Each P xs → Each P ys → Each P (xs ++ ys)
-each-append P [] ys a b = b
-each-append P (x ∷ xs) ys a b = (a.0, each-append P xs ys a.1 b)
 
 pub each-if : {X : Type 0} (P : X → Type 0) (b : Bool) (xs ys : List X) → Each P xs → Each P ys → Each P (if b then xs else ys)
 each-if P true xs ys a b = a

@@ -4,13 +4,14 @@ use Rattle.std.specs.Prelude.{ℤ, is_some, slice_get}
 use Rattle.std.specs.List.{filter}
 use Rattle.std.proofs.lemmas.List.Concat.{flat_map-append, flat_map-cons}
 use Rattle.jc_base.specs.declared.record.Handler.{Handler}
+use Rattle.jc_base.proofs.Eaching.{All-from_Each}
 use Rattle.jc_decode.specs.declared.insn.Placed.{Placed}
 use Rattle.jc_decode.specs.declared.symbols.Item.{Item}
 use Rattle.jc_decode.specs.declared.symbols.Item.TheVariants.{Label}
 use Rattle.jc_decode.specs.Listing.{listing, targets}
 use Rattle.jc_decode.specs.Symbols.{place_of, is_label, is_instruction}
 use Rattle.jc_decode.proofs.Labels.{label-between}
-use Rattle.jc_control.specs.WellFormed.{Stands}
+use Rattle.jc_control.specs.WellFormed.{HasInstruction}
 use Rattle.jc_ops.specs.declared.operation.Operation.{Operation}
 use Rattle.jc_rules.specs.Demand.{Frame}
 use Rattle.xf_homes.specs.Walk.{operands_of}
@@ -25,7 +26,7 @@ use Rattle.xf_emission.specs.Emission.{stubs, stubs_by, stubs_done, stubs_at, is
 use Rattle.xf_emission.specs.Laws.{IsCode, StubStands, StubsStand, HandlersStand}
 use Rattle.xf_emission.proofs.Labels.{labels, labels-append}
 use Rattle.xf_emission.proofs.Rises.{Rises}
-use Rattle.xf_emission.proofs.Standing.{split, each-all, none-named}
+use Rattle.xf_emission.proofs.Standing.{split, none-named}
 use Rattle.xf_emission.proofs.Stubs.{all-rise}
 
 -- ---- a label that stands in the whole
@@ -43,7 +44,7 @@ at-label s code before after l e =
     let whole : Rises 0 (handler_label 256) (labels (items s)) = all-rise s code.bytes code.lists code.short code.few in
     let split_so : Rises 0 (handler_label 256) (labels before ++ l ∷ labels after) = subst (Rises 0 (handler_label 256)) (ap labels e ∙ labels-append before (Label l ∷ after)) whole in
     let rise : Rises 0 l (labels before) = rises-before 0 (handler_label 256) l (labels before) (labels after) split_so in
-    let none : All (λ x. is_label l x ≡ false) before = each-all (λ x. is_label l x ≡ false) before (none-named 0 l l before (omega arith) rise) in
+    let none : All (λ x. is_label l x ≡ false) before = All-from_Each (λ x. is_label l x ≡ false) before (none-named 0 l l before (omega arith) rise) in
     ap (place_of l) e ∙ label-between before after l none
 
 -- ---- the stub of a target
@@ -83,7 +84,7 @@ module _ (s : Source) (i : Placed) (op : Operation) (n : ℕ) (is : operation s 
       by None e = absurd (cc)
       by (Some f) e = ap (stubs_done s i) is ∙ ap (stubs_by s i op) asks
 
-  stub-stands : IsCode s → Stands s.method.code i → is_some (s.frames i.place) ≡ true → (k : ℕ) (t : ℤ) → slice_get (targets s.method.code i) k ≡ Some t
+  stub-stands : IsCode s → HasInstruction s.method.code i → is_some (s.frames i.place) ≡ true → (k : ℕ) (t : ℤ) → slice_get (targets s.method.code i) k ≡ Some t
       → taken s i.place op n (place t) ≢ [] → StubStands s i op n k t
   unfolding items stub
   stub-stands code st reached k t at copied =

@@ -1,21 +1,23 @@
 -- The items of a rewritten method are such as are laid.
-use Rattle.std.proofs.Common.{◌≡◌, ℕ, zero, suc, ◌+◌, ◌<◌, ◌≤◌, Bool, true, false, if◌then◌else◌, List, [], ◌∷◌, All, Contains, Option, Some, None, Ok, refl, sym, ◌∙◌, ap, subst, arith}
+use Rattle.std.proofs.Common.{◌≡◌, ℕ, suc, ◌+◌, ◌<◌, ◌≤◌, Bool, true, false, if◌then◌else◌, List, [], ◌∷◌, All, Contains, Option, Some, None, Ok, refl, sym, ◌∙◌, ap, subst, arith}
 use Rattle.std.specs.Prelude.{ℤ, pos, negsuc, is_some, slice_get, sum_by}
 use Rattle.std.proofs.lemmas.List.Elements.{All-contains}
 use Rattle.std.proofs.lemmas.List.Sums.{sum_by-cons}
 use Rattle.jc_base.specs.Each.{Each}
 use Rattle.jc_base.specs.declared.record.Handler.{Handler}
 use Rattle.jc_base.specs.World.{Linked}
+use Rattle.jc_base.proofs.Eaching.{All-from_Each}
 use Rattle.jc_decode.specs.declared.insn.Placed.{Placed}
 use Rattle.jc_decode.specs.declared.symbols.Item.{Item}
 use Rattle.jc_decode.specs.Laws.{AreListed, InstructionsAreListed}
 use Rattle.jc_decode.specs.Listing.{targets}
 use Rattle.jc_decode.specs.Symbols.{IsItem, IsOnce}
 use Rattle.jc_decode.proofs.Ranges.{IsAllowed-decoded, op-fits}
+use Rattle.jc_decode.proofs.Elements.{Contains-slice_get}
 use Rattle.jc_ops.specs.declared.operation.Operation.{Operation}
 use Rattle.jc_ops.specs.Next.{OperationsGoAlike}
 use Rattle.jc_control.specs.Control.{IsReached, follows, jumped, caught, IsLive}
-use Rattle.jc_control.specs.WellFormed.{Stands, IsPlace, IsTargetPlace, IsHandlerOf}
+use Rattle.jc_control.specs.WellFormed.{HasInstruction, IsPlace, IsTargetPlace, IsHandlerOf}
 use Rattle.xf_homes.specs.declared.home.Home.{Home}
 use Rattle.xf_homes.specs.Order.{register_sum}
 use Rattle.xf_homes.specs.Value.{width}
@@ -28,7 +30,6 @@ use Rattle.xf_emission.specs.Laws.{IsCode, HasFrames, IsLabelOf, of_place, of_st
 use Rattle.xf_emission.proofs.Forms.{suits-op}
 use Rattle.xf_emission.proofs.Live.{live-is}
 use Rattle.xf_emission.proofs.Once.{labels-stand-once}
-use Rattle.xf_emission.proofs.Standing.{each-all}
 use Rattle.xf_emission.proofs.Suited.{IsEmitted, items-suit}
 
 -- ---- registers
@@ -52,11 +53,6 @@ small-register homes h few = by (register_from 0 homes h) refl
 
 -- ---- elements
 
-contains-at : {X : Type 0} (xs : List X) (k : ℕ) (x : X) → slice_get xs k ≡ Some x → Contains xs x
-contains-at [] k x e = absurd (cc)
-contains-at (y ∷ ys) zero x e = let same : y ≡ x = cc in (0, omega arith, same)
-contains-at (y ∷ ys) (suc k) x e = let r = contains-at ys k x e in (suc r.0, omega (arith, r.1), r.2)
-
 -- ---- the whole
 
 module _ (w : Linked) (alike : OperationsGoAlike w) (listing_is : InstructionsAreListed) (s : Source) (own : s.world ≡ w) (code : IsCode s) (has : HasFrames s) (few : register_sum s.homes ≤ 255) where
@@ -72,11 +68,11 @@ module _ (w : Linked) (alike : OperationsGoAlike w) (listing_is : InstructionsAr
       by : IsPlace s.method.code p → IsOnce (items s) p
       by (i, st, at) = once p (subst (IsLabelOf s) at (of_place {i = i} st (ap (λ (q : ℕ). is_some (s.frames q)) at ∙ (has.reached p).1 r)))
 
-  target-once : (i : Placed) → Stands s.method.code i → IsReached s.method i.place → (t : ℤ) → Contains (targets s.method.code i) t → IsTargetPlace s.method.code t → IsOnce (items s) (place t)
+  target-once : (i : Placed) → HasInstruction s.method.code i → IsReached s.method i.place → (t : ℤ) → Contains (targets s.method.code i) t → IsTargetPlace s.method.code t → IsOnce (items s) (place t)
   target-once i st r (pos q) c is = reached-once q (follows {i = i} st r (jumped c))
   target-once i st r (negsuc n) c is = absurd is
 
-  emitted : (i : Placed) (op : Operation) → Stands s.method.code i → is_some (s.frames i.place) ≡ true → operation s i ≡ Ok op → IsEmitted (items s) s i op
+  emitted : (i : Placed) (op : Operation) → HasInstruction s.method.code i → is_some (s.frames i.place) ≡ true → operation s i ≡ Ok op → IsEmitted (items s) s i op
   unfolding lead
   emitted i op st some is =
       let d = listed.decodes i st in
@@ -84,7 +80,7 @@ module _ (w : Linked) (alike : OperationsGoAlike w) (listing_is : InstructionsAr
       let small = op-fits s.method.code i.place i.insn code.bytes d in
       let go = subst OperationsGoAlike (sym own) alike s.method.rec i.place i.insn op small (sym is) in
       let at : (k : ℕ) (t : ℤ) → slice_get (targets s.method.code i) k ≡ Some t → IsOnce (items s) (place t) = λ k t e.
-      let c = contains-at (targets s.method.code i) k t e in
+      let c = Contains-slice_get (targets s.method.code i) k t e in
       target-once i st r t c (All-contains (IsTargetPlace s.method.code) (targets s.method.code i) t (has.formed.targets i st) c) in
       record {
         allowed = IsAllowed-decoded s.method.code i.place i.insn code.bytes d;
@@ -115,7 +111,7 @@ module _ (w : Linked) (alike : OperationsGoAlike w) (listing_is : InstructionsAr
 
   items-are-such : All (IsItem s.method.code (items s)) (items s)
   items-are-such =
-      each-all (IsItem s.method.code (items s)) (items s)
+      All-from_Each (IsItem s.method.code (items s)) (items s)
       (items-suit (items s) s (λ h. small-register s.homes h few) emitted (entries-once s.method.rec.handlers (λ h c. c)))
 
 pub items-are-laid : (w : Linked) → OperationsGoAlike w → InstructionsAreListed → ItemsSuit w

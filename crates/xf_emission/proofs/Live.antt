@@ -15,11 +15,11 @@ use Rattle.xf_emission.specs.Laws.{HasFrames, LiveAreKept}
 use Rattle.xf_emission.specs.Live.{KeepsLive, none_left, live_kept, dead_left}
 
 -- an element that comes next stands in the whole
-stands-next : {X : Type 0} (before rest after whole : List X) (x : X) → rest ≡ x ∷ after → before ++ rest ≡ whole → Contains whole x
+pub stands-next : {X : Type 0} (before rest after whole : List X) (x : X) → rest ≡ x ∷ after → before ++ rest ≡ whole → Contains whole x
 stands-next before rest after whole x e inv =
     subst (λ xs. Contains xs x) (ap (λ xs. before ++ xs) (sym e) ∙ inv) (Contains-append_right before (x ∷ after) x (0, omega arith, refl))
 
-moves-on : {X : Type 0} (before rest after whole : List X) (x : X) → rest ≡ x ∷ after → before ++ rest ≡ whole → (before ++ x ∷ []) ++ after ≡ whole
+pub moves-on : {X : Type 0} (before rest after whole : List X) (x : X) → rest ≡ x ∷ after → before ++ rest ≡ whole → (before ++ x ∷ []) ++ after ≡ whole
 moves-on before rest after whole x e inv = append_assoc before (x ∷ []) after ∙ ap (λ xs. before ++ xs) (sym e) ∙ inv
 
 -- what is found is the first place of those, or the one after them

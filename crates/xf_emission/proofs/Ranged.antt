@@ -5,11 +5,12 @@ use Rattle.std.proofs.lemmas.Bool.Decides.{nat_tests}
 use Rattle.std.proofs.lemmas.List.Elements.{All-contains}
 use Rattle.jc_base.specs.Each.{Each, IsAmong}
 use Rattle.jc_base.specs.declared.record.Handler.{Handler}
+use Rattle.jc_base.proofs.Eaching.{All-from_Each}
 use Rattle.jc_decode.specs.declared.insn.Placed.{Placed}
 use Rattle.jc_decode.specs.declared.symbols.Item.{Item}
 use Rattle.jc_decode.specs.declared.symbols.Item.TheVariants.{Plain, Branch, Switch, Label}
 use Rattle.jc_decode.specs.Symbols.{place_of, IsOnce, IsRange}
-use Rattle.jc_control.specs.WellFormed.{IsPlace, IsBoundary, IsHandlerOf, Stands}
+use Rattle.jc_control.specs.WellFormed.{IsPlace, IsBoundary, IsHandlerOf, HasInstruction}
 use Rattle.jc_decode.specs.Laws.{InstructionsAreListed}
 use Rattle.jc_control.proofs.Elements.{here-in, contained-in, go-on}
 use Rattle.xf_plan.specs.Source.{Source}
@@ -22,7 +23,6 @@ use Rattle.xf_emission.proofs.Rises.{Rises}
 use Rattle.xf_emission.proofs.Stubs.{all-rise}
 use Rattle.xf_emission.proofs.Once.{labels-stand-once, named-among}
 use Rattle.xf_emission.proofs.Live.{IsFirst, is-first}
-use Rattle.xf_emission.proofs.Standing.{each-all}
 
 not-equal : (m a : ℕ) → m < a → (m == a) ≡ false
 not-equal m a lt = grind (arith, nat_tests)
@@ -93,7 +93,7 @@ module _ (s : Source) (code : IsCode s) (placed : (p : ℕ) → is_some (s.frame
   once : (l : ℕ) → IsLabelOf s l → IsOnce (items s) l
   once l named = labels-stand-once s code l named
 
-  within : (h : Handler) → IsHandlerOf s.method.code h → ((i : Placed) → Stands s.method.code i → i.place < length s.method.code) → (h.start ≤ length s.method.code) × (h.end ≤ length s.method.code)
+  within : (h : Handler) → IsHandlerOf s.method.code h → ((i : Placed) → HasInstruction s.method.code i → i.place < length s.method.code) → (h.start ≤ length s.method.code) × (h.end ≤ length s.method.code)
   within h is inside = (by-place is.start, by-end is.end)
     where
       by-place : IsPlace s.method.code h.start → h.start ≤ length s.method.code
@@ -103,7 +103,7 @@ module _ (s : Source) (code : IsCode s) (placed : (p : ℕ) → is_some (s.frame
       by-end (inl e) = omega (arith, e)
       by-end (inr (i, st, e)) = omega (arith, inside i st, e)
 
-  module _ (inside : (i : Placed) → Stands s.method.code i → i.place < length s.method.code) (formed : All (IsHandlerOf s.method.code) s.method.rec.handlers) where
+  module _ (inside : (i : Placed) → HasInstruction s.method.code i → i.place < length s.method.code) (formed : All (IsHandlerOf s.method.code) s.method.rec.handlers) where
     range-suits : (n : ℕ) (h : Handler) → slice_get s.method.rec.handlers n ≡ Some h → IsHandlerOf s.method.code h → is_live s h ≡ true → IsRange (items s) (range s n h)
     range-suits n h at is live =
         let w = within h is inside in
@@ -131,7 +131,7 @@ module _ (s : Source) (code : IsCode s) (placed : (p : ℕ) → is_some (s.frame
 
     pub ranges-suit : All (IsRange (items s)) (ranges s)
     unfolding ranges
-    ranges-suit = each-all (IsRange (items s)) (ranges_from s 0 s.method.rec.handlers) (ranges-suit-from [] s.method.rec.handlers 0 refl refl)
+    ranges-suit = All-from_Each (IsRange (items s)) (ranges_from s 0 s.method.rec.handlers) (ranges-suit-from [] s.method.rec.handlers 0 refl refl)
 
 pub ranges-stand : InstructionsAreListed → RangesStand
 ranges-stand listed s code has =

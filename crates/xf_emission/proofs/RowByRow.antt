@@ -59,7 +59,7 @@ record Gives (resolve : Linked → MethodRec → ℕ → Insn → Result Operati
   kind : (w : Linked) (m : MethodRec) (place : ℕ) (i : Insn) (op : Operation) → resolve w m place i ≡ Ok op → op_kind op ≡ k
   moved : (w : Linked) (m : MethodRec) (place other : ℕ) (i : Insn) (op : Operation) → resolve w m place i ≡ Ok op → resolve w m other i ≡ Ok (moved_to other op)
 
-ok-same : (a op : Operation) → ◌≡◌ {A = Result Operation RuleFault} (Ok a) (Ok op) → a ≡ op
+pub ok-same : (a op : Operation) → ◌≡◌ {A = Result Operation RuleFault} (Ok a) (Ok op) → a ≡ op
 ok-same a op e = cc
 
 -- the operation is at hand

@@ -1,9 +1,10 @@
 -- Where the groups of a rewritten method stand.
-use Rattle.std.proofs.Common.{◌≡◌, ◌⊎◌, ℕ, zero, suc, ◌+◌, ◌<◌, ◌≤◌, Bool, true, false, if◌then◌else◌, inl, inr, List, [], ◌∷◌, ◌++◌, flat_map, length, All, Contains, Option, Some, None, refl, sym, ◌∙◌, ap, subst, arith, append_assoc}
+use Rattle.std.proofs.Common.{◌≡◌, ◌⊎◌, ℕ, suc, ◌+◌, ◌<◌, ◌≤◌, Bool, true, false, if◌then◌else◌, inl, inr, List, [], ◌∷◌, ◌++◌, flat_map, length, All, Contains, Option, Some, None, refl, sym, ◌∙◌, ap, subst, arith, append_assoc}
 use Rattle.std.specs.Prelude.{is_some, ◌==◌}
 use Rattle.std.proofs.lemmas.Bool.Decides.{nat_tests}
 use Rattle.std.proofs.lemmas.List.Concat.{flat_map-append, flat_map-cons}
 use Rattle.jc_base.specs.Each.{Each}
+use Rattle.jc_base.proofs.Eaching.{All-from_Each}
 use Rattle.jc_decode.specs.declared.insn.Placed.{Placed}
 use Rattle.jc_decode.specs.declared.symbols.Item.{Item}
 use Rattle.jc_decode.specs.declared.symbols.Item.TheVariants.{Plain, Branch, Switch, Label}
@@ -12,7 +13,7 @@ use Rattle.jc_decode.specs.Listing.{listing, Lists}
 use Rattle.jc_decode.specs.Symbols.{place_of, is_label}
 use Rattle.jc_decode.proofs.Decoded.{IsWithin-decoded}
 use Rattle.jc_decode.proofs.Labels.{label-between}
-use Rattle.jc_control.specs.WellFormed.{Stands}
+use Rattle.jc_control.specs.WellFormed.{HasInstruction}
 use Rattle.jc_decode.proofs.Elements.{nothing-in, Contains-either}
 use Rattle.jc_rules.specs.Demand.{Frame}
 use Rattle.xf_plan.specs.Source.{Source}
@@ -40,11 +41,6 @@ split (y ∷ ys) x c = by (Contains-either y ys x c) (split ys x)
     by : (y ≡ x) ⊎ Contains ys x → (Contains ys x → Parts ys x) → Parts (y ∷ ys) x
     by (inl e) rest = record { before = []; after = ys; parts = ap (λ z. z ∷ ys) e }
     by (inr r) rest = let t = rest r in record { before = y ∷ t.before; after = t.after; parts = ap (λ zs. y ∷ zs) t.parts }
-
-pub each-all : {X : Type 0} (P : X → Type 0) (xs : List X) → Each P xs → All P xs
-each-all P [] e k d lt = absurd (omega arith)
-each-all P (x ∷ xs) e zero d lt = e.0
-each-all P (x ∷ xs) e (suc k) d lt = each-all P xs e.1 k d (omega arith)
 
 -- ---- labels before a place
 
@@ -96,7 +92,7 @@ module _ (s : Source) where
       ap (flat_map (group s)) e ∙ flat_map-append (group s) earlier (i ∷ later) ∙ ap (λ xs. flat_map (group s) earlier ++ xs) (flat_map-cons (group s) i later) in
       ap (λ xs. copies s Start 0 ++ (xs ++ ending)) groups ∙ simp append_assoc
 
-  stands : IsCode s → (i : Placed) → Stands s.method.code i → is_some (s.frames i.place) ≡ true → GroupStands s i
+  stands : IsCode s → (i : Placed) → HasInstruction s.method.code i → is_some (s.frames i.place) ≡ true → GroupStands s i
   stands code i st reached =
       let p = split (listing s.method.code) i st in
       let before = copies s Start 0 ++ flat_map (group s) p.before in
@@ -105,7 +101,7 @@ module _ (s : Source) where
       let rise : Rises 0 i.place (labels before) =
       subst (Rises 0 i.place) (sym (labels-append (copies s Start 0) (flat_map (group s) p.before) ∙ ap (λ ls. ls ++ labels (flat_map (group s) p.before)) (copies-none s Start 0)))
       (earlier-rise 0 p.before i p.after (subst (Lists s.method.code 0) p.parts code.lists)) in
-      let none : All (λ x. is_label i.place x ≡ false) before = each-all (λ x. is_label i.place x ≡ false) before (none-named 0 i.place i.place before (omega arith) rise) in
+      let none : All (λ x. is_label i.place x ≡ false) before = All-from_Each (λ x. is_label i.place x ≡ false) before (none-named 0 i.place i.place before (omega arith) rise) in
       record {
         earlier = p.before;
         later = p.after;

@@ -2,9 +2,11 @@
 use Rattle.std.proofs.Common.{◌≡◌, ℕ, suc, ◌+◌, ◌-◌, ◌<◌, Bool, true, false, if◌then◌else◌, List, [], ◌∷◌, ◌++◌, map, flat_map, length, Contains, Option, Some, None, Result, Ok, Err, refl, sym, ◌∙◌, ap, subst, arith}
 use Rattle.std.specs.Prelude.{ℤ, not, is_some, slice_get}
 use Rattle.std.proofs.lemmas.List.{length-map}
+use Rattle.std.proofs.lemmas.Bool.{and_parts}
 use Rattle.jc_base.specs.Each.{Each}
 use Rattle.jc_base.specs.declared.ty.Kind.{Kind}
 use Rattle.jc_base.specs.declared.record.Handler.{Handler}
+use Rattle.jc_base.proofs.Eaching.{All-from_Each}
 use Rattle.jc_decode.specs.declared.insn.Placed.{Placed}
 use Rattle.jc_decode.specs.declared.symbols.Item.{Item}
 use Rattle.jc_decode.specs.declared.symbols.Item.TheVariants.{Branch, Switch}
@@ -25,6 +27,7 @@ use Rattle.jc_ops.specs.declared.operation.Operation.TheVariants as ops
 use Rattle.jc_rules.specs.Demand.{Frame}
 use Rattle.xf_homes.specs.declared.home.Home.{Home}
 use Rattle.xf_homes.specs.Walk.{operands_of}
+use Rattle.xf_homes.proofs.Rising.{each-append}
 use Rattle.xf_plan.specs.Source.{Source}
 use Rattle.xf_plan.specs.Plan.{register, local, needed, cells, is_leader, operation}
 use Rattle.xf_emission.specs.declared.origin.Origin.TheVariants.{Start, After, Entry}
@@ -34,9 +37,8 @@ use Rattle.xf_emission.specs.Jump.{under, operands, is_over, spill_if, taken, pl
 use Rattle.xf_emission.specs.Group.{kept, loaded, increased, stored, stays, field_read, field_written, gone, first_place, body, fall, fall_over, fall_by, fallen, entered, done, group_by, group}
 use Rattle.xf_emission.specs.Emission.{stubs, stubs_at, stubs_by, stubs_done, is_live, caught, caught_from, items}
 use Rattle.xf_emission.proofs.RowByRow.{op_kind, branching_kind, switching}
-use Rattle.xf_emission.proofs.Forms.{suits_kind, first_u1, only_u1, other-register, other-opcode, parts}
-use Rattle.xf_emission.proofs.Standing.{each-all}
-use Rattle.xf_emission.proofs.Items.{each-append, each-if, each-flat, load-suits, store-suits, copy-suits, loads-suit, spill-suits, copies-suit, taken-suits, popped-suits, swap-suits}
+use Rattle.xf_emission.proofs.Forms.{suits_kind, first_u1, only_u1, other-register, other-opcode}
+use Rattle.xf_emission.proofs.Items.{each-if, each-flat, load-suits, store-suits, copy-suits, loads-suit, spill-suits, copies-suit, taken-suits, popped-suits, swap-suits}
 
 not-true : (b : Bool) → not b ≡ true → b ≡ false
 not-true false e = refl
@@ -126,11 +128,11 @@ module _ (all : List Item) (s : Source) (small : (h : Home) → register s h < 2
         switch-suits k =
             let is : is_switch i.insn.op ≡ true = ap (suits_kind i.insn.op) (sym k) ∙ e.suits in
             let own : with_default i.insn.x (decoded s.method.code i.place) ≡ Ok i.insn = ap (with_default i.insn.x) e.decodes in
-            (is, own, count, each-all (IsOnce all) ls (ways-once n asks))
+            (is, own, count, All-from_Each (IsOnce all) ls (ways-once n asks))
 
         branch-suits : op_kind op ≡ branching_kind → IsItem s.method.code all (Branch (wide i.insn.op) (first_label ls))
         branch-suits k =
-            let is = parts (is_branch i.insn.op) (is_wide_jump (wide i.insn.op)) (ap (suits_kind i.insn.op) (sym k) ∙ e.suits) in
+            let is = and_parts (is_branch i.insn.op) (is_wide_jump (wide i.insn.op)) (ap (suits_kind i.insn.op) (sym k) ∙ e.suits) in
             let more : length ls ≡ suc (length (cases s.method.code i.place i.insn)) = omega (arith, count) in
             (is.1, first-once ls (length (cases s.method.code i.place i.insn)) more (ways-once n asks))
 
@@ -206,14 +208,14 @@ module _ (all : List Item) (s : Source) (small : (h : Home) → register s h < 2
   unfolding body
   body-suits i (ops.Load letter x) e = loaded-suits i (ops.Load letter x) e refl (local s i.place x)
   body-suits i (ops.Increment width x amount) e =
-      increased-suits i (ops.Increment width x amount) e refl (parts (first_u1 (layout_of i.insn.op)) (not (jumps i.insn.op)) e.suits).0 (local s i.place x)
+      increased-suits i (ops.Increment width x amount) e refl (and_parts (first_u1 (layout_of i.insn.op)) (not (jumps i.insn.op)) e.suits).0 (local s i.place x)
   body-suits i (ops.Store letter x) e = stored-suits i (ops.Store letter x) e letter (needed s (i.place + i.insn.len) x)
   body-suits i (ops.FieldRead f holders.This) e =
-      let is = parts (only_u1 (layout_of i.insn.op)) _ e.suits in
-      read-suits i (ops.FieldRead f holders.This) e refl is.0 (parts (only_u1 (layout_of (i.insn.op - 42))) (not (jumps (i.insn.op - 42))) is.1) (local s i.place 0)
+      let is = and_parts (only_u1 (layout_of i.insn.op)) _ e.suits in
+      read-suits i (ops.FieldRead f holders.This) e refl is.0 (and_parts (only_u1 (layout_of (i.insn.op - 42))) (not (jumps (i.insn.op - 42))) is.1) (local s i.place 0)
   body-suits i (ops.FieldWrite f holders.This) e =
-      let is = parts (only_u1 (layout_of i.insn.op)) _ e.suits in
-      written-suits i (ops.FieldWrite f holders.This) e refl is.0 (parts (only_u1 (layout_of (i.insn.op - 46))) (not (jumps (i.insn.op - 46))) is.1) f.kind (local s i.place 0)
+      let is = and_parts (only_u1 (layout_of i.insn.op)) _ e.suits in
+      written-suits i (ops.FieldWrite f holders.This) e refl is.0 (and_parts (only_u1 (layout_of (i.insn.op - 46))) (not (jumps (i.insn.op - 46))) is.1) f.kind (local s i.place 0)
   body-suits i (ops.Branch branches.Always) e = gone-suits i (ops.Branch branches.Always) e refl
   body-suits i (ops.Branch (branches.Zero o)) e = branch-items i (ops.Branch (branches.Zero o)) e _ refl refl
   body-suits i (ops.Branch (branches.Null o)) e = branch-items i (ops.Branch (branches.Null o)) e _ refl refl

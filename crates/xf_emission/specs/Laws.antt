@@ -10,7 +10,7 @@ use Rattle.jc_decode.specs.Listing.{listing, targets, Lists}
 use Rattle.jc_decode.specs.Symbols.{IsItem, IsOnce, IsRange, is_instruction, place_of, plain_size}
 use Rattle.jc_ops.specs.declared.operation.Operation.{Operation}
 use Rattle.jc_control.specs.Control.{IsReached}
-use Rattle.jc_control.specs.WellFormed.{IsPlace, IsWellFormed, Stands}
+use Rattle.jc_control.specs.WellFormed.{IsPlace, IsWellFormed, HasInstruction}
 use Rattle.xf_homes.specs.Order.{AreHomes, register_sum}
 use Rattle.xf_homes.specs.Walk.{operands_of}
 use Rattle.xf_plan.specs.Source.{Source}
@@ -23,11 +23,11 @@ use Rattle.xf_emission.specs.Live.{KeepsLive}
 -- the labels of a rewritten method: those of the groups of reached instructions, that of the end, those of the stubs on edges where
 -- something has to be copied, and those of the stubs of live handlers
 pub data IsLabelOf (s : Source) : ℕ → Type 0 where
-  of_place : {i : Placed} → Stands s.method.code i → is_some (s.frames i.place) ≡ true → IsLabelOf s i.place
+  of_place : {i : Placed} → HasInstruction s.method.code i → is_some (s.frames i.place) ≡ true → IsLabelOf s i.place
   of_end : IsLabelOf s (length s.method.code)
   of_stub :
       {i : Placed} {op : Operation} {n : ℕ} {t : ℤ} (k : ℕ)
-      → Stands s.method.code i
+      → HasInstruction s.method.code i
       → is_some (s.frames i.place) ≡ true
       → operation s i ≡ Ok op
       → operands_of s.world (Ok op) ≡ Some n
@@ -68,7 +68,7 @@ pub record GroupStands (s : Source) (i : Placed) : Type 0 where
   pub at : place_of i.place (items s) ≡ length (filter is_instruction before)
 
 abbrev pub GroupsStand : Type 0
-GroupsStand = (s : Source) → IsCode s → (i : Placed) → Stands s.method.code i → is_some (s.frames i.place) ≡ true → GroupStands s i
+GroupsStand = (s : Source) → IsCode s → (i : Placed) → HasInstruction s.method.code i → is_some (s.frames i.place) ≡ true → GroupStands s i
 
 -- ---- stubs
 
@@ -84,7 +84,7 @@ StubsStand =
     (s : Source)
     → IsCode s
     → (i : Placed) (op : Operation) (n k : ℕ) (t : ℤ)
-    → Stands s.method.code i
+    → HasInstruction s.method.code i
     → is_some (s.frames i.place) ≡ true
     → operation s i ≡ Ok op
     → operands_of s.world (Ok op) ≡ Some n

@@ -3,7 +3,6 @@
 use Rattle.std.proofs.Common.{◌≡◌, ℕ, suc, ◌+◌, ◌*◌, ◌<◌, ◌≤◌, Bool, true, false, if◌then◌else◌, inl, List, [], ◌∷◌, ◌++◌, length, map, reverse, refl, sym, ap, ◌∙◌, subst, arith}
 use Rattle.std.specs.Prelude.{Option, Some, None, Ok, IfSome, IsSomeAnd, is_some, slice_get}
 use Rattle.std.proofs.lemmas.List.{length-map, length-reverse}
-use Rattle.std.proofs.lemmas.Option.{slice_get_within}
 use Rattle.jc_base.specs.declared.ty.Ty.{Ty}
 use Rattle.jc_base.specs.declared.ty.Ty.TheVariants.{Top}
 use Rattle.jc_base.specs.Class.{ClassTable}
@@ -14,7 +13,7 @@ use Rattle.jc_decode.specs.declared.symbols.Item.{Item}
 use Rattle.jc_decode.specs.Listing.{listing}
 use Rattle.jc_decode.specs.Standing.{AreSteps}
 use Rattle.jc_control.specs.Control.{IsReached, falls_through}
-use Rattle.jc_control.specs.WellFormed.{Stands}
+use Rattle.jc_control.specs.WellFormed.{HasInstruction}
 use Rattle.jc_ops.specs.declared.operation.Operation.{Operation}
 use Rattle.jc_ops.specs.Next.{falls_from}
 use Rattle.jc_rules.specs.Demand.{Frame as Types}
@@ -35,7 +34,8 @@ use Rattle.xf_homes.specs.declared.home.Home.{Home}
 use Rattle.xf_homes.specs.Home.{KeepsStack, register_count}
 use Rattle.xf_homes.specs.Laws.{HasRegister}
 use Rattle.xf_homes.specs.Order.{register_sum}
-use Rattle.xf_homes.specs.Value.{value_at, value_of, width}
+use Rattle.xf_homes.specs.Value.{width}
+use Rattle.xf_homes.proofs.Meeting.{value-inside}
 use Rattle.xf_plan.specs.Source.{Source}
 use Rattle.xf_plan.specs.Plan.{cells, is_leader, needed, operation}
 use Rattle.xf_emission.specs.declared.origin.Origin.TheVariants.{After}
@@ -52,7 +52,7 @@ use Rattle.xf_groups.specs.Laid.{IsLaidIn, body_at, count_of, group_at, rename, 
 use Rattle.xf_groups.specs.Beside.{AreEqualBut, AreOf, HeldOrWaits, IsAtGroup, IsTypedAt, SameUnder}
 use Rattle.xf_groups.specs.Comes.{AreAtGroup}
 use Rattle.xf_groups.specs.Body.{AreAfter}
-use Rattle.xf_groups.specs.Steps.{GroupsFollow, GroupsStandAtSteps, StandFrom}
+use Rattle.xf_groups.specs.Steps.{GroupsFollow, GroupsStandAtSteps, ItemsStandFrom}
 use Rattle.xf_groups.proofs.Context.{steps-are, target-at, target-room, typing-of}
 use Rattle.xf_groups.proofs.Following.{Next, next-of, steps-here}
 use Rattle.xf_groups.proofs.Moving.{copies-move, count-moves, moves-stand, spill-count, spill-moves}
@@ -70,15 +70,6 @@ runs-then w n m t u o first more = continues-on tagged w n m (running t) (runnin
 pub same-count : (t : ClassTable) {xs ys : List Ty} → CellsBelow t xs ys → length xs ≡ length ys
 same-count t no_cells = refl
 same-count t (more_cells b r) = ap suc (same-count t r)
-
--- a value begins with a cell that is there
-value-there : (ts : List Ty) (n : ℕ) (ty : Ty) → value_at ts n ≡ Some ty → n < length ts
-unfolding value_at
-value-there ts n ty e = by (slice_get ts n) refl e
-  where
-    by : (o : Option Ty) → slice_get ts n ≡ o → value_of o (slice_get ts (n + 1)) ≡ Some ty → n < length ts
-    by None h e = absurd (cc)
-    by (Some a) h e = slice_get_within ts n a h
 
 module _ (v w : Linked) (s : Source) (place : ℕ → ℕ) (laid : IsLaidIn v w s place) where
   -- ---- where the target stands
@@ -168,7 +159,7 @@ module _ (v w : Linked) (s : Source) (place : ℕ → ℕ) (laid : IsLaidIn v w 
         by None e some = absurd (cc)
         by (Some f) e some =
             let n = needs s laid.world laid.planned p x f h e among in
-            let inside = value-there n.types h.slot h.ty n.value in
+            let inside = value-inside n.types h.slot h.ty n.value in
             let same = same-count s.world.classes n.above in
             let count : length f.regs ≡ register_count s.method.rec =
             subst (λ o. IfSome o (λ (g : Types). length g.regs ≡ register_count s.method.rec)) e (laid.planned.registers p) in
@@ -228,7 +219,7 @@ module _
 
   module _
       (i : Placed) (op : Operation) (z t y u : State Cell)
-      (stands : Stands s.method.code i) (reached : is_some (s.frames i.place) ≡ true) (does : operation s i ≡ Ok op)
+      (stands : HasInstruction s.method.code i) (reached : is_some (s.frames i.place) ≡ true) (does : operation s i ≡ Ok op)
       (falls : falls_from op ≡ true) (after : AreAfter s place i.place op z t y u) (typed : IsTypedAt v s y)
       (here : (top y).place ≡ i.place + i.insn.len)
       (at : (top u).place ≡ place (body_at s i.place + count_of (body s i op)))
@@ -315,7 +306,7 @@ module _
         let cs = copies s (After i.place op) q in
         let is : fallen s i op ≡ cs = fallen-is ∙ ap (λ b. (if b then spill s (cells s q) else []) ++ cs) e in
         let own = steps-here v w s place laid stand follow i op stands reached does in
-        let st : StandFrom s m cs = stand-as s m (fallen s i op) cs is own.fallen_steps in
+        let st : ItemsStandFrom s m cs = stand-as s m (fallen s i op) cs is own.fallen_steps in
         let moves = copies-move s (After i.place op) q in
         let size : count_of cs ≡ length (insns cs) = count-moves cs moves in
         let all = ap count_of is in
@@ -349,7 +340,7 @@ module _
         let sp = spill s (cells s q) in
         let is : fallen s i op ≡ sp ++ cs = fallen-is ∙ ap (λ b. (if b then sp else []) ++ cs) e in
         let own = steps-here v w s place laid stand follow i op stands reached does in
-        let whole : StandFrom s m (sp ++ cs) = stand-as s m (fallen s i op) (sp ++ cs) is own.fallen_steps in
+        let whole : ItemsStandFrom s m (sp ++ cs) = stand-as s m (fallen s i op) (sp ++ cs) is own.fallen_steps in
         let moves = copies-move s (After i.place op) q in
         let first_moves = spill-moves s (cells s q) in
         let size : count_of cs ≡ length (insns cs) = count-moves cs moves in
@@ -374,7 +365,7 @@ module _
         still-after v w s place laid needs i.place q op (top y) (top u) (top u1) from_p typed.reached
         (λ h known held. held-as s (top y).registers (record (top u) { registers = a.registers }) (top u1) h refl
         (a.others (top y).registers h known.has known.slot held)) after.holds in
-        let rest : StandFrom s n cs =
+        let rest : ItemsStandFrom s n cs =
         stand-at s (m + count_of sp) n cs (ap (λ k. m + k) first_size) (stand-last s m sp cs whole) in
         let c = edges place (steps_of s) u1 n s (After i.place op) q (top y) laid.world laid.planned
         (beside v w s place laid y u1 typed after.equal.heap of1) leads

@@ -15,7 +15,7 @@ use Rattle.jc_decode.specs.Laws.{InstructionsAreListed}
 use Rattle.jc_decode.specs.Listing.{listing, targets}
 use Rattle.jc_decode.specs.Standing.{AreSteps}
 use Rattle.jc_decode.specs.Symbols.{jump, place_of}
-use Rattle.jc_control.specs.WellFormed.{IsPlace, IsTargetPlace, Stands}
+use Rattle.jc_control.specs.WellFormed.{IsPlace, IsTargetPlace, HasInstruction}
 use Rattle.jc_ops.specs.declared.operation.Branch.TheVariants as branches
 use Rattle.jc_ops.specs.declared.operation.Operation.{Operation}
 use Rattle.jc_ops.specs.declared.operation.Operation.TheVariants as ops
@@ -133,7 +133,7 @@ pub data ForkComes (s : Source) (place : ℕ → ℕ) (i : Placed) (op : Operati
       → (top x).place ≡ place (place_of (lead s i.place op n k (pos (top y).place)) (items s))
       → ForkComes s place i op n m z u y (running x)
 
-same-state : (a b : State Cell) → running a ≡ running b → a ≡ b
+pub same-state : (a b : State Cell) → running a ≡ running b → a ≡ b
 same-state a b e = cc
 
 pos-same : (a b : ℕ) → Some (pos a) ≡ Some (pos b) → a ≡ b
@@ -145,7 +145,7 @@ module _
     (listed : InstructionsAreListed)
     (w : Linked) (s : Source) (place : ℕ → ℕ) (laid : IsLaidIn v w s place) (executed : StepsExecute w)
     (i : Placed) (op : Operation) (n m : ℕ) (some : operands_of v (Ok op) ≡ Some n)
-    (stands : Stands s.method.code i) (j : JumpStep s i op n m)
+    (stands : HasInstruction s.method.code i) (j : JumpStep s i op n m)
     (labels_inside :
     (k : ℕ) (t : ℤ)
     → slice_get (targets s.method.code i) k ≡ Some t

@@ -1,7 +1,7 @@
 -- From a step of a group the same handlers catch as from its place, in the same order.
 use Rattle.std.proofs.Common.{◌≡◌, ℕ, zero, suc, ◌+◌, ◌-◌, ◌<◌, ◌≤◌, ◌&&◌, Bool, true, false, if◌then◌else◌, cond, inl, inr, List, [], ◌∷◌, ◌++◌, length, map, flat_map, refl, sym, ap, ◌∙◌, subst, arith, append_assoc}
 use Rattle.std.specs.Prelude.{Option, Some, None, Ok, ◌==◌, find, is_some, nat_le, nat_lt, slice_get}
-use Rattle.std.proofs.lemmas.Bool.{false≢true}
+use Rattle.std.proofs.lemmas.Bool.{false≢true, and_parts, and_from}
 use Rattle.std.proofs.lemmas.Bool.Decides.{nat_tests}
 use Rattle.std.proofs.lemmas.List.{length-append}
 use Rattle.std.proofs.lemmas.List.Concat.{flat_map-append}
@@ -18,15 +18,15 @@ use Rattle.jc_decode.specs.declared.symbols.Range.{Range}
 use Rattle.jc_decode.specs.Laws.{InstructionsAreListed}
 use Rattle.jc_decode.specs.Listing.{listing}
 use Rattle.jc_decode.specs.Symbols.{IsOnce, handler, place_of}
+use Rattle.jc_decode.proofs.Elements.{Contains-slice_get}
 use Rattle.jc_control.specs.Control.{Covers, IsReached}
-use Rattle.jc_control.specs.WellFormed.{IsBoundary, IsHandlerOf, IsPlace, Stands}
+use Rattle.jc_control.specs.WellFormed.{IsBoundary, IsHandlerOf, IsPlace, HasInstruction}
 use Rattle.jc_ops.specs.declared.operation.Operation.{Operation}
 use Rattle.vm_store.specs.declared.cell.Cell.{Cell}
 use Rattle.vm_store.specs.State.{Frame}
 use Rattle.vm_step.specs.Methods.{handlers_of, of_method}
 use Rattle.vm_step.specs.Raising.{catches, handler_for}
 use Rattle.xf_landed.specs.Laid.{catching, class_by}
-use Rattle.xf_landed.proofs.Steps.{contains-at}
 use Rattle.xf_plan.specs.Source.{Source}
 use Rattle.xf_plan.specs.Plan.{first_reached, operation}
 use Rattle.xf_emission.specs.declared.origin.Origin.TheVariants.{Start}
@@ -78,7 +78,7 @@ module _
   -- and so after each of them
   group-before-end :
       (i : Placed)
-      → Stands s.method.code i
+      → HasInstruction s.method.code i
       → is_some (s.frames i.place) ≡ true
       → group_at s i.place + count_of (group s i) ≤ place_of (length s.method.code) (items s)
   group-before-end i stands reached =
@@ -111,10 +111,6 @@ module _
 
 -- ---- tests of two numbers
 
-both-true : (x y : Bool) → x ≡ true → y ≡ true → (x && y) ≡ true
-both-true true y a b = b
-both-true false y a b = absurd (cc)
-
 first-false : (x y : Bool) → x ≡ false → (x && y) ≡ false
 first-false true y a = absurd (cc)
 first-false false y a = refl
@@ -122,10 +118,6 @@ first-false false y a = refl
 second-false : (x y : Bool) → y ≡ false → (x && y) ≡ false
 second-false true y b = b
 second-false false y b = refl
-
-parts-true : (x y : Bool) → (x && y) ≡ true → (x ≡ true) × (y ≡ true)
-parts-true true y e = (refl, e)
-parts-true false y e = absurd (cc)
 
 -- ---- one place, and a step of its group
 
@@ -159,7 +151,7 @@ module _
           omega (arith, more)
       by false e = let same : a ≡ b = grind (arith, nat_tests, e, le) in let k = ap place same in omega (arith, k)
 
-  module _ (i : Placed) (stands : Stands s.method.code i) (reached : is_some (s.frames i.place) ≡ true) where
+  module _ (i : Placed) (stands : HasInstruction s.method.code i) (reached : is_some (s.frames i.place) ≡ true) where
     i-inside : i.place < length s.method.code
     i-inside = (listed s.method.code).inside i stands
 
@@ -231,7 +223,7 @@ module _
       omega (arith, after, some, k)
     where
       group-some :
-          (j : Placed) (op : Operation) → Stands s.method.code j → is_some (s.frames j.place) ≡ true → operation s j ≡ Ok op
+          (j : Placed) (op : Operation) → HasInstruction s.method.code j → is_some (s.frames j.place) ≡ true → operation s j ≡ Ok op
           → 1 ≤ count_of (group s j)
       group-some j op st r does =
           let g = steps-here v w s place laid stand follow j op st r does in
@@ -240,7 +232,7 @@ module _
           omega (arith, size, some)
 
   module _
-      (i : Placed) (stands : Stands s.method.code i) (reached : is_some (s.frames i.place) ≡ true)
+      (i : Placed) (stands : HasInstruction s.method.code i) (reached : is_some (s.frames i.place) ≡ true)
       (n : ℕ) (inside : IsInGroup s i n) (class : ℕ) where
     -- a step of the group
     n-within : n < length (steps_of s)
@@ -293,7 +285,7 @@ module _
             + (place (label_at (first_reached s h.end)) - place (label_at (first_reached s h.start)))) ≡ true =
             grind (arith, nat_tests, sum) in
             let three : nat_le h.start i.place ≡ true = grind (arith, nat_tests, le) in
-            both-true _ _ one two ∙ sym (both-true _ _ three k)
+            and_from _ _ one two ∙ sym (and_from _ _ three k)
         by false false e k =
             let le : h.end ≤ i.place = grind (arith, nat_tests, k) in
             let from_end = starts-by i stands reached h.end le in
@@ -366,7 +358,7 @@ module _
         let longer = length-append before (h ∷ []) in
         let later = search-all (before ++ h ∷ []) rest (suc m) (omega (arith, e, longer))
         (append_assoc before (h ∷ []) rest ∙ whole) in
-        let is = All-contains (IsHandlerOf s.method.code) hs h laid.planned.frames.formed.handlers (contains-at hs m h at) in
+        let is = All-contains (IsHandlerOf s.method.code) hs h laid.planned.frames.formed.handlers (Contains-slice_get hs m h at) in
         by (is_live s h) refl at is later
       where
         found-here : (before : List Handler) (h : Handler) (rest : List Handler) → slice_get (before ++ h ∷ rest) (length before) ≡ Some h
@@ -378,14 +370,14 @@ module _
         test-same at is live =
             let b = bounds h is in
             let covered = covered-same h live b.0 b.1 in
-            let same : class_by hs h.index ≡ h.class = laid.catches h (contains-at hs m h at) in
+            let same : class_by hs h.index ≡ h.class = laid.catches h (Contains-slice_get hs m h at) in
             ap (λ x. x && is_on_chain v.classes (class_by hs h.index) class) covered
             ∙ ap (λ c. (nat_le h.start i.place && nat_lt i.place h.end) && is_on_chain v.classes c class) same
 
         covers-of : own_test h ≡ true → Covers h i.place
         covers-of e =
-            let one = (parts-true _ _ e).0 in
-            let two = parts-true (nat_le h.start i.place) (nat_lt i.place h.end) one in
+            let one = (and_parts _ _ e).0 in
+            let two = and_parts (nat_le h.start i.place) (nat_lt i.place h.end) one in
             let le = two.0 in
             let lt = two.1 in
             record { «from» = grind (arith, nat_tests, le); before = grind (arith, nat_tests, lt) }

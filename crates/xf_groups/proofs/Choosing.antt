@@ -2,7 +2,7 @@
 use Rattle.std.proofs.Common.{◌≡◌, ℕ, suc, ◌+◌, ◌<◌, ◌≤◌, Bool, true, false, if◌then◌else◌, List, [], ◌∷◌, length, map, refl, sym, ap, ◌∙◌, subst, arith}
 use Rattle.std.specs.Prelude.{ℤ, pos, negsuc, All, Contains, Option, Some, None, Ok, IsSomeAnd, IfSome, is_some, slice_get, ⊤}
 use Rattle.std.proofs.lemmas.Bool.{false≢true}
-use Rattle.std.proofs.lemmas.List.{length-map}
+use Rattle.std.proofs.lemmas.List.{length-map, nil_from_length}
 use Rattle.std.proofs.lemmas.List.Elements.{All-contains}
 use Rattle.jc_base.specs.Each.{Each}
 use Rattle.jc_base.specs.World.{Linked, IsWorld}
@@ -12,7 +12,7 @@ use Rattle.jc_decode.specs.Laws.{InstructionsAreListed}
 use Rattle.jc_decode.specs.Listing.{target, targets}
 use Rattle.jc_decode.specs.Symbols.{place_of}
 use Rattle.jc_control.specs.Control.{IsLeader, IsReached, IsSuccessor, follows, jumped, led_to}
-use Rattle.jc_control.specs.WellFormed.{IsPlace, IsTargetPlace, Stands}
+use Rattle.jc_control.specs.WellFormed.{IsPlace, IsTargetPlace, HasInstruction}
 use Rattle.jc_ops.specs.declared.operation.Branch.TheVariants as branches
 use Rattle.jc_ops.specs.declared.operation.Operation.{Operation}
 use Rattle.jc_ops.specs.declared.operation.Operation.TheVariants as ops
@@ -21,6 +21,7 @@ use Rattle.jc_ops.specs.Sound.{OperationsAreDecided}
 use Rattle.jc_rules.specs.Demand.{Frame as Types}
 use Rattle.jc_rules.specs.Flow.{FrameBelow}
 use Rattle.jc_base.specs.declared.ty.Ty.TheVariants.{Top}
+use Rattle.jc_decode.proofs.Elements.{Contains-slice_get}
 use Rattle.vm_sound.proofs.Going.{jumps-on}
 use Rattle.vm_sound.specs.Frames.{least_types, types_in}
 use Rattle.vm_store.specs.declared.cell.Cell.{Cell}
@@ -47,8 +48,8 @@ use Rattle.vm_alike.proofs.Settling.{unless-none}
 use Rattle.xf_homes.specs.declared.home.Home.{Home}
 use Rattle.xf_homes.specs.Order.{register_sum}
 use Rattle.xf_homes.specs.Walk.{operands_of}
+use Rattle.xf_homes.proofs.Rising.{each-map}
 use Rattle.xf_landed.specs.Laws.{DemandsAreKept, OperationsAreKept}
-use Rattle.xf_landed.proofs.Steps.{contains-at}
 use Rattle.xf_plan.specs.Source.{Source}
 use Rattle.xf_plan.specs.Plan.{cells, is_leader, needed, operation}
 use Rattle.xf_emission.specs.declared.origin.Origin.TheVariants.{After}
@@ -57,6 +58,7 @@ use Rattle.xf_emission.specs.Emission.{items}
 use Rattle.xf_emission.specs.Group.{body, fall, fall_by, fall_over, fallen}
 use Rattle.xf_emission.specs.Jump.{goto, is_over, jump_to, label_by, lead, place as place_named, stub, stub_label, stub_of, taken, under}
 use Rattle.xf_typing.specs.Edges.{AreMatched, CellsFillStack, ForksMatch, LeadsTo, NeededHaveHomes, leads_after, more_matched, none_matched}
+use Rattle.vm_sound.proofs.Branches.{targets-are}
 use Rattle.xf_held.specs.Edges.{CellsAreFew, CellsRun, CopiesAreFew, EdgesRun, HoldsAfter, KeptStacksStay, LeadersLoad, StacksSpill}
 use Rattle.xf_held.specs.Held.{Held, Holds, HoldsLocals, slots}
 use Rattle.xf_held.specs.Laws.{KeptRunAlike, LocalsStay, NamesNoneWritesNone, StepsExecute}
@@ -65,7 +67,7 @@ use Rattle.xf_groups.specs.Beside.{AreEqualBut, AreOf, IsAtGroup, IsTypedAt, Mov
 use Rattle.xf_groups.specs.Comes.{AreAtGroup, ComesToGroup, ComesWithin, GroupRuns, group_stays}
 use Rattle.xf_groups.specs.Body.{AreAfter}
 use Rattle.xf_groups.specs.Laws.{RenamesOneToOne}
-use Rattle.xf_groups.specs.Steps.{GroupsFollow, GroupsStandAtSteps, StandFrom, StubsStandAtSteps}
+use Rattle.xf_groups.specs.Steps.{GroupsFollow, GroupsStandAtSteps, ItemsStandFrom, StubsStandAtSteps}
 use Rattle.xf_groups.proofs.Arriving.{falls-arrive, leader-keeps, runs-then, same-count}
 use Rattle.xf_groups.proofs.Branching.{AfterFork, IsLeading, leading, ForkComes, fork-steps, fork_falls, fork_leads}
 use Rattle.xf_groups.proofs.Context.{method-of, reached-some, some-reached, source-code, typing-of}
@@ -76,11 +78,9 @@ use Rattle.xf_groups.proofs.Forking.{body-branch, branch-alone, labels_of, taken
 use Rattle.xf_groups.proofs.Going.{group-inside}
 use Rattle.xf_groups.proofs.Grouping.{no-fault, same-method, turn-by}
 use Rattle.xf_groups.proofs.Placing.{count-append}
-use Rattle.xf_groups.proofs.Plain.{each-given, frames-are, one-step}
+use Rattle.xf_groups.proofs.Plain.{frames-are, one-step}
 use Rattle.xf_groups.proofs.Standing.{stand-as, stand-inside}
-use Rattle.xf_groups.proofs.Starting.{no-cells}
 use Rattle.xf_groups.proofs.Taking.{led-arrives}
-use Rattle.xf_groups.proofs.Turning.{targets-are}
 
 -- ---- a branch goes on
 
@@ -187,7 +187,7 @@ module _
   -- the labels to which a reached branch leads stand before steps
   pub leads-inside :
       (i : Placed) (op : Operation) (n : ℕ)
-      → Stands s.method.code i
+      → HasInstruction s.method.code i
       → is_some (s.frames i.place) ≡ true
       → operation s i ≡ Ok op
       → operands_of s.world (Ok op) ≡ Some n
@@ -196,7 +196,7 @@ module _
       → place_of (lead s i.place op n k t) (items s) < length (steps_of s)
   unfolding lead stub
   leads-inside i op n stands reached does some k t target_is =
-      let c = contains-at (targets s.method.code i) k t target_is in
+      let c = Contains-slice_get (targets s.method.code i) k t target_is in
       by t c target_is
       (All-contains (IsTargetPlace s.method.code) (targets s.method.code i) t ((typing-of v w s place laid).formed.targets i stands) c)
     where
@@ -223,8 +223,8 @@ module _
           named (x ∷ xs) e there found =
               let st = stubs s i op n k (pos q) laid.planned.code stands reached does some found
               (λ none. absurd (let bad = sym none ∙ e in not-none x xs bad)) in
-              let shown : StandFrom s (place_of (stub_label i.place k) (items s)) (stub_of (stub_label i.place k) q (x ∷ xs)) =
-              subst (λ us. StandFrom s (place_of (stub_label i.place k) (items s)) (stub_of (stub_label i.place k) q us)) e st in
+              let shown : ItemsStandFrom s (place_of (stub_label i.place k) (items s)) (stub_of (stub_label i.place k) q (x ∷ xs)) =
+              subst (λ us. ItemsStandFrom s (place_of (stub_label i.place k) (items s)) (stub_of (stub_label i.place k) q us)) e st in
               let all = stand-inside s (place_of (stub_label i.place k) (items s)) (stub_of (stub_label i.place k) q (x ∷ xs)) shown in
               let both = count-append (x ∷ xs) (goto q ∷ []) in
               let one : count_of (goto q ∷ []) ≡ 1 = refl in
@@ -247,7 +247,7 @@ module _
       subst (λ o. IsSomeAnd o (FrameBelow v.classes (types_in v.classes Top (kinds y) (top y)))) g.1 typed.below in
       let one = same-count v.classes below.stack in
       let two : length (least_types v.classes Top (kinds y) (top y).stack) ≡ length (top y).stack = length-map (top y).stack _ in
-      no-cells (top y).stack (omega (arith, zero_cells, filled, one, two))
+      nil_from_length (top y).stack (omega (arith, zero_cells, filled, one, two))
 
   -- after the step of a branch with nothing under its operands
   alone-after :
@@ -258,7 +258,7 @@ module _
       → StaysTyped v s o
       → o ≡ running y
       → SameUnder z y
-      → Stands s.method.code i
+      → HasInstruction s.method.code i
       → is_some (s.frames i.place) ≡ true
       → operation s i ≡ Ok op
       → operands_of s.world (Ok op) ≡ Some n
@@ -281,7 +281,7 @@ module _
         stack = a.stack;
         holds = record {
           stored = λ l e. absurd (false≢true (sym (unstored-fork s.world op n some l) ∙ e));
-          others = λ l. each-given (Holds s (top y).registers (top x)) _ (λ h held free. held) (needed s i.place l) (a.locals l);
+          others = λ l. each-map (Holds s (top y).registers (top x)) _ (λ h held free. held) (needed s i.place l) (a.locals l);
         };
       } in
       let c = falls-arrive v w s place laid stand follow needs fill spills stay edges few_copies few_cells i op z u y x stands reached does
@@ -310,7 +310,7 @@ module _
       let going : IsRunning y = let e = ap length first.frames in omega (arith, e) in
       let typed : IsTypedAt v s y = (subst (StaysTyped v s) is stays) going method in
       let q : ℕ = (top y).place in
-      let among = contains-at (targets s.method.code i) k (pos q) own in
+      let among = Contains-slice_get (targets s.method.code i) k (pos q) own in
       let from_p : IsReached s.method i.place = some-reached v w s place laid i.place reached in
       let leader : is_leader s q ≡ true = (laid.planned.leaders q).1 (led_to stands from_p among) in
       let leads = leads_after stands from_p does (jumped among) in
@@ -323,7 +323,7 @@ module _
       let before : HoldsAfter s i.place op q (top y) (top x) =
       record {
         stored = λ l e. absurd (false≢true (sym (unstored-fork s.world op n some l) ∙ e));
-        others = λ l. each-given (Holds s (top y).registers (top x)) _ (λ h held free. held) (needed s i.place l) (a.locals l);
+        others = λ l. each-map (Holds s (top y).registers (top x)) _ (λ h held free. held) (needed s i.place l) (a.locals l);
       } in
       let c = led-arrives v w s place laid stand follow executed needs fill cells_run edges few_copies few_cells i.place n op y x typed
       a.equal a.of leader leads from_p m bare (subst (Each (Holds s (slots (top y)) (top x))) (sym none) tt) before stubs i k refl stands does

@@ -14,7 +14,7 @@ use Rattle.jc_decode.specs.Listing.{listing}
 use Rattle.jc_decode.specs.Standing.{AreSteps}
 use Rattle.jc_control.specs.Control.{IsReached, falls_through, follows}
 use Rattle.jc_control.specs.Method.{IsMethodOf}
-use Rattle.jc_control.specs.WellFormed.{IsPlace, Stands}
+use Rattle.jc_control.specs.WellFormed.{IsPlace, HasInstruction}
 use Rattle.jc_ops.specs.declared.operation.Operation.{Operation}
 use Rattle.jc_ops.specs.Resolve.{Resolves}
 use Rattle.jc_rules.specs.declared.effect.Mode.TheVariants.{Flow}
@@ -66,7 +66,7 @@ module _ (v w : Linked) (s : Source) (place : ℕ → ℕ) (laid : IsLaidIn v w 
   -- a reached place is an instruction's, which has an operation
   pub record Here (p : ℕ) : Type 0 where
     pub instruction : Placed
-    pub stands : Stands s.method.code instruction
+    pub stands : HasInstruction s.method.code instruction
     pub at : instruction.place ≡ p
     pub op : Operation
     pub does : operation s instruction ≡ Ok op

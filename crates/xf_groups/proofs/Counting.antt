@@ -8,6 +8,7 @@ use Rattle.jc_base.specs.Each.{Each, IsAmong}
 use Rattle.jc_base.specs.Laws.{IsOrderOfTypes}
 use Rattle.jc_base.specs.Order.{Below}
 use Rattle.jc_base.specs.World.{Linked}
+use Rattle.jc_base.proofs.Lists.{All-slice_get}
 use Rattle.jc_decode.specs.declared.insn.Insn.{Insn}
 use Rattle.jc_decode.specs.declared.insn.Placed.{Placed}
 use Rattle.jc_decode.specs.declared.symbols.Item.TheVariants.{Plain}
@@ -46,13 +47,13 @@ use Rattle.xf_emission.specs.Move.{load_op}
 use Rattle.xf_typing.specs.Planned.{IsKept, IsPlanned}
 use Rattle.xf_typing.specs.Edges.{NeededHaveHomes}
 use Rattle.xf_typing.specs.Whole.{DerivedAreWhole}
-use Rattle.xf_typing.proofs.Below.{get-all, loads-same, value-below}
+use Rattle.xf_typing.proofs.Below.{loads-same, value-below}
 use Rattle.xf_typing.proofs.Carried.{is-high}
 use Rattle.xf_typing.proofs.Ready.{IsValueAt, value-is}
 use Rattle.xf_typing.proofs.Rows.{increased-at}
 use Rattle.xf_held.specs.Held.{Holds, HoldsLocals}
 use Rattle.xf_held.specs.Laws.{AreApart, HomesStay, IncrementsRunAlike, StepsExecute, WrittenHold}
-use Rattle.xf_held.specs.Moves.{CanRun, letter_of, size}
+use Rattle.xf_held.specs.Moves.{IsExecutable, letter_of, size}
 use Rattle.xf_held.proofs.Beside.{among-each, each-among}
 use Rattle.xf_held.proofs.Copies.{wide}
 use Rattle.xf_groups.specs.Laid.{IsLaidIn, body_at, count_of, rename}
@@ -156,7 +157,7 @@ module _
                   let same : k.slot + 1 ≡ x = omega (arith, near, lt) in
                   let u : below.0 ≡ IntHigh =
                   is-high v.classes types below.0 (subst (Below v.classes below.0) high below.2)
-                  (get-all IsNotBottom home.frame.regs k.slot below.0 home.full (value-is home.frame.regs k.slot below.0 below.1).first) in
+                  (All-slice_get IsNotBottom home.frame.regs k.slot below.0 home.full (value-is home.frame.regs k.slot below.0 below.1).first) in
                   let low : slice_get home.frame.regs (k.slot + 1) ≡ Some IntLow =
                   (value-is home.frame.regs k.slot below.0 below.1).second u in
                   let is : home.ty ≡ IntLow =
@@ -190,7 +191,7 @@ module _
           some-of below.0 home.ty (sym below.1 ∙ (ap (value_at home.frame.regs) same ∙ home.value)) in
           let le : Below v.classes home.ty k.ty = subst (λ a. Below v.classes a k.ty) u below.2 in
           let loads = loads-same v.classes types home.ty k.ty le
-          (get-all IsNotBottom home.frame.regs x home.ty home.full own.first) (kept-no-top k.ty kept) in
+          (All-slice_get IsNotBottom home.frame.regs x home.ty home.full own.first) (kept-no-top k.ty kept) in
           let ty : home.ty ≡ k.ty = number-type counted home.ty k.ty home.letter_is loads in
           inl (ap (λ r. record { slot = r; ty = k.ty }) same ∙ ap (λ a. record { slot = x; ty = a }) (sym ty))
 
@@ -251,7 +252,7 @@ still-held stay written v e s x r counted amount h slot_is register_is wide_is h
 module _
     (v : Linked) (alike_steps : StepsAreAlike v) (operations : OperationsAreKept) (stand : GroupsStandAtSteps) (follow : GroupsFollow)
     (one_to_one : RenamesOneToOne v) (run_alike : IncrementsRunAlike Cell) (stay : HomesStay Cell) (written : WrittenHold Cell)
-    (executed : (w : Linked) → CanRun w → StepsExecute w) (listed : InstructionsAreListed)
+    (executed : (w : Linked) → IsExecutable w → StepsExecute w) (listed : InstructionsAreListed)
     (types : IsOrderOfTypes v.classes) (whole : DerivedAreWhole v) (kept : NeededAreKept) (serves : HomesServe v)
     (needs : NeededHaveHomes v) where
   -- an increment takes one step, in the home

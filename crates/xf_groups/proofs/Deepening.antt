@@ -10,8 +10,9 @@ use Rattle.jc_decode.specs.declared.symbols.Item.{Item}
 use Rattle.jc_decode.specs.Laws.{InstructionsAreListed}
 use Rattle.jc_decode.specs.Listing.{targets}
 use Rattle.jc_decode.specs.Symbols.{place_of}
+use Rattle.jc_decode.proofs.Elements.{Contains-slice_get}
 use Rattle.jc_control.specs.Control.{IsReached, IsSuccessor, falls_through, jumped, led_to}
-use Rattle.jc_control.specs.WellFormed.{IsPlace, Stands}
+use Rattle.jc_control.specs.WellFormed.{IsPlace, HasInstruction}
 use Rattle.jc_ops.specs.declared.operation.Operation.{Operation}
 use Rattle.jc_ops.specs.Next.{falls_from}
 use Rattle.jc_ops.specs.Sound.{OperationsAreDecided}
@@ -32,8 +33,8 @@ use Rattle.xf_homes.specs.declared.home.Home.{Home}
 use Rattle.xf_homes.specs.Home.{KeepsStack}
 use Rattle.xf_homes.specs.Laws.{HasRegister}
 use Rattle.xf_homes.specs.Walk.{operands_of}
+use Rattle.xf_homes.proofs.Rising.{each-map}
 use Rattle.xf_landed.specs.Laws.{DemandsAreKept, OperationsAreKept}
-use Rattle.xf_landed.proofs.Steps.{contains-at}
 use Rattle.xf_plan.specs.Source.{Source}
 use Rattle.xf_plan.specs.Plan.{cells, is_leader, needed, operation}
 use Rattle.xf_emission.specs.declared.origin.Origin.TheVariants.{After}
@@ -44,6 +45,7 @@ use Rattle.xf_emission.specs.Jump.{branch, is_over, jump_to, lead, leads, operan
 use Rattle.xf_emission.specs.Move.{loads, spill}
 use Rattle.xf_typing.specs.Edges.{CellsFillStack, ForksAreCut, ForksMatch, IsForkedAt, LeadsTo, NeededHaveHomes, leads_after}
 use Rattle.xf_typing.proofs.Forking.{each-left}
+use Rattle.vm_sound.proofs.Branches.{targets-are}
 use Rattle.xf_held.specs.Edges.{CellsAreFew, CellsRun, CopiesAreFew, EdgesRun, HoldsAfter, IsBeside, KeptStacksStay, LeadersLoad, OperandsLoad, StacksSpill, UnderHold, UnderLoads, insns, moved}
 use Rattle.xf_held.specs.Held.{Held, Holds, HoldsLocals, slots}
 use Rattle.xf_held.specs.Laws.{KeptRunAlike, LocalsStay, NamesNoneWritesNone, StepsExecute}
@@ -53,7 +55,7 @@ use Rattle.xf_groups.specs.Laid.{IsLaidIn, body_at, count_of, group_at, rename, 
 use Rattle.xf_groups.specs.Beside.{AreEqualBut, AreOf, IsAtGroup, IsTypedAt, MovesTop, SameUnder, StaysTyped}
 use Rattle.xf_groups.specs.Comes.{AreAtGroup, ComesToGroup, ComesWithin, GroupRuns, group_stays}
 use Rattle.xf_groups.specs.Laws.{RenamesOneToOne}
-use Rattle.xf_groups.specs.Steps.{GroupsFollow, GroupsStandAtSteps, StandFrom, StubsStandAtSteps}
+use Rattle.xf_groups.specs.Steps.{GroupsFollow, GroupsStandAtSteps, ItemsStandFrom, StubsStandAtSteps}
 use Rattle.xf_groups.proofs.Arriving.{at-step, beside, kept-registers, leader-holds, leader-keeps, needed-local, other-holds, runs-then, same-count}
 use Rattle.xf_groups.proofs.Branching.{AfterFork, ForkComes, fork-steps, fork_falls, fork_leads}
 use Rattle.xf_groups.proofs.Choosing.{frame-at, jumps-too, leads-inside, one-jump, unstored-fork}
@@ -66,10 +68,9 @@ use Rattle.xf_groups.proofs.Forking.{body-branch, labels_of}
 use Rattle.xf_groups.proofs.Grouping.{Turn, no-fault, same-method, turn-by}
 use Rattle.xf_groups.proofs.Moving.{copies-move, count-moves, loads-count, loads-move, moves-stand, spill-count, spill-moves}
 use Rattle.xf_groups.proofs.Placing.{count-append}
-use Rattle.xf_groups.proofs.Plain.{each-given, frames-are, one-step}
+use Rattle.xf_groups.proofs.Plain.{frames-are, one-step}
 use Rattle.xf_groups.proofs.Standing.{count-loads, stand-as, stand-at, stand-first, stand-inside, stand-last}
 use Rattle.xf_groups.proofs.Taking.{led-arrives, taken-falls}
-use Rattle.xf_groups.proofs.Turning.{targets-are}
 
 -- ---- the items
 
@@ -105,7 +106,7 @@ module _
     (operands_load : OperandsLoad v w) (under_loads : UnderLoads v w) (under_hold : UnderHold v w)
     (few_copies : CopiesAreFew v) (few_cells : CellsAreFew v)
     (z t : State Cell) (o : Outcome Cell) (i : Placed) (op : Operation) (n : ℕ) (typed : IsTypedAt v s z)
-    (stands : Stands s.method.code i) (reached : is_some (s.frames i.place) ≡ true) (does : operation s i ≡ Ok op)
+    (stands : HasInstruction s.method.code i) (reached : is_some (s.frames i.place) ≡ true) (does : operation s i ≡ Ok op)
     (here : (top z).place ≡ i.place) (ex : Executes v z i op) (some : operands_of v (Ok op) ≡ Some n) (over : is_over s i.place n ≡ true)
     (stays : StaysTyped v s o) where
   abbrev p : ℕ
@@ -216,9 +217,9 @@ module _
       let ls = loads s (operands s i.place n) in
       let jm = jump_to i op (labels_of s i op n) ∷ [] in
       let own = steps-here v w s place laid stand follow i op stands reached does in
-      let st : StandFrom s (body_at s i.place) ((sp ++ ls) ++ jm) =
+      let st : ItemsStandFrom s (body_at s i.place) ((sp ++ ls) ++ jm) =
       stand-as s (body_at s i.place) (body s i op) ((sp ++ ls) ++ jm) whole-is own.body_steps in
-      let first : StandFrom s (body_at s i.place) (sp ++ ls) = stand-first s (body_at s i.place) (sp ++ ls) jm st in
+      let first : ItemsStandFrom s (body_at s i.place) (sp ++ ls) = stand-first s (body_at s i.place) (sp ++ ls) jm st in
       let all = stand-inside s (body_at s i.place) ((sp ++ ls) ++ jm) st in
       let one = count-append (sp ++ ls) jm in
       let two = count-append sp ls in
@@ -233,7 +234,7 @@ module _
       let k : ℕ = body_at s i.place + length (cells s i.place) in
       let ua : State Cell = moved u (place k) a.registers [] in
       let of_a : AreOf s (top z) (top ua) = record { source = of.source; target = of.target; count = a.count ∙ of.count } in
-      let rest : StandFrom s k ls =
+      let rest : ItemsStandFrom s k ls =
       stand-at s (body_at s i.place + count_of sp) k ls (ap (λ r. body_at s i.place + r) a_size)
       (stand-last s (body_at s i.place) sp ls first) in
       let run = operands_load place (steps_of s) ua k s i op n (top z) laid.world laid.planned (near ua heap of_a) stands does own-some over
@@ -292,7 +293,7 @@ module _
     before : HoldsAfter s i.place op q' (top y) (top x)
     before = record {
       stored = λ l e. absurd (false≢true (sym (unstored-fork s.world op n own-some l) ∙ e));
-      others = λ l. each-given (Holds s (top z).registers (top x)) _ (λ h held free. held) (needed s i.place l) (locals l);
+      others = λ l. each-map (Holds s (top z).registers (top x)) _ (λ h held free. held) (needed s i.place l) (locals l);
     }
 
     -- the source stays in y, and the target comes to its group
@@ -331,7 +332,7 @@ module _
         → (top x).place ≡ place (place_of (lead s i.place op n k (pos q')) (items s))
         → ComesWithin w 0 1019 x (ComesToGroup s place y x)
     led k target_is at =
-        let among = contains-at (targets s.method.code i) k (pos q') target_is in
+        let among = Contains-slice_get (targets s.method.code i) k (pos q') target_is in
         let leader : is_leader s q' ≡ true = (laid.planned.leaders q').1 (led_to stands from-p among) in
         let to_q = leads_after stands from-p does (jumped among) in
         let pairs = match s laid.world laid.planned i op n q' cut-here.0 stands cut-here.1 does own-some (jumped among) leader in
@@ -344,7 +345,7 @@ module _
       next : Next v w s place laid stand follow i
       next = next-of v w s place laid stand follow i op stands reached does falls
 
-      fallen-here : StandFrom s (m + 1) (fall_over s i.place op n q')
+      fallen-here : ItemsStandFrom s (m + 1) (fall_over s i.place op n q')
       fallen-here =
           let own = steps-here v w s place laid stand follow i op stands reached does in
           let so : fallen s i op ≡ fall_over s i.place op n q' =
@@ -485,13 +486,13 @@ module _
       let b = body-size in
       step-place (code_at w s.method.number) place (steps_of s) (m + 1) (steps-are v w s place laid) (omega (arith, size, later, lt, b))
 
-  jump-stands : StandFrom s m (jump_to i op (labels_of s i op n) ∷ [])
+  jump-stands : ItemsStandFrom s m (jump_to i op (labels_of s i op n) ∷ [])
   jump-stands =
       let sp = spill s (cells s i.place) in
       let ls = loads s (operands s i.place n) in
       let jm = jump_to i op (labels_of s i op n) ∷ [] in
       let own = steps-here v w s place laid stand follow i op stands reached does in
-      let st : StandFrom s (body_at s i.place) ((sp ++ ls) ++ jm) =
+      let st : ItemsStandFrom s (body_at s i.place) ((sp ++ ls) ++ jm) =
       stand-as s (body_at s i.place) (body s i op) ((sp ++ ls) ++ jm) whole-is own.body_steps in
       let a_size = spill-size in
       let b_size = load-size in

@@ -4,7 +4,7 @@ use Rattle.std.specs.Prelude.{Ok, is_some}
 use Rattle.jc_base.specs.Each.{Each}
 use Rattle.jc_base.specs.World.{Linked}
 use Rattle.jc_decode.specs.declared.insn.Placed.{Placed}
-use Rattle.jc_control.specs.WellFormed.{Stands}
+use Rattle.jc_control.specs.WellFormed.{HasInstruction}
 use Rattle.jc_ops.specs.declared.operation.Operation.{Operation}
 use Rattle.vm_store.specs.declared.cell.Cell.{Cell}
 use Rattle.vm_store.specs.Cells.{tagged}
@@ -20,7 +20,7 @@ use Rattle.xf_held.specs.Held.{Held, Holds, Waits}
 use Rattle.xf_held.proofs.Beside.{each-among, among-each, held-as}
 use Rattle.xf_groups.specs.Laid.{IsLaidIn, body_at, count_of, group_at, loaded_at, rename, steps_of}
 use Rattle.xf_groups.specs.Beside.{AreEqualBut, AreOf, HeldOrWaits, IsAtGroup, IsTypedAt, MovesTop}
-use Rattle.xf_groups.specs.Steps.{GroupsFollow, GroupsStandAtSteps, StandFrom}
+use Rattle.xf_groups.specs.Steps.{GroupsFollow, GroupsStandAtSteps, ItemsStandFrom}
 use Rattle.xf_groups.proofs.Arriving.{at-step, beside, leader-keeps}
 use Rattle.xf_groups.proofs.Context.{Here, here-at, reached-some}
 use Rattle.xf_groups.proofs.Following.{body-inside, steps-here}
@@ -62,9 +62,9 @@ module _
         subst (λ p. body_at s p < length (steps_of s)) here.at
         (body-inside v w s place laid stand follow here.instruction here.op here.stands also here.does)
 
-    load-steps : StandFrom s (group_at s q) (loads s (loaded_at s q))
+    load-steps : ItemsStandFrom s (group_at s q) (loads s (loaded_at s q))
     load-steps =
-        subst (λ p. StandFrom s (group_at s p) (loads s (loaded_at s p))) here.at
+        subst (λ p. ItemsStandFrom s (group_at s p) (loads s (loaded_at s p))) here.at
         (steps-here v w s place laid stand follow here.instruction here.op here.stands also here.does).load_steps
 
     leader-enters : is_leader s q ≡ true → Entered z t
@@ -74,8 +74,8 @@ module _
         let waits : Waits s q (top z) (top t) = subst (λ b. HeldOrWaits b s place (top z) (top t)) e group.holds in
         let near = beside v w s place laid z t typed equal.heap group.of in
         let keeps = leader-keeps v w s place laid q e in
-        let st : StandFrom s (group_at s q) (loads s hs) =
-        subst (λ ks. StandFrom s (group_at s q) (loads s ks)) are load-steps in
+        let st : ItemsStandFrom s (group_at s q) (loads s hs) =
+        subst (λ ks. ItemsStandFrom s (group_at s q) (loads s ks)) are load-steps in
         let size = ap length are in
         let lt = inside in
         let run = loading place (steps_of s) t (group_at s q) s q (top z) laid.world laid.planned near keeps

@@ -18,7 +18,7 @@ use Rattle.jc_ops.specs.declared.operation.Operation.TheVariants as ops
 use Rattle.jc_ops.specs.declared.want.Want.TheVariants.{Value}
 use Rattle.jc_rules.specs.declared.demand.Demand.{Demand}
 use Rattle.jc_rules.specs.declared.demand.Demand.TheVariants.{Registers, Cell as CellAt, Held}
-use Rattle.jc_rules.specs.Demand.{Frame as Types, AllHold}
+use Rattle.jc_rules.specs.Demand.{Frame as Types, SatisfiesAll}
 use Rattle.jc_rules.specs.Footprint.{registers_asked, registers_read}
 use Rattle.jc_rules.specs.Rule.{demands, value_wanted, value_size}
 use Rattle.vm_store.specs.declared.cell.Cell.{Cell}
@@ -27,8 +27,8 @@ use Rattle.vm_store.specs.Typing.{least_type}
 use Rattle.vm_store.specs.Cells.{tagged, word_of}
 use Rattle.vm_store.specs.Laws.{IsFilled}
 use Rattle.vm_store.specs.Objects.{write_object}
-use Rattle.vm_store.specs.State.{State, Frame, Object}
-use Rattle.vm_store.specs.Value.{kept, value_on, with_object_value}
+use Rattle.vm_store.specs.State.{State, Object}
+use Rattle.vm_store.specs.Value.{kept, value_on}
 use Rattle.vm_step.specs.Numbers.{handle_at}
 use Rattle.vm_step.specs.Values.{moved}
 use Rattle.vm_sound.specs.Frames.{least_types}
@@ -52,17 +52,17 @@ module _ (t : ClassTable) (k : Types) where
   abbrev One : Ty → Type 0
   One T = IsSomeAnd (slice_get k.stack 0) (λ u. Below t u T)
 
-  pub one-asked : (T : Ty) (ds : List Demand) → IsNoHalf T → AllHold t k (value_wanted T ++ ds) → IsSomeAnd (slice_get k.stack 0) (λ u. Below t u T) × AllHold t k ds
+  pub one-asked : (T : Ty) (ds : List Demand) → IsNoHalf T → SatisfiesAll t k (value_wanted T ++ ds) → IsSomeAnd (slice_get k.stack 0) (λ u. Below t u T) × SatisfiesAll t k ds
   one-asked IntHigh ds n h = absurd n
   one-asked IntLow ds n h = absurd n
   one-asked T ds n h = h
 
-  pub one-gives : (T : Ty) (ds : List Demand) → IsNoHalf T → IsSomeAnd (slice_get k.stack 0) (λ u. Below t u T) → AllHold t k ds → AllHold t k (value_wanted T ++ ds)
+  pub one-gives : (T : Ty) (ds : List Demand) → IsNoHalf T → IsSomeAnd (slice_get k.stack 0) (λ u. Below t u T) → SatisfiesAll t k ds → SatisfiesAll t k (value_wanted T ++ ds)
   one-gives IntHigh ds n h g = absurd n
   one-gives IntLow ds n h g = absurd n
   one-gives T ds n h g = (h, g)
 
-  pub last-held : (T : Ty) (c : ℕ) → AllHold t k (value_wanted T ++ Held 0 (Class c) ∷ []) → IsSomeAnd (slice_get k.regs 0) (λ u. Below t u (Class c))
+  pub last-held : (T : Ty) (c : ℕ) → SatisfiesAll t k (value_wanted T ++ Held 0 (Class c) ∷ []) → IsSomeAnd (slice_get k.regs 0) (λ u. Below t u (Class c))
   last-held IntHigh c h = h.1.1.0
   last-held T c h = h.1.0
 
@@ -89,14 +89,6 @@ abbrev pub written : List (Object Cell) → ℕ → ℕ → List Cell → List (
 written heap h i [] = heap
 written heap h i (c ∷ cs) = written (put heap h i c) h (i + 1) cs
 
-pub object-written :
-    (frames : List (Frame Cell)) (heap : List (Object Cell)) (statics : List Cell) (h i : ℕ) (cs : List Cell)
-    → with_object_value (record { frames = frames; heap = heap; statics = statics }) h i cs
-    ≡ record { frames = frames; heap = written heap h i cs; statics = statics }
-object-written frames heap statics h i [] = refl
-object-written frames heap statics zero i (c ∷ cs) = object-written frames heap statics zero (i + 1) cs
-object-written frames heap statics (suc h) i (c ∷ cs) = object-written frames (write_object heap h i c) statics (suc h) (i + 1) cs
-
 pub drop-shorter : (k : ℕ) (cs : List Cell) → length (drop k cs) ≤ length cs
 drop-shorter zero cs = omega arith
 drop-shorter (suc k) [] = omega arith
@@ -110,8 +102,8 @@ pub record Swaps (t : ClassTable) (ks : List ObjectKind) (k : ℕ) (val : List C
   pub handle : nth tagged (moved (moves.Exchange 1 k) (c ∷ other)) k ≡ c
   pub rest : drop (k + 1) (moved (moves.Exchange 1 k) (c ∷ other)) ≡ map (renamed_cell e) (drop (k + 0) stack)
   pub size : length (moved (moves.Exchange 1 k) (c ∷ other)) ≡ suc (length other)
-  pub cut : AllHold t (record { regs = regs; stack = least_types t Bottom ks (c ∷ other) }) (Depth 1 ∷ Cut 1 ∷ Depth (1 + k) ∷ Cut (1 + k) ∷ [])
-  pub write : AllHold t (record { regs = regs; stack = least_types t Bottom ks (moved (moves.Exchange 1 k) (c ∷ other)) }) (value_wanted ty ++ CellAt (value_size ty) (Value (Class class)) ∷ [])
+  pub cut : SatisfiesAll t (record { regs = regs; stack = least_types t Bottom ks (c ∷ other) }) (Depth 1 ∷ Cut 1 ∷ Depth (1 + k) ∷ Cut (1 + k) ∷ [])
+  pub write : SatisfiesAll t (record { regs = regs; stack = least_types t Bottom ks (moved (moves.Exchange 1 k) (c ∷ other)) }) (value_wanted ty ++ CellAt (value_size ty) (Value (Class class)) ∷ [])
 
 -- the type of a value in one cell
 record IsOne (ty : Ty) : Type 0 where
@@ -189,17 +181,17 @@ module _ (t : ClassTable) (are : AreClasses t) (types : IsOrderOfTypes t) (ks : 
 
   short :
       (ty : Ty) (stack : List Cell) (more : List Ty) → ty ≡ Short
-      → AllHold t (record { regs = more; stack = least_types t Bottom ks stack }) (value_wanted ty ++ Held 0 (Class class) ∷ [])
+      → SatisfiesAll t (record { regs = more; stack = least_types t Bottom ks stack }) (value_wanted ty ++ Held 0 (Class class) ∷ [])
       → Swaps t ks 1 (λ cs. nth tagged cs 0 ∷ []) ty class e regs c stack (map (renamed_cell e) stack)
   short ty stack more is h =
-      let g = subst (λ (a : Ty). AllHold t (record { regs = more; stack = least_types t Bottom ks stack }) (value_wanted a ++ Held 0 (Class class) ∷ [])) is h in
+      let g = subst (λ (a : Ty). SatisfiesAll t (record { regs = more; stack = least_types t Bottom ks stack }) (value_wanted a ++ Held 0 (Class class) ∷ [])) is h in
       subst (λ (a : Ty). Swaps t ks 1 (λ cs. nth tagged cs 0 ∷ []) a class e regs c stack (map (renamed_cell e) stack)) (sym is)
       (one-swaps Short stack (record { half = tt; fresh = tt; top = tt }) g.0)
 
   -- what a write of a field asks of the source lets the steps of the target run
   pub swaps :
       (kind : Kind) (ty : Ty) (stack : List Cell) (more : List Ty) → IsOfKind kind ty
-      → AllHold t (record { regs = more; stack = least_types t Bottom ks stack }) (value_wanted ty ++ Held 0 (Class class) ∷ [])
+      → SatisfiesAll t (record { regs = more; stack = least_types t Bottom ks stack }) (value_wanted ty ++ Held 0 (Class class) ∷ [])
       → Swaps t ks (width kind) (λ cs. value_on tagged kind cs) ty class e regs c stack (map (renamed_cell e) stack)
   swaps kinds_of.Ref ty stack more is h =
       let one = one-of ty is in
@@ -207,7 +199,7 @@ module _ (t : ClassTable) (are : AreClasses t) (types : IsOrderOfTypes t) (ks : 
   swaps kinds_of.Byte ty stack more is h = short ty stack more is h
   swaps kinds_of.Short ty stack more is h = short ty stack more is h
   swaps kinds_of.Int ty stack more is h =
-      let g = subst (λ (a : Ty). AllHold t (record { regs = more; stack = least_types t Bottom ks stack }) (value_wanted a ++ Held 0 (Class class) ∷ [])) is h in
+      let g = subst (λ (a : Ty). SatisfiesAll t (record { regs = more; stack = least_types t Bottom ks stack }) (value_wanted a ++ Held 0 (Class class) ∷ [])) is h in
       subst (λ (a : Ty). Swaps t ks 2 (λ cs. nth tagged cs 1 ∷ nth tagged cs 0 ∷ []) a class e regs c stack (map (renamed_cell e) stack)) (sym is) (two-swaps stack g.0 g.1.0)
 
 -- swap_x of one word and those of a value

@@ -9,7 +9,7 @@ use Rattle.jc_decode.specs.declared.symbols.Item.TheVariants.{Plain}
 use Rattle.jc_decode.specs.Listing.{listing, targets}
 use Rattle.jc_decode.specs.Standing.{AreSteps}
 use Rattle.jc_control.specs.Control.{IsReached, falls_through, follows}
-use Rattle.jc_control.specs.WellFormed.{IsPlace, Stands}
+use Rattle.jc_control.specs.WellFormed.{IsPlace, HasInstruction}
 use Rattle.jc_ops.specs.declared.operation.Branch.TheVariants as branches
 use Rattle.jc_ops.specs.declared.operation.Holder.TheVariants as holders
 use Rattle.jc_ops.specs.declared.operation.Operation.{Operation}
@@ -110,7 +110,7 @@ module _
     (stand : GroupsStandAtSteps) (follow : GroupsFollow) where
   pub steps-here :
       (i : Placed) (op : Operation)
-      → Stands s.method.code i
+      → HasInstruction s.method.code i
       → is_some (s.frames i.place) ≡ true
       → operation s i ≡ Ok op
       → GroupSteps s i op
@@ -119,7 +119,7 @@ module _
   -- a group has its first instruction after its loads
   pub body-inside :
       (i : Placed) (op : Operation)
-      → Stands s.method.code i
+      → HasInstruction s.method.code i
       → is_some (s.frames i.place) ≡ true
       → operation s i ≡ Ok op
       → body_at s i.place < length (steps_of s)
@@ -132,7 +132,7 @@ module _
   pub record Next (i : Placed) : Type 0 where
     pub instruction : Placed
     pub op : Operation
-    pub stands : Stands s.method.code instruction
+    pub stands : HasInstruction s.method.code instruction
     pub at : instruction.place ≡ i.place + i.insn.len
     pub reached : is_some (s.frames instruction.place) ≡ true
     pub does : operation s instruction ≡ Ok op
@@ -143,7 +143,7 @@ module _
   -- the instruction after one that goes on
   pub next-of :
       (i : Placed) (op : Operation)
-      → Stands s.method.code i
+      → HasInstruction s.method.code i
       → is_some (s.frames i.place) ≡ true
       → operation s i ≡ Ok op
       → falls_from op ≡ true
@@ -171,7 +171,7 @@ module _
   -- the step after the only one of an instruction that goes on is at a place of the code
   pub next-place :
       (i : Placed) (op : Operation)
-      → Stands s.method.code i
+      → HasInstruction s.method.code i
       → is_some (s.frames i.place) ≡ true
       → operation s i ≡ Ok op
       → count_of (body s i op) ≡ 1

@@ -2,7 +2,7 @@
 use Rattle.std.proofs.Common.{◌≡◌, ◌≢◌, ℕ, zero, suc, ◌+◌, ◌<◌, ◌≤◌, Bool, true, false, List, [], ◌∷◌, ◌++◌, length, map, refl, sym, ap, ◌∙◌, subst, arith}
 use Rattle.std.specs.Prelude.{ℤ, pos, All, Contains, Option, Some, None, Ok, is_some, option_map, slice_get}
 use Rattle.std.proofs.lemmas.List.{length-map}
-use Rattle.std.proofs.lemmas.Option.{slice_get-map, slice_get_within}
+use Rattle.std.proofs.lemmas.Option.{slice_get-map, slice_get_within, same_Some}
 use Rattle.jc_base.specs.Each.{Each}
 use Rattle.jc_base.specs.World.{Linked, IsWorld}
 use Rattle.jc_decode.specs.declared.insn.Case.{Case}
@@ -22,7 +22,7 @@ use Rattle.xf_plan.specs.Source.{Source}
 use Rattle.xf_emission.specs.Emission.{items}
 use Rattle.xf_emission.specs.Jump.{first_label, jump_to, lead, leads}
 use Rattle.xf_groups.specs.Laid.{steps_of}
-use Rattle.xf_groups.specs.Steps.{StandFrom}
+use Rattle.xf_groups.specs.Steps.{ItemsStandFrom}
 use Rattle.xf_groups.proofs.Forking.{jump_insn, labels_of, lead-at}
 use Rattle.xf_groups.proofs.Standing.{step-at}
 
@@ -40,16 +40,13 @@ pub record JumpStep (s : Source) (i : Placed) (op : Operation) (n at : ℕ) : Ty
       → m ≡ place_of (lead s i.place op n k t) (items s)
   pub keyed : HaveKeys op (map (λ (c : Case). c.key) (cases s.method.code i.place i.insn)) step.keys
 
-some-value : {X : Type 0} (a b : X) → Some a ≡ Some b → a ≡ b
-some-value a b e = cc
-
 leads-count : (s : Source) (p : ℕ) (op : Operation) (n k : ℕ) (ts : List ℤ) → length (leads s p op n k ts) ≡ length ts
 leads-count s p op n k [] = refl
 leads-count s p op n k (t ∷ ts) = ap suc (leads-count s p op n (suc k) ts)
 
 module _
     (s : Source) (i : Placed) (op : Operation) (n at : ℕ)
-    (st : StandFrom s at (jump_to i op (labels_of s i op n) ∷ [])) (first : ℤ) (rest : List ℤ)
+    (st : ItemsStandFrom s at (jump_to i op (labels_of s i op n) ∷ [])) (first : ℤ) (rest : List ℤ)
     (some : targets s.method.code i ≡ first ∷ rest) where
   abbrev label_at : ℕ → ℕ
   label_at l = place_of l (items s)
@@ -66,7 +63,7 @@ module _
         step = step;
         found =
             step-at s at (Branch (wide i.insn.op) (first_label (labels_of s i op n))) [] step []
-            (subst (λ x. StandFrom s at (x ∷ [])) is st) refl;
+            (subst (λ x. ItemsStandFrom s at (x ∷ [])) is st) refl;
         insn_is = sym own;
         named = λ k m e. by k m e;
         leads_to = λ k m t h e. to k m t h e;
@@ -88,8 +85,8 @@ module _
       to zero m t h e =
           let own_first : first_label (leads s i.place op n 0 (targets s.method.code i)) ≡ lead s i.place op n 0 first =
           ap (λ ts. first_label (leads s i.place op n 0 ts)) some in
-          let same : first ≡ t = some-value first t (sym (ap (λ ts. slice_get ts 0) some) ∙ h) in
-          sym (some-value (label_at (first_label (labels_of s i op n))) m e)
+          let same : first ≡ t = same_Some first t (sym (ap (λ ts. slice_get ts 0) some) ∙ h) in
+          sym (same_Some (label_at (first_label (labels_of s i op n))) m e)
           ∙ (ap label_at own_first ∙ ap (λ u. label_at (lead s i.place op n 0 u)) same)
       to (suc k) m t h e = absurd (let lt = slice_get_within [] k m e in omega (arith, lt))
 
@@ -104,7 +101,7 @@ module _
       let step : Step = record { insn = i.insn; targets = map label_at (labels_of s i op n); keys = keys } in
       record {
         step = step;
-        found = step-at s at (Switch i.insn i.place (labels_of s i op n)) [] step [] (subst (λ x. StandFrom s at (x ∷ [])) is st) refl;
+        found = step-at s at (Switch i.insn i.place (labels_of s i op n)) [] step [] (subst (λ x. ItemsStandFrom s at (x ∷ [])) is st) refl;
         insn_is = sym own;
         named = λ k m e. by k m e;
         leads_to = λ k m t h e. to k m t h e;
@@ -131,12 +128,12 @@ module _
           let l = lead-at s i.place op n 0 k (targets s.method.code i) t h in
           let is_there : slice_get (map label_at (labels_of s i op n)) k ≡ Some (label_at (lead s i.place op n (0 + k) t)) =
           slice_get-map label_at (labels_of s i op n) k ∙ ap (option_map label_at) l in
-          some-value m (label_at (lead s i.place op n (0 + k) t)) (sym e ∙ is_there)
+          same_Some m (label_at (lead s i.place op n (0 + k) t)) (sym e ∙ is_there)
           ∙ ap (λ j. label_at (lead s i.place op n j t)) here
 
 pub jump-step :
     (s : Source) (i : Placed) (op : Operation) (n at : ℕ)
-    → StandFrom s at (jump_to i op (labels_of s i op n) ∷ [])
+    → ItemsStandFrom s at (jump_to i op (labels_of s i op n) ∷ [])
     → (first : ℤ) (rest : List ℤ)
     → targets s.method.code i ≡ first ∷ rest
     → JumpStep s i op n at

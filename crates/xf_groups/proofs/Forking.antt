@@ -31,7 +31,7 @@ use Rattle.xf_emission.specs.Emission.{items}
 use Rattle.xf_emission.specs.Group.{body, branch_by, kept}
 use Rattle.xf_emission.specs.Jump.{branch, cut, first_label, goto, is_over, jump_to, label_by, lead, leads, place as place_named, spill_if, stub, stub_label, stub_of, taken, under}
 use Rattle.xf_groups.specs.Laid.{count_of, steps_of}
-use Rattle.xf_groups.specs.Steps.{StandFrom}
+use Rattle.xf_groups.specs.Steps.{ItemsStandFrom}
 use Rattle.xf_groups.proofs.Standing.{step-at}
 
 -- ---- the body

@@ -32,7 +32,7 @@ use Rattle.xf_held.proofs.Beside.{each-among, among-each, held-as}
 use Rattle.xf_groups.specs.Laid.{IsLaidIn, body_at, count_of, group_at, steps_of}
 use Rattle.xf_groups.specs.Beside.{AreEqualBut, AreOf, IsTypedAt, MovesTop}
 use Rattle.xf_groups.specs.Comes.{AreAtGroup, ComesToGroup, ComesWithin}
-use Rattle.xf_groups.specs.Steps.{GroupsFollow, GroupsStandAtSteps, StandFrom}
+use Rattle.xf_groups.specs.Steps.{GroupsFollow, GroupsStandAtSteps, ItemsStandFrom}
 use Rattle.xf_groups.proofs.Arriving.{IsLocal, at-step, beside, kept-registers, leader-holds, leader-keeps, runs-then}
 use Rattle.xf_groups.proofs.Context.{here-at, reached-some, steps-are, target-at, target-room}
 use Rattle.xf_groups.proofs.Following.{body-inside}
@@ -108,7 +108,7 @@ module _
     -- from a state whose stack stands in homes: the copies, and the goto
     pub edge-goes :
         (m : ℕ)
-        → StandFrom s m (copies s o q ++ goto q ∷ [])
+        → ItemsStandFrom s m (copies s o q ++ goto q ∷ [])
         → (top u).place ≡ place m
         → (top u).stack ≡ []
         → Each (Holds s (slots (top y)) (top u)) (cells s q)
@@ -130,7 +130,7 @@ module _
         let u1 : State Cell = moved u (place n) c.registers [] in
         let first : Runs tagged w (length (insns cs)) u (running u1) =
         subst (λ stack. Runs tagged w (length (insns cs)) u (running (moved u (place n) c.registers stack))) bare c.runs in
-        let rest : StandFrom s n (goto q ∷ []) =
+        let rest : ItemsStandFrom s n (goto q ∷ []) =
         stand-at s (m + count_of cs) n (goto q ∷ []) (ap (λ k. m + k) size) (stand-last s m cs (goto q ∷ []) st) in
         let found : slice_get (steps_of s) n ≡ Some (record { insn = jump 168; targets = group_at s q ∷ []; keys = [] }) =
         step-at s n (goto q) [] (record { insn = jump 168; targets = place_of q (items s) ∷ []; keys = [] }) [] rest refl in
@@ -198,7 +198,7 @@ module _
   -- from a state whose stack is the source's: first it goes into homes
   pub spilled-goes :
       (m : ℕ)
-      → StandFrom s m (spill s (cells s (top y).place) ++ (copies s o (top y).place ++ goto (top y).place ∷ []))
+      → ItemsStandFrom s m (spill s (cells s (top y).place) ++ (copies s o (top y).place ++ goto (top y).place ∷ []))
       → (top u).place ≡ place m
       → (top u).stack ≡ (top y).stack
       → ((k : Frame Cell)

@@ -4,7 +4,7 @@ use Rattle.std.specs.Prelude.{Option, Some, None, Ok, is_some, slice_get}
 use Rattle.jc_base.specs.World.{Linked}
 use Rattle.jc_base.specs.declared.record.MethodRec.{MethodRec}
 use Rattle.jc_decode.specs.declared.insn.Placed.{Placed}
-use Rattle.jc_control.specs.WellFormed.{Stands}
+use Rattle.jc_control.specs.WellFormed.{HasInstruction}
 use Rattle.jc_ops.specs.declared.operation.Operation.{Operation}
 use Rattle.jc_ops.specs.Next.{falls_from}
 use Rattle.jc_ops.specs.Resolve.{Resolves}
@@ -53,7 +53,7 @@ module _ (v w : Linked) (s : Source) (place : ℕ → ℕ) (laid : IsLaidIn v w 
     pub instruction : Placed
     pub op : Operation
     pub executes : Executes v z instruction op
-    pub stands : Stands s.method.code instruction
+    pub stands : HasInstruction s.method.code instruction
     pub here : (top z).place ≡ instruction.place
     pub reached : is_some (s.frames instruction.place) ≡ true
     pub does : operation s instruction ≡ Ok op
@@ -69,7 +69,7 @@ module _ (v w : Linked) (s : Source) (place : ℕ → ℕ) (laid : IsLaidIn v w 
         instruction = i;
         op = op;
         executes = ex;
-        stands = subst (λ c. Stands c i) code there.stands;
+        stands = subst (λ c. HasInstruction c i) code there.stands;
         here = sym there.at;
         reached = ap (λ p. is_some (s.frames p)) there.at ∙ reached-some v w s place laid (top z).place typed.reached;
         does =

@@ -8,6 +8,7 @@ use Rattle.jc_base.specs.declared.ty.Ty.{Ty}
 use Rattle.jc_base.specs.Each.{Each, IsAmong}
 use Rattle.jc_base.specs.World.{Linked}
 use Rattle.jc_decode.specs.Symbols.{place_of}
+use Rattle.jc_decode.proofs.Elements.{Contains-slice_get}
 use Rattle.jc_control.specs.Control.{Covers, IsLeader, IsReached, entered}
 use Rattle.jc_rules.specs.Demand.{Frame as Types}
 use Rattle.jc_rules.specs.Flow.{At}
@@ -18,7 +19,6 @@ use Rattle.xf_homes.specs.Home.{asked_caught}
 use Rattle.xf_homes.specs.Laws.{NeededAreKept}
 use Rattle.xf_homes.specs.Value.{value_at}
 use Rattle.xf_homes.specs.Walk.{local_of}
-use Rattle.xf_landed.proofs.Steps.{contains-at}
 use Rattle.xf_plan.specs.Source.{Source}
 use Rattle.xf_plan.specs.Plan.{cells, first_of, first_reached, home_of, is_leader, local, needed}
 use Rattle.xf_emission.specs.declared.origin.Origin.TheVariants.{Entry}
@@ -36,7 +36,7 @@ use Rattle.xf_groups.specs.Laid.{IsLaidIn}
 use Rattle.xf_groups.specs.Beside.{AreEqualBut, IsTypedAt}
 use Rattle.xf_groups.specs.Comes.{ComesToGroup, ComesWithin}
 use Rattle.xf_groups.specs.Laws.{IsCaught}
-use Rattle.xf_groups.specs.Steps.{GroupsFollow, GroupsStandAtSteps, HandlersStandAtSteps, StandFrom}
+use Rattle.xf_groups.specs.Steps.{GroupsFollow, GroupsStandAtSteps, HandlersStandAtSteps, ItemsStandFrom}
 use Rattle.xf_groups.proofs.Arriving.{IsLocal, needed-local}
 use Rattle.xf_groups.proofs.Context.{reached-some}
 use Rattle.xf_groups.proofs.Going.{spilled-goes}
@@ -106,13 +106,13 @@ module _
       let q : ℕ = (top z).place in
       let reached : is_some (s.frames p) ≡ true = reached-some v w s place laid p c.reached in
       let live = covers-live s h p reached c.covers in
-      let st : StandFrom s (place_of (handler_label n) (items s))
+      let st : ItemsStandFrom s (place_of (handler_label n) (items s))
       (spill s (cells s h.entry) ++ (copies s (Entry h.entry) h.entry ++ goto h.entry ∷ [])) =
       stand-labelled s _ (handler_label n) _ (handlers s n h laid.planned.code c.listed live) in
-      let own : StandFrom s (place_of (handler_label n) (items s)) (spill s (cells s q) ++ (copies s (Entry q) q ++ goto q ∷ [])) =
-      subst (λ k. StandFrom s (place_of (handler_label n) (items s)) (spill s (cells s k) ++ (copies s (Entry k) k ++ goto k ∷ [])))
+      let own : ItemsStandFrom s (place_of (handler_label n) (items s)) (spill s (cells s q) ++ (copies s (Entry q) q ++ goto q ∷ [])) =
+      subst (λ k. ItemsStandFrom s (place_of (handler_label n) (items s)) (spill s (cells s k) ++ (copies s (Entry k) k ++ goto k ∷ [])))
       (sym c.entry) st in
-      let leads_here : IsLeader s.method h.entry = entered c.reached (contains-at s.method.rec.handlers n h c.listed) c.covers in
+      let leads_here : IsLeader s.method h.entry = entered c.reached (Contains-slice_get s.method.rec.handlers n h c.listed) c.covers in
       let leader : is_leader s q ≡ true =
       subst (λ k. is_leader s k ≡ true) (sym c.entry) ((laid.planned.leaders h.entry).1 leads_here) in
       comes-wider w s place z t 1 766 1000 (omega arith)

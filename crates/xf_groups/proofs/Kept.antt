@@ -29,7 +29,7 @@ use Rattle.xf_landed.specs.Laws.{DemandsAreKept, OperationsAreKept}
 use Rattle.xf_plan.specs.Source.{Source}
 use Rattle.xf_emission.specs.Edge.{is_stored}
 use Rattle.xf_emission.specs.Group.{body}
-use Rattle.xf_held.specs.Moves.{CanRun}
+use Rattle.xf_held.specs.Moves.{IsExecutable}
 use Rattle.xf_held.specs.Held.{HoldsLocals}
 use Rattle.xf_held.specs.Laws.{KeptRunAlike, LocalsStay, NamesNoneWritesNone, StepsExecute}
 use Rattle.xf_groups.specs.Laid.{IsLaidIn, body_at, count_of, rename}
@@ -73,7 +73,7 @@ module _
     (operations : OperationsAreKept) (asked : DemandsAreKept) (writes : NamesNoneWritesNone v)
     (stand : GroupsStandAtSteps) (follow : GroupsFollow) (one_to_one : RenamesOneToOne v)
     (run_alike : KeptRunAlike Cell) (stay : LocalsStay Cell)
-    (executed : (w : Linked) → CanRun w → StepsExecute w) where
+    (executed : (w : Linked) → IsExecutable w → StepsExecute w) where
   pub kept-runs : KeptRuns v
   kept-runs w s place i op z t o laid b kept still none step fine =
       let g = steps-here v w s place laid stand follow i op b.stands b.reached b.does in

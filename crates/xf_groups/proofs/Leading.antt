@@ -30,7 +30,7 @@ use Rattle.vm_step.specs.Tests.{fault_before}
 use Rattle.vm_sound.proofs.Going.{jumps-on}
 use Rattle.vm_sound.proofs.Places.{instruction-there}
 use Rattle.xf_landed.proofs.Steps.{some-within}
-use Rattle.xf_held.specs.Moves.{CanRun}
+use Rattle.xf_held.specs.Moves.{IsExecutable}
 use Rattle.xf_held.proofs.Passing.{passes-before}
 use Rattle.xf_held.specs.Laws.{ExecutesStep, StepsExecute}
 use Rattle.xf_held.proofs.Standing.{steps-stand-at-places}
@@ -57,7 +57,7 @@ pick x y false true h k = refl
 pick x y false false h k = absurd (cc)
 
 module _
-    (w : Linked) (world : CanRun w) (executed : StepsExecute w) (place : ℕ → ℕ) (all : List Step)
+    (w : Linked) (world : IsExecutable w) (executed : StepsExecute w) (place : ℕ → ℕ) (all : List Step)
     (f : Frame Cell) (below : List (Frame Cell)) (heap : List (Object Cell)) (statics : List Cell) (m : MethodRec) (n k : ℕ) where
   abbrev t : State Cell
   t = record { frames = f ∷ below; heap = heap; statics = statics }
@@ -98,7 +98,7 @@ module _
 
 -- of any state
 pub goto-steps :
-    (w : Linked) → CanRun w → StepsExecute w → (place : ℕ → ℕ) (all : List Step) (t : State Cell) (m : MethodRec) (n k : ℕ)
+    (w : Linked) → IsExecutable w → StepsExecute w → (place : ℕ → ℕ) (all : List Step) (t : State Cell) (m : MethodRec) (n k : ℕ)
     → 0 < length t.frames
     → slice_get w.methods (top t).method ≡ Some m
     → AreSteps (code_at w (top t).method) place 0 all (listing (code_at w (top t).method))

@@ -5,7 +5,7 @@ mod Context
 pub mod Following
 mod Renaming
 mod Called
-mod Plain
+pub mod Plain
 mod Kept
 mod Moving
 mod Leading
@@ -23,7 +23,7 @@ mod Groups
 mod Turning
 mod Forking
 mod Forked
-mod Branching
+pub mod Branching
 mod Taking
 mod Choosing
 pub mod Storing

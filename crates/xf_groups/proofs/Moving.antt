@@ -16,9 +16,9 @@ use Rattle.xf_emission.specs.Move.{copy, loads, spill, store}
 use Rattle.xf_emission.specs.Edge.{copies, copies_from, copy_new, held, home_before, local_copies, locals_copies}
 use Rattle.xf_emission.specs.Emission.{items}
 use Rattle.xf_held.specs.Edges.{insns}
-use Rattle.xf_held.specs.Moves.{StandFrom as StandAmong}
+use Rattle.xf_held.specs.Moves.{InstructionsStandFrom as StandAmong}
 use Rattle.xf_groups.specs.Laid.{count_of, steps_of}
-use Rattle.xf_groups.specs.Steps.{StandFrom}
+use Rattle.xf_groups.specs.Steps.{ItemsStandFrom}
 use Rattle.xf_groups.proofs.Standing.{stand-last, step-at}
 
 -- ---- items that are moves
@@ -86,10 +86,10 @@ count-moves (Branch op l ∷ xs) m = absurd m
 count-moves (Switch i at ls ∷ xs) m = absurd m
 count-moves (Label l ∷ xs) m = absurd m
 
-pub moves-stand : (s : Source) (n : ℕ) (xs : List Item) → AreMoves xs → StandFrom s n xs → StandAmong (steps_of s) n (insns xs)
+pub moves-stand : (s : Source) (n : ℕ) (xs : List Item) → AreMoves xs → ItemsStandFrom s n xs → StandAmong (steps_of s) n (insns xs)
 moves-stand s n [] m st = tt
 moves-stand s n (Plain i ∷ xs) m st =
-    let rest : StandFrom s (n + 1) xs = stand-last s n (Plain i ∷ []) xs st in (
+    let rest : ItemsStandFrom s (n + 1) xs = stand-last s n (Plain i ∷ []) xs st in (
       step-at s n (Plain i) xs (record { insn = i; targets = []; keys = [] }) (steps_in s.method.code (items s) xs) st refl,
       moves-stand s (n + 1) xs m rest,
     )

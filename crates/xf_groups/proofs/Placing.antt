@@ -15,7 +15,7 @@ use Rattle.jc_decode.specs.Decoding.{decoded}
 use Rattle.jc_decode.specs.Laws.{InstructionsAreListed}
 use Rattle.jc_decode.specs.Listing.{listing, Lists}
 use Rattle.jc_decode.specs.Symbols.{IsOnce, is_label, place_of, steps_in}
-use Rattle.jc_control.specs.WellFormed.{Stands}
+use Rattle.jc_control.specs.WellFormed.{HasInstruction}
 use Rattle.jc_rules.specs.Demand.{Frame}
 use Rattle.xf_plan.specs.Source.{Source}
 use Rattle.xf_emission.specs.declared.origin.Origin.TheVariants.{Start}
@@ -26,7 +26,7 @@ use Rattle.xf_emission.specs.Move.{loads}
 use Rattle.xf_emission.specs.Group.{done, group_by, group}
 use Rattle.xf_emission.specs.Laws.{GroupStands, GroupsStand, HandlersStand, LabelsStandOnce, StubsStand, IsCode, of_place}
 use Rattle.xf_groups.specs.Laid.{count_of, group_at, steps_of}
-use Rattle.xf_groups.specs.Steps.{StandFrom, GroupsStandAtSteps, StubsStandAtSteps, HandlersStandAtSteps, StartsStandAtSteps, GroupsFollow}
+use Rattle.xf_groups.specs.Steps.{ItemsStandFrom, GroupsStandAtSteps, StubsStandAtSteps, HandlersStandAtSteps, StartsStandAtSteps, GroupsFollow}
 
 -- ---- steps of items
 
@@ -57,7 +57,7 @@ stand-parts :
     (s : Source) (n : ℕ) (before is after : List Item)
     → items s ≡ before ++ (is ++ after)
     → n ≡ count_of before
-    → StandFrom s n is
+    → ItemsStandFrom s n is
 stand-parts s n before is after e at =
     let steps = steps_in s.method.code (items s) in
     record {

@@ -2,7 +2,7 @@
 use Rattle.std.proofs.Common.{◌≡◌, ℕ, zero, suc, ◌+◌, ◌<◌, ◌≤◌, ◌==◌, Bool, true, false, if◌then◌else◌, List, [], ◌∷◌, length, map, drop, refl, sym, ap, ◌∙◌, subst, arith}
 use Rattle.std.specs.Prelude.{ℤ, pos, All, Option, Some, None, Ok, is_some, slice_get}
 use Rattle.std.proofs.lemmas.List.{drop-map}
-use Rattle.std.proofs.lemmas.Option.{slice_get_within}
+use Rattle.std.proofs.lemmas.Option.{slice_get_within, same_Some}
 use Rattle.std.proofs.lemmas.Bool.{false≢true}
 use Rattle.jc_base.specs.declared.record.MethodRec.{MethodRec}
 use Rattle.jc_base.specs.Each.{Each}
@@ -12,7 +12,7 @@ use Rattle.jc_decode.specs.declared.insn.Placed.{Placed}
 use Rattle.jc_decode.specs.Listing.{listing, targets}
 use Rattle.jc_decode.specs.Standing.{AreSteps}
 use Rattle.jc_decode.specs.Symbols.{Step}
-use Rattle.jc_control.specs.WellFormed.{IsPlace, IsTargetPlace, Stands}
+use Rattle.jc_control.specs.WellFormed.{IsPlace, IsTargetPlace, HasInstruction}
 use Rattle.jc_ops.specs.declared.operation.Callee.{Callee}
 use Rattle.jc_ops.specs.declared.operation.Operation.{Operation}
 use Rattle.jc_ops.specs.declared.operation.Operation.TheVariants as ops
@@ -32,6 +32,7 @@ use Rattle.vm_alike.specs.Alike.{AreAlike, KeepsPlain, StayAlike, renamed_cell, 
 use Rattle.vm_alike.specs.Running.{ComeAlike, Executes, HaveKeys, call_alike, end_alike, exception_alike, keys_at, next_alike, return_alike, target_alike, throw_alike, top_code}
 use Rattle.xf_homes.specs.declared.home.Home.{Home}
 use Rattle.xf_homes.specs.Order.{register_sum}
+use Rattle.xf_homes.proofs.Rising.{each-map}
 use Rattle.xf_plan.specs.Source.{Source}
 use Rattle.xf_plan.specs.Plan.{needed, operation, register}
 use Rattle.xf_emission.specs.Edge.{is_stored}
@@ -67,10 +68,6 @@ each-over :
 each-over s values g k e [] held = tt
 each-over s values g k e (h ∷ hs) held = (holds-over s values g k e h held.0, each-over s values g k e hs held.1)
 
-pub each-given : {X : Type 0} (P Q : X → Type 0) → ((x : X) → P x → Q x) → (xs : List X) → Each P xs → Each Q xs
-each-given P Q f [] h = tt
-each-given P Q f (x ∷ xs) h = (f x h.0, each-given P Q f xs h.1)
-
 pub renamed-keeps : (f : ℕ → ℕ) → KeepsPlain tagged (renamed_cell f)
 renamed-keeps f = record { empty = refl; short = λ n. refl; high = λ n. refl; low = λ n. refl; reference = λ h. refl }
 
@@ -84,9 +81,6 @@ frames-are t runs = by t.frames runs
 
 no-targets : (code : List ℕ) (j : Placed) → targets code j ≡ [] → All (IsTargetPlace code) (targets code j)
 no-targets code j e = subst (λ ts. All (IsTargetPlace code) ts) (sym e) (λ k d lt. absurd (omega (arith, lt)))
-
-some-is : {X : Type 0} (a b : X) → Some a ≡ Some b → a ≡ b
-some-is a b e = cc
 
 pub falls-renamed : (f : ℕ → ℕ) (op : Operation) → falls_from (renamed_new f op) ≡ falls_from op
 falls-renamed f (ops.New p c) = refl
@@ -130,7 +124,7 @@ module _
   -- the method of the source in its state
   pub method-is : b.executes.method ≡ s.method.rec
   method-is =
-      some-is b.executes.method s.method.rec
+      same_Some b.executes.method s.method.rec
       (sym b.executes.fetched.method ∙ (ap (slice_get v.methods) b.of.source ∙ (method-of v w s place laid).rec))
 
   -- before the first step of the body, the target is within the group
@@ -203,7 +197,7 @@ module _
           stack = stay.alike.stack;
           holds = record {
             stored = λ x h. absurd (false≢true (sym (unstored x) ∙ h));
-            others = λ x. each-given (Holds s (top y).registers (top u)) _ (λ h held free. held) (needed s i.place x) (kept y u stay x);
+            others = λ x. each-map (Holds s (top y).registers (top u)) _ (λ h held free. held) (needed s i.place x) (kept y u stay x);
           };
         }
 

@@ -7,15 +7,16 @@ use Rattle.jc_base.specs.Class.{object}
 use Rattle.jc_base.specs.Each.{IsAmong}
 use Rattle.jc_base.specs.Laws.{IsOrderOfTypes}
 use Rattle.jc_base.specs.World.{Linked}
+use Rattle.jc_base.proofs.Lists.{All-slice_get}
 use Rattle.jc_decode.specs.declared.insn.Placed.{Placed}
 use Rattle.jc_decode.specs.declared.symbols.Item.TheVariants.{Plain}
-use Rattle.jc_control.specs.WellFormed.{IsPlace, Stands}
+use Rattle.jc_control.specs.WellFormed.{IsPlace, HasInstruction}
 use Rattle.jc_ops.specs.declared.operation.Operation.{Operation}
 use Rattle.jc_ops.specs.declared.operation.Operation.TheVariants as ops
 use Rattle.jc_ops.specs.declared.operation.Sort.{Sort}
 use Rattle.jc_ops.specs.declared.operation.Sort.TheVariants as sorts
 use Rattle.jc_ops.specs.Resolve.{Resolves}
-use Rattle.jc_rules.specs.Demand.{AllHold, Frame as Types}
+use Rattle.jc_rules.specs.Demand.{SatisfiesAll, Frame as Types}
 use Rattle.jc_ops.specs.declared.fault.RuleFault.{RuleFault}
 use Rattle.jc_rules.specs.Flow.{IsDerived, IsFollowed}
 use Rattle.jc_rules.specs.Footprint.{footprint}
@@ -44,10 +45,10 @@ use Rattle.xf_typing.specs.Edges.{NeededHaveHomes}
 use Rattle.xf_typing.specs.Whole.{DerivedAreWhole}
 use Rattle.xf_typing.proofs.Below.{loads-same}
 use Rattle.xf_typing.proofs.Carried.{is-high, is-low, is-short}
-use Rattle.xf_typing.proofs.Running.{found-below, get-in, is-reference, local-at, value-int, value-one}
+use Rattle.xf_typing.proofs.Running.{found-below, is-reference, local-at, value-int, value-one}
 use Rattle.xf_held.specs.Held.{Holds}
 use Rattle.xf_held.specs.Laws.{LoadsRunAlike, LoadsWriteNone, LocalsStay, StepsExecute}
-use Rattle.xf_held.specs.Moves.{CanRun, letter_of, size}
+use Rattle.xf_held.specs.Moves.{IsExecutable, letter_of, size}
 use Rattle.xf_held.proofs.Beside.{among-each}
 use Rattle.xf_held.proofs.Copies.{wide}
 use Rattle.xf_held.proofs.Loading.{load-resolves}
@@ -74,7 +75,7 @@ pub record IsHomeOf (s : Source) (p x : ℕ) (letter : Sort) : Type 0 where
   pub full : All IsNotBottom frame.regs
 
 -- what is loaded as a reference
-reference-letter : (a : Ty) → load_op a ≡ 21 → letter_of a ≡ sorts.Reference
+pub reference-letter : (a : Ty) → load_op a ≡ 21 → letter_of a ≡ sorts.Reference
 reference-letter Short e = absurd (omega (arith, e))
 reference-letter IntHigh e = absurd (omega (arith, e))
 reference-letter _ e = refl
@@ -96,33 +97,33 @@ module _
   value-is :
       (letter : Sort) (x : ℕ) (f : Types)
       → All IsNotBottom f.regs
-      → AllHold v.classes f (demands v (ops.Load letter x))
+      → SatisfiesAll v.classes f (demands v (ops.Load letter x))
       → IsValue f x letter
   value-is sorts.Reference x f full asked =
       let k = found-below v.classes f.regs x (Class (object v.classes)) asked.1.0 in
-      let c = is-reference v.classes types k.ty (object v.classes) k.below (get-in IsNotBottom f.regs x k.ty full k.at) in
+      let c = is-reference v.classes types k.ty (object v.classes) k.below (All-slice_get IsNotBottom f.regs x k.ty full k.at) in
       record {
         ty = k.ty;
         value = value-one f.regs x k.ty k.at c.no_half c.no_top;
         letter_is =
             reference-letter k.ty
-            (loads-same v.classes types k.ty (Class (object v.classes)) k.below (get-in IsNotBottom f.regs x k.ty full k.at) tt);
+            (loads-same v.classes types k.ty (Class (object v.classes)) k.below (All-slice_get IsNotBottom f.regs x k.ty full k.at) tt);
       }
   value-is sorts.Short x f full asked =
       let k = found-below v.classes f.regs x Short asked.1.0 in
-      let own = is-short v.classes types k.ty k.below (get-in IsNotBottom f.regs x k.ty full k.at) in
+      let own = is-short v.classes types k.ty k.below (All-slice_get IsNotBottom f.regs x k.ty full k.at) in
       record { ty = Short; value = value-one f.regs x Short (k.at ∙ ap Some own) tt tt; letter_is = refl }
   value-is sorts.Int x f full asked =
       let k = found-below v.classes f.regs x IntHigh asked.1.0 in
-      let own = is-high v.classes types k.ty k.below (get-in IsNotBottom f.regs x k.ty full k.at) in
+      let own = is-high v.classes types k.ty k.below (All-slice_get IsNotBottom f.regs x k.ty full k.at) in
       let j = found-below v.classes f.regs (x + 1) IntLow asked.1.1.0 in
-      let low = is-low v.classes types j.ty j.below (get-in IsNotBottom f.regs (x + 1) j.ty full j.at) in
+      let low = is-low v.classes types j.ty j.below (All-slice_get IsNotBottom f.regs (x + 1) j.ty full j.at) in
       record { ty = IntHigh; value = value-int f.regs x (k.at ∙ ap Some own) (j.at ∙ ap Some low); letter_is = refl }
 
   pub home-is :
       (i : Placed) (op : Operation) (letter : Sort) (x : ℕ)
       → demands v op ≡ demands v (ops.Load letter x)
-      → Stands s.method.code i
+      → HasInstruction s.method.code i
       → is_some (s.frames i.place) ≡ true
       → operation s i ≡ Ok op
       → IsHomeOf s i.place x letter
@@ -142,8 +143,8 @@ module _
           let here : Resolves v s.method.rec i.place i.insn (Ok op) =
           subst (λ u. Resolves u s.method.rec i.place i.insn (Ok op)) laid.world (sym does) in
           let same : h.steps.1.operation ≡ op = ok-is h.steps.1.operation op (h.steps.1.resolves ∙ sym here) in
-          let asked : AllHold v.classes f (demands v (ops.Load letter x)) =
-          subst (λ ds. AllHold v.classes f ds) (ap (demands v) same ∙ is) h.steps.1.does.asked in
+          let asked : SatisfiesAll v.classes f (demands v (ops.Load letter x)) =
+          subst (λ ds. SatisfiesAll v.classes f ds) (ap (demands v) same ∙ is) h.steps.1.does.asked in
           let full = (whole s.method i.place f (method-of v w s place laid)
           (subst (λ u. IsDerived u s.method Top i.place f) laid.world d)).regs in
           let k = value-is letter x f full asked in
@@ -166,7 +167,7 @@ module _
 module _
     (v : Linked) (alike_steps : StepsAreAlike v) (stand : GroupsStandAtSteps) (follow : GroupsFollow)
     (one_to_one : RenamesOneToOne v) (run_alike : LoadsRunAlike Cell) (stay : LocalsStay Cell) (writes : LoadsWriteNone v)
-    (executed : (w : Linked) → CanRun w → StepsExecute w)
+    (executed : (w : Linked) → IsExecutable w → StepsExecute w)
     (types : IsOrderOfTypes v.classes) (whole : DerivedAreWhole v) (kept : NeededAreKept)
     (small : (s : Source) (h : Home) → s.world ≡ v → IsPlanned s → HasRegister s.homes h → register s h < 256)
     (needs : NeededHaveHomes v) where

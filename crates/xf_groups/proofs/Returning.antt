@@ -9,9 +9,10 @@ use Rattle.jc_decode.specs.declared.symbols.Item.TheVariants.{Plain}
 use Rattle.jc_decode.specs.Listing.{listing}
 use Rattle.jc_decode.specs.Standing.{AreSteps}
 use Rattle.jc_decode.specs.Symbols.{Step}
-use Rattle.jc_control.specs.WellFormed.{IsPlace, Stands}
+use Rattle.jc_control.specs.WellFormed.{IsPlace, HasInstruction}
 use Rattle.jc_ops.specs.declared.operation.Callee.{Callee}
 use Rattle.jc_ops.specs.declared.operation.Operation.TheVariants.{Call}
+use Rattle.xf_homes.proofs.Rising.{each-map}
 use Rattle.vm_store.specs.declared.cell.Cell.{Cell}
 use Rattle.vm_store.specs.State.{State, Frame, IsRunning, top}
 use Rattle.vm_step.specs.Methods.{code_at, instruction_at}
@@ -34,7 +35,7 @@ use Rattle.xf_groups.proofs.Arriving.{falls-arrive}
 use Rattle.xf_groups.proofs.Context.{reached-some, steps-are}
 use Rattle.xf_groups.proofs.Following.{next-place, steps-here}
 use Rattle.xf_groups.proofs.Grouping.{fallen-plain}
-use Rattle.xf_groups.proofs.Plain.{each-given, frames-are}
+use Rattle.xf_groups.proofs.Plain.{frames-are}
 use Rattle.xf_groups.proofs.Standing.{stand-as, step-at}
 
 -- a call is kept
@@ -103,7 +104,7 @@ module _
         holds = record {
           stored = λ x e. absurd (false≢true e);
           others = λ x.
-              each-given (Holds s (top z).registers (top t)) _ (λ h held free. held) (needed s i.place x) (after.locals x);
+              each-map (Holds s (top z).registers (top t)) _ (λ h held free. held) (needed s i.place x) (after.locals x);
         };
       }) typed after.next (after.at ∙ ap (λ k. place (body_at s i.place + k)) (sym kept))
       (fallen-plain s i op refl refl) in

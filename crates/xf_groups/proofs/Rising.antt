@@ -11,7 +11,7 @@ use Rattle.jc_decode.specs.declared.symbols.Item.TheVariants.{Label}
 use Rattle.jc_decode.specs.Laws.{InstructionsAreListed}
 use Rattle.jc_decode.specs.Listing.{listing}
 use Rattle.jc_decode.specs.Symbols.{IsOnce, place_of}
-use Rattle.jc_control.specs.WellFormed.{Stands}
+use Rattle.jc_control.specs.WellFormed.{HasInstruction}
 use Rattle.xf_plan.specs.Source.{Source}
 use Rattle.xf_emission.specs.Emission.{items}
 use Rattle.xf_emission.specs.Group.{group}
@@ -65,9 +65,9 @@ module _
   -- the group of a later reached instruction comes after that of an earlier one
   pub groups-rise :
       (i j : Placed)
-      → Stands s.method.code i
+      → HasInstruction s.method.code i
       → is_some (s.frames i.place) ≡ true
-      → Stands s.method.code j
+      → HasInstruction s.method.code j
       → is_some (s.frames j.place) ≡ true
       → i.place < j.place
       → group_at s i.place + count_of (group s i) ≤ group_at s j.place

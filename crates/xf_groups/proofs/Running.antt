@@ -16,7 +16,7 @@ use Rattle.vm_alike.specs.Running.{Executes}
 use Rattle.xf_plan.specs.Source.{Source}
 use Rattle.xf_typing.specs.Edges.{CellsFillStack, NeededHaveHomes}
 use Rattle.xf_typing.proofs.Turns.{none-asked}
-use Rattle.xf_held.specs.Moves.{CanRun}
+use Rattle.xf_held.specs.Moves.{IsExecutable}
 use Rattle.xf_held.specs.Edges.{CellsAreFew, CopiesAreFew, EdgesRun, KeptStacksStay, LeadersLoad, StacksSpill}
 use Rattle.xf_groups.specs.Laid.{IsLaidIn}
 use Rattle.xf_groups.specs.Beside.{AreEqualBut, IsAtGroup, IsTypedAt, StaysTyped}
@@ -35,10 +35,10 @@ pub groups-run :
     → GroupsFollow
     → NeededHaveHomes v
     → CellsFillStack v
-    → ((w : Linked) → CanRun w → LeadersLoad v w)
-    → ((w : Linked) → CanRun w → StacksSpill v w)
-    → ((w : Linked) → CanRun w → KeptStacksStay v w)
-    → ((w : Linked) → CanRun w → EdgesRun v w)
+    → ((w : Linked) → IsExecutable w → LeadersLoad v w)
+    → ((w : Linked) → IsExecutable w → StacksSpill v w)
+    → ((w : Linked) → IsExecutable w → KeptStacksStay v w)
+    → ((w : Linked) → IsExecutable w → EdgesRun v w)
     → CopiesAreFew v
     → CellsAreFew v
     → KeptGroupsRun v

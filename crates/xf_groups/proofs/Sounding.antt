@@ -24,7 +24,7 @@ use Rattle.jc_ops.specs.Resolve.{Resolves, described, is_described, only, passes
 use Rattle.jc_ops.specs.Sound.{IsSound, IsChosen, IsCalleeOf, OperationsAreSound, receiver_count}
 use Rattle.xf_landed.specs.Apart.{apart_from_code, IsSameBut}
 use Rattle.xf_landed.specs.Laws.{MethodsAreKept, OperationsAreKept}
-use Rattle.xf_held.specs.Moves.{CanRun}
+use Rattle.xf_held.specs.Moves.{IsExecutable}
 
 module _ (v w : Linked) (same : IsSameBut v w) (methods_kept : MethodsAreKept) (operations_kept : OperationsAreKept) where
   abbrev Alike : Option MethodRec → Option MethodRec → Type 0
@@ -168,7 +168,7 @@ module _ (v w : Linked) (same : IsSameBut v w) (methods_kept : MethodsAreKept) (
   apart-declared [] all = all
   apart-declared (m ∷ ms) all = (all.0.result, apart-declared ms all.1)
 
-  pub can-run : IsWorld v → OperationsAreSound v → CanRun w
+  pub can-run : IsWorld v → OperationsAreSound v → IsExecutable w
   can-run world sound =
       let declared : Each (λ (m : MethodRec). IfSome m.sig.result (IsDeclared v.classes)) (map apart_from_code v.methods) =
       apart-declared v.methods (Each-from_All (IsMethod v.infos v.pools v.classes) v.methods world.methods) in

@@ -6,7 +6,7 @@ use Rattle.jc_decode.specs.declared.insn.Placed.{Placed}
 use Rattle.jc_decode.specs.declared.symbols.Item.{Item}
 use Rattle.jc_decode.specs.declared.symbols.Item.TheVariants.{Label}
 use Rattle.jc_decode.specs.Symbols.{Step, steps_in}
-use Rattle.jc_control.specs.WellFormed.{Stands}
+use Rattle.jc_control.specs.WellFormed.{HasInstruction}
 use Rattle.jc_ops.specs.declared.operation.Operation.{Operation}
 use Rattle.jc_rules.specs.Demand.{Frame}
 use Rattle.xf_homes.specs.declared.home.Home.{Home}
@@ -17,7 +17,7 @@ use Rattle.xf_emission.specs.Emission.{items}
 use Rattle.xf_emission.specs.Group.{body, done, entered, fallen, group, group_by}
 use Rattle.xf_emission.specs.Laws.{IsCode}
 use Rattle.xf_groups.specs.Laid.{body_at, count_of, group_at, loaded_at, steps_of}
-use Rattle.xf_groups.specs.Steps.{GroupsStandAtSteps, StandFrom}
+use Rattle.xf_groups.specs.Steps.{GroupsStandAtSteps, ItemsStandFrom}
 use Rattle.xf_groups.proofs.Placing.{count-append, steps-append, steps-count}
 
 -- ---- parts
@@ -31,14 +31,14 @@ module _ (s : Source) (n : ℕ) where
   made is = steps_in s.method.code (items s) is
 
   split-parts :
-      (xs ys : List Item) (st : StandFrom s n (xs ++ ys))
+      (xs ys : List Item) (st : ItemsStandFrom s n (xs ++ ys))
       → steps_of s ≡ st.before ++ (made xs ++ (made ys ++ st.after))
   split-parts xs ys st =
       st.parts
       ∙ (ap (λ ss. st.before ++ (ss ++ st.after)) (steps-append s.method.code (items s) xs ys)
       ∙ ap (λ ss. st.before ++ ss) (append_assoc (made xs) (made ys) st.after))
 
-  pub stand-first : (xs ys : List Item) → StandFrom s n (xs ++ ys) → StandFrom s n xs
+  pub stand-first : (xs ys : List Item) → ItemsStandFrom s n (xs ++ ys) → ItemsStandFrom s n xs
   stand-first xs ys st = record {
     before = st.before;
     after = made ys ++ st.after;
@@ -46,7 +46,7 @@ module _ (s : Source) (n : ℕ) where
     at = st.at;
   }
 
-  pub stand-last : (xs ys : List Item) → StandFrom s n (xs ++ ys) → StandFrom s (n + count_of xs) ys
+  pub stand-last : (xs ys : List Item) → ItemsStandFrom s n (xs ++ ys) → ItemsStandFrom s (n + count_of xs) ys
   stand-last xs ys st =
       let size = steps-count s.method.code (items s) xs in
       let both = length-append st.before (made xs) in
@@ -59,13 +59,13 @@ module _ (s : Source) (n : ℕ) where
       }
 
   -- a label takes no step
-  pub stand-labelled : (l : ℕ) (xs : List Item) → StandFrom s n (Label l ∷ xs) → StandFrom s n xs
+  pub stand-labelled : (l : ℕ) (xs : List Item) → ItemsStandFrom s n (Label l ∷ xs) → ItemsStandFrom s n xs
   stand-labelled l xs st = record { before = st.before; after = st.after; parts = st.parts; at = st.at }
 
   -- the first step
   pub step-at :
       (x : Item) (ys : List Item) (step : Step) (rest : List Step)
-      → StandFrom s n (x ∷ ys)
+      → ItemsStandFrom s n (x ∷ ys)
       → made (x ∷ ys) ≡ step ∷ rest
       → slice_get (steps_of s) n ≡ Some step
   step-at x ys step rest st e =
@@ -74,7 +74,7 @@ module _ (s : Source) (n : ℕ) where
       ∙ found-at st.before step (rest ++ st.after))
 
   -- all of them
-  pub stand-inside : (xs : List Item) → StandFrom s n xs → n + count_of xs ≤ length (steps_of s)
+  pub stand-inside : (xs : List Item) → ItemsStandFrom s n xs → n + count_of xs ≤ length (steps_of s)
   stand-inside xs st =
       let size = steps-count s.method.code (items s) xs in
       let one = length-append st.before (made xs ++ st.after) in
@@ -83,11 +83,11 @@ module _ (s : Source) (n : ℕ) where
       let here = st.at in
       omega (arith, size, one, two, whole, here)
 
-pub stand-at : (s : Source) (n m : ℕ) (xs : List Item) → n ≡ m → StandFrom s n xs → StandFrom s m xs
-stand-at s n m xs e st = subst (λ k. StandFrom s k xs) e st
+pub stand-at : (s : Source) (n m : ℕ) (xs : List Item) → n ≡ m → ItemsStandFrom s n xs → ItemsStandFrom s m xs
+stand-at s n m xs e st = subst (λ k. ItemsStandFrom s k xs) e st
 
-pub stand-as : (s : Source) (n : ℕ) (xs ys : List Item) → xs ≡ ys → StandFrom s n xs → StandFrom s n ys
-stand-as s n xs ys e st = subst (StandFrom s n) e st
+pub stand-as : (s : Source) (n : ℕ) (xs ys : List Item) → xs ≡ ys → ItemsStandFrom s n xs → ItemsStandFrom s n ys
+stand-as s n xs ys e st = subst (ItemsStandFrom s n) e st
 
 -- ---- groups
 
@@ -119,17 +119,17 @@ count-loads s (h ∷ hs) = ap suc (count-loads s hs)
 
 -- where the parts of a group stand
 pub record GroupSteps (s : Source) (i : Placed) (op : Operation) : Type 0 where
-  pub whole : StandFrom s (group_at s i.place) (group s i)
-  pub load_steps : StandFrom s (group_at s i.place) (loads s (loaded_at s i.place))
-  pub body_steps : StandFrom s (body_at s i.place) (body s i op)
-  pub fallen_steps : StandFrom s (body_at s i.place + count_of (body s i op)) (fallen s i op)
+  pub whole : ItemsStandFrom s (group_at s i.place) (group s i)
+  pub load_steps : ItemsStandFrom s (group_at s i.place) (loads s (loaded_at s i.place))
+  pub body_steps : ItemsStandFrom s (body_at s i.place) (body s i op)
+  pub fallen_steps : ItemsStandFrom s (body_at s i.place + count_of (body s i op)) (fallen s i op)
   pub size : count_of (group s i) ≡ length (loaded_at s i.place) + (count_of (body s i op) + count_of (fallen s i op))
 
 pub group-steps :
     GroupsStandAtSteps
     → (s : Source) (i : Placed) (op : Operation)
     → IsCode s
-    → Stands s.method.code i
+    → HasInstruction s.method.code i
     → is_some (s.frames i.place) ≡ true
     → operation s i ≡ Ok op
     → GroupSteps s i op
@@ -140,10 +140,10 @@ group-steps stand s i op code stands reached does =
     let fs = fallen s i op in
     let parts = group-parts s i op reached does in
     let whole = stand s i code stands reached in
-    let inner : StandFrom s n (ls ++ (bs ++ fs)) =
+    let inner : ItemsStandFrom s n (ls ++ (bs ++ fs)) =
     stand-labelled s n i.place (ls ++ (bs ++ fs)) (stand-as s n (group s i) (Label i.place ∷ (ls ++ (bs ++ fs))) parts whole) in
     let count = count-loads s (loaded_at s i.place) in
-    let later : StandFrom s (body_at s i.place) (bs ++ fs) =
+    let later : ItemsStandFrom s (body_at s i.place) (bs ++ fs) =
     stand-at s (n + count_of ls) (body_at s i.place) (bs ++ fs) (ap (λ k. n + k) count) (stand-last s n ls (bs ++ fs) inner) in
     let total : count_of (group s i) ≡ count_of (ls ++ (bs ++ fs)) = ap count_of parts in
     let one = count-append ls (bs ++ fs) in

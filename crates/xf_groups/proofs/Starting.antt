@@ -1,7 +1,7 @@
 -- At the start of a method: arguments are copied to their homes, and then comes the first group.
 use Rattle.std.proofs.Common.{◌≡◌, ℕ, suc, ◌+◌, ◌-◌, ◌<◌, ◌≤◌, Bool, true, false, if◌then◌else◌, List, [], ◌∷◌, ◌++◌, length, map, flat_map, replicate, reverse, refl, sym, ap, ◌∙◌, subst, arith, append_assoc}
 use Rattle.std.specs.Prelude.{Option, Some, None, Ok, IsSomeAnd, is_some, slice_get, sum_by}
-use Rattle.std.proofs.lemmas.List.{length-append, length-map, length-replicate}
+use Rattle.std.proofs.lemmas.List.{length-append, length-map, length-replicate, nil_from_length}
 use Rattle.std.proofs.lemmas.List.Concat.{flat_map-cons}
 use Rattle.std.proofs.lemmas.List.Sums.{sum_by-append}
 use Rattle.jc_base.specs.declared.record.MethodRec.{MethodRec}
@@ -17,7 +17,7 @@ use Rattle.jc_decode.specs.Laws.{InstructionsAreListed}
 use Rattle.jc_decode.specs.Listing.{listing}
 use Rattle.jc_decode.specs.Symbols.{IsOnce, place_of, steps_in}
 use Rattle.jc_control.specs.Control.{IsReached}
-use Rattle.jc_control.specs.WellFormed.{Stands}
+use Rattle.jc_control.specs.WellFormed.{HasInstruction}
 use Rattle.jc_rules.specs.Demand.{Frame as Types}
 use Rattle.jc_rules.specs.Flow.{FrameBelow, receiver_of}
 use Rattle.vm_store.specs.declared.cell.Cell.{Cell}
@@ -47,7 +47,7 @@ use Rattle.xf_held.proofs.Beside.{among-each, each-among, held-as}
 use Rattle.xf_groups.specs.Laid.{IsLaidIn, count_of, group_at, rename, steps_of}
 use Rattle.xf_groups.specs.Beside.{AreEqualBut, AreOf, HeldOrWaits, IsTypedAt}
 use Rattle.xf_groups.specs.Comes.{ComesToGroup, ComesWithin}
-use Rattle.xf_groups.specs.Steps.{GroupsFollow, GroupsStandAtSteps, StandFrom, StartsStandAtSteps}
+use Rattle.xf_groups.specs.Steps.{GroupsFollow, GroupsStandAtSteps, ItemsStandFrom, StartsStandAtSteps}
 use Rattle.xf_groups.proofs.Arriving.{at-step, beside, leader-holds, other-holds, same-count}
 use Rattle.xf_groups.proofs.Context.{here-at, method-of, reached-some, target-at}
 use Rattle.xf_groups.proofs.Going.{group-inside}
@@ -88,10 +88,6 @@ starts-stand once listed s i code stands reached zero_at =
     )
 
 -- ---- the first group
-
-pub no-cells : {X : Type 0} (xs : List X) → length xs ≡ 0 → xs ≡ []
-no-cells [] e = refl
-no-cells (x ∷ xs) e = absurd (omega (arith, e))
 
 module _
     (v w : Linked) (world : IsWorld v) (s : Source) (place : ℕ → ℕ) (laid : IsLaidIn v w s place)
@@ -175,7 +171,7 @@ module _
             let one = same-count v.classes below.stack in
             let two : length (least_types v.classes Top (kinds z) (top z).stack) ≡ length (top z).stack = length-map (top z).stack _ in
             let three = ap length bare in
-            ap reverse (no-cells f.stack (omega (arith, one, two, three)))
+            ap reverse (nil_from_length f.stack (omega (arith, one, two, three)))
 
     pub start-enters : ComesWithin w 0 1000 t (ComesToGroup s place z t)
     start-enters =

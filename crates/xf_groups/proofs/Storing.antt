@@ -11,6 +11,7 @@ use Rattle.jc_base.specs.Each.{Each, IsAmong}
 use Rattle.jc_base.specs.Laws.{IsOrderOfTypes, SameTypeDecides}
 use Rattle.jc_base.specs.Order.{Below}
 use Rattle.jc_base.specs.World.{Linked, IsWorld}
+use Rattle.jc_base.proofs.Lists.{All-slice_get}
 use Rattle.jc_decode.specs.declared.insn.Insn.{Insn}
 use Rattle.jc_decode.specs.declared.insn.Placed.{Placed}
 use Rattle.jc_decode.specs.declared.symbols.Item.{Item}
@@ -19,7 +20,7 @@ use Rattle.jc_ops.specs.declared.operation.Operation.TheVariants as ops
 use Rattle.jc_ops.specs.declared.operation.Sort.{Sort}
 use Rattle.jc_ops.specs.declared.operation.Sort.TheVariants as sorts
 use Rattle.jc_ops.specs.Sound.{OperationsAreDecided}
-use Rattle.jc_rules.specs.Demand.{Frame as Types, AllHold}
+use Rattle.jc_rules.specs.Demand.{Frame as Types, SatisfiesAll}
 use Rattle.jc_rules.specs.Flow.{CellsBelow, no_cells, more_cells, FrameBelow, IsFit, IsNotTop}
 use Rattle.jc_rules.specs.Rule.{demands}
 use Rattle.vm_store.specs.declared.cell.Cell.{Cell}
@@ -52,10 +53,9 @@ use Rattle.xf_plan.specs.Plan.{needed}
 use Rattle.xf_emission.specs.Edge.{is_stored}
 use Rattle.xf_emission.specs.Group.{body, stored}
 use Rattle.xf_emission.specs.Move.{copy}
-use Rattle.xf_typing.proofs.Below.{get-all}
 use Rattle.xf_held.specs.Edges.{insns, moved, HoldsAfter, IsBeside}
 use Rattle.xf_held.specs.Held.{Holds}
-use Rattle.xf_held.specs.Moves.{CanRun, letter_of, value_at}
+use Rattle.xf_held.specs.Moves.{IsExecutable, letter_of, value_at}
 use Rattle.xf_held.specs.Stores.{AreStored, HasLocal}
 use Rattle.xf_held.proofs.Valued.{asked_types, IsCellOf, CellsAt, cell-of, load-asked, load-filled}
 use Rattle.xf_held.proofs.Few.{same-value, one-few}
@@ -64,7 +64,7 @@ use Rattle.xf_held.proofs.Beside.{AreLaws, Typed, each-among, among-each, object
 use Rattle.xf_groups.specs.Laid.{IsLaidIn, body_at, count_of, rename, steps_of}
 use Rattle.xf_groups.specs.Beside.{AreEqualBut, AreOf, IsTypedAt, StaysTyped}
 use Rattle.xf_groups.specs.Body.{AreAfter, AreAtBody, BodyComes, BodyRuns, body_falls}
-use Rattle.xf_groups.specs.Steps.{GroupsFollow, GroupsStandAtSteps, StandFrom}
+use Rattle.xf_groups.specs.Steps.{GroupsFollow, GroupsStandAtSteps, ItemsStandFrom}
 use Rattle.xf_groups.specs.Storing.{StoreBodiesRun}
 use Rattle.xf_groups.proofs.Arriving.{at-step, beside, depth-fits}
 use Rattle.xf_groups.proofs.Following.{next-of, steps-here}
@@ -91,7 +91,7 @@ nth-is (d ∷ ds) (suc n) c e = nth-is ds n c e
 module _ (v : Linked) (world : IsWorld v) (decided : OperationsAreDecided v) (i : Placed) (letter : Sort) (x : ℕ) where
   -- what a store that meets no fault comes to
   record HasStored (f : Frame Cell) (below : List (Frame Cell)) (heap : List (Object Cell)) (statics : List Cell) (o : Outcome Cell) : Type 0 where
-    asked : AllHold v.classes (types_in v.classes Bottom (map (λ (q : Object Cell). q.kind) heap) f) (demands v (ops.Store letter x))
+    asked : SatisfiesAll v.classes (types_in v.classes Bottom (map (λ (q : Object Cell). q.kind) heap) f) (demands v (ops.Store letter x))
     comes :
         o
         ≡ running (with_place (with_store tagged letter x (record { frames = f ∷ below; heap = heap; statics = statics })) (i.place + i.insn.len))
@@ -253,7 +253,7 @@ stored-few s letter (h ∷ hs) le = let c = copies-few s h hs in (omega arith, o
 
 module _
     (v : Linked) (world : IsWorld v) (decided : OperationsAreDecided v) (same_is : SameTypeDecides)
-    (stand : GroupsStandAtSteps) (follow : GroupsFollow) (laws : (w : Linked) → CanRun w → AreLaws v w) (kept : NeededAreKept)
+    (stand : GroupsStandAtSteps) (follow : GroupsFollow) (laws : (w : Linked) → IsExecutable w → AreLaws v w) (kept : NeededAreKept)
     (w : Linked) (s : Source) (place : ℕ → ℕ) (laid : IsLaidIn v w s place) (i : Placed) (x : ℕ)
     (f : Frame Cell) (below : List (Frame Cell)) (heap : List (Object Cell)) (statics : List Cell) (t : State Cell) where
   abbrev z : State Cell
@@ -284,7 +284,7 @@ module _
         let here : slice_get (least_types w.classes Top (kinds t) f.stack) n ≡ Some (least_type w.classes Top (kinds t) c) =
         slice_get-map (least_type w.classes Top (kinds t)) f.stack n ∙ ap (option_map (least_type w.classes Top (kinds t))) e in
         let above = over-at w.classes (least_types w.classes Top (kinds t) f.stack) ty_z.frame.stack n (least_type w.classes Top (kinds t) c) ty_z.below.stack here in
-        (cell-of w.classes (types v w l s laid.world laid.planned f.place f t beside_z) (objects v w l s laid.world laid.planned f.place f t beside_z) (kinds t) c above.0 above.2 (get-all IsNotTop ty_z.frame.stack n above.0 no_top above.1)).0
+        (cell-of w.classes (types v w l s laid.world laid.planned f.place f t beside_z) (objects v w l s laid.world laid.planned f.place f t beside_z) (kinds t) c above.0 above.2 (All-slice_get IsNotTop ty_z.frame.stack n above.0 no_top above.1)).0
       where
         no_top : All IsNotTop ty_z.frame.stack
         no_top = by (s.frames f.place) ty_z.at (laid.planned.typing.fit f.place b.typed.reached)
@@ -364,7 +364,7 @@ module _
       stored_there =
           stores-run v w l place (steps_of s) t (body_at s i.place) s letter q x (top (y after rest)) (map (renamed_cell (rename s place)) rest) laid.world laid.planned beside_y local_y
           (at-step v w s place laid t (body_at s i.place) (length (insns (stored s letter (needed s q x)))) (omega (arith, b.equal.frames)) b.of.target b.at further)
-          (moves-stand s (body_at s i.place) (stored s letter (needed s q x)) moves (subst (StandFrom s (body_at s i.place)) body_is g.body_steps))
+          (moves-stand s (body_at s i.place) (stored s letter (needed s q x)) moves (subst (ItemsStandFrom s (body_at s i.place)) body_is g.body_steps))
           stack_t
           (let deep = depth-fits v w s place laid z b.typed in let e = ap length b.held.stack in let m = length-map f.stack (renamed_cell (rename s place)) in omega (arith, deep, e, m))
 
@@ -489,7 +489,7 @@ module _
 
 pub store-bodies-run :
     (v : Linked) → IsWorld v → OperationsAreDecided v → SameTypeDecides → GroupsStandAtSteps → GroupsFollow
-    → ((w : Linked) → CanRun w → AreLaws v w) → NeededAreKept → StoreBodiesRun v
+    → ((w : Linked) → IsExecutable w → AreLaws v w) → NeededAreKept → StoreBodiesRun v
 store-bodies-run v world decided same_is stand follow laws kept w s place i letter x z t o laid b step fine stays =
     by z.frames z.heap z.statics b step
   where

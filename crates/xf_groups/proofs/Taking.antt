@@ -10,7 +10,7 @@ use Rattle.jc_decode.specs.Listing.{listing, targets}
 use Rattle.jc_decode.specs.Standing.{AreSteps}
 use Rattle.jc_decode.specs.Symbols.{jump, place_of}
 use Rattle.jc_control.specs.Control.{IsReached}
-use Rattle.jc_control.specs.WellFormed.{Stands}
+use Rattle.jc_control.specs.WellFormed.{HasInstruction}
 use Rattle.jc_ops.specs.declared.operation.Operation.{Operation}
 use Rattle.vm_store.specs.declared.cell.Cell.{Cell}
 use Rattle.vm_store.specs.Cells.{tagged}
@@ -37,7 +37,7 @@ use Rattle.xf_held.proofs.Beside.{among-each, each-among, held-as, held-in-regis
 use Rattle.xf_groups.specs.Laid.{IsLaidIn, count_of, group_at, steps_of}
 use Rattle.xf_groups.specs.Beside.{AreEqualBut, AreOf, IsTypedAt}
 use Rattle.xf_groups.specs.Comes.{ComesToGroup, ComesWithin}
-use Rattle.xf_groups.specs.Steps.{GroupsFollow, GroupsStandAtSteps, StandFrom, StubsStandAtSteps}
+use Rattle.xf_groups.specs.Steps.{GroupsFollow, GroupsStandAtSteps, ItemsStandFrom, StubsStandAtSteps}
 use Rattle.xf_groups.proofs.Arriving.{at-step, beside, kept-registers, leader-holds, leader-keeps, runs-then, still-after}
 use Rattle.xf_groups.proofs.Context.{Here, here-at, reached-some, steps-are, target-at}
 use Rattle.xf_groups.proofs.Going.{group-inside}
@@ -95,7 +95,7 @@ module _
 
   pub taken-runs :
       (m : ℕ)
-      → StandFrom s m (taken s p op n q)
+      → ItemsStandFrom s m (taken s p op n q)
       → (top x).place ≡ place m
       → m + count_of (taken s p op n q) < length (steps_of s)
       → Taken m
@@ -124,7 +124,7 @@ module _
       (λ h known own. held-in-registers s (top y) (top x1) h own.known
       (held-as s (slots (top y)) (record (top x) { registers = a.registers }) (top x1) h refl
       (a.others h known.has (held-in-slots s (top y) (top x) h own)))) before in
-      let rest : StandFrom s r cs =
+      let rest : ItemsStandFrom s r cs =
       stand-at s (m + count_of cc_items) r cs (ap (λ k. m + k) first_size) (stand-last s m cc_items cs st) in
       let c = edges place (steps_of s) x1 r s (After p op) q (top y) laid.world laid.planned
       (beside v w s place laid y x1 typed equal.heap of1) leads
@@ -218,7 +218,7 @@ module _
   -- where these items are followed by the group
   pub taken-falls :
       (m : ℕ)
-      → StandFrom s m (taken s p op n q)
+      → ItemsStandFrom s m (taken s p op n q)
       → (top x).place ≡ place m
       → m + count_of (taken s p op n q) ≡ group_at s q
       → ComesWithin w 0 1018 x (ComesToGroup s place y x)
@@ -233,7 +233,7 @@ module _
   -- where a goto follows
   pub taken-goes :
       (m : ℕ)
-      → StandFrom s m (taken s p op n q ++ goto q ∷ [])
+      → ItemsStandFrom s m (taken s p op n q ++ goto q ∷ [])
       → (top x).place ≡ place m
       → ComesWithin w 0 1019 x (ComesToGroup s place y x)
   taken-goes m st at =
@@ -244,7 +244,7 @@ module _
       let a = taken-runs m (stand-first s m ts (goto q ∷ []) st) at (omega (arith, all, both, one)) in
       let k : ℕ = m + count_of ts in
       let x1 : State Cell = moved x (place k) a.registers [] in
-      let rest : StandFrom s k (goto q ∷ []) = stand-last s m ts (goto q ∷ []) st in
+      let rest : ItemsStandFrom s k (goto q ∷ []) = stand-last s m ts (goto q ∷ []) st in
       let found : slice_get (steps_of s) k ≡ Some (record { insn = jump 168; targets = group_at s q ∷ []; keys = [] }) =
       step-at s k (goto q) [] (record { insn = jump 168; targets = place_of q (items s) ∷ []; keys = [] }) [] rest refl in
       let method : (top x1).method ≡ s.method.number = of.target in
@@ -262,7 +262,7 @@ module _
       StubsStandAtSteps
       → (i : Placed) (k : ℕ)
       → i.place ≡ p
-      → Stands s.method.code i
+      → HasInstruction s.method.code i
       → operation s i ≡ Ok op
       → operands_of s.world (Ok op) ≡ Some n
       → slice_get (targets s.method.code i) k ≡ Some (pos q)
@@ -277,10 +277,10 @@ module _
           let also : is_some (s.frames h.instruction.place) ≡ true =
           ap (λ r. is_some (s.frames r)) h.at ∙ reached-some v w s place laid q typed.reached in
           let whole = stand s h.instruction laid.planned.code h.stands also in
-          let none : StandFrom s (group_at s q) [] =
-          subst (λ r. StandFrom s (group_at s r) []) h.at (stand-first s (group_at s h.instruction.place) [] (group s h.instruction) whole) in
+          let none : ItemsStandFrom s (group_at s q) [] =
+          subst (λ r. ItemsStandFrom s (group_at s r) []) h.at (stand-first s (group_at s h.instruction.place) [] (group s h.instruction) whole) in
           let zero_count : count_of (taken s p op n q) ≡ 0 = ap count_of e in
-          taken-falls (group_at s q) (subst (StandFrom s (group_at s q)) (sym e) none) there (omega (arith, zero_count))
+          taken-falls (group_at s q) (subst (ItemsStandFrom s (group_at s q)) (sym e) none) there (omega (arith, zero_count))
 
       wider : ComesWithin w 0 1018 x (ComesToGroup s place y x) → ComesWithin w 0 1019 x (ComesToGroup s place y x)
       wider c =
@@ -297,13 +297,13 @@ module _
           let some_taken : taken s i.place op n q ≢ [] = λ none. absurd (let bad = sym none ∙ (ap (λ r. taken s r op n q) here ∙ e) in not-none t ts bad) in
           let reached : is_some (s.frames i.place) ≡ true = reached-some v w s place laid i.place (subst (IsReached s.method) (sym here) from_p) in
           let st = stubs s i op n k (pos q) laid.planned.code stands reached does some target some_taken in
-          let own : StandFrom s (place_of (stub_label p k) (items s)) (stub_of (stub_label p k) q (taken s p op n q)) =
-          subst (λ r. StandFrom s (place_of (stub_label r k) (items s)) (stub_of (stub_label r k) q (taken s r op n q))) here st in
-          let shown : StandFrom s (place_of (stub_label p k) (items s)) (Label (stub_label p k) ∷ ((t ∷ ts) ++ goto q ∷ [])) =
+          let own : ItemsStandFrom s (place_of (stub_label p k) (items s)) (stub_of (stub_label p k) q (taken s p op n q)) =
+          subst (λ r. ItemsStandFrom s (place_of (stub_label r k) (items s)) (stub_of (stub_label r k) q (taken s r op n q))) here st in
+          let shown : ItemsStandFrom s (place_of (stub_label p k) (items s)) (Label (stub_label p k) ∷ ((t ∷ ts) ++ goto q ∷ [])) =
           stand-as s (place_of (stub_label p k) (items s)) (stub_of (stub_label p k) q (taken s p op n q)) _
           (ap (stub_of (stub_label p k) q) e) own in
           taken-goes (place_of (stub_label p k) (items s))
-          (subst (λ us. StandFrom s (place_of (stub_label p k) (items s)) (us ++ goto q ∷ [])) (sym e)
+          (subst (λ us. ItemsStandFrom s (place_of (stub_label p k) (items s)) (us ++ goto q ∷ [])) (sym e)
           (stand-labelled s (place_of (stub_label p k) (items s)) (stub_label p k) ((t ∷ ts) ++ goto q ∷ []) shown))
           (there ∙ ap (λ us. place (place_of (label_by q (stub_label p k) us) (items s))) e)
         where

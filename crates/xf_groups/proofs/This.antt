@@ -1,22 +1,22 @@
 -- Fields of `this`: the home of local 0, and instructions that stay where its register is 0.
 use Rattle.std.proofs.Common.{◌≡◌, ℕ, suc, ◌+◌, ◌<◌, ◌≤◌, true, false, List, [], ◌∷◌, length, map, refl, sym, ap, ◌∙◌, subst, arith}
-use Rattle.std.specs.Prelude.{Option, Some, None, Result, Ok, IfSome, IsSomeAnd, is_some, slice_get}
+use Rattle.std.specs.Prelude.{Option, Some, None, Ok, IfSome, IsSomeAnd, is_some, slice_get}
 use Rattle.jc_base.specs.declared.ty.Ty.{Ty}
-use Rattle.jc_base.specs.declared.ty.Ty.TheVariants.{Short, IntHigh, Class, Top}
+use Rattle.jc_base.specs.declared.ty.Ty.TheVariants.{IntHigh, Class, Top}
 use Rattle.jc_base.specs.Each.{IsAmong}
 use Rattle.jc_base.specs.Laws.{IsOrderOfTypes}
 use Rattle.jc_base.specs.Order.{Below}
 use Rattle.jc_base.specs.World.{Linked}
+use Rattle.jc_base.proofs.Lists.{All-slice_get}
 use Rattle.jc_decode.specs.declared.insn.Placed.{Placed}
 use Rattle.jc_decode.specs.declared.symbols.Item.TheVariants.{Plain}
-use Rattle.jc_control.specs.WellFormed.{IsPlace, Stands}
-use Rattle.jc_ops.specs.declared.fault.RuleFault.{RuleFault}
+use Rattle.jc_control.specs.WellFormed.{IsPlace, HasInstruction}
 use Rattle.jc_ops.specs.declared.operation.Operation.{Operation}
 use Rattle.jc_ops.specs.declared.operation.Sort.TheVariants as sorts
 use Rattle.jc_ops.specs.Alike.{IsAlike, equal}
 use Rattle.jc_ops.specs.Next.{falls_from, jumps_from}
 use Rattle.jc_ops.specs.Resolve.{Resolves}
-use Rattle.jc_rules.specs.Demand.{AllHold, Frame as Types}
+use Rattle.jc_rules.specs.Demand.{SatisfiesAll, Frame as Types}
 use Rattle.jc_rules.specs.Flow.{IsDerived, IsFollowed}
 use Rattle.jc_rules.specs.Footprint.{footprint, registers_asked, registers_read}
 use Rattle.jc_rules.specs.Laws.{IsNotBottom}
@@ -41,13 +41,13 @@ use Rattle.xf_plan.specs.Source.{Source}
 use Rattle.xf_plan.specs.Plan.{needed, operation, register}
 use Rattle.xf_emission.specs.Edge.{is_stored}
 use Rattle.xf_emission.specs.Group.{body}
-use Rattle.xf_emission.specs.Move.{load_op}
+use Rattle.xf_emission.proofs.RowByRow.{ok-same}
 use Rattle.xf_typing.specs.Whole.{DerivedAreWhole}
 use Rattle.xf_typing.proofs.Below.{loads-same}
-use Rattle.xf_typing.proofs.Running.{found-below, get-in, is-reference, local-at, value-one}
+use Rattle.xf_typing.proofs.Running.{found-below, is-reference, local-at, value-one}
 use Rattle.xf_held.specs.Held.{Holds}
 use Rattle.xf_held.specs.Laws.{LocalsStay, StepsExecute}
-use Rattle.xf_held.specs.Moves.{CanRun, letter_of}
+use Rattle.xf_held.specs.Moves.{IsExecutable}
 use Rattle.xf_held.proofs.Beside.{among-each}
 use Rattle.xf_groups.specs.Laid.{IsLaidIn, body_at, count_of, rename}
 use Rattle.xf_groups.specs.Laws.{RenamesOneToOne}
@@ -57,25 +57,16 @@ use Rattle.xf_groups.proofs.Called.{called}
 use Rattle.xf_groups.proofs.Context.{method-of, some-reached, typing-of}
 use Rattle.xf_groups.proofs.Following.{next-place, steps-here}
 use Rattle.xf_groups.proofs.Plain.{alike, codes, comes, ex, falls-renamed, method-is, one-step}
-use Rattle.xf_groups.proofs.Reading.{IsHomeOf}
+use Rattle.xf_groups.proofs.Reading.{IsHomeOf, reference-letter}
 use Rattle.xf_groups.proofs.Standing.{stand-as, step-at}
-
--- what is loaded as a reference
-reference-letter : (a : Ty) → load_op a ≡ 21 → letter_of a ≡ sorts.Reference
-reference-letter Short e = absurd (omega (arith, e))
-reference-letter IntHigh e = absurd (omega (arith, e))
-reference-letter _ e = refl
-
-ok-is : (a b : Operation) → ◌≡◌ {A = Result Operation RuleFault} (Ok a) (Ok b) → a ≡ b
-ok-is a b e = cc
 
 -- what is asked of local 0
 abbrev pub AsksThis : Linked → Operation → ℕ → Type 0
-AsksThis v op c = (f : Types) → AllHold v.classes f (demands v op) → IsSomeAnd (slice_get f.regs 0) (λ u. Below v.classes u (Class c))
+AsksThis v op c = (f : Types) → SatisfiesAll v.classes f (demands v op) → IsSomeAnd (slice_get f.regs 0) (λ u. Below v.classes u (Class c))
 
 pub this-home :
     (v w : Linked) (s : Source) (place : ℕ → ℕ) → IsLaidIn v w s place → IsOrderOfTypes v.classes → DerivedAreWhole v → NeededAreKept
-    → (i : Placed) (op : Operation) (c : ℕ) → AsksThis v op c → Stands s.method.code i → is_some (s.frames i.place) ≡ true → operation s i ≡ Ok op
+    → (i : Placed) (op : Operation) (c : ℕ) → AsksThis v op c → HasInstruction s.method.code i → is_some (s.frames i.place) ≡ true → operation s i ≡ Ok op
     → IsHomeOf s i.place 0 sorts.Reference
 unfolding needed
 this-home v w s place laid types whole kept i op c held stands reached does =
@@ -92,12 +83,12 @@ this-home v w s place laid types whole kept i op c held stands reached does =
     by (Some f) e h d =
         let here : Resolves v s.method.rec i.place i.insn (Ok op) =
         subst (λ u. Resolves u s.method.rec i.place i.insn (Ok op)) laid.world (sym does) in
-        let same : h.steps.1.operation ≡ op = ok-is h.steps.1.operation op (h.steps.1.resolves ∙ sym here) in
-        let asked : AllHold v.classes f (demands v op) = subst (λ k. AllHold v.classes f (demands v k)) same h.steps.1.does.asked in
+        let same : h.steps.1.operation ≡ op = ok-same h.steps.1.operation op (h.steps.1.resolves ∙ sym here) in
+        let asked : SatisfiesAll v.classes f (demands v op) = subst (λ k. SatisfiesAll v.classes f (demands v k)) same h.steps.1.does.asked in
         let full = (whole s.method i.place f (method-of v w s place laid)
         (subst (λ u. IsDerived u s.method Top i.place f) laid.world d)).regs in
         let k = found-below v.classes f.regs 0 (Class c) (held f asked) in
-        let bottom = get-in IsNotBottom f.regs 0 k.ty full k.at in
+        let bottom = All-slice_get IsNotBottom f.regs 0 k.ty full k.at in
         let r = is-reference v.classes types k.ty c k.below bottom in
         let value : value_at f.regs 0 ≡ Some k.ty = value-one f.regs 0 k.ty k.at r.no_half r.no_top in
         record {
@@ -130,7 +121,7 @@ pub record ReadsThis (v : Linked) (op : Operation) : Type 0 where
 module _
     (v : Linked) (alike_steps : StepsAreAlike v) (operations : OperationsAreKept) (demanded : DemandsAreKept)
     (stand : GroupsStandAtSteps) (follow : GroupsFollow) (one_to_one : RenamesOneToOne v) (stay : LocalsStay Cell)
-    (executed : (w : Linked) → CanRun w → StepsExecute w) where
+    (executed : (w : Linked) → IsExecutable w → StepsExecute w) where
   -- where register 0 is the home of local 0 the instruction stays
   pub stays-run :
       (w : Linked) (s : Source) (place : ℕ → ℕ) (i : Placed) (op : Operation) (z t : State Cell) (o : Outcome Cell) (ty : Ty)

@@ -25,7 +25,7 @@ use Rattle.jc_ops.specs.declared.operation.Sort.{Sort}
 use Rattle.jc_ops.specs.declared.operation.Sort.TheVariants as sorts
 use Rattle.jc_ops.specs.Resolve.{Resolves}
 use Rattle.jc_ops.specs.Sound.{OperationsAreDecided}
-use Rattle.jc_rules.specs.Demand.{AllHold}
+use Rattle.jc_rules.specs.Demand.{SatisfiesAll}
 use Rattle.jc_rules.specs.Rule.{demands}
 use Rattle.vm_store.specs.declared.cell.Cell.{Cell}
 use Rattle.vm_store.specs.declared.kind.ObjectKind.{ObjectKind}
@@ -56,6 +56,7 @@ use Rattle.vm_alike.proofs.Cells.{in-stays, object-stays, replaced-renamed}
 use Rattle.vm_alike.proofs.Settling.{unless-none}
 use Rattle.xf_homes.specs.declared.home.Home.{Home}
 use Rattle.xf_homes.specs.Value.{width}
+use Rattle.xf_homes.proofs.Rising.{each-map}
 use Rattle.xf_landed.specs.Apart.{apart_from_code}
 use Rattle.xf_landed.specs.Laws.{OperationsAreKept}
 use Rattle.xf_plan.specs.Source.{Source}
@@ -67,7 +68,7 @@ use Rattle.xf_held.proofs.Passing.{passes-before}
 use Rattle.xf_held.specs.Edges.{insns, moved, IsBeside}
 use Rattle.xf_held.specs.Held.{Holds, HoldsLocals}
 use Rattle.xf_held.specs.Laws.{ExecutesStep, StepsExecute}
-use Rattle.xf_held.specs.Moves.{CanRun, letter_of, value_at, size, end_of, load_of, StandFrom as StandAmong}
+use Rattle.xf_held.specs.Moves.{IsExecutable, letter_of, value_at, size, end_of, load_of, InstructionsStandFrom as StandAmong}
 use Rattle.xf_held.proofs.Copies.{wide}
 use Rattle.xf_held.proofs.Going.{operations-go-on}
 use Rattle.xf_held.proofs.Loading.{loads-run, step-place}
@@ -77,12 +78,12 @@ use Rattle.xf_groups.specs.Laid.{IsLaidIn, body_at, count_of, group_at, rename, 
 use Rattle.xf_groups.specs.Beside.{AreEqualBut, AreOf, IsTypedAt, IsWithin, StaysTyped}
 use Rattle.xf_groups.specs.Body.{AreAfter, AreAtBody, BodyComes, BodyRuns, body_done, body_falls}
 use Rattle.xf_groups.specs.Comes.{group_raises}
-use Rattle.xf_groups.specs.Steps.{GroupsFollow, GroupsStandAtSteps, StandFrom}
+use Rattle.xf_groups.specs.Steps.{GroupsFollow, GroupsStandAtSteps, ItemsStandFrom}
 use Rattle.xf_groups.proofs.Arriving.{at-step, beside, depth-fits, runs-then}
 use Rattle.xf_groups.proofs.Context.{steps-are, target-at, target-room}
 use Rattle.xf_groups.proofs.Following.{next-of, steps-here}
 use Rattle.xf_groups.proofs.Moving.{moves-stand}
-use Rattle.xf_groups.proofs.Plain.{frames-are, method-is, one-step, each-given}
+use Rattle.xf_groups.proofs.Plain.{frames-are, method-is, one-step}
 use Rattle.xf_groups.proofs.Reading.{IsHomeOf}
 use Rattle.xf_groups.proofs.Standing.{GroupSteps, stand-as}
 
@@ -90,7 +91,7 @@ use Rattle.xf_groups.proofs.Standing.{GroupSteps, stand-as}
 
 -- it asked what is there, and came to what its operation settles
 pub record HasSettled (v : Linked) (i : Placed) (op : Operation) (f : Frame Cell) (below : List (Frame Cell)) (heap : List (Object Cell)) (statics : List Cell) (o : Outcome Cell) : Type 0 where
-  pub asked : AllHold v.classes (types_in v.classes Bottom (map (λ (q : Object Cell). q.kind) heap) f) (demands v op)
+  pub asked : SatisfiesAll v.classes (types_in v.classes Bottom (map (λ (q : Object Cell). q.kind) heap) f) (demands v op)
   pub comes :
       o
       ≡ settled tagged v (i.place + i.insn.len) (record { frames = f ∷ below; heap = heap; statics = statics })
@@ -122,7 +123,7 @@ cells-same z t (suc h) e = ap (λ (os : List (Object Cell)). cells_in (slice_get
 
 pub same-locals : (s : Source) (p : ℕ) (f g k : Frame Cell) → k.registers ≡ g.registers → HoldsLocals s p f g → HoldsLocals s p f k
 same-locals s p f g k e locals x =
-    each-given (Holds s f.registers g) (Holds s f.registers k) (λ h held. record {
+    each-map (Holds s f.registers g) (Holds s f.registers k) (λ h held. record {
       known = held.known;
       there = subst (λ (rs : List Cell). register s h + width h.ty ≤ length rs) (sym e) held.there;
       equal = λ n lt. ap (λ (rs : List Cell). slice_get rs (register s h + n)) e ∙ held.equal n lt;
@@ -130,8 +131,8 @@ same-locals s p f g k e locals x =
 
 module _
     (v : Linked) (world : IsWorld v) (decided : OperationsAreDecided v) (operations : OperationsAreKept)
-    (stand : GroupsStandAtSteps) (follow : GroupsFollow) (laws : (w : Linked) → CanRun w → AreLaws v w)
-    (executed : (w : Linked) → CanRun w → StepsExecute w)
+    (stand : GroupsStandAtSteps) (follow : GroupsFollow) (laws : (w : Linked) → IsExecutable w → AreLaws v w)
+    (executed : (w : Linked) → IsExecutable w → StepsExecute w)
     (w : Linked) (s : Source) (place : ℕ → ℕ) (laid : IsLaidIn v w s place) (i : Placed) (fd : InstanceField)
     (f : Frame Cell) (below : List (Frame Cell)) (heap : List (Object Cell)) (statics : List Cell) (t : State Cell) where
   abbrev z : State Cell
@@ -247,7 +248,7 @@ module _
         (subst (λ m. AreSteps (code_at w m) place 0 (steps_of s) (listing (code_at w m))) (sym b.of.target) (steps-are v w s place laid))
         there.1.0 refl resolves
 
-    asked : AllHold w.classes (types_in w.classes Bottom (kinds t) (top t1)) (demands w (ops.FieldRead fd holders.Stack))
+    asked : SatisfiesAll w.classes (types_in w.classes Bottom (kinds t) (top t1)) (demands w (ops.FieldRead fd holders.Stack))
     asked =
         let at_source = (cell-at v.classes Bottom (map (λ (q : Object Cell). q.kind) heap) f.registers 0 (λ u. Below v.classes u (Class fd.class)) has.asked.1.0).holds in
         let kinds_are : map (λ (q : Object Cell). q.kind) heap ≡ kinds t = ap (λ (os : List (Object Cell)). map (λ (q : Object Cell). q.kind) os) (sym b.equal.heap) in (
@@ -358,7 +359,7 @@ module _
                 stack = stack_is;
                 holds = record {
                   stored = λ x k. absurd (never k);
-                  others = λ x. each-given (Holds s f.registers (top t)) _
+                  others = λ x. each-map (Holds s f.registers (top t)) _
                       (λ a own free. record { known = own.known; there = own.there; equal = own.equal }) (needed s i.place x) (b.held.locals x);
                 };
               }) refl refl (ex.ends ∙ ap place last);

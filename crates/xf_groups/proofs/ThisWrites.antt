@@ -30,7 +30,7 @@ use Rattle.jc_ops.specs.declared.operation.Sort.TheVariants as sorts
 use Rattle.jc_ops.specs.Resolve.{Resolves}
 use Rattle.jc_ops.specs.Sound.{IsFieldOf, OperationsAreDecided, OperationsAreSound}
 use Rattle.jc_ops.specs.declared.operation.Move.TheVariants as shifts
-use Rattle.jc_rules.specs.Demand.{AllHold}
+use Rattle.jc_rules.specs.Demand.{SatisfiesAll}
 use Rattle.jc_rules.specs.Rule.{demands}
 use Rattle.vm_store.specs.declared.cell.Cell.{Cell}
 use Rattle.vm_store.specs.declared.kind.ObjectKind.{ObjectKind}
@@ -58,6 +58,7 @@ use Rattle.vm_alike.proofs.Asked.{register-same}
 use Rattle.vm_alike.proofs.Settling.{unless-none}
 use Rattle.xf_homes.specs.declared.home.Home.{Home}
 use Rattle.xf_homes.specs.Value.{width}
+use Rattle.xf_homes.proofs.Rising.{each-map}
 use Rattle.xf_landed.specs.Apart.{apart_from_code}
 use Rattle.xf_landed.specs.Laws.{OperationsAreKept}
 use Rattle.xf_plan.specs.Source.{Source}
@@ -65,11 +66,12 @@ use Rattle.xf_plan.specs.Plan.{needed, register}
 use Rattle.xf_emission.specs.Group.{body, field_written, kept, stays, swap_words}
 use Rattle.xf_emission.specs.Move.{load, with_byte}
 use Rattle.xf_typing.proofs.Rows.{write-on-stack}
+use Rattle.vm_alike.proofs.Storing.{object-written}
 use Rattle.xf_held.proofs.Passing.{passes-before}
 use Rattle.xf_held.specs.Edges.{insns, moved, IsBeside}
 use Rattle.xf_held.specs.Held.{Holds, HoldsLocals}
 use Rattle.xf_held.specs.Laws.{ExecutesStep, StepsExecute}
-use Rattle.xf_held.specs.Moves.{CanRun, letter_of, value_at, size, end_of, load_of, StandFrom as StandAmong}
+use Rattle.xf_held.specs.Moves.{IsExecutable, letter_of, value_at, size, end_of, load_of, InstructionsStandFrom as StandAmong}
 use Rattle.xf_held.proofs.Copies.{wide}
 use Rattle.xf_held.proofs.Going.{operations-go-on}
 use Rattle.xf_held.proofs.Loading.{loads-run, step-place}
@@ -79,21 +81,21 @@ use Rattle.xf_groups.specs.Laid.{IsLaidIn, body_at, count_of, group_at, rename, 
 use Rattle.xf_groups.specs.Beside.{AreEqualBut, AreOf, IsTypedAt, IsWithin, StaysTyped}
 use Rattle.xf_groups.specs.Body.{AreAfter, AreAtBody, BodyComes, BodyRuns, body_done, body_falls}
 use Rattle.xf_groups.specs.Comes.{group_raises}
-use Rattle.xf_groups.specs.Steps.{GroupsFollow, GroupsStandAtSteps, StandFrom}
+use Rattle.xf_groups.specs.Steps.{GroupsFollow, GroupsStandAtSteps, ItemsStandFrom}
 use Rattle.xf_groups.proofs.Arriving.{at-step, beside, depth-fits, runs-then}
 use Rattle.xf_groups.proofs.Context.{steps-are, target-at, target-room}
 use Rattle.xf_groups.proofs.Following.{next-of, steps-here}
 use Rattle.xf_groups.proofs.Moving.{moves-stand}
-use Rattle.xf_groups.proofs.Plain.{frames-are, method-is, one-step, each-given}
+use Rattle.xf_groups.proofs.Plain.{frames-are, method-is, one-step}
 use Rattle.xf_groups.proofs.Reading.{IsHomeOf}
 use Rattle.xf_groups.proofs.Standing.{GroupSteps, stand-as}
-use Rattle.xf_groups.proofs.FieldCells.{Swaps, drop-shorter, last-held, object-written, swap-is, swaps, written}
+use Rattle.xf_groups.proofs.FieldCells.{Swaps, drop-shorter, last-held, swap-is, swaps, written}
 use Rattle.xf_groups.proofs.ThisReads.{HasSettled, has-settled, same-locals}
 
 module _
     (v : Linked) (world : IsWorld v) (decided : OperationsAreDecided v) (operations : OperationsAreKept)
-    (stand : GroupsStandAtSteps) (follow : GroupsFollow) (laws : (w : Linked) → CanRun w → AreLaws v w)
-    (executed : (w : Linked) → CanRun w → StepsExecute w) (types : IsOrderOfTypes v.classes) (source_sound : OperationsAreSound v)
+    (stand : GroupsStandAtSteps) (follow : GroupsFollow) (laws : (w : Linked) → IsExecutable w → AreLaws v w)
+    (executed : (w : Linked) → IsExecutable w → StepsExecute w) (types : IsOrderOfTypes v.classes) (source_sound : OperationsAreSound v)
     (w : Linked) (s : Source) (place : ℕ → ℕ) (laid : IsLaidIn v w s place) (i : Placed) (fd : InstanceField)
     (f : Frame Cell) (below : List (Frame Cell)) (heap : List (Object Cell)) (statics : List Cell) (t : State Cell) where
   abbrev z : State Cell
@@ -375,7 +377,7 @@ module _
                 stack = stack_is;
                 holds = record {
                   stored = λ x k. absurd (never k);
-                  others = λ x. each-given (Holds s f.registers (top t)) _
+                  others = λ x. each-map (Holds s f.registers (top t)) _
                       (λ a own free. record { known = own.known; there = own.there; equal = own.equal }) (needed s i.place x) (b.held.locals x);
                 };
               }) refl refl (ex.ends ∙ ap place last);

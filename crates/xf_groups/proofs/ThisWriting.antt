@@ -26,7 +26,7 @@ use Rattle.xf_plan.specs.Plan.{local, register}
 use Rattle.xf_emission.specs.Group.{body, field_written, kept, stays, swap_words}
 use Rattle.xf_emission.specs.Move.{load, with_byte}
 use Rattle.xf_typing.specs.Whole.{DerivedAreWhole}
-use Rattle.xf_held.specs.Moves.{CanRun}
+use Rattle.xf_held.specs.Moves.{IsExecutable}
 use Rattle.xf_held.specs.Laws.{LocalsStay, StepsExecute}
 use Rattle.xf_held.proofs.Beside.{AreLaws}
 use Rattle.xf_groups.specs.Laid.{IsLaidIn}
@@ -62,7 +62,7 @@ kept-body s i f h at e =
 module _
     (v : Linked) (world : IsWorld v) (decided : OperationsAreDecided v) (alike_steps : StepsAreAlike v) (operations : OperationsAreKept)
     (demanded : DemandsAreKept) (stand : GroupsStandAtSteps) (follow : GroupsFollow) (one_to_one : RenamesOneToOne v) (stay : LocalsStay Cell)
-    (executed : (w : Linked) → CanRun w → StepsExecute w) (laws : (w : Linked) → CanRun w → AreLaws v w)
+    (executed : (w : Linked) → IsExecutable w → StepsExecute w) (laws : (w : Linked) → IsExecutable w → AreLaws v w)
     (types : IsOrderOfTypes v.classes) (source_sound : OperationsAreSound v) (whole : DerivedAreWhole v) (needs : NeededAreKept) where
   pub this-writes-run : ThisWritesRun v
   this-writes-run w s place i f z t o laid b step fine typed_after =

@@ -1,5 +1,5 @@
 -- A goto: the stack goes into the homes of its target, locals are copied, and control goes there.
-use Rattle.std.proofs.Common.{◌≡◌, ℕ, suc, ◌+◌, ◌<◌, ◌≤◌, Bool, true, false, if◌then◌else◌, List, [], ◌∷◌, ◌++◌, length, map, refl, sym, ap, ◌∙◌, subst, arith}
+use Rattle.std.proofs.Common.{◌≡◌, ℕ, suc, ◌+◌, ◌<◌, ◌≤◌, Bool, true, false, List, [], ◌∷◌, ◌++◌, length, map, refl, sym, ap, ◌∙◌, subst, arith}
 use Rattle.std.specs.Prelude.{ℤ, pos, negsuc, unsigned_abs, All, Contains, Ok, is_some, slice_get}
 use Rattle.std.proofs.lemmas.Bool.{false≢true}
 use Rattle.jc_base.specs.Each.{Each}
@@ -9,7 +9,7 @@ use Rattle.jc_decode.specs.declared.insn.Placed.{Placed}
 use Rattle.jc_decode.specs.Cases.{cases}
 use Rattle.jc_decode.specs.Listing.{jumps, listing, target, targets}
 use Rattle.jc_control.specs.Control.{IsLeader, IsReached, jumped, led_to}
-use Rattle.jc_control.specs.WellFormed.{IsPlace, IsTargetPlace, Stands}
+use Rattle.jc_control.specs.WellFormed.{IsPlace, IsTargetPlace, HasInstruction}
 use Rattle.jc_ops.specs.declared.operation.Branch.TheVariants.{Always}
 use Rattle.jc_ops.specs.declared.operation.Operation.{Operation}
 use Rattle.jc_ops.specs.declared.operation.Operation.TheVariants as ops
@@ -31,6 +31,7 @@ use Rattle.vm_alike.specs.Alike.{renamed_cell}
 use Rattle.vm_alike.specs.Running.{Executes}
 use Rattle.vm_alike.proofs.Settling.{unless-none}
 use Rattle.xf_homes.specs.declared.home.Home.{Home}
+use Rattle.xf_homes.proofs.Rising.{each-map}
 use Rattle.xf_plan.specs.Source.{Source}
 use Rattle.xf_plan.specs.Plan.{cells, is_leader, needed, operation}
 use Rattle.xf_emission.specs.declared.origin.Origin.TheVariants.{After}
@@ -39,20 +40,21 @@ use Rattle.xf_emission.specs.Group.{body, first_place, gone}
 use Rattle.xf_emission.specs.Jump.{goto, place as place_named}
 use Rattle.xf_emission.specs.Move.{spill}
 use Rattle.xf_typing.specs.Edges.{CellsFillStack, NeededHaveHomes, leads_after}
+use Rattle.vm_sound.proofs.Branches.{targets-are}
 use Rattle.xf_held.specs.Edges.{CellsAreFew, CopiesAreFew, EdgesRun, HoldsAfter, KeptStacksStay, LeadersLoad, StacksSpill}
 use Rattle.xf_held.specs.Held.{Holds}
 use Rattle.xf_held.specs.Laws.{StepsExecute}
 use Rattle.xf_groups.specs.Laid.{IsLaidIn, body_at, rename}
 use Rattle.xf_groups.specs.Beside.{AreEqualBut, AreOf, IsAtGroup, IsTypedAt, StaysTyped}
 use Rattle.xf_groups.specs.Comes.{AreAtGroup, GroupRuns, group_stays}
-use Rattle.xf_groups.specs.Steps.{GroupsFollow, GroupsStandAtSteps, StandFrom}
+use Rattle.xf_groups.specs.Steps.{GroupsFollow, GroupsStandAtSteps, ItemsStandFrom}
 use Rattle.xf_groups.proofs.Arriving.{beside, leader-keeps, runs-then, still-after}
 use Rattle.xf_groups.proofs.Context.{some-reached, source-code, typing-of}
 use Rattle.xf_groups.proofs.Entering.{enters}
 use Rattle.xf_groups.proofs.Following.{steps-here}
 use Rattle.xf_groups.proofs.Going.{spilled-goes}
 use Rattle.xf_groups.proofs.Grouping.{Turn, no-fault, turn-by}
-use Rattle.xf_groups.proofs.Plain.{each-given, frames-are}
+use Rattle.xf_groups.proofs.Plain.{frames-are}
 use Rattle.xf_groups.proofs.Standing.{stand-as}
 
 -- ---- where a goto of the source leads
@@ -71,14 +73,6 @@ first-there :
     → (q : ℕ) × (to ≡ pos q)
 first-there code i cs (pos q) is = (q, refl)
 first-there code i cs (negsuc n) is = absurd is
-
-pub targets-are :
-    (code : List ℕ) (i : Placed)
-    → jumps i.insn.op ≡ true
-    → targets code i ≡ target i.place i.insn.x ∷ map (λ (c : Case). target i.place c.offset) (cases code i.place i.insn)
-unfolding targets
-targets-are code i jumping =
-    ap (λ b. if b then target i.place i.insn.x ∷ map (λ (c : Case). target i.place c.offset) (cases code i.place i.insn) else []) jumping
 
 pub leads-there : (code : List ℕ) (i : Placed) → jumps i.insn.op ≡ true → All (IsTargetPlace code) (targets code i) → LeadsThere code i
 leads-there code i jumping all =
@@ -155,14 +149,14 @@ module _
       let near = beside v w s place laid y u typed_y equal_y.heap of_y in
       let same : (top u).stack ≡ (top y).stack =
       e.held.stack ∙ stay s q (top y) u (rename s place) laid.world laid.planned near (leader-keeps v w s place laid q leader) in
-      let st : StandFrom s (body_at s i.place) (spill s (cells s q) ++ (copies s (After i.place op) q ++ goto q ∷ [])) =
+      let st : ItemsStandFrom s (body_at s i.place) (spill s (cells s q) ++ (copies s (After i.place op) q ++ goto q ∷ [])) =
       stand-as s (body_at s i.place) (body s i op) (spill s (cells s q) ++ (copies s (After i.place op) q ++ goto q ∷ []))
       (ap (gone s i.place op) there.first) own.body_steps in
       let first : HoldsAfter s i.place op q (top y) (top u) =
       record {
         stored = λ x k. absurd (false≢true k);
         others = λ x.
-            each-given (Holds s (top z).registers (top u)) _ (λ h held free. held) (needed s i.place x)
+            each-map (Holds s (top z).registers (top u)) _ (λ h held free. held) (needed s i.place x)
             (subst (λ p. Each (Holds s (top z).registers (top u)) (needed s p x)) turn.here (e.held.locals x));
       } in
       let c = spilled-goes v w s place laid stand follow executed needs fill spills edges few_copies few_cells y u (After i.place op) typed_y

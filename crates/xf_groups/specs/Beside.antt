@@ -4,7 +4,7 @@ use Rattle.jc_base.specs.declared.ty.Ty.TheVariants.{Top}
 use Rattle.jc_base.specs.World.{Linked}
 use Rattle.jc_decode.specs.declared.insn.Placed.{Placed}
 use Rattle.jc_control.specs.Control.{IsReached}
-use Rattle.jc_control.specs.WellFormed.{Stands}
+use Rattle.jc_control.specs.WellFormed.{HasInstruction}
 use Rattle.jc_ops.specs.declared.operation.Callee.{Callee}
 use Rattle.jc_ops.specs.declared.operation.Operation.TheVariants.{Call}
 use Rattle.jc_rules.specs.Flow.{At, FrameBelow}
@@ -44,7 +44,7 @@ pub record IsAtGroup (s : Source) (place : ℕ → ℕ) (f g : Frame Cell) : Typ
 pub record IsWithin (s : Source) (place : ℕ → ℕ) (f g : Frame Cell) : Type 0 where
   pub of : AreOf s f g
   pub instruction : Placed
-  pub stands : Stands s.method.code instruction
+  pub stands : HasInstruction s.method.code instruction
   pub there : instruction.place ≡ f.place
   pub step : ℕ
   pub inside : IsInGroup s instruction step

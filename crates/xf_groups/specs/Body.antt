@@ -3,7 +3,7 @@ use Rattle.std.specs.Prelude.{◌≡◌, ◌+◌, ℕ, true, false, [], ◌∷�
 use Rattle.jc_base.specs.World.{Linked}
 use Rattle.jc_decode.specs.declared.insn.Placed.{Placed}
 use Rattle.jc_decode.specs.declared.symbols.Item.TheVariants.{Plain}
-use Rattle.jc_control.specs.WellFormed.{Stands}
+use Rattle.jc_control.specs.WellFormed.{HasInstruction}
 use Rattle.jc_ops.specs.declared.operation.Operation.{Operation}
 use Rattle.jc_ops.specs.Next.{falls_from, jumps_from}
 use Rattle.jc_rules.specs.Footprint.{registers_asked}
@@ -52,7 +52,7 @@ pub data BodyComes
 -- group, and holds z
 pub record AreAtBody (v w : Linked) (s : Source) (place : ℕ → ℕ) (i : Placed) (op : Operation) (z t : State Cell) : Type 0 where
   pub executes : Executes v z i op
-  pub stands : Stands s.method.code i
+  pub stands : HasInstruction s.method.code i
   pub reached : is_some (s.frames i.place) ≡ true
   pub does : operation s i ≡ Ok op
   pub typed : IsTypedAt v s z

@@ -18,7 +18,7 @@ use Rattle.xf_plan.specs.Plan.{cells, is_leader}
 use Rattle.xf_emission.specs.Emission.{items, rewritten}
 use Rattle.xf_emission.specs.Group.{group}
 use Rattle.xf_typing.specs.Planned.{IsPlanned}
-use Rattle.xf_held.specs.Moves.{CanRun}
+use Rattle.xf_held.specs.Moves.{IsExecutable}
 
 -- ---- places
 
@@ -68,7 +68,7 @@ pub record AreLaidIn (v w : Linked) (m : Method) (symbols : Symbols) (place : �
 -- the source is a method of the world v that can be rewritten, no limit is passed, and its rewritten code is laid in the world w
 pub record IsLaidIn (v w : Linked) (s : Source) (place : ℕ → ℕ) : Type 0 where
   pub world : s.world ≡ v
-  pub new : CanRun w
+  pub new : IsExecutable w
   pub planned : IsPlanned s
   pub room : s.method.rec.max_stack < 255
   -- what a handler catches is told by its pool number

@@ -5,7 +5,7 @@ use Rattle.jc_base.specs.World.{Linked}
 use Rattle.jc_decode.specs.declared.insn.Placed.{Placed}
 use Rattle.jc_decode.specs.Symbols.{place_of}
 use Rattle.jc_control.specs.Control.{IsReached, Covers}
-use Rattle.jc_control.specs.WellFormed.{IsPlace, Stands}
+use Rattle.jc_control.specs.WellFormed.{IsPlace, HasInstruction}
 use Rattle.jc_ops.specs.declared.operation.Callee.{Callee}
 use Rattle.jc_ops.specs.declared.operation.Operation.{Operation}
 use Rattle.jc_ops.specs.declared.operation.Branch.TheVariants.{Always}
@@ -132,7 +132,7 @@ HasRoomForMore v = (w : Linked) (s : Source) (place : ℕ → ℕ) → IsLaidIn 
 
 -- the frames after the call of the instruction i, with the result on their stacks
 pub record IsAfterCall (s : Source) (place : ℕ → ℕ) (i : Placed) (f g : Frame Cell) : Type 0 where
-  pub stands : Stands s.method.code i
+  pub stands : HasInstruction s.method.code i
   pub reached : IsReached s.method i.place
   pub callee : Callee
   pub calls : operation s i ≡ Ok (Call callee)

@@ -5,7 +5,7 @@ use Rattle.jc_decode.specs.declared.insn.Placed.{Placed}
 use Rattle.jc_decode.specs.declared.symbols.Item.{Item}
 use Rattle.jc_decode.specs.Listing.{targets}
 use Rattle.jc_decode.specs.Symbols.{Step, place_of, steps_in}
-use Rattle.jc_control.specs.WellFormed.{Stands}
+use Rattle.jc_control.specs.WellFormed.{HasInstruction}
 use Rattle.jc_ops.specs.declared.operation.Operation.{Operation}
 use Rattle.xf_homes.specs.Walk.{operands_of}
 use Rattle.xf_plan.specs.Source.{Source}
@@ -19,7 +19,7 @@ use Rattle.xf_emission.specs.Laws.{IsCode}
 use Rattle.xf_groups.specs.Laid.{count_of, group_at, steps_of}
 
 -- the steps of these items stand among those of the method, from a number on
-pub record StandFrom (s : Source) (n : ℕ) (is : List Item) : Type 0 where
+pub record ItemsStandFrom (s : Source) (n : ℕ) (is : List Item) : Type 0 where
   pub before : List Step
   pub after : List Step
   pub parts : steps_of s ≡ before ++ (steps_in s.method.code (items s) is ++ after)
@@ -30,22 +30,22 @@ abbrev pub GroupsStandAtSteps : Type 0
 GroupsStandAtSteps =
     (s : Source) (i : Placed)
     → IsCode s
-    → Stands s.method.code i
+    → HasInstruction s.method.code i
     → is_some (s.frames i.place) ≡ true
-    → StandFrom s (group_at s i.place) (group s i)
+    → ItemsStandFrom s (group_at s i.place) (group s i)
 
 -- and so do those of the stub on the edge to the k-th target of a branch
 abbrev pub StubsStandAtSteps : Type 0
 StubsStandAtSteps =
     (s : Source) (i : Placed) (op : Operation) (n k : ℕ) (t : ℤ)
     → IsCode s
-    → Stands s.method.code i
+    → HasInstruction s.method.code i
     → is_some (s.frames i.place) ≡ true
     → operation s i ≡ Ok op
     → operands_of s.world (Ok op) ≡ Some n
     → slice_get (targets s.method.code i) k ≡ Some t
     → taken s i.place op n (place t) ≢ []
-    → StandFrom s (place_of (stub_label i.place k) (items s)) (stub s i.place op n k t)
+    → ItemsStandFrom s (place_of (stub_label i.place k) (items s)) (stub s i.place op n k t)
 
 -- of the stub of a live handler
 abbrev pub HandlersStandAtSteps : Type 0
@@ -54,26 +54,26 @@ HandlersStandAtSteps =
     → IsCode s
     → slice_get s.method.rec.handlers n ≡ Some h
     → is_live s h ≡ true
-    → StandFrom s (place_of (handler_label n) (items s)) (caught s n h)
+    → ItemsStandFrom s (place_of (handler_label n) (items s)) (caught s n h)
 
 -- the copies of arguments come first, and then the group of place 0
 abbrev pub StartsStandAtSteps : Type 0
 StartsStandAtSteps =
     (s : Source) (i : Placed)
     → IsCode s
-    → Stands s.method.code i
+    → HasInstruction s.method.code i
     → is_some (s.frames i.place) ≡ true
     → i.place ≡ 0
-    → StandFrom s 0 (copies s Start 0) × (group_at s 0 ≡ count_of (copies s Start 0))
+    → ItemsStandFrom s 0 (copies s Start 0) × (group_at s 0 ≡ count_of (copies s Start 0))
 
 -- where the next instruction is reached too, its group follows
 abbrev pub GroupsFollow : Type 0
 GroupsFollow =
     (s : Source) (i j : Placed)
     → IsCode s
-    → Stands s.method.code i
+    → HasInstruction s.method.code i
     → is_some (s.frames i.place) ≡ true
-    → Stands s.method.code j
+    → HasInstruction s.method.code j
     → is_some (s.frames j.place) ≡ true
     → j.place ≡ i.place + i.insn.len
     → group_at s j.place ≡ group_at s i.place + count_of (group s i)

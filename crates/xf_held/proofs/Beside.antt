@@ -10,7 +10,7 @@ use Rattle.jc_base.specs.Laws.{ClassesAreObjects, IsOrderOfTypes, SameTypeDecide
 use Rattle.jc_base.specs.Order.{IsKnown}
 use Rattle.jc_base.specs.World.{Linked}
 use Rattle.jc_rules.specs.Demand.{Frame as Types}
-use Rattle.jc_rules.specs.Flow.{CellsBelow, no_cells, more_cells, FrameBelow, At, IsFit}
+use Rattle.jc_rules.specs.Flow.{CellsBelow, FrameBelow, At, IsFit}
 use Rattle.jc_rules.specs.FlowLaws.{AreRules, IsOrderOfCells}
 use Rattle.vm_store.specs.declared.cell.Cell.{Cell}
 use Rattle.vm_store.specs.declared.kind.ObjectKind.{ObjectKind}
@@ -30,9 +30,10 @@ use Rattle.xf_plan.specs.Source.{Source}
 use Rattle.xf_plan.specs.Plan.{cells, needed, or_first, register}
 use Rattle.xf_typing.specs.Planned.{IsPlanned, Keeps}
 use Rattle.xf_typing.specs.Edges.{NeededHaveHomes, IsNeededFor, slot_types, FillStack, CellsFillStack, EdgesCarry}
+use Rattle.xf_typing.proofs.Registers.{both-below}
 use Rattle.xf_held.specs.Edges.{IsBeside}
 use Rattle.xf_held.specs.Held.{Holds, slots}
-use Rattle.xf_held.specs.Moves.{CanRun, size, letter_of, CanLoad, OwnRegisters}
+use Rattle.xf_held.specs.Moves.{IsExecutable, size, letter_of, CanLoad, OwnRegisters}
 use Rattle.xf_held.proofs.Copies.{homes-own-registers, wide}
 use Rattle.xf_held.proofs.Valued.{asked_types, asked-size, CellsAt, cells-moved, cells-left, value-inside, load-asked, load-filled, value-cells}
 
@@ -45,11 +46,7 @@ pub record AreLaws (v w : Linked) : Type 0 where
   pub rules : AreRules v
   pub objects : ClassesAreObjects v.classes
   pub same_is : SameTypeDecides
-  pub world : CanRun w
-
-below-both : (t : ClassTable) {xs us : List Ty} (ys vs : List Ty) → CellsBelow t xs us → CellsBelow t ys vs → CellsBelow t (xs ++ ys) (us ++ vs)
-below-both t ys vs no_cells le = le
-below-both t ys vs (more_cells p ps) le = more_cells p (below-both t ys vs ps le)
+  pub world : IsExecutable w
 
 some-width : (ty : Ty) → 0 < width ty
 some-width IntHigh = omega arith
@@ -73,7 +70,7 @@ held-as s values g k h e held = record {
   equal = λ n lt. ap (λ (rs : List Cell). slice_get rs (register s h + n)) e ∙ held.equal n lt;
 }
 
-get-left : (xs ys : List Cell) (n : ℕ) → n < length xs → slice_get (xs ++ ys) n ≡ slice_get xs n
+pub get-left : (xs ys : List Cell) (n : ℕ) → n < length xs → slice_get (xs ++ ys) n ≡ slice_get xs n
 get-left [] ys n lt = absurd (omega (arith, lt))
 get-left (x ∷ xs) ys zero lt = refl
 get-left (x ∷ xs) ys (suc n) lt = get-left xs ys n (omega (arith, lt))
@@ -168,7 +165,7 @@ module _ (v w : Linked) (l : AreLaws v w) (s : Source) (is : s.world ≡ v) (pla
         let parts : map ty (slots f) ≡ map ty f.registers ++ reverse (map ty f.stack) =
         map-append ty f.registers (reverse f.stack) ∙ ap (λ us. map ty f.registers ++ us) (sym (reverse-map ty f.stack)) in
         subst (λ us. CellsBelow w.classes us (slot_types typed.frame)) (sym parts)
-        (below-both w.classes (reverse (map ty f.stack)) (reverse typed.frame.stack) typed.below.regs (order.turned typed.below.stack))
+        (both-below w.classes (reverse (map ty f.stack)) (reverse typed.frame.stack) typed.below.regs (order.turned typed.below.stack))
 
     known-there : (h : Home) → Keeps s h → IsKnown w.classes h.ty
     known-there h keeps = subst (λ (c : ClassTable). IsKnown c h.ty) (sym beside.classes) keeps.known

@@ -36,7 +36,7 @@ use Rattle.xf_emission.specs.Edge.{home_before, held, copy_new, copies_from, loc
 use Rattle.xf_emission.specs.Move.{copy, load_op}
 use Rattle.xf_held.specs.Edges.{insns}
 use Rattle.xf_held.specs.Held.{Holds}
-use Rattle.xf_held.specs.Moves.{CanRun, size, letter_of, StandFrom, copy_of, CanLoad, OwnRegisters, IsCopy}
+use Rattle.xf_held.specs.Moves.{IsExecutable, size, letter_of, InstructionsStandFrom, copy_of, CanLoad, OwnRegisters, IsCopy}
 use Rattle.xf_held.proofs.Copies.{homes-are-copied}
 use Rattle.xf_held.proofs.Valued.{asked_types, CellsAt}
 use Rattle.xf_held.proofs.Beside.{each-among, among-each, held-as, held-can-load}
@@ -84,12 +84,12 @@ insns-append (Switch i at ls ∷ xs) ys = insns-append xs ys
 insns-append (Label n ∷ xs) ys = insns-append xs ys
 
 pub stand-append :
-    (steps : List Step) (n : ℕ) (xs ys : List Insn) → StandFrom steps n (xs ++ ys) → StandFrom steps n xs × StandFrom steps (n + length xs) ys
-stand-append steps n [] ys stand = let e : n ≡ n + 0 = omega arith in (tt, subst (λ (k : ℕ). StandFrom steps k ys) e stand)
+    (steps : List Step) (n : ℕ) (xs ys : List Insn) → InstructionsStandFrom steps n (xs ++ ys) → InstructionsStandFrom steps n xs × InstructionsStandFrom steps (n + length xs) ys
+stand-append steps n [] ys stand = let e : n ≡ n + 0 = omega arith in (tt, subst (λ (k : ℕ). InstructionsStandFrom steps k ys) e stand)
 stand-append steps n (x ∷ xs) ys stand =
     let rest = stand-append steps (n + 1) xs ys stand.1 in
     let e : n + 1 + length xs ≡ n + suc (length xs) = omega arith in
-    ((stand.0, rest.0), subst (λ (k : ℕ). StandFrom steps k ys) e rest.1)
+    ((stand.0, rest.0), subst (λ (k : ℕ). InstructionsStandFrom steps k ys) e rest.1)
 
 -- the homes to which something is copied: those in which the value does not stand already
 abbrev pub missing : List Home → List Home → List Home
@@ -150,7 +150,7 @@ each-map P Q [] h all = tt
 each-map P Q (k ∷ ks) h all = (h k all.0, each-map P Q ks h all.1)
 
 module _
-    (w : Linked) (world : CanRun w) (place : ℕ → ℕ) (steps : List Step) (s : Source) (owns : OwnRegisters s)
+    (w : Linked) (world : IsExecutable w) (place : ℕ → ℕ) (steps : List Step) (s : Source) (owns : OwnRegisters s)
     (values : List Cell)
     (method : ℕ) (stack : List Cell) (below : List (Frame Cell)) (heap : List (Object Cell)) (statics : List Cell)
     (m : MethodRec) (is_method : slice_get w.methods method ≡ Some m)
@@ -213,7 +213,7 @@ module _
 
   pub copy-fits :
       (n : ℕ) (registers : List Cell) (from : Home) (ks : List Home)
-      → StandFrom steps n (flat_map (copy_of s from) ks)
+      → InstructionsStandFrom steps n (flat_map (copy_of s from) ks)
       → n + 2 * length ks < length steps
       → Stands registers from
       → size (letter_of from.ty) + length stack ≤ max_stack_of w method
@@ -238,7 +238,7 @@ module _
 
   pub copy-all :
       (n : ℕ) (registers : List Cell) (from : Home) (ks : List Home)
-      → StandFrom steps n (flat_map (copy_of s from) ks)
+      → InstructionsStandFrom steps n (flat_map (copy_of s from) ks)
       → n + 2 * length ks < length steps
       → Stands registers from
       → letter_of from.ty ≡ sorts.Reference
@@ -291,7 +291,7 @@ module _
 
   from-runs :
       (n : ℕ) (registers : List Cell) (there ks : List Home) (from : Home)
-      → StandFrom steps n (insns (flat_map (copy_new s from there) ks))
+      → InstructionsStandFrom steps n (insns (flat_map (copy_new s from there) ks))
       → n + length (insns (flat_map (copy_new s from there) ks)) < length steps
       → Each (HasRegister s.homes) ks
       → Each (IsFrom registers there from) ks
@@ -320,14 +320,14 @@ module _
           subst (λ (c : ℕ). Went n registers c ks) (sym zero_is)
           (went-nowhere n registers ks (all-hold registers (λ a has held. held) (subst (Each (Has registers)) (sym none) tt)))
       by (inr (k, is, e)) =
-          let ran = copy-all n registers from (missing there ks) (subst (StandFrom steps n) are_copies stand) (omega (arith, further, count)) is.stood (is.single e)
+          let ran = copy-all n registers from (missing there ks) (subst (InstructionsStandFrom steps n) are_copies stand) (omega (arith, further, count)) is.stood (is.single e)
           (missing-each (IsFrom registers there from) (IsCopy s (length registers) from) there ks (λ j p f. p.copies) all) in
           subst (λ (c : ℕ). Went n registers c ks) (sym count)
           (record { after = ran.after; runs = ran.runs; many = ran.many; keeps = ran.keeps; holds = all-hold ran.after ran.keeps ran.holds })
 
   local-runs :
       (n : ℕ) (registers : List Cell) (o : Origin) (q x : ℕ)
-      → StandFrom steps n (insns (local_copies s o q x))
+      → InstructionsStandFrom steps n (insns (local_copies s o q x))
       → n + length (insns (local_copies s o q x)) < length steps
       → Each (HasRegister s.homes) (needed s q x)
       → LocalIs registers o q x (home_before s o x)
@@ -336,7 +336,7 @@ module _
   local-runs n registers o q x stand further own is = by (home_before s o x) stand further is
     where
       by :
-          (h : Option Home) → StandFrom steps n (insns (copies_from s o q x h)) → n + length (insns (copies_from s o q x h)) < length steps
+          (h : Option Home) → InstructionsStandFrom steps n (insns (copies_from s o q x h)) → n + length (insns (copies_from s o q x h)) < length steps
           → LocalIs registers o q x h → Went n registers (length (insns (copies_from s o q x h))) (needed s q x)
       by None stand further is = went-nowhere n registers (needed s q x) is
       by (Some from) stand further is = from-runs n registers (held s o x from) (needed s q x) from stand further own is
@@ -354,7 +354,7 @@ module _
       (start registers : List Cell) (o : Origin) (q : ℕ) → ((y : ℕ) → Each (HasRegister s.homes) (needed s q y))
       → ((y : ℕ) → LocalIs start o q y (home_before s o y))
       → (n x many_locals : ℕ) → Keep start registers
-      → StandFrom steps n (insns (locals_copies s o q x many_locals))
+      → InstructionsStandFrom steps n (insns (locals_copies s o q x many_locals))
       → n + length (insns (locals_copies s o q x many_locals)) < length steps
       → WentAll n registers (length (insns (locals_copies s o q x many_locals))) q x many_locals
   locals-run start registers o q own is n x zero keep stand further =
@@ -371,7 +371,7 @@ module _
       let ys : List Item = locals_copies s o q (suc x) many_locals in
       let parts : insns (xs ++ ys) ≡ insns xs ++ insns ys = insns-append xs ys in
       let total : length (insns (xs ++ ys)) ≡ length (insns xs) + length (insns ys) = ap length parts ∙ length-append (insns xs) (insns ys) in
-      let halves = stand-append steps n (insns xs) (insns ys) (subst (StandFrom steps n) parts stand) in
+      let halves = stand-append steps n (insns xs) (insns ys) (subst (InstructionsStandFrom steps n) parts stand) in
       let first = local-runs n registers o q x halves.0 (omega (arith, further, total)) (own x)
       (local-later start registers o q x (home_before s o x) keep (own x) (is x)) in
       let rest = locals-run start first.after o q own is (n + length (insns xs)) (suc x) many_locals
@@ -423,12 +423,12 @@ module _
 
   one-cell :
       (same_is : SameTypeDecides) (n : ℕ) (registers : List Cell) (h k : Home) → IsPair registers h k
-      → StandFrom steps n (insns (if same_home h k then [] else copy s h k)) → n + length (insns (if same_home h k then [] else copy s h k)) < length steps
+      → InstructionsStandFrom steps n (insns (if same_home h k then [] else copy s h k)) → n + length (insns (if same_home h k then [] else copy s h k)) < length steps
       → Went n registers (length (insns (if same_home h k then [] else copy s h k))) (k ∷ [])
   one-cell same_is n registers h k is stand further = by (same_home h k) refl stand further
     where
       by :
-          (b : Bool) → same_home h k ≡ b → StandFrom steps n (insns (if b then [] else copy s h k)) → n + length (insns (if b then [] else copy s h k)) < length steps
+          (b : Bool) → same_home h k ≡ b → InstructionsStandFrom steps n (insns (if b then [] else copy s h k)) → n + length (insns (if b then [] else copy s h k)) < length steps
           → Went n registers (length (insns (if b then [] else copy s h k))) (k ∷ [])
       by true e stand further = went-nowhere n registers (k ∷ []) (subst (Has registers) (homes-equal same_is h k e) is.stood.holds, tt)
       by false e stand further = copy-all n registers h (k ∷ []) stand further is.stood (letter is.single) (is.copies, tt)
@@ -442,7 +442,7 @@ module _
 
   pub cells-run :
       (same_is : SameTypeDecides) (start registers : List Cell) {hs ks : List Home} → ArePairs start hs ks → (n : ℕ) → Keep start registers
-      → StandFrom steps n (insns (cell_copies s hs ks))
+      → InstructionsStandFrom steps n (insns (cell_copies s hs ks))
       → n + length (insns (cell_copies s hs ks)) < length steps
       → Went n registers (length (insns (cell_copies s hs ks))) ks
   cells-run same_is start registers no_pairs n keep stand further = went-nowhere n registers [] tt
@@ -451,7 +451,7 @@ module _
       let ys : List Item = cell_copies s hs ks in
       let parts : insns (xs ++ ys) ≡ insns xs ++ insns ys = insns-append xs ys in
       let total : length (insns (xs ++ ys)) ≡ length (insns xs) + length (insns ys) = ap length parts ∙ length-append (insns xs) (insns ys) in
-      let halves = stand-append steps n (insns xs) (insns ys) (subst (StandFrom steps n) parts stand) in
+      let halves = stand-append steps n (insns xs) (insns ys) (subst (InstructionsStandFrom steps n) parts stand) in
       let first = one-cell same_is n registers h k (pair-later start registers h k keep is) halves.0 (omega (arith, further, total)) in
       let rest = cells-run same_is start first.after more (n + length (insns xs))
       (record { many = first.many ∙ keep.many; keeps = λ a has held. first.keeps a has (keep.keeps a has held) }) halves.1 (omega (arith, further, total)) in

@@ -1,5 +1,5 @@
 -- Cells of a stack that are copied from homes to others, and the arguments at a method's start.
-use Rattle.std.proofs.Common.{◌≡◌, ◌⊎◌, inl, inr, ℕ, zero, suc, ◌+◌, ◌<◌, ◌≤◌, List, [], ◌∷◌, ◌++◌, length, map, replicate, refl, sym, ap, ◌∙◌, subst, arith, length-append}
+use Rattle.std.proofs.Common.{◌≡◌, ◌⊎◌, inl, inr, ℕ, ◌+◌, ◌<◌, ◌≤◌, List, [], ◌∷◌, length, map, replicate, refl, sym, ap, ◌∙◌, subst, arith, length-append}
 use Rattle.std.specs.Prelude.{Option, Some, None, IfSome, slice_get}
 use Rattle.jc_base.specs.declared.ty.Ty.{Ty}
 use Rattle.jc_base.specs.declared.ty.Ty.TheVariants.{IntHigh}
@@ -30,13 +30,11 @@ use Rattle.xf_typing.proofs.Moves.{get-inside}
 use Rattle.xf_typing.specs.Edges.{AreMatched, none_matched, more_matched}
 use Rattle.xf_held.specs.Edges.{insns, moved, IsBeside, AreMoved, CellsRun, HoldsBefore, StartsHold}
 use Rattle.xf_held.specs.Held.{Holds, slots}
-use Rattle.xf_held.specs.Moves.{size, letter_of, StandFrom, IsAtStep}
+use Rattle.xf_held.specs.Moves.{size, letter_of, InstructionsStandFrom, IsAtStep}
 use Rattle.xf_held.proofs.Valued.{asked_types, CellsAt}
-use Rattle.xf_held.proofs.Beside.{AreLaws, each-among, among-each, own, register-inside, register-small, cells-valued, held-as}
+use Rattle.xf_held.proofs.Beside.{AreLaws, each-among, among-each, own, register-inside, register-small, cells-valued, held-as, get-left}
 use Rattle.xf_held.proofs.Carrying.{same-letter, same-or-reference, ArePairs, no_pairs, more_pairs, cells-run}
-
-home-same : (a b : Home) → a.slot ≡ b.slot → a.ty ≡ b.ty → a ≡ b
-home-same a b e f = ap (λ (n : ℕ). record { slot = n; ty = a.ty }) e ∙ ap (λ (u : Ty). record { slot = b.slot; ty = u }) f
+use Rattle.xf_held.proofs.Edging.{home-same}
 
 module _ (v w : Linked) (l : AreLaws v w) (place : ℕ → ℕ) (steps : List Step) (s : Source) (is : s.world ≡ v) (plan : IsPlanned s) (q : ℕ) (f : Frame Cell) (keeps : KeepsStack s.world s.method s.frames q) where
   module _
@@ -83,7 +81,7 @@ module _ (v w : Linked) (l : AreLaws v w) (place : ℕ → ℕ) (steps : List St
 
     run-cells :
         (hs ks : List Home) → AreMatched s hs ks → Each (Holds s (slots f) g) hs → ((k : Home) → IsAmong k ks → IsAmong k (cells s q))
-        → count ≡ length (insns (cell_copies s hs ks)) → StandFrom steps n (insns (cell_copies s hs ks))
+        → count ≡ length (insns (cell_copies s hs ks)) → InstructionsStandFrom steps n (insns (cell_copies s hs ks))
         → AreMoved w s f t ks (length (insns (cell_copies s hs ks))) (place (n + length (insns (cell_copies s hs ks))))
     run-cells hs ks matched held inside is_count stand =
         let ran = cells-run w l.world place steps s (own v w l s is plan) (slots f) g.method g.stack below heap statics at.method at.is_method at.are room
@@ -111,7 +109,7 @@ module _ (v w : Linked) (l : AreLaws v w) (place : ℕ → ℕ) (steps : List St
       → IsBeside w s q f (record { frames = fs; heap = heap; statics = statics })
       → AreMatched s hs ks
       → IsAtStep w place steps (record { frames = fs; heap = heap; statics = statics }) n (length (insns (cell_copies s hs ks)))
-      → StandFrom steps n (insns (cell_copies s hs ks))
+      → InstructionsStandFrom steps n (insns (cell_copies s hs ks))
       → length (first_frame fs).stack ≤ s.method.rec.max_stack
       → ((k : Home) → IsAmong k ks → IsAmong k (cells s q))
       → Each (Holds s (slots f) (first_frame fs)) hs
@@ -126,11 +124,6 @@ cells-all-run v w l place steps t n s q f hs ks is plan beside matched at stand 
     cells-frames v w l place steps s is plan q f keeps t.frames t.heap t.statics n hs ks beside matched at stand low inside held
 
 -- ---- the start
-
-get-first : (xs ys : List Cell) (n : ℕ) → n < length xs → slice_get (xs ++ ys) n ≡ slice_get xs n
-get-first [] ys n lt = absurd (omega (arith, lt))
-get-first (x ∷ xs) ys zero lt = refl
-get-first (x ∷ xs) ys (suc n) lt = get-first xs ys n (omega (arith, lt))
 
 value-width : (types : List Ty) (x : ℕ) (ty : Ty) → IsValueAt types x ty → x + width ty ≤ length types
 value-width types x IntHigh is = let b = get-inside types (x + 1) _ (is.second refl) in omega (arith, b)
@@ -149,9 +142,9 @@ starts-hold v serves s f g args a b is plan left right count x = by (value_at (a
         let inside = value-width (argument_types s.method.rec) x ty (value-is (argument_types s.method.rec) x ty e) in
         let own : register s h ≡ x = ap or_first ((subst HomesServe (sym is) serves s.method s.frames s.homes plan.homes).arguments h e) in
         let first : (n : ℕ) → n < width ty → slice_get f.registers (x + n) ≡ slice_get args (x + n) =
-        λ n lt. ap (λ (rs : List Cell). slice_get rs (x + n)) left ∙ get-first args (replicate a Empty) (x + n) (omega (arith, lt, inside, count)) in
+        λ n lt. ap (λ (rs : List Cell). slice_get rs (x + n)) left ∙ get-left args (replicate a Empty) (x + n) (omega (arith, lt, inside, count)) in
         let second : (n : ℕ) → n < width ty → slice_get g.registers (x + n) ≡ slice_get args (x + n) =
-        λ n lt. ap (λ (rs : List Cell). slice_get rs (x + n)) right ∙ get-first args (replicate b Empty) (x + n) (omega (arith, lt, inside, count)) in
+        λ n lt. ap (λ (rs : List Cell). slice_get rs (x + n)) right ∙ get-left args (replicate b Empty) (x + n) (omega (arith, lt, inside, count)) in
         record {
           known = omega (arith, inside, count, ap length left, length-append args (replicate a Empty));
           there = omega (arith, own, inside, count, ap length right, length-append args (replicate b Empty));

@@ -16,7 +16,7 @@ use Rattle.jc_control.specs.WellFormed.{IsPlace}
 use Rattle.jc_ops.specs.declared.operation.Operation.TheVariants as ops
 use Rattle.jc_ops.specs.declared.operation.Sort.{Sort}
 use Rattle.jc_ops.specs.declared.operation.Sort.TheVariants as sorts
-use Rattle.jc_rules.specs.Demand.{AllHold}
+use Rattle.jc_rules.specs.Demand.{SatisfiesAll}
 use Rattle.jc_rules.specs.Rule.{demands}
 use Rattle.vm_store.specs.declared.cell.Cell.{Cell}
 use Rattle.vm_store.specs.declared.kind.ObjectKind.{ObjectKind}
@@ -41,7 +41,7 @@ use Rattle.xf_plan.specs.Plan.{or_first, register}
 use Rattle.xf_emission.specs.Move.{with_byte, store_op}
 use Rattle.xf_held.specs.Held.{Holds}
 use Rattle.xf_held.specs.Laws.{AreApart}
-use Rattle.xf_held.specs.Moves.{CanRun, size, copied, AreFilled, end_of, letter_of, StandFrom, load_of, copy_of, IsAtStep, CanLoad, OwnRegisters, HomesOwnRegisters, IsCopy, AreCopied, HomesAreCopied}
+use Rattle.xf_held.specs.Moves.{IsExecutable, size, copied, AreFilled, end_of, letter_of, InstructionsStandFrom, load_of, copy_of, IsAtStep, CanLoad, OwnRegisters, HomesOwnRegisters, IsCopy, AreCopied, HomesAreCopied}
 use Rattle.xf_held.proofs.Copying.{copied-count, copies-keep-homes}
 use Rattle.xf_held.proofs.Going.{copies-run}
 use Rattle.xf_held.proofs.Loading.{load-resolves, store-resolves, step-place}
@@ -99,9 +99,9 @@ module _ (w : Linked) (ks : List ObjectKind) (registers others : List Cell) (r :
 
   asked-again :
       (letter : Sort) (stack : List Ty) → length others ≡ length registers → ((k : ℕ) → k < size letter → Same (r + k))
-      → AllHold w.classes (record { regs = least_types w.classes Bottom ks registers; stack = stack })
+      → SatisfiesAll w.classes (record { regs = least_types w.classes Bottom ks registers; stack = stack })
       (demands w (ops.Load letter r))
-      → AllHold w.classes (record { regs = least_types w.classes Bottom ks others; stack = stack }) (demands w (ops.Load letter r))
+      → SatisfiesAll w.classes (record { regs = least_types w.classes Bottom ks others; stack = stack }) (demands w (ops.Load letter r))
   asked-again sorts.Reference stack count same h =
       (many count (r + 1) h.0, (one-asked r _ (at-first 1 same (omega arith)) h.1.0, tt))
   asked-again sorts.Short stack count same h = (many count (r + 1) h.0, (one-asked r _ (at-first 1 same (omega arith)) h.1.0, tt))
@@ -122,7 +122,7 @@ module _ (w : Linked) (ks : List ObjectKind) (registers others : List Cell) (r :
 -- ---- copies
 
 module _
-    (w : Linked) (world : CanRun w) (place : ℕ → ℕ) (steps : List Step) (s : Source)
+    (w : Linked) (world : IsExecutable w) (place : ℕ → ℕ) (steps : List Step) (s : Source)
     (own : OwnRegisters s)
     (values : List Cell) (h : Home) (has : HasRegister s.homes h)
     (method : ℕ) (stack : List Cell) (below : List (Frame Cell)) (heap : List (Object Cell)) (statics : List Cell)
@@ -232,7 +232,7 @@ module _
 
   copies-from :
       (n : ℕ) (registers : List Cell) (ks : List Home)
-      → StandFrom steps n (flat_map (copy_of s h) ks)
+      → InstructionsStandFrom steps n (flat_map (copy_of s h) ks)
       → n + 2 * length ks < length steps
       → CanLoad w s (at (place n) registers) h
       → Holds s values (frame (place n) registers) h
@@ -248,12 +248,12 @@ module _
         others = λ a owns value. value;
       }
   copies-from n registers (k ∷ ks) stand further can held copies =
-      let all : StandFrom steps n (load_of s h ∷ with_byte (store_op k.ty) (register s k) ∷ flat_map (copy_of s h) ks) =
-      subst (StandFrom steps n) (flat_map-cons (copy_of s h) k ks) stand in
+      let all : InstructionsStandFrom steps n (load_of s h ∷ with_byte (store_op k.ty) (register s k) ∷ flat_map (copy_of s h) ks) =
+      subst (InstructionsStandFrom steps n) (flat_map-cons (copy_of s h) k ks) stand in
       let two : n + 1 + 1 ≡ n + 2 = omega arith in
       let next : List Cell = after k registers in
       let ran = one-copy n registers k all.0 all.1.0 (omega (arith, further)) can copies.0 in
-      let rest = copies-from (n + 2) next ks (subst (λ x. StandFrom steps x (flat_map (copy_of s h) ks)) two all.1.1)
+      let rest = copies-from (n + 2) next ks (subst (λ x. InstructionsStandFrom steps x (flat_map (copy_of s h) ks)) two all.1.1)
       (omega (arith, further))
       (can-still (place n) (place (n + 2)) registers k held copies.0 can)
       (keeps (place n) (place (n + 2)) registers k h held copies.0 has (inr held))
@@ -283,13 +283,13 @@ module _
       }
 
 copies-by :
-    (w : Linked) → CanRun w
+    (w : Linked) → IsExecutable w
     → (place : ℕ → ℕ) (steps : List Step) (fs : List (Frame Cell)) (heap : List (Object Cell)) (statics : List Cell) (n : ℕ)
     (s : Source)
     (values : List Cell) (h : Home) (ks : List Home)
     → OwnRegisters s
     → IsAtStep w place steps (record { frames = fs; heap = heap; statics = statics }) n (2 * length ks)
-    → StandFrom steps n (flat_map (copy_of s h) ks)
+    → InstructionsStandFrom steps n (flat_map (copy_of s h) ks)
     → HasRegister s.homes h
     → CanLoad w s (record { frames = fs; heap = heap; statics = statics }) h
     → Holds s values (first_frame fs) h
@@ -320,6 +320,6 @@ copies-by w world place steps (f ∷ below) heap statics n s values h ks own is 
     n f.registers ks stand is.further now holds copies)
     can held
 
-pub homes-are-copied : (w : Linked) → CanRun w → HomesAreCopied w
+pub homes-are-copied : (w : Linked) → IsExecutable w → HomesAreCopied w
 homes-are-copied w world place steps t n s values h ks own is stand has can held copies room =
     copies-by w world place steps t.frames t.heap t.statics n s values h ks own is stand has can held copies room

@@ -20,7 +20,7 @@ use Rattle.xf_held.specs.Moves.{size, copied, CopiesKeepHomes}
 -- ---- registers after a copy
 
 -- a number beside some is none of them
-beside : (to n k : ℕ) → (k < to) ⊎ (to + n ≤ k) → (j : ℕ) → j < n → to + j ≡ k → ⊥
+pub beside : (to n k : ℕ) → (k < to) ⊎ (to + n ≤ k) → (j : ℕ) → j < n → to + j ≡ k → ⊥
 beside to n k (inl lt) j small e = omega (arith, lt, e)
 beside to n k (inr le) j small e = omega (arith, le, small, e)
 

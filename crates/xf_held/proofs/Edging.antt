@@ -34,7 +34,7 @@ use Rattle.xf_typing.specs.Planned.{IsPlanned, Keeps}
 use Rattle.xf_typing.specs.Edges.{LeadsTo, stored_at, IsCarried, EdgesCarry}
 use Rattle.xf_held.specs.Edges.{insns, moved, IsBeside, HoldsAfter, HoldsBefore, AreCarried, EdgesRun}
 use Rattle.xf_held.specs.Held.{Holds, HoldsLocals, slots}
-use Rattle.xf_held.specs.Moves.{size, letter_of, StandFrom, IsAtStep, IsCopy}
+use Rattle.xf_held.specs.Moves.{size, letter_of, InstructionsStandFrom, IsAtStep, IsCopy}
 use Rattle.xf_held.proofs.Copies.{wide}
 use Rattle.xf_held.proofs.Valued.{asked_types, CellsAt, cells-left, value-inside}
 use Rattle.xf_held.proofs.Beside.{AreLaws, each-among, among-each, own, register-inside, register-small, needed-valued, count-registers, held-as, held-in-slots, held-in-registers}
@@ -49,7 +49,7 @@ none-some h e = absurd (cc)
 differ : (b : Bool) → b ≡ true → b ≡ false → ⊥
 differ b e f = absurd (cc)
 
-home-same : (a b : Home) → a.slot ≡ b.slot → a.ty ≡ b.ty → a ≡ b
+pub home-same : (a b : Home) → a.slot ≡ b.slot → a.ty ≡ b.ty → a ≡ b
 home-same a b e f = ap (λ (n : ℕ). record { slot = n; ty = a.ty }) e ∙ ap (λ (u : Ty). record { slot = b.slot; ty = u }) f
 
 module _ (s : Source) (q : ℕ) (f g : Frame Cell) where
@@ -178,7 +178,7 @@ module _ (v w : Linked) (l : AreLaws v w) (place : ℕ → ℕ) (steps : List St
         by None e = each-among _ (needed s q x) (λ k a. here-as k (none-here x k e a))
         by (Some from) e = each-among _ (needed s q x) (λ k a. from-here x from k e a)
 
-    run-edge : StandFrom steps n (insns (copies s o q)) → AreCarried w s q f t (length (insns (copies s o q))) (place (n + length (insns (copies s o q))))
+    run-edge : InstructionsStandFrom steps n (insns (copies s o q)) → AreCarried w s q f t (length (insns (copies s o q))) (place (n + length (insns (copies s o q))))
     unfolding copies
     run-edge stand =
         let ran = locals-run w l.world place steps s (own v w l s is plan) (slots f) g.method g.stack below heap statics at.method at.is_method at.are room
@@ -221,7 +221,7 @@ module _ (v w : Linked) (l : AreLaws v w) (place : ℕ → ℕ) (steps : List St
       (fs : List (Frame Cell)) (heap : List (Object Cell)) (statics : List Cell) (n : ℕ)
       → IsBeside w s q f (record { frames = fs; heap = heap; statics = statics })
       → IsAtStep w place steps (record { frames = fs; heap = heap; statics = statics }) n (length (insns (copies s o q)))
-      → StandFrom steps n (insns (copies s o q))
+      → InstructionsStandFrom steps n (insns (copies s o q))
       → length (first_frame fs).stack ≤ s.method.rec.max_stack
       → HoldsBefore s o q f (first_frame fs)
       → AreCarried w s q f (record { frames = fs; heap = heap; statics = statics }) (length (insns (copies s o q))) (place (n + length (insns (copies s o q))))

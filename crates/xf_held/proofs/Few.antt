@@ -30,7 +30,7 @@ use Rattle.vm_alike.specs.Alike.{renamed_cell}
 use Rattle.xf_homes.specs.declared.home.Home.{Home}
 use Rattle.xf_homes.specs.Home.{register_count, KeepsStack, IsAsked}
 use Rattle.xf_homes.specs.Laws.{HasRegister, AreNeeded, AreAskedInOrder, IsAskedBefore, NeededAreKept}
-use Rattle.xf_homes.specs.Order.{StandFrom as Follow, register_sum}
+use Rattle.xf_homes.specs.Order.{SlotsFollow as Follow, register_sum}
 use Rattle.xf_homes.specs.Value.{width}
 use Rattle.xf_homes.specs.Walk.{has, register_from, same_home}
 use Rattle.xf_homes.proofs.Events.{homes-equal}

@@ -1,6 +1,6 @@
 -- Steps that rewritten code takes alone: an operation that goes on, and a copy of a value.
-use Rattle.std.proofs.Common.{◌≡◌, ℕ, ◌+◌, ◌≤◌, Bool, true, false, if◌then◌else◌, List, [], ◌∷◌, length, map, set, refl, sym, ap, ◌∙◌, subst, arith}
-use Rattle.std.specs.Prelude.{Option, Some, None, nat_lt, nat_le, IsSomeAnd, slice_get}
+use Rattle.std.proofs.Common.{◌≡◌, ℕ, ◌+◌, ◌≤◌, List, [], ◌∷◌, length, map, set, refl, sym, ap, ◌∙◌, subst, arith}
+use Rattle.std.specs.Prelude.{Some, None, nat_lt, nat_le, IsSomeAnd, slice_get}
 use Rattle.std.proofs.lemmas.Bool.{le-ltb, lt-leb}
 use Rattle.std.proofs.lemmas.List.{length-map}
 use Rattle.jc_base.specs.declared.ty.Ty.{Ty}
@@ -16,7 +16,7 @@ use Rattle.jc_ops.specs.declared.operation.Operation.TheVariants.{Load, Store}
 use Rattle.jc_ops.specs.declared.operation.Sort.{Sort}
 use Rattle.jc_ops.specs.declared.operation.Sort.TheVariants as sorts
 use Rattle.jc_ops.specs.declared.want.Want.TheVariants.{Value}
-use Rattle.jc_rules.specs.Demand.{AllHold, Meets}
+use Rattle.jc_rules.specs.Demand.{SatisfiesAll, Meets}
 use Rattle.jc_rules.specs.Rule.{demands}
 use Rattle.vm_store.specs.declared.cell.Cell.{Cell}
 use Rattle.vm_store.specs.declared.cell.Cell.TheVariants.{Empty}
@@ -39,14 +39,10 @@ use Rattle.vm_step.specs.Tests.{fault_before}
 use Rattle.vm_step.specs.Values.{with_load, with_store}
 use Rattle.vm_sound.specs.Frames.{least_types, types_in}
 use Rattle.vm_sound.proofs.Cells.{cell-at}
+use Rattle.vm_sound.proofs.Finish.{pick}
 use Rattle.vm_alike.specs.Running.{Executes}
 use Rattle.xf_held.proofs.Passing.{passes-before}
 use Rattle.xf_held.specs.Moves.{size, copied, with_registers, AreFilled, end_of, OperationsGoOn, CopiesRun}
-
-pick : {X : Type 0} (x y : Option X) (a b : Bool) → a ≡ false → b ≡ false → (if a then x else if b then y else None) ≡ None
-pick x y true b h k = absurd (cc)
-pick x y false true h k = absurd (cc)
-pick x y false false h k = refl
 
 -- what was stored in a cell is loaded as it is
 pub loaded-filled : (kind : CellKind) (c : Cell) → IsFilled c → loaded_as kind c ≡ c
@@ -63,7 +59,7 @@ module _ (w : Linked) (chains : AreClasses w.classes) where
       (f : Frame Cell) (below : List (Frame Cell)) (heap : List (Object Cell)) (statics : List Cell) (z : State Cell) (j : Placed)
       (op : Operation)
       → Executes w (record { frames = f ∷ below; heap = heap; statics = statics }) j op
-      → AllHold w.classes (types_in w.classes Bottom (map (λ (o : Object Cell). o.kind) heap) f) (demands w op)
+      → SatisfiesAll w.classes (types_in w.classes Bottom (map (λ (o : Object Cell). o.kind) heap) f) (demands w op)
       → act tagged w j.insn op (record { frames = f ∷ below; heap = heap; statics = statics }) ≡ goes z
       → length (top z).stack ≤ max_stack_of w (top z).method
       → IsPlace (code_at w (top z).method) (end_of j)
@@ -85,7 +81,7 @@ module _ (w : Linked) (chains : AreClasses w.classes) where
   by-frames :
       (fs : List (Frame Cell)) (heap : List (Object Cell)) (statics : List Cell) (z : State Cell) (j : Placed) (op : Operation)
       → Executes w (record { frames = fs; heap = heap; statics = statics }) j op
-      → AllHold w.classes (types_in w.classes Bottom (map (λ (o : Object Cell). o.kind) heap)
+      → SatisfiesAll w.classes (types_in w.classes Bottom (map (λ (o : Object Cell). o.kind) heap)
       (top (record { frames = fs; heap = heap; statics = statics }))) (demands w op)
       → act tagged w j.insn op (record { frames = fs; heap = heap; statics = statics }) ≡ goes z
       → length (top z).stack ≤ max_stack_of w (top z).method
@@ -152,7 +148,7 @@ module _ (w : Linked) (chains : AreClasses w.classes) where
         (sort : Sort)
         → Executes w t i (Load sort from)
         → Executes w (with_place (with_load tagged sort from t) (end_of i)) j (Store sort to)
-        → AllHold w.classes (types_in w.classes Bottom ks f) (demands w (Load sort from))
+        → SatisfiesAll w.classes (types_in w.classes Bottom ks f) (demands w (Load sort from))
         → AreFilled sort from f.registers
         → to + size sort ≤ length f.registers
         → size sort + length f.stack ≤ max_stack_of w f.method
@@ -199,7 +195,7 @@ module _ (w : Linked) (chains : AreClasses w.classes) where
       → Executes w (record { frames = fs; heap = heap; statics = statics }) i (Load sort from)
       → Executes w (with_place (with_load tagged sort from (record { frames = fs; heap = heap; statics = statics })) (end_of i)) j
       (Store sort to)
-      → AllHold w.classes
+      → SatisfiesAll w.classes
       (types_in w.classes Bottom (map (λ (o : Object Cell). o.kind) heap)
       (top (record { frames = fs; heap = heap; statics = statics })))
       (demands w (Load sort from))

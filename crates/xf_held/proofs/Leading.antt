@@ -16,7 +16,7 @@ use Rattle.vm_step.specs.Raising.{running}
 use Rattle.vm_step.specs.Run.{Runs}
 use Rattle.xf_homes.specs.declared.home.Home.{Home}
 use Rattle.xf_homes.specs.Home.{register_count}
-use Rattle.xf_homes.specs.Order.{StandFrom as Follow, register_sum}
+use Rattle.xf_homes.specs.Order.{SlotsFollow as Follow, register_sum}
 use Rattle.xf_homes.specs.Value.{width}
 use Rattle.xf_plan.specs.Source.{Source}
 use Rattle.xf_plan.specs.Plan.{cells, register}
@@ -24,7 +24,7 @@ use Rattle.xf_emission.specs.Move.{load, loads}
 use Rattle.xf_typing.specs.Edges.{CellsFillStack, FillStack}
 use Rattle.xf_held.specs.Edges.{insns, moved, LeadersLoad}
 use Rattle.xf_held.specs.Held.{Holds, Waits, slots}
-use Rattle.xf_held.specs.Moves.{StandFrom, load_of, loaded_stack, CanLoad}
+use Rattle.xf_held.specs.Moves.{InstructionsStandFrom, load_of, loaded_stack, CanLoad}
 use Rattle.xf_held.proofs.Loading.{loads-run}
 use Rattle.xf_held.proofs.Stacked.{loaded-is-stack}
 use Rattle.xf_held.proofs.Beside.{AreLaws, each-among, among-each, typed, count-registers, count-stack, stack-fits, cells-valued, register-small, held-can-load}
@@ -50,5 +50,5 @@ leaders-load v w l place steps t n s q f is plan beside keeps at stand waits =
     (λ h a.
     let k = cells-valued v w l s is plan q f t beside keeps h a in
     held-can-load w s (slots f) t h (register-small v w l s is plan h k.0.has) (among-each (Holds s (slots f) (top t)) hs h waits.cells a) k.1) in
-    let ran = loads-run w l.world place steps t n s hs at (subst (StandFrom steps n) (insns-loads s hs) stand) can fits in
+    let ran = loads-run w l.world place steps t n s hs at (subst (InstructionsStandFrom steps n) (insns-loads s hs) stand) can fits in
     subst (λ (stack : List Cell). Runs tagged w (length hs) t (running (moved t (place (n + length hs)) (top t).registers stack))) back ran

@@ -16,7 +16,7 @@ use Rattle.jc_ops.specs.declared.operation.Sort.{Sort}
 use Rattle.jc_ops.specs.declared.operation.Sort.TheVariants as sorts
 use Rattle.jc_ops.specs.Row.{table, row_at, unused, by_sort, by_width, by_kind, first_four, by_register, literals, binary, orders_all, branching}
 use Rattle.jc_ops.specs.Resolve.{resolved, Resolves}
-use Rattle.jc_rules.specs.Demand.{AllHold}
+use Rattle.jc_rules.specs.Demand.{SatisfiesAll}
 use Rattle.jc_rules.specs.Rule.{demands}
 use Rattle.vm_store.specs.declared.cell.Cell.{Cell}
 use Rattle.vm_store.specs.declared.cell.CellKind.TheVariants as made
@@ -35,7 +35,7 @@ use Rattle.xf_emission.specs.Move.{with_byte, load_op, store_op}
 use Rattle.xf_homes.specs.declared.home.Home.{Home}
 use Rattle.xf_plan.specs.Source.{Source}
 use Rattle.xf_plan.specs.Plan.{register}
-use Rattle.xf_held.specs.Moves.{CanRun, AreFilled, end_of, letter_of, StandFrom, load_of, IsAtStep, CanLoad, value_at, loaded_stack, LoadsRun}
+use Rattle.xf_held.specs.Moves.{IsExecutable, AreFilled, end_of, letter_of, InstructionsStandFrom, load_of, IsAtStep, CanLoad, value_at, loaded_stack, LoadsRun}
 use Rattle.xf_held.proofs.Going.{loaded-filled, operations-go-on}
 use Rattle.xf_held.proofs.Standing.{steps-stand-at-places, steps-execute}
 
@@ -76,7 +76,7 @@ step-place code place steps n are lt =
     (here.instruction, there.stands, there.at)
 
 module _
-    (w : Linked) (world : CanRun w) (place : ℕ → ℕ) (steps : List Step) (s : Source)
+    (w : Linked) (world : IsExecutable w) (place : ℕ → ℕ) (steps : List Step) (s : Source)
     (method : ℕ) (registers : List Cell) (below : List (Frame Cell)) (heap : List (Object Cell)) (statics : List Cell)
     (m : MethodRec) (is_method : slice_get w.methods method ≡ Some m)
     (are : AreSteps (code_at w method) place 0 steps (listing (code_at w method))) where
@@ -95,10 +95,10 @@ module _
   -- a load asks nothing of the stack
   asked-over :
       (letter : Sort) (r : ℕ) (stack others : List Cell)
-      → AllHold w.classes
+      → SatisfiesAll w.classes
       (record { regs = least_types w.classes Bottom ks registers; stack = least_types w.classes Bottom ks stack })
       (demands w (ops.Load letter r))
-      → AllHold w.classes
+      → SatisfiesAll w.classes
       (record { regs = least_types w.classes Bottom ks registers; stack = least_types w.classes Bottom ks others })
       (demands w (ops.Load letter r))
   asked-over sorts.Reference r stack others h = h
@@ -170,7 +170,7 @@ module _
 
   loads-from :
       (n : ℕ) (hs : List Home) (stack first : List Cell) (p : ℕ)
-      → StandFrom steps n (map (load_of s) hs)
+      → InstructionsStandFrom steps n (map (load_of s) hs)
       → n + length hs < length steps
       → Each (CanLoad w s (at p first)) hs
       → length (loaded_stack s registers hs stack) ≤ max_stack_of w method
@@ -189,11 +189,11 @@ module _
       (loads-from (n + 1) hs more first p stand.1 (omega (arith, further)) can.1 room))
 
 loads-by :
-    (w : Linked) → CanRun w
+    (w : Linked) → IsExecutable w
     → (place : ℕ → ℕ) (steps : List Step) (fs : List (Frame Cell)) (heap : List (Object Cell)) (statics : List Cell) (n : ℕ)
     (s : Source) (hs : List Home)
     → IsAtStep w place steps (record { frames = fs; heap = heap; statics = statics }) n (length hs)
-    → StandFrom steps n (map (load_of s) hs)
+    → InstructionsStandFrom steps n (map (load_of s) hs)
     → Each (CanLoad w s (record { frames = fs; heap = heap; statics = statics })) hs
     → length (loaded_stack s (first_frame fs).registers hs (first_frame fs).stack) ≤ max_stack_of w (first_frame fs).method
     → Runs tagged w (length hs) (record { frames = fs; heap = heap; statics = statics })
@@ -224,6 +224,6 @@ loads-by w world place steps (f ∷ below) heap statics n s hs is stand can room
     (loads-from w world place steps s f.method f.registers below heap statics is.method is.is_method is.are n hs f.stack
     f.stack f.place stand is.further can room)
 
-pub loads-run : (w : Linked) → CanRun w → LoadsRun w
+pub loads-run : (w : Linked) → IsExecutable w → LoadsRun w
 loads-run w world place steps t n s hs is stand can room =
     loads-by w world place steps t.frames t.heap t.statics n s hs is stand can room

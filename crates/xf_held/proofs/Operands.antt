@@ -1,7 +1,7 @@
 -- The loads after a conditional's stack was stored: those of its operands, and those of the cells under them.
-use Rattle.std.proofs.Common.{◌≡◌, inl, inr, ℕ, zero, suc, ◌+◌, ◌-◌, ◌<◌, ◌≤◌, true, List, [], ◌∷◌, ◌++◌, length, map, take, drop, reverse, Some, Ok, refl, sym, ap, ◌∙◌, subst, arith, append_assoc, length-append}
+use Rattle.std.proofs.Common.{◌≡◌, inl, inr, ℕ, ◌+◌, ◌-◌, ◌<◌, ◌≤◌, true, List, [], ◌∷◌, ◌++◌, length, map, take, drop, reverse, Some, Ok, refl, sym, ap, ◌∙◌, subst, arith, append_assoc, length-append}
 use Rattle.std.proofs.lemmas.List.{append_cancel_right, length-reverse, length-take, length-drop, reverse-append, reverse-reverse, take-append-drop, take_all}
-use Rattle.std.specs.Prelude.{◌↔◌, slice_get, sum_by}
+use Rattle.std.specs.Prelude.{◌↔◌, sum_by}
 use Rattle.std.proofs.lemmas.List.Sums.{sum_by-append, sum_by-cons}
 use Rattle.jc_base.specs.Each.{Each, IsAmong}
 use Rattle.jc_base.specs.World.{Linked}
@@ -19,7 +19,7 @@ use Rattle.vm_step.specs.Run.{Runs}
 use Rattle.vm_alike.proofs.Asked.{register-same}
 use Rattle.xf_homes.specs.declared.home.Home.{Home}
 use Rattle.xf_homes.specs.Home.{register_count}
-use Rattle.xf_homes.specs.Order.{StandFrom as Follow, register_sum}
+use Rattle.xf_homes.specs.Order.{SlotsFollow as Follow, register_sum}
 use Rattle.xf_homes.specs.Value.{width}
 use Rattle.xf_plan.specs.Source.{Source}
 use Rattle.xf_plan.specs.Plan.{cells, register}
@@ -27,14 +27,15 @@ use Rattle.xf_emission.specs.Jump.{is_over, operands, under}
 use Rattle.xf_emission.specs.Move.{loads}
 use Rattle.xf_typing.specs.Planned.{IsPlanned}
 use Rattle.xf_typing.specs.Edges.{CellsFillStack, FillStack, ForksAreCut, IsForkedAt}
+use Rattle.xf_typing.proofs.Stacks.{turned-cons}
 use Rattle.xf_held.specs.Edges.{insns, moved, IsBeside, OperandsLoad, UnderHold, UnderLoads}
 use Rattle.xf_held.specs.Held.{Holds, slots}
-use Rattle.xf_held.specs.Moves.{size, letter_of, StandFrom, IsAtStep, CanLoad, load_of, loaded_stack, value_at}
+use Rattle.xf_held.specs.Moves.{size, letter_of, InstructionsStandFrom, IsAtStep, CanLoad, load_of, loaded_stack, value_at}
 use Rattle.xf_held.proofs.Copies.{wide}
 use Rattle.xf_held.proofs.Loading.{loads-run}
-use Rattle.xf_held.proofs.Storing.{piled, piled-append, piled-from, turned-cons}
+use Rattle.xf_held.proofs.Storing.{piled, piled-append, piled-from}
 use Rattle.xf_held.proofs.Leading.{insns-loads}
-use Rattle.xf_held.proofs.Beside.{AreLaws, each-among, among-each, typed, count-registers, count-stack, stack-fits, cells-valued, register-small, held-can-load}
+use Rattle.xf_held.proofs.Beside.{AreLaws, each-among, among-each, typed, count-registers, count-stack, stack-fits, cells-valued, register-small, held-can-load, get-left}
 
 -- ---- values that are loaded
 
@@ -108,24 +109,19 @@ slots-to n (k ∷ hs) follow h (inr a) =
     let sum = sum_by-cons (λ (x : Home). width x.ty) k hs in
     omega (arith, sum, slots-to (n + width k.ty) hs follow.1 h a)
 
-get-first : (xs ys : List Cell) (n : ℕ) → n < length xs → slice_get (xs ++ ys) n ≡ slice_get xs n
-get-first [] ys n lt = absurd (omega (arith, lt))
-get-first (x ∷ xs) ys zero lt = refl
-get-first (x ∷ xs) ys (suc n) lt = get-first xs ys n (omega (arith, lt))
-
 -- a value among cells, and among more of them
 grown : (s : Source) (xs ys : List Cell) (g : Frame Cell) (h : Home) → h.slot + width h.ty ≤ length xs → Holds s xs g h → Holds s (xs ++ ys) g h
 grown s xs ys g h inside held = record {
   known = omega (arith, inside, length-append xs ys);
   there = held.there;
-  equal = λ n lt. held.equal n lt ∙ sym (get-first xs ys (h.slot + n) (omega (arith, inside, lt)));
+  equal = λ n lt. held.equal n lt ∙ sym (get-left xs ys (h.slot + n) (omega (arith, inside, lt)));
 }
 
 cut-back : (s : Source) (xs ys : List Cell) (g : Frame Cell) (h : Home) → h.slot + width h.ty ≤ length xs → Holds s (xs ++ ys) g h → Holds s xs g h
 cut-back s xs ys g h inside held = record {
   known = inside;
   there = held.there;
-  equal = λ n lt. held.equal n lt ∙ get-first xs ys (h.slot + n) (omega (arith, inside, lt));
+  equal = λ n lt. held.equal n lt ∙ get-left xs ys (h.slot + n) (omega (arith, inside, lt));
 }
 
 among-left : (h : Home) (hs ks : List Home) → IsAmong h hs → IsAmong h (hs ++ ks)
@@ -190,7 +186,7 @@ module _ (v w : Linked) (l : AreLaws v w) (place : ℕ → ℕ) (steps : List St
       → Each (Holds s (slots f) (top t)) hs
       → ((h : Home) → IsAmong h hs → IsAmong h (cells s i.place))
       → IsAtStep w place steps t n (length hs)
-      → StandFrom steps n (insns (loads s hs))
+      → InstructionsStandFrom steps n (insns (loads s hs))
       → (top t).stack ≡ []
       → piled (slots f) (reverse hs) [] ≡ stack
       → length stack ≤ length f.stack
@@ -204,11 +200,11 @@ module _ (v w : Linked) (l : AreLaws v w) (place : ℕ → ℕ) (steps : List St
       (λ h a.
       let c = cells-valued v w l s is plan i.place f t beside (fork.keeps over) h (inside h a) in
       held-can-load w s (slots f) t h (register-small v w l s is plan h c.0.has) (among-each (Holds s (slots f) (top t)) hs h held_part a) c.1) in
-      let ran = loads-run w l.world place steps t n s hs at (subst (StandFrom steps n) (insns-loads s hs) stand) can fits in
+      let ran = loads-run w l.world place steps t n s hs at (subst (InstructionsStandFrom steps n) (insns-loads s hs) stand) can fits in
       subst (λ (cs : List Cell). Runs tagged w (length hs) t (running (moved t (place (n + length hs)) (top t).registers cs))) back ran
 
   operands-load :
-      (n : ℕ) → Each (Holds s (slots f) (top t)) (cells s i.place) → IsAtStep w place steps t n (length (operands s i.place k)) → StandFrom steps n (insns (loads s (operands s i.place k))) → (top t).stack ≡ []
+      (n : ℕ) → Each (Holds s (slots f) (top t)) (cells s i.place) → IsAtStep w place steps t n (length (operands s i.place k)) → InstructionsStandFrom steps n (insns (loads s (operands s i.place k))) → (top t).stack ≡ []
       → Runs tagged w (length (operands s i.place k)) t (running (moved t (place (n + length (operands s i.place k))) (top t).registers (take k f.stack)))
   operands-load n held at stand empty =
       part-loads n (operands s i.place k) (take k f.stack)
@@ -218,7 +214,7 @@ module _ (v w : Linked) (l : AreLaws v w) (place : ℕ → ℕ) (steps : List St
       (omega (arith, ap length (take-append-drop k f.stack), length-append (take k f.stack) (drop k f.stack)))
 
   under-load :
-      (n : ℕ) → Each (Holds s (slots f) (top t)) (under s i.place k) → IsAtStep w place steps t n (length (under s i.place k)) → StandFrom steps n (insns (loads s (under s i.place k))) → (top t).stack ≡ []
+      (n : ℕ) → Each (Holds s (slots f) (top t)) (under s i.place k) → IsAtStep w place steps t n (length (under s i.place k)) → InstructionsStandFrom steps n (insns (loads s (under s i.place k))) → (top t).stack ≡ []
       → Runs tagged w (length (under s i.place k)) t (running (moved t (place (n + length (under s i.place k))) (top t).registers (drop k f.stack)))
   under-load n held at stand empty =
       part-loads n (under s i.place k) (drop k f.stack) held

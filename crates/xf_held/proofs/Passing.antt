@@ -11,7 +11,7 @@ use Rattle.jc_base.proofs.Orders.{order-of-types}
 use Rattle.jc_base.proofs.Leading.{and}
 use Rattle.jc_ops.specs.declared.operation.Operation.{Operation}
 use Rattle.jc_rules.specs.declared.demand.Demand.{Demand}
-use Rattle.jc_rules.specs.Demand.{Frame as Types, AllHold, Holds, holds}
+use Rattle.jc_rules.specs.Demand.{Frame as Types, SatisfiesAll, Satisfies, satisfies}
 use Rattle.jc_rules.specs.Footprint.{registers_asked, cells_asked}
 use Rattle.jc_rules.specs.Rule.{demands}
 use Rattle.jc_rules.proofs.Decided.{are-decided}
@@ -35,16 +35,16 @@ module _ (w : Linked) (chains : AreClasses w.classes) where
   true-of true P decided h = refl
   true-of false P decided h = absurd (decided h)
 
-  hold-tests : (types : Types) (ds : List Demand) → AllHold w.classes types ds → list_all (holds w.classes types) ds ≡ true
+  hold-tests : (types : Types) (ds : List Demand) → SatisfiesAll w.classes types ds → list_all (satisfies w.classes types) ds ≡ true
   hold-tests types [] h = refl
   hold-tests types (d ∷ ds) h =
-      and (holds w.classes types d) (list_all (holds w.classes types) ds)
-      (true-of (holds w.classes types d) (Holds w.classes types d) ((are-decided w.classes (order-of-types w.classes chains)).demand types d) h.0)
+      and (satisfies w.classes types d) (list_all (satisfies w.classes types) ds)
+      (true-of (satisfies w.classes types d) (Satisfies w.classes types d) ((are-decided w.classes (order-of-types w.classes chains)).demand types d) h.0)
       (hold-tests types ds h.1)
 
   pub passes-before :
       (f : Frame Cell) (below : List (Frame Cell)) (heap : List (Object Cell)) (statics : List Cell) (op : Operation)
-      → AllHold w.classes (types_in w.classes Bottom (map (λ (o : Object Cell). o.kind) heap) f) (demands w op)
+      → SatisfiesAll w.classes (types_in w.classes Bottom (map (λ (o : Object Cell). o.kind) heap) f) (demands w op)
       → fault_before tagged w op (record { frames = f ∷ below; heap = heap; statics = statics }) ≡ None
   passes-before f below heap statics op asked =
       let ks = map (λ (o : Object Cell). o.kind) heap in
@@ -57,5 +57,5 @@ module _ (w : Linked) (chains : AreClasses w.classes) where
       let stack : cells_asked ds ≤ length f.stack =
       subst (λ n. cells_asked ds ≤ n) (length-map f.stack (least_type w.classes Bottom ks)) (are.cells there) in
       pick (Some LocalFault) (Some StackFault) (Some TypeFault) (nat_lt (length f.registers) (registers_asked ds)) (nat_lt (length f.stack) (cells_asked ds))
-      (list_all (holds w.classes types) ds) (le-ltb (length f.registers) (registers_asked ds) regs) (le-ltb (length f.stack) (cells_asked ds) stack)
+      (list_all (satisfies w.classes types) ds) (le-ltb (length f.registers) (registers_asked ds) regs) (le-ltb (length f.stack) (cells_asked ds) stack)
       (hold-tests types ds asked)

@@ -25,23 +25,24 @@ use Rattle.vm_step.specs.Values.{with_store}
 use Rattle.xf_homes.specs.declared.home.Home.{Home}
 use Rattle.xf_homes.specs.Home.{register_count, KeepsStack}
 use Rattle.xf_homes.specs.Laws.{HasRegister}
-use Rattle.xf_homes.specs.Order.{StandFrom as Follow, register_sum}
+use Rattle.xf_homes.specs.Order.{SlotsFollow as Follow, register_sum}
 use Rattle.xf_homes.specs.Value.{width}
 use Rattle.xf_plan.specs.Source.{Source}
 use Rattle.xf_plan.specs.Plan.{cells, register}
 use Rattle.xf_emission.specs.Move.{with_byte, store_op, store, spill}
 use Rattle.xf_typing.specs.Planned.{IsPlanned}
 use Rattle.xf_typing.specs.Edges.{CellsFillStack, FillStack}
+use Rattle.xf_typing.proofs.Stacks.{turned-cons}
 use Rattle.xf_held.specs.Edges.{insns, moved, IsBeside, AreSpilled, StacksSpill}
 use Rattle.xf_held.specs.Held.{Holds, slots}
 use Rattle.xf_held.specs.Laws.{AreApart}
-use Rattle.xf_held.specs.Moves.{CanRun, size, end_of, letter_of, StandFrom, IsAtStep, OwnRegisters, value_at}
+use Rattle.xf_held.specs.Moves.{IsExecutable, size, end_of, letter_of, InstructionsStandFrom, IsAtStep, OwnRegisters, value_at}
 use Rattle.xf_held.proofs.Copies.{wide}
 use Rattle.xf_held.proofs.Going.{operations-go-on}
 use Rattle.xf_held.proofs.Loading.{store-resolves, step-place}
 use Rattle.xf_held.proofs.Standing.{steps-execute}
 use Rattle.xf_held.proofs.Valued.{asked_types, CellsAt, value-inside}
-use Rattle.xf_held.proofs.Storing.{piled, piled-stack, turned-cons, stored, stored-count, stored-holds, stored-apart, store-asked}
+use Rattle.xf_held.proofs.Storing.{piled, piled-stack, stored, stored-count, stored-holds, stored-apart, store-asked}
 use Rattle.xf_held.proofs.Beside.{AreLaws, each-among, among-each, own, register-inside, register-small, typed, count-registers, count-stack, stack-fits, cells-valued, held-as}
 
 -- a store into a home
@@ -57,7 +58,7 @@ unfolding spill
 insns-spill s hs = stores-are s (reverse hs)
 
 module _
-    (w : Linked) (world : CanRun w) (place : ℕ → ℕ) (steps : List Step) (s : Source) (owns : OwnRegisters s)
+    (w : Linked) (world : IsExecutable w) (place : ℕ → ℕ) (steps : List Step) (s : Source) (owns : OwnRegisters s)
     (values : List Cell)
     (method : ℕ) (below : List (Frame Cell)) (heap : List (Object Cell)) (statics : List Cell)
     (m : MethodRec) (is_method : slice_get w.methods method ≡ Some m)
@@ -157,7 +158,7 @@ module _
 
   pub spill-from :
       (n : ℕ) (registers stack : List Cell) (ks : List Home)
-      → StandFrom steps n (map (store_of s) ks)
+      → InstructionsStandFrom steps n (map (store_of s) ks)
       → n + length ks < length steps
       → Each (IsStored (length registers)) ks
       → length (piled values ks stack) ≤ max_stack_of w method
@@ -253,7 +254,7 @@ module _ (v w : Linked) (l : AreLaws v w) (place : ℕ → ℕ) (steps : List St
       (g : Frame Cell) (below : List (Frame Cell)) (heap : List (Object Cell)) (statics : List Cell) (n : ℕ)
       → IsBeside w s q f (record { frames = g ∷ below; heap = heap; statics = statics })
       → IsAtStep w place steps (record { frames = g ∷ below; heap = heap; statics = statics }) n (length (cells s q))
-      → StandFrom steps n (insns (spill s (cells s q)))
+      → InstructionsStandFrom steps n (insns (spill s (cells s q)))
       → g.stack ≡ f.stack
       → AreSpilled w s q f (record { frames = g ∷ below; heap = heap; statics = statics }) (place (n + length (cells s q)))
   spill-by g below heap statics n beside at stand stack_is =
@@ -276,7 +277,7 @@ module _ (v w : Linked) (l : AreLaws v w) (place : ℕ → ℕ) (steps : List St
         value = c.1;
       }) in
       let ran = spill-from w l.world place steps s (own v w l s is plan) (slots f) g.method below heap statics at.method at.is_method at.are
-      n g.registers [] (reverse hs) (subst (StandFrom steps n) (insns-spill s hs) stand) (omega (arith, at.further, count)) stored_each
+      n g.registers [] (reverse hs) (subst (InstructionsStandFrom steps n) (insns-spill s hs) stand) (omega (arith, at.further, count)) stored_each
       (omega (arith, ap length pile, stack-fits v w l s is plan q f t beside, beside.room)) in
       let whole : piled (slots f) (reverse hs) [] ≡ g.stack = pile ∙ sym stack_is in
       let begins : record { frames = record { method = g.method; place = place n; registers = g.registers; stack = piled (slots f) (reverse hs) [] } ∷ below; heap = heap; statics = statics } ≡ t =
@@ -302,7 +303,7 @@ module _ (v w : Linked) (l : AreLaws v w) (place : ℕ → ℕ) (steps : List St
       (fs : List (Frame Cell)) (heap : List (Object Cell)) (statics : List Cell) (n : ℕ)
       → IsBeside w s q f (record { frames = fs; heap = heap; statics = statics })
       → IsAtStep w place steps (record { frames = fs; heap = heap; statics = statics }) n (length (cells s q))
-      → StandFrom steps n (insns (spill s (cells s q)))
+      → InstructionsStandFrom steps n (insns (spill s (cells s q)))
       → (first_frame fs).stack ≡ f.stack
       → AreSpilled w s q f (record { frames = fs; heap = heap; statics = statics }) (place (n + length (cells s q)))
   spill-frames [] heap statics n beside at stand e = absurd (let lt = at.runs in omega (arith, lt))

@@ -19,13 +19,14 @@ use Rattle.jc_ops.specs.Sound.{OperationsAreSound}
 use Rattle.vm_store.specs.State.{top}
 use Rattle.xf_landed.proofs.Forms.{resolves-renamed}
 use Rattle.xf_landed.proofs.Operations.{operation_renamed}
-use Rattle.xf_landed.proofs.Steps.{contains-at, some-within, step-at}
+use Rattle.xf_landed.proofs.Steps.{some-within, step-at}
 use Rattle.vm_alike.specs.Alike.{renamed_new}
 use Rattle.jc_decode.specs.Listing.{listing}
 use Rattle.jc_decode.specs.Standing.{IsStep, AreSteps}
 use Rattle.jc_decode.specs.Symbols.{Step}
+use Rattle.jc_decode.proofs.Elements.{Contains-slice_get}
 use Rattle.vm_step.specs.Methods.{code_at, instruction_at}
-use Rattle.xf_held.specs.Moves.{CanRun}
+use Rattle.xf_held.specs.Moves.{IsExecutable}
 use Rattle.xf_held.specs.Laws.{StepsStandAtPlaces, StepsExecute}
 
 differ : (a b : ℕ) → a < b → (a == b) ≡ false
@@ -83,7 +84,7 @@ module _ (code : List ℕ) (place : ℕ → ℕ) (steps : List Step) (are : AreS
       let x = step-at code place 0 steps (listing code) are k s.0 s.1 in
       let a = all-are-listed code in
       let long : 0 < x.placed.insn.len = a.long x.placed.place x.placed.insn
-      (a.decodes x.placed (contains-at (listing code) k x.placed x.listed)) in
+      (a.decodes x.placed (Contains-slice_get (listing code) k x.placed x.listed)) in
       let here : 0 + k ≡ k = omega arith in
       let next : 0 + suc k ≡ suc k = omega arith in
       let at : x.placed.place ≡ place k = x.begins ∙ ap place here in
@@ -126,7 +127,7 @@ renamed-alike f (ops.New p class) = refl
 renamed-alike f _ = refl
 
 -- a world whose operations are sound can run code
-pub can-run : (w : Linked) → IsWorld w → OperationsAreSound w → CanRun w
+pub can-run : (w : Linked) → IsWorld w → OperationsAreSound w → IsExecutable w
 can-run w world sound = record {
   chains = world.chains;
   results =
@@ -135,7 +136,7 @@ can-run w world sound = record {
   sound = sound;
 }
 
-pub steps-execute : (w : Linked) → CanRun w → StepsExecute w
+pub steps-execute : (w : Linked) → IsExecutable w → StepsExecute w
 steps-execute w world t m place steps n q step op runs method are e at resolves =
     let code : List ℕ = code_at w (top t).method in
     let here = steps-stand-at-places code place steps n step are e in

@@ -23,7 +23,7 @@ use Rattle.jc_ops.specs.declared.operation.Operation.TheVariants as ops
 use Rattle.jc_ops.specs.declared.operation.Sort.{Sort}
 use Rattle.jc_ops.specs.declared.operation.Sort.TheVariants as sorts
 use Rattle.jc_ops.specs.Resolve.{Resolves}
-use Rattle.jc_rules.specs.Demand.{AllHold, IsHalf, Splits}
+use Rattle.jc_rules.specs.Demand.{SatisfiesAll, IsHalf, Splits}
 use Rattle.jc_rules.specs.Laws.{IsNotBottom}
 use Rattle.jc_rules.specs.Rule.{demands}
 use Rattle.vm_store.specs.declared.cell.Cell.{Cell}
@@ -55,7 +55,7 @@ use Rattle.xf_typing.proofs.Running.{is-reference}
 use Rattle.xf_held.specs.Edges.{insns, moved, IsBeside}
 use Rattle.xf_held.specs.Held.{Holds}
 use Rattle.xf_held.specs.Laws.{AreApart}
-use Rattle.xf_held.specs.Moves.{CanRun, size, letter_of, AreFilled, StandFrom, IsAtStep, copy_of, end_of, value_at, OwnRegisters, IsCopy}
+use Rattle.xf_held.specs.Moves.{IsExecutable, size, letter_of, AreFilled, InstructionsStandFrom, IsAtStep, copy_of, end_of, value_at, OwnRegisters, IsCopy}
 use Rattle.xf_held.specs.Stores.{HasLocal, AreStored, StoresRun}
 use Rattle.xf_held.proofs.Copies.{wide}
 use Rattle.xf_held.proofs.Going.{operations-go-on}
@@ -243,7 +243,7 @@ popped-insns sorts.Reference = refl
 popped-insns sorts.Short = refl
 
 module _
-    (w : Linked) (world : CanRun w) (types_are : IsOrderOfTypes w.classes) (place : ℕ → ℕ) (steps : List Step)
+    (w : Linked) (world : IsExecutable w) (types_are : IsOrderOfTypes w.classes) (place : ℕ → ℕ) (steps : List Step)
     (values : List Cell)
     (method : ℕ) (below : List (Frame Cell)) (heap : List (Object Cell)) (statics : List Cell)
     (m : MethodRec) (is_method : slice_get w.methods method ≡ Some m)
@@ -336,10 +336,10 @@ module _ (v w : Linked) (l : AreLaws v w) (place : ℕ → ℕ) (steps : List St
     abbrev Ended : List Home → Type 0
     Ended hs = AreStored w s q x f t stack (length (insns (stored_items s letter hs))) (place (n + length (insns (stored_items s letter hs))))
 
-    none-needed : needed s q x ≡ [] → count ≡ length (insns (stored_items s letter [])) → StandFrom steps n (insns (stored_items s letter [])) → Ended []
+    none-needed : needed s q x ≡ [] → count ≡ length (insns (stored_items s letter [])) → InstructionsStandFrom steps n (insns (stored_items s letter [])) → Ended []
     none-needed none is_count stand =
         let one : length (insns (popped letter ∷ [])) ≡ 1 = ap length (popped-insns letter) in
-        let lone = subst (StandFrom steps n) (popped-insns letter) stand in
+        let lone = subst (InstructionsStandFrom steps n) (popped-insns letter) stand in
         let step = pop-step w l.world (types v w l s is plan q f t beside) place steps f.registers g.method below heap statics at.method at.is_method at.are n x g.registers stack letter lone.0
         (omega (arith, at.further, is_count, one)) value (omega (arith, fits)) in
         let ran : Runs tagged w 1 t (running (moved t (place (n + 1)) g.registers stack)) =
@@ -353,7 +353,7 @@ module _ (v w : Linked) (l : AreLaws v w) (place : ℕ → ℕ) (steps : List St
         }
 
     some-needed :
-        (h : Home) (hs : List Home) → needed s q x ≡ h ∷ hs → count ≡ length (insns (stored_items s letter (h ∷ hs))) → StandFrom steps n (insns (stored_items s letter (h ∷ hs)))
+        (h : Home) (hs : List Home) → needed s q x ≡ h ∷ hs → count ≡ length (insns (stored_items s letter (h ∷ hs))) → InstructionsStandFrom steps n (insns (stored_items s letter (h ∷ hs)))
         → Ended (h ∷ hs)
     some-needed h hs some is_count stand =
         let own_h = of-letter h (subst (IsAmong h) (sym some) (inl refl)) in
@@ -371,7 +371,7 @@ module _ (v w : Linked) (l : AreLaws v w) (place : ℕ → ℕ) (steps : List St
         let same : length next ≡ length g.registers = stored-count (letter_of h.ty) f.registers h.slot (register s h) g.registers in
         let written = stored-holds s (record { method = g.method; place = 0; registers = g.registers; stack = stack }) h f.registers inside_h there in
         let rest = copy-fits w l.world place steps s (own v w l s is plan) f.registers g.method stack below heap statics at.method at.is_method at.are room
-        (n + 1) next h hs (subst (StandFrom steps (n + 1)) tail_is stand.1) (omega (arith, at.further, is_count, tail_count))
+        (n + 1) next h hs (subst (InstructionsStandFrom steps (n + 1)) tail_is stand.1) (omega (arith, at.further, is_count, tail_count))
         (record { own = own_h.2; small = register-small v w l s is plan h own_h.2; holds = written; value = value_h })
         (subst (λ (a : Sort). size a + length stack ≤ max_stack_of w g.method) (sym own_h.1) fits)
         (each-among (IsCopy s (length next) h) hs
@@ -431,10 +431,10 @@ module _ (v w : Linked) (l : AreLaws v w) (place : ℕ → ℕ) (steps : List St
             stored-apart s (record { method = g.method; place = 0; registers = g.registers; stack = stack }) h f.registers inside f.registers a apart held
 
     store-runs :
-        count ≡ length (insns (stored_items s letter (needed s q x))) → StandFrom steps n (insns (stored_items s letter (needed s q x))) → Ended (needed s q x)
+        count ≡ length (insns (stored_items s letter (needed s q x))) → InstructionsStandFrom steps n (insns (stored_items s letter (needed s q x))) → Ended (needed s q x)
     store-runs is_count stand = by (needed s q x) refl is_count stand
       where
-        by : (hs : List Home) → needed s q x ≡ hs → count ≡ length (insns (stored_items s letter hs)) → StandFrom steps n (insns (stored_items s letter hs)) → Ended hs
+        by : (hs : List Home) → needed s q x ≡ hs → count ≡ length (insns (stored_items s letter hs)) → InstructionsStandFrom steps n (insns (stored_items s letter hs)) → Ended hs
         by [] e is_count stand = none-needed e is_count stand
         by (h ∷ hs) e is_count stand = some-needed h hs e is_count stand
 
@@ -443,7 +443,7 @@ module _ (v w : Linked) (l : AreLaws v w) (place : ℕ → ℕ) (steps : List St
       → IsBeside w s q f (record { frames = fs; heap = heap; statics = statics })
       → HasLocal w (record { frames = fs; heap = heap; statics = statics }) letter x f
       → IsAtStep w place steps (record { frames = fs; heap = heap; statics = statics }) n (length (insns (stored_items s letter (needed s q x))))
-      → StandFrom steps n (insns (stored_items s letter (needed s q x)))
+      → InstructionsStandFrom steps n (insns (stored_items s letter (needed s q x)))
       → (first_frame fs).stack ≡ value_at letter x f.registers ++ stack
       → length (first_frame fs).stack ≤ s.method.rec.max_stack
       → AreStored w s q x f (record { frames = fs; heap = heap; statics = statics }) stack (length (insns (stored_items s letter (needed s q x))))

@@ -1,7 +1,7 @@
 -- The values of homes on a stack, and the stores that take them from there.
 use Rattle.std.proofs.Common.{◌≡◌, ◌⊎◌, inl, inr, ℕ, zero, suc, ◌+◌, ◌<◌, ◌≤◌, List, [], ◌∷◌, ◌++◌, length, map, take, reverse, set, length-set, refl, sym, ap, ◌∙◌, subst, arith}
 use Rattle.std.specs.Prelude.{Some, slice_get, sum_by}
-use Rattle.std.proofs.lemmas.List.{take_all, length-reverse, reverse-append, reverse-reverse}
+use Rattle.std.proofs.lemmas.List.{take_all, length-reverse, reverse-reverse}
 use Rattle.std.proofs.lemmas.List.Sums.{sum_by-cons}
 use Rattle.std.proofs.lemmas.Option.{slice_get-get_or}
 use Rattle.jc_base.proofs.Lists.{slice_get-farther}
@@ -11,7 +11,7 @@ use Rattle.jc_base.specs.World.{Linked}
 use Rattle.jc_ops.specs.declared.operation.Operation.TheVariants.{Store}
 use Rattle.jc_ops.specs.declared.operation.Sort.{Sort}
 use Rattle.jc_ops.specs.declared.operation.Sort.TheVariants as sorts
-use Rattle.jc_rules.specs.Demand.{AllHold}
+use Rattle.jc_rules.specs.Demand.{SatisfiesAll}
 use Rattle.jc_rules.specs.Rule.{demands}
 use Rattle.vm_store.specs.declared.cell.Cell.{Cell}
 use Rattle.vm_store.specs.declared.cell.Cell.TheVariants.{Empty}
@@ -22,16 +22,18 @@ use Rattle.vm_sound.specs.Frames.{least_types}
 use Rattle.vm_alike.proofs.Asked.{register-same}
 use Rattle.vm_alike.proofs.Registering.{get-set-other, get-set-here}
 use Rattle.xf_homes.specs.declared.home.Home.{Home}
-use Rattle.xf_homes.specs.Order.{StandFrom as Follow, register_sum}
+use Rattle.xf_homes.specs.Order.{SlotsFollow as Follow, register_sum}
 use Rattle.xf_homes.specs.Value.{width}
 use Rattle.xf_plan.specs.Source.{Source}
 use Rattle.xf_plan.specs.Plan.{register}
+use Rattle.xf_typing.proofs.Stacks.{turned-cons}
 use Rattle.xf_held.specs.Held.{Holds, slots}
 use Rattle.xf_held.specs.Laws.{AreApart}
 use Rattle.xf_held.specs.Moves.{size, letter_of, value_at}
 use Rattle.xf_held.proofs.Copies.{wide}
 use Rattle.xf_held.proofs.Stacked.{more-taken}
 use Rattle.xf_held.proofs.Valued.{asked_types, IsCellOf, CellsAt, at-nth, least-count}
+use Rattle.xf_held.proofs.Copying.{beside}
 
 -- ---- values on a stack
 
@@ -43,9 +45,6 @@ piled values (k ∷ ks) stack = value_at (letter_of k.ty) k.slot values ++ piled
 pub piled-append : (values : List Cell) (hs ks : List Home) (stack : List Cell) → piled values (hs ++ ks) stack ≡ piled values hs (piled values ks stack)
 piled-append values [] ks stack = refl
 piled-append values (h ∷ hs) ks stack = ap (λ (cs : List Cell). value_at (letter_of h.ty) h.slot values ++ cs) (piled-append values hs ks stack)
-
-pub turned-cons : (h : Home) (hs : List Home) → reverse (h ∷ hs) ≡ reverse hs ++ h ∷ []
-turned-cons h hs = reverse-append (h ∷ []) hs
 
 module _ (regs xs : List Cell) where
   slot-is : (j : ℕ) → nth tagged (regs ++ xs) (length regs + j) ≡ nth tagged xs j
@@ -110,10 +109,6 @@ stored-count sorts.Reference values slot r registers = length-set registers r (n
 stored-count sorts.Short values slot r registers = length-set registers r (nth tagged values slot)
 stored-count sorts.Int values slot r registers =
     length-set (set registers r (nth tagged values slot)) (r + 1) (nth tagged values (slot + 1)) ∙ length-set registers r (nth tagged values slot)
-
-beside : (to n k : ℕ) → (k < to) ⊎ (to + n ≤ k) → (j : ℕ) → j < n → to + j ≡ k → ⊥
-beside to n k (inl lt) j small e = omega (arith, lt, e)
-beside to n k (inr le) j small e = omega (arith, le, small, e)
 
 stored-other :
     (letter : Sort) (values : List Cell) (slot r : ℕ) (registers : List Cell) (n : ℕ) → (n < r) ⊎ (r + size letter ≤ n)
@@ -191,7 +186,7 @@ module _ (s : Source) (g : Frame Cell) (k : Home) (values : List Cell) (inside :
 pub store-asked :
     (w : Linked) (ks : List ObjectKind) (letter : Sort) (values : List Cell) (slot r : ℕ) (registers stack : List Cell)
     → CellsAt w.classes ks values slot (asked_types w.classes letter) → r + size letter ≤ length registers
-    → AllHold w.classes
+    → SatisfiesAll w.classes
     (record {
       regs = least_types w.classes Bottom ks registers;
       stack = least_types w.classes Bottom ks (value_at letter slot values ++ stack);

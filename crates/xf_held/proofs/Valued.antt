@@ -12,7 +12,7 @@ use Rattle.jc_base.specs.World.{Linked}
 use Rattle.jc_ops.specs.declared.operation.Operation.TheVariants.{Load}
 use Rattle.jc_ops.specs.declared.operation.Sort.{Sort}
 use Rattle.jc_ops.specs.declared.operation.Sort.TheVariants as sorts
-use Rattle.jc_rules.specs.Demand.{AllHold}
+use Rattle.jc_rules.specs.Demand.{SatisfiesAll}
 use Rattle.jc_rules.specs.Flow.{CellsBelow, IsNotTop}
 use Rattle.jc_rules.specs.Rule.{demands}
 use Rattle.vm_store.specs.declared.cell.Cell.{Cell}
@@ -113,7 +113,7 @@ module _ (t : ClassTable) (ks : List ObjectKind) where
 pub load-asked :
     (w : Linked) (ks : List ObjectKind) (letter : Sort) (r : ℕ) (registers : List Cell) (stack : List Ty)
     → CellsAt w.classes ks registers r (asked_types w.classes letter)
-    → AllHold w.classes (record { regs = least_types w.classes Bottom ks registers; stack = stack }) (demands w (Load letter r))
+    → SatisfiesAll w.classes (record { regs = least_types w.classes Bottom ks registers; stack = stack }) (demands w (Load letter r))
 load-asked w ks sorts.Reference r registers stack h = (
   least-count w.classes ks registers (r + 1) (value-inside w.classes ks sorts.Reference registers r h),
   (least-at w.classes ks registers r (Class (object w.classes)) h.0, tt),

@@ -10,7 +10,7 @@ use Rattle.jc_decode.specs.declared.symbols.Item.{Item}
 use Rattle.jc_decode.specs.declared.symbols.Item.TheVariants.{Plain}
 use Rattle.jc_decode.specs.Symbols.{Step}
 use Rattle.jc_ops.specs.declared.operation.Operation.{Operation}
-use Rattle.jc_control.specs.WellFormed.{Stands}
+use Rattle.jc_control.specs.WellFormed.{HasInstruction}
 use Rattle.jc_rules.specs.Flow.{At, FrameBelow}
 use Rattle.vm_store.specs.declared.cell.Cell.{Cell}
 use Rattle.vm_store.specs.declared.cell.Cell.TheVariants.{Empty}
@@ -38,7 +38,7 @@ use Rattle.xf_emission.specs.Move.{loads, spill}
 use Rattle.xf_typing.specs.Planned.{IsPlanned}
 use Rattle.xf_typing.specs.Edges.{AreMatched, LeadsTo}
 use Rattle.xf_held.specs.Held.{Holds, HoldsLocals, Waits, slots}
-use Rattle.xf_held.specs.Moves.{StandFrom, IsAtStep}
+use Rattle.xf_held.specs.Moves.{InstructionsStandFrom, IsAtStep}
 
 -- the instructions among items that name no label: of moves all
 abbrev pub insns : List Item → List Insn
@@ -69,7 +69,7 @@ LeadersLoad v w =
     → IsBeside w s q f t
     → KeepsStack s.world s.method s.frames q
     → IsAtStep w place steps t n (length (cells s q))
-    → StandFrom steps n (insns (loads s (cells s q)))
+    → InstructionsStandFrom steps n (insns (loads s (cells s q)))
     → Waits s q f (top t)
     → Runs tagged w (length (cells s q)) t (running (moved t (place (n + length (cells s q))) (top t).registers f.stack))
 
@@ -114,7 +114,7 @@ StacksSpill v w =
     → IsBeside w s q f t
     → KeepsStack s.world s.method s.frames q
     → IsAtStep w place steps t n (length (cells s q))
-    → StandFrom steps n (insns (spill s (cells s q)))
+    → InstructionsStandFrom steps n (insns (spill s (cells s q)))
     → (top t).stack ≡ f.stack
     → AreSpilled w s q f t (place (n + length (cells s q)))
 
@@ -155,7 +155,7 @@ EdgesRun v w =
     → IsBeside w s q f t
     → LeadsTo s o q
     → IsAtStep w place steps t n (length (insns (copies s o q)))
-    → StandFrom steps n (insns (copies s o q))
+    → InstructionsStandFrom steps n (insns (copies s o q))
     → length (top t).stack ≤ s.method.rec.max_stack
     → HoldsBefore s o q f (top t)
     → AreCarried w s q f t (length (insns (copies s o q))) (place (n + length (insns (copies s o q))))
@@ -192,7 +192,7 @@ CellsRun v w =
     → IsBeside w s q f t
     → AreMatched s hs ks
     → IsAtStep w place steps t n (length (insns (cell_copies s hs ks)))
-    → StandFrom steps n (insns (cell_copies s hs ks))
+    → InstructionsStandFrom steps n (insns (cell_copies s hs ks))
     → length (top t).stack ≤ s.method.rec.max_stack
     → ((k : Home) → IsAmong k ks → IsAmong k (cells s q))
     → KeepsStack s.world s.method s.frames q
@@ -208,12 +208,12 @@ OperandsLoad v w =
     → s.world ≡ v
     → IsPlanned s
     → IsBeside w s i.place f t
-    → Stands s.method.code i
+    → HasInstruction s.method.code i
     → operation s i ≡ Ok op
     → operands_of s.world (Ok op) ≡ Some k
     → is_over s i.place k ≡ true
     → IsAtStep w place steps t n (length (operands s i.place k))
-    → StandFrom steps n (insns (loads s (operands s i.place k)))
+    → InstructionsStandFrom steps n (insns (loads s (operands s i.place k)))
     → (top t).stack ≡ []
     → Each (Holds s (slots f) (top t)) (cells s i.place)
     → Runs tagged w (length (operands s i.place k)) t
@@ -226,12 +226,12 @@ UnderLoads v w =
     → s.world ≡ v
     → IsPlanned s
     → IsBeside w s i.place f t
-    → Stands s.method.code i
+    → HasInstruction s.method.code i
     → operation s i ≡ Ok op
     → operands_of s.world (Ok op) ≡ Some k
     → is_over s i.place k ≡ true
     → IsAtStep w place steps t n (length (under s i.place k))
-    → StandFrom steps n (insns (loads s (under s i.place k)))
+    → InstructionsStandFrom steps n (insns (loads s (under s i.place k)))
     → (top t).stack ≡ []
     → Each (Holds s (slots f) (top t)) (under s i.place k)
     → Runs tagged w (length (under s i.place k)) t
@@ -244,7 +244,7 @@ UnderHold v w =
     → s.world ≡ v
     → IsPlanned s
     → IsBeside w s i.place f t
-    → Stands s.method.code i
+    → HasInstruction s.method.code i
     → operation s i ≡ Ok op
     → operands_of s.world (Ok op) ≡ Some k
     → is_over s i.place k ≡ true

@@ -18,7 +18,7 @@ use Rattle.jc_ops.specs.declared.operation.Operation.TheVariants.{Load, Store}
 use Rattle.jc_ops.specs.declared.operation.Sort.{Sort}
 use Rattle.jc_ops.specs.declared.operation.Sort.TheVariants as sorts
 use Rattle.jc_ops.specs.Sound.{OperationsAreSound}
-use Rattle.jc_rules.specs.Demand.{AllHold}
+use Rattle.jc_rules.specs.Demand.{SatisfiesAll}
 use Rattle.jc_rules.specs.Rule.{demands}
 use Rattle.vm_store.specs.declared.cell.Cell.{Cell}
 use Rattle.vm_store.specs.Cells.{Cells, tagged}
@@ -36,7 +36,7 @@ use Rattle.vm_sound.specs.Frames.{types_in}
 use Rattle.vm_alike.specs.Running.{Executes, top_code}
 use Rattle.xf_homes.specs.declared.home.Home.{Home}
 use Rattle.xf_homes.specs.Laws.{HasRegister, Serve}
-use Rattle.xf_homes.specs.Order.{StandFrom as Follow, register_sum}
+use Rattle.xf_homes.specs.Order.{SlotsFollow as Follow, register_sum}
 use Rattle.xf_homes.specs.Value.{width}
 use Rattle.xf_plan.specs.Source.{Source}
 use Rattle.xf_plan.specs.Plan.{register}
@@ -45,7 +45,7 @@ use Rattle.xf_held.specs.Held.{Holds, slots}
 use Rattle.xf_held.specs.Laws.{AreApart}
 
 -- what running code rests on in a world: its classes, that its methods have declared results, and operations that speak of what is there
-pub record CanRun (w : Linked) : Type 0 where
+pub record IsExecutable (w : Linked) : Type 0 where
   pub chains : AreClasses w.classes
   pub results : All (λ m. IfSome m.sig.result (IsDeclared w.classes)) w.methods
   pub sound : OperationsAreSound w
@@ -80,7 +80,7 @@ abbrev pub OperationsGoOn : Linked → Type 0
 OperationsGoOn w =
     (t z : State Cell) (j : Placed) (op : Operation)
     → Executes w t j op
-    → AllHold w.classes (types_in w.classes Bottom (kinds t) (top t)) (demands w op)
+    → SatisfiesAll w.classes (types_in w.classes Bottom (kinds t) (top t)) (demands w op)
     → act tagged w j.insn op t ≡ goes z
     → length (top z).stack ≤ max_stack_of w (top z).method
     → IsPlace (top_code w z) (end_of j)
@@ -92,7 +92,7 @@ CopiesRun w =
     (t : State Cell) (i j : Placed) (sort : Sort) (from to : ℕ)
     → Executes w t i (Load sort from)
     → Executes w (with_place (with_load tagged sort from t) (end_of i)) j (Store sort to)
-    → AllHold w.classes (types_in w.classes Bottom (kinds t) (top t)) (demands w (Load sort from))
+    → SatisfiesAll w.classes (types_in w.classes Bottom (kinds t) (top t)) (demands w (Load sort from))
     → AreFilled sort from (top t).registers
     → to + size sort ≤ length (top t).registers
     → size sort + length (top t).stack ≤ max_stack_of w (top t).method
@@ -123,9 +123,10 @@ letter_of IntHigh = sorts.Int
 letter_of ty = sorts.Reference
 
 -- these instructions stand among steps, from a number on
-abbrev pub StandFrom : List Step → ℕ → List Insn → Type 0
-StandFrom steps n [] = ⊤
-StandFrom steps n (i ∷ is) = (slice_get steps n ≡ Some (record { insn = i; targets = []; keys = [] })) × StandFrom steps (n + 1) is
+abbrev pub InstructionsStandFrom : List Step → ℕ → List Insn → Type 0
+InstructionsStandFrom steps n [] = ⊤
+InstructionsStandFrom steps n (i ∷ is) = (slice_get steps n ≡ Some (record { insn = i; targets = []; keys = [] }))
+    × InstructionsStandFrom steps (n + 1) is
 
 -- the load of a home, and a copy from a home to another
 abbrev pub load_of : Source → Home → Insn
@@ -145,7 +146,7 @@ pub record IsAtStep (w : Linked) (place : ℕ → ℕ) (steps : List Step) (t : 
 
 -- registers hold a value that a load of the letter takes, and leaves as it is
 pub record IsLoadable (w : Linked) (t : State Cell) (letter : Sort) (r : ℕ) : Type 0 where
-  pub asked : AllHold w.classes (types_in w.classes Bottom (kinds t) (top t)) (demands w (Load letter r))
+  pub asked : SatisfiesAll w.classes (types_in w.classes Bottom (kinds t) (top t)) (demands w (Load letter r))
   pub filled : AreFilled letter r (top t).registers
 
 -- the home has a number of one byte, and its value can be loaded
@@ -167,7 +168,7 @@ abbrev pub LoadsRun : Linked → Type 0
 LoadsRun w =
     (place : ℕ → ℕ) (steps : List Step) (t : State Cell) (n : ℕ) (s : Source) (hs : List Home)
     → IsAtStep w place steps t n (length hs)
-    → StandFrom steps n (map (load_of s) hs)
+    → InstructionsStandFrom steps n (map (load_of s) hs)
     → Each (CanLoad w s t) hs
     → length (loaded_stack s (top t).registers hs (top t).stack) ≤ max_stack_of w (top t).method
     → Runs tagged w (length hs) t
@@ -216,7 +217,7 @@ HomesAreCopied w =
     (place : ℕ → ℕ) (steps : List Step) (t : State Cell) (n : ℕ) (s : Source) (values : List Cell) (h : Home) (ks : List Home)
     → OwnRegisters s
     → IsAtStep w place steps t n (2 * length ks)
-    → StandFrom steps n (flat_map (copy_of s h) ks)
+    → InstructionsStandFrom steps n (flat_map (copy_of s h) ks)
     → HasRegister s.homes h
     → CanLoad w s t h
     → Holds s values (top t) h

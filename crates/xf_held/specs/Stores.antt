@@ -7,7 +7,7 @@ use Rattle.jc_base.specs.World.{Linked}
 use Rattle.jc_decode.specs.Symbols.{Step}
 use Rattle.jc_ops.specs.declared.operation.Operation.TheVariants.{Load}
 use Rattle.jc_ops.specs.declared.operation.Sort.{Sort}
-use Rattle.jc_rules.specs.Demand.{AllHold}
+use Rattle.jc_rules.specs.Demand.{SatisfiesAll}
 use Rattle.jc_rules.specs.Rule.{demands}
 use Rattle.vm_store.specs.declared.cell.Cell.{Cell}
 use Rattle.vm_store.specs.Cells.{tagged}
@@ -24,11 +24,11 @@ use Rattle.xf_emission.specs.Group.{stored}
 use Rattle.xf_typing.specs.Planned.{IsPlanned}
 use Rattle.xf_held.specs.Edges.{insns, moved, IsBeside}
 use Rattle.xf_held.specs.Held.{Holds}
-use Rattle.xf_held.specs.Moves.{AreFilled, IsAtStep, StandFrom, value_at}
+use Rattle.xf_held.specs.Moves.{AreFilled, IsAtStep, InstructionsStandFrom, value_at}
 
 -- the frame of the source has a value of the letter in local x
 pub record HasLocal (w : Linked) (t : State Cell) (letter : Sort) (x : ℕ) (f : Frame Cell) : Type 0 where
-  pub asked : AllHold w.classes (types_in w.classes Bottom (kinds t) f) (demands w (Load letter x))
+  pub asked : SatisfiesAll w.classes (types_in w.classes Bottom (kinds t) f) (demands w (Load letter x))
   pub filled : AreFilled letter x f.registers
 
 -- after the moves: the local stands in all homes that are needed at q, and every value that is as before in that in which it stood
@@ -52,7 +52,7 @@ StoresRun v w =
     → IsBeside w s q f t
     → HasLocal w t letter x f
     → IsAtStep w place steps t n (length (insns (stored s letter (needed s q x))))
-    → StandFrom steps n (insns (stored s letter (needed s q x)))
+    → InstructionsStandFrom steps n (insns (stored s letter (needed s q x)))
     → (top t).stack ≡ value_at letter x f.registers ++ stack
     → length (top t).stack ≤ s.method.rec.max_stack
     → AreStored w s q x f t stack (length (insns (stored s letter (needed s q x))))

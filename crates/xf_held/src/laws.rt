@@ -1,7 +1,7 @@
 ghost use Rattle.jc_base.specs.World.{Linked};
 ghost use Rattle.vm_store.specs.declared.cell.Cell.{Cell};
 ghost use Rattle.xf_held.specs.Edges.{CellsAreFew, CellsRun, CopiesAreFew, EdgesRun, KeptStacksStay, LeadersLoad, OperandsLoad, StacksSpill, StartsHold, UnderHold, UnderLoads};
-ghost use Rattle.xf_held.specs.Moves.{CanRun, CopiesKeepHomes, CopiesRun, HomesAreCopied, HomesOwnRegisters, LoadedIsStack, LoadsRun, OperationsGoOn};
+ghost use Rattle.xf_held.specs.Moves.{IsExecutable, CopiesKeepHomes, CopiesRun, HomesAreCopied, HomesOwnRegisters, LoadedIsStack, LoadsRun, OperationsGoOn};
 ghost use Rattle.xf_held.specs.Stores.{StoresRun};
 ghost use Rattle.xf_held.specs.Laws.{HomesStay, IncrementsRunAlike, KeptRunAlike, LoadsRunAlike, LoadsWriteNone, LocalsStay, NamesNoneWritesNone, StepsExecute, StepsStandAtPlaces, StoresRunAlike, WrittenHold};
 
@@ -84,8 +84,8 @@ pub fn none_are_written(world: &World<'_>)
 /// In code of each world that can run: the loads of a leader put its stack back, and the stores before one keep the stack
 /// in homes.
 pub fn stacks_move(source: &World<'_>)
-    ensures loads { (w : Linked) → CanRun w → LeadersLoad source.now w }
-    ensures stores { (w : Linked) → CanRun w → StacksSpill source.now w }
+    ensures loads { (w : Linked) → IsExecutable w → LeadersLoad source.now w }
+    ensures stores { (w : Linked) → IsExecutable w → StacksSpill source.now w }
 {
     homes_serve(source);
     edges_carry(source);
@@ -97,8 +97,8 @@ pub fn stacks_move(source: &World<'_>)
 /// There the copies of an edge bring each local into all homes that are needed where it leads, and those of cells each cell
 /// into its home; at a method's start the arguments stand in theirs.
 pub fn edges_run(source: &World<'_>)
-    ensures locals { (w : Linked) → CanRun w → EdgesRun source.now w }
-    ensures cells { (w : Linked) → CanRun w → CellsRun source.now w }
+    ensures locals { (w : Linked) → IsExecutable w → EdgesRun source.now w }
+    ensures cells { (w : Linked) → IsExecutable w → CellsRun source.now w }
     ensures starts { StartsHold source.now }
 {
     homes_serve(source);
@@ -111,9 +111,9 @@ pub fn edges_run(source: &World<'_>)
 /// There the loads after the stores of a conditional's stack put its operands back, and the cells under them, which stand in their
 /// homes after the branch as before it.
 pub fn operands_load(source: &World<'_>)
-    ensures operands { (w : Linked) → CanRun w → OperandsLoad source.now w }
-    ensures under { (w : Linked) → CanRun w → UnderLoads source.now w }
-    ensures holds { (w : Linked) → CanRun w → UnderHold source.now w }
+    ensures operands { (w : Linked) → IsExecutable w → OperandsLoad source.now w }
+    ensures under { (w : Linked) → IsExecutable w → UnderLoads source.now w }
+    ensures holds { (w : Linked) → IsExecutable w → UnderHold source.now w }
 {
     homes_serve(source);
     edges_carry(source);
@@ -127,7 +127,7 @@ pub fn operands_load(source: &World<'_>)
 pub fn moves_are_few(source: &World<'_>)
     ensures cells { CellsAreFew source.now }
     ensures copies { CopiesAreFew source.now }
-    ensures stacks { (w : Linked) → CanRun w → KeptStacksStay source.now w }
+    ensures stacks { (w : Linked) → IsExecutable w → KeptStacksStay source.now w }
 {
     homes_serve(source);
     needed_are_kept(source);
@@ -139,7 +139,7 @@ pub fn moves_are_few(source: &World<'_>)
 
 /// There a store of the source goes into the first home that is needed afterwards, and from there to the others.
 pub fn stores_run(source: &World<'_>)
-    ensures stores { (w : Linked) → CanRun w → StoresRun source.now w }
+    ensures stores { (w : Linked) → IsExecutable w → StoresRun source.now w }
 {
     homes_serve(source);
     edges_carry(source);

@@ -1,7 +1,7 @@
 -- What is answered for a method of the world.
 use Rattle.std.proofs.Common.{◌≡◌, ℕ, ◌+◌, ◌<◌, ◌≤◌, inl, inr, Bool, true, false, List, length, Option, Some, None, option_map, IsSome, IsSomeAnd, IfSome, Result, Ok, Err, IfOk, IfErr, MatchBool, slice_get, refl, sym, ◌∙◌, ap, subst, arith, length-take}
 use Rattle.std.specs.Prelude.{pos}
-use Rattle.std.proofs.lemmas.Option.{slice_get_within}
+use Rattle.std.proofs.lemmas.Option.{same_Some}
 use Rattle.std.proofs.lemmas.List.Elements.{All-contains}
 use Rattle.jc_base.specs.declared.ty.Ty.TheVariants.{Top}
 use Rattle.jc_base.specs.declared.record.MethodRec.{MethodRec}
@@ -11,7 +11,7 @@ use Rattle.jc_base.specs.World.{Linked, code_of}
 use Rattle.jc_decode.specs.declared.insn.Placed.{Placed}
 use Rattle.jc_decode.specs.Listing.{targets}
 use Rattle.jc_control.specs.Method.{Method, IsMethodOf, method_in, method_with}
-use Rattle.jc_control.specs.WellFormed.{IsPlace, IsBoundary, IsTargetPlace, IsHandlerOf, Stands}
+use Rattle.jc_control.specs.WellFormed.{IsPlace, IsBoundary, IsTargetPlace, IsHandlerOf, HasInstruction}
 use Rattle.jc_control.specs.Control.{IsSuccessor, IsReached, begins, follows, caught, falls_through, jumped}
 use Rattle.jc_control.specs.ControlFlow.{Marked, IsControlFlow, TellsFlaw}
 use Rattle.jc_control.specs.Flaw.{IsFirstFlaw}
@@ -34,20 +34,10 @@ use Rattle.xf_homes.proofs.OwnRegisters.{declared-topless}
 
 -- ---- options
 
-pub number-below : {X : Type 0} (P : X → Type 0) (xs : List X) (n : ℕ) → IsSomeAnd (slice_get xs n) P → n < length xs
-number-below P xs n h = by (slice_get xs n) refl h
-  where
-    by : (o : Option _) → slice_get xs n ≡ o → IsSomeAnd o P → n < length xs
-    by None e h = absurd h
-    by (Some x) e h = slice_get_within xs n x e
-
-some-same : {X : Type 0} {a b : X} → ◌≡◌ {A = Option X} (Some a) (Some b) → a ≡ b
-some-same e = cc
-
 -- the method of a number, by its record and its code
 module _ (w : Linked) (n : ℕ) (rec : MethodRec) (code : List ℕ) (here : slice_get w.methods n ≡ Some rec) (bytes : option_map (code_of w.infos) (slice_get w.methods n) ≡ Some code) where
   own-code : code_of w.infos rec ≡ code
-  own-code = some-same (ap (option_map (code_of w.infos)) (sym here) ∙ bytes)
+  own-code = same_Some _ _ (ap (option_map (code_of w.infos)) (sym here) ∙ bytes)
 
   method-is : method_in w n ≡ Some (record { number = n; rec = rec; code = code })
   method-is = ap (option_map (method_with w n)) here ∙ ap (λ (c : List ℕ). Some (record { number = n; rec = rec; code = c })) own-code
@@ -69,7 +59,7 @@ flaw-never decide w typing (Some m) end f e typed flaw =
 -- ---- reached places
 
 module _ (w : Linked) (m : Method) (frames : ℕ → Option Frame) (ty : FlowTyping w m Top frames) (placed : ArePlaced m) (filled : 0 < length m.code) where
-  next-placed : (i : Placed) {q : ℕ} → Stands m.code i → IsReached m i.place → IsSuccessor m.code i q → IsPlace m.code q
+  next-placed : (i : Placed) {q : ℕ} → HasInstruction m.code i → IsReached m i.place → IsSuccessor m.code i q → IsPlace m.code q
   next-placed i st r (falls_through on) = by (placed.next i st)
     where
       by : IsBoundary m.code (i.place + i.insn.len) → IsPlace m.code (i.place + i.insn.len)

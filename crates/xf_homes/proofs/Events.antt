@@ -2,13 +2,14 @@
 use Rattle.std.proofs.Common.{◌≡◌, ℕ, ◌⊎◌, inl, inr, Bool, true, false, ◌&&◌, ◌||◌, ◌==◌, if◌then◌else◌, List, [], ◌∷◌, ◌++◌, Option, Some, None, refl, sym, ◌∙◌, ap, subst, arith, append_assoc}
 use Rattle.std.specs.Prelude.{fold}
 use Rattle.std.specs.List.{list_any}
-use Rattle.std.proofs.lemmas.Bool.{false≢true}
+use Rattle.std.proofs.lemmas.Bool.{false≢true, and_parts}
 use Rattle.std.proofs.lemmas.Bool.Decides.{nat_tests}
 use Rattle.std.proofs.lemmas.List.{append-nil}
 use Rattle.jc_base.specs.declared.ty.Ty.{Ty}
 use Rattle.jc_base.specs.Each.{Each, IsAmong}
 use Rattle.jc_base.specs.SameType.{same_type}
 use Rattle.jc_base.specs.Laws.{SameTypeDecides}
+use Rattle.jc_base.proofs.Eaching.{Each-from_among}
 use Rattle.xf_homes.specs.declared.home.Home.{Home}
 use Rattle.xf_homes.specs.Home.{Spot, ComesBefore}
 use Rattle.xf_homes.specs.Walk.{Event, same_home, has, with_value, with_event, with_events}
@@ -69,10 +70,6 @@ among-either x (y ∷ xs) ys (inr a) = by (among-either x xs ys a)
     by (inl l) = inl (inr l)
     by (inr r) = inr r
 
-pub each-all : {X : Type 0} (P : X → Type 0) (xs : List X) → ((x : X) → IsAmong x xs → P x) → Each P xs
-each-all P [] f = tt
-each-all P (x ∷ xs) f = (f x (inl refl), each-all P xs (λ y a. f y (inr a)))
-
 pub each-occurs : (P : Spot → Type 0) (es : List Event) (s : Spot) (h : Home) → Each (λ e. P e.spot) es → Occurs es s h → P s
 each-occurs P [] s h each o = absurd o
 each-occurs P (e ∷ es) s h each (inl at) = subst P at.spot each.0
@@ -80,17 +77,13 @@ each-occurs P (e ∷ es) s h each (inr o) = each-occurs P es s h each.1 o
 
 -- ---- equal homes
 
-and-true : (a b : Bool) → a && b ≡ true → (a ≡ true) × (b ≡ true)
-and-true true b h = (refl, h)
-and-true false b h = absurd (cc)
-
 both-true : (a b : Bool) → a ≡ true → b ≡ true → a && b ≡ true
 both-true a b p q = rw (p, q) refl
 
 module _ (same : SameTypeDecides) where
   pub homes-equal : (a b : Home) → same_home a b ≡ true → a ≡ b
   homes-equal a b h =
-      let both = and-true (a.slot == b.slot) (same_type a.ty b.ty) h in
+      let both = and_parts (a.slot == b.slot) (same_type a.ty b.ty) h in
       let slots : a.slot ≡ b.slot = grind (arith, nat_tests, both.0) in
       let types : a.ty ≡ b.ty = (same a.ty b.ty).0 both.1 in
       ap (λ (n : ℕ). record { slot = n; ty = a.ty }) slots ∙ ap (λ (t : Ty). record { slot = b.slot; ty = t }) types
@@ -159,7 +152,7 @@ module _ (same : SameTypeDecides) where
       met = λ h a. meets h a;
       fresh = λ h a. not-there h a;
       all = λ h s o n. covers h s n o;
-      order = (each-all (OccursBefore (e ∷ es) home) k.new (λ h a. comes h a), ordered-more k.new (λ h a s at. apart h a (only h s at)) k.order);
+      order = (Each-from_among (OccursBefore (e ∷ es) home) k.new (λ h a. comes h a), ordered-more k.new (λ h a s at. apart h a (only h s at)) k.order);
     }
       where
         apart : (h : Home) → IsAmong h k.new → home ≡ h → ⊥

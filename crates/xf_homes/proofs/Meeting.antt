@@ -1,8 +1,8 @@
 -- The events of a walk over the code are what is met.
-use Rattle.std.proofs.Common.{◌≡◌, ℕ, zero, suc, ◌+◌, ◌<◌, ◌≤◌, ◌⊎◌, inl, inr, Bool, true, false, ◌&&◌, ◌||◌, nat_le, nat_lt, if◌then◌else◌, List, [], ◌∷◌, ◌++◌, length, reverse, flat_map, Option, Some, None, Result, Ok, IsSomeAnd, slice_get, refl, sym, ◌∙◌, ap, subst, arith}
-use Rattle.std.proofs.lemmas.Bool.{false≢true}
+use Rattle.std.proofs.Common.{◌≡◌, ℕ, zero, suc, ◌+◌, ◌<◌, ◌≤◌, ◌⊎◌, inl, inr, Bool, true, false, ◌||◌, nat_le, nat_lt, if◌then◌else◌, List, [], ◌∷◌, ◌++◌, length, reverse, flat_map, Option, Some, None, Result, Ok, IsSomeAnd, slice_get, refl, sym, ◌∙◌, ap, subst, arith}
+use Rattle.std.proofs.lemmas.Bool.{false≢true, and_parts, or_cases}
 use Rattle.std.proofs.lemmas.Bool.Decides.{nat_tests}
-use Rattle.std.proofs.lemmas.Option.{slice_get_within}
+use Rattle.std.proofs.lemmas.Option.{slice_get_within, same_Some}
 use Rattle.std.proofs.lemmas.List.Concat.{flat_map-cons}
 use Rattle.jc_base.specs.declared.ty.Ty.{Ty}
 use Rattle.jc_base.specs.declared.record.Handler.{Handler}
@@ -19,7 +19,7 @@ use Rattle.jc_ops.specs.Row.{row_at}
 use Rattle.jc_ops.specs.Resolve.{resolved}
 use Rattle.jc_control.specs.Flags.{flag, Marks}
 use Rattle.jc_control.specs.Method.{Method}
-use Rattle.jc_control.specs.WellFormed.{Stands, IsPlace}
+use Rattle.jc_control.specs.WellFormed.{HasInstruction, IsPlace}
 use Rattle.jc_control.specs.Control.{IsReached, IsLeader, Covers}
 use Rattle.jc_decode.specs.Laws.{AreListed}
 use Rattle.jc_rules.specs.Demand.{Frame}
@@ -68,13 +68,9 @@ pub at-local : (x : ℕ) (ty : Ty) (o : Option Frame) → IsSomeAnd o (λ f. val
 at-local x ty None h = absurd h
 at-local x ty (Some f) h = h
 
-and-true : (a b : Bool) → a && b ≡ true → (a ≡ true) × (b ≡ true)
-and-true true b h = (refl, h)
-and-true false b h = absurd (cc)
-
 pub covered : (h : Handler) (p : ℕ) → is_covered h p ≡ true → Covers h p
 covered h p e =
-    let both = and-true (nat_le h.start p) (nat_lt p h.end) e in
+    let both = and_parts (nat_le h.start p) (nat_lt p h.end) e in
     record { from = grind (arith, nat_tests, both.0); before = grind (arith, nat_tests, both.1) }
 
 pub covers : (h : Handler) (p : ℕ) → Covers h p → is_covered h p ≡ true
@@ -209,10 +205,6 @@ cells-occurs p slot cells from (suc n) i ty le lt e = by (nat_le i from) refl (�
 
 -- ---- a stack that is kept
 
-or-either : (a b : Bool) → (a || b) ≡ true → (a ≡ true) ⊎ (b ≡ true)
-or-either true b h = inl refl
-or-either false b h = inr h
-
 or-right : (a b : Bool) → b ≡ true → (a || b) ≡ true
 or-right true b h = refl
 or-right false b h = h
@@ -227,18 +219,15 @@ record AsksFor (w : Linked) (r : Result Operation RuleFault) (operands : ℕ) : 
   asks : IsConditional operation
   taken : (footprint w operation).taken ≡ operands
 
-some-number : {a b : ℕ} → ◌≡◌ {A = Option ℕ} (Some a) (Some b) → a ≡ b
-some-number e = cc
-
 asks-for : (w : Linked) (r : Result Operation RuleFault) (operands : ℕ) → operands_of w r ≡ Some operands → AsksFor w r operands
-asks-for w (Ok (ops.Branch (branches.Zero o))) operands e = record { operation = ops.Branch (branches.Zero o); is = refl; asks = tt; taken = some-number e }
-asks-for w (Ok (ops.Branch (branches.Null o))) operands e = record { operation = ops.Branch (branches.Null o); is = refl; asks = tt; taken = some-number e }
-asks-for w (Ok (ops.Branch (branches.References o))) operands e = record { operation = ops.Branch (branches.References o); is = refl; asks = tt; taken = some-number e }
-asks-for w (Ok (ops.Branch (branches.Shorts o))) operands e = record { operation = ops.Branch (branches.Shorts o); is = refl; asks = tt; taken = some-number e }
-asks-for w (Ok (ops.Switch width)) operands e = record { operation = ops.Switch width; is = refl; asks = tt; taken = some-number e }
+asks-for w (Ok (ops.Branch (branches.Zero o))) operands e = record { operation = ops.Branch (branches.Zero o); is = refl; asks = tt; taken = same_Some _ _ e }
+asks-for w (Ok (ops.Branch (branches.Null o))) operands e = record { operation = ops.Branch (branches.Null o); is = refl; asks = tt; taken = same_Some _ _ e }
+asks-for w (Ok (ops.Branch (branches.References o))) operands e = record { operation = ops.Branch (branches.References o); is = refl; asks = tt; taken = same_Some _ _ e }
+asks-for w (Ok (ops.Branch (branches.Shorts o))) operands e = record { operation = ops.Branch (branches.Shorts o); is = refl; asks = tt; taken = same_Some _ _ e }
+asks-for w (Ok (ops.Switch width)) operands e = record { operation = ops.Switch width; is = refl; asks = tt; taken = same_Some _ _ e }
 asks-for w _ operands e = absurd (cc)
 
-operands-of : (w : Linked) (op : Operation) → IsConditional op → operands_of w (Ok op) ≡ Some (footprint w op).taken
+pub operands-of : (w : Linked) (op : Operation) → IsConditional op → operands_of w (Ok op) ≡ Some (footprint w op).taken
 operands-of w (ops.Branch (branches.Zero o)) h = refl
 operands-of w (ops.Branch (branches.Null o)) h = refl
 operands-of w (ops.Branch (branches.References o)) h = refl
@@ -250,9 +239,9 @@ deeper-by : (o : Option ℕ) (depth : ℕ) → is_deeper o depth ≡ true → (n
 deeper-by None depth e = absurd (false≢true e)
 deeper-by (Some n) depth e = let lt : n < depth = grind (arith, nat_tests, e) in (n, refl, lt)
 
-module _ (w : Linked) (m : Method) (frames : ℕ → Option Frame) (leaders : List Bool) (marks : Marks (IsLeader m) leaders) (listed : AreListed m.code) (i : Placed) (stands : Stands m.code i) (f : Frame) (there : frames i.place ≡ Some f) where
+module _ (w : Linked) (m : Method) (frames : ℕ → Option Frame) (leaders : List Bool) (marks : Marks (IsLeader m) leaders) (listed : AreListed m.code) (i : Placed) (stands : HasInstruction m.code i) (f : Frame) (there : frames i.place ≡ Some f) where
   keeps-sound : keeps_stack w m.rec leaders i (length f.stack) ≡ true → KeepsStack w m frames i.place
-  keeps-sound e = by (or-either (flag leaders i.place) (is_deeper (operands_of w (resolved w m.rec i.place i.insn (row_at i.insn.op))) (length f.stack)) e)
+  keeps-sound e = by (or_cases (flag leaders i.place) (is_deeper (operands_of w (resolved w m.rec i.place i.insn (row_at i.insn.op))) (length f.stack)) e)
     where
       by : (flag leaders i.place ≡ true) ⊎ (is_deeper (operands_of w (resolved w m.rec i.place i.insn (row_at i.insn.op))) (length f.stack) ≡ true) → KeepsStack w m frames i.place
       by (inl l) = inl ((marks i.place).0 l)
@@ -313,7 +302,7 @@ module _ (w : Linked) (m : Method) (frames : ℕ → Option Frame) (leaders : Li
   asked-inside p x _ ty (asked_caught {h = h} a cov at) = within x ty (frames h.entry) (sizes h.entry) at
 
   -- the pair is met at an instruction
-  occurs-place : (i : Placed) → Stands m.code i → (s : Spot) (h : Home) → Occurs (place_events w m frames leaders i) s h → IsMet w m frames s h
+  occurs-place : (i : Placed) → HasInstruction m.code i → (s : Spot) (h : Home) → Occurs (place_events w m frames leaders i) s h → IsMet w m frames s h
   unfolding place_events
   occurs-place i stands s h o = by (frames i.place) refl o
     where
@@ -321,7 +310,7 @@ module _ (w : Linked) (m : Method) (frames : ℕ → Option Frame) (leaders : Li
       by None e o = absurd o
       by (Some f) e o = occurs-frame w m frames leaders marks listed i stands f e (there i.place f e) s h o
 
-  occurs-flat : (is : List Placed) → ((i : Placed) → IsAmong i is → Stands m.code i) → (s : Spot) (h : Home) → Occurs (flat_map (place_events w m frames leaders) is) s h → IsMet w m frames s h
+  occurs-flat : (is : List Placed) → ((i : Placed) → IsAmong i is → HasInstruction m.code i) → (s : Spot) (h : Home) → Occurs (flat_map (place_events w m frames leaders) is) s h → IsMet w m frames s h
   occurs-flat [] all s h o = absurd o
   occurs-flat (i ∷ is) all s h o =
       by (occurs-either (place_events w m frames leaders i) (flat_map (place_events w m frames leaders) is) s h (subst (λ es. Occurs es s h) (flat_map-cons (place_events w m frames leaders) i is) o))
@@ -345,7 +334,7 @@ module _ (w : Linked) (m : Method) (frames : ℕ → Option Frame) (leaders : Li
 
   -- at the instruction of a reached place
   occurs-at : (p : ℕ) (s : Spot) (h : Home) → (r : IsReached m p) → (f : Frame) → frames p ≡ Some f
-      → ((i : Placed) → Stands m.code i → i.place ≡ p → Occurs (frame_events w m frames leaders i (Some f)) s h)
+      → ((i : Placed) → HasInstruction m.code i → i.place ≡ p → Occurs (frame_events w m frames leaders i (Some f)) s h)
       → Occurs (code_events w m frames leaders) s h
   unfolding code_events place_events
   occurs-at p s h r f e at =

@@ -2,20 +2,16 @@
 use Rattle.std.proofs.Common.{◌≡◌, ℕ, ◌+◌, ◌<◌, ◌≤◌, ◌⊎◌, inl, inr, List, [], ◌∷◌, ◌++◌, Option, refl, sym, ◌∙◌, ap, subst, arith}
 use Rattle.jc_base.specs.declared.ty.Ty.{Ty}
 use Rattle.jc_base.specs.declared.ty.Ty.TheVariants.{Bottom, Short, IntHigh, IntLow, Null, Class, ArrBool, ArrByte, ArrShort, ArrInt, ArrRef, Fresh, Top}
-use Rattle.jc_base.specs.Each.{Each, IsAmong}
+use Rattle.jc_base.specs.Each.{IsAmong}
 use Rattle.jc_base.specs.World.{Linked}
+use Rattle.jc_base.proofs.Eaching.{Each-at}
 use Rattle.jc_control.specs.Method.{Method}
 use Rattle.jc_rules.specs.Demand.{Frame}
 use Rattle.xf_homes.specs.declared.home.Home.{Home}
 use Rattle.xf_homes.specs.Value.{width}
 use Rattle.xf_homes.specs.Home.{Spot, ComesBefore, IsMetBefore}
-use Rattle.xf_homes.specs.Order.{StandFrom, AreInOrder}
+use Rattle.xf_homes.specs.Order.{SlotsFollow, AreInOrder}
 use Rattle.xf_homes.specs.Laws.{HomesAreOne}
-
-each-at : {X : Type 0} (P : X → Type 0) (x : X) (xs : List X) → Each P xs → IsAmong x xs → P x
-each-at P x [] each a = absurd a
-each-at P x (y ∷ ys) each (inl e) = subst P e each.0
-each-at P x (y ∷ ys) each (inr a) = each-at P x ys each.1 a
 
 -- two lists with the same elements
 record AreSame (xs ys : List Home) : Type 0 where
@@ -47,14 +43,14 @@ module _ (w : Linked) (m : Method) (frames : ℕ → Option Frame) where
       by : IsAmong h (k ∷ ks) → IsAmong k (h ∷ hs) → h ≡ k
       by (inl e) b = sym e
       by (inr a) (inl e) = e
-      by (inr a) (inr b) = absurd (before-apart h k (each-at (IsMetBefore w m frames h) k hs p.0 b) (each-at (IsMetBefore w m frames k) h ks q.0 a))
+      by (inr a) (inr b) = absurd (before-apart h k (Each-at (IsMetBefore w m frames h) k hs p.0 b) (Each-at (IsMetBefore w m frames k) h ks q.0 a))
 
   rest-same : (h k : Home) (hs ks : List Home) → h ≡ k → AreInOrder w m frames (h ∷ hs) → ((x : Home) → IsAmong x (h ∷ hs) → IsAmong x (k ∷ ks)) → (x : Home) → IsAmong x hs → IsAmong x ks
   rest-same h k hs ks e p to x a = by (to x (inr a))
     where
       by : IsAmong x (k ∷ ks) → IsAmong x ks
       by (inr b) = b
-      by (inl f) = let b : IsMetBefore w m frames h h = subst (IsMetBefore w m frames h) (sym (e ∙ f)) (each-at (IsMetBefore w m frames h) x hs p.0 a) in absurd (before-apart h h b b)
+      by (inl f) = let b : IsMetBefore w m frames h h = subst (IsMetBefore w m frames h) (sym (e ∙ f)) (Each-at (IsMetBefore w m frames h) x hs p.0 a) in absurd (before-apart h h b b)
 
   ordered-one : (hs ks : List Home) → AreInOrder w m frames hs → AreInOrder w m frames ks → AreSame hs ks → hs ≡ ks
   ordered-one [] [] p q s = refl
@@ -84,16 +80,16 @@ wide (ArrRef c) = omega arith
 wide (Fresh p c) = omega arith
 wide Top = omega arith
 
-stands-later : (hs : List Home) (n : ℕ) → StandFrom n hs → (x : Home) → IsAmong x hs → n ≤ x.slot
+stands-later : (hs : List Home) (n : ℕ) → SlotsFollow n hs → (x : Home) → IsAmong x hs → n ≤ x.slot
 stands-later [] n st x a = absurd a
 stands-later (h ∷ hs) n st x (inl e) = let at : h.slot ≡ x.slot = ap (λ (k : Home). k.slot) e in omega (arith, st.0, at)
 stands-later (h ∷ hs) n st x (inr a) = let later = stands-later hs (n + width h.ty) st.1 x a in omega (arith, later)
 
-stands-first : (h k : Home) (hs ks : List Home) (n : ℕ) → StandFrom n (h ∷ hs) → StandFrom n (k ∷ ks) → IsAmong h (k ∷ ks) → h ≡ k
+stands-first : (h k : Home) (hs ks : List Home) (n : ℕ) → SlotsFollow n (h ∷ hs) → SlotsFollow n (k ∷ ks) → IsAmong h (k ∷ ks) → h ≡ k
 stands-first h k hs ks n p q (inl e) = sym e
 stands-first h k hs ks n p q (inr a) = let later = stands-later ks (n + width k.ty) q.1 h a in absurd (omega (arith, later, p.0, wide k.ty))
 
-stands-rest : (h k : Home) (hs ks : List Home) (n : ℕ) → StandFrom n (h ∷ hs) → StandFrom n (k ∷ ks) → ((x : Home) → IsAmong x (h ∷ hs) → IsAmong x (k ∷ ks)) → (x : Home) → IsAmong x hs → IsAmong x ks
+stands-rest : (h k : Home) (hs ks : List Home) (n : ℕ) → SlotsFollow n (h ∷ hs) → SlotsFollow n (k ∷ ks) → ((x : Home) → IsAmong x (h ∷ hs) → IsAmong x (k ∷ ks)) → (x : Home) → IsAmong x hs → IsAmong x ks
 stands-rest h k hs ks n p q to x a = by (to x (inr a))
   where
     by : IsAmong x (k ∷ ks) → IsAmong x ks
@@ -103,13 +99,13 @@ stands-rest h k hs ks n p q to x a = by (to x (inr a))
         let later = stands-later hs (n + width h.ty) p.1 x a in
         absurd (omega (arith, later, q.0, at, wide h.ty))
 
-stands-one : (hs ks : List Home) (n : ℕ) → StandFrom n hs → StandFrom n ks → AreSame hs ks → hs ≡ ks
+stands-one : (hs ks : List Home) (n : ℕ) → SlotsFollow n hs → SlotsFollow n ks → AreSame hs ks → hs ≡ ks
 stands-one [] [] n p q s = refl
 stands-one [] (k ∷ ks) n p q s = absurd (s.from k (inl refl))
 stands-one (h ∷ hs) [] n p q s = absurd (s.to h (inl refl))
 stands-one (h ∷ hs) (k ∷ ks) n p q s =
     let e = stands-first h k hs ks n p q (s.to h (inl refl)) in
-    let same : StandFrom (n + width h.ty) ks = subst (λ (j : Home). StandFrom (n + width j.ty) ks) (sym e) q.1 in
+    let same : SlotsFollow (n + width h.ty) ks = subst (λ (j : Home). SlotsFollow (n + width j.ty) ks) (sym e) q.1 in
     ap (λ x. x ∷ hs) e ∙ ap (λ xs. k ∷ xs) (stands-one hs ks (n + width h.ty) p.1 same (record {
       to = stands-rest h k hs ks n p q s.to;
       from = stands-rest k h ks hs n q p s.from;

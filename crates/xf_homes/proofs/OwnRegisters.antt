@@ -13,7 +13,7 @@ use Rattle.jc_rules.specs.Flow.{IsNotTop}
 use Rattle.xf_homes.specs.declared.home.Home.{Home}
 use Rattle.xf_homes.specs.Value.{value_of, value_at, width}
 use Rattle.xf_homes.specs.Home.{IsArgument, argument_types}
-use Rattle.xf_homes.specs.Order.{StandFrom, register_sum}
+use Rattle.xf_homes.specs.Order.{SlotsFollow, register_sum}
 use Rattle.xf_homes.specs.Walk.{values_from, argument_homes}
 
 -- ---- single cells
@@ -129,15 +129,15 @@ in-values (one_cell {a = x} {types = ts} p whole) top slot (suc n) ty v =
     subst (IsAmong (record { slot = slot + suc n; ty = ty })) (sym (own.first slot ts))
     (inr (subst (λ k. IsAmong (record { slot = k; ty = ty }) (values_from (suc slot) ts)) s (in-values whole (All-tail IsNotTop x ts top) (suc slot) n ty (sym (value-later x ts n) ∙ v))))
 
-stand-from : {types : List Ty} → AreWhole types → All IsNotTop types → (slot : ℕ) → StandFrom slot (values_from slot types)
+stand-from : {types : List Ty} → AreWhole types → All IsNotTop types → (slot : ℕ) → SlotsFollow slot (values_from slot types)
 stand-from no_cells top slot = tt
 stand-from (whole_int {types = ts} whole) top slot =
     let s : suc (suc slot) ≡ slot + 2 = omega arith in
-    (refl, subst (λ k. StandFrom k (values_from (suc (suc slot)) ts)) s (stand-from whole (All-tail IsNotTop IntLow ts (All-tail IsNotTop IntHigh (IntLow ∷ ts) top)) (suc (suc slot))))
+    (refl, subst (λ k. SlotsFollow k (values_from (suc (suc slot)) ts)) s (stand-from whole (All-tail IsNotTop IntLow ts (All-tail IsNotTop IntHigh (IntLow ∷ ts) top)) (suc (suc slot))))
 stand-from (one_cell {a = x} {types = ts} p whole) top slot =
     let own = own-value x p (All-head IsNotTop x ts top) in
     let s : suc slot ≡ slot + width x = omega (arith, own.one) in
-    subst (StandFrom slot) (sym (own.first slot ts)) (refl, subst (λ k. StandFrom k (values_from (suc slot) ts)) s (stand-from whole (All-tail IsNotTop x ts top) (suc slot)))
+    subst (SlotsFollow slot) (sym (own.first slot ts)) (refl, subst (λ k. SlotsFollow k (values_from (suc slot) ts)) s (stand-from whole (All-tail IsNotTop x ts top) (suc slot)))
 
 sum-values : {types : List Ty} → AreWhole types → All IsNotTop types → (slot : ℕ) → register_sum (values_from slot types) ≡ length types
 unfolding register_sum
@@ -155,7 +155,7 @@ sum-values (one_cell {a = x} {types = ts} p whole) top slot =
 pub record AreArguments (r : MethodRec) : Type 0 where
   pub sound : (h : Home) → IsAmong h (argument_homes r) → IsArgument r h
   pub complete : (h : Home) → IsArgument r h → IsAmong h (argument_homes r)
-  pub stand : StandFrom 0 (argument_homes r)
+  pub stand : SlotsFollow 0 (argument_homes r)
   pub filled : register_sum (argument_homes r) ≡ length r.sig.args + receiver_words r.is_static
 
 module _ (r : MethodRec) (whole : AreWhole r.sig.args) (top : All IsNotTop r.sig.args) where
@@ -167,7 +167,7 @@ module _ (r : MethodRec) (whole : AreWhole r.sig.args) (top : All IsNotTop r.sig
         subst (λ n. value_at (argument_types r) n ≡ Some h.ty) s i.value;
     complete = λ h v. let s : 0 + h.slot ≡ h.slot = omega arith in
         subst (IsAmong h) (sym same) (subst (λ n. IsAmong (record { slot = n; ty = h.ty }) (values_from 0 (argument_types r))) s (in-values all topless 0 h.slot h.ty v));
-    stand = subst (StandFrom 0) (sym same) (stand-from all topless 0);
+    stand = subst (SlotsFollow 0) (sym same) (stand-from all topless 0);
     filled = ap register_sum same ∙ sum-values all topless 0 ∙ size;
   }
 

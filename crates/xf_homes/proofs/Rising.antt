@@ -5,6 +5,7 @@ use Rattle.jc_base.specs.declared.ty.Ty.{Ty}
 use Rattle.jc_base.specs.declared.record.Handler.{Handler}
 use Rattle.jc_base.specs.Each.{Each, IsAmong}
 use Rattle.jc_base.specs.World.{Linked}
+use Rattle.jc_base.proofs.Eaching.{Each-from_among}
 use Rattle.jc_decode.specs.declared.insn.Placed.{Placed}
 use Rattle.jc_decode.specs.Listing.{listing}
 use Rattle.jc_control.specs.Method.{Method}
@@ -12,7 +13,7 @@ use Rattle.jc_decode.specs.Laws.{AreListed}
 use Rattle.jc_rules.specs.Demand.{Frame}
 use Rattle.xf_homes.specs.Home.{ComesBefore, register_count}
 use Rattle.xf_homes.specs.Walk.{Event, caught_events, local_events, locals_events, cells_events, stack_events, keeps_stack, frame_events, place_events, code_events}
-use Rattle.xf_homes.proofs.Events.{Rising, each-all}
+use Rattle.xf_homes.proofs.Events.{Rising}
 
 -- ---- lists
 
@@ -20,7 +21,7 @@ pub each-map : {X : Type 0} (P Q : X → Type 0) → ((x : X) → P x → Q x) �
 each-map P Q f [] each = tt
 each-map P Q f (x ∷ xs) each = (f x each.0, each-map P Q f xs each.1)
 
-each-append : {X : Type 0} (P : X → Type 0) (xs ys : List X) → Each P xs → Each P ys → Each P (xs ++ ys)
+pub each-append : {X : Type 0} (P : X → Type 0) (xs ys : List X) → Each P xs → Each P ys → Each P (xs ++ ys)
 each-append P [] ys f g = g
 each-append P (x ∷ xs) ys f g = (f.0, each-append P xs ys f.1 g)
 
@@ -135,7 +136,7 @@ among-index x (y ∷ ys) (inr a) = let r = among-index x ys a in (suc r.0, r.1)
 places-rise : (is : List Placed) → ((a b : ℕ) (i j : Placed) → slice_get is a ≡ Some i → slice_get is b ≡ Some j → a < b → i.place < j.place) → ArePlacesRising is
 places-rise [] f = tt
 places-rise (i ∷ is) f = (
-  each-all (λ (j : Placed). i.place < j.place) is (λ j a. let r = among-index j is a in f 0 (suc r.0) i j refl r.1 (omega arith)),
+  Each-from_among (λ (j : Placed). i.place < j.place) is (λ j a. let r = among-index j is a in f 0 (suc r.0) i j refl r.1 (omega arith)),
   places-rise is (λ a b j k e g lt. f (suc a) (suc b) j k e g (omega arith)),
 )
 

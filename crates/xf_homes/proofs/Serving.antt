@@ -2,6 +2,7 @@
 use Rattle.std.proofs.Common.{◌≡◌, ℕ, ◌+◌, ◌≤◌, ◌⊎◌, inl, inr, Bool, true, false, if◌then◌else◌, List, [], ◌∷◌, ◌++◌, Option, Some, refl, sym, ◌∙◌, ap, subst, arith}
 use Rattle.std.proofs.lemmas.Bool.{false≢true}
 use Rattle.std.proofs.lemmas.List.Sums.{sum_by-cons}
+use Rattle.std.proofs.lemmas.Option.{same_Some}
 use Rattle.jc_base.specs.Each.{IsAmong}
 use Rattle.jc_base.specs.World.{Linked}
 use Rattle.jc_base.specs.Laws.{SameTypeDecides}
@@ -10,13 +11,10 @@ use Rattle.jc_rules.specs.Demand.{Frame}
 use Rattle.xf_homes.specs.declared.home.Home.{Home}
 use Rattle.xf_homes.specs.Value.{width}
 use Rattle.xf_homes.specs.Home.{Spot, IsMet, met_local, met_cell, IsHome}
-use Rattle.xf_homes.specs.Order.{StandFrom, register_sum, AreHomes}
+use Rattle.xf_homes.specs.Order.{SlotsFollow, register_sum, AreHomes}
 use Rattle.xf_homes.specs.Walk.{same_home, has, register_from}
 use Rattle.xf_homes.specs.Laws.{HasRegister, Serve, HomesServe}
 use Rattle.xf_homes.proofs.Events.{among-left, among-right, among-either, homes-equal, home-itself, has-among, among-has}
-
-some-number : {a b : ℕ} → ◌≡◌ {A = Option ℕ} (Some a) (Some b) → a ≡ b
-some-number e = cc
 
 -- the sum of one more
 sum-more : (k : Home) (ks : List Home) → register_sum (k ∷ ks) ≡ width k.ty + register_sum ks
@@ -48,7 +46,7 @@ module _ (same : SameTypeDecides) where
       by : (b : Bool) → same_home k h ≡ b → (if b then Some n else register_from (n + width k.ty) ks h) ≡ Some r → (register_from (n + width k.ty) ks h ≡ Some r → IsRegister (n + width k.ty) ks h r) → IsRegister n (k ∷ ks) h r
       by true q f rest =
           let home : k ≡ h = homes-equal same k h q in
-          let at : n ≡ r = some-number f in
+          let at : n ≡ r = same_Some _ _ f in
           let wide : width k.ty ≡ width h.ty = ap (λ (j : Home). width j.ty) home in
           record { among = inl home; from = omega arith; to = omega (arith, sum-more k ks, wide, at) }
       by false q f rest = let i = rest f in record { among = inr i.among; from = omega (arith, i.from); to = omega (arith, i.to, sum-more k ks) }
@@ -75,12 +73,12 @@ module _ (same : SameTypeDecides) where
       by : (b c : Bool) → same_home j h ≡ b → same_home j k ≡ c → (if b then Some n else register_from (n + width j.ty) js h) ≡ Some r → (if c then Some n else register_from (n + width j.ty) js k) ≡ Some s
           → (register_from (n + width j.ty) js h ≡ Some r → register_from (n + width j.ty) js k ≡ Some s → AreApart h k r s) → AreApart h k r s
       by true true p q e f rest = inl (sym (homes-equal same j h p) ∙ homes-equal same j k q)
-      by true false p q e f rest = inr (inl (first p (some-number e) f))
-      by false true p q e f rest = inr (inr (second q (some-number f) e))
+      by true false p q e f rest = inr (inl (first p (same_Some _ _ e) f))
+      by false true p q e f rest = inr (inr (second q (same_Some _ _ f) e))
       by false false p q e f rest = rest e f
 
   -- homes that stand where their registers are
-  stands-at : (ks others : List Home) (h : Home) (n : ℕ) → StandFrom n ks → IsAmong h ks → register_from n (ks ++ others) h ≡ Some h.slot
+  stands-at : (ks others : List Home) (h : Home) (n : ℕ) → SlotsFollow n ks → IsAmong h ks → register_from n (ks ++ others) h ≡ Some h.slot
   stands-at [] others h n st a = absurd a
   stands-at (k ∷ ks) others h n st a = by (same_home k h) refl a (λ b. stands-at ks others h (n + width k.ty) st.1 b)
     where

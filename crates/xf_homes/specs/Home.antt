@@ -12,7 +12,7 @@ use Rattle.jc_ops.specs.declared.operation.Operation.{Operation}
 use Rattle.jc_ops.specs.declared.operation.Operation.TheVariants.{Branch, Switch}
 use Rattle.jc_ops.specs.Resolve.{Resolves}
 use Rattle.jc_control.specs.Method.{Method}
-use Rattle.jc_control.specs.WellFormed.{Stands}
+use Rattle.jc_control.specs.WellFormed.{HasInstruction}
 use Rattle.jc_control.specs.Control.{IsReached, IsLeader, Covers}
 use Rattle.jc_rules.specs.Demand.{Frame}
 use Rattle.jc_rules.specs.Flow.{At, receiver_of}
@@ -57,7 +57,7 @@ IsConditional op = ⊥
 -- a conditional branch or a switch at the place, over a stack that is deeper than its operands
 pub record BranchesOver (w : Linked) (m : Method) (frames : ℕ → Option Frame) (p : ℕ) : Type 0 where
   pub instruction : Placed
-  pub stands : Stands m.code instruction
+  pub stands : HasInstruction m.code instruction
   pub at : instruction.place ≡ p
   pub operation : Operation
   pub resolves : Resolves w m.rec p instruction.insn (Ok operation)

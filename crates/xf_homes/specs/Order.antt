@@ -14,9 +14,9 @@ AreInOrder w m frames [] = ⊤
 AreInOrder w m frames (h ∷ hs) = Each (IsMetBefore w m frames h) hs × AreInOrder w m frames hs
 
 -- each argument stands where its register is
-abbrev pub StandFrom : ℕ → List Home → Type 0
-StandFrom n [] = ⊤
-StandFrom n (h ∷ hs) = (h.slot ≡ n) × StandFrom (n + width h.ty) hs
+abbrev pub SlotsFollow : ℕ → List Home → Type 0
+SlotsFollow n [] = ⊤
+SlotsFollow n (h ∷ hs) = (h.slot ≡ n) × SlotsFollow (n + width h.ty) hs
 
 -- how many registers homes take
 unfoldable pub register_sum : List Home → ℕ
@@ -34,7 +34,7 @@ pub record AreHomes (w : Linked) (m : Method) (frames : ℕ → Option Frame) (h
   pub others : List Home
   pub parts : homes ≡ arguments ++ others
   pub declared : (h : Home) → IsAmong h arguments ↔ IsArgument m.rec h
-  pub stand : StandFrom 0 arguments
+  pub stand : SlotsFollow 0 arguments
   pub filled : register_sum arguments ≡ m.rec.nargs
   pub met : (h : Home) → IsAmong h others ↔ (((spot : Spot) × IsMet w m frames spot h) × ¬ (IsArgument m.rec h))
   pub order : AreInOrder w m frames others

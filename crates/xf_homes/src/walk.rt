@@ -1,4 +1,4 @@
-ghost use Rattle.std.specs.Prelude.{◌≡◌, ◌+◌, ◌≤◌, ⊤, true, length, reverse, IsTrue, MatchBool, OnOk, Ok, slice_get, Some};
+ghost use Rattle.std.specs.Prelude.{◌≡◌, ◌+◌, ◌≤◌, ⊤, true, [], length, reverse, IsTrue, MatchBool, OnOk, OnErr, Ok, slice_get, Some};
 ghost use Rattle.jc_base.specs.World.{Linked};
 ghost use Rattle.jc_control.specs.Method.{IsMethodOf};
 ghost use Rattle.jc_rules.specs.Footprint.{footprint};
@@ -217,9 +217,23 @@ impl Walk<'_> {
     }
 
     /// Keeps what is needed for a local at a place: its type there, then those at the handlers that cover it, in the order of
-    /// the table. What is kept already stays as it is.
-    #[tactic(auto, unfolding(crate::specs::Walk::with_events, crate::specs::Walk::local_events))]
+    /// the table. What is kept already stays as it is. Where there is no memory the list is empty.
     pub fn keep_local(&self, homes: &mut Vec<Home>, place: u16, x: u16) -> Result<(), AllocError>
+        ensures kept { OnOk result
+            (homes.new.items
+            ≡ with_events homes.old.items (local_events (frames_of self.now) self.now.rec.now.handlers place x)) }
+        ensures empty { OnErr result (homes.new.items ≡ []) }
+    {
+        let kept = self.keep_typed(homes, place, x);
+        if kept.is_err() {
+            homes.clear();
+        }
+        kept
+    }
+
+    /// The same, which leaves some of them where there is no memory.
+    #[tactic(auto, unfolding(crate::specs::Walk::with_events, crate::specs::Walk::local_events))]
+    fn keep_typed(&self, homes: &mut Vec<Home>, place: u16, x: u16) -> Result<(), AllocError>
         ensures { OnOk result
             (homes.new.items
             ≡ with_events homes.old.items (local_events (frames_of self.now) self.now.rec.now.handlers place x)) }

@@ -19,26 +19,28 @@ use Rattle.jc_decode.specs.declared.symbols.Range.{Range}
 use Rattle.jc_decode.specs.declared.symbols.Symbols.{Symbols}
 use Rattle.jc_decode.specs.Laws.{InstructionsAreListed}
 use Rattle.jc_decode.specs.Listing.{listing, listing_end, end_from, falls, jumps, targets}
+use Rattle.jc_decode.specs.Places.{IsTargetAmong}
 use Rattle.jc_decode.specs.Standing.{IsStep, AreSteps, StandsAt}
 use Rattle.jc_decode.specs.Symbols.{Step, steps, handler, place_of}
+use Rattle.jc_decode.proofs.Elements.{Contains-slice_get}
 use Rattle.jc_ops.specs.Entry.{entry_named, RestsOnEntry}
 use Rattle.jc_ops.specs.Resolve.{Resolves}
 use Rattle.jc_ops.specs.Sound.{OperationsAreSound}
 use Rattle.jc_control.specs.Method.{Method}
-use Rattle.jc_control.specs.WellFormed.{Stands, IsPlace, IsTargetPlace, IsBoundary, IsHandlerOf, IsWellFormed}
+use Rattle.jc_control.specs.WellFormed.{HasInstruction, IsPlace, IsTargetPlace, IsBoundary, IsHandlerOf, IsWellFormed}
 use Rattle.jc_rules.specs.declared.effect.Mode.TheVariants.{Flow}
 use Rattle.jc_rules.specs.declared.rule.Outcome.{Outcome}
 use Rattle.jc_rules.specs.Demand.{Frame}
 use Rattle.jc_rules.specs.Apply.{OperationApplies, RuleApplies}
 use Rattle.jc_rules.specs.Flow.{CellsBelow, start_frame}
-use Rattle.card_typing.specs.Place.{IsTargetAmong, IsEntryAmong, IsAboveCaughtBy, AreCaughtAt}
+use Rattle.card_typing.specs.Place.{IsEntryAmong, IsAboveCaughtBy, AreCaughtAt}
 use Rattle.card_typing.specs.Typing.{frame_at, IsTypedIn, IsEnteredBy, TypingIn, code_in_bytes}
 use Rattle.xf_landed.specs.Laid.{catching, record_with, leads_of, IsHandlerIn, code_in_symbols, HasLaid, renamed, IsTypedAsLaid}
 use Rattle.xf_landed.specs.Laws.{LaidIsTyped}
 use Rattle.xf_landed.proofs.Forms.{falls-form, jumps-form, resolves-renamed}
 use Rattle.xf_landed.proofs.Operations.{operation_renamed, operation-renamed}
 use Rattle.xf_landed.proofs.Renaming.{frame_renamed, cells-renamed, regs-stay}
-use Rattle.xf_landed.proofs.Steps.{contains-at, at-contains, some-within, all-contained, contains-map, Preimage, preimage, rises-from, one-to-one, number_of, number-is, IsLaidAt, step-at, same-count, end-is}
+use Rattle.xf_landed.proofs.Steps.{at-contains, some-within, all-contained, contains-map, Preimage, preimage, rises-from, one-to-one, number_of, number-is, IsLaidAt, step-at, same-count, end-is}
 
 -- ---- places, and as many numbers beyond the end
 
@@ -111,7 +113,7 @@ module _
         let s = there k lt in
         let x = step-at m.code place 0 all (listing m.code) laid-steps k s.0 s.1 in
         let a = listed m.code in
-        let long : 0 < x.placed.insn.len = a.long x.placed.place x.placed.insn (a.decodes x.placed (contains-at (listing m.code) k x.placed x.listed)) in
+        let long : 0 < x.placed.insn.len = a.long x.placed.place x.placed.insn (a.decodes x.placed (Contains-slice_get (listing m.code) k x.placed x.listed)) in
         let here : 0 + k ≡ k = omega arith in
         let next : 0 + suc k ≡ suc k = omega arith in
         let at : x.placed.place ≡ place k = x.begins ∙ ap place here in
@@ -166,7 +168,7 @@ module _
     laid-step : (k : ℕ) (s : Step) → slice_get all k ≡ Some s → IsLaidAt m.code place 0 (listing m.code) k s
     laid-step k s e = step-at m.code place 0 all (listing m.code) laid-steps k s e
 
-    step-of : (i : Placed) → Stands m.code i → IsStepOf i
+    step-of : (i : Placed) → HasInstruction m.code i → IsStepOf i
     step-of i c =
         let lt : c.0 < count = omega (arith, c.1, same-count m.code place 0 all (listing m.code) laid-steps) in
         let s = there c.0 lt in
@@ -180,7 +182,7 @@ module _
     placed-at k lt =
         let s = there k lt in
         let x = laid-step k s.0 s.1 in
-        (x.placed, contains-at (listing m.code) k x.placed x.listed, (as-step k s.0 lt s.1 x).begins)
+        (x.placed, Contains-slice_get (listing m.code) k x.placed x.listed, (as-step k s.0 lt s.1 x).begins)
 
     boundary-at : (k : ℕ) → k ≤ count → IsBoundary m.code (f k)
     boundary-at k le = by (nat_le count k) refl
@@ -332,9 +334,9 @@ module _
     target-inside : (i : Placed) (x : IsStepOf i) (t : ℕ) → Contains x.step.targets t → t < count
     target-inside i x t c =
         All-contains (λ t. t < count) x.step.targets t
-        (All-contains (λ s. All (λ t. t < count) s.targets) all x.step ty.formed.targets (contains-at all x.number x.step x.at)) c
+        (All-contains (λ s. All (λ t. t < count) s.targets) all x.step ty.formed.targets (Contains-slice_get all x.number x.step x.at)) c
 
-    targets-formed : (i : Placed) → Stands m.code i → All (IsTargetPlace m.code) (targets m.code i)
+    targets-formed : (i : Placed) → HasInstruction m.code i → All (IsTargetPlace m.code) (targets m.code i)
     targets-formed i c =
         let x = step-of i c in
         subst (All (IsTargetPlace m.code)) (sym x.laid_as.leads)
@@ -355,7 +357,7 @@ module _
       inside : step_place < count
       at : q ≡ f step_place
 
-    step-target : (q : ℕ) → IsTargetAmong (Stands m.code) (targets m.code) q → IsStepTarget q
+    step-target : (q : ℕ) → IsTargetAmong (HasInstruction m.code) (targets m.code) q → IsStepTarget q
     step-target q t =
         let x = step-of t.from t.stands in
         let y = preimage (λ t. pos (place t)) x.step.targets (pos q) (subst (λ zs. Contains zs (pos q)) x.laid_as.leads t.leads) in
@@ -375,7 +377,7 @@ module _
     none_at : (k : ℕ) → k ≤ count → stacks k ≡ [] → laid_stacks (f k) ≡ []
     none_at k le e = stack-at k le ∙ ap ren e
 
-    target-empty : (q : ℕ) → IsTargetAmong (Stands m.code) (targets m.code) q → ¬ (IsEntryAmong m.rec.handlers q) × (laid_stacks q ≡ [])
+    target-empty : (q : ℕ) → IsTargetAmong (HasInstruction m.code) (targets m.code) q → ¬ (IsEntryAmong m.rec.handlers q) × (laid_stacks q ≡ [])
     target-empty q t =
         let x = step-target q t in
         let e = ty.targets x.step_place x.target in
@@ -425,7 +427,7 @@ module _
     jumps-same : (i : Placed) (x : IsStepOf i) → jumps i.insn.op ≡ jumps x.step.insn.op
     jumps-same i x = sym (jumps-form i.insn) ∙ ap (λ (j : Insn). jumps j.op) x.laid_as.same ∙ jumps-form x.step.insn
 
-    typed-there : (i : Placed) → Stands m.code i → IsTypedIn w (code_in_bytes m) regs laid_stacks i
+    typed-there : (i : Placed) → HasInstruction m.code i → IsTypedIn w (code_in_bytes m) regs laid_stacks i
     typed-there i c =
         let x = step-of i c in
         let t = ty.typed (step_placed x.number x.step) (step-stands x.number x.step x.at) in
@@ -471,7 +473,7 @@ module _
         let locals : from.max_locals ≡ m.rec.max_locals = sym stand.max_locals ∙ sym has.max_locals in
         cc
 
-    room-there : (i : Placed) → Stands m.code i → length (laid_stacks i.place) ≤ m.rec.max_stack
+    room-there : (i : Placed) → HasInstruction m.code i → length (laid_stacks i.place) ≤ m.rec.max_stack
     room-there i c =
         let x = step-of i c in
         let least : length (stacks x.number) ≤ from.max_stack = ty.room (step_placed x.number x.step) (step-stands x.number x.step x.at) in

@@ -43,7 +43,7 @@ use Rattle.jc_rules.specs.declared.effect.Effect.{Effect}
 use Rattle.jc_rules.specs.declared.effect.Mode.TheVariants.{Flow}
 use Rattle.jc_rules.specs.declared.rule.Outcome.{Outcome}
 use Rattle.jc_rules.specs.Effect.{changed, reg, Writes, WritesCells, Stores}
-use Rattle.jc_rules.specs.Demand.{Frame, AllHold}
+use Rattle.jc_rules.specs.Demand.{Frame, SatisfiesAll}
 use Rattle.jc_rules.specs.Rule.{cell, or_null, element, value_given, value_wanted, value_size, cells_wanted, receiver_wanted, call_demands, result_given, ready_with, call_effect, args_at, result_at, seen, demands, effect, wrote}
 use Rattle.jc_rules.specs.Apply.{OperationApplies}
 use Rattle.xf_landed.specs.Laid.{renamed}
@@ -316,7 +316,7 @@ module _ (f : ℕ → ℕ) where
     operation-renamed one m place limit op before after o sound h =
         let e = effect-alike m place op before sound in
         record {
-          asked = subst (AllHold w.classes (frame_renamed f before)) (sym (demands-alike op)) (all-renamed f w.classes before (demands w op) (demands-ready w is m place op sound) h.asked);
+          asked = subst (SatisfiesAll w.classes (frame_renamed f before)) (sym (demands-alike op)) (all-renamed f w.classes before (demands w op) (demands-ready w is m place op sound) h.asked);
           regs =
               subst (λ x. Stores w.classes Flow x.store (map (renamed f) before.regs) (map (renamed f) after.regs)) (sym e)
               (stores-renamed w.classes (effect w op before).store.register (effect w op before).store.cells before.regs after.regs h.regs);

@@ -20,7 +20,7 @@ use Rattle.jc_rules.specs.declared.effect.Change.{Change}
 use Rattle.jc_rules.specs.declared.effect.Change.TheVariants.{Replace, CopyUnder, Exchange, MakeReady}
 use Rattle.jc_rules.specs.declared.effect.Effect.{Effect}
 use Rattle.jc_rules.specs.Effect.{listed, ready, changed}
-use Rattle.jc_rules.specs.Demand.{Frame, IsArrayOrNull, IsHalf, IsFreshOf, Meets, Splits, Holds, AllHold}
+use Rattle.jc_rules.specs.Demand.{Frame, IsArrayOrNull, IsHalf, IsFreshOf, Meets, Splits, Satisfies, SatisfiesAll}
 use Rattle.jc_rules.specs.Flow.{CellsBelow, no_cells, more_cells, IsNotFresh}
 use Rattle.xf_landed.specs.Laid.{renamed}
 
@@ -143,14 +143,14 @@ module _ (f : ℕ → ℕ) where
     some-back IntHigh high-back (slice_get xs n) (sym (slice_get-map (renamed f) xs n) ∙ s.1),
   )
 
-  holds-renamed : (t : ClassTable) (g : Frame) (d : Demand) → ready_demand d ≡ true → Holds t g d → Holds t (frame_renamed g) d
+  holds-renamed : (t : ClassTable) (g : Frame) (d : Demand) → ready_demand d ≡ true → Satisfies t g d → Satisfies t (frame_renamed g) d
   holds-renamed t g (Registers x n) r h = omega (arith, h, length-map g.regs (renamed f))
   holds-renamed t g (Depth n) r h = omega (arith, h, length-map g.stack (renamed f))
   holds-renamed t g (Cell n want) r h = slice-renamed t want r g.stack n h
   holds-renamed t g (Cut n) r h = λ s. h (splits-back g.stack n s)
   holds-renamed t g (Held x ty) r h = slice-renamed t (Value ty) r g.regs x h
 
-  pub all-renamed : (t : ClassTable) (g : Frame) (ds : List Demand) → are_ready ds ≡ true → AllHold t g ds → AllHold t (frame_renamed g) ds
+  pub all-renamed : (t : ClassTable) (g : Frame) (ds : List Demand) → are_ready ds ≡ true → SatisfiesAll t g ds → SatisfiesAll t (frame_renamed g) ds
   all-renamed t g [] r h = tt
   all-renamed t g (d ∷ ds) r h =
       (holds-renamed t g d (and-first (ready_demand d) (are_ready ds) r) h.0, all-renamed t g ds (and-second (ready_demand d) (are_ready ds) r) h.1)

@@ -29,7 +29,7 @@ use Rattle.jc_ops.specs.Resolve.{byte_of, short_of, taken_if, on, callee_if, ent
 use Rattle.jc_control.specs.Method.{Method}
 use Rattle.jc_rules.specs.declared.effect.Mode.{Mode}
 use Rattle.jc_rules.specs.declared.rule.Outcome.{Outcome}
-use Rattle.jc_rules.specs.Demand.{Frame, AllHold}
+use Rattle.jc_rules.specs.Demand.{Frame, SatisfiesAll}
 use Rattle.jc_rules.specs.Effect.{Stores, rises, changed}
 use Rattle.jc_rules.specs.Rule.{call_demands, call_effect, args_at, result_at, demands, effect, wrote}
 use Rattle.jc_rules.specs.Apply.{OperationApplies, RuleApplies}
@@ -213,7 +213,7 @@ module _ (v : Linked) (infos : List (List ℕ)) (methods : List MethodRec) (inde
   operation-kept limit op mode f g o a =
       let e = effect-same op f in
       record {
-        asked = subst (AllHold v.classes f) (demands-same op) a.asked;
+        asked = subst (SatisfiesAll v.classes f) (demands-same op) a.asked;
         regs = subst (λ x. Stores v.classes mode x.store f.regs g.regs) e a.regs;
         stack = a.stack ∙ ap (λ x. changed x.change f.stack) e;
         room = a.room;

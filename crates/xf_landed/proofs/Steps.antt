@@ -4,16 +4,14 @@ use Rattle.std.specs.Prelude.{nat_le, nat_lt}
 use Rattle.std.proofs.lemmas.Bool.{eqb-true}
 use Rattle.std.proofs.lemmas.Bool.Decides.{nat_tests}
 use Rattle.std.proofs.lemmas.List.Elements.{Contains-get_or}
-use Rattle.std.proofs.lemmas.Option.{get_or_from_slice_get, slice_get-get_or, slice_get-map, slice_get_within}
+use Rattle.std.proofs.lemmas.Option.{slice_get-get_or, slice_get-map, slice_get_within}
 use Rattle.jc_decode.specs.declared.insn.Placed.{Placed}
 use Rattle.jc_decode.specs.Listing.{end_from}
 use Rattle.jc_decode.specs.Standing.{IsStep, AreSteps}
 use Rattle.jc_decode.specs.Symbols.{Step}
+use Rattle.jc_decode.proofs.Elements.{Contains-slice_get}
 
 -- ---- elements of lists
-
-pub contains-at : {X : Type 0} (xs : List X) (k : ℕ) (x : X) → slice_get xs k ≡ Some x → Contains xs x
-contains-at xs k x e = (k, slice_get_within xs k x e, get_or_from_slice_get xs k x x e)
 
 pub at-contains : {X : Type 0} (xs : List X) (x : X) (c : Contains xs x) → slice_get xs c.0 ≡ Some x
 at-contains xs x c = slice_get-get_or xs c.0 x c.1 ∙ ap (λ y. Some y) c.2
@@ -27,7 +25,7 @@ pub all-contained : {X : Type 0} (P : X → Type 0) (xs : List X) → ((x : X) �
 all-contained P xs h k d lt = h (get_or xs k d) (Contains-get_or xs k d lt)
 
 pub contains-map : {X Y : Type 0} (f : X → Y) (xs : List X) (x : X) → Contains xs x → Contains (map f xs) (f x)
-contains-map f xs x c = contains-at (map f xs) c.0 (f x) (slice_get-map f xs c.0 ∙ ap (option_map f) (at-contains xs x c))
+contains-map f xs x c = Contains-slice_get (map f xs) c.0 (f x) (slice_get-map f xs c.0 ∙ ap (option_map f) (at-contains xs x c))
 
 pub record Preimage {X Y : Type 0} (f : X → Y) (xs : List X) (y : Y) : Type 0 where
   pub of : X
@@ -39,7 +37,7 @@ preimage {X = X} f xs y c = by (slice_get xs c.0) refl (sym (slice_get-map f xs 
   where
     by : (o : Option X) → slice_get xs c.0 ≡ o → option_map f o ≡ Some y → Preimage f xs y
     by None e there = absurd (cc)
-    by (Some x) e there = let is : y ≡ f x = cc in record { of = x; listed = contains-at xs c.0 x e; is = is }
+    by (Some x) e there = let is : y ≡ f x = cc in record { of = x; listed = Contains-slice_get xs c.0 x e; is = is }
 
 -- ---- rising functions
 

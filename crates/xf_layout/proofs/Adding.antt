@@ -1,6 +1,6 @@
 -- What is appended for an item.
-use Rattle.std.proofs.Common.{◌≡◌, ◌≤◌, ℕ, true, false, cond, Result, Ok, Err, List, [], ◌∷◌, ◌++◌, length, refl, sym, ap, ◌∙◌, subst, arith}
-use Rattle.std.specs.Prelude.{pos, ◌-ℤ◌, OnOk}
+use Rattle.std.proofs.Common.{◌≡◌, ◌≤◌, ℕ, true, false, cond, Ok, List, [], ◌∷◌, ◌++◌, length, refl, sym, ap, ◌∙◌, subst, arith}
+use Rattle.std.specs.Prelude.{pos, ◌-ℤ◌}
 use Rattle.std.proofs.lemmas.List.{append-nil}
 use Rattle.jc_decode.specs.declared.insn.Insn.{Insn}
 use Rattle.jc_decode.specs.declared.symbols.Item.TheVariants.{Plain, Branch, Switch, Label}
@@ -16,10 +16,6 @@ use Rattle.xf_layout.specs.Form.{IsForm, form_bytes}
 use Rattle.xf_layout.specs.Widening.{is_wide}
 use Rattle.xf_layout.specs.Laid.{Adds, AddsSwitch, IsNearFrom, led}
 use Rattle.xf_layout.proofs.Pieces.{plain-piece, jump-piece, switch-piece}
-
-pub on-ok : {A E P Q : Type 0} (r : Result A E) → (P → Q) → OnOk r P → OnOk r Q
-on-ok (Ok x) f p = f p
-on-ok (Err e) f p = p
 
 -- ---- an instruction that names no place
 

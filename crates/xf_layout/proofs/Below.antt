@@ -3,6 +3,7 @@ use Rattle.std.proofs.Common.{◌≡◌, ◌≤◌, ◌+◌, ◌⊎◌, inl, inr
 use Rattle.std.specs.Prelude.{pos, ◌-ℤ◌, ◌==◌}
 use Rattle.std.specs.List.{AllZip}
 use Rattle.std.proofs.lemmas.Int.{ints}
+use Rattle.std.proofs.lemmas.Option.{same_Some}
 use Rattle.jc_decode.specs.declared.symbols.Item.{Item}
 use Rattle.jc_decode.specs.declared.symbols.Item.TheVariants.{Plain, Branch, Switch, Label}
 use Rattle.jc_decode.specs.Forms.{is_near}
@@ -40,14 +41,11 @@ form-below (Label l) (Mark m) (Fixed n) p q wide = absurd q
 form-below (Label l) (Mark m) (Jump n w) p q wide = absurd q
 form-below _ _ _ p q wide = absurd p
 
-some-is : {A : Type 0} (x y : A) → Some x ≡ Some y → x ≡ y
-some-is x y e = cc
-
 -- forms that are no wider than others of the same items are below them
 pub below-from : (items : List Item) (a b : List Form) → AreForms items a → AreForms items b → NoWider a b → AreBelow a b
 below-from [] [] [] p q wide = tt
 below-from (i ∷ is) (f ∷ fs) (g ∷ gs) p q wide = (
-  form-below i f g p.0 q.0 (λ l e. some-is g (Jump l true) (wide 0 l (ap Some e))),
+  form-below i f g p.0 q.0 (λ l e. same_Some g (Jump l true) (wide 0 l (ap Some e))),
   below-from is fs gs p.1 q.1 (λ k. wide (suc k)),
 )
 below-from [] [] (g ∷ gs) p q wide = absurd q
@@ -58,7 +56,7 @@ below-from _ _ _ p q wide = absurd p
 pub no-wider : (a b : List Form) → AreBelow a b → NoWider a b
 no-wider [] b below k l e = absurd (cc)
 no-wider (f ∷ fs) [] below k l e = absurd below
-no-wider (f ∷ fs) (g ∷ gs) below zero l e = first f g below.0 (some-is f (Jump l true) e)
+no-wider (f ∷ fs) (g ∷ gs) below zero l e = first f g below.0 (same_Some f (Jump l true) e)
   where
     first : (f g : Form) → IsBelow f g → f ≡ Jump l true → Some g ≡ Some (Jump l true)
     first (Fixed n) g h e = absurd (cc)

@@ -11,7 +11,7 @@ use Rattle.xf_layout.specs.declared.form.Form.TheVariants.{Jump}
 use Rattle.xf_layout.specs.Form.{IsForm, AreForms, end_of, label_place}
 use Rattle.xf_layout.specs.Shortest.{Fit, NoWider, IsTooLong}
 use Rattle.xf_layout.specs.Widening.{shortest}
-use Rattle.xf_layout.specs.Places.{noted, HaveRoom}
+use Rattle.xf_layout.specs.Places.{noted, FormsFit}
 use Rattle.xf_layout.proofs.Below.{below-from, end-below}
 use Rattle.xf_layout.proofs.Turns.{ArePlaced}
 use Rattle.xf_layout.proofs.Notes.{count-marks, noted-once, jump-once}
@@ -37,7 +37,7 @@ shortest-least items others k l e = by_item (slice_get items k) (sym (slice_get-
     by_item (Some (Label m)) h = absurd (cc)
 
 -- where the labels are noted that are there once
-place-noted : (items : List Item) (fs : List Form) (ps : List ℕ) → AreForms items fs → HaveRoom (length ps) fs
+place-noted : (items : List Item) (fs : List Form) (ps : List ℕ) → AreForms items fs → FormsFit (length ps) fs
     → (l : ℕ) → IsOnce items l → slice_index (noted fs 0 ps) l ≡ label_place fs l
 place-noted items fs ps forms room l once =
     let start : 0 + label_place fs l ≡ label_place fs l = omega arith in
@@ -45,12 +45,12 @@ place-noted items fs ps forms room l once =
 
 -- the same of what a call noted
 pub places-after : (items : List Item) (fs gs : List Form) (ps new : List ℕ) → new ≡ noted gs 0 ps → gs ≡ fs → AreForms items fs
-    → HaveRoom (length ps) fs → (l : ℕ) → IsOnce items l → slice_index new l ≡ label_place fs l
+    → FormsFit (length ps) fs → (l : ℕ) → IsOnce items l → slice_index new l ≡ label_place fs l
 places-after items fs gs ps new is same forms room l once =
     ap (λ (xs : List ℕ). slice_index xs l) (is ∙ ap (λ (hs : List Form). noted hs 0 ps) same) ∙ place-noted items fs ps forms room l once
 
 pub jumps-after : (source : List ℕ) (items : List Item) (fs gs : List Form) (ps new : List ℕ) → new ≡ noted gs 0 ps → gs ≡ fs
-    → All (IsItem source items) items → AreForms items fs → HaveRoom (length ps) fs → ArePlaced (slice_index new) fs
+    → All (IsItem source items) items → AreForms items fs → FormsFit (length ps) fs → ArePlaced (slice_index new) fs
 jumps-after source items fs gs ps new is same ok forms room =
     record { at = λ k l w e. places-after items fs gs ps new is same forms room l (jump-once source items items fs ok forms k l w e) }
 

@@ -12,7 +12,7 @@ use Rattle.jc_decode.specs.Symbols.{is_label, IsOnce, IsItem}
 use Rattle.xf_layout.specs.declared.form.Form.{Form}
 use Rattle.xf_layout.specs.declared.form.Form.TheVariants.{Fixed, Jump, Mark}
 use Rattle.xf_layout.specs.Form.{IsForm, AreForms, form_bytes, label_place}
-use Rattle.xf_layout.specs.Places.{noted, noted_one, IsInRoom, HaveRoom}
+use Rattle.xf_layout.specs.Places.{noted, noted_one, IsInRoom, FormsFit}
 use Rattle.xf_layout.specs.Widening.{widened_form, widened}
 
 abbrev pub is_mark : ℕ → Form → Bool
@@ -85,13 +85,13 @@ place-after (Mark m) fs l h = let e : 0 + label_place fs l ≡ label_place fs l 
 place-here : (fs : List Form) (l : ℕ) → label_place (Mark l ∷ fs) l ≡ 0
 place-here fs l = rw (eq-eqb l l refl) refl
 
-pub noted-once : (fs : List Form) (at : ℕ) (ps : List ℕ) (l : ℕ) → HaveRoom (length ps) fs → count_by (is_mark l) fs ≡ 1
+pub noted-once : (fs : List Form) (at : ℕ) (ps : List ℕ) (l : ℕ) → FormsFit (length ps) fs → count_by (is_mark l) fs ≡ 1
     → get_or (noted fs at ps) l 0 ≡ at + label_place fs l
 noted-once [] at ps l room h = absurd (omega (arith, h))
 noted-once (f ∷ fs) at ps l room h = by_test (is_mark l f) refl (noted-once fs (at + form_bytes f) (noted_one f at ps) l)
   where
     by_test : (b : Bool) → is_mark l f ≡ b
-        → (HaveRoom (length (noted_one f at ps)) fs → count_by (is_mark l) fs ≡ 1
+        → (FormsFit (length (noted_one f at ps)) fs → count_by (is_mark l) fs ≡ 1
         → get_or (noted fs (at + form_bytes f) (noted_one f at ps)) l 0 ≡ at + form_bytes f + label_place fs l)
         → get_or (noted fs (at + form_bytes f) (noted_one f at ps)) l 0 ≡ at + label_place (f ∷ fs) l
     by_test true e later =
@@ -102,7 +102,7 @@ noted-once (f ∷ fs) at ps l room h = by_test (is_mark l f) refl (noted-once fs
         let place : label_place (f ∷ fs) l ≡ 0 = rw same (place-here fs l) in
         omega (arith, none, noted_here, place)
     by_test false e later =
-        let rest : HaveRoom (length (noted_one f at ps)) fs = rw (length-noted f at ps) (All-tail (IsInRoom (length ps)) f fs room) in
+        let rest : FormsFit (length (noted_one f at ps)) fs = rw (length-noted f at ps) (All-tail (IsInRoom (length ps)) f fs room) in
         let once = later rest (omega (arith, h, rest-count l f fs false e)) in
         omega (arith, once, place-after f fs l e)
 
@@ -113,7 +113,7 @@ room-widened room place at (Fixed n) h = h
 room-widened room place at (Jump l w) h = h
 room-widened room place at (Mark l) h = h
 
-pub rooms-widened : (room : ℕ) (place : ℕ → ℕ) (at : ℕ) (fs : List Form) → HaveRoom room fs → HaveRoom room (widened place at fs)
+pub rooms-widened : (room : ℕ) (place : ℕ → ℕ) (at : ℕ) (fs : List Form) → FormsFit room fs → FormsFit room (widened place at fs)
 rooms-widened room place at [] h = h
 rooms-widened room place at (f ∷ fs) h =
     All-cons (IsInRoom room) (widened_form place at f) (widened place (at + form_bytes f) fs)
@@ -125,7 +125,7 @@ more-room n m le (Fixed k) h = tt
 more-room n m le (Jump l w) h = tt
 more-room n m le (Mark l) h = omega (arith, h)
 
-pub rooms-more : (n m : ℕ) → n ≤ m → (fs : List Form) → HaveRoom n fs → HaveRoom m fs
+pub rooms-more : (n m : ℕ) → n ≤ m → (fs : List Form) → FormsFit n fs → FormsFit m fs
 rooms-more n m le fs h = All-weaker (IsInRoom n) (IsInRoom m) (more-room n m le) fs h
 
 -- ---- the labels of jumps are there once

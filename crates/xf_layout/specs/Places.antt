@@ -21,5 +21,5 @@ IsInRoom room (Fixed n) = Unit {0}
 IsInRoom room (Jump l wide) = Unit {0}
 IsInRoom room (Mark l) = l < room
 
-abbrev pub HaveRoom : ℕ → List Form → Type 0
-HaveRoom room forms = All (IsInRoom room) forms
+abbrev pub FormsFit : ℕ → List Form → Type 0
+FormsFit room forms = All (IsInRoom room) forms

@@ -1,6 +1,6 @@
 ghost use Rattle.std.specs.Prelude.{◌≡◌, ◌<◌, ◌^◌, IfOk, length, slice_index};
 ghost use Rattle.xf_layout.specs.Form.{end_of};
-ghost use Rattle.xf_layout.specs.Places.{HaveRoom, IsInRoom, noted, noted_one};
+ghost use Rattle.xf_layout.specs.Places.{FormsFit, IsInRoom, noted, noted_one};
 
 use crate::form::Form;
 use std::alloc::{AllocError, Global};
@@ -23,7 +23,7 @@ impl Model for Places {
 impl Places {
     /// With room for the labels among some forms.
     pub fn new(alloc: Global, forms: &[Form]) -> Result<Places, AllocError>
-        ensures { IfOk result (λ p. HaveRoom (length p) forms.now) }
+        ensures { IfOk result (λ p. FormsFit (length p) forms.now) }
     {
         Ok(Places {
             items: vec![in alloc; 0; room(forms)]?,
@@ -42,7 +42,7 @@ impl Places {
 
     /// Notes where the labels among some forms stand, and tells where their code ends.
     pub fn note(&mut self, forms: &[Form]) -> u32
-        requires room { HaveRoom (length self.old) forms.now }
+        requires room { FormsFit (length self.old) forms.now }
         requires end { end_of forms.now < 2 ^ 32 }
         ensures places { self.new ≡ noted forms.now 0 self.old }
         ensures room { length self.new ≡ length self.old }
@@ -69,7 +69,7 @@ impl Places {
 
 /// A number above that of each label.
 fn room(forms: &[Form]) -> usize
-    ensures { HaveRoom result forms.now }
+    ensures { FormsFit result forms.now }
 {
     let mut room = 0;
     'forms: for form in forms {

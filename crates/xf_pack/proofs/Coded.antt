@@ -26,7 +26,7 @@ use Rattle.xf_landed.specs.Laws.{LaidIsTyped}
 use Rattle.xf_layout.specs.declared.symbols.LayEnd.{LayEnd}
 use Rattle.xf_layout.specs.declared.symbols.LayEnd.TheVariants.{MethodLong, Memory as NoBytes}
 use Rattle.xf_layout.specs.Shortest.{IsTooLong, StandsShortest}
-use Rattle.xf_typing.specs.Typed.{HasTypes}
+use Rattle.xf_typing.specs.Typed.{HasTypingByHomes}
 use Rattle.xf_world.specs.Laid.{IsLaidFor}
 use Rattle.xf_pack.specs.declared.end.MethodLimit.TheVariants as limits
 use Rattle.xf_pack.specs.Limits.{HasHomes}
@@ -93,7 +93,7 @@ module _ (w : Linked) (n : ℕ) (rec : MethodRec) (here : slice_get w.methods n 
           → rec.max_stack ≤ 255
           → IsSomeAnd (slice_get w.methods n) (λ r. (◌≡◌ {A = Result Symbols RewriteEnd} (Ok symbols) (Err StackLimit)) ↔ (r.max_stack ≡ 255))
           → IsSomeAnd (method_in w n) (λ m. IsRewritten w m (state_at typing) homes symbols)
-          → IsSomeAnd (method_in w n) (λ m. HasTypes w m homes symbols)
+          → IsSomeAnd (method_in w n) (λ m. HasTypingByHomes w m homes symbols)
           → IsSomeAnd (method_in w n) (λ m. KeepsLive m m.rec.handlers symbols.ranges)
           → IsSomeAnd (method_in w n) (λ m. HasNumbers m.rec homes symbols)
           → IsSomeAnd (method_in w n) (λ m. All (IsItem m.code symbols.items) symbols.items)
@@ -108,7 +108,7 @@ module _ (w : Linked) (n : ℕ) (rec : MethodRec) (here : slice_get w.methods n 
             few = few;
             room = room symbols (its-record (λ r. (◌≡◌ {A = Result Symbols RewriteEnd} (Ok symbols) (Err StackLimit)) ↔ (r.max_stack ≡ 255)) limit) byte;
             rewritten = its (λ m. IsRewritten w m (state_at typing) homes symbols) rewritten;
-            types = its (λ m. HasTypes w m homes symbols) types;
+            types = its (λ m. HasTypingByHomes w m homes symbols) types;
             live = its (λ m. KeepsLive m m.rec.handlers symbols.ranges) live;
             numbers = its (λ m. HasNumbers m.rec homes symbols) numbers;
             items = its (λ m. All (IsItem m.code symbols.items) symbols.items) items;

@@ -1,5 +1,5 @@
 -- Rewritten code has an instruction, and so has what is laid for it.
-use Rattle.std.proofs.Common.{◌≡◌, ℕ, zero, suc, ◌+◌, ◌<◌, ◌≤◌, Bool, true, false, if◌then◌else◌, List, [], ◌∷◌, ◌++◌, length, flat_map, Option, Some, None, IsSomeAnd, Result, Ok, Err, refl, sym, ap, subst, ◌∙◌, arith}
+use Rattle.std.proofs.Common.{◌≡◌, ℕ, zero, suc, ◌+◌, ◌<◌, ◌≤◌, Bool, true, false, if◌then◌else◌, List, [], ◌∷◌, ◌++◌, length, flat_map, Option, Some, None, Result, Ok, Err, refl, sym, ap, subst, ◌∙◌, arith}
 use Rattle.std.specs.Prelude.{slice_get}
 use Rattle.jc_base.specs.declared.ty.Kind.{Kind}
 use Rattle.jc_base.specs.declared.ty.Ty.TheVariants.{Top}
@@ -13,9 +13,10 @@ use Rattle.jc_decode.specs.Laws.{InstructionsAreListed}
 use Rattle.jc_decode.specs.Listing.{listing, listing_end, end_from, targets, Lists}
 use Rattle.jc_decode.specs.Standing.{AreSteps, StandsAt}
 use Rattle.jc_decode.specs.Symbols.{Step, steps}
+use Rattle.jc_decode.proofs.Elements.{Contains-slice_get}
 use Rattle.jc_control.specs.Control.{IsReached, begins}
 use Rattle.jc_control.specs.Method.{Method, IsMethodOf}
-use Rattle.jc_control.specs.WellFormed.{Stands}
+use Rattle.jc_control.specs.WellFormed.{HasInstruction}
 use Rattle.jc_ops.specs.declared.fault.RuleFault.{RuleFault}
 use Rattle.jc_ops.specs.declared.operation.Branch.TheVariants as branches
 use Rattle.jc_ops.specs.declared.operation.Holder.TheVariants as holders
@@ -35,16 +36,14 @@ use Rattle.xf_emission.specs.Edge.{copies}
 use Rattle.xf_emission.specs.Jump.{branch, goto, is_over, jump_to, leads, spill_if}
 use Rattle.xf_emission.specs.Group.{body, branch_by, done, entered, fallen, field_read, field_written, first_place, gone, group, group_by, increased, loaded, popped, stays, stored}
 use Rattle.xf_emission.specs.Emission.{IsRewritten, caught_from, items, rewritten, stubs}
-use Rattle.xf_landed.proofs.Steps.{contains-at}
 use Rattle.xf_typing.proofs.Typings.{count-steps}
 use Rattle.xf_typing.proofs.Walks.{count, count-append}
+use Rattle.xf_typing.proofs.Numbers.{right-some}
+use Rattle.xf_pack.proofs.Elements.{some-such}
 
 -- of two lists one after the other
 first-counts : (xs ys : List Item) → 0 < count xs → 0 < count (xs ++ ys)
 first-counts xs ys h = let sum = count-append xs ys in omega (arith, h, sum)
-
-second-counts : (xs ys : List Item) → 0 < count ys → 0 < count (xs ++ ys)
-second-counts xs ys h = let sum = count-append xs ys in omega (arith, h, sum)
 
 -- ---- an instruction
 
@@ -56,7 +55,7 @@ module _ (s : Source) (i : Placed) where
   branch-counts : (op : Operation) (n : ℕ) → 0 < count (branch s i op n)
   unfolding branch
   branch-counts op n =
-      second-counts (spill_if (is_over s i.place n) s i.place n) (jump_to i op (leads s i.place op n 0 (targets s.method.code i)) ∷ [])
+      right-some (spill_if (is_over s i.place n) s i.place n) (jump_to i op (leads s i.place op n 0 (targets s.method.code i)) ∷ [])
       (jump-counts op (leads s i.place op n 0 (targets s.method.code i)))
 
   by-counts : (op : Operation) (n : Option ℕ) → 0 < count (branch_by s i op n)
@@ -90,8 +89,8 @@ module _ (s : Source) (i : Placed) where
 
   gone-counts : (op : Operation) (q : ℕ) → 0 < count (gone s i.place op q)
   gone-counts op q =
-      second-counts (spill s (cells s q)) (copies s (After i.place op) q ++ goto q ∷ [])
-      (second-counts (copies s (After i.place op) q) (goto q ∷ []) (omega arith))
+      right-some (spill s (cells s q)) (copies s (After i.place op) q ++ goto q ∷ [])
+      (right-some (copies s (After i.place op) q) (goto q ∷ []) (omega arith))
 
   body-counts : (op : Operation) → 0 < count (body s i op)
   unfolding body
@@ -107,7 +106,7 @@ module _ (s : Source) (i : Placed) where
   unfolding group
   group-counts f op at is =
       rw at
-      (second-counts (entered s i.place) (done s i (operation s i))
+      (right-some (entered s i.place) (done s i (operation s i))
       (rw is (first-counts (body s i op) (fallen s i op) (body-counts op))))
 
 -- ---- a method
@@ -117,22 +116,18 @@ first-listed : (code : List ℕ) (ps : List Placed) → Lists code 0 ps → end_
 first-listed code [] lists ends filled = absurd (omega (arith, ends, filled))
 first-listed code (i ∷ rest) lists ends filled = (i, rest, refl, lists.0)
 
-some-there : {X : Type 0} (P : X → Type 0) (o : Option X) → IsSomeAnd o P → (x : X) × (o ≡ Some x) × P x
-some-there P None h = absurd h
-some-there P (Some x) h = (x, refl, h)
-
 module _ (s : Source) (listed : InstructionsAreListed) (mo : IsMethodOf s.world s.method) (typing : FlowTyping s.world s.method Top s.frames) where
   items-count : 0 < count (items s)
   unfolding items
   items-count =
       let first = first-listed s.method.code (listing s.method.code) (listed s.method.code).lists typing.formed.ends mo.filled in
       let i = first.0 in
-      let stands : Stands s.method.code i = contains-at (listing s.method.code) 0 i (ap (λ (ps : List Placed). slice_get ps 0) first.2) in
+      let stands : HasInstruction s.method.code i = Contains-slice_get (listing s.method.code) 0 i (ap (λ (ps : List Placed). slice_get ps 0) first.2) in
       let reached : IsReached s.method i.place = subst (IsReached s.method) (sym first.3) begins in
-      let at = some-there (IsFollowed s.world s.method s.frames i) (s.frames i.place) (typing.rules i stands reached) in
+      let at = some-such (IsFollowed s.world s.method s.frames i) (s.frames i.place) (typing.rules i stands reached) in
       let followed = at.2 in
       let own : 0 < count (group s i) = group-counts s i at.0 followed.steps.1.operation at.1 (sym followed.steps.1.resolves) in
-      second-counts (copies s Start 0) _
+      right-some (copies s Start 0) _
       (first-counts (flat_map (group s) (listing s.method.code)) _
       (subst (λ (ps : List Placed). 0 < count (flat_map (group s) ps)) (sym first.2) (first-counts (group s i) (flat_map (group s) first.1) own)))
 
@@ -151,5 +146,5 @@ laid-filled w m frames homes symbols laid place listed mo typing r stands =
     let own : 0 < count symbols.items = subst (λ (y : Symbols). 0 < count y.items) (sym r.are) (items-count s listed mo typing) in
     let some : 0 < length (steps m.code symbols.items) = subst (λ n. 0 < n) (sym (count-steps m.code symbols.items symbols.items)) own in
     let first = laid-by laid.code place (steps m.code symbols.items) (listing laid.code) stands.instructions some in
-    let inside = (listed laid.code).inside first.0 (contains-at (listing laid.code) 0 first.0 first.1) in
+    let inside = (listed laid.code).inside first.0 (Contains-slice_get (listing laid.code) 0 first.0 first.1) in
     omega (arith, inside)

@@ -1,18 +1,17 @@
 -- Each entry of the handler table of a package belongs to one method, so that the handlers of all methods are no more than the table has.
-use Rattle.std.proofs.Common.{◌≡◌, ℕ, zero, suc, ◌+◌, ◌-◌, ◌<◌, ◌≤◌, Bool, true, false, ◌&&◌, ltb, leb, min, List, [], ◌∷◌, ◌++◌, length, filter, cond, Some, None, refl, sym, ap, subst, ◌∙◌, inl, inr, arith}
+use Rattle.std.proofs.Common.{◌≡◌, ℕ, zero, suc, ◌+◌, ◌-◌, ◌<◌, ◌≤◌, Bool, true, false, ◌&&◌, ltb, leb, min, List, [], ◌∷◌, ◌++◌, length, filter, cond, Some, refl, sym, ap, subst, ◌∙◌, inl, inr, arith}
 use Rattle.std.specs.Prelude.{slice_get}
 use Rattle.std.specs.List.{filter_map}
-use Rattle.std.proofs.lemmas.Bool.{ltb-true, ltb-false, leb-true, leb-false, false≢true}
+use Rattle.std.proofs.lemmas.Bool.{ltb-true, ltb-false, leb-true, leb-false}
 use Rattle.cap_desc.specs.DescriptorFormat.{Method, Class}
 use Rattle.cap_desc.specs.Members.{methods_but}
 use Rattle.cap_method.specs.declared.handler.HandlerInfo.{HandlerInfo}
-use Rattle.cap_components.specs.declared.fault.PackFault.{PackFault}
-use Rattle.cap_components.specs.declared.fault.PackFault.TheVariants.{HandlerOutside}
-use Rattle.cap_package.specs.HandlerChecks.{claims, owners, is_within, has_home, entry_fault, claim_fault, numbered, numbered_fault}
-use Rattle.cap_package.specs.PackageRecord.{PackageRecord, described as described_methods}
+use Rattle.cap_package.specs.HandlerChecks.{claims, is_within, claim_fault, numbered, numbered_fault}
+use Rattle.cap_package.specs.PackageRecord.{PackageRecord, described_methods}
 use Rattle.cap_package.specs.StandsFor.{StandsFor}
+use Rattle.xf_landed.proofs.Steps.{some-within}
 use Rattle.jc_resolve.proofs.Faultless.{IsOneOf, faultless, both_empty}
-use Rattle.xf_pack.proofs.OwnMethods.{got}
+use Rattle.cap_rewritten.proofs.Handlers.{one_owner}
 
 -- how many entries of a table of so many a method has, and how many several methods have
 abbrev pub entry_count : ℕ → Method → ℕ
@@ -67,19 +66,6 @@ sum-within (suc many) ms one =
 
 -- ---- a package
 
-home-one : (info : List ℕ) (h : HandlerInfo) (ms : List Method) → has_home info h ms ≡ true → length ms ≤ 1
-home-one info h [] e = omega arith
-home-one info h (m ∷ []) e = omega arith
-home-one info h (m ∷ n ∷ ms) e = absurd (false≢true e)
-
-home-by : (fault : PackFault) (b : Bool) → cond b None (Some fault) ≡ None → b ≡ true
-home-by fault true e = refl
-home-by fault false e = absurd cc
-
-owned-once : (info : List ℕ) (ms : List Method) (number : ℕ) (h : HandlerInfo) → entry_fault info ms number h ≡ None → length (filter (claims number) ms) ≤ 1
-unfolding entry_fault owners
-owned-once info ms number h e = home-one info h (filter (claims number) ms) (home-by (HandlerOutside number) (has_home info h (filter (claims number) ms)) e)
-
 entry-numbered : (hs : List HandlerInfo) (n i : ℕ) (h : HandlerInfo) → slice_get hs i ≡ Some h → IsOneOf {F = ℕ × HandlerInfo} (numbered n hs) (n + i, h)
 entry-numbered [] n i h e = absurd cc
 entry-numbered (g ∷ gs) n zero h e =
@@ -98,10 +84,10 @@ module _ (p : PackageRecord) (agreed : StandsFor p.parts p) where
 
   once : (n : ℕ) → n < length p.methods.handlers → length (filter (claims n) (described_methods p)) ≤ 1
   once n lt =
-      let h = got p.methods.handlers n lt in
+      let h = some-within p.methods.handlers n lt in
       let place : 0 + n ≡ n = omega arith in
       let fault = faultless (numbered_fault p.methods.info (described_methods p)) (numbered 0 p.methods.handlers) (0 + n, h.0) entries-owned (entry-numbered p.methods.handlers 0 n h.0 h.1) in
-      owned-once p.methods.info (described_methods p) n h.0 (rw place at fault)
+      one_owner p.methods.info (described_methods p) n h.0 (rw place at fault)
 
   pub entries-within : entry_sum (length p.methods.handlers) (described_methods p) ≤ length p.methods.handlers
   entries-within = sum-within (length p.methods.handlers) (described_methods p) once

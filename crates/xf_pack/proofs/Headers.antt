@@ -7,11 +7,14 @@ use Rattle.std.proofs.lemmas.List.{length-map}
 use Rattle.std.proofs.lemmas.List.Elements.{All-nil, All-cons, All-append}
 use Rattle.std.proofs.lemmas.List.Quantifiers.{position-Some}
 use Rattle.std.proofs.lemmas.Option.{slice_get-map, get_or_from_slice_get}
+use Rattle.cap_bytes.specs.declared.class_reference.ClassReference.TheVariants.{Internal, External}
+use Rattle.cap_bytes.specs.ClassReference.{reference_of}
 use Rattle.cap_class.specs.ClassFormat.{Class, is_interface}
 use Rattle.cap_desc.specs.DescriptorFormat as described
 use Rattle.cap_package.specs.PackageRecord.{PackageRecord, names_interface}
 use Rattle.first_fault.specs.First.{AllEmpty}
 use Rattle.jc_base.proofs.Lists.{All-slice_get}
+use Rattle.xf_landed.proofs.Steps.{some-within}
 use Rattle.jc_resolve.specs.declared.place.RecordPlace.{RecordPlace}
 use Rattle.jc_resolve.specs.Conditions.{conditions}
 use Rattle.jc_resolve.specs.NamedMethods.{have_headers, is_class}
@@ -20,8 +23,7 @@ use Rattle.jc_resolve.specs.References.{class_named, Refers, internal, imported}
 use Rattle.jc_resolve.proofs.Faultless.{IsOneOf}
 use Rattle.jc_resolve.proofs.NamedClassLaws.{NamesClass, describes-class}
 use Rattle.jc_resolve.proofs.NumberLaws.{same-equal}
-use Rattle.jc_resolve.proofs.ReferenceLaws.{named-refers}
-use Rattle.xf_pack.proofs.OwnMethods.{got}
+use Rattle.jc_resolve.proofs.ReferenceLaws.{named-refers, internal-is}
 
 -- ---- numbered classes
 
@@ -84,16 +86,21 @@ module _ (ps : List PackageRecord) (k : ℕ) (p : PackageRecord) (at : slice_get
       let place : RecordPlace = record { «package» = k; offset = reference } in
       let found = position-Some (same_place place) (class_places ps) n place e in
       let many : length (class_places ps) ≡ length (numbered_classes ps) = length-map (numbered_classes ps) place_of_class in
-      let c = got (numbered_classes ps) n (let lt = found.0 in omega (arith, lt, many)) in
+      let c = some-within (numbered_classes ps) n (let lt = found.0 in omega (arith, lt, many)) in
       let stands : slice_get (class_places ps) n ≡ Some (place_of_class c.0) = slice_get-map place_of_class (numbered_classes ps) n ∙ ap (option_map place_of_class) c.1 in
       let here : same_place place (place_of_class c.0) ≡ true = subst (λ (q : RecordPlace). same_place place q ≡ true) (get_or_from_slice_get (class_places ps) n (place_of_class c.0) place stands) found.1 in
       let recorded = All-slice_get (IsRecorded ps) (numbered_classes ps) n c.0 (all-recorded ps) c.1 in
       let is = place-is c.0 reference here in
       ap flagged_interface c.1 ∙ flag-by reference c.0 recorded.home recorded.class is.0 is.1 none
 
-  number-by : (reference n : ℕ) → Refers ps k reference n → reference < 0x8000 → names_interface p.classes reference ≡ false → is_interface_number ps n ≡ false
-  number-by reference n (internal lt e) low none = own-number reference n e none
-  number-by reference n (imported j offset le met out e) low none = absurd (omega (arith, le, low))
+  number-by : (reference n : ℕ) → Refers ps k (reference_of reference) n → reference < 0x8000 → names_interface p.classes reference ≡ false → is_interface_number ps n ≡ false
+  number-by reference n (internal offset is e) low none =
+      let same : Internal reference ≡ Internal offset = sym (internal-is reference low) ∙ is in
+      let offset_is : reference ≡ offset = cc in
+      own-number reference n (subst (λ o. class_at ps (record { «package» = k; offset = o }) ≡ Some n) (sym offset_is) e) none
+  number-by reference n (imported import class j offset is met out e) low none =
+      let same : Internal reference ≡ External import class = sym (internal-is reference low) ∙ is in
+      absurd cc
 
   -- a class of the package that is no interface has methods with headers
   pub headers : (c : described.Class) → AllEmpty (conditions ps) → IsOneOf p.description.items.classes c → c.class_ref < 0x8000 → names_interface p.classes c.class_ref ≡ false → have_headers ps k p c ≡ true

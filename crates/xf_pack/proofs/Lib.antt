@@ -6,6 +6,6 @@ mod Handlers
 mod Suited
 mod Filled
 mod Sound
-mod Passing
+pub mod Passing
 mod Coded
 mod Written

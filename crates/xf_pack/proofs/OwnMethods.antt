@@ -10,6 +10,7 @@ use Rattle.cap_desc.specs.DescriptorFormat.{Class, Method}
 use Rattle.cap_package.specs.PackageRecord.{PackageRecord}
 use Rattle.jc_base.specs.declared.record.MethodRec.{MethodRec}
 use Rattle.jc_base.specs.World.{Linked}
+use Rattle.xf_landed.proofs.Steps.{some-within}
 use Rattle.jc_resolve.specs.NamedMethods.{named_method, named_methods}
 use Rattle.jc_resolve.specs.Numbering.{NumberedMethod, numbered, methods_of_class, methods_of_classes, methods_after, numbered_methods}
 use Rattle.jc_resolve.proofs.NumberedLaws.{IsDescribed, all-described}
@@ -30,11 +31,6 @@ all-back P [] (y ∷ ys) zero x all e le = let same : y ≡ x = cc in subst P sa
 all-back P [] (y ∷ ys) (suc n) x all e le = all-back P [] ys n x (All-tail P y ys all) e (omega arith)
 all-back P (z ∷ xs) ys zero x all e le = absurd (omega (arith, le))
 all-back P (z ∷ xs) ys (suc n) x all e le = all-back P xs ys n x all e (omega (arith, le))
-
-pub got : {X : Type 0} (xs : List X) (n : ℕ) → n < length xs → (x : X) × (slice_get xs n ≡ Some x)
-got [] n lt = absurd (omega (arith, lt))
-got (x ∷ xs) zero lt = (x, refl)
-got (x ∷ xs) (suc n) lt = got xs n (omega (arith, lt))
 
 append-none : {X : Type 0} (xs : List X) → xs ++ [] ≡ xs
 append-none [] = refl
@@ -130,7 +126,7 @@ module _ (ps : List PackageRecord) (p : PackageRecord) (roles : List ℕ) where
 
 not-below : (w : Linked) (f g : ℕ) → BeginsLast w f → BeginsLast w g → f < g → ⊥
 not-below w f g a b lt =
-    let r = got w.methods f (omega (arith, lt, b.within)) in
+    let r = some-within w.methods f (omega (arith, lt, b.within)) in
     let less = b.before f r.0 r.1 lt in
     let same = a.last f r.0 r.1 (omega arith) in
     omega (arith, less, same)

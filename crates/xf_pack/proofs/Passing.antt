@@ -50,9 +50,6 @@ module _ (Asks : Method → Type 0) (Has : Method → Type 0) where
 
 -- ---- a method of the world
 
-some-same : {X : Type 0} {a b : X} → ◌≡◌ {A = Option X} (Some a) (Some b) → a ≡ b
-some-same e = cc
-
 pub method-is : (w : Linked) (m : Method) → IsMethodOf w m → method_with w m.number m.rec ≡ m
 method-is w m is = let code = sym is.code in λ i. record { number = m.number; rec = m.rec; code = code i }
 

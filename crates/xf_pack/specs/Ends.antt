@@ -14,7 +14,7 @@ use Rattle.jc_decode.specs.declared.symbols.Laid.{Laid}
 use Rattle.jc_flow.specs.declared.end.FlowEnd.{FlowEnd}
 use Rattle.jc_flow.specs.declared.end.FlowEnd.TheVariants as flow
 use Rattle.jc_flow.specs.Infer.{TellsEnd}
-use Rattle.jc_link.specs.Fault.{place_of}
+use Rattle.jc_link.specs.Fault.{link_place}
 use Rattle.jc_link.specs.World.{IsLinked, conditions}
 use Rattle.jc_rewritten.specs.Last.{and_last}
 use Rattle.jc_rules.specs.Demand.{Frame}
@@ -89,7 +89,7 @@ pub record TellsLinked (packages : List PackageRecord) (roles : List ℕ) (end :
 -- the first thing that fails, in this order: linking, the methods of the libraries, the typings of the last package, the limits of its
 -- methods, and that of its Method component
 abbrev pub TellsTransform : List PackageRecord → List ℕ → TransformEnd → Type 0
-TellsTransform packages roles (Link fault) = IsFirst place_of (conditions packages roles) fault
+TellsTransform packages roles (Link fault) = IsFirst link_place (conditions packages roles) fault
 TellsTransform packages roles (Library method fault) = TellsLinked packages roles (Library method fault)
 TellsTransform packages roles (Typing method end) = TellsLinked packages roles (Typing method end)
 TellsTransform packages roles (Limit method limit) = TellsLinked packages roles (Limit method limit)

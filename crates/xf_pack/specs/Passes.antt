@@ -16,7 +16,7 @@ use Rattle.xf_emission.specs.Numbers.{HasNumbers}
 use Rattle.xf_homes.specs.declared.home.Home.{Home}
 use Rattle.xf_homes.specs.Answer.{IsTypingOf}
 use Rattle.xf_homes.specs.Order.{AreHomes, register_sum}
-use Rattle.xf_typing.specs.Typed.{HasTypes}
+use Rattle.xf_typing.specs.Typed.{HasTypingByHomes}
 use Rattle.xf_world.specs.Laid.{IsElement}
 
 -- ---- the methods of the last package
@@ -62,7 +62,7 @@ pub record IsRewrittenTo (w : Linked) (symbols : Symbols) (m : Method) : Type 0 
   pub few : register_sum homes ≤ 255
   pub room : m.rec.max_stack < 255
   pub rewritten : IsRewritten w m (state_at typing) homes symbols
-  pub types : HasTypes w m homes symbols
+  pub types : HasTypingByHomes w m homes symbols
   pub live : KeepsLive m m.rec.handlers symbols.ranges
   pub numbers : HasNumbers m.rec homes symbols
   pub items : All (IsItem m.code symbols.items) symbols.items

@@ -14,9 +14,10 @@ use Rattle.xf_world.specs.Laid.{AreLaidOf}
 use Rattle.xf_world.specs.Laws.{IsWorldAnew}
 use Rattle.xf_pack.specs.Ends.{AreAcceptedLibraries, IsTypedLast}
 
--- the libraries are accepted, and the last package has its typings. Its methods are written anew with what is laid for them, and every other
--- file is kept but for what tells of methods; the parts stand for that package with this code. With the libraries it makes a world in which each
--- method with code has a card typing, and every run ends as it does in the former world
+-- the libraries are accepted, and the last package has its typings. Its methods are written anew with what is laid
+-- for them, and every other file is kept but for what tells of methods; the parts stand for that package with this code.
+-- With the libraries it makes a world in which each method with code has a card typing, and every run ends as it does in
+-- the former world
 pub record IsTransformed (packages : List PackageRecord) (roles : List ℕ) (w : Linked) (parts : List Lent) : Type 0 where
   pub accepted : AreAcceptedLibraries w
   pub typed : IsTypedLast w

@@ -1,4 +1,4 @@
-ghost use Rattle.std.specs.Prelude.{◌≡◌, ◌≤◌, ◌+◌, ◌++◌, [], length, IfOk, OnOk};
+ghost use Rattle.std.specs.Prelude.{◌≡◌, ◌≤◌, ◌+◌, ◌++◌, [], length, IfOk, OnOk, OnErr};
 ghost use Rattle.jc_control.specs.Method.{IsMethodOf};
 ghost use Rattle.xf_homes.specs.Subject.{walked};
 ghost use Rattle.xf_plan.specs.Plan.{register, home_of, with_home_of, local, needed, cells_from, cells, depth, is_leader, first_reached, operation};
@@ -68,10 +68,12 @@ impl Plan<'_> {
         home_of(x, self.walk.local(place, x))
     }
 
-    /// The homes in which a local has to stand at a place, that of its type there first, in place of what the list had.
+    /// The homes in which a local has to stand at a place, that of its type there first, in place of what the list had. Where
+    /// there is no memory the list is empty.
     #[tactic(auto, unfolding(crate::specs::Plan::needed))]
     pub fn needed(&self, place: u16, x: u16, to: &mut Vec<Home>) -> Result<(), AllocError>
-        ensures { OnOk result (to.new.items ≡ needed (source self.now) place x) }
+        ensures is { OnOk result (to.new.items ≡ needed (source self.now) place x) }
+        ensures empty { OnErr result (to.new.items ≡ []) }
     {
         to.clear();
         self.walk.keep_local(to, place, x)

@@ -14,7 +14,7 @@ use Rattle.jc_decode.specs.Listing.{at_most, listing, listing_from, targets}
 use Rattle.jc_decode.specs.Standing.{AreSteps}
 use Rattle.jc_decode.specs.Symbols.{steps as steps_of_items}
 use Rattle.jc_control.specs.Control.{IsReached, begins, falls_through, follows}
-use Rattle.jc_control.specs.WellFormed.{Stands}
+use Rattle.jc_control.specs.WellFormed.{HasInstruction}
 use Rattle.jc_ops.specs.declared.operation.Branch.TheVariants as branches
 use Rattle.jc_ops.specs.declared.operation.Constant.TheVariants as constants
 use Rattle.jc_ops.specs.declared.operation.Operation.TheVariants as ops
@@ -191,7 +191,7 @@ copy-laid = record {
 copy-reached-0 : IsReached widening.method 0
 copy-reached-0 = begins
 
-copy-stands-0 : Stands widening_code (record { place = 0; insn = with_opcode 25 })
+copy-stands-0 : HasInstruction widening_code (record { place = 0; insn = with_opcode 25 })
 copy-stands-0 =
     subst (λ is. Contains is (record { place = 0; insn = with_opcode 25 }))
     (sym copy-source-listing) (0, omega arith, refl)
@@ -199,7 +199,7 @@ copy-stands-0 =
 copy-reached-1 : IsReached widening.method 1
 copy-reached-1 = follows copy-stands-0 copy-reached-0 (falls_through refl)
 
-copy-stands-1 : Stands widening_code (record { place = 1; insn = copy-branch })
+copy-stands-1 : HasInstruction widening_code (record { place = 1; insn = copy-branch })
 copy-stands-1 =
     subst (λ is. Contains is (record { place = 1; insn = copy-branch }))
     (sym copy-source-listing) (1, omega arith, refl)
@@ -207,7 +207,7 @@ copy-stands-1 =
 copy-reached-3 : IsReached widening.method 3
 copy-reached-3 = follows copy-stands-1 copy-reached-1 (falls_through refl)
 
-copy-stands-3 : Stands widening_code (record { place = 3; insn = with_opcode 0 })
+copy-stands-3 : HasInstruction widening_code (record { place = 3; insn = with_opcode 0 })
 copy-stands-3 =
     subst (λ is. Contains is (record { place = 3; insn = with_opcode 0 }))
     (sym copy-source-listing) (2, omega arith, refl)
@@ -215,7 +215,7 @@ copy-stands-3 =
 copy-reached-4 : IsReached widening.method 4
 copy-reached-4 = follows copy-stands-3 copy-reached-3 (falls_through refl)
 
-copy-stands-4 : Stands widening_code (record { place = 4; insn = with_opcode 24 })
+copy-stands-4 : HasInstruction widening_code (record { place = 4; insn = with_opcode 24 })
 copy-stands-4 =
     subst (λ is. Contains is (record { place = 4; insn = with_opcode 24 }))
     (sym copy-source-listing) (3, omega arith, refl)

@@ -14,7 +14,7 @@ use Rattle.jc_decode.specs.Listing.{at_most, listing, listing_from, targets}
 use Rattle.jc_decode.specs.Standing.{AreSteps}
 use Rattle.jc_decode.specs.Symbols.{steps as steps_of_items}
 use Rattle.jc_control.specs.Control.{IsReached, begins, falls_through, follows}
-use Rattle.jc_control.specs.WellFormed.{Stands}
+use Rattle.jc_control.specs.WellFormed.{HasInstruction}
 use Rattle.jc_ops.specs.declared.operation.Branch.TheVariants as branches
 use Rattle.jc_ops.specs.declared.operation.Constant.TheVariants as constants
 use Rattle.jc_ops.specs.declared.operation.Operation.TheVariants as ops
@@ -195,7 +195,7 @@ reload-laid = record {
 reload-reached-0 : IsReached forking.method 0
 reload-reached-0 = begins
 
-reload-stands-0 : Stands forking_code (record { place = 0; insn = with_opcode 4 })
+reload-stands-0 : HasInstruction forking_code (record { place = 0; insn = with_opcode 4 })
 reload-stands-0 =
     subst (λ is. Contains is (record { place = 0; insn = with_opcode 4 }))
     (sym reload-source-listing) (0, omega arith, refl)
@@ -203,7 +203,7 @@ reload-stands-0 =
 reload-reached-1 : IsReached forking.method 1
 reload-reached-1 = follows reload-stands-0 reload-reached-0 (falls_through refl)
 
-reload-stands-1 : Stands forking_code (record { place = 1; insn = with_opcode 3 })
+reload-stands-1 : HasInstruction forking_code (record { place = 1; insn = with_opcode 3 })
 reload-stands-1 =
     subst (λ is. Contains is (record { place = 1; insn = with_opcode 3 }))
     (sym reload-source-listing) (1, omega arith, refl)
@@ -211,7 +211,7 @@ reload-stands-1 =
 reload-reached-2 : IsReached forking.method 2
 reload-reached-2 = follows reload-stands-1 reload-reached-1 (falls_through refl)
 
-reload-stands-2 : Stands forking_code (record { place = 2; insn = reload-branch })
+reload-stands-2 : HasInstruction forking_code (record { place = 2; insn = reload-branch })
 reload-stands-2 =
     subst (λ is. Contains is (record { place = 2; insn = reload-branch }))
     (sym reload-source-listing) (2, omega arith, refl)

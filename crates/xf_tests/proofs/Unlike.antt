@@ -27,6 +27,7 @@ use Rattle.xf_plan.specs.Source.{Source}
 use Rattle.xf_groups.specs.Beside.{AreEqualBut, IsAtGroup, IsTypedAt}
 use Rattle.xf_groups.specs.Comes.{AreAtGroup, ComesToGroup, ComesWithin, GroupComes, GroupRuns, group_calls, group_ends, group_gives, group_leaves, group_raises, group_stays, group_throws}
 use Rattle.xf_groups.specs.Matching.{RunsBeside}
+use Rattle.xf_groups.proofs.Branching.{same-state}
 
 -- one method runs
 abbrev pub alone : Frame Cell → List (Object Cell) → List Cell → State Cell
@@ -50,9 +51,6 @@ pub data Ends (w : Linked) (last : Ending) (x : State Cell) : State Cell → Typ
   ends_after : {t u : State Cell} → Steps tagged w t (running u) → Ends w last x u → Ends w last x t
 
 -- ---- outcomes
-
-same-running : (z y : State Cell) → running z ≡ running y → z ≡ y
-same-running z y e = cc
 
 same-ending : (e f : Ending) (z y : State Cell) → ended e z ≡ ended f y → e ≡ f
 same-ending e f z y eq = cc
@@ -107,7 +105,7 @@ module _ (w : Linked) (last : Ending) (x : State Cell) where
   ends-from {t = t} (ends_now step) (steps {z = z} other rest) =
       absurd (ended-runs last x z (one t (ended last x) (running z) step other))
   ends-from {t = t} (ends_after {u = u} step more) (steps {z = z} other rest) =
-      ends-from (subst (Ends w last x) (same-running u z (one t (running u) (running z) step other)) more) rest
+      ends-from (subst (Ends w last x) (same-state u z (one t (running u) (running z) step other)) more) rest
 
 alone-under : (fs : List (Frame Cell)) → length fs ≡ 1 → other_frames fs ≡ []
 alone-under [] e = absurd (omega (arith, e))
@@ -138,7 +136,7 @@ module _
       → GroupComes v w s place (alone f heap statics) t o p → o ≡ running (alone g heap statics) → ⊥
   none-leaves f g t bare (group_calls c) e =
       let called : with_call tagged v.methods c.source c.method c.count ≡ alone g heap statics =
-      same-running _ (alone g heap statics) (sym c.enters ∙ e) in
+      same-state _ (alone g heap statics) (sym c.enters ∙ e) in
       let n : suc (suc (length (other_frames c.source.frames))) ≡ 1 = ap (λ (z : State Cell). length z.frames) called in
       omega (arith, n)
   none-leaves f g t bare (group_gives other cells plain o_is p_is) e = ended-runs _ _ (alone g heap statics) (sym o_is ∙ e)
@@ -178,7 +176,7 @@ module _
       → GroupRuns v w s place (alone f heap statics) t (running (alone g heap statics)) → ⊥
   goes-on f g t bare h again (group_leaves c) = none-leaves f g t bare c.comes refl
   goes-on f g t bare h again (group_stays y is c) =
-      let same : alone g heap statics ≡ y = same-running (alone g heap statics) y is in
+      let same : alone g heap statics ≡ y = same-state (alone g heap statics) y is in
       let at : AreAtGroup s place (alone f heap statics) t (alone g heap statics) c.comes.0 =
       subst (λ (z : State Cell). AreAtGroup s place (alone f heap statics) t z c.comes.0) (sym same) c.comes.2 in
       again c.comes.0 (subst (EndsFrom w last x) c.comes.1 (ends-from w last x h c.runs)) at.group at.equal

@@ -13,7 +13,7 @@ use Rattle.jc_decode.specs.Listing.{at_most, listing, listing_from, targets}
 use Rattle.jc_decode.specs.Standing.{AreSteps}
 use Rattle.jc_decode.specs.Symbols.{steps as steps_of_items}
 use Rattle.jc_control.specs.Control.{IsReached, begins, falls_through, follows}
-use Rattle.jc_control.specs.WellFormed.{Stands}
+use Rattle.jc_control.specs.WellFormed.{HasInstruction}
 use Rattle.jc_ops.specs.declared.operation.Constant.TheVariants as constants
 use Rattle.jc_ops.specs.declared.operation.Operation.TheVariants as ops
 use Rattle.jc_ops.specs.Row.{table, row_at, unused, by_sort, by_width, by_kind, first_four, by_register, literals, binary, orders_all, branching}
@@ -129,7 +129,7 @@ zero-laid = record {
 zero-reached-0 : IsReached five.method 0
 zero-reached-0 = begins
 
-zero-stands-0 : Stands (8 ∷ 120 ∷ []) (record { place = 0; insn = with_opcode 8 })
+zero-stands-0 : HasInstruction (8 ∷ 120 ∷ []) (record { place = 0; insn = with_opcode 8 })
 zero-stands-0 =
     subst (λ is. Contains is (record { place = 0; insn = with_opcode 8 }))
     (sym zero-source-listing) (0, omega arith, refl)

@@ -8,18 +8,21 @@ use Rattle.jc_base.specs.Class.{IsClass}
 use Rattle.jc_base.specs.Each.{Each, IsAmong}
 use Rattle.jc_base.specs.declared.record.Handler.{Handler}
 use Rattle.jc_base.specs.declared.record.MethodRec.{MethodRec}
+use Rattle.jc_base.proofs.Eaching.{All-from_Each}
 use Rattle.jc_decode.specs.Cases.{cases}
 use Rattle.jc_decode.specs.declared.insn.Placed.{Placed}
 use Rattle.jc_decode.specs.declared.symbols.Item.{Item}
 use Rattle.jc_decode.specs.declared.symbols.Range.{Range}
 use Rattle.jc_decode.specs.Listing.{listing, jumps, target, targets}
 use Rattle.jc_decode.proofs.Ranges.{op-fits}
+use Rattle.jc_decode.proofs.Elements.{Contains-slice_get}
 use Rattle.jc_ops.specs.declared.operation.Operation.{Operation}
 use Rattle.jc_control.specs.Control.{IsReached, IsLeader, IsLive, follows, jumped, caught, led_to, entered}
 use Rattle.jc_control.specs.Method.{IsMethodOf}
-use Rattle.jc_control.specs.WellFormed.{IsPlace, IsTargetPlace, IsHandlerOf, Stands as IsListed}
+use Rattle.jc_control.specs.WellFormed.{IsPlace, IsTargetPlace, IsHandlerOf, HasInstruction as IsListed}
 use Rattle.jc_flow.proofs.Derived.{of_world}
 use Rattle.xf_homes.specs.Walk.{operands_of}
+use Rattle.xf_homes.proofs.Rising.{each-map}
 use Rattle.xf_plan.specs.Source.{Source}
 use Rattle.xf_plan.specs.Plan.{is_leader, operation}
 use Rattle.xf_emission.specs.Group.{entered as head_of, group}
@@ -29,11 +32,9 @@ use Rattle.xf_emission.specs.Laws.{IsCode, IsLabelOf, of_place, of_stub}
 use Rattle.xf_emission.proofs.Labels.{labels}
 use Rattle.xf_emission.proofs.Live.{live-is}
 use Rattle.xf_emission.proofs.Once.{named-among}
-use Rattle.xf_emission.proofs.Standing.{each-all}
 use Rattle.xf_emission.proofs.Stubs.{all-rise}
 use Rattle.xf_landed.specs.Laid.{class_by}
 use Rattle.xf_landed.specs.Laws.{CatchesByPool}
-use Rattle.xf_landed.proofs.Steps.{contains-at}
 use Rattle.xf_typing.specs.Typed.{registers_of}
 use Rattle.xf_typing.proofs.Walks.{nothing_asked, emptied, catching, count}
 use Rattle.xf_typing.proofs.Ready.{IsReady}
@@ -46,10 +47,6 @@ use Rattle.xf_typing.proofs.Ranges.{IsCaught, ranges-caught}
 use Rattle.xf_typing.proofs.Ordered.{ranges-filled, handlers-are}
 use Rattle.xf_typing.proofs.Others.{no-others}
 use Rattle.xf_typing.proofs.Named.{Names, items-name}
-
-each-by : {X : Type 0} (P Q : X → Type 0) → ((x : X) → P x → Q x) → (xs : List X) → Each P xs → Each Q xs
-each-by P Q f [] e = tt
-each-by P Q f (x ∷ xs) e = (f x e.0, each-by P Q f xs e.1)
 
 module _ (s : Source) (l : AreLaws s.world) (ready : IsReady s) (code : IsCode s) (mo : IsMethodOf s.world s.method) (by_pool : CatchesByPool) (r : MethodRec) (own_rec : IsRecordFor s.method.rec r) where
   res : IfSome s.method.rec.sig.result (IsDeclared s.world.classes)
@@ -90,7 +87,7 @@ module _ (s : Source) (l : AreLaws s.world) (ready : IsReady s) (code : IsCode s
       let small = op-fits s.method.code i.place i.insn code.bytes d in
       let go = l.alike s.method.rec i.place i.insn op small (sym is) in
       let at : (k : ℕ) (t : ℤ) → slice_get (targets s.method.code i) k ≡ Some t → IsEmptied (place t) = λ k t e.
-      let c = contains-at (targets s.method.code i) k t e in
+      let c = Contains-slice_get (targets s.method.code i) k t e in
       target-named i st there t c (All-contains (IsTargetPlace s.method.code) (targets s.method.code i) t (ready.has.formed.targets i st) c) in
       record {
         ways = λ n k t asks e. by n k t asks e (at k t e) (taken s i.place op n (place t)) refl;
@@ -121,7 +118,7 @@ module _ (s : Source) (l : AreLaws s.world) (ready : IsReady s) (code : IsCode s
   full i st some =
       let each = filled (λ n. n) (λ a b e. e) s l ready r own_rec (asks_of s) res code (listing s.method.code) (λ j c. c) in
       let less = All-contains (λ (j : Placed). is_some (s.frames j.place) ≡ true → count (head_of s j.place) < count (group s j)) (listing s.method.code) i
-      (each-all (λ (j : Placed). is_some (s.frames j.place) ≡ true → count (head_of s j.place) < count (group s j)) (listing s.method.code) each) st some in
+      (All-from_Each (λ (j : Placed). is_some (s.frames j.place) ≡ true → count (head_of s j.place) < count (group s j)) (listing s.method.code) each) st some in
       omega (arith, less)
 
   pub are-asked : AreAsked s.world s.method.rec s.method.code (rewritten s) (registers_of s.homes) (asks_of s)
@@ -135,8 +132,8 @@ module _ (s : Source) (l : AreLaws s.world) (ready : IsReady s) (code : IsCode s
         high = handler_label 256;
         rise = all-rise s code.bytes code.lists code.short code.few;
         named = items-name IsEmptied s emitted (entries s.method.rec.handlers (λ h c. c));
-        caught = each-by (IsCaught s l.rules mo by_pool) (λ (q : Range). IsAmong q.entry (labels (items s)) × (asks_of s q.entry ≡ catching (class_by s.method.rec.handlers q.pool))) (λ q t. (t.0, t.1)) (ranges_from s 0 hs) all;
-        classes = each-by (IsCaught s l.rules mo by_pool) (λ (q : Range). IsClass s.world.classes (class_by s.method.rec.handlers q.pool)) (λ q t. t.2) (ranges_from s 0 hs) all;
+        caught = each-map (IsCaught s l.rules mo by_pool) (λ (q : Range). IsAmong q.entry (labels (items s)) × (asks_of s q.entry ≡ catching (class_by s.method.rec.handlers q.pool))) (λ q t. (t.0, t.1)) (ranges_from s 0 hs) all;
+        classes = each-map (IsCaught s l.rules mo by_pool) (λ (q : Range). IsClass s.world.classes (class_by s.method.rec.handlers q.pool)) (λ q t. t.2) (ranges_from s 0 hs) all;
         order = ranges-filled s code listed ready.has full 0 hs (handlers-are s code listed ready.has full);
         no_others = λ m c a asks. no-others s listed code m c a asks;
       }

@@ -1,7 +1,8 @@
 -- What the labels of a rewritten method ask.
-use Rattle.std.proofs.Common.{◌≡◌, ℕ, zero, suc, ◌+◌, ◌-◌, ◌/◌, ◌<◌, Bool, true, false, if◌then◌else◌, List, [], ◌∷◌, length, slice_get, Option, Some, None, IfSome, refl, ◌∙◌, ap, arith}
+use Rattle.std.proofs.Common.{◌≡◌, ℕ, ◌+◌, ◌-◌, ◌/◌, ◌<◌, Bool, true, false, if◌then◌else◌, length, slice_get, Option, Some, None, IfSome, refl, ◌∙◌, ap, arith}
 use Rattle.std.specs.Prelude.{nat_lt}
 use Rattle.std.proofs.lemmas.Bool.Decides.{nat_tests}
+use Rattle.std.proofs.lemmas.Option.{slice_get_within}
 use Rattle.jc_base.specs.Cell.{IsDeclared}
 use Rattle.jc_base.specs.declared.record.Handler.{Handler}
 use Rattle.jc_base.specs.declared.record.MethodRec.{MethodRec}
@@ -45,11 +46,6 @@ at-handler s n =
     ap (λ (b : Bool). if b then (if is_leader s (49152 + n) then emptied else nothing_asked) else if nat_lt (49152 + n) 49152 then emptied else caught_by (slice_get s.method.rec.handlers (49152 + n - 49152))) e
     ∙ ap (λ (b : Bool). if b then emptied else caught_by (slice_get s.method.rec.handlers (49152 + n - 49152))) f ∙ h
 
-slice-within : {X : Type 0} (xs : List X) (k : ℕ) (x : X) → slice_get xs k ≡ Some x → k < length xs
-slice-within [] k x e = absurd (cc)
-slice-within (y ∷ ys) zero x e = omega arith
-slice-within (y ∷ ys) (suc k) x e = omega (arith, slice-within ys k x e)
-
 module _ (new : ℕ → ℕ) (apart : (a b : ℕ) → new a ≡ new b → a ≡ b) (s : Source) (l : AreLaws s.world) (ready : IsReady s) (r : MethodRec) (own_rec : IsRecordFor s.method.rec r) (res : IfSome s.method.rec.sig.result (IsDeclared s.world.classes)) (code : IsCode s) where
   reached-inside : (q : ℕ) → IsReached s.method q → q < length s.method.code
   reached-inside q there =
@@ -76,7 +72,7 @@ module _ (new : ℕ → ℕ) (apart : (a b : ℕ) → new a ≡ new b → a ≡ 
         let a = l.rules.listed s.method.code in
         let two = two-bytes s.method.code i code.bytes (a.decodes i st) in
         let within = a.within i st in
-        let k_lt = slice-within (targets s.method.code i) k t e in
+        let k_lt = slice_get_within (targets s.method.code i) k t e in
         let small : i.place / 2 + k < 16384 = omega (arith, two, within, k_lt, code.short) in
         at-stub s (i.place / 2 + k) small;
     handlers = λ n h e. at-handler s n ∙ ap caught_by e;

@@ -8,6 +8,7 @@ use Rattle.jc_base.specs.Order.{Below, is_below}
 use Rattle.jc_base.specs.declared.ty.Ty.{Ty}
 use Rattle.jc_base.specs.declared.ty.Ty.TheVariants.{Bottom, Short, IntHigh, IntLow, Class, Fresh, Top}
 use Rattle.jc_base.specs.World.{Linked}
+use Rattle.jc_base.proofs.Lists.{All-slice_get}
 use Rattle.jc_ops.specs.declared.operation.Operation.{Operation}
 use Rattle.jc_ops.specs.declared.operation.Operation.TheVariants as ops
 use Rattle.jc_ops.specs.declared.operation.Sort.TheVariants as sorts
@@ -29,11 +30,6 @@ use Rattle.xf_typing.proofs.Carried.{is-short, is-high, is-low, set-other, regis
 use Rattle.xf_typing.proofs.Running.{value-one, value-int}
 
 -- ---- one cell
-
-pub get-all : (P : Ty → Type 0) (cells : List Ty) (x : ℕ) (ty : Ty) → All P cells → slice_get cells x ≡ Some ty → P ty
-get-all P [] x ty all e = absurd (cc)
-get-all P (c ∷ cs) zero ty all e = let own : c ≡ ty = cc in subst P own (all 0 c (omega arith))
-get-all P (c ∷ cs) (suc x) ty all e = get-all P cs x ty (λ k d lt. all (suc k) d (omega (arith, lt))) e
 
 pub under-at :
     (t : ClassTable) (xs ys : List Ty) (x : ℕ) (b : Ty) → CellsBelow t xs ys → slice_get ys x ≡ Some b
@@ -132,7 +128,7 @@ module _ (t : ClassTable) (types : IsOrderOfTypes t) where
       by IntHigh e b =
           let high : ty ≡ IntHigh = high-only t types ty ((types.decided IntHigh ty).1 b) (not-top ty is.no_top) in
           let low = under-at t regs others (x + 1) IntLow le (is.second high) in
-          let low_is : low.0 ≡ IntLow = is-low t types low.0 low.2 (get-all IsNotBottom regs (x + 1) low.0 full low.1) in
+          let low_is : low.0 ≡ IntLow = is-low t types low.0 low.2 (All-slice_get IsNotBottom regs (x + 1) low.0 full low.1) in
           value-int regs x e (low.1 ∙ ap Some low_is)
       by IntLow e b = absurd (is.no_low (low-only t types ty ((types.decided IntLow ty).1 b) (not-top ty is.no_top)))
       by Top e b = absurd (is.no_top (top-only ty ((types.decided Top ty).1 b)))
@@ -183,14 +179,14 @@ unwritten w types limit (ops.Store sorts.Int x) before after o a full y none = b
         ∙ ap (λ (rs : List Ty). slice_get rs y) a.regs.high.after_is ∙ set-other before.regs x y a.regs.high.value e
 unwritten w types limit (ops.Increment widths.Short x amount) before after o a full y none =
     let found = some-at (slice_get before.regs x) (λ c. Below w.classes c Short) a.asked.1.0 in
-    let short : found.0 ≡ Short = is-short w.classes types found.0 found.2 (get-all IsNotBottom before.regs x found.0 full found.1) in
+    let short : found.0 ≡ Short = is-short w.classes types found.0 found.2 (All-slice_get IsNotBottom before.regs x found.0 full found.1) in
     ap (λ (rs : List Ty). slice_get rs y)
     (a.regs.after_is ∙ ap (set before.regs x) a.regs.stored ∙ set-same before.regs x Short (found.1 ∙ ap Some short))
 unwritten w types limit (ops.Increment widths.Int x amount) before after o a full y none =
     let first = some-at (slice_get before.regs x) (λ c. Below w.classes c IntHigh) a.asked.1.0 in
-    let high : first.0 ≡ IntHigh = is-high w.classes types first.0 first.2 (get-all IsNotBottom before.regs x first.0 full first.1) in
+    let high : first.0 ≡ IntHigh = is-high w.classes types first.0 first.2 (All-slice_get IsNotBottom before.regs x first.0 full first.1) in
     let second = some-at (slice_get before.regs (x + 1)) (λ c. Below w.classes c IntLow) a.asked.1.1.0 in
-    let low : second.0 ≡ IntLow = is-low w.classes types second.0 second.2 (get-all IsNotBottom before.regs (x + 1) second.0 full second.1) in
+    let low : second.0 ≡ IntLow = is-low w.classes types second.0 second.2 (All-slice_get IsNotBottom before.regs (x + 1) second.0 full second.1) in
     let between : a.regs.between ≡ before.regs =
     a.regs.high.after_is ∙ ap (set before.regs x) a.regs.high.stored ∙ set-same before.regs x IntHigh (first.1 ∙ ap Some high) in
     ap (λ (rs : List Ty). slice_get rs y)

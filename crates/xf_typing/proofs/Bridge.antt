@@ -47,7 +47,7 @@ itself n = grind (arith, nat_tests)
 apart : (m n : ℕ) → n < m → (m == n) ≡ false
 apart m n lt = grind (arith, nat_tests)
 
-among-above : (low high l : ℕ) (xs : List ℕ) → Rises low high xs → IsAmong l xs → low ≤ l
+pub among-above : (low high l : ℕ) (xs : List ℕ) → Rises low high xs → IsAmong l xs → low ≤ l
 among-above low high l [] r a = absurd a
 among-above low high l (y ∷ ys) r (inl e) = omega (arith, r.0, e)
 among-above low high l (y ∷ ys) r (inr a) = omega (arith, r.0, among-above (suc y) high l ys r.2 a)

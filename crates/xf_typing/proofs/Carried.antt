@@ -11,6 +11,7 @@ use Rattle.jc_base.specs.declared.ty.Ty.TheVariants.{Bottom, Short, IntHigh, Int
 use Rattle.jc_base.specs.declared.ty.Kind.TheVariants as kinds
 use Rattle.jc_base.specs.declared.record.MethodRec.{MethodRec}
 use Rattle.jc_base.specs.World.{Linked}
+use Rattle.jc_base.proofs.Lists.{All-slice_get}
 use Rattle.jc_ops.specs.declared.operation.Arithmetic.TheVariants as arithmetic
 use Rattle.jc_ops.specs.declared.operation.Branch.TheVariants as branches
 use Rattle.jc_ops.specs.declared.operation.Constant.TheVariants as constants
@@ -160,11 +161,6 @@ module _ (t : ClassTable) (types : IsOrderOfTypes t) where
   pub is-low : (a : Ty) → Below t a IntLow → IsNotBottom a → a ≡ IntLow
   is-low a le n = under-low a ((types.decided a IntLow).1 le) n
 
-get-all : (P : Ty → Type 0) (cells : List Ty) (x : ℕ) (ty : Ty) → All P cells → slice_get cells x ≡ Some ty → P ty
-get-all P [] x ty all e = absurd (cc)
-get-all P (c ∷ cs) zero ty all e = let own : c ≡ ty = cc in subst P own (all 0 c (omega arith))
-get-all P (c ∷ cs) (suc x) ty all e = get-all P cs x ty (λ k d lt. all (suc k) d (omega (arith, lt))) e
-
 held-at : (t : ClassTable) (xs : List Ty) (x : ℕ) (a b : Ty) → slice_get xs x ≡ Some a → IsSomeAnd (slice_get xs x) (λ found. Below t found b) → Below t a b
 held-at t xs x a b e h = subst (λ (o : Option Ty). IsSomeAnd o (λ found. Below t found b)) e h
 
@@ -193,7 +189,7 @@ unstored w types limit (ops.Increment widths.Short x amount) before after o a fu
     by true e =
         let own : y ≡ x = grind (arith, nat_tests, e) in
         let there : slice_get before.regs x ≡ Some ty = ap (slice_get before.regs) (sym own) ∙ is.first in
-        let short : ty ≡ Short = is-short w.classes types ty (held-at w.classes before.regs x ty Short there a.asked.1.0) (get-all IsNotBottom before.regs x ty full there) in
+        let short : ty ≡ Short = is-short w.classes types ty (held-at w.classes before.regs x ty Short there a.asked.1.0) (All-slice_get IsNotBottom before.regs x ty full there) in
         ap (λ (rs : List Ty). slice_get rs y) a.regs.after_is ∙ ap (slice_get (set before.regs x a.regs.value)) own ∙ set-here before.regs x a.regs.value ty there ∙ ap Some (a.regs.stored ∙ sym short)
 unstored w types limit (ops.Increment widths.Int x amount) before after o a full y ty none v = by (y == x) (y == x + 1) refl refl
   where
@@ -207,11 +203,11 @@ unstored w types limit (ops.Increment widths.Int x amount) before after o a full
     by b true e g =
         let own : y ≡ x + 1 = grind (arith, nat_tests, g) in
         let there : slice_get before.regs (x + 1) ≡ Some ty = ap (slice_get before.regs) (sym own) ∙ is.first in
-        absurd (is.no_low (is-low w.classes types ty (held-at w.classes before.regs (x + 1) ty IntLow there a.asked.1.1.0) (get-all IsNotBottom before.regs (x + 1) ty full there)))
+        absurd (is.no_low (is-low w.classes types ty (held-at w.classes before.regs (x + 1) ty IntLow there a.asked.1.1.0) (All-slice_get IsNotBottom before.regs (x + 1) ty full there)))
     by true false e g =
         let own : y ≡ x = grind (arith, nat_tests, e) in
         let there : slice_get before.regs x ≡ Some ty = ap (slice_get before.regs) (sym own) ∙ is.first in
-        let high : ty ≡ IntHigh = is-high w.classes types ty (held-at w.classes before.regs x ty IntHigh there a.asked.1.0) (get-all IsNotBottom before.regs x ty full there) in
+        let high : ty ≡ IntHigh = is-high w.classes types ty (held-at w.classes before.regs x ty IntHigh there a.asked.1.0) (All-slice_get IsNotBottom before.regs x ty full there) in
         ap (λ (rs : List Ty). slice_get rs y) a.regs.low.after_is ∙ set-other a.regs.between (x + 1) y a.regs.low.value g
         ∙ ap (λ (rs : List Ty). slice_get rs y) a.regs.high.after_is ∙ ap (slice_get (set before.regs x a.regs.high.value)) own ∙ set-here before.regs x a.regs.high.value ty there ∙ ap Some (a.regs.high.stored ∙ sym high)
     by false false e g =

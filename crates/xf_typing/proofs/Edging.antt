@@ -3,7 +3,7 @@ use Rattle.std.proofs.Common.{◌≡◌, ◌≢◌, ◌⊎◌, ℕ, zero, suc, �
 use Rattle.std.specs.Prelude.{IsSome}
 use Rattle.std.proofs.lemmas.List.{append-nil, length-reverse}
 use Rattle.std.proofs.lemmas.List.Sums.{sum_by-cons}
-use Rattle.jc_base.proofs.Lists.{All-reverse, slice_get-farther}
+use Rattle.jc_base.proofs.Lists.{All-reverse, slice_get-farther, All-slice_get}
 use Rattle.jc_base.specs.Cell.{AreWhole, no_cells as no_whole, whole_int, one_cell, IsNoHalf}
 use Rattle.jc_base.specs.Each.{Each, IsAmong}
 use Rattle.jc_base.specs.Order.{Below, IsKnown}
@@ -15,7 +15,7 @@ use Rattle.jc_decode.specs.declared.insn.Placed.{Placed}
 use Rattle.jc_ops.specs.declared.fault.RuleFault.{RuleFault}
 use Rattle.jc_ops.specs.declared.operation.Operation.{Operation}
 use Rattle.jc_control.specs.Control.{IsReached, IsSuccessor}
-use Rattle.jc_control.specs.WellFormed.{Stands}
+use Rattle.jc_control.specs.WellFormed.{HasInstruction}
 use Rattle.jc_rules.specs.Apply.{RuleApplies}
 use Rattle.jc_rules.specs.Demand.{Frame}
 use Rattle.jc_rules.specs.Flow.{CellsBelow, FrameBelow, IsFit, IsFollowed, IsDerived, derived_start, derived_next, IsNotFresh, IsNotTop, start_frame}
@@ -23,7 +23,7 @@ use Rattle.jc_rules.specs.Laws.{IsNotBottom}
 use Rattle.xf_homes.specs.declared.home.Home.{Home}
 use Rattle.xf_homes.specs.Home.{register_count, argument_types, IsAsked, asked_here, KeepsStack}
 use Rattle.xf_homes.specs.Laws.{HasRegister, HomesServe}
-use Rattle.xf_homes.specs.Order.{StandFrom, register_sum}
+use Rattle.xf_homes.specs.Order.{SlotsFollow, register_sum}
 use Rattle.xf_homes.specs.Value.{value_at, value_of, width}
 use Rattle.xf_homes.specs.Walk.{local_of}
 use Rattle.xf_homes.proofs.Events.{among-has}
@@ -42,7 +42,7 @@ use Rattle.xf_typing.proofs.Registers.{kept-ready, arguments-known, arguments-fu
 use Rattle.xf_typing.proofs.Running.{AreLaws}
 use Rattle.xf_typing.proofs.Carried.{is-high}
 use Rattle.xf_typing.proofs.Matching.{home-one, home-int}
-use Rattle.xf_typing.proofs.Below.{get-all, value-moved, value-before, value-below, loads-same, unwritten, unspoiled}
+use Rattle.xf_typing.proofs.Below.{value-moved, value-before, value-below, loads-same, unwritten, unspoiled}
 
 kept-is : (ty : Ty) → IsPlainValue ty → IsKept ty
 kept-is Bottom h = absurd h
@@ -77,7 +77,7 @@ value-farther xs ys n m e =
 
 -- they follow one another, and take as many registers as there are cells
 pub record Fills (slot count : ℕ) (hs : List Home) : Type 0 where
-  pub follow : StandFrom slot hs
+  pub follow : SlotsFollow slot hs
   pub fill : register_sum hs ≡ count
 
 pub fills :
@@ -92,7 +92,7 @@ fills slot pre _ over (whole_int {types = us} is) top =
     let first : Home = record { slot = slot + length pre; ty = IntHigh } in
     subst (λ (ks : List Home). Fills (slot + length pre) (suc (suc (length us))) ks) (sym (home-int slot pre (us ++ over) (length us)))
     (record {
-      follow = (refl, subst (λ (n : ℕ). StandFrom n hs) next more.follow);
+      follow = (refl, subst (λ (n : ℕ). SlotsFollow n hs) next more.follow);
       fill = sum_by-cons (λ (h : Home). width h.ty) first hs ∙ omega (arith, more.fill);
     })
 fills slot pre _ over (one_cell {a = a} {types = us} h is) top =
@@ -103,7 +103,7 @@ fills slot pre _ over (one_cell {a = a} {types = us} h is) top =
     let first : Home = record { slot = slot + length pre; ty = a } in
     subst (λ (ks : List Home). Fills (slot + length pre) (suc (length us)) ks) (sym (home-one slot pre a (us ++ over) (length us) h (top 0 a (omega arith))))
     (record {
-      follow = (refl, subst (λ (n : ℕ). StandFrom n hs) next more.follow);
+      follow = (refl, subst (λ (n : ℕ). SlotsFollow n hs) next more.follow);
       fill = sum_by-cons (λ (h : Home). width h.ty) first hs ∙ omega (arith, more.fill, one);
     })
   where
@@ -184,7 +184,7 @@ module _ (s : Source) (l : AreLaws s.world) (dw : DerivedAreWhole s.world) (sv :
       let all = subst (λ (ts : List Ty). Fills (base + 0) (length types) (cells_from base ts 0 (length types))) full (fills base [] types [] whole.whole no_top) in
       let here : base + 0 ≡ base = omega arith in
       record {
-        follow = subst (StandFrom base) (sym is) (subst (λ (n : ℕ). StandFrom n (cells_from base types 0 (length types))) here all.follow);
+        follow = subst (SlotsFollow base) (sym is) (subst (λ (n : ℕ). SlotsFollow n (cells_from base types 0 (length types))) here all.follow);
         fill = ap register_sum is ∙ all.fill ∙ length-reverse f.stack;
         keep = subst (Each (Keeps s)) (sym is) (each-cell (Keeps s) base types (λ i ty v.
             let plain = value-plain s.world.classes types i ty v (All-reverse (IsKnown s.world.classes) f.stack whole.known.stack)
@@ -236,7 +236,7 @@ module _ (s : Source) (l : AreLaws s.world) (dw : DerivedAreWhole s.world) (sv :
           there = among-has l.same_is (from ∷ []) from (inl refl);
           keeps = record { kept = kept-is v.0 plain.0; known = plain.1; has = (h.slot, ready.serve.arguments from own) };
           loads = loads-same s.world.classes l.rules.types v.0 h.ty v.2
-              (get-all IsNotBottom (start_frame s.method.rec Top).regs h.slot v.0 whole.regs (value-is (start_frame s.method.rec Top).regs h.slot v.0 v.1).first)
+              (All-slice_get IsNotBottom (start_frame s.method.rec Top).regs h.slot v.0 whole.regs (value-is (start_frame s.method.rec Top).regs h.slot v.0 v.1).first)
               (kept-not-top h.ty k.keeps.kept);
           apart = λ n lt. refl;
         },
@@ -259,7 +259,7 @@ module _ (s : Source) (l : AreLaws s.world) (dw : DerivedAreWhole s.world) (sv :
           there = among-has l.same_is (from ∷ []) from (inl refl);
           keeps = local-keeps q g.0 from g.1 v.1;
           loads = loads-same s.world.classes l.rules.types v.0 h.ty v.2
-              (get-all IsNotBottom g.0.regs h.slot v.0 whole.regs (value-is g.0.regs h.slot v.0 v.1).first) (kept-not-top h.ty k.keeps.kept);
+              (All-slice_get IsNotBottom g.0.regs h.slot v.0 whole.regs (value-is g.0.regs h.slot v.0 v.1).first) (kept-not-top h.ty k.keeps.kept);
           apart = λ n lt. refl;
         },
       )
@@ -268,7 +268,7 @@ module _ (s : Source) (l : AreLaws s.world) (dw : DerivedAreWhole s.world) (sv :
   ok-same a b e = cc
 
   on-after :
-      (i : Placed) (op : Operation) (q x : ℕ) (h : Home) → Stands s.method.code i → IsReached s.method i.place → operation s i ≡ Ok op
+      (i : Placed) (op : Operation) (q x : ℕ) (h : Home) → HasInstruction s.method.code i → IsReached s.method i.place → operation s i ≡ Ok op
       → IsSuccessor s.method.code i q → IsAmong h (needed s q x)
       → (is_stored op h.slot ≡ true) ⊎ ((from : Home) × IsCarried s (After i.place op) h from)
   on-after i op q x h st there is succ a =
@@ -285,7 +285,7 @@ module _ (s : Source) (l : AreLaws s.world) (dw : DerivedAreWhole s.world) (sv :
       let after_whole = dw s.method q after plan.method (derived_next {i = i} derived st follows.2.steps succ) in
       let v = value-below s.world.classes l.rules.types after.regs k.types (l.rules.order.through next.2.regs k.above) after_whole.regs h.slot h.ty k.value in
       let value = value-is after.regs h.slot v.0 v.1 in
-      let full = get-all IsNotBottom after.regs h.slot v.0 after_whole.regs value.first in
+      let full = All-slice_get IsNotBottom after.regs h.slot v.0 after_whole.regs value.first in
       let same = unwritten s.world l.rules.types s.method.rec.max_stack step.operation f after follows.2.steps.0 step.does before_whole.regs in
       let low = unspoiled s.world l.rules.types s.method.rec.max_stack step.operation f after follows.2.steps.0 step.does h.slot in
       by f after v.0 own_op follows.1 (is_stored op h.slot) refl v.1 v.2 (λ y e. same y (ap (λ o. is_stored o y) own_op ∙ e))

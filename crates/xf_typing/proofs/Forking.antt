@@ -10,7 +10,6 @@ use Rattle.jc_base.specs.Each.{Each}
 use Rattle.jc_base.specs.declared.record.MethodRec.{MethodRec}
 use Rattle.jc_base.specs.declared.ty.Ty.{Ty}
 use Rattle.jc_base.specs.declared.ty.Ty.TheVariants.{Fresh}
-use Rattle.jc_base.specs.World.{Linked}
 use Rattle.jc_decode.specs.declared.insn.Insn.{Insn}
 use Rattle.jc_decode.specs.declared.insn.Placed.{Placed}
 use Rattle.jc_decode.specs.declared.symbols.Item.TheVariants.{Branch, Switch}
@@ -18,7 +17,6 @@ use Rattle.jc_decode.specs.Forms.{wide}
 use Rattle.jc_decode.specs.Listing.{targets}
 use Rattle.jc_decode.specs.Symbols.{jump}
 use Rattle.jc_decode.proofs.Passed.{passed-at}
-use Rattle.jc_ops.specs.declared.operation.Branch.TheVariants as branches
 use Rattle.jc_ops.specs.declared.operation.Operation.{Operation}
 use Rattle.jc_ops.specs.declared.operation.Operation.TheVariants as ops
 use Rattle.jc_ops.specs.Next.{falls_from}
@@ -30,10 +28,11 @@ use Rattle.jc_rules.specs.Apply.{OperationApplies}
 use Rattle.jc_rules.specs.Demand.{Frame}
 use Rattle.jc_rules.specs.Flow.{IsNotFresh, IsNotTop}
 use Rattle.jc_rules.specs.Footprint.{footprint}
-use Rattle.jc_flow.proofs.Frames.{all_none, all_more, all_first, all_rest}
+use Rattle.jc_flow.proofs.Frames.{all_first, all_rest}
 use Rattle.xf_homes.specs.declared.home.Home.{Home}
 use Rattle.xf_homes.specs.Home.{IsConditional, KeepsStack}
 use Rattle.xf_homes.specs.Walk.{operands_of}
+use Rattle.xf_homes.proofs.Meeting.{operands-of}
 use Rattle.xf_plan.specs.Source.{Source}
 use Rattle.xf_plan.specs.Plan.{cells, depth, stack_of}
 use Rattle.xf_emission.specs.Laws.{IsCode}
@@ -47,7 +46,7 @@ use Rattle.xf_typing.proofs.Stacks.{Stands, loads-go}
 use Rattle.xf_typing.proofs.Ready.{IsReady}
 use Rattle.xf_typing.proofs.Renames.{named}
 use Rattle.xf_typing.proofs.Turns.{IsLesser, kept-resolves}
-use Rattle.xf_typing.proofs.Registers.{conditional-ready}
+use Rattle.xf_typing.proofs.Registers.{conditional-ready, all-left}
 use Rattle.xf_typing.proofs.Rows.{wide-is}
 use Rattle.xf_typing.proofs.Cuts.{IsForked, forked, IsCut, cut-is}
 use Rattle.xf_typing.proofs.Running.{AreLaws, IsRecordFor, IsRun}
@@ -78,10 +77,6 @@ pub all-right : (P : Ty → Type 0) (xs ys : List Ty) → All P (xs ++ ys) → A
 all-right P [] ys all = all
 all-right P (x ∷ xs) ys all = all-right P xs ys (all_rest P x (xs ++ ys) all)
 
-pub all-left : (P : Ty → Type 0) (xs ys : List Ty) → All P (xs ++ ys) → All P xs
-all-left P [] ys all = all_none P
-all-left P (x ∷ xs) ys all = all_more P x xs (all_first P x (xs ++ ys) all) (all-left P xs ys (all_rest P x (xs ++ ys) all))
-
 pub empty-is : (xs : List Ty) → length xs ≡ 0 → xs ≡ []
 empty-is [] e = refl
 empty-is (x ∷ xs) e = absurd (omega (arith, e))
@@ -93,12 +88,6 @@ named-all new apart (x ∷ xs) all = ap (λ (u : Ty). u ∷ map (named new apart
     one : (a : Ty) → IsNotFresh a → named new apart a ≡ a
     one (Fresh p c) h = absurd h
     one a h = refl
-
-operands-some : (w : Linked) (op : Operation) → IsConditional op → operands_of w (Ok op) ≡ Some (footprint w op).taken
-operands-some w (ops.Branch branches.Always) h = absurd h
-operands-some w (ops.Branch b) h = refl
-operands-some w (ops.Switch width) h = refl
-operands-some w op h = absurd h
 
 module _ (new : ℕ → ℕ) (apart : (a b : ℕ) → new a ≡ new b → a ≡ b) (s : Source) (l : AreLaws s.world) (ready : IsReady s) (r : MethodRec) (own_rec : IsRecordFor s.method.rec r) (asks : ℕ → Asked) (res : IfSome s.method.rec.sig.result (IsDeclared s.world.classes)) (code : IsCode s) where
   abbrev regs : List Ty
@@ -149,7 +138,7 @@ module _ (new : ℕ → ℕ) (apart : (a b : ℕ) → new a ≡ new b → a ≡ 
   -- the stack is deeper than the operands, so that it is kept
   pub keeps-over : (i : Placed) (op : Operation) (f after : Frame) (n : ℕ) → IsRun s i op f after → IsConditional op → operands_of s.world (Ok op) ≡ Some n → is_over s i.place n ≡ true → KeepsStack s.world s.method s.frames i.place
   keeps-over i op f after n run is e over =
-      let taken : (footprint s.world op).taken ≡ n = some-same (footprint s.world op).taken n (sym (operands-some s.world op is) ∙ e) in
+      let taken : (footprint s.world op).taken ≡ n = some-same (footprint s.world op).taken n (sym (operands-of s.world op is) ∙ e) in
       let deep = depth-is i op f after run in
       let lt : n < depth s i.place = grind (arith, nat_tests, over) in
       let deeper : (footprint s.world op).taken < length f.stack = omega (arith, lt, deep, taken) in

@@ -1,5 +1,5 @@
 -- Conditional branches and switches: the homes of the cells under their operands, and of those where they lead.
-use Rattle.std.proofs.Common.{◌≡◌, inl, ℕ, suc, ◌+◌, ◌≤◌, Bool, true, false, List, [], ◌∷◌, ◌++◌, length, reverse, All, Option, Some, Result, Ok, IfSome, refl, sym, ◌∙◌, ap, subst, arith, append_assoc, length-append}
+use Rattle.std.proofs.Common.{◌≡◌, inl, ℕ, suc, ◌+◌, ◌≤◌, Bool, true, false, List, [], ◌∷◌, ◌++◌, length, reverse, All, Option, Some, Ok, IfSome, refl, sym, ◌∙◌, ap, subst, arith, append_assoc, length-append}
 use Rattle.std.proofs.lemmas.Bool.Decides.{nat_tests}
 use Rattle.std.proofs.lemmas.List.{append-nil, length-reverse}
 use Rattle.std.proofs.lemmas.List.Sums.{sum_by-append}
@@ -12,12 +12,11 @@ use Rattle.jc_base.specs.declared.record.MethodRec.{MethodRec}
 use Rattle.jc_base.specs.declared.ty.Ty.{Ty}
 use Rattle.jc_base.specs.declared.ty.Ty.TheVariants.{IntHigh, IntLow}
 use Rattle.jc_decode.specs.declared.insn.Placed.{Placed}
-use Rattle.jc_ops.specs.declared.fault.RuleFault.{RuleFault}
 use Rattle.jc_ops.specs.declared.operation.Branch.TheVariants as branches
 use Rattle.jc_ops.specs.declared.operation.Operation.{Operation}
 use Rattle.jc_ops.specs.declared.operation.Operation.TheVariants as ops
 use Rattle.jc_control.specs.Control.{IsSuccessor}
-use Rattle.jc_control.specs.WellFormed.{Stands}
+use Rattle.jc_control.specs.WellFormed.{HasInstruction}
 use Rattle.jc_rules.specs.Demand.{Frame}
 use Rattle.jc_rules.specs.Flow.{CellsBelow, no_cells, more_cells, IsNotTop}
 use Rattle.jc_rules.specs.Laws.{IsNotBottom}
@@ -34,13 +33,14 @@ use Rattle.xf_plan.specs.Plan.{cells, cells_from, is_leader, operation}
 use Rattle.xf_emission.specs.Emission.{rewritten}
 use Rattle.xf_emission.specs.Jump.{is_over, operands, under}
 use Rattle.xf_emission.specs.Move.{load_op}
+use Rattle.xf_emission.proofs.RowByRow.{ok-same}
 use Rattle.xf_landed.specs.Laid.{record_with}
 use Rattle.xf_typing.specs.Planned.{IsPlanned, Keeps}
 use Rattle.xf_typing.specs.Edges.{AreMatched, none_matched, more_matched, IsForkedAt, ForksAreCut, ForksMatch}
 use Rattle.xf_typing.specs.Typed.{registers_of}
 use Rattle.xf_typing.specs.Whole.{DerivedAreWhole}
 use Rattle.xf_typing.proofs.Walks.{Asked, nothing_asked}
-use Rattle.xf_typing.proofs.Running.{AreLaws, IsRecordFor, IsRun}
+use Rattle.xf_typing.proofs.Running.{AreLaws, IsRun}
 use Rattle.xf_typing.proofs.Cuts.{IsForked, IsCut}
 use Rattle.xf_typing.proofs.Forking.{fork, cut-at, depth-is, keeps-over, all-right, each-left, empty-is}
 use Rattle.xf_typing.proofs.Listings.{IsReachedRun, run-of}
@@ -48,19 +48,13 @@ use Rattle.xf_typing.proofs.Matching.{home-one, home-int}
 use Rattle.xf_typing.proofs.Wholes.{high-only, low-only, no-half-above}
 use Rattle.xf_typing.proofs.Below.{loads-same}
 use Rattle.xf_typing.proofs.Edging.{ready, fills, Fills, cells-are, fill-stack, fit-at}
-
-record-for : (s : Source) → IsRecordFor s.method.rec (record_with s.method.rec (rewritten s))
-unfolding rewritten
-record-for s = record { room = refl; home = refl; sig = refl }
+use Rattle.xf_typing.proofs.Typed.{record-for}
 
 conditional-of : (s : Source) (op : Operation) (n : ℕ) → operands_of s.world (Ok op) ≡ Some n → IsConditional op
 conditional-of s (ops.Branch branches.Always) n e = absurd (cc)
 conditional-of s (ops.Branch b) n e = tt
 conditional-of s (ops.Switch width) n e = tt
 conditional-of s op n e = absurd (cc)
-
-ok-same : (a b : Operation) → ◌≡◌ {A = Result Operation RuleFault} (Ok a) (Ok b) → a ≡ b
-ok-same a b e = cc
 
 module _ (s : Source) (l : AreLaws s.world) where
   -- the homes of two lists of whole values, one below the other
@@ -118,7 +112,7 @@ module _ (s : Source) (l : AreLaws s.world) (dw : DerivedAreWhole s.world) (sv :
   res : IfSome s.method.rec.sig.result (IsDeclared s.world.classes)
   res = (of_world s.world l.rules s.method plan.method).result
 
-  module _ (i : Placed) (op : Operation) (n : ℕ) (f : Frame) (st : Stands s.method.code i) (at : s.frames i.place ≡ Some f) (names : operation s i ≡ Ok op) (some : operands_of s.world (Ok op) ≡ Some n) where
+  module _ (i : Placed) (op : Operation) (n : ℕ) (f : Frame) (st : HasInstruction s.method.code i) (at : s.frames i.place ≡ Some f) (names : operation s i ≡ Ok op) (some : operands_of s.world (Ok op) ≡ Some n) where
     k : IsReachedRun new apart s l (ready s l dw sv plan) r (record-for s) asks res plan.code i f
     k = run-of new apart s l (ready s l dw sv plan) r (record-for s) asks res plan.code i f st at
 

@@ -33,7 +33,7 @@ use Rattle.jc_rules.specs.declared.effect.Cells.TheVariants as given
 use Rattle.jc_rules.specs.declared.effect.Mode.TheVariants.{Flow}
 use Rattle.jc_rules.specs.declared.effect.Store.{Store}
 use Rattle.jc_rules.specs.declared.rule.Outcome.{Outcome}
-use Rattle.jc_rules.specs.Demand.{AllHold}
+use Rattle.jc_rules.specs.Demand.{SatisfiesAll}
 use Rattle.jc_rules.specs.Effect.{changed, listed, Stores}
 use Rattle.jc_rules.specs.Flow.{IsNotFresh}
 use Rattle.jc_rules.specs.FlowLaws.{AreRules}
@@ -239,7 +239,7 @@ module _ (new : ℕ → ℕ) (apart : (a b : ℕ) → new a ≡ new b → a ≡ 
   applies-named m place limit op regs st stored after o sound res kept a =
       let n = renames m place op sound res kept regs st in
       applies-by w limit (named_op new apart op) (record { regs = regs; stack = map (named new apart) st }) (record { regs = stored; stack = map (named new apart) after })
-      (subst (AllHold w.classes (record { regs = regs; stack = map (named new apart) st })) (sym n.asks) (all-named new apart w.classes rules.types regs st (demands w op) n.steady a.asked))
+      (subst (SatisfiesAll w.classes (record { regs = regs; stack = map (named new apart) st })) (sym n.asks) (all-named new apart w.classes rules.types regs st (demands w op) n.steady a.asked))
       (subst (λ (e : Store). Stores w.classes Flow e regs stored) (sym n.store) a.regs)
       (ap (map (named new apart)) a.stack ∙ sym n.change)
       (omega (arith, length-map after (named new apart), a.room))

@@ -14,7 +14,7 @@ use Rattle.jc_decode.proofs.Ranges.{op-fits}
 use Rattle.jc_ops.specs.declared.operation.Operation.{Operation}
 use Rattle.jc_ops.specs.Next.{falls_from, jumps_from}
 use Rattle.jc_control.specs.Control.{IsSuccessor, falls_through, jumped, IsReached, begins, follows, caught, led_to, entered}
-use Rattle.jc_control.specs.WellFormed.{Stands as IsListed, IsTargetPlace}
+use Rattle.jc_control.specs.WellFormed.{HasInstruction as IsListed, IsTargetPlace}
 use Rattle.jc_rules.specs.Demand.{Frame}
 use Rattle.jc_rules.specs.Flow.{FrameBelow, IsFollowed}
 use Rattle.xf_plan.specs.Source.{Source}

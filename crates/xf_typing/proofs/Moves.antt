@@ -19,7 +19,7 @@ use Rattle.jc_ops.specs.Resolve.{resolved}
 use Rattle.jc_ops.specs.Row.{row_at, table, unused, by_sort, by_width, by_kind, first_four, by_register, literals, binary, orders_all, branching}
 use Rattle.jc_rules.specs.declared.effect.Mode.TheVariants.{Flow}
 use Rattle.jc_rules.specs.declared.rule.Outcome.{Outcome}
-use Rattle.jc_rules.specs.Demand.{Frame, AllHold}
+use Rattle.jc_rules.specs.Demand.{Frame, SatisfiesAll}
 use Rattle.jc_rules.specs.Effect.{Stores, changed, reg, rises}
 use Rattle.jc_rules.specs.Rule.{demands, effect, wrote, or_null}
 use Rattle.jc_rules.specs.Apply.{OperationApplies}
@@ -48,7 +48,7 @@ get-inside [] x a e = absurd (cc)
 get-inside (y ∷ ys) zero a e = omega arith
 get-inside (y ∷ ys) (suc x) a e = omega (arith, get-inside ys x a e)
 
-get-reg : (xs : List Ty) (x : ℕ) (a : Ty) → slice_get xs x ≡ Some a → reg xs x ≡ a
+pub get-reg : (xs : List Ty) (x : ℕ) (a : Ty) → slice_get xs x ≡ Some a → reg xs x ≡ a
 get-reg [] x a e = absurd (cc)
 get-reg (y ∷ ys) zero a e = cc
 get-reg (y ∷ ys) (suc x) a e = get-reg ys x a e
@@ -58,7 +58,7 @@ get-reg (y ∷ ys) (suc x) a e = get-reg ys x a e
 -- what it does, where what it asks is met and there is room
 pub applies-by :
     (w : Linked) (limit : ℕ) (op : Operation) (before after : Frame)
-    → AllHold w.classes before (demands w op)
+    → SatisfiesAll w.classes before (demands w op)
     → Stores w.classes Flow (effect w op before).store before.regs after.regs
     → after.stack ≡ changed (effect w op before).change before.stack
     → length after.stack ≤ limit

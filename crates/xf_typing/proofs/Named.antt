@@ -19,6 +19,7 @@ use Rattle.jc_rules.specs.Demand.{Frame}
 use Rattle.xf_homes.specs.declared.home.Home.{Home}
 use Rattle.xf_homes.specs.Home.{register_count}
 use Rattle.xf_homes.specs.Walk.{has, same_home, operands_of}
+use Rattle.xf_homes.proofs.Rising.{each-append}
 use Rattle.xf_plan.specs.Source.{Source}
 use Rattle.xf_plan.specs.Plan.{local, needed, cells, is_leader, operation}
 use Rattle.xf_emission.specs.declared.origin.Origin.{Origin}
@@ -28,7 +29,7 @@ use Rattle.xf_emission.specs.Edge.{home_before, held, copy_new, copies_from, loc
 use Rattle.xf_emission.specs.Jump.{under, operands, is_over, spill_if, taken, place, lead, leads, first_label, jump_to, branch, goto, stub, stub_of, stub_label, stubs_of}
 use Rattle.xf_emission.specs.Group.{kept, loaded, increased, stored, stays, field_read, field_written, gone, first_place, body, fall, fall_over, fall_by, fallen, entered, done, group_by, group}
 use Rattle.xf_emission.specs.Emission.{stubs, stubs_at, stubs_by, stubs_done, is_live, caught, caught_from, items}
-use Rattle.xf_emission.proofs.Items.{each-append, each-if, each-flat}
+use Rattle.xf_emission.proofs.Items.{each-if, each-flat}
 use Rattle.xf_typing.proofs.Typings.{names}
 
 module _ (P : ℕ → Type 0) (s : Source) where

@@ -26,7 +26,7 @@ use Rattle.xf_typing.proofs.Walks.{count, count-append}
 
 -- ---- each body has an instruction
 
-right-some : (xs ys : List Item) → 0 < count ys → 0 < count (xs ++ ys)
+pub right-some : (xs ys : List Item) → 0 < count ys → 0 < count (xs ++ ys)
 right-some xs ys lt = omega (arith, lt, count-append xs ys)
 
 module _ (s : Source) (i : Placed) where

@@ -11,7 +11,8 @@ use Rattle.jc_decode.specs.declared.symbols.Item.TheVariants.{Plain, Branch, Swi
 use Rattle.jc_decode.specs.declared.symbols.Range.{Range}
 use Rattle.jc_decode.specs.Laws.{AreListed}
 use Rattle.jc_decode.specs.Symbols.{place_of}
-use Rattle.jc_control.specs.WellFormed.{IsPlace, IsBoundary, IsHandlerOf, Stands as IsListed}
+use Rattle.jc_decode.proofs.Elements.{Contains-slice_get}
+use Rattle.jc_control.specs.WellFormed.{IsPlace, IsBoundary, IsHandlerOf, HasInstruction as IsListed}
 use Rattle.jc_rules.specs.Demand.{Frame}
 use Rattle.xf_homes.proofs.Events.{among-right}
 use Rattle.xf_plan.specs.Source.{Source}
@@ -26,17 +27,12 @@ use Rattle.xf_emission.proofs.Live.{IsFirst, is-first}
 use Rattle.xf_emission.proofs.Rises.{Rises}
 use Rattle.xf_emission.proofs.Standing.{groups-stand}
 use Rattle.xf_emission.proofs.Stubs.{all-rise}
-use Rattle.xf_landed.proofs.Steps.{contains-at}
 use Rattle.xf_typing.proofs.Walks.{count}
-
-pub above : (low high l : ℕ) (xs : List ℕ) → Rises low high xs → IsAmong l xs → low ≤ l
-above low high l [] r a = absurd a
-above low high l (y ∷ ys) r (inl e) = omega (arith, r.0, e)
-above low high l (y ∷ ys) r (inr a) = omega (arith, r.0, above (suc y) high l ys r.2 a)
+use Rattle.xf_typing.proofs.Bridge.{among-above}
 
 pub rises-before : (low high a l : ℕ) (xs ys : List ℕ) → Rises low high (xs ++ a ∷ ys) → IsAmong l xs → l < a
 rises-before low high a l [] ys r c = absurd c
-rises-before low high a l (x ∷ xs) ys r (inl e) = omega (arith, e, above (suc x) high a (xs ++ a ∷ ys) r.2 (among-right a xs (a ∷ ys) (inl refl)))
+rises-before low high a l (x ∷ xs) ys r (inl e) = omega (arith, e, among-above (suc x) high a (xs ++ a ∷ ys) r.2 (among-right a xs (a ∷ ys) (inl refl)))
 rises-before low high a l (x ∷ xs) ys r (inr c) = rises-before (suc x) high a l xs ys r.2 c
 
 is-equal : (m a : ℕ) → (m == a) ≡ true → m ≡ a
@@ -142,4 +138,4 @@ module _ (s : Source) where
           by false live rest = rest
 
       pub handlers-are : (j : ℕ) (h : Handler) → slice_get s.method.rec.handlers j ≡ Some h → IsHandlerOf s.method.code h
-      handlers-are j h e = All-contains (IsHandlerOf s.method.code) s.method.rec.handlers h has.formed.handlers (contains-at s.method.rec.handlers j h e)
+      handlers-are j h e = All-contains (IsHandlerOf s.method.code) s.method.rec.handlers h has.formed.handlers (Contains-slice_get s.method.rec.handlers j h e)

@@ -10,7 +10,7 @@ use Rattle.jc_decode.specs.declared.symbols.Item.{Item}
 use Rattle.jc_decode.specs.declared.symbols.Range.{Range}
 use Rattle.jc_decode.specs.Laws.{AreListed}
 use Rattle.jc_decode.specs.Listing.{listing, targets}
-use Rattle.jc_control.specs.WellFormed.{Stands as IsListed}
+use Rattle.jc_control.specs.WellFormed.{HasInstruction as IsListed}
 use Rattle.jc_ops.specs.declared.fault.RuleFault.{RuleFault}
 use Rattle.jc_ops.specs.declared.operation.Operation.{Operation}
 use Rattle.jc_rules.specs.Demand.{Frame}

@@ -6,6 +6,7 @@ use Rattle.jc_base.specs.Each.{Each, IsAmong}
 use Rattle.jc_base.specs.Linked.{IsHandler, list_at}
 use Rattle.jc_base.specs.declared.record.Handler.{Handler}
 use Rattle.jc_decode.specs.declared.symbols.Range.{Range}
+use Rattle.jc_decode.proofs.Elements.{Contains-slice_get}
 use Rattle.jc_control.specs.Method.{IsMethodOf}
 use Rattle.jc_rules.specs.FlowLaws.{AreRules}
 use Rattle.jc_flow.proofs.Derived.{of_world}
@@ -17,18 +18,17 @@ use Rattle.xf_emission.proofs.Labels.{labels}
 use Rattle.xf_emission.proofs.Once.{named-among}
 use Rattle.xf_landed.specs.Laid.{class_by}
 use Rattle.xf_landed.specs.Laws.{CatchesByPool}
-use Rattle.xf_landed.proofs.Steps.{contains-at}
 use Rattle.xf_typing.proofs.Walks.{catching}
 use Rattle.xf_typing.proofs.Asking.{asks_of, caught_by, at-handler}
 
 module _ (s : Source) (rules : AreRules s.world) (mo : IsMethodOf s.world s.method) (by_pool : CatchesByPool) where
   handler-is : (n : ℕ) (h : Handler) → slice_get s.method.rec.handlers n ≡ Some h → IsHandler s.world.classes (list_at s.world.pools s.method.rec.package) s.method.rec.code_len h
   handler-is n h e =
-      All-contains (IsHandler s.world.classes (list_at s.world.pools s.method.rec.package) s.method.rec.code_len) s.method.rec.handlers h (of_world s.world rules s.method mo).handlers (contains-at s.method.rec.handlers n h e)
+      All-contains (IsHandler s.world.classes (list_at s.world.pools s.method.rec.package) s.method.rec.code_len) s.method.rec.handlers h (of_world s.world rules s.method mo).handlers (Contains-slice_get s.method.rec.handlers n h e)
 
   class-is : (n : ℕ) (h : Handler) → slice_get s.method.rec.handlers n ≡ Some h → class_by s.method.rec.handlers h.index ≡ h.class
   class-is n h e =
-      by_pool s.world.classes (list_at s.world.pools s.method.rec.package) s.method.rec.code_len s.method.rec.handlers h h.class (of_world s.world rules s.method mo).handlers (contains-at s.method.rec.handlers n h e) (handler-is n h e).catches
+      by_pool s.world.classes (list_at s.world.pools s.method.rec.package) s.method.rec.code_len s.method.rec.handlers h h.class (of_world s.world rules s.method mo).handlers (Contains-slice_get s.method.rec.handlers n h e) (handler-is n h e).catches
 
   abbrev pub IsCaught : Range → Type 0
   IsCaught q = IsAmong q.entry (labels (items s)) × (asks_of s q.entry ≡ catching (class_by s.method.rec.handlers q.pool)) × IsClass s.world.classes (class_by s.method.rec.handlers q.pool)

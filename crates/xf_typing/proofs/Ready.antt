@@ -10,6 +10,7 @@ use Rattle.jc_base.specs.declared.record.Handler.{Handler}
 use Rattle.jc_base.specs.declared.record.MethodRec.{MethodRec}
 use Rattle.jc_base.specs.declared.ty.Ty.{Ty}
 use Rattle.jc_base.specs.declared.ty.Ty.TheVariants.{Bottom, IntHigh, IntLow, Fresh, Top}
+use Rattle.jc_base.proofs.Lists.{All-slice_get}
 use Rattle.jc_control.specs.Control.{IsReached, IsLeader}
 use Rattle.jc_control.specs.Flags.{Marks}
 use Rattle.jc_rules.specs.Demand.{Frame}
@@ -26,7 +27,7 @@ use Rattle.xf_homes.proofs.Events.{homes-equal}
 use Rattle.xf_plan.specs.Source.{Source}
 use Rattle.xf_plan.specs.Plan.{needed, or_first}
 use Rattle.xf_emission.specs.Laws.{HasFrames}
-use Rattle.xf_typing.specs.Typed.{cells_of, registers_of}
+use Rattle.xf_typing.specs.Typed.{cells_of_value, registers_of}
 use Rattle.xf_typing.specs.Whole.{IsWholeFrame}
 use Rattle.xf_typing.proofs.Walks.{Asked}
 use Rattle.xf_typing.proofs.Moves.{Holds, IsPlainValue}
@@ -42,14 +43,14 @@ pub record IsReady (s : Source) : Type 0 where
 
 -- ---- the registers of homes
 
-first-cell : (t : Ty) (rest : List Ty) → slice_get (cells_of t ++ rest) 0 ≡ Some t
+first-cell : (t : Ty) (rest : List Ty) → slice_get (cells_of_value t ++ rest) 0 ≡ Some t
 first-cell IntHigh rest = refl
 first-cell t rest = refl
 
-second-cell : (t : Ty) (rest : List Ty) → t ≡ IntHigh → slice_get (cells_of t ++ rest) 1 ≡ Some IntLow
-second-cell t rest e = ap (λ (u : Ty). slice_get (cells_of u ++ rest) 1) e
+second-cell : (t : Ty) (rest : List Ty) → t ≡ IntHigh → slice_get (cells_of_value t ++ rest) 1 ≡ Some IntLow
+second-cell t rest e = ap (λ (u : Ty). slice_get (cells_of_value u ++ rest) 1) e
 
-past-cells : (t : Ty) (rest : List Ty) (k : ℕ) → slice_get (cells_of t ++ rest) (width t + k) ≡ slice_get rest k
+past-cells : (t : Ty) (rest : List Ty) (k : ℕ) → slice_get (cells_of_value t ++ rest) (width t + k) ≡ slice_get rest k
 past-cells IntHigh rest k = let e : 2 + k ≡ suc (suc k) = omega arith in ap (slice_get (IntHigh ∷ IntLow ∷ rest)) e
 past-cells t rest k = other t rest k
   where
@@ -69,7 +70,7 @@ module _ (same_is : SameTypeDecides) where
   placed-at n (j ∷ js) h x e = by (same_home j h) refl e (λ f. placed-at (n + width j.ty) js h x f)
     where
       all : List Ty
-      all = cells_of j.ty ++ registers_of js
+      all = cells_of_value j.ty ++ registers_of js
 
       total : register_sum (j ∷ js) ≡ width j.ty + register_sum js
       total = sum_by-cons (λ (i : Home). width i.ty) j js
@@ -132,11 +133,6 @@ value-is cells x ty e = by (slice_get cells x) (slice_get cells (x + 1)) refl re
     by (Some Top) b here there e = absurd (cc)
     by (Some u) b here there e = is u b here there (cc) (λ q. absurd (cc)) (λ q. absurd (cc)) (λ q. absurd (cc))
 
-get-all : (P : Ty → Type 0) (cells : List Ty) (x : ℕ) (ty : Ty) → All P cells → slice_get cells x ≡ Some ty → P ty
-get-all P [] x ty all e = absurd (cc)
-get-all P (c ∷ cs) zero ty all e = let own : c ≡ ty = cc in subst P own (all 0 c (omega arith))
-get-all P (c ∷ cs) (suc x) ty all e = get-all P cs x ty (λ k d lt. all (suc k) d (omega (arith, lt))) e
-
 plain-value : (ty : Ty) → IsNotBottom ty → IsNotFresh ty → ty ≢ IntLow → ty ≢ Top → IsPlainValue ty
 plain-value Bottom b f l t = absurd b
 plain-value IntLow b f l t = absurd (l refl)
@@ -148,7 +144,7 @@ plain-value ty b f l t = tt
 pub value-plain : (t : ClassTable) (cells : List Ty) (x : ℕ) (ty : Ty) → value_at cells x ≡ Some ty → All (IsKnown t) cells → All IsNotBottom cells → All IsNotFresh cells → IsPlainValue ty × IsKnown t ty
 value-plain t cells x ty e known full ready =
     let v = value-is cells x ty e in
-    (plain-value ty (get-all IsNotBottom cells x ty full v.first) (get-all IsNotFresh cells x ty ready v.first) v.no_low v.no_top, get-all (IsKnown t) cells x ty known v.first)
+    (plain-value ty (All-slice_get IsNotBottom cells x ty full v.first) (All-slice_get IsNotFresh cells x ty ready v.first) v.no_low v.no_top, All-slice_get (IsKnown t) cells x ty known v.first)
 
 pub cells-at : (t : ClassTable) (xs ys : List Ty) (x : ℕ) (a b : Ty) → CellsBelow t xs ys → slice_get xs x ≡ Some a → slice_get ys x ≡ Some b → Below t a b
 cells-at t _ _ x a b no_cells e f = absurd (cc)

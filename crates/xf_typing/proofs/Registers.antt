@@ -33,12 +33,12 @@ use Rattle.jc_flow.proofs.Derived.{of_world}
 use Rattle.xf_homes.specs.declared.home.Home.{Home}
 use Rattle.xf_homes.specs.Home.{argument_types, IsConditional, KeepsStack, Spot, IsMet, met_local, met_cell}
 use Rattle.xf_homes.specs.Laws.{NeededAreKept}
-use Rattle.xf_homes.specs.Order.{AreHomes, StandFrom, register_sum}
+use Rattle.xf_homes.specs.Order.{AreHomes, SlotsFollow, register_sum}
 use Rattle.xf_homes.specs.Value.{value_at, width}
 use Rattle.xf_homes.proofs.Events.{among-either}
 use Rattle.xf_plan.specs.Source.{Source}
 use Rattle.xf_emission.specs.Laws.{IsCode}
-use Rattle.xf_typing.specs.Typed.{cells_of, registers_of}
+use Rattle.xf_typing.specs.Typed.{cells_of_value, registers_of}
 use Rattle.xf_typing.specs.Whole.{IsWholeFrame, DerivedAreWhole}
 use Rattle.xf_typing.proofs.Walks.{Asked}
 use Rattle.xf_typing.proofs.Moves.{IsPlainValue}
@@ -97,7 +97,7 @@ drop-at [] n a e = absurd (cc)
 drop-at (x ∷ xs) zero a e = let own : x ≡ a = cc in ap (λ (y : Ty). y ∷ xs) own
 drop-at (x ∷ xs) (suc n) a e = drop-at xs n a e
 
-value-cells : (types : List Ty) (n : ℕ) (ty : Ty) → IsValueAt types n ty → drop n types ≡ cells_of ty ++ drop (n + width ty) types
+value-cells : (types : List Ty) (n : ℕ) (ty : Ty) → IsValueAt types n ty → drop n types ≡ cells_of_value ty ++ drop (n + width ty) types
 value-cells types n IntHigh is =
     let first = drop-at types n IntHigh is.first in
     let next : suc n ≡ n + 1 = omega arith in
@@ -109,20 +109,20 @@ value-cells types n ty is = other ty is.first
     other : (u : Ty) → slice_get types n ≡ Some u → drop n types ≡ u ∷ drop (n + 1) types
     other u e = let next : suc n ≡ n + 1 = omega arith in drop-at types n u e ∙ ap (λ (k : ℕ). u ∷ drop k types) next
 
-registers-are : (types : List Ty) (n : ℕ) (hs : List Home) → StandFrom n hs → ((h : Home) → IsAmong h hs → value_at types h.slot ≡ Some h.ty) → n + register_sum hs ≡ length types → registers_of hs ≡ drop n types
+registers-are : (types : List Ty) (n : ℕ) (hs : List Home) → SlotsFollow n hs → ((h : Home) → IsAmong h hs → value_at types h.slot ≡ Some h.ty) → n + register_sum hs ≡ length types → registers_of hs ≡ drop n types
 unfolding register_sum
 registers-are types n [] st is e = let here : n ≡ length types = omega (arith, e) in sym (ap (λ (k : ℕ). drop k types) here ∙ drop-all types)
 registers-are types n (h ∷ hs) st is e =
     let v : value_at types n ≡ Some h.ty = ap (value_at types) (sym st.0) ∙ is h (inl refl) in
     let total : register_sum (h ∷ hs) ≡ width h.ty + register_sum hs = sum_by-cons (λ (i : Home). width i.ty) h hs in
     let rest = registers-are types (n + width h.ty) hs st.1 (λ k a. is k (inr a)) (omega (arith, e, total)) in
-    ap (λ (ts : List Ty). cells_of h.ty ++ ts) rest ∙ sym (value-cells types n h.ty (value-is types n h.ty v))
+    ap (λ (ts : List Ty). cells_of_value h.ty ++ ts) rest ∙ sym (value-cells types n h.ty (value-is types n h.ty v))
 
 registers-append : (hs ks : List Home) → registers_of (hs ++ ks) ≡ registers_of hs ++ registers_of ks
 registers-append [] ks = refl
-registers-append (h ∷ hs) ks = ap (λ (ts : List Ty). cells_of h.ty ++ ts) (registers-append hs ks) ∙ sym (append_assoc (cells_of h.ty) (registers_of hs) (registers_of ks))
+registers-append (h ∷ hs) ks = ap (λ (ts : List Ty). cells_of_value h.ty ++ ts) (registers-append hs ks) ∙ sym (append_assoc (cells_of_value h.ty) (registers_of hs) (registers_of ks))
 
-cells-width : (ty : Ty) → length (cells_of ty) ≡ width ty
+cells-width : (ty : Ty) → length (cells_of_value ty) ≡ width ty
 cells-width IntHigh = refl
 cells-width ty = refl
 
@@ -130,7 +130,7 @@ pub registers-length : (hs : List Home) → length (registers_of hs) ≡ registe
 unfolding register_sum
 registers-length [] = refl
 registers-length (h ∷ hs) =
-    length-append (cells_of h.ty) (registers_of hs) ∙ omega (arith, cells-width h.ty, registers-length hs, sum_by-cons (λ (i : Home). width i.ty) h hs)
+    length-append (cells_of_value h.ty) (registers_of hs) ∙ omega (arith, cells-width h.ty, registers-length hs, sum_by-cons (λ (i : Home). width i.ty) h hs)
 
 sum-append : (hs ks : List Home) → register_sum (hs ++ ks) ≡ register_sum hs + register_sum ks
 unfolding register_sum
@@ -143,7 +143,7 @@ bottom-below t [] (suc n) e = absurd (omega (arith, e))
 bottom-below t (a ∷ ts) zero e = absurd (omega (arith, e))
 bottom-below t (a ∷ ts) (suc n) e = more_cells nothing (bottom-below t ts n (omega (arith, e)))
 
-both-below : (t : ClassTable) {xs us : List Ty} (ys vs : List Ty) → CellsBelow t xs us → CellsBelow t ys vs → CellsBelow t (xs ++ ys) (us ++ vs)
+pub both-below : (t : ClassTable) {xs us : List Ty} (ys vs : List Ty) → CellsBelow t xs us → CellsBelow t ys vs → CellsBelow t (xs ++ ys) (us ++ vs)
 both-below t ys vs no_cells le = le
 both-below t ys vs (more_cells p ps) le = more_cells p (both-below t ys vs ps le)
 
@@ -151,11 +151,11 @@ all-registers : (P : Ty → Type 0) (hs : List Home) → ((h : Home) → IsAmong
 all-registers P [] h low = all_none P
 all-registers P (k ∷ ks) h low = by k.ty (h k (inl refl)) (all-registers P ks (λ j a. h j (inr a)) low)
   where
-    by : (ty : Ty) → P ty → All P (registers_of ks) → All P (cells_of ty ++ registers_of ks)
+    by : (ty : Ty) → P ty → All P (registers_of ks) → All P (cells_of_value ty ++ registers_of ks)
     by IntHigh p all = all_more P IntHigh (IntLow ∷ registers_of ks) p (all_more P IntLow (registers_of ks) low all)
     by ty p all = all_more P ty (registers_of ks) p all
 
-all-left : (P : Ty → Type 0) (xs ys : List Ty) → All P (xs ++ ys) → All P xs
+pub all-left : (P : Ty → Type 0) (xs ys : List Ty) → All P (xs ++ ys) → All P xs
 all-left P [] ys all = all_none P
 all-left P (x ∷ xs) ys all = all_more P x xs (all_first P x (xs ++ ys) all) (all-left P xs ys (all_rest P x (xs ++ ys) all))
 

@@ -22,7 +22,7 @@ use Rattle.jc_rules.specs.declared.demand.Demand.TheVariants.{Registers, Depth, 
 use Rattle.jc_rules.specs.declared.effect.Cells.{Cells}
 use Rattle.jc_rules.specs.declared.effect.Cells.TheVariants as given
 use Rattle.jc_rules.specs.declared.effect.Change.TheVariants.{Replace, CopyUnder, Exchange}
-use Rattle.jc_rules.specs.Demand.{Holds, AllHold, Meets, IsHalf}
+use Rattle.jc_rules.specs.Demand.{Satisfies, SatisfiesAll, Meets, IsHalf}
 use Rattle.jc_rules.specs.Effect.{changed, listed, ready}
 use Rattle.jc_rules.specs.Flow.{IsNotFresh}
 use Rattle.jc_rules.specs.Rule.{cell, value_given, number_given, result_given, ready_with, call_change, element}
@@ -85,7 +85,7 @@ module _ (new : ℕ → ℕ) (apart : (a b : ℕ) → new a ≡ new b → a ≡ 
     half-at None half h e = absurd (cc)
     half-at (Some found) half h e = let own : named found ≡ half = cc in ap Some (half-named found half h own)
 
-    hold-named : (regs st : List Ty) (d : Demand) → IsSteady d → Holds t (record { regs = regs; stack = st }) d → Holds t (record { regs = regs; stack = map named st }) d
+    hold-named : (regs st : List Ty) (d : Demand) → IsSteady d → Satisfies t (record { regs = regs; stack = st }) d → Satisfies t (record { regs = regs; stack = map named st }) d
     hold-named regs st (Registers x n) s h = h
     hold-named regs st (Depth n) s h = omega (arith, h, length-map st named)
     hold-named regs st (Cell n want) s h = subst (λ (o : Option Ty). IsSomeAnd o (Meets t want)) (sym (slice_get-map named st n)) (by (slice_get st n) h)
@@ -96,7 +96,7 @@ module _ (new : ℕ → ℕ) (apart : (a b : ℕ) → new a ≡ new b → a ≡ 
     hold-named regs st (Cut n) s h = λ split. h (half-at (slice_get st (n - 1)) IntLow tt (sym (slice_get-map named st (n - 1)) ∙ split.0), half-at (slice_get st n) IntHigh tt (sym (slice_get-map named st n) ∙ split.1))
     hold-named regs st (Held x ty) s h = h
 
-    pub all-named : (regs st : List Ty) (ds : List Demand) → Each IsSteady ds → AllHold t (record { regs = regs; stack = st }) ds → AllHold t (record { regs = regs; stack = map named st }) ds
+    pub all-named : (regs st : List Ty) (ds : List Demand) → Each IsSteady ds → SatisfiesAll t (record { regs = regs; stack = st }) ds → SatisfiesAll t (record { regs = regs; stack = map named st }) ds
     all-named regs st [] s h = tt
     all-named regs st (d ∷ ds) s h = (hold-named regs st d s.0 h.0, all-named regs st ds s.1 h.1)
 

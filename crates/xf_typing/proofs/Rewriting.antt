@@ -1,5 +1,5 @@
 -- All items of a rewritten method, from the empty stack at its start.
-use Rattle.std.proofs.Common.{◌≡◌, ℕ, zero, suc, ◌+◌, Bool, true, false, if◌then◌else◌, List, [], ◌∷◌, length, flat_map, slice_get, All, Contains, Option, Some, None, Result, Ok, IfSome, refl, sym, ◌∙◌, ap, subst, arith}
+use Rattle.std.proofs.Common.{◌≡◌, ℕ, suc, ◌+◌, Bool, true, false, if◌then◌else◌, List, [], ◌∷◌, length, flat_map, slice_get, All, Contains, Option, Some, None, Result, Ok, IfSome, refl, sym, ◌∙◌, ap, subst, arith}
 use Rattle.std.specs.Prelude.{ℤ, pos, negsuc, is_some}
 use Rattle.std.proofs.lemmas.List.Elements.{All-contains}
 use Rattle.jc_base.specs.Cell.{IsDeclared}
@@ -9,12 +9,13 @@ use Rattle.jc_base.specs.declared.record.MethodRec.{MethodRec}
 use Rattle.jc_base.specs.declared.ty.Ty.TheVariants.{Top}
 use Rattle.jc_decode.specs.declared.insn.Placed.{Placed}
 use Rattle.jc_decode.specs.Listing.{listing, targets}
+use Rattle.jc_decode.proofs.Elements.{Contains-slice_get}
 use Rattle.jc_ops.specs.declared.fault.RuleFault.{RuleFault}
 use Rattle.jc_ops.specs.declared.operation.Branch.TheVariants as branches
 use Rattle.jc_ops.specs.declared.operation.Operation.{Operation}
 use Rattle.jc_ops.specs.declared.operation.Operation.TheVariants as ops
 use Rattle.jc_control.specs.Control.{jumped, led_to, entered}
-use Rattle.jc_control.specs.WellFormed.{Stands as IsListed, IsTargetPlace, IsHandlerOf}
+use Rattle.jc_control.specs.WellFormed.{HasInstruction as IsListed, IsTargetPlace, IsHandlerOf}
 use Rattle.jc_rules.specs.Demand.{Frame}
 use Rattle.jc_rules.specs.Flow.{FrameBelow, At, IsNotFresh, start_frame, caught_frame}
 use Rattle.jc_rules.specs.Laws.{IsNotBottom}
@@ -38,11 +39,6 @@ use Rattle.xf_typing.proofs.Running.{AreLaws, IsRecordFor}
 use Rattle.xf_typing.proofs.Leading.{Arrives, emptied_there, falls_there}
 use Rattle.xf_typing.proofs.Edges.{stub-flows, caught-flows}
 use Rattle.xf_typing.proofs.Listings.{IsReachedRun, run-of, IsBefore, Numbered, groups-flow}
-
-contains-at : {X : Type 0} (xs : List X) (k : ℕ) (x : X) → slice_get xs k ≡ Some x → Contains xs x
-contains-at [] k x e = absurd (cc)
-contains-at (y ∷ ys) zero x e = let own : y ≡ x = cc in (0, omega arith, own)
-contains-at (y ∷ ys) (suc k) x e = let r = contains-at ys k x e in (suc r.0, omega (arith, r.1), r.2)
 
 module _ (new : ℕ → ℕ) (apart : (a b : ℕ) → new a ≡ new b → a ≡ b) (s : Source) (l : AreLaws s.world) (ready : IsReady s) (r : MethodRec) (own_rec : IsRecordFor s.method.rec r) (asks : ℕ → Asked) (res : IfSome s.method.rec.sig.result (IsDeclared s.world.classes)) (code : IsCode s) where
   -- what the labels of the method ask
@@ -82,7 +78,7 @@ module _ (new : ℕ → ℕ) (apart : (a b : ℕ) → new a ≡ new b → a ≡ 
 
   module _ (wanted : AreWanted) where
     target-is : (i : Placed) (k : ℕ) (t : ℤ) → IsListed s.method.code i → slice_get (targets s.method.code i) k ≡ Some t → t ≡ pos (place t)
-    target-is i k t st e = by t (All-contains (IsTargetPlace s.method.code) (targets s.method.code i) t (ready.has.formed.targets i st) (contains-at (targets s.method.code i) k t e))
+    target-is i k t st e = by t (All-contains (IsTargetPlace s.method.code) (targets s.method.code i) t (ready.has.formed.targets i st) (Contains-slice_get (targets s.method.code i) k t e))
       where
         by : (u : ℤ) → IsTargetPlace s.method.code u → u ≡ pos (place u)
         by (pos q) h = refl
@@ -96,7 +92,7 @@ module _ (new : ℕ → ℕ) (apart : (a b : ℕ) → new a ≡ new b → a ≡ 
         let same_m : m + 0 ≡ m = omega arith in
         let here : slice_get (targets s.method.code i) m ≡ Some t = ap (slice_get (targets s.method.code i)) (sym same_m) ∙ inside 0 t refl in
         let own = target-is i m t st here in
-        let c : Contains (targets s.method.code i) (pos (place t)) = subst (Contains (targets s.method.code i)) own (contains-at (targets s.method.code i) m t here) in
+        let c : Contains (targets s.method.code i) (pos (place t)) = subst (Contains (targets s.method.code i)) own (Contains-slice_get (targets s.method.code i) m t here) in
         let g = k.below (place t) (jumped c) in
         let lead = (ready.marks (place t)).1 (led_to {i = i} st (reached l.same_is l.needed s l.objects l.rules ready r asks i.place f e) c) in
         flows-append s.world r (registers_of s.homes) asks
@@ -132,7 +128,7 @@ module _ (new : ℕ → ℕ) (apart : (a b : ℕ) → new a ≡ new b → a ≡ 
 
     caught-at : (n at : ℕ) (h : Handler) → slice_get s.method.rec.handlers n ≡ Some h → is_live s h ≡ true → Flows s.world r (registers_of s.homes) asks at left (caught s n h) left
     caught-at n at h e live =
-        let c = contains-at s.method.rec.handlers n h e in
+        let c = Contains-slice_get s.method.rec.handlers n h e in
         let is = live-is s (l.rules.listed s.method.code) ready.has h (All-contains (IsHandlerOf s.method.code) s.method.rec.handlers h ready.has.formed.handlers c) c live in
         let f = framed l.same_is l.needed s l.objects l.rules ready r asks (s.frames is.place) (λ (f : Frame). At s.frames h.entry (FrameBelow s.world.classes (caught_frame h f))) (ready.typing.handlers is.place h is.reached is.listed is.covers) in
         let g = framed l.same_is l.needed s l.objects l.rules ready r asks (s.frames h.entry) (FrameBelow s.world.classes (caught_frame h f.0)) f.2 in

@@ -25,7 +25,7 @@ use Rattle.jc_ops.specs.Resolve.{resolved, on, instance_field, short_of}
 use Rattle.jc_ops.specs.Row.{row_at, table, unused, by_sort, by_width, by_kind, first_four, by_register, literals, binary, orders_all, branching}
 use Rattle.xf_emission.specs.Move.{with_byte}
 use Rattle.xf_emission.proofs.RowByRow as kind
-use Rattle.xf_emission.proofs.RowByRow.{kind_at, kinds, op_kind, kind-of}
+use Rattle.xf_emission.proofs.RowByRow.{kind_at, kinds, op_kind, kind-of, ok-same}
 
 -- ---- the opcodes of a kind
 
@@ -87,9 +87,6 @@ when false x e f = absurd (cc)
 
 byte-small : (x : ℕ) → x < 256 → x % 256 ≡ x
 byte-small x lt = omega (arith, lt)
-
-ok-same : (a b : Operation) → ◌≡◌ {A = Result Operation RuleFault} (Ok a) (Ok b) → a ≡ b
-ok-same a b e = cc
 
 at-register : ℕ → Operation → Operation
 at-register k (ops.Increment width x amount) = ops.Increment width k amount

@@ -1,5 +1,5 @@
 -- An instruction that control reaches, in rewritten code: from a stack below that of its frame, to one below that of what it leaves.
-use Rattle.std.proofs.Common.{◌≡◌, ℕ, zero, suc, ◌+◌, ◌<◌, ◌≤◌, Bool, true, false, if◌then◌else◌, List, [], ◌∷◌, ◌++◌, length, map, slice_get, All, Option, Some, None, Ok, IsSomeAnd, IfSome, refl, sym, ◌∙◌, ap, subst, arith}
+use Rattle.std.proofs.Common.{◌≡◌, ℕ, ◌+◌, ◌<◌, ◌≤◌, Bool, true, false, if◌then◌else◌, List, [], ◌∷◌, ◌++◌, length, map, slice_get, All, Option, Some, None, Ok, IsSomeAnd, IfSome, refl, sym, ◌∙◌, ap, subst, arith}
 use Rattle.std.proofs.lemmas.List.{length-map, map-append}
 use Rattle.std.proofs.lemmas.List.Elements.{All-append}
 use Rattle.jc_base.specs.Cell.{IsDeclared, IsNoHalf}
@@ -10,6 +10,7 @@ use Rattle.jc_base.specs.declared.record.MethodRec.{MethodRec}
 use Rattle.jc_base.specs.declared.ty.Ty.{Ty}
 use Rattle.jc_base.specs.declared.ty.Ty.TheVariants.{Bottom, Short, IntHigh, IntLow, Null, Class, ArrBool, ArrByte, ArrShort, ArrInt, ArrRef, Fresh, Top}
 use Rattle.jc_base.specs.World.{Linked}
+use Rattle.jc_base.proofs.Lists.{All-slice_get}
 use Rattle.jc_decode.specs.declared.insn.Placed.{Placed}
 use Rattle.jc_decode.specs.declared.symbols.Item.{Item}
 use Rattle.jc_decode.specs.Listing.{jumps}
@@ -22,12 +23,11 @@ use Rattle.jc_ops.specs.Next.{OperationsGoAlike, falls_from, jumps_from}
 use Rattle.jc_ops.specs.Resolve.{resolved}
 use Rattle.jc_ops.specs.Row.{row_at}
 use Rattle.jc_ops.specs.Sound.{IsSound, OperationsAreSound}
-use Rattle.jc_control.specs.WellFormed.{Stands as IsListed}
+use Rattle.jc_control.specs.WellFormed.{HasInstruction as IsListed}
 use Rattle.jc_rules.specs.declared.effect.Mode.TheVariants.{Flow}
 use Rattle.jc_rules.specs.declared.rule.Outcome.{Outcome}
 use Rattle.jc_rules.specs.Apply.{OperationApplies}
 use Rattle.jc_rules.specs.Demand.{Frame}
-use Rattle.jc_rules.specs.Effect.{reg}
 use Rattle.jc_rules.specs.Flow.{CellsBelow, more_cells, IsFit, IsNotFresh, IsNotTop}
 use Rattle.jc_rules.specs.FlowLaws.{AreRules}
 use Rattle.jc_rules.specs.Footprint.{OperationNamesNone}
@@ -45,12 +45,13 @@ use Rattle.xf_emission.specs.Move.{load}
 use Rattle.xf_emission.specs.Group.{body, kept, loaded}
 use Rattle.xf_typing.specs.Typed.{registers_of}
 use Rattle.xf_typing.proofs.Walks.{holding, left, Asked, Flows, flow_plain, flow_end}
-use Rattle.xf_typing.proofs.Moves.{IsPlainValue, cells_on, load-turn}
+use Rattle.xf_typing.proofs.Moves.{IsPlainValue, cells_on, load-turn, get-reg}
 use Rattle.xf_typing.proofs.Ready.{IsReady, value-plain, local-stands}
 use Rattle.xf_typing.proofs.Renames.{named, named_op}
 use Rattle.xf_typing.proofs.Kept.{IsKeptOperation}
 use Rattle.xf_typing.proofs.Turns.{NamesNone, IsLesser, kept-done, kept-resolves}
 use Rattle.xf_typing.proofs.Carried.{is-short, is-high, is-low}
+use Rattle.xf_typing.proofs.Stacks.{one-value}
 
 -- the laws of worlds and of rules that a card typing of rewritten code rests on
 pub record AreLaws (w : Linked) : Type 0 where
@@ -85,12 +86,6 @@ pub record IsRun (s : Source) (i : Placed) (op : Operation) (f after : Frame) : 
   pub fit : IsFit s.method f
 
 -- ---- values of one cell
-
-one-value : (a : Ty) (next : Option Ty) → IsNoHalf a → IsNotTop a → value_of (Some a) next ≡ Some a
-one-value IntHigh next h n = absurd h
-one-value IntLow next h n = absurd h
-one-value Top next h n = absurd n
-one-value a next h n = refl
 
 pub value-one : (cells : List Ty) (x : ℕ) (a : Ty) → slice_get cells x ≡ Some a → IsNoHalf a → IsNotTop a → value_at cells x ≡ Some a
 unfolding value_at
@@ -128,11 +123,6 @@ module _ (t : ClassTable) (types : IsOrderOfTypes t) where
   pub is-reference : (a : Ty) (c : ℕ) → Below t a (Class c) → IsNotBottom a → IsReferenceIn a
   is-reference a c le n = reference-in a c ((types.decided a (Class c)).1 le) n
 
-pub get-in : (P : Ty → Type 0) (cells : List Ty) (x : ℕ) (ty : Ty) → All P cells → slice_get cells x ≡ Some ty → P ty
-get-in P [] x ty all e = absurd (cc)
-get-in P (c ∷ cs) zero ty all e = let own : c ≡ ty = cc in subst P own (all 0 c (omega arith))
-get-in P (c ∷ cs) (suc x) ty all e = get-in P cs x ty (λ k d lt. all (suc k) d (omega (arith, lt))) e
-
 -- a register that is held below a type
 pub record IsFoundBelow (t : ClassTable) (cells : List Ty) (x : ℕ) (b : Ty) : Type 0 where
   pub ty : Ty
@@ -146,11 +136,6 @@ found-below t cells x b h = by (slice_get cells x) refl h
     by None e h = absurd h
     by (Some a) e h = record { ty = a; at = e; below = h }
 
-get-reg : (xs : List Ty) (x : ℕ) (a : Ty) → slice_get xs x ≡ Some a → reg xs x ≡ a
-get-reg [] x a e = absurd (cc)
-get-reg (y ∷ ys) zero a e = cc
-get-reg (y ∷ ys) (suc x) a e = get-reg ys x a e
-
 -- ---- loads
 
 -- the value that a load reads, and what it leaves
@@ -162,7 +147,7 @@ pub record IsLoaded (f after : Frame) (x : ℕ) : Type 0 where
 load-is : (w : Linked) (types : IsOrderOfTypes w.classes) (limit : ℕ) (letter : Sort) (x : ℕ) (f after : Frame) (o : Outcome) → All IsNotBottom f.regs → OperationApplies w limit (ops.Load letter x) Flow f after o → IsLoaded f after x
 load-is w types limit sorts.Reference x f after o full a =
     let k = found-below w.classes f.regs x (Class (object w.classes)) a.asked.1.0 in
-    let c = is-reference w.classes types k.ty (object w.classes) k.below (get-in IsNotBottom f.regs x k.ty full k.at) in
+    let c = is-reference w.classes types k.ty (object w.classes) k.below (All-slice_get IsNotBottom f.regs x k.ty full k.at) in
     record {
       ty = k.ty;
       value = value-one f.regs x k.ty k.at c.no_half c.no_top;
@@ -170,13 +155,13 @@ load-is w types limit sorts.Reference x f after o full a =
     }
 load-is w types limit sorts.Short x f after o full a =
     let k = found-below w.classes f.regs x Short a.asked.1.0 in
-    let own = is-short w.classes types k.ty k.below (get-in IsNotBottom f.regs x k.ty full k.at) in
+    let own = is-short w.classes types k.ty k.below (All-slice_get IsNotBottom f.regs x k.ty full k.at) in
     record { ty = Short; value = value-one f.regs x Short (k.at ∙ ap Some own) tt tt; stack = a.stack }
 load-is w types limit sorts.Int x f after o full a =
     let k = found-below w.classes f.regs x IntHigh a.asked.1.0 in
-    let own = is-high w.classes types k.ty k.below (get-in IsNotBottom f.regs x k.ty full k.at) in
+    let own = is-high w.classes types k.ty k.below (All-slice_get IsNotBottom f.regs x k.ty full k.at) in
     let j = found-below w.classes f.regs (x + 1) IntLow a.asked.1.1.0 in
-    let low = is-low w.classes types j.ty j.below (get-in IsNotBottom f.regs (x + 1) j.ty full j.at) in
+    let low = is-low w.classes types j.ty j.below (All-slice_get IsNotBottom f.regs (x + 1) j.ty full j.at) in
     record { ty = IntHigh; value = value-int f.regs x (k.at ∙ ap Some own) (j.at ∙ ap Some low); stack = a.stack }
 
 pub local-at : (s : Source) (p x : ℕ) (f : Frame) (ty : Ty) → s.frames p ≡ Some f → value_at f.regs x ≡ Some ty → home_of x (local_of (s.frames p) x) ≡ Some (record { slot = x; ty = ty })

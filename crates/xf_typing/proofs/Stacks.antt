@@ -33,7 +33,7 @@ tops-append : (hs ks : List Home) → tops (hs ++ ks) ≡ tops hs ++ tops ks
 tops-append [] ks = refl
 tops-append (h ∷ hs) ks = ap (λ ts. cells_on h.ty ++ ts) (tops-append hs ks) ∙ sym (append_assoc (cells_on h.ty) (tops hs) (tops ks))
 
-turned-cons : (h : Home) (hs : List Home) → reverse (h ∷ hs) ≡ reverse hs ++ h ∷ []
+pub turned-cons : (h : Home) (hs : List Home) → reverse (h ∷ hs) ≡ reverse hs ++ h ∷ []
 turned-cons h hs = reverse-append (h ∷ []) hs
 
 pub pushed-tops : (hs : List Home) (stack : List Ty) → pushed hs stack ≡ tops (reverse hs) ++ stack
@@ -102,7 +102,7 @@ abbrev pub turned : List Ty → List Ty → List Ty
 turned [] stack = stack
 turned (a ∷ rest) stack = turned rest (a ∷ stack)
 
-one-value : (a : Ty) (next : Option Ty) → IsNoHalf a → IsNotTop a → value_of (Some a) next ≡ Some a
+pub one-value : (a : Ty) (next : Option Ty) → IsNoHalf a → IsNotTop a → value_of (Some a) next ≡ Some a
 one-value IntHigh next h n = absurd h
 one-value IntLow next h n = absurd h
 one-value Top next h n = absurd n

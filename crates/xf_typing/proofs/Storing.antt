@@ -11,6 +11,7 @@ use Rattle.jc_base.specs.Order.{Below, same, joined, is_below, IsKnown}
 use Rattle.jc_base.specs.declared.record.MethodRec.{MethodRec}
 use Rattle.jc_base.specs.declared.ty.Ty.{Ty}
 use Rattle.jc_base.specs.declared.ty.Ty.TheVariants.{Short, IntHigh, IntLow, Class, Fresh, Top}
+use Rattle.jc_base.proofs.Lists.{All-slice_get}
 use Rattle.jc_decode.specs.declared.insn.Placed.{Placed}
 use Rattle.jc_decode.specs.declared.symbols.Item.{Item}
 use Rattle.jc_decode.specs.declared.symbols.Item.TheVariants.{Plain}
@@ -48,7 +49,7 @@ use Rattle.xf_typing.proofs.Renames.{named}
 use Rattle.xf_typing.proofs.Turns.{IsLesser}
 use Rattle.xf_typing.proofs.Carried.{is-short, is-high, is-low, set-other}
 use Rattle.xf_typing.proofs.Rows.{increased-at, pop-is, pop-two-is}
-use Rattle.xf_typing.proofs.Running.{AreLaws, IsRecordFor, IsRun, IsPassed, has-room, is-reference, get-in, found-below, value-one, value-int, local-at}
+use Rattle.xf_typing.proofs.Running.{AreLaws, IsRecordFor, IsRun, IsPassed, has-room, is-reference, found-below, value-one, value-int, local-at}
 
 -- ---- the top of a stack
 
@@ -135,7 +136,7 @@ module _ (t : ClassTable) (types : IsOrderOfTypes t) where
       by IntHigh at p =
           let high : b ≡ IntHigh = over-high b ((types.decided IntHigh b).1 p) is.no_top in
           let next = get-under t (x + 1) IntLow le (is.second high) in
-          let low = is-low t types next.a next.below (get-in IsNotBottom xs (x + 1) next.a full next.at) in
+          let low = is-low t types next.a next.below (All-slice_get IsNotBottom xs (x + 1) next.a full next.at) in
           (IntHigh, value-int xs x at (next.at ∙ ap Some low))
       by IntLow at p = absurd (is.no_low (over-low b ((types.decided IntLow b).1 p) is.no_top))
       by Top at p = absurd (is.no_top (over-top b ((types.decided Top b).1 p)))
@@ -175,7 +176,7 @@ module _ (new : ℕ → ℕ) (apart : (a b : ℕ) → new a ≡ new b → a ≡ 
   increment-passed i widths.Short x amount f after st n run lesser =
       let whole = ready.whole i.place f run.at in
       let k = found-below s.world.classes f.regs x Short run.does.asked.1.0 in
-      let own = is-short s.world.classes l.rules.types k.ty k.below (get-in IsNotBottom f.regs x k.ty whole.regs k.at) in
+      let own = is-short s.world.classes l.rules.types k.ty k.below (All-slice_get IsNotBottom f.regs x k.ty whole.regs k.at) in
       let room = has-room new apart s l ready r own_rec asks res i (ops.Increment widths.Short x amount) f after st run lesser in
       increment-by i widths.Short x amount f after st n Short run lesser (value-one f.regs x Short (k.at ∙ ap Some own) tt tt) run.does.stack
       (λ y h.
@@ -185,9 +186,9 @@ module _ (new : ℕ → ℕ) (apart : (a b : ℕ) → new a ≡ new b → a ≡ 
   increment-passed i widths.Int x amount f after st n run lesser =
       let whole = ready.whole i.place f run.at in
       let k = found-below s.world.classes f.regs x IntHigh run.does.asked.1.0 in
-      let own = is-high s.world.classes l.rules.types k.ty k.below (get-in IsNotBottom f.regs x k.ty whole.regs k.at) in
+      let own = is-high s.world.classes l.rules.types k.ty k.below (All-slice_get IsNotBottom f.regs x k.ty whole.regs k.at) in
       let j = found-below s.world.classes f.regs (x + 1) IntLow run.does.asked.1.1.0 in
-      let low = is-low s.world.classes l.rules.types j.ty j.below (get-in IsNotBottom f.regs (x + 1) j.ty whole.regs j.at) in
+      let low = is-low s.world.classes l.rules.types j.ty j.below (All-slice_get IsNotBottom f.regs (x + 1) j.ty whole.regs j.at) in
       let room = has-room new apart s l ready r own_rec asks res i (ops.Increment widths.Int x amount) f after st run lesser in
       increment-by i widths.Int x amount f after st n IntHigh run lesser (value-int f.regs x (k.at ∙ ap Some own) (j.at ∙ ap Some low)) run.does.stack
       (λ y h.

@@ -10,6 +10,7 @@ use Rattle.jc_base.specs.declared.ty.Kind.{Kind}
 use Rattle.jc_base.specs.declared.ty.Kind.TheVariants as kinds
 use Rattle.jc_base.specs.declared.ty.Ty.{Ty}
 use Rattle.jc_base.specs.declared.ty.Ty.TheVariants.{Bottom, Short, IntHigh, IntLow, Null, Class, ArrBool, ArrByte, ArrShort, ArrInt, ArrRef, Fresh, Top}
+use Rattle.jc_base.proofs.Lists.{All-slice_get}
 use Rattle.jc_decode.specs.declared.insn.Placed.{Placed}
 use Rattle.jc_decode.specs.declared.symbols.Item.{Item}
 use Rattle.jc_decode.specs.declared.symbols.Item.TheVariants.{Plain}
@@ -26,12 +27,13 @@ use Rattle.jc_rules.specs.declared.demand.Demand.TheVariants.{Cell, Held}
 use Rattle.jc_rules.specs.declared.effect.Mode.TheVariants.{Flow}
 use Rattle.jc_rules.specs.declared.rule.Outcome.{Outcome}
 use Rattle.jc_rules.specs.Apply.{OperationApplies}
-use Rattle.jc_rules.specs.Demand.{Frame, AllHold}
+use Rattle.jc_rules.specs.Demand.{Frame, SatisfiesAll}
 use Rattle.jc_rules.specs.Effect.{listed}
 use Rattle.jc_rules.specs.Flow.{IsNotFresh, IsNotTop}
 use Rattle.jc_rules.specs.Laws.{IsNotBottom}
 use Rattle.jc_rules.specs.Rule.{demands, value_given, value_wanted, value_size}
 use Rattle.jc_flow.proofs.Frames.{all_none, all_more, all_first, all_rest}
+use Rattle.jc_flow.proofs.Derived.{declared-ready}
 use Rattle.xf_homes.specs.declared.home.Home.{Home}
 use Rattle.xf_homes.specs.Value.{value_at}
 use Rattle.xf_homes.specs.Walk.{local_of}
@@ -51,13 +53,9 @@ use Rattle.xf_typing.proofs.Turns.{IsLesser, kept-resolves}
 use Rattle.xf_typing.proofs.Carried.{is-high, is-low}
 use Rattle.xf_typing.proofs.Rows.{read-on-stack, write-on-stack, swap-one-is, swap-two-is}
 use Rattle.xf_typing.proofs.Storing.{has-top}
-use Rattle.xf_typing.proofs.Running.{AreLaws, IsRecordFor, IsRun, IsPassed, has-room, IsReferenceIn, is-reference, get-in, found-below, value-one, local-at, push-lesser}
+use Rattle.xf_typing.proofs.Running.{AreLaws, IsRecordFor, IsRun, IsPassed, has-room, IsReferenceIn, is-reference, found-below, value-one, local-at, push-lesser}
 
 -- ---- the value of a field
-
-declared-ready : (t : ClassTable) (ty : Ty) → IsDeclared t ty → IsNotFresh ty
-declared-ready t (Fresh p c) h = absurd h
-declared-ready t ty h = tt
 
 given-full : (t : ClassTable) (ty : Ty) → IsDeclared t ty → All IsNotBottom (listed (value_given ty))
 given-full t Bottom h = absurd h
@@ -90,9 +88,9 @@ given-known t (Fresh p c) h = absurd h
 given-known t Top h = absurd h
 
 -- what is asked of the stack rests on the stack
-value-held : (t : ClassTable) (ty : Ty) (regs others st : List Ty) (d : Demand) → AllHold t (record { regs = regs; stack = st }) (value_wanted ty ++ d ∷ [])
-    → (AllHold t (record { regs = regs; stack = st }) (d ∷ []) → AllHold t (record { regs = others; stack = st }) (d ∷ []))
-    → AllHold t (record { regs = others; stack = st }) (value_wanted ty ++ d ∷ [])
+value-held : (t : ClassTable) (ty : Ty) (regs others st : List Ty) (d : Demand) → SatisfiesAll t (record { regs = regs; stack = st }) (value_wanted ty ++ d ∷ [])
+    → (SatisfiesAll t (record { regs = regs; stack = st }) (d ∷ []) → SatisfiesAll t (record { regs = others; stack = st }) (d ∷ []))
+    → SatisfiesAll t (record { regs = others; stack = st }) (value_wanted ty ++ d ∷ [])
 value-held t IntHigh regs others st d h f = (h.0, (h.1.0, f h.1.1))
 value-held t ty regs others st d h f = (h.0, f h.1)
 
@@ -111,7 +109,7 @@ module _ (new : ℕ → ℕ) (apart : (a b : ℕ) → new a ≡ new b → a ≡ 
   this-is : (i : Placed) (f : Frame) (c : ℕ) → s.frames i.place ≡ Some f → IsSomeAnd (slice_get f.regs 0) (λ found. Below s.world.classes found (Class c)) → IsThis i c
   this-is i f c at h =
       let k = found-below s.world.classes f.regs 0 (Class c) h in
-      let is = is-reference s.world.classes l.rules.types k.ty c k.below (get-in IsNotBottom f.regs 0 k.ty (ready.whole i.place f at).regs k.at) in
+      let is = is-reference s.world.classes l.rules.types k.ty c k.below (All-slice_get IsNotBottom f.regs 0 k.ty (ready.whole i.place f at).regs k.at) in
       let value : value_at f.regs 0 ≡ Some k.ty = value-one f.regs 0 k.ty k.at is.no_half is.no_top in
       record {
         ty = k.ty;
@@ -246,7 +244,7 @@ module _ (new : ℕ → ℕ) (apart : (a b : ℕ) → new a ≡ new b → a ≡ 
   sized kinds.Int ty h = sized_int refl h
 
   -- the last that is asked
-  last-held : (ty : Ty) (f : Frame) (d : Demand) → AllHold s.world.classes f (value_wanted ty ++ d ∷ []) → AllHold s.world.classes f (d ∷ [])
+  last-held : (ty : Ty) (f : Frame) (d : Demand) → SatisfiesAll s.world.classes f (value_wanted ty ++ d ∷ []) → SatisfiesAll s.world.classes f (d ∷ [])
   last-held IntHigh f d h = h.1.1
   last-held ty f d h = h.1
 
@@ -323,7 +321,7 @@ module _ (new : ℕ → ℕ) (apart : (a b : ℕ) → new a ≡ new b → a ≡ 
       stack_ops = Plain (record i.insn { op = i.insn.op - 46 })
 
       -- the write of the object that is under the value
-      written : (place : ℕ) (cells us : List Ty) → AllHold s.world.classes (record { regs = regs; stack = cells ++ us }) (demands s.world (ops.FieldWrite fld holders.Stack)) → us ≡ drop (value_size fld.ty + 1) (cells ++ us) → length (cells ++ us) ≤ r.max_stack
+      written : (place : ℕ) (cells us : List Ty) → SatisfiesAll s.world.classes (record { regs = regs; stack = cells ++ us }) (demands s.world (ops.FieldWrite fld holders.Stack)) → us ≡ drop (value_size fld.ty + 1) (cells ++ us) → length (cells ++ us) ≤ r.max_stack
           → Flowing place (cells ++ us) (stack_ops ∷ []) us
       written place cells us asked e room =
           let small : i.insn.op - 46 < 256 = omega (arith, run.small) in
@@ -341,7 +339,7 @@ module _ (new : ℕ → ℕ) (apart : (a b : ℕ) → new a ≡ new b → a ≡ 
 
       by-size : IsSized fld.kind fld.ty → Flowing n (map (named new apart) st) (load s h ∷ Plain (with_byte 64 (swap_words fld.kind)) ∷ stack_ops ∷ []) (map (named new apart) k.frame.stack)
       by-size (sized_one words wanted size fresh no_top low) =
-          let asked : AllHold s.world.classes f (Cell 0 (Value fld.ty) ∷ Held 0 (Class fld.class) ∷ []) = subst (λ (ds : List Demand). AllHold s.world.classes f (ds ++ Held 0 (Class fld.class) ∷ [])) wanted run.does.asked.1 in
+          let asked : SatisfiesAll s.world.classes f (Cell 0 (Value fld.ty) ∷ Held 0 (Class fld.class) ∷ []) = subst (λ (ds : List Demand). SatisfiesAll s.world.classes f (ds ++ Held 0 (Class fld.class) ∷ [])) wanted run.does.asked.1 in
           let top = has-top s.world.classes (λ c. Below s.world.classes c fld.ty) st f.stack lesser.below asked.0 in
           let below = joined top.below top.has in
           let ready_v = not-fresh s.world.classes l.rules.types top.v fld.ty below fresh no_top in
@@ -351,8 +349,8 @@ module _ (new : ℕ → ℕ) (apart : (a b : ℕ) → new a ≡ new b → a ≡ 
           let low_v : top.v ≢ IntLow = λ e. low (over-low fld.ty ((l.rules.types.decided IntLow fld.ty).1 (subst (λ (u : Ty). Below s.world.classes u fld.ty) e below)) (top-not fld.ty no_top)) in
           let end : map (named new apart) k.frame.stack ≡ us = ap (map (named new apart)) (k.does.stack ∙ ap (λ (c : ℕ). drop c st) size ∙ ap (drop 1) top.st_is) in
           let taken : us ≡ drop (value_size fld.ty + 1) (top.v ∷ this.ty ∷ us) = sym (ap (λ (c : ℕ). drop (c + 1) (top.v ∷ this.ty ∷ us)) size) in
-          let all : AllHold s.world.classes (record { regs = regs; stack = top.v ∷ this.ty ∷ us }) (demands s.world (ops.FieldWrite fld holders.Stack)) =
-          subst (λ (ds : List Demand). AllHold s.world.classes (record { regs = regs; stack = top.v ∷ this.ty ∷ us }) (ds ++ Cell (value_size fld.ty) (Value (Class fld.class)) ∷ [])) (sym wanted)
+          let all : SatisfiesAll s.world.classes (record { regs = regs; stack = top.v ∷ this.ty ∷ us }) (demands s.world (ops.FieldWrite fld holders.Stack)) =
+          subst (λ (ds : List Demand). SatisfiesAll s.world.classes (record { regs = regs; stack = top.v ∷ this.ty ∷ us }) (ds ++ Cell (value_size fld.ty) (Value (Class fld.class)) ∷ [])) (sym wanted)
           (below, (subst (λ (c : ℕ). IsSomeAnd (slice_get (top.v ∷ this.ty ∷ us) c) (λ found. Below s.world.classes found (Class fld.class))) (sym size) this.below, tt)) in
           subst (λ (ws : List Ty). Flowing n (map (named new apart) st) (load s h ∷ Plain (with_byte 64 (swap_words fld.kind)) ∷ stack_ops ∷ []) ws) (sym end)
           (loaded-first (Plain (with_byte 64 (swap_words fld.kind)) ∷ stack_ops ∷ []) us
@@ -360,7 +358,7 @@ module _ (new : ℕ → ℕ) (apart : (a b : ℕ) → new a ≡ new b → a ≡ 
           (subst (λ (c : ℕ). Flowing m (this.ty ∷ top.v ∷ us) (Plain (with_byte 64 c) ∷ stack_ops ∷ []) us) (sym words)
           (flows-append s.world r regs asks (swap-one m this.ty top.v us this.is.no_half low_v room) (written (m + 1) (top.v ∷ this.ty ∷ []) us all taken (omega (arith, room)))))))
       by-size (sized_int words int) =
-          let asked : AllHold s.world.classes f (Cell 0 (Value IntLow) ∷ Cell 1 (Value IntHigh) ∷ Held 0 (Class fld.class) ∷ []) = subst (λ (ty : Ty). AllHold s.world.classes f (value_wanted ty ++ Held 0 (Class fld.class) ∷ [])) int run.does.asked.1 in
+          let asked : SatisfiesAll s.world.classes f (Cell 0 (Value IntLow) ∷ Cell 1 (Value IntHigh) ∷ Held 0 (Class fld.class) ∷ []) = subst (λ (ty : Ty). SatisfiesAll s.world.classes f (value_wanted ty ++ Held 0 (Class fld.class) ∷ [])) int run.does.asked.1 in
           let top = has-top s.world.classes (λ c. Below s.world.classes c IntLow) st f.stack lesser.below asked.0 in
           let next = has-top s.world.classes (λ c. Below s.world.classes c IntHigh) top.rest top.cs top.more (subst (λ (us : List Ty). IsSomeAnd (slice_get us 1) (λ c. Below s.world.classes c IntHigh)) top.fs_is asked.1.0) in
           let all_full = subst (All IsNotBottom) top.st_is lesser.full in
@@ -374,8 +372,8 @@ module _ (new : ℕ → ℕ) (apart : (a b : ℕ) → new a ≡ new b → a ≡ 
           let size : value_size fld.ty ≡ 2 = ap value_size int in
           let end : map (named new apart) k.frame.stack ≡ us = ap (map (named new apart)) (k.does.stack ∙ ap (λ (c : ℕ). drop c st) size ∙ ap (drop 2) whole) in
           let taken : us ≡ drop (value_size fld.ty + 1) (IntLow ∷ IntHigh ∷ this.ty ∷ us) = sym (ap (λ (c : ℕ). drop (c + 1) (IntLow ∷ IntHigh ∷ this.ty ∷ us)) size) in
-          let all : AllHold s.world.classes (record { regs = regs; stack = IntLow ∷ IntHigh ∷ this.ty ∷ us }) (demands s.world (ops.FieldWrite fld holders.Stack)) =
-          subst (λ (ty : Ty). AllHold s.world.classes (record { regs = regs; stack = IntLow ∷ IntHigh ∷ this.ty ∷ us }) (value_wanted ty ++ Cell (value_size ty) (Value (Class fld.class)) ∷ [])) (sym int)
+          let all : SatisfiesAll s.world.classes (record { regs = regs; stack = IntLow ∷ IntHigh ∷ this.ty ∷ us }) (demands s.world (ops.FieldWrite fld holders.Stack)) =
+          subst (λ (ty : Ty). SatisfiesAll s.world.classes (record { regs = regs; stack = IntLow ∷ IntHigh ∷ this.ty ∷ us }) (value_wanted ty ++ Cell (value_size ty) (Value (Class fld.class)) ∷ [])) (sym int)
           (same, (same, (this.below, tt))) in
           subst (λ (ws : List Ty). Flowing n (map (named new apart) st) (load s h ∷ Plain (with_byte 64 (swap_words fld.kind)) ∷ stack_ops ∷ []) ws) (sym end)
           (loaded-first (Plain (with_byte 64 (swap_words fld.kind)) ∷ stack_ops ∷ []) us

@@ -16,7 +16,7 @@ use Rattle.xf_typing.proofs.Running.{AreLaws, IsRecordFor}
 use Rattle.xf_typing.proofs.Asked.{are-asked}
 use Rattle.xf_typing.proofs.Whole.{rewritten-typed}
 
-record-for : (s : Source) → IsRecordFor s.method.rec (record_with s.method.rec (rewritten s))
+pub record-for : (s : Source) → IsRecordFor s.method.rec (record_with s.method.rec (rewritten s))
 unfolding rewritten
 record-for s = record { room = refl; home = refl; sig = refl }
 

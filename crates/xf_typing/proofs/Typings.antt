@@ -16,17 +16,19 @@ use Rattle.jc_decode.specs.declared.symbols.Item.{Item}
 use Rattle.jc_decode.specs.declared.symbols.Item.TheVariants.{Plain, Branch, Switch, Label}
 use Rattle.jc_decode.specs.declared.symbols.Range.{Range}
 use Rattle.jc_decode.specs.declared.symbols.Symbols.{Symbols}
+use Rattle.jc_decode.specs.Places.{IsTargetAmong}
 use Rattle.jc_decode.specs.Symbols.{Step, place_of, steps, steps_in, handler}
+use Rattle.jc_decode.proofs.Elements.{Contains-slice_get}
 use Rattle.jc_rules.specs.declared.effect.Mode.TheVariants.{Flow}
 use Rattle.jc_rules.specs.declared.rule.Outcome.{Outcome}
 use Rattle.jc_rules.specs.Apply.{RuleApplies}
 use Rattle.jc_rules.specs.Flow.{CellsBelow, IsNotFresh, start_frame}
-use Rattle.card_typing.specs.Place.{IsTargetAmong, IsEntryAmong}
+use Rattle.card_typing.specs.Place.{IsEntryAmong}
 use Rattle.card_typing.specs.Typing.{frame_at, IsTypedIn, IsEnteredBy, TypingIn}
 use Rattle.xf_emission.proofs.Labels.{labels}
 use Rattle.xf_emission.proofs.Rises.{Rises}
 use Rattle.xf_landed.specs.Laid.{class_by, catching as handler_by, record_with, leads_of, IsHandlerIn, AreFormed, code_in_symbols}
-use Rattle.xf_landed.proofs.Steps.{contains-at, at-contains, all-contained, contains-map, Preimage, preimage}
+use Rattle.xf_landed.proofs.Steps.{at-contains, all-contained, contains-map, Preimage, preimage}
 use Rattle.xf_typing.proofs.Walks.{State, holding, left, Asked, emptied, catching, Passes, Flows, count}
 use Rattle.xf_typing.proofs.Bridge.{stack_at, comes-next, left-empty, IsTurned, turned-at, asked-at}
 
@@ -41,7 +43,7 @@ each-in : {X : Type 0} (P : X → Type 0) (xs : List X) (x : X) → Each P xs �
 each-in P xs x h c = each-at P xs c.0 x h (at-contains xs x c)
 
 among-in : {X : Type 0} (xs : List X) (x : X) → IsAmong x xs → Contains xs x
-among-in xs x a = let p = found xs x a in contains-at xs p.0 x p.1
+among-in xs x a = let p = found xs x a in Contains-slice_get xs p.0 x p.1
   where
     found : {X : Type 0} (xs : List X) (x : X) → IsAmong x xs → (k : ℕ) × (slice_get xs k ≡ Some x)
     found [] x a = absurd a

@@ -10,7 +10,7 @@ use Rattle.xf_emission.specs.Edge.{copies}
 use Rattle.xf_emission.specs.Emission.{rewritten}
 use Rattle.xf_emission.specs.Laws.{IsCode}
 use Rattle.xf_landed.specs.Laid.{record_with}
-use Rattle.xf_typing.specs.Typed.{HasTypes, registers_of}
+use Rattle.xf_typing.specs.Typed.{HasTypingByHomes, registers_of}
 use Rattle.xf_typing.specs.Whole.{DerivedAreWhole}
 use Rattle.xf_typing.proofs.Walks.{count}
 use Rattle.xf_typing.proofs.Ready.{IsReady}
@@ -23,7 +23,7 @@ use Rattle.xf_typing.proofs.Asking.{asks_of, are-wanted}
 use Rattle.xf_typing.proofs.Typings.{AreAsked, stacks, walk-types}
 
 module _ (s : Source) (l : AreLaws s.world) (ready : IsReady s) (code : IsCode s) (mo : IsMethodOf s.world s.method) (derived : DerivedAreWhole s.world) (are : AreHomes s.world s.method s.frames s.homes) where
-  pub rewritten-typed : AreAsked s.world s.method.rec s.method.code (rewritten s) (registers_of s.homes) (asks_of s) → HasTypes s.world s.method s.homes (rewritten s)
+  pub rewritten-typed : AreAsked s.world s.method.rec s.method.code (rewritten s) (registers_of s.homes) (asks_of s) → HasTypingByHomes s.world s.method s.homes (rewritten s)
   unfolding rewritten
   rewritten-typed asked =
       let r = record_with s.method.rec (rewritten s) in

@@ -13,7 +13,7 @@ use Rattle.jc_decode.specs.declared.insn.Placed.{Placed}
 use Rattle.jc_ops.specs.Sound.{IsSound, OperationsAreSound}
 use Rattle.jc_control.specs.Method.{Method, IsMethodOf}
 use Rattle.jc_rules.specs.Demand.{Frame}
-use Rattle.jc_rules.specs.Flow.{CellsBelow, no_cells as no_below, more_cells, CellsJoin, none_joined, more_joined, Steps, start_frame, receiver_of, IsNotTop, IsDerived, derived_start, derived_caught, derived_next, derived_joined}
+use Rattle.jc_rules.specs.Flow.{CellsBelow, no_cells as no_below, more_cells, CellsJoin, none_joined, more_joined, FlowSteps, start_frame, receiver_of, IsNotTop, IsDerived, derived_start, derived_caught, derived_next, derived_joined}
 use Rattle.jc_rules.specs.FlowLaws.{AreRules}
 use Rattle.jc_rules.specs.Laws.{IsNotBottom}
 use Rattle.jc_rules.specs.Whole.{IsWholeStack, OperationKeepsWhole}
@@ -99,7 +99,7 @@ module _ (w : Linked) (is : AreRules w) (keeps : OperationKeepsWhole w) (m : Met
     whole = no_cells;
   }
 
-  sound : OperationsAreSound w → (i : Placed) (f g : Frame) (s : Steps w m i f g) → IsSound w m.rec i.place s.1.operation
+  sound : OperationsAreSound w → (i : Placed) (f g : Frame) (s : FlowSteps w m i f g) → IsSound w m.rec i.place s.1.operation
   sound law i f g s = law m.rec i.place i.insn s.1.operation (of_world w is m mo).result s.1.resolves
 
   good : OperationsAreSound w → {p : ℕ} {f : Frame} → IsDerived w m Top p f → IsGood f

@@ -6,12 +6,12 @@ use Rattle.jc_base.specs.World.{Linked}
 use Rattle.jc_decode.specs.declared.insn.Placed.{Placed}
 use Rattle.jc_ops.specs.declared.operation.Operation.{Operation}
 use Rattle.jc_control.specs.Control.{IsReached, IsSuccessor}
-use Rattle.jc_control.specs.WellFormed.{Stands}
+use Rattle.jc_control.specs.WellFormed.{HasInstruction}
 use Rattle.jc_rules.specs.Demand.{Frame}
 use Rattle.jc_rules.specs.Flow.{CellsBelow}
 use Rattle.xf_homes.specs.declared.home.Home.{Home}
 use Rattle.xf_homes.specs.Home.{register_count, KeepsStack}
-use Rattle.xf_homes.specs.Order.{StandFrom, register_sum}
+use Rattle.xf_homes.specs.Order.{SlotsFollow, register_sum}
 use Rattle.xf_homes.specs.Value.{value_at, width}
 use Rattle.xf_homes.specs.Walk.{has, operands_of}
 use Rattle.xf_plan.specs.Source.{Source}
@@ -49,7 +49,7 @@ slot_types f = f.regs ++ reverse f.stack
 
 -- the homes of the cells of a stack that is kept follow one another from the first slot after the registers, and fill the stack
 pub record FillStack (s : Source) (q : ℕ) (f : Frame) : Type 0 where
-  pub follow : StandFrom (register_count s.method.rec) (cells s q)
+  pub follow : SlotsFollow (register_count s.method.rec) (cells s q)
   pub fill : register_sum (cells s q) ≡ length f.stack
   pub keep : Each (Keeps s) (cells s q)
   pub values : Each (λ h. value_at (slot_types f) h.slot ≡ Some h.ty) (cells s q)
@@ -72,7 +72,7 @@ pub data LeadsTo (s : Source) : Origin → ℕ → Type 0 where
   leads_start : LeadsTo s Start 0
   leads_after :
       {i : Placed} {op : Operation} {q : ℕ}
-      → Stands s.method.code i
+      → HasInstruction s.method.code i
       → IsReached s.method i.place
       → operation s i ≡ Ok op
       → IsSuccessor s.method.code i q
@@ -133,7 +133,7 @@ ForksAreCut w =
     → s.world ≡ w
     → IsPlanned s
     → (i : Placed) (op : Operation) (n : ℕ) (f : Frame)
-    → Stands s.method.code i
+    → HasInstruction s.method.code i
     → s.frames i.place ≡ Some f
     → operation s i ≡ Ok op
     → operands_of s.world (Ok op) ≡ Some n
@@ -146,7 +146,7 @@ ForksMatch w =
     → s.world ≡ w
     → IsPlanned s
     → (i : Placed) (op : Operation) (n q : ℕ) (f : Frame)
-    → Stands s.method.code i
+    → HasInstruction s.method.code i
     → s.frames i.place ≡ Some f
     → operation s i ≡ Ok op
     → operands_of s.world (Ok op) ≡ Some n

@@ -10,7 +10,7 @@ use Rattle.xf_homes.specs.Order.{AreHomes, register_sum}
 use Rattle.xf_plan.specs.Source.{Source}
 use Rattle.xf_emission.specs.Emission.{rewritten}
 use Rattle.xf_emission.specs.Laws.{IsCode, HasFrames}
-use Rattle.xf_typing.specs.Typed.{HasTypes}
+use Rattle.xf_typing.specs.Typed.{HasTypingByHomes}
 
 -- a method of the world with a dataflow typing from Top, whose frames are derived ones, and with the homes by it, no more than a method
 -- may have: the code that stands for it has a card typing, in which each home's registers have the home's type
@@ -26,4 +26,4 @@ RewrittenIsTyped w =
     → Marks (IsLeader s.method) s.leaders
     → AreHomes s.world s.method s.frames s.homes
     → register_sum s.homes ≤ 255
-    → HasTypes s.world s.method s.homes (rewritten s)
+    → HasTypingByHomes s.world s.method s.homes (rewritten s)

@@ -10,15 +10,15 @@ use Rattle.xf_homes.specs.declared.home.Home.{Home}
 use Rattle.xf_landed.specs.Laid.{code_in_symbols}
 
 -- the cells of a value of a type
-abbrev pub cells_of : Ty → List Ty
-cells_of IntHigh = IntHigh ∷ IntLow ∷ []
-cells_of ty = ty ∷ []
+abbrev pub cells_of_value : Ty → List Ty
+cells_of_value IntHigh = IntHigh ∷ IntLow ∷ []
+cells_of_value ty = ty ∷ []
 
 -- the types of the registers of homes, which follow one another
 abbrev pub registers_of : List Home → List Ty
-registers_of homes = flat_map (λ h. cells_of h.ty) homes
+registers_of homes = flat_map (λ h. cells_of_value h.ty) homes
 
 -- the symbols have a card typing whose registers have the types of the homes
-pub record HasTypes (w : Linked) (m : Method) (homes : List Home) (symbols : Symbols) : Type 0 where
+pub record HasTypingByHomes (w : Linked) (m : Method) (homes : List Home) (symbols : Symbols) : Type 0 where
   pub stacks : ℕ → List Ty
   pub typing : TypingIn w (code_in_symbols m.rec m.code symbols) (registers_of homes) stacks

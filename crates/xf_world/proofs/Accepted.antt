@@ -4,7 +4,7 @@ use Rattle.std.proofs.Common.{◌≡◌, ◌⊎◌, inr, ⊎_elim, ℕ, ◌+◌,
 use Rattle.std.proofs.lemmas.Bool.{cases_lt}
 use Rattle.std.proofs.lemmas.List.{length-map, length-append}
 use Rattle.std.proofs.lemmas.List.Elements.{All-weaker}
-use Rattle.std.proofs.lemmas.Option.{slice_get_within, slice_get-get_or}
+use Rattle.std.proofs.lemmas.Option.{slice_get_within, slice_get-get_or, same_Some}
 use Rattle.jc_base.specs.declared.record.MethodRec.{MethodRec}
 use Rattle.jc_base.specs.World.{Linked}
 use Rattle.jc_base.proofs.Lists.{slice_get-front, slice_get-farther}
@@ -23,9 +23,6 @@ use Rattle.xf_world.proofs.Catching.{element-at, element-there, pools-laid}
 
 -- ---- the method of a number
 
-some-same : {X : Type 0} {a b : X} → ◌≡◌ {A = Option X} (Some a) (Some b) → a ≡ b
-some-same e = cc
-
 in-world : (w : Linked) (m : Method) → IsMethodOf w m → method_in w m.number ≡ Some m
 in-world w m mo =
     ap (option_map (method_with w m.number)) mo.rec
@@ -37,7 +34,7 @@ of-world w m e filled = by (slice_get w.methods m.number) refl e
     by : (o : Option MethodRec) → slice_get w.methods m.number ≡ o → option_map (method_with w m.number) o ≡ Some m → IsMethodOf w m
     by None here e = absurd (cc)
     by (Some r) here e =
-        let same : method_with w m.number r ≡ m = some-same e in
+        let same : method_with w m.number r ≡ m = same_Some _ _ e in
         let code = subst (λ (k : Method). 0 < length k.code) (sym same) filled in
         subst (IsMethodOf w) same (record { rec = here; code = refl; filled = code })
 
@@ -95,7 +92,7 @@ module _ (w : Linked) (laws : AreLaws w) (laid : List (Option Laid)) (are : AreL
         let there = slice_get-get_or are.libraries m.number m.rec lt in
         let whole : slice_get w.methods m.number ≡ Some (get_or are.libraries m.number m.rec) =
         ap (λ ms. slice_get ms m.number) are.parts ∙ slice_get-front are.libraries are.own m.number _ there in
-        let its : get_or are.libraries m.number m.rec ≡ m.rec = some-same (sym whole ∙ was.rec) in
+        let its : get_or are.libraries m.number m.rec ≡ m.rec = same_Some _ _ (sym whole ∙ was.rec) in
         let before = subst (λ r. r.package + 1 < length w.infos) its (are.before m.number m.rec lt) in
         accepted m (record { method = was; before = before })
 

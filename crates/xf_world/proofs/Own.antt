@@ -23,7 +23,7 @@ use Rattle.xf_landed.specs.Laws.{CardTypingsAreKept, LaidIsTyped}
 use Rattle.xf_emission.specs.Laws.{LiveAreKept}
 use Rattle.xf_emission.specs.Live.{KeepsLive}
 use Rattle.xf_typing.specs.Laws.{RewrittenIsTyped}
-use Rattle.xf_typing.specs.Typed.{HasTypes, registers_of}
+use Rattle.xf_typing.specs.Typed.{HasTypingByHomes, registers_of}
 use Rattle.xf_code.proofs.Sources.{live-by, typed-by}
 use Rattle.xf_world.specs.Bytes.{CodesAreBytes}
 use Rattle.xf_world.specs.Laid.{IsLaidFor}
@@ -87,12 +87,12 @@ module _ (w : Linked) (laws : AreLaws w) (n : ℕ) (r : MethodRec) (here : slice
         live-by w own is.typing control is.homes is.typed flow (laws.placed own is.typed.least.typing.formed) (laws.listed own.code)
         is-method method-links its-bytes is.symbols is.rewritten.are laws.live
 
-    has-types : HasTypes w own is.homes is.symbols
+    has-types : HasTypingByHomes w own is.homes is.symbols
     has-types =
         typed-by w own is.typing control is.homes is.typed flow (laws.placed own is.typed.least.typing.formed) (laws.listed own.code)
         is-method method-links its-bytes is.symbols is.rewritten.are laws.rewritten is.derived is.are is.few
 
-    -- so has the method that has the code, be it of this world or of another
+    -- so has the method that has the code, of this world or of another
     pub laid-typed : (m : Method) → HasLaid r laid m → HasCardTyping w m
     laid-typed m has =
         let regs = registers_of is.homes in

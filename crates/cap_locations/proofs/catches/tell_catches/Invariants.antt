@@ -1,4 +1,4 @@
-use Rattle.std.proofs.Common.{◌≡◌, ◌≤◌, ◌+◌, ◌*◌, ◌++◌, drop}
+use Rattle.std.proofs.Common.{◌≡◌, ◌≤◌, ◌+◌, ◌*◌, ◌++◌, drop, length, take}
 use Rattle.cap_locations.specs.Catches.{catch_places}
 use Rattle.cap_locations.specs.Distances.{distances, last_of}
 use Rattle.cap_locations.specs.Telling.{IsFew}
@@ -10,5 +10,6 @@ invariant-handlers l = record {
   order : l.told.last ≤ l.at;
   few : IsFew l.told;
   bytes : l.told.bytes.items ++ distances l.told.last (catch_places l.at (drop l.handler-index l.handlers)) ≡ l.initial.told.bytes.items ++ distances l.initial.told.last (catch_places l.start l.handlers);
+  begun : take (length l.initial.told.bytes.items) l.told.bytes.items ≡ l.initial.told.bytes.items;
   last : last_of l.told.last (catch_places l.at (drop l.handler-index l.handlers)) ≡ last_of l.initial.told.last (catch_places l.start l.handlers);
 }

@@ -1,15 +1,27 @@
-use Rattle.std.proofs.Common.{◌≡◌, ◌+◌, ◌++◌, [], sym, ap, arith}
+use Rattle.std.proofs.Common.{◌≡◌, ◌+◌, ◌++◌, [], sym, ap, arith, rules}
+use Rattle.std.proofs.Math.Seq.{take-length}
 use Rattle.jc_decode.specs.Listing.{listing, listing_from}
 use Rattle.jc_decode.specs.PoolIndex.{bytes_of, pool_index}
 use Rattle.jc_decode.proofs.Listing.{listing_from-more, listing_from-end}
 use Rattle.cap_locations.specs.Distances.{distances, last_of}
 use Rattle.cap_locations.specs.Indices.{index_by, indices}
-use Rattle.cap_locations.proofs.Tellings.{told_more, last_more, told_all}
+use Rattle.cap_locations.proofs.Tellings.{begun_more, told_more, last_more, told_all}
 use Rattle.cap_locations.proofs.Rooms.{has_room}
 use Rattle.cap_locations.proofs.indices.tell_indices.Goals as goal
 
 pub tell_insn-requires-clause-room : goal.tell_insn-requires-clause-room
 tell_insn-requires-clause-room c = has_room c.in-Ok.insn c.args.code.bytes.now c.walk.at (sym c.in-Ok.ensures.value)
+
+pub walk-init : goal.walk-init
+unfolding listing_from listing
+walk-init c = record {
+  within = omega arith;
+  order = omega (arith, c.requires.order);
+  few = c.requires.few;
+  bytes = search rules;
+  begun = take-length c.args.told.now.bytes.items;
+  last = search rules;
+}
 
 pub walk-preserved : goal.walk-preserved
 walk-preserved c =
@@ -23,6 +35,7 @@ walk-preserved c =
       order = omega (arith, c.in_ok-tell_insn.ensures.last);
       few = c.in_ok-tell_insn.ensures.few;
       bytes = told_more c.walk.told c.tell_insn.new.told xs ys (indices w c.args.start (listing_from code c.walk.at)) (c.args.told.now.bytes.items ++ distances c.args.told.now.last (indices w c.args.start (listing code))) e c.in_ok-tell_insn.ensures.told c.walk.invariant.bytes;
+      begun = begun_more c.args.told.now.bytes.items c.walk.told.bytes.items c.tell_insn.new.told.bytes.items (distances c.walk.told.last xs) c.walk.invariant.begun c.in_ok-tell_insn.ensures.told.bytes;
       last = last_more c.walk.told c.tell_insn.new.told xs ys (indices w c.args.start (listing_from code c.walk.at)) (last_of c.args.told.now.last (indices w c.args.start (listing code))) e c.in_ok-tell_insn.ensures.told c.walk.invariant.last;
     }
 

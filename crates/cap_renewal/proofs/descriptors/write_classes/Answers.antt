@@ -1,8 +1,8 @@
 use Rattle.std.proofs.Common.{◌≡◌, subst}
 use Rattle.offset_set.specs.Bits.{holds}
-use Rattle.cap_desc.specs.DescriptorFormat.{class_info}
+use Rattle.cap_desc.specs.DescriptorFormat.{class_descriptor_info}
 use Rattle.cap_desc.specs.Descriptors.{descriptor_seen}
-use Rattle.cap_desc.specs.ClassRecords.{class_seen, classes_left}
+use Rattle.cap_desc.specs.ClassRecords.{described_class_seen, described_left}
 use Rattle.cap_writing.specs.Edit.{patched_all}
 use Rattle.cap_renewal.specs.DescriptorEdits.{class_edits, renewed_class, class_width, descriptor_edits}
 use Rattle.cap_renewal.proofs.Items.{IsRenewing, IsNext, renewing_next, renewing_more}
@@ -13,21 +13,21 @@ pub classes-init : goal.classes-init
 classes-init c =
     let set = holds c.args.interfaces.now in
     let d = descriptor_seen c.args.descriptor.now in
-    let e : d.classes ≡ classes_left c.into_iter-class-iterator.result = cc in
-    subst (λ xs. IsRenewing class_info (class_edits set c.args.news.now) class_width c.args.info.now (patched_all (descriptor_edits set c.args.news.now d.classes) c.args.info.now) 1 xs c.args.info.now)
+    let e : d.classes ≡ described_left c.into_iter-class-iterator.result = cc in
+    subst (λ xs. IsRenewing class_descriptor_info (class_edits set c.args.news.now) class_width c.args.info.now (patched_all (descriptor_edits set c.args.news.now d.classes) c.args.info.now) 1 xs c.args.info.now)
     e (descriptor_begins set c.args.news.now c.args.info.now d c.requires)
 
 pub write_class-at-requires : goal.write_class-at-requires
 write_class-at-requires c =
     let set = holds c.args.interfaces.now in
     let d = descriptor_seen c.args.descriptor.now in
-    let n : IsNext class_info class_width c.args.info.now c.classes.info c.classes.at (class_seen c.in-Some.class) =
-    renewing_next class_info (class_edits set c.args.news.now) class_width (renewed_class set c.args.news.now) c.args.info.now (patched_all (descriptor_edits set c.args.news.now d.classes) c.args.info.now) c.classes.at (classes_left c.classes.class-iterator) c.classes.info (class_seen c.in-Some.class) (classes_left c.next.new.self) (class_item set c.args.news.now c.args.info.now) c.classes.invariant c.in-Some.ensures.steps in
+    let n : IsNext class_descriptor_info class_width c.args.info.now c.classes.info c.classes.at (described_class_seen c.in-Some.class) =
+    renewing_next class_descriptor_info (class_edits set c.args.news.now) class_width (renewed_class set c.args.news.now) c.args.info.now (patched_all (descriptor_edits set c.args.news.now d.classes) c.args.info.now) c.classes.at (described_left c.classes.class-iterator) c.classes.info (described_class_seen c.in-Some.class) (described_left c.next.new.self) (class_item set c.args.news.now c.args.info.now) c.classes.invariant c.in-Some.ensures.steps in
     n.within
 
 pub classes-preserved : goal.classes-preserved
 classes-preserved c =
     let set = holds c.args.interfaces.now in
     let d = descriptor_seen c.args.descriptor.now in
-    renewing_more class_info (class_edits set c.args.news.now) class_width (renewed_class set c.args.news.now) c.args.info.now (patched_all (descriptor_edits set c.args.news.now d.classes) c.args.info.now) c.classes.at (classes_left c.classes.class-iterator) c.classes.info (class_seen c.in-Some.class) (classes_left c.next.new.self)
+    renewing_more class_descriptor_info (class_edits set c.args.news.now) class_width (renewed_class set c.args.news.now) c.args.info.now (patched_all (descriptor_edits set c.args.news.now d.classes) c.args.info.now) c.classes.at (described_left c.classes.class-iterator) c.classes.info (described_class_seen c.in-Some.class) (described_left c.next.new.self)
     c.write_class-at.result c.write_class-at.new.info (class_item set c.args.news.now c.args.info.now) c.classes.invariant c.in-Some.ensures.steps c.write_class-at.ensures.end c.write_class-at.ensures.value c.write_class-at.ensures.long

@@ -1,7 +1,7 @@
 use Rattle.offset_set.specs.Bits.{holds}
-use Rattle.cap_desc.specs.DescriptorFormat.{class_info}
+use Rattle.cap_desc.specs.DescriptorFormat.{class_descriptor_info}
 use Rattle.cap_desc.specs.Descriptors.{descriptor_seen}
-use Rattle.cap_desc.specs.ClassRecords.{classes_left}
+use Rattle.cap_desc.specs.ClassRecords.{described_left}
 use Rattle.cap_writing.specs.Edit.{patched_all}
 use Rattle.cap_renewal.specs.DescriptorEdits.{class_edits, class_width, descriptor_edits}
 use Rattle.cap_renewal.proofs.Items.{IsRenewing}
@@ -9,4 +9,4 @@ use Rattle.cap_renewal.proofs.descriptors.write_classes.Given as goal
 
 abbrev pub invariant-classes : goal.invariant-classes
 invariant-classes l =
-    IsRenewing class_info (class_edits (holds l.interfaces) l.news) class_width l.initial.info (patched_all (descriptor_edits (holds l.interfaces) l.news (descriptor_seen l.descriptor).classes) l.initial.info) l.at (classes_left l.class-iterator) l.info
+    IsRenewing class_descriptor_info (class_edits (holds l.interfaces) l.news) class_width l.initial.info (patched_all (descriptor_edits (holds l.interfaces) l.news (descriptor_seen l.descriptor).classes) l.initial.info) l.at (described_left l.class-iterator) l.info

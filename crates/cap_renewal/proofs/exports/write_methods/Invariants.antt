@@ -1,5 +1,5 @@
-use Rattle.cap_pool.specs.ExportFormat.{class_info}
-use Rattle.cap_pool.specs.Export.{classes, classes_left}
+use Rattle.cap_pool.specs.ExportFormat.{class_export_info}
+use Rattle.cap_pool.specs.Export.{export_seen, exported_left}
 use Rattle.cap_writing.specs.Edit.{patched_all}
 use Rattle.cap_renewal.specs.ExportEdits.{exported_edits, exported_width, export_edits}
 use Rattle.cap_renewal.specs.NewMethods.{to}
@@ -8,4 +8,4 @@ use Rattle.cap_renewal.proofs.exports.write_methods.Given as goal
 
 abbrev pub invariant-classes : goal.invariant-classes
 invariant-classes l =
-    IsRenewing class_info (exported_edits (to l.news)) exported_width l.initial.info (patched_all (export_edits (to l.news) (classes l.export)) l.initial.info) l.at (classes_left l.class-iterator) l.info
+    IsRenewing class_export_info (exported_edits (to l.news)) exported_width l.initial.info (patched_all (export_edits (to l.news) (export_seen l.export)) l.initial.info) l.at (exported_left l.class-iterator) l.info

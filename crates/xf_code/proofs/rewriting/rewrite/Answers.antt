@@ -5,14 +5,15 @@ use Rattle.jc_control.specs.Method.{Method, IsMethodOf, method_in}
 use Rattle.jc_decode.specs.Symbols.{IsItem, plain_size}
 use Rattle.jc_flow.specs.Infer.{AreDerived}
 use Rattle.jc_rules.specs.Typing.{state_at}
+use Rattle.jc_flow.proofs.Answered.{number-below}
 use Rattle.xf_homes.specs.Answer.{IsTypingOf}
 use Rattle.xf_homes.specs.Order.{AreHomes}
-use Rattle.xf_homes.proofs.Answered.{number-below, of-method, to-method, flaw-never}
+use Rattle.xf_homes.proofs.Answered.{of-method, to-method, flaw-never}
 use Rattle.xf_emission.specs.Emission.{IsPlainSize}
 use Rattle.xf_emission.specs.Live.{KeepsLive}
 use Rattle.xf_emission.specs.Numbers.{HasNumbers}
 use Rattle.xf_groups.specs.Matching.{MatchesMethod}
-use Rattle.xf_typing.specs.Typed.{HasTypes}
+use Rattle.xf_typing.specs.Typed.{HasTypingByHomes}
 use Rattle.xf_code.proofs.Numbers.{has-numbers, has-size}
 use Rattle.xf_code.proofs.Sources.{live-by, ranged-by, items-by, small-by, matches-by, typed-by}
 use Rattle.xf_code.proofs.Subjects.{is-subject}
@@ -135,7 +136,7 @@ returns-in-Ok-rewritten-clause-typed c =
     let typed : IsTypingOf w m c.args.typing.now = of-method w n rec code c.method-rec.ensures.is bytes (λ m. IsTypingOf w m c.args.typing.now) c.requires.typing in
     let derived : AreDerived w m c.args.typing.now = of-method w n rec code c.method-rec.ensures.is bytes (λ m. AreDerived w m c.args.typing.now) c.requires.derived in
     let are : AreHomes w m (state_at c.args.typing.now) c.args.homes.now = of-method w n rec code c.method-rec.ensures.is bytes (λ m. AreHomes w m (state_at c.args.typing.now) c.args.homes.now) c.requires.homes in
-    to-method w n rec code c.method-rec.ensures.is bytes (λ m. HasTypes w m c.args.homes.now c.in-Ok-rewritten.symbols)
+    to-method w n rec code c.method-rec.ensures.is bytes (λ m. HasTypingByHomes w m c.args.homes.now c.in-Ok-rewritten.symbols)
     (typed-by w m c.args.typing.now c.in-Ok.control c.args.homes.now typed flow (c.instructions_are_placed.ensures m typed.least.typing.formed) (c.instructions_are_listed.ensures code) mo
     c.method-rec.ensures.links c.are_bytes.ensures c.in-Ok-rewritten.symbols c.in-Ok-rewritten.ensures c.rewritten_is_typed.ensures derived are c.are_few.ensures)
 

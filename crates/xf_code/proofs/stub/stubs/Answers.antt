@@ -1,5 +1,5 @@
 use Rattle.jc_decode.specs.Instructions.{rest_of}
-use Rattle.xf_code.proofs.Steps.{stands-next}
+use Rattle.xf_emission.proofs.Live.{stands-next}
 use Rattle.xf_code.proofs.stub.stubs.Goals as goal
 
 pub stubs_at-requires : goal.stubs_at-requires

@@ -1,7 +1,7 @@
 use Rattle.std.proofs.Common.{◌≡◌, subst}
 use Rattle.jc_base.specs.Laws.{ClassesAreObjects}
 use Rattle.jc_base.specs.World.{Linked}
-use Rattle.xf_held.specs.Moves.{CanRun}
+use Rattle.xf_held.specs.Moves.{IsExecutable}
 use Rattle.xf_held.proofs.Celling.{cells-all-run, starts-hold}
 use Rattle.xf_held.proofs.Edging.{edges-run}
 use Rattle.xf_held.proofs.laws.edges_run.Goals as goal

@@ -1,7 +1,7 @@
 use Rattle.std.proofs.Common.{◌≡◌, subst}
 use Rattle.jc_base.specs.Laws.{ClassesAreObjects}
 use Rattle.jc_base.specs.World.{Linked}
-use Rattle.xf_held.specs.Moves.{CanRun}
+use Rattle.xf_held.specs.Moves.{IsExecutable}
 use Rattle.xf_held.proofs.Few.{cells-are-few, copies-are-few, kept-stacks-stay}
 use Rattle.xf_held.proofs.laws.moves_are_few.Goals as goal
 

@@ -1,7 +1,7 @@
 use Rattle.std.proofs.Common.{◌≡◌, subst}
 use Rattle.jc_base.specs.Laws.{ClassesAreObjects}
 use Rattle.jc_base.specs.World.{Linked}
-use Rattle.xf_held.specs.Moves.{CanRun}
+use Rattle.xf_held.specs.Moves.{IsExecutable}
 use Rattle.xf_held.proofs.Operands.{operands-all-load, under-all-hold, under-all-load}
 use Rattle.xf_held.proofs.laws.operands_load.Goals as goal
 

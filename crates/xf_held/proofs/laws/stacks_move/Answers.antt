@@ -1,7 +1,7 @@
 use Rattle.std.proofs.Common.{◌≡◌, subst}
 use Rattle.jc_base.specs.Laws.{ClassesAreObjects}
 use Rattle.jc_base.specs.World.{Linked}
-use Rattle.xf_held.specs.Moves.{CanRun}
+use Rattle.xf_held.specs.Moves.{IsExecutable}
 use Rattle.xf_held.proofs.Leading.{leaders-load}
 use Rattle.xf_held.proofs.Spilling.{stacks-spill}
 use Rattle.xf_held.proofs.laws.stacks_move.Goals as goal

@@ -3,9 +3,10 @@ use Rattle.jc_base.specs.World.{code_of}
 use Rattle.jc_control.specs.Method.{Method, IsMethodOf, method_in}
 use Rattle.jc_control.specs.ControlFlow.{IsControlFlow}
 use Rattle.jc_rules.specs.Typing.{state_at}
+use Rattle.jc_flow.proofs.Answered.{number-below}
 use Rattle.xf_homes.specs.Walk.{argument_homes, code_events, with_events}
 use Rattle.xf_homes.specs.Answer.{IsTypingOf}
-use Rattle.xf_homes.proofs.Answered.{number-below, of-method, to-method, flaw-never, answered-homes, answered-end, code-short}
+use Rattle.xf_homes.proofs.Answered.{of-method, to-method, flaw-never, answered-homes, answered-end, code-short}
 use Rattle.xf_homes.proofs.finding.homes.Goals as goal
 
 pub unreachable-requires : goal.unreachable-requires

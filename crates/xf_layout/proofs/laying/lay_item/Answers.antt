@@ -7,9 +7,10 @@ use Rattle.jc_decode.specs.declared.symbols.Item.{Item}
 use Rattle.jc_decode.specs.Encoding.{encoding}
 use Rattle.jc_decode.specs.Forms.{length_of}
 use Rattle.jc_decode.specs.Symbols.{IsItem}
+use Rattle.jc_decode.proofs.Appending.{OnOk-then}
 use Rattle.xf_layout.specs.Form.{IsForm}
 use Rattle.xf_layout.specs.Laid.{Adds}
-use Rattle.xf_layout.proofs.Adding.{on-ok, plain-adds, jump-adds, switch-form, switch-few}
+use Rattle.xf_layout.proofs.Adding.{plain-adds, jump-adds, switch-form, switch-few}
 use Rattle.xf_layout.proofs.laying.lay_item.Goals as goal
 
 not-true : (b : Bool) → not b ≡ true → b ≡ false
@@ -25,7 +26,7 @@ returns-in-Plain c =
     let item = subst (IsItem source c.requires.item.0) c.in-Plain.is c.requires.item.1 in
     let form = subst (λ (x : Item). IsForm x c.args.form) c.in-Plain.is c.requires.form in
     let e = c.short_form.ensures in
-    on-ok c.encode.result
+    OnOk-then c.encode.result
     (λ appended. subst (λ (x : Item). Adds source place x c.args.form c.args.code.now.items c.encode.new.to.items) (sym c.in-Plain.is)
     (plain-adds source place i short c.args.form c.args.code.now.items c.encode.new.to.items (encoding source 0 short) source 0 (ap length_of e.value)
     form appended c.encode.ensures.read_back c.encode.ensures.long (e.same item.0) (e.jumps ∙ not-true _ item.1)))
@@ -44,7 +45,7 @@ returns-in-Branch c =
     let x : j.x ≡ pos (place c.in-Branch.label) -ℤ pos (length old) =
     ap (λ (k : Insn). k.x) e.value ∙ to_z-of_z w16 c.distance-offset.result fits ∙ c.distance-offset.ensures
     ∙ ap (λ (m : ℕ). pos m -ℤ pos c.len.result) c.at.ensures ∙ ap (λ (m : ℕ). pos (place c.in-Branch.label) -ℤ pos m) here in
-    on-ok c.encode-in-Branch.result
+    OnOk-then c.encode-in-Branch.result
     (λ appended. subst (λ (x : Item). Adds source place x c.args.form old c.encode-in-Branch.new.to.items) (sym c.in-Branch.is)
     (jump-adds source place c.in-Branch.op c.in-Branch.label j c.args.form old c.encode-in-Branch.new.to.items (encoding source 0 j) source 0 form appended
     c.encode-in-Branch.ensures.read_back c.encode-in-Branch.ensures.long (e.long ∙ ap (λ (b : Bool). cond b 3 2) c.is_wide.ensures) e.same e.jumps e.only x))
@@ -64,7 +65,7 @@ returns-in-Switch c =
     let new = c.lay_switch.new.code.items in
     let item = subst (IsItem source c.requires.item.0) c.in-Switch.is c.requires.item.1 in
     let form = subst (λ (x : Item). IsForm x c.args.form) c.in-Switch.is c.requires.form in
-    on-ok c.lay_switch.result
+    OnOk-then c.lay_switch.result
     (λ adds. subst (λ (x : Item). Adds source place x c.args.form old new) (sym c.in-Switch.is)
     (switch-form source place c.in-Switch.insn c.in-Switch.at c.in-Switch.labels c.args.form old new form item.0 adds))
     c.lay_switch.ensures

@@ -1,6 +1,6 @@
 -- why there are no homes
 use Rattle.std.proofs.Common.{◌<◌, sym, subst}
-use Rattle.xf_homes.proofs.Answered.{number-below}
+use Rattle.jc_flow.proofs.Answered.{number-below}
 use Rattle.xf_pack.specs.Unlaid.{TellsUnlaid}
 use Rattle.xf_pack.proofs.Coded.{homes-told}
 use Rattle.xf_pack.proofs.laying.lay_code.Goals as goal

@@ -1,6 +1,6 @@
 -- what is known of the symbols, and why there are none
 use Rattle.std.proofs.Common.{◌<◌, sym, subst}
-use Rattle.xf_homes.proofs.Answered.{number-below}
+use Rattle.jc_flow.proofs.Answered.{number-below}
 use Rattle.xf_pack.specs.Unlaid.{TellsUnlaid}
 use Rattle.xf_pack.proofs.Coded.{symbols-known, symbols-told}
 use Rattle.xf_pack.proofs.laying.lay_homes.Goals as goal

@@ -3,7 +3,7 @@ use Rattle.std.specs.Prelude.{slice_index, count_by}
 use Rattle.xf_layout.specs.declared.form.Form.{Form}
 use Rattle.xf_layout.specs.Form.{AreForms, end_of, label_place}
 use Rattle.xf_layout.specs.Shortest.{Fit, NoWider}
-use Rattle.xf_layout.specs.Places.{HaveRoom}
+use Rattle.xf_layout.specs.Places.{FormsFit}
 use Rattle.xf_layout.specs.Widening.{is_short, shortest, widened}
 use Rattle.xf_layout.proofs.Sizes.{forms-no-longer}
 use Rattle.xf_layout.proofs.Notes.{rooms-widened}
@@ -18,7 +18,7 @@ turns-init c =
     record {
       forms = subst (AreForms items) (sym are) (forms-shortest items);
       least = λ others p q. subst (λ (fs : List Form). NoWider fs others) (sym are) (shortest-least items others);
-      room = subst (HaveRoom (length c.in_ok-places.places)) c.deref.ensures.value c.in_ok-places.ensures;
+      room = subst (FormsFit (length c.in_ok-places.places)) c.deref.ensures.value c.in_ok-places.ensures;
     }
 
 pub note-end-requires-clause-end : goal.note-end-requires-clause-end
@@ -71,12 +71,12 @@ turns-preserved c =
     let place = slice_index c.note-end.new.self in
     let size = length c.note-end.new.self in
     let new : c.widen.new.forms.items ≡ widened place 0 fs = c.widen.ensures.forms in
-    let room = subst (λ (n : ℕ). HaveRoom n fs) (sym c.note-end.ensures.room) old.room in
+    let room = subst (λ (n : ℕ). FormsFit n fs) (sym c.note-end.ensures.room) old.room in
     let jumps = jumps-after c.requires.items.0 items fs _ c.turns.places c.note-end.new.self c.note-end.ensures.places
     c.deref-in-turns.ensures.value c.requires.items.1 old.forms old.room in
     record {
       forms = subst (AreForms items) (sym new) (forms-widened place 0 items fs old.forms);
       least = λ others p q. subst (λ (gs : List Form). NoWider gs others) (sym new)
           (widened-least place items fs others jumps old.forms p q (old.least others p q));
-      room = subst (HaveRoom size) (sym new) (rooms-widened size place 0 fs room);
+      room = subst (FormsFit size) (sym new) (rooms-widened size place 0 fs room);
     }

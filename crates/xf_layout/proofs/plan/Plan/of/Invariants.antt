@@ -3,7 +3,7 @@ use Rattle.std.specs.Prelude.{count_by}
 use Rattle.xf_layout.specs.declared.form.Form.{Form}
 use Rattle.xf_layout.specs.Form.{AreForms}
 use Rattle.xf_layout.specs.Shortest.{Fit, NoWider}
-use Rattle.xf_layout.specs.Places.{HaveRoom}
+use Rattle.xf_layout.specs.Places.{FormsFit}
 use Rattle.xf_layout.specs.Widening.{is_short}
 use Rattle.xf_layout.proofs.plan.Plan.of.Given as goal
 
@@ -11,7 +11,7 @@ abbrev pub invariant-turns : goal.invariant-turns
 invariant-turns l = record {
   forms : AreForms l.items l.forms.items;
   least : (others : List Form) → AreForms l.items others → Fit others → NoWider l.forms.items others;
-  room : HaveRoom (length l.places) l.forms.items;
+  room : FormsFit (length l.places) l.forms.items;
 }
 
 abbrev pub decreases-turns : goal.decreases-turns
