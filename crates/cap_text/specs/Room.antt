@@ -23,5 +23,5 @@ pub record Writes (before after : Roomed) (bytes : List ℕ) : Type 0 where
   pub whole : before.whole ≤ after.whole
 
 -- so many bytes at most were written
-abbrev pub IsWithin : Roomed → Roomed → ℕ → Type 0
-IsWithin before after most = after.used ≤ before.used + most
+abbrev pub WritesAtMost : Roomed → Roomed → ℕ → Type 0
+WritesAtMost before after most = after.used ≤ before.used + most

@@ -1,5 +1,5 @@
 ghost use Rattle.cap_text.specs.Bare.{code_end_text, bare_kind_text, bad_target_text};
-ghost use Rattle.cap_text.specs.Room.{HasRoom, Writes, IsWithin};
+ghost use Rattle.cap_text.specs.Room.{HasRoom, Writes, WritesAtMost};
 
 use crate::room::Room;
 use cap_bare::BareKind;
@@ -9,7 +9,7 @@ use jc_decode::CodeEnd;
 pub(crate) fn write_code_end(room: &mut Room, end: CodeEnd)
     requires { HasRoom room.old 16 }
     ensures writes { Writes room.old room.new (code_end_text end) }
-    ensures few { IsWithin room.old room.new 16 }
+    ensures few { WritesAtMost room.old room.new 16 }
 {
     match end {
         CodeEnd::NoOpcode(opcode) => room.write_named("NoOpcode", u16::from(opcode)),
@@ -23,7 +23,7 @@ pub(crate) fn write_code_end(room: &mut Room, end: CodeEnd)
 pub(crate) fn write_bad_target(room: &mut Room, target: i32)
     requires { HasRoom room.old 21 }
     ensures writes { Writes room.old room.new (bad_target_text target) }
-    ensures few { IsWithin room.old room.new 21 }
+    ensures few { WritesAtMost room.old room.new 21 }
 {
     room.write("BadTarget ");
     room.write_signed(target);
@@ -33,7 +33,7 @@ pub(crate) fn write_bad_target(room: &mut Room, target: i32)
 pub(crate) fn write_bare_kind(room: &mut Room, kind: BareKind)
     requires { HasRoom room.old 21 }
     ensures writes { Writes room.old room.new (bare_kind_text kind) }
-    ensures few { IsWithin room.old room.new 21 }
+    ensures few { WritesAtMost room.old room.new 21 }
 {
     match kind {
         BareKind::Code(end) => write_code_end(room, end),

@@ -1,5 +1,5 @@
 ghost use Rattle.cap_text.specs.Card.{bad_index_text, card_kind_text, card_fault_text};
-ghost use Rattle.cap_text.specs.Room.{HasRoom, Writes, IsWithin};
+ghost use Rattle.cap_text.specs.Room.{HasRoom, Writes, WritesAtMost};
 
 use crate::bare::{write_bad_target, write_code_end};
 use crate::flow::write_place;
@@ -11,7 +11,7 @@ use card_typing::{CardFault, CardKind};
 fn write_kind(room: &mut Room, kind: CardKind)
     requires { HasRoom room.old 69 }
     ensures writes { Writes room.old room.new (card_kind_text kind) }
-    ensures few { IsWithin room.old room.new 69 }
+    ensures few { WritesAtMost room.old room.new 69 }
 {
     match kind {
         CardKind::Code(end) => write_code_end(room, end),
@@ -31,7 +31,7 @@ fn write_kind(room: &mut Room, kind: CardKind)
 fn write_bad_index(room: &mut Room, entry: u32)
     requires { HasRoom room.old 29 }
     ensures writes { Writes room.old room.new (bad_index_text entry) }
-    ensures few { IsWithin room.old room.new 29 }
+    ensures few { WritesAtMost room.old room.new 29 }
 {
     room.write("BadIndex ");
     room.write_long(u64::from(entry));
@@ -41,7 +41,7 @@ fn write_bad_index(room: &mut Room, entry: u32)
 pub(crate) fn write_card_fault(room: &mut Room, fault: CardFault)
     requires { HasRoom room.old 81 }
     ensures writes { Writes room.old room.new (card_fault_text fault) }
-    ensures few { IsWithin room.old room.new 81 }
+    ensures few { WritesAtMost room.old room.new 81 }
 {
     write_place(room, fault.place);
     write_kind(room, fault.kind);

@@ -1,5 +1,5 @@
 ghost use Rattle.std.specs.Prelude.{◌≡◌};
-ghost use Rattle.cap_text.specs.Room.{HasRoom, Writes, IsWithin};
+ghost use Rattle.cap_text.specs.Room.{HasRoom, Writes, WritesAtMost};
 ghost use Rattle.cap_text.specs.Ending.{reference_text, value_text, missing_text, plain_text, fault_name, fault_text, ending_line, static_line, kind_name, array_head, element_text};
 
 use crate::room::Room;
@@ -10,7 +10,7 @@ use vm_step::{Ending, Fault, Plain, Value};
 fn write_reference(room: &mut Room, handle: u16)
     requires { HasRoom room.old 15 }
     ensures writes { Writes room.old room.new (reference_text handle) }
-    ensures few { IsWithin room.old room.new 15 }
+    ensures few { WritesAtMost room.old room.new 15 }
 {
     room.write("reference ");
     room.write_number(handle);
@@ -20,7 +20,7 @@ fn write_reference(room: &mut Room, handle: u16)
 fn write_value(room: &mut Room, value: Value)
     requires { HasRoom room.old 17 }
     ensures writes { Writes room.old room.new (value_text value) }
-    ensures few { IsWithin room.old room.new 17 }
+    ensures few { WritesAtMost room.old room.new 17 }
 {
     match value {
         Value::Void => room.write("void"),
@@ -41,7 +41,7 @@ fn write_value(room: &mut Room, value: Value)
 fn write_missing(room: &mut Room, class: u16)
     requires { HasRoom room.old 29 }
     ensures writes { Writes room.old room.new (missing_text class) }
-    ensures few { IsWithin room.old room.new 29 }
+    ensures few { WritesAtMost room.old room.new 29 }
 {
     room.write("interface missing class ");
     room.write_number(class);
@@ -51,7 +51,7 @@ fn write_missing(room: &mut Room, class: u16)
 fn write_plain(room: &mut Room, plain: Plain)
     requires { HasRoom room.old 33 }
     ensures writes { Writes room.old room.new (plain_text plain) }
-    ensures few { IsWithin room.old room.new 33 }
+    ensures few { WritesAtMost room.old room.new 33 }
 {
     match plain {
         Plain::Returned(value) => {
@@ -87,7 +87,7 @@ fn fault_name(fault: Fault) -> &'static str
 fn write_fault(room: &mut Room, fault: Fault)
     requires { HasRoom room.old 11 }
     ensures writes { Writes room.old room.new (fault_text fault) }
-    ensures few { IsWithin room.old room.new 11 }
+    ensures few { WritesAtMost room.old room.new 11 }
 {
     room.write("fault ");
     room.write(fault_name(fault));
@@ -97,7 +97,7 @@ fn write_fault(room: &mut Room, fault: Fault)
 pub fn write_ending(room: &mut Room, ending: Ending)
     requires { HasRoom room.old 34 }
     ensures writes { Writes room.old room.new (ending_line ending) }
-    ensures few { IsWithin room.old room.new 34 }
+    ensures few { WritesAtMost room.old room.new 34 }
 {
     match ending {
         Ending::Plain(plain) => write_plain(room, plain),
@@ -110,7 +110,7 @@ pub fn write_ending(room: &mut Room, ending: Ending)
 pub fn write_static(room: &mut Room, number: u16, value: Value)
     requires { HasRoom room.old 31 }
     ensures writes { Writes room.old room.new (static_line number value) }
-    ensures few { IsWithin room.old room.new 31 }
+    ensures few { WritesAtMost room.old room.new 31 }
 {
     room.write("static ");
     room.write_number(number);
@@ -137,7 +137,7 @@ fn kind_name(ty: Ty) -> &'static str
 pub fn write_array_head(room: &mut Room, handle: u16, ty: Ty, count: u16)
     requires { HasRoom room.old 25 }
     ensures writes { Writes room.old room.new (array_head handle ty count) }
-    ensures few { IsWithin room.old room.new 25 }
+    ensures few { WritesAtMost room.old room.new 25 }
 {
     room.write("array ");
     room.write_number(handle);
@@ -151,7 +151,7 @@ pub fn write_array_head(room: &mut Room, handle: u16, ty: Ty, count: u16)
 pub fn write_element(room: &mut Room, n: i32)
     requires { HasRoom room.old 12 }
     ensures writes { Writes room.old room.new (element_text n) }
-    ensures few { IsWithin room.old room.new 12 }
+    ensures few { WritesAtMost room.old room.new 12 }
 {
     room.write(" ");
     room.write_signed(n);

@@ -41,7 +41,12 @@ fn printed(fault: PackFault) -> Printed
         }
         PackFault::MethodOutside(at) => Printed::One("MethodOutside", at as u64),
         PackFault::CountDisagrees(what, said, found) => {
-            Printed::Three("CountDisagrees", what as u64, said as u64, found as u64)
+            Printed::Three(
+                "CountDisagrees",
+                what.number() as u64,
+                said as u64,
+                found as u64,
+            )
         }
         PackFault::HandlerOutside(number) => Printed::One("HandlerOutside", number as u64),
         PackFault::StaticOverlaps(first, second) => {

@@ -1,5 +1,5 @@
 ghost use Rattle.cap_text.specs.Flow.{place_text, flow_end_text};
-ghost use Rattle.cap_text.specs.Room.{HasRoom, Writes, IsWithin};
+ghost use Rattle.cap_text.specs.Room.{HasRoom, Writes, WritesAtMost};
 
 use crate::bare::{write_bad_target, write_code_end};
 use crate::room::Room;
@@ -10,7 +10,7 @@ use jc_flow::FlowEnd;
 pub(crate) fn write_place(room: &mut Room, place: u16)
     requires { HasRoom room.old 12 }
     ensures writes { Writes room.old room.new (place_text place) }
-    ensures few { IsWithin room.old room.new 12 }
+    ensures few { WritesAtMost room.old room.new 12 }
 {
     room.write("place ");
     room.write_number(place);
@@ -21,7 +21,7 @@ pub(crate) fn write_place(room: &mut Room, place: u16)
 pub(crate) fn write_flow_end(room: &mut Room, end: FlowEnd)
     requires { HasRoom room.old 81 }
     ensures writes { Writes room.old room.new (flow_end_text end) }
-    ensures few { IsWithin room.old room.new 81 }
+    ensures few { WritesAtMost room.old room.new 81 }
 {
     match end {
         FlowEnd::NoTyping(place, fault) => {

@@ -1,7 +1,7 @@
 ghost use Rattle.std.specs.Prelude.{◌≡◌, ◌≢◌, IfOk, string_bytes};
 ghost use Rattle.jc_flow.specs.declared.end.FlowEnd.TheVariants.{Memory};
 ghost use Rattle.cap_text.specs.Line.{malformed_line, not_linked_line, not_started_line, refused_bare_line, typed_line, method_text, refused_flow_line, accepted_line, refused_card_line, bare_ending_line};
-ghost use Rattle.cap_text.specs.Room.{HasRoom, Writes, IsWithin};
+ghost use Rattle.cap_text.specs.Room.{HasRoom, Writes, WritesAtMost};
 
 use crate::bare::write_bare_kind;
 use crate::card::write_card_fault;
@@ -39,7 +39,7 @@ pub struct MethodNumber {
 fn write_method(room: &mut Room, method: MethodNumber)
     requires { HasRoom room.old 32 }
     ensures writes { Writes room.old room.new (method_text method) }
-    ensures few { IsWithin room.old room.new 32 }
+    ensures few { WritesAtMost room.old room.new 32 }
 {
     room.write("package ");
     room.write_number(method.package);

@@ -1,7 +1,7 @@
 ghost use Rattle.std.specs.Prelude.{◌≡◌, ◌+◌, length, decimal, string_bytes, IfOk};
 ghost use Rattle.std.specs.Fmt.{signed_decimal};
 ghost use Rattle.cap_text.specs.Fault.{name_1};
-ghost use Rattle.cap_text.specs.Room.{HasRoom, Writes, IsEmpty, IsWithin};
+ghost use Rattle.cap_text.specs.Room.{HasRoom, Writes, IsEmpty, WritesAtMost};
 
 use itoa::Buffer;
 use std::alloc::{AllocError, Global};
@@ -49,7 +49,7 @@ impl Room {
     pub fn write_number(&mut self, n: u16)
         requires { HasRoom self.old 5 }
         ensures writes { Writes self.old self.new (decimal n) }
-        ensures few { IsWithin self.old self.new 5 }
+        ensures few { WritesAtMost self.old self.new 5 }
     {
         self.write(Buffer::new().format(n));
     }
@@ -58,7 +58,7 @@ impl Room {
     pub fn write_long(&mut self, n: u64)
         requires { HasRoom self.old 20 }
         ensures writes { Writes self.old self.new (decimal n) }
-        ensures few { IsWithin self.old self.new 20 }
+        ensures few { WritesAtMost self.old self.new 20 }
     {
         self.write(Buffer::new().format(n));
     }
@@ -67,7 +67,7 @@ impl Room {
     pub fn write_named(&mut self, name: &str, n: u16)
         requires { HasRoom self.old (length name.now + 6) }
         ensures writes { Writes self.old self.new (name_1 name.now n) }
-        ensures few { IsWithin self.old self.new (length name.now + 6) }
+        ensures few { WritesAtMost self.old self.new (length name.now + 6) }
     {
         self.write(name);
         self.write(" ");
@@ -78,7 +78,7 @@ impl Room {
     pub fn write_signed(&mut self, n: i32)
         requires { HasRoom self.old 11 }
         ensures writes { Writes self.old self.new (signed_decimal n) }
-        ensures few { IsWithin self.old self.new 11 }
+        ensures few { WritesAtMost self.old self.new 11 }
     {
         self.write(Buffer::new().format(n));
     }

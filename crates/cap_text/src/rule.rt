@@ -1,5 +1,5 @@
 ghost use Rattle.std.specs.Prelude.{◌≡◌};
-ghost use Rattle.cap_text.specs.Room.{HasRoom, Writes, IsWithin};
+ghost use Rattle.cap_text.specs.Room.{HasRoom, Writes, WritesAtMost};
 ghost use Rattle.cap_text.specs.Rule.{fresh_text, type_text, mismatch_text, rule_fault_text};
 
 use crate::room::Room;
@@ -10,7 +10,7 @@ use jc_rules::RuleFault;
 fn write_type(room: &mut Room, ty: Ty)
     requires { HasRoom room.old 23 }
     ensures writes { Writes room.old room.new (type_text ty) }
-    ensures few { IsWithin room.old room.new 23 }
+    ensures few { WritesAtMost room.old room.new 23 }
 {
     match ty {
         Ty::Bottom => room.write("bottom"),
@@ -33,7 +33,7 @@ fn write_type(room: &mut Room, ty: Ty)
 fn write_fresh(room: &mut Room, place: u16, class: u16)
     requires { HasRoom room.old 23 }
     ensures writes { Writes room.old room.new (fresh_text place class) }
-    ensures few { IsWithin room.old room.new 23 }
+    ensures few { WritesAtMost room.old room.new 23 }
 {
     room.write("fresh ");
     room.write_number(place);
@@ -45,7 +45,7 @@ fn write_fresh(room: &mut Room, place: u16, class: u16)
 pub(crate) fn write_rule_fault(room: &mut Room, fault: RuleFault)
     requires { HasRoom room.old 69 }
     ensures writes { Writes room.old room.new (rule_fault_text fault) }
-    ensures few { IsWithin room.old room.new 69 }
+    ensures few { WritesAtMost room.old room.new 69 }
 {
     match fault {
         RuleFault::Underflow => room.write("Underflow"),
@@ -64,7 +64,7 @@ pub(crate) fn write_rule_fault(room: &mut Room, fault: RuleFault)
 fn write_mismatch(room: &mut Room, found: Ty, wanted: Ty)
     requires { HasRoom room.old 69 }
     ensures writes { Writes room.old room.new (mismatch_text found wanted) }
-    ensures few { IsWithin room.old room.new 69 }
+    ensures few { WritesAtMost room.old room.new 69 }
 {
     room.write("Mismatch found ");
     write_type(room, found);

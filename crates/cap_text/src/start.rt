@@ -1,4 +1,4 @@
-ghost use Rattle.cap_text.specs.Room.{HasRoom, Writes, IsWithin};
+ghost use Rattle.cap_text.specs.Room.{HasRoom, Writes, WritesAtMost};
 ghost use Rattle.cap_text.specs.Start.{count_text, start_fault_text};
 
 use crate::room::Room;
@@ -8,7 +8,7 @@ use vm_step::StartFault;
 pub(crate) fn write_start_fault(room: &mut Room, fault: StartFault)
     requires { HasRoom room.old 35 }
     ensures writes { Writes room.old room.new (start_fault_text fault) }
-    ensures few { IsWithin room.old room.new 35 }
+    ensures few { WritesAtMost room.old room.new 35 }
 {
     match fault {
         StartFault::NoEntry => room.write("NoEntry"),
@@ -23,7 +23,7 @@ pub(crate) fn write_start_fault(room: &mut Room, fault: StartFault)
 fn write_count(room: &mut Room, said: usize, wanted: u16)
     requires { HasRoom room.old 35 }
     ensures writes { Writes room.old room.new (count_text said wanted) }
-    ensures few { IsWithin room.old room.new 35 }
+    ensures few { WritesAtMost room.old room.new 35 }
 {
     room.write("ArgCount ");
     room.write_long(said as u64);

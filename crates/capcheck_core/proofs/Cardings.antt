@@ -4,47 +4,39 @@ use Rattle.std.specs.Prelude.{IfSome}
 use Rattle.std.specs.Int.{from_bool}
 use Rattle.std.proofs.lemmas.List.{take_all}
 use Rattle.std.proofs.lemmas.Option.{slice_get_within}
+use Rattle.jc_indexes.specs.Indexes.{has_code}
 use Rattle.jc_base.specs.declared.record.MethodRec.{MethodRec}
 use Rattle.jc_base.specs.World.{Linked, code_of}
-use Rattle.jc_control.specs.Method.{Method, IsMethodOf, method_with}
+use Rattle.jc_control.specs.Method.{IsMethodOf, method_with}
 use Rattle.card_typing.specs.declared.fault.CardFault.{CardFault}
 use Rattle.card_typing.specs.Typing.{HasCardTyping}
 use Rattle.jc_base.specs.declared.ty.Ty.TheVariants.{Bottom}
-use Rattle.jc_rules.specs.Flow.{HasFlowTyping}
-use Rattle.vm_sound.specs.Laws.{AreTypedMethods, TypedCodeIsFaultFree}
+use Rattle.vm_sound.specs.Laws.{TypedCodeIsFaultFree}
 use Rattle.card_verify.specs.Answers.{AreAccepted, AreAcceptedBefore, IsFirstRefused}
 use Rattle.cap_text.specs.declared.line.MethodNumber.{MethodNumber}
 use Rattle.cap_text.specs.Line.{accepted_line, refused_card_line}
 use Rattle.capcheck_core.specs.declared.verdict.Verdict.{Verdict}
 use Rattle.capcheck_core.specs.declared.verdict.Verdict.TheVariants.{Refused, Memory}
 use Rattle.jc_control.specs.Asked.{AllHaveBelow}
+use Rattle.vm_offend.proofs.Accepting.{accepted-typed}
+use Rattle.xf_pack.proofs.Passing.{method-is}
 use Rattle.capcheck_core.specs.Typed.{number_of}
-use Rattle.capcheck_core.specs.Verify.{has_code, count_of_world, AreCarded, IsCarded, IsUncarded, StopsAtCards, CardsWorld}
+use Rattle.capcheck_core.specs.Verify.{count_of_world, HaveCardTypings, TellsAccepted, TellsRefused, StopsAtRefused, AcceptsWorld}
 use Rattle.capcheck_core.proofs.Typings as typings
 use Rattle.capcheck_core.proofs.Typings.{counted}
-
--- a method of the world is the one of its number and record
-same_method : (w : Linked) (m : Method) → IsMethodOf w m → method_with w m.number m.rec ≡ m
-same_method w m is = let code = sym is.code in λ i. record { number = m.number; rec = m.rec; code = code i }
 
 below_carded : (w : Linked) (n : ℕ) → AreAcceptedBefore w n → AllHaveBelow (IsMethodOf w) (HasCardTyping w) n
 below_carded w n all m is below =
     let code : 0 < m.rec.code_len = typings.has_code w.infos m.rec (subst (λ c. 0 < length c) is.code is.filled) in
-    subst (HasCardTyping w) (same_method w m is) (all m.number below m.rec is.rec code).card
+    subst (HasCardTyping w) (method-is w m is) (all m.number below m.rec is.rec code).card
 
-pub all_carded : (w : Linked) → AreAccepted w → AreCarded w
+pub all_carded : (w : Linked) → AreAccepted w → HaveCardTypings w
 all_carded w all m is = below_carded w (length w.methods) all m is (slice_get_within w.methods m.number m.rec is.rec)
 
--- each of them has a dataflow typing, in which an unset register holds no value
-pub all_typed : (w : Linked) → AreAccepted w → AreTypedMethods w Bottom
-all_typed w all m is =
-    let code : 0 < m.rec.code_len = typings.has_code w.infos m.rec (subst (λ c. 0 < length c) is.code is.filled) in
-    subst (λ k. HasFlowTyping w k Bottom) (same_method w m is) (all m.number (slice_get_within w.methods m.number m.rec is.rec) m.rec is.rec code).flow
-
 -- the text says how many are accepted
-pub carded : (w : Linked) (count : ℕ) (text : List ℕ) → AreAccepted w → TypedCodeIsFaultFree w → count ≡ count_of_world w → text ≡ accepted_line count → IsCarded w text
+pub carded : (w : Linked) (count : ℕ) (text : List ℕ) → AreAccepted w → TypedCodeIsFaultFree w → count ≡ count_of_world w → text ≡ accepted_line count → TellsAccepted w text
 carded w count text all free counts prints =
-    record { carded = all_carded w all; fault_free = free Bottom (all_typed w all); prints = prints ∙ ap accepted_line counts }
+    record { carded = all_carded w all; fault_free = free Bottom (accepted-typed w all); prints = prints ∙ ap accepted_line counts }
 
 -- ---- the count of them
 
@@ -71,7 +63,7 @@ filled w (Some r) rec code at is long some =
 
 pub first_uncarded : (w : Linked) (n : ℕ) (fault : CardFault) (code : List ℕ) (number : MethodNumber) (text : List ℕ) → IsFirstRefused w n fault
     → option_map (code_of w.infos) (slice_get w.methods n) ≡ Some code → IfSome (slice_get w.methods n) (λ m. length code ≡ m.code_len)
-    → option_map number_of (slice_get w.methods n) ≡ Some number → text ≡ refused_card_line number fault → IsUncarded w text
+    → option_map number_of (slice_get w.methods n) ≡ Some number → text ≡ refused_card_line number fault → TellsRefused w text
 first_uncarded w n fault code number text f is long named prints =
     let same : Some (number_of f.here.rec) ≡ Some number = sym (ap (option_map number_of) f.here.is) ∙ named in
     let numbers : number ≡ number_of f.here.rec = cc in
@@ -89,7 +81,7 @@ first_uncarded w n fault code number text f is long named prints =
     }
 
 -- where each method with code has a card typing, none is refused
-pub none_refused : (w : Linked) (n : ℕ) (fault : CardFault) (code : List ℕ) → AreCarded w → IsFirstRefused w n fault
+pub none_refused : (w : Linked) (n : ℕ) (fault : CardFault) (code : List ℕ) → HaveCardTypings w → IsFirstRefused w n fault
     → option_map (code_of w.infos) (slice_get w.methods n) ≡ Some code → IfSome (slice_get w.methods n) (λ m. length code ≡ m.code_len) → ⊥
 none_refused w n fault code carded f is long =
     f.here.refused.none
@@ -100,7 +92,7 @@ pub number_below : (w : Linked) (n : ℕ) (fault : CardFault) → IsFirstRefused
 number_below w n fault f = slice_get_within w.methods n f.here.rec f.here.is
 
 -- where a method is refused, that is the verdict for the world
-pub refused_world : (w : Linked) (verdict : Verdict) → StopsAtCards w verdict → CardsWorld w verdict
+pub refused_world : (w : Linked) (verdict : Verdict) → StopsAtRefused w verdict → AcceptsWorld w verdict
 refused_world w (Refused text) stops = stops
 refused_world w Memory stops = tt {0}
 refused_world w _ stops = absurd stops

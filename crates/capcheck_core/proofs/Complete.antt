@@ -21,9 +21,9 @@ use Rattle.capcheck_core.specs.declared.verdict.Verdict.{Verdict}
 use Rattle.capcheck_core.specs.declared.verdict.Verdict.TheVariants.{Done, Refused, Limit, Malformed, Usage, ReadFault, StoreFault, Memory}
 use Rattle.capcheck_core.specs.Verdict.{status_of}
 use Rattle.capcheck_core.specs.Check.{ChecksWorld, Checks}
-use Rattle.capcheck_core.specs.Verify.{AreCarded, VerifiesWorld, Verifies}
+use Rattle.capcheck_core.specs.Verify.{HaveCardTypings, VerifiesWorld, Verifies}
 use Rattle.capcheck_core.specs.Defend.{run_fault, DefendsWorld, Defends}
-use Rattle.capcheck_core.specs.Run.{RunsWorld, Runs}
+use Rattle.capcheck_core.specs.Run.{RunsWorld, RunsVerified}
 use Rattle.capcheck_core.specs.Transform.{StopsBefore, TransformsWorld, Transforms}
 use Rattle.capcheck_core.specs.Trial.{TriesWorld, Tries}
 use Rattle.capcheck_core.specs.World.{of_world}
@@ -162,7 +162,7 @@ can_check c before after sink put verdict can calm checks =
     ]
 
 -- the last step of a verifying refuses no world in which all methods have card typings
-cards : (w : Linked) (before after : Outside) (verdict : Verdict) → AreCarded w → VerifiesWorld w before after verdict → (status_of verdict ≡ 0) ⊎ (status_of verdict ≡ 6)
+cards : (w : Linked) (before after : Outside) (verdict : Verdict) → HaveCardTypings w → VerifiesWorld w before after verdict → (status_of verdict ≡ 0) ⊎ (status_of verdict ≡ 6)
 cards w before after (Done text) carded verifies = inl refl
 cards w before after Memory carded verifies = inr refl
 cards w before after (Refused text) carded verifies = absurd (verifies.1.first.lacks (carded verifies.1.method verifies.1.first.asked))
@@ -201,7 +201,7 @@ can_defend r before after sink put verdict can calm answers =
     ]
 
 -- nor does that of a run on the machine of verified code, where all methods have card typings
-ran : (r : RunRequest) (w : Linked) (before after : Outside) (verdict : Verdict) → AreCarded w → run_fault w r ≡ None → RunsWorld r w before after verdict
+ran : (r : RunRequest) (w : Linked) (before after : Outside) (verdict : Verdict) → HaveCardTypings w → run_fault w r ≡ None → RunsWorld r w before after verdict
     → (status_of verdict ≡ 0) ⊎ (status_of verdict ≡ 6)
 ran r w before after (Done text) carded begins own = inl refl
 ran r w before after Memory carded begins own = inr refl
@@ -213,7 +213,7 @@ ran r w before after ReadFault carded begins own = absurd own.1
 ran r w before after StoreFault carded begins own = absurd own.1
 
 can_run : (r : RunRequest) (before after : Outside) (sink put : Seen) (verdict : Verdict) → CanRun r before.folders → NoFault before.folders after.folders sink put
-    → Runs r before after verdict → (status_of verdict ≡ 0) ⊎ (status_of verdict ≡ 6)
+    → RunsVerified r before after verdict → (status_of verdict ≡ 0) ⊎ (status_of verdict ≡ 6)
 can_run r before after sink put verdict can calm answers =
     elim (reaches (of_world (RunsWorld r)) r.dirs before after can.world verdict can.links calm.loads answers) [
       | inl memory ↦ inr memory
@@ -282,7 +282,7 @@ has_generated : (g : GenerateRequest) (w : Linked) (before after : Outside) (sin
     → GeneratesIn g w before after verdict → (status_of verdict ≡ 0) ⊎ (status_of verdict ≡ 6)
 has_generated g w before after sink put (Done text) within short calm own = inl refl
 has_generated g w before after sink put Memory within short calm own = inr refl
-has_generated g w before after sink put StoreFault within short calm own = absurd (calm.stores own.broken.rose)
+has_generated g w before after sink put StoreFault within short calm own = absurd (calm.stores own.0.broken.rose)
 has_generated g w before after sink put (Limit text) within short calm (same, inl says) = absurd (within says.is.method says.is.of_last says.limit says.is.passes)
 has_generated g w before after sink put (Limit text) within short calm (same, inr says) = absurd (short says.size says.is)
 has_generated g w before after sink put (Refused text) within short calm own = absurd own

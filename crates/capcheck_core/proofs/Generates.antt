@@ -1,8 +1,7 @@
 -- The package that is generated makes one world, in which its methods can be run.
-use Rattle.std.proofs.Common.{◌≡◌, ◌⊎◌, ◌<◌, ◌+◌, ◌-◌, ◌/◌, ◌%◌, ℕ, zero, suc, ℤ, pos, Bool, true, false, List, [], ◌∷◌, ◌++◌, length, map, Option, Some, None, inl, inr, refl, sym, ap, subst, ◌∙◌, arith, get_or}
+use Rattle.std.proofs.Common.{◌≡◌, ◌⊎◌, ◌<◌, ◌+◌, ◌-◌, ◌/◌, ◌%◌, ℕ, zero, suc, ℤ, pos, Bool, true, false, List, [], ◌∷◌, ◌++◌, length, map, Option, Some, None, inl, inr, refl, sym, ap, subst, ◌∙◌, arith}
 use Rattle.std.specs.Prelude.{slice_get, not, nat_lt, if◌then◌else◌, fold, ◌+ℤ◌, IsSomeAnd, IfOk, MatchBool, MatchResult, Result, Ok, Err, string_bytes}
 use Rattle.std.specs.List.{range_with_len}
-use Rattle.std.proofs.lemmas.List.FromFn.{get_or-map-range_with_len}
 use Rattle.cap_gen.specs.Linked.{roles, method_record}
 use Rattle.cap_gen.specs.Record.{package_record}
 use Rattle.cap_package.specs.PackageRecord.{PackageRecord}
@@ -44,16 +43,17 @@ use Rattle.vm_store.specs.declared.cell.Cell.{Cell}
 use Rattle.vm_offend.specs.Held.{ending_of, Follows}
 use Rattle.xf_landed.specs.Apart.{IsSameBut}
 use Rattle.cap_text.specs.Generate.{GenerateRequest, generate_text}
+use Rattle.vm_offend.proofs.Accepting.{accepted-typed}
+use Rattle.cap_gen.proofs.Placed.{at_each}
 use Rattle.capcheck_core.specs.declared.verdict.Verdict.{Verdict}
 use Rattle.capcheck_core.specs.declared.verdict.Verdict.TheVariants.{Done, Refused, Limit, Malformed, Usage, ReadFault, StoreFault, Memory}
 use Rattle.capcheck_core.specs.Generate.{generated, run_of, short_of, short_ended, AreRun, ComeOfRuns, HaveEntries, GeneratesIn, IsNew, IsRunOf, RunsAll, TellsParts}
 use Rattle.capcheck_core.specs.Defend.{ComesTo, method_entered}
-use Rattle.capcheck_core.specs.Outside.{Card, Outside, card}
+use Rattle.capcheck_core.specs.Outside.{Card, Outside, Untouched, card}
 use Rattle.capcheck_core.specs.Run.{HoldsWords}
 use Rattle.capcheck_core.specs.Stores.{AreInOrder, AreStored}
 use Rattle.capcheck_core.specs.Transform.{StopsBefore}
-use Rattle.capcheck_core.specs.Verify.{AreCarded}
-use Rattle.capcheck_core.proofs.Cardings.{all_typed}
+use Rattle.capcheck_core.specs.Verify.{HaveCardTypings}
 use Rattle.capcheck_core.proofs.Ran.{holds, wider}
 use Rattle.capcheck_core.proofs.Trials.{infos_counted, with_made, has_new, never_at_fault}
 use Rattle.capcheck_core.proofs.WorldComplete.{one_package}
@@ -65,7 +65,7 @@ module _ (g : GenerateRequest) (w : Linked) (linked : IsLinked (generated g.seed
   one_info : length w.infos ≡ 1
   one_info = infos_counted (generated g.seed) roles w linked
 
-  pub unbrought : (before after : Outside) (verdict : Verdict) → after.folders ≡ before.folders → StopsBefore (generated g.seed) w verdict
+  pub unbrought : (before after : Outside) (verdict : Verdict) → Untouched before after → StopsBefore (generated g.seed) w verdict
       → GeneratesIn g w before after verdict
   unbrought before after (Done text) same stops = absurd stops
   unbrought before after (Malformed text) same stops = absurd stops
@@ -79,11 +79,6 @@ module _ (g : GenerateRequest) (w : Linked) (linked : IsLinked (generated g.seed
       absurd (says.is.first.lacks (typed g.seed w linked says.is.method says.is.first.asked.method))
 
 -- ---- the methods begin
-
-at_each : {X : Type 0} (f h : ℕ → X) (d : X) (k : ℕ) → map f (range_with_len 0 200) ≡ map h (range_with_len 0 200) → k < 200 → f k ≡ h k
-at_each f h d k e below =
-    sym (get_or-map-range_with_len f 0 200 k k d below (omega arith))
-    ∙ (ap (λ (xs : List _). get_or xs k d) e ∙ get_or-map-range_with_len h 0 200 k k d below (omega arith))
 
 abbrev all_methods : List MethodRec
 all_methods = map method_record (range_with_len 0 200)
@@ -292,10 +287,10 @@ module _ (seed : ℕ) (w : Linked) (parts : List Lent) (made : PackageRecord) (a
     is_linked fault tells = never_at_fault (generated seed) roles w parts t all fault alone tells
 
 -- with the world, of which all is accepted
-pub run_in_card : {E : Type 0} (w : Linked) (ram heap fields others : List ℕ) (end : Result ℤ E) → length fields ≡ static_cells w → AreCarded w → AreAccepted w
+pub run_in_card : {E : Type 0} (w : Linked) (ram heap fields others : List ℕ) (end : Result ℤ E) → length fields ≡ static_cells w → HaveCardTypings w → AreAccepted w
     → TypedCodeIsFaultFree w → IfOk end (AreRun w (card ram heap fields)) → IfOk end (RunsAll w (card ram heap (fields ++ others)))
 run_in_card w ram heap fields others (Ok sum) long carded accepted free run =
-    (carded, free Bottom (all_typed w accepted), run_wider w ram heap fields others sum long run)
+    (carded, free Bottom (accepted-typed w accepted), run_wider w ram heap fields others sum long run)
 run_in_card w ram heap fields others (Err e) long carded accepted free run = tt {0}
 
 -- as many packages make the new world
@@ -313,8 +308,8 @@ pub entries_there : (seed : ℕ) (w new : Linked) (parts : List Lent) (size : �
 entries_there seed w new parts size linked world n alike numbered =
     new_entries w new (entries seed w linked world) (subst (λ v. IsSameBut w v) n.world n.made.anew.same) (new_counted seed w new parts size linked n) alike numbered
 
-pub carded_there : (seed : ℕ) (w new : Linked) (parts : List Lent) (size : ℕ) → IsNew seed w parts new size → AreCarded new
-carded_there seed w new parts size n = subst AreCarded n.world n.made.anew.carded
+pub carded_there : (seed : ℕ) (w new : Linked) (parts : List Lent) (size : ℕ) → IsNew seed w parts new size → HaveCardTypings new
+carded_there seed w new parts size n = subst HaveCardTypings n.world n.made.anew.carded
 
 pub told_of : {E : Type 0} (seed : ℕ) (w new : Linked) (parts : List Lent) (c : Card) (size made_size : ℕ) (sum : ℤ) (text : Result _ E) (verdict : Verdict)
     → IsNew seed w parts new made_size → size ≡ length (method_info seed) → RunsAll new c sum → IfOk text (λ t. string_bytes t ≡ generate_text size made_size sum)

@@ -19,7 +19,7 @@ use Rattle.capcheck_core.specs.OverFolders.{StopsAtLoad}
 use Rattle.capcheck_core.specs.Outside.{Outside}
 use Rattle.capcheck_core.specs.Packages.{HasPackage, LacksPackage, IsFirstWhere}
 use Rattle.capcheck_core.specs.Roles.{AreRolesIn}
-use Rattle.capcheck_core.specs.PackageEnds.{IsWhole, AreAdded, AreLoaded, LoadsRoles, LoadsPackage, LoadsOthers, LoadsPackages, PackagesStopLeaves, IsStop}
+use Rattle.capcheck_core.specs.PackageEnds.{IsLoadedPackage, AreAdded, AreAllLoaded, LoadsRoles, LoadsPackage, LoadsOthers, LoadsPackages, PackagesStopLeaves, IsStop}
 
 module _ (before : Folders) where
   -- no folder adds a package
@@ -28,7 +28,7 @@ module _ (before : Folders) where
 
   -- one more folder adds one more package
   added_one : (dirs : List (List ℕ)) (dir : List ℕ) (old new : List (List Lent)) (parts : List Lent)
-      → AreAdded before dirs old new → IsWhole before dir parts → AreAdded before (dirs ++ dir ∷ []) old (new ++ parts ∷ [])
+      → AreAdded before dirs old new → IsLoadedPackage before dir parts → AreAdded before (dirs ++ dir ∷ []) old (new ++ parts ∷ [])
   added_one dirs dir old new parts a w = record {
     more = a.more ++ parts ∷ [];
     adds = ap (λ ps. ps ++ parts ∷ []) a.adds ∙ append_assoc old a.more (parts ∷ []);
@@ -37,10 +37,10 @@ module _ (before : Folders) where
   }
 
   pub one_added : (now : Folders) (dirs : List (List ℕ)) (dir : List ℕ) (old new : List (List Lent)) (parts : List Lent) → now ≡ before
-      → AreAdded before dirs old new → IsWhole now dir parts → AreAdded before (dirs ++ dir ∷ []) old (new ++ parts ∷ [])
-  one_added now dirs dir old new parts same a w = added_one dirs dir old new parts a (subst (λ f. IsWhole f dir parts) same w)
+      → AreAdded before dirs old new → IsLoadedPackage now dir parts → AreAdded before (dirs ++ dir ∷ []) old (new ++ parts ∷ [])
+  one_added now dirs dir old new parts same a w = added_one dirs dir old new parts a (subst (λ f. IsLoadedPackage f dir parts) same w)
 
-  has_package : (dir : List ℕ) (parts : List Lent) → IsWhole before dir parts → HasPackage before dir
+  has_package : (dir : List ℕ) (parts : List Lent) → IsLoadedPackage before dir parts → HasPackage before dir
   has_package dir parts w = record { parts = parts; loaded = w.loaded; whole = w.whole }
 
   -- after folders that have packages, the next one is the first of which something is true
@@ -85,7 +85,7 @@ module _ (before : Folders) where
   stopped_first after dir dirs (TooMany count) few loads = absurd loads
 
   -- after the first package its roles stop the loads
-  stopped_roles : (after : Folders) (dir : List ℕ) (dirs : List (List ℕ)) (parts : List Lent) (stop : PackagesStop) → length dirs ≤ 15 → IsWhole before dir parts
+  stopped_roles : (after : Folders) (dir : List ℕ) (dirs : List (List ℕ)) (parts : List Lent) (stop : PackagesStop) → length dirs ≤ 15 → IsLoadedPackage before dir parts
       → LoadsRoles before after dir (Err stop) → LoadsPackages before after (dir ∷ dirs) (Err stop)
   stopped_roles after dir dirs parts (Malformed n fault) few w loads =
       record { few = omega (arith, few); first = inr (inl (record { has = has_package dir parts w; holds = loads })) }
@@ -94,13 +94,13 @@ module _ (before : Folders) where
   stopped_roles after dir dirs parts Memory few w loads = tt {0}
   stopped_roles after dir dirs parts (TooMany count) few w loads = absurd loads
 
-  pub stopped_at_roles : (now after : Folders) (dir : List ℕ) (dirs : List (List ℕ)) (parts : List Lent) (stop : PackagesStop) → now ≡ before → length dirs ≤ 15 → IsWhole before dir parts
+  pub stopped_at_roles : (now after : Folders) (dir : List ℕ) (dirs : List (List ℕ)) (parts : List Lent) (stop : PackagesStop) → now ≡ before → length dirs ≤ 15 → IsLoadedPackage before dir parts
       → LoadsRoles now after dir (Err stop) → LoadsPackages before after (dir ∷ dirs) (Err stop)
   stopped_at_roles now after dir dirs parts stop same few w loads = stopped_roles after dir dirs parts stop few w (subst (λ f. LoadsRoles f after dir (Err stop)) same loads)
 
   -- after the first package and its roles the others stop the loads
   stopped_others : (after : Folders) (dir : List ℕ) (dirs : List (List ℕ)) (parts : List Lent) (roles : List ℕ) (old new : List (List Lent)) (stop : PackagesStop)
-      → length dirs ≤ 15 → IsWhole before dir parts → AreRolesIn before dir roles → old ≡ parts ∷ []
+      → length dirs ≤ 15 → IsLoadedPackage before dir parts → AreRolesIn before dir roles → old ≡ parts ∷ []
       → LoadsOthers before after dirs old new (Err stop) → LoadsPackages before after (dir ∷ dirs) (Err stop)
   stopped_others after dir dirs parts roles old new (Malformed n fault) few w r one loads =
       let first = subst (λ k. IsFirstWhere before k dirs (λ m d. (n ≡ m) × LacksPackage before d fault)) (ap length one) loads in
@@ -112,15 +112,15 @@ module _ (before : Folders) where
   stopped_others after dir dirs parts roles old new (TooMany count) few w r one loads = absurd loads
 
   pub stopped_after : (now after : Folders) (dir : List ℕ) (dirs : List (List ℕ)) (parts : List Lent) (roles : List ℕ) (old new : List (List Lent)) (stop : PackagesStop)
-      → now ≡ before → length dirs ≤ 15 → IsWhole before dir parts → AreRolesIn before dir roles → old ≡ parts ∷ []
+      → now ≡ before → length dirs ≤ 15 → IsLoadedPackage before dir parts → AreRolesIn before dir roles → old ≡ parts ∷ []
       → LoadsOthers now after dirs old new (Err stop) → LoadsPackages before after (dir ∷ dirs) (Err stop)
   stopped_after now after dir dirs parts roles old new stop same few w r one loads =
       stopped_others after dir dirs parts roles old new stop few w r one (subst (λ f. LoadsOthers f after dirs old new (Err stop)) same loads)
 
   -- with the first package and its roles the others are all
   loaded_all : (dir : List ℕ) (dirs : List (List ℕ)) (parts : List Lent) (old : List (List Lent)) (loaded : Loaded)
-      → length dirs ≤ 15 → IsWhole before dir parts → AreRolesIn before dir loaded.roles → old ≡ parts ∷ []
-      → AreAdded before dirs old loaded.packages.items → AreLoaded before (dir ∷ dirs) loaded
+      → length dirs ≤ 15 → IsLoadedPackage before dir parts → AreRolesIn before dir loaded.roles → old ≡ parts ∷ []
+      → AreAdded before dirs old loaded.packages.items → AreAllLoaded before (dir ∷ dirs) loaded
   loaded_all dir dirs parts old loaded few w r one added =
       let all : parts ∷ added.more ≡ loaded.packages.items = sym (added.adds ∙ ap (λ ps. ps ++ added.more) one) in
       record {
@@ -130,8 +130,8 @@ module _ (before : Folders) where
       }
 
   pub all_loaded : (now : Folders) (dir : List ℕ) (dirs : List (List ℕ)) (parts : List Lent) (old : List (List Lent)) (loaded : Loaded)
-      → now ≡ before → length dirs ≤ 15 → IsWhole before dir parts → AreRolesIn before dir loaded.roles → old ≡ parts ∷ []
-      → AreAdded now dirs old loaded.packages.items → AreLoaded before (dir ∷ dirs) loaded
+      → now ≡ before → length dirs ≤ 15 → IsLoadedPackage before dir parts → AreRolesIn before dir loaded.roles → old ≡ parts ∷ []
+      → AreAdded now dirs old loaded.packages.items → AreAllLoaded before (dir ∷ dirs) loaded
   all_loaded now dir dirs parts old loaded same few w r one added =
       loaded_all dir dirs parts old loaded few w r one (subst (λ f. AreAdded f dirs old loaded.packages.items) same added)
 

@@ -1,6 +1,6 @@
 -- What a run on the machine of verified code leaves: its words, and the text of them.
 use Rattle.std.proofs.Common.{◌≡◌, ℕ, List, ◌++◌, length, map, take, Option, Some, None, zero, suc, refl, sym, ap, subst, ◌∙◌}
-use Rattle.std.specs.Prelude.{slice_get, option_map, option_and_then, Result, Ok, Err, MatchResult}
+use Rattle.std.specs.Prelude.{slice_get, option_map, option_and_then, Result, Ok, Err, MatchResult, OnErr}
 use Rattle.std.proofs.Math.Seq.{take-append_seam, take-length}
 use Rattle.jc_base.specs.declared.record.StaticRec.{StaticRec}
 use Rattle.jc_base.specs.World.{Linked}
@@ -22,18 +22,20 @@ use Rattle.vm_words.specs.declared.words.Counts.{Counts}
 use Rattle.vm_words.specs.Words.{words_state}
 use Rattle.vm_offend.specs.declared.machine.Machine.{Machine}
 use Rattle.vm_offend.specs.Sized.{static_cells}
-use Rattle.vm_offend.specs.Held.{AreWordsOf, IsReached, Follows, state_of, ending_of}
+use Rattle.vm_offend.specs.Held.{AreWordsOf, IsOutcomeOfRun, Follows, state_of, ending_of}
 use Rattle.vm_offend.specs.Begun.{IsBegun}
-use Rattle.vm_text.specs.Left.{Left, numbers_of, left_by}
-use Rattle.vm_text.specs.Lent.{words_left, IsLentRun}
+use Rattle.vm_text.specs.Left.{Readout, numbers_of, left_by}
+use Rattle.vm_text.specs.Lent.{lent_state, IsLentRun}
 use Rattle.vm_text.specs.Laws.{TextsAreAlike}
 use Rattle.vm_text.specs.Text.{left_text, run_text, outcome_text}
 use Rattle.cap_text.specs.Room.{Roomed, IsEmpty, Writes}
 use Rattle.cap_text.specs.Run.{RunRequest}
 use Rattle.capcheck_core.specs.declared.running.RunStop.{RunStop}
-use Rattle.capcheck_core.specs.Outside.{card}
+use Rattle.capcheck_core.specs.declared.verdict.Verdict.{Verdict}
+use Rattle.capcheck_core.specs.declared.verdict.Verdict.TheVariants.{Done, Refused, Limit, Malformed, Usage, ReadFault, StoreFault, Memory}
+use Rattle.capcheck_core.specs.Outside.{Card, card}
 use Rattle.capcheck_core.specs.Defend.{method_entered}
-use Rattle.capcheck_core.specs.Run.{HoldsWords, IsLeft, IsRun, StopsRun}
+use Rattle.capcheck_core.specs.Run.{HoldsWords, IsCardKept, IsLeft, IsRun, StopsRun}
 
 -- ---- the words of an outcome
 
@@ -74,10 +76,10 @@ pub lent_in : (w v : Linked) (heap statics : List ℕ) (counts : Counts) → w �
 lent_in w v heap statics counts same lent = subst (λ x. IsLentRun x w heap statics counts) same lent
 
 pub written_in : (w v : Linked) (heap statics : List ℕ) (counts : Counts) (ending : Plain) (before after : Roomed) → v ≡ w
-    → Writes before after (left_text (left_by words v (words_left heap statics counts)) (endings.Plain ending))
-    → Writes before after (left_text (left_by words w (words_left heap statics counts)) (endings.Plain ending))
+    → Writes before after (left_text (left_by words v (lent_state heap statics counts)) (endings.Plain ending))
+    → Writes before after (left_text (left_by words w (lent_state heap statics counts)) (endings.Plain ending))
 written_in w v heap statics counts ending before after same writes =
-    subst (λ x. Writes before after (left_text (left_by words x (words_left heap statics counts)) (endings.Plain ending))) same writes
+    subst (λ x. Writes before after (left_text (left_by words x (lent_state heap statics counts)) (endings.Plain ending))) same writes
 
 pub holds : (w : Linked) (m : Machine) (ram heap statics : List ℕ) (o : Outcome Cell) → AreWordsOf w m ram heap statics o
     → HoldsWords w (card ram heap statics) o
@@ -110,17 +112,17 @@ outcome_told w (ended e s) ending alike is = alike s (endings.Plain ending) ∙ 
 
 prints : (w : Linked) (m : Machine) (ram heap statics : List ℕ) (o : Outcome Cell) (ending : Plain) → AreWordsOf w m ram heap statics o → TextsAreAlike w
     → answer (ending_of o) ≡ endings.Plain ending
-    → left_text (left_by words w (words_left heap statics m.counts)) (endings.Plain ending) ≡ outcome_text tagged w o
+    → left_text (left_by words w (lent_state heap statics m.counts)) (endings.Plain ending) ≡ outcome_text tagged w o
 prints w m ram heap statics o ending are alike is =
     let same = words_of w m ram heap statics o are in
-    ap (λ (l : Left). left_text l (endings.Plain ending))
-    (left_same w (words_left heap statics m.counts) (erased (state_of o)) (ap (λ (s : State ℕ). s.heap) same) (ap (λ (s : State ℕ). s.statics) same))
+    ap (λ (l : Readout). left_text l (endings.Plain ending))
+    (left_same w (lent_state heap statics m.counts) (erased (state_of o)) (ap (λ (s : State ℕ). s.heap) same) (ap (λ (s : State ℕ). s.statics) same))
     ∙ outcome_told w o ending alike is
 
 -- ---- a run that was begun
 
 pub reached : (w : Linked) (number : ℕ) (r : RunRequest) (m : Machine) (ram heap statics : List ℕ) → IsBegun w number r.args m ram heap statics
-    → IsReached w (running (entry_state tagged w number r.args))
+    → IsOutcomeOfRun w (running (entry_state tagged w number r.args))
 reached w number r m ram heap statics begun = record {
   entry = number;
   args = r.args;
@@ -137,10 +139,10 @@ pub left : (w : Linked) (number : ℕ) (r : RunRequest) (m : Machine) (ram heap 
     → Follows w r.budget (running (entry_state tagged w number r.args)) m_after ram_after heap_after statics_after ending
     → TextsAreAlike w
     → IsEmpty before
-    → Writes before after (left_text (left_by words w (words_left heap_after statics_after m_after.counts)) (endings.Plain ending))
+    → Writes before after (left_text (left_by words w (lent_state heap_after statics_after m_after.counts)) (endings.Plain ending))
     → IsLeft w r (card ram_after heap_after statics_after) after.text
 left w number r m ram heap statics before after ending entered begun n ram_after heap_after statics_after follows alike empty writes =
-    let text = writes.text ∙ ap (λ xs. xs ++ left_text (left_by words w (words_left heap_after statics_after n.counts)) (endings.Plain ending)) empty.text in
+    let text = writes.text ∙ ap (λ xs. xs ++ left_text (left_by words w (lent_state heap_after statics_after n.counts)) (endings.Plain ending)) empty.text in
     record {
       outcome = follows.after;
       comes = record { number = number; entered = entered; begins = begun.begins; runs = follows.runs };
@@ -180,3 +182,26 @@ pub whole_end : {U : Type 0} (w : Linked) (r : RunRequest) (ram heap fields othe
     → MatchResult end (λ _. IsRun w r (card ram heap (fields ++ others)) text) (StopsRun w r)
 whole_end w r ram heap fields others text (Ok u) long run = whole_run w r ram heap fields others text long run
 whole_end w r ram heap fields others text (Err stop) long stops = stops
+
+-- ---- where nothing ran
+
+pub card_same : (ram heap statics ram_after heap_after statics_after : List ℕ) → ram_after ≡ ram → heap_after ≡ heap → statics_after ≡ statics
+    → card ram_after heap_after statics_after ≡ card ram heap statics
+card_same ram heap statics ram_after heap_after statics_after a b c = λ i. card (a i) (b i) (c i)
+
+pub kept_end : {U : Type 0} (ram heap fields ram_after heap_after fields_after others whole : List ℕ) (end : Result U RunStop) → fields ++ others ≡ whole
+    → OnErr end (card ram_after heap_after fields_after ≡ card ram heap fields)
+    → OnErr end (card ram_after heap_after (fields_after ++ others) ≡ card ram heap whole)
+kept_end ram heap fields ram_after heap_after fields_after others whole (Ok u) is same = same
+kept_end ram heap fields ram_after heap_after fields_after others whole (Err stop) is same =
+    ap (λ (c : Card). card c.ram c.heap (c.statics ++ others)) same ∙ ap (card ram heap) is
+
+pub kept_there : (before after : Card) (verdict : Verdict) → after ≡ before → IsCardKept before after verdict
+kept_there before after (Done text) same = tt {0}
+kept_there before after (Refused text) same = same
+kept_there before after (Limit text) same = same
+kept_there before after (Malformed text) same = same
+kept_there before after Usage same = same
+kept_there before after ReadFault same = same
+kept_there before after StoreFault same = same
+kept_there before after Memory same = same

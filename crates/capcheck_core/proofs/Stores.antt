@@ -15,7 +15,7 @@ use Rattle.cap_package.specs.Parts.{Lent, held, HasEachOnce}
 use Rattle.cap_components.proofs.PartsLemmas.{held-other, held-same, HasEachOnce-push}
 use Rattle.capcheck_core.specs.Loads.{Rise, with_file}
 use Rattle.capcheck_core.specs.Roles.{roles_tag}
-use Rattle.capcheck_core.specs.Stores.{stored, AreStored, IsBegun, IsBrokenOff, AreInOrder, AreThere, HasAllButHeader, HasHeaderLast, header_tag}
+use Rattle.capcheck_core.specs.Stores.{stored, AreStored, IsPartlyStored, IsBrokenOff, AreInOrder, AreThere, HasAllButHeader, HasHeaderLast, header_tag}
 use Rattle.capcheck_core.proofs.Loads.{none_some, lent_of, above_none, below_none, rise_wider, rise_push, file_other, file_same}
 
 -- ---- one store more
@@ -36,13 +36,13 @@ whole_held dir done lent (Some n) (Some m) (Some o) one before =
     one ∙ ap (λ x. map.insert x (lent.part ∷ dir) lent.bytes) before ∙ sym (stored_push dir o done lent)
 
 begun_held : (dir : List ℕ) (done : List Lent) (lent : Lent) (now mid old : Option Parts)
-    → IfSome now (λ n. IsSomeAnd mid (λ m. IsBegun dir lent m n))
+    → IfSome now (λ n. IsSomeAnd mid (λ m. IsPartlyStored dir lent m n))
     → IfSome mid (λ m. IsSomeAnd old (λ o. m ≡ stored dir o done))
-    → IfSome now (λ n. IsSomeAnd old (λ o. IsBegun dir lent (stored dir o done) n))
+    → IfSome now (λ n. IsSomeAnd old (λ o. IsPartlyStored dir lent (stored dir o done) n))
 begun_held dir done lent None mid old one before = tt {0}
 begun_held dir done lent (Some n) None old one before = absurd one
 begun_held dir done lent (Some n) (Some m) None one before = absurd before
-begun_held dir done lent (Some n) (Some m) (Some o) one before = subst (λ x. IsBegun dir lent x n) before one
+begun_held dir done lent (Some n) (Some m) (Some o) one before = subst (λ x. IsPartlyStored dir lent x n) before one
 
 pub none_stored : (dir : List ℕ) (folders : Folders) → AreStored dir [] folders folders
 none_stored dir folders = record { held = same folders.held; load_faults = refl; failed = refl; store_faults = refl }
@@ -64,7 +64,7 @@ one_stored dir done lent before mid after all one loads failed stores = record {
 
 pub one_broken : (dir : List ℕ) (parts done : List Lent) (lent : Lent) (left : List Lent) (before mid after : Folders) → AreStored dir done before mid
     → parts ≡ done ++ lent ∷ left
-    → IfSome after.held (λ now. IsSomeAnd mid.held (λ old. IsBegun dir lent old now))
+    → IfSome after.held (λ now. IsSomeAnd mid.held (λ old. IsPartlyStored dir lent old now))
     → after.load_faults ≡ mid.load_faults → after.failed ≡ mid.failed → Rose mid.store_faults after.store_faults
     → IsBrokenOff dir parts before after
 one_broken dir parts done lent left before mid after all are one loads failed rose = record {
@@ -257,7 +257,7 @@ module _ (dir header : List ℕ) (others : List Lent) (each : HasEachOnce others
   kept done absent = get_kept dir old done header_tag absent ∙ none
 
   -- all others are stored whole
-  at_header : IsBegun dir (lent_of header_tag header) (stored dir old others) now
+  at_header : IsPartlyStored dir (lent_of header_tag header) (stored dir old others) now
       → (map.get now (header_tag ∷ dir) ≡ None) ⊎ HasAllButHeader dir header others now
   at_header (inl same) = inl (ap (λ m. map.get m (header_tag ∷ dir)) same ∙ kept others no_header)
   at_header (inr begun) = inr (record {
@@ -270,7 +270,7 @@ module _ (dir header : List ℕ) (others : List Lent) (each : HasEachOnce others
   })
 
   -- the Header is not begun
-  before_header : (done : List Lent) (b : Lent) (more : List Lent) → others ≡ done ++ b ∷ more → IsBegun dir b (stored dir old done) now
+  before_header : (done : List Lent) (b : Lent) (more : List Lent) → others ≡ done ++ b ∷ more → IsPartlyStored dir b (stored dir old done) now
       → map.get now (header_tag ∷ dir) ≡ None
   before_header done b more are begun =
       let absent = absent_parts header_tag done b more (subst (λ xs. held xs header_tag ≡ None) are no_header) in
@@ -282,10 +282,10 @@ module _ (dir header : List ℕ) (others : List Lent) (each : HasEachOnce others
       ]
 
   header_last_in : (done : List Lent) (b : Lent) (left : List Lent) → others ++ lent_of header_tag header ∷ [] ≡ done ++ b ∷ left
-      → IsBegun dir b (stored dir old done) now → (map.get now (header_tag ∷ dir) ≡ None) ⊎ HasAllButHeader dir header others now
+      → IsPartlyStored dir b (stored dir old done) now → (map.get now (header_tag ∷ dir) ≡ None) ⊎ HasAllButHeader dir header others now
   header_last_in done b left are begun = elim (broken_at others (lent_of header_tag header) done b left are) [
-    | inl last ↦ at_header (subst (λ l. IsBegun dir l (stored dir old others) now) last.1
-        (subst (λ ds. IsBegun dir b (stored dir old ds) now) last.0 begun))
+    | inl last ↦ at_header (subst (λ l. IsPartlyStored dir l (stored dir old others) now) last.1
+        (subst (λ ds. IsPartlyStored dir b (stored dir old ds) now) last.0 begun))
     | inr before ↦ inl (before_header done b before.0 before.1 begun)
   ]
 
@@ -306,7 +306,7 @@ pub header_last : (dir : List ℕ) (parts : List Lent) (roles : Option (List ℕ
     → HasHeaderLast dir order.header (with_file order.others roles_tag roles) before after
 header_last dir parts roles stores before after order off = over after.held before.held off.held
   where
-    over : (now old : Option Parts) → IfSome now (λ n. IsSomeAnd old (λ o. IsBegun dir off.broken (stored dir o off.done) n))
+    over : (now old : Option Parts) → IfSome now (λ n. IsSomeAnd old (λ o. IsPartlyStored dir off.broken (stored dir o off.done) n))
         → IfSome now (λ n. IsSomeAnd old (λ o. map.get o (header_tag ∷ dir) ≡ None
         → (map.get n (header_tag ∷ dir) ≡ None) ⊎ HasAllButHeader dir order.header (with_file order.others roles_tag roles) n))
     over None old begun = tt {0}

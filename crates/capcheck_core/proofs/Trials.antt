@@ -25,7 +25,7 @@ use Rattle.capcheck_core.specs.Defend.{method_entered, fault_of, run_fault, IsDe
 use Rattle.capcheck_core.specs.Outside.{Card}
 use Rattle.capcheck_core.specs.Run.{within, IsRun, RunsWorldIn}
 use Rattle.capcheck_core.specs.Transform.{StopsBefore}
-use Rattle.capcheck_core.specs.Trial.{steps_each, HasNew, IsDoneOrMemory, IsTried, TriesIn}
+use Rattle.capcheck_core.specs.Trial.{steps_each, HasNew, IsDoneOrMemory, IsTried, IsUntriedKept, TriesIn}
 use Rattle.capcheck_core.proofs.WorldComplete.{one_package}
 
 -- what is not made is not tried
@@ -114,3 +114,15 @@ tried packages roles w parts new r steps c source target text has count d run pr
   run = subst (λ v. IsRun v (within (steps_each * r.budget) r) c target) (sym has.1) (subst (λ n. IsRun new (within n r) c target) count run);
   prints = prints;
 }
+
+-- ---- where nothing ran in the card's memory
+
+pub untried_there : (c : Card) (verdict : Verdict) → IsUntriedKept c c verdict
+untried_there c (Done text) = tt {0}
+untried_there c (Refused text) = refl
+untried_there c (Limit text) = refl
+untried_there c (Malformed text) = refl
+untried_there c Usage = refl
+untried_there c ReadFault = refl
+untried_there c StoreFault = refl
+untried_there c Memory = tt {0}

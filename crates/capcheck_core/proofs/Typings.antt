@@ -1,7 +1,7 @@
 -- The methods with code of the last package, one after the other.
 use Rattle.std.proofs.Common.{zero, suc, [], ◌∷◌, get_or, count_by, ◌≡◌, ◌⊎◌, ℕ, ◌+◌, ◌<◌, ◌≤◌, Bool, true, false, List, length, take, drop, Option, Some, None, option_map, slice_get, refl, sym, ap, subst, ◌∙◌, inl, inr, arith, true≢false}
-use Rattle.std.specs.Prelude.{IsSomeAnd, ◌&&◌, ◌==◌, nat_lt}
-use Rattle.std.proofs.lemmas.Bool.{eq-eqb, eqb-true, lt-ltb, ltb-true}
+use Rattle.std.specs.Prelude.{IsSomeAnd, ◌==◌, nat_lt}
+use Rattle.std.proofs.lemmas.Bool.{eq-eqb, eqb-true, lt-ltb, ltb-true, and_parts}
 use Rattle.std.proofs.lemmas.List.{length-take, take_all}
 use Rattle.std.proofs.lemmas.List.Sums.{count_by_more_yes, count_by_more_no}
 use Rattle.std.specs.Int.{from_bool}
@@ -21,7 +21,7 @@ use Rattle.jc_flow.specs.Infer.{TellsEnd, HasNone}
 use Rattle.cap_text.specs.declared.line.MethodNumber.{MethodNumber}
 use Rattle.cap_text.specs.Line.{typed_line, refused_flow_line}
 use Rattle.jc_control.specs.Asked.{IsOfLast}
-use Rattle.capcheck_core.specs.Typed.{is_of_last, AreTypedBelow, count_of_last, number_of, IsTyped, IsUntyped}
+use Rattle.capcheck_core.specs.Typed.{is_of_last, AreTypedBelow, count_of_last, number_of, TellsTyped, TellsUntyped}
 use Rattle.capcheck_core.specs.CheckEnds.{IsTypedAt, FailsAt}
 
 -- ---- a method by its number
@@ -45,10 +45,6 @@ typed_at w n t least = λ m of_last e.
     record { frames = state_at t; typing = l.typing }
 
 -- ---- the test of the last package
-
-both : (a b : Bool) → (a && b) ≡ true → (a ≡ true) × (b ≡ true)
-both true b e = (refl, e)
-both false b e = absurd cc
 
 -- code of no bytes has no byte
 pub has_code : (infos : List (List ℕ)) (rec : MethodRec) → 0 < length (code_of infos rec) → 0 < rec.code_len
@@ -74,7 +70,7 @@ pub some_code : (packages : ℕ) (o : Option MethodRec) → option_map (is_of_la
 some_code packages None e = absurd cc
 some_code packages (Some rec) e =
     let test : is_of_last packages rec ≡ true = cc in
-    ltb-true 0 rec.code_len (both (rec.package + 1 == packages) (nat_lt 0 rec.code_len) test).1
+    ltb-true 0 rec.code_len (and_parts (rec.package + 1 == packages) (nat_lt 0 rec.code_len) test).1
 
 failed : (w : Linked) (n : ℕ) (end : FlowEnd) (o : Option MethodRec) → slice_get w.methods n ≡ o → option_map (is_of_last (length w.infos)) o ≡ Some true
     → IsSomeAnd (option_map (method_with w n) o) (IsMethodOf w) → IsSomeAnd (option_map (method_with w n) o) (λ m. HasNone w m end)
@@ -85,7 +81,7 @@ failed w n end (Some rec) at e is none tells =
     record {
       method = method_with w n rec;
       number = refl;
-      of_last = record { method = is; last = eqb-true (rec.package + 1) (length w.infos) (both (rec.package + 1 == length w.infos) (nat_lt 0 rec.code_len) test).0 };
+      of_last = record { method = is; last = eqb-true (rec.package + 1) (length w.infos) (and_parts (rec.package + 1 == length w.infos) (nat_lt 0 rec.code_len) test).0 };
       none = none;
       tells = tells;
     }
@@ -143,7 +139,7 @@ no_typing w m (BadHandler entry number) known none = none
 
 -- the method that was not typed is the first
 pub first_untyped : (w : Linked) (n : ℕ) (end : FlowEnd) (number : MethodNumber) (text : List ℕ) → AreTypedBelow w n → FailsAt w n end → (end ≡ Memory → ⊥)
-    → option_map number_of (slice_get w.methods n) ≡ Some number → text ≡ refused_flow_line number end → IsUntyped w text
+    → option_map number_of (slice_get w.methods n) ≡ Some number → text ≡ refused_flow_line number end → TellsUntyped w text
 first_untyped w n end number text earlier f known named prints =
     let at : slice_get w.methods n ≡ Some f.method.rec = subst (λ k. slice_get w.methods k ≡ Some f.method.rec) f.number f.of_last.method.rec in
     let same : Some (number_of f.method.rec) ≡ Some number = sym (ap (option_map number_of) at) ∙ named in
@@ -163,7 +159,7 @@ first_untyped w n end number text earlier f known named prints =
 
 -- all of them are typed
 pub all_typed : (w : Linked) (n count : ℕ) (text : List ℕ) → AreTypedBelow w n → length w.methods ≤ n → count ≡ count_by (is_of_last (length w.infos)) (take n w.methods)
-    → text ≡ typed_line count → IsTyped w text
+    → text ≡ typed_line count → TellsTyped w text
 all_typed w n count text typed past counts prints =
     let whole : count ≡ count_of_last w = counts ∙ ap (count_by (is_of_last (length w.infos))) (take_all n w.methods past) in
     record {

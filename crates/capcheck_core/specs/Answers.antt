@@ -9,7 +9,7 @@ use Rattle.capcheck_core.specs.Show.{Shows}
 use Rattle.capcheck_core.specs.Check.{Checks}
 use Rattle.capcheck_core.specs.Verify.{Verifies}
 use Rattle.capcheck_core.specs.Defend.{Defends}
-use Rattle.capcheck_core.specs.Run.{Runs}
+use Rattle.capcheck_core.specs.Run.{RunsVerified}
 use Rattle.capcheck_core.specs.Transform.{Transforms}
 use Rattle.capcheck_core.specs.Trial.{Tries}
 use Rattle.capcheck_core.specs.Generate.{Generates}
@@ -21,7 +21,7 @@ Answers (show s) before after verdict = Shows s before.folders after.folders ver
 Answers (check c) before after verdict = Checks c before after verdict
 Answers (verify v) before after verdict = Verifies v before after verdict
 Answers (defend r) before after verdict = Defends r before after verdict
-Answers (run r) before after verdict = Runs r before after verdict
+Answers (run r) before after verdict = RunsVerified r before after verdict
 Answers (transform t) before after verdict = Transforms t before after verdict
 Answers (trial r) before after verdict = Tries r before after verdict
 Answers (generate g) before after verdict = Generates g before after verdict

@@ -6,13 +6,13 @@ use Rattle.capcheck_core.specs.declared.verdict.Verdict.{Verdict}
 use Rattle.capcheck_core.specs.declared.verdict.Verdict.TheVariants.{Done, Refused, Memory}
 use Rattle.capcheck_core.specs.Outside.{Outside, Untouched}
 use Rattle.capcheck_core.specs.OverFolders.{OverFolders}
-use Rattle.capcheck_core.specs.Typed.{IsTyped, IsUntyped}
+use Rattle.capcheck_core.specs.Typed.{TellsTyped, TellsUntyped}
 use Rattle.capcheck_core.specs.World.{of_world, OverWorld}
 
 -- the answers of a world
 abbrev pub TypesWorld : Linked → Verdict → Type 0
-TypesWorld w (Done text) = IsTyped w (string_bytes text)
-TypesWorld w (Refused text) = IsUntyped w (string_bytes text)
+TypesWorld w (Done text) = TellsTyped w (string_bytes text)
+TypesWorld w (Refused text) = TellsUntyped w (string_bytes text)
 TypesWorld w Memory = Unit {0}
 TypesWorld w _ = ⊥
 

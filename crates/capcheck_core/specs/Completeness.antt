@@ -32,7 +32,7 @@ use Rattle.capcheck_core.specs.Probe.{method_key}
 use Rattle.capcheck_core.specs.Report.{Seen}
 use Rattle.capcheck_core.specs.Shorts.{AreShorts}
 use Rattle.capcheck_core.specs.Typed.{AreTyped}
-use Rattle.capcheck_core.specs.Verify.{AreCarded}
+use Rattle.capcheck_core.specs.Verify.{HaveCardTypings}
 use Rattle.capcheck_core.specs.World.{MakeWorld}
 
 -- no load, store or put failed
@@ -83,7 +83,7 @@ pub record CanCheck (c : CheckRequest) (before : Folders) : Type 0 where
 pub record CanVerify (v : VerifyRequest) (before : Folders) : Type 0 where
   pub world : Linked
   pub links : CanLink v.dirs before world
-  pub carded : AreCarded world
+  pub carded : HaveCardTypings world
 
 -- the folders make a world, and nothing keeps the run from beginning
 pub record CanDefend (r : RunRequest) (before : Folders) : Type 0 where
@@ -95,7 +95,7 @@ pub record CanDefend (r : RunRequest) (before : Folders) : Type 0 where
 pub record CanRun (r : RunRequest) (before : Folders) : Type 0 where
   pub world : Linked
   pub links : CanLink r.dirs before world
-  pub carded : AreCarded world
+  pub carded : HaveCardTypings world
   pub begins : run_fault world r ≡ None
 
 -- no method with code of the last package passes a limit

@@ -26,7 +26,7 @@ use Rattle.capcheck_core.specs.Outside.{Card, Outside, Untouched}
 use Rattle.capcheck_core.specs.Run.{HoldsWords}
 use Rattle.capcheck_core.specs.Stores.{AreStored}
 use Rattle.capcheck_core.specs.Transform.{Brings, IsBroughtInPart, SaysLimited, SaysLong}
-use Rattle.capcheck_core.specs.Verify.{AreCarded}
+use Rattle.capcheck_core.specs.Verify.{HaveCardTypings}
 use Rattle.capcheck_core.specs.World.{OfLinked}
 
 -- ---- the runs
@@ -77,7 +77,7 @@ pub record IsStored (g : GenerateRequest) (w : Linked) (before after : Outside) 
 -- in the world that they make every method with code has a card typing, and no run meets a fault. All are run, and the text tells the
 -- sizes of the two Method components and the sum
 pub record IsTold (seed : ℕ) (made : PackageRecord) (w : Linked) (c : Card) (text : List ℕ) : Type 0 where
-  pub carded : AreCarded w
+  pub carded : HaveCardTypings w
   pub fault_free : IsFaultFree w
   pub sum : ℤ
   pub run : AreRun w c sum
@@ -89,13 +89,14 @@ pub record IsGenerated (g : GenerateRequest) (w : Linked) (before after : Outsid
   pub told : IsTold g.seed stored.brings.made.made stored.brings.made.world after.card text
 
 -- the answers where the generated package makes this world. Where a limit were passed, or there is no memory, nothing is stored; but there
--- may be no memory for the rest after all is stored
+-- may be no memory for the rest after all is stored. Before that the card's memory is as it was
 abbrev pub GeneratesIn : GenerateRequest → Linked → Outside → Outside → Verdict → Type 0
 GeneratesIn g w before after (Done text) = IsGenerated g w before after (string_bytes text)
-GeneratesIn g w before after StoreFault = IsBroughtInPart (generated g.seed) roles w g.out before.folders after.folders
+GeneratesIn g w before after StoreFault =
+    IsBroughtInPart (generated g.seed) roles w g.out before.folders after.folders × (after.card ≡ before.card)
 GeneratesIn g w before after (Limit text) =
-    (after.folders ≡ before.folders) × (SaysLimited w (string_bytes text) ⊎ SaysLong (generated g.seed) w (string_bytes text))
-GeneratesIn g w before after Memory = (after.folders ≡ before.folders) ⊎ IsStored g w before after
+    Untouched before after × (SaysLimited w (string_bytes text) ⊎ SaysLong (generated g.seed) w (string_bytes text))
+GeneratesIn g w before after Memory = Untouched before after ⊎ IsStored g w before after
 GeneratesIn g w before after _ = ⊥
 
 -- the outside is as it was when the command began, and as it is afterwards; there may be no memory for the generated package's world
@@ -129,7 +130,7 @@ pub record IsSumOfShorts (count : ℕ) (sum : ℤ) : Type 0 where
 
 -- every method with code has a card typing, no run meets a fault, and all are run
 abbrev pub RunsAll : Linked → Card → ℤ → Type 0
-RunsAll w c sum = AreCarded w × IsFaultFree w × AreRun w c sum
+RunsAll w c sum = HaveCardTypings w × IsFaultFree w × AreRun w c sum
 
 -- the parts are those of the generated package in the form that a verifier on the card accepts; they make this world, and their Method
 -- component has so many bytes

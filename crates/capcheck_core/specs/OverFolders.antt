@@ -9,7 +9,7 @@ use Rattle.jc_link.specs.LinkFault.TheVariants.{TooManyPackages}
 use Rattle.capcheck_core.specs.declared.verdict.Verdict.{Verdict}
 use Rattle.capcheck_core.specs.declared.verdict.Verdict.TheVariants.{Malformed, ReadFault, Memory}
 use Rattle.capcheck_core.specs.Outside.{Outside, Untouched}
-use Rattle.capcheck_core.specs.Packages.{AreGiven, AreTooMany, IsFault, IsFailed}
+use Rattle.capcheck_core.specs.Packages.{AreGiven, AreTooMany, IsFirstAtFault, IsFailed}
 
 -- there are too many folders, and the text says how many
 pub record SaysTooMany (dirs : List (List ℕ)) (text : List ℕ) : Type 0 where
@@ -21,7 +21,7 @@ pub record SaysTooMany (dirs : List (List ℕ)) (text : List ℕ) : Type 0 where
 pub record SaysFault (before : Folders) (dirs : List (List ℕ)) (text : List ℕ) : Type 0 where
   pub number : ℕ
   pub fault : PackFault
-  pub is : IsFault before dirs number fault
+  pub is : IsFirstAtFault before dirs number fault
   pub prints : text ≡ malformed_line number fault
 
 -- the answers where not all packages and roles were loaded: more than 16 folders are not loaded, and only a failed load leaves a trace

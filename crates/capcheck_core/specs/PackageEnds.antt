@@ -15,7 +15,7 @@ use Rattle.capcheck_core.specs.declared.verdict.Verdict.{Verdict}
 use Rattle.capcheck_core.specs.declared.verdict.Verdict.TheVariants as verdicts
 use Rattle.capcheck_core.specs.Loads.{AreParts, FailsParts}
 use Rattle.capcheck_core.specs.Roles.{AreRolesIn, LacksRoles, IsNoRoles, roles_key}
-use Rattle.capcheck_core.specs.Packages.{AreGiven, AreTooMany, LacksPackage, IsFirstWhere, IsFault, IsFailed}
+use Rattle.capcheck_core.specs.Packages.{AreGiven, AreTooMany, LacksPackage, IsFirstWhere, IsFirstAtFault, IsFailed}
 
 -- the folders after loads of packages: as before, unless one failed
 abbrev pub PackagesStopLeaves : Folders → Folders → PackagesStop → Type 0
@@ -54,13 +54,13 @@ Agrees parts number (Err Memory) = Unit {0}
 Agrees parts number (Err _) = ⊥
 
 -- parts are loaded from a folder, and stand for a package
-pub record IsWhole (before : Folders) (dir : List ℕ) (parts : List Lent) : Type 0 where
+pub record IsLoadedPackage (before : Folders) (dir : List ℕ) (parts : List Lent) : Type 0 where
   pub loaded : AreParts before dir parts
   pub whole : HavePackage parts
 
 -- the load of the package of a number, by its answer
 abbrev pub LoadsPackage : Folders → Folders → List ℕ → ℕ → Result (List Lent) PackagesStop → Type 0
-LoadsPackage before after dir number (Ok parts) = IsWhole before dir parts
+LoadsPackage before after dir number (Ok parts) = IsLoadedPackage before dir parts
 LoadsPackage before after dir number (Err (Malformed n fault)) = (n ≡ number) × LacksPackage before dir fault
 LoadsPackage before after dir number (Err Failed) = FailsParts before dir after
 LoadsPackage before after dir number (Err Memory) = Unit {0}
@@ -85,16 +85,16 @@ LoadsOthers before after dirs old new (Err (TooMany count)) = ⊥
 -- ---- both
 
 -- these are the parts in at most 16 folders and the roles beside the first, and each folder's parts stand for a package
-pub record AreLoaded (before : Folders) (dirs : List (List ℕ)) (loaded : Loaded) : Type 0 where
+pub record AreAllLoaded (before : Folders) (dirs : List (List ℕ)) (loaded : Loaded) : Type 0 where
   pub few : length dirs ≤ 16
   pub given : AreGiven before dirs loaded.packages.items loaded.roles
   pub whole : All HavePackage loaded.packages.items
 
 -- the loads of all packages and the roles, by their answer
 abbrev pub LoadsPackages : Folders → Folders → List (List ℕ) → Result Loaded PackagesStop → Type 0
-LoadsPackages before after dirs (Ok loaded) = AreLoaded before dirs loaded
+LoadsPackages before after dirs (Ok loaded) = AreAllLoaded before dirs loaded
 LoadsPackages before after dirs (Err (TooMany count)) = AreTooMany dirs count
-LoadsPackages before after dirs (Err (Malformed number fault)) = IsFault before dirs number fault
+LoadsPackages before after dirs (Err (Malformed number fault)) = IsFirstAtFault before dirs number fault
 LoadsPackages before after dirs (Err Failed) = IsFailed before dirs after
 LoadsPackages before after dirs (Err Memory) = Unit {0}
 

@@ -39,20 +39,20 @@ pub record AreTooMany (dirs : List (List ℕ)) (count : ℕ) : Type 0 where
 -- ---- what is at fault in one folder
 
 -- a part of the folder is too long
-pub record IsLong (before : Folders) (dir : List ℕ) (fault : PackFault) : Type 0 where
+pub record HasLongPart (before : Folders) (dir : List ℕ) (fault : PackFault) : Type 0 where
   pub tag : ℕ
   pub first : IsFirstLong before dir tag
   pub named : fault ≡ PartTooLong tag
 
 -- the parts of the folder stand for no package, and this is the first thing at fault
-pub record IsRefused (before : Folders) (dir : List ℕ) (fault : PackFault) : Type 0 where
+pub record IsNoPackage (before : Folders) (dir : List ℕ) (fault : PackFault) : Type 0 where
   pub parts : List Lent
   pub loaded : AreParts before dir parts
   pub refused : Tells parts (Err fault)
 
 -- why a folder has no package
 abbrev pub LacksPackage : Folders → List ℕ → PackFault → Type 0
-LacksPackage before dir fault = IsLong before dir fault ⊎ IsRefused before dir fault
+LacksPackage before dir fault = HasLongPart before dir fault ⊎ IsNoPackage before dir fault
 
 -- ---- the first folder at which the loads stop
 
@@ -79,7 +79,7 @@ IsFirstStop before [] P R = ⊥
 IsFirstStop before (dir ∷ dirs) P R = P 0 dir ⊎ IsAtRoles before dir R ⊎ IsAfterRoles before dir dirs P
 
 -- of at most 16 folders the first thing at fault, with the number of its folder
-pub record IsFault (before : Folders) (dirs : List (List ℕ)) (number : ℕ) (fault : PackFault) : Type 0 where
+pub record IsFirstAtFault (before : Folders) (dirs : List (List ℕ)) (number : ℕ) (fault : PackFault) : Type 0 where
   pub few : length dirs ≤ 16
   pub first : IsFirstStop before dirs (λ n dir. (number ≡ n) × LacksPackage before dir fault)
       (λ dir. (number ≡ 0) × LacksRoles before dir fault)

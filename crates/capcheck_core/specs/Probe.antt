@@ -18,7 +18,7 @@ use Rattle.capcheck_core.specs.MethodFile.{method_tag, IsMethodFile, RefusesFile
 use Rattle.capcheck_core.specs.Shorts.{AreShorts, RefusesStart}
 
 -- the method has a typing, and the text is how its run with the arguments ends within the budget
-pub record IsRun (bare : Bare) (code : List ℕ) (p : ProbeRequest) (text : List ℕ) : Type 0 where
+pub record IsBareRun (bare : Bare) (code : List ℕ) (p : ProbeRequest) (text : List ℕ) : Type 0 where
   pub typed : CardTyping code bare
   pub values : List ℤ
   pub fit : AreShorts p.args bare.nargs values
@@ -69,13 +69,13 @@ pub record IsMissing (p : ProbeRequest) (before : Folders) (text : List ℕ) : T
   pub absent : IsAbsent before (method_key p)
   pub prints : text ≡ malformed_line 0 (MissingPart method_tag)
 
-pub record IsLong (p : ProbeRequest) (before : Folders) (text : List ℕ) : Type 0 where
+pub record IsLongMethodPart (p : ProbeRequest) (before : Folders) (text : List ℕ) : Type 0 where
   pub long : IsTooLong before (method_key p)
   pub prints : text ≡ malformed_line 0 (PartTooLong method_tag)
 
 -- what a probe of this method answers, and when
 abbrev pub ProbesMethod : Bare → List ℕ → ProbeRequest → Verdict → Type 0
-ProbesMethod bare code p (Done text) = IsRun bare code p (string_bytes text)
+ProbesMethod bare code p (Done text) = IsBareRun bare code p (string_bytes text)
 ProbesMethod bare code p (Refused text) = IsRefusal bare code (string_bytes text)
 ProbesMethod bare code p (Malformed text) = IsUnstarted bare code p (string_bytes text)
 ProbesMethod bare code p Memory = Unit {0}
@@ -83,7 +83,7 @@ ProbesMethod bare code p _ = ⊥
 
 -- what a probe of this file answers, and when
 abbrev pub ProbesFile : List ℕ → ProbeRequest → Verdict → Type 0
-ProbesFile file p (Done text) = OfMethod file (λ bare code. IsRun bare code p (string_bytes text))
+ProbesFile file p (Done text) = OfMethod file (λ bare code. IsBareRun bare code p (string_bytes text))
 ProbesFile file p (Refused text) = OfMethod file (λ bare code. IsRefusal bare code (string_bytes text))
 ProbesFile file p (Malformed text) = IsNoMethod file (string_bytes text)
     ⊎ OfMethod file (λ bare code. IsUnstarted bare code p (string_bytes text))
@@ -95,7 +95,7 @@ abbrev pub ProbesFolder : ProbeRequest → Folders → Verdict → Type 0
 ProbesFolder p before (Done text) = OfMethodPart p before (λ file. ProbesFile file p (Done text))
 ProbesFolder p before (Refused text) = OfMethodPart p before (λ file. ProbesFile file p (Refused text))
 ProbesFolder p before (Malformed text) =
-    IsMissing p before (string_bytes text) ⊎ IsLong p before (string_bytes text)
+    IsMissing p before (string_bytes text) ⊎ IsLongMethodPart p before (string_bytes text)
     ⊎ OfMethodPart p before (λ file. ProbesFile file p (Malformed text))
 ProbesFolder p before Memory = Unit {0}
 ProbesFolder p before _ = ⊥

@@ -22,7 +22,7 @@ use Rattle.capcheck_core.specs.declared.verdict.Verdict.TheVariants.{Done, Refus
 use Rattle.capcheck_core.specs.Outside.{Card, Outside}
 use Rattle.capcheck_core.specs.OverFolders.{OverFolders}
 use Rattle.capcheck_core.specs.World.{of_world, OverWorld}
-use Rattle.capcheck_core.specs.Verify.{AreCarded, IsUncarded}
+use Rattle.capcheck_core.specs.Verify.{HaveCardTypings, TellsRefused}
 use Rattle.capcheck_core.specs.Defend.{ComesTo, IsUnbegun, run_fault}
 
 -- the same entry and arguments, within so many steps
@@ -34,7 +34,7 @@ abbrev pub bounded_request : Bounded → RunRequest
 bounded_request b = within b.steps (run_request b.run.now)
 
 -- the card's memory has the lengths that a run of any world needs
-pub record IsWhole (c : Card) : Type 0 where
+pub record HasLengths (c : Card) : Type 0 where
   pub ram : length c.ram ≡ 32832
   pub heap : length c.heap ≡ 45056
   pub statics : length c.statics ≡ 32768
@@ -55,30 +55,36 @@ pub record IsLeft (w : Linked) (r : RunRequest) (c : Card) (text : List ℕ) : T
 
 -- every method with code of all packages has a card typing, no run of any entry meets a fault, and this is what the run leaves
 pub record IsRun (w : Linked) (r : RunRequest) (c : Card) (text : List ℕ) : Type 0 where
-  pub carded : AreCarded w
+  pub carded : HaveCardTypings w
   pub fault_free : IsFaultFree w
   pub left : IsLeft w r c text
 
 -- every method with code of all packages has a card typing, but the run does not begin, and the text tells the first reason
 pub record IsNotRun (w : Linked) (r : RunRequest) (text : List ℕ) : Type 0 where
-  pub carded : AreCarded w
+  pub carded : HaveCardTypings w
   pub unbegun : IsUnbegun w r text
 
 -- the answers of a world
 abbrev pub RunsWorldIn : Linked → RunRequest → Card → Verdict → Type 0
 RunsWorldIn w r c (Done text) = IsRun w r c (string_bytes text)
-RunsWorldIn w r c (Refused text) = IsUncarded w (string_bytes text)
+RunsWorldIn w r c (Refused text) = TellsRefused w (string_bytes text)
 RunsWorldIn w r c (Malformed text) = IsNotRun w r (string_bytes text)
 RunsWorldIn w r c Memory = Unit {0}
 RunsWorldIn w r c _ = ⊥
 
+-- where nothing ran, the card's memory is as it was
+abbrev pub IsCardKept : Card → Card → Verdict → Type 0
+IsCardKept before after (Done text) = Unit {0}
+IsCardKept before after verdict = after ≡ before
+
 -- its last step: it runs the entry in the memory of the card, and leaves the folders as they are
 abbrev pub RunsWorld : RunRequest → Linked → Outside → Outside → Verdict → Type 0
-RunsWorld r w before after verdict = (after.folders ≡ before.folders) × RunsWorldIn w r after.card verdict
+RunsWorld r w before after verdict =
+    (after.folders ≡ before.folders) × RunsWorldIn w r after.card verdict × IsCardKept before.card after.card verdict
 
 -- the outside is as it was when the command began, and as it is afterwards
-abbrev pub Runs : RunRequest → Outside → Outside → Verdict → Type 0
-Runs r before after verdict = OverFolders (OverWorld (of_world (RunsWorld r))) r.dirs before after verdict
+abbrev pub RunsVerified : RunRequest → Outside → Outside → Verdict → Type 0
+RunsVerified r before after verdict = OverFolders (OverWorld (of_world (RunsWorld r))) r.dirs before after verdict
 
 -- why the run does not begin: the first method that is refused, or, where none is, the first fault
 abbrev pub StopsRun : Linked → RunRequest → RunStop → Type 0

@@ -24,8 +24,8 @@ pub record AreStored (dir : List ℕ) (parts : List Lent) (before after : Folder
   pub store_faults : after.store_faults ≡ before.store_faults
 
 -- the part is as before, or holds the first of these bytes
-abbrev pub IsBegun : List ℕ → Lent → Parts → Parts → Type 0
-IsBegun dir lent old now = (now ≡ old) ⊎ ((n : ℕ) × (now ≡ map.insert old (lent.part ∷ dir) (take n lent.bytes)))
+abbrev pub IsPartlyStored : List ℕ → Lent → Parts → Parts → Type 0
+IsPartlyStored dir lent old now = (now ≡ old) ⊎ ((n : ℕ) × (now ≡ map.insert old (lent.part ∷ dir) (take n lent.bytes)))
 
 -- a store failed, and its part is as before or begun; those before it are stored, and all else is as before
 pub record IsBrokenOff (dir : List ℕ) (parts : List Lent) (before after : Folders) : Type 0 where
@@ -33,7 +33,7 @@ pub record IsBrokenOff (dir : List ℕ) (parts : List Lent) (before after : Fold
   pub broken : Lent
   pub left : List Lent
   pub are : parts ≡ done ++ broken ∷ left
-  pub held : IfSome after.held (λ now. IsSomeAnd before.held (λ old. IsBegun dir broken (stored dir old done) now))
+  pub held : IfSome after.held (λ now. IsSomeAnd before.held (λ old. IsPartlyStored dir broken (stored dir old done) now))
   pub load_faults : after.load_faults ≡ before.load_faults
   pub failed : after.failed ≡ before.failed
   pub rose : Rose before.store_faults after.store_faults

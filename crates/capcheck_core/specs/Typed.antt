@@ -29,7 +29,7 @@ abbrev pub count_of_last : Linked → ℕ
 count_of_last w = count_by (is_of_last (length w.infos)) w.methods
 
 -- each of them has a typing, and the text says how many they are
-pub record IsTyped (w : Linked) (text : List ℕ) : Type 0 where
+pub record TellsTyped (w : Linked) (text : List ℕ) : Type 0 where
   pub typed : AreTyped w
   pub prints : text ≡ typed_line (count_of_last w)
 
@@ -38,7 +38,7 @@ abbrev pub number_of : MethodRec → MethodNumber
 number_of rec = record { «package» = rec.package; class_no = rec.class_no; method_no = rec.method_no }
 
 -- one of them is the first without a typing, and the text names it, with a place and a reason that hold
-pub record IsUntyped (w : Linked) (text : List ℕ) : Type 0 where
+pub record TellsUntyped (w : Linked) (text : List ℕ) : Type 0 where
   pub method : Method
   pub first : IsFirstWithout (IsOfLast w) (λ m. HasFlowTyping w m Top) method
   pub end : FlowEnd

@@ -1,6 +1,6 @@
 -- What `verify` may answer, by the packages and the roles in its folders (Leroy 2002, section 3).
-use Rattle.std.specs.Prelude.{◌≡◌, ℕ, Bool, List, count_by, nat_lt, string_bytes}
-use Rattle.jc_base.specs.declared.record.MethodRec.{MethodRec}
+use Rattle.std.specs.Prelude.{◌≡◌, ℕ, List, count_by, string_bytes}
+use Rattle.jc_indexes.specs.Indexes.{has_code}
 use Rattle.jc_base.specs.World.{Linked}
 use Rattle.jc_control.specs.Method.{Method, IsMethodOf}
 use Rattle.jc_rules.specs.Demand.{Frame}
@@ -18,26 +18,22 @@ use Rattle.capcheck_core.specs.OverFolders.{OverFolders}
 use Rattle.capcheck_core.specs.Typed.{number_of}
 use Rattle.capcheck_core.specs.World.{of_world, OverWorld}
 
--- a method with code
-abbrev pub has_code : MethodRec → Bool
-has_code rec = nat_lt 0 rec.code_len
-
 -- how many methods with code all packages have
 abbrev pub count_of_world : Linked → ℕ
 count_of_world w = count_by has_code w.methods
 
 -- every method with code of all packages has a card typing
-abbrev pub AreCarded : Linked → Type 0
-AreCarded w = AllHave (IsMethodOf w) (HasCardTyping w)
+abbrev pub HaveCardTypings : Linked → Type 0
+HaveCardTypings w = AllHave (IsMethodOf w) (HasCardTyping w)
 
 -- each of them has one, no run of any entry meets a fault, and the text says how many they are
-pub record IsCarded (w : Linked) (text : List ℕ) : Type 0 where
-  pub carded : AreCarded w
+pub record TellsAccepted (w : Linked) (text : List ℕ) : Type 0 where
+  pub carded : HaveCardTypings w
   pub fault_free : IsFaultFree w
   pub prints : text ≡ accepted_line (count_of_world w)
 
 -- one of them is the first without a card typing, and the text names it, with a place and a reason that hold
-pub record IsUncarded (w : Linked) (text : List ℕ) : Type 0 where
+pub record TellsRefused (w : Linked) (text : List ℕ) : Type 0 where
   pub method : Method
   pub first : IsFirstWithout (IsMethodOf w) (HasCardTyping w) method
   pub fault : CardFault
@@ -46,21 +42,21 @@ pub record IsUncarded (w : Linked) (text : List ℕ) : Type 0 where
   pub prints : text ≡ refused_card_line (number_of method.rec) fault
 
 -- the answers where a method is refused
-abbrev pub StopsAtCards : Linked → Verdict → Type 0
-StopsAtCards w (Refused text) = IsUncarded w (string_bytes text)
-StopsAtCards w Memory = Unit {0}
-StopsAtCards w _ = ⊥
+abbrev pub StopsAtRefused : Linked → Verdict → Type 0
+StopsAtRefused w (Refused text) = TellsRefused w (string_bytes text)
+StopsAtRefused w Memory = Unit {0}
+StopsAtRefused w _ = ⊥
 
 -- the answers of a world
-abbrev pub CardsWorld : Linked → Verdict → Type 0
-CardsWorld w (Done text) = IsCarded w (string_bytes text)
-CardsWorld w (Refused text) = IsUncarded w (string_bytes text)
-CardsWorld w Memory = Unit {0}
-CardsWorld w _ = ⊥
+abbrev pub AcceptsWorld : Linked → Verdict → Type 0
+AcceptsWorld w (Done text) = TellsAccepted w (string_bytes text)
+AcceptsWorld w (Refused text) = TellsRefused w (string_bytes text)
+AcceptsWorld w Memory = Unit {0}
+AcceptsWorld w _ = ⊥
 
 -- its last step: it verifies the world, and changes nothing
 abbrev pub VerifiesWorld : Linked → Outside → Outside → Verdict → Type 0
-VerifiesWorld w before after verdict = Untouched before after × CardsWorld w verdict
+VerifiesWorld w before after verdict = Untouched before after × AcceptsWorld w verdict
 
 -- the outside is as it was when the verifying began, and as it is afterwards
 abbrev pub Verifies : VerifyRequest → Outside → Outside → Verdict → Type 0

@@ -9,7 +9,7 @@ use Rattle.jc_base.specs.World.{Linked}
 use Rattle.jc_link.specs.LinkEnd.{LinkEnd}
 use Rattle.jc_link.specs.LinkEnd.TheVariants as ends
 use Rattle.jc_link.specs.LinkFault.{LinkFault}
-use Rattle.jc_link.specs.Fault.{place_of}
+use Rattle.jc_link.specs.Fault.{link_place}
 use Rattle.first_fault.specs.First.{IsFirst}
 use Rattle.jc_link.specs.World.{IsLinked, conditions}
 use Rattle.capcheck_core.specs.declared.verdict.Verdict.{Verdict}
@@ -35,7 +35,7 @@ pub record OfLinked (packages : List PackageRecord) (roles : List ℕ) (P : Link
 -- they make no world, and the text names the first condition that is broken, at its least thing
 pub record IsUnlinked (packages : List PackageRecord) (roles : List ℕ) (text : List ℕ) : Type 0 where
   pub fault : LinkFault
-  pub first : IsFirst place_of (conditions packages roles) fault
+  pub first : IsFirst link_place (conditions packages roles) fault
   pub prints : text ≡ not_linked_line fault
 
 -- the answers where they make no world, or there is no memory for it

@@ -4,7 +4,7 @@ ghost use Rattle.capcheck_core.specs.Answers.{Answers, IsVerdict};
 ghost use Rattle.capcheck_core.specs.Completeness.{Completes};
 ghost use Rattle.capcheck_core.specs.Outside.{outside, card};
 ghost use Rattle.capcheck_core.specs.Report.{IsReported, seen};
-ghost use Rattle.capcheck_core.specs.Run.{IsWhole};
+ghost use Rattle.capcheck_core.specs.Run.{HasLengths};
 ghost use Rattle.capcheck_core.specs.declared.verdict.Verdict.{Verdict};
 
 use crate::generating::generate_and_run;
@@ -55,7 +55,7 @@ fn answer<F: Folder>(
     heap: &mut [u16],
     statics: &mut [u16],
 ) -> Verdict
-    requires { IsWhole (card ram.old heap.old statics.old) }
+    requires { HasLengths (card ram.old heap.old statics.old) }
     ensures { IsVerdict words.now
         (outside (F.folders folder.old) (card ram.old heap.old statics.old))
         (outside (F.folders folder.new) (card ram.new heap.new statics.new)) result }
@@ -76,7 +76,7 @@ fn perform<F: Folder>(
     heap: &mut [u16],
     statics: &mut [u16],
 ) -> Verdict
-    requires { IsWhole (card ram.old heap.old statics.old) }
+    requires { HasLengths (card ram.old heap.old statics.old) }
     ensures { Answers (request_of command.now)
         (outside (F.folders folder.old) (card ram.old heap.old statics.old))
         (outside (F.folders folder.new) (card ram.new heap.new statics.new)) result }

@@ -1,6 +1,7 @@
 ghost use Rattle.std.specs.Prelude.{◌≡◌, ◌<◌, length, Some, option_map, slice_get};
+ghost use Rattle.jc_indexes.specs.Indexes.{has_code};
 ghost use Rattle.card_verify.specs.Answers.{AreAccepted, IsFirstRefused};
-ghost use Rattle.capcheck_core.specs.Verify.{has_code, count_of_world, StopsAtCards, CardsWorld};
+ghost use Rattle.capcheck_core.specs.Verify.{count_of_world, StopsAtRefused, AcceptsWorld};
 
 use crate::typing::number_of;
 use crate::verdict::Verdict;
@@ -14,7 +15,7 @@ use vm_sound::typed_code_never_fails;
 /// Verifies each method with code of all packages of a world, in the room of a card.
 #[tactic(auto, using(crate::proofs::Cardings::refused_world))]
 pub fn verify_methods(alloc: Global, world: &World<'_>) -> Verdict
-    ensures { CardsWorld world.now result }
+    ensures { AcceptsWorld world.now result }
 {
     let mut room = CardRoom::new();
     match accept(world, &mut room) {
@@ -26,7 +27,7 @@ pub fn verify_methods(alloc: Global, world: &World<'_>) -> Verdict
 // The verdict for a world whose methods are all accepted: how many they are.
 fn counted(alloc: Global, world: &World<'_>) -> Verdict
     requires { AreAccepted world.now }
-    ensures { CardsWorld world.now result }
+    ensures { AcceptsWorld world.now result }
 {
     typed_code_never_fails(world);
     Verdict::done(accepted(alloc, count_of_world(world)))
@@ -55,7 +56,7 @@ fn has_code(world: &World<'_>, number: u16) -> bool
 #[tactic(auto, using(crate::proofs::Cardings::number_below))]
 pub fn uncarded(alloc: Global, world: &World<'_>, number: u16, fault: CardFault) -> Verdict
     requires { IsFirstRefused world.now number fault }
-    ensures { StopsAtCards world.now result }
+    ensures { StopsAtRefused world.now result }
 {
     let _code = world.code(number);
     Verdict::refused(refused_card(alloc, number_of(world, number), fault))

@@ -8,8 +8,8 @@ ghost use Rattle.vm_offend.specs.Sized.{AreSized};
 ghost use Rattle.xf_pack.specs.Transformed.{IsTransformed};
 ghost use Rattle.capcheck_core.specs.Generate.{generated, run_of, short_ended, AreRun, GeneratesIn, Generates, HasEntry, HaveEntries, IsNew, IsRunOf, IsSumOfShorts, RunsAll, TellsParts};
 ghost use Rattle.capcheck_core.specs.Outside.{outside, card};
-ghost use Rattle.capcheck_core.specs.Run.{IsWhole};
-ghost use Rattle.capcheck_core.specs.Verify.{AreCarded};
+ghost use Rattle.capcheck_core.specs.Run.{HasLengths};
+ghost use Rattle.capcheck_core.specs.Verify.{HaveCardTypings};
 
 use crate::defending::method_entered;
 use crate::running::field_words;
@@ -46,7 +46,7 @@ pub(crate) fn generate_and_run<F: Folder>(
     heap: &mut [u16],
     statics: &mut [u16],
 ) -> Verdict
-    requires { IsWhole (card ram.old heap.old statics.old) }
+    requires { HasLengths (card ram.old heap.old statics.old) }
     ensures { Generates (generate_request operands.now)
         (outside (F.folders folder.old) (card ram.old heap.old statics.old))
         (outside (F.folders folder.new) (card ram.new heap.new statics.new)) result }
@@ -94,7 +94,7 @@ fn bring<F: Folder>(
     heap: &mut [u16],
     statics: &mut [u16],
 ) -> Verdict
-    requires card { IsWhole (card ram.old heap.old statics.old) }
+    requires card { HasLengths (card ram.old heap.old statics.old) }
     requires packages { packages.now ≡ generated operands.now.seed }
     requires linked { IsLinked packages.now roles world.now }
     requires size { size ≡ length (method_info operands.now.seed) }
@@ -123,7 +123,7 @@ fn store<F: Folder>(
     heap: &mut [u16],
     statics: &mut [u16],
 ) -> Verdict
-    requires card { IsWhole (card ram.old heap.old statics.old) }
+    requires card { HasLengths (card ram.old heap.old statics.old) }
     requires linked { IsLinked (generated operands.now.seed) roles world.now }
     requires made { IsTransformed (generated operands.now.seed) roles world.now parts.now }
     requires size { size ≡ length (method_info operands.now.seed) }
@@ -151,7 +151,7 @@ fn run_stored(
     heap: &mut [u16],
     statics: &mut [u16],
 ) -> Verdict
-    requires card { IsWhole (card ram.old heap.old statics.old) }
+    requires card { HasLengths (card ram.old heap.old statics.old) }
     requires linked { IsLinked (generated seed) roles world.now }
     requires made { IsTransformed (generated seed) roles world.now parts.now }
     requires size { size ≡ length (method_info seed) }
@@ -187,7 +187,7 @@ fn run_new(
     heap: &mut [u16],
     statics: &mut [u16],
 ) -> Verdict
-    requires card { IsWhole (card ram.old heap.old statics.old) }
+    requires card { HasLengths (card ram.old heap.old statics.old) }
     requires linked { IsLinked (generated _seed) roles world.now }
     requires made { IsNew _seed world.now _parts.now new.now made_size }
     requires size { size ≡ length (method_info _seed) }
@@ -210,8 +210,8 @@ fn sum_of(
     heap: &mut [u16],
     statics: &mut [u16],
 ) -> Result<i32, AllocError>
-    requires card { IsWhole (card ram.old heap.old statics.old) }
-    requires carded { AreCarded world.now }
+    requires card { HasLengths (card ram.old heap.old statics.old) }
+    requires carded { HaveCardTypings world.now }
     requires entries { HaveEntries world.now }
     ensures { IfOk result (RunsAll world.now (card ram.new heap.new statics.new)) }
 {

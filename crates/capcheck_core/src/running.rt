@@ -1,4 +1,4 @@
-ghost use Rattle.std.specs.Prelude.{◌≡◌, ◌≤◌, Some, MatchResult, IfErr, length, map, string_bytes};
+ghost use Rattle.std.specs.Prelude.{◌≡◌, ◌≤◌, Some, MatchResult, IfErr, OnErr, length, map, string_bytes};
 ghost use Rattle.card_verify.specs.Answers.{AreAccepted};
 ghost use Rattle.cap_text.specs.Line.{not_started_line, refused_card_line};
 ghost use Rattle.cap_text.specs.Room.{HasRoom, IsEmpty, Writes};
@@ -10,11 +10,11 @@ ghost use Rattle.vm_offend.specs.Sized.{AreSized, static_cells};
 ghost use Rattle.vm_step.specs.declared.ending.Ending.TheVariants as endings;
 ghost use Rattle.vm_store.specs.Cells.{words};
 ghost use Rattle.vm_text.specs.Left.{left_by};
-ghost use Rattle.vm_text.specs.Lent.{words_left, IsLentRun};
+ghost use Rattle.vm_text.specs.Lent.{lent_state, IsLentRun};
 ghost use Rattle.vm_text.specs.Text.{left_text, most_text};
 ghost use Rattle.capcheck_core.specs.Defend.{method_entered};
 ghost use Rattle.capcheck_core.specs.Outside.{Card, card};
-ghost use Rattle.capcheck_core.specs.Run.{bounded_request, IsWhole, IsLeft, IsRun, StopsRun, RunsWorldIn};
+ghost use Rattle.capcheck_core.specs.Run.{bounded_request, IsCardKept, HasLengths, IsLeft, IsRun, StopsRun, RunsWorldIn};
 
 use crate::defending::{lent, method_entered};
 use crate::typing::number_of;
@@ -66,8 +66,9 @@ pub(crate) fn run_in_card(
     heap: &mut [u16],
     statics: &mut [u16],
 ) -> Verdict
-    requires { IsWhole (card ram.old heap.old statics.old) }
-    ensures { RunsWorldIn world.now (bounded_request run.entry) (card ram.new heap.new statics.new) result }
+    requires { HasLengths (card ram.old heap.old statics.old) }
+    ensures runs { RunsWorldIn world.now (bounded_request run.entry) (card ram.new heap.new statics.new) result }
+    ensures kept { IsCardKept (card ram.old heap.old statics.old) (card ram.new heap.new statics.new) result }
 {
     match lent(alloc, &run.run.args) {
         Ok(args) => with_arguments(alloc, world, &run, &args, ram, heap, statics),
@@ -85,9 +86,10 @@ fn with_arguments(
     heap: &mut [u16],
     statics: &mut [u16],
 ) -> Verdict
-    requires card { IsWhole (card ram.old heap.old statics.old) }
+    requires card { HasLengths (card ram.old heap.old statics.old) }
     requires handed { args.now ≡ map argument_read run.now.run.now.args.items }
-    ensures { RunsWorldIn world.now (bounded_request run.now) (card ram.new heap.new statics.new) result }
+    ensures runs { RunsWorldIn world.now (bounded_request run.now) (card ram.new heap.new statics.new) result }
+    ensures kept { IsCardKept (card ram.old heap.old statics.old) (card ram.new heap.new statics.new) result }
 {
     let Ok(mut text) = room(alloc, world) else {
         return Verdict::Memory;
@@ -147,13 +149,14 @@ fn run_verified(
     heap: &mut [u16],
     statics: &mut [u16],
 ) -> Result<(), RunStop>
-    requires card { IsWhole (card ram.old heap.old statics.old) }
+    requires card { HasLengths (card ram.old heap.old statics.old) }
     requires handed { args.now ≡ map argument_read run.now.run.now.args.items }
     requires empty { IsEmpty text.old }
     requires room { HasRoom text.old (most_text world.now) }
     ensures runs { MatchResult result
         (λ _. IsRun world.now (bounded_request run.now) (card ram.new heap.new statics.new) text.new.text)
         (StopsRun world.now (bounded_request run.now)) }
+    ensures kept { OnErr result (card ram.new heap.new statics.new ≡ card ram.old heap.old statics.old) }
     ensures room { IfErr result (λ _. text.new ≡ text.old) }
 {
     let mut room = CardRoom::new();
@@ -174,13 +177,14 @@ fn run_accepted(
     statics: &mut [u16],
 ) -> Result<(), RunStop>
     requires accepted { AreAccepted accepted.now }
-    requires card { IsWhole (card ram.old heap.old statics.old) }
+    requires card { HasLengths (card ram.old heap.old statics.old) }
     requires handed { args.now ≡ map argument_read run.now.run.now.args.items }
     requires empty { IsEmpty text.old }
     requires room { HasRoom text.old (most_text accepted.now) }
     ensures runs { MatchResult result
         (λ _. IsRun accepted.now (bounded_request run.now) (card ram.new heap.new statics.new) text.new.text)
         (StopsRun accepted.now (bounded_request run.now)) }
+    ensures kept { OnErr result (card ram.new heap.new statics.new ≡ card ram.old heap.old statics.old) }
     ensures room { IfErr result (λ _. text.new ≡ text.old) }
 {
     match method_entered(accepted.world(), run.run.entry) {
@@ -202,13 +206,14 @@ fn run_entry(
 ) -> Result<(), RunStop>
     requires accepted { AreAccepted accepted.now }
     requires entered { method_entered accepted.now run.now.run.now.entry ≡ Some number }
-    requires card { IsWhole (card ram.old heap.old statics.old) }
+    requires card { HasLengths (card ram.old heap.old statics.old) }
     requires handed { args.now ≡ map argument_read run.now.run.now.args.items }
     requires empty { IsEmpty text.old }
     requires room { HasRoom text.old (most_text accepted.now) }
     ensures runs { MatchResult result
         (λ _. IsRun accepted.now (bounded_request run.now) (card ram.new heap.new statics.new) text.new.text)
         (StopsRun accepted.now (bounded_request run.now)) }
+    ensures kept { OnErr result (card ram.new heap.new statics.new ≡ card ram.old heap.old statics.old) }
     ensures room { IfErr result (λ _. text.new ≡ text.old) }
 {
     let count = field_words(accepted.world());
@@ -246,6 +251,7 @@ fn begin(
         (λ _. IsRun accepted.now (bounded_request run.now) (card ram.new heap.new statics.new) text.new.text)
         (StopsRun accepted.now (bounded_request run.now)) }
     ensures length { length statics.new ≡ length statics.old }
+    ensures kept { OnErr result (card ram.new heap.new statics.new ≡ card ram.old heap.old statics.old) }
     ensures room { IfErr result (λ _. text.new ≡ text.old) }
 {
     match start(accepted, number, args, ram, heap, statics) {
@@ -302,7 +308,7 @@ fn write_left(
     requires left { IsLentRun world.now accepted.now heap.now statics.now machine.counts }
     requires room { HasRoom text.old (most_text world.now) }
     ensures { Writes text.old text.new
-        (left_text (left_by words world.now (words_left heap.now statics.now machine.counts)) (endings.Plain ending)) }
+        (left_text (left_by words world.now (lent_state heap.now statics.now machine.counts)) (endings.Plain ending)) }
 {
     let left = LentRun {
         machine,

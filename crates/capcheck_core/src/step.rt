@@ -1,6 +1,6 @@
 ghost use Rattle.jc_link.specs.World.{IsLinked};
 ghost use Rattle.capcheck_core.specs.Outside.{outside, card};
-ghost use Rattle.capcheck_core.specs.Run.{IsWhole};
+ghost use Rattle.capcheck_core.specs.Run.{HasLengths};
 ghost use Rattle.capcheck_core.specs.Step.{OwnAnswers};
 
 use crate::carding::verify_methods;
@@ -45,7 +45,7 @@ pub(crate) fn take_step<F: Folder>(
     heap: &mut [u16],
     statics: &mut [u16],
 ) -> Verdict
-    requires card { IsWhole (card ram.old heap.old statics.old) }
+    requires card { HasLengths (card ram.old heap.old statics.old) }
     requires linked { IsLinked packages.now roles world.now }
     ensures { OwnAnswers step.entry packages.now roles world.now
         (outside (F.folders folder.old) (card ram.old heap.old statics.old))

@@ -6,8 +6,8 @@ ghost use Rattle.jc_link.specs.World.{IsLinked};
 ghost use Rattle.xf_pack.specs.Transformed.{IsTransformed};
 ghost use Rattle.capcheck_core.specs.Defend.{IsDefended};
 ghost use Rattle.capcheck_core.specs.Outside.{card};
-ghost use Rattle.capcheck_core.specs.Run.{IsWhole};
-ghost use Rattle.capcheck_core.specs.Trial.{HasNew, IsDoneOrMemory, TriesIn};
+ghost use Rattle.capcheck_core.specs.Run.{HasLengths};
+ghost use Rattle.capcheck_core.specs.Trial.{HasNew, IsDoneOrMemory, IsUntriedKept, TriesIn};
 
 use crate::defending::defend;
 use crate::running::{Bounded, run_in_card};
@@ -26,6 +26,7 @@ const STEPS_EACH: u64 = 2000;
 
 /// Brings the last package of a world into the form that a verifier on the card accepts. Runs an entry of its source on the
 /// machine that tests what it does, and then the same entry of the new package in the memory of the card.
+#[tactic(auto, using(crate::proofs::Trials::untried_there))]
 pub(crate) fn try_last(
     alloc: Global,
     packages: &Packages<'_, '_>,
@@ -36,9 +37,10 @@ pub(crate) fn try_last(
     heap: &mut [u16],
     statics: &mut [u16],
 ) -> Verdict
-    requires card { IsWhole (card ram.old heap.old statics.old) }
+    requires card { HasLengths (card ram.old heap.old statics.old) }
     requires linked { IsLinked packages.now roles world.now }
-    ensures { TriesIn packages.now roles world.now (run_request run.now) (card ram.new heap.new statics.new) result }
+    ensures tries { TriesIn packages.now roles world.now (run_request run.now) (card ram.new heap.new statics.new) result }
+    ensures kept { IsUntriedKept (card ram.old heap.old statics.old) (card ram.new heap.new statics.new) result }
 {
     match transform_linked(alloc, packages, roles, world) {
         Ok(parts) => try_parts(
@@ -60,10 +62,11 @@ fn try_parts(
     heap: &mut [u16],
     statics: &mut [u16],
 ) -> Verdict
-    requires card { IsWhole (card ram.old heap.old statics.old) }
+    requires card { HasLengths (card ram.old heap.old statics.old) }
     requires linked { IsLinked packages.now roles world.now }
     requires made { IsTransformed packages.now roles world.now parts.now }
-    ensures { TriesIn packages.now roles world.now (run_request run.now) (card ram.new heap.new statics.new) result }
+    ensures tries { TriesIn packages.now roles world.now (run_request run.now) (card ram.new heap.new statics.new) result }
+    ensures kept { IsUntriedKept (card ram.old heap.old statics.old) (card ram.new heap.new statics.new) result }
 {
     match defend(alloc, world, run) {
         Verdict::Done(source) => try_new(
@@ -97,11 +100,12 @@ fn try_new(
     heap: &mut [u16],
     statics: &mut [u16],
 ) -> Verdict
-    requires card { IsWhole (card ram.old heap.old statics.old) }
+    requires card { HasLengths (card ram.old heap.old statics.old) }
     requires linked { IsLinked packages.now roles world.now }
     requires made { IsTransformed packages.now roles world.now parts.now }
     requires defended { IsDefended world.now (run_request run.now) source.now }
-    ensures { TriesIn packages.now roles world.now (run_request run.now) (card ram.new heap.new statics.new) result }
+    ensures tries { TriesIn packages.now roles world.now (run_request run.now) (card ram.new heap.new statics.new) result }
+    ensures kept { IsUntriedKept (card ram.old heap.old statics.old) (card ram.new heap.new statics.new) result }
 {
     let Ok(lent) = parts.lend(alloc) else {
         return Verdict::Memory;
@@ -150,11 +154,12 @@ fn run_new(
     heap: &mut [u16],
     statics: &mut [u16],
 ) -> Verdict
-    requires card { IsWhole (card ram.old heap.old statics.old) }
+    requires card { HasLengths (card ram.old heap.old statics.old) }
     requires linked { IsLinked _packages.now _roles world.now }
     requires made { HasNew _packages.now _roles world.now _parts.now new.now }
     requires defended { IsDefended world.now (run_request run.now) source.now }
-    ensures { TriesIn _packages.now _roles world.now (run_request run.now) (card ram.new heap.new statics.new) result }
+    ensures tries { TriesIn _packages.now _roles world.now (run_request run.now) (card ram.new heap.new statics.new) result }
+    ensures kept { IsUntriedKept (card ram.old heap.old statics.old) (card ram.new heap.new statics.new) result }
 {
     starts_refuse_alike(world);
     let steps = STEPS_EACH * u64::from(run.budget);

@@ -4,7 +4,7 @@ ghost use Rattle.cap_package.specs.StandsFor.{StandsFor, HavePackage};
 ghost use Rattle.cap_files.specs.WordsLeft.{words_left};
 ghost use Rattle.capcheck_core.specs.Outside.{outside, card};
 ghost use Rattle.capcheck_core.specs.OverFolders.{OverFolders};
-ghost use Rattle.capcheck_core.specs.Run.{IsWhole};
+ghost use Rattle.capcheck_core.specs.Run.{HasLengths};
 ghost use Rattle.capcheck_core.specs.Step.{OwnAnswers};
 ghost use Rattle.capcheck_core.specs.World.{IsUnlinkedBy, OverWorld, OverPackages};
 
@@ -28,7 +28,7 @@ pub(crate) fn over_folders<F: Folder>(
     heap: &mut [u16],
     statics: &mut [u16],
 ) -> Verdict
-    requires { IsWhole (card ram.old heap.old statics.old) }
+    requires { HasLengths (card ram.old heap.old statics.old) }
     ensures { OverFolders (OverWorld (OwnAnswers step.entry)) (words_left dirs.entry)
         (outside (F.folders folder.old) (card ram.old heap.old statics.old))
         (outside (F.folders folder.new) (card ram.new heap.new statics.new)) result }
@@ -49,7 +49,7 @@ fn over_loaded<F: Folder>(
     statics: &mut [u16],
 ) -> Verdict
     requires packages { All HavePackage loaded.now.packages.items }
-    requires card { IsWhole (card ram.old heap.old statics.old) }
+    requires card { HasLengths (card ram.old heap.old statics.old) }
     ensures { OverWorld (OwnAnswers step.entry) loaded.now.packages.items loaded.now.roles
         (outside (F.folders folder.old) (card ram.old heap.old statics.old))
         (outside (F.folders folder.new) (card ram.new heap.new statics.new)) result }
@@ -81,7 +81,7 @@ fn over_parts<F: Folder>(
     statics: &mut [u16],
 ) -> Verdict
     requires packages { All HavePackage parts.now.items }
-    requires card { IsWhole (card ram.old heap.old statics.old) }
+    requires card { HasLengths (card ram.old heap.old statics.old) }
     ensures { OverWorld (OwnAnswers step.entry) parts.now.items roles
         (outside (F.folders folder.old) (card ram.old heap.old statics.old))
         (outside (F.folders folder.new) (card ram.new heap.new statics.new)) result }
@@ -102,7 +102,7 @@ fn over_packages<F: Folder>(
     heap: &mut [u16],
     statics: &mut [u16],
 ) -> Verdict
-    requires { IsWhole (card ram.old heap.old statics.old) }
+    requires { HasLengths (card ram.old heap.old statics.old) }
     ensures { OverPackages (OwnAnswers step.entry) packages.now roles
         (outside (F.folders folder.old) (card ram.old heap.old statics.old))
         (outside (F.folders folder.new) (card ram.new heap.new statics.new)) result }

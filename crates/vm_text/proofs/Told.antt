@@ -1,12 +1,13 @@
 -- Lines and elements that are written one after the other.
-use Rattle.std.proofs.Common.{◌≡◌, ◌<◌, ℕ, zero, suc, ◌+◌, ℤ, List, [], ◌∷◌, ◌++◌, length, Option, Some, None, refl, sym, ap, subst, ◌∙◌, append_assoc, append-nil, length-append, arith}
+use Rattle.std.proofs.Common.{◌≡◌, ◌<◌, ℕ, zero, suc, ◌+◌, ℤ, List, [], ◌∷◌, ◌++◌, length, Option, Some, None, refl, sym, ap, subst, ◌∙◌, append_assoc, append-nil, arith}
 use Rattle.std.specs.Prelude.{take, slice_get, option_map, option_and_then}
 use Rattle.std.specs.List.{flat_map}
 use Rattle.std.proofs.lemmas.Grind.{flat_map-append}
 use Rattle.vm_step.specs.declared.ending.Value.{Value}
 use Rattle.cap_text.specs.Ending.{static_line, static_lines, element_text}
 use Rattle.cap_text.specs.Room.{Roomed, Writes}
-use Rattle.vm_text.specs.Left.{Numbers, elements_in}
+use Rattle.cap_text.proofs.Rooms.{both}
+use Rattle.vm_text.specs.Left.{NumberArray, elements_in}
 
 next_taken : {X : Type 0} (xs : List X) (n : ℕ) (x : X) → slice_get xs n ≡ Some x → take (n + 1) xs ≡ take n xs ++ x ∷ []
 next_taken {X} xs n x is = let same : n + 1 ≡ suc n = omega arith in ap (λ k. take k xs) same ∙ go xs n is
@@ -16,26 +17,16 @@ next_taken {X} xs n x is = let same : n + 1 ≡ suc n = omega arith in ap (λ k.
     go (y ∷ ys) zero e = cc
     go (y ∷ ys) (suc m) e = ap (λ zs. y ∷ zs) (go ys m e)
 
--- one piece after another
-pub joined : (a b c : Roomed) (xs ys : List ℕ) → Writes a b xs → Writes b c ys → Writes a c (xs ++ ys)
-joined a b c xs ys v w =
-    let long : length (xs ++ ys) ≡ length xs + length ys = length-append xs ys in
-    record {
-      text = w.text ∙ ap (λ t. t ++ ys) v.text ∙ append_assoc a.text xs ys;
-      used = let one = v.used in let more = w.used in omega (arith, one, more, long);
-      whole = let one = v.whole in let more = w.whole in omega (arith, one, more);
-    }
-
 pub nothing : (a : Roomed) → Writes a a []
 nothing a = record { text = sym (append-nil a.text); used = omega arith; whole = omega arith }
 
 -- ---- elements
 
-pub counted : (o : Option Numbers) (count : ℕ) → option_map (λ (a : Numbers). length a.elements) o ≡ Some count → length (elements_in o) ≡ count
+pub counted : (o : Option NumberArray) (count : ℕ) → option_map (λ (a : NumberArray). length a.elements) o ≡ Some count → length (elements_in o) ≡ count
 counted None count is = absurd (cc)
 counted (Some a) count is = cc
 
-pub element_found : (o : Option Numbers) (i : ℕ) (r : Option ℤ) → r ≡ option_and_then (λ (a : Numbers). slice_get a.elements i) o
+pub element_found : (o : Option NumberArray) (i : ℕ) (r : Option ℤ) → r ≡ option_and_then (λ (a : NumberArray). slice_get a.elements i) o
     → slice_get (elements_in o) i ≡ r
 element_found None i r is = sym is
 element_found (Some a) i r is = sym is
@@ -46,7 +37,7 @@ one_element a b c xs i x is before one =
     let all : flat_map element_text (take (i + 1) xs) ≡ flat_map element_text (take i xs) ++ element_text x
     = ap (flat_map element_text) (next_taken xs i x is) ∙ flat_map-append element_text (take i xs) (x ∷ [])
     ∙ ap (λ t. flat_map element_text (take i xs) ++ t) (append-nil (element_text x)) in
-    subst (Writes a c) (sym all) (joined a b c (flat_map element_text (take i xs)) (element_text x) before one)
+    subst (Writes a c) (sym all) (both a b c (flat_map element_text (take i xs)) (element_text x) before one)
 
 -- ---- static fields
 
@@ -63,7 +54,7 @@ one_field a b c xs n x long is before one =
     let place : 0 + length (take n xs) ≡ n = omega (arith, long) in
     let all : static_lines 0 (take (n + 1) xs) ≡ static_lines 0 (take n xs) ++ static_line n x
     = ap (static_lines 0) (next_taken xs n x is) ∙ lines_joined 0 (take n xs) x ∙ ap (λ k. static_lines 0 (take n xs) ++ static_line k x) place in
-    subst (Writes a c) (sym all) (joined a b c (static_lines 0 (take n xs)) (static_line n x) before one)
+    subst (Writes a c) (sym all) (both a b c (static_lines 0 (take n xs)) (static_line n x) before one)
 
 -- ---- within a list
 

@@ -9,8 +9,8 @@ use Rattle.vm_offend.specs.Sized.{static_cells}
 use Rattle.vm_offend.specs.Reads.{AreObjectsOf, AreStaticsOf}
 
 -- the state that the words hold, without its frames
-abbrev pub words_left : List ℕ → List ℕ → Counts → State ℕ
-words_left heap statics counts = record { frames = []; heap = (objects_state heap counts).heap; statics = statics }
+abbrev pub lent_state : List ℕ → List ℕ → Counts → State ℕ
+lent_state heap statics counts = record { frames = []; heap = (objects_state heap counts).heap; statics = statics }
 
 -- the world is the one that was accepted, and the words are those of the objects and of the static fields of some state
 pub record IsLentRun (w accepted : Linked) (heap statics : List ℕ) (counts : Counts) : Type 0 where

@@ -10,20 +10,20 @@ use Rattle.vm_step.specs.declared.ending.Ending.{Ending}
 use Rattle.vm_step.specs.declared.ending.Ending.TheVariants.{Plain}
 use Rattle.vm_step.specs.Raising.{Outcome, running, ended}
 use Rattle.cap_text.specs.Ending.{ending_line, static_lines, array_line}
-use Rattle.vm_text.specs.Left.{Numbers, Left, left_by}
+use Rattle.vm_text.specs.Left.{NumberArray, Readout, left_by}
 
 -- the line of an array of numbers, where there is one
-abbrev pub array_text : ℕ → Option Numbers → List ℕ
+abbrev pub array_text : ℕ → Option NumberArray → List ℕ
 array_text handle None = []
 array_text handle (Some a) = array_line handle a.ty a.elements
 
 -- the array that a run returned, where it returned one of numbers
-abbrev pub returned_array : Left → Ending → List ℕ
+abbrev pub returned_array : Readout → Ending → List ℕ
 returned_array left (Plain (Returned (Ref handle))) = array_text handle (left.array handle)
 returned_array left ending = []
 
 -- how a run ended, the array that it returned, and the static fields
-abbrev pub left_text : Left → Ending → List ℕ
+abbrev pub left_text : Readout → Ending → List ℕ
 left_text left ending = concat (ending_line ending ∷ returned_array left ending ∷ static_lines 0 left.statics ∷ [])
 
 -- the text of a run that ended in a state of a world

@@ -7,10 +7,10 @@ use vm_step::Value;
 /// What a machine tells of the state that a run has left.
 pub trait Leaves {
     ghost use Rattle.jc_base.specs.World.{Linked};
-    ghost use Rattle.vm_text.specs.Left.{Left};
+    ghost use Rattle.vm_text.specs.Left.{Readout};
 
     /// What is read of it, in a world.
-    ghost left: { Linked → Self → Left };
+    ghost left: { Linked → Self → Readout };
 
     /// A run in the world has left it.
     ghost IsLeft: { Linked → Self → Type 0 };

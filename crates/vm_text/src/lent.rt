@@ -16,9 +16,9 @@ pub struct LentRun<'a, 'w> {
 impl Leaves for LentRun<'_, '_> {
     ghost use Rattle.vm_store.specs.Cells.{words};
     ghost use Rattle.vm_text.specs.Left.{left_by};
-    ghost use Rattle.vm_text.specs.Lent.{words_left, IsLentRun};
+    ghost use Rattle.vm_text.specs.Lent.{lent_state, IsLentRun};
 
-    ghost left = { λ w r. left_by words w (words_left r.heap.now r.statics.now r.machine.counts) };
+    ghost left = { λ w r. left_by words w (lent_state r.heap.now r.statics.now r.machine.counts) };
 
     ghost IsLeft = { λ w r. IsLentRun w r.accepted.now r.heap.now r.statics.now r.machine.counts };
 

@@ -1,6 +1,6 @@
 ghost use Rattle.std.specs.Prelude.{◌≡◌, ◌*◌, length, Some, IfOk, option_map};
 ghost use Rattle.cap_text.specs.Ending.{static_lines, element_text};
-ghost use Rattle.cap_text.specs.Room.{HasRoom, Writes, IsEmpty, IsWithin};
+ghost use Rattle.cap_text.specs.Room.{HasRoom, Writes, IsEmpty, WritesAtMost};
 ghost use Rattle.std.specs.List.{flat_map};
 ghost use Rattle.vm_text.specs.Left.{elements_at};
 ghost use Rattle.vm_text.specs.Text.{array_text, returned_array, left_text, most_text};
@@ -42,7 +42,7 @@ fn write_returned<L: Leaves>(room: &mut Room, world: &World<'_>, left: &L, endin
     requires run { L.IsLeft world.now left.now }
     requires room { HasRoom room.old 786446 }
     ensures writes { Writes room.old room.new (returned_array (L.left world.now left.now) ending) }
-    ensures few { IsWithin room.old room.new 786446 }
+    ensures few { WritesAtMost room.old room.new 786446 }
 {
     match ending {
         Ending::Plain(Plain::Returned(Value::Ref(handle))) => {
@@ -57,7 +57,7 @@ fn write_array<L: Leaves>(room: &mut Room, world: &World<'_>, left: &L, handle: 
     requires run { L.IsLeft world.now left.now }
     requires room { HasRoom room.old 786446 }
     ensures writes { Writes room.old room.new (array_text handle ((L.left world.now left.now).array handle)) }
-    ensures few { IsWithin room.old room.new 786446 }
+    ensures few { WritesAtMost room.old room.new 786446 }
 {
     let Some(ty) = left.array_kind(world, handle) else {
         return;
@@ -76,7 +76,7 @@ fn write_elements<L: Leaves>(room: &mut Room, world: &World<'_>, left: &L, handl
     requires count { option_map (λ a. length a.elements) ((L.left world.now left.now).array handle) ≡ Some count }
     requires room { HasRoom room.old (12 * count) }
     ensures writes { Writes room.old room.new (flat_map element_text (elements_at (L.left world.now left.now) handle)) }
-    ensures few { IsWithin room.old room.new (12 * count) }
+    ensures few { WritesAtMost room.old room.new (12 * count) }
 {
     'elements: for element in 0..count {
         if let Some(n) = left.array_value(world, handle, element) {

@@ -20,6 +20,8 @@ returns-in-Ok-store_parts g c =
     c.run_stored.result c.in-Ok.ensures c.in-Ok-store_parts.ensures c.run_stored.ensures
 
 pub returns : goal.returns
-returns g c =
-    brought_in_part (generated c.args.operands.now.seed) roles c.args.world.now c.args.operands.now.out.now c.args.parts.now c.in-Ok.stores (Some roles)
-    (g.F.Folder.folders c.args.folder.now) (g.F.Folder.folders c.store_parts.new.folder) c.requires.made c.in-Ok.ensures refl c.in-Err.ensures
+returns g c = (
+  brought_in_part (generated c.args.operands.now.seed) roles c.args.world.now c.args.operands.now.out.now c.args.parts.now c.in-Ok.stores (Some roles)
+      (g.F.Folder.folders c.args.folder.now) (g.F.Folder.folders c.store_parts.new.folder) c.requires.made c.in-Ok.ensures refl c.in-Err.ensures,
+  refl,
+)

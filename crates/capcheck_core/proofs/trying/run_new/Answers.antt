@@ -6,7 +6,7 @@ use Rattle.cap_text.specs.Trial.{trial_text}
 use Rattle.capcheck_core.specs.declared.verdict.Verdict.TheVariants.{Done}
 use Rattle.capcheck_core.specs.Outside.{card}
 use Rattle.capcheck_core.specs.Run.{within, RunsWorldIn}
-use Rattle.capcheck_core.specs.Trial.{steps_each, TriesIn}
+use Rattle.capcheck_core.specs.Trial.{steps_each, IsUntriedKept, TriesIn}
 use Rattle.capcheck_core.proofs.Trials.{new_runs, tried}
 use Rattle.capcheck_core.proofs.Verdicts.{said}
 use Rattle.capcheck_core.proofs.trying.run_new.Goals as goal
@@ -16,13 +16,13 @@ text_of-requires c =
     new_runs c.args._packages.now c.args._roles c.args.world.now c.requires.linked c.args._parts.now c.args.new.now c.requires.made
     c.starts_refuse_alike.ensures.refused c.starts_refuse_alike.ensures.numbered (run_request c.args.run.now) (steps_each * c.from-steps.result)
     (card c.run_in_card-verdict.new.ram c.run_in_card-verdict.new.heap c.run_in_card-verdict.new.statics) c.args.source.now c.run_in_card-verdict.result
-    c.requires.defended c.run_in_card-verdict.ensures
+    c.requires.defended c.run_in_card-verdict.ensures.runs
 
-pub returns-in-Ok : goal.returns-in-Ok
-returns-in-Ok c =
+pub returns-in-Ok-clause-tries : goal.returns-in-Ok-clause-tries
+returns-in-Ok-clause-tries c =
     let r = run_request c.args.run.now in
     let left = card c.run_in_card-verdict.new.ram c.run_in_card-verdict.new.heap c.run_in_card-verdict.new.statics in
-    let runs = subst (RunsWorldIn c.args.new.now (within (steps_each * c.from-steps.result) r) left) c.in-Ok.ensures c.run_in_card-verdict.ensures in
+    let runs = subst (RunsWorldIn c.args.new.now (within (steps_each * c.from-steps.result) r) left) c.in-Ok.ensures c.run_in_card-verdict.ensures.runs in
     said string_bytes Done (TriesIn c.args._packages.now c.args._roles c.args.world.now r left) c.tried.result
     (trial_text c.args.source.now c.as_str.result.now) c.done.result (tt {0})
     (λ t prints.
@@ -30,3 +30,10 @@ returns-in-Ok c =
     c.args.source.now (string_bytes c.in-Ok.target) (string_bytes t) c.requires.made (ap (λ n. steps_each * n) c.from-steps.ensures) c.requires.defended
     runs (prints ∙ ap (trial_text c.args.source.now) c.as_str.ensures.value))
     c.tried.ensures c.done.ensures
+
+pub returns-in-Ok-clause-kept : goal.returns-in-Ok-clause-kept
+returns-in-Ok-clause-kept c =
+    let before = card c.args.ram.now c.args.heap.now c.args.statics.now in
+    let left = card c.run_in_card-verdict.new.ram c.run_in_card-verdict.new.heap c.run_in_card-verdict.new.statics in
+    said string_bytes Done (IsUntriedKept before left) c.tried.result (trial_text c.args.source.now c.as_str.result.now) c.done.result (tt {0})
+    (λ t prints. tt {0}) c.tried.ensures c.done.ensures

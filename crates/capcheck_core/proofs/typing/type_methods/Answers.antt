@@ -4,7 +4,7 @@ use Rattle.std.specs.Prelude.{Result, Ok, Err, IfOk, MatchResult, string_bytes, 
 use Rattle.jc_base.specs.World.{Linked}
 use Rattle.capcheck_core.specs.declared.verdict.Verdict.{Verdict}
 use Rattle.capcheck_core.specs.declared.verdict.Verdict.TheVariants.{Done, Memory}
-use Rattle.capcheck_core.specs.Typed.{IsTyped}
+use Rattle.capcheck_core.specs.Typed.{TellsTyped}
 use Rattle.capcheck_core.specs.Check.{TypesWorld}
 use Rattle.capcheck_core.proofs.Typings.{one_more, one_counted, all_typed}
 use Rattle.capcheck_core.proofs.typing.type_methods.Goals as goal
@@ -18,7 +18,7 @@ methods-preserved c =
       most = search rules;
     }
 
-done : {E : Type 0} (w : Linked) (text : Result _ E) (line : List ℕ) (verdict : Verdict) → ((said : List ℕ) → said ≡ line → IsTyped w said)
+done : {E : Type 0} (w : Linked) (text : Result _ E) (line : List ℕ) (verdict : Verdict) → ((said : List ℕ) → said ≡ line → TellsTyped w said)
     → IfOk text (λ t. string_bytes t ≡ line) → MatchResult text (λ t. verdict ≡ Done t) (λ _. verdict ≡ Memory) → TypesWorld w verdict
 done w (Ok t) line verdict all says is = subst (TypesWorld w) (sym is) (all (string_bytes t) says)
 done w (Err e) line verdict all says is = subst (TypesWorld w) (sym is) (tt {0})

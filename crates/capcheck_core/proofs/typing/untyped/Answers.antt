@@ -4,12 +4,12 @@ use Rattle.std.specs.Prelude.{Result, Ok, Err, IfOk, MatchResult, string_bytes, 
 use Rattle.jc_base.specs.World.{Linked}
 use Rattle.capcheck_core.specs.declared.verdict.Verdict.{Verdict}
 use Rattle.capcheck_core.specs.declared.verdict.Verdict.TheVariants.{Refused, Memory}
-use Rattle.capcheck_core.specs.Typed.{IsUntyped}
+use Rattle.capcheck_core.specs.Typed.{TellsUntyped}
 use Rattle.capcheck_core.specs.Check.{TypesWorld}
 use Rattle.capcheck_core.proofs.Typings.{first_untyped}
 use Rattle.capcheck_core.proofs.typing.untyped.Goals as goal
 
-refused : {E : Type 0} (w : Linked) (text : Result _ E) (line : List ℕ) (verdict : Verdict) → ((said : List ℕ) → said ≡ line → IsUntyped w said)
+refused : {E : Type 0} (w : Linked) (text : Result _ E) (line : List ℕ) (verdict : Verdict) → ((said : List ℕ) → said ≡ line → TellsUntyped w said)
     → IfOk text (λ t. string_bytes t ≡ line) → MatchResult text (λ t. verdict ≡ Refused t) (λ _. verdict ≡ Memory) → TypesWorld w verdict
 refused w (Ok t) line verdict first says is = subst (TypesWorld w) (sym is) (first (string_bytes t) says)
 refused w (Err e) line verdict first says is = subst (TypesWorld w) (sym is) (tt {0})

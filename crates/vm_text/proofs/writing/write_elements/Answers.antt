@@ -3,7 +3,7 @@ use Rattle.std.proofs.Common.{◌≡◌, ◌+◌, ◌*◌, to_z, of_z, w32, subs
 use Rattle.std.specs.Prelude.{None}
 use Rattle.std.specs.List.{flat_map}
 use Rattle.cap_text.specs.Ending.{element_text}
-use Rattle.cap_text.specs.Room.{Writes, IsWithin}
+use Rattle.cap_text.specs.Room.{Writes, WritesAtMost}
 use Rattle.vm_text.specs.Left.{elements_at}
 use Rattle.vm_text.proofs.Told.{element_found, one_element, counted, not_missing}
 use Rattle.vm_text.proofs.writing.write_elements.Goals.{in-Some, in_default}
@@ -24,7 +24,7 @@ elements-preserved g c =
             writes = subst (λ r. Writes c.args.room.now r (flat_map element_text (take (c.elements.element + 1) xs))) (sym w.room-is)
                 (one_element c.args.room.now c.elements.room w.write_element.new.room xs c.elements.element w.in-Some.n (found ∙ w.in-Some.is) c.elements.invariant.writes
                 (subst (λ z. Writes c.elements.room w.write_element.new.room (element_text z)) same w.write_element.ensures.writes));
-            few = subst (λ r. IsWithin c.args.room.now r (12 * (c.elements.element + 1))) (sym w.room-is) (omega (arith, before, more));
+            few = subst (λ r. WritesAtMost c.args.room.now r (12 * (c.elements.element + 1))) (sym w.room-is) (omega (arith, before, more));
           }
       | in_default w ↦
           let none : c.array_value.result ≡ None = search rules in
