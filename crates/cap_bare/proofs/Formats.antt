@@ -3,9 +3,8 @@ use Rattle.std.proofs.Common.{◌≡◌, ◌∙◌, sym, ℕ, ◌<◌, Bool, tru
 use Rattle.std.specs.Prelude.{map, find, if◌then◌else◌}
 use Rattle.std.specs.Option.{option_map}
 use Rattle.std.specs.List.{list_all, range_with_len}
-use Rattle.std.proofs.lemmas.Bool.{eqb-true}
+use Rattle.std.proofs.lemmas.Bool.{eqb-true, and_parts}
 use Rattle.std.proofs.lemmas.List.FromFn.{get_or-map-range_with_len}
-use Rattle.jc_decode.proofs.Passed.{and-parts}
 use Rattle.cap_bare.specs.declared.format.TheConstants.{FORMATS}
 use Rattle.cap_bare.specs.declared.format.Format.{Format}
 use Rattle.cap_bare.specs.Format.{formats, format_of}
@@ -32,7 +31,7 @@ module _ (test : ℕ → Format → Bool) (op : ℕ) (f : Format) where
       → row_of (find (λ row. row.0 == op) rows) ≡ Some f → test op f ≡ true
   passes-in [] all h = absurd (cc)
   passes-in (row ∷ rows) all h =
-      let both = and-parts (test row.0 row.1) (list_all (λ row. test row.0 row.1) rows) all in
+      let both = and_parts (test row.0 row.1) (list_all (λ row. test row.0 row.1) rows) all in
       by_test (row.0 == op) refl both.0 (passes-in rows both.1) h
     where
       by_test : (b : Bool) → (row.0 == op) ≡ b → test row.0 row.1 ≡ true

@@ -4,6 +4,7 @@ use Rattle.std.proofs.Common.{◌≡◌, ◌∙◌, sym, ℕ, ℤ, Bool, true, f
 use Rattle.std.specs.Prelude.{not, is_some, FitsSigned, ◌&&◌, ◌||◌}
 use Rattle.std.specs.Option.{option_map, unwrap_or}
 use Rattle.std.specs.Int.{w8}
+use Rattle.std.proofs.lemmas.Bool.{and_parts, not-true}
 use Rattle.jc_decode.specs.declared.layout.Operand.{Operand}
 use Rattle.jc_decode.specs.declared.layout.Operand.TheVariants.{U1, S1, S2}
 use Rattle.jc_decode.specs.declared.layout.Layout.{Layout}
@@ -13,7 +14,7 @@ use Rattle.jc_decode.specs.Layout.{layout_of, opcode}
 use Rattle.jc_decode.specs.Cases.{is_switch}
 use Rattle.jc_decode.specs.Listing.{is_branch, falls, jumps}
 use Rattle.jc_decode.specs.Decoding.{FitsOperand, FitsLayout}
-use Rattle.jc_decode.proofs.Passed.{and-parts, or-rest}
+use Rattle.jc_decode.proofs.Passed.{or-rest}
 use Rattle.cap_bare.specs.declared.instruction.Instruction.{Instruction}
 use Rattle.cap_bare.specs.declared.instruction.Instruction.TheVariants.{Nop, Test, Compare, Goto, Return}
 use Rattle.cap_bare.specs.declared.format.Format.{Format}
@@ -93,10 +94,10 @@ all-agree op f h = row-passes agrees op f refl h
 
 agree-at : (op : ℕ) (f : Format) → format_of op ≡ Some f → Agrees op f
 agree-at op f h =
-    let a = and-parts _ _ (all-agree op f h) in
-    let b = and-parts _ _ a.1 in
-    let c = and-parts _ _ b.1 in
-    let d = and-parts _ _ c.1 in
+    let a = and_parts _ _ (all-agree op f h) in
+    let b = and_parts _ _ a.1 in
+    let c = and_parts _ _ b.1 in
+    let d = and_parts _ _ c.1 in
     record { reads = a.0; single = b.0; near = c.0; branches = d.0; goes_on = d.1 }
 
 reads-fits : (f : Format) (l : Layout) (insn : Insn) → reads f l ≡ true → FitsLayout insn (Ok l) → FitsFormat f insn
@@ -104,7 +105,7 @@ reads-fits (Implied i) l insn e h = tt
 reads-fits Constant l insn e h = short-fits l.x insn.x e h.0
 reads-fits Loads l insn e h = u1-fits l.x insn.x e h.0
 reads-fits Stores l insn e h = u1-fits l.x insn.x e h.0
-reads-fits Increments l insn e h = let two = and-parts (is_u1 l.x) (is_short l.y) e in (u1-fits l.x insn.x two.0 h.0, short-fits l.y insn.y two.1 h.1)
+reads-fits Increments l insn e h = let two = and_parts (is_u1 l.x) (is_short l.y) e in (u1-fits l.x insn.x two.0 h.0, short-fits l.y insn.y two.1 h.1)
 
 has-fits : (f : Format) (l : Result Layout CodeEnd) (insn : Insn) → has (reads f) l ≡ true → FitsLayout insn l → FitsFormat f insn
 has-fits f (Ok l) insn e h = reads-fits f l insn e h
@@ -122,10 +123,6 @@ bare-row (Some f) h = (f, refl)
 module _ (i : Insn) (bare : is_bare i.op ≡ true) where
   abbrev row : (f : Format) × (format_of i.op ≡ Some f)
   row = bare-row (format_of i.op) bare
-
-  not-true : (b : Bool) → not b ≡ true → b ≡ false
-  not-true true h = absurd (cc)
-  not-true false h = refl
 
   pub no-switch : is_switch i.op ≡ false
   no-switch = not-true (is_switch i.op) (agree-at i.op row.0 row.1).single

@@ -1,7 +1,6 @@
 -- Code with a card typing never meets a fault.
 use Rattle.std.proofs.Common.{◌≡◌, ◌∙◌, sym, ap, subst, ℕ, zero, suc, ◌+◌, ◌-◌, ◌<◌, ◌≤◌, Bool, true, false, Option, Some, None, Result, Ok, Err, List, [], length, drop, replicate, refl, arith, inl, inr, ◌⊎◌, ⊎_elim, Contains}
-use Rattle.std.proofs.lemmas.Bool.{ltb-true, lt-ltb}
-use Rattle.std.proofs.lemmas.Bool.Decides.{nat_tests}
+use Rattle.std.proofs.lemmas.Bool.{ltb-true, lt-ltb, le-ltb, ltb-false}
 use Rattle.std.proofs.lemmas.List.{length-replicate, length-append, length-drop}
 use Rattle.std.proofs.lemmas.List.Elements.{All-contains}
 use Rattle.std.proofs.Math.ListN.{length-set}
@@ -14,7 +13,7 @@ use Rattle.jc_decode.specs.Listing.{falls, jumps, targets}
 use Rattle.jc_decode.specs.Places.{place_after}
 use Rattle.cap_bare.specs.declared.instruction.Instruction.{Instruction}
 use Rattle.cap_bare.specs.declared.instruction.Instruction.TheVariants.{Nop, Push, Load, Store, Increment, Pop, Duplicate, Negate, ToByte, Binary, Test, Compare, Goto, Return}
-use Rattle.vm_arithmetic.specs.Arithmetic.{holds}
+use Rattle.vm_arithmetic.specs.Arithmetic.{succeeds}
 use Rattle.cap_bare.specs.Format.{is_bare, instruction_of}
 use Rattle.cap_bare.specs.Effects.{register_of, cells_taken, cells_given}
 use Rattle.cap_bare.specs.Code.{fetched, HasInstruction, IsPlace, IsTargetPlace}
@@ -52,9 +51,9 @@ acted-is Negate t next r s h = acts_on _ _ (inl (refl, refl)) refl (omega (arith
 acted-is ToByte t next r s h = acts_on _ _ (inl (refl, refl)) refl (omega (arith, length-drop 1 s))
 acted-is (Binary o) t next r s h = acts_on _ _ (inl (refl, refl)) refl (omega (arith, length-drop 2 s))
 acted-is (Test c) t next r s h =
-    acted-either (Test c) t next r s (holds c (top s) (pos 0)) (frame r (drop 1 s)) refl refl refl (omega (arith, length-drop 1 s))
+    acted-either (Test c) t next r s (succeeds c (top s) (pos 0)) (frame r (drop 1 s)) refl refl refl (omega (arith, length-drop 1 s))
 acted-is (Compare c) t next r s h =
-    acted-either (Compare c) t next r s (holds c (second s) (top s)) (frame r (drop 2 s)) refl refl refl (omega (arith, length-drop 2 s))
+    acted-either (Compare c) t next r s (succeeds c (second s) (top s)) (frame r (drop 2 s)) refl refl refl (omega (arith, length-drop 2 s))
 acted-is Goto t next r s h = acts_on t (frame r s) (inr (refl, refl)) refl (omega arith)
 acted-is Return t next r s h = acts_out (top s) refl
 
@@ -73,12 +72,6 @@ has-register bare (Some x) h = lt-ltb _ _ h
 register-there : (bare : Bare) (o : Option ℕ) → has_register bare o ≡ true → IfSome o (λ x. x < register_count bare)
 register-there bare None h = tt
 register-there bare (Some x) h = ltb-true _ _ h
-
-not-less : (a b : ℕ) → b ≤ a → nat_lt a b ≡ false
-not-less a b h = grind (arith, nat_tests)
-
-less-not : (a b : ℕ) → nat_lt a b ≡ false → b ≤ a
-less-not a b h = grind (arith, nat_tests)
 
 module _ (code : List ℕ) (bare : Bare) where
   -- a step's tests, passed
@@ -112,7 +105,7 @@ module _ (code : List ℕ) (bare : Bare) where
         record {
           found = f;
           local = register-there bare (register_of (instruction_of i)) l;
-          cells = less-not _ _ k;
+          cells = ltb-false _ _ k;
           is = e;
         },
       )
@@ -136,7 +129,7 @@ module _ (code : List ℕ) (bare : Bare) where
           → Settled to f
       by_tests true k c t e h = absurd (h tt)
       by_tests false k false t e h = absurd (h tt)
-      by_tests false k true t e h = record { room = less-not _ _ k; there = t; is = e }
+      by_tests false k true t e h = record { room = ltb-false _ _ k; there = t; is = e }
 
   -- a run that meets no fault takes a step that meets none, and goes on so
   pub safe-step : (s : State) → IsSafe code bare s → IsFault (step code bare s) → ⊥
@@ -189,7 +182,7 @@ module _ (code : List ℕ) (bare : Bare) where
 
     settled-is : (to : ℤ) (f : Frame) → length f.stack ≤ bare.max_stack → is_place code to ≡ true
         → settled code bare (leads to f) ≡ running (record { place = at_place to; frame = f })
-    settled-is to f room p = let k = not-less bare.max_stack (length f.stack) room in rw (k, p) refl
+    settled-is to f room p = let k = le-ltb bare.max_stack (length f.stack) room in rw (k, p) refl
 
     -- the place that an instruction leads to has the stack that it leaves
     record Next (left : List Kind) (to : ℤ) : Type 0 where
@@ -243,7 +236,7 @@ module _ (code : List ℕ) (bare : Bare) where
     unfolding step
     performed-is s i a f r c =
         let p : is_place code (pos s.place) ≡ true = place-true code (pos s.place) a.place in
-        let k = not-less (length s.frame.stack) (cells_taken (instruction_of i)) c in rw (p, f, r, k) refl
+        let k = le-ltb (length s.frame.stack) (cells_taken (instruction_of i)) c in rw (p, f, r, k) refl
 
     one-step : (s : State) → Agrees s → Goes s
     one-step s a =

@@ -10,7 +10,7 @@ use Rattle.jc_decode.specs.declared.insn.Placed.{Placed}
 use Rattle.jc_decode.specs.Listing.{targets}
 use Rattle.jc_decode.specs.Places.{place_after}
 use Rattle.jc_ops.specs.declared.operation.Operator.{Operator}
-use Rattle.vm_arithmetic.specs.Arithmetic.{of_shorts, short_to_byte, holds}
+use Rattle.vm_arithmetic.specs.Arithmetic.{of_shorts, short_to_byte, succeeds}
 use Rattle.cap_bare.specs.declared.bare.Bare.{Bare}
 use Rattle.cap_bare.specs.declared.run.BareEnd.{BareEnd}
 use Rattle.cap_bare.specs.declared.run.BareEnd.TheVariants.{Returned, Spent}
@@ -74,8 +74,8 @@ acted Duplicate t next r s = leads (pos next) (frame r (top s ∷ s))
 acted Negate t next r s = leads (pos next) (frame r (int_wrapping_neg w16 (top s) ∷ drop 1 s))
 acted ToByte t next r s = leads (pos next) (frame r (short_to_byte (top s) ∷ drop 1 s))
 acted (Binary operator) t next r s = leads (pos next) (frame r (binary operator (second s) (top s) ∷ drop 2 s))
-acted (Test order) t next r s = leads (if holds order (top s) (pos 0) then t else pos next) (frame r (drop 1 s))
-acted (Compare order) t next r s = leads (if holds order (second s) (top s) then t else pos next) (frame r (drop 2 s))
+acted (Test order) t next r s = leads (if succeeds order (top s) (pos 0) then t else pos next) (frame r (drop 1 s))
+acted (Compare order) t next r s = leads (if succeeds order (second s) (top s) then t else pos next) (frame r (drop 2 s))
 acted Goto t next r s = leads t (frame r s)
 acted Return t next r s = gives (top s)
 

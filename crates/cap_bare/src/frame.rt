@@ -1,5 +1,5 @@
 ghost use Rattle.std.specs.Prelude.{◌≡◌, ◌<◌, ◌≤◌, ◌+◌, ℤ, pos, [], ◌∷◌, ◌++◌, length, drop, replicate, slice_index_or, slice_set, if◌then◌else◌};
-ghost use Rattle.vm_arithmetic.specs.Arithmetic.{holds};
+ghost use Rattle.vm_arithmetic.specs.Arithmetic.{succeeds};
 ghost use Rattle.cap_bare.specs.Machine.{acted, frame, leads, top, second};
 
 use crate::bare::Bare;
@@ -7,7 +7,7 @@ use crate::instruction::{Instruction, binary};
 use arrayvec::ArrayVec;
 use jc_ops::Order;
 use std::marker::Model;
-use vm_arithmetic::{holds, negate_short, short_to_byte};
+use vm_arithmetic::{negate_short, short_to_byte, succeeds};
 
 /// The greatest numbers of registers and of cells that a compact header can say.
 const REGISTERS: usize = 30;
@@ -118,23 +118,27 @@ impl Frame {
         requires { 0 < length self.old.stack }
         ensures { leading result self.new
             ≡ leads
-            (if holds order (top self.old.stack) (pos 0) then target else next)
+            (if succeeds order (top self.old.stack) (pos 0) then target else next)
             (frame self.old.registers (drop 1 self.old.stack)) }
     {
         let value = self.pop();
-        Lead::To(if holds(order, value, 0) { target } else { next })
+        Lead::To(if succeeds(order, value, 0) {
+            target
+        } else {
+            next
+        })
     }
 
     fn compare(&mut self, order: Order, target: i32, next: i32) -> Lead
         requires { 1 < length self.old.stack }
         ensures { leading result self.new
             ≡ leads
-            (if holds order (second self.old.stack) (top self.old.stack) then target else next)
+            (if succeeds order (second self.old.stack) (top self.old.stack) then target else next)
             (frame self.old.registers (drop 2 self.old.stack)) }
     {
         let second = self.pop();
         let first = self.pop();
-        Lead::To(if holds(order, first, second) {
+        Lead::To(if succeeds(order, first, second) {
             target
         } else {
             next

@@ -21,11 +21,11 @@ use std::alloc::{AllocError, Global};
 
 /// The least dataflow typing of a method with code, in which every register that is no argument starts as Top.
 ///
-/// First the method's code, targets and handlers are tried, and then the places in the order in which they wait,
-/// the least first. At one place come the rule, an uninitialised object under the operands of a branch or switch,
-/// the end of the code, and then the edges: the covering handlers in table order, the instruction after, and the
-/// targets in order, the default first. Of the edges no clause pins the order: an end at a place names a reason that
-/// holds there.
+/// First the method's code, targets and handlers are tried, and then the places that wait. An end at a place names a
+/// reason that holds there: the rule, an uninitialised object under the operands of a branch or switch, the end of
+/// the code, or an edge, to the entry of a handler that covers the place, the instruction after or a target. The end
+/// of the code is named only where neither of the first two holds. Beyond that, neither the order of the places nor
+/// that of the reasons at one is promised.
 pub fn infer(alloc: Global, world: &World<'_>, method: u16) -> Result<Typing, FlowEnd>
     requires { IsSomeAnd (slice_get world.now.methods method) (λ m. 0 < m.code_len) }
     ensures known { IsSomeAnd (method_in world.now method) (λ m. IsMethodOf world.now m) }

@@ -68,7 +68,7 @@ impl Analysis<'_> {
         Ok(())
     }
 
-    /// Visits the places that wait, the least first, until none waits.
+    /// Visits the places that wait until none waits.
     pub fn settle(
         &self,
         table: &mut StateTable,

@@ -21,7 +21,7 @@ use Rattle.jc_ops.specs.declared.operation.Branch.{Branch}
 use Rattle.jc_ops.specs.declared.operation.Branch.TheVariants as branches
 use Rattle.jc_ops.specs.declared.operation.TypeTest.{TypeTest}
 use Rattle.jc_ops.specs.declared.operation.TypeTest.TheVariants as tests
-use Rattle.vm_arithmetic.specs.Arithmetic.{holds, int_to_short, short_to_byte, int_to_byte, compared, of_shorts, of_ints, short_of_word}
+use Rattle.vm_arithmetic.specs.Arithmetic.{succeeds, int_to_short, short_to_byte, int_to_byte, compared, of_shorts, of_ints, short_of_word}
 use Rattle.vm_store.specs.declared.cell.Cell.{Cell}
 use Rattle.vm_store.specs.declared.cell.Cell.TheVariants as cells
 use Rattle.vm_store.specs.declared.kind.ObjectKind.{ObjectKind}
@@ -230,14 +230,14 @@ module _ (x : Pair) where
 
   taken-same : (b : Branch) → is_taken tagged b other_stack ≡ is_taken tagged b x.frame.stack
   taken-same branches.Always = refl
-  taken-same (branches.Zero o) = ap (λ n. holds o n (pos 0)) (short-is x.rename x.frame.stack 0)
+  taken-same (branches.Zero o) = ap (λ n. succeeds o n (pos 0)) (short-is x.rename x.frame.stack 0)
   taken-same (branches.Null e) = same-handles e 0
   taken-same (branches.References e) =
       ap (λ h. is_same e h (handle_at tagged other_stack 0)) (word-at x.rename x.frame.stack 1)
       ∙ ap (is_same e (handle_at tagged x.frame.stack 1)) (word-at x.rename x.frame.stack 0)
   taken-same (branches.Shorts o) =
-      ap (λ n. holds o n (short_at tagged other_stack 0)) (short-is x.rename x.frame.stack 1)
-      ∙ ap (holds o (short_at tagged x.frame.stack 1)) (short-is x.rename x.frame.stack 0)
+      ap (λ n. succeeds o n (short_at tagged other_stack 0)) (short-is x.rename x.frame.stack 1)
+      ∙ ap (succeeds o (short_at tagged x.frame.stack 1)) (short-is x.rename x.frame.stack 0)
 
   -- to a target with the number n, where it is taken; a branch that may not be taken falls through
   pub leads-does :

@@ -26,7 +26,7 @@ use Rattle.vm_step.specs.Tests.{unmet, fault_before}
 use Rattle.vm_step.proofs.Running.{steps-one}
 use Rattle.vm_sound.proofs.Going.{jumps-on}
 use Rattle.vm_sound.proofs.Places.{instruction-there}
-use Rattle.vm_sound.proofs.Turns.{passes-before}
+use Rattle.vm_sound.proofs.Passing.{passes-before}
 use Rattle.vm_erasure.specs.Erasure.{IsNoFault}
 use Rattle.xf_landed.specs.Apart.{apart_from_code, IsSameBut}
 use Rattle.xf_landed.proofs.SameBut.{methods-are-kept}
@@ -170,7 +170,7 @@ module _
         i.place a b seen sound named read asked in
         let fine : fault_before tagged recoded b t ≡ None =
         ap (λ (ds : List Demand). unmet tagged v ds t) (demands-same b)
-        ∙ passes-before v world
+        ∙ passes-before v world.chains
         (record { method = method; place = place; registers = registers; stack = map (renamed_cell f) frame.stack }) under heap
         statics b there in (
           performed tagged recoded j b t,

@@ -67,13 +67,13 @@ abbrev pub compared : ℤ → ℤ → ℤ
 compared a b = if int_lt a b then negsuc 0 else if int_lt b a then pos 1 else pos 0
 
 -- the conditions of if<cond> and if_scmp<cond>: two shorts are equal where their sixteen bits are
-abbrev pub holds : Order → ℤ → ℤ → Bool
-holds Equal a b = cast_unsigned w16 a == cast_unsigned w16 b
-holds NotEqual a b = not (cast_unsigned w16 a == cast_unsigned w16 b)
-holds Less a b = int_lt a b
-holds GreaterOrEqual a b = int_le b a
-holds Greater a b = int_lt b a
-holds LessOrEqual a b = int_le a b
+abbrev pub succeeds : Order → ℤ → ℤ → Bool
+succeeds Equal a b = cast_unsigned w16 a == cast_unsigned w16 b
+succeeds NotEqual a b = not (cast_unsigned w16 a == cast_unsigned w16 b)
+succeeds Less a b = int_lt a b
+succeeds GreaterOrEqual a b = int_le b a
+succeeds Greater a b = int_lt b a
+succeeds LessOrEqual a b = int_le a b
 
 -- ---- the numbers in words of 16 bits
 

@@ -12,4 +12,4 @@ pub use convert::{
     short_to_byte,
 };
 pub use int::{negate_int, of_ints};
-pub use short::{holds, negate_short, of_shorts};
+pub use short::{negate_short, of_shorts, succeeds};

@@ -1,6 +1,6 @@
 ghost use Rattle.std.specs.Prelude.{◌≡◌, ◌<◌};
 ghost use Rattle.std.specs.Int.{w16, cast_unsigned, int_wrapping_neg};
-ghost use Rattle.vm_arithmetic.specs.Arithmetic.{of_shorts, holds, low_short, shift_count};
+ghost use Rattle.vm_arithmetic.specs.Arithmetic.{of_shorts, succeeds, low_short, shift_count};
 
 use jc_ops::{Operator, Order};
 
@@ -32,8 +32,8 @@ pub fn negate_short(value: i16) -> i16
 }
 
 /// Whether a comparison holds of two shorts.
-pub fn holds(order: Order, first: i16, second: i16) -> bool
-    ensures { result ≡ holds order first second }
+pub fn succeeds(order: Order, first: i16, second: i16) -> bool
+    ensures { result ≡ succeeds order first second }
 {
     match order {
         Order::Equal => first == second,

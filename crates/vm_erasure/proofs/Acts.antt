@@ -40,7 +40,7 @@ use Rattle.jc_ops.specs.declared.operation.TypeTest.TheVariants as tests
 use Rattle.jc_ops.specs.declared.operation.TypeTest.{TypeTest}
 use Rattle.jc_ops.specs.declared.operation.Operation.{Operation}
 use Rattle.jc_ops.specs.declared.operation.Operation.TheVariants as ops
-use Rattle.vm_arithmetic.specs.Arithmetic.{holds, int_to_short, short_to_byte, int_to_byte, compared, high_word, low_word, of_shorts, of_ints, int_of_words, short_of_word}
+use Rattle.vm_arithmetic.specs.Arithmetic.{succeeds, int_to_short, short_to_byte, int_to_byte, compared, high_word, low_word, of_shorts, of_ints, int_of_words, short_of_word}
 use Rattle.vm_store.specs.declared.cell.Cell.{Cell}
 use Rattle.vm_store.specs.declared.cell.Cell.TheVariants as cells
 use Rattle.vm_store.specs.declared.cell.CellKind.{CellKind}
@@ -267,12 +267,12 @@ module _ (w : Linked) (f : Frame Cell) (below : List (Frame Cell)) (heap : List 
 
   taken-is : (b : Branch) (cs : List Cell) → is_taken words b (map word_of cs) ≡ is_taken tagged b cs
   taken-is branches.Always cs = refl
-  taken-is (branches.Zero o) cs = ap (λ n. holds o n (pos 0)) (short-is cs 0)
+  taken-is (branches.Zero o) cs = ap (λ n. succeeds o n (pos 0)) (short-is cs 0)
   taken-is (branches.Null e) cs = same-handles e cs 0
   taken-is (branches.References e) cs =
       ap (λ h. is_same e h (handle_at words (map word_of cs) 0)) (word-at cs 1) ∙ ap (is_same e (handle_at tagged cs 1)) (word-at cs 0)
   taken-is (branches.Shorts o) cs =
-      ap (λ n. holds o n (short_at words (map word_of cs) 0)) (short-is cs 1) ∙ ap (holds o (short_at tagged cs 1)) (short-is cs 0)
+      ap (λ n. succeeds o n (short_at words (map word_of cs) 0)) (short-is cs 1) ∙ ap (succeeds o (short_at tagged cs 1)) (short-is cs 0)
 
   leads-is : (taken : Bool) (to : ℤ) (n : ℕ)
       → leads_if taken to (dropped (erased (record { frames = f ∷ below; heap = heap; statics = statics })) n)

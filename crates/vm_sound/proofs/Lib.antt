@@ -2,6 +2,7 @@ pub mod CellTypes
 pub mod Ready
 pub mod Growing
 pub mod Places
+pub mod Passing
 pub mod Turns
 pub mod Finish
 pub mod Unwinding

@@ -41,7 +41,8 @@ use Rattle.vm_sound.proofs.Entering.{method-known}
 use Rattle.vm_sound.proofs.Numbered.{methods-have-typings}
 use Rattle.vm_sound.proofs.Finish.{there-at}
 use Rattle.vm_sound.proofs.Handles.{kinds_of}
-use Rattle.vm_sound.proofs.Turns.{turn, passes-before}
+use Rattle.vm_sound.proofs.Passing.{passes-before}
+use Rattle.vm_sound.proofs.Turns.{turn}
 use Rattle.vm_sound.proofs.Turning.{Here, null-safe}
 use Rattle.vm_sound.proofs.Numbers.{constant-safe, arithmetic-safe}
 use Rattle.vm_sound.proofs.Registers.{load-safe, store-safe, increment-safe}
@@ -165,7 +166,7 @@ module _ (w : Linked) (world : IsWorld w) (assigned : Typings) (typings : AreTyp
   performs-safe f below heap statics m i op here same_m same_i same_op =
       let now : State Cell = record { frames = f ∷ below; heap = heap; statics = statics } in
       let st = here.turn.stands in
-      let passed : fault_before tagged w here.turn.operation now ≡ None = passes-before w world f below heap statics here.turn.operation here.turn.asked in
+      let passed : fault_before tagged w here.turn.operation now ≡ None = passes-before w world.chains f below heap statics here.turn.operation here.turn.asked in
       let safe = act-safe w world assigned typings f below heap statics here here.turn.operation refl in
       let own : IsSafe w assigned (performed tagged w st.instruction here.turn.operation now) =
       subst (λ o. IsSafe w assigned (unless_fault now o (settled tagged w (st.instruction.place + st.instruction.insn.len) now (act tagged w st.instruction.insn here.turn.operation now))))

@@ -1,7 +1,7 @@
 -- An object that is thrown is caught where its handler is typed, or ends the run.
 use Rattle.std.proofs.Common.{◌≡◌, ℕ, ◌≤◌, Bool, true, false, ◌&&◌, if◌then◌else◌, List, [], ◌∷◌, length, map, refl, sym, ap, ◌∙◌, subst}
 use Rattle.std.specs.Prelude.{Option, Some, None, Contains, ⊤, nat_lt, nat_le, slice_get, find}
-use Rattle.std.proofs.lemmas.Bool.{false≢true}
+use Rattle.std.proofs.lemmas.Bool.{false≢true, and_parts}
 use Rattle.std.proofs.lemmas.Bool.{le-ltb, leb-true, ltb-true}
 use Rattle.std.proofs.lemmas.List.Elements.{All-cons, All-nil, All-contains}
 use Rattle.jc_base.specs.declared.ty.Ty.{Ty}
@@ -13,7 +13,6 @@ use Rattle.jc_base.specs.Order.{Below, array_object, is_on_chain, is_below, of_b
 use Rattle.jc_base.specs.World.{Linked, code_of}
 use Rattle.jc_base.proofs.Climbs.{on_object}
 use Rattle.jc_base.proofs.Eaching.{Contains-from_IsAmong}
-use Rattle.jc_base.proofs.Leading.{both}
 use Rattle.jc_base.proofs.Subtypes.{Below-from_is_below}
 use Rattle.jc_base.proofs.Tests.{found-passes}
 use Rattle.jc_control.specs.Method.{method_with}
@@ -84,8 +83,8 @@ module _ (w : Linked) (assigned : Typings) (ks : List ObjectKind) where
   catcher f m is class h e =
       let found = found-passes (catches w.classes f.place class) m.handlers h
       (ap (λ hs. find (catches w.classes f.place class) hs) (sym (ap (of_method [] (λ (x : MethodRec). x.handlers)) is)) ∙ e) in
-      let parts = both (nat_le h.start f.place && nat_lt f.place h.end) (is_on_chain w.classes h.class class) found.0 in
-      let range = both (nat_le h.start f.place) (nat_lt f.place h.end) parts.0 in
+      let parts = and_parts (nat_le h.start f.place && nat_lt f.place h.end) (is_on_chain w.classes h.class class) found.0 in
+      let range = and_parts (nat_le h.start f.place) (nat_lt f.place h.end) parts.0 in
       record {
         listed = Contains-from_IsAmong h m.handlers found.1;
         covers = record { from = leb-true h.start f.place range.0; before = ltb-true f.place h.end range.1 };

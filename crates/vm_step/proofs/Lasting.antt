@@ -28,7 +28,7 @@ use Rattle.vm_step.specs.Laws.{StepsExist, RunsExist}
 
 module _ {A : Type 0} where
   -- an outcome after which a method runs, or that ends
-  abbrev Lasts : Outcome A → Type 0
+  abbrev pub Lasts : Outcome A → Type 0
   Lasts (running z) = IsRunning z
   Lasts (ended e z) = Unit {0}
 
@@ -77,7 +77,7 @@ module _ {A : Type 0} where
   lasts-settled k w next s (throws handle) = lasts-unwound k w (class_of w.classes s handle) handle s s.frames
   lasts-settled k w next s (lacks class) = tt {0}
 
-  lasts-step : (k : Cells A) (w : Linked) (s : State A) {o : Outcome A} → Steps k w s o → Lasts o
+  pub lasts-step : (k : Cells A) (w : Linked) (s : State A) {o : Outcome A} → Steps k w s o → Lasts o
   lasts-step k w s (misplaced c run e) = tt {0}
   lasts-step k w s (unresolved c f fault r) = tt {0}
   lasts-step k w s (performs {i = i} f op r is) =

@@ -10,7 +10,7 @@ use Rattle.jc_ops.specs.declared.operation.Branch.{Branch}
 use Rattle.jc_ops.specs.declared.operation.Branch.TheVariants as branches
 use Rattle.jc_ops.specs.declared.operation.Sameness.{Sameness}
 use Rattle.jc_ops.specs.declared.operation.Sameness.TheVariants as sameness
-use Rattle.vm_arithmetic.specs.Arithmetic.{holds}
+use Rattle.vm_arithmetic.specs.Arithmetic.{succeeds}
 use Rattle.vm_store.specs.Cells.{Cells}
 use Rattle.vm_store.specs.State.{State, top}
 use Rattle.vm_step.specs.Act.{Act, goes, jumps}
@@ -23,10 +23,10 @@ is_same sameness.Different a b = not (a == b)
 -- whether the branch is taken
 abbrev pub is_taken : {A : Type 0} → Cells A → Branch → List A → Bool
 is_taken k branches.Always stack = true
-is_taken k (branches.Zero order) stack = holds order (short_at k stack 0) (pos 0)
+is_taken k (branches.Zero order) stack = succeeds order (short_at k stack 0) (pos 0)
 is_taken k (branches.Null wanted) stack = is_same wanted (handle_at k stack 0) 0
 is_taken k (branches.References wanted) stack = is_same wanted (handle_at k stack 1) (handle_at k stack 0)
-is_taken k (branches.Shorts order) stack = holds order (short_at k stack 1) (short_at k stack 0)
+is_taken k (branches.Shorts order) stack = succeeds order (short_at k stack 1) (short_at k stack 0)
 
 -- how many cells a branch pops
 abbrev pub branch_width : Branch → ℕ

@@ -1,7 +1,7 @@
 use jc_ops::{Operator, Order};
 use vm_arithmetic::{
-    compare_ints, high_word, holds, int_of_words, int_to_byte, int_to_short, low_word, negate_int,
-    negate_short, of_ints, of_shorts, short_to_byte,
+    compare_ints, high_word, int_of_words, int_to_byte, int_to_short, low_word, negate_int,
+    negate_short, of_ints, of_shorts, short_to_byte, succeeds,
 };
 
 struct ShortRow {
@@ -596,12 +596,12 @@ fn words_are_right() -> bool {
 }
 
 fn orders_are_right() -> bool {
-    holds(Order::Less, -32768, 32767)
-        && holds(Order::Equal, -1, -1)
-        && holds(Order::NotEqual, -1, 1)
-        && holds(Order::GreaterOrEqual, 0, 0)
-        && !holds(Order::Greater, -1, 0)
-        && !holds(Order::LessOrEqual, 1, 0)
+    succeeds(Order::Less, -32768, 32767)
+        && succeeds(Order::Equal, -1, -1)
+        && succeeds(Order::NotEqual, -1, 1)
+        && succeeds(Order::GreaterOrEqual, 0, 0)
+        && !succeeds(Order::Greater, -1, 0)
+        && !succeeds(Order::LessOrEqual, 1, 0)
 }
 
 #[test]

@@ -2,8 +2,7 @@
 use Rattle.std.proofs.Common.{◌≡◌, ◌<◌, ◌≤◌, ◌+◌, ℕ, zero, suc, Bool, true, false, List, [], ◌∷◌, ◌++◌, length, refl, sym, ap, ◌∙◌, subst, arith, rules, Contains, Option, Some, None, ◌⊎◌, inl, inr, ⊎_elim}
 use Rattle.std.specs.Prelude.{find, All, ◌==◌, if◌then◌else◌, IsSome, IfSome, slice_get, Result, Ok, Err, ℤ, pos, negsuc, ◌≤ℤ◌, ◌<ℤ◌}
 use Rattle.std.proofs.lemmas.Int.{ints}
-use Rattle.std.proofs.lemmas.Bool.{false≢true}
-use Rattle.std.proofs.lemmas.Bool.Decides.{nat_tests}
+use Rattle.std.proofs.lemmas.Bool.{false≢true, eqb-true, eq-eqb, ne_eqb}
 use Rattle.std.proofs.lemmas.List.Elements.{All-head, All-tail, All-contains_itself, All-weaker}
 use Rattle.jc_decode.specs.declared.insn.Insn.{Insn}
 use Rattle.jc_decode.specs.declared.insn.Placed.{Placed}
@@ -62,23 +61,14 @@ module _ {X : Type 0} (p : X → Bool) where
 
 -- ---- instructions
 
-same-place : (a b : ℕ) → (a == b) ≡ true → a ≡ b
-same-place a b h = grind (arith, nat_tests)
-
-is-place : (a b : ℕ) → a ≡ b → (a == b) ≡ true
-is-place a b h = grind (arith, nat_tests)
-
-no-place : (a b : ℕ) → (a ≡ b → ⊥) → (a == b) ≡ false
-no-place a b h = grind (arith, nat_tests)
-
 module _ (code : List ℕ) (listed : AreListed code) where
   at-place : (place : ℕ) (x : Placed) → HasInstruction code x → x.place ≡ place → instruction_at code place ≡ Some x
   unfolding instruction_at
   at-place place x there is =
       only-found (λ (i : Placed). i.place == place) (listing code) x
-      (All-weaker (HasInstruction code) (λ y. (y.place == place) ≡ true → y ≡ x) (λ y h e. listed.one y x h there (same-place y.place place e ∙ sym is)) (listing code) (All-contains_itself (listing code)))
+      (All-weaker (HasInstruction code) (λ y. (y.place == place) ≡ true → y ≡ x) (λ y h e. listed.one y x h there (eqb-true y.place place e ∙ sym is)) (listing code) (All-contains_itself (listing code)))
       there
-      (is-place x.place place is)
+      (eq-eqb x.place place is)
 
   -- the instruction that is decoded at the place of one
   pub placed-there : (place : ℕ) (insn : Insn) → IsPlace code place → decoded code place ≡ Ok insn → instruction_at code place ≡ Some (record { place = place; insn = insn })
@@ -92,14 +82,14 @@ module _ (code : List ℕ) (listed : AreListed code) where
   unfolding instruction_at
   nothing-there place none =
       none-found (λ (i : Placed). i.place == place) (listing code)
-      (All-weaker (HasInstruction code) (λ y. (y.place == place) ≡ false) (λ y h. no-place y.place place (λ e. none (y, h, e))) (listing code) (All-contains_itself (listing code)))
+      (All-weaker (HasInstruction code) (λ y. (y.place == place) ≡ false) (λ y h. ne_eqb y.place place (λ e. none (y, h, e))) (listing code) (All-contains_itself (listing code)))
 
 -- an instruction that is found is one of the code
 pub found-there : (code : List ℕ) (place : ℕ) (x : Placed) → instruction_at code place ≡ Some x → IsPlace code place
 unfolding instruction_at
 found-there code place x e =
     let f = found-in (λ (i : Placed). i.place == place) (listing code) x e in
-    (x, f.0, same-place x.place place f.1)
+    (x, f.0, eqb-true x.place place f.1)
 
 there-is : (o : Option Placed) → IsSome o → (x : Placed) × (o ≡ Some x)
 there-is None h = absurd (search rules)

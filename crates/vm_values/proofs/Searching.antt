@@ -1,7 +1,8 @@
 -- The first case of a switch with a key, found by going over the cases; there are fewer than bytes.
 use Rattle.std.proofs.Common.{◌≡◌, ℕ, suc, ◌+◌, ◌<◌, ◌≤◌, Bool, true, false, List, [], ◌∷◌, length, drop, refl, sym, ap, ◌∙◌, arith}
-use Rattle.std.specs.Prelude.{ℤ, Option, Some, None, Result, Ok, Err, ◌||◌, find, map, option_map, slice_get}
+use Rattle.std.specs.Prelude.{ℤ, Option, Some, None, Result, Ok, Err, find, map, option_map, slice_get}
 use Rattle.std.proofs.lemmas.Option.{slice_get-map}
+use Rattle.std.proofs.lemmas.Bool.{or_right}
 use Rattle.jc_decode.specs.declared.insn.Case.{Case}
 use Rattle.jc_decode.specs.declared.insn.CodeEnd.{CodeEnd}
 use Rattle.jc_decode.specs.declared.insn.Insn.{Insn}
@@ -35,10 +36,6 @@ has-table : (r : Result Layout CodeEnd) (code : List ℕ) (at n : ℕ) (i : Insn
 has-table (Ok l) code at n i c h = some-table l.cases code (at + 1 + total_width l) n i c h
 has-table (Err e) code at n i c h = absurd cc
 
-or-right : (a b : Bool) → b ≡ true → a || b ≡ true
-or-right true b h = refl
-or-right false b h = h
-
 switch-op : (code : List ℕ) (at : ℕ) (i : Insn) (n : ℕ) (c : Case) → slice_get (cases code at i) n ≡ Some c → is_switch i.op ≡ true
 unfolding cases
 switch-op code at i n c h = has-table (layout_of i.op) code at n i c h
@@ -47,7 +44,7 @@ case-target : (code : List ℕ) (at : ℕ) (i : Insn) (n : ℕ) (c : Case) → s
     → slice_get (targets code (record { place = at; insn = i })) (suc n) ≡ Some (target at c.offset)
 unfolding targets
 case-target code at i n c h =
-    let jump : jumps i.op ≡ true = or-right (is_branch i.op) (is_switch i.op) (switch-op code at i n c h) in
+    let jump : jumps i.op ≡ true = or_right (is_branch i.op) (is_switch i.op) (switch-op code at i n c h) in
     rw jump (slice_get-map (λ (x : Case). target at x.offset) (cases code at i) n ∙ ap (option_map (λ (x : Case). target at x.offset)) h)
 
 -- there are no more than 65,536

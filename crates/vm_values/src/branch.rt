@@ -5,7 +5,7 @@ ghost use Rattle.vm_step.specs.Branching.{is_same, is_taken, branch_width};
 
 use crate::number::{handle_on, short_on};
 use jc_ops::{Branch, Sameness};
-use vm_arithmetic::holds;
+use vm_arithmetic::succeeds;
 use vm_store::Store;
 
 /// Pops what a branch asks, and tells whether it is taken.
@@ -31,10 +31,10 @@ fn is_taken<S: Store>(store: &S, branch: Branch) -> bool
 {
     match branch {
         Branch::Always => true,
-        Branch::Zero(order) => holds(order, short_on(store, 0), 0),
+        Branch::Zero(order) => succeeds(order, short_on(store, 0), 0),
         Branch::Null(wanted) => is_same(wanted, handle_on(store, 0), 0),
         Branch::References(wanted) => is_same(wanted, handle_on(store, 1), handle_on(store, 0)),
-        Branch::Shorts(order) => holds(order, short_on(store, 1), short_on(store, 0)),
+        Branch::Shorts(order) => succeeds(order, short_on(store, 1), short_on(store, 0)),
     }
 }
 

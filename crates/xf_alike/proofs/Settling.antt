@@ -52,7 +52,7 @@ use Rattle.xf_groups.specs.Laid.{body_at, rename}
 use Rattle.xf_groups.specs.Beside.{AreEqualBut, AreOf, IsUnderCall, IsWithin}
 use Rattle.xf_groups.specs.Comes.{ComesToGroup, ComesWithin}
 use Rattle.xf_groups.specs.Laws.{CatchAlike, none_catches, both_catch}
-use Rattle.xf_alike.specs.Counterparts.{IsKept, IsRewritten, IsKeptOrRewritten, kept, rewritten, AreCounterparts}
+use Rattle.xf_alike.specs.Counterparts.{IsKept, IsRewrittenIn, IsKeptOrRewritten, kept, rewritten, AreCounterparts}
 use Rattle.xf_alike.specs.Beside.{AreTop, top_kept, top_rewritten, WaitBeside, wait_kept, wait_rewritten, AreUnder, no_frames, more_frames, AreBeside, OutcomesBeside, both_run, both_end}
 use Rattle.xf_alike.proofs.Typed.{AreLaws, its-method, stands-at, reached-at, typed-at}
 
@@ -159,7 +159,7 @@ module _ (v w : Linked) (typings : Typings) (laws : AreLaws v) (pair : AreCounte
   -- few steps lead to the group of the place
   pub to-group :
       (s : Source) (place : ℕ → ℕ) (z t : State Cell) (least : ℕ) → z.frames ≡ top z ∷ other_frames z.frames
-      → IsRewritten v w typings (top z).method s place → AreUnder v w typings (other_frames z.frames) (other_frames t.frames) → IsTypedState v typings z
+      → IsRewrittenIn v w typings (top z).method s place → AreUnder v w typings (other_frames z.frames) (other_frames t.frames) → IsTypedState v typings z
       → ComesWithin w least 1000 t (ComesToGroup s place z t)
       → Settles v w typings (running z) (running t)
   to-group s place z t least first r under typed comes =
@@ -223,7 +223,7 @@ module _ (v w : Linked) (typings : Typings) (laws : AreLaws v) (pair : AreCounte
   pub kept-handlers : (n : ℕ) → IsKept v w n → handlers_of w n ≡ handlers_of v n
   kept-handlers n k = ap (of_method [] (λ (m : MethodRec). m.handlers)) (k.second ∙ sym k.first)
 
-  pub more-room : (s : Source) (place : ℕ → ℕ) (n : ℕ) → IsRewritten v w typings n s place → max_stack_of w n ≡ max_stack_of v n + 1
+  pub more-room : (s : Source) (place : ℕ → ℕ) (n : ℕ) → IsRewrittenIn v w typings n s place → max_stack_of w n ≡ max_stack_of v n + 1
   more-room s place n r = subst (λ k. max_stack_of w k ≡ max_stack_of v k + 1) r.number (laws.room w s place r.laid)
 
   -- ---- a method that waits goes on
@@ -275,7 +275,7 @@ module _ (v w : Linked) (typings : Typings) (laws : AreLaws v) (pair : AreCounte
           given-goes w value cells g gs other others ∙ ap (λ o. unless_fault also_waiting o (running also_given)) none
 
       -- in a method that is rewritten
-      module _ (s : Source) (place : ℕ → ℕ) (r : IsRewritten v w typings f.method s place) (reached : IsReached s.method f.place) (call : IsUnderCall s place f g)
+      module _ (s : Source) (place : ℕ → ℕ) (r : IsRewrittenIn v w typings f.method s place) (reached : IsReached s.method f.place) (call : IsUnderCall s place f g)
           (is : IsGiven) where
         abbrev of_call : AreOf s f g
         of_call = call.within.of

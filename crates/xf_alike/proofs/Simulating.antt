@@ -21,7 +21,7 @@ use Rattle.xf_plan.specs.Source.{Source}
 use Rattle.xf_groups.specs.Beside.{IsAtGroup}
 use Rattle.xf_groups.specs.Comes.{ComesWithin, AreAtGroup, CallAlike, GroupComes, group_calls, group_gives, group_raises, group_throws, group_ends, GroupRuns, group_leaves, group_stays}
 use Rattle.xf_groups.proofs.Plain.{one-step}
-use Rattle.xf_alike.specs.Counterparts.{IsKept, IsRewritten, AreCounterparts}
+use Rattle.xf_alike.specs.Counterparts.{IsKept, IsRewrittenIn, AreCounterparts}
 use Rattle.xf_alike.specs.Beside.{AreTop, top_kept, top_rewritten, WaitBeside, wait_rewritten, AreUnder, more_frames, AreBeside, OutcomesBeside, both_run, both_end}
 use Rattle.xf_alike.proofs.Typed.{AreLaws, its-method, method-is, typed-at, stays-typed, reached-at}
 use Rattle.xf_alike.proofs.Settling.{extra, Settles, settled-now, settles-as, beside, equal-but, enters, gives}
@@ -59,9 +59,9 @@ module _ (v w : Linked) (typings : Typings) (laws : AreLaws v) (pair : AreCounte
   module _ (z t : State Cell) (first : z.frames ≡ top z ∷ other_frames z.frames) (second : t.frames ≡ top t ∷ other_frames t.frames)
       (under : AreUnder v w typings (other_frames z.frames) (other_frames t.frames))
       (heap : t.heap ≡ z.heap) (statics : t.statics ≡ z.statics) (typed : IsTypedState v typings z)
-      (s : Source) (place : ℕ → ℕ) (r : IsRewritten v w typings (top z).method s place) where
-    of-frame : (f : Frame Cell) → f.method ≡ s.method.number → IsRewritten v w typings f.method s place
-    of-frame f method = subst (λ n. IsRewritten v w typings n s place) (sym r.number ∙ sym method) r
+      (s : Source) (place : ℕ → ℕ) (r : IsRewrittenIn v w typings (top z).method s place) where
+    of-frame : (f : Frame Cell) → f.method ≡ s.method.number → IsRewrittenIn v w typings f.method s place
+    of-frame f method = subst (λ n. IsRewrittenIn v w typings n s place) (sym r.number ∙ sym method) r
 
     called : (o p : Outcome Cell) → CallAlike v w s place z t o p → IsSafe v typings o → Settles v w typings o p
     called o p c safe =
@@ -75,7 +75,7 @@ module _ (v w : Linked) (typings : Typings) (laws : AreLaws v) (pair : AreCounte
         let now_typed : IsTypedState v typings (with_call tagged v.methods y c.method c.count) = subst (IsSafe v typings) c.enters safe in
         let here : Frame Cell = record (top y) { stack = drop c.count (top y).stack } in
         let there : Frame Cell = record (top u) { stack = drop c.count (top u).stack } in
-        let its : IsRewritten v w typings here.method s place = of-frame here c.waits.within.of.source in
+        let its : IsRewrittenIn v w typings here.method s place = of-frame here c.waits.within.of.source in
         let stand = now_typed.frames.1.0.stands in
         let reached : IsReached s.method here.place =
         subst (λ (m : Method). IsReached m here.place) (method-is v s.method here.method stand.rec (its-method v w typings here.method s place its) (sym its.number) stand.is_method) stand.reached in
@@ -143,7 +143,7 @@ module _ (v w : Linked) (typings : Typings) (laws : AreLaws v) (pair : AreCounte
       let done = kept-steps v w typings laws pair z t b.first b.second b.under b.heap b.statics b.typed (subst (λ (x : Frame Cell). IsKept v w x.method) (sym here) k) same o step safe in
       settles-then o t 1 done.0 (omega arith) (omega arith) (one-step w t done.0 done.1) done.2
   steps-by z t f g (top_rewritten s place r group) here there b o step safe =
-      let its : IsRewritten v w typings (top z).method s place = subst (λ (x : Frame Cell). IsRewritten v w typings x.method s place) (sym here) r in
+      let its : IsRewrittenIn v w typings (top z).method s place = subst (λ (x : Frame Cell). IsRewrittenIn v w typings x.method s place) (sym here) r in
       let at : IsAtGroup s place (top z) (top t) = subst (λ x. IsAtGroup s place x (top t)) (sym here) (subst (λ x. IsAtGroup s place f x) (sym there) group) in
       rewritten-steps z t b.first b.second b.under b.heap b.statics b.typed s place its at o step safe
 

@@ -27,7 +27,7 @@ use Rattle.vm_sound.specs.Laws.{IsSafe}
 use Rattle.xf_plan.specs.Source.{Source}
 use Rattle.xf_groups.specs.Beside.{IsWithin}
 use Rattle.xf_groups.specs.Laws.{CatchAlike, none_catches, both_catch}
-use Rattle.xf_alike.specs.Counterparts.{IsKept, IsRewritten, AreCounterparts}
+use Rattle.xf_alike.specs.Counterparts.{IsKept, IsRewrittenIn, AreCounterparts}
 use Rattle.xf_alike.specs.Beside.{top_kept, WaitBeside, wait_kept, wait_rewritten, AreUnder, no_frames, more_frames, both_run, both_end}
 use Rattle.xf_alike.proofs.Typed.{AreLaws, typed-at}
 use Rattle.xf_alike.proofs.Settling.{Settles, settled-now, settles-as, locals-too, equal-but, to-group, kept-handlers, kept-room, more-room}
@@ -36,7 +36,7 @@ use Rattle.xf_alike.proofs.Settling.{Settles, settled-now, settles-as, locals-to
 pub data CatchBeside (v w : Linked) (typings : Typings) : Frame Cell → Frame Cell → Type 0 where
   catch_kept : {f : Frame Cell} → IsKept v w f.method → CatchBeside v w typings f f
   catch_rewritten :
-      {f g : Frame Cell} (s : Source) (place : ℕ → ℕ) → IsRewritten v w typings f.method s place → IsReached s.method f.place → IsWithin s place f g
+      {f g : Frame Cell} (s : Source) (place : ℕ → ℕ) → IsRewrittenIn v w typings f.method s place → IsReached s.method f.place → IsWithin s place f g
       → CatchBeside v w typings f g
 
 wait-catch : (v w : Linked) (typings : Typings) {f g : Frame Cell} → WaitBeside v w typings f g → CatchBeside v w typings f g
@@ -103,7 +103,7 @@ module _ (v w : Linked) (typings : Typings) (laws : AreLaws v) (pair : AreCounte
     -- in one that is rewritten
     module _
         (f g : Frame Cell) (fs gs : List (Frame Cell)) (under : AreUnder v w typings fs gs) (s : Source) (place : ℕ → ℕ)
-        (r : IsRewritten v w typings f.method s place) (reached : IsReached s.method f.place) (within : IsWithin s place f g) (rest : Unwinds fs gs) where
+        (r : IsRewrittenIn v w typings f.method s place) (reached : IsReached s.method f.place) (within : IsWithin s place f g) (rest : Unwinds fs gs) where
       abbrev first_by : Option Handler → Outcome Cell
       first_by o = caught_or tagged v handle sv f fs (unwound tagged v class handle sv fs) o
 

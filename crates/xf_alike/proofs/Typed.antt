@@ -32,7 +32,7 @@ use Rattle.xf_plan.specs.Source.{Source}
 use Rattle.xf_groups.specs.Beside.{IsTypedAt, StaysTyped}
 use Rattle.xf_groups.specs.Laws.{GroupsRun, CallsEnd, HasRoomForMore, CallsReturn, HandlersEnter, GroupsCatch, StartsEnter}
 use Rattle.xf_groups.proofs.Plain.{frames-are}
-use Rattle.xf_alike.specs.Counterparts.{IsRewritten}
+use Rattle.xf_alike.specs.Counterparts.{IsRewrittenIn}
 
 pub record AreLaws (v : Linked) : Type 0 where
   pub links : IsWorld v
@@ -79,7 +79,7 @@ method-is v m n rec is number e =
     let third : method_with v m.number m.rec ≡ m = ap (λ (c : List ℕ). record { number = m.number; rec = m.rec; code = c }) (sym is.code) in
     first ∙ (second ∙ third)
 
-pub its-method : (v w : Linked) (typings : Typings) (n : ℕ) (s : Source) (place : ℕ → ℕ) → IsRewritten v w typings n s place → IsMethodOf v s.method
+pub its-method : (v w : Linked) (typings : Typings) (n : ℕ) (s : Source) (place : ℕ → ℕ) → IsRewrittenIn v w typings n s place → IsMethodOf v s.method
 its-method v w typings n s place r = subst (λ (x : Linked). IsMethodOf x s.method) r.laid.world r.laid.planned.method
 
 -- ---- typed states
@@ -92,7 +92,7 @@ module _ (v : Linked) (typings : Typings) where
 
   module _ (w : Linked) (s : Source) (place : ℕ → ℕ) where
     pub reached-at :
-        (z : State Cell) → z.frames ≡ top z ∷ other_frames z.frames → IsTypedState v typings z → IsRewritten v w typings (top z).method s place
+        (z : State Cell) → z.frames ≡ top z ∷ other_frames z.frames → IsTypedState v typings z → IsRewrittenIn v w typings (top z).method s place
         → IsReached s.method (top z).place
     reached-at z first typed r =
         let stands = (frames-typed z first typed).0.stands in
@@ -100,7 +100,7 @@ module _ (v : Linked) (typings : Typings) where
 
     -- the state is typed as the groups ask
     pub typed-at :
-        TypedStatesStay v → (z : State Cell) → z.frames ≡ top z ∷ other_frames z.frames → IsTypedState v typings z → IsRewritten v w typings (top z).method s place
+        TypedStatesStay v → (z : State Cell) → z.frames ≡ top z ∷ other_frames z.frames → IsTypedState v typings z → IsRewrittenIn v w typings (top z).method s place
         → IsTypedAt v s z
     typed-at stay z first typed r =
         let frame = (frames-typed z first typed).0 in
@@ -116,8 +116,8 @@ module _ (v : Linked) (typings : Typings) where
 
     -- and so is what a step leads to
     pub stays-typed :
-        TypedStatesStay v → (n : ℕ) → IsRewritten v w typings n s place → (o : Outcome Cell) → IsSafe v typings o → StaysTyped v s o
+        TypedStatesStay v → (n : ℕ) → IsRewrittenIn v w typings n s place → (o : Outcome Cell) → IsSafe v typings o → StaysTyped v s o
     stays-typed stay n r (running z) safe =
-        λ runs method. typed-at stay z (frames-are z runs) safe (subst (λ k. IsRewritten v w typings k s place) (sym r.number ∙ sym method) r)
+        λ runs method. typed-at stay z (frames-are z runs) safe (subst (λ k. IsRewrittenIn v w typings k s place) (sym r.number ∙ sym method) r)
     stays-typed stay n r (ended (Plain plain) z) safe = tt
     stays-typed stay n r (ended (Faulted fault) z) safe = safe

@@ -18,7 +18,7 @@ pub record IsKept (v w : Linked) (n : ℕ) : Type 0 where
   pub code : code_of w.infos rec ≡ code_of v.infos rec
 
 -- it is rewritten in the second, by the typing that it has in the first, from Top
-pub record IsRewritten (v w : Linked) (typings : Typings) (n : ℕ) (s : Source) (place : ℕ → ℕ) : Type 0 where
+pub record IsRewrittenIn (v w : Linked) (typings : Typings) (n : ℕ) (s : Source) (place : ℕ → ℕ) : Type 0 where
   pub number : s.method.number ≡ n
   pub laid : IsLaidIn v w s place
   pub unset : typings.unset n ≡ Top
@@ -26,7 +26,7 @@ pub record IsRewritten (v w : Linked) (typings : Typings) (n : ℕ) (s : Source)
 
 pub data IsKeptOrRewritten (v w : Linked) (typings : Typings) (n : ℕ) : Type 0 where
   kept : IsKept v w n → IsKeptOrRewritten v w typings n
-  rewritten : (s : Source) (place : ℕ → ℕ) → IsRewritten v w typings n s place → IsKeptOrRewritten v w typings n
+  rewritten : (s : Source) (place : ℕ → ℕ) → IsRewrittenIn v w typings n s place → IsKeptOrRewritten v w typings n
 
 -- the worlds differ in code alone; each method with code has its typing in the first, and in the second it is kept or rewritten
 pub record AreCounterparts (v w : Linked) (typings : Typings) : Type 0 where

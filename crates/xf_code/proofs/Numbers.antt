@@ -9,7 +9,7 @@ use Rattle.jc_rules.specs.Demand.{Frame}
 use Rattle.xf_homes.specs.declared.home.Home.{Home}
 use Rattle.xf_homes.specs.Value.{width}
 use Rattle.xf_homes.specs.Order.{AreHomes, register_sum}
-use Rattle.xf_emission.specs.Emission.{IsRewritten, IsPlainSize, rewritten}
+use Rattle.xf_emission.specs.Emission.{AreSymbolsOf, IsPlainSize, rewritten}
 use Rattle.xf_emission.specs.Numbers.{HasNumbers}
 
 module _ (w : Linked) (m : Method) (frames : ℕ → Option Frame) (homes : List Home) where
@@ -18,7 +18,7 @@ module _ (w : Linked) (m : Method) (frames : ℕ → Option Frame) (homes : List
   unfolding register_sum
   arguments-fit are = omega (arith, ap register_sum are.parts, sum_by-append (λ h. width h.ty) are.arguments are.others, are.filled)
 
-  pub has-numbers : AreHomes w m frames homes → (symbols : Symbols) → IsRewritten w m frames homes symbols → HasNumbers m.rec homes symbols
+  pub has-numbers : AreHomes w m frames homes → (symbols : Symbols) → AreSymbolsOf w m frames homes symbols → HasNumbers m.rec homes symbols
   unfolding rewritten
   has-numbers are symbols is =
       let fit = arguments-fit are in
@@ -28,6 +28,6 @@ module _ (w : Linked) (m : Method) (frames : ℕ → Option Frame) (homes : List
         registers = omega (arith, ap (λ (s : Symbols). s.nargs) is.are, ap (λ (s : Symbols). s.max_locals) is.are, fit);
       }
 
-  pub has-size : (symbols : Symbols) → IsRewritten w m frames homes symbols → IsPlainSize w m frames homes (plain_size symbols.items)
+  pub has-size : (symbols : Symbols) → AreSymbolsOf w m frames homes symbols → IsPlainSize w m frames homes (plain_size symbols.items)
   unfolding rewritten
   has-size symbols is = record { leaders = is.leaders; marked = is.marked; sum = ap (λ (s : Symbols). plain_size s.items) is.are }

@@ -129,7 +129,7 @@ fn gone(
         (items.new.items
         ≡ items.old.items ++ gone (source plan.now) place operation to) }
 {
-    let cells = plan.cells(alloc, to)?;
+    let cells = plan.stack_homes(alloc, to)?;
     spill(plan, cells.as_slice(), items)?;
     copies(plan, Origin::After(place, operation), to, scratch, items)?;
     put(items, goto(to))

@@ -1,10 +1,10 @@
 ghost use Rattle.std.specs.Prelude.{◌≡◌, ◌++◌, OnOk};
 ghost use Rattle.jc_decode.specs.Forms.{wide};
 ghost use Rattle.xf_plan.specs.Subject.{source};
-ghost use Rattle.xf_emission.specs.Jump.{AreLed, branch, first_label, jump_to, is_over, spill_if};
+ghost use Rattle.xf_emission.specs.Jump.{AreLed, branch, first_label, jump_to, has_under, spill_if};
 
 use crate::edge::Scratch;
-use crate::jump::{Fork, is_over, leads, operands};
+use crate::jump::{Fork, has_under, leads, operands};
 use crate::moves::{loads, put, spill};
 use jc_decode::{Item, Labels, Placed};
 use jc_ops::Operation;
@@ -54,12 +54,12 @@ fn spill_if(
     ensures { OnOk result
         (items.new.items
         ≡ items.old.items
-        ++ spill_if (is_over (source plan.now) fork.place fork.operands) (source plan.now) fork.place fork.operands) }
+        ++ spill_if (has_under (source plan.now) fork.place fork.operands) (source plan.now) fork.place fork.operands) }
 {
-    if !is_over(plan, fork) {
+    if !has_under(plan, fork) {
         return Ok(());
     }
-    let cells = plan.cells(alloc, fork.place)?;
+    let cells = plan.stack_homes(alloc, fork.place)?;
     spill(plan, cells.as_slice(), items)?;
     let operands = operands(alloc, plan, fork)?;
     loads(plan, operands.as_slice(), items)

@@ -4,7 +4,7 @@ ghost use Rattle.xf_emission.specs.Group.{fall, fall_by, fall_over, fallen};
 
 use crate::body::next_place;
 use crate::edge::{Scratch, copies};
-use crate::jump::{Fork, is_over, taken, under};
+use crate::jump::{Fork, has_under, taken, under};
 use crate::moves::{loads, spill};
 use jc_decode::{Item, Placed};
 use jc_ops::Operation;
@@ -27,7 +27,7 @@ fn fall(
     ensures { OnOk result (items.new.items ≡ items.old.items ++ fall (source plan.now) place operation to) }
 {
     if plan.is_leader(to) {
-        let cells = plan.cells(alloc, to)?;
+        let cells = plan.stack_homes(alloc, to)?;
         spill(plan, cells.as_slice(), items)?;
     }
     copies(plan, Origin::After(place, operation), to, scratch, items)
@@ -81,7 +81,7 @@ fn fall_by(
         operation,
         operands,
     };
-    if is_over(plan, fork) {
+    if has_under(plan, fork) {
         return fall_over(alloc, plan, fork, to, scratch, items);
     }
     fall(alloc, plan, place, operation, to, scratch, items)

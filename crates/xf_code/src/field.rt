@@ -1,6 +1,6 @@
 ghost use Rattle.std.specs.Prelude.{◌≡◌, ◌++◌, OnOk};
 ghost use Rattle.xf_plan.specs.Subject.{source};
-ghost use Rattle.xf_emission.specs.Group.{field_read, field_written, kept, stays, swap_words};
+ghost use Rattle.xf_emission.specs.Group.{field_read, field_written, itself, stays, swap_words};
 
 use crate::moves::{load, put, with_byte};
 use jc_base::Kind;
@@ -11,7 +11,7 @@ use xf_plan::Plan;
 
 /// Appends an instruction as it is.
 pub fn keep(placed: Placed, items: &mut Vec<Item>) -> Result<(), AllocError>
-    ensures { OnOk result (items.new.items ≡ items.old.items ++ kept placed) }
+    ensures { OnOk result (items.new.items ≡ items.old.items ++ itself placed) }
 {
     put(items, Item::Plain(placed.insn))
 }

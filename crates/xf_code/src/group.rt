@@ -2,7 +2,7 @@ ghost use Rattle.std.specs.Prelude.{◌≡◌, ◌++◌, ◌∷◌, [], ◌≤�
 ghost use Rattle.jc_decode.specs.Listing.{listing};
 ghost use Rattle.xf_plan.specs.Plan.{operation};
 ghost use Rattle.xf_plan.specs.Subject.{source};
-ghost use Rattle.xf_emission.specs.Group.{done, entered, group};
+ghost use Rattle.xf_emission.specs.Group.{done, entrance, group};
 ghost use Rattle.xf_code.specs.Known.{IsInstruction, IsSubject};
 
 use crate::body::body;
@@ -14,19 +14,19 @@ use std::alloc::{AllocError, Global};
 use xf_plan::Plan;
 
 /// Appends the label of a place, and the loads of its stack where it is a leader.
-fn entered(
+fn entrance(
     alloc: Global,
     plan: &Plan<'_>,
     place: u16,
     items: &mut Vec<Item>,
 ) -> Result<(), AllocError>
-    ensures { OnOk result (items.new.items ≡ items.old.items ++ entered (source plan.now) place) }
+    ensures { OnOk result (items.new.items ≡ items.old.items ++ entrance (source plan.now) place) }
 {
     put(items, Item::Label(place))?;
     if !plan.is_leader(place) {
         return Ok(());
     }
-    let cells = plan.cells(alloc, place)?;
+    let cells = plan.stack_homes(alloc, place)?;
     loads(plan, cells.as_slice(), items)
 }
 
@@ -67,7 +67,7 @@ fn group(
     if !plan.walk.typing.reached(placed.place) {
         return Ok(());
     }
-    entered(alloc, plan, placed.place, items)?;
+    entrance(alloc, plan, placed.place, items)?;
     done(alloc, plan, placed, scratch, items)
 }
 

@@ -41,7 +41,7 @@ fn caught(
 {
     let entry = handler.entry;
     put(items, Item::Label(handler_label(n)))?;
-    let cells = plan.cells(alloc, entry)?;
+    let cells = plan.stack_homes(alloc, entry)?;
     spill(plan, cells.as_slice(), items)?;
     copies(plan, Origin::Entry(entry), entry, scratch, items)?;
     put(items, goto(entry))

@@ -1,7 +1,7 @@
 ghost use Rattle.std.specs.Prelude.{◌≡◌, ◌≤◌, ◌+◌, ◌/◌, ◌++◌, ◌∷◌, [], OnOk, IfOk};
 ghost use Rattle.jc_decode.specs.Listing.{targets};
 ghost use Rattle.xf_plan.specs.Subject.{source};
-ghost use Rattle.xf_emission.specs.Jump.{cut, under, operands, is_over, taken, place, lead, stub, stub_label, goto, leads, stubs_of, AreLed, IsNearBy};
+ghost use Rattle.xf_emission.specs.Jump.{cut, under, operands, has_under, taken, place, lead, stub, stub_label, goto, leads, stubs_of, AreLed, IsNearBy};
 
 use crate::edge::{Scratch, cell_copies, copies};
 use crate::moves::put;
@@ -31,8 +31,8 @@ fn cut(plan: &Plan<'_>, fork: Fork) -> u16
 }
 
 /// Whether the stack is deeper than the operands of a branch or switch.
-pub fn is_over(plan: &Plan<'_>, fork: Fork) -> bool
-    ensures { result ≡ is_over (source plan.now) fork.place fork.operands }
+pub fn has_under(plan: &Plan<'_>, fork: Fork) -> bool
+    ensures { result ≡ has_under (source plan.now) fork.place fork.operands }
 {
     u16::from(fork.operands) < plan.depth(fork.place)
 }
@@ -43,7 +43,7 @@ pub fn under(alloc: Global, plan: &Plan<'_>, fork: Fork) -> Result<Vec<Home>, Al
     ensures { IfOk result (λ hs. hs.items ≡ under (source plan.now) fork.place fork.operands) }
 {
     let cut = cut(plan, fork);
-    let cells = plan.cells(alloc, fork.place)?;
+    let cells = plan.stack_homes(alloc, fork.place)?;
     let mut homes = Vec::new(alloc);
     'cells: for home in cells.as_slice() {
         if home.slot < cut {
@@ -61,7 +61,7 @@ pub fn operands(alloc: Global, plan: &Plan<'_>, fork: Fork) -> Result<Vec<Home>,
     ensures { IfOk result (λ hs. hs.items ≡ operands (source plan.now) fork.place fork.operands) }
 {
     let cut = cut(plan, fork);
-    let cells = plan.cells(alloc, fork.place)?;
+    let cells = plan.stack_homes(alloc, fork.place)?;
     let mut homes = Vec::new(alloc);
     'cells: for home in cells.as_slice() {
         if cut <= home.slot {
@@ -88,7 +88,7 @@ pub fn taken(
         ≡ items.old.items ++ taken (source plan.now) fork.place fork.operation fork.operands to) }
 {
     let from = under(alloc, plan, fork)?;
-    let cells = plan.cells(alloc, to)?;
+    let cells = plan.stack_homes(alloc, to)?;
     cell_copies(plan, from.as_slice(), cells.as_slice(), items)?;
     copies(
         plan,

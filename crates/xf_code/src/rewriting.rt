@@ -7,7 +7,7 @@ ghost use Rattle.xf_homes.specs.Order.{AreHomes, register_sum};
 ghost use Rattle.xf_plan.specs.Subject.{source};
 ghost use Rattle.jc_decode.specs.Decoding.{AreBytes};
 ghost use Rattle.jc_decode.specs.Symbols.{IsItem, IsRange, plain_size};
-ghost use Rattle.xf_emission.specs.Emission.{IsPlainSize, IsRewritten, items, ranges, rewritten};
+ghost use Rattle.xf_emission.specs.Emission.{IsPlainSize, AreSymbolsOf, items, ranges, rewritten};
 ghost use Rattle.xf_code.specs.Known.{IsSubject};
 ghost use Rattle.xf_emission.specs.Live.{KeepsLive};
 ghost use Rattle.xf_emission.specs.Numbers.{HasNumbers};
@@ -124,7 +124,7 @@ pub fn rewrite<'a>(
     requires derived { IsSomeAnd (method_in world.now method) (λ m. AreDerived world.now m typing.now) }
     requires homes { IsSomeAnd (method_in world.now method) (λ m. AreHomes world.now m (state_at typing.now) homes.now) }
     ensures symbols { IsSomeAnd (method_in world.now method)
-        (λ m. IfOk result (IsRewritten world.now m (state_at typing.now) homes.now)) }
+        (λ m. IfOk result (AreSymbolsOf world.now m (state_at typing.now) homes.now)) }
     // They have a card typing, in which each home's registers have the home's type.
     ensures typed { IsSomeAnd (method_in world.now method)
         (λ m. IfOk result (HasTypingByHomes world.now m homes.now)) }

@@ -2,6 +2,7 @@
 use Rattle.std.proofs.Common.{◌≡◌, ◌<◌, ◌-◌, ℕ, Bool, true, false, Result, Ok, Err, refl, sym, ap, ◌∙◌, subst}
 use Rattle.std.specs.Prelude.{pos, map, replicate, not, ◌&&◌}
 use Rattle.std.specs.List.{range_with_len}
+use Rattle.std.proofs.lemmas.Bool.{and_parts}
 use Rattle.jc_base.specs.declared.record.MethodRec.{MethodRec}
 use Rattle.jc_base.specs.World.{Linked}
 use Rattle.jc_decode.specs.declared.insn.Insn.{Insn}
@@ -14,7 +15,7 @@ use Rattle.jc_decode.specs.Cases.{is_switch}
 use Rattle.jc_decode.specs.Forms.{is_wide_jump, wide}
 use Rattle.jc_decode.specs.Listing.{jumps, is_branch}
 use Rattle.jc_decode.specs.Encoding.{Allows, AllowsBy, IsAllowed}
-use Rattle.jc_decode.proofs.Passed.{passed-at, and-parts}
+use Rattle.jc_decode.proofs.Passed.{passed-at}
 use Rattle.jc_ops.specs.declared.operation.Operation.{Operation}
 use Rattle.jc_ops.specs.Row.{row_at}
 use Rattle.jc_ops.specs.Resolve.{resolved}
@@ -126,10 +127,10 @@ other-opcode i op e f a = by (layout_of i.op) (layout_of op) e f a
   where
     by : (l k : Result Layout CodeEnd) → only_u1 l ≡ true → only_u1 k ≡ true → AllowsBy i l → AllowsBy (record i { op = op }) k
     by (Ok l) (Ok k) e f a =
-        let el = and-parts (is_u1 l.x) (is_absent l.y && is_absent l.z) e in
-        let en = and-parts (is_absent l.y) (is_absent l.z) el.1 in
-        let fl = and-parts (is_u1 k.x) (is_absent k.y && is_absent k.z) f in
-        let fn = and-parts (is_absent k.y) (is_absent k.z) fl.1 in (
+        let el = and_parts (is_u1 l.x) (is_absent l.y && is_absent l.z) e in
+        let en = and_parts (is_absent l.y) (is_absent l.z) el.1 in
+        let fl = and_parts (is_u1 k.x) (is_absent k.y && is_absent k.z) f in
+        let fn = and_parts (is_absent k.y) (is_absent k.z) fl.1 in (
           subst (λ o. Allows o i.x) (u1-is l.x el.0 ∙ sym (u1-is k.x fl.0)) a.0,
           subst (λ o. Allows o i.y) (absent-is l.y en.0 ∙ sym (absent-is k.y fn.0)) a.1,
           subst (λ o. Allows o i.z) (absent-is l.z en.1 ∙ sym (absent-is k.z fn.1)) a.2,

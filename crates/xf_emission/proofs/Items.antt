@@ -15,7 +15,7 @@ use Rattle.xf_homes.specs.declared.home.Home.{Home}
 use Rattle.xf_homes.specs.Home.{register_count}
 use Rattle.xf_homes.specs.Walk.{has, same_home}
 use Rattle.xf_plan.specs.Source.{Source}
-use Rattle.xf_plan.specs.Plan.{register, cells, needed}
+use Rattle.xf_plan.specs.Plan.{register, stack_homes, needed}
 use Rattle.jc_ops.specs.declared.operation.Operation.{Operation}
 use Rattle.xf_homes.proofs.Rising.{each-append}
 use Rattle.xf_emission.specs.declared.origin.Origin.{Origin}
@@ -98,7 +98,7 @@ module _ (code : List ℕ) (all : List Item) (s : Source) (small : (h : Home) �
   pub taken-suits : (p : ℕ) (op : Operation) (n q : ℕ) → Each (IsItem code all) (taken s p op n q)
   unfolding taken
   taken-suits p op n q =
-      each-append (IsItem code all) (cell_copies s (under s p n) (cells s q)) (copies s (After p op) q) (cells-suit (under s p n) (cells s q)) (copies-suit (After p op) q)
+      each-append (IsItem code all) (cell_copies s (under s p n) (stack_homes s q)) (copies s (After p op) q) (cells-suit (under s p n) (stack_homes s q)) (copies-suit (After p op) q)
 
   -- ---- what is emitted beside
 

@@ -21,13 +21,13 @@ use Rattle.xf_homes.specs.declared.home.Home.{Home}
 use Rattle.xf_homes.specs.Home.{register_count}
 use Rattle.xf_homes.specs.Walk.{has, same_home, operands_of}
 use Rattle.xf_plan.specs.Source.{Source}
-use Rattle.xf_plan.specs.Plan.{cells, needed, local, is_leader, operation}
+use Rattle.xf_plan.specs.Plan.{stack_homes, needed, local, is_leader, operation}
 use Rattle.xf_emission.specs.declared.origin.Origin.{Origin}
 use Rattle.xf_emission.specs.declared.origin.Origin.TheVariants.{After, Entry}
 use Rattle.xf_emission.specs.Move.{store, copy, loads, spill}
 use Rattle.xf_emission.specs.Edge.{home_before, held, copy_new, copies_from, local_copies, locals_copies, copies, cell_copies}
-use Rattle.xf_emission.specs.Jump.{under, operands, is_over, spill_if, taken, jump_to, branch, goto, place, stub_label, stub_of, stub, handler_label}
-use Rattle.xf_emission.specs.Group.{kept, loaded, increased, popped, stored, stays, field_read, field_written, gone, branch_by, body, fall, fall_over, fall_by, fallen, done, group_by, group}
+use Rattle.xf_emission.specs.Jump.{under, operands, has_under, spill_if, taken, jump_to, branch, goto, place, stub_label, stub_of, stub, handler_label}
+use Rattle.xf_emission.specs.Group.{itself, loaded, increased, popped, stored, stays, field_read, field_written, gone, branch_by, body, fall, fall_over, fall_by, fallen, done, group_by, group}
 use Rattle.xf_emission.specs.Emission.{caught}
 
 -- the numbers of the labels
@@ -98,7 +98,7 @@ cells-none s (h ∷ hs) (k ∷ ks) = none-both (if same_home h k then [] else co
 
 pub taken-none : (s : Source) (p : ℕ) (op : Operation) (n q : ℕ) → labels (taken s p op n q) ≡ []
 unfolding taken
-taken-none s p op n q = none-both (cell_copies s (under s p n) (cells s q)) (copies s (After p op) q) (cells-none s (under s p n) (cells s q)) (copies-none s (After p op) q)
+taken-none s p op n q = none-both (cell_copies s (under s p n) (stack_homes s q)) (copies s (After p op) q) (cells-none s (under s p n) (stack_homes s q)) (copies-none s (After p op) q)
 
 -- ---- instructions
 
@@ -110,8 +110,8 @@ module _ (s : Source) (i : Placed) where
   branch-none : (op : Operation) (n : ℕ) → labels (branch s i op n) ≡ []
   unfolding branch
   branch-none op n =
-      none-both (spill_if (is_over s i.place n) s i.place n) (jump_to i op _ ∷ [])
-      (none-if (is_over s i.place n) (spill s (cells s i.place) ++ loads s (operands s i.place n)) [] (none-both (spill s (cells s i.place)) (loads s (operands s i.place n)) (spill-none s (cells s i.place)) (loads-none s (operands s i.place n))) refl)
+      none-both (spill_if (has_under s i.place n) s i.place n) (jump_to i op _ ∷ [])
+      (none-if (has_under s i.place n) (spill s (stack_homes s i.place) ++ loads s (operands s i.place n)) [] (none-both (spill s (stack_homes s i.place)) (loads s (operands s i.place n)) (spill-none s (stack_homes s i.place)) (loads-none s (operands s i.place n))) refl)
       (jump-none op _)
 
   loaded-none : (h : Option Home) → labels (loaded s i h) ≡ []
@@ -132,15 +132,15 @@ module _ (s : Source) (i : Placed) where
 
   read-none : (h : Option Home) → labels (field_read s i h) ≡ []
   read-none None = refl
-  read-none (Some h) = none-if (stays s h) (kept i) _ refl refl
+  read-none (Some h) = none-if (stays s h) (itself i) _ refl refl
 
   written-none : (k : Kind) (h : Option Home) → labels (field_written s i k h) ≡ []
   written-none k None = refl
-  written-none k (Some h) = none-if (stays s h) (kept i) _ refl refl
+  written-none k (Some h) = none-if (stays s h) (itself i) _ refl refl
 
   gone-none : (op : Operation) (q : ℕ) → labels (gone s i.place op q) ≡ []
   gone-none op q =
-      none-both (spill s (cells s q)) (copies s (After i.place op) q ++ goto q ∷ []) (spill-none s (cells s q))
+      none-both (spill s (stack_homes s q)) (copies s (After i.place op) q ++ goto q ∷ []) (spill-none s (stack_homes s q))
       (none-both (copies s (After i.place op) q) (goto q ∷ []) (copies-none s (After i.place op) q) refl)
 
   by-none : (op : Operation) (n : Option ℕ) → labels (branch_by s i op n) ≡ []
@@ -159,8 +159,8 @@ module _ (s : Source) (i : Placed) where
 
   fall-none : (op : Operation) (q : ℕ) → labels (fall s i.place op q) ≡ []
   fall-none op q =
-      none-both (if is_leader s q then spill s (cells s q) else []) (copies s (After i.place op) q)
-      (none-if (is_leader s q) (spill s (cells s q)) [] (spill-none s (cells s q)) refl)
+      none-both (if is_leader s q then spill s (stack_homes s q) else []) (copies s (After i.place op) q)
+      (none-if (is_leader s q) (spill s (stack_homes s q)) [] (spill-none s (stack_homes s q)) refl)
       (copies-none s (After i.place op) q)
 
   over-none : (op : Operation) (n q : ℕ) → labels (fall_over s i.place op n q) ≡ []
@@ -170,7 +170,7 @@ module _ (s : Source) (i : Placed) where
 
   fall-by-none : (op : Operation) (n : Option ℕ) (q : ℕ) → labels (fall_by s i.place op n q) ≡ []
   fall-by-none op None q = fall-none op q
-  fall-by-none op (Some n) q = none-if (is_over s i.place n) (fall_over s i.place op n q) (fall s i.place op q) (over-none op n q) (fall-none op q)
+  fall-by-none op (Some n) q = none-if (has_under s i.place n) (fall_over s i.place op n q) (fall s i.place op q) (over-none op n q) (fall-none op q)
 
   pub fallen-none : (op : Operation) → labels (fallen s i op) ≡ []
   unfolding fallen
@@ -191,8 +191,8 @@ module _ (s : Source) (i : Placed) where
       by None = refl
       by (Some f) =
           ap (λ ls. i.place ∷ ls)
-          (none-both (if is_leader s i.place then loads s (cells s i.place) else []) (done s i (operation s i))
-          (none-if (is_leader s i.place) (loads s (cells s i.place)) [] (loads-none s (cells s i.place)) refl) (done-none (operation s i)))
+          (none-both (if is_leader s i.place then loads s (stack_homes s i.place) else []) (done s i (operation s i))
+          (none-if (is_leader s i.place) (loads s (stack_homes s i.place)) [] (loads-none s (stack_homes s i.place)) refl) (done-none (operation s i)))
 
 -- ---- stubs
 
@@ -211,7 +211,7 @@ stub-label s p op n k t = by (taken s p op n (place t)) (taken-none s p op n (pl
 pub caught-label : (s : Source) (n : ℕ) (h : Handler) → labels (caught s n h) ≡ handler_label n ∷ []
 caught-label s n h =
     ap (λ ls. handler_label n ∷ ls)
-    (none-both (spill s (cells s h.entry)) (copies s (Entry h.entry) h.entry ++ goto h.entry ∷ []) (spill-none s (cells s h.entry))
+    (none-both (spill s (stack_homes s h.entry)) (copies s (Entry h.entry) h.entry ++ goto h.entry ∷ []) (spill-none s (stack_homes s h.entry))
     (none-both (copies s (Entry h.entry) h.entry) (goto h.entry ∷ []) (copies-none s (Entry h.entry) h.entry) refl))
 
 -- ---- counting

@@ -16,7 +16,7 @@ use Rattle.jc_ops.specs.declared.operation.Operation.{Operation}
 use Rattle.jc_rules.specs.Demand.{Frame}
 use Rattle.xf_homes.specs.Walk.{operands_of}
 use Rattle.xf_plan.specs.Source.{Source}
-use Rattle.xf_plan.specs.Plan.{cells, operation}
+use Rattle.xf_plan.specs.Plan.{stack_homes, operation}
 use Rattle.xf_emission.specs.declared.origin.Origin.TheVariants.{Start, Entry}
 use Rattle.xf_emission.specs.Move.{spill}
 use Rattle.xf_emission.specs.Edge.{copies}
@@ -155,6 +155,6 @@ handlers-stand s code n h at live =
     let groups = flat_map (group s) (listing s.method.code) in
     let branches = flat_map (stubs s) (listing s.method.code) in
     let before = copies s Start 0 ++ (groups ++ (Label (length s.method.code) ∷ (branches ++ q.before))) in
-    let rest = spill s (cells s h.entry) ++ (copies s (Entry h.entry) h.entry ++ goto h.entry ∷ []) in
+    let rest = spill s (stack_homes s h.entry) ++ (copies s (Entry h.entry) h.entry ++ goto h.entry ∷ []) in
     let whole : items s ≡ before ++ (caught s n h ++ q.after) = ap (λ xs. copies s Start 0 ++ (groups ++ (Label (length s.method.code) ∷ branches ++ xs))) own ∙ simp append_assoc in
     record { before = before; after = q.after; parts = whole; at = at-label s code before (rest ++ q.after) (handler_label n) whole }

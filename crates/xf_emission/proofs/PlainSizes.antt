@@ -43,13 +43,13 @@ use Rattle.xf_homes.specs.Value.{width as home_width, value_at}
 use Rattle.xf_homes.specs.Walk.{operands_of, register_from, same_home, has}
 use Rattle.xf_homes.proofs.Events.{homes-equal}
 use Rattle.xf_plan.specs.Source.{Source}
-use Rattle.xf_plan.specs.Plan.{register, local, needed, cells, cells_from, depth, home_of, with_home_of, stack_of, is_leader, operation}
+use Rattle.xf_plan.specs.Plan.{register, local, needed, stack_homes, cells_from, depth, home_of, with_home_of, stack_of, is_leader, operation}
 use Rattle.xf_emission.specs.declared.origin.Origin.{Origin}
 use Rattle.xf_emission.specs.declared.origin.Origin.TheVariants.{Start, After, Entry}
 use Rattle.xf_emission.specs.Move.{with_byte, load_op, store_op, load, store, copy, loads, spill}
 use Rattle.xf_emission.specs.Edge.{home_before, held, copy_new, copies_from, local_copies, locals_copies, copies, cell_copies}
-use Rattle.xf_emission.specs.Jump.{under, operands, is_over, spill_if, taken, place, leads, jump_to, branch, goto, stub, stub_of, stub_label, stubs_of, handler_label, cut}
-use Rattle.xf_emission.specs.Group.{kept, loaded, increased, popped, stored, stays, field_read, field_written, swap_words, gone, first_place, branch_by, body, fall, fall_over, fall_by, fallen, entered, done, group_by, group}
+use Rattle.xf_emission.specs.Jump.{under, operands, has_under, spill_if, taken, place, leads, jump_to, branch, goto, stub, stub_of, stub_label, stubs_of, handler_label, cut}
+use Rattle.xf_emission.specs.Group.{itself, loaded, increased, popped, stored, stays, field_read, field_written, swap_words, gone, first_place, branch_by, body, fall, fall_over, fall_by, fallen, entrance, done, group_by, group}
 use Rattle.xf_emission.specs.Emission.{stubs, stubs_at, stubs_by, stubs_done, is_live, caught, caught_from, items}
 use Rattle.xf_emission.specs.Laws.{IsCode, HasFrames, PlainSizeFits}
 use Rattle.xf_emission.proofs.Fewer.{Distinct, no-longer, either-among, distinct-append}
@@ -263,31 +263,31 @@ module _ (same : SameTypeDecides) (kept_are : NeededAreKept) (s : Source) (has_f
     -- ---- stacks, edges and groups
 
     module _ (shallow : (p : ℕ) → depth s p ≤ 255) where
-      stack-few : (p : ℕ) → length (cells s p) ≤ 255
-      unfolding cells
+      stack-few : (p : ℕ) → length (stack_homes s p) ≤ 255
+      unfolding stack_homes
       stack-few p = omega (arith, cells-few s (register_count s.method.rec) (stack_of (s.frames p)) 0 (length (stack_of (s.frames p))), shallow p)
 
       under-few : (p n : ℕ) → length (under s p n) ≤ 255
       unfolding under
-      under-few p n = omega (arith, filter-few (λ h. nat_lt h.slot (cut s p n)) (cells s p), stack-few p)
+      under-few p n = omega (arith, filter-few (λ h. nat_lt h.slot (cut s p n)) (stack_homes s p), stack-few p)
 
       operands-few : (p n : ℕ) → length (operands s p n) ≤ 255
       unfolding operands
-      operands-few p n = omega (arith, filter-few (λ h. nat_le (cut s p n) h.slot) (cells s p), stack-few p)
+      operands-few p n = omega (arith, filter-few (λ h. nat_le (cut s p n) h.slot) (stack_homes s p), stack-few p)
 
       taken-size : (p : ℕ) (op : Operation) (n q : ℕ) → plain_size (taken s p op n q) ≤ 2040
       unfolding taken
       taken-size p op n q =
-          omega (arith, append-size (cell_copies s (under s p n) (cells s q)) (copies s (After p op) q), cells-size s (under s p n) (cells s q), under-few p n, copies-size (After p op) q)
+          omega (arith, append-size (cell_copies s (under s p n) (stack_homes s q)) (copies s (After p op) q), cells-size s (under s p n) (stack_homes s q), under-few p n, copies-size (After p op) q)
 
-      spilled : (p : ℕ) → plain_size (spill s (cells s p)) ≤ 510
-      spilled p = omega (arith, spill-size s (cells s p), stack-few p)
+      spilled : (p : ℕ) → plain_size (spill s (stack_homes s p)) ≤ 510
+      spilled p = omega (arith, spill-size s (stack_homes s p), stack-few p)
 
       goto-size : (q : ℕ) → plain_size (goto q ∷ []) ≡ 3
       goto-size q = refl
 
       module _ (i : Placed) (op : Operation) where
-        kept-size : plain_size (kept i) ≤ i.insn.len + 13
+        kept-size : plain_size (itself i) ≤ i.insn.len + 13
         kept-size = omega (arith, cons-size (Plain i.insn) [], none-size, plain-length i.insn)
 
         loaded-size : (h : Option Home) → plain_size (loaded s i h) ≤ i.insn.len + 13
@@ -310,14 +310,14 @@ module _ (same : SameTypeDecides) (kept_are : NeededAreKept) (s : Source) (has_f
         read-size None = omega (arith, kept-size)
         read-size (Some h) =
             let j : Insn = record i.insn { op = i.insn.op - 42 } in
-            if-size (stays s h) (kept i) (load s h ∷ Plain j ∷ []) (i.insn.len + 15) (omega (arith, kept-size)) (omega (arith, cons-size (load s h) (Plain j ∷ []), cons-size (Plain j) [], none-size, load-size s h, plain-length j))
+            if-size (stays s h) (itself i) (load s h ∷ Plain j ∷ []) (i.insn.len + 15) (omega (arith, kept-size)) (omega (arith, cons-size (load s h) (Plain j ∷ []), cons-size (Plain j) [], none-size, load-size s h, plain-length j))
 
         written-size : (k : Kind) (h : Option Home) → plain_size (field_written s i k h) ≤ i.insn.len + 30
         written-size k None = omega (arith, kept-size)
         written-size k (Some h) =
             let j : Insn = record i.insn { op = i.insn.op - 46 } in
             let swap : Insn = with_byte 64 (swap_words k) in
-            if-size (stays s h) (kept i) (load s h ∷ Plain swap ∷ Plain j ∷ []) (i.insn.len + 30) (omega (arith, kept-size))
+            if-size (stays s h) (itself i) (load s h ∷ Plain swap ∷ Plain j ∷ []) (i.insn.len + 30) (omega (arith, kept-size))
             (omega (arith, cons-size (load s h) (Plain swap ∷ Plain j ∷ []), cons-size (Plain swap) (Plain j ∷ []), cons-size (Plain j) [], none-size, load-size s h, plain-length swap, plain-length j))
 
         jump-size : (ls : List ℕ) → plain_bytes (jump_to i op ls) ≤ i.insn.len + 13
@@ -331,12 +331,12 @@ module _ (same : SameTypeDecides) (kept_are : NeededAreKept) (s : Source) (has_f
         unfolding branch
         branch-size n =
             let ls = leads s i.place op n 0 (targets s.method.code i) in
-            let spilt : plain_size (spill s (cells s i.place) ++ loads s (operands s i.place n)) ≤ 1020 =
-            omega (arith, append-size (spill s (cells s i.place)) (loads s (operands s i.place n)), spilled i.place, loads-size s (operands s i.place n), operands-few i.place n) in
+            let spilt : plain_size (spill s (stack_homes s i.place) ++ loads s (operands s i.place n)) ≤ 1020 =
+            omega (arith, append-size (spill s (stack_homes s i.place)) (loads s (operands s i.place n)), spilled i.place, loads-size s (operands s i.place n), operands-few i.place n) in
             omega (
               arith,
-              append-size (spill_if (is_over s i.place n) s i.place n) (jump_to i op ls ∷ []),
-              if-size (is_over s i.place n) (spill s (cells s i.place) ++ loads s (operands s i.place n)) [] 1020 spilt (omega (arith, none-size)),
+              append-size (spill_if (has_under s i.place n) s i.place n) (jump_to i op ls ∷ []),
+              if-size (has_under s i.place n) (spill s (stack_homes s i.place) ++ loads s (operands s i.place n)) [] 1020 spilt (omega (arith, none-size)),
               cons-size (jump_to i op ls) [],
               none-size,
               jump-size ls,
@@ -350,7 +350,7 @@ module _ (same : SameTypeDecides) (kept_are : NeededAreKept) (s : Source) (has_f
         gone-size q =
             omega (
               arith,
-              append-size (spill s (cells s q)) (copies s (After i.place op) q ++ goto q ∷ []),
+              append-size (spill s (stack_homes s q)) (copies s (After i.place op) q ++ goto q ∷ []),
               append-size (copies s (After i.place op) q) (goto q ∷ []),
               spilled q,
               copies-size (After i.place op) q,
@@ -361,8 +361,8 @@ module _ (same : SameTypeDecides) (kept_are : NeededAreKept) (s : Source) (has_f
         fall-size q =
             omega (
               arith,
-              append-size (if is_leader s q then spill s (cells s q) else []) (copies s (After i.place op) q),
-              if-size (is_leader s q) (spill s (cells s q)) [] 510 (spilled q) (omega (arith, none-size)),
+              append-size (if is_leader s q then spill s (stack_homes s q) else []) (copies s (After i.place op) q),
+              if-size (is_leader s q) (spill s (stack_homes s q)) [] 510 (spilled q) (omega (arith, none-size)),
               copies-size (After i.place op) q,
             )
 
@@ -371,7 +371,7 @@ module _ (same : SameTypeDecides) (kept_are : NeededAreKept) (s : Source) (has_f
         fall-by-size (Some n) q =
             let back : plain_size (copies s (After i.place op) q ++ loads s (under s i.place n)) ≤ 2040 =
             omega (arith, append-size (copies s (After i.place op) q) (loads s (under s i.place n)), copies-size (After i.place op) q, loads-size s (under s i.place n), under-few i.place n) in
-            if-size (is_over s i.place n) (fall_over s i.place op n q) (fall s i.place op q) 2040
+            if-size (has_under s i.place n) (fall_over s i.place op n q) (fall s i.place op q) 2040
             (if-size (is_leader s q) (taken s i.place op n q) (copies s (After i.place op) q ++ loads s (under s i.place n)) 2040 (taken-size i.place op n q) back) (omega (arith, fall-size q))
 
         fallen-size : plain_size (fallen s i op) ≤ 2040
@@ -393,12 +393,12 @@ module _ (same : SameTypeDecides) (kept_are : NeededAreKept) (s : Source) (has_f
       unfolding group
       group-size i = by (s.frames i.place)
         where
-          entered-size : plain_size (entered s i.place) ≤ 510
+          entered-size : plain_size (entrance s i.place) ≤ 510
           entered-size =
               omega (
                 arith,
-                cons-size (Label i.place) (if is_leader s i.place then loads s (cells s i.place) else []),
-                if-size (is_leader s i.place) (loads s (cells s i.place)) [] 510 (omega (arith, loads-size s (cells s i.place), stack-few i.place)) (omega (arith, none-size)),
+                cons-size (Label i.place) (if is_leader s i.place then loads s (stack_homes s i.place) else []),
+                if-size (is_leader s i.place) (loads s (stack_homes s i.place)) [] 510 (omega (arith, loads-size s (stack_homes s i.place), stack-few i.place)) (omega (arith, none-size)),
               )
 
           done-size : (r : Result Operation RuleFault) → plain_size (done s i r) ≤ i.insn.len + 3573
@@ -407,7 +407,7 @@ module _ (same : SameTypeDecides) (kept_are : NeededAreKept) (s : Source) (has_f
 
           by : (f : Option Frame) → plain_size (group_by s i f) ≤ i.insn.len + 4083
           by None = omega (arith, none-size)
-          by (Some f) = omega (arith, append-size (entered s i.place) (done s i (operation s i)), entered-size, done-size (operation s i))
+          by (Some f) = omega (arith, append-size (entrance s i.place) (done s i (operation s i)), entered-size, done-size (operation s i))
 
       -- ---- stubs
 
@@ -447,8 +447,8 @@ module _ (same : SameTypeDecides) (kept_are : NeededAreKept) (s : Source) (has_f
       caught-size n h =
           omega (
             arith,
-            cons-size (Label (handler_label n)) (spill s (cells s h.entry) ++ (copies s (Entry h.entry) h.entry ++ goto h.entry ∷ [])),
-            append-size (spill s (cells s h.entry)) (copies s (Entry h.entry) h.entry ++ goto h.entry ∷ []),
+            cons-size (Label (handler_label n)) (spill s (stack_homes s h.entry) ++ (copies s (Entry h.entry) h.entry ++ goto h.entry ∷ [])),
+            append-size (spill s (stack_homes s h.entry)) (copies s (Entry h.entry) h.entry ++ goto h.entry ∷ []),
             append-size (copies s (Entry h.entry) h.entry) (goto h.entry ∷ []),
             spilled h.entry,
             copies-size (Entry h.entry) h.entry,

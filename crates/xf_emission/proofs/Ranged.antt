@@ -27,9 +27,6 @@ use Rattle.xf_emission.proofs.Live.{IsFirst, is-first}
 not-equal : (m a : ℕ) → m < a → (m == a) ≡ false
 not-equal m a lt = grind (arith, nat_tests)
 
-is-equal : (m a : ℕ) → (m == a) ≡ true → m ≡ a
-is-equal m a e = grind (arith, nat_tests, e)
-
 -- a lesser label stands for no later a place
 place-rises : (low high a b : ℕ) (xs : List Item) → Rises low high (labels xs) → IsAmong a (labels xs) → a ≤ b → place_of a xs ≤ place_of b xs
 place-rises low high a b [] r at le = absurd at

@@ -17,7 +17,7 @@ use Rattle.jc_control.specs.WellFormed.{HasInstruction}
 use Rattle.jc_decode.proofs.Elements.{nothing-in, Contains-either}
 use Rattle.jc_rules.specs.Demand.{Frame}
 use Rattle.xf_plan.specs.Source.{Source}
-use Rattle.xf_plan.specs.Plan.{cells, is_leader, operation}
+use Rattle.xf_plan.specs.Plan.{stack_homes, is_leader, operation}
 use Rattle.xf_emission.specs.declared.origin.Origin.TheVariants.{Start}
 use Rattle.xf_emission.specs.Move.{loads}
 use Rattle.xf_emission.specs.Edge.{copies}
@@ -70,7 +70,7 @@ module _ (s : Source) where
       (rises-append at (at + j.insn.len) i.place _ _ (group-rises at j l.0 inside) (earlier-rise (at + j.insn.len) js i later l.2))
 
   abbrev tail : Placed → List Item
-  tail i = (if is_leader s i.place then loads s (cells s i.place) else []) ++ done s i (operation s i)
+  tail i = (if is_leader s i.place then loads s (stack_homes s i.place) else []) ++ done s i (operation s i)
 
   group-head : (i : Placed) → is_some (s.frames i.place) ≡ true → group s i ≡ Label i.place ∷ tail i
   unfolding group

@@ -29,20 +29,16 @@ use Rattle.xf_homes.specs.declared.home.Home.{Home}
 use Rattle.xf_homes.specs.Walk.{operands_of}
 use Rattle.xf_homes.proofs.Rising.{each-append}
 use Rattle.xf_plan.specs.Source.{Source}
-use Rattle.xf_plan.specs.Plan.{register, local, needed, cells, is_leader, operation}
+use Rattle.xf_plan.specs.Plan.{register, local, needed, stack_homes, is_leader, operation}
 use Rattle.xf_emission.specs.declared.origin.Origin.TheVariants.{Start, After, Entry}
 use Rattle.xf_emission.specs.Move.{copy, loads, spill}
 use Rattle.xf_emission.specs.Edge.{copies}
-use Rattle.xf_emission.specs.Jump.{under, operands, is_over, spill_if, taken, place, lead, leads, first_label, jump_to, branch, goto, stub, stub_of, stub_label, stubs_of}
-use Rattle.xf_emission.specs.Group.{kept, loaded, increased, stored, stays, field_read, field_written, gone, first_place, body, fall, fall_over, fall_by, fallen, entered, done, group_by, group}
+use Rattle.xf_emission.specs.Jump.{under, operands, has_under, spill_if, taken, place, lead, leads, first_label, jump_to, branch, goto, stub, stub_of, stub_label, stubs_of}
+use Rattle.xf_emission.specs.Group.{itself, loaded, increased, stored, stays, field_read, field_written, gone, first_place, body, fall, fall_over, fall_by, fallen, entrance, done, group_by, group}
 use Rattle.xf_emission.specs.Emission.{stubs, stubs_at, stubs_by, stubs_done, is_live, caught, caught_from, items}
 use Rattle.xf_emission.proofs.RowByRow.{op_kind, branching_kind, switching}
 use Rattle.xf_emission.proofs.Forms.{suits_kind, first_u1, only_u1, other-register, other-opcode}
 use Rattle.xf_emission.proofs.Items.{each-if, each-flat, load-suits, store-suits, copy-suits, loads-suit, spill-suits, copies-suit, taken-suits, popped-suits, swap-suits}
-
-not-true : (b : Bool) → not b ≡ true → b ≡ false
-not-true false e = refl
-not-true true e = absurd (cc)
 
 -- an instruction that is allowed, with its operation, in code whose labels stand once
 pub record IsEmitted (all : List Item) (s : Source) (i : Placed) (op : Operation) : Type 0 where
@@ -56,7 +52,7 @@ pub record IsEmitted (all : List Item) (s : Source) (i : Placed) (op : Operation
 
 module _ (all : List Item) (s : Source) (small : (h : Home) → register s h < 256) where
   module _ (i : Placed) (op : Operation) (e : IsEmitted all s i op) where
-    kept-suits : jumps_from op ≡ false → Each (IsItem s.method.code all) (kept i)
+    kept-suits : jumps_from op ≡ false → Each (IsItem s.method.code all) (itself i)
     kept-suits j = ((e.allowed, ap not (sym e.alike ∙ j)), tt)
 
     loaded-suits : jumps_from op ≡ false → (h : Option Home) → Each (IsItem s.method.code all) (loaded s i h)
@@ -75,14 +71,14 @@ module _ (all : List Item) (s : Source) (small : (h : Home) → register s h < 2
         → Each (IsItem s.method.code all) (field_read s i h)
     read-suits j u v None = kept-suits j
     read-suits j u v (Some h) =
-        each-if (IsItem s.method.code all) (stays s h) (kept i) _ (kept-suits j)
+        each-if (IsItem s.method.code all) (stays s h) (itself i) _ (kept-suits j)
         (load-suits s.method.code all s small h, ((other-opcode i.insn (i.insn.op - 42) u v.0 e.allowed, v.1), tt))
 
     written-suits : jumps_from op ≡ false → only_u1 (layout_of i.insn.op) ≡ true → (only_u1 (layout_of (i.insn.op - 46)) ≡ true) × (not (jumps (i.insn.op - 46)) ≡ true) → (k : Kind) (h : Option Home)
         → Each (IsItem s.method.code all) (field_written s i k h)
     written-suits j u v k None = kept-suits j
     written-suits j u v k (Some h) =
-        each-if (IsItem s.method.code all) (stays s h) (kept i) _ (kept-suits j)
+        each-if (IsItem s.method.code all) (stays s h) (itself i) _ (kept-suits j)
         (load-suits s.method.code all s small h, (swap-suits s.method.code all s small k, ((other-opcode i.insn (i.insn.op - 46) u v.0 e.allowed, v.1), tt)))
 
     -- ---- jumps
@@ -143,12 +139,12 @@ module _ (all : List Item) (s : Source) (small : (h : Home) → register s h < 2
 
     spill-if-suits : (over : Bool) (n : ℕ) → Each (IsItem s.method.code all) (spill_if over s i.place n)
     spill-if-suits over n =
-        each-if (IsItem s.method.code all) over (spill s (cells s i.place) ++ loads s (operands s i.place n)) []
-        (each-append (IsItem s.method.code all) (spill s (cells s i.place)) (loads s (operands s i.place n)) (spill-suits s.method.code all s small (cells s i.place)) (loads-suit s.method.code all s small (operands s i.place n))) tt
+        each-if (IsItem s.method.code all) over (spill s (stack_homes s i.place) ++ loads s (operands s i.place n)) []
+        (each-append (IsItem s.method.code all) (spill s (stack_homes s i.place)) (loads s (operands s i.place n)) (spill-suits s.method.code all s small (stack_homes s i.place)) (loads-suit s.method.code all s small (operands s i.place n))) tt
 
     branch-items : (n : ℕ) → operands_of s.world (Ok op) ≡ Some n → jumps_from op ≡ true → Each (IsItem s.method.code all) (branch s i op n)
     unfolding branch
-    branch-items n asks j = each-append (IsItem s.method.code all) (spill_if (is_over s i.place n) s i.place n) (jump_to i op _ ∷ []) (spill-if-suits (is_over s i.place n) n) (jump-suits n asks j, tt)
+    branch-items n asks j = each-append (IsItem s.method.code all) (spill_if (has_under s i.place n) s i.place n) (jump_to i op _ ∷ []) (spill-if-suits (has_under s i.place n) n) (jump-suits n asks j, tt)
 
     first-place-once : jumps_from op ≡ true → IsOnce all (first_place (targets s.method.code i))
     first-place-once j = by (targets s.method.code i) e.places (target-count (sym e.alike ∙ j))
@@ -160,20 +156,20 @@ module _ (all : List Item) (s : Source) (small : (h : Home) → register s h < 2
     gone-suits : jumps_from op ≡ true → Each (IsItem s.method.code all) (gone s i.place op (first_place (targets s.method.code i)))
     gone-suits j =
         let q = first_place (targets s.method.code i) in
-        each-append (IsItem s.method.code all) (spill s (cells s q)) (copies s (After i.place op) q ++ goto q ∷ []) (spill-suits s.method.code all s small (cells s q))
+        each-append (IsItem s.method.code all) (spill s (stack_homes s q)) (copies s (After i.place op) q ++ goto q ∷ []) (spill-suits s.method.code all s small (stack_homes s q))
         (each-append (IsItem s.method.code all) (copies s (After i.place op) q) (goto q ∷ []) (copies-suit s.method.code all s small (After i.place op) q) ((refl, first-place-once j), tt))
 
     -- ---- falling
 
     fall-suits : (q : ℕ) → Each (IsItem s.method.code all) (fall s i.place op q)
     fall-suits q =
-        each-append (IsItem s.method.code all) (if is_leader s q then spill s (cells s q) else []) (copies s (After i.place op) q)
-        (each-if (IsItem s.method.code all) (is_leader s q) (spill s (cells s q)) [] (spill-suits s.method.code all s small (cells s q)) tt) (copies-suit s.method.code all s small (After i.place op) q)
+        each-append (IsItem s.method.code all) (if is_leader s q then spill s (stack_homes s q) else []) (copies s (After i.place op) q)
+        (each-if (IsItem s.method.code all) (is_leader s q) (spill s (stack_homes s q)) [] (spill-suits s.method.code all s small (stack_homes s q)) tt) (copies-suit s.method.code all s small (After i.place op) q)
 
     fall-by-suits : (n : Option ℕ) (q : ℕ) → Each (IsItem s.method.code all) (fall_by s i.place op n q)
     fall-by-suits None q = fall-suits q
     fall-by-suits (Some n) q =
-        each-if (IsItem s.method.code all) (is_over s i.place n) (fall_over s i.place op n q) (fall s i.place op q)
+        each-if (IsItem s.method.code all) (has_under s i.place n) (fall_over s i.place op n q) (fall s i.place op q)
         (each-if (IsItem s.method.code all) (is_leader s q) (taken s i.place op n q) (copies s (After i.place op) q ++ loads s (under s i.place n)) (taken-suits s.method.code all s small i.place op n q)
         (each-append (IsItem s.method.code all) (copies s (After i.place op) q) (loads s (under s i.place n)) (copies-suit s.method.code all s small (After i.place op) q) (loads-suit s.method.code all s small (under s i.place n))))
         (fall-suits q)
@@ -228,8 +224,8 @@ module _ (all : List Item) (s : Source) (small : (h : Home) → register s h < 2
   done-suits i (Err fault) h = tt
   done-suits i (Ok op) h = each-append (IsItem s.method.code all) (body s i op) (fallen s i op) (body-suits i op (h op refl)) (fallen-suits i op (h op refl))
 
-  entered-suits : (p : ℕ) → Each (IsItem s.method.code all) (entered s p)
-  entered-suits p = (tt {0}, each-if (IsItem s.method.code all) (is_leader s p) (loads s (cells s p)) [] (loads-suit s.method.code all s small (cells s p)) tt)
+  entered-suits : (p : ℕ) → Each (IsItem s.method.code all) (entrance s p)
+  entered-suits p = (tt {0}, each-if (IsItem s.method.code all) (is_leader s p) (loads s (stack_homes s p)) [] (loads-suit s.method.code all s small (stack_homes s p)) tt)
 
   module _ (emitted : (i : Placed) (op : Operation) → Contains (listing s.method.code) i → is_some (s.frames i.place) ≡ true → operation s i ≡ Ok op → IsEmitted all s i op) where
     group-suits : (i : Placed) → Contains (listing s.method.code) i → Each (IsItem s.method.code all) (group s i)
@@ -239,7 +235,7 @@ module _ (all : List Item) (s : Source) (small : (h : Home) → register s h < 2
         by : (f : Option Frame) → s.frames i.place ≡ f → Each (IsItem s.method.code all) (group_by s i f)
         by None at = tt
         by (Some f) at =
-            each-append (IsItem s.method.code all) (entered s i.place) (done s i (operation s i)) (entered-suits i.place)
+            each-append (IsItem s.method.code all) (entrance s i.place) (done s i (operation s i)) (entered-suits i.place)
             (done-suits i (operation s i) (λ op is. emitted i op st (ap is_some at) is))
 
     stubs-suit : (i : Placed) → Contains (listing s.method.code) i → Each (IsItem s.method.code all) (stubs s i)
@@ -257,7 +253,7 @@ module _ (all : List Item) (s : Source) (small : (h : Home) → register s h < 2
     caught-suits : (n : ℕ) (h : Handler) → IsOnce all h.entry → Each (IsItem s.method.code all) (caught s n h)
     caught-suits n h once = (
       tt {0},
-      each-append (IsItem s.method.code all) (spill s (cells s h.entry)) (copies s (Entry h.entry) h.entry ++ goto h.entry ∷ []) (spill-suits s.method.code all s small (cells s h.entry))
+      each-append (IsItem s.method.code all) (spill s (stack_homes s h.entry)) (copies s (Entry h.entry) h.entry ++ goto h.entry ∷ []) (spill-suits s.method.code all s small (stack_homes s h.entry))
           (each-append (IsItem s.method.code all) (copies s (Entry h.entry) h.entry) (goto h.entry ∷ []) (copies-suit s.method.code all s small (Entry h.entry) h.entry) ((refl, once), tt)),
     )
 

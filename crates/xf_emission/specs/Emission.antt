@@ -19,7 +19,7 @@ use Rattle.xf_homes.specs.declared.home.Home.{Home}
 use Rattle.xf_homes.specs.Order.{register_sum}
 use Rattle.xf_homes.specs.Walk.{operands_of}
 use Rattle.xf_plan.specs.Source.{Source}
-use Rattle.xf_plan.specs.Plan.{cells, first_reached, operation}
+use Rattle.xf_plan.specs.Plan.{stack_homes, first_reached, operation}
 use Rattle.xf_emission.specs.declared.origin.Origin.TheVariants.{Start, Entry}
 use Rattle.xf_emission.specs.Move.{spill}
 use Rattle.xf_emission.specs.Edge.{copies}
@@ -53,7 +53,7 @@ is_live s h = nat_lt (first_reached s h.start) h.end
 -- where it takes over: the caught object goes into the home of the entry's only cell
 abbrev pub caught : Source → ℕ → Handler → List Item
 caught s n h =
-    Label (handler_label n) ∷ spill s (cells s h.entry) ++ (copies s (Entry h.entry) h.entry ++ goto h.entry ∷ [])
+    Label (handler_label n) ∷ spill s (stack_homes s h.entry) ++ (copies s (Entry h.entry) h.entry ++ goto h.entry ∷ [])
 
 -- the stubs of live handlers, from the n-th on
 abbrev pub caught_from : Source → ℕ → List Handler → List Item
@@ -99,7 +99,7 @@ rewritten s = record {
 }
 
 -- the symbols are those of the method, whose leaders are what control comes together at
-pub record IsRewritten (w : Linked) (m : Method) (frames : ℕ → Option Frame) (homes : List Home) (symbols : Symbols) : Type 0 where
+pub record AreSymbolsOf (w : Linked) (m : Method) (frames : ℕ → Option Frame) (homes : List Home) (symbols : Symbols) : Type 0 where
   pub leaders : List Bool
   pub marked : Marks (IsLeader m) leaders
   pub are :

@@ -18,25 +18,25 @@ use Rattle.jc_rules.specs.Demand.{Frame}
 use Rattle.xf_homes.specs.declared.home.Home.{Home}
 use Rattle.xf_homes.specs.Walk.{operands_of}
 use Rattle.xf_plan.specs.Source.{Source}
-use Rattle.xf_plan.specs.Plan.{register, local, needed, cells, is_leader, operation}
+use Rattle.xf_plan.specs.Plan.{register, local, needed, stack_homes, is_leader, operation}
 use Rattle.xf_emission.specs.declared.origin.Origin.TheVariants.{After}
 use Rattle.xf_emission.specs.Move.{with_byte, load, store, copy, loads, spill}
 use Rattle.xf_emission.specs.Edge.{copies}
-use Rattle.xf_emission.specs.Jump.{branch, goto, is_over, place, taken, under}
+use Rattle.xf_emission.specs.Jump.{branch, goto, has_under, place, taken, under}
 
-abbrev pub kept : Placed → List Item
-kept i = Plain i.insn ∷ []
+abbrev pub itself : Placed → List Item
+itself i = Plain i.insn ∷ []
 
 -- ---- the forms
 
 -- a load of a local, from its home at the place
 abbrev pub loaded : Source → Placed → Option Home → List Item
-loaded s i None = kept i
+loaded s i None = itself i
 loaded s i (Some h) = load s h ∷ []
 
 -- an increment of a local, in its home at the place
 abbrev pub increased : Source → Placed → Option Home → List Item
-increased s i None = kept i
+increased s i None = itself i
 increased s i (Some h) = Plain (record i.insn { x = pos (register s h) }) ∷ []
 
 -- pop, or pop2 for an int
@@ -55,8 +55,8 @@ stays s h = register s h == 0
 
 -- getfield_<t>_this as getfield_<t> of the loaded object
 abbrev pub field_read : Source → Placed → Option Home → List Item
-field_read s i None = kept i
-field_read s i (Some h) = if stays s h then kept i else load s h ∷ Plain (record i.insn { op = i.insn.op - 42 }) ∷ []
+field_read s i None = itself i
+field_read s i (Some h) = if stays s h then itself i else load s h ∷ Plain (record i.insn { op = i.insn.op - 42 }) ∷ []
 
 -- how swap_x puts an object under a value: the words above and under it, in four bits each
 abbrev pub swap_words : Kind → ℕ
@@ -65,14 +65,14 @@ swap_words k = 17
 
 -- putfield_<t>_this as putfield_<t> of the object that is loaded and put under the value
 abbrev pub field_written : Source → Placed → Kind → Option Home → List Item
-field_written s i k None = kept i
+field_written s i k None = itself i
 field_written s i k (Some h) =
-    if stays s h then kept i
+    if stays s h then itself i
     else load s h ∷ Plain (with_byte 64 (swap_words k)) ∷ Plain (record i.insn { op = i.insn.op - 46 }) ∷ []
 
 -- goto: the stack goes into the homes of the target's cells, and then come the copies of locals
 abbrev pub gone : Source → ℕ → Operation → ℕ → List Item
-gone s p op q = spill s (cells s q) ++ (copies s (After p op) q ++ goto q ∷ [])
+gone s p op q = spill s (stack_homes s q) ++ (copies s (After p op) q ++ goto q ∷ [])
 
 -- the place of the first target
 abbrev pub first_place : List ℤ → ℕ
@@ -80,7 +80,7 @@ first_place [] = 0
 first_place (t ∷ ts) = place t
 
 abbrev pub branch_by : Source → Placed → Operation → Option ℕ → List Item
-branch_by s i op None = kept i
+branch_by s i op None = itself i
 branch_by s i op (Some n) = branch s i op n
 
 -- the instruction of an operation
@@ -97,7 +97,7 @@ body s i op = branch_by s i op (operands_of s.world (Ok op))
 
 -- into a place: the stack goes into the homes of its cells where it is a leader, and then come the copies of locals
 abbrev pub fall : Source → ℕ → Operation → ℕ → List Item
-fall s p op q = (if is_leader s q then spill s (cells s q) else []) ++ copies s (After p op) q
+fall s p op q = (if is_leader s q then spill s (stack_homes s q) else []) ++ copies s (After p op) q
 
 -- from a conditional that keeps its stack in homes: the cells under its operands are copied to the homes of a leader, or go on the
 -- stack again
@@ -108,7 +108,7 @@ fall_over s p op n q =
 
 abbrev pub fall_by : Source → ℕ → Operation → Option ℕ → ℕ → List Item
 fall_by s p op None q = fall s p op q
-fall_by s p op (Some n) q = if is_over s p n then fall_over s p op n q else fall s p op q
+fall_by s p op (Some n) q = if has_under s p n then fall_over s p op n q else fall s p op q
 
 -- what comes after the instruction, where control may fall into the next place
 unfoldable pub fallen : Source → Placed → Operation → List Item
@@ -116,8 +116,8 @@ fallen s i op = if falls_from op then fall_by s i.place op (operands_of s.world 
 
 -- ---- groups
 
-abbrev pub entered : Source → ℕ → List Item
-entered s p = Label p ∷ (if is_leader s p then loads s (cells s p) else [])
+abbrev pub entrance : Source → ℕ → List Item
+entrance s p = Label p ∷ (if is_leader s p then loads s (stack_homes s p) else [])
 
 abbrev pub done : Source → Placed → Result Operation RuleFault → List Item
 done s i (Err fault) = []
@@ -125,7 +125,7 @@ done s i (Ok op) = body s i op ++ fallen s i op
 
 abbrev pub group_by : Source → Placed → Option Frame → List Item
 group_by s i None = []
-group_by s i (Some f) = entered s i.place ++ done s i (operation s i)
+group_by s i (Some f) = entrance s i.place ++ done s i (operation s i)
 
 -- the group of an instruction that control reaches: the label of its place, the loads of a leader's stack, the instruction, and the way
 -- into the next place

@@ -11,7 +11,7 @@ use Rattle.jc_ops.specs.declared.operation.Operation.TheVariants as ops
 use Rattle.xf_homes.specs.declared.home.Home.{Home}
 use Rattle.xf_homes.specs.Home.{register_count}
 use Rattle.xf_plan.specs.Source.{Source}
-use Rattle.xf_plan.specs.Plan.{cells, depth}
+use Rattle.xf_plan.specs.Plan.{stack_homes, depth}
 use Rattle.xf_emission.specs.declared.origin.Origin.TheVariants.{After}
 use Rattle.xf_emission.specs.Move.{loads, spill}
 use Rattle.xf_emission.specs.Edge.{copies, cell_copies}
@@ -35,23 +35,23 @@ cut s p n = register_count s.method.rec + (depth s p - n)
 
 -- the homes of the cells under the operands, and of the operands
 unfoldable pub under : Source → ℕ → ℕ → List Home
-under s p n = filter (λ h. nat_lt h.slot (cut s p n)) (cells s p)
+under s p n = filter (λ h. nat_lt h.slot (cut s p n)) (stack_homes s p)
 
 unfoldable pub operands : Source → ℕ → ℕ → List Home
-operands s p n = filter (λ h. nat_le (cut s p n) h.slot) (cells s p)
+operands s p n = filter (λ h. nat_le (cut s p n) h.slot) (stack_homes s p)
 
 -- the stack is deeper than the operands, and so is kept in its own homes
-abbrev pub is_over : Source → ℕ → ℕ → Bool
-is_over s p n = nat_lt n (depth s p)
+abbrev pub has_under : Source → ℕ → ℕ → Bool
+has_under s p n = nat_lt n (depth s p)
 
 abbrev pub spill_if : Bool → Source → ℕ → ℕ → List Item
-spill_if over s p n = if over then spill s (cells s p) ++ loads s (operands s p n) else []
+spill_if over s p n = if over then spill s (stack_homes s p) ++ loads s (operands s p n) else []
 
 -- ---- edges
 
 -- what has to be copied where the branch at p, with operands of n cells, is taken to q: cells, then locals
 unfoldable pub taken : Source → ℕ → Operation → ℕ → ℕ → List Item
-taken s p op n q = cell_copies s (under s p n) (cells s q) ++ copies s (After p op) q
+taken s p op n q = cell_copies s (under s p n) (stack_homes s q) ++ copies s (After p op) q
 
 -- the place of a target, which in a well-formed method is one
 abbrev pub place : ℤ → ℕ
@@ -82,7 +82,7 @@ jump_to i op labels = Branch (wide i.insn.op) (first_label labels)
 -- a conditional branch or switch with operands of n cells
 unfoldable pub branch : Source → Placed → Operation → ℕ → List Item
 branch s i op n =
-    spill_if (is_over s i.place n) s i.place n
+    spill_if (has_under s i.place n) s i.place n
     ++ jump_to i op (leads s i.place op n 0 (targets s.method.code i)) ∷ []
 
 -- ---- stubs

@@ -37,14 +37,14 @@ use Rattle.xf_homes.specs.Order.{register_sum}
 use Rattle.xf_homes.specs.Value.{width}
 use Rattle.xf_homes.proofs.Meeting.{value-inside}
 use Rattle.xf_plan.specs.Source.{Source}
-use Rattle.xf_plan.specs.Plan.{cells, is_leader, needed, operation}
+use Rattle.xf_plan.specs.Plan.{stack_homes, is_leader, needed, operation}
 use Rattle.xf_emission.specs.declared.origin.Origin.TheVariants.{After}
 use Rattle.xf_emission.specs.Edge.{copies, is_stored}
 use Rattle.xf_emission.specs.Move.{spill}
 use Rattle.xf_emission.specs.Group.{body, fall, fallen, group}
 use Rattle.xf_typing.specs.Planned.{Keeps}
 use Rattle.xf_typing.specs.Edges.{CellsFillStack, LeadsTo, NeededHaveHomes, leads_after}
-use Rattle.xf_held.specs.Edges.{AreCarried, AreSpilled, CellsAreFew, CopiesAreFew, EdgesRun, HoldsAfter, IsBeside, KeptStacksStay, StacksSpill, insns, moved}
+use Rattle.xf_held.specs.Edges.{AreCarried, AreSpilled, CellsAreFew, CopiesAreFew, EdgesRun, HoldsAfter, IsBeside, KeptStacksStay, StacksSpill, insns, top_at}
 use Rattle.xf_held.specs.Held.{Held, Holds, HoldsLocals, Waits, slots}
 use Rattle.xf_held.specs.Moves.{IsAtStep}
 use Rattle.xf_held.proofs.Beside.{each-among, among-each, held-as}
@@ -191,7 +191,7 @@ module _ (v w : Linked) (s : Source) (place : ℕ → ℕ) (laid : IsLaidIn v w 
       (q : ℕ) (h : Home)
       → KeepsStack s.world s.method s.frames q
       → IsReached s.method q
-      → IsAmong h (cells s q)
+      → IsAmong h (stack_homes s q)
       → HasRegister s.homes h
   kept-registers q h keeps reached among = by (s.frames q) refl ((laid.planned.frames.reached q).1 reached)
     where
@@ -199,7 +199,7 @@ module _ (v w : Linked) (s : Source) (place : ℕ → ℕ) (laid : IsLaidIn v w 
       by None e some = absurd (cc)
       by (Some f) e some =
           let k = fill s laid.world laid.planned q f e keeps in
-          (among-each (Keeps s) (cells s q) h k.keep among).has
+          (among-each (Keeps s) (stack_homes s q) h k.keep among).has
 
 -- ---- falling
 
@@ -273,7 +273,7 @@ module _
         (falls_through (goes-on s.world s.method.rec i.place i.insn op (sym does) falls)))
 
     abbrev arrived : List Cell → List Cell → State Cell
-    arrived registers stack = moved u (place (group_at s q)) registers stack
+    arrived registers stack = top_at u (place (group_at s q)) registers stack
 
     -- at the group, with these registers and this stack
     arrives :
@@ -304,7 +304,7 @@ module _
     plain-falls : is_leader s q ≡ false → Arrives z t y u 765
     plain-falls e =
         let cs = copies s (After i.place op) q in
-        let is : fallen s i op ≡ cs = fallen-is ∙ ap (λ b. (if b then spill s (cells s q) else []) ++ cs) e in
+        let is : fallen s i op ≡ cs = fallen-is ∙ ap (λ b. (if b then spill s (stack_homes s q) else []) ++ cs) e in
         let own = steps-here v w s place laid stand follow i op stands reached does in
         let st : ItemsStandFrom s m cs = stand-as s m (fallen s i op) cs is own.fallen_steps in
         let moves = copies-move s (After i.place op) q in
@@ -320,7 +320,7 @@ module _
         (moves-stand s m cs moves st) (omega (arith, depth_is, fits)) after.holds in
         let last : m + length (insns cs) ≡ group_at s q = let g = group-is in omega (arith, g, all, size) in
         let run : Runs tagged w (length (insns cs)) u (running (arrived c.registers (top u).stack)) =
-        subst (λ k. Runs tagged w (length (insns cs)) u (running (moved u (place k) c.registers (top u).stack))) last c.runs in
+        subst (λ k. Runs tagged w (length (insns cs)) u (running (top_at u (place k) c.registers (top u).stack))) last c.runs in
         let small = few_copies s (After i.place op) q laid.world laid.planned leads in
         arrives (length (insns cs)) c.registers (top u).stack (omega (arith, small)) run c.count
         (other-holds v w s place laid (top y) (top (arrived c.registers (top u).stack)) e
@@ -337,15 +337,15 @@ module _
     leader-falls : is_leader s q ≡ true → Arrives z t y u 765
     leader-falls e =
         let cs = copies s (After i.place op) q in
-        let sp = spill s (cells s q) in
+        let sp = spill s (stack_homes s q) in
         let is : fallen s i op ≡ sp ++ cs = fallen-is ∙ ap (λ b. (if b then sp else []) ++ cs) e in
         let own = steps-here v w s place laid stand follow i op stands reached does in
         let whole : ItemsStandFrom s m (sp ++ cs) = stand-as s m (fallen s i op) (sp ++ cs) is own.fallen_steps in
         let moves = copies-move s (After i.place op) q in
-        let first_moves = spill-moves s (cells s q) in
+        let first_moves = spill-moves s (stack_homes s q) in
         let size : count_of cs ≡ length (insns cs) = count-moves cs moves in
-        let first_size : count_of sp ≡ length (cells s q) =
-        count-moves sp first_moves ∙ (spill-count s (cells s q) ∙ length-reverse (cells s q)) in
+        let first_size : count_of sp ≡ length (stack_homes s q) =
+        count-moves sp first_moves ∙ (spill-count s (stack_homes s q) ∙ length-reverse (stack_homes s q)) in
         let all = ap count_of is in
         let both = count-append sp cs in
         let within = inside in
@@ -354,10 +354,10 @@ module _
         let bare : (top u).stack ≡ (top y).stack =
         after.stack ∙ stay s q (top y) u (rename s place) laid.world laid.planned near keeps in
         let a = spills place (steps_of s) u m s q (top y) laid.world laid.planned near keeps
-        (at-step v w s place laid u m (length (cells s q)) runs after.of.target at (omega (arith, size, first_size, all, both, within)))
+        (at-step v w s place laid u m (length (stack_homes s q)) runs after.of.target at (omega (arith, size, first_size, all, both, within)))
         (moves-stand s m sp first_moves (stand-first s m sp cs whole)) bare in
-        let n : ℕ = m + length (cells s q) in
-        let u1 : State Cell = moved u (place n) a.registers [] in
+        let n : ℕ = m + length (stack_homes s q) in
+        let u1 : State Cell = top_at u (place n) a.registers [] in
         let of1 : AreOf s (top y) (top u1) =
         record { source = after.of.source; target = after.of.target; count = a.count ∙ after.of.count } in
         let from_p : IsReached s.method i.place = (laid.planned.frames.reached i.place).0 reached in
@@ -374,21 +374,21 @@ module _
         (moves-stand s n cs moves rest) (omega arith) holds1 in
         let last : n + length (insns cs) ≡ group_at s q = let g = group-is in omega (arith, g, all, both, size, first_size) in
         let second : Runs tagged w (length (insns cs)) u1 (running (arrived c.registers [])) =
-        subst (λ k. Runs tagged w (length (insns cs)) u1 (running (moved u1 (place k) c.registers []))) last c.runs in
-        let run = runs-then w (length (cells s q)) (length (insns cs)) u u1 (running (arrived c.registers [])) a.runs second in
+        subst (λ k. Runs tagged w (length (insns cs)) u1 (running (top_at u1 (place k) c.registers []))) last c.runs in
+        let run = runs-then w (length (stack_homes s q)) (length (insns cs)) u u1 (running (arrived c.registers [])) a.runs second in
         let small = few_copies s (After i.place op) q laid.world laid.planned leads in
         let low = few_cells s q laid.world laid.planned keeps in
         let limit = laid.room in
-        arrives (length (cells s q) + length (insns cs)) c.registers [] (omega (arith, small, low, limit)) run (c.count ∙ a.count)
+        arrives (length (stack_homes s q) + length (insns cs)) c.registers [] (omega (arith, small, low, limit)) run (c.count ∙ a.count)
         (leader-holds v w s place laid (top y) (top (arrived c.registers [])) e
         (record {
           stack = refl;
           cells =
-              each-among (Holds s (slots (top y)) (top (arrived c.registers []))) (cells s q)
+              each-among (Holds s (slots (top y)) (top (arrived c.registers []))) (stack_homes s q)
               (λ h among. held-as s (slots (top y)) (record (top u1) { registers = c.registers }) (top (arrived c.registers [])) h refl
               (c.others h (kept-registers v w s place laid fill q h (leader-keeps v w s place laid q e) typed.reached among)
               (held-as s (slots (top y)) (record (top u) { registers = a.registers }) (top u1) h refl
-              (among-each (Holds s (slots (top y)) (record (top u) { registers = a.registers })) (cells s q) h a.cells among))));
+              (among-each (Holds s (slots (top y)) (record (top u) { registers = a.registers })) (stack_homes s q) h a.cells among))));
           locals = λ x.
               each-among (Holds s (top y).registers (top (arrived c.registers []))) (needed s q x)
               (λ h among. held-as s (top y).registers (record (top u1) { registers = c.registers }) (top (arrived c.registers [])) h refl

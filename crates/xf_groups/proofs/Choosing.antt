@@ -51,12 +51,12 @@ use Rattle.xf_homes.specs.Walk.{operands_of}
 use Rattle.xf_homes.proofs.Rising.{each-map}
 use Rattle.xf_landed.specs.Laws.{DemandsAreKept, OperationsAreKept}
 use Rattle.xf_plan.specs.Source.{Source}
-use Rattle.xf_plan.specs.Plan.{cells, is_leader, needed, operation}
+use Rattle.xf_plan.specs.Plan.{stack_homes, is_leader, needed, operation}
 use Rattle.xf_emission.specs.declared.origin.Origin.TheVariants.{After}
 use Rattle.xf_emission.specs.Edge.{is_stored}
 use Rattle.xf_emission.specs.Emission.{items}
 use Rattle.xf_emission.specs.Group.{body, fall, fall_by, fall_over, fallen}
-use Rattle.xf_emission.specs.Jump.{goto, is_over, jump_to, label_by, lead, place as place_named, stub, stub_label, stub_of, taken, under}
+use Rattle.xf_emission.specs.Jump.{goto, has_under, jump_to, label_by, lead, place as place_named, stub, stub_label, stub_of, taken, under}
 use Rattle.xf_typing.specs.Edges.{AreMatched, CellsFillStack, ForksMatch, LeadsTo, NeededHaveHomes, leads_after, more_matched, none_matched}
 use Rattle.vm_sound.proofs.Branches.{targets-are}
 use Rattle.xf_held.specs.Edges.{CellsAreFew, CellsRun, CopiesAreFew, EdgesRun, HoldsAfter, KeptStacksStay, LeadersLoad, StacksSpill}
@@ -116,7 +116,7 @@ fallen-alone :
     (s : Source) (i : Placed) (op : Operation) (n : ℕ)
     → falls_from op ≡ true
     → operands_of s.world (Ok op) ≡ Some n
-    → is_over s i.place n ≡ false
+    → has_under s i.place n ≡ false
     → fallen s i op ≡ fall s i.place op (i.place + i.insn.len)
 unfolding fallen
 fallen-alone s i op n falls some alone =
@@ -235,13 +235,13 @@ module _
               not-none x xs e = absurd (cc)
 
   -- where no cells are kept the stack is empty
-  no-stack : (y : State Cell) → IsTypedAt v s y → is_leader s (top y).place ≡ true → cells s (top y).place ≡ [] → (top y).stack ≡ []
+  no-stack : (y : State Cell) → IsTypedAt v s y → is_leader s (top y).place ≡ true → stack_homes s (top y).place ≡ [] → (top y).stack ≡ []
   unfolding register_sum
   no-stack y typed leader none =
       let q : ℕ = (top y).place in
       let g = frame-at v w s place laid q (reached-some v w s place laid q typed.reached) in
       let k = fill s laid.world laid.planned q g.0 g.1 (leader-keeps v w s place laid q leader) in
-      let zero_cells : register_sum (cells s q) ≡ 0 = ap register_sum none in
+      let zero_cells : register_sum (stack_homes s q) ≡ 0 = ap register_sum none in
       let filled = k.fill in
       let below : FrameBelow v.classes (types_in v.classes Top (kinds y) (top y)) g.0 =
       subst (λ o. IsSomeAnd o (FrameBelow v.classes (types_in v.classes Top (kinds y) (top y)))) g.1 typed.below in
@@ -262,7 +262,7 @@ module _
       → is_some (s.frames i.place) ≡ true
       → operation s i ≡ Ok op
       → operands_of s.world (Ok op) ≡ Some n
-      → is_over s i.place n ≡ false
+      → has_under s i.place n ≡ false
       → count_of (body s i op) ≡ 1
       → (top y).method ≡ s.method.number
       → Runs tagged w 1 u p
@@ -317,7 +317,7 @@ module _
       let g = frame-at v w s place laid i.place reached in
       let m = match s laid.world laid.planned i op n q g.0 stands g.1 does some (jumped among) leader in
       let none = under-none s i.place n alone in
-      let no_cells_there : cells s q ≡ [] = none-beside s m none in
+      let no_cells_there : stack_homes s q ≡ [] = none-beside s m none in
       let y_bare : (top y).stack ≡ [] = no-stack y typed leader no_cells_there in
       let bare : (top x).stack ≡ [] = a.stack ∙ ap (map (renamed_cell (rename s place))) y_bare in
       let before : HoldsAfter s i.place op q (top y) (top x) =
@@ -360,7 +360,7 @@ module _
       → StaysTyped v s o
       → Executes v z i op
       → operands_of v (Ok op) ≡ Some n
-      → is_over s i.place n ≡ false
+      → has_under s i.place n ≡ false
       → GroupRuns v w s place z t o
   unfolding turn-by
   alone-group z t o i op n typed group equal step stays ex some alone =

@@ -15,7 +15,7 @@ use Rattle.jc_rules.specs.Demand.{SatisfiesAll}
 use Rattle.jc_rules.specs.Footprint.{footprint}
 use Rattle.jc_rules.specs.Rule.{demands}
 use Rattle.vm_sound.specs.Frames.{types_in}
-use Rattle.vm_sound.proofs.Turns.{passes-before}
+use Rattle.vm_sound.proofs.Passing.{passes-before}
 use Rattle.vm_store.specs.declared.cell.Cell.{Cell}
 use Rattle.vm_store.specs.Cells.{tagged}
 use Rattle.vm_store.specs.State.{State, Frame, Object, top, with_place, with_stack}
@@ -174,7 +174,7 @@ module _
         → settled tagged v next cut a ≡ p
         → Steps tagged v cut p
     steps-cut a p does asks leads =
-        let before : fault_before tagged v op cut ≡ None = passes-before v world (top cut) below heap statics op asks in
+        let before : fault_before tagged v op cut ≡ None = passes-before v world.chains (top cut) below heap statics op asks in
         performs fetched-too op ex.resolved
         (sym (ap (λ x. unless_fault cut x (settled tagged v next cut (act tagged v i.insn op cut))) before
         ∙ (ap (settled tagged v next cut) does ∙ leads)))

@@ -36,17 +36,17 @@ use Rattle.xf_homes.specs.Walk.{operands_of}
 use Rattle.xf_homes.proofs.Rising.{each-map}
 use Rattle.xf_landed.specs.Laws.{DemandsAreKept, OperationsAreKept}
 use Rattle.xf_plan.specs.Source.{Source}
-use Rattle.xf_plan.specs.Plan.{cells, is_leader, needed, operation}
+use Rattle.xf_plan.specs.Plan.{stack_homes, is_leader, needed, operation}
 use Rattle.xf_emission.specs.declared.origin.Origin.TheVariants.{After}
 use Rattle.xf_emission.specs.Edge.{copies, is_stored}
 use Rattle.xf_emission.specs.Emission.{items}
 use Rattle.xf_emission.specs.Group.{body, fall, fall_by, fall_over, fallen}
-use Rattle.xf_emission.specs.Jump.{branch, is_over, jump_to, lead, leads, operands, spill_if, taken, under}
+use Rattle.xf_emission.specs.Jump.{branch, has_under, jump_to, lead, leads, operands, spill_if, taken, under}
 use Rattle.xf_emission.specs.Move.{loads, spill}
 use Rattle.xf_typing.specs.Edges.{CellsFillStack, ForksAreCut, ForksMatch, IsForkedAt, LeadsTo, NeededHaveHomes, leads_after}
 use Rattle.xf_typing.proofs.Forking.{each-left}
 use Rattle.vm_sound.proofs.Branches.{targets-are}
-use Rattle.xf_held.specs.Edges.{CellsAreFew, CellsRun, CopiesAreFew, EdgesRun, HoldsAfter, IsBeside, KeptStacksStay, LeadersLoad, OperandsLoad, StacksSpill, UnderHold, UnderLoads, insns, moved}
+use Rattle.xf_held.specs.Edges.{CellsAreFew, CellsRun, CopiesAreFew, EdgesRun, HoldsAfter, IsBeside, KeptStacksStay, LeadersLoad, OperandsLoad, StacksSpill, UnderHold, UnderLoads, insns, top_at}
 use Rattle.xf_held.specs.Held.{Held, Holds, HoldsLocals, slots}
 use Rattle.xf_held.specs.Laws.{KeptRunAlike, LocalsStay, NamesNoneWritesNone, StepsExecute}
 use Rattle.xf_held.proofs.Beside.{among-each, each-among, held-as}
@@ -76,8 +76,8 @@ use Rattle.xf_groups.proofs.Taking.{led-arrives, taken-falls}
 
 branch-over :
     (s : Source) (i : Placed) (op : Operation) (n : ℕ)
-    → is_over s i.place n ≡ true
-    → branch s i op n ≡ (spill s (cells s i.place) ++ loads s (operands s i.place n)) ++ jump_to i op (labels_of s i op n) ∷ []
+    → has_under s i.place n ≡ true
+    → branch s i op n ≡ (spill s (stack_homes s i.place) ++ loads s (operands s i.place n)) ++ jump_to i op (labels_of s i op n) ∷ []
 unfolding branch
 branch-over s i op n e =
     ap (λ b. spill_if b s i.place n ++ jump_to i op (leads s i.place op n 0 (targets s.method.code i)) ∷ []) e
@@ -86,7 +86,7 @@ fallen-over :
     (s : Source) (i : Placed) (op : Operation) (n : ℕ)
     → falls_from op ≡ true
     → operands_of s.world (Ok op) ≡ Some n
-    → is_over s i.place n ≡ true
+    → has_under s i.place n ≡ true
     → fallen s i op ≡ fall_over s i.place op n (i.place + i.insn.len)
 unfolding fallen
 fallen-over s i op n falls some over =
@@ -107,7 +107,7 @@ module _
     (few_copies : CopiesAreFew v) (few_cells : CellsAreFew v)
     (z t : State Cell) (o : Outcome Cell) (i : Placed) (op : Operation) (n : ℕ) (typed : IsTypedAt v s z)
     (stands : HasInstruction s.method.code i) (reached : is_some (s.frames i.place) ≡ true) (does : operation s i ≡ Ok op)
-    (here : (top z).place ≡ i.place) (ex : Executes v z i op) (some : operands_of v (Ok op) ≡ Some n) (over : is_over s i.place n ≡ true)
+    (here : (top z).place ≡ i.place) (ex : Executes v z i op) (some : operands_of v (Ok op) ≡ Some n) (over : has_under s i.place n ≡ true)
     (stays : StaysTyped v s o) where
   abbrev p : ℕ
   p = i.place
@@ -146,16 +146,16 @@ module _
 
   -- the number of the step of the branch
   abbrev m : ℕ
-  m = body_at s i.place + length (cells s i.place) + length (operands s i.place n)
+  m = body_at s i.place + length (stack_homes s i.place) + length (operands s i.place n)
 
   whole-is :
-      body s i op ≡ (spill s (cells s i.place) ++ loads s (operands s i.place n)) ++ jump_to i op (labels_of s i op n) ∷ []
+      body s i op ≡ (spill s (stack_homes s i.place) ++ loads s (operands s i.place n)) ++ jump_to i op (labels_of s i op n) ∷ []
   whole-is = body-branch s i op n own-some ∙ branch-over s i op n over
 
-  spill-size : count_of (spill s (cells s i.place)) ≡ length (cells s i.place)
+  spill-size : count_of (spill s (stack_homes s i.place)) ≡ length (stack_homes s i.place)
   spill-size =
-      count-moves (spill s (cells s i.place)) (spill-moves s (cells s i.place))
-      ∙ (spill-count s (cells s i.place) ∙ length-reverse (cells s i.place))
+      count-moves (spill s (stack_homes s i.place)) (spill-moves s (stack_homes s i.place))
+      ∙ (spill-count s (stack_homes s i.place) ∙ length-reverse (stack_homes s i.place))
 
   load-size : count_of (loads s (operands s i.place n)) ≡ length (operands s i.place n)
   load-size = count-loads s (operands s i.place n)
@@ -163,20 +163,20 @@ module _
   body-size : body_at s i.place + count_of (body s i op) ≡ m + 1
   body-size =
       let all = ap count_of whole-is in
-      let one = count-append (spill s (cells s i.place) ++ loads s (operands s i.place n)) (jump_to i op (labels_of s i op n) ∷ []) in
-      let two = count-append (spill s (cells s i.place)) (loads s (operands s i.place n)) in
+      let one = count-append (spill s (stack_homes s i.place) ++ loads s (operands s i.place n)) (jump_to i op (labels_of s i op n) ∷ []) in
+      let two = count-append (spill s (stack_homes s i.place)) (loads s (operands s i.place n)) in
       let three = one-jump v i op n (labels_of s i op n) some in
       let a = spill-size in
       let b = load-size in
       omega (arith, all, one, two, three, a, b)
 
-  few-operands : length (operands s i.place n) ≤ length (cells s i.place)
+  few-operands : length (operands s i.place n) ≤ length (stack_homes s i.place)
   few-operands =
       let parts = ap length cut-here.2.parts in
       let both = length-append (under s i.place n) (operands s i.place n) in
       omega (arith, parts, both)
 
-  few-under : length (under s i.place n) ≤ length (cells s i.place)
+  few-under : length (under s i.place n) ≤ length (stack_homes s i.place)
   few-under =
       let parts = ap length cut-here.2.parts in
       let both = length-append (under s i.place n) (operands s i.place n) in
@@ -199,9 +199,9 @@ module _
     registers : List Cell
     count : ℕ
     few : count ≤ 510
-    runs : Runs tagged w count u (running (moved u (place m) registers (take n (top z).stack)))
+    runs : Runs tagged w count u (running (top_at u (place m) registers (take n (top z).stack)))
     same : length registers ≡ length (top u).registers
-    kept : Each (Holds s (slots (top z)) (record (top u) { registers = registers })) (cells s i.place)
+    kept : Each (Holds s (slots (top z)) (record (top u) { registers = registers })) (stack_homes s i.place)
     locals : HoldsLocals s i.place (top z) (record (top u) { registers = registers })
 
   readied :
@@ -213,7 +213,7 @@ module _
       → Held (renamed_cell (rename s place)) s i.place (top z) (top u)
       → IsReady u
   readied u heap goes of at held =
-      let sp = spill s (cells s i.place) in
+      let sp = spill s (stack_homes s i.place) in
       let ls = loads s (operands s i.place n) in
       let jm = jump_to i op (labels_of s i op n) ∷ [] in
       let own = steps-here v w s place laid stand follow i op stands reached does in
@@ -228,11 +228,11 @@ module _
       let b_size = load-size in
       let bare : (top u).stack ≡ (top z).stack = held.stack ∙ unmade u heap of in
       let a = spills place (steps_of s) u (body_at s i.place) s i.place (top z) laid.world laid.planned (near u heap of) keeps
-      (at-step v w s place laid u (body_at s i.place) (length (cells s i.place)) goes of.target at
+      (at-step v w s place laid u (body_at s i.place) (length (stack_homes s i.place)) goes of.target at
       (omega (arith, all, one, two, three, a_size, b_size)))
-      (moves-stand s (body_at s i.place) sp (spill-moves s (cells s i.place)) (stand-first s (body_at s i.place) sp ls first)) bare in
-      let k : ℕ = body_at s i.place + length (cells s i.place) in
-      let ua : State Cell = moved u (place k) a.registers [] in
+      (moves-stand s (body_at s i.place) sp (spill-moves s (stack_homes s i.place)) (stand-first s (body_at s i.place) sp ls first)) bare in
+      let k : ℕ = body_at s i.place + length (stack_homes s i.place) in
+      let ua : State Cell = top_at u (place k) a.registers [] in
       let of_a : AreOf s (top z) (top ua) = record { source = of.source; target = of.target; count = a.count ∙ of.count } in
       let rest : ItemsStandFrom s k ls =
       stand-at s (body_at s i.place + count_of sp) k ls (ap (λ r. body_at s i.place + r) a_size)
@@ -241,19 +241,19 @@ module _
       (at-step v w s place laid ua k (length (operands s i.place n)) (omega arith) of.target refl
       (omega (arith, all, one, two, three, a_size, b_size)))
       (moves-stand s k ls (loads-move s (operands s i.place n)) rest) refl
-      (each-among (Holds s (slots (top z)) (top ua)) (cells s i.place)
+      (each-among (Holds s (slots (top z)) (top ua)) (stack_homes s i.place)
       (λ h among. held-as s (slots (top z)) (record (top u) { registers = a.registers }) (top ua) h refl
-      (among-each (Holds s (slots (top z)) (record (top u) { registers = a.registers })) (cells s i.place) h a.cells among))) in
+      (among-each (Holds s (slots (top z)) (record (top u) { registers = a.registers })) (stack_homes s i.place) h a.cells among))) in
       let low = few_cells s i.place laid.world laid.planned keeps in
       let limit = laid.room in
       let few_too = few-operands in
       record {
         registers = a.registers;
-        count = length (cells s i.place) + length (operands s i.place n);
+        count = length (stack_homes s i.place) + length (operands s i.place n);
         few = omega (arith, low, limit, few_too);
         runs =
-            runs-then w (length (cells s i.place)) (length (operands s i.place n)) u ua
-            (running (moved u (place m) a.registers (take n (top z).stack))) a.runs run;
+            runs-then w (length (stack_homes s i.place)) (length (operands s i.place n)) u ua
+            (running (top_at u (place m) a.registers (take n (top z).stack))) a.runs run;
         same = a.count;
         kept = a.cells;
         locals = λ x.
@@ -273,7 +273,7 @@ module _
       (equal : AreEqualBut (with_place (dropped z n) q') x)
       (of : AreOf s (top (with_place (dropped z n) q')) (top x))
       (bare : (top x).stack ≡ [])
-      (kept : Each (Holds s (slots (top z)) (top x)) (cells s i.place))
+      (kept : Each (Holds s (slots (top z)) (top x)) (stack_homes s i.place))
       (locals : HoldsLocals s i.place (top z) (top x)) where
     abbrev y : State Cell
     y = with_place (dropped z n) q'
@@ -408,9 +408,9 @@ module _
           (at-step v w s place laid x (m + 1) (length (insns cs)) goes of.target at (omega (arith, size, both, whole, lt)))
           (moves-stand s (m + 1) cs moves_too (stand-first s (m + 1) cs ls st)) (omega (arith, depth)) before in
           let r : ℕ = m + 1 + length (insns cs) in
-          let x1 : State Cell = moved x (place r) c.registers [] in
+          let x1 : State Cell = top_at x (place r) c.registers [] in
           let run1 : Runs tagged w (length (insns cs)) x (running x1) =
-          subst (λ stack. Runs tagged w (length (insns cs)) x (running (moved x (place r) c.registers stack))) bare c.runs in
+          subst (λ stack. Runs tagged w (length (insns cs)) x (running (top_at x (place r) c.registers stack))) bare c.runs in
           let of1 : AreOf s (top z) (top x1) = record { source = typed.method; target = of.target; count = c.count ∙ of.count } in
           let under_y : Each (Holds s (slots (top y)) (top x1)) (under s i.place n) =
           each-among (Holds s (slots (top y)) (top x1)) (under s i.place n)
@@ -424,9 +424,9 @@ module _
           (stand-at s (m + 1 + count_of cs) r ls (ap (λ k. m + 1 + k) size) (stand-last s (m + 1) cs ls st))) refl under_z in
           let g = group-is in
           let last : r + length (under s i.place n) ≡ group_at s q' = omega (arith, g, whole, both, size, load_size) in
-          let x2 : State Cell = moved x (place (group_at s q')) c.registers (drop n (top z).stack) in
+          let x2 : State Cell = top_at x (place (group_at s q')) c.registers (drop n (top z).stack) in
           let run3 : Runs tagged w (length (under s i.place n)) x1 (running x2) =
-          subst (λ k. Runs tagged w (length (under s i.place n)) x1 (running (moved x1 (place k) c.registers (drop n (top z).stack)))) last run2 in
+          subst (λ k. Runs tagged w (length (under s i.place n)) x1 (running (top_at x1 (place k) c.registers (drop n (top z).stack)))) last run2 in
           let small = few_copies s (After i.place op) q' laid.world laid.planned to-next in
           let low = few_cells s i.place laid.world laid.planned keeps in
           let limit = laid.room in
@@ -488,7 +488,7 @@ module _
 
   jump-stands : ItemsStandFrom s m (jump_to i op (labels_of s i op n) ∷ [])
   jump-stands =
-      let sp = spill s (cells s i.place) in
+      let sp = spill s (stack_homes s i.place) in
       let ls = loads s (operands s i.place n) in
       let jm = jump_to i op (labels_of s i op n) ∷ [] in
       let own = steps-here v w s place laid stand follow i op stands reached does in
@@ -529,7 +529,7 @@ module _
         (subst (λ q. Held (renamed_cell (rename s place)) s q (top z) (top u)) here e.held)
 
     abbrev u1 : State Cell
-    u1 = moved u (place m) ready.registers (take n (top z).stack)
+    u1 = top_at u (place m) ready.registers (take n (top z).stack)
 
     forked : IsForked v z n o
     forked = forks-cut v world decided z o i op n ex some step (no-fault v s o stays)
@@ -570,7 +570,7 @@ module _
       equal_y : AreEqualBut (with_place (dropped z n) forked.place) x
       of_y : AreOf s (top (with_place (dropped z n) forked.place)) (top x)
       bare : (top x).stack ≡ []
-      kept : Each (Holds s (slots (top z)) (top x)) (cells s i.place)
+      kept : Each (Holds s (slots (top z)) (top x)) (stack_homes s i.place)
       locals : HoldsLocals s i.place (top z) (top x)
 
     after : (x : State Cell) → Steps tagged w u1 (running x) → AfterFork s place i.place (cut_state z n) u1 y1 x → IsAfter x
@@ -592,10 +592,10 @@ module _
           of_y = record { source = a.of.source; target = a.of.target; count = a.of.count };
           bare = a.stack ∙ ap (map (renamed_cell (rename s place))) (none-left n (top z).stack);
           kept =
-              each-among (Holds s (slots (top z)) (top x)) (cells s i.place)
+              each-among (Holds s (slots (top z)) (top x)) (stack_homes s i.place)
               (λ h among. a.kept (slots (top z)) h
               (held-as s (slots (top z)) (record (top u) { registers = ready.registers }) (top u1) h refl
-              (among-each (Holds s (slots (top z)) (record (top u) { registers = ready.registers })) (cells s i.place) h ready.kept among)));
+              (among-each (Holds s (slots (top z)) (record (top u) { registers = ready.registers })) (stack_homes s i.place) h ready.kept among)));
           locals = a.locals;
         }
 

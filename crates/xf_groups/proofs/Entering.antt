@@ -13,9 +13,9 @@ use Rattle.vm_step.specs.Raising.{running}
 use Rattle.vm_step.specs.Run.{Runs, stands as none_taken}
 use Rattle.vm_alike.specs.Alike.{renamed_cell}
 use Rattle.xf_plan.specs.Source.{Source}
-use Rattle.xf_plan.specs.Plan.{cells, is_leader, needed, operation}
+use Rattle.xf_plan.specs.Plan.{stack_homes, is_leader, needed, operation}
 use Rattle.xf_emission.specs.Move.{loads}
-use Rattle.xf_held.specs.Edges.{CellsAreFew, KeptStacksStay, LeadersLoad, insns, moved}
+use Rattle.xf_held.specs.Edges.{CellsAreFew, KeptStacksStay, LeadersLoad, insns, top_at}
 use Rattle.xf_held.specs.Held.{Held, Holds, Waits}
 use Rattle.xf_held.proofs.Beside.{each-among, among-each, held-as}
 use Rattle.xf_groups.specs.Laid.{IsLaidIn, body_at, count_of, group_at, loaded_at, rename, steps_of}
@@ -69,7 +69,7 @@ module _
 
     leader-enters : is_leader s q ≡ true → Entered z t
     leader-enters e =
-        let hs = cells s q in
+        let hs = stack_homes s q in
         let are : loaded_at s q ≡ hs = ap (λ b. if b then hs else []) e in
         let waits : Waits s q (top z) (top t) = subst (λ b. HeldOrWaits b s place (top z) (top t)) e group.holds in
         let near = beside v w s place laid z t typed equal.heap group.of in
@@ -81,7 +81,7 @@ module _
         let run = loading place (steps_of s) t (group_at s q) s q (top z) laid.world laid.planned near keeps
         (at-step v w s place laid t (group_at s q) (length hs) runs_too group.of.target group.at (omega (arith, size, lt)))
         (moves-stand s (group_at s q) (loads s hs) (loads-move s hs) st) waits in
-        let u : State Cell = moved t (place (group_at s q + length hs)) (top t).registers (top z).stack in
+        let u : State Cell = top_at t (place (group_at s q + length hs)) (top t).registers (top z).stack in
         let whole = ap length (frames-are t runs_too) in
         let same = equal.frames in
         let low = few_cells s q laid.world laid.planned keeps in
@@ -106,7 +106,7 @@ module _
 
     other-enters : is_leader s q ≡ false → Entered z t
     other-enters e =
-        let are : loaded_at s q ≡ [] = ap (λ b. if b then cells s q else []) e in
+        let are : loaded_at s q ≡ [] = ap (λ b. if b then stack_homes s q else []) e in
         let none : group_at s q + 0 ≡ group_at s q = omega arith in
         let here_too : body_at s q ≡ group_at s q = ap (λ ks. group_at s q + length ks) are ∙ none in
         record {

@@ -23,12 +23,12 @@ use Rattle.vm_step.specs.Methods.{code_at}
 use Rattle.xf_homes.specs.declared.home.Home.{Home}
 use Rattle.xf_homes.specs.Walk.{operands_of}
 use Rattle.xf_plan.specs.Source.{Source}
-use Rattle.xf_plan.specs.Plan.{cells, local, needed, operation}
+use Rattle.xf_plan.specs.Plan.{stack_homes, local, needed, operation}
 use Rattle.xf_emission.specs.declared.origin.Origin.TheVariants.{After}
 use Rattle.xf_emission.specs.Edge.{copies}
 use Rattle.xf_emission.specs.Move.{load, spill, with_byte}
-use Rattle.xf_emission.specs.Jump.{branch, goto, is_over, jump_to, leads, spill_if}
-use Rattle.xf_emission.specs.Group.{body, branch_by, fallen, field_read, field_written, first_place, gone, group, increased, kept, loaded, stays, stored, swap_words}
+use Rattle.xf_emission.specs.Jump.{branch, goto, has_under, jump_to, leads, spill_if}
+use Rattle.xf_emission.specs.Group.{body, branch_by, fallen, field_read, field_written, first_place, gone, group, increased, itself, loaded, stays, stored, swap_words}
 use Rattle.xf_held.proofs.Loading.{step-place}
 use Rattle.xf_groups.specs.Laid.{IsLaidIn, body_at, count_of, group_at, steps_of}
 use Rattle.xf_groups.specs.Steps.{GroupsFollow, GroupsStandAtSteps}
@@ -63,18 +63,18 @@ module _ (s : Source) (i : Placed) where
   some-read : (o : Option Home) → 1 ≤ count_of (field_read s i o)
   some-read None = omega arith
   some-read (Some h) =
-      some-if (stays s h) (kept i) (load s h ∷ Plain (record i.insn { op = i.insn.op - 42 }) ∷ []) (omega arith) (omega arith)
+      some-if (stays s h) (itself i) (load s h ∷ Plain (record i.insn { op = i.insn.op - 42 }) ∷ []) (omega arith) (omega arith)
 
   some-written : (k : Kind) (o : Option Home) → 1 ≤ count_of (field_written s i k o)
   some-written k None = omega arith
   some-written k (Some h) =
-      some-if (stays s h) (kept i)
+      some-if (stays s h) (itself i)
       (load s h ∷ Plain (with_byte 64 (swap_words k)) ∷ Plain (record i.insn { op = i.insn.op - 46 }) ∷ [])
       (omega arith) (omega arith)
 
   some-gone : (p : ℕ) (op : Operation) (q : ℕ) → 1 ≤ count_of (gone s p op q)
   some-gone p op q =
-      let one = count-append (spill s (cells s q)) (copies s (After p op) q ++ goto q ∷ []) in
+      let one = count-append (spill s (stack_homes s q)) (copies s (After p op) q ++ goto q ∷ []) in
       let two = some-last (copies s (After p op) q) (goto q) [] (omega arith) in
       omega (arith, one, two)
 
@@ -86,7 +86,7 @@ module _ (s : Source) (i : Placed) where
   unfolding branch
   some-branch op None = omega arith
   some-branch op (Some n) =
-      some-last (spill_if (is_over s i.place n) s i.place n)
+      some-last (spill_if (has_under s i.place n) s i.place n)
       (jump_to i op (leads s i.place op n 0 (targets s.method.code i))) []
       (some-jump op (leads s i.place op n 0 (targets s.method.code i)))
 

@@ -24,12 +24,12 @@ use Rattle.xf_homes.specs.Value.{value_at}
 use Rattle.xf_homes.specs.Walk.{operands_of}
 use Rattle.jc_base.specs.World.{Linked}
 use Rattle.xf_plan.specs.Source.{Source}
-use Rattle.xf_plan.specs.Plan.{cells, cells_from, depth, home_of, stack_of, with_home_of}
+use Rattle.xf_plan.specs.Plan.{stack_homes, cells_from, depth, home_of, stack_of, with_home_of}
 use Rattle.xf_emission.specs.declared.origin.Origin.TheVariants.{After}
 use Rattle.xf_emission.specs.Edge.{cell_copies, copies}
 use Rattle.xf_emission.specs.Emission.{items}
-use Rattle.xf_emission.specs.Group.{body, branch_by, kept}
-use Rattle.xf_emission.specs.Jump.{branch, cut, first_label, goto, is_over, jump_to, label_by, lead, leads, place as place_named, spill_if, stub, stub_label, stub_of, taken, under}
+use Rattle.xf_emission.specs.Group.{body, branch_by, itself}
+use Rattle.xf_emission.specs.Jump.{branch, cut, first_label, goto, has_under, jump_to, label_by, lead, leads, place as place_named, spill_if, stub, stub_label, stub_of, taken, under}
 use Rattle.xf_groups.specs.Laid.{count_of, steps_of}
 use Rattle.xf_groups.specs.Steps.{ItemsStandFrom}
 use Rattle.xf_groups.proofs.Standing.{step-at}
@@ -52,7 +52,7 @@ body-branch s i _ n e = absurd (cc)
 
 pub branch-alone :
     (s : Source) (i : Placed) (op : Operation) (n : ℕ)
-    → is_over s i.place n ≡ false
+    → has_under s i.place n ≡ false
     → branch s i op n ≡ jump_to i op (leads s i.place op n 0 (targets s.method.code i)) ∷ []
 unfolding branch
 branch-alone s i op n e =
@@ -79,8 +79,8 @@ none-below c (h ∷ hs) all =
     ap (λ b. if b then h ∷ filter (λ (k : Home). nat_lt k.slot c) hs else filter (λ (k : Home). nat_lt k.slot c) hs) e
     ∙ none-below c hs all.1
 
-pub under-none : (s : Source) (p n : ℕ) → is_over s p n ≡ false → under s p n ≡ []
-unfolding under cells
+pub under-none : (s : Source) (p n : ℕ) → has_under s p n ≡ false → under s p n ≡ []
+unfolding under stack_homes
 under-none s p n e =
     let deep : depth s p ≤ n = grind (arith, nat_tests, e) in
     let c : cut s p n ≡ register_count s.method.rec = omega (arith, deep) in
@@ -88,9 +88,9 @@ under-none s p n e =
     ∙ none-below (register_count s.method.rec) _ (cells-above (register_count s.method.rec) (stack_of (s.frames p)) 0 (depth s p))
 
 pub taken-is :
-    (s : Source) (p : ℕ) (op : Operation) (n q : ℕ) → is_over s p n ≡ false → taken s p op n q ≡ copies s (After p op) q
+    (s : Source) (p : ℕ) (op : Operation) (n q : ℕ) → has_under s p n ≡ false → taken s p op n q ≡ copies s (After p op) q
 unfolding taken
-taken-is s p op n q e = ap (λ hs. cell_copies s hs (cells s q) ++ copies s (After p op) q) (under-none s p n e)
+taken-is s p op n q e = ap (λ hs. cell_copies s hs (stack_homes s q) ++ copies s (After p op) q) (under-none s p n e)
 
 -- ---- the step
 

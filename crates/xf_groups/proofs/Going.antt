@@ -18,14 +18,14 @@ use Rattle.vm_step.specs.Raising.{running}
 use Rattle.vm_step.specs.Run.{Runs, stands as none_taken, steps as after_step}
 use Rattle.xf_homes.specs.declared.home.Home.{Home}
 use Rattle.xf_plan.specs.Source.{Source}
-use Rattle.xf_plan.specs.Plan.{cells, is_leader, needed}
+use Rattle.xf_plan.specs.Plan.{stack_homes, is_leader, needed}
 use Rattle.xf_emission.specs.declared.origin.Origin.{Origin}
 use Rattle.xf_emission.specs.Edge.{copies}
 use Rattle.xf_emission.specs.Emission.{items}
 use Rattle.xf_emission.specs.Jump.{goto}
 use Rattle.xf_emission.specs.Move.{spill}
 use Rattle.xf_typing.specs.Edges.{CellsFillStack, LeadsTo, NeededHaveHomes}
-use Rattle.xf_held.specs.Edges.{CellsAreFew, CopiesAreFew, EdgesRun, HoldsBefore, StacksSpill, insns, moved}
+use Rattle.xf_held.specs.Edges.{CellsAreFew, CopiesAreFew, EdgesRun, HoldsBefore, StacksSpill, insns, top_at}
 use Rattle.xf_held.specs.Held.{Holds, Waits, slots}
 use Rattle.xf_held.specs.Laws.{StepsExecute}
 use Rattle.xf_held.proofs.Beside.{each-among, among-each, held-as}
@@ -69,7 +69,7 @@ module _
     running-too = let same = equal.frames in let some = typed.runs in omega (arith, same, some)
 
     abbrev arrived : List Cell → State Cell
-    arrived registers = moved u (place (group_at s q)) registers []
+    arrived registers = top_at u (place (group_at s q)) registers []
 
     -- the target's frames once it is at the group
     arrives :
@@ -111,7 +111,7 @@ module _
         → ItemsStandFrom s m (copies s o q ++ goto q ∷ [])
         → (top u).place ≡ place m
         → (top u).stack ≡ []
-        → Each (Holds s (slots (top y)) (top u)) (cells s q)
+        → Each (Holds s (slots (top y)) (top u)) (stack_homes s q)
         → HoldsBefore s o q (top y) (top u)
         → ComesWithin w 1 511 u (ComesToGroup s place y u)
     edge-goes m st at bare held before =
@@ -127,9 +127,9 @@ module _
         (beside v w s place laid y u typed equal.heap of) leads
         (at-step v w s place laid u m (length (insns cs)) running-too of.target at (omega (arith, size, all, both, one)))
         (moves-stand s m cs moves (stand-first s m cs (goto q ∷ []) st)) (omega (arith, depth)) before in
-        let u1 : State Cell = moved u (place n) c.registers [] in
+        let u1 : State Cell = top_at u (place n) c.registers [] in
         let first : Runs tagged w (length (insns cs)) u (running u1) =
-        subst (λ stack. Runs tagged w (length (insns cs)) u (running (moved u (place n) c.registers stack))) bare c.runs in
+        subst (λ stack. Runs tagged w (length (insns cs)) u (running (top_at u (place n) c.registers stack))) bare c.runs in
         let rest : ItemsStandFrom s n (goto q ∷ []) =
         stand-at s (m + count_of cs) n (goto q ∷ []) (ap (λ k. m + k) size) (stand-last s m cs (goto q ∷ []) st) in
         let found : slice_get (steps_of s) n ≡ Some (record { insn = jump 168; targets = group_at s q ∷ []; keys = [] }) =
@@ -146,11 +146,11 @@ module _
         (record {
           stack = refl;
           cells =
-              each-among (Holds s (slots (top y)) (top (arrived c.registers))) (cells s q)
+              each-among (Holds s (slots (top y)) (top (arrived c.registers))) (stack_homes s q)
               (λ h among. held-as s (slots (top y)) (record (top u) { registers = c.registers }) (top (arrived c.registers)) h refl
               (c.others h
               (kept-registers v w s place laid fill q h (leader-keeps v w s place laid q leader) typed.reached among)
-              (among-each (Holds s (slots (top y)) (top u)) (cells s q) h held among)));
+              (among-each (Holds s (slots (top y)) (top u)) (stack_homes s q) h held among)));
           locals = λ x.
               each-among (Holds s (top y).registers (top (arrived c.registers))) (needed s q x)
               (λ h among. held-as s (top y).registers (record (top u) { registers = c.registers }) (top (arrived c.registers)) h refl
@@ -198,7 +198,7 @@ module _
   -- from a state whose stack is the source's: first it goes into homes
   pub spilled-goes :
       (m : ℕ)
-      → ItemsStandFrom s m (spill s (cells s (top y).place) ++ (copies s o (top y).place ++ goto (top y).place ∷ []))
+      → ItemsStandFrom s m (spill s (stack_homes s (top y).place) ++ (copies s o (top y).place ++ goto (top y).place ∷ []))
       → (top u).place ≡ place m
       → (top u).stack ≡ (top y).stack
       → ((k : Frame Cell)
@@ -207,11 +207,11 @@ module _
       → ComesWithin w 1 766 u (ComesToGroup s place y u)
   spilled-goes m st at same before =
       let q : ℕ = (top y).place in
-      let sp = spill s (cells s q) in
+      let sp = spill s (stack_homes s q) in
       let more = copies s o q ++ goto q ∷ [] in
-      let moves = spill-moves s (cells s q) in
-      let size : count_of sp ≡ length (cells s q) =
-      count-moves sp moves ∙ (spill-count s (cells s q) ∙ length-reverse (cells s q)) in
+      let moves = spill-moves s (stack_homes s q) in
+      let size : count_of sp ≡ length (stack_homes s q) =
+      count-moves sp moves ∙ (spill-count s (stack_homes s q) ∙ length-reverse (stack_homes s q)) in
       let all = stand-inside s m (sp ++ more) st in
       let both = count-append sp more in
       let some = count-append (copies s o q) (goto q ∷ []) in
@@ -221,23 +221,23 @@ module _
       let goes : IsRunning u = omega (arith, frames, some_frames) in
       let keeps = leader-keeps v w s place laid q leader in
       let a = spills place (steps_of s) u m s q (top y) laid.world laid.planned (beside v w s place laid y u typed equal.heap of) keeps
-      (at-step v w s place laid u m (length (cells s q)) goes of.target at (omega (arith, size, all, both, some, one)))
+      (at-step v w s place laid u m (length (stack_homes s q)) goes of.target at (omega (arith, size, all, both, some, one)))
       (moves-stand s m sp moves (stand-first s m sp more st)) same in
-      let n : ℕ = m + length (cells s q) in
-      let u1 : State Cell = moved u (place n) a.registers [] in
+      let n : ℕ = m + length (stack_homes s q) in
+      let u1 : State Cell = top_at u (place n) a.registers [] in
       let whole = ap length (frames-are u goes) in
       let equal1 : AreEqualBut y u1 = record { frames = omega (arith, whole, frames); heap = equal.heap; statics = equal.statics } in
       let of1 : AreOf s (top y) (top u1) =
       record { source = of.source; target = of.target; count = a.count ∙ of.count } in
       let low = few_cells s q laid.world laid.planned keeps in
       let limit = laid.room in
-      comes-later w s place y u u1 (length (cells s q)) 1 511 766 a.runs (record { frames = refl; heap = refl; statics = refl })
+      comes-later w s place y u u1 (length (stack_homes s q)) 1 511 766 a.runs (record { frames = refl; heap = refl; statics = refl })
       (omega (arith, low, limit))
       (edge-goes v w s place laid stand follow executed needs fill spills edges few_copies few_cells y u1 o typed equal1 of1 leader leads
       n (stand-at s (m + count_of sp) n more (ap (λ k. m + k) size) (stand-last s m sp more st)) refl refl
-      (each-among (Holds s (slots (top y)) (top u1)) (cells s q)
+      (each-among (Holds s (slots (top y)) (top u1)) (stack_homes s q)
       (λ h among. held-as s (slots (top y)) (record (top u) { registers = a.registers }) (top u1) h refl
-      (among-each (Holds s (slots (top y)) (record (top u) { registers = a.registers })) (cells s q) h a.cells among)))
+      (among-each (Holds s (slots (top y)) (record (top u) { registers = a.registers })) (stack_homes s q) h a.cells among)))
       (before (top u1)
       (λ h known held. held-as s (top y).registers (record (top u) { registers = a.registers }) (top u1) h refl
       (a.others (top y).registers h known.has known.slot held))))

@@ -20,7 +20,7 @@ use Rattle.xf_homes.specs.Laws.{NeededAreKept}
 use Rattle.xf_homes.specs.Value.{value_at}
 use Rattle.xf_homes.specs.Walk.{local_of}
 use Rattle.xf_plan.specs.Source.{Source}
-use Rattle.xf_plan.specs.Plan.{cells, first_of, first_reached, home_of, is_leader, local, needed}
+use Rattle.xf_plan.specs.Plan.{stack_homes, first_of, first_reached, home_of, is_leader, local, needed}
 use Rattle.xf_emission.specs.declared.origin.Origin.TheVariants.{Entry}
 use Rattle.xf_emission.specs.Edge.{copies}
 use Rattle.xf_emission.specs.Emission.{caught, is_live, items}
@@ -107,10 +107,10 @@ module _
       let reached : is_some (s.frames p) ≡ true = reached-some v w s place laid p c.reached in
       let live = covers-live s h p reached c.covers in
       let st : ItemsStandFrom s (place_of (handler_label n) (items s))
-      (spill s (cells s h.entry) ++ (copies s (Entry h.entry) h.entry ++ goto h.entry ∷ [])) =
+      (spill s (stack_homes s h.entry) ++ (copies s (Entry h.entry) h.entry ++ goto h.entry ∷ [])) =
       stand-labelled s _ (handler_label n) _ (handlers s n h laid.planned.code c.listed live) in
-      let own : ItemsStandFrom s (place_of (handler_label n) (items s)) (spill s (cells s q) ++ (copies s (Entry q) q ++ goto q ∷ [])) =
-      subst (λ k. ItemsStandFrom s (place_of (handler_label n) (items s)) (spill s (cells s k) ++ (copies s (Entry k) k ++ goto k ∷ [])))
+      let own : ItemsStandFrom s (place_of (handler_label n) (items s)) (spill s (stack_homes s q) ++ (copies s (Entry q) q ++ goto q ∷ [])) =
+      subst (λ k. ItemsStandFrom s (place_of (handler_label n) (items s)) (spill s (stack_homes s k) ++ (copies s (Entry k) k ++ goto k ∷ [])))
       (sym c.entry) st in
       let leads_here : IsLeader s.method h.entry = entered c.reached (Contains-slice_get s.method.rec.handlers n h c.listed) c.covers in
       let leader : is_leader s q ≡ true =

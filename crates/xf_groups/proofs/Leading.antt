@@ -29,11 +29,11 @@ use Rattle.vm_step.specs.Step.{Steps, performs}
 use Rattle.vm_step.specs.Tests.{fault_before}
 use Rattle.vm_sound.proofs.Going.{jumps-on}
 use Rattle.vm_sound.proofs.Places.{instruction-there}
-use Rattle.xf_landed.proofs.Steps.{some-within}
 use Rattle.xf_held.specs.Moves.{IsExecutable}
-use Rattle.xf_held.proofs.Passing.{passes-before}
+use Rattle.vm_sound.proofs.Passing.{passes-before}
 use Rattle.xf_held.specs.Laws.{ExecutesStep, StepsExecute}
 use Rattle.xf_held.proofs.Standing.{steps-stand-at-places}
+use Rattle.xf_landed.proofs.Steps.{some-within}
 
 -- a jump's only target by its operand
 module _ (code : List ℕ) (j : Placed) (to : ℤ) where

@@ -21,7 +21,7 @@ use Rattle.xf_plan.specs.Source.{Source}
 use Rattle.xf_emission.specs.declared.origin.Origin.TheVariants.{Start}
 use Rattle.xf_emission.specs.Edge.{copies}
 use Rattle.xf_emission.specs.Emission.{items}
-use Rattle.xf_plan.specs.Plan.{cells, is_leader, operation}
+use Rattle.xf_plan.specs.Plan.{stack_homes, is_leader, operation}
 use Rattle.xf_emission.specs.Move.{loads}
 use Rattle.xf_emission.specs.Group.{done, group_by, group}
 use Rattle.xf_emission.specs.Laws.{GroupStands, GroupsStand, HandlersStand, LabelsStandOnce, StubsStand, IsCode, of_place}
@@ -180,7 +180,7 @@ group-begins s i reached = by (s.frames i.place) reached
   where
     by : (o : Option Frame) → is_some o ≡ true → (rest : List Item) × (group_by s i o ≡ Label i.place ∷ rest)
     by None e = absurd (cc)
-    by (Some f) e = ((if is_leader s i.place then loads s (cells s i.place) else []) ++ done s i (operation s i), refl)
+    by (Some f) e = ((if is_leader s i.place then loads s (stack_homes s i.place) else []) ++ done s i (operation s i), refl)
 
 pub groups-follow : LabelsStandOnce → GroupsStand → InstructionsAreListed → GroupsFollow
 groups-follow once stand listed s i j code stands reached next also at =

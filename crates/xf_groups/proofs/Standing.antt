@@ -11,10 +11,10 @@ use Rattle.jc_ops.specs.declared.operation.Operation.{Operation}
 use Rattle.jc_rules.specs.Demand.{Frame}
 use Rattle.xf_homes.specs.declared.home.Home.{Home}
 use Rattle.xf_plan.specs.Source.{Source}
-use Rattle.xf_plan.specs.Plan.{cells, is_leader, operation}
+use Rattle.xf_plan.specs.Plan.{stack_homes, is_leader, operation}
 use Rattle.xf_emission.specs.Move.{load, loads}
 use Rattle.xf_emission.specs.Emission.{items}
-use Rattle.xf_emission.specs.Group.{body, done, entered, fallen, group, group_by}
+use Rattle.xf_emission.specs.Group.{body, done, entrance, fallen, group, group_by}
 use Rattle.xf_emission.specs.Laws.{IsCode}
 use Rattle.xf_groups.specs.Laid.{body_at, count_of, group_at, loaded_at, steps_of}
 use Rattle.xf_groups.specs.Steps.{GroupsStandAtSteps, ItemsStandFrom}
@@ -109,9 +109,9 @@ group-parts s i op reached does = by (s.frames i.place) reached
         → group_by s i o ≡ Label i.place ∷ (loads s (loaded_at s i.place) ++ (body s i op ++ fallen s i op))
     by None e = absurd (cc)
     by (Some f) e =
-        ap (λ r. entered s i.place ++ done s i r) does
+        ap (λ r. entrance s i.place ++ done s i r) does
         ∙ ap (λ ls. Label i.place ∷ (ls ++ (body s i op ++ fallen s i op)))
-        (loads-if s (is_leader s i.place) (cells s i.place))
+        (loads-if s (is_leader s i.place) (stack_homes s i.place))
 
 pub count-loads : (s : Source) (hs : List Home) → count_of (loads s hs) ≡ length hs
 count-loads s [] = refl

@@ -33,14 +33,14 @@ use Rattle.xf_homes.specs.Home.{argument_types, register_count as count_register
 use Rattle.xf_homes.specs.Order.{register_sum}
 use Rattle.xf_homes.specs.Value.{width}
 use Rattle.xf_plan.specs.Source.{Source}
-use Rattle.xf_plan.specs.Plan.{cells, cells_from, is_leader, needed, stack_of}
+use Rattle.xf_plan.specs.Plan.{stack_homes, cells_from, is_leader, needed, stack_of}
 use Rattle.xf_emission.specs.declared.origin.Origin.TheVariants.{Start}
 use Rattle.xf_emission.specs.Edge.{copies}
 use Rattle.xf_emission.specs.Emission.{caught_from, items, rewritten, stubs}
 use Rattle.xf_emission.specs.Group.{group}
 use Rattle.xf_emission.specs.Laws.{LabelsStandOnce, IsCode, of_place}
 use Rattle.xf_typing.specs.Edges.{CellsFillStack, NeededHaveHomes, leads_start}
-use Rattle.xf_held.specs.Edges.{CellsAreFew, CopiesAreFew, EdgesRun, IsBeside, StacksSpill, StartsHold, insns, moved}
+use Rattle.xf_held.specs.Edges.{CellsAreFew, CopiesAreFew, EdgesRun, IsBeside, StacksSpill, StartsHold, insns, top_at}
 use Rattle.xf_held.specs.Held.{Holds, HoldsLocals, slots}
 use Rattle.xf_held.specs.Laws.{StepsExecute}
 use Rattle.xf_held.proofs.Beside.{among-each, each-among, held-as}
@@ -156,8 +156,8 @@ module _
           count = omega (arith, registers, both, rest, all, least, given);
         }
 
-    none-kept : cells s (top z).place ≡ []
-    unfolding cells
+    none-kept : stack_homes s (top z).place ≡ []
+    unfolding stack_homes
     none-kept =
         ap (λ ts. cells_from (count_registers s.method.rec) ts 0 (length ts))
         (by (s.frames (top z).place) typed.below)
@@ -201,7 +201,7 @@ module _
         let c = edges place (steps_of s) t 0 s Start 0 (top z) laid.world laid.planned near leads_start
         (at-step v w s place laid t 0 (length (insns cs)) going of-both.target origin (omega (arith, first, size, inside)))
         (moves-stand s 0 cs moves st.0) (omega (arith, depth)) before in
-        let u : State Cell = moved t (place (0 + length (insns cs))) c.registers (top t).stack in
+        let u : State Cell = top_at t (place (0 + length (insns cs))) c.registers (top t).stack in
         let last : 0 + length (insns cs) ≡ group_at s (top z).place =
         let e = ap (group_at s) at-zero in omega (arith, first, size, e) in
         let whole = ap length (frames-are t going) in

@@ -4,6 +4,7 @@ use Rattle.std.specs.Prelude.{Option, Some, None, Ok, All, IsSomeAnd, option_map
 use Rattle.std.proofs.lemmas.Bool.Decides.{nat_tests}
 use Rattle.std.proofs.lemmas.List.{length-map, map-append}
 use Rattle.std.proofs.lemmas.Option.{slice_get-map, slice_get-get_or}
+use Rattle.std.proofs.lemmas.Bool.{or_parts}
 use Rattle.jc_base.specs.declared.ty.Ty.{Ty}
 use Rattle.jc_base.specs.declared.ty.Ty.TheVariants.{Bottom, Short, IntHigh, IntLow, Class, Top}
 use Rattle.jc_base.specs.Class.{ClassTable, object}
@@ -53,7 +54,7 @@ use Rattle.xf_plan.specs.Plan.{needed}
 use Rattle.xf_emission.specs.Edge.{is_stored}
 use Rattle.xf_emission.specs.Group.{body, stored}
 use Rattle.xf_emission.specs.Move.{copy}
-use Rattle.xf_held.specs.Edges.{insns, moved, HoldsAfter, IsBeside}
+use Rattle.xf_held.specs.Edges.{insns, top_at, HoldsAfter, IsBeside}
 use Rattle.xf_held.specs.Held.{Holds}
 use Rattle.xf_held.specs.Moves.{IsExecutable, letter_of, value_at}
 use Rattle.xf_held.specs.Stores.{AreStored, HasLocal}
@@ -168,11 +169,6 @@ module _ (t : ClassTable) (ks : List ObjectKind) (x : ℕ) where
         low = λ e. absurd (cc);
       }
 
-  neither : (b c : Bool) → (b || c) ≡ false → (b ≡ false) × (c ≡ false)
-  neither true c e = absurd (cc)
-  neither false true e = absurd (cc)
-  neither false false e = (refl, refl)
-
   second-number : (n : ℕ) → x + 1 ≡ n → (n == x + 1) ≡ false → ⊥
   second-number n e f = absurd (differ (n == x + 1) (let g : (n == x + 1) ≡ true = grind (arith, nat_tests, e) in g) f)
     where
@@ -200,7 +196,7 @@ module _ (t : ClassTable) (ks : List ObjectKind) (x : ℕ) where
           (subst (λ o. IsSomeAnd o (IsCellOf t ks IntLow)) (sym second) h, tt),
         );
         others = λ n e.
-            let both = neither (n == x) (n == x + 1) e in
+            let both = or_parts (n == x) (n == x + 1) e in
             get-set-other first (x + 1) n c (λ same. second-number n same both.1) ∙ get-set-other registers x n d (λ same. same-number n same both.0);
         count = length-set first (x + 1) c ∙ count;
         low = λ e. subst (λ o. IsSomeAnd o (IsCellOf t ks IntLow)) (sym second) h;
@@ -405,7 +401,7 @@ module _
               })
 
       u : State Cell
-      u = moved t (place (body_at s i.place + length (insns (stored s letter (needed s q x))))) stored_there.registers (map (renamed_cell (rename s place)) rest)
+      u = top_at t (place (body_at s i.place + length (insns (stored s letter (needed s q x))))) stored_there.registers (map (renamed_cell (rename s place)) rest)
 
       pub finished : (o : Outcome Cell) → o ≡ running (y after rest) → BodyRuns v w s place i (ops.Store letter x) z t o
       unfolding u
@@ -416,7 +412,7 @@ module _
             count = length (insns (stored s letter (needed s q x)));
             more = few.0;
             fewer = few.1;
-            outcome = running (moved t (place (body_at s i.place + length (insns (stored s letter (needed s q x))))) stored_there.registers (map (renamed_cell (rename s place)) rest));
+            outcome = running (top_at t (place (body_at s i.place + length (insns (stored s letter (needed s q x))))) stored_there.registers (map (renamed_cell (rename s place)) rest));
             runs = stored_there.runs;
             comes =
                 body_falls

@@ -22,7 +22,7 @@ use Rattle.xf_homes.specs.declared.home.Home.{Home}
 use Rattle.xf_homes.specs.Value.{width}
 use Rattle.xf_homes.specs.Walk.{operands_of, same_home}
 use Rattle.xf_plan.specs.Source.{Source}
-use Rattle.xf_plan.specs.Plan.{cells, is_leader, needed, operation}
+use Rattle.xf_plan.specs.Plan.{stack_homes, is_leader, needed, operation}
 use Rattle.xf_emission.specs.declared.origin.Origin.TheVariants.{After}
 use Rattle.xf_emission.specs.Edge.{cell_copies, copies}
 use Rattle.xf_emission.specs.Emission.{items}
@@ -30,7 +30,7 @@ use Rattle.xf_emission.specs.Group.{group}
 use Rattle.xf_emission.specs.Move.{copy}
 use Rattle.xf_emission.specs.Jump.{goto, label_by, lead, place as place_named, stub, stub_label, stub_of, taken, under}
 use Rattle.xf_typing.specs.Edges.{AreMatched, CellsFillStack, LeadsTo, NeededHaveHomes}
-use Rattle.xf_held.specs.Edges.{CellsAreFew, CellsRun, CopiesAreFew, EdgesRun, HoldsAfter, insns, moved}
+use Rattle.xf_held.specs.Edges.{CellsAreFew, CellsRun, CopiesAreFew, EdgesRun, HoldsAfter, insns, top_at}
 use Rattle.xf_held.specs.Held.{Holds, HoldsLocals, Waits, slots}
 use Rattle.xf_held.specs.Laws.{StepsExecute}
 use Rattle.xf_held.proofs.Beside.{among-each, each-among, held-as, held-in-registers, held-in-slots}
@@ -76,7 +76,7 @@ module _
     (cells_run : CellsRun v w) (edges : EdgesRun v w) (few_copies : CopiesAreFew v) (few_cells : CellsAreFew v)
     (p n : ℕ) (op : Operation) (y x : State Cell) (typed : IsTypedAt v s y) (equal : AreEqualBut y x) (of : AreOf s (top y) (top x))
     (leader : is_leader s (top y).place ≡ true) (leads : LeadsTo s (After p op) (top y).place) (from_p : IsReached s.method p)
-    (match : AreMatched s (under s p n) (cells s (top y).place))
+    (match : AreMatched s (under s p n) (stack_homes s (top y).place))
     (bare : (top x).stack ≡ []) (held : Each (Holds s (slots (top y)) (top x)) (under s p n))
     (before : HoldsAfter s p op (top y).place (top y) (top x)) where
   abbrev q : ℕ
@@ -88,9 +88,9 @@ module _
   -- after the copies
   pub record Taken (m : ℕ) : Type 0 where
     pub registers : List Cell
-    pub runs : Runs tagged w (count_of (taken s p op n q)) x (running (moved x (place (m + count_of (taken s p op n q))) registers []))
+    pub runs : Runs tagged w (count_of (taken s p op n q)) x (running (top_at x (place (m + count_of (taken s p op n q))) registers []))
     pub count : length registers ≡ length (top x).registers
-    pub cells : Each (Holds s (slots (top y)) (record (top x) { registers = registers })) (cells s q)
+    pub cells : Each (Holds s (slots (top y)) (record (top x) { registers = registers })) (stack_homes s q)
     pub locals : HoldsLocals s q (top y) (record (top x) { registers = registers })
 
   pub taken-runs :
@@ -101,9 +101,9 @@ module _
       → Taken m
   unfolding taken
   taken-runs m st at inside =
-      let cc_items = cell_copies s (under s p n) (cells s q) in
+      let cc_items = cell_copies s (under s p n) (stack_homes s q) in
       let cs = copies s (After p op) q in
-      let first_moves = cell-moves s (under s p n) (cells s q) in
+      let first_moves = cell-moves s (under s p n) (stack_homes s q) in
       let moves = copies-move s (After p op) q in
       let first_size : count_of cc_items ≡ length (insns cc_items) = count-moves cc_items first_moves in
       let size : count_of cs ≡ length (insns cs) = count-moves cs moves in
@@ -111,13 +111,13 @@ module _
       let near = beside v w s place laid y x typed equal.heap of in
       let keeps = leader-keeps v w s place laid q leader in
       let depth = ap length bare in
-      let a = cells_run place (steps_of s) x m s q (top y) (under s p n) (cells s q) laid.world laid.planned near match
+      let a = cells_run place (steps_of s) x m s q (top y) (under s p n) (stack_homes s q) laid.world laid.planned near match
       (at-step v w s place laid x m (length (insns cc_items)) running-too of.target at (omega (arith, inside, first_size, both)))
       (moves-stand s m cc_items first_moves (stand-first s m cc_items cs st)) (omega (arith, depth)) (λ k among. among) keeps held in
       let r : ℕ = m + length (insns cc_items) in
-      let x1 : State Cell = moved x (place r) a.registers [] in
+      let x1 : State Cell = top_at x (place r) a.registers [] in
       let run1 : Runs tagged w (length (insns cc_items)) x (running x1) =
-      subst (λ stack. Runs tagged w (length (insns cc_items)) x (running (moved x (place r) a.registers stack))) bare a.runs in
+      subst (λ stack. Runs tagged w (length (insns cc_items)) x (running (top_at x (place r) a.registers stack))) bare a.runs in
       let of1 : AreOf s (top y) (top x1) = record { source = of.source; target = of.target; count = a.count ∙ of.count } in
       let before1 : HoldsAfter s p op q (top y) (top x1) =
       still-after v w s place laid needs p q op (top y) (top x) (top x1) from_p typed.reached
@@ -132,22 +132,22 @@ module _
       (moves-stand s r cs moves rest) (omega arith) before1 in
       let all : length (insns cc_items) + length (insns cs) ≡ count_of (cc_items ++ cs) = omega (arith, first_size, size, both) in
       let last : r + length (insns cs) ≡ m + count_of (cc_items ++ cs) = omega (arith, first_size, size, both) in
-      let run2 : Runs tagged w (length (insns cs)) x1 (running (moved x (place (m + count_of (cc_items ++ cs))) c.registers [])) =
-      subst (λ k. Runs tagged w (length (insns cs)) x1 (running (moved x1 (place k) c.registers []))) last c.runs in
+      let run2 : Runs tagged w (length (insns cs)) x1 (running (top_at x (place (m + count_of (cc_items ++ cs))) c.registers [])) =
+      subst (λ k. Runs tagged w (length (insns cs)) x1 (running (top_at x1 (place k) c.registers []))) last c.runs in
       record {
         registers = c.registers;
         runs =
-            subst (λ k. Runs tagged w k x (running (moved x (place (m + count_of (cc_items ++ cs))) c.registers []))) all
+            subst (λ k. Runs tagged w k x (running (top_at x (place (m + count_of (cc_items ++ cs))) c.registers []))) all
             (runs-then w (length (insns cc_items)) (length (insns cs)) x x1
-            (running (moved x (place (m + count_of (cc_items ++ cs))) c.registers [])) run1 run2);
+            (running (top_at x (place (m + count_of (cc_items ++ cs))) c.registers [])) run1 run2);
         count = c.count ∙ a.count;
         cells =
-            each-among (Holds s (slots (top y)) (record (top x) { registers = c.registers })) (cells s q)
+            each-among (Holds s (slots (top y)) (record (top x) { registers = c.registers })) (stack_homes s q)
             (λ h among. held-as s (slots (top y)) (record (top x1) { registers = c.registers }) (record (top x) { registers = c.registers }) h
             refl
             (c.others h (kept-registers v w s place laid fill q h keeps typed.reached among)
             (held-as s (slots (top y)) (record (top x) { registers = a.registers }) (top x1) h refl
-            (among-each (Holds s (slots (top y)) (record (top x) { registers = a.registers })) (cells s q) h a.cells among))));
+            (among-each (Holds s (slots (top y)) (record (top x) { registers = a.registers })) (stack_homes s q) h a.cells among))));
         locals = λ l.
             each-among (Holds s (top y).registers (record (top x) { registers = c.registers })) (needed s q l)
             (λ h among. held-as s (top y).registers (record (top x1) { registers = c.registers }) (record (top x) { registers = c.registers })
@@ -160,13 +160,13 @@ module _
       (least most k : ℕ) (registers : List Cell)
       → least ≤ k
       → k ≤ most
-      → Runs tagged w k x (running (moved x (place (group_at s q)) registers []))
+      → Runs tagged w k x (running (top_at x (place (group_at s q)) registers []))
       → length registers ≡ length (top x).registers
-      → Each (Holds s (slots (top y)) (record (top x) { registers = registers })) (cells s q)
+      → Each (Holds s (slots (top y)) (record (top x) { registers = registers })) (stack_homes s q)
       → HoldsLocals s q (top y) (record (top x) { registers = registers })
       → ComesWithin w least most x (ComesToGroup s place y x)
   arrives least most k registers some small run count in_cells locals =
-      let u : State Cell = moved x (place (group_at s q)) registers [] in
+      let u : State Cell = top_at x (place (group_at s q)) registers [] in
       let whole = ap length (frames-are x running-too) in
       let same = equal.frames in
       record {
@@ -190,9 +190,9 @@ module _
                   (record {
                     stack = refl;
                     cells =
-                        each-among (Holds s (slots (top y)) (top u)) (cells s q)
+                        each-among (Holds s (slots (top y)) (top u)) (stack_homes s q)
                         (λ h among. held-as s (slots (top y)) (record (top x) { registers = registers }) (top u) h refl
-                        (among-each (Holds s (slots (top y)) (record (top x) { registers = registers })) (cells s q) h in_cells among));
+                        (among-each (Holds s (slots (top y)) (record (top x) { registers = registers })) (stack_homes s q) h in_cells among));
                     locals = λ l.
                         each-among (Holds s (top y).registers (top u)) (needed s q l)
                         (λ h among. held-as s (top y).registers (record (top x) { registers = registers }) (top u) h refl
@@ -207,8 +207,8 @@ module _
   few-taken : count_of (taken s p op n q) ≤ 1018
   unfolding taken
   few-taken =
-      let both = count-append (cell_copies s (under s p n) (cells s q)) (copies s (After p op) q) in
-      let one = cell-few s (under s p n) (cells s q) in
+      let both = count-append (cell_copies s (under s p n) (stack_homes s q)) (copies s (After p op) q) in
+      let one = cell-few s (under s p n) (stack_homes s q) in
       let low = few_cells s q laid.world laid.planned (leader-keeps v w s place laid q leader) in
       let limit = laid.room in
       let small = few_copies s (After p op) q laid.world laid.planned leads in
@@ -227,7 +227,7 @@ module _
       let a = taken-runs m st at (omega (arith, last, inside)) in
       let small = few-taken in
       arrives 0 1018 (count_of (taken s p op n q)) a.registers (omega arith) small
-      (subst (λ k. Runs tagged w (count_of (taken s p op n q)) x (running (moved x (place k) a.registers []))) last a.runs) a.count a.cells
+      (subst (λ k. Runs tagged w (count_of (taken s p op n q)) x (running (top_at x (place k) a.registers []))) last a.runs) a.count a.cells
       a.locals
 
   -- where a goto follows
@@ -243,7 +243,7 @@ module _
       let one : count_of (goto q ∷ []) ≡ 1 = refl in
       let a = taken-runs m (stand-first s m ts (goto q ∷ []) st) at (omega (arith, all, both, one)) in
       let k : ℕ = m + count_of ts in
-      let x1 : State Cell = moved x (place k) a.registers [] in
+      let x1 : State Cell = top_at x (place k) a.registers [] in
       let rest : ItemsStandFrom s k (goto q ∷ []) = stand-last s m ts (goto q ∷ []) st in
       let found : slice_get (steps_of s) k ≡ Some (record { insn = jump 168; targets = group_at s q ∷ []; keys = [] }) =
       step-at s k (goto q) [] (record { insn = jump 168; targets = place_of q (items s) ∷ []; keys = [] }) [] rest refl in
@@ -254,7 +254,7 @@ module _
       found refl (group-inside v w s place laid stand follow q typed.reached) (omega arith) in
       let small = few-taken in
       arrives 0 1019 (count_of ts + 1) a.registers (omega arith) (omega (arith, small))
-      (runs-then w (count_of ts) 1 x x1 (running (moved x (place (group_at s q)) a.registers [])) a.runs (after_step jumped none_taken))
+      (runs-then w (count_of ts) 1 x x1 (running (top_at x (place (group_at s q)) a.registers [])) a.runs (after_step jumped none_taken))
       a.count a.cells a.locals
 
   -- from the label to which a branch leads

@@ -23,7 +23,7 @@ use Rattle.xf_homes.specs.Laws.{NeededAreKept}
 use Rattle.xf_landed.specs.Laws.{DemandsAreKept, OperationsAreKept}
 use Rattle.xf_plan.specs.Source.{Source}
 use Rattle.xf_plan.specs.Plan.{local, register}
-use Rattle.xf_emission.specs.Group.{body, field_read, kept, stays}
+use Rattle.xf_emission.specs.Group.{body, field_read, itself, stays}
 use Rattle.xf_emission.specs.Move.{load}
 use Rattle.xf_typing.specs.Whole.{DerivedAreWhole}
 use Rattle.xf_held.specs.Moves.{IsExecutable}
@@ -56,7 +56,7 @@ kept-body :
 unfolding body
 kept-body s i f h at e =
     ap (field_read s i) at
-    ∙ ap (λ (d : Bool). if d then kept i else load s h ∷ Plain (record i.insn { op = i.insn.op - 42 }) ∷ []) e
+    ∙ ap (λ (d : Bool). if d then itself i else load s h ∷ Plain (record i.insn { op = i.insn.op - 42 }) ∷ []) e
 
 module _
     (v : Linked) (world : IsWorld v) (decided : OperationsAreDecided v) (alike_steps : StepsAreAlike v) (operations : OperationsAreKept)

@@ -61,11 +61,11 @@ use Rattle.xf_landed.specs.Apart.{apart_from_code}
 use Rattle.xf_landed.specs.Laws.{OperationsAreKept}
 use Rattle.xf_plan.specs.Source.{Source}
 use Rattle.xf_plan.specs.Plan.{needed, register}
-use Rattle.xf_emission.specs.Group.{body, field_read, kept, stays}
+use Rattle.xf_emission.specs.Group.{body, field_read, itself, stays}
 use Rattle.xf_emission.specs.Move.{load}
 use Rattle.xf_typing.proofs.Rows.{read-on-stack}
-use Rattle.xf_held.proofs.Passing.{passes-before}
-use Rattle.xf_held.specs.Edges.{insns, moved, IsBeside}
+use Rattle.vm_sound.proofs.Passing.{passes-before}
+use Rattle.xf_held.specs.Edges.{insns, top_at, IsBeside}
 use Rattle.xf_held.specs.Held.{Holds, HoldsLocals}
 use Rattle.xf_held.specs.Laws.{ExecutesStep, StepsExecute}
 use Rattle.xf_held.specs.Moves.{IsExecutable, letter_of, value_at, size, end_of, load_of, InstructionsStandFrom as StandAmong}
@@ -154,7 +154,7 @@ module _
   c = nth tagged f.registers 0
 
   abbrev t1 : State Cell
-  t1 = moved t (place (body_at s i.place + 1)) (top t).registers (nth tagged f.registers 0 ∷ (top t).stack)
+  t1 = top_at t (place (body_at s i.place + 1)) (top t).registers (nth tagged f.registers 0 ∷ (top t).stack)
 
   module _ (o : Outcome Cell) (b : AreAtBody v w s place i (ops.FieldRead fd holders.This) z t) (home : IsHomeOf s i.place 0 sorts.Reference) (moves : stays s (record { slot = 0; ty = home.ty }) ≡ false)
       (step : Steps tagged v z o) (fine : IsNoFault o) (typed_after : StaysTyped v s o) where
@@ -168,7 +168,7 @@ module _
     unfolding body
     body_is =
         ap (field_read s i) home.at
-        ∙ ap (λ (d : Bool). if d then kept i else load s (record { slot = 0; ty = home.ty }) ∷ Plain (record i.insn { op = i.insn.op - 42 }) ∷ []) moves
+        ∙ ap (λ (d : Bool). if d then itself i else load s (record { slot = 0; ty = home.ty }) ∷ Plain (record i.insn { op = i.insn.op - 42 }) ∷ []) moves
 
     g : GroupSteps s i (ops.FieldRead fd holders.This)
     g = steps-here v w s place laid stand follow i (ops.FieldRead fd holders.This) b.stands b.reached b.does
@@ -227,7 +227,7 @@ module _
         let ran = loads-run w l.world place (steps_of s) t (body_at s i.place) s (record { slot = 0; ty = home.ty } ∷ [])
         (at-step v w s place laid t (body_at s i.place) 1 runs_t b.of.target b.at (omega (arith, further))) (there.0, tt)
         (held-can-load w s f.registers t (record { slot = 0; ty = home.ty }) (register-small v w l s laid.world laid.planned (record { slot = 0; ty = home.ty }) valued.1.has) held valued.2, tt) fits in
-        subst (λ (cs : List Cell). Runs tagged w 1 t (running (moved t (place (body_at s i.place + 1)) (top t).registers cs))) stack_is ran
+        subst (λ (cs : List Cell). Runs tagged w 1 t (running (top_at t (place (body_at s i.place + 1)) (top t).registers cs))) stack_is ran
 
     -- ---- the field
 

@@ -43,7 +43,7 @@ use Rattle.vm_step.specs.declared.exception.Exception.TheVariants.{NullPointer}
 use Rattle.vm_step.specs.Act.{Act, goes, raises}
 use Rattle.vm_step.specs.Fields.{with_field_write}
 use Rattle.vm_step.specs.Methods.{code_at, max_stack_of}
-use Rattle.vm_step.specs.Values.{moved as exchanged, with_move}
+use Rattle.vm_step.specs.Values.{moved, with_move}
 use Rattle.vm_step.specs.Performed.{act}
 use Rattle.vm_step.specs.Raising.{Outcome, running, raised}
 use Rattle.vm_step.specs.Run.{Runs}
@@ -63,12 +63,12 @@ use Rattle.xf_landed.specs.Apart.{apart_from_code}
 use Rattle.xf_landed.specs.Laws.{OperationsAreKept}
 use Rattle.xf_plan.specs.Source.{Source}
 use Rattle.xf_plan.specs.Plan.{needed, register}
-use Rattle.xf_emission.specs.Group.{body, field_written, kept, stays, swap_words}
+use Rattle.xf_emission.specs.Group.{body, field_written, itself, stays, swap_words}
 use Rattle.xf_emission.specs.Move.{load, with_byte}
 use Rattle.xf_typing.proofs.Rows.{write-on-stack}
 use Rattle.vm_alike.proofs.Storing.{object-written}
-use Rattle.xf_held.proofs.Passing.{passes-before}
-use Rattle.xf_held.specs.Edges.{insns, moved, IsBeside}
+use Rattle.vm_sound.proofs.Passing.{passes-before}
+use Rattle.xf_held.specs.Edges.{insns, top_at, IsBeside}
 use Rattle.xf_held.specs.Held.{Holds, HoldsLocals}
 use Rattle.xf_held.specs.Laws.{ExecutesStep, StepsExecute}
 use Rattle.xf_held.specs.Moves.{IsExecutable, letter_of, value_at, size, end_of, load_of, InstructionsStandFrom as StandAmong}
@@ -102,7 +102,7 @@ module _
   z = record { frames = f ∷ below; heap = heap; statics = statics }
 
   abbrev t1 : State Cell
-  t1 = moved t (place (body_at s i.place + 1)) (top t).registers (nth tagged f.registers 0 ∷ (top t).stack)
+  t1 = top_at t (place (body_at s i.place + 1)) (top t).registers (nth tagged f.registers 0 ∷ (top t).stack)
 
   module _ (o : Outcome Cell) (b : AreAtBody v w s place i (ops.FieldWrite fd holders.This) z t) (home : IsHomeOf s i.place 0 sorts.Reference) (moves : stays s (record { slot = 0; ty = home.ty }) ≡ false)
       (step : Steps tagged v z o) (fine : IsNoFault o) where
@@ -113,7 +113,7 @@ module _
     unfolding body
     body_is =
         ap (field_written s i fd.kind) home.at
-        ∙ ap (λ (d : Bool). if d then kept i else load s (record { slot = 0; ty = home.ty }) ∷ Plain (with_byte 64 (swap_words fd.kind)) ∷ Plain (record i.insn { op = i.insn.op - 46 }) ∷ []) moves
+        ∙ ap (λ (d : Bool). if d then itself i else load s (record { slot = 0; ty = home.ty }) ∷ Plain (with_byte 64 (swap_words fd.kind)) ∷ Plain (record i.insn { op = i.insn.op - 46 }) ∷ []) moves
 
     g : GroupSteps s i (ops.FieldWrite fd holders.This)
     g = steps-here v w s place laid stand follow i (ops.FieldWrite fd holders.This) b.stands b.reached b.does
@@ -172,7 +172,7 @@ module _
         let ran = loads-run w l.world place (steps_of s) t (body_at s i.place) s (record { slot = 0; ty = home.ty } ∷ [])
         (at-step v w s place laid t (body_at s i.place) 1 runs_t b.of.target b.at (omega (arith, further))) (there.0, tt)
         (held-can-load w s f.registers t (record { slot = 0; ty = home.ty }) (register-small v w l s laid.world laid.planned (record { slot = 0; ty = home.ty }) valued.1.has) held valued.2, tt) fits in
-        subst (λ (cs : List Cell). Runs tagged w 1 t (running (moved t (place (body_at s i.place + 1)) (top t).registers cs))) stack_is ran
+        subst (λ (cs : List Cell). Runs tagged w 1 t (running (top_at t (place (body_at s i.place + 1)) (top t).registers cs))) stack_is ran
 
     -- ---- the swap
 
@@ -205,7 +205,7 @@ module _
         (subst (λ (os : List ObjectKind). Swaps v.classes os (cells_of_kind fd.kind) (λ ds. value_on tagged fd.kind ds) fd.ty fd.class (rename s place) regs (nth tagged f.registers 0) f.stack (map (renamed_cell (rename s place)) f.stack)) kinds_are there_is))
 
     abbrev t2 : State Cell
-    t2 = moved t (place (body_at s i.place + 1 + 1)) (top t).registers (exchanged (shifts.Exchange 1 (cells_of_kind fd.kind)) (nth tagged f.registers 0 ∷ (top t).stack))
+    t2 = top_at t (place (body_at s i.place + 1 + 1)) (top t).registers (moved (shifts.Exchange 1 (cells_of_kind fd.kind)) (nth tagged f.registers 0 ∷ (top t).stack))
 
     next_at : (k : ℕ) → k < length (steps_of s) → IsPlace (code_at w (top t).method) (place k)
     next_at k lt =
@@ -315,10 +315,10 @@ module _
                 method = (top t).method;
                 place = at;
                 registers = (top t).registers;
-                stack = drop (cells_of_kind fd.kind + 1) (exchanged (shifts.Exchange 1 (cells_of_kind fd.kind)) (nth tagged f.registers 0 ∷ (top t).stack));
+                stack = drop (cells_of_kind fd.kind + 1) (moved (shifts.Exchange 1 (cells_of_kind fd.kind)) (nth tagged f.registers 0 ∷ (top t).stack));
               }
               ∷ other_frames t.frames;
-          heap = written t.heap k fd.cell (value_kept tagged fd.kind (value_on tagged fd.kind (exchanged (shifts.Exchange 1 (cells_of_kind fd.kind)) (nth tagged f.registers 0 ∷ (top t).stack))));
+          heap = written t.heap k fd.cell (value_kept tagged fd.kind (value_on tagged fd.kind (moved (shifts.Exchange 1 (cells_of_kind fd.kind)) (nth tagged f.registers 0 ∷ (top t).stack))));
           statics = t.statics;
         }
 

@@ -33,7 +33,7 @@ use Rattle.vm_alike.proofs.Settling.{unless-none}
 use Rattle.xf_homes.specs.declared.home.Home.{Home}
 use Rattle.xf_homes.proofs.Rising.{each-map}
 use Rattle.xf_plan.specs.Source.{Source}
-use Rattle.xf_plan.specs.Plan.{cells, is_leader, needed, operation}
+use Rattle.xf_plan.specs.Plan.{stack_homes, is_leader, needed, operation}
 use Rattle.xf_emission.specs.declared.origin.Origin.TheVariants.{After}
 use Rattle.xf_emission.specs.Edge.{copies, is_stored}
 use Rattle.xf_emission.specs.Group.{body, first_place, gone}
@@ -149,8 +149,8 @@ module _
       let near = beside v w s place laid y u typed_y equal_y.heap of_y in
       let same : (top u).stack ≡ (top y).stack =
       e.held.stack ∙ stay s q (top y) u (rename s place) laid.world laid.planned near (leader-keeps v w s place laid q leader) in
-      let st : ItemsStandFrom s (body_at s i.place) (spill s (cells s q) ++ (copies s (After i.place op) q ++ goto q ∷ [])) =
-      stand-as s (body_at s i.place) (body s i op) (spill s (cells s q) ++ (copies s (After i.place op) q ++ goto q ∷ []))
+      let st : ItemsStandFrom s (body_at s i.place) (spill s (stack_homes s q) ++ (copies s (After i.place op) q ++ goto q ∷ [])) =
+      stand-as s (body_at s i.place) (body s i op) (spill s (stack_homes s q) ++ (copies s (After i.place op) q ++ goto q ∷ []))
       (ap (gone s i.place op) there.first) own.body_steps in
       let first : HoldsAfter s i.place op q (top y) (top u) =
       record {

@@ -14,7 +14,7 @@ use Rattle.xf_homes.specs.declared.home.Home.{Home}
 use Rattle.xf_landed.specs.Apart.{IsSameBut}
 use Rattle.xf_landed.specs.Laid.{HasLaid, class_by}
 use Rattle.xf_plan.specs.Source.{Source}
-use Rattle.xf_plan.specs.Plan.{cells, is_leader}
+use Rattle.xf_plan.specs.Plan.{stack_homes, is_leader}
 use Rattle.xf_emission.specs.Emission.{items, rewritten}
 use Rattle.xf_emission.specs.Group.{group}
 use Rattle.xf_typing.specs.Planned.{IsPlanned}
@@ -36,7 +36,7 @@ group_at s p = place_of p (items s)
 
 -- the homes that are loaded there, before the instruction
 abbrev pub loaded_at : Source → ℕ → List Home
-loaded_at s p = if is_leader s p then cells s p else []
+loaded_at s p = if is_leader s p then stack_homes s p else []
 
 -- the number of the first step after these loads
 abbrev pub body_at : Source → ℕ → ℕ

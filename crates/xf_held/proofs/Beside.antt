@@ -27,7 +27,7 @@ use Rattle.xf_homes.specs.Order.{register_sum}
 use Rattle.xf_homes.specs.Value.{value_at, width}
 use Rattle.xf_homes.specs.Walk.{register_from}
 use Rattle.xf_plan.specs.Source.{Source}
-use Rattle.xf_plan.specs.Plan.{cells, needed, or_first, register}
+use Rattle.xf_plan.specs.Plan.{stack_homes, needed, or_first, register}
 use Rattle.xf_typing.specs.Planned.{IsPlanned, Keeps}
 use Rattle.xf_typing.specs.Edges.{NeededHaveHomes, IsNeededFor, slot_types, FillStack, CellsFillStack, EdgesCarry}
 use Rattle.xf_typing.proofs.Registers.{both-below}
@@ -172,12 +172,12 @@ module _ (v w : Linked) (l : AreLaws v w) (s : Source) (is : s.world ≡ v) (pla
 
     -- the values of a stack that is kept are of the types of their homes
     pub cells-valued :
-        KeepsStack s.world s.method s.frames q → (h : Home) → IsAmong h (cells s q)
+        KeepsStack s.world s.method s.frames q → (h : Home) → IsAmong h (stack_homes s q)
         → Keeps s h × CellsAt w.classes (kinds t) (slots f) h.slot (asked_types w.classes (letter_of h.ty))
     cells-valued keeps h a =
         let filled = (subst CellsFillStack (sym is) l.fill) s refl plan q typed.frame typed.at keeps in
-        let k = among-each (Keeps s) (cells s q) h filled.keep a in
-        let value = among-each (λ k. value_at (slot_types typed.frame) k.slot ≡ Some k.ty) (cells s q) h filled.values a in
+        let k = among-each (Keeps s) (stack_homes s q) h filled.keep a in
+        let value = among-each (λ k. value_at (slot_types typed.frame) k.slot ≡ Some k.ty) (stack_homes s q) h filled.values a in
         (k, value-cells w.classes types objects (kinds t) (slots f) (slot_types typed.frame) slots-below h.slot h.ty value k.kept (known-there h k))
 
     -- and so are those of locals that are needed

@@ -21,14 +21,14 @@ use Rattle.xf_homes.specs.Home.{argument_types, KeepsStack}
 use Rattle.xf_homes.specs.Laws.{HomesServe}
 use Rattle.xf_homes.specs.Value.{value_at, width}
 use Rattle.xf_plan.specs.Source.{Source}
-use Rattle.xf_plan.specs.Plan.{cells, home_of, or_first, register}
+use Rattle.xf_plan.specs.Plan.{stack_homes, home_of, or_first, register}
 use Rattle.xf_emission.specs.declared.origin.Origin.TheVariants.{Start}
 use Rattle.xf_emission.specs.Edge.{cell_copies}
 use Rattle.xf_typing.specs.Planned.{IsPlanned, Keeps}
 use Rattle.xf_typing.proofs.Ready.{IsValueAt, value-is}
 use Rattle.xf_typing.proofs.Moves.{get-inside}
 use Rattle.xf_typing.specs.Edges.{AreMatched, none_matched, more_matched}
-use Rattle.xf_held.specs.Edges.{insns, moved, IsBeside, AreMoved, CellsRun, HoldsBefore, StartsHold}
+use Rattle.xf_held.specs.Edges.{insns, top_at, IsBeside, AreMoved, CellsRun, HoldsBefore, StartsHold}
 use Rattle.xf_held.specs.Held.{Holds, slots}
 use Rattle.xf_held.specs.Moves.{size, letter_of, InstructionsStandFrom, IsAtStep}
 use Rattle.xf_held.proofs.Valued.{asked_types, CellsAt}
@@ -49,7 +49,7 @@ module _ (v w : Linked) (l : AreLaws v w) (place : ℕ → ℕ) (steps : List St
     room = omega (arith, low, beside.room)
 
     pairs-of :
-        {hs ks : List Home} → AreMatched s hs ks → Each (Holds s (slots f) g) hs → ((k : Home) → IsAmong k ks → IsAmong k (cells s q))
+        {hs ks : List Home} → AreMatched s hs ks → Each (Holds s (slots f) g) hs → ((k : Home) → IsAmong k ks → IsAmong k (stack_homes s q))
         → ArePairs w l.world place steps s (own v w l s is plan) (slots f) g.method g.stack below heap statics at.method at.is_method at.are room g.registers hs ks
     pairs-of none_matched held inside = no_pairs
     pairs-of (more_matched {h = h} {k = k} slot of_h of_k loads more) held inside =
@@ -80,7 +80,7 @@ module _ (v w : Linked) (l : AreLaws v w) (place : ℕ → ℕ) (steps : List St
         by slot (inr reference) = inr reference
 
     run-cells :
-        (hs ks : List Home) → AreMatched s hs ks → Each (Holds s (slots f) g) hs → ((k : Home) → IsAmong k ks → IsAmong k (cells s q))
+        (hs ks : List Home) → AreMatched s hs ks → Each (Holds s (slots f) g) hs → ((k : Home) → IsAmong k ks → IsAmong k (stack_homes s q))
         → count ≡ length (insns (cell_copies s hs ks)) → InstructionsStandFrom steps n (insns (cell_copies s hs ks))
         → AreMoved w s f t ks (length (insns (cell_copies s hs ks))) (place (n + length (insns (cell_copies s hs ks))))
     run-cells hs ks matched held inside is_count stand =
@@ -93,7 +93,7 @@ module _ (v w : Linked) (l : AreLaws v w) (place : ℕ → ℕ) (steps : List St
           runs =
               subst
               (λ (x : State Cell).
-              Runs tagged w (length (insns (cell_copies s hs ks))) x (running (moved t (place (n + length (insns (cell_copies s hs ks)))) ran.after g.stack)))
+              Runs tagged w (length (insns (cell_copies s hs ks))) x (running (top_at t (place (n + length (insns (cell_copies s hs ks)))) ran.after g.stack)))
               begins ran.runs;
           count = ran.many;
           cells = each-among (Holds s (slots f) (record g { registers = ran.after })) ks
@@ -111,7 +111,7 @@ module _ (v w : Linked) (l : AreLaws v w) (place : ℕ → ℕ) (steps : List St
       → IsAtStep w place steps (record { frames = fs; heap = heap; statics = statics }) n (length (insns (cell_copies s hs ks)))
       → InstructionsStandFrom steps n (insns (cell_copies s hs ks))
       → length (first_frame fs).stack ≤ s.method.rec.max_stack
-      → ((k : Home) → IsAmong k ks → IsAmong k (cells s q))
+      → ((k : Home) → IsAmong k ks → IsAmong k (stack_homes s q))
       → Each (Holds s (slots f) (first_frame fs)) hs
       → AreMoved w s f (record { frames = fs; heap = heap; statics = statics }) ks (length (insns (cell_copies s hs ks)))
       (place (n + length (insns (cell_copies s hs ks))))

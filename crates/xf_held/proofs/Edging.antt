@@ -32,7 +32,7 @@ use Rattle.xf_emission.specs.declared.origin.Origin.TheVariants.{Start, After, E
 use Rattle.xf_emission.specs.Edge.{is_stored, home_before, held, copies, cell_copies}
 use Rattle.xf_typing.specs.Planned.{IsPlanned, Keeps}
 use Rattle.xf_typing.specs.Edges.{LeadsTo, stored_at, IsCarried, EdgesCarry}
-use Rattle.xf_held.specs.Edges.{insns, moved, IsBeside, HoldsAfter, HoldsBefore, AreCarried, EdgesRun}
+use Rattle.xf_held.specs.Edges.{insns, top_at, IsBeside, HoldsAfter, HoldsBefore, AreCarried, EdgesRun}
 use Rattle.xf_held.specs.Held.{Holds, HoldsLocals, slots}
 use Rattle.xf_held.specs.Moves.{size, letter_of, InstructionsStandFrom, IsAtStep, IsCopy}
 use Rattle.xf_held.proofs.Copies.{wide}
@@ -188,7 +188,7 @@ module _ (v w : Linked) (l : AreLaws v w) (place : ℕ → ℕ) (steps : List St
         record {
           registers = ran.after;
           runs =
-              subst (λ (x : State Cell). Runs tagged w (length (insns (copies s o q))) x (running (moved t (place (n + length (insns (copies s o q)))) ran.after g.stack))) begins
+              subst (λ (x : State Cell). Runs tagged w (length (insns (copies s o q))) x (running (top_at t (place (n + length (insns (copies s o q)))) ran.after g.stack))) begins
               ran.runs;
           count = ran.many;
           locals = λ x. each-among (Holds s f.registers (record g { registers = ran.after })) (needed s q x) (λ k a. local-after ran.after ran.locals x k a);

@@ -35,7 +35,7 @@ use Rattle.xf_homes.specs.Value.{width}
 use Rattle.xf_homes.specs.Walk.{has, register_from, same_home}
 use Rattle.xf_homes.proofs.Events.{homes-equal}
 use Rattle.xf_plan.specs.Source.{Source}
-use Rattle.xf_plan.specs.Plan.{cells, needed, stack_of, cells_from}
+use Rattle.xf_plan.specs.Plan.{stack_homes, needed, stack_of, cells_from}
 use Rattle.xf_emission.specs.declared.origin.Origin.{Origin}
 use Rattle.xf_emission.specs.Edge.{home_before, held, copy_new, copies_from, local_copies, locals_copies, copies}
 use Rattle.xf_emission.specs.Move.{copy}
@@ -99,7 +99,7 @@ module _ (t : ClassTable) (order : IsOrderOfTypes t) (ks : List ObjectKind) wher
 
 pub kept-stacks-stay : (v w : Linked) → AreLaws v w → KeptStacksStay v w
 kept-stacks-stay v w l s q f t e is plan beside keeps =
-    let hs : List Home = cells s q in
+    let hs : List Home = stack_homes s q in
     let filled : FillStack s q (typed v w l s is plan q f t beside).frame =
     (subst CellsFillStack (sym is) l.fill) s refl plan q (typed v w l s is plan q f t beside).frame (typed v w l s is plan q f t beside).at keeps in
     let follow : Follow (length f.registers) hs = subst (λ (k : ℕ). Follow k hs) (sym (count-registers v w l s is plan q f t beside)) filled.follow in
@@ -122,7 +122,7 @@ homes-few (h ∷ hs) = omega (arith, wide h.ty, homes-few hs, sum_by-cons (λ (k
 
 module _ (v : Linked) (fill : CellsFillStack v) where
   pub cells-are-few : CellsAreFew v
-  unfolding cells
+  unfolding stack_homes
   cells-are-few s q is plan keeps = by (s.frames q) refl
     where
       by :
@@ -133,7 +133,7 @@ module _ (v : Linked) (fill : CellsFillStack v) where
       by (Some g) e =
           let filled = (subst CellsFillStack (sym is) fill) s refl plan q g e keeps in
           let fits = room-of g e in
-          omega (arith, homes-few (cells s q), filled.fill, fits)
+          omega (arith, homes-few (stack_homes s q), filled.fill, fits)
         where
           room-of : (g : Types) → s.frames q ≡ Some g → length g.stack ≤ s.method.rec.max_stack
           room-of g e = within (s.frames q) e (plan.typing.fit q ((plan.frames.reached q).0 (ap is_some e)))

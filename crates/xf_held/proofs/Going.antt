@@ -41,7 +41,7 @@ use Rattle.vm_sound.specs.Frames.{least_types, types_in}
 use Rattle.vm_sound.proofs.Cells.{cell-at}
 use Rattle.vm_sound.proofs.Finish.{pick}
 use Rattle.vm_alike.specs.Running.{Executes}
-use Rattle.xf_held.proofs.Passing.{passes-before}
+use Rattle.vm_sound.proofs.Passing.{passes-before}
 use Rattle.xf_held.specs.Moves.{size, copied, with_registers, AreFilled, end_of, OperationsGoOn, CopiesRun}
 
 -- what was stored in a cell is loaded as it is

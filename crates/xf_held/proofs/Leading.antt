@@ -19,10 +19,10 @@ use Rattle.xf_homes.specs.Home.{register_count}
 use Rattle.xf_homes.specs.Order.{SlotsFollow as Follow, register_sum}
 use Rattle.xf_homes.specs.Value.{width}
 use Rattle.xf_plan.specs.Source.{Source}
-use Rattle.xf_plan.specs.Plan.{cells, register}
+use Rattle.xf_plan.specs.Plan.{stack_homes, register}
 use Rattle.xf_emission.specs.Move.{load, loads}
 use Rattle.xf_typing.specs.Edges.{CellsFillStack, FillStack}
-use Rattle.xf_held.specs.Edges.{insns, moved, LeadersLoad}
+use Rattle.xf_held.specs.Edges.{insns, top_at, LeadersLoad}
 use Rattle.xf_held.specs.Held.{Holds, Waits, slots}
 use Rattle.xf_held.specs.Moves.{InstructionsStandFrom, load_of, loaded_stack, CanLoad}
 use Rattle.xf_held.proofs.Loading.{loads-run}
@@ -37,7 +37,7 @@ pub leaders-load : (v w : Linked) → AreLaws v w → LeadersLoad v w
 leaders-load v w l place steps t n s q f is plan beside keeps at stand waits =
     let filled : FillStack s q (typed v w l s is plan q f t beside).frame =
     (subst CellsFillStack (sym is) l.fill) s refl plan q (typed v w l s is plan q f t beside).frame (typed v w l s is plan q f t beside).at keeps in
-    let hs : List Home = cells s q in
+    let hs : List Home = stack_homes s q in
     let follow : Follow (length f.registers) hs =
     subst (λ (k : ℕ). Follow k hs) (sym (count-registers v w l s is plan q f t beside)) filled.follow in
     let sum : register_sum hs ≡ length f.stack = filled.fill ∙ sym (count-stack v w l s is plan q f t beside) in
@@ -51,4 +51,4 @@ leaders-load v w l place steps t n s q f is plan beside keeps at stand waits =
     let k = cells-valued v w l s is plan q f t beside keeps h a in
     held-can-load w s (slots f) t h (register-small v w l s is plan h k.0.has) (among-each (Holds s (slots f) (top t)) hs h waits.cells a) k.1) in
     let ran = loads-run w l.world place steps t n s hs at (subst (InstructionsStandFrom steps n) (insns-loads s hs) stand) can fits in
-    subst (λ (stack : List Cell). Runs tagged w (length hs) t (running (moved t (place (n + length hs)) (top t).registers stack))) back ran
+    subst (λ (stack : List Cell). Runs tagged w (length hs) t (running (top_at t (place (n + length hs)) (top t).registers stack))) back ran

@@ -1,7 +1,6 @@
 pub mod Homes
 pub mod Running
 pub mod Standing
-pub mod Passing
 pub mod Going
 pub mod Copying
 pub mod Loading

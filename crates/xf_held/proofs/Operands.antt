@@ -22,13 +22,13 @@ use Rattle.xf_homes.specs.Home.{register_count}
 use Rattle.xf_homes.specs.Order.{SlotsFollow as Follow, register_sum}
 use Rattle.xf_homes.specs.Value.{width}
 use Rattle.xf_plan.specs.Source.{Source}
-use Rattle.xf_plan.specs.Plan.{cells, register}
-use Rattle.xf_emission.specs.Jump.{is_over, operands, under}
+use Rattle.xf_plan.specs.Plan.{stack_homes, register}
+use Rattle.xf_emission.specs.Jump.{has_under, operands, under}
 use Rattle.xf_emission.specs.Move.{loads}
 use Rattle.xf_typing.specs.Planned.{IsPlanned}
 use Rattle.xf_typing.specs.Edges.{CellsFillStack, FillStack, ForksAreCut, IsForkedAt}
 use Rattle.xf_typing.proofs.Stacks.{turned-cons}
-use Rattle.xf_held.specs.Edges.{insns, moved, IsBeside, OperandsLoad, UnderHold, UnderLoads}
+use Rattle.xf_held.specs.Edges.{insns, top_at, IsBeside, OperandsLoad, UnderHold, UnderLoads}
 use Rattle.xf_held.specs.Held.{Holds, slots}
 use Rattle.xf_held.specs.Moves.{size, letter_of, InstructionsStandFrom, IsAtStep, CanLoad, load_of, loaded_stack, value_at}
 use Rattle.xf_held.proofs.Copies.{wide}
@@ -136,7 +136,7 @@ among-right h (k ∷ hs) ks a = inr (among-right h hs ks a)
 -- ---- a conditional over a deeper stack
 
 module _ (v w : Linked) (l : AreLaws v w) (place : ℕ → ℕ) (steps : List Step) (t : State Cell) (s : Source) (is : s.world ≡ v) (plan : IsPlanned s) (i : Placed) (k : ℕ) (f : Frame Cell)
-    (beside : IsBeside w s i.place f t) (fork : IsForkedAt s i.place k (typed v w l s is plan i.place f t beside).frame) (over : is_over s i.place k ≡ true) where
+    (beside : IsBeside w s i.place f t) (fork : IsForkedAt s i.place k (typed v w l s is plan i.place f t beside).frame) (over : has_under s i.place k ≡ true) where
   filled : FillStack s i.place (typed v w l s is plan i.place f t beside).frame
   filled = (subst CellsFillStack (sym is) l.fill) s refl plan i.place (typed v w l s is plan i.place f t beside).frame (typed v w l s is plan i.place f t beside).at (fork.keeps over)
 
@@ -184,13 +184,13 @@ module _ (v w : Linked) (l : AreLaws v w) (place : ℕ → ℕ) (steps : List St
   part-loads :
       (n : ℕ) (hs : List Home) (stack : List Cell)
       → Each (Holds s (slots f) (top t)) hs
-      → ((h : Home) → IsAmong h hs → IsAmong h (cells s i.place))
+      → ((h : Home) → IsAmong h hs → IsAmong h (stack_homes s i.place))
       → IsAtStep w place steps t n (length hs)
       → InstructionsStandFrom steps n (insns (loads s hs))
       → (top t).stack ≡ []
       → piled (slots f) (reverse hs) [] ≡ stack
       → length stack ≤ length f.stack
-      → Runs tagged w (length hs) t (running (moved t (place (n + length hs)) (top t).registers stack))
+      → Runs tagged w (length hs) t (running (top_at t (place (n + length hs)) (top t).registers stack))
   part-loads n hs stack held_part inside at stand empty pile less =
       let back : loaded_stack s (top t).registers hs (top t).stack ≡ stack =
       ap (loaded_stack s (top t).registers hs) empty ∙ (loaded-piled s (slots f) (top t) hs [] held_part ∙ pile) in
@@ -201,21 +201,21 @@ module _ (v w : Linked) (l : AreLaws v w) (place : ℕ → ℕ) (steps : List St
       let c = cells-valued v w l s is plan i.place f t beside (fork.keeps over) h (inside h a) in
       held-can-load w s (slots f) t h (register-small v w l s is plan h c.0.has) (among-each (Holds s (slots f) (top t)) hs h held_part a) c.1) in
       let ran = loads-run w l.world place steps t n s hs at (subst (InstructionsStandFrom steps n) (insns-loads s hs) stand) can fits in
-      subst (λ (cs : List Cell). Runs tagged w (length hs) t (running (moved t (place (n + length hs)) (top t).registers cs))) back ran
+      subst (λ (cs : List Cell). Runs tagged w (length hs) t (running (top_at t (place (n + length hs)) (top t).registers cs))) back ran
 
   operands-load :
-      (n : ℕ) → Each (Holds s (slots f) (top t)) (cells s i.place) → IsAtStep w place steps t n (length (operands s i.place k)) → InstructionsStandFrom steps n (insns (loads s (operands s i.place k))) → (top t).stack ≡ []
-      → Runs tagged w (length (operands s i.place k)) t (running (moved t (place (n + length (operands s i.place k))) (top t).registers (take k f.stack)))
+      (n : ℕ) → Each (Holds s (slots f) (top t)) (stack_homes s i.place) → IsAtStep w place steps t n (length (operands s i.place k)) → InstructionsStandFrom steps n (insns (loads s (operands s i.place k))) → (top t).stack ≡ []
+      → Runs tagged w (length (operands s i.place k)) t (running (top_at t (place (n + length (operands s i.place k))) (top t).registers (take k f.stack)))
   operands-load n held at stand empty =
       part-loads n (operands s i.place k) (take k f.stack)
       (each-among (Holds s (slots f) (top t)) (operands s i.place k)
-      (λ h a. among-each (Holds s (slots f) (top t)) (cells s i.place) h held (subst (IsAmong h) (sym fork.parts) (among-right h (under s i.place k) (operands s i.place k) a))))
+      (λ h a. among-each (Holds s (slots f) (top t)) (stack_homes s i.place) h held (subst (IsAmong h) (sym fork.parts) (among-right h (under s i.place k) (operands s i.place k) a))))
       (λ h a. subst (IsAmong h) (sym fork.parts) (among-right h (under s i.place k) (operands s i.place k) a)) at stand empty operands-piled
       (omega (arith, ap length (take-append-drop k f.stack), length-append (take k f.stack) (drop k f.stack)))
 
   under-load :
       (n : ℕ) → Each (Holds s (slots f) (top t)) (under s i.place k) → IsAtStep w place steps t n (length (under s i.place k)) → InstructionsStandFrom steps n (insns (loads s (under s i.place k))) → (top t).stack ≡ []
-      → Runs tagged w (length (under s i.place k)) t (running (moved t (place (n + length (under s i.place k))) (top t).registers (drop k f.stack)))
+      → Runs tagged w (length (under s i.place k)) t (running (top_at t (place (n + length (under s i.place k))) (top t).registers (drop k f.stack)))
   under-load n held at stand empty =
       part-loads n (under s i.place k) (drop k f.stack) held
       (λ h a. subst (IsAmong h) (sym fork.parts) (among-left h (under s i.place k) (operands s i.place k) a)) at stand empty under-piled

@@ -28,12 +28,12 @@ use Rattle.xf_homes.specs.Laws.{HasRegister}
 use Rattle.xf_homes.specs.Order.{SlotsFollow as Follow, register_sum}
 use Rattle.xf_homes.specs.Value.{width}
 use Rattle.xf_plan.specs.Source.{Source}
-use Rattle.xf_plan.specs.Plan.{cells, register}
+use Rattle.xf_plan.specs.Plan.{stack_homes, register}
 use Rattle.xf_emission.specs.Move.{with_byte, store_op, store, spill}
 use Rattle.xf_typing.specs.Planned.{IsPlanned}
 use Rattle.xf_typing.specs.Edges.{CellsFillStack, FillStack}
 use Rattle.xf_typing.proofs.Stacks.{turned-cons}
-use Rattle.xf_held.specs.Edges.{insns, moved, IsBeside, AreSpilled, StacksSpill}
+use Rattle.xf_held.specs.Edges.{insns, top_at, IsBeside, AreSpilled, StacksSpill}
 use Rattle.xf_held.specs.Held.{Holds, slots}
 use Rattle.xf_held.specs.Laws.{AreApart}
 use Rattle.xf_held.specs.Moves.{IsExecutable, size, end_of, letter_of, InstructionsStandFrom, IsAtStep, OwnRegisters, value_at}
@@ -253,13 +253,13 @@ module _ (v w : Linked) (l : AreLaws v w) (place : ℕ → ℕ) (steps : List St
   spill-by :
       (g : Frame Cell) (below : List (Frame Cell)) (heap : List (Object Cell)) (statics : List Cell) (n : ℕ)
       → IsBeside w s q f (record { frames = g ∷ below; heap = heap; statics = statics })
-      → IsAtStep w place steps (record { frames = g ∷ below; heap = heap; statics = statics }) n (length (cells s q))
-      → InstructionsStandFrom steps n (insns (spill s (cells s q)))
+      → IsAtStep w place steps (record { frames = g ∷ below; heap = heap; statics = statics }) n (length (stack_homes s q))
+      → InstructionsStandFrom steps n (insns (spill s (stack_homes s q)))
       → g.stack ≡ f.stack
-      → AreSpilled w s q f (record { frames = g ∷ below; heap = heap; statics = statics }) (place (n + length (cells s q)))
+      → AreSpilled w s q f (record { frames = g ∷ below; heap = heap; statics = statics }) (place (n + length (stack_homes s q)))
   spill-by g below heap statics n beside at stand stack_is =
       let t : State Cell = record { frames = g ∷ below; heap = heap; statics = statics } in
-      let hs : List Home = cells s q in
+      let hs : List Home = stack_homes s q in
       let filled : FillStack s q (typed v w l s is plan q f t beside).frame =
       (subst CellsFillStack (sym is) l.fill) s refl plan q (typed v w l s is plan q f t beside).frame (typed v w l s is plan q f t beside).at keeps in
       let follow : Follow (length f.registers) hs = subst (λ (k : ℕ). Follow k hs) (sym (count-registers v w l s is plan q f t beside)) filled.follow in
@@ -286,9 +286,9 @@ module _ (v w : Linked) (l : AreLaws v w) (place : ℕ → ℕ) (steps : List St
       record {
         registers = ran.after;
         runs =
-            subst (λ (k : ℕ). Runs tagged w k t (running (moved t (place (n + length hs)) ran.after []))) count
-            (subst (λ (k : ℕ). Runs tagged w (length (reverse hs)) t (running (moved t (place (n + k)) ran.after []))) count
-            (subst (λ (x : State Cell). Runs tagged w (length (reverse hs)) x (running (moved t (place (n + length (reverse hs))) ran.after []))) begins ran.runs));
+            subst (λ (k : ℕ). Runs tagged w k t (running (top_at t (place (n + length hs)) ran.after []))) count
+            (subst (λ (k : ℕ). Runs tagged w (length (reverse hs)) t (running (top_at t (place (n + k)) ran.after []))) count
+            (subst (λ (x : State Cell). Runs tagged w (length (reverse hs)) x (running (top_at t (place (n + length (reverse hs))) ran.after []))) begins ran.runs));
         count = ran.many;
         cells = each-among (Holds s (slots f) (record g { registers = ran.after })) hs
             (λ k a. held-as s (slots f) _ (record g { registers = ran.after }) k refl (among-each _ (reverse hs) k ran.holds (among-reverse k hs a)));
@@ -302,10 +302,10 @@ module _ (v w : Linked) (l : AreLaws v w) (place : ℕ → ℕ) (steps : List St
   spill-frames :
       (fs : List (Frame Cell)) (heap : List (Object Cell)) (statics : List Cell) (n : ℕ)
       → IsBeside w s q f (record { frames = fs; heap = heap; statics = statics })
-      → IsAtStep w place steps (record { frames = fs; heap = heap; statics = statics }) n (length (cells s q))
-      → InstructionsStandFrom steps n (insns (spill s (cells s q)))
+      → IsAtStep w place steps (record { frames = fs; heap = heap; statics = statics }) n (length (stack_homes s q))
+      → InstructionsStandFrom steps n (insns (spill s (stack_homes s q)))
       → (first_frame fs).stack ≡ f.stack
-      → AreSpilled w s q f (record { frames = fs; heap = heap; statics = statics }) (place (n + length (cells s q)))
+      → AreSpilled w s q f (record { frames = fs; heap = heap; statics = statics }) (place (n + length (stack_homes s q)))
   spill-frames [] heap statics n beside at stand e = absurd (let lt = at.runs in omega (arith, lt))
   spill-frames (g ∷ below) heap statics n beside at stand e = spill-by g below heap statics n beside at stand e
 

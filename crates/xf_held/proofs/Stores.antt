@@ -52,7 +52,7 @@ use Rattle.xf_typing.specs.Planned.{IsPlanned}
 use Rattle.xf_typing.proofs.Carried.{is-short, is-high, is-low}
 use Rattle.xf_typing.proofs.Rows.{pop-is, pop-two-is}
 use Rattle.xf_typing.proofs.Running.{is-reference}
-use Rattle.xf_held.specs.Edges.{insns, moved, IsBeside}
+use Rattle.xf_held.specs.Edges.{insns, top_at, IsBeside}
 use Rattle.xf_held.specs.Held.{Holds}
 use Rattle.xf_held.specs.Laws.{AreApart}
 use Rattle.xf_held.specs.Moves.{IsExecutable, size, letter_of, AreFilled, InstructionsStandFrom, IsAtStep, copy_of, end_of, value_at, OwnRegisters, IsCopy}
@@ -342,11 +342,11 @@ module _ (v w : Linked) (l : AreLaws v w) (place : ℕ → ℕ) (steps : List St
         let lone = subst (InstructionsStandFrom steps n) (popped-insns letter) stand in
         let step = pop-step w l.world (types v w l s is plan q f t beside) place steps f.registers g.method below heap statics at.method at.is_method at.are n x g.registers stack letter lone.0
         (omega (arith, at.further, is_count, one)) value (omega (arith, fits)) in
-        let ran : Runs tagged w 1 t (running (moved t (place (n + 1)) g.registers stack)) =
-        subst (λ (y : State Cell). Runs tagged w 1 y (running (moved t (place (n + 1)) g.registers stack))) (begins (value_at letter x f.registers ++ stack) (sym stack_is)) (then step stands) in
+        let ran : Runs tagged w 1 t (running (top_at t (place (n + 1)) g.registers stack)) =
+        subst (λ (y : State Cell). Runs tagged w 1 y (running (top_at t (place (n + 1)) g.registers stack))) (begins (value_at letter x f.registers ++ stack) (sym stack_is)) (then step stands) in
         record {
           registers = g.registers;
-          runs = subst (λ (k : ℕ). Runs tagged w k t (running (moved t (place (n + k)) g.registers stack))) (sym one) ran;
+          runs = subst (λ (k : ℕ). Runs tagged w k t (running (top_at t (place (n + k)) g.registers stack))) (sym one) ran;
           count = refl;
           values = subst (Each (Holds s f.registers (record g { registers = g.registers }))) (sym none) tt;
           others = λ h has held. held-as s f.registers g (record g { registers = g.registers }) h refl held;
@@ -388,13 +388,13 @@ module _ (v w : Linked) (l : AreLaws v w) (place : ℕ → ℕ) (steps : List St
         let last : n + 1 + 2 * length hs ≡ n + suc (length (insns (flat_map (copy s h) hs))) = omega (arith, tail_count) in
         let stack_h : value_at (letter_of h.ty) h.slot f.registers ++ stack ≡ g.stack =
         ap (λ (y : ℕ). value_at (letter_of h.ty) y f.registers ++ stack) own_h.0 ∙ ap (λ (a : Sort). value_at a x f.registers ++ stack) own_h.1 ∙ sym stack_is in
-        let all : Runs tagged w (1 + 2 * length hs) t (running (moved t (place (n + 1 + 2 * length hs)) rest.after stack)) =
-        subst (λ (y : State Cell). Runs tagged w (1 + 2 * length hs) y (running (moved t (place (n + 1 + 2 * length hs)) rest.after stack))) (begins (value_at (letter_of h.ty) h.slot f.registers ++ stack) stack_h)
-        (subst (λ (k : ℕ). Runs tagged w k (at_now (value_at (letter_of h.ty) h.slot f.registers ++ stack)) (running (moved t (place (n + 1 + 2 * length hs)) rest.after stack))) next_count (then first rest.runs)) in
+        let all : Runs tagged w (1 + 2 * length hs) t (running (top_at t (place (n + 1 + 2 * length hs)) rest.after stack)) =
+        subst (λ (y : State Cell). Runs tagged w (1 + 2 * length hs) y (running (top_at t (place (n + 1 + 2 * length hs)) rest.after stack))) (begins (value_at (letter_of h.ty) h.slot f.registers ++ stack) stack_h)
+        (subst (λ (k : ℕ). Runs tagged w k (at_now (value_at (letter_of h.ty) h.slot f.registers ++ stack)) (running (top_at t (place (n + 1 + 2 * length hs)) rest.after stack))) next_count (then first rest.runs)) in
         record {
           registers = rest.after;
-          runs = subst (λ (k : ℕ). Runs tagged w k t (running (moved t (place (n + suc (length (insns (flat_map (copy s h) hs))))) rest.after stack))) whole
-              (subst (λ (k : ℕ). Runs tagged w (1 + 2 * length hs) t (running (moved t (place k) rest.after stack))) last all);
+          runs = subst (λ (k : ℕ). Runs tagged w k t (running (top_at t (place (n + suc (length (insns (flat_map (copy s h) hs))))) rest.after stack))) whole
+              (subst (λ (k : ℕ). Runs tagged w (1 + 2 * length hs) t (running (top_at t (place k) rest.after stack))) last all);
           count = rest.many ∙ same;
           values = subst (Each (Holds s f.registers (record g { registers = rest.after }))) (sym some) (
             held-as s f.registers (record { method = g.method; place = 0; registers = rest.after; stack = stack }) (record g { registers = rest.after }) h refl (rest.keeps h own_h.2 written),

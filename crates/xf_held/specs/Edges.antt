@@ -29,11 +29,11 @@ use Rattle.xf_homes.specs.Order.{register_sum}
 use Rattle.xf_homes.specs.Value.{width}
 use Rattle.xf_homes.specs.Walk.{operands_of}
 use Rattle.xf_plan.specs.Source.{Source}
-use Rattle.xf_plan.specs.Plan.{cells, needed, operation}
+use Rattle.xf_plan.specs.Plan.{stack_homes, needed, operation}
 use Rattle.xf_emission.specs.declared.origin.Origin.{Origin}
 use Rattle.xf_emission.specs.declared.origin.Origin.TheVariants.{Start, After, Entry}
 use Rattle.xf_emission.specs.Edge.{is_stored, home_before, copies, cell_copies}
-use Rattle.xf_emission.specs.Jump.{is_over, operands, under}
+use Rattle.xf_emission.specs.Jump.{has_under, operands, under}
 use Rattle.xf_emission.specs.Move.{loads, spill}
 use Rattle.xf_typing.specs.Planned.{IsPlanned}
 use Rattle.xf_typing.specs.Edges.{AreMatched, LeadsTo}
@@ -47,8 +47,8 @@ insns (Plain i ∷ items) = i ∷ insns items
 insns (item ∷ items) = insns items
 
 -- the frame on top at a place, with these registers and this stack; all else is as before
-abbrev pub moved : State Cell → ℕ → List Cell → List Cell → State Cell
-moved t place registers stack = with_top t (record (top t) { place = place; registers = registers; stack = stack })
+abbrev pub top_at : State Cell → ℕ → List Cell → List Cell → State Cell
+top_at t place registers stack = with_top t (record (top t) { place = place; registers = registers; stack = stack })
 
 -- the state beside a frame of the source at the place q: the types of that frame's cells are below those there, and the frame on top has a
 -- register for each of the homes', and room for one cell more on its stack
@@ -68,10 +68,10 @@ LeadersLoad v w =
     → IsPlanned s
     → IsBeside w s q f t
     → KeepsStack s.world s.method s.frames q
-    → IsAtStep w place steps t n (length (cells s q))
-    → InstructionsStandFrom steps n (insns (loads s (cells s q)))
+    → IsAtStep w place steps t n (length (stack_homes s q))
+    → InstructionsStandFrom steps n (insns (loads s (stack_homes s q)))
     → Waits s q f (top t)
-    → Runs tagged w (length (cells s q)) t (running (moved t (place (n + length (cells s q))) (top t).registers f.stack))
+    → Runs tagged w (length (stack_homes s q)) t (running (top_at t (place (n + length (stack_homes s q))) (top t).registers f.stack))
 
 -- no more cells are kept than a stack has
 abbrev pub CellsAreFew : Linked → Type 0
@@ -80,7 +80,7 @@ CellsAreFew v =
     → s.world ≡ v
     → IsPlanned s
     → KeepsStack s.world s.method s.frames q
-    → length (cells s q) ≤ s.method.rec.max_stack
+    → length (stack_homes s q) ≤ s.method.rec.max_stack
 
 -- where a stack is kept, it has no uninitialised object
 abbrev pub KeptStacksStay : Linked → Linked → Type 0
@@ -95,9 +95,9 @@ KeptStacksStay v w =
 -- after the stores of a stack into homes: each of its values stands in its home, and every local in those in which it stood
 pub record AreSpilled (w : Linked) (s : Source) (q : ℕ) (f : Frame Cell) (t : State Cell) (last : ℕ) : Type 0 where
   pub registers : List Cell
-  pub runs : Runs tagged w (length (cells s q)) t (running (moved t last registers []))
+  pub runs : Runs tagged w (length (stack_homes s q)) t (running (top_at t last registers []))
   pub count : length registers ≡ length (top t).registers
-  pub cells : Each (Holds s (slots f) (record (top t) { registers = registers })) (cells s q)
+  pub cells : Each (Holds s (slots f) (record (top t) { registers = registers })) (stack_homes s q)
   pub others :
       (values : List Cell) (h : Home)
       → HasRegister s.homes h
@@ -113,10 +113,10 @@ StacksSpill v w =
     → IsPlanned s
     → IsBeside w s q f t
     → KeepsStack s.world s.method s.frames q
-    → IsAtStep w place steps t n (length (cells s q))
-    → InstructionsStandFrom steps n (insns (spill s (cells s q)))
+    → IsAtStep w place steps t n (length (stack_homes s q))
+    → InstructionsStandFrom steps n (insns (spill s (stack_homes s q)))
     → (top t).stack ≡ f.stack
-    → AreSpilled w s q f t (place (n + length (cells s q)))
+    → AreSpilled w s q f t (place (n + length (stack_homes s q)))
 
 -- ---- locals
 
@@ -137,7 +137,7 @@ HoldsBefore s o q f g = (x : ℕ) → IfSome (home_before s o x) (Holds s f.regi
 -- stood
 pub record AreCarried (w : Linked) (s : Source) (q : ℕ) (f : Frame Cell) (t : State Cell) (n last : ℕ) : Type 0 where
   pub registers : List Cell
-  pub runs : Runs tagged w n t (running (moved t last registers (top t).stack))
+  pub runs : Runs tagged w n t (running (top_at t last registers (top t).stack))
   pub count : length registers ≡ length (top t).registers
   pub locals : HoldsLocals s q f (record (top t) { registers = registers })
   pub others :
@@ -174,7 +174,7 @@ CopiesAreFew v =
 -- after the copies of cells: the values stand in the second homes, and every value in that in which it stood
 pub record AreMoved (w : Linked) (s : Source) (f : Frame Cell) (t : State Cell) (ks : List Home) (n last : ℕ) : Type 0 where
   pub registers : List Cell
-  pub runs : Runs tagged w n t (running (moved t last registers (top t).stack))
+  pub runs : Runs tagged w n t (running (top_at t last registers (top t).stack))
   pub count : length registers ≡ length (top t).registers
   pub cells : Each (Holds s (slots f) (record (top t) { registers = registers })) ks
   pub others :
@@ -194,7 +194,7 @@ CellsRun v w =
     → IsAtStep w place steps t n (length (insns (cell_copies s hs ks)))
     → InstructionsStandFrom steps n (insns (cell_copies s hs ks))
     → length (top t).stack ≤ s.method.rec.max_stack
-    → ((k : Home) → IsAmong k ks → IsAmong k (cells s q))
+    → ((k : Home) → IsAmong k ks → IsAmong k (stack_homes s q))
     → KeepsStack s.world s.method s.frames q
     → Each (Holds s (slots f) (top t)) hs
     → AreMoved w s f t ks (length (insns (cell_copies s hs ks))) (place (n + length (insns (cell_copies s hs ks))))
@@ -211,13 +211,13 @@ OperandsLoad v w =
     → HasInstruction s.method.code i
     → operation s i ≡ Ok op
     → operands_of s.world (Ok op) ≡ Some k
-    → is_over s i.place k ≡ true
+    → has_under s i.place k ≡ true
     → IsAtStep w place steps t n (length (operands s i.place k))
     → InstructionsStandFrom steps n (insns (loads s (operands s i.place k)))
     → (top t).stack ≡ []
-    → Each (Holds s (slots f) (top t)) (cells s i.place)
+    → Each (Holds s (slots f) (top t)) (stack_homes s i.place)
     → Runs tagged w (length (operands s i.place k)) t
-    (running (moved t (place (n + length (operands s i.place k))) (top t).registers (take k f.stack)))
+    (running (top_at t (place (n + length (operands s i.place k))) (top t).registers (take k f.stack)))
 
 -- and those of the cells under them put these back
 abbrev pub UnderLoads : Linked → Linked → Type 0
@@ -229,13 +229,13 @@ UnderLoads v w =
     → HasInstruction s.method.code i
     → operation s i ≡ Ok op
     → operands_of s.world (Ok op) ≡ Some k
-    → is_over s i.place k ≡ true
+    → has_under s i.place k ≡ true
     → IsAtStep w place steps t n (length (under s i.place k))
     → InstructionsStandFrom steps n (insns (loads s (under s i.place k)))
     → (top t).stack ≡ []
     → Each (Holds s (slots f) (top t)) (under s i.place k)
     → Runs tagged w (length (under s i.place k)) t
-    (running (moved t (place (n + length (under s i.place k))) (top t).registers (drop k f.stack)))
+    (running (top_at t (place (n + length (under s i.place k))) (top t).registers (drop k f.stack)))
 
 -- the cells under the operands stand in their homes after the branch as before it: its frame y is f without the operands
 abbrev pub UnderHold : Linked → Linked → Type 0
@@ -247,7 +247,7 @@ UnderHold v w =
     → HasInstruction s.method.code i
     → operation s i ≡ Ok op
     → operands_of s.world (Ok op) ≡ Some k
-    → is_over s i.place k ≡ true
+    → has_under s i.place k ≡ true
     → y.registers ≡ f.registers
     → y.stack ≡ drop k f.stack
     → Each (Holds s (slots f) g) (under s i.place k) ↔ Each (Holds s (slots y) g) (under s i.place k)

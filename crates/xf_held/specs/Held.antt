@@ -6,7 +6,7 @@ use Rattle.vm_store.specs.State.{Frame}
 use Rattle.xf_homes.specs.declared.home.Home.{Home}
 use Rattle.xf_homes.specs.Value.{width}
 use Rattle.xf_plan.specs.Source.{Source}
-use Rattle.xf_plan.specs.Plan.{register, needed, cells}
+use Rattle.xf_plan.specs.Plan.{register, needed, stack_homes}
 
 -- the cells of a frame of the source by slot: its registers, and then its operand stack from the bottom
 abbrev pub slots : {A : Type 0} → Frame A → List A
@@ -34,5 +34,5 @@ pub record Held {A : Type 0} (e : A → A) (s : Source) (p : ℕ) (f g : Frame A
 -- before the loads at a place where control comes together: the stack is empty, and its cells stand in their homes instead
 pub record Waits {A : Type 0} (s : Source) (p : ℕ) (f g : Frame A) : Type 0 where
   pub stack : g.stack ≡ []
-  pub cells : Each (Holds s (slots f) g) (cells s p)
+  pub cells : Each (Holds s (slots f) g) (stack_homes s p)
   pub locals : HoldsLocals s p f g

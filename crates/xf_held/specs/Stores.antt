@@ -22,7 +22,7 @@ use Rattle.xf_plan.specs.Source.{Source}
 use Rattle.xf_plan.specs.Plan.{needed}
 use Rattle.xf_emission.specs.Group.{stored}
 use Rattle.xf_typing.specs.Planned.{IsPlanned}
-use Rattle.xf_held.specs.Edges.{insns, moved, IsBeside}
+use Rattle.xf_held.specs.Edges.{insns, top_at, IsBeside}
 use Rattle.xf_held.specs.Held.{Holds}
 use Rattle.xf_held.specs.Moves.{AreFilled, IsAtStep, InstructionsStandFrom, value_at}
 
@@ -34,7 +34,7 @@ pub record HasLocal (w : Linked) (t : State Cell) (letter : Sort) (x : ℕ) (f :
 -- after the moves: the local stands in all homes that are needed at q, and every value that is as before in that in which it stood
 pub record AreStored (w : Linked) (s : Source) (q x : ℕ) (f : Frame Cell) (t : State Cell) (stack : List Cell) (n last : ℕ) : Type 0 where
   pub registers : List Cell
-  pub runs : Runs tagged w n t (running (moved t last registers stack))
+  pub runs : Runs tagged w n t (running (top_at t last registers stack))
   pub count : length registers ≡ length (top t).registers
   pub values : Each (Holds s f.registers (record (top t) { registers = registers })) (needed s q x)
   pub others :

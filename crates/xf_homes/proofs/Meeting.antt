@@ -1,6 +1,6 @@
 -- The events of a walk over the code are what is met.
-use Rattle.std.proofs.Common.{◌≡◌, ℕ, zero, suc, ◌+◌, ◌<◌, ◌≤◌, ◌⊎◌, inl, inr, Bool, true, false, ◌||◌, nat_le, nat_lt, if◌then◌else◌, List, [], ◌∷◌, ◌++◌, length, reverse, flat_map, Option, Some, None, Result, Ok, IsSomeAnd, slice_get, refl, sym, ◌∙◌, ap, subst, arith}
-use Rattle.std.proofs.lemmas.Bool.{false≢true, and_parts, or_cases}
+use Rattle.std.proofs.Common.{◌≡◌, ℕ, zero, suc, ◌+◌, ◌<◌, ◌≤◌, ◌⊎◌, inl, inr, Bool, true, false, nat_le, nat_lt, if◌then◌else◌, List, [], ◌∷◌, ◌++◌, length, reverse, flat_map, Option, Some, None, Result, Ok, IsSomeAnd, slice_get, refl, sym, ◌∙◌, ap, subst, arith}
+use Rattle.std.proofs.lemmas.Bool.{false≢true, and_parts, or_cases, or_right, or_left}
 use Rattle.std.proofs.lemmas.Bool.Decides.{nat_tests}
 use Rattle.std.proofs.lemmas.Option.{slice_get_within, same_Some}
 use Rattle.std.proofs.lemmas.List.Concat.{flat_map-cons}
@@ -205,13 +205,6 @@ cells-occurs p slot cells from (suc n) i ty le lt e = by (nat_le i from) refl (�
 
 -- ---- a stack that is kept
 
-or-right : (a b : Bool) → b ≡ true → (a || b) ≡ true
-or-right true b h = refl
-or-right false b h = h
-
-or-left : (a b : Bool) → a ≡ true → (a || b) ≡ true
-or-left a b h = rw h refl
-
 -- the operands of a conditional branch or a switch, and of nothing else
 record AsksFor (w : Linked) (r : Result Operation RuleFault) (operands : ℕ) : Type 0 where
   operation : Operation
@@ -259,14 +252,14 @@ module _ (w : Linked) (m : Method) (frames : ℕ → Option Frame) (leaders : Li
           })
 
   keeps-complete : KeepsStack w m frames i.place → keeps_stack w m.rec leaders i (length f.stack) ≡ true
-  keeps-complete (inl l) = or-left (flag leaders i.place) (is_deeper (operands_of w (resolved w m.rec i.place i.insn (row_at i.insn.op))) (length f.stack)) ((marks i.place).1 l)
+  keeps-complete (inl l) = or_left (flag leaders i.place) (is_deeper (operands_of w (resolved w m.rec i.place i.insn (row_at i.insn.op))) (length f.stack)) ((marks i.place).1 l)
   keeps-complete (inr b) =
       let same : b.instruction ≡ i = listed.one b.instruction i b.stands stands b.at in
       let resolves : Ok b.operation ≡ resolved w m.rec i.place i.insn (row_at i.insn.op) =
       subst (λ j. ◌≡◌ {A = Result Operation RuleFault} (Ok b.operation) (resolved w m.rec i.place j.insn (row_at j.insn.op))) same b.resolves in
       let deep : (footprint w b.operation).taken < length f.stack = subst (λ o. IsSomeAnd o (λ g. (footprint w b.operation).taken < length g.stack)) there b.deeper in
       let less : nat_lt (footprint w b.operation).taken (length f.stack) ≡ true = grind (arith, nat_tests, deep) in
-      or-right (flag leaders i.place) (is_deeper (operands_of w (resolved w m.rec i.place i.insn (row_at i.insn.op))) (length f.stack))
+      or_right (flag leaders i.place) (is_deeper (operands_of w (resolved w m.rec i.place i.insn (row_at i.insn.op))) (length f.stack))
       (subst (λ r. is_deeper (operands_of w r) (length f.stack) ≡ true) resolves (subst (λ o. is_deeper o (length f.stack) ≡ true) (sym (operands-of w b.operation b.asks)) less))
 
   -- ---- at an instruction

@@ -19,7 +19,7 @@ use Rattle.xf_homes.specs.Answer.{AreTooMany, TellsEnd}
 use Rattle.xf_homes.specs.Order.{AreHomes, register_sum}
 use Rattle.xf_code.specs.declared.rewriting.RewriteEnd.{RewriteEnd}
 use Rattle.xf_code.specs.declared.rewriting.RewriteEnd.TheVariants.{StackLimit, Memory as NoSymbols}
-use Rattle.xf_emission.specs.Emission.{IsRewritten}
+use Rattle.xf_emission.specs.Emission.{AreSymbolsOf}
 use Rattle.xf_emission.specs.Live.{KeepsLive}
 use Rattle.xf_emission.specs.Numbers.{HasNumbers}
 use Rattle.xf_landed.specs.Laws.{LaidIsTyped}
@@ -92,7 +92,7 @@ module _ (w : Linked) (n : ℕ) (rec : MethodRec) (here : slice_get w.methods n 
       pub symbols-known : (symbols : Symbols)
           → rec.max_stack ≤ 255
           → IsSomeAnd (slice_get w.methods n) (λ r. (◌≡◌ {A = Result Symbols RewriteEnd} (Ok symbols) (Err StackLimit)) ↔ (r.max_stack ≡ 255))
-          → IsSomeAnd (method_in w n) (λ m. IsRewritten w m (state_at typing) homes symbols)
+          → IsSomeAnd (method_in w n) (λ m. AreSymbolsOf w m (state_at typing) homes symbols)
           → IsSomeAnd (method_in w n) (λ m. HasTypingByHomes w m homes symbols)
           → IsSomeAnd (method_in w n) (λ m. KeepsLive m m.rec.handlers symbols.ranges)
           → IsSomeAnd (method_in w n) (λ m. HasNumbers m.rec homes symbols)
@@ -107,7 +107,7 @@ module _ (w : Linked) (n : ℕ) (rec : MethodRec) (here : slice_get w.methods n 
             are = its (λ m. AreHomes w m (state_at typing) homes) are;
             few = few;
             room = room symbols (its-record (λ r. (◌≡◌ {A = Result Symbols RewriteEnd} (Ok symbols) (Err StackLimit)) ↔ (r.max_stack ≡ 255)) limit) byte;
-            rewritten = its (λ m. IsRewritten w m (state_at typing) homes symbols) rewritten;
+            rewritten = its (λ m. AreSymbolsOf w m (state_at typing) homes symbols) rewritten;
             types = its (λ m. HasTypingByHomes w m homes symbols) types;
             live = its (λ m. KeepsLive m m.rec.handlers symbols.ranges) live;
             numbers = its (λ m. HasNumbers m.rec homes symbols) numbers;

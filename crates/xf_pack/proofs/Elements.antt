@@ -8,7 +8,7 @@ use Rattle.jc_base.specs.World.{Linked}
 use Rattle.jc_decode.specs.declared.symbols.Laid.{Laid}
 use Rattle.jc_link.specs.World.{IsLinked}
 use Rattle.jc_rewritten.specs.Last.{and_last}
-use Rattle.xf_world.specs.Laid.{AreElements, AreLaidOf}
+use Rattle.xf_world.specs.Laid.{AreLaidElements, AreLaidOf}
 use Rattle.xf_pack.specs.Passes.{BeginsLast, EachFrom, IsLaidAt, IsLaidWell}
 use Rattle.xf_pack.proofs.OwnMethods.{own_of, earlier_of, parts, before, last, first-is, own-is}
 
@@ -56,7 +56,7 @@ well-from w n (l ∷ ls) each all =
     subst (λ (rs : List MethodRec). AreWell w n rs (l ∷ ls)) (sym (drop-next w.methods n here.0 here.1))
     (here.2, well-from w (suc n) ls each.1 (omega (arith, all)))
 
-elements-of : (w : Linked) (n : ℕ) (rs : List MethodRec) (ls : List (Option Laid)) → AreWell w n rs ls → AreElements w n rs ls
+elements-of : (w : Linked) (n : ℕ) (rs : List MethodRec) (ls : List (Option Laid)) → AreWell w n rs ls → AreLaidElements w n rs ls
 elements-of w n [] [] well = tt {0}
 elements-of w n [] (l ∷ ls) well = absurd well
 elements-of w n (r ∷ rs) [] well = absurd well
@@ -74,5 +74,5 @@ module _ (ps : List PackageRecord) (p : PackageRecord) (roles : List ℕ) (w : L
     parts = parts ps p roles w linked;
     before = before ps p roles w linked;
     last = last ps p roles w linked;
-    each = subst (λ n. AreElements w n (own_of ps p roles) laid) (first-is ps p roles w linked first is) (elements-of w first (own_of ps p roles) laid own-well);
+    each = subst (λ n. AreLaidElements w n (own_of ps p roles) laid) (first-is ps p roles w linked first is) (elements-of w first (own_of ps p roles) laid own-well);
   }

@@ -1,7 +1,6 @@
 -- Rewritten code has an instruction, and so has what is laid for it.
-use Rattle.std.proofs.Common.{◌≡◌, ℕ, zero, suc, ◌+◌, ◌<◌, ◌≤◌, Bool, true, false, if◌then◌else◌, List, [], ◌∷◌, ◌++◌, length, flat_map, Option, Some, None, Result, Ok, Err, refl, sym, ap, subst, ◌∙◌, arith}
+use Rattle.std.proofs.Common.{◌≡◌, ℕ, zero, suc, ◌+◌, ◌<◌, ◌≤◌, List, [], ◌∷◌, ◌++◌, length, flat_map, Option, Some, Result, Ok, Err, refl, sym, ap, subst, ◌∙◌, arith}
 use Rattle.std.specs.Prelude.{slice_get}
-use Rattle.jc_base.specs.declared.ty.Kind.{Kind}
 use Rattle.jc_base.specs.declared.ty.Ty.TheVariants.{Top}
 use Rattle.jc_base.specs.World.{Linked}
 use Rattle.jc_decode.specs.declared.insn.Placed.{Placed}
@@ -10,7 +9,7 @@ use Rattle.jc_decode.specs.declared.symbols.Item.TheVariants.{Label}
 use Rattle.jc_decode.specs.declared.symbols.Laid.{Laid}
 use Rattle.jc_decode.specs.declared.symbols.Symbols.{Symbols}
 use Rattle.jc_decode.specs.Laws.{InstructionsAreListed}
-use Rattle.jc_decode.specs.Listing.{listing, listing_end, end_from, targets, Lists}
+use Rattle.jc_decode.specs.Listing.{listing, listing_end, end_from, Lists}
 use Rattle.jc_decode.specs.Standing.{AreSteps, StandsAt}
 use Rattle.jc_decode.specs.Symbols.{Step, steps}
 use Rattle.jc_decode.proofs.Elements.{Contains-slice_get}
@@ -20,25 +19,22 @@ use Rattle.jc_control.specs.WellFormed.{HasInstruction}
 use Rattle.jc_ops.specs.declared.fault.RuleFault.{RuleFault}
 use Rattle.jc_ops.specs.declared.operation.Branch.TheVariants as branches
 use Rattle.jc_ops.specs.declared.operation.Holder.TheVariants as holders
-use Rattle.jc_ops.specs.declared.operation.Sort.{Sort}
 use Rattle.jc_ops.specs.declared.operation.Sort.TheVariants as sorts
 use Rattle.jc_ops.specs.declared.operation.Operation.{Operation}
 use Rattle.jc_ops.specs.declared.operation.Operation.TheVariants as ops
 use Rattle.jc_rules.specs.Demand.{Frame}
 use Rattle.jc_rules.specs.Flow.{At, FlowTyping, IsFollowed}
 use Rattle.xf_homes.specs.declared.home.Home.{Home}
-use Rattle.xf_homes.specs.Walk.{operands_of}
 use Rattle.xf_plan.specs.Source.{Source}
-use Rattle.xf_plan.specs.Plan.{cells, is_leader, local, needed, operation}
-use Rattle.xf_emission.specs.declared.origin.Origin.TheVariants.{After, Start}
-use Rattle.xf_emission.specs.Move.{copy, loads, spill}
+use Rattle.xf_plan.specs.Plan.{is_leader, operation}
+use Rattle.xf_emission.specs.declared.origin.Origin.TheVariants.{Start}
+use Rattle.xf_emission.specs.Move.{copy, loads}
 use Rattle.xf_emission.specs.Edge.{copies}
-use Rattle.xf_emission.specs.Jump.{branch, goto, is_over, jump_to, leads, spill_if}
-use Rattle.xf_emission.specs.Group.{body, branch_by, done, entered, fallen, field_read, field_written, first_place, gone, group, group_by, increased, loaded, popped, stays, stored}
-use Rattle.xf_emission.specs.Emission.{IsRewritten, caught_from, items, rewritten, stubs}
+use Rattle.xf_emission.specs.Group.{body, done, entrance, fallen, group, group_by, popped}
+use Rattle.xf_emission.specs.Emission.{AreSymbolsOf, caught_from, items, rewritten, stubs}
 use Rattle.xf_typing.proofs.Typings.{count-steps}
 use Rattle.xf_typing.proofs.Walks.{count, count-append}
-use Rattle.xf_typing.proofs.Numbers.{right-some}
+use Rattle.xf_typing.proofs.Numbers.{right-some, body-some}
 use Rattle.xf_pack.proofs.Elements.{some-such}
 
 -- of two lists one after the other
@@ -48,66 +44,12 @@ first-counts xs ys h = let sum = count-append xs ys in omega (arith, h, sum)
 -- ---- an instruction
 
 module _ (s : Source) (i : Placed) where
-  jump-counts : (op : Operation) (ls : List ℕ) → 0 < count (jump_to i op ls ∷ [])
-  jump-counts (ops.Switch width) ls = omega arith
-  jump-counts op ls = omega arith
-
-  branch-counts : (op : Operation) (n : ℕ) → 0 < count (branch s i op n)
-  unfolding branch
-  branch-counts op n =
-      right-some (spill_if (is_over s i.place n) s i.place n) (jump_to i op (leads s i.place op n 0 (targets s.method.code i)) ∷ [])
-      (jump-counts op (leads s i.place op n 0 (targets s.method.code i)))
-
-  by-counts : (op : Operation) (n : Option ℕ) → 0 < count (branch_by s i op n)
-  by-counts op None = omega arith
-  by-counts op (Some n) = branch-counts op n
-
-  loaded-counts : (h : Option Home) → 0 < count (loaded s i h)
-  loaded-counts None = omega arith
-  loaded-counts (Some h) = omega arith
-
-  increased-counts : (h : Option Home) → 0 < count (increased s i h)
-  increased-counts None = omega arith
-  increased-counts (Some h) = omega arith
-
-  stored-counts : (letter : Sort) (hs : List Home) → 0 < count (stored s letter hs)
-  stored-counts sorts.Int [] = omega arith
-  stored-counts letter [] = omega arith
-  stored-counts letter (h ∷ hs) = omega arith
-
-  read-by : (b : Bool) (xs ys : List Item) → 0 < count xs → 0 < count ys → 0 < count (if b then xs else ys)
-  read-by true xs ys h k = h
-  read-by false xs ys h k = k
-
-  read-counts : (h : Option Home) → 0 < count (field_read s i h)
-  read-counts None = omega arith
-  read-counts (Some h) = read-by (stays s h) _ _ (omega arith) (omega arith)
-
-  written-counts : (k : Kind) (h : Option Home) → 0 < count (field_written s i k h)
-  written-counts k None = omega arith
-  written-counts k (Some h) = read-by (stays s h) _ _ (omega arith) (omega arith)
-
-  gone-counts : (op : Operation) (q : ℕ) → 0 < count (gone s i.place op q)
-  gone-counts op q =
-      right-some (spill s (cells s q)) (copies s (After i.place op) q ++ goto q ∷ [])
-      (right-some (copies s (After i.place op) q) (goto q ∷ []) (omega arith))
-
-  body-counts : (op : Operation) → 0 < count (body s i op)
-  unfolding body
-  body-counts (ops.Load letter x) = loaded-counts (local s i.place x)
-  body-counts (ops.Increment width x amount) = increased-counts (local s i.place x)
-  body-counts (ops.Store letter x) = stored-counts letter (needed s (i.place + i.insn.len) x)
-  body-counts (ops.FieldRead f holders.This) = read-counts (local s i.place 0)
-  body-counts (ops.FieldWrite f holders.This) = written-counts f.kind (local s i.place 0)
-  body-counts (ops.Branch branches.Always) = gone-counts (ops.Branch branches.Always) (first_place (targets s.method.code i))
-  body-counts op = by-counts op (operands_of s.world (Ok op))
-
   group-counts : (f : Frame) (op : Operation) → s.frames i.place ≡ Some f → operation s i ≡ Ok op → 0 < count (group s i)
   unfolding group
   group-counts f op at is =
       rw at
-      (right-some (entered s i.place) (done s i (operation s i))
-      (rw is (first-counts (body s i op) (fallen s i op) (body-counts op))))
+      (right-some (entrance s i.place) (done s i (operation s i))
+      (rw is (first-counts (body s i op) (fallen s i op) (body-some s i op))))
 
 -- ---- a method
 
@@ -139,7 +81,7 @@ laid-by code place (s ∷ ss) [] are some = absurd are
 laid-by code place (s ∷ ss) (i ∷ ps) are some = (i, refl)
 
 pub laid-filled : (w : Linked) (m : Method) (frames : ℕ → Option Frame) (homes : List Home) (symbols : Symbols) (laid : Laid) (place : ℕ → ℕ) → InstructionsAreListed → IsMethodOf w m → FlowTyping w m Top frames
-    → IsRewritten w m frames homes symbols → StandsAt place m.code symbols laid → 1 ≤ length laid.code
+    → AreSymbolsOf w m frames homes symbols → StandsAt place m.code symbols laid → 1 ≤ length laid.code
 unfolding rewritten
 laid-filled w m frames homes symbols laid place listed mo typing r stands =
     let s : Source = record { world = w; method = m; frames = frames; leaders = r.leaders; homes = homes } in

@@ -23,7 +23,7 @@ use Rattle.jc_flow.specs.Infer.{HasNone}
 use Rattle.jc_rules.specs.Demand.{Frame}
 use Rattle.jc_rules.specs.Flow.{HasFlowTyping}
 use Rattle.jc_rules.specs.Typing.{state_at}
-use Rattle.xf_world.specs.Laid.{HasLaid}
+use Rattle.xf_world.specs.Laid.{HasLaidCode}
 use Rattle.xf_pack.specs.declared.end.MethodLimit.{MethodLimit}
 use Rattle.xf_pack.specs.declared.unlaid.LayingEnd.{LayingEnd}
 use Rattle.xf_pack.specs.declared.unlaid.LayingEnd.TheVariants as laying
@@ -171,17 +171,17 @@ module _ (w : Linked) (first : ℕ) (is : BeginsLast w first) where
 
   -- ---- laid code
 
-  laid-by : (m : Method) (laid : Option Laid) → IsMethodOf w m → IsLaidWell w m.number laid m.rec → HasLaid w m
+  laid-by : (m : Method) (laid : Option Laid) → IsMethodOf w m → IsLaidWell w m.number laid m.rec → HasLaidCode w m
   laid-by m None of h = let some = has-code w m of in let none = h.is in absurd (omega (arith, some, none))
-  laid-by m (Some laid) of h = subst (HasLaid w) (method-is w m of) (record { laid = laid; is = h.is.1 })
+  laid-by m (Some laid) of h = subst (HasLaidCode w) (method-is w m of) (record { laid = laid; is = h.is.1 })
 
-  laid-at : (n : ℕ) (laid : Option Laid) → IsLaidAt w n laid → (m : Method) → IsOfLast w m → m.number ≡ n → HasLaid w m
+  laid-at : (n : ℕ) (laid : Option Laid) → IsLaidAt w n laid → (m : Method) → IsOfLast w m → m.number ≡ n → HasLaidCode w m
   laid-at n laid h m of e = laid-by m laid of.method (its-fact w m n (λ k r. IsLaidWell w k laid r) of.method e h)
 
-  pub laid-more : (n : ℕ) (laid : Option Laid) → AllHaveBelow (IsOfLast w) (HasLaid w) n → IsLaidAt w n laid → AllHaveBelow (IsOfLast w) (HasLaid w) (n + 1)
-  laid-more n laid below h = below-more (IsOfLast w) (HasLaid w) n below (laid-at n laid h)
+  pub laid-more : (n : ℕ) (laid : Option Laid) → AllHaveBelow (IsOfLast w) (HasLaidCode w) n → IsLaidAt w n laid → AllHaveBelow (IsOfLast w) (HasLaidCode w) (n + 1)
+  laid-more n laid below h = below-more (IsOfLast w) (HasLaidCode w) n below (laid-at n laid h)
 
-  limited : (n : ℕ) (limit : MethodLimit) → first ≤ n → AreAcceptedLibraries w → IsTypedLast w → AllHaveBelow (IsOfLast w) (HasLaid w) n → IsSomeAnd (method_in w n) (IsUnlaid w limit) → IsLimited w n limit
+  limited : (n : ℕ) (limit : MethodLimit) → first ≤ n → AreAcceptedLibraries w → IsTypedLast w → AllHaveBelow (IsOfLast w) (HasLaidCode w) n → IsSomeAnd (method_in w n) (IsUnlaid w limit) → IsLimited w n limit
   limited n limit le accepted typed below h = by (slice_get w.methods n) refl h
     where
       by : (o : Option MethodRec) → slice_get w.methods n ≡ o → IsSomeAnd (option_map (method_with w n) o) (IsUnlaid w limit) → IsLimited w n limit
@@ -196,6 +196,6 @@ module _ (w : Linked) (first : ℕ) (is : BeginsLast w first) where
         passes = h.passes;
       }
 
-  pub unlaid-tells : (n : ℕ) (end : LayingEnd) → first ≤ n → AreAcceptedLibraries w → IsTypedLast w → AllHaveBelow (IsOfLast w) (HasLaid w) n → TellsUnlaid w n end → (ps : List PackageRecord) → TellsOf ps w (unlaid n end)
+  pub unlaid-tells : (n : ℕ) (end : LayingEnd) → first ≤ n → AreAcceptedLibraries w → IsTypedLast w → AllHaveBelow (IsOfLast w) (HasLaidCode w) n → TellsUnlaid w n end → (ps : List PackageRecord) → TellsOf ps w (unlaid n end)
   unlaid-tells n laying.Memory le accepted typed below h ps = tt {0}
   unlaid-tells n (laying.Passed limit) le accepted typed below h ps = limited n limit le accepted typed below h

@@ -22,7 +22,7 @@ use Rattle.jc_rules.specs.Demand.{Frame}
 use Rattle.jc_rules.specs.Flow.{FlowTyping}
 use Rattle.xf_homes.specs.declared.home.Home.{Home}
 use Rattle.xf_homes.specs.Order.{register_sum}
-use Rattle.xf_emission.specs.Emission.{IsRewritten}
+use Rattle.xf_emission.specs.Emission.{AreSymbolsOf}
 use Rattle.xf_emission.specs.Live.{KeepsLive, none_left, live_kept, dead_left}
 use Rattle.xf_emission.specs.Numbers.{HasNumbers}
 use Rattle.xf_landed.specs.Laid.{HasLaid, catching}
@@ -73,7 +73,7 @@ has-laid : (m : Method) (laid : Laid) → HasLaid m.rec laid (with_laid m laid)
 has-laid m laid = record { same = refl; code = refl; nargs = refl; max_locals = refl; max_stack = refl; handlers = refl }
 
 pub is-sound : (w : Linked) (m : Method) (frames : ℕ → Option Frame) (homes : List Home) (symbols : Symbols) (laid : Laid) (place : ℕ → ℕ)
-    → InstructionsAreListed → LaidIsTyped w → IsMethodOf w m → IfSome m.rec.sig.result (IsDeclared w.classes) → FlowTyping w m Top frames → IsRewritten w m frames homes symbols → HasTypingByHomes w m homes symbols
+    → InstructionsAreListed → LaidIsTyped w → IsMethodOf w m → IfSome m.rec.sig.result (IsDeclared w.classes) → FlowTyping w m Top frames → AreSymbolsOf w m frames homes symbols → HasTypingByHomes w m homes symbols
     → KeepsLive m m.rec.handlers symbols.ranges → HasNumbers m.rec homes symbols → register_sum homes ≤ 255 → StandsAt place m.code symbols laid → length laid.code ≤ 32767 → IsSound m.rec laid
 is-sound w m frames homes symbols laid place listed landed mo result typing r types live numbers few stands short =
     let typed = landed m.rec m.code symbols laid place (with_laid m laid) _ types.stacks result stands (has-laid m laid) types.typing in

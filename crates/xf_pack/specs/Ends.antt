@@ -19,7 +19,7 @@ use Rattle.jc_link.specs.World.{IsLinked, conditions}
 use Rattle.jc_rewritten.specs.Last.{and_last}
 use Rattle.jc_rules.specs.Demand.{Frame}
 use Rattle.jc_rules.specs.Flow.{HasFlowTyping}
-use Rattle.xf_world.specs.Laid.{AreLaidOf, HasLaid}
+use Rattle.xf_world.specs.Laid.{AreLaidOf, HasLaidCode}
 use Rattle.xf_pack.specs.declared.end.MethodLimit.{MethodLimit}
 use Rattle.xf_pack.specs.declared.end.TransformEnd.{TransformEnd}
 use Rattle.xf_pack.specs.declared.end.TransformEnd.TheVariants.{Link, Library, Typing, Limit, PartLong, Memory}
@@ -57,7 +57,7 @@ pub record IsLimited (w : Linked) (number : ℕ) (limit : MethodLimit) : Type 0 
   pub method : Method
   pub numbered : method.number ≡ number
   pub of_last : IsOfLast w method
-  pub earlier : AllHaveBelow (IsOfLast w) (HasLaid w) number
+  pub earlier : AllHaveBelow (IsOfLast w) (HasLaidCode w) number
   pub passes : PassesLimit w method limit
 
 -- no method passes a limit, and the Method component of the last package would be too long with what is laid for them

@@ -10,7 +10,7 @@ use Rattle.jc_rules.specs.Typing.{state_at}
 use Rattle.xf_homes.specs.declared.home.Home.{Home}
 use Rattle.xf_homes.specs.Answer.{AreTooMany, IsTypingOf}
 use Rattle.xf_homes.specs.Order.{AreHomes, register_sum}
-use Rattle.xf_emission.specs.Emission.{IsRewritten}
+use Rattle.xf_emission.specs.Emission.{AreSymbolsOf}
 use Rattle.xf_layout.specs.Shortest.{IsTooLong}
 use Rattle.xf_pack.specs.declared.end.MethodLimit.{MethodLimit}
 use Rattle.xf_pack.specs.declared.end.MethodLimit.TheVariants.{Registers, StackLimit, MethodLong}
@@ -39,7 +39,7 @@ pub record HasLongCode (w : Linked) (m : Method) (n : ℕ) : Type 0 where
   pub homes : HasHomes w m
   pub room : m.rec.max_stack < 255
   pub symbols : Symbols
-  pub rewritten : IsRewritten w m (state_at homes.typing) homes.homes symbols
+  pub rewritten : AreSymbolsOf w m (state_at homes.typing) homes.homes symbols
   pub long : IsTooLong symbols.items
   pub size : n ≡ plain_size symbols.items
 

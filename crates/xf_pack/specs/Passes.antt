@@ -10,14 +10,14 @@ use Rattle.jc_decode.specs.Symbols.{IsItem}
 use Rattle.jc_flow.specs.Infer.{AreDerived}
 use Rattle.jc_rules.specs.Demand.{Frame}
 use Rattle.jc_rules.specs.Typing.{state_at}
-use Rattle.xf_emission.specs.Emission.{IsRewritten}
+use Rattle.xf_emission.specs.Emission.{AreSymbolsOf}
 use Rattle.xf_emission.specs.Live.{KeepsLive}
 use Rattle.xf_emission.specs.Numbers.{HasNumbers}
 use Rattle.xf_homes.specs.declared.home.Home.{Home}
 use Rattle.xf_homes.specs.Answer.{IsTypingOf}
 use Rattle.xf_homes.specs.Order.{AreHomes, register_sum}
 use Rattle.xf_typing.specs.Typed.{HasTypingByHomes}
-use Rattle.xf_world.specs.Laid.{IsElement}
+use Rattle.xf_world.specs.Laid.{IsLaidElement}
 
 -- ---- the methods of the last package
 
@@ -61,7 +61,7 @@ pub record IsRewrittenTo (w : Linked) (symbols : Symbols) (m : Method) : Type 0 
   pub are : AreHomes w m (state_at typing) homes
   pub few : register_sum homes ≤ 255
   pub room : m.rec.max_stack < 255
-  pub rewritten : IsRewritten w m (state_at typing) homes symbols
+  pub rewritten : AreSymbolsOf w m (state_at typing) homes symbols
   pub types : HasTypingByHomes w m homes symbols
   pub live : KeepsLive m m.rec.handlers symbols.ranges
   pub numbers : HasNumbers m.rec homes symbols
@@ -83,7 +83,7 @@ IsSoundIf r (Some laid) = IsSound r laid
 
 -- the element of a method
 pub record IsLaidWell (w : Linked) (n : ℕ) (laid : Option Laid) (r : MethodRec) : Type 0 where
-  pub is : IsElement w n r laid
+  pub is : IsLaidElement w n r laid
   pub sound : IsSoundIf r laid
 
 abbrev pub IsLaidAt : Linked → ℕ → Option Laid → Type 0

@@ -58,8 +58,8 @@ stack_of None = []
 stack_of (Some f) = reverse f.stack
 
 -- the homes of the values on the stack at a place, from the bottom
-unfoldable pub cells : Source → ℕ → List Home
-cells s p = cells_from (register_count s.method.rec) (stack_of (s.frames p)) 0 (length (stack_of (s.frames p)))
+unfoldable pub stack_homes : Source → ℕ → List Home
+stack_homes s p = cells_from (register_count s.method.rec) (stack_of (s.frames p)) 0 (length (stack_of (s.frames p)))
 
 -- the depth of the stack at a place, in cells
 abbrev pub depth : Source → ℕ → ℕ

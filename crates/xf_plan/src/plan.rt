@@ -1,7 +1,7 @@
 ghost use Rattle.std.specs.Prelude.{◌≡◌, ◌≤◌, ◌+◌, ◌++◌, [], length, IfOk, OnOk, OnErr};
 ghost use Rattle.jc_control.specs.Method.{IsMethodOf};
 ghost use Rattle.xf_homes.specs.Subject.{walked};
-ghost use Rattle.xf_plan.specs.Plan.{register, home_of, with_home_of, local, needed, cells_from, cells, depth, is_leader, first_reached, operation};
+ghost use Rattle.xf_plan.specs.Plan.{register, home_of, with_home_of, local, needed, cells_from, stack_homes, depth, is_leader, first_reached, operation};
 ghost use Rattle.xf_plan.specs.Subject.{source};
 
 use jc_base::Ty;
@@ -80,9 +80,9 @@ impl Plan<'_> {
     }
 
     /// The homes of the values on the stack at a place, the bottom first.
-    #[tactic(auto, unfolding(crate::specs::Plan::cells))]
-    pub fn cells(&self, alloc: Global, place: u16) -> Result<Vec<Home>, AllocError>
-        ensures { IfOk result (λ hs. hs.items ≡ cells (source self.now) place) }
+    #[tactic(auto, unfolding(crate::specs::Plan::stack_homes))]
+    pub fn stack_homes(&self, alloc: Global, place: u16) -> Result<Vec<Home>, AllocError>
+        ensures { IfOk result (λ hs. hs.items ≡ stack_homes (source self.now) place) }
     {
         match self.walk.typing.state(place) {
             Some(state) => cells_from(alloc, self.walk.registers(), state.stack()),

@@ -25,7 +25,7 @@ use Rattle.xf_homes.specs.Walk.{operands_of}
 use Rattle.xf_homes.proofs.Rising.{each-map}
 use Rattle.xf_plan.specs.Source.{Source}
 use Rattle.xf_plan.specs.Plan.{is_leader, operation}
-use Rattle.xf_emission.specs.Group.{entered as head_of, group}
+use Rattle.xf_emission.specs.Group.{entrance, group}
 use Rattle.xf_emission.specs.Jump.{place, taken, lead, label_by, stub_label, handler_label}
 use Rattle.xf_emission.specs.Emission.{is_live, items, ranges_from, ranges, rewritten}
 use Rattle.xf_emission.specs.Laws.{IsCode, IsLabelOf, of_place, of_stub}
@@ -117,8 +117,8 @@ module _ (s : Source) (l : AreLaws s.world) (ready : IsReady s) (code : IsCode s
   full : (i : Placed) → IsListed s.method.code i → is_some (s.frames i.place) ≡ true → 0 < count (group s i)
   full i st some =
       let each = filled (λ n. n) (λ a b e. e) s l ready r own_rec (asks_of s) res code (listing s.method.code) (λ j c. c) in
-      let less = All-contains (λ (j : Placed). is_some (s.frames j.place) ≡ true → count (head_of s j.place) < count (group s j)) (listing s.method.code) i
-      (All-from_Each (λ (j : Placed). is_some (s.frames j.place) ≡ true → count (head_of s j.place) < count (group s j)) (listing s.method.code) each) st some in
+      let less = All-contains (λ (j : Placed). is_some (s.frames j.place) ≡ true → count (entrance s j.place) < count (group s j)) (listing s.method.code) i
+      (All-from_Each (λ (j : Placed). is_some (s.frames j.place) ≡ true → count (entrance s j.place) < count (group s j)) (listing s.method.code) each) st some in
       omega (arith, less)
 
   pub are-asked : AreAsked s.world s.method.rec s.method.code (rewritten s) (registers_of s.homes) (asks_of s)

@@ -26,7 +26,7 @@ use Rattle.xf_homes.specs.Home.{IsConditional, register_count}
 use Rattle.xf_homes.specs.Value.{value_at}
 use Rattle.xf_homes.specs.Walk.{operands_of}
 use Rattle.xf_plan.specs.Source.{Source}
-use Rattle.xf_plan.specs.Plan.{cells, cells_from, with_home_of, home_of, stack_of}
+use Rattle.xf_plan.specs.Plan.{stack_homes, cells_from, with_home_of, home_of, stack_of}
 use Rattle.xf_emission.specs.Jump.{cut, under, operands}
 use Rattle.xf_typing.proofs.Moves.{applies-by}
 use Rattle.xf_typing.proofs.Stacks.{pushed, cells-pushed, turned-reverse}
@@ -169,13 +169,13 @@ cancel (x ∷ xs) ys zs e = cancel xs ys zs (ap tail e)
 
 -- the homes of a stack, cut above those under the operands
 pub record IsCut (s : Source) (p n : ℕ) (above below : List Ty) : Type 0 where
-  pub parts : cells s p ≡ under s p n ++ operands s p n
+  pub parts : stack_homes s p ≡ under s p n ++ operands s p n
   pub under_is : pushed (under s p n) [] ≡ below
   pub operands_is : pushed (operands s p n) [] ≡ above
   pub from_bottom : under s p n ≡ cells_from (register_count s.method.rec) (reverse below ++ reverse above) 0 (length below)
 
-pub cut-is : (s : Source) (p n : ℕ) (f : Frame) (above below : List Ty) → s.frames p ≡ Some f → f.stack ≡ above ++ below → length above ≡ n → AreWhole (reverse above) → All IsNotTop (reverse above) → pushed (cells s p) [] ≡ f.stack → IsCut s p n above below
-unfolding cells under operands
+pub cut-is : (s : Source) (p n : ℕ) (f : Frame) (above below : List Ty) → s.frames p ≡ Some f → f.stack ≡ above ++ below → length above ≡ n → AreWhole (reverse above) → All IsNotTop (reverse above) → pushed (stack_homes s p) [] ≡ f.stack → IsCut s p n above below
+unfolding stack_homes under operands
 cut-is s p n f above below at is size whole nt all = record {
   parts = parts ∙ ap (λ (hs : List Home). hs ++ second) (sym under_first) ∙ ap (λ (hs : List Home). under s p n ++ hs) (sym operands_second);
   under_is = ap (λ (hs : List Home). pushed hs []) under_first ∙ cancel above (pushed first []) below (sym (second_on (pushed first [])) ∙ sym (pushed-append first second []) ∙ ap (λ (hs : List Home). pushed hs []) (sym parts) ∙ all ∙ is);
@@ -201,7 +201,7 @@ cut-is s p n f above below at is size whole nt all = record {
     stack_is : stack_of (s.frames p) ≡ types
     stack_is = ap stack_of at ∙ turned_is
 
-    parts : cells s p ≡ first ++ second
+    parts : stack_homes s p ≡ first ++ second
     parts =
         let long : length types ≡ length (reverse below) + length (reverse above) = length-append (reverse below) (reverse above) in
         let here : 0 + length (reverse below) ≡ length (reverse below) = omega arith in

@@ -23,12 +23,12 @@ use Rattle.xf_homes.specs.declared.home.Home.{Home}
 use Rattle.xf_homes.specs.Home.{IsConditional, register_count}
 use Rattle.xf_homes.specs.Walk.{operands_of}
 use Rattle.xf_plan.specs.Source.{Source}
-use Rattle.xf_plan.specs.Plan.{cells, cells_from, is_leader}
+use Rattle.xf_plan.specs.Plan.{stack_homes, cells_from, is_leader}
 use Rattle.xf_emission.specs.declared.origin.Origin.TheVariants.{After, Entry}
 use Rattle.xf_emission.specs.Laws.{IsCode}
 use Rattle.xf_emission.specs.Move.{loads, spill}
 use Rattle.xf_emission.specs.Edge.{copies, cell_copies, home_before}
-use Rattle.xf_emission.specs.Jump.{under, operands, is_over, taken, place, stub_label, stub_of, stub, handler_label}
+use Rattle.xf_emission.specs.Jump.{under, operands, has_under, taken, place, stub_label, stub_of, stub, handler_label}
 use Rattle.xf_emission.specs.Group.{gone, fall, fall_over, fall_by}
 use Rattle.xf_emission.specs.Emission.{caught}
 use Rattle.xf_typing.specs.Typed.{registers_of}
@@ -59,15 +59,15 @@ module _ (new : ℕ → ℕ) (apart : (a b : ℕ) → new a ≡ new b → a ≡ 
 
   -- ---- where a conditional is taken
 
-  not-over : (i : Placed) (op : Operation) (f after : Frame) (n : ℕ) → IsRun s i op f after → IsForked s.world op n f.stack after.stack (registers_of s.homes) → is_over s i.place n ≡ false → after.stack ≡ []
+  not-over : (i : Placed) (op : Operation) (f after : Frame) (n : ℕ) → IsRun s i op f after → IsForked s.world op n f.stack after.stack (registers_of s.homes) → has_under s i.place n ≡ false → after.stack ≡ []
   not-over i op f after n run k over =
       let deep = depth-is new apart s l ready r own_rec asks res code i op f after run in
       let le : length f.stack ≤ n = grind (arith, nat_tests, over, deep) in
       empty-is after.stack (omega (arith, ap length k.parts, length-append k.operands after.stack, k.size, le))
 
   cells-taken : (i : Placed) (op : Operation) (f after g : Frame) (n q : ℕ) → IsRun s i op f after → IsConditional op → operands_of s.world (Ok op) ≡ Some n → s.frames q ≡ Some g → FrameBelow s.world.classes after g → is_leader s q ≡ true
-      → Going [] (cell_copies s (under s i.place n) (cells s q)) []
-  cells-taken i op f after g n q run is e to below lead = by (is_over s i.place n) refl
+      → Going [] (cell_copies s (under s i.place n) (stack_homes s q)) []
+  cells-taken i op f after g n q run is e to below lead = by (has_under s i.place n) refl
     where
       k : IsForked s.world op n f.stack after.stack (registers_of s.homes)
       k = fork new apart s l ready r own_rec asks res code i op f after n run is e
@@ -75,11 +75,11 @@ module _ (new : ℕ → ℕ) (apart : (a b : ℕ) → new a ≡ new b → a ≡ 
       cut : IsCut s i.place n k.operands after.stack
       cut = cut-at new apart s l ready r own_rec asks res code i op f after n run k
 
-      by : (b : Bool) → is_over s i.place n ≡ b → Going [] (cell_copies s (under s i.place n) (cells s q)) []
+      by : (b : Bool) → has_under s i.place n ≡ b → Going [] (cell_copies s (under s i.place n) (stack_homes s q)) []
       by false over =
           let none = not-over i op f after n run k over in
           let empty : under s i.place n ≡ [] = cut.from_bottom ∙ ap (λ (m : ℕ). cells_from (register_count s.method.rec) (reverse after.stack ++ reverse k.operands) 0 m) (ap length none) in
-          subst (λ (hs : List Home). Going [] (cell_copies s hs (cells s q)) []) (sym empty) (goes-nowhere s.world r (registers_of s.homes) asks)
+          subst (λ (hs : List Home). Going [] (cell_copies s hs (stack_homes s q)) []) (sym empty) (goes-nowhere s.world r (registers_of s.homes) asks)
       by true over =
           let keeps = keeps-over new apart s l ready r own_rec asks res code i op f after n run is e over in
           let whole_after = l.whole s.method.rec.max_stack s.method.rec i.place op _ f after run.outcome run.sound (ready.whole i.place f run.at).whole run.does in
@@ -93,8 +93,8 @@ module _ (new : ℕ → ℕ) (apart : (a b : ℕ) → new a ≡ new b → a ≡ 
           let m = matched s l ready r asks (register_count s.method.rec) [] [] (reverse k.operands) refl whole_after (l.rules.order.turned below.stack)
           (All-reverse IsNotBottom after.stack full) (All-reverse IsNotTop after.stack no_top) (All-reverse IsNotTop g.stack (fit-at new apart s l ready r own_rec asks res code q g to).no_top)
           (subst (Each (Stands s l.objects r (registers_of s.homes) asks)) first stands) (subst (Each (Stands s l.objects r (registers_of s.homes) asks)) second others) in
-          cells-go l.same_is l.needed s l.objects l.rules ready r asks (under s i.place n) (cells s q) []
-          (subst (λ (hs : List Home). AreUnder l.same_is l.needed s l.objects l.rules ready r asks hs (cells s q)) (sym first)
+          cells-go l.same_is l.needed s l.objects l.rules ready r asks (under s i.place n) (stack_homes s q) []
+          (subst (λ (hs : List Home). AreUnder l.same_is l.needed s l.objects l.rules ready r asks hs (stack_homes s q)) (sym first)
           (subst (λ (ks : List Home). AreUnder l.same_is l.needed s l.objects l.rules ready r asks (cells_from (register_count s.method.rec) (reverse after.stack ++ reverse k.operands) 0 (length (reverse after.stack))) ks) (sym second) m))
           (omega (arith, own_rec.room))
 
@@ -107,12 +107,12 @@ module _ (new : ℕ → ℕ) (apart : (a b : ℕ) → new a ≡ new b → a ≡ 
 
   pub fork-falls : (i : Placed) (op : Operation) (f after g : Frame) (n q : ℕ) → IsRun s i op f after → IsConditional op → operands_of s.world (Ok op) ≡ Some n → s.frames q ≡ Some g → FrameBelow s.world.classes after g
       → FallsInto new apart s l ready r own_rec asks res code q (holding []) (fall_by s i.place op (Some n) q)
-  fork-falls i op f after g n q run is e to below = by (is_over s i.place n) refl
+  fork-falls i op f after g n q run is e to below = by (has_under s i.place n) refl
     where
       k : IsForked s.world op n f.stack after.stack (registers_of s.homes)
       k = fork new apart s l ready r own_rec asks res code i op f after n run is e
 
-      over-falls : is_over s i.place n ≡ true → (c : Bool) → is_leader s q ≡ c → FallsInto new apart s l ready r own_rec asks res code q (holding []) (if c then taken s i.place op n q else copies s (After i.place op) q ++ loads s (under s i.place n))
+      over-falls : has_under s i.place n ≡ true → (c : Bool) → is_leader s q ≡ c → FallsInto new apart s l ready r own_rec asks res code q (holding []) (if c then taken s i.place op n q else copies s (After i.place op) q ++ loads s (under s i.place n))
       over-falls over true lead = record { state = holding []; goes = taken-goes i op f after g n q run is e to below lead; arrives = emptied_there lead }
       over-falls over false lead =
           let keeps = keeps-over new apart s l ready r own_rec asks res code i op f after n run is e over in
@@ -135,7 +135,7 @@ module _ (new : ℕ → ℕ) (apart : (a b : ℕ) → new a ≡ new b → a ≡ 
             arrives = falls_there lead to (below-lesser new apart s l ready r own_rec asks res code after g after.stack below.stack lesser);
           }
 
-      by : (b : Bool) → is_over s i.place n ≡ b → FallsInto new apart s l ready r own_rec asks res code q (holding []) (if b then fall_over s i.place op n q else fall s i.place op q)
+      by : (b : Bool) → has_under s i.place n ≡ b → FallsInto new apart s l ready r own_rec asks res code q (holding []) (if b then fall_over s i.place op n q else fall s i.place op q)
       by true over = over-falls over (is_leader s q) refl
       by false over =
           let none = not-over i op f after n run k over in
@@ -152,8 +152,8 @@ module _ (new : ℕ → ℕ) (apart : (a b : ℕ) → new a ≡ new b → a ≡ 
       let own = named-at new apart s l ready r own_rec asks res code q g st to keeps le in
       subst (λ (us : List Ty). Flows s.world r (registers_of s.homes) asks at (holding us) (gone s i.place (ops.Branch branches.Always) q) left) (sym own)
       (flows-append s.world r (registers_of s.homes) asks (spill-at new apart s l ready r own_rec asks res code q g st to keeps le at)
-      (flows-append s.world r (registers_of s.homes) asks (copies-after i (ops.Branch branches.Always) f after g q run to below (at + count (spill s (cells s q))))
-      (goto-flows new apart s l ready r own_rec asks res code (at + count (spill s (cells s q)) + count (copies s (After i.place (ops.Branch branches.Always)) q)) q)))
+      (flows-append s.world r (registers_of s.homes) asks (copies-after i (ops.Branch branches.Always) f after g q run to below (at + count (spill s (stack_homes s q))))
+      (goto-flows new apart s l ready r own_rec asks res code (at + count (spill s (stack_homes s q)) + count (copies s (After i.place (ops.Branch branches.Always)) q)) q)))
 
   pub stub-flows : (i : Placed) (op : Operation) (f after g : Frame) (n k at : ℕ) (t : ℤ) → IsRun s i op f after → IsConditional op → operands_of s.world (Ok op) ≡ Some n → s.frames (place t) ≡ Some g → FrameBelow s.world.classes after g → is_leader s (place t) ≡ true → asks (stub_label i.place k) ≡ emptied
       → Flows s.world r (registers_of s.homes) asks at left (stub s i.place op n k t) left
@@ -172,5 +172,5 @@ module _ (new : ℕ → ℕ) (apart : (a b : ℕ) → new a ≡ new b → a ≡ 
       flow_label {b = holding (Class h.class ∷ [])} (subst (λ (q : Asked). Passes q left (holding (Class h.class ∷ []))) (sym wants) (refl, refl))
       (flows-append s.world r (registers_of s.homes) asks (spill-at new apart s l ready r own_rec asks res code h.entry g (Class h.class ∷ []) to (is-kept new apart s l ready r own_rec asks res code h.entry lead) le at)
       (flows-append s.world r (registers_of s.homes) asks
-      (copies-go l.same_is l.needed s l.objects l.rules ready r asks (Entry h.entry) h.entry [] (carries-entry l.same_is l.needed s l.objects l.rules ready r asks h.entry g to) (omega (arith, own_rec.room)) (at + count (spill s (cells s h.entry))))
-      (goto-flows new apart s l ready r own_rec asks res code (at + count (spill s (cells s h.entry)) + count (copies s (Entry h.entry) h.entry)) h.entry)))
+      (copies-go l.same_is l.needed s l.objects l.rules ready r asks (Entry h.entry) h.entry [] (carries-entry l.same_is l.needed s l.objects l.rules ready r asks h.entry g to) (omega (arith, own_rec.room)) (at + count (spill s (stack_homes s h.entry))))
+      (goto-flows new apart s l ready r own_rec asks res code (at + count (spill s (stack_homes s h.entry)) + count (copies s (Entry h.entry) h.entry)) h.entry)))

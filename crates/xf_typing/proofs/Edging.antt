@@ -28,7 +28,7 @@ use Rattle.xf_homes.specs.Value.{value_at, value_of, width}
 use Rattle.xf_homes.specs.Walk.{local_of}
 use Rattle.xf_homes.proofs.Events.{among-has}
 use Rattle.xf_plan.specs.Source.{Source}
-use Rattle.xf_plan.specs.Plan.{cells, cells_from, needed, operation, stack_of, with_home_of, home_of}
+use Rattle.xf_plan.specs.Plan.{stack_homes, cells_from, needed, operation, stack_of, with_home_of, home_of}
 use Rattle.xf_emission.specs.declared.origin.Origin.{Origin}
 use Rattle.xf_emission.specs.declared.origin.Origin.TheVariants.{Start, After, Entry}
 use Rattle.xf_emission.specs.Edge.{home_before, is_stored}
@@ -167,8 +167,8 @@ module _ (s : Source) (l : AreLaws s.world) (dw : DerivedAreWhole s.world) (sv :
       }
 
   pub cells-are : (q : ℕ) (f : Frame) → s.frames q ≡ Some f
-      → cells s q ≡ cells_from (register_count s.method.rec) (reverse f.stack) 0 (length (reverse f.stack))
-  unfolding cells
+      → stack_homes s q ≡ cells_from (register_count s.method.rec) (reverse f.stack) 0 (length (reverse f.stack))
+  unfolding stack_homes
   cells-are q f e = ap (λ (o : Option Frame). cells_from (register_count s.method.rec) (stack_of o) 0 (length (stack_of o))) e
 
   pub fill-stack : (q : ℕ) (f : Frame) → s.frames q ≡ Some f → KeepsStack s.world s.method s.frames q → FillStack s q f

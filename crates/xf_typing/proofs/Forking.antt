@@ -34,10 +34,10 @@ use Rattle.xf_homes.specs.Home.{IsConditional, KeepsStack}
 use Rattle.xf_homes.specs.Walk.{operands_of}
 use Rattle.xf_homes.proofs.Meeting.{operands-of}
 use Rattle.xf_plan.specs.Source.{Source}
-use Rattle.xf_plan.specs.Plan.{cells, depth, stack_of}
+use Rattle.xf_plan.specs.Plan.{stack_homes, depth, stack_of}
 use Rattle.xf_emission.specs.Laws.{IsCode}
 use Rattle.xf_emission.specs.Move.{loads, spill}
-use Rattle.xf_emission.specs.Jump.{under, operands, is_over, spill_if, jump_to, leads, branch, first_label}
+use Rattle.xf_emission.specs.Jump.{under, operands, has_under, spill_if, jump_to, leads, branch, first_label}
 use Rattle.xf_emission.proofs.RowByRow.{resolved-elsewhere}
 use Rattle.xf_typing.specs.Typed.{registers_of}
 use Rattle.xf_typing.proofs.Walks.{holding, left, Asked, Turn, Flows, flow_step, flow_end, flows-append, Goes, goes-append, count}
@@ -136,7 +136,7 @@ module _ (new : ℕ → ℕ) (apart : (a b : ℕ) → new a ≡ new b → a ≡ 
   depth-is i op f after run = ap (λ (o : Option Frame). length (stack_of o)) run.at ∙ length-reverse f.stack
 
   -- the stack is deeper than the operands, so that it is kept
-  pub keeps-over : (i : Placed) (op : Operation) (f after : Frame) (n : ℕ) → IsRun s i op f after → IsConditional op → operands_of s.world (Ok op) ≡ Some n → is_over s i.place n ≡ true → KeepsStack s.world s.method s.frames i.place
+  pub keeps-over : (i : Placed) (op : Operation) (f after : Frame) (n : ℕ) → IsRun s i op f after → IsConditional op → operands_of s.world (Ok op) ≡ Some n → has_under s i.place n ≡ true → KeepsStack s.world s.method s.frames i.place
   keeps-over i op f after n run is e over =
       let taken : (footprint s.world op).taken ≡ n = some-same (footprint s.world op).taken n (sym (operands-of s.world op is) ∙ e) in
       let deep = depth-is i op f after run in
@@ -170,7 +170,7 @@ module _ (new : ℕ → ℕ) (apart : (a b : ℕ) → new a ≡ new b → a ≡ 
   pub branch-flows : (i : Placed) (op : Operation) (f after : Frame) (n : ℕ) (st : List Ty) (at : ℕ) → IsRun s i op f after → IsConditional op → operands_of s.world (Ok op) ≡ Some n → IsLesser s.world f st
       → Flows s.world r (registers_of s.homes) asks at (holding (map (named new apart) st)) (branch s i op n) (if falls_from op then holding [] else left)
   unfolding branch
-  branch-flows i op f after n st at run is e lesser = by (is_over s i.place n) refl
+  branch-flows i op f after n st at run is e lesser = by (has_under s i.place n) refl
     where
       labels : List ℕ
       labels = leads s i.place op n 0 (targets s.method.code i)
@@ -181,7 +181,7 @@ module _ (new : ℕ → ℕ) (apart : (a b : ℕ) → new a ≡ new b → a ≡ 
       room_f : length f.stack ≤ s.method.rec.max_stack
       room_f = run.fit.room
 
-      by : (b : Bool) → is_over s i.place n ≡ b → Flows s.world r (registers_of s.homes) asks at (holding (map (named new apart) st)) (spill_if b s i.place n ++ jump_to i op labels ∷ []) (if falls_from op then holding [] else left)
+      by : (b : Bool) → has_under s i.place n ≡ b → Flows s.world r (registers_of s.homes) asks at (holding (map (named new apart) st)) (spill_if b s i.place n ++ jump_to i op labels ∷ []) (if falls_from op then holding [] else left)
       by true over =
           let keeps = keeps-over i op f after n run is e over in
           let own = named-at new apart s l ready r own_rec asks res code i.place f st run.at keeps lesser.below in
@@ -193,7 +193,7 @@ module _ (new : ℕ → ℕ) (apart : (a b : ℕ) → new a ≡ new b → a ≡ 
           (loads-go s l.objects r (registers_of s.homes) asks (operands s i.place n) [] stand (omega (arith, ap length cut.operands_is, less))) in
           let first = goes-append s.world r (registers_of s.homes) asks (spill-at new apart s l ready r own_rec asks res code i.place f st run.at keeps lesser.below) load_them in
           subst (λ (us : List Ty). Flows s.world r (registers_of s.homes) asks at (holding us) (spill_if true s i.place n ++ jump_to i op labels ∷ []) (if falls_from op then holding [] else left)) (sym own)
-          (flows-append s.world r (registers_of s.homes) asks (first at) (jump-flows i op f after k.operands (at + count (spill s (cells s i.place) ++ loads s (operands s i.place n))) labels run is less k.applies))
+          (flows-append s.world r (registers_of s.homes) asks (first at) (jump-flows i op f after k.operands (at + count (spill s (stack_homes s i.place) ++ loads s (operands s i.place n))) labels run is less k.applies))
       by false over =
           let deep = depth-is i op f after run in
           let le : depth s i.place ≤ n = grind (arith, nat_tests, over) in

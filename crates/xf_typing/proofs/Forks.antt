@@ -29,9 +29,9 @@ use Rattle.xf_homes.specs.Order.{register_sum}
 use Rattle.xf_homes.specs.Value.{width}
 use Rattle.xf_homes.specs.Walk.{operands_of}
 use Rattle.xf_plan.specs.Source.{Source}
-use Rattle.xf_plan.specs.Plan.{cells, cells_from, is_leader, operation}
+use Rattle.xf_plan.specs.Plan.{stack_homes, cells_from, is_leader, operation}
 use Rattle.xf_emission.specs.Emission.{rewritten}
-use Rattle.xf_emission.specs.Jump.{is_over, operands, under}
+use Rattle.xf_emission.specs.Jump.{has_under, operands, under}
 use Rattle.xf_emission.specs.Move.{load_op}
 use Rattle.xf_emission.proofs.RowByRow.{ok-same}
 use Rattle.xf_landed.specs.Laid.{record_with}
@@ -145,7 +145,7 @@ module _ (s : Source) (l : AreLaws s.world) (dw : DerivedAreWhole s.world) (sv :
         ap register_sum under_is ∙ (fills (register_count s.method.rec) [] (reverse k.after.stack) (reverse forked.operands) whole_after (All-reverse IsNotTop k.after.stack no_top_after)).fill
         ∙ length-reverse k.after.stack
 
-    all_fill : register_sum (cells s i.place) ≡ length f.stack
+    all_fill : register_sum (stack_homes s i.place) ≡ length f.stack
     all_fill =
         let types = reverse f.stack in
         let full : types ++ [] ≡ types = append-nil types in
@@ -156,7 +156,7 @@ module _ (s : Source) (l : AreLaws s.world) (dw : DerivedAreWhole s.world) (sv :
     count : length f.stack ≡ n + length k.after.stack
     count = ap length forked.parts ∙ length-append forked.operands k.after.stack ∙ omega (arith, forked.size)
 
-    both : register_sum (cells s i.place) ≡ register_sum (under s i.place n) + register_sum (operands s i.place n)
+    both : register_sum (stack_homes s i.place) ≡ register_sum (under s i.place n) + register_sum (operands s i.place n)
     unfolding register_sum
     both = ap register_sum cut.parts ∙ sum_by-append (λ (h : Home). width h.ty) (under s i.place n) (operands s i.place n)
 
@@ -169,9 +169,9 @@ module _ (s : Source) (l : AreLaws s.world) (dw : DerivedAreWhole s.world) (sv :
     }
 
     under-keeps : Each (Keeps s) (under s i.place n)
-    under-keeps = by (is_over s i.place n) refl
+    under-keeps = by (has_under s i.place n) refl
       where
-        by : (b : Bool) → is_over s i.place n ≡ b → Each (Keeps s) (under s i.place n)
+        by : (b : Bool) → has_under s i.place n ≡ b → Each (Keeps s) (under s i.place n)
         by true over =
             let kept = (fill-stack s l dw sv plan i.place f at (forked-at.keeps over)).keep in
             each-left (Keeps s) (under s i.place n) (operands s i.place n) (subst (Each (Keeps s)) cut.parts kept)
@@ -182,7 +182,7 @@ module _ (s : Source) (l : AreLaws s.world) (dw : DerivedAreWhole s.world) (sv :
             let empty : under s i.place n ≡ [] = under_is ∙ ap (λ (m : ℕ). cells_from (register_count s.method.rec) (reverse k.after.stack ++ reverse forked.operands) 0 m) none in
             subst (Each (Keeps s)) (sym empty) tt
 
-    pub matched-at : (q : ℕ) → IsSuccessor s.method.code i q → is_leader s q ≡ true → AreMatched s (under s i.place n) (cells s q)
+    pub matched-at : (q : ℕ) → IsSuccessor s.method.code i q → is_leader s q ≡ true → AreMatched s (under s i.place n) (stack_homes s q)
     matched-at q succ lead =
         let g = k.below q succ in
         let keeps = fill-stack s l dw sv plan q g.frame g.at (inl ((plan.leaders q).0 lead)) in
@@ -191,7 +191,7 @@ module _ (s : Source) (l : AreLaws s.world) (dw : DerivedAreWhole s.world) (sv :
         let m = matched-homes s l (register_count s.method.rec) [] [] (reverse forked.operands) refl whole_after (l.rules.order.turned g.below.stack)
         (All-reverse IsNotBottom k.after.stack full) (All-reverse IsNotTop k.after.stack no_top_after) (All-reverse IsNotTop g.frame.stack (fit-at s l dw sv plan q g.frame g.at).no_top)
         (subst (Each (Keeps s)) under_is under-keeps) (subst (Each (Keeps s)) second keeps.keep) in
-        subst (λ (hs : List Home). AreMatched s hs (cells s q)) (sym under_is)
+        subst (λ (hs : List Home). AreMatched s hs (stack_homes s q)) (sym under_is)
         (subst (λ (ks : List Home). AreMatched s (cells_from (register_count s.method.rec) (reverse k.after.stack ++ reverse forked.operands) 0 (length (reverse k.after.stack))) ks) (sym second) m)
 
 module _ (w : Linked) (laws : AreLaws w) (dw : DerivedAreWhole w) (sv : HomesServe w) where

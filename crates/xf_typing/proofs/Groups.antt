@@ -18,7 +18,7 @@ use Rattle.xf_homes.specs.Walk.{operands_of}
 use Rattle.xf_plan.specs.Source.{Source}
 use Rattle.xf_plan.specs.Plan.{is_leader}
 use Rattle.xf_emission.specs.Laws.{IsCode}
-use Rattle.xf_emission.specs.Group.{body, fall_by, fallen, first_place, entered, done, group_by, group}
+use Rattle.xf_emission.specs.Group.{body, fall_by, fallen, first_place, entrance, done, group_by, group}
 use Rattle.xf_typing.specs.Typed.{registers_of}
 use Rattle.xf_typing.proofs.Walks.{State, holding, left, Asked, nothing_asked, emptied, Flows, flow_end, flows-append, count}
 use Rattle.xf_typing.proofs.Ready.{IsReady}
@@ -152,13 +152,13 @@ module _ (new : ℕ → ℕ) (apart : (a b : ℕ) → new a ≡ new b → a ≡ 
 
   -- ---- the group
 
-  pub group-flows : (i : Placed) (op : Operation) (f after : Frame) (n : ℕ) (a : State) → IsRun s i op f after → LeadsOn i op after → new i.place ≡ n + count (entered s i.place) → asks i.place ≡ (if is_leader s i.place then emptied else nothing_asked)
+  pub group-flows : (i : Placed) (op : Operation) (f after : Frame) (n : ℕ) (a : State) → IsRun s i op f after → LeadsOn i op after → new i.place ≡ n + count (entrance s i.place) → asks i.place ≡ (if is_leader s i.place then emptied else nothing_asked)
       → Arrives new apart s l ready r own_rec asks res code i.place a → IsGone n i op a (group s i)
   unfolding group
   group-flows i op f after n a run leads here wants comes =
       let head = entered-flows new apart s l ready r own_rec asks res code n i.place f run.at wants a comes in
-      let rest = done-flows i op f after head.stack (n + count (entered s i.place)) run leads here head.lesser in
-      let whole : group_by s i (s.frames i.place) ≡ entered s i.place ++ done s i (Ok op) = ap (group_by s i) run.at ∙ ap (λ o. entered s i.place ++ done s i o) run.resolves in
+      let rest = done-flows i op f after head.stack (n + count (entrance s i.place)) run leads here head.lesser in
+      let whole : group_by s i (s.frames i.place) ≡ entrance s i.place ++ done s i (Ok op) = ap (group_by s i) run.at ∙ ap (λ o. entrance s i.place ++ done s i o) run.resolves in
       record {
         state = rest.state;
         flow = subst (λ (xs : List Item). Flows s.world r (registers_of s.homes) asks n a xs rest.state) (sym whole) (flows-append s.world r (registers_of s.homes) asks head.flow rest.flow);

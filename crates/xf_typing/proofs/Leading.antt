@@ -24,13 +24,13 @@ use Rattle.xf_homes.specs.declared.home.Home.{Home}
 use Rattle.xf_homes.specs.Home.{register_count, KeepsStack}
 use Rattle.xf_homes.specs.Value.{value_at}
 use Rattle.xf_plan.specs.Source.{Source}
-use Rattle.xf_plan.specs.Plan.{cells, cells_from, with_home_of, home_of, stack_of, is_leader}
+use Rattle.xf_plan.specs.Plan.{stack_homes, cells_from, with_home_of, home_of, stack_of, is_leader}
 use Rattle.xf_emission.specs.declared.origin.Origin.TheVariants.{After}
 use Rattle.xf_emission.specs.Laws.{IsCode}
 use Rattle.xf_emission.specs.Move.{loads, spill}
 use Rattle.xf_emission.specs.Edge.{copies, home_before}
 use Rattle.xf_emission.specs.Jump.{goto}
-use Rattle.xf_emission.specs.Group.{entered, fall}
+use Rattle.xf_emission.specs.Group.{entrance, fall}
 use Rattle.xf_typing.specs.Typed.{registers_of}
 use Rattle.xf_typing.proofs.Walks.{State, holding, left, Asked, nothing_asked, emptied, Passes, Flows, flow_label, flow_step, flow_end, Goes, goes-append}
 use Rattle.xf_typing.proofs.Moves.{applies-by, same-cells}
@@ -83,27 +83,27 @@ module _ (new : ℕ → ℕ) (apart : (a b : ℕ) → new a ≡ new b → a ≡ 
           let has = ready.serve.cells q i ty (reached l.same_is l.needed s l.objects l.rules ready r asks q g e) keeps at in
           (home-stands l.same_is l.needed s l.objects l.rules ready r asks (record { slot = register_count s.method.rec + i; ty = ty }) has plain, more)
 
-  pub cells-are : (q : ℕ) (g : Frame) → s.frames q ≡ Some g → cells s q ≡ cells_from (register_count s.method.rec) (reverse g.stack) 0 (length (reverse g.stack))
-  unfolding cells
+  pub cells-are : (q : ℕ) (g : Frame) → s.frames q ≡ Some g → stack_homes s q ≡ cells_from (register_count s.method.rec) (reverse g.stack) 0 (length (reverse g.stack))
+  unfolding stack_homes
   cells-are q g e = ap (λ (o : Option Frame). cells_from (register_count s.method.rec) (stack_of o) 0 (length (stack_of o))) e
 
-  pub cells-stand : (q : ℕ) (g : Frame) → s.frames q ≡ Some g → KeepsStack s.world s.method s.frames q → Each (Stands s l.objects r (registers_of s.homes) asks) (cells s q)
+  pub cells-stand : (q : ℕ) (g : Frame) → s.frames q ≡ Some g → KeepsStack s.world s.method s.frames q → Each (Stands s l.objects r (registers_of s.homes) asks) (stack_homes s q)
   cells-stand q g e keeps = subst (Each (Stands s l.objects r (registers_of s.homes) asks)) (sym (cells-are q g e)) (cells-stand-from q g e keeps 0 (length (reverse g.stack)))
 
-  pub cells-pushed : (q : ℕ) (g : Frame) → s.frames q ≡ Some g → pushed (cells s q) [] ≡ g.stack
+  pub cells-pushed : (q : ℕ) (g : Frame) → s.frames q ≡ Some g → pushed (stack_homes s q) [] ≡ g.stack
   cells-pushed q g e =
       ap (λ (hs : List Home). pushed hs []) (cells-are q g e)
       ∙ stack-pushed (register_count s.method.rec) g.stack (ready.whole q g e).whole (All-reverse IsNotTop g.stack (fit-at q g e).no_top)
 
-  pub loads-at : (q : ℕ) (g : Frame) → s.frames q ≡ Some g → KeepsStack s.world s.method s.frames q → Goes s.world r (registers_of s.homes) asks (holding []) (loads s (cells s q)) (holding g.stack)
+  pub loads-at : (q : ℕ) (g : Frame) → s.frames q ≡ Some g → KeepsStack s.world s.method s.frames q → Goes s.world r (registers_of s.homes) asks (holding []) (loads s (stack_homes s q)) (holding g.stack)
   loads-at q g e keeps =
       let is = cells-pushed q g e in
-      subst (λ (us : List Ty). Goes s.world r (registers_of s.homes) asks (holding []) (loads s (cells s q)) (holding us)) is
-      (loads-go s l.objects r (registers_of s.homes) asks (cells s q) [] (cells-stand q g e keeps) (omega (arith, ap length is, (fit-at q g e).room, own_rec.room)))
+      subst (λ (us : List Ty). Goes s.world r (registers_of s.homes) asks (holding []) (loads s (stack_homes s q)) (holding us)) is
+      (loads-go s l.objects r (registers_of s.homes) asks (stack_homes s q) [] (cells-stand q g e keeps) (omega (arith, ap length is, (fit-at q g e).room, own_rec.room)))
 
-  pub spill-at : (q : ℕ) (g : Frame) (st : List Ty) → s.frames q ≡ Some g → KeepsStack s.world s.method s.frames q → CellsBelow s.world.classes st g.stack → Goes s.world r (registers_of s.homes) asks (holding st) (spill s (cells s q)) (holding [])
+  pub spill-at : (q : ℕ) (g : Frame) (st : List Ty) → s.frames q ≡ Some g → KeepsStack s.world s.method s.frames q → CellsBelow s.world.classes st g.stack → Goes s.world r (registers_of s.homes) asks (holding st) (spill s (stack_homes s q)) (holding [])
   spill-at q g st e keeps le =
-      spill-goes s l.objects r (registers_of s.homes) asks (cells s q) st (cells-stand q g e keeps) (subst (CellsBelow s.world.classes st) (sym (cells-pushed q g e)) le)
+      spill-goes s l.objects r (registers_of s.homes) asks (stack_homes s q) st (cells-stand q g e keeps) (subst (CellsBelow s.world.classes st) (sym (cells-pushed q g e)) le)
       (omega (arith, l.rules.order.lengths le, (fit-at q g e).room, own_rec.room))
 
   -- the stack before a place is below that there, so that it holds no uninitialised object where that stack is kept
@@ -154,14 +154,14 @@ module _ (new : ℕ → ℕ) (apart : (a b : ℕ) → new a ≡ new b → a ≡ 
       carries : (y : ℕ) (from : Home) → home_before s (After i.place op) y ≡ Some from → Carries l.same_is l.needed s l.objects l.rules ready r asks (After i.place op) q y from
       carries = carries-after l.same_is l.needed s l.objects l.rules ready r asks i.place q s.method.rec.max_stack op f after g run.outcome run.at run.does to below.regs
 
-      by : (b : Bool) → is_leader s q ≡ b → FallsInto q (holding (map (named new apart) st)) ((if b then spill s (cells s q) else []) ++ copies s (After i.place op) q)
+      by : (b : Bool) → is_leader s q ≡ b → FallsInto q (holding (map (named new apart) st)) ((if b then spill s (stack_homes s q) else []) ++ copies s (After i.place op) q)
       by true e =
           let le = l.rules.order.through lesser.below below.stack in
           let own = named-at q g st to (is-kept q e) le in
           record {
             state = holding [];
             goes =
-                subst (λ (us : List Ty). Goes s.world r (registers_of s.homes) asks (holding us) (spill s (cells s q) ++ copies s (After i.place op) q) (holding [])) (sym own)
+                subst (λ (us : List Ty). Goes s.world r (registers_of s.homes) asks (holding us) (spill s (stack_homes s q) ++ copies s (After i.place op) q) (holding [])) (sym own)
                 (goes-append s.world r (registers_of s.homes) asks (spill-at q g st to (is-kept q e) le)
                 (copies-go l.same_is l.needed s l.objects l.rules ready r asks (After i.place op) q [] carries (omega (arith, own_rec.room))));
             arrives = emptied_there e;
@@ -180,7 +180,7 @@ module _ (new : ℕ → ℕ) (apart : (a b : ℕ) → new a ≡ new b → a ≡ 
   pub record IsEntered (n q : ℕ) (g : Frame) (a : State) : Type 0 where
     pub stack : List Ty
     pub lesser : IsLesser s.world g stack
-    pub flow : Flows s.world r (registers_of s.homes) asks n a (entered s q) (holding (map (named new apart) stack))
+    pub flow : Flows s.world r (registers_of s.homes) asks n a (entrance s q) (holding (map (named new apart) stack))
 
   module _ (n q : ℕ) (g : Frame) (to : s.frames q ≡ Some g) (wants : asks q ≡ (if is_leader s q then emptied else nothing_asked)) where
     leading : (b : State) → ((b ≡ left) ⊎ (b ≡ holding [])) → is_leader s q ≡ true → IsEntered n q g b
@@ -193,8 +193,8 @@ module _ (new : ℕ → ℕ) (apart : (a b : ℕ) → new a ≡ new b → a ≡ 
           lesser = record { below = l.rules.order.self g.stack; full = whole.stack; known = whole.known.stack };
           flow =
               flow_label (subst (λ (w : Asked). Passes w b (holding [])) (sym asked) (from, refl))
-              (subst (λ (x : Bool). Flows s.world r (registers_of s.homes) asks n (holding []) (if x then loads s (cells s q) else []) (holding (map (named new apart) g.stack))) (sym e)
-              (subst (λ (us : List Ty). Flows s.world r (registers_of s.homes) asks n (holding []) (loads s (cells s q)) (holding us)) (sym own) (loads-at q g to (is-kept q e) n)));
+              (subst (λ (x : Bool). Flows s.world r (registers_of s.homes) asks n (holding []) (if x then loads s (stack_homes s q) else []) (holding (map (named new apart) g.stack))) (sym e)
+              (subst (λ (us : List Ty). Flows s.world r (registers_of s.homes) asks n (holding []) (loads s (stack_homes s q)) (holding us)) (sym own) (loads-at q g to (is-kept q e) n)));
         }
 
     pub entered-flows : (a : State) → Arrives q a → IsEntered n q g a
@@ -208,5 +208,5 @@ module _ (new : ℕ → ℕ) (apart : (a b : ℕ) → new a ≡ new b → a ≡ 
           lesser = subst (λ (j : Frame). IsLesser s.world j st) own lesser;
           flow =
               flow_label (subst (λ (w : Asked). Passes w (holding (map (named new apart) st)) (holding (map (named new apart) st))) (sym asked) refl)
-              (subst (λ (x : Bool). Flows s.world r (registers_of s.homes) asks n (holding (map (named new apart) st)) (if x then loads s (cells s q) else []) (holding (map (named new apart) st))) (sym e) flow_end);
+              (subst (λ (x : Bool). Flows s.world r (registers_of s.homes) asks n (holding (map (named new apart) st)) (if x then loads s (stack_homes s q) else []) (holding (map (named new apart) st))) (sym e) flow_end);
         }

@@ -20,7 +20,7 @@ use Rattle.jc_rules.specs.Flow.{FrameBelow, IsFollowed}
 use Rattle.xf_plan.specs.Source.{Source}
 use Rattle.xf_plan.specs.Plan.{is_leader, operation}
 use Rattle.xf_emission.specs.Laws.{IsCode}
-use Rattle.xf_emission.specs.Group.{first_place, entered as head_of, body, fallen, done, group_by, group}
+use Rattle.xf_emission.specs.Group.{first_place, entrance, body, fallen, done, group_by, group}
 use Rattle.xf_typing.specs.Typed.{registers_of}
 use Rattle.xf_typing.proofs.Walks.{State, left, Asked, nothing_asked, emptied, Flows, flow_end, flows-append, count, count-append}
 use Rattle.xf_typing.proofs.Ready.{IsReady, framed, reached}
@@ -212,18 +212,18 @@ module _ (new : ℕ → ℕ) (apart : (a b : ℕ) → new a ≡ new b → a ≡ 
                 }
                 by-falls false goes = subst (IsBefore (i.place + i.insn.len)) (sym (g.leaves goes)) (left-before i st (λ q h. differ (falls_from k.op) (k.falls_alike ∙ h) goes))
 
-  group-is : (i : Placed) (f : Frame) (op : Operation) → s.frames i.place ≡ Some f → operation s i ≡ Ok op → group s i ≡ head_of s i.place ++ done s i (Ok op)
+  group-is : (i : Placed) (f : Frame) (op : Operation) → s.frames i.place ≡ Some f → operation s i ≡ Ok op → group s i ≡ entrance s i.place ++ done s i (Ok op)
   unfolding group
-  group-is i f op e is = ap (group_by s i) e ∙ ap (λ o. head_of s i.place ++ done s i o) is
+  group-is i f op e is = ap (group_by s i) e ∙ ap (λ o. entrance s i.place ++ done s i o) is
 
   -- each group that is reached has an instruction after its head
   pub filled : (xs : List Placed) → ((i : Placed) → Contains xs i → IsListed s.method.code i) → AreFilled s xs
   filled [] inside = tt
   filled (i ∷ xs) inside = ((λ some. by (s.frames i.place) refl some), filled xs (λ j c. inside j (suc c.0, omega (arith, c.1), c.2)))
     where
-      by : (o : Option Frame) → s.frames i.place ≡ o → is_some o ≡ true → count (head_of s i.place) < count (group s i)
+      by : (o : Option Frame) → s.frames i.place ≡ o → is_some o ≡ true → count (entrance s i.place) < count (group s i)
       by None e some = absurd (cc)
       by (Some f) e some =
           let k = run-of i f (inside i (0, omega arith, refl)) e in
-          let whole : group s i ≡ head_of s i.place ++ done s i (Ok k.op) = group-is i f k.op e k.run.resolves in
-          omega (arith, ap count whole, count-append (head_of s i.place) (done s i (Ok k.op)), count-append (body s i k.op) (fallen s i k.op), body-some s i k.op)
+          let whole : group s i ≡ entrance s i.place ++ done s i (Ok k.op) = group-is i f k.op e k.run.resolves in
+          omega (arith, ap count whole, count-append (entrance s i.place) (done s i (Ok k.op)), count-append (body s i k.op) (fallen s i k.op), body-some s i k.op)

@@ -1,6 +1,7 @@
 -- Loads, stores and copies of homes, over the registers of a card typing.
-use Rattle.std.proofs.Common.{◌≡◌, ◌⊎◌, ℕ, zero, suc, ◌+◌, ◌%◌, ◌<◌, ◌≤◌, Bool, true, false, if◌then◌else◌, inl, inr, List, [], ◌∷◌, ◌++◌, length, set, slice_get, Option, Some, Ok, IsSomeAnd, refl, sym, ◌∙◌, ap, subst, arith}
+use Rattle.std.proofs.Common.{◌≡◌, ◌⊎◌, ℕ, zero, suc, ◌+◌, ◌%◌, ◌<◌, ◌≤◌, true, false, if◌then◌else◌, inl, inr, List, [], ◌∷◌, ◌++◌, length, set, slice_get, Option, Some, Ok, IsSomeAnd, refl, sym, ◌∙◌, ap, subst, arith}
 use Rattle.std.specs.Prelude.{⊤}
+use Rattle.std.proofs.lemmas.Bool.{both_ways}
 use Rattle.jc_base.specs.declared.ty.Ty.{Ty}
 use Rattle.jc_base.specs.declared.ty.Ty.TheVariants.{Bottom, Short, IntHigh, IntLow, Null, Class, ArrBool, ArrByte, ArrShort, ArrInt, ArrRef, Fresh, Top}
 use Rattle.jc_base.specs.declared.record.MethodRec.{MethodRec}
@@ -148,13 +149,10 @@ module _ (w : Linked) (objects : ClassesAreObjects w.classes) (r : MethodRec) (r
     after = after;
     applies = (does.0, record { operation = op; resolves = sym is; does = does.1 });
     stored = stored;
-    branch = λ j. absurd (never (jumps i.op) none j);
+    branch = λ j. absurd (both_ways (jumps i.op) none j);
     room = room;
     onward = ap (λ b. if b then holding after.stack else left) (sym goes);
   }
-    where
-      never : (b : Bool) → b ≡ false → b ≡ true → ⊥
-      never b e f = absurd (cc)
 
   -- ---- loads
 

@@ -21,13 +21,13 @@ use Rattle.xf_homes.specs.Home.{register_count}
 use Rattle.xf_homes.specs.Walk.{has, same_home, operands_of}
 use Rattle.xf_homes.proofs.Rising.{each-append}
 use Rattle.xf_plan.specs.Source.{Source}
-use Rattle.xf_plan.specs.Plan.{local, needed, cells, is_leader, operation}
+use Rattle.xf_plan.specs.Plan.{local, needed, stack_homes, is_leader, operation}
 use Rattle.xf_emission.specs.declared.origin.Origin.{Origin}
 use Rattle.xf_emission.specs.declared.origin.Origin.TheVariants.{Start, After, Entry}
 use Rattle.xf_emission.specs.Move.{store, copy, loads, spill}
 use Rattle.xf_emission.specs.Edge.{home_before, held, copy_new, copies_from, local_copies, locals_copies, copies, cell_copies}
-use Rattle.xf_emission.specs.Jump.{under, operands, is_over, spill_if, taken, place, lead, leads, first_label, jump_to, branch, goto, stub, stub_of, stub_label, stubs_of}
-use Rattle.xf_emission.specs.Group.{kept, loaded, increased, stored, stays, field_read, field_written, gone, first_place, body, fall, fall_over, fall_by, fallen, entered, done, group_by, group}
+use Rattle.xf_emission.specs.Jump.{under, operands, has_under, spill_if, taken, place, lead, leads, first_label, jump_to, branch, goto, stub, stub_of, stub_label, stubs_of}
+use Rattle.xf_emission.specs.Group.{itself, loaded, increased, stored, stays, field_read, field_written, gone, first_place, body, fall, fall_over, fall_by, fallen, entrance, done, group_by, group}
 use Rattle.xf_emission.specs.Emission.{stubs, stubs_at, stubs_by, stubs_done, is_live, caught, caught_from, items}
 use Rattle.xf_emission.proofs.Items.{each-if, each-flat}
 use Rattle.xf_typing.proofs.Typings.{names}
@@ -87,12 +87,12 @@ module _ (P : ℕ → Type 0) (s : Source) where
   taken-names : (p : ℕ) (op : Operation) (n q : ℕ) → Each IsNamed (taken s p op n q)
   unfolding taken
   taken-names p op n q =
-      each-append IsNamed (cell_copies s (under s p n) (cells s q)) (copies s (After p op) q) (cells-name (under s p n) (cells s q)) (copies-name (After p op) q)
+      each-append IsNamed (cell_copies s (under s p n) (stack_homes s q)) (copies s (After p op) q) (cells-name (under s p n) (stack_homes s q)) (copies-name (After p op) q)
 
   -- ---- instructions
 
   module _ (i : Placed) where
-    kept-names : Each IsNamed (kept i)
+    kept-names : Each IsNamed (itself i)
     kept-names = (tt {0}, tt {0})
 
     loaded-names : (h : Option Home) → Each IsNamed (loaded s i h)
@@ -110,11 +110,11 @@ module _ (P : ℕ → Type 0) (s : Source) where
 
     read-names : (h : Option Home) → Each IsNamed (field_read s i h)
     read-names None = kept-names
-    read-names (Some h) = each-if IsNamed (stays s h) (kept i) _ kept-names (tt {0}, (tt {0}, tt {0}))
+    read-names (Some h) = each-if IsNamed (stays s h) (itself i) _ kept-names (tt {0}, (tt {0}, tt {0}))
 
     written-names : (k : Kind) (h : Option Home) → Each IsNamed (field_written s i k h)
     written-names k None = kept-names
-    written-names k (Some h) = each-if IsNamed (stays s h) (kept i) _ kept-names (tt {0}, (tt {0}, (tt {0}, tt {0})))
+    written-names k (Some h) = each-if IsNamed (stays s h) (itself i) _ kept-names (tt {0}, (tt {0}, (tt {0}, tt {0})))
 
   module _ (i : Placed) (op : Operation) (e : Names i op) where
     leads-name : (n k : ℕ) (ts : List ℤ) → ((j : ℕ) (t : ℤ) → slice_get ts j ≡ Some t → P (lead s i.place op n (k + j) t)) → Each P (leads s i.place op n k ts)
@@ -152,9 +152,9 @@ module _ (P : ℕ → Type 0) (s : Source) where
     branch-names : (n : ℕ) → operands_of s.world (Ok op) ≡ Some n → jumps_from op ≡ true → Each IsNamed (branch s i op n)
     unfolding branch
     branch-names n asks j =
-        each-append IsNamed (spill_if (is_over s i.place n) s i.place n) (jump_to i op _ ∷ [])
-        (each-if IsNamed (is_over s i.place n) (spill s (cells s i.place) ++ loads s (operands s i.place n)) []
-        (each-append IsNamed (spill s (cells s i.place)) (loads s (operands s i.place n)) (spill-names (cells s i.place)) (loads-name (operands s i.place n))) tt)
+        each-append IsNamed (spill_if (has_under s i.place n) s i.place n) (jump_to i op _ ∷ [])
+        (each-if IsNamed (has_under s i.place n) (spill s (stack_homes s i.place) ++ loads s (operands s i.place n)) []
+        (each-append IsNamed (spill s (stack_homes s i.place)) (loads s (operands s i.place n)) (spill-names (stack_homes s i.place)) (loads-name (operands s i.place n))) tt)
         (jump-names n asks j, tt {0})
 
     first-place-named : jumps_from op ≡ true → P (first_place (targets s.method.code i))
@@ -167,20 +167,20 @@ module _ (P : ℕ → Type 0) (s : Source) where
     gone-names : jumps_from op ≡ true → Each IsNamed (gone s i.place op (first_place (targets s.method.code i)))
     gone-names j =
         let q = first_place (targets s.method.code i) in
-        each-append IsNamed (spill s (cells s q)) (copies s (After i.place op) q ++ goto q ∷ []) (spill-names (cells s q))
+        each-append IsNamed (spill s (stack_homes s q)) (copies s (After i.place op) q ++ goto q ∷ []) (spill-names (stack_homes s q))
         (each-append IsNamed (copies s (After i.place op) q) (goto q ∷ []) (copies-name (After i.place op) q) ((first-place-named j, tt {0}), tt {0}))
 
     -- ---- falling
 
     fall-names : (q : ℕ) → Each IsNamed (fall s i.place op q)
     fall-names q =
-        each-append IsNamed (if is_leader s q then spill s (cells s q) else []) (copies s (After i.place op) q)
-        (each-if IsNamed (is_leader s q) (spill s (cells s q)) [] (spill-names (cells s q)) tt) (copies-name (After i.place op) q)
+        each-append IsNamed (if is_leader s q then spill s (stack_homes s q) else []) (copies s (After i.place op) q)
+        (each-if IsNamed (is_leader s q) (spill s (stack_homes s q)) [] (spill-names (stack_homes s q)) tt) (copies-name (After i.place op) q)
 
     fall-by-names : (n : Option ℕ) (q : ℕ) → Each IsNamed (fall_by s i.place op n q)
     fall-by-names None q = fall-names q
     fall-by-names (Some n) q =
-        each-if IsNamed (is_over s i.place n) (fall_over s i.place op n q) (fall s i.place op q)
+        each-if IsNamed (has_under s i.place n) (fall_over s i.place op n q) (fall s i.place op q)
         (each-if IsNamed (is_leader s q) (taken s i.place op n q) (copies s (After i.place op) q ++ loads s (under s i.place n)) (taken-names i.place op n q)
         (each-append IsNamed (copies s (After i.place op) q) (loads s (under s i.place n)) (copies-name (After i.place op) q) (loads-name (under s i.place n))))
         (fall-names q)
@@ -231,8 +231,8 @@ module _ (P : ℕ → Type 0) (s : Source) where
     done-names i (Err fault) h = tt
     done-names i (Ok op) h = each-append IsNamed (body s i op) (fallen s i op) (body-names i op (h op refl)) (fallen-names i op (h op refl))
 
-    entered-names : (p : ℕ) → Each IsNamed (entered s p)
-    entered-names p = (tt {0}, each-if IsNamed (is_leader s p) (loads s (cells s p)) [] (loads-name (cells s p)) tt)
+    entered-names : (p : ℕ) → Each IsNamed (entrance s p)
+    entered-names p = (tt {0}, each-if IsNamed (is_leader s p) (loads s (stack_homes s p)) [] (loads-name (stack_homes s p)) tt)
 
     group-names : (i : Placed) → Contains (listing s.method.code) i → Each IsNamed (group s i)
     unfolding group
@@ -241,7 +241,7 @@ module _ (P : ℕ → Type 0) (s : Source) where
         by : (f : Option Frame) → s.frames i.place ≡ f → Each IsNamed (group_by s i f)
         by None at = tt
         by (Some f) at =
-            each-append IsNamed (entered s i.place) (done s i (operation s i)) (entered-names i.place)
+            each-append IsNamed (entrance s i.place) (done s i (operation s i)) (entered-names i.place)
             (done-names i (operation s i) (λ op is. emitted i op st (ap is_some at) is))
 
     stubs-name : (i : Placed) → Contains (listing s.method.code) i → Each IsNamed (stubs s i)
@@ -259,7 +259,7 @@ module _ (P : ℕ → Type 0) (s : Source) where
     caught-names : (n : ℕ) (h : Handler) → P h.entry → Each IsNamed (caught s n h)
     caught-names n h own = (
       tt {0},
-      each-append IsNamed (spill s (cells s h.entry)) (copies s (Entry h.entry) h.entry ++ goto h.entry ∷ []) (spill-names (cells s h.entry))
+      each-append IsNamed (spill s (stack_homes s h.entry)) (copies s (Entry h.entry) h.entry ++ goto h.entry ∷ []) (spill-names (stack_homes s h.entry))
           (each-append IsNamed (copies s (Entry h.entry) h.entry) (goto h.entry ∷ []) (copies-name (Entry h.entry) h.entry) ((own, tt {0}), tt {0})),
     )
 

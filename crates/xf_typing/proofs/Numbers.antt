@@ -2,6 +2,7 @@
 use Rattle.std.proofs.Common.{◌≡◌, ℕ, suc, ◌+◌, ◌<◌, ◌≤◌, ◌==◌, Bool, true, false, ◌&&◌, if◌then◌else◌, List, [], ◌∷◌, ◌++◌, flat_map, Contains, Option, Some, None, Ok, refl, sym, ◌∙◌, ap, arith}
 use Rattle.std.specs.Prelude.{⊤, is_some}
 use Rattle.std.proofs.lemmas.Bool.Decides.{nat_tests}
+use Rattle.std.proofs.lemmas.Bool.{and_parts}
 use Rattle.jc_base.specs.Each.{Each}
 use Rattle.jc_base.specs.declared.ty.Kind.{Kind}
 use Rattle.jc_decode.specs.declared.insn.Placed.{Placed}
@@ -16,12 +17,12 @@ use Rattle.jc_ops.specs.declared.operation.Sort.TheVariants as sorts
 use Rattle.xf_homes.specs.declared.home.Home.{Home}
 use Rattle.xf_homes.specs.Walk.{operands_of}
 use Rattle.xf_plan.specs.Source.{Source}
-use Rattle.xf_plan.specs.Plan.{local, needed, cells}
+use Rattle.xf_plan.specs.Plan.{local, needed, stack_homes}
 use Rattle.xf_emission.specs.declared.origin.Origin.TheVariants.{After}
 use Rattle.xf_emission.specs.Move.{spill}
 use Rattle.xf_emission.specs.Edge.{copies}
-use Rattle.xf_emission.specs.Jump.{branch, jump_to, spill_if, is_over, leads, goto}
-use Rattle.xf_emission.specs.Group.{body, kept, loaded, increased, stored, stays, field_read, field_written, gone, branch_by, first_place, entered, group}
+use Rattle.xf_emission.specs.Jump.{branch, jump_to, spill_if, has_under, leads, goto}
+use Rattle.xf_emission.specs.Group.{body, itself, loaded, increased, stored, stays, field_read, field_written, gone, branch_by, first_place, entrance, group}
 use Rattle.xf_typing.proofs.Walks.{count, count-append}
 
 -- ---- each body has an instruction
@@ -49,11 +50,11 @@ module _ (s : Source) (i : Placed) where
 
   read-some : (h : Option Home) → 0 < count (field_read s i h)
   read-some None = omega arith
-  read-some (Some h) = if-some (stays s h) (kept i) _ (omega arith) (omega arith)
+  read-some (Some h) = if-some (stays s h) (itself i) _ (omega arith) (omega arith)
 
   written-some : (k : Kind) (h : Option Home) → 0 < count (field_written s i k h)
   written-some k None = omega arith
-  written-some k (Some h) = if-some (stays s h) (kept i) _ (omega arith) (omega arith)
+  written-some k (Some h) = if-some (stays s h) (itself i) _ (omega arith) (omega arith)
 
   jump-some : (op : Operation) (ls : List ℕ) → 0 < count (jump_to i op ls ∷ [])
   jump-some (ops.Switch width) ls = omega arith
@@ -61,14 +62,14 @@ module _ (s : Source) (i : Placed) where
 
   branch-some : (op : Operation) (n : ℕ) → 0 < count (branch s i op n)
   unfolding branch
-  branch-some op n = right-some (spill_if (is_over s i.place n) s i.place n) (jump_to i op (leads s i.place op n 0 (targets s.method.code i)) ∷ []) (jump-some op (leads s i.place op n 0 (targets s.method.code i)))
+  branch-some op n = right-some (spill_if (has_under s i.place n) s i.place n) (jump_to i op (leads s i.place op n 0 (targets s.method.code i)) ∷ []) (jump-some op (leads s i.place op n 0 (targets s.method.code i)))
 
   by-some : (op : Operation) (n : Option ℕ) → 0 < count (branch_by s i op n)
   by-some op None = omega arith
   by-some op (Some n) = branch-some op n
 
   gone-some : (op : Operation) (q : ℕ) → 0 < count (gone s i.place op q)
-  gone-some op q = right-some (spill s (cells s q)) (copies s (After i.place op) q ++ goto q ∷ []) (right-some (copies s (After i.place op) q) (goto q ∷ []) (omega arith))
+  gone-some op q = right-some (spill s (stack_homes s q)) (copies s (After i.place op) q ++ goto q ∷ []) (right-some (copies s (After i.place op) q) (goto q ∷ []) (omega arith))
 
   pub body-some : (op : Operation) → 0 < count (body s i op)
   unfolding body
@@ -86,20 +87,16 @@ module _ (s : Source) where
   -- a `new` is numbered by where its group's instruction stands
   abbrev pub IsNumbered : (ℕ → ℕ) → ℕ → List Placed → Type 0
   IsNumbered new n [] = ⊤
-  IsNumbered new n (i ∷ xs) = (is_some (s.frames i.place) ≡ true → new i.place ≡ n + count (entered s i.place)) × IsNumbered new (n + count (group s i)) xs
+  IsNumbered new n (i ∷ xs) = (is_some (s.frames i.place) ≡ true → new i.place ≡ n + count (entrance s i.place)) × IsNumbered new (n + count (group s i)) xs
 
   -- the number of the instruction of the group of a place, in groups from a number on
   number : ℕ → List Placed → ℕ → Option ℕ
   number n [] p = None
-  number n (i ∷ xs) p = if i.place == p && is_some (s.frames i.place) then Some (n + count (entered s i.place)) else number (n + count (group s i)) xs p
+  number n (i ∷ xs) p = if i.place == p && is_some (s.frames i.place) then Some (n + count (entrance s i.place)) else number (n + count (group s i)) xs p
 
   -- each group that is reached has an instruction after its head
   abbrev pub AreFilled : List Placed → Type 0
-  AreFilled xs = Each (λ i. is_some (s.frames i.place) ≡ true → count (entered s i.place) < count (group s i)) xs
-
-  both-true : (a b : Bool) → (a && b) ≡ true → (a ≡ true) × (b ≡ true)
-  both-true true b e = (refl, e)
-  both-true false b e = absurd (cc)
+  AreFilled xs = Each (λ i. is_some (s.frames i.place) ≡ true → count (entrance s i.place) < count (group s i)) xs
 
   is-number : (a b : ℕ) → ◌≡◌ {A = Option ℕ} (Some a) (Some b) → a ≡ b
   is-number a b e = cc
@@ -112,12 +109,12 @@ module _ (s : Source) where
       parts : count (flat_map (group s) (i ∷ xs)) ≡ count (group s i) + count (flat_map (group s) xs)
       parts = count-append (group s i) (flat_map (group s) xs)
 
-      by : (b : Bool) → (i.place == p && is_some (s.frames i.place)) ≡ b → (if b then Some (n + count (entered s i.place)) else number (n + count (group s i)) xs p) ≡ Some k
+      by : (b : Bool) → (i.place == p && is_some (s.frames i.place)) ≡ b → (if b then Some (n + count (entrance s i.place)) else number (n + count (group s i)) xs p) ≡ Some k
           → (number (n + count (group s i)) xs p ≡ Some k → (n + count (group s i) ≤ k) × (k < n + count (group s i) + count (flat_map (group s) xs)))
           → (n ≤ k) × (k < n + count (flat_map (group s) (i ∷ xs)))
       by true q f rest =
-          let own = is-number (n + count (entered s i.place)) k f in
-          let less = filled.0 (both-true (i.place == p) (is_some (s.frames i.place)) q).1 in
+          let own = is-number (n + count (entrance s i.place)) k f in
+          let less = filled.0 (and_parts (i.place == p) (is_some (s.frames i.place)) q).1 in
           (omega (arith, own), omega (arith, own, less, parts))
       by false q f rest = let r = rest f in (omega (arith, r.0), omega (arith, r.1, parts))
 
@@ -128,22 +125,22 @@ module _ (s : Source) where
       by (i.place == p && is_some (s.frames i.place)) (i.place == q && is_some (s.frames i.place)) refl refl e g (λ x y. number-one (n + count (group s i)) k p q xs filled.1 x y)
     where
       here : (m : ℕ) → (i.place == m && is_some (s.frames i.place)) ≡ true → i.place ≡ m
-      here m t = let b = both-true (i.place == m) (is_some (s.frames i.place)) t in let c = b.0 in grind (arith, nat_tests, c)
+      here m t = let b = and_parts (i.place == m) (is_some (s.frames i.place)) t in let c = b.0 in grind (arith, nat_tests, c)
 
-      clash : (m : ℕ) → (i.place == m && is_some (s.frames i.place)) ≡ true → n + count (entered s i.place) ≡ k → (j : ℕ) → number (n + count (group s i)) xs j ≡ Some k → ⊥
+      clash : (m : ℕ) → (i.place == m && is_some (s.frames i.place)) ≡ true → n + count (entrance s i.place) ≡ k → (j : ℕ) → number (n + count (group s i)) xs j ≡ Some k → ⊥
       clash m t own j f =
-          let less = filled.0 (both-true (i.place == m) (is_some (s.frames i.place)) t).1 in
+          let less = filled.0 (and_parts (i.place == m) (is_some (s.frames i.place)) t).1 in
           let r = number-within (n + count (group s i)) k j xs filled.1 f in
           omega (arith, own, less, r.0)
 
       by : (a b : Bool) → (i.place == p && is_some (s.frames i.place)) ≡ a → (i.place == q && is_some (s.frames i.place)) ≡ b
-          → (if a then Some (n + count (entered s i.place)) else number (n + count (group s i)) xs p) ≡ Some k
-          → (if b then Some (n + count (entered s i.place)) else number (n + count (group s i)) xs q) ≡ Some k
+          → (if a then Some (n + count (entrance s i.place)) else number (n + count (group s i)) xs p) ≡ Some k
+          → (if b then Some (n + count (entrance s i.place)) else number (n + count (group s i)) xs q) ≡ Some k
           → (number (n + count (group s i)) xs p ≡ Some k → number (n + count (group s i)) xs q ≡ Some k → p ≡ q)
           → p ≡ q
       by true true t u x y rest = sym (here p t) ∙ here q u
-      by true false t u x y rest = absurd (clash p t (is-number (n + count (entered s i.place)) k x) q y)
-      by false true t u x y rest = absurd (clash q u (is-number (n + count (entered s i.place)) k y) p x)
+      by true false t u x y rest = absurd (clash p t (is-number (n + count (entrance s i.place)) k x) q y)
+      by false true t u x y rest = absurd (clash q u (is-number (n + count (entrance s i.place)) k y) p x)
       by false false t u x y rest = rest x y
 
   -- places of no group have numbers beyond all
@@ -171,9 +168,9 @@ module _ (s : Source) where
   unfolding number
   numbers-agree code new at n [] lists long h = tt
   numbers-agree code new at n (i ∷ xs) lists long h = (
-    (λ some. h i.place (n + count (entered s i.place)) (omega (arith, lists.0)) (ap (λ (b : Bool). if b then Some (n + count (entered s i.place)) else number (n + count (group s i)) xs i.place) (own some))),
+    (λ some. h i.place (n + count (entrance s i.place)) (omega (arith, lists.0)) (ap (λ (b : Bool). if b then Some (n + count (entrance s i.place)) else number (n + count (group s i)) xs i.place) (own some))),
     numbers-agree code new (at + i.insn.len) (n + count (group s i)) xs lists.2 (λ j c. long j (suc c.0, omega (arith, c.1), c.2))
-        (λ p k le e. h p k (omega (arith, le)) (ap (λ (b : Bool). if b then Some (n + count (entered s i.place)) else number (n + count (group s i)) xs p) (other p le) ∙ e)),
+        (λ p k le e. h p k (omega (arith, le)) (ap (λ (b : Bool). if b then Some (n + count (entrance s i.place)) else number (n + count (group s i)) xs p) (other p le) ∙ e)),
   )
     where
       own : is_some (s.frames i.place) ≡ true → (i.place == i.place && is_some (s.frames i.place)) ≡ true

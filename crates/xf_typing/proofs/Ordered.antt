@@ -3,6 +3,7 @@ use Rattle.std.proofs.Common.{◌≡◌, ℕ, suc, ◌+◌, ◌-◌, ◌<◌, �
 use Rattle.std.specs.Prelude.{is_some}
 use Rattle.std.proofs.lemmas.Bool.Decides.{nat_tests}
 use Rattle.std.proofs.lemmas.List.Elements.{All-contains}
+use Rattle.std.proofs.lemmas.Bool.{eqb-true}
 use Rattle.jc_base.specs.Each.{Each, IsAmong}
 use Rattle.jc_base.specs.declared.record.Handler.{Handler}
 use Rattle.jc_decode.specs.declared.insn.Placed.{Placed}
@@ -16,7 +17,7 @@ use Rattle.jc_control.specs.WellFormed.{IsPlace, IsBoundary, IsHandlerOf, HasIns
 use Rattle.jc_rules.specs.Demand.{Frame}
 use Rattle.xf_homes.proofs.Events.{among-right}
 use Rattle.xf_plan.specs.Source.{Source}
-use Rattle.xf_plan.specs.Plan.{cells, first_reached, is_leader, operation}
+use Rattle.xf_plan.specs.Plan.{stack_homes, first_reached, is_leader, operation}
 use Rattle.xf_emission.specs.Move.{loads}
 use Rattle.xf_emission.specs.Jump.{handler_label}
 use Rattle.xf_emission.specs.Group.{done, group_by, group}
@@ -35,9 +36,6 @@ rises-before low high a l [] ys r c = absurd c
 rises-before low high a l (x ∷ xs) ys r (inl e) = omega (arith, e, among-above (suc x) high a (xs ++ a ∷ ys) r.2 (among-right a xs (a ∷ ys) (inl refl)))
 rises-before low high a l (x ∷ xs) ys r (inr c) = rises-before (suc x) high a l xs ys r.2 c
 
-is-equal : (m a : ℕ) → (m == a) ≡ true → m ≡ a
-is-equal m a e = grind (arith, nat_tests, e)
-
 -- items without a label come before its place
 skip : (b : ℕ) (xs ys : List Item) → (IsAmong b (labels xs) → ⊥) → place_of b (xs ++ ys) ≡ count xs + place_of b ys
 skip b [] ys apart = omega arith
@@ -47,7 +45,7 @@ skip b (Switch i at ls ∷ xs) ys apart = omega (arith, skip b xs ys apart)
 skip b (Label m ∷ xs) ys apart = by (m == b) refl (skip b xs ys (λ a. apart (inr a)))
   where
     by : (c : Bool) → (m == b) ≡ c → place_of b (xs ++ ys) ≡ count xs + place_of b ys → (if c then 0 else place_of b (xs ++ ys)) ≡ count xs + place_of b ys
-    by true e rest = absurd (apart (inl (is-equal m b e)))
+    by true e rest = absurd (apart (inl (eqb-true m b e)))
     by false e rest = rest
 
 -- a label is placed no later than where it stands
@@ -79,7 +77,7 @@ module _ (s : Source) where
     where
       by : (f : Option Frame) → is_some f ≡ true → (t : List Item) × (group_by s i f ≡ Label i.place ∷ t)
       by None e = absurd (cc)
-      by (Some f) e = ((if is_leader s i.place then loads s (cells s i.place) else []) ++ done s i (operation s i), refl)
+      by (Some f) e = ((if is_leader s i.place then loads s (stack_homes s i.place) else []) ++ done s i (operation s i), refl)
 
   module _ (code : IsCode s) where
     -- a label after that of a group with an instruction stands for a later place

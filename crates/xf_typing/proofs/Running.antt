@@ -2,6 +2,7 @@
 use Rattle.std.proofs.Common.{◌≡◌, ℕ, ◌+◌, ◌<◌, ◌≤◌, Bool, true, false, if◌then◌else◌, List, [], ◌∷◌, ◌++◌, length, map, slice_get, All, Option, Some, None, Ok, IsSomeAnd, IfSome, refl, sym, ◌∙◌, ap, subst, arith}
 use Rattle.std.proofs.lemmas.List.{length-map, map-append}
 use Rattle.std.proofs.lemmas.List.Elements.{All-append}
+use Rattle.std.proofs.lemmas.Bool.{both_ways}
 use Rattle.jc_base.specs.Cell.{IsDeclared, IsNoHalf}
 use Rattle.jc_base.specs.Class.{ClassTable, object}
 use Rattle.jc_base.specs.Laws.{ClassesAreObjects, SameTypeDecides, IsOrderOfTypes}
@@ -42,7 +43,7 @@ use Rattle.xf_homes.specs.Walk.{local_of}
 use Rattle.xf_plan.specs.Source.{Source}
 use Rattle.xf_plan.specs.Plan.{home_of, register}
 use Rattle.xf_emission.specs.Move.{load}
-use Rattle.xf_emission.specs.Group.{body, kept, loaded}
+use Rattle.xf_emission.specs.Group.{body, itself, loaded}
 use Rattle.xf_typing.specs.Typed.{registers_of}
 use Rattle.xf_typing.proofs.Walks.{holding, left, Asked, Flows, flow_plain, flow_end}
 use Rattle.xf_typing.proofs.Moves.{IsPlainValue, cells_on, load-turn, get-reg}
@@ -192,12 +193,9 @@ module _ (new : ℕ → ℕ) (apart : (a b : ℕ) → new a ≡ new b → a ≡ 
   pub has-room : (i : Placed) (op : Operation) (f after : Frame) (st : List Ty) → IsRun s i op f after → IsLesser s.world f st → length (map (named new apart) st) ≤ s.method.rec.max_stack
   has-room i op f after st run lesser = omega (arith, length-map st (named new apart), l.rules.order.lengths lesser.below, run.fit.room)
 
-  never : (b : Bool) → b ≡ false → b ≡ true → ⊥
-  never b e f = absurd (cc)
-
   -- ---- instructions that are kept
 
-  pub kept-passed : (i : Placed) (op : Operation) (f after : Frame) (st : List Ty) (n : ℕ) → IsRun s i op f after → NamesNone op → IsKeptOperation op → jumps_from op ≡ false → new i.place ≡ n → IsLesser s.world f st → IsPassed n (kept i) op st after
+  pub kept-passed : (i : Placed) (op : Operation) (f after : Frame) (st : List Ty) (n : ℕ) → IsRun s i op f after → NamesNone op → IsKeptOperation op → jumps_from op ≡ false → new i.place ≡ n → IsLesser s.world f st → IsPassed n (itself i) op st after
   kept-passed i op f after st n run none keeps quiet here lesser =
       let whole = ready.whole i.place f run.at in
       let room = has-room i op f after st run lesser in
@@ -223,7 +221,7 @@ module _ (new : ℕ → ℕ) (apart : (a b : ℕ) → new a ≡ new b → a ≡ 
                 },
               );
               stored = k.stays;
-              branch = λ j. absurd (never (jumps i.insn.op) calm j);
+              branch = λ j. absurd (both_ways (jumps i.insn.op) calm j);
               room = omega (arith, room, own_rec.room);
               onward = ap (λ (b : Bool). if b then holding (map (named new apart) k.stack) else left) go.falls_alike;
             })

@@ -40,7 +40,7 @@ use Rattle.xf_homes.specs.Walk.{local_of}
 use Rattle.xf_plan.specs.Source.{Source}
 use Rattle.xf_plan.specs.Plan.{home_of, register}
 use Rattle.xf_emission.specs.Move.{with_byte, load}
-use Rattle.xf_emission.specs.Group.{body, kept, stays, field_read, field_written, swap_words}
+use Rattle.xf_emission.specs.Group.{body, itself, stays, field_read, field_written, swap_words}
 use Rattle.xf_typing.specs.Typed.{registers_of}
 use Rattle.xf_typing.proofs.Walks.{holding, Asked, Turn, Flows, flow_plain, flow_end, flows-append}
 use Rattle.xf_typing.proofs.Moves.{cells_on, applies-by, turn-by, load-turn, same-cells, held, there}
@@ -136,9 +136,6 @@ module _ (new : ℕ → ℕ) (apart : (a b : ℕ) → new a ≡ new b → a ≡ 
       (record { few = whole.known.few; regs = whole.known.regs; stack = lesser.known; object = whole.known.object }) k.applies in
       record { frame = k.below; outcome = k.outcome; does = k.applies; lesser = record { below = k.lower.stack; full = kept_is.no_bottom lesser.full; known = kept_is.known.stack } }
 
-  never : (b : Bool) → b ≡ false → b ≡ true → ⊥
-  never b e f = absurd (cc)
-
   -- over the registers of the card
   stays-by : (i : Placed) (op : Operation) (f after : Frame) (st : List Ty) (n : ℕ) → IsRun s i op f after → IsKeptOperation op → new i.place ≡ n → IsLesser s.world f st
       → (out : List Ty)
@@ -146,7 +143,7 @@ module _ (new : ℕ → ℕ) (apart : (a b : ℕ) → new a ≡ new b → a ≡ 
       → named_op new apart op ≡ op
       → jumps i.insn.op ≡ false
       → falls i.insn.op ≡ true
-      → Flowing n (map (named new apart) st) (kept i) (map (named new apart) out)
+      → Flowing n (map (named new apart) st) (itself i) (map (named new apart) out)
   stays-by i op f after st n run keeps here lesser out over same_op quiet goes =
       let room = has-room new apart s l ready r own_rec asks res i op f after st run lesser in
       let is = applies-named new apart s.world l.rules s.method.rec i.place s.method.rec.max_stack op (registers_of s.homes) st (registers_of s.homes) out over.0 run.sound res keeps over.1 in
@@ -194,7 +191,7 @@ module _ (new : ℕ → ℕ) (apart : (a b : ℕ) → new a ≡ new b → a ≡ 
       less : length (map (named new apart) st) ≤ s.method.rec.max_stack
       less = has-room new apart s l ready r own_rec asks res i (ops.FieldRead fld holders.This) f after st run lesser
 
-      by : (b : Bool) → stays s h ≡ b → Flowing n (map (named new apart) st) (if b then kept i else load s h ∷ Plain (record i.insn { op = i.insn.op - 42 }) ∷ []) (cells ++ map (named new apart) st)
+      by : (b : Bool) → stays s h ≡ b → Flowing n (map (named new apart) st) (if b then itself i else load s h ∷ Plain (record i.insn { op = i.insn.op - 42 }) ∷ []) (cells ++ map (named new apart) st)
       by true e =
           let go = l.alike s.method.rec i.place i.insn (ops.FieldRead fld holders.This) run.small (sym run.resolves) in
           let zero_is : register s h ≡ 0 = grind (arith, nat_tests, e) in
@@ -202,7 +199,7 @@ module _ (new : ℕ → ℕ) (apart : (a b : ℕ) → new a ≡ new b → a ≡ 
           let over = applies-by s.world s.method.rec.max_stack (ops.FieldRead fld holders.This) (record { regs = regs; stack = st }) (record { regs = regs; stack = cells ++ st })
           (there s.world l.objects r regs asks 0 k.ty first, (held s.world l.objects r regs asks 0 k.ty (Class fld.class) first k.below, tt)) refl refl
           (omega (arith, length-append cells st, length-append cells (map (named new apart) st), length-map st (named new apart), room)) in
-          subst (λ (us : List Ty). Flowing n (map (named new apart) st) (kept i) us) pushed
+          subst (λ (us : List Ty). Flowing n (map (named new apart) st) (itself i) us) pushed
           (stays-by i (ops.FieldRead fld holders.This) f after st n run tt here lesser (cells ++ st) over refl (sym go.jumps_alike) (sym go.falls_alike))
       by false e =
           let small : i.insn.op - 42 < 256 = omega (arith, run.small) in
@@ -381,7 +378,7 @@ module _ (new : ℕ → ℕ) (apart : (a b : ℕ) → new a ≡ new b → a ≡ 
           (subst (λ (c : ℕ). Flowing m (this.ty ∷ IntLow ∷ IntHigh ∷ us) (Plain (with_byte 64 c) ∷ stack_ops ∷ []) us) (sym words)
           (flows-append s.world r regs asks (swap-two m this.ty us this.is.no_half room) (written (m + 1) (IntLow ∷ IntHigh ∷ this.ty ∷ []) us all taken (omega (arith, room)))))))
 
-      by : (b : Bool) → stays s h ≡ b → Flowing n (map (named new apart) st) (if b then kept i else load s h ∷ Plain (with_byte 64 (swap_words fld.kind)) ∷ Plain (record i.insn { op = i.insn.op - 46 }) ∷ []) (map (named new apart) k.frame.stack)
+      by : (b : Bool) → stays s h ≡ b → Flowing n (map (named new apart) st) (if b then itself i else load s h ∷ Plain (with_byte 64 (swap_words fld.kind)) ∷ Plain (record i.insn { op = i.insn.op - 46 }) ∷ []) (map (named new apart) k.frame.stack)
       by true e =
           let go = l.alike s.method.rec i.place i.insn op run.small (sym run.resolves) in
           let zero_is : register s h ≡ 0 = grind (arith, nat_tests, e) in

@@ -15,11 +15,11 @@ use Rattle.xf_homes.specs.Order.{SlotsFollow, register_sum}
 use Rattle.xf_homes.specs.Value.{value_at, width}
 use Rattle.xf_homes.specs.Walk.{has, operands_of}
 use Rattle.xf_plan.specs.Source.{Source}
-use Rattle.xf_plan.specs.Plan.{cells, is_leader, needed, operation}
+use Rattle.xf_plan.specs.Plan.{stack_homes, is_leader, needed, operation}
 use Rattle.xf_emission.specs.declared.origin.Origin.{Origin}
 use Rattle.xf_emission.specs.declared.origin.Origin.TheVariants.{Start, After, Entry}
 use Rattle.xf_emission.specs.Edge.{home_before, held, is_stored}
-use Rattle.xf_emission.specs.Jump.{is_over, operands, under}
+use Rattle.xf_emission.specs.Jump.{has_under, operands, under}
 use Rattle.xf_emission.specs.Move.{load_op}
 use Rattle.xf_typing.specs.Planned.{IsPlanned, Keeps}
 
@@ -49,10 +49,10 @@ slot_types f = f.regs ++ reverse f.stack
 
 -- the homes of the cells of a stack that is kept follow one another from the first slot after the registers, and fill the stack
 pub record FillStack (s : Source) (q : ℕ) (f : Frame) : Type 0 where
-  pub follow : SlotsFollow (register_count s.method.rec) (cells s q)
-  pub fill : register_sum (cells s q) ≡ length f.stack
-  pub keep : Each (Keeps s) (cells s q)
-  pub values : Each (λ h. value_at (slot_types f) h.slot ≡ Some h.ty) (cells s q)
+  pub follow : SlotsFollow (register_count s.method.rec) (stack_homes s q)
+  pub fill : register_sum (stack_homes s q) ≡ length f.stack
+  pub keep : Each (Keeps s) (stack_homes s q)
+  pub values : Each (λ h. value_at (slot_types f) h.slot ≡ Some h.ty) (stack_homes s q)
 
 abbrev pub CellsFillStack : Linked → Type 0
 CellsFillStack w =
@@ -122,9 +122,9 @@ pub data AreMatched (s : Source) : List Home → List Home → Type 0 where
 -- the homes of a stack with n operands on top: those of the cells under them, and then those of the operands
 pub record IsForkedAt (s : Source) (p n : ℕ) (f : Frame) : Type 0 where
   pub deep : n ≤ length f.stack
-  pub parts : cells s p ≡ under s p n ++ operands s p n
+  pub parts : stack_homes s p ≡ under s p n ++ operands s p n
   pub fill : register_sum (operands s p n) ≡ n
-  pub keeps : is_over s p n ≡ true → KeepsStack s.world s.method s.frames p
+  pub keeps : has_under s p n ≡ true → KeepsStack s.world s.method s.frames p
 
 -- so is that of each conditional branch or switch that control reaches
 abbrev pub ForksAreCut : Linked → Type 0
@@ -152,4 +152,4 @@ ForksMatch w =
     → operands_of s.world (Ok op) ≡ Some n
     → IsSuccessor s.method.code i q
     → is_leader s q ≡ true
-    → AreMatched s (under s i.place n) (cells s q)
+    → AreMatched s (under s i.place n) (stack_homes s q)

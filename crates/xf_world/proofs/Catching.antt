@@ -13,7 +13,7 @@ use Rattle.jc_decode.specs.Symbols.{handler}
 use Rattle.jc_control.specs.Method.{Method}
 use Rattle.jc_relinked.specs.Replaced.{HasPoolOf}
 use Rattle.xf_emission.specs.Live.{KeepsLive, none_left, live_kept, dead_left}
-use Rattle.xf_world.specs.Laid.{IsElement, AreElements}
+use Rattle.xf_world.specs.Laid.{IsLaidElement, AreLaidElements}
 
 -- ---- pool numbers
 
@@ -50,25 +50,25 @@ pools-laid m hs rs place laid keeps e =
 -- the element of a method
 pub element-at :
     (w : Linked) (number : ℕ) (own : List MethodRec) (laid : List (Option Laid)) (n : ℕ) (r : MethodRec) (o : Option Laid)
-    → AreElements w number own laid
+    → AreLaidElements w number own laid
     → slice_get own n ≡ Some r
     → slice_get laid n ≡ Some o
-    → IsElement w (number + n) r o
+    → IsLaidElement w (number + n) r o
 element-at w number [] laid n r o are own at = absurd (cc)
 element-at w number (s ∷ ss) [] n r o are own at = absurd are
 element-at w number (s ∷ ss) (l ∷ ls) zero r o are own at =
     let first : s ≡ r = cc in
     let its : l ≡ o = cc in
     let here : number ≡ number + 0 = omega arith in
-    subst (λ k. IsElement w k r o) here (subst (λ a. IsElement w number r a) its (subst (λ a. IsElement w number a l) first are.0))
+    subst (λ k. IsLaidElement w k r o) here (subst (λ a. IsLaidElement w number r a) its (subst (λ a. IsLaidElement w number a l) first are.0))
 element-at w number (s ∷ ss) (l ∷ ls) (suc n) r o are own at =
     let here : suc number + n ≡ number + suc n = omega arith in
-    subst (λ k. IsElement w k r o) here (element-at w (suc number) ss ls n r o are.1 own at)
+    subst (λ k. IsLaidElement w k r o) here (element-at w (suc number) ss ls n r o are.1 own at)
 
 -- each method has one
 pub element-there :
     (w : Linked) (number : ℕ) (own : List MethodRec) (laid : List (Option Laid)) (n : ℕ) (r : MethodRec)
-    → AreElements w number own laid
+    → AreLaidElements w number own laid
     → slice_get own n ≡ Some r
     → (o : Option Laid) × (slice_get laid n ≡ Some o)
 element-there w number [] laid n r are own = absurd (cc)

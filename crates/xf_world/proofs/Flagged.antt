@@ -2,7 +2,7 @@
 use Rattle.std.proofs.Common.{◌≡◌, ℕ, zero, suc, Bool, true, false, inl, inr, List, [], ◌∷◌, Option, Some, None, refl, sym, ap, subst, ◌∙◌, arith}
 use Rattle.std.specs.Prelude.{Contains, slice_index_or}
 use Rattle.std.proofs.Math.ListN.{get_or}
-use Rattle.std.proofs.lemmas.Bool.{cases_eq}
+use Rattle.std.proofs.lemmas.Bool.{cases_eq, both_ways}
 use Rattle.std.proofs.lemmas.List.{get_or_past}
 use Rattle.jc_decode.specs.declared.insn.Insn.{Insn}
 use Rattle.jc_decode.specs.declared.insn.Placed.{Placed}
@@ -44,11 +44,8 @@ abbrev flags : List Placed → List Bool
 flags [] = []
 flags (i ∷ is) = mark i.place (flags is)
 
-not-both : (b : Bool) → b ≡ false → b ≡ true → ⊥
-not-both b e g = cc
-
 flagged : (is : List Placed) (p : ℕ) → flag (flags is) p ≡ true → (i : Placed) × Contains is i × (i.place ≡ p)
-flagged [] p e = absurd (not-both (flag [] p) (unmarked p) e)
+flagged [] p e = absurd (both_ways (flag [] p) (unmarked p) e)
 flagged (i ∷ is) p e = elim (cases_eq i.place p) [
   | inl same ↦ (i, Contains-first i is, same)
   | inr other ↦

@@ -12,7 +12,7 @@ use Rattle.jc_flow.specs.Infer.{AreDerived}
 use Rattle.xf_homes.specs.declared.home.Home.{Home}
 use Rattle.xf_homes.specs.Answer.{IsTypingOf}
 use Rattle.xf_homes.specs.Order.{AreHomes, register_sum}
-use Rattle.xf_emission.specs.Emission.{IsRewritten}
+use Rattle.xf_emission.specs.Emission.{AreSymbolsOf}
 use Rattle.xf_layout.specs.Shortest.{StandsShortest}
 
 -- ---- a method
@@ -27,28 +27,28 @@ pub record IsLaidFor (w : Linked) (m : Method) (laid : Laid) : Type 0 where
   pub few : register_sum homes ≤ 255
   pub room : m.rec.max_stack < 255
   pub symbols : Symbols
-  pub rewritten : IsRewritten w m (state_at typing) homes symbols
+  pub rewritten : AreSymbolsOf w m (state_at typing) homes symbols
   pub stands : StandsShortest m.code symbols laid
   pub short : length laid.code ≤ 32767
 
 -- code is laid for the method
-pub record HasLaid (w : Linked) (m : Method) : Type 0 where
+pub record HasLaidCode (w : Linked) (m : Method) : Type 0 where
   pub laid : Laid
   pub is : IsLaidFor w m laid
 
 -- ---- the methods of the last package
 
 -- the element of a method: what is laid for it, and None where it has no code
-abbrev pub IsElement : Linked → ℕ → MethodRec → Option Laid → Type 0
-IsElement w number r None = r.code_len ≡ 0
-IsElement w number r (Some laid) = (0 < r.code_len) × IsLaidFor w (method_with w number r) laid
+abbrev pub IsLaidElement : Linked → ℕ → MethodRec → Option Laid → Type 0
+IsLaidElement w number r None = r.code_len ≡ 0
+IsLaidElement w number r (Some laid) = (0 < r.code_len) × IsLaidFor w (method_with w number r) laid
 
 -- an element for each method from this number on, in order
-abbrev pub AreElements : Linked → ℕ → List MethodRec → List (Option Laid) → Type 0
-AreElements w number [] [] = Unit {0}
-AreElements w number [] (l ∷ ls) = ⊥
-AreElements w number (r ∷ rs) [] = ⊥
-AreElements w number (r ∷ rs) (l ∷ ls) = IsElement w number r l × AreElements w (suc number) rs ls
+abbrev pub AreLaidElements : Linked → ℕ → List MethodRec → List (Option Laid) → Type 0
+AreLaidElements w number [] [] = Unit {0}
+AreLaidElements w number [] (l ∷ ls) = ⊥
+AreLaidElements w number (r ∷ rs) [] = ⊥
+AreLaidElements w number (r ∷ rs) (l ∷ ls) = IsLaidElement w number r l × AreLaidElements w (suc number) rs ls
 
 -- the methods of a world are those of the libraries and then those of the last package, and each of these has its element
 pub record AreLaidOf (w : Linked) (laid : List (Option Laid)) : Type 0 where
@@ -57,4 +57,4 @@ pub record AreLaidOf (w : Linked) (laid : List (Option Laid)) : Type 0 where
   pub parts : w.methods ≡ libraries ++ own
   pub before : All (λ r. r.package + 1 < length w.infos) libraries
   pub last : All (λ r. r.package + 1 ≡ length w.infos) own
-  pub each : AreElements w (length libraries) own laid
+  pub each : AreLaidElements w (length libraries) own laid

@@ -4,7 +4,7 @@ use Rattle.vm_step.specs.Raising.{running}
 use Rattle.vm_step.specs.Step.{Steps}
 use Rattle.vm_step.specs.Run.{Runs, stands}
 use Rattle.vm_runs.proofs.Taken.{run-more, run-ends}
-use Rattle.vm_runs.proofs.Lasting.{lasts-step}
+use Rattle.vm_step.proofs.Lasting.{lasts-step}
 use Rattle.vm_runs.proofs.running.run.Goals as goal
 
 pub steps-init : goal.steps-init

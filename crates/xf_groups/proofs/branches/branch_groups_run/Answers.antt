@@ -1,7 +1,7 @@
 use Rattle.std.proofs.Common.{◌≡◌, ℕ, Bool, true, false, refl, sym, subst}
 use Rattle.std.specs.Prelude.{Ok, Some}
 use Rattle.jc_base.specs.World.{Linked}
-use Rattle.xf_emission.specs.Jump.{is_over}
+use Rattle.xf_emission.specs.Jump.{has_under}
 use Rattle.xf_held.proofs.Standing.{steps-execute}
 use Rattle.xf_groups.specs.Comes.{GroupRuns}
 use Rattle.xf_groups.proofs.Choosing.{alone-group}
@@ -21,9 +21,9 @@ returns-clause-gotos c w s place z t o i laid typed group equal step stays ex =
 
 pub returns-clause-forks : goal.returns-clause-forks
 unfolding turn-by
-returns-clause-forks c w s place z t o i op n laid typed group equal step stays ex some = by (is_over s i.place n) refl
+returns-clause-forks c w s place z t o i op n laid typed group equal step stays ex some = by (has_under s i.place n) refl
   where
-    by : (b : Bool) → is_over s i.place n ≡ b → GroupRuns c.args.world.now w s place z t o
+    by : (b : Bool) → has_under s i.place n ≡ b → GroupRuns c.args.world.now w s place z t o
     by false alone =
         let v : Linked = c.args.world.now in
         alone-group v c.steps_are_alike.ensures c.operations_are_kept.ensures.operations c.operations_are_kept.ensures.demands

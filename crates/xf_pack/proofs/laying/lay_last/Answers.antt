@@ -2,7 +2,7 @@
 use Rattle.std.proofs.Common.{◌≡◌, ◌+◌, ◌∷◌, ◌++◌, [], length, refl, sym, subst, arith, rules}
 use Rattle.std.proofs.lemmas.Option.{slice_get_read}
 use Rattle.jc_control.specs.Asked.{AllHaveBelow, IsOfLast}
-use Rattle.xf_world.specs.Laid.{HasLaid}
+use Rattle.xf_world.specs.Laid.{HasLaidCode}
 use Rattle.xf_pack.specs.Ends.{TellsOf}
 use Rattle.xf_pack.specs.Passes.{EachFrom, IsLaidAt, IsTypingAt}
 use Rattle.xf_pack.proofs.Elements.{each-at, each-push}
@@ -31,6 +31,6 @@ methods-preserved c =
           (subst (λ n. IsLaidAt c.args.world.now n c.in-Ok.element) number c.in-Ok.ensures.laid));
       many = search rules;
       below =
-          subst (AllHaveBelow (IsOfLast c.args.world.now) (HasLaid c.args.world.now)) next
+          subst (AllHaveBelow (IsOfLast c.args.world.now) (HasLaidCode c.args.world.now)) next
           (laid-more c.args.world.now c.args.first c.requires.first (c.args.first + c.methods.k) c.in-Ok.element c.methods.invariant.below c.in-Ok.ensures.laid);
     }

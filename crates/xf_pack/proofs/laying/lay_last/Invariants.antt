@@ -1,6 +1,6 @@
 use Rattle.std.proofs.Common.{◌≡◌, ◌+◌, vec_len}
 use Rattle.jc_control.specs.Asked.{AllHaveBelow, IsOfLast}
-use Rattle.xf_world.specs.Laid.{HasLaid}
+use Rattle.xf_world.specs.Laid.{HasLaidCode}
 use Rattle.xf_pack.specs.Passes.{EachFrom, IsLaidAt}
 use Rattle.xf_pack.proofs.laying.lay_last.Given as goal
 
@@ -8,5 +8,5 @@ abbrev pub invariant-methods : goal.invariant-methods
 invariant-methods l = record {
   each : EachFrom (IsLaidAt l.world) l.first l.laid.items;
   many : vec_len l.laid ≡ l.k;
-  below : AllHaveBelow (IsOfLast l.world) (HasLaid l.world) (l.first + l.k);
+  below : AllHaveBelow (IsOfLast l.world) (HasLaidCode l.world) (l.first + l.k);
 }

@@ -2,13 +2,12 @@
 use Rattle.std.proofs.Common.{◌≡◌, ◌≤◌, Bool, true, false, if◌then◌else◌, List, [], ◌∷◌, length, map, refl, sym, subst}
 use Rattle.std.specs.Prelude.{Option, Some, None, nat_lt, MatchBool}
 use Rattle.std.specs.List.{list_all}
-use Rattle.std.proofs.lemmas.Bool.{false≢true, le-ltb}
+use Rattle.std.proofs.lemmas.Bool.{false≢true, le-ltb, and_from}
 use Rattle.std.proofs.lemmas.List.{length-map}
 use Rattle.jc_base.specs.declared.ty.Ty.TheVariants.{Bottom}
 use Rattle.jc_base.specs.Class.{AreClasses}
 use Rattle.jc_base.specs.World.{Linked}
 use Rattle.jc_base.proofs.Orders.{order-of-types}
-use Rattle.jc_base.proofs.Leading.{and}
 use Rattle.jc_ops.specs.declared.operation.Operation.{Operation}
 use Rattle.jc_rules.specs.declared.demand.Demand.{Demand}
 use Rattle.jc_rules.specs.Demand.{Frame as Types, SatisfiesAll, Satisfies, satisfies}
@@ -38,7 +37,7 @@ module _ (w : Linked) (chains : AreClasses w.classes) where
   hold-tests : (types : Types) (ds : List Demand) → SatisfiesAll w.classes types ds → list_all (satisfies w.classes types) ds ≡ true
   hold-tests types [] h = refl
   hold-tests types (d ∷ ds) h =
-      and (satisfies w.classes types d) (list_all (satisfies w.classes types) ds)
+      and_from (satisfies w.classes types d) (list_all (satisfies w.classes types) ds)
       (true-of (satisfies w.classes types d) (Satisfies w.classes types d) ((are-decided w.classes (order-of-types w.classes chains)).demand types d) h.0)
       (hold-tests types ds h.1)
 
