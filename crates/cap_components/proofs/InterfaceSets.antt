@@ -1,17 +1,14 @@
 -- The set of the offsets at which records of interfaces stand, record by record.
 use Rattle.std.proofs.Common.{◌≡◌, ℕ, Bool, true, false, ◌||◌, ◌&&◌, eqb, List, [], ◌∷◌, refl}
 use mathlib.Core.Path.{fun_ext}
+use Rattle.std.proofs.Math.Bool.{or-false}
 use Rattle.cap_class.specs.ClassFormat.{Class, is_interface}
 use Rattle.offset_set.specs.Sets.{also, either}
 use Rattle.cap_components.specs.PackageRecord.{names_interface}
 
-or_false : (b : Bool) → (b || false) ≡ b
-or_false true = refl
-or_false false = refl
-
 pub no_class : (set : ℕ → Bool) → either set (names_interface []) ≡ set
 unfolding names_interface
-no_class set = fun_ext (λ offset. or_false (set offset))
+no_class set = fun_ext (λ offset. or-false (set offset))
 
 turned : (a b c : Bool) → ((a || b) || c) ≡ (b || ((a && true) || c))
 turned true true c = refl

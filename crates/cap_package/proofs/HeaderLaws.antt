@@ -67,7 +67,7 @@ size_of : (b : Bool) → 2 ≤ cond b 4 2
 size_of true = omega arith
 size_of false = omega arith
 
-size_least : (o : Option ℕ) → 2 ≤ size_by o
+pub size_least : (o : Option ℕ) → 2 ≤ size_by o
 size_least None = omega arith
 size_least (Some first) = size_of (leb 128 first)
 

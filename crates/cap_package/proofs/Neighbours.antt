@@ -1,7 +1,7 @@
 -- Of things that each reach from a start to an end, the least overlap of two is that of a thing and the nearest other.
 use Rattle.std.proofs.Common.{◌≡◌, ℕ, ◌<◌, ◌≤◌, ◌⊎◌, Bool, true, false, ltb, eqb, cond, ◌||◌, ◌&&◌, List, [], ◌∷◌, ◌++◌, map, Option, Some, None, refl, sym, ap, subst, ◌∙◌, inl, inr, arith, lt-ltb, ltb-true, eqb-true, eq-eqb, true≢false}
 use Rattle.std.specs.List.{filter_map, cons_option}
-use Rattle.std.proofs.lemmas.Bool.{cases_lt}
+use Rattle.std.proofs.lemmas.Bool.{cases_lt, or_right}
 use Rattle.first_fault.specs.declared.place.Place.{Place}
 use Rattle.first_fault.specs.Order.{IsUpTo, two}
 use Rattle.first_fault.specs.Least.{least_of}
@@ -178,10 +178,6 @@ module _ {F : Type 0} (place : F → Place) (make : ℕ → ℕ → F) (placed :
 -- ---- starts
 
 module _ {X : Type 0} (start : X → ℕ) where
-  or_right : (a b : Bool) → b ≡ true → (a || b) ≡ true
-  or_right true b e = refl
-  or_right false b e = e
-
   both_left : (a b c : Bool) → a ≡ true → b ≡ true → ((a && b) || c) ≡ true
   both_left true true c d e = refl
   both_left true false c d e = absurd (true≢false (sym e))

@@ -1,6 +1,7 @@
 -- The sets of the offsets at which methods and static fields stand, one after the other.
 use Rattle.std.proofs.Common.{◌≡◌, ℕ, Bool, true, false, ◌||◌, eqb, List, [], ◌∷◌, map, refl, ap, ◌∙◌}
 use mathlib.Core.Path.{fun_ext}
+use Rattle.std.proofs.Math.Bool.{or-false}
 use Rattle.cap_desc.specs.DescriptorFormat.{Method, Field}
 use Rattle.cap_package.specs.HeaderChecks.{is_static}
 use Rattle.cap_class.specs.ClassFormat.{Class}
@@ -9,16 +10,7 @@ use Rattle.cap_package.specs.StaticChecks.{image_offset, is_static_at, stands_at
 use Rattle.offset_set.specs.Sets.{also, either, is_among}
 use Rattle.offset_set.specs.Tallies.{Tallied, counted}
 use Rattle.cap_package.specs.Reaches.{method_start}
-
-or_false : (b : Bool) → (b || false) ≡ b
-or_false true = refl
-or_false false = refl
-
-turned : (a b c : Bool) → ((a || b) || c) ≡ (b || (a || c))
-turned true true c = refl
-turned true false c = refl
-turned false true c = refl
-turned false false c = refl
+use Rattle.offset_set.proofs.Tallying.{turned}
 
 -- the starts of methods that were counted are where methods stand
 among_methods : (ms : List Method) (offset : ℕ) → is_among (map method_start ms) offset ≡ is_method_at ms offset
@@ -30,7 +22,7 @@ pub methods_met : (met : ℕ → Bool) (t : Tallied) (ms : List Method) → met 
 methods_met met t ms e h = e ∙ ap (λ (u : Tallied). u.met) h ∙ fun_ext (among_methods ms)
 
 pub all_statics : (these : ℕ → Bool) → either these (is_static_at []) ≡ these
-all_statics these = fun_ext (λ offset. or_false (these offset))
+all_statics these = fun_ext (λ offset. or-false (these offset))
 
 static_first : (f : Field) (offset : ℕ) (b : Bool) → is_static f.flags ≡ b → b ≡ true → stands_at offset f ≡ eqb (image_offset f) offset
 static_first f offset b e h = rw (e ∙ h) refl
@@ -42,7 +34,7 @@ pub no_more_statics : (these : ℕ → Bool) (f : Field) (fs : List Field) → i
 no_more_statics these f fs e = fun_ext (λ offset. rw e refl)
 
 pub all_classes : (these : ℕ → Bool) → either these (is_class_at []) ≡ these
-all_classes these = fun_ext (λ offset. or_false (these offset))
+all_classes these = fun_ext (λ offset. or-false (these offset))
 
 pub more_classes : (these : ℕ → Bool) (c : Class) (cs : List Class) →
     either (also c.offset these) (is_class_at cs) ≡ either these (is_class_at (c ∷ cs))

@@ -1,5 +1,5 @@
 -- Methods and static fields overlap exactly where one reaches to the nearest other from its own start on.
-use Rattle.std.proofs.Common.{◌≡◌, ℕ, ◌<◌, ◌≤◌, Bool, true, false, ltb, leb, cond, min, max, List, [], ◌∷◌, ◌++◌, length, map, Option, Some, None, refl, sym, ap, subst, ◌∙◌, inl, inr, arith, lt-ltb, le-ltb}
+use Rattle.std.proofs.Common.{◌≡◌, ℕ, ◌<◌, ◌≤◌, ltb, cond, min, max, List, [], ◌∷◌, ◌++◌, length, map, Option, Some, None, refl, sym, ap, subst, ◌∙◌, inl, inr, arith, lt-ltb, le-ltb}
 use Rattle.std.specs.List.{filter_map, cons_option}
 use Rattle.std.proofs.lemmas.Bool.{cases_lt}
 use Rattle.std.proofs.lemmas.List.Elements.{filter_map-append}
@@ -16,11 +16,12 @@ use Rattle.cap_components.specs.declared.fault.PackFault.TheVariants.{MethodOver
 use Rattle.cap_components.specs.Order.{pack_place, least_of}
 use Rattle.cap_components.specs.Descriptions.{Description}
 use Rattle.cap_package.specs.Pairs.{pairs}
-use Rattle.cap_package.specs.MethodChecks.{size_by, code_start, code_end, overlap_fault, overlap_pair}
+use Rattle.cap_package.specs.MethodChecks.{code_start, code_end, overlap_fault, overlap_pair}
 use Rattle.cap_package.specs.StaticChecks.{ImagePlace, place_in, share_by, share_fault, share_pair}
 use Rattle.cap_package.specs.Reaches.{reach_by, method_start, method_end, method_reach, static_start, static_end, static_reach}
 use Rattle.cap_package.proofs.Neighbours.{least-neighbour}
 use Rattle.cap_package.proofs.StaticsKnown.{takes_byte}
+use Rattle.cap_package.proofs.HeaderLaws.{size_least}
 
 -- the starts that were counted one after the other, and the nearest of them
 pub counted_all : (starts : List ℕ) → with_all none_counted starts ≡ counted starts
@@ -45,18 +46,10 @@ past_other n a b lt = elim (cases_lt n a) [
 
 -- ---- methods
 
-either_size : (b : Bool) → 2 ≤ cond b 4 2
-either_size true = omega arith
-either_size false = omega arith
-
-size_some : (o : Option ℕ) → 2 ≤ size_by o
-size_some None = omega arith
-size_some (Some first) = either_size (leb 128 first)
-
 method_some : (info : List ℕ) (m : Method) → m.method_offset < code_end info m
 unfolding code_start code_end
 method_some info m =
-    let some = size_some (number_at 1 m.method_offset info) in
+    let some = size_least (number_at 1 m.method_offset info) in
     omega (arith, some)
 
 method_up : (info : List ℕ) (a b : Method) → a.method_offset ≤ b.method_offset → overlap_pair info (a, b)

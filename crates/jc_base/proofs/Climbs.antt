@@ -1,7 +1,7 @@
 -- Climbing the chain of superclasses one class at a time.
 use Rattle.std.proofs.Common.{◌≡◌, ℕ, zero, suc, ◌+◌, ◌<◌, ◌≤◌, ◌⊎◌, inl, inr, Bool, true, false, max, List, [], ◌∷◌, length, Option, Some, None, refl, sym, ap, subst, ◌∙◌, arith}
 use Rattle.std.specs.Prelude.{◌==◌, ◌||◌, slice_get}
-use Rattle.std.proofs.lemmas.Bool.{eqb-true, eq-eqb, false≢true, false_from_ne_true, cases_lt}
+use Rattle.std.proofs.lemmas.Bool.{eqb-true, eq-eqb, false≢true, cases_lt, or_cases, ne_eqb}
 use Rattle.std.proofs.Math.Bool.{or-true}
 use Rattle.std.proofs.lemmas.Option.{slice_get_within}
 use Rattle.jc_base.specs.declared.record.ClassRec.{ClassRec}
@@ -94,14 +94,10 @@ only false e = absurd (false≢true e)
 pub on_alone : (t : ClassTable) (d c : ℕ) → chain t c ≡ c ∷ [] → is_on_chain t d c ≡ true → c ≡ d
 on_alone t d c e on = eqb-true c d (only (c == d) (sym (on_chain-alone t d c e) ∙ on))
 
-either : (a b : Bool) → (a || b) ≡ true → (a ≡ true) ⊎ (b ≡ true)
-either true b e = inl refl
-either false b e = inr e
-
 -- a class on the chain of a class is the class, or on the chain of its superclass
 pub on_next : (t : ClassTable) (d c p : ℕ) → IsNextOnChain t c p → is_on_chain t d c ≡ true → (c ≡ d) ⊎ (is_on_chain t d p ≡ true)
 on_next t d c p next on =
-    elim (either (c == d) (is_on_chain t d p) (sym (on_chain-next t d c p next) ∙ on)) [
+    elim (or_cases (c == d) (is_on_chain t d p) (sym (on_chain-next t d c p next) ∙ on)) [
       | inl here ↦ inl (eqb-true c d here)
       | inr above ↦ inr above
     ]
@@ -172,11 +168,8 @@ chain-height t c = height-is t c (parent_of t c) refl
 
 -- ---- the steps of the loops
 
-ne-eqb : (a b : ℕ) → (a ≡ b → ⊥) → (a == b) ≡ false
-ne-eqb a b ne = false_from_ne_true (a == b) (λ e. ne (eqb-true a b e))
-
 pub not_here-next : (t : ClassTable) (d c p : ℕ) → IsNextOnChain t c p → (c ≡ d → ⊥) → is_on_chain t d p ≡ is_on_chain t d c
-not_here-next t d c p next ne = sym (on_chain-next t d c p next ∙ ap (λ (b : Bool). b || is_on_chain t d p) (ne-eqb c d ne))
+not_here-next t d c p next ne = sym (on_chain-next t d c p next ∙ ap (λ (b : Bool). b || is_on_chain t d p) (ne_eqb c d ne))
 
 pub not_here-alone : (t : ClassTable) (d c : ℕ) → chain t c ≡ c ∷ [] → (c ≡ d → ⊥) → false ≡ is_on_chain t d c
-not_here-alone t d c e ne = sym (on_chain-alone t d c e ∙ ap (λ (b : Bool). b || false) (ne-eqb c d ne))
+not_here-alone t d c e ne = sym (on_chain-alone t d c e ∙ ap (λ (b : Bool). b || false) (ne_eqb c d ne))

@@ -2,14 +2,13 @@
 use Rattle.std.proofs.Common.{◌≡◌, ◌<◌, ◌↔◌, ℕ, ◌==◌, Bool, true, false, not, List, length, Option, Some, None, refl, subst, arith}
 use Rattle.std.specs.Prelude.{All, IsTrue, IsSomeAnd, find, slice_get, nat_lt}
 use Rattle.std.specs.List.{list_all}
-use Rattle.std.proofs.lemmas.Bool.{false≢true, eqb-true, not-true, not_from_false}
+use Rattle.std.proofs.lemmas.Bool.{false≢true, eqb-true, not-true, not_from_false, and_parts, and_from}
 use Rattle.std.proofs.lemmas.Bool.Decides.{nat_tests}
 use Rattle.std.proofs.lemmas.List.Elements.{All-nil}
 use Rattle.jc_base.specs.declared.record.MethodRec.{MethodRec}
 use Rattle.jc_base.specs.Class.{ClassTable, is_interface, chain, list_of}
 use Rattle.jc_base.specs.Dispatch.{HasBody, IsConcrete, has_body, has_body_in, all_have_bodies, is_concrete, package_of, public_of, visible_of, nearest_of, visible_in}
 use Rattle.jc_base.specs.Laws.{ConcreteDecides}
-use Rattle.jc_base.proofs.Leading.{both, and}
 use Rattle.jc_base.proofs.Eaching.{Each-at, Each-from_All}
 use Rattle.jc_base.proofs.Tests.{All-from_test, test-from_All, found-passes, same_truth}
 
@@ -51,9 +50,9 @@ module _ (t : ClassTable) (methods : List MethodRec) (c : ℕ) where
   pub concrete-sound : is_concrete t methods c ≡ true → IsConcrete t methods c
   unfolding is_concrete
   concrete-sound h =
-      let one = both (nat_lt c (length t.records)) _ h in
-      let two = both (not (is_interface t c)) _ one.1 in
-      let three = both (all_have_bodies methods (public_of t c)) _ two.1 in
+      let one = and_parts (nat_lt c (length t.records)) _ h in
+      let two = and_parts (not (is_interface t c)) _ one.1 in
+      let three = and_parts (all_have_bodies methods (public_of t c)) _ two.1 in
       let below : c < length t.records = grind (arith, nat_tests, one.0) in
       record {
         class = record { number = below; class = not-true (is_interface t c) two.0 };
@@ -66,9 +65,9 @@ module _ (t : ClassTable) (methods : List MethodRec) (c : ℕ) where
   concrete-complete is =
       let below : c < length t.records = is.class.number in
       let number : nat_lt c (length t.records) ≡ true = grind (arith, nat_tests, below) in
-      and (nat_lt c (length t.records)) _ number
-      (and (not (is_interface t c)) _ (not_from_false (is_interface t c) is.class.class)
-      (and (all_have_bodies methods (public_of t c)) _ (bodies-complete (public_of t c) is.public) (visible-complete is.visible)))
+      and_from (nat_lt c (length t.records)) _ number
+      (and_from (not (is_interface t c)) _ (not_from_false (is_interface t c) is.class.class)
+      (and_from (all_have_bodies methods (public_of t c)) _ (bodies-complete (public_of t c) is.public) (visible-complete is.visible)))
 
   pub concrete-is : (b : Bool) → IsTrue b ↔ IsConcrete t methods c → b ≡ is_concrete t methods c
   concrete-is b decided = same_truth b (is_concrete t methods c) (λ h. concrete-complete (decided.0 h)) (λ h. decided.1 (concrete-sound h))

@@ -2,25 +2,25 @@
 use Rattle.std.proofs.Common.{◌≡◌, ◌<◌, ◌≤◌, inl, inr, ℕ, ◌==◌, Bool, true, false, List, [], length, Option, Some, None, refl, subst, arith}
 use Rattle.std.specs.Prelude.{All, Contains, IfSome, MatchBool, slice_get}
 use Rattle.std.specs.List.{list_any, range_with_len}
-use Rattle.std.proofs.lemmas.Bool.{eqb-true, eq-eqb, false_from_ne_true}
+use Rattle.std.proofs.lemmas.Bool.{eqb-true, eq-eqb, false_from_ne_true, or_cases, or_left, or_right}
 use Rattle.std.proofs.lemmas.List.Elements.{All-contains, All-map, All-nil, All-weaker}
 use Rattle.std.proofs.lemmas.Option.{slice_get_within}
-use Rattle.jc_base.specs.declared.ty.Ty.TheVariants.{Class}
 use Rattle.jc_base.specs.declared.record.Iface.{Iface}
 use Rattle.jc_base.specs.declared.record.ClassRec.{ClassRec}
 use Rattle.jc_base.specs.declared.record.MethodRec.{MethodRec}
 use Rattle.jc_base.specs.Each.{IsAmong}
 use Rattle.jc_base.specs.Leads.{Leads, at_once, further, leads_below}
 use Rattle.jc_base.specs.Class.{ClassTable, AreClasses, chain}
-use Rattle.jc_base.specs.Order.{Below, is_below, is_on_chain}
+use Rattle.jc_base.specs.Order.{is_on_chain}
 use Rattle.jc_base.specs.Linked.{AreLinkedClasses, IsLinkedClass, IsExtended, IsImplemented}
 use Rattle.jc_base.specs.Interface.{extended, extended_in, implemented, IsOrExtends, Implements, NoneExtendsItself, is_or_extends, implements, extended_count}
 use Rattle.jc_base.specs.Laws.{ImplementsDecides, ExtendsEnds, ExtendsDecides}
-use Rattle.jc_base.proofs.Leading.{either, left, right, leads-sound, leads-complete}
+use Rattle.jc_base.proofs.Leading.{leads-sound, leads-complete}
 use Rattle.jc_base.proofs.Eaching.{Contains-from_IsAmong, IsAmong-from_Contains}
 use Rattle.jc_base.proofs.Tests.{some-from_test, test-from_some}
 use Rattle.jc_base.proofs.Counting.{count-less, count-most, number-among}
-use Rattle.jc_base.proofs.Subtypes.{is_below-from_Below, Below-from_is_below}
+use Rattle.jc_base.proofs.Dispatches.{on_chain-from_Below}
+use Rattle.jc_base.proofs.Subtypes.{below_class}
 
 -- ---- what extends another
 
@@ -40,15 +40,15 @@ leads-decided t i j h = leads-complete (extended t) (length t.records) i j (exte
 
 or_extends-sound : (t : ClassTable) (i j : ℕ) → is_or_extends t i j ≡ true → IsOrExtends t i j
 unfolding is_or_extends
-or_extends-sound t i j h = elim (either (i == j) (leads_below (extended t) (length t.records) i j) h) [
+or_extends-sound t i j h = elim (or_cases (i == j) (leads_below (extended t) (length t.records) i j) h) [
   | inl same ↦ inl (eqb-true i j same)
   | inr more ↦ inr (leads-sound (extended t) (length t.records) i j more)
 ]
 
 or_extends-complete : (t : ClassTable) (i j : ℕ) → IsOrExtends t i j → is_or_extends t i j ≡ true
 unfolding is_or_extends
-or_extends-complete t i j (inl same) = left (i == j) (leads_below (extended t) (length t.records) i j) (eq-eqb i j same)
-or_extends-complete t i j (inr more) = right (i == j) (leads_below (extended t) (length t.records) i j) (leads-decided t i j more)
+or_extends-complete t i j (inl same) = or_left (i == j) (leads_below (extended t) (length t.records) i j) (eq-eqb i j same)
+or_extends-complete t i j (inr more) = or_right (i == j) (leads_below (extended t) (length t.records) i j) (leads-decided t i j more)
 
 pub extends-decides : (t : ClassTable) → ExtendsDecides t
 extends-decides t = λ i j. (or_extends-sound t i j, or_extends-complete t i j)
@@ -68,16 +68,6 @@ among-on_chain t c a on =
     let some = some-from_test (λ x. x == a) (chain t c) on in
     subst (λ x. IsAmong x (chain t c)) (eqb-true some.0 a some.2) some.1
 
-class_below : (t : ClassTable) → AreClasses t → (c a : ℕ) → is_on_chain t a c ≡ true → Below t (Class c) (Class a)
-unfolding is_below
-class_below t are c a on = Below-from_is_below t are (Class c) (Class a) on
-
-below_class : (t : ClassTable) → AreClasses t → (c a : ℕ) → Below t (Class c) (Class a) → is_on_chain t a c ≡ true
-unfolding is_below
-below_class t are c a below =
-    let on : is_below t (Class c) (Class a) ≡ true = is_below-from_Below t are below in
-    on
-
 implements-sound : (t : ClassTable) → AreClasses t → (c j : ℕ) → implements t c j ≡ true → Implements t c j
 unfolding implements
 implements-sound t are c j h =
@@ -86,7 +76,7 @@ implements-sound t are c j h =
     record {
       class = above.0;
       named = named.0;
-      inherits = class_below t are c above.0 (on_chain-among t c above.0 above.1);
+      inherits = below_class t are c above.0 (on_chain-among t c above.0 above.1);
       names = Contains-from_IsAmong named.0 (implemented t above.0) named.1;
       extends = or_extends-sound t named.0 j named.2;
     }
@@ -94,7 +84,7 @@ implements-sound t are c j h =
 implements-complete : (t : ClassTable) → AreClasses t → (c j : ℕ) → Implements t c j → implements t c j ≡ true
 unfolding implements
 implements-complete t are c j is =
-    test-from_some (names_one t j) (chain t c) is.class (among-on_chain t c is.class (below_class t are c is.class is.inherits))
+    test-from_some (names_one t j) (chain t c) is.class (among-on_chain t c is.class (on_chain-from_Below t are c is.class is.inherits))
     (test-from_some (λ i. is_or_extends t i j) (implemented t is.class) is.named (IsAmong-from_Contains is.named (implemented t is.class) is.names) (or_extends-complete t is.named j is.extends))
 
 pub implements-decides : (t : ClassTable) → AreClasses t → ImplementsDecides t

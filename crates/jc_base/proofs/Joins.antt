@@ -1,7 +1,7 @@
 -- The computed join is the least type above both, and a type rises seldom.
 use Rattle.std.proofs.Common.{◌≡◌, ℕ, ◌+◌, ◌<◌, ◌≤◌, ◌⊎◌, inl, inr, Bool, true, false, ◌&&◌, length, Some, refl, sym, ap, subst, ◌∙◌, arith}
 use Rattle.std.specs.Prelude.{◌==◌, if◌then◌else◌}
-use Rattle.std.proofs.lemmas.Bool.{false≢true, true≢false, eqb-true}
+use Rattle.std.proofs.lemmas.Bool.{false≢true, true≢false, eqb-true, and_parts}
 use Rattle.jc_base.specs.declared.ty.Ty.{Ty}
 use Rattle.jc_base.specs.declared.ty.Ty.TheVariants.{Bottom, Short, IntHigh, IntLow, Null, Class, ArrBool, ArrByte, ArrShort, ArrInt, ArrRef, Fresh, Top}
 use Rattle.jc_base.specs.Class.{ClassTable, IsClass, AreClasses, parent_of, height, object}
@@ -9,13 +9,9 @@ use Rattle.jc_base.specs.Order.{Below, same, joined, nothing, anything, null_obj
 use Rattle.jc_base.proofs.Chains.{next_on_chain}
 use Rattle.jc_base.proofs.Climbs.{on_chain-here, on_chain-object, on_chain-class, parent_of-class, chain-height, chain-not_empty, chain-alone}
 use Rattle.jc_base.proofs.Meets.{IsNearest, common-nearest}
-use Rattle.jc_base.proofs.Subtypes.{is_below-refl, is_below-top, is_below-from_Below, Below-from_is_below}
+use Rattle.jc_base.proofs.Subtypes.{is_below-refl, is_below-top, is_below-from_Below, Below-from_is_below, below_class, bottom_below}
 
 -- ---- two classes, and two arrays of classes
-
-class_is_below : (t : ClassTable) → AreClasses t → (c d : ℕ) → is_on_chain t d c ≡ true → Below t (Class c) (Class d)
-unfolding is_below
-class_is_below t are c d on = Below-from_is_below t are (Class c) (Class d) on
 
 above_classes : (t : ClassTable) → AreClasses t → (c d n : ℕ) (u : Ty) → IsNearest t c d n → is_below t (Class c) u ≡ true → is_below t (Class d) u ≡ true → is_below t (Class n) u ≡ true
 unfolding is_below
@@ -34,8 +30,8 @@ join_of_classes : (t : ClassTable) → AreClasses t → (c d : ℕ) → IsClass 
 join_of_classes t are c d c_is d_is =
     let near = common-nearest t are c d c_is d_is in
     record {
-      left = class_is_below t are c (common t c d) near.left;
-      right = class_is_below t are d (common t c d) near.right;
+      left = below_class t are c (common t c d) near.left;
+      right = below_class t are d (common t c d) near.right;
       least = λ u p q. Below-from_is_below t are (Class (common t c d)) u (above_classes t are c d (common t c d) u near (is_below-from_Below t are p) (is_below-from_Below t are q));
     }
 
@@ -43,8 +39,8 @@ join_of_arrays : (t : ClassTable) → AreClasses t → (c d : ℕ) → IsClass t
 join_of_arrays t are c d c_is d_is =
     let near = common-nearest t are c d c_is d_is in
     record {
-      left = array_array (class_is_below t are c (common t c d) near.left);
-      right = array_array (class_is_below t are d (common t c d) near.right);
+      left = array_array (below_class t are c (common t c d) near.left);
+      right = array_array (below_class t are d (common t c d) near.right);
       least = λ u p q. Below-from_is_below t are (ArrRef (common t c d)) u (above_references t are c d (common t c d) u near (is_below-from_Below t are p) (is_below-from_Below t are q));
     }
 
@@ -82,14 +78,10 @@ single_low t IntLow h = inl refl
 single_low t Top h = inr refl
 single_low t u h = absurd (false≢true h)
 
-both : (a b : Bool) → (a && b) ≡ true → (a ≡ true) × (b ≡ true)
-both true b e = (refl, e)
-both false b e = absurd (false≢true e)
-
 single_fresh : (p c : ℕ) (t : ClassTable) (u : Ty) → is_below t (Fresh p c) u ≡ true → (u ≡ Fresh p c) ⊎ (u ≡ Top)
 unfolding is_below
 single_fresh p c t (Fresh q d) h =
-    let e = both (p == q) (c == d) h in
+    let e = and_parts (p == q) (c == d) h in
     let place : p ≡ q = eqb-true p q e.0 in
     let class : c ≡ d = eqb-true c d e.1 in
     inl (rw (place, class) refl)
@@ -111,10 +103,6 @@ sort_of (ArrRef c) = object_or_array refl
 sort_of (Fresh p c) = single (single_fresh p c)
 sort_of Top = top
 
-bottom_is_below : (t : ClassTable) (b : Ty) → is_below t Bottom b ≡ true
-unfolding is_below
-bottom_is_below t b = refl
-
 null_is_below : (t : ClassTable) (b : Ty) → is_reference b ≡ true → is_below t Null b ≡ true
 unfolding is_below
 null_is_below t (Class c) h = refl
@@ -128,13 +116,13 @@ null_is_below t b h = absurd (false≢true h)
 -- what is above two types that do not compare and are not both references is Top
 only_top : (t : ClassTable) (a b u : Ty) → Sort a → Sort b → is_below t a b ≡ false → is_below t b a ≡ false → (is_reference a && is_reference b) ≡ false
     → is_below t a u ≡ true → is_below t b u ≡ true → u ≡ Top
-only_top t a b u bottom sb ab ba r p q = absurd (true≢false (sym (bottom_is_below t b) ∙ ab))
+only_top t a b u bottom sb ab ba r p q = absurd (true≢false (sym (bottom_below t b) ∙ ab))
 only_top t a b u top sb ab ba r p q = absurd (true≢false (sym (is_below-top t b) ∙ ba))
 only_top t a b u (single only) sb ab ba r p q = elim (only t u p) [
   | inl e ↦ absurd (true≢false (sym (subst (λ (x : Ty). is_below t b x ≡ true) e q) ∙ ba))
   | inr e ↦ e
 ]
-only_top t a b u null bottom ab ba r p q = absurd (true≢false (sym (bottom_is_below t a) ∙ ba))
+only_top t a b u null bottom ab ba r p q = absurd (true≢false (sym (bottom_below t a) ∙ ba))
 only_top t a b u null top ab ba r p q = absurd (true≢false (sym (is_below-top t a) ∙ ab))
 only_top t a b u null null ab ba r p q = absurd (true≢false (sym (is_below-refl t Null) ∙ ab))
 only_top t a b u null (single only) ab ba r p q = elim (only t u q) [
@@ -142,7 +130,7 @@ only_top t a b u null (single only) ab ba r p q = elim (only t u q) [
   | inr e ↦ e
 ]
 only_top t a b u null (object_or_array h) ab ba r p q = absurd (true≢false (sym (null_is_below t b h) ∙ ab))
-only_top t a b u (object_or_array h) bottom ab ba r p q = absurd (true≢false (sym (bottom_is_below t a) ∙ ba))
+only_top t a b u (object_or_array h) bottom ab ba r p q = absurd (true≢false (sym (bottom_below t a) ∙ ba))
 only_top t a b u (object_or_array h) top ab ba r p q = absurd (true≢false (sym (is_below-top t a) ∙ ab))
 only_top t a b u (object_or_array h) null ab ba r p q = absurd (true≢false (sym (null_is_below t a h) ∙ ba))
 only_top t a b u (object_or_array h) (single only) ab ba r p q = elim (only t u q) [
@@ -220,7 +208,7 @@ above_both t a b u others class class ab ba p q = absurd others
 above_both t a b u others references references ab ba p q = absurd others
 
 below_object : (t : ClassTable) → AreClasses t → (a : Ty) → IsKnown t a → Reference a → Below t a (Class (object t))
-below_object t are (Class c) known class = class_is_below t are c (object t) (on_chain-object t are c known)
+below_object t are (Class c) known class = below_class t are c (object t) (on_chain-object t are c known)
 below_object t are a known references = array_object of_references refl
 below_object t are a known (primitive k only) = array_object k refl
 
@@ -231,7 +219,7 @@ others_is t are a b others ka kb true y z ab ba r =
 others_is t are a b others ka kb false true z ab ba r =
     record { left = same; right = Below-from_is_below t are b a ba; least = λ u p q. p }
 others_is t are a b others ka kb false false true ab ba r =
-    let refs = both (is_reference a) (is_reference b) r in
+    let refs = and_parts (is_reference a) (is_reference b) r in
     let ra = reference_of a refs.0 in
     let rb = reference_of b refs.1 in
     record {

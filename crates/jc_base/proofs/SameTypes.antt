@@ -1,11 +1,10 @@
 -- Types that are computed to be the same are equal.
 use Rattle.std.proofs.Common.{◌≡◌, ◌==◌, true, refl, ap, subst}
 use Rattle.std.specs.Prelude.{◌↔◌, IsTrue}
-use Rattle.std.proofs.lemmas.Bool.{false≢true, eqb-true, eq-eqb}
+use Rattle.std.proofs.lemmas.Bool.{false≢true, eqb-true, eq-eqb, and_parts}
 use Rattle.jc_base.specs.declared.ty.Ty.{Ty}
 use Rattle.jc_base.specs.declared.ty.Ty.TheVariants.{Bottom, Short, IntHigh, IntLow, Null, Class, ArrBool, ArrByte, ArrShort, ArrInt, ArrRef, Fresh, Top}
 use Rattle.jc_base.specs.SameType.{same_type}
-use Rattle.jc_base.proofs.Leading.{both}
 
 pub same_type-equal : (a b : Ty) → same_type a b ≡ true → a ≡ b
 unfolding same_type
@@ -21,8 +20,8 @@ same_type-equal ArrShort ArrShort e = refl
 same_type-equal ArrInt ArrInt e = refl
 same_type-equal (ArrRef c) (ArrRef d) e = ap ArrRef (eqb-true c d e)
 same_type-equal (Fresh p c) (Fresh q d) e =
-    let places : p ≡ q = eqb-true p q ((both (p == q) (c == d) e).0) in
-    let classes : c ≡ d = eqb-true c d ((both (p == q) (c == d) e).1) in
+    let places : p ≡ q = eqb-true p q ((and_parts (p == q) (c == d) e).0) in
+    let classes : c ≡ d = eqb-true c d ((and_parts (p == q) (c == d) e).1) in
     rw (places, classes) refl
 same_type-equal Top Top e = refl
 same_type-equal a b e = absurd (false≢true e)

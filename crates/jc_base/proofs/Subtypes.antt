@@ -1,16 +1,12 @@
 -- The computed order is the order of types.
-use Rattle.std.proofs.Common.{◌≡◌, ℕ, inl, inr, Bool, true, false, ◌&&◌, refl, sym, subst}
+use Rattle.std.proofs.Common.{◌≡◌, ℕ, inl, inr, true, false, refl, sym, subst}
 use Rattle.std.specs.Prelude.{◌==◌, ◌↔◌, IsTrue}
-use Rattle.std.proofs.lemmas.Bool.{false≢true, eqb-true, eq-eqb}
+use Rattle.std.proofs.lemmas.Bool.{false≢true, eqb-true, eq-eqb, and_parts}
 use Rattle.jc_base.specs.declared.ty.Ty.{Ty}
 use Rattle.jc_base.specs.declared.ty.Ty.TheVariants.{Bottom, Short, IntHigh, IntLow, Null, Class, ArrBool, ArrByte, ArrShort, ArrInt, ArrRef, Fresh, Top}
 use Rattle.jc_base.specs.Class.{ClassTable, AreClasses, object}
 use Rattle.jc_base.specs.Order.{Below, same, joined, nothing, anything, null_object, null_array, subclass, array_object, array_array, IsArray, of_booleans, of_bytes, of_shorts, of_ints, of_references, is_below, is_on_chain, is_reference, is_above_arrays}
 use Rattle.jc_base.proofs.Climbs.{climb, on_chain-here, on_chain-parent, on_chain-trans, on_object, on_alone, on_next}
-
-both : (a b : Bool) → (a && b) ≡ true → (a ≡ true) × (b ≡ true)
-both true b e = (refl, e)
-both false b e = absurd (false≢true e)
 
 -- ---- reflexive
 
@@ -178,7 +174,7 @@ is_below-trans t are ArrInt (Class d) c p q = int_below t c (above_object t are 
 is_below-trans t are (ArrRef a) (ArrRef d) c p q = references_below t are a d c p q
 is_below-trans t are (ArrRef a) (Class d) c p q = array_below t a c (above_object t are d c p q)
 is_below-trans t are (Fresh m a) (Fresh n d) c p q =
-    let h = both (m == n) (a == d) p in
+    let h = and_parts (m == n) (a == d) p in
     let place : m ≡ n = eqb-true m n h.0 in
     let class : a ≡ d = eqb-true a d h.1 in
     rw (place, class) q
@@ -210,7 +206,7 @@ array_arrays : (t : ClassTable) (c d : ℕ) → is_below t (Class c) (Class d) �
 unfolding is_below
 array_arrays t c d e = e
 
-bottom_below : (t : ClassTable) (b : Ty) → is_below t Bottom b ≡ true
+pub bottom_below : (t : ClassTable) (b : Ty) → is_below t Bottom b ≡ true
 unfolding is_below
 bottom_below t b = refl
 
@@ -229,7 +225,7 @@ is_below-from_Below t are (subclass {c} {p} e) = class_classes t c p (on_chain-p
 is_below-from_Below t are (array_object {a} {c} k e) = array_objects t c k e
 is_below-from_Below t are (array_array {c} {d} h) = array_arrays t c d (is_below-from_Below t are h)
 
-below_class : (t : ClassTable) → AreClasses t → (c d : ℕ) → is_on_chain t d c ≡ true → Below t (Class c) (Class d)
+pub below_class : (t : ClassTable) → AreClasses t → (c d : ℕ) → is_on_chain t d c ≡ true → Below t (Class c) (Class d)
 below_class t are = climb t are (λ c. (d : ℕ) → is_on_chain t d c ≡ true → Below t (Class c) (Class d))
     (λ c top alone d on. subst (λ (x : ℕ). Below t (Class c) (Class x)) (on_alone t d c alone on) same)
     (λ c p link next before d on. elim (on_next t d c p next on) [
@@ -272,7 +268,7 @@ Below-from_is_below t are ArrInt b h = above_arrays t ArrInt b of_ints h
 Below-from_is_below t are (ArrRef c) (ArrRef d) h = array_array (below_class t are c d h)
 Below-from_is_below t are (ArrRef c) b h = above_arrays t (ArrRef c) b of_references h
 Below-from_is_below t are (Fresh m c) (Fresh n d) h =
-    let e = both (m == n) (c == d) h in
+    let e = and_parts (m == n) (c == d) h in
     let place : m ≡ n = eqb-true m n e.0 in
     let class : c ≡ d = eqb-true c d e.1 in
     subst (λ (x : ℕ). Below t (Fresh m c) (Fresh x d)) place (subst (λ (x : ℕ). Below t (Fresh m c) (Fresh m x)) class same)

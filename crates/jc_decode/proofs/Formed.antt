@@ -2,7 +2,7 @@
 use Rattle.std.proofs.Common.{◌≡◌, ◌∙◌, ◌<◌, ◌≤◌, ◌+◌, ◌-◌, ◌/◌, ◌%◌, ℕ, zero, suc, Bool, true, false, cond, Result, Ok, Err, refl, sym, ap, arith, rules}
 use Rattle.std.specs.Prelude.{ℤ, pos, negsuc, unsigned_abs, not, ◌&&◌, ◌||◌, ◌==◌, nat_le, map, replicate}
 use Rattle.std.specs.List.{range_with_len}
-use Rattle.std.proofs.lemmas.Bool.{eqb-true}
+use Rattle.std.proofs.lemmas.Bool.{eqb-true, not-true, or_parts, and_parts}
 use Rattle.std.proofs.lemmas.Bool.Decides.{nat_tests}
 use Rattle.jc_decode.specs.declared.layout.Operand.{Operand}
 use Rattle.jc_decode.specs.declared.layout.Operand.TheVariants.{Absent, U1, U2, S1, S2, S4, DupWords, SwapWords, ArrayType, TestedType}
@@ -13,7 +13,7 @@ use Rattle.jc_decode.specs.Layout.{layout_of, opcode}
 use Rattle.jc_decode.specs.Listing.{jumps}
 use Rattle.jc_decode.specs.Encoding.{Allows, AllowsBy, IsAllowed}
 use Rattle.jc_decode.specs.Forms.{has_register, is_load_n, is_store_n, first_short, short_form, essence}
-use Rattle.jc_decode.proofs.Passed.{passed-at, and-parts, or-rest}
+use Rattle.jc_decode.proofs.Passed.{passed-at, or-rest}
 
 abbrev pub is_absent : Operand → Bool
 is_absent Absent = true
@@ -62,14 +62,6 @@ is_named-all : map is_named (range_with_len 0 256) ≡ replicate 256 true
 unfolding layout_of opcode
 is_named-all = refl
 
-not-true : (a : Bool) → not a ≡ true → a ≡ false
-not-true true h = absurd (cc)
-not-true false h = refl
-
-nor-parts : (a b : Bool) → (a || b) ≡ false → (a ≡ false) × (b ≡ false)
-nor-parts true b h = absurd (cc)
-nor-parts false b h = (refl, h)
-
 absent-is : (o : Operand) (v : ℤ) → is_absent o ≡ true → Allows o v → v ≡ pos 0
 absent-is Absent v h a = a.0
 absent-is U1 v h a = absurd (cc)
@@ -116,15 +108,15 @@ record IsNamed (i : Insn) : Type 0 where
 IsNamed-allowed : (i : Insn) (r : Result Layout CodeEnd) → has_byte r ≡ true → AllowsBy i r → IsNamed i
 IsNamed-allowed i (Err e) h a = absurd a
 IsNamed-allowed i (Ok l) h a =
-    let p = and-parts _ _ h in
-    let q = and-parts _ _ p.1 in
+    let p = and_parts _ _ h in
+    let q = and_parts _ _ p.1 in
     record { x = byte-is l.x i.x p.0 a.0; y = absent-is l.y i.y q.0 a.1; z = absent-is l.z i.z q.1 a.2 }
 
 AllowsBy-none : (i : Insn) (r : Result Layout CodeEnd) → has_none r ≡ true → i.x ≡ pos 0 → i.y ≡ pos 0 → i.z ≡ pos 0 → AllowsBy i r
 AllowsBy-none i (Err e) h x y z = absurd (cc)
 AllowsBy-none i (Ok l) h x y z =
-    let p = and-parts _ _ h in
-    let q = and-parts _ _ p.1 in
+    let p = and_parts _ _ h in
+    let q = and_parts _ _ p.1 in
     (rw x (absent-allows l.x p.0), rw y (absent-allows l.y q.0), rw z (absent-allows l.z q.1))
 
 -- the short opcode is that of a load or store with the register in it, and gives back the long one and the register
@@ -162,8 +154,8 @@ is_short-at (suc (suc (suc (suc n)))) op few h = absurd (omega arith)
 
 IsShort-at : (op n : ℕ) → op < 256 → has_register op ≡ true → n ≤ 3 → IsShort op n (first_short op + n)
 IsShort-at op n h named few =
-    let p = and-parts _ _ (or-rest (has_register op) _ (is_short-at n op few h) named) in
-    let q = and-parts _ _ p.1 in
+    let p = and_parts _ _ (or-rest (has_register op) _ (is_short-at n op few h) named) in
+    let q = and_parts _ _ p.1 in
     record { small = small (nat_le op 23) refl; moved = p.0; long = eqb-true _ _ q.0; register = eqb-true _ _ q.1 }
   where
     small : (b : Bool) → nat_le op 23 ≡ b → first_short op + n < 256
@@ -198,13 +190,13 @@ short-essence i allowed = by_test (has_register i.op) refl (nat_le (unsigned_abs
     by_test true e false f = rw (e, f) refl
     by_test true e true f =
         let small = small-by i.op e in
-        let named = and-parts _ _ (or-rest (has_register i.op) _ (passed-at is_named is_named-all i.op small) e) in
-        let still = and-parts _ _ named.1 in
+        let named = and_parts _ _ (or-rest (has_register i.op) _ (passed-at is_named is_named-all i.op small) e) in
+        let still = and_parts _ _ named.1 in
         let n = IsNamed-allowed i (layout_of i.op) named.0 allowed in
         let few = few-by (unsigned_abs i.x) f in
         let short = IsShort-at i.op (unsigned_abs i.x) small e few in
-        let other = and-parts _ _ (or-rest _ _ (passed-at is_moved is_moved-all (first_short i.op + unsigned_abs i.x) short.small) short.moved) in
-        let free = nor-parts _ _ (not-true _ still.1) in
+        let other = and_parts _ _ (or-rest _ _ (passed-at is_moved is_moved-all (first_short i.op + unsigned_abs i.x) short.small) short.moved) in
+        let free = or_parts _ _ (not-true _ still.1) in
         rw (e, f)
         (essence-moved (record i { op = first_short i.op + unsigned_abs i.x; x = pos 0 }) i.op (unsigned_abs i.x) (not-true _ other.1) short.moved short.long short.register
         ∙ ap (λ (x : ℤ). record i { x = x; len = 0 }) n.x
@@ -218,11 +210,11 @@ short-allowed i allowed = by_test (has_register i.op) refl (nat_le (unsigned_abs
     by_test true e false f = rw (e, f) allowed
     by_test true e true f =
         let small = small-by i.op e in
-        let named = and-parts _ _ (or-rest (has_register i.op) _ (passed-at is_named is_named-all i.op small) e) in
+        let named = and_parts _ _ (or-rest (has_register i.op) _ (passed-at is_named is_named-all i.op small) e) in
         let n = IsNamed-allowed i (layout_of i.op) named.0 allowed in
         let few = few-by (unsigned_abs i.x) f in
         let short = IsShort-at i.op (unsigned_abs i.x) small e few in
-        let other = and-parts _ _ (or-rest _ _ (passed-at is_moved is_moved-all (first_short i.op + unsigned_abs i.x) short.small) short.moved) in
+        let other = and_parts _ _ (or-rest _ _ (passed-at is_moved is_moved-all (first_short i.op + unsigned_abs i.x) short.small) short.moved) in
         rw (e, f) (AllowsBy-none (record i { op = first_short i.op + unsigned_abs i.x; x = pos 0 }) (layout_of (first_short i.op + unsigned_abs i.x)) other.0 refl n.y n.z)
 
 pub short-jumps : (i : Insn) → jumps (short_form i).op ≡ jumps i.op
@@ -233,9 +225,9 @@ short-jumps i = by_test (has_register i.op) refl (nat_le (unsigned_abs i.x) 3) r
     by_test true e false f = rw (e, f) refl
     by_test true e true f =
         let small = small-by i.op e in
-        let named = and-parts _ _ (or-rest (has_register i.op) _ (passed-at is_named is_named-all i.op small) e) in
-        let still = and-parts _ _ named.1 in
+        let named = and_parts _ _ (or-rest (has_register i.op) _ (passed-at is_named is_named-all i.op small) e) in
+        let still = and_parts _ _ named.1 in
         let few = few-by (unsigned_abs i.x) f in
         let short = IsShort-at i.op (unsigned_abs i.x) small e few in
-        let other = and-parts _ _ (or-rest _ _ (passed-at is_moved is_moved-all (first_short i.op + unsigned_abs i.x) short.small) short.moved) in
+        let other = and_parts _ _ (or-rest _ _ (passed-at is_moved is_moved-all (first_short i.op + unsigned_abs i.x) short.small) short.moved) in
         rw (e, f) (not-true _ other.1 ∙ sym (not-true _ still.0))

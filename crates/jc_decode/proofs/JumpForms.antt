@@ -10,14 +10,14 @@ use Rattle.jc_decode.specs.declared.layout.Operand.TheVariants.{Absent, U1, U2, 
 use Rattle.jc_decode.specs.declared.layout.Layout.{Layout}
 use Rattle.jc_decode.specs.declared.insn.Insn.{Insn}
 use Rattle.jc_decode.specs.declared.insn.CodeEnd.{CodeEnd}
-use Rattle.std.proofs.lemmas.Bool.{eqb-true}
+use Rattle.std.proofs.lemmas.Bool.{eqb-true, and_parts, not-true}
 use Rattle.jc_decode.specs.Layout.{layout_of, opcode, width, total_width}
 use Rattle.jc_decode.specs.Listing.{jumps, is_branch}
 use Rattle.jc_decode.specs.Cases.{is_switch}
 use Rattle.jc_decode.specs.Encoding.{Allows, AllowsBy, IsAllowed}
 use Rattle.jc_decode.specs.Forms.{essence, is_near, is_wide_jump, jump_to, length_of, bytes_by, wide}
 use Rattle.jc_decode.specs.Symbols.{jump}
-use Rattle.jc_decode.proofs.Passed.{passed-at, and-parts, or-rest}
+use Rattle.jc_decode.proofs.Passed.{passed-at, or-rest}
 use Rattle.jc_decode.proofs.Formed.{is_absent, absent-allows}
 
 -- a signed operand of one byte or of two
@@ -71,14 +71,10 @@ record IsJump (two : Bool) (op form : ℕ) : Type 0 where
 IsJump-form : (two : Bool) (op : ℕ) → is_wide_jump op ≡ true → IsJump two op (cond two op (op - 56))
 IsJump-form two op h =
     let all = or-rest (is_wide_jump op) _ (is_jump-at two op h) h in
-    let p = and-parts (has_offset two (layout_of (cond two op (op - 56)))) _ all in
-    let q = and-parts (is_branch (cond two op (op - 56))) _ p.1 in
-    let r = and-parts (not (is_switch (cond two op (op - 56)))) _ q.1 in
-    record { layout = p.0; branch = q.0; only = not-so (is_switch (cond two op (op - 56))) r.0; wide_is = eqb-true (wide (cond two op (op - 56))) op r.1 }
-  where
-    not-so : (b : Bool) → not b ≡ true → b ≡ false
-    not-so true h = absurd (cc)
-    not-so false h = refl
+    let p = and_parts (has_offset two (layout_of (cond two op (op - 56)))) _ all in
+    let q = and_parts (is_branch (cond two op (op - 56))) _ p.1 in
+    let r = and_parts (not (is_switch (cond two op (op - 56)))) _ q.1 in
+    record { layout = p.0; branch = q.0; only = not-true (is_switch (cond two op (op - 56))) r.0; wide_is = eqb-true (wide (cond two op (op - 56))) op r.1 }
 
 near-fits : (d : ℤ) → is_near d ≡ true → FitsSigned w8 d
 near-fits d h = grind (arith, ints)
@@ -103,14 +99,14 @@ jump-allowed op two d h near fits = by_layout (layout_of (cond two op (op - 56))
     by_layout : (r : Result Layout CodeEnd) → has_offset two r ≡ true → AllowsBy (jump_to op two d) r
     by_layout (Err e) g = absurd (cc)
     by_layout (Ok l) g =
-        let p = and-parts (is_offset two l.x) _ g in
-        let q = and-parts (is_absent l.y) _ p.1 in
+        let p = and_parts (is_offset two l.x) _ g in
+        let q = and_parts (is_absent l.y) _ p.1 in
         (offset-allows two l.x d p.0 near fits, absent-allows l.y q.0, absent-allows l.z q.1)
 
 offset-width : (two : Bool) (l : Layout) → has_offset two (Ok l) ≡ true → 1 + total_width l ≡ cond two 3 2
 offset-width two l h =
-    let p = and-parts (is_offset two l.x) _ h in
-    let q = and-parts (is_absent l.y) _ p.1 in
+    let p = and_parts (is_offset two l.x) _ h in
+    let q = and_parts (is_absent l.y) _ p.1 in
     let x = offset-bytes two l.x p.0 in
     let y = absent-bytes l.y q.0 in
     let z = absent-bytes l.z q.1 in

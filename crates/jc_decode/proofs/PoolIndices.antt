@@ -2,7 +2,7 @@
 use Rattle.std.proofs.Common.{◌≡◌, ◌<◌, ◌+◌, ℕ, Bool, true, false, cond, Option, Some, None, Result, Ok, Err, List, refl, ap, arith, rules}
 use Rattle.std.specs.Prelude.{ℤ, pos, negsuc, unsigned_abs, IfSome, not, ◌&&◌, ◌||◌, ◌==◌, map, replicate}
 use Rattle.std.specs.List.{range_with_len}
-use Rattle.std.proofs.lemmas.Bool.{eqb-true}
+use Rattle.std.proofs.lemmas.Bool.{eqb-true, and_parts}
 use Rattle.std.proofs.lemmas.Bool.Decides.{nat_tests}
 use Rattle.cap_bytes.specs.Number.{number_at}
 use Rattle.jc_decode.specs.declared.layout.Operand.{Operand}
@@ -16,7 +16,7 @@ use Rattle.jc_decode.specs.Decoding.{◌>>=◌, or_cut, operand_at, decoded, Beg
 use Rattle.jc_decode.specs.Encoding.{Allows, AllowsBy, IsAllowed}
 use Rattle.jc_decode.specs.Forms.{is_between}
 use Rattle.jc_decode.specs.PoolIndex.{pool_index, first_index, second_index, bytes_of, has_short_index, has_index, has_second_index}
-use Rattle.jc_decode.proofs.Passed.{passed-at, and-parts, or-rest}
+use Rattle.jc_decode.proofs.Passed.{passed-at, or-rest}
 use Rattle.jc_decode.proofs.Decoded.{Begins-decoded}
 
 -- an operand that is an unsigned number of so many bytes
@@ -120,7 +120,7 @@ fits-first w i (Ok l) h a = number-fits w l.x i.x h a.0
 fits-first w i (Err e) h a = absurd a
 
 fits-second : (i : Insn) (r : Result Layout CodeEnd) → has_second r ≡ true → AllowsBy i r → unsigned_abs i.y < 65536
-fits-second i (Ok l) h a = number-fits 2 l.y i.y (and-parts _ _ h).1 a.1
+fits-second i (Ok l) h a = number-fits 2 l.y i.y (and_parts _ _ h).1 a.1
 fits-second i (Err e) h a = absurd a
 
 pub index-fits : (i : Insn) → has_short_index i.op ≡ true → IsAllowed i → unsigned_abs i.x < 65536
@@ -144,7 +144,7 @@ stands-second : (i : Insn) (code : List ℕ) (at : ℕ) → Begins code at i →
     → number_at 2 (at + 2) code ≡ Some (unsigned_abs i.y)
 stands-second i code at b h =
     let named : (width b.layout.x == 1 && is_number 2 b.layout.y) ≡ true = rw b.is_layout at h in
-    let parts = and-parts _ _ named in
+    let parts = and_parts _ _ named in
     let one : width b.layout.x ≡ 1 = eqb-true (width b.layout.x) 1 parts.0 in
     let place : at + 1 + width b.layout.x ≡ at + 2 = omega (arith, one) in
     rw (← place) (number-read 2 b.layout.y code (at + 1 + width b.layout.x) i.y parts.1 b.y)

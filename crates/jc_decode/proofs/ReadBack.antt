@@ -1,5 +1,5 @@
 -- The bytes of an instruction are decoded to it, wherever they stand.
-use Rattle.std.proofs.Common.{◌≡◌, ◌<◌, ◌≤◌, ◌+◌, ◌*◌, ◌-◌, ◌^◌, ℕ, suc, Bool, true, false, cond, Option, Some, None, Result, Ok, Err, List, [], ◌∷◌, ◌++◌, length, take, drop, refl, sym, ap, ◌∙◌, arith, rules, append_assoc, length-append}
+use Rattle.std.proofs.Common.{◌≡◌, ◌<◌, ◌≤◌, ◌+◌, ◌*◌, ◌-◌, ◌^◌, ℕ, suc, Bool, true, false, cond, Some, Result, Ok, Err, List, [], ◌∷◌, ◌++◌, length, take, drop, refl, sym, ap, ◌∙◌, arith, rules, append_assoc, length-append}
 use Rattle.std.specs.Prelude.{◌+ℤ◌, ℤ, pos, negsuc, int_lt, unsigned_abs, not}
 use Rattle.std.specs.Result.{result_unwrap_or}
 use Rattle.std.specs.Int.{w8, w16, w32}
@@ -19,12 +19,13 @@ use Rattle.jc_decode.specs.declared.layout.Layout.{Layout}
 use Rattle.jc_decode.specs.declared.insn.CodeEnd.{CodeEnd}
 use Rattle.jc_decode.specs.declared.insn.Insn.{Insn}
 use Rattle.jc_decode.specs.Layout.{width, total_width, layout_of}
-use Rattle.jc_decode.specs.Decoding.{allows, value, number_of, operand_at, reached, bad_operand, key_at, rises, pair_width, range_count, range_end, pairs_end, keys_rise, end_of_cases, table_end, FitsOperand, Begins}
+use Rattle.jc_decode.specs.Decoding.{allows, value, number_of, operand_at, reached, bad_operand, key_at, rises, pair_width, range_count, range_end, pairs_end, end_of_cases, table_end, FitsOperand, Begins}
 use Rattle.jc_decode.specs.Cases.{cases_in, range_case, pair_case, offset_at, is_table, HasTable}
 use Rattle.jc_decode.specs.Encoding.{bits, operand_bytes, Allows, AllowsBy, IsAllowed, head_bytes, table_bytes, encoding, encoding_by, sized, ReadsBack}
 use Rattle.jc_decode.proofs.Decoded.{decoded-Begins, reached-within, reached-ok, pairs_end-ok, range_end-ok, from_bind}
 use Rattle.jc_decode.proofs.Tables.{HasTable-end, table_within, cases-by}
 use Rattle.jc_decode.proofs.Windows.{Alike, Alike-part, number_at-reached, operand_at-alike, find-alike, map-alike}
+use Rattle.jc_decode.proofs.Rising.{keys_rise-none}
 
 -- a number is read back from its bytes
 number-back : (w n : ℕ) (ys pre post : List ℕ) (at : ℕ) → ys ≡ pre ++ (big_bytes w n ++ post) → at ≡ length pre → n < 256 ^ w
@@ -139,15 +140,11 @@ pairs_end-alike : (key : Operand) (xs ys : List ℕ) (t u m count : ℕ) → Ali
     → pairs_end key xs t count ≡ Ok (t + m) → pairs_end key ys u count ≡ Ok (u + m)
 pairs_end-alike key xs ys t u m count a size h =
     from_bind (reached xs (t + pair_width key * count)) _ (t + m) h (λ end end_is h1.
-    let none = keys-none key xs t end _ (t + m) h1 in
+    let none = keys_rise-none key xs t end _ (t + m) h1 in
     let same : u + pair_width key * count ≡ u + m = omega (arith, size) in
     let search_same = find-alike (λ n. not (rises key xs t n)) (λ n. not (rises key ys u n)) 1 (count - 1)
     (λ n low high. ap not (rises-alike key xs ys t u m count n a size low (omega arith))) in
     rw (same, reached-within ys (u + m) a.right, ← search_same, none) refl)
-  where
-    keys-none : (key : Operand) (xs : List ℕ) (t end : ℕ) (o : Option ℕ) (e : ℕ) → keys_rise key xs t end o ≡ Ok e → o ≡ None
-    keys-none key xs t end None e h = refl
-    keys-none key xs t end (Some n) e h = absurd (cc)
 
 end-alike : (k : Cases) (bound : Operand) (xs ys : List ℕ) (t u m : ℕ) (y z : ℤ) → Alike xs t ys u m → FitsTable k y z m
     → end_of_cases k bound xs t y z ≡ Ok (t + m) → end_of_cases k bound ys u y z ≡ Ok (u + m)
@@ -273,7 +270,7 @@ table-back false l xs at i ys pre after u is_layout has none here place =
     absent-table Range h = absurd (cc)
     absent-table (Pairs key) h = absurd (cc)
 
-length-head_bytes : (l : Layout) (i : Insn) → length (head_bytes l i) ≡ 1 + total_width l
+pub length-head_bytes : (l : Layout) (i : Insn) → length (head_bytes l i) ≡ 1 + total_width l
 length-head_bytes l i =
     omega (
       arith,

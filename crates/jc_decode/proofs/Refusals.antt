@@ -3,7 +3,7 @@ use Rattle.std.proofs.Common.{inl, inr, subst, ◌≡◌, ◌<◌, ◌≤◌, �
 use Rattle.std.specs.Prelude.{ℤ, ◌<ℤ◌, ◌≤ℤ◌, ◌&&◌, int_lt, unsigned_abs, map, not, replicate, IsTrue, IfErr}
 use Rattle.std.specs.List.{find, range_with_len}
 use Rattle.std.proofs.lemmas.Int.{ints}
-use Rattle.std.proofs.lemmas.Bool.{cases_lt}
+use Rattle.std.proofs.lemmas.Bool.{cases_lt, leb-false, leb-true, le-leb, lt-leb, and_parts, not-true, not-false}
 use Rattle.std.proofs.lemmas.List.{get_or-replicate}
 use Rattle.std.proofs.lemmas.List.FromFn.{get_or-map-range_with_len}
 use Rattle.std.proofs.Math.Nat.{mul-le-mul_left}
@@ -25,7 +25,7 @@ use Rattle.jc_decode.specs.Decoding.{◌>>=◌, or_cut, reached, bad_byte, bad_o
 use Rattle.jc_decode.specs.Refusal.{HasOpcode, HasOperands, IsFirstFall, RefusesBytes, nothing_there, left_out, unused, operands_cut, forbidden, bounds_turned, range_cut, pairs_cut, key_falls}
 use Rattle.jc_decode.proofs.Decoded.{reached-ok, reached-within, or_cut-ok}
 use Rattle.jc_decode.proofs.Ranges.{number_of-fits}
-use Rattle.jc_decode.proofs.Rising.{not-false}
+use Rattle.jc_decode.proofs.Windows.{number_at-reached}
 
 -- ---- steps that fail
 
@@ -42,35 +42,20 @@ or_cut-failed : {A : Type 0} (o : Option A) (e : CodeEnd) → or_cut o ≡ Err e
 or_cut-failed None e h = (refl, cc)
 or_cut-failed (Some x) e h = absurd (cc)
 
-nat_le-false : (a b : ℕ) → nat_le a b ≡ false → b < a
-nat_le-false a b h = grind arith
-
-nat_le-true : (a b : ℕ) → nat_le a b ≡ true → a ≤ b
-nat_le-true a b h = grind arith
-
-at_most : (a b : ℕ) → a ≤ b → nat_le a b ≡ true
-at_most a b h = grind arith
-
-above : (a b : ℕ) → b < a → nat_le a b ≡ false
-above a b h = grind arith
-
 reached-failed : (xs : List ℕ) (end : ℕ) (e : CodeEnd) → reached xs end ≡ Err e → (length xs < end) × (Cut ≡ e)
 reached-failed xs end e h = by_test (nat_le end (length xs)) refl h
   where
     by_test : (b : Bool) → nat_le end (length xs) ≡ b → cond b (Ok end) (Err Cut) ≡ Err e → (length xs < end) × (Cut ≡ e)
     by_test true is h = absurd (cc)
-    by_test false is h = (nat_le-false end (length xs) is, cc)
+    by_test false is h = (leb-false end (length xs) is, cc)
 
 reached-past : (xs : List ℕ) (end : ℕ) → length xs < end → reached xs end ≡ Err Cut
-reached-past xs end h = rw (above end (length xs) h) refl
+reached-past xs end h = rw (lt-leb end (length xs) h) refl
 
 -- ---- bytes that are there
 
-number_at-there : (w at : ℕ) (xs : List ℕ) → at + w ≤ length xs → number_at w at xs ≡ Some (big_number w (drop at xs))
-number_at-there w at xs h = rw (at_most (at + w) (length xs) h) refl
-
 number_at-past : (w at : ℕ) (xs : List ℕ) → length xs < at + w → number_at w at xs ≡ None
-number_at-past w at xs h = rw (above (at + w) (length xs) h) refl
+number_at-past w at xs h = rw (lt-leb (at + w) (length xs) h) refl
 
 -- where no number is the bytes end before it
 number_at-none : (w at : ℕ) (xs : List ℕ) → number_at w at xs ≡ None → length xs < at + w
@@ -78,7 +63,7 @@ number_at-none w at xs h = by_test (nat_le (at + w) (length xs)) refl h
   where
     by_test : (b : Bool) → nat_le (at + w) (length xs) ≡ b → cond b (Some (big_number w (drop at xs))) None ≡ None → length xs < at + w
     by_test true is h = absurd (cc)
-    by_test false is h = nat_le-false (at + w) (length xs) is
+    by_test false is h = leb-false (at + w) (length xs) is
 
 -- ---- opcodes
 
@@ -123,10 +108,6 @@ plain-at op h =
     sym (get_or-map-range_with_len (λ (n : ℕ). is_plain (layout_of n)) 0 256 op op false h (omega arith))
     ∙ ap (λ (bs : List Bool). get_or bs op false) plain-all ∙ get_or-replicate 256 op true false h
 
-both : (a b : Bool) → (a && b) ≡ true → (a ≡ true) × (b ≡ true)
-both true b h = (refl, h)
-both false b h = absurd (cc)
-
 -- an opcode that stands in the code is a byte
 op-fits : (xs : List ℕ) (at op : ℕ) → AreBytes xs → number_at 1 at xs ≡ Some op → op < 256
 op-fits xs at op bytes h = number_of-fits U1 xs at op bytes h
@@ -139,7 +120,7 @@ is-unused Unused h = refl
 layout_of-unused : (op : ℕ) → 185 ≤ op → op ≤ 253 → layout_of op ≡ Err (NoOpcode op)
 unfolding layout_of
 layout_of-unused op low high =
-    let inside : (nat_le 185 op && nat_le op 253) ≡ true = rw (at_most 185 op low, at_most op 253 high) refl in
+    let inside : (nat_le 185 op && nat_le op 253) ≡ true = rw (le-leb 185 op low, le-leb op 253 high) refl in
     ap (layout_from op) (is-unused (opcode op) (unused-at op (omega arith) ∙ inside))
 
 layout_of-left_out : (op : ℕ) → is_out_of_scope op ≡ true → layout_of op ≡ Err (OutOfScope op)
@@ -169,8 +150,8 @@ no-layout xs at op e bytes there h = by_opcode (opcode op) refl h
         let out : IsTrue (is_out_of_scope op) = rw (reserved-left_out op is) refl in
         subst (RefusesBytes xs at) (err-same (OutOfScope op) e _ refl h) (left_out op there out)
     by_opcode Unused is h =
-        let inside = both (nat_le 185 op) (nat_le op 253) (sym (unused-at op (op-fits xs at op bytes there)) ∙ ap is_unused is) in
-        subst (RefusesBytes xs at) (err-same (NoOpcode op) e _ refl h) (unused op there (nat_le-true 185 op inside.0) (nat_le-true op 253 inside.1))
+        let inside = and_parts (nat_le 185 op) (nat_le op 253) (sym (unused-at op (op-fits xs at op bytes there)) ∙ ap is_unused is) in
+        subst (RefusesBytes xs at) (err-same (NoOpcode op) e _ refl h) (unused op there (leb-true 185 op inside.0) (leb-true op 253 inside.1))
 
 -- ---- operands
 
@@ -247,7 +228,7 @@ never-failed o xs at e inside all h = let f = operand_at-failed o xs at e inside
 -- ---- tables
 
 byte-there : (xs : List ℕ) (at : ℕ) → at + 1 ≤ length xs → (b : ℕ) × (number_at 1 at xs ≡ Some b) × (bad_operand xs at ≡ BadOperand b)
-byte-there xs at h = let e = number_at-there 1 at xs h in (big_number 1 (drop at xs), e, ap bad_byte e)
+byte-there xs at h = let e = number_at-reached 1 at xs h in (big_number 1 (drop at xs), e, ap bad_byte e)
 
 less-test : (a b : ℤ) → a <ℤ b → int_lt a b ≡ true
 less-test a b h = grind (arith, ints)
@@ -260,10 +241,6 @@ test-less a b h = record { lt = search (rules, h) }
 
 test-most : (a b : ℤ) → int_lt b a ≡ false → a ≤ℤ b
 test-most a b h = grind (arith, ints)
-
-not-true : (b : Bool) → not b ≡ true → b ≡ false
-not-true true h = absurd (cc)
-not-true false h = refl
 
 -- what is found first in a range of numbers
 record IsFound (p : ℕ → Bool) (from count n : ℕ) : Type 0 where
@@ -336,7 +313,7 @@ range-failed xs at t l y z e has is high t_is h = by_order (int_lt z y) refl h
     by_order : (b : Bool) → int_lt z y ≡ b → cond b (Err (bad_operand xs (t - width l.z))) (reached xs (t + 2 * range_count y z)) ≡ Err e → RefusesBytes xs at e
     by_order true turned h =
         let place : t - width l.z ≡ at + 1 + width l.x + width l.y = omega (arith, t_is) in
-        let there = byte-there xs (at + 1 + width l.x + width l.y) (omega (arith, has.reaches, nat_le-true 1 (width l.z) high)) in
+        let there = byte-there xs (at + 1 + width l.x + width l.y) (omega (arith, has.reaches, leb-true 1 (width l.z) high)) in
         let named : BadOperand there.0 ≡ e = sym there.2 ∙ (ap (bad_operand xs) (sym place) ∙ err-same _ e _ refl h) in
         subst (RefusesBytes xs at) named (bounds_turned l y z there.0 has is (test-less z y turned) there.1)
     by_order false order h =
@@ -393,8 +370,8 @@ decoded-RefusesBytes xs at e bytes h =
     let place = reached-ok xs _ table table_is in
     let inside : at + 1 + total_width l ≤ length xs = omega (arith, place.0, place.1) in
     let plain : is_plain (Ok l) ≡ true = ap is_plain (sym l_is) ∙ plain-at op (op-fits xs at op bytes there) in
-    let second = both (allows_all l.y) (allows_all l.z && has_high l.cases l.z) plain in
-    let third = both (allows_all l.z) (has_high l.cases l.z) second.1 in
+    let second = and_parts (allows_all l.y) (allows_all l.z && has_high l.cases l.z) plain in
+    let third = and_parts (allows_all l.z) (has_high l.cases l.z) second.1 in
     from_failed (operand_at l.x xs (at + 1)) _ e h3
     (λ bad.
     let f = operand_at-failed l.x xs (at + 1) e (omega (arith, inside)) bad in

@@ -3,7 +3,7 @@ use Rattle.std.proofs.Common.{inl, inr, subst, ◌≡◌, ◌<◌, ◌≤◌, �
 use Rattle.std.specs.Prelude.{ℤ, pos, ◌+ℤ◌, ◌<ℤ◌, ◌≤ℤ◌, int_lt, unsigned_abs, map, not, slice_get, IsTrue, IfOk}
 use Rattle.std.specs.List.{find, range_with_len}
 use Rattle.std.proofs.lemmas.Int.{ints}
-use Rattle.std.proofs.lemmas.Bool.{cases_lt}
+use Rattle.std.proofs.lemmas.Bool.{cases_lt, not-false}
 use Rattle.std.proofs.lemmas.Option.{slice_get_within}
 use Rattle.std.proofs.lemmas.List.FromFn.{length-map-range_with_len}
 use Rattle.jc_decode.specs.declared.layout.Operand.{Operand}
@@ -47,13 +47,9 @@ find-none p a (suc k) n h low high =
       | inr here ↦ let same : n ≡ a = omega arith in rw same parts.0
     ]
 
-keys_rise-none : (key : Operand) (xs : List ℕ) (t end : ℕ) (o : Option ℕ) (e : ℕ) → keys_rise key xs t end o ≡ Ok e → o ≡ None
+pub keys_rise-none : (key : Operand) (xs : List ℕ) (t end : ℕ) (o : Option ℕ) (e : ℕ) → keys_rise key xs t end o ≡ Ok e → o ≡ None
 keys_rise-none key xs t end None e h = refl
 keys_rise-none key xs t end (Some n) e h = absurd (cc)
-
-pub not-false : (b : Bool) → not b ≡ false → b ≡ true
-not-false true h = refl
-not-false false h = absurd (cc)
 
 -- the keys of a table of pairs rise
 pair-rises : (key : Operand) (xs : List ℕ) (t count e n : ℕ) → pairs_end key xs t count ≡ Ok e → n + 1 < count → key_at key xs t n <ℤ key_at key xs t (n + 1)

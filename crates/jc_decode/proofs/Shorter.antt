@@ -3,12 +3,13 @@ use Rattle.std.proofs.Common.{◌≡◌, ◌≤◌, ◌<◌, ◌+◌, ◌-◌, �
 use Rattle.std.specs.Prelude.{pos, not, ◌&&◌, ◌||◌, nat_le, unsigned_abs, map, replicate}
 use Rattle.std.specs.List.{range_with_len}
 use Rattle.std.proofs.lemmas.Bool.Decides.{nat_tests}
+use Rattle.std.proofs.lemmas.Bool.{and_parts, not-true}
 use Rattle.jc_decode.specs.declared.insn.Insn.{Insn}
 use Rattle.jc_decode.specs.Layout.{layout_of, opcode}
 use Rattle.jc_decode.specs.Listing.{is_branch}
 use Rattle.jc_decode.specs.Cases.{is_switch}
 use Rattle.jc_decode.specs.Forms.{has_register, is_load_n, is_store_n, is_register_move, first_short, short_form, length_of, plain_length, bytes_by}
-use Rattle.jc_decode.proofs.Passed.{passed-at, and-parts, or-rest}
+use Rattle.jc_decode.proofs.Passed.{passed-at, or-rest}
 
 -- opcode by opcode: no switch, and so many bytes at most
 abbrev has_at_most : ℕ → ℕ → Bool
@@ -25,13 +26,9 @@ is_small-all = refl
 
 length-small : (i : Insn) (n : ℕ) → has_at_most n i.op ≡ true → length_of i ≤ n
 length-small i n h =
-    let p = and-parts (not (is_switch i.op)) _ h in
-    rw (not-so (is_switch i.op) p.0) (small (bytes_by (layout_of i.op)) p.1)
+    let p = and_parts (not (is_switch i.op)) _ h in
+    rw (not-true (is_switch i.op) p.0) (small (bytes_by (layout_of i.op)) p.1)
   where
-    not-so : (b : Bool) → not b ≡ true → b ≡ false
-    not-so true h = absurd (cc)
-    not-so false h = refl
-
     small : (m : ℕ) → nat_le m n ≡ true → m ≤ n
     small m h = grind (arith, nat_tests)
 
@@ -43,8 +40,8 @@ record IsSmall (op : ℕ) : Type 0 where
 IsSmall-at : (op : ℕ) → op < 256 → IsSmall op
 IsSmall-at op h =
     let all = passed-at is_small is_small-all op h in
-    let p = and-parts (not (is_load_n op || is_store_n op) || has_at_most 1 op) _ all in
-    let q = and-parts (not (is_register_move op) || has_at_most 2 op) _ p.1 in
+    let p = and_parts (not (is_load_n op || is_store_n op) || has_at_most 1 op) _ all in
+    let q = and_parts (not (is_register_move op) || has_at_most 2 op) _ p.1 in
     record {
       moved = or-rest (is_load_n op || is_store_n op) _ p.0;
       named = or-rest (is_register_move op) _ q.0;

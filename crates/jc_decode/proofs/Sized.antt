@@ -1,31 +1,20 @@
 -- How long an instruction is, and its bytes.
 use Rattle.std.proofs.Common.{◌≡◌, ◌+◌, ◌-◌, ℕ, Bool, true, false, cond, Result, Ok, Err, List, [], ◌++◌, length, take, drop, refl, arith, length-append}
 use Rattle.std.proofs.lemmas.List.{length-drop, length-take}
-use Rattle.byteorder.specs.Numbers.{length-bytes_high_first}
 use Rattle.jc_decode.specs.declared.layout.Cases.{Cases}
 use Rattle.jc_decode.specs.declared.layout.Cases.TheVariants.{Range, Pairs}
 use Rattle.jc_decode.specs.declared.layout.Cases.TheVariants.{Absent as NoCases}
 use Rattle.jc_decode.specs.declared.layout.Layout.{Layout}
 use Rattle.jc_decode.specs.declared.insn.Insn.{Insn}
 use Rattle.jc_decode.specs.declared.insn.CodeEnd.{CodeEnd}
-use Rattle.jc_decode.specs.Layout.{width, total_width, layout_of}
+use Rattle.jc_decode.specs.Layout.{total_width, layout_of}
 use Rattle.jc_decode.specs.Decoding.{decoded, end_of_cases}
 use Rattle.jc_decode.specs.Cases.{is_table, has_cases, HasTable}
-use Rattle.jc_decode.specs.Encoding.{bits, operand_bytes, AllowsBy, IsAllowed, head_bytes, encoding, encoding_by}
+use Rattle.jc_decode.specs.Encoding.{AllowsBy, IsAllowed, head_bytes, encoding, encoding_by}
 use Rattle.jc_decode.specs.Forms.{length_of, bytes_by}
 use Rattle.jc_decode.proofs.Decoded.{Begins-decoded}
 use Rattle.jc_decode.proofs.Tables.{table_within}
-
-length-head : (l : Layout) (i : Insn) → length (head_bytes l i) ≡ 1 + total_width l
-length-head l i =
-    omega (
-      arith,
-      length-append (operand_bytes l.x i.x) (operand_bytes l.y i.y ++ operand_bytes l.z i.z),
-      length-append (operand_bytes l.y i.y) (operand_bytes l.z i.z),
-      length-bytes_high_first (width l.x) (bits l.x i.x),
-      length-bytes_high_first (width l.y) (bits l.y i.y),
-      length-bytes_high_first (width l.z) (bits l.z i.z),
-    )
+use Rattle.jc_decode.proofs.ReadBack.{length-head_bytes}
 
 -- an instruction's bytes are as many as it is long
 pub length-encoding : (xs : List ℕ) (at : ℕ) (i : Insn) → IsAllowed i → HasTable xs at i → length (encoding xs at i) ≡ length_of i
@@ -44,12 +33,12 @@ length-encoding xs at i allowed has = by_layout (layout_of i.op) refl allowed
               arith,
               within.0,
               within.1,
-              length-head l i,
+              length-head_bytes l i,
               length-append (head_bytes l i) (take (i.len - (1 + total_width l)) (drop (at + 1 + total_width l) xs)),
               length-take (i.len - (1 + total_width l)) (drop (at + 1 + total_width l) xs),
               length-drop (at + 1 + total_width l) xs,
             )
-        by_table false e = omega (arith, length-head l i, length-append (head_bytes l i) [])
+        by_table false e = omega (arith, length-head_bytes l i, length-append (head_bytes l i) [])
 
 -- an instruction that is decoded is as long as it says
 pub length-decoded : (xs : List ℕ) (at : ℕ) (i : Insn) → decoded xs at ≡ Ok i → length_of i ≡ i.len

@@ -1,5 +1,5 @@
 -- The offset of one case is written, and nothing else changes.
-use Rattle.std.proofs.Common.{◌≡◌, ◌≢◌, ◌<◌, ◌≤◌, ◌+◌, ◌*◌, ◌-◌, ◌⊎◌, inl, inr, ℕ, Bool, true, false, cond, Option, Some, None, Result, Ok, Err, List, ◌++◌, length, take, drop, slice_index, refl, sym, ap, ◌∙◌, arith, rules, length-append}
+use Rattle.std.proofs.Common.{◌≡◌, ◌≢◌, ◌<◌, ◌≤◌, ◌+◌, ◌*◌, ◌-◌, ◌⊎◌, inl, inr, ℕ, Bool, true, false, cond, Some, Result, Ok, Err, List, ◌++◌, length, take, drop, slice_index, refl, sym, ap, ◌∙◌, arith, rules, length-append}
 use Rattle.std.specs.Prelude.{ℤ, pos, ◌+ℤ◌, FitsSigned, int_lt, unsigned_abs, map, not, slice_get}
 use Rattle.std.specs.List.{range_with_len}
 use Rattle.std.specs.Option.{option_map}
@@ -21,12 +21,13 @@ use Rattle.jc_decode.specs.declared.insn.CodeEnd.{CodeEnd}
 use Rattle.jc_decode.specs.declared.insn.Insn.{Insn}
 use Rattle.jc_decode.specs.declared.insn.Case.{Case}
 use Rattle.jc_decode.specs.Layout.{width, total_width, layout_of}
-use Rattle.jc_decode.specs.Decoding.{reached, bad_operand, key_at, rises, pair_width, range_count, range_end, pairs_end, keys_rise, table_end, decoded, Begins}
+use Rattle.jc_decode.specs.Decoding.{reached, bad_operand, key_at, rises, pair_width, range_count, range_end, pairs_end, table_end, decoded, Begins}
 use Rattle.jc_decode.specs.Cases.{cases, range_case, pair_case, offset_at, offset_place, offset_place_in, with_offset, leading}
 use Rattle.jc_decode.proofs.Decoded.{decoded-Begins, Begins-decoded, reached-within, reached-ok, pairs_end-ok, range_end-ok, from_bind}
 use Rattle.jc_decode.proofs.Tables.{cases-by, slice_get-map-range, slice_get-past-range}
 use Rattle.jc_decode.proofs.Windows.{Alike, number_at-alike, operand_at-alike, find-alike}
 use Rattle.jc_decode.proofs.ReadBack.{operand-back, pair_before}
+use Rattle.jc_decode.proofs.Rising.{keys_rise-none}
 
 -- where the offset of a case stands, by the layout
 pub offset_place-by : (at : ℕ) (i : Insn) (n : ℕ) (l : Layout) (k : Cases) → layout_of i.op ≡ Ok l → l.cases ≡ k
@@ -155,10 +156,6 @@ pairs_end-written key xs t count n p e offset w place h =
     let reach = reached-within (with_offset xs p offset) (t + pair_width key * count) (omega (arith, inside, length-written xs p offset w)) in
     rw (reach, search_same, none) (ap Ok (sym whole.0)))
   where
-    keys_rise-none : (key : Operand) (xs : List ℕ) (t end : ℕ) (o : Option ℕ) (e : ℕ) → keys_rise key xs t end o ≡ Ok e → o ≡ None
-    keys_rise-none key xs t end None e h = refl
-    keys_rise-none key xs t end (Some n) e h = absurd (cc)
-
     rises-written : (k : ℕ) → t + pair_width key * count ≤ length xs → 1 ≤ k → k < count → rises key (with_offset xs p offset) t k ≡ rises key xs t k
     rises-written k inside low high =
         let this = key_at-written key xs t count n k p offset w place inside high in

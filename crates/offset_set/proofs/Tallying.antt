@@ -23,11 +23,11 @@ none_after true m = refl
 none_after false true = refl
 none_after false false = refl
 
-met_next : (a m i : Bool) → ((a || m) || i) ≡ (m || (a || i))
-met_next true true i = refl
-met_next true false i = refl
-met_next false true i = refl
-met_next false false i = refl
+pub turned : (a m i : Bool) → ((a || m) || i) ≡ (m || (a || i))
+turned true true i = refl
+turned true false i = refl
+turned false true i = refl
+turned false false i = refl
 
 repeated_next : (a m r i s : Bool) → (((a && m) || r) || (((a || m) && i) || s)) ≡ (r || ((m && (a || i)) || ((a && i) || s)))
 repeated_next true true true i s = refl
@@ -47,7 +47,7 @@ counted-after [] t = same_tally t (after t []) (fun_ext (λ offset. or_false (t.
 counted-after (n ∷ ns) t =
     counted-after ns (with_one t n)
     ∙ same_tally (after (with_one t n) ns) (after t (n ∷ ns))
-    (fun_ext (λ offset. met_next (eqb n offset) (t.met offset) (is_among ns offset)))
+    (fun_ext (λ offset. turned (eqb n offset) (t.met offset) (is_among ns offset)))
     (fun_ext (λ offset. repeated_next (eqb n offset) (t.met offset) (t.repeated offset) (is_among ns offset) (is_repeated ns offset)))
 
 -- the offsets of a list were counted
