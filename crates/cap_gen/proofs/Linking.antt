@@ -25,6 +25,7 @@ use Rattle.jc_resolve.specs.WorldTypes.{type_of, kind_of, signature_of}
 use Rattle.jc_hierarchy.specs.Ancestor.{superclass, extended, is_above}
 use Rattle.jc_resolve.specs.declared.named.NamedClass.{NamedClass}
 use Rattle.jc_hierarchy.specs.Conditions.{numbered, names_class, super_fault, cycle_fault, role_fault, root_fault, interface_fault}
+use Rattle.jc_hierarchy.specs.Outline.{chain as line_chain, chain_over as line_chain_over, is_on_chain as on_line_chain, parent_of as line_parent, package_of as line_package}
 use Rattle.jc_classes.specs.Conditions.{hole_fault, layout_above, override_fault, long_fault, interface_fault as unserved_fault}
 use Rattle.jc_classes.specs.Entries.{reach, named_by, entries_of, overlaid_at}
 use Rattle.jc_classes.specs.Layout.{public_table, visible_table, own_of, home_run, public_entries, visible_entries, instance_cells, layout_of, layout_from, at_home}
@@ -81,7 +82,7 @@ unfolding place_in field_type kind_of
 few_statics seed = refl
 
 faultless : (seed : ℕ) → AllEmpty (conditions (alone seed) roles)
-unfolding entry_bytes each_from method_bytes entry_table entries method_info methods described_bytes descriptor_bytes location_bytes types_in field_type names_interface header_in is_interface parent_of chain chain_over height package_of public_of visible_of cell_count own_cells cells_of entry_at nearest_of visible_in dispatched is_concrete is_on_chain is_below no_package_fault class_references no_class_fault named_interface named_package fields_described instance_fields with_token cells_of_field cells_of_fields entry_of interface_named named_class named_classes handler_named body_of class_described have_headers named_method named_methods class_at is_interface_number method_at met_by class_referred class_named type_of kind_of signature_of superclass extended is_above names_class super_fault cycle_fault role_fault root_fault interface_fault hole_fault layout_above override_fault long_fault unserved_fault reach named_by entries_of overlaid_at public_table visible_table own_of home_run public_entries visible_entries instance_cells layout_of layout_from at_home record_from catches catch_fault referred field_place method_place class_member member_of member_fault abstract_fault
+unfolding entry_bytes each_from method_bytes entry_table entries method_info methods described_bytes descriptor_bytes location_bytes types_in field_type names_interface header_in is_interface parent_of line_parent chain line_chain chain_over line_chain_over height package_of line_package public_of visible_of cell_count own_cells cells_of entry_at nearest_of visible_in dispatched is_concrete is_on_chain on_line_chain is_below no_package_fault class_references no_class_fault named_interface named_package fields_described instance_fields with_token cells_of_field cells_of_fields entry_of interface_named named_class named_classes handler_named body_of class_described have_headers named_method named_methods class_at is_interface_number method_at met_by class_referred class_named type_of kind_of signature_of superclass extended is_above names_class super_fault cycle_fault role_fault root_fault interface_fault hole_fault layout_above override_fault long_fault unserved_fault reach named_by entries_of overlaid_at public_table visible_table own_of home_run public_entries visible_entries instance_cells layout_of layout_from at_home record_from catches catch_fault referred field_place method_place class_member member_of member_fault abstract_fault
 faultless seed = (
   refl,
   (

@@ -7,7 +7,7 @@ use Rattle.std.proofs.lemmas.Bool.{false≢true}
 use Rattle.std.proofs.lemmas.List.Elements.{All-nil, All-cons}
 use Rattle.jc_base.specs.declared.record.Iface.{Iface}
 use Rattle.jc_base.specs.declared.record.MethodRec.{MethodRec}
-use Rattle.jc_base.specs.Class.{ClassTable}
+use Rattle.jc_hierarchy.specs.Outline.{LineTable}
 use Rattle.jc_base.specs.Dispatch.{signature_of, signature_at}
 use Rattle.jc_resolve.specs.declared.fault.LinkFault.TheVariants.{Hole, OverrideType, InterfaceType}
 use Rattle.jc_resolve.specs.declared.named.NamedClass.{NamedClass}
@@ -26,11 +26,11 @@ class_faultless f things n c e h = flat_faultless f things (range_with_len 0 n) 
 -- ---- entries with methods
 
 -- each entry has a method that may stand in the list
-abbrev pub AllStand : ClassTable → ℕ → List MethodRec → List (Option ℕ) → Type 0
+abbrev pub AllStand : LineTable → ℕ → List MethodRec → List (Option ℕ) → Type 0
 AllStand t c methods [] = Unit {0}
 AllStand t c methods (e ∷ es) = (may_stand t c (method_in methods e) ≡ true) × AllStand t c methods es
 
-stands_by : (t : ClassTable) (methods : List MethodRec) (e : Entry) (b : Bool) → may_stand t e.class (method_in methods e.method) ≡ b → hole_fault t methods e ≡ None → b ≡ true
+stands_by : (t : LineTable) (methods : List MethodRec) (e : Entry) (b : Bool) → may_stand t e.class (method_in methods e.method) ≡ b → hole_fault t methods e ≡ None → b ≡ true
 unfolding hole_fault
 stands_by t methods e true at none = refl
 stands_by t methods e false at none =
@@ -38,18 +38,18 @@ stands_by t methods e false at none =
     let no : Some (Hole e.class e.token) ≡ None = sym some ∙ none in
     absurd cc
 
-pub all_stand : (t : ClassTable) (methods : List MethodRec) (c token : ℕ) (list : List (Option ℕ)) → filter_map (hole_fault t methods) (entries_from c token list) ≡ [] → AllStand t c methods list
+pub all_stand : (t : LineTable) (methods : List MethodRec) (c token : ℕ) (list : List (Option ℕ)) → filter_map (hole_fault t methods) (entries_from c token list) ≡ [] → AllStand t c methods list
 all_stand t methods c token [] e = tt {0}
 all_stand t methods c token (m ∷ ms) e =
     let entry : Entry = record { class = c; token = token; method = m } in
     let both = faultless_first (hole_fault t methods entry) (filter_map (hole_fault t methods) (entries_from c (token + 1) ms)) e in
     (stands_by t methods entry (may_stand t c (method_in methods m)) refl both.0, all_stand t methods c (token + 1) ms both.1)
 
-pub public_stand : (t : ClassTable) (classes : List NamedClass) (methods : List MethodRec) (c : ℕ) → holes t classes methods ≡ [] → c < length classes → AllStand t c methods (public_entries t classes c)
+pub public_stand : (t : LineTable) (classes : List NamedClass) (methods : List MethodRec) (c : ℕ) → holes t classes methods ≡ [] → c < length classes → AllStand t c methods (public_entries t classes c)
 public_stand t classes methods c none h =
     all_stand t methods c 0 (public_entries t classes c) (both_faultless (hole_fault t methods) (entries_from c 0 (public_entries t classes c)) (entries_from c 128 (visible_entries t classes c)) (class_faultless (hole_fault t methods) (entries_in t classes) (length classes) c none h)).0
 
-pub visible_stand : (t : ClassTable) (classes : List NamedClass) (methods : List MethodRec) (c : ℕ) → holes t classes methods ≡ [] → c < length classes → AllStand t c methods (visible_entries t classes c)
+pub visible_stand : (t : LineTable) (classes : List NamedClass) (methods : List MethodRec) (c : ℕ) → holes t classes methods ≡ [] → c < length classes → AllStand t c methods (visible_entries t classes c)
 visible_stand t classes methods c none h =
     all_stand t methods c 128 (visible_entries t classes c) (both_faultless (hole_fault t methods) (entries_from c 0 (public_entries t classes c)) (entries_from c 128 (visible_entries t classes c)) (class_faultless (hole_fault t methods) (entries_in t classes) (length classes) c none h)).1
 
@@ -68,12 +68,12 @@ listed_more m es l = record { count = ap suc l.count; at = λ i. by i } where
   by zero = refl
   by (suc i) = l.at i
 
-pub listed : (t : ClassTable) (c : ℕ) (methods : List MethodRec) (entries : List (Option ℕ)) → AllStand t c methods entries → IsListed entries
+pub listed : (t : LineTable) (c : ℕ) (methods : List MethodRec) (entries : List (Option ℕ)) → AllStand t c methods entries → IsListed entries
 listed t c methods [] stand = listed_none
 listed t c methods (None ∷ es) stand = absurd (false≢true stand.0)
 listed t c methods (Some m ∷ es) stand = listed_more m es (listed t c methods es stand.1)
 
-pub listed_all : (P : ℕ → Type 0) (t : ClassTable) (c : ℕ) (methods : List MethodRec) → ((n : ℕ) → may_stand t c (slice_get methods n) ≡ true → P n) → (entries : List (Option ℕ)) → AllStand t c methods entries → All P (methods_listed entries)
+pub listed_all : (P : ℕ → Type 0) (t : LineTable) (c : ℕ) (methods : List MethodRec) → ((n : ℕ) → may_stand t c (slice_get methods n) ≡ true → P n) → (entries : List (Option ℕ)) → AllStand t c methods entries → All P (methods_listed entries)
 listed_all P t c methods each [] stand = All-nil P
 listed_all P t c methods each (None ∷ es) stand = absurd (false≢true stand.0)
 listed_all P t c methods each (Some m ∷ es) stand = All-cons P m (methods_listed es) (each m stand.0) (listed_all P t c methods each es stand.1)
@@ -112,13 +112,13 @@ all_agree methods c token (x ∷ xs) (m ∷ ms) (suc i) e h k =
 pub record Agrees (methods : List MethodRec) (inherited list : List (Option ℕ)) : Type 0 where
   pub at : (i : ℕ) → i < length inherited → i < length list → signature_in methods (option_flatten (slice_get list i)) ≡ signature_in methods (option_flatten (slice_get inherited i))
 
-pub public_agrees : (t : ClassTable) (classes : List NamedClass) (methods : List MethodRec) (c : ℕ) → overrides t classes methods ≡ [] → c < length classes → Agrees methods (layout_above t classes c).public (public_entries t classes c)
+pub public_agrees : (t : LineTable) (classes : List NamedClass) (methods : List MethodRec) (c : ℕ) → overrides t classes methods ≡ [] → c < length classes → Agrees methods (layout_above t classes c).public (public_entries t classes c)
 public_agrees t classes methods c none h =
     let first = replacements_from c 0 (layout_above t classes c).public (public_entries t classes c) in
     let second = replacements_from c 128 (visible_above t classes c) (visible_entries t classes c) in
     record { at = λ i a b. all_agree methods c 0 (layout_above t classes c).public (public_entries t classes c) i (both_faultless (override_fault methods) first second (class_faultless (override_fault methods) (replacements_in t classes) (length classes) c none h)).0 a b }
 
-pub visible_agrees : (t : ClassTable) (classes : List NamedClass) (methods : List MethodRec) (c : ℕ) → overrides t classes methods ≡ [] → c < length classes → Agrees methods (visible_above t classes c) (visible_entries t classes c)
+pub visible_agrees : (t : LineTable) (classes : List NamedClass) (methods : List MethodRec) (c : ℕ) → overrides t classes methods ≡ [] → c < length classes → Agrees methods (visible_above t classes c) (visible_entries t classes c)
 visible_agrees t classes methods c none h =
     let first = replacements_from c 0 (layout_above t classes c).public (public_entries t classes c) in
     let second = replacements_from c 128 (visible_above t classes c) (visible_entries t classes c) in
@@ -144,5 +144,5 @@ all_served methods c public (i ∷ is) e =
     let both = faultless_first (interface_fault methods x) (filter_map (interface_fault methods) (map (λ (i : Iface). record { class = c; public = public; iface = i }) is)) e in
     All-cons (λ (i : Iface). serves_all methods public i ≡ true) i is (served_by methods x (serves_all methods public i) refl both.0) (all_served methods c public is both.1)
 
-pub interfaces_met : (t : ClassTable) (classes : List NamedClass) (methods : List MethodRec) (c : ℕ) → unserved t classes methods ≡ [] → c < length classes → AllServed methods (public_entries t classes c) (implemented_by (slice_get classes c))
+pub interfaces_met : (t : LineTable) (classes : List NamedClass) (methods : List MethodRec) (c : ℕ) → unserved t classes methods ≡ [] → c < length classes → AllServed methods (public_entries t classes c) (implemented_by (slice_get classes c))
 interfaces_met t classes methods c none h = all_served methods c (public_entries t classes c) (implemented_by (slice_get classes c)) (class_faultless (interface_fault methods) (implementations_in t classes) (length classes) c none h)

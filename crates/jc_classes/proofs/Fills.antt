@@ -7,9 +7,9 @@ use Rattle.std.specs.Option.{option_to_list, option_map, option_flatten, option_
 use Rattle.std.proofs.lemmas.Bool.{cases_lt, false≢true}
 use Rattle.std.proofs.lemmas.List.Sums.{sum_by-le}
 use Rattle.jc_base.proofs.Lists.{All-slice_get}
-use Rattle.jc_base.specs.Class.{ClassTable, AreClasses, chain, list_of, parent_of}
-use Rattle.jc_base.proofs.Chains.{next_on_chain}
-use Rattle.jc_base.proofs.Climbs.{chain-length, chain-front, parent_of-class}
+use Rattle.jc_base.specs.Class.{list_of}
+use Rattle.jc_hierarchy.specs.Outline.{LineTable, AreLines, chain, parent_of}
+use Rattle.jc_hierarchy.proofs.Bare.{next_on_chain, chain-length, chain-front, parent_of-class}
 use Rattle.jc_classes.specs.Known.{HaveSuperclasses}
 use Rattle.jc_classes.proofs.Climbs.{chain_from, chain_step, climbed_whole, head_same, tail_same, no_end}
 use Rattle.jc_resolve.specs.declared.named.NamedClass.{NamedClass}
@@ -50,7 +50,7 @@ pub filled-other : (slots : List (Option ClassLayout)) (c d : ℕ) (l : ClassLay
 unfolding slot_at
 filled-other slots c d l ne = ap option_flatten (slice_get-set_other slots c d (Some l) ne)
 
-pub slots_filled : (t : ClassTable) (classes : List NamedClass) (slots : List (Option ClassLayout)) (c : ℕ) (l : ClassLayout) → AreSlots t classes slots → c < length classes → l ≡ layout_of t classes c
+pub slots_filled : (t : LineTable) (classes : List NamedClass) (slots : List (Option ClassLayout)) (c : ℕ) (l : ClassLayout) → AreSlots t classes slots → c < length classes → l ≡ layout_of t classes c
     → AreSlots t classes (set slots c (Some l))
 slots_filled t classes slots c l are h is = record {
   count = length-set slots c (Some l) ∙ are.count;
@@ -63,7 +63,7 @@ slots_filled t classes slots c l are h is = record {
   ];
 }
 
-pub slots_kept : (t : ClassTable) (classes : List NamedClass) (slots : List (Option ClassLayout)) (c : ℕ) (l : ClassLayout) → AreSlots t classes slots → c < length classes → l ≡ layout_of t classes c
+pub slots_kept : (t : LineTable) (classes : List NamedClass) (slots : List (Option ClassLayout)) (c : ℕ) (l : ClassLayout) → AreSlots t classes slots → c < length classes → l ≡ layout_of t classes c
     → Keeps t classes slots (set slots c (Some l))
 slots_kept t classes slots c l are h is = record {
   filled = λ d was. elim (same_or_other c d) [
@@ -76,16 +76,16 @@ slots_kept t classes slots c l are h is = record {
 
 -- ---- the superclass's slot
 
-made_is : (t : ClassTable) (classes : List NamedClass) (p : ℕ) (o : Option ClassLayout) → IsSome o → IfSome o (λ l. l ≡ layout_of t classes p) → o ≡ Some (layout_of t classes p)
+made_is : (t : LineTable) (classes : List NamedClass) (p : ℕ) (o : Option ClassLayout) → IsSome o → IfSome o (λ l. l ≡ layout_of t classes p) → o ≡ Some (layout_of t classes p)
 made_is t classes p None is e = absurd (false≢true is)
 made_is t classes p (Some l) is e = ap Some e
 
 -- a slot that is not empty holds the layout of its class
-pub filled_from : (t : ClassTable) (classes : List NamedClass) (slots : List (Option ClassLayout)) (above : Option ℕ) → AreSlots t classes slots → IfSome above (λ p. IsSome (slot_at slots p)) → IfSome above (IsFilled t classes slots)
+pub filled_from : (t : LineTable) (classes : List NamedClass) (slots : List (Option ClassLayout)) (above : Option ℕ) → AreSlots t classes slots → IfSome above (λ p. IsSome (slot_at slots p)) → IfSome above (IsFilled t classes slots)
 filled_from t classes slots None are made = tt
 filled_from t classes slots (Some p) are made = made_is t classes p (slot_at slots p) made (are.right p)
 
-pub above_filled : (t : ClassTable) (classes : List NamedClass) (slots : List (Option ClassLayout)) (above : Option ℕ) → IfSome above (IsFilled t classes slots) → option_and_then (slot_at slots) above ≡ option_map (layout_of t classes) above
+pub above_filled : (t : LineTable) (classes : List NamedClass) (slots : List (Option ClassLayout)) (above : Option ℕ) → IfSome above (IsFilled t classes slots) → option_and_then (slot_at slots) above ≡ option_map (layout_of t classes) above
 above_filled t classes slots None made = refl
 above_filled t classes slots (Some p) made = made
 
@@ -106,28 +106,28 @@ own_few classes c all = own_few_by (slice_get classes c) (sized_at classes c (sl
 all_few : (classes : List NamedClass) (cs : List ℕ) → All IsSized classes → All (λ a. length (own_of classes a) ≤ 131070) cs
 all_few classes cs all = λ k d h. own_few classes (get_or cs k d) all
 
-pub cells_few : (t : ClassTable) (classes : List NamedClass) (c : ℕ) → All IsSized classes → length t.records ≤ 4096 → instance_cells t classes c ≤ 536993790
+pub cells_few : (t : LineTable) (classes : List NamedClass) (c : ℕ) → All IsSized classes → length t.lines ≤ 4096 → instance_cells t classes c ≤ 536993790
 unfolding instance_cells
 cells_few t classes c all few =
     let sum = sum_by-le (λ a. length (own_of classes a)) 131070 (chain t c) (all_few classes (chain t c) all) in
     let long = chain-length t c in
     omega (arith, sum, long)
 
-pub above_few : (t : ClassTable) (classes : List NamedClass) (above : Option ℕ) → All IsSized classes → length t.records ≤ 4096 → (above_or_nothing (option_map (layout_of t classes) above)).cells ≤ 536993790
+pub above_few : (t : LineTable) (classes : List NamedClass) (above : Option ℕ) → All IsSized classes → length t.lines ≤ 4096 → (above_or_nothing (option_map (layout_of t classes) above)).cells ≤ 536993790
 unfolding layout_of
 above_few t classes None all few = omega arith
 above_few t classes (Some p) all few = cells_few t classes p all few
 
 -- ---- a class made from the one above it
 
-pub up_is : (t : ClassTable) (classes : List NamedClass) (slots : List (Option ClassLayout)) (above : Option ℕ) (up : Option ClassLayout) → up ≡ option_and_then (slot_at slots) above → IfSome above (IsFilled t classes slots) → up ≡ option_map (layout_of t classes) above
+pub up_is : (t : LineTable) (classes : List NamedClass) (slots : List (Option ClassLayout)) (above : Option ℕ) (up : Option ClassLayout) → up ≡ option_and_then (slot_at slots) above → IfSome above (IsFilled t classes slots) → up ≡ option_map (layout_of t classes) above
 up_is t classes slots above up e made = e ∙ above_filled t classes slots above made
 
-pub up_few : (t : ClassTable) (classes : List NamedClass) (slots : List (Option ClassLayout)) (above : Option ℕ) (up : Option ClassLayout) → up ≡ option_and_then (slot_at slots) above → IfSome above (IsFilled t classes slots) → HaveSuperclasses t classes
+pub up_few : (t : LineTable) (classes : List NamedClass) (slots : List (Option ClassLayout)) (above : Option ℕ) (up : Option ClassLayout) → up ≡ option_and_then (slot_at slots) above → IfSome above (IsFilled t classes slots) → HaveSuperclasses t classes
     → (above_or_nothing up).cells ≤ 536993790
 up_few t classes slots above up e made known = rw (up_is t classes slots above up e made) (above_few t classes above known.sized (omega (arith, known.few, known.count)))
 
-pub made_right : (t : ClassTable) (classes : List NamedClass) (slots : List (Option ClassLayout)) (above : Option ℕ) (up : Option ClassLayout) (c : ℕ) (k : NamedClass) (made : ClassLayout) → AreSlots t classes slots → c < length classes
+pub made_right : (t : LineTable) (classes : List NamedClass) (slots : List (Option ClassLayout)) (above : Option ℕ) (up : Option ClassLayout) (c : ℕ) (k : NamedClass) (made : ClassLayout) → AreSlots t classes slots → c < length classes
     → up ≡ option_and_then (slot_at slots) above → IfSome above (IsFilled t classes slots) → slice_get classes c ≡ Some k → chain t c ≡ c ∷ list_of (chain t) above
     → made ≡ layout_from k (above_or_nothing up) (at_home t above c) → IsMade t classes slots (set slots c (Some made)) c
 made_right t classes slots above up c k made are known e filled at step is =
@@ -144,17 +144,17 @@ pub ruleset makes = (up_few, made_right)
 
 -- ---- down the climbed classes
 
-known_by : (t : ClassTable) (c : ℕ) (above : Option ℕ) → AreClasses t → parent_of t c ≡ above → IfSome above (λ p. p < length t.records)
+known_by : (t : LineTable) (c : ℕ) (above : Option ℕ) → AreLines t → parent_of t c ≡ above → IfSome above (λ p. p < length t.lines)
 known_by t c None are e = tt
 known_by t c (Some p) are e = (next_on_chain t c p are (parent_of-class t c p e) e).class.number
 
-above_known_by : (t : ClassTable) (above : Option ℕ) (xs : List ℕ) (x : ℕ) (rest : List ℕ) → ((p : ℕ) → p < length t.records → xs ++ (x ∷ rest) ≡ chain t p → x < length t.records)
-    → IfSome above (λ p. p < length t.records) → xs ++ (x ∷ rest) ≡ list_of (chain t) above → x < length t.records
+above_known_by : (t : LineTable) (above : Option ℕ) (xs : List ℕ) (x : ℕ) (rest : List ℕ) → ((p : ℕ) → p < length t.lines → xs ++ (x ∷ rest) ≡ chain t p → x < length t.lines)
+    → IfSome above (λ p. p < length t.lines) → xs ++ (x ∷ rest) ≡ list_of (chain t) above → x < length t.lines
 above_known_by t None xs x rest further known e = absurd (no_end xs rest x e)
 above_known_by t (Some p) xs x rest further known e = further p known e
 
 -- the number of each class on a chain is that of a record
-on_chain_known : (t : ClassTable) → AreClasses t → (xs : List ℕ) (c x : ℕ) (rest : List ℕ) → c < length t.records → xs ++ (x ∷ rest) ≡ chain t c → x < length t.records
+on_chain_known : (t : LineTable) → AreLines t → (xs : List ℕ) (c x : ℕ) (rest : List ℕ) → c < length t.lines → xs ++ (x ∷ rest) ≡ chain t c → x < length t.lines
 on_chain_known t are [] c x rest h e =
     let f = chain-front t c in
     let same : x ≡ c = head_same x c rest f.0 (e ∙ f.1) in
@@ -163,37 +163,37 @@ on_chain_known t are (y ∷ xs) c x rest h e =
     above_known_by t (parent_of t c) xs x rest (λ p k g. on_chain_known t are xs p x rest k g) (known_by t c (parent_of t c) are refl)
     (tail_same y c (xs ++ (x ∷ rest)) (list_of (chain t) (parent_of t c)) (e ∙ chain_step t c are))
 
-taken : (t : ClassTable) (path rest : List ℕ) (x : ℕ) (above : Option ℕ) (c : ℕ) → path ≡ rest ++ (x ∷ []) → path ++ list_of (chain t) above ≡ chain t c → rest ++ (x ∷ list_of (chain t) above) ≡ chain t c
+taken : (t : LineTable) (path rest : List ℕ) (x : ℕ) (above : Option ℕ) (c : ℕ) → path ≡ rest ++ (x ∷ []) → path ++ list_of (chain t) above ≡ chain t c → rest ++ (x ∷ list_of (chain t) above) ≡ chain t c
 taken t path rest x above c e whole = sym (append_assoc rest (x ∷ []) (list_of (chain t) above)) ∙ ap (λ (xs : List ℕ). xs ++ list_of (chain t) above) (sym e) ∙ whole
 
 -- the last class of the path stands below the class above it
-pub down_step : (t : ClassTable) (path rest : List ℕ) (x : ℕ) (above : Option ℕ) (c : ℕ) → AreClasses t → path ≡ rest ++ (x ∷ []) → path ++ list_of (chain t) above ≡ chain t c → chain t x ≡ x ∷ list_of (chain t) above
+pub down_step : (t : LineTable) (path rest : List ℕ) (x : ℕ) (above : Option ℕ) (c : ℕ) → AreLines t → path ≡ rest ++ (x ∷ []) → path ++ list_of (chain t) above ≡ chain t c → chain t x ≡ x ∷ list_of (chain t) above
 down_step t path rest x above c are e whole = chain_from t are rest c x (list_of (chain t) above) (taken t path rest x above c e whole)
 
-pub down_whole : (t : ClassTable) (path rest : List ℕ) (x : ℕ) (above : Option ℕ) (c : ℕ) → AreClasses t → path ≡ rest ++ (x ∷ []) → path ++ list_of (chain t) above ≡ chain t c → rest ++ list_of (chain t) (Some x) ≡ chain t c
+pub down_whole : (t : LineTable) (path rest : List ℕ) (x : ℕ) (above : Option ℕ) (c : ℕ) → AreLines t → path ≡ rest ++ (x ∷ []) → path ++ list_of (chain t) above ≡ chain t c → rest ++ list_of (chain t) (Some x) ≡ chain t c
 down_whole t path rest x above c are e whole = ap (λ (xs : List ℕ). rest ++ xs) (down_step t path rest x above c are e whole) ∙ taken t path rest x above c e whole
 
-pub down_known : (t : ClassTable) (classes : List NamedClass) (path rest : List ℕ) (x : ℕ) (above : Option ℕ) (c : ℕ) → AreClasses t → HaveSuperclasses t classes → c < length classes → path ≡ rest ++ (x ∷ []) → path ++ list_of (chain t) above ≡ chain t c
+pub down_known : (t : LineTable) (classes : List NamedClass) (path rest : List ℕ) (x : ℕ) (above : Option ℕ) (c : ℕ) → AreLines t → HaveSuperclasses t classes → c < length classes → path ≡ rest ++ (x ∷ []) → path ++ list_of (chain t) above ≡ chain t c
     → x < length classes
 down_known t classes path rest x above c are known h e whole =
-    let low : c < length t.records = omega (arith, known.count) in
+    let low : c < length t.lines = omega (arith, known.count) in
     let k = on_chain_known t are rest c x (list_of (chain t) above) low (taken t path rest x above c e whole) in
     omega (arith, known.count, k)
 
 -- ---- the invariant of the descent
 
-pub record IsDescent (t : ClassTable) (classes : List NamedClass) (first : List (Option ClassLayout)) (slots : List (Option ClassLayout)) (c : ℕ) (path : List ℕ) (above : Option ℕ) : Type 0 where
+pub record IsDescent (t : LineTable) (classes : List NamedClass) (first : List (Option ClassLayout)) (slots : List (Option ClassLayout)) (c : ℕ) (path : List ℕ) (above : Option ℕ) : Type 0 where
   pub whole : path ++ list_of (chain t) above ≡ chain t c
   pub right : AreSlots t classes slots
   pub keeps : Keeps t classes first slots
   pub filled : IfSome above (IsFilled t classes slots)
   pub known : IfSome above (λ p. p < length classes)
 
-above_counted : (t : ClassTable) (classes : List NamedClass) (above : Option ℕ) → HaveSuperclasses t classes → IfSome above (λ p. p < length t.records) → IfSome above (λ p. p < length classes)
+above_counted : (t : LineTable) (classes : List NamedClass) (above : Option ℕ) → HaveSuperclasses t classes → IfSome above (λ p. p < length t.lines) → IfSome above (λ p. p < length classes)
 above_counted t classes None known h = tt
 above_counted t classes (Some p) known h = omega (arith, known.count, h)
 
-pub descent_first : (t : ClassTable) (classes : List NamedClass) (slots : List (Option ClassLayout)) (c : ℕ) (path : List ℕ) (above : Option ℕ) → HaveSuperclasses t classes → AreSlots t classes slots → IsClimb t slots c path above → IsDescent t classes slots slots c path above
+pub descent_first : (t : LineTable) (classes : List NamedClass) (slots : List (Option ClassLayout)) (c : ℕ) (path : List ℕ) (above : Option ℕ) → HaveSuperclasses t classes → AreSlots t classes slots → IsClimb t slots c path above → IsDescent t classes slots slots c path above
 descent_first t classes slots c path above known are climb = record {
   whole = climb.whole;
   right = are;
@@ -202,7 +202,7 @@ descent_first t classes slots c path above known are climb = record {
   known = above_counted t classes above known climb.known;
 }
 
-pub descent_next : (t : ClassTable) (classes : List NamedClass) (first slots next : List (Option ClassLayout)) (c : ℕ) (path rest : List ℕ) (x : ℕ) (above : Option ℕ) → AreClasses t → HaveSuperclasses t classes → c < length classes → path ≡ rest ++ (x ∷ [])
+pub descent_next : (t : LineTable) (classes : List NamedClass) (first slots next : List (Option ClassLayout)) (c : ℕ) (path rest : List ℕ) (x : ℕ) (above : Option ℕ) → AreLines t → HaveSuperclasses t classes → c < length classes → path ≡ rest ++ (x ∷ [])
     → IsDescent t classes first slots c path above → IsMade t classes slots next x → IsDescent t classes first next c rest (Some x)
 descent_next t classes first slots next c path rest x above are known low e d made = record {
   whole = down_whole t path rest x above c are e d.whole;
@@ -212,7 +212,7 @@ descent_next t classes first slots next c path rest x above are known low e d ma
   known = down_known t classes path rest x above c are known low e d.whole;
 }
 
-pub descent_last : (t : ClassTable) (classes : List NamedClass) (first slots : List (Option ClassLayout)) (c : ℕ) (path : List ℕ) (above : Option ℕ) → path ≡ [] → IsDescent t classes first slots c path above → IsMade t classes first slots c
+pub descent_last : (t : LineTable) (classes : List NamedClass) (first slots : List (Option ClassLayout)) (c : ℕ) (path : List ℕ) (above : Option ℕ) → path ≡ [] → IsDescent t classes first slots c path above → IsMade t classes first slots c
 descent_last t classes first slots c path above e d =
     let top : above ≡ Some c = climbed_whole t above c (ap (λ (xs : List ℕ). xs ++ list_of (chain t) above) (sym e) ∙ d.whole) in
     record {
@@ -226,7 +226,7 @@ pub ruleset fills = (descent_first, descent_last, down_step, down_known)
 -- ---- all classes
 
 -- slots of which those below a number are filled
-pub record AreFilledBelow (t : ClassTable) (classes : List NamedClass) (slots : List (Option ClassLayout)) (n : ℕ) : Type 0 where
+pub record AreFilledBelow (t : LineTable) (classes : List NamedClass) (slots : List (Option ClassLayout)) (n : ℕ) : Type 0 where
   pub right : AreSlots t classes slots
   pub filled : (c : ℕ) → c < n → IsFilled t classes slots c
 
@@ -235,7 +235,7 @@ nothing_there zero c = refl
 nothing_there (suc n) zero = refl
 nothing_there (suc n) (suc c) = nothing_there n c
 
-pub none_filled : (t : ClassTable) (classes : List NamedClass) (slots : List (Option ClassLayout)) (n : ℕ) → n ≡ length classes → slots ≡ replicate n None → AreFilledBelow t classes slots 0
+pub none_filled : (t : LineTable) (classes : List NamedClass) (slots : List (Option ClassLayout)) (n : ℕ) → n ≡ length classes → slots ≡ replicate n None → AreFilledBelow t classes slots 0
 unfolding slot_at
 none_filled t classes slots n m e =
     let f : (c : ℕ) → c < 0 → IsFilled t classes slots c = λ c h. absurd (omega arith) in
@@ -247,7 +247,7 @@ none_filled t classes slots n m e =
       filled = f;
     }
 
-pub more_filled : (t : ClassTable) (classes : List NamedClass) (old new : List (Option ClassLayout)) (n : ℕ) → AreFilledBelow t classes old n → IsMade t classes old new n → AreFilledBelow t classes new (n + 1)
+pub more_filled : (t : LineTable) (classes : List NamedClass) (old new : List (Option ClassLayout)) (n : ℕ) → AreFilledBelow t classes old n → IsMade t classes old new n → AreFilledBelow t classes new (n + 1)
 more_filled t classes old new n are made = record {
   right = made.slots;
   filled = λ c h. elim (cases_lt c n) [
@@ -284,7 +284,7 @@ all_some f (o ∷ os) a h =
     shifted : (c : ℕ) → c < length os → option_flatten (slice_get os c) ≡ Some (f (a + 1 + c))
     shifted c k = let e : a + suc c ≡ a + 1 + c = omega arith in h (suc c) (omega arith) ∙ ap (λ (n : ℕ). Some (f n)) e
 
-pub all_filled : (t : ClassTable) (classes : List NamedClass) (slots : List (Option ClassLayout)) → AreFilledBelow t classes slots (length classes) → filter_map (λ o. o) slots ≡ layouts t classes
+pub all_filled : (t : LineTable) (classes : List NamedClass) (slots : List (Option ClassLayout)) → AreFilledBelow t classes slots (length classes) → filter_map (λ o. o) slots ≡ layouts t classes
 unfolding slot_at
 all_filled t classes slots are =
     let n : length slots ≡ length classes = are.right.count in

@@ -9,7 +9,7 @@ use Rattle.std.proofs.lemmas.List.FromFn.{map-range_with_len_more, get_or-map-ra
 use Rattle.jc_resolve.specs.NamedClasses.{no_table}
 use Rattle.jc_base.proofs.Lists.{All-slice_get}
 use Rattle.jc_base.specs.declared.record.MethodRec.{MethodRec}
-use Rattle.jc_base.specs.Class.{ClassTable, chain}
+use Rattle.jc_hierarchy.specs.Outline.{LineTable, chain}
 use Rattle.jc_resolve.specs.declared.fault.LinkFault.{LinkFault}
 use Rattle.jc_resolve.specs.declared.fault.LinkFault.TheVariants.{InstanceLong}
 use Rattle.jc_resolve.specs.declared.named.DispatchTable.{DispatchTable}
@@ -98,7 +98,7 @@ reach_of_few : (f : ℕ → DispatchTable) → ((c : ℕ) → reach (f c) ≤ 51
 reach_of_few f each [] = omega arith
 reach_of_few f each (c ∷ cs) = omega (arith, each c, reach_of_few f each cs)
 
-pub lists_short : (t : ClassTable) (classes : List NamedClass) (c : ℕ) → All IsSized classes → IsShort (layout_of t classes c)
+pub lists_short : (t : LineTable) (classes : List NamedClass) (c : ℕ) → All IsSized classes → IsShort (layout_of t classes c)
 unfolding layout_of public_entries visible_entries
 lists_short t classes c all = record {
   public = rw (length-entries (map (public_table classes) (chain t c))) (reach_of_few (public_table classes) (λ k. public_few classes k all) (chain t c));
@@ -106,18 +106,18 @@ lists_short t classes c all = record {
 }
 
 -- the layout of a class in the list of all
-pub layout_is : (t : ClassTable) (classes : List NamedClass) (all : List ClassLayout) (c : ℕ) (d : ClassLayout) → all ≡ layouts t classes → c < length classes → get_or all c d ≡ layout_of t classes c
+pub layout_is : (t : LineTable) (classes : List NamedClass) (all : List ClassLayout) (c : ℕ) (d : ClassLayout) → all ≡ layouts t classes → c < length classes → get_or all c d ≡ layout_of t classes c
 layout_is t classes all c d e h = ap (λ (ls : List ClassLayout). get_or ls c d) e ∙ get_or-map-range_with_len (layout_of t classes) 0 (length classes) c c d h (omega arith)
 
-pub layout_short : (t : ClassTable) (classes : List NamedClass) (all : List ClassLayout) (c : ℕ) (d : ClassLayout) → all ≡ layouts t classes → c < length classes → HaveSuperclasses t classes → IsShort (get_or all c d)
+pub layout_short : (t : LineTable) (classes : List NamedClass) (all : List ClassLayout) (c : ℕ) (d : ClassLayout) → all ≡ layouts t classes → c < length classes → HaveSuperclasses t classes → IsShort (get_or all c d)
 layout_short t classes all c d e h known = rw (layout_is t classes all c d e h) (lists_short t classes c known.sized)
 
-pub layouts_count : (t : ClassTable) (classes : List NamedClass) (all : List ClassLayout) → all ≡ layouts t classes → length all ≡ length classes
+pub layouts_count : (t : LineTable) (classes : List NamedClass) (all : List ClassLayout) → all ≡ layouts t classes → length all ≡ length classes
 layouts_count t classes all e = ap length e ∙ length-map-range_with_len (layout_of t classes) 0 (length classes)
 
 pub ruleset folds = (least_next, least_both, layout_is, layout_short, layouts_count)
 
-pub layout_at : (t : ClassTable) (classes : List NamedClass) (all : List ClassLayout) (c : ℕ) (l : ClassLayout) → all ≡ layouts t classes → c < length classes → l ≡ get_or all c l → l ≡ layout_of t classes c
+pub layout_at : (t : LineTable) (classes : List NamedClass) (all : List ClassLayout) (c : ℕ) (l : ClassLayout) → all ≡ layouts t classes → c < length classes → l ≡ get_or all c l → l ≡ layout_of t classes c
 layout_at t classes all c l e h is = is ∙ layout_is t classes all c l e h
 
 -- ---- replacement by replacement
@@ -134,7 +134,7 @@ replacements_next fault c first i inherited list least d e h k =
 
 -- ---- the superclass among all classes
 
-pub above_at : (t : ClassTable) (classes : List NamedClass) (all : List ClassLayout) (p : ℕ) (d : ClassLayout) (o : Option ℕ) → all ≡ layouts t classes → p < length t.records → HaveSuperclasses t classes → Some p ≡ o → d ≡ get_or all p d
+pub above_at : (t : LineTable) (classes : List NamedClass) (all : List ClassLayout) (p : ℕ) (d : ClassLayout) (o : Option ℕ) → all ≡ layouts t classes → p < length t.lines → HaveSuperclasses t classes → Some p ≡ o → d ≡ get_or all p d
     → Some d ≡ option_map (layout_of t classes) o
 above_at t classes all p d o e h known is at =
     let low : p < length classes = omega (arith, known.count) in
@@ -150,15 +150,15 @@ least_one fault n least e =
     ∙ sym (fold-append _ None (range_with_len 0 n) (n ∷ []))
     ∙ ap (least_of link_place fault) (sym (range_more n))
 
-long_by : (c cells : ℕ) (t : ClassTable) (classes : List NamedClass) (b : Bool) → nat_lt 32767 cells ≡ b → cells ≡ instance_cells t classes c → (if b then Some (InstanceLong c cells) else None) ≡ long_fault t classes c
+long_by : (c cells : ℕ) (t : LineTable) (classes : List NamedClass) (b : Bool) → nat_lt 32767 cells ≡ b → cells ≡ instance_cells t classes c → (if b then Some (InstanceLong c cells) else None) ≡ long_fault t classes c
 unfolding long_fault
 long_by c cells t classes b e is = rw (← is, e) refl
 
-pub cells_are : (t : ClassTable) (classes : List NamedClass) (all : List ClassLayout) (c : ℕ) (l : ClassLayout) → all ≡ layouts t classes → c < length classes → l ≡ get_or all c l → l.cells ≡ instance_cells t classes c
+pub cells_are : (t : LineTable) (classes : List NamedClass) (all : List ClassLayout) (c : ℕ) (l : ClassLayout) → all ≡ layouts t classes → c < length classes → l ≡ get_or all c l → l.cells ≡ instance_cells t classes c
 unfolding layout_of
 cells_are t classes all c l e h is = ap (λ (x : ClassLayout). x.cells) (layout_at t classes all c l e h is)
 
-pub long_next : (t : ClassTable) (classes : List NamedClass) (all : List ClassLayout) (c : ℕ) (d : ClassLayout) (least fault : Option LinkFault) → all ≡ layouts t classes → c < length classes → d ≡ get_or all c d
+pub long_next : (t : LineTable) (classes : List NamedClass) (all : List ClassLayout) (c : ℕ) (d : ClassLayout) (least fault : Option LinkFault) → all ≡ layouts t classes → c < length classes → d ≡ get_or all c d
     → fault ≡ (if nat_lt 32767 d.cells then Some (InstanceLong c d.cells) else None) → least ≡ least_of link_place (long_fault t classes) (range_with_len 0 c)
     → lesser link_place least fault ≡ least_of link_place (long_fault t classes) (range_with_len 0 (c + 1))
 long_next t classes all c d least fault e h at is before =
@@ -166,14 +166,14 @@ long_next t classes all c d least fault e h at is before =
 
 pub ruleset long_folds = (long_next, layouts_count)
 
-pub public_at : (t : ClassTable) (classes : List NamedClass) (all : List ClassLayout) (c : ℕ) (l : ClassLayout) → all ≡ layouts t classes → c < length classes → l ≡ get_or all c l → l.public ≡ public_entries t classes c
+pub public_at : (t : LineTable) (classes : List NamedClass) (all : List ClassLayout) (c : ℕ) (l : ClassLayout) → all ≡ layouts t classes → c < length classes → l ≡ get_or all c l → l.public ≡ public_entries t classes c
 unfolding layout_of
 public_at t classes all c l e h is = ap (λ (x : ClassLayout). x.public) (layout_at t classes all c l e h is)
 
-pub public_is : (t : ClassTable) (classes : List NamedClass) (all : List ClassLayout) (c : ℕ) (d : ClassLayout) → all ≡ layouts t classes → c < length classes → (get_or all c d).public ≡ public_entries t classes c
+pub public_is : (t : LineTable) (classes : List NamedClass) (all : List ClassLayout) (c : ℕ) (d : ClassLayout) → all ≡ layouts t classes → c < length classes → (get_or all c d).public ≡ public_entries t classes c
 unfolding layout_of
 public_is t classes all c d e h = ap (λ (x : ClassLayout). x.public) (layout_is t classes all c d e h)
 
-pub visible_is : (t : ClassTable) (classes : List NamedClass) (all : List ClassLayout) (c : ℕ) (d : ClassLayout) → all ≡ layouts t classes → c < length classes → (get_or all c d).visible ≡ visible_entries t classes c
+pub visible_is : (t : LineTable) (classes : List NamedClass) (all : List ClassLayout) (c : ℕ) (d : ClassLayout) → all ≡ layouts t classes → c < length classes → (get_or all c d).visible ≡ visible_entries t classes c
 unfolding layout_of
 visible_is t classes all c d e h = ap (λ (x : ClassLayout). x.visible) (layout_is t classes all c d e h)

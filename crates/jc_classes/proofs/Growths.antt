@@ -5,9 +5,9 @@ use Rattle.std.specs.List.{range_with_len, list_any}
 use Rattle.std.proofs.lemmas.Bool.{cases_lt, false≢true}
 use Rattle.jc_base.proofs.Lists.{All-slice_get}
 use Rattle.jc_base.specs.declared.record.MethodRec.{MethodRec}
-use Rattle.jc_base.specs.Class.{ClassTable, chain, list_of, parent_of}
-use Rattle.jc_base.specs.Order.{is_on_chain}
-use Rattle.jc_base.proofs.Climbs.{on_chain-here}
+use Rattle.jc_base.specs.Class.{list_of}
+use Rattle.jc_hierarchy.specs.Outline.{LineTable, chain, is_on_chain, parent_of}
+use Rattle.jc_hierarchy.proofs.Bare.{on_chain-here}
 use Rattle.first_fault.specs.Least.{lesser, least_from, least_of}
 use Rattle.first_fault.proofs.LeastFaults.{least-at_fault, least-none}
 use Rattle.jc_resolve.specs.declared.fault.LinkFault.{LinkFault}
@@ -29,11 +29,11 @@ use Rattle.jc_classes.proofs.Steps.{public_step, visible_step}
 
 -- ---- a list and what it is made of
 
-pub public_made : (t : ClassTable) (classes : List NamedClass) (c : ℕ) (above : Option ℕ) (k : NamedClass) (up : Option ClassLayout) → chain t c ≡ c ∷ list_of (chain t) above → slice_get classes c ≡ Some k → up ≡ option_map (layout_of t classes) above
+pub public_made : (t : LineTable) (classes : List NamedClass) (c : ℕ) (above : Option ℕ) (k : NamedClass) (up : Option ClassLayout) → chain t c ≡ c ∷ list_of (chain t) above → slice_get classes c ≡ Some k → up ≡ option_map (layout_of t classes) above
     → public_entries t classes c ≡ overlaid k.public (above_or_nothing up).public
 public_made t classes c above k up step at is = public_step t classes c above k step at ∙ ap (λ (o : Option ClassLayout). overlaid k.public (above_or_nothing o).public) (sym is)
 
-pub visible_made : (t : ClassTable) (classes : List NamedClass) (c : ℕ) (above : Option ℕ) (k : NamedClass) (up : Option ClassLayout) → chain t c ≡ c ∷ list_of (chain t) above → slice_get classes c ≡ Some k → up ≡ option_map (layout_of t classes) above
+pub visible_made : (t : LineTable) (classes : List NamedClass) (c : ℕ) (above : Option ℕ) (k : NamedClass) (up : Option ClassLayout) → chain t c ≡ c ∷ list_of (chain t) above → slice_get classes c ≡ Some k → up ≡ option_map (layout_of t classes) above
     → visible_entries t classes c ≡ overlaid k.visible (if at_home t above c then (above_or_nothing up).visible else [])
 visible_made t classes c above k up step at is = visible_step t classes c above k step at ∙ ap (λ (o : Option ClassLayout). overlaid k.visible (if at_home t above c then (above_or_nothing o).visible else [])) (sym is)
 
@@ -81,7 +81,7 @@ or_true : (b : Bool) → (b || true) ≡ true
 or_true true = refl
 or_true false = refl
 
-own_stands : (t : ClassTable) (c : ℕ) (o : Option MethodRec) → own_by c o ≡ true → may_stand t c o ≡ true
+own_stands : (t : LineTable) (c : ℕ) (o : Option MethodRec) → own_by c o ≡ true → may_stand t c o ≡ true
 own_stands t c None e = absurd (false≢true e)
 own_stands t c (Some m) e =
     let plain : Bool = not m.is_static && not m.is_init in
@@ -90,11 +90,11 @@ own_stands t c (Some m) e =
     ∙ ap (λ (b : Bool). b && plain) (on_chain-here t c)
     ∙ both_second (m.class == c) plain e
 
-on_above : (t : ClassTable) (d c p : ℕ) → chain t c ≡ c ∷ chain t p → is_on_chain t d p ≡ true → is_on_chain t d c ≡ true
+on_above : (t : LineTable) (d c p : ℕ) → chain t c ≡ c ∷ chain t p → is_on_chain t d p ≡ true → is_on_chain t d c ≡ true
 unfolding is_on_chain
 on_above t d c p step on = ap (list_any (λ x. x == d)) step ∙ ap (λ (b : Bool). (c == d) || b) on ∙ or_true (c == d)
 
-above_stands : (t : ClassTable) (c p : ℕ) (o : Option MethodRec) → chain t c ≡ c ∷ chain t p → may_stand t p o ≡ true → may_stand t c o ≡ true
+above_stands : (t : LineTable) (c p : ℕ) (o : Option MethodRec) → chain t c ≡ c ∷ chain t p → may_stand t p o ≡ true → may_stand t c o ≡ true
 above_stands t c p None step e = absurd (false≢true e)
 above_stands t c p (Some m) step e =
     let plain : Bool = not m.is_static && not m.is_init in
@@ -102,16 +102,16 @@ above_stands t c p (Some m) step e =
     ∙ both_second (is_on_chain t m.class p) plain e
 
 -- each entry of a list, by its token
-pub record Stand (t : ClassTable) (c : ℕ) (methods : List MethodRec) (list : List (Option ℕ)) : Type 0 where
+pub record Stand (t : LineTable) (c : ℕ) (methods : List MethodRec) (list : List (Option ℕ)) : Type 0 where
   pub each : (k : ℕ) → k < length list → may_stand t c (method_in methods (get_or list k None)) ≡ true
 
-stand_at : (t : ClassTable) (c : ℕ) (methods : List MethodRec) (list : List (Option ℕ)) (k : ℕ) → AllStand t c methods list → k < length list → may_stand t c (method_in methods (get_or list k None)) ≡ true
+stand_at : (t : LineTable) (c : ℕ) (methods : List MethodRec) (list : List (Option ℕ)) (k : ℕ) → AllStand t c methods list → k < length list → may_stand t c (method_in methods (get_or list k None)) ≡ true
 stand_at t c methods [] k all h = absurd (omega arith)
 stand_at t c methods (e ∷ es) zero all h = all.0
 stand_at t c methods (e ∷ es) (suc k) all h = stand_at t c methods es k all.1 (omega arith)
 
 -- those of a class by those of its superclass
-grown_stand : (t : ClassTable) (c : ℕ) (methods : List MethodRec) (inherited list : List (Option ℕ)) → Stand t c methods inherited → AddsOwn methods c inherited list → Stand t c methods list
+grown_stand : (t : LineTable) (c : ℕ) (methods : List MethodRec) (inherited list : List (Option ℕ)) → Stand t c methods inherited → AddsOwn methods c inherited list → Stand t c methods list
 grown_stand t c methods inherited list up adds = record {
   each = λ k h. elim (adds.each k h) [
     | inl same ↦ ap (λ (e : Option ℕ). may_stand t c (method_in methods e)) same.1 ∙ up.each k same.0
@@ -119,10 +119,10 @@ grown_stand t c methods inherited list up adds = record {
   ];
 }
 
-none_stand : (t : ClassTable) (c : ℕ) (methods : List MethodRec) → Stand t c methods []
+none_stand : (t : LineTable) (c : ℕ) (methods : List MethodRec) → Stand t c methods []
 none_stand t c methods = record { each = λ k h. absurd (omega arith) }
 
-seen_stand : (t : ClassTable) (c p : ℕ) (methods : List MethodRec) (token : ℕ) (list : List (Option ℕ)) → chain t c ≡ c ∷ chain t p → filter_map (hole_fault t methods) (entries_from p token list) ≡ [] → Stand t c methods list
+seen_stand : (t : LineTable) (c p : ℕ) (methods : List MethodRec) (token : ℕ) (list : List (Option ℕ)) → chain t c ≡ c ∷ chain t p → filter_map (hole_fault t methods) (entries_from p token list) ≡ [] → Stand t c methods list
 seen_stand t c p methods token list step none = record {
   each = λ k h. above_stands t c p (method_in methods (get_or list k None)) step (stand_at t p methods list k (all_stand t methods p token list none) h);
 }
@@ -130,25 +130,25 @@ seen_stand t c p methods token list step none = record {
 -- ---- the lists of the superclass
 
 -- nothing is at fault in the lists of a class before
-lists_seen : (t : ClassTable) (classes : List NamedClass) (methods : List MethodRec) (n p : ℕ) (least : Option LinkFault) → least ≡ None → least ≡ least_of link_place (hole_fault t methods) (flat_map (entries_in t classes) (range_with_len 0 n)) → p < n
+lists_seen : (t : LineTable) (classes : List NamedClass) (methods : List MethodRec) (n p : ℕ) (least : Option LinkFault) → least ≡ None → least ≡ least_of link_place (hole_fault t methods) (flat_map (entries_in t classes) (range_with_len 0 n)) → p < n
     → filter_map (hole_fault t methods) (entries_in t classes p) ≡ []
 lists_seen t classes methods n p least none is h =
     let things = flat_map (entries_in t classes) (range_with_len 0 n) in
     class_faultless (hole_fault t methods) (entries_in t classes) n p
     (least-none link_place (filter_map (hole_fault t methods) things) (sym (least-at_fault link_place (hole_fault t methods) things None) ∙ sym is ∙ none)) h
 
-public_above_stand : (t : ClassTable) (classes : List NamedClass) (methods : List MethodRec) (c : ℕ) (above : Option ℕ) → IfSome above (λ p. filter_map (hole_fault t methods) (entries_in t classes p) ≡ []) → chain t c ≡ c ∷ list_of (chain t) above
+public_above_stand : (t : LineTable) (classes : List NamedClass) (methods : List MethodRec) (c : ℕ) (above : Option ℕ) → IfSome above (λ p. filter_map (hole_fault t methods) (entries_in t classes p) ≡ []) → chain t c ≡ c ∷ list_of (chain t) above
     → Stand t c methods (above_or_nothing (option_map (layout_of t classes) above)).public
 unfolding layout_of
 public_above_stand t classes methods c None none step = none_stand t c methods
 public_above_stand t classes methods c (Some p) none step =
     seen_stand t c p methods 0 (public_entries t classes p) step (both_faultless (hole_fault t methods) (entries_from p 0 (public_entries t classes p)) (entries_from p 128 (visible_entries t classes p)) none).0
 
-visible_by : (t : ClassTable) (c : ℕ) (methods : List MethodRec) (list : List (Option ℕ)) (home : Bool) → Stand t c methods list → Stand t c methods (if home then list else [])
+visible_by : (t : LineTable) (c : ℕ) (methods : List MethodRec) (list : List (Option ℕ)) (home : Bool) → Stand t c methods list → Stand t c methods (if home then list else [])
 visible_by t c methods list true all = all
 visible_by t c methods list false all = none_stand t c methods
 
-visible_above_stand : (t : ClassTable) (classes : List NamedClass) (methods : List MethodRec) (c : ℕ) (above : Option ℕ) → IfSome above (λ p. filter_map (hole_fault t methods) (entries_in t classes p) ≡ []) → chain t c ≡ c ∷ list_of (chain t) above
+visible_above_stand : (t : LineTable) (classes : List NamedClass) (methods : List MethodRec) (c : ℕ) (above : Option ℕ) → IfSome above (λ p. filter_map (hole_fault t methods) (entries_in t classes p) ≡ []) → chain t c ≡ c ∷ list_of (chain t) above
     → Stand t c methods (above_or_nothing (option_map (layout_of t classes) above)).visible
 unfolding layout_of
 visible_above_stand t classes methods c None none step = none_stand t c methods
@@ -157,17 +157,17 @@ visible_above_stand t classes methods c (Some p) none step =
 
 -- ---- no entry is open
 
-no_hole : (t : ClassTable) (methods : List MethodRec) (c token : ℕ) (m : Option ℕ) → may_stand t c (method_in methods m) ≡ true → lesser link_place None (hole_fault t methods (record { class = c; token = token; method = m })) ≡ None
+no_hole : (t : LineTable) (methods : List MethodRec) (c token : ℕ) (m : Option ℕ) → may_stand t c (method_in methods m) ≡ true → lesser link_place None (hole_fault t methods (record { class = c; token = token; method = m })) ≡ None
 unfolding lesser hole_fault
 no_hole t methods c token m e = rw e refl
 
-no_holes : (t : ClassTable) (methods : List MethodRec) (c token : ℕ) (list : List (Option ℕ)) → ((k : ℕ) → k < length list → may_stand t c (method_in methods (get_or list k None)) ≡ true) → least_from link_place None (hole_fault t methods) (entries_from c token list) ≡ None
+no_holes : (t : LineTable) (methods : List MethodRec) (c token : ℕ) (list : List (Option ℕ)) → ((k : ℕ) → k < length list → may_stand t c (method_in methods (get_or list k None)) ≡ true) → least_from link_place None (hole_fault t methods) (entries_from c token list) ≡ None
 no_holes t methods c token [] each = refl
 no_holes t methods c token (m ∷ ms) each =
     ap (λ (o : Option LinkFault). least_from link_place o (hole_fault t methods) (entries_from c (token + 1) ms)) (no_hole t methods c token m (each 0 (omega arith)))
     ∙ no_holes t methods c (token + 1) ms (λ k h. each (suc k) (omega arith))
 
-seen_by : (t : ClassTable) (classes : List NamedClass) (methods : List MethodRec) (c : ℕ) (above : Option ℕ) → ((p : ℕ) → p < c → filter_map (hole_fault t methods) (entries_in t classes p) ≡ []) → IfSome above (λ p. p < c)
+seen_by : (t : LineTable) (classes : List NamedClass) (methods : List MethodRec) (c : ℕ) (above : Option ℕ) → ((p : ℕ) → p < c → filter_map (hole_fault t methods) (entries_in t classes p) ≡ []) → IfSome above (λ p. p < c)
     → IfSome above (λ p. filter_map (hole_fault t methods) (entries_in t classes p) ≡ [])
 seen_by t classes methods c None each h = tt
 seen_by t classes methods c (Some p) each h = each p h
@@ -177,7 +177,7 @@ none_if None e = refl
 none_if (Some fault) e = absurd (false≢true (sym e))
 
 -- nothing is at fault in the lists of a class that grows
-pub none_open : (t : ClassTable) (classes : List NamedClass) (methods : List MethodRec) (c : ℕ) (least : Option LinkFault) → chain t c ≡ c ∷ list_of (chain t) (parent_of t c) → is_some least ≡ false
+pub none_open : (t : LineTable) (classes : List NamedClass) (methods : List MethodRec) (c : ℕ) (least : Option LinkFault) → chain t c ≡ c ∷ list_of (chain t) (parent_of t c) → is_some least ≡ false
     → least ≡ least_of link_place (hole_fault t methods) (flat_map (entries_in t classes) (range_with_len 0 c)) → IfSome (parent_of t c) (λ p. p < c) → Grows t classes methods c
     → None ≡ least_from link_place least (hole_fault t methods) (entries_in t classes c)
 unfolding layout_above

@@ -7,7 +7,7 @@ use Rattle.std.proofs.lemmas.Option.{slice_get-get_or}
 use Rattle.jc_base.proofs.Lists.{IfSome-is}
 use Rattle.jc_base.specs.declared.record.Iface.{Iface}
 use Rattle.jc_base.specs.declared.record.MethodRec.{MethodRec}
-use Rattle.jc_base.specs.Class.{ClassTable}
+use Rattle.jc_hierarchy.specs.Outline.{LineTable}
 use Rattle.jc_resolve.specs.declared.fault.LinkFault.{LinkFault}
 use Rattle.jc_resolve.specs.declared.fault.LinkFault.TheVariants.{InterfaceType}
 use Rattle.jc_resolve.specs.declared.named.NamedClass.{NamedClass}
@@ -61,6 +61,6 @@ implementations_end methods c public interfaces i least h = ap (λ (xs : List If
 
 pub ruleset implementation_folds = (implementations_next, implementations_end)
 
-pub implementations_are : (t : ClassTable) (classes : List NamedClass) (c : ℕ) (public : List (Option ℕ)) (k : NamedClass) → public ≡ public_entries t classes c → slice_get classes c ≡ Some k
+pub implementations_are : (t : LineTable) (classes : List NamedClass) (c : ℕ) (public : List (Option ℕ)) (k : NamedClass) → public ≡ public_entries t classes c → slice_get classes c ≡ Some k
     → map (implementation c public) (implemented_by (Some k)) ≡ implementations_in t classes c
 implementations_are t classes c public k e at = ap (λ (p : List (Option ℕ)). map (implementation c p) (implemented_by (Some k))) e ∙ ap (λ (o : Option NamedClass). map (implementation c (public_entries t classes c)) (implemented_by o)) (sym at)

@@ -5,16 +5,16 @@ use Rattle.std.proofs.lemmas.Bool.{cases_lt, false≢true, eq-eqb, eqb-true}
 use Rattle.std.proofs.lemmas.List.{get_or-set_same, get_or-set_other, length-set}
 use Rattle.std.proofs.lemmas.List.FromFn.{fill_by_all, get_or-map-range_with_len, length-map-range_with_len}
 use Rattle.std.specs.List.{range_with_len, list_any}
-use Rattle.jc_base.specs.Class.{ClassTable, chain, list_of}
-use Rattle.jc_base.specs.Order.{is_on_chain}
+use Rattle.jc_base.specs.Class.{list_of}
+use Rattle.jc_hierarchy.specs.Outline.{LineTable, chain, is_on_chain}
 
 -- marks of the classes of a chain below one that is still to be climbed
-pub record AreMarked (t : ClassTable) (c : ℕ) (marks : List Bool) (above : Option ℕ) : Type 0 where
-  pub count : length marks ≡ length t.records
-  pub each : (d : ℕ) → d < length t.records → (get_or marks d false || list_any (λ x. x == d) (list_of (chain t) above)) ≡ is_on_chain t d c
-  pub known : IfSome above (λ a. a < length t.records)
+pub record AreMarked (t : LineTable) (c : ℕ) (marks : List Bool) (above : Option ℕ) : Type 0 where
+  pub count : length marks ≡ length t.lines
+  pub each : (d : ℕ) → d < length t.lines → (get_or marks d false || list_any (λ x. x == d) (list_of (chain t) above)) ≡ is_on_chain t d c
+  pub known : IfSome above (λ a. a < length t.lines)
 
-pub unmarked : (t : ClassTable) (c : ℕ) (marks : List Bool) → c < length t.records → length marks ≡ length t.records → ((k : ℕ) → k < length marks → get_or marks k false ≡ false) → AreMarked t c marks (Some c)
+pub unmarked : (t : LineTable) (c : ℕ) (marks : List Bool) → c < length t.lines → length marks ≡ length t.lines → ((k : ℕ) → k < length marks → get_or marks k false ≡ false) → AreMarked t c marks (Some c)
 unfolding is_on_chain
 unmarked t c marks h count none = record {
   count = count;
@@ -22,14 +22,14 @@ unmarked t c marks h count none = record {
   known = h;
 }
 
-at_class : (t : ClassTable) (a d : ℕ) (next : Option ℕ) → chain t a ≡ a ∷ list_of (chain t) next → list_any (λ x. x == d) (list_of (chain t) (Some a)) ≡ ((a == d) || list_any (λ x. x == d) (list_of (chain t) next))
+at_class : (t : LineTable) (a d : ℕ) (next : Option ℕ) → chain t a ≡ a ∷ list_of (chain t) next → list_any (λ x. x == d) (list_of (chain t) (Some a)) ≡ ((a == d) || list_any (λ x. x == d) (list_of (chain t) next))
 at_class t a d next step = ap (list_any (λ x. x == d)) step
 
 or_true : (b : Bool) → (b || true) ≡ true
 or_true true = refl
 or_true false = refl
 
-marked_each : (t : ClassTable) (c a : ℕ) (marks : List Bool) (next : Option ℕ) (d : ℕ) (b : Bool) → (a == d) ≡ b → a < length marks → chain t a ≡ a ∷ list_of (chain t) next
+marked_each : (t : LineTable) (c a : ℕ) (marks : List Bool) (next : Option ℕ) (d : ℕ) (b : Bool) → (a == d) ≡ b → a < length marks → chain t a ≡ a ∷ list_of (chain t) next
     → (get_or marks d false || list_any (λ x. x == d) (list_of (chain t) (Some a))) ≡ is_on_chain t d c
     → (get_or (set marks a true) d false || list_any (λ x. x == d) (list_of (chain t) next)) ≡ is_on_chain t d c
 marked_each t c a marks next d true e h step before =
@@ -44,9 +44,9 @@ marked_each t c a marks next d false e h step before =
     let there : list_any (λ x. x == d) (list_of (chain t) (Some a)) ≡ list_any (λ x. x == d) (list_of (chain t) next) = at_class t a d next step ∙ rw e refl in
     ap (λ (b : Bool). b || list_any (λ x. x == d) (list_of (chain t) next)) here ∙ ap (λ (b : Bool). get_or marks d false || b) (sym there) ∙ before
 
-pub marked_more : (t : ClassTable) (c a : ℕ) (marks : List Bool) (above next : Option ℕ) → above ≡ Some a → chain t a ≡ a ∷ list_of (chain t) next → IfSome next (λ p. p < length t.records) → AreMarked t c marks above → AreMarked t c (set marks a true) next
+pub marked_more : (t : LineTable) (c a : ℕ) (marks : List Bool) (above next : Option ℕ) → above ≡ Some a → chain t a ≡ a ∷ list_of (chain t) next → IfSome next (λ p. p < length t.lines) → AreMarked t c marks above → AreMarked t c (set marks a true) next
 marked_more t c a marks above next is step known are =
-    let low : a < length t.records = subst (λ (o : Option ℕ). IfSome o (λ p. p < length t.records)) is are.known in
+    let low : a < length t.lines = subst (λ (o : Option ℕ). IfSome o (λ p. p < length t.lines)) is are.known in
     record {
       count = length-set marks a true ∙ are.count;
       each = λ d k. marked_each t c a marks next d (a == d) refl (omega (arith, are.count)) step
@@ -58,30 +58,30 @@ or_false : (b : Bool) → (b || false) ≡ b
 or_false true = refl
 or_false false = refl
 
-pub marked_all : (t : ClassTable) (c : ℕ) (marks : List Bool) (above : Option ℕ) → above ≡ None → AreMarked t c marks above → marks ≡ map (λ d. is_on_chain t d c) (range_with_len 0 (length t.records))
+pub marked_all : (t : LineTable) (c : ℕ) (marks : List Bool) (above : Option ℕ) → above ≡ None → AreMarked t c marks above → marks ≡ map (λ d. is_on_chain t d c) (range_with_len 0 (length t.lines))
 marked_all t c marks above is are =
     let whole : AreMarked t c marks None = subst (AreMarked t c marks) is are in
-    fill_by_all (λ d. is_on_chain t d c) marks (length t.records) false whole.count (λ d k. sym (or_false (get_or marks d false)) ∙ whole.each d k)
+    fill_by_all (λ d. is_on_chain t d c) marks (length t.lines) false whole.count (λ d k. sym (or_false (get_or marks d false)) ∙ whole.each d k)
 
 pub ruleset marking = (unmarked, marked_more, marked_all)
 
 -- ---- taking marks away
 
 -- what is marked stands on the part of the chain that is still to be climbed
-pub record AreLeft (t : ClassTable) (marks : List Bool) (above : Option ℕ) : Type 0 where
-  pub count : length marks ≡ length t.records
-  pub each : (d : ℕ) → d < length t.records → get_or marks d false ≡ true → list_any (λ x. x == d) (list_of (chain t) above) ≡ true
-  pub known : IfSome above (λ a. a < length t.records)
+pub record AreLeft (t : LineTable) (marks : List Bool) (above : Option ℕ) : Type 0 where
+  pub count : length marks ≡ length t.lines
+  pub each : (d : ℕ) → d < length t.lines → get_or marks d false ≡ true → list_any (λ x. x == d) (list_of (chain t) above) ≡ true
+  pub known : IfSome above (λ a. a < length t.lines)
 
-pub left_first : (t : ClassTable) (c : ℕ) (marks : List Bool) → c < length t.records → marks ≡ map (λ d. is_on_chain t d c) (range_with_len 0 (length t.records)) → AreLeft t marks (Some c)
+pub left_first : (t : LineTable) (c : ℕ) (marks : List Bool) → c < length t.lines → marks ≡ map (λ d. is_on_chain t d c) (range_with_len 0 (length t.lines)) → AreLeft t marks (Some c)
 unfolding is_on_chain
 left_first t c marks h e = record {
-  count = ap length e ∙ length-map-range_with_len (λ d. is_on_chain t d c) 0 (length t.records);
-  each = λ d k on. sym (ap (λ (ms : List Bool). get_or ms d false) e ∙ get_or-map-range_with_len (λ x. is_on_chain t x c) 0 (length t.records) d d false k (omega arith)) ∙ on;
+  count = ap length e ∙ length-map-range_with_len (λ d. is_on_chain t d c) 0 (length t.lines);
+  each = λ d k on. sym (ap (λ (ms : List Bool). get_or ms d false) e ∙ get_or-map-range_with_len (λ x. is_on_chain t x c) 0 (length t.lines) d d false k (omega arith)) ∙ on;
   known = h;
 }
 
-left_each : (t : ClassTable) (a : ℕ) (marks : List Bool) (next : Option ℕ) (d : ℕ) (b : Bool) → (a == d) ≡ b → a < length marks → chain t a ≡ a ∷ list_of (chain t) next
+left_each : (t : LineTable) (a : ℕ) (marks : List Bool) (next : Option ℕ) (d : ℕ) (b : Bool) → (a == d) ≡ b → a < length marks → chain t a ≡ a ∷ list_of (chain t) next
     → (get_or marks d false ≡ true → list_any (λ x. x == d) (list_of (chain t) (Some a)) ≡ true)
     → get_or (set marks a false) d false ≡ true → list_any (λ x. x == d) (list_of (chain t) next) ≡ true
 left_each t a marks next d true e h step before on =
@@ -94,9 +94,9 @@ left_each t a marks next d false e h step before on =
     let there : list_any (λ x. x == d) (list_of (chain t) (Some a)) ≡ list_any (λ x. x == d) (list_of (chain t) next) = at_class t a d next step ∙ rw e refl in
     sym there ∙ before (sym here ∙ on)
 
-pub left_less : (t : ClassTable) (a : ℕ) (marks : List Bool) (above next : Option ℕ) → above ≡ Some a → chain t a ≡ a ∷ list_of (chain t) next → IfSome next (λ p. p < length t.records) → AreLeft t marks above → AreLeft t (set marks a false) next
+pub left_less : (t : LineTable) (a : ℕ) (marks : List Bool) (above next : Option ℕ) → above ≡ Some a → chain t a ≡ a ∷ list_of (chain t) next → IfSome next (λ p. p < length t.lines) → AreLeft t marks above → AreLeft t (set marks a false) next
 left_less t a marks above next is step known are =
-    let low : a < length t.records = subst (λ (o : Option ℕ). IfSome o (λ p. p < length t.records)) is are.known in
+    let low : a < length t.lines = subst (λ (o : Option ℕ). IfSome o (λ p. p < length t.lines)) is are.known in
     record {
       count = length-set marks a false ∙ are.count;
       each = λ d k on. left_each t a marks next d (a == d) refl (omega (arith, are.count)) step
@@ -108,7 +108,7 @@ unmarked_by : (b : Bool) → (b ≡ true → false ≡ true) → b ≡ false
 unmarked_by true h = absurd (false≢true (h refl))
 unmarked_by false h = refl
 
-pub left_none : (t : ClassTable) (marks : List Bool) (above : Option ℕ) → above ≡ None → AreLeft t marks above → (k : ℕ) → k < length marks → get_or marks k false ≡ false
+pub left_none : (t : LineTable) (marks : List Bool) (above : Option ℕ) → above ≡ None → AreLeft t marks above → (k : ℕ) → k < length marks → get_or marks k false ≡ false
 left_none t marks above is are k lt =
     let whole : AreLeft t marks None = subst (AreLeft t marks) is are in
     let count = are.count in
@@ -128,10 +128,10 @@ pub ruleset clearing = (cleared_more)
 
 -- ---- reading a mark
 
-pub mark_is : (t : ClassTable) (c : ℕ) (marks : List Bool) (d : ℕ) (b : Bool) → marks ≡ map (λ d. is_on_chain t d c) (range_with_len 0 (length t.records)) → d < length t.records → get_or marks d b ≡ is_on_chain t d c
-mark_is t c marks d b e h = ap (λ (ms : List Bool). get_or ms d b) e ∙ get_or-map-range_with_len (λ d. is_on_chain t d c) 0 (length t.records) d d b h (omega arith)
+pub mark_is : (t : LineTable) (c : ℕ) (marks : List Bool) (d : ℕ) (b : Bool) → marks ≡ map (λ d. is_on_chain t d c) (range_with_len 0 (length t.lines)) → d < length t.lines → get_or marks d b ≡ is_on_chain t d c
+mark_is t c marks d b e h = ap (λ (ms : List Bool). get_or ms d b) e ∙ get_or-map-range_with_len (λ d. is_on_chain t d c) 0 (length t.lines) d d b h (omega arith)
 
-pub marks_count : (t : ClassTable) (c : ℕ) (marks : List Bool) → marks ≡ map (λ d. is_on_chain t d c) (range_with_len 0 (length t.records)) → length marks ≡ length t.records
-marks_count t c marks e = ap length e ∙ length-map-range_with_len (λ d. is_on_chain t d c) 0 (length t.records)
+pub marks_count : (t : LineTable) (c : ℕ) (marks : List Bool) → marks ≡ map (λ d. is_on_chain t d c) (range_with_len 0 (length t.lines)) → length marks ≡ length t.lines
+marks_count t c marks e = ap length e ∙ length-map-range_with_len (λ d. is_on_chain t d c) 0 (length t.lines)
 
 pub ruleset reading = (mark_is, marks_count)

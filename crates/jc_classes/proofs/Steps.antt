@@ -5,9 +5,9 @@ use Rattle.std.specs.Option.{option_map}
 use Rattle.std.specs.List.{take_while}
 use Rattle.std.proofs.lemmas.List.Sums.{take_while-cons, sum_by-cons}
 use Rattle.std.proofs.lemmas.Bool.{eq-eqb}
-use Rattle.jc_base.specs.Class.{ClassTable, chain, list_of}
-use Rattle.jc_base.specs.Dispatch.{package_of}
-use Rattle.jc_base.proofs.Climbs.{chain-front}
+use Rattle.jc_base.specs.Class.{list_of}
+use Rattle.jc_hierarchy.specs.Outline.{LineTable, chain, package_of}
+use Rattle.jc_hierarchy.proofs.Bare.{chain-front}
 use Rattle.jc_resolve.specs.declared.named.NamedClass.{NamedClass}
 use Rattle.jc_resolve.specs.declared.named.DispatchTable.{DispatchTable}
 use Rattle.jc_classes.specs.declared.layout.ClassLayout.{ClassLayout}
@@ -15,20 +15,20 @@ use Rattle.jc_classes.specs.Entries.{entries_of, overlaid}
 use Rattle.jc_classes.specs.Layout.{public_table, visible_table, own_of, home_run, public_entries, visible_entries, instance_cells, layout_of, layout_from, above_or_nothing, at_home}
 use Rattle.jc_classes.proofs.Overlays.{overlaid-is}
 
-abbrev pub above_of : ClassTable → List NamedClass → Option ℕ → ClassLayout
+abbrev pub above_of : LineTable → List NamedClass → Option ℕ → ClassLayout
 above_of t classes above = above_or_nothing (option_map (layout_of t classes) above)
 
-public_above : (t : ClassTable) (classes : List NamedClass) (above : Option ℕ) → entries_of (map (public_table classes) (list_of (chain t) above)) ≡ (above_of t classes above).public
+public_above : (t : LineTable) (classes : List NamedClass) (above : Option ℕ) → entries_of (map (public_table classes) (list_of (chain t) above)) ≡ (above_of t classes above).public
 unfolding entries_of layout_of public_entries
 public_above t classes None = refl
 public_above t classes (Some p) = refl
 
-cells_above : (t : ClassTable) (classes : List NamedClass) (above : Option ℕ) → sum_by (λ a. length (own_of classes a)) (list_of (chain t) above) ≡ (above_of t classes above).cells
+cells_above : (t : LineTable) (classes : List NamedClass) (above : Option ℕ) → sum_by (λ a. length (own_of classes a)) (list_of (chain t) above) ≡ (above_of t classes above).cells
 unfolding layout_of instance_cells
 cells_above t classes None = refl
 cells_above t classes (Some p) = refl
 
-pub public_step : (t : ClassTable) (classes : List NamedClass) (c : ℕ) (above : Option ℕ) (k : NamedClass) → chain t c ≡ c ∷ list_of (chain t) above → slice_get classes c ≡ Some k
+pub public_step : (t : LineTable) (classes : List NamedClass) (c : ℕ) (above : Option ℕ) (k : NamedClass) → chain t c ≡ c ∷ list_of (chain t) above → slice_get classes c ≡ Some k
     → public_entries t classes c ≡ overlaid k.public (above_of t classes above).public
 unfolding public_entries public_table
 public_step t classes c above k chains e =
@@ -38,7 +38,7 @@ public_step t classes c above k chains e =
     ∙ ap (λ (x : DispatchTable). overlaid x (entries_of (map (public_table classes) (list_of (chain t) above)))) table
     ∙ ap (overlaid k.public) (public_above t classes above)
 
-pub cells_step : (t : ClassTable) (classes : List NamedClass) (c : ℕ) (above : Option ℕ) (k : NamedClass) → chain t c ≡ c ∷ list_of (chain t) above → slice_get classes c ≡ Some k
+pub cells_step : (t : LineTable) (classes : List NamedClass) (c : ℕ) (above : Option ℕ) (k : NamedClass) → chain t c ≡ c ∷ list_of (chain t) above → slice_get classes c ≡ Some k
     → instance_cells t classes c ≡ length k.own + (above_of t classes above).cells
 unfolding instance_cells own_of
 cells_step t classes c above k chains e =
@@ -49,37 +49,37 @@ cells_step t classes c above k chains e =
     ∙ ap (λ (n : ℕ). length k.own + n) (cells_above t classes above)
 
 -- the run of the chain in the package begins with the class
-run_step : (t : ClassTable) (c : ℕ) (rest : List ℕ) → chain t c ≡ c ∷ rest → home_run t c ≡ c ∷ take_while (λ a. package_of t a == package_of t c) rest
+run_step : (t : LineTable) (c : ℕ) (rest : List ℕ) → chain t c ≡ c ∷ rest → home_run t c ≡ c ∷ take_while (λ a. package_of t a == package_of t c) rest
 unfolding home_run
 run_step t c rest e =
     ap (take_while (λ a. package_of t a == package_of t c)) e
     ∙ take_while-cons (λ a. package_of t a == package_of t c) c rest
     ∙ rw (eq-eqb (package_of t c) (package_of t c) refl) refl
 
-same_home : (t : ClassTable) (p c : ℕ) → package_of t p ≡ package_of t c → take_while (λ a. package_of t a == package_of t c) (chain t p) ≡ home_run t p
+same_home : (t : LineTable) (p c : ℕ) → package_of t p ≡ package_of t c → take_while (λ a. package_of t a == package_of t c) (chain t p) ≡ home_run t p
 unfolding home_run
 same_home t p c e = ap (λ (home : ℕ). take_while (λ a. package_of t a == home) (chain t p)) (sym e)
 
-other_home : (t : ClassTable) (p c : ℕ) → (package_of t p == package_of t c) ≡ false → take_while (λ a. package_of t a == package_of t c) (chain t p) ≡ []
+other_home : (t : LineTable) (p c : ℕ) → (package_of t p == package_of t c) ≡ false → take_while (λ a. package_of t a == package_of t c) (chain t p) ≡ []
 other_home t p c e =
     let f = chain-front t p in
     ap (take_while (λ a. package_of t a == package_of t c)) f.1
     ∙ take_while-cons (λ a. package_of t a == package_of t c) p f.0
     ∙ rw e refl
 
-visible_by : (t : ClassTable) (classes : List NamedClass) (p c : ℕ) (home : Bool) → (package_of t p == package_of t c) ≡ home
+visible_by : (t : LineTable) (classes : List NamedClass) (p c : ℕ) (home : Bool) → (package_of t p == package_of t c) ≡ home
     → entries_of (map (visible_table classes) (take_while (λ a. package_of t a == package_of t c) (chain t p))) ≡ (if home then visible_entries t classes p else [])
 unfolding visible_entries entries_of
 visible_by t classes p c true e = ap (λ (cs : List ℕ). entries_of (map (visible_table classes) cs)) (same_home t p c (eqb-true (package_of t p) (package_of t c) e))
 visible_by t classes p c false e = ap (λ (cs : List ℕ). entries_of (map (visible_table classes) cs)) (other_home t p c e)
 
-visible_above : (t : ClassTable) (classes : List NamedClass) (c : ℕ) (above : Option ℕ)
+visible_above : (t : LineTable) (classes : List NamedClass) (c : ℕ) (above : Option ℕ)
     → entries_of (map (visible_table classes) (take_while (λ a. package_of t a == package_of t c) (list_of (chain t) above))) ≡ (if at_home t above c then (above_of t classes above).visible else [])
 unfolding entries_of layout_of at_home
 visible_above t classes c None = refl
 visible_above t classes c (Some p) = visible_by t classes p c (package_of t p == package_of t c) refl
 
-pub visible_step : (t : ClassTable) (classes : List NamedClass) (c : ℕ) (above : Option ℕ) (k : NamedClass) → chain t c ≡ c ∷ list_of (chain t) above → slice_get classes c ≡ Some k
+pub visible_step : (t : LineTable) (classes : List NamedClass) (c : ℕ) (above : Option ℕ) (k : NamedClass) → chain t c ≡ c ∷ list_of (chain t) above → slice_get classes c ≡ Some k
     → visible_entries t classes c ≡ overlaid k.visible (if at_home t above c then (above_of t classes above).visible else [])
 unfolding visible_entries visible_table
 visible_step t classes c above k chains e =
@@ -91,7 +91,7 @@ visible_step t classes c above k chains e =
     ∙ ap (overlaid k.visible) (visible_above t classes c above)
 
 -- what a class makes of its superclass's lists are its lists
-pub layout_step : (t : ClassTable) (classes : List NamedClass) (c : ℕ) (above : Option ℕ) (k : NamedClass) → chain t c ≡ c ∷ list_of (chain t) above → slice_get classes c ≡ Some k
+pub layout_step : (t : LineTable) (classes : List NamedClass) (c : ℕ) (above : Option ℕ) (k : NamedClass) → chain t c ≡ c ∷ list_of (chain t) above → slice_get classes c ≡ Some k
     → layout_of t classes c ≡ layout_from k (above_or_nothing (option_map (layout_of t classes) above)) (at_home t above c)
 unfolding layout_of layout_from
 layout_step t classes c above k chains e =

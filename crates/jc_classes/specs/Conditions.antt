@@ -4,8 +4,7 @@ use Rattle.std.specs.List.{range_with_len, list_all}
 use Rattle.std.specs.Option.{option_flatten}
 use Rattle.jc_base.specs.declared.record.Iface.{Iface}
 use Rattle.jc_base.specs.declared.record.MethodRec.{MethodRec}
-use Rattle.jc_base.specs.Class.{ClassTable, parent_of}
-use Rattle.jc_base.specs.Order.{is_on_chain}
+use Rattle.jc_hierarchy.specs.Outline.{LineTable, is_on_chain, parent_of}
 use Rattle.jc_resolve.specs.declared.fault.LinkFault.{LinkFault}
 use Rattle.jc_resolve.specs.declared.fault.LinkFault.TheVariants.{Hole, OverrideType, InterfaceType, InstanceLong}
 use Rattle.jc_resolve.specs.declared.named.NamedClass.{NamedClass}
@@ -29,18 +28,18 @@ abbrev pub entries_from : ℕ → ℕ → List (Option ℕ) → List Entry
 entries_from c token [] = []
 entries_from c token (m ∷ ms) = record { class = c; token = token; method = m } ∷ entries_from c (token + 1) ms
 
-abbrev pub entries_in : ClassTable → List NamedClass → ℕ → List Entry
+abbrev pub entries_in : LineTable → List NamedClass → ℕ → List Entry
 entries_in t classes c = entries_from c 0 (public_entries t classes c) ++ entries_from c 128 (visible_entries t classes c)
 
 -- whether a method can stand in a dispatch list of a class: one of the class or of one of its superclasses, not static, and no constructor
-abbrev pub may_stand : ClassTable → ℕ → Option MethodRec → Bool
+abbrev pub may_stand : LineTable → ℕ → Option MethodRec → Bool
 may_stand t c None = false
 may_stand t c (Some m) = is_on_chain t m.class c && (not m.is_static && not m.is_init)
 
-unfoldable pub hole_fault : ClassTable → List MethodRec → Entry → Option LinkFault
+unfoldable pub hole_fault : LineTable → List MethodRec → Entry → Option LinkFault
 hole_fault t methods e = if may_stand t e.class (method_in methods e.method) then None else Some (Hole e.class e.token)
 
-abbrev pub holes : ClassTable → List NamedClass → List MethodRec → List LinkFault
+abbrev pub holes : LineTable → List NamedClass → List MethodRec → List LinkFault
 holes t classes methods = at_fault (hole_fault t methods) (flat_map (entries_in t classes) (class_numbers classes))
 
 -- ---- entries that replace one of another signature
@@ -59,14 +58,14 @@ replacements_from c token (i ∷ is) (m ∷ ms) = record { class = c; token = to
     ∷ replacements_from c (token + 1) is ms
 
 -- the lists of the superclass
-unfoldable pub layout_above : ClassTable → List NamedClass → ℕ → ClassLayout
+unfoldable pub layout_above : LineTable → List NamedClass → ℕ → ClassLayout
 layout_above t classes c = above_or_nothing (option_map (layout_of t classes) (parent_of t c))
 
 -- the package-visible list from which that of a class is made
-abbrev pub visible_above : ClassTable → List NamedClass → ℕ → List (Option ℕ)
+abbrev pub visible_above : LineTable → List NamedClass → ℕ → List (Option ℕ)
 visible_above t classes c = if at_home t (parent_of t c) c then (layout_above t classes c).visible else []
 
-abbrev pub replacements_in : ClassTable → List NamedClass → ℕ → List Replacement
+abbrev pub replacements_in : LineTable → List NamedClass → ℕ → List Replacement
 replacements_in t classes c = replacements_from c 0 (layout_above t classes c).public
     (public_entries t classes c)
     ++ replacements_from c 128 (visible_above t classes c) (visible_entries t classes c)
@@ -75,7 +74,7 @@ unfoldable pub override_fault : List MethodRec → Replacement → Option LinkFa
 override_fault methods r = if same_signature (signature_in methods r.method)
     (signature_in methods r.inherited) then None else Some (OverrideType r.class r.token)
 
-abbrev pub overrides : ClassTable → List NamedClass → List MethodRec → List LinkFault
+abbrev pub overrides : LineTable → List NamedClass → List MethodRec → List LinkFault
 overrides t classes methods = at_fault (override_fault methods) (flat_map (replacements_in t classes) (class_numbers classes))
 
 -- ---- interfaces that are not served
@@ -91,7 +90,7 @@ abbrev pub implemented_by : Option NamedClass → List Iface
 implemented_by None = []
 implemented_by (Some k) = if k.interface then [] else k.interfaces
 
-abbrev pub implementations_in : ClassTable → List NamedClass → ℕ → List Implementation
+abbrev pub implementations_in : LineTable → List NamedClass → ℕ → List Implementation
 implementations_in t classes c = map
     (λ (i : Iface). record { class = c; public = public_entries t classes c; iface = i })
     (implemented_by (slice_get classes c))
@@ -109,19 +108,19 @@ serves_all methods public i = list_all (λ m. not (m.class == i.class) || serves
 unfoldable pub interface_fault : List MethodRec → Implementation → Option LinkFault
 interface_fault methods x = if serves_all methods x.public x.iface then None else Some (InterfaceType x.class x.iface.class)
 
-abbrev pub unserved : ClassTable → List NamedClass → List MethodRec → List LinkFault
+abbrev pub unserved : LineTable → List NamedClass → List MethodRec → List LinkFault
 unserved t classes methods = at_fault (interface_fault methods) (flat_map (implementations_in t classes) (class_numbers classes))
 
 -- ---- instances that are too long
 
-unfoldable pub long_fault : ClassTable → List NamedClass → ℕ → Option LinkFault
+unfoldable pub long_fault : LineTable → List NamedClass → ℕ → Option LinkFault
 long_fault t classes c = if nat_lt 32767 (instance_cells t classes c) then Some (InstanceLong c (instance_cells t classes c)) else None
 
-abbrev pub long_instances : ClassTable → List NamedClass → List LinkFault
+abbrev pub long_instances : LineTable → List NamedClass → List LinkFault
 long_instances t classes = at_fault (long_fault t classes) (class_numbers classes)
 
 -- ---- all, in the order of their numbers
 
-abbrev pub conditions : ClassTable → List NamedClass → List MethodRec → List (List LinkFault)
+abbrev pub conditions : LineTable → List NamedClass → List MethodRec → List (List LinkFault)
 conditions t classes methods = holes t classes methods ∷ overrides t classes methods
     ∷ unserved t classes methods ∷ long_instances t classes ∷ []

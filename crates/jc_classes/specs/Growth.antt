@@ -1,7 +1,7 @@
 -- What a class adds to the dispatch list of its superclass (JCVM 2.2, section 4.3.7.6).
 use Rattle.std.specs.Prelude.{◌≡◌, ℕ, ◌<◌, ◌==◌, ◌&&◌, ◌⊎◌, not, Bool, true, false, List, length, Option, Some, None, slice_index_or}
 use Rattle.jc_base.specs.declared.record.MethodRec.{MethodRec}
-use Rattle.jc_base.specs.Class.{ClassTable}
+use Rattle.jc_hierarchy.specs.Outline.{LineTable}
 use Rattle.jc_resolve.specs.declared.named.NamedClass.{NamedClass}
 use Rattle.jc_classes.specs.Layout.{public_entries, visible_entries}
 use Rattle.jc_classes.specs.Signatures.{method_in}
@@ -22,6 +22,6 @@ pub record AddsOwn (methods : List MethodRec) (c : ℕ) (inherited list : List (
       ⊎ (is_own methods c (slice_index_or list k None) ≡ true)
 
 -- a class that adds methods of its own alone to both of its dispatch lists
-pub record Grows (t : ClassTable) (classes : List NamedClass) (methods : List MethodRec) (c : ℕ) : Type 0 where
+pub record Grows (t : LineTable) (classes : List NamedClass) (methods : List MethodRec) (c : ℕ) : Type 0 where
   pub public : AddsOwn methods c (layout_above t classes c).public (public_entries t classes c)
   pub visible : AddsOwn methods c (visible_above t classes c) (visible_entries t classes c)

@@ -3,8 +3,7 @@ use Rattle.std.specs.Prelude.{ℕ, ◌+◌, Bool, false, ◌==◌, if◌then◌e
 use Rattle.std.specs.List.{range_with_len, take_while}
 use Rattle.jc_resolve.specs.NamedClasses.{no_table}
 use Rattle.jc_base.specs.declared.ty.Ty.{Ty}
-use Rattle.jc_base.specs.Class.{ClassTable, chain}
-use Rattle.jc_base.specs.Dispatch.{package_of}
+use Rattle.jc_hierarchy.specs.Outline.{LineTable, chain, package_of}
 use Rattle.jc_resolve.specs.declared.named.DispatchTable.{DispatchTable}
 use Rattle.jc_resolve.specs.declared.named.NamedClass.{NamedClass}
 use Rattle.jc_classes.specs.declared.layout.ClassLayout.{ClassLayout}
@@ -26,23 +25,23 @@ unfoldable pub own_of : List NamedClass → ℕ → List Ty
 own_of classes c = of_class [] (λ k. k.own) (slice_get classes c)
 
 -- a class and its superclasses up to the last before one of another package
-unfoldable pub home_run : ClassTable → ℕ → List ℕ
+unfoldable pub home_run : LineTable → ℕ → List ℕ
 home_run t c = take_while (λ a. package_of t a == package_of t c) (chain t c)
 
 -- the public dispatch list of a class, by the tables of its superclasses
-unfoldable pub public_entries : ClassTable → List NamedClass → ℕ → List (Option ℕ)
+unfoldable pub public_entries : LineTable → List NamedClass → ℕ → List (Option ℕ)
 public_entries t classes c = entries_of (map (public_table classes) (chain t c))
 
 -- the package-visible dispatch list of a class: tokens of a package count for its own classes alone
-unfoldable pub visible_entries : ClassTable → List NamedClass → ℕ → List (Option ℕ)
+unfoldable pub visible_entries : LineTable → List NamedClass → ℕ → List (Option ℕ)
 visible_entries t classes c = entries_of (map (visible_table classes) (home_run t c))
 
 -- how many cells an instance has: those of the superclasses and the class's own
-unfoldable pub instance_cells : ClassTable → List NamedClass → ℕ → ℕ
+unfoldable pub instance_cells : LineTable → List NamedClass → ℕ → ℕ
 instance_cells t classes c = sum_by (λ a. length (own_of classes a)) (chain t c)
 
 -- the lists and the number of cells of a class
-unfoldable pub layout_of : ClassTable → List NamedClass → ℕ → ClassLayout
+unfoldable pub layout_of : LineTable → List NamedClass → ℕ → ClassLayout
 layout_of t classes c = record {
   public = public_entries t classes c;
   visible = visible_entries t classes c;
@@ -50,7 +49,7 @@ layout_of t classes c = record {
 }
 
 -- those of all classes, by number
-abbrev pub layouts : ClassTable → List NamedClass → List ClassLayout
+abbrev pub layouts : LineTable → List NamedClass → List ClassLayout
 layouts t classes = map (layout_of t classes) (range_with_len 0 (length classes))
 
 -- ---- the same step by step: what a class makes of its superclass's lists
@@ -70,6 +69,6 @@ layout_from k up home = record {
 }
 
 -- whether the superclass, where there is one, is of the package of a class
-unfoldable pub at_home : ClassTable → Option ℕ → ℕ → Bool
+unfoldable pub at_home : LineTable → Option ℕ → ℕ → Bool
 at_home t None c = false
 at_home t (Some p) c = package_of t p == package_of t c

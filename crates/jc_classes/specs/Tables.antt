@@ -3,7 +3,8 @@
 use Rattle.std.specs.Prelude.{◌≡◌, ℕ, ◌+◌, List, [], ◌∷◌, All, length, filter_map, flat_map, Option, Result, Ok, Err}
 use Rattle.jc_base.specs.declared.record.ClassRec.{ClassRec}
 use Rattle.jc_base.specs.declared.record.MethodRec.{MethodRec}
-use Rattle.jc_base.specs.Class.{ClassTable, object}
+use Rattle.jc_base.specs.Class.{ClassTable}
+use Rattle.jc_hierarchy.specs.Outline.{LineTable, object}
 use Rattle.jc_base.specs.Linked.{AreLinkedClasses}
 use Rattle.jc_resolve.specs.Named.{IsNamedClass}
 use Rattle.jc_resolve.specs.declared.fault.LinkFault.{LinkFault}
@@ -35,16 +36,16 @@ record_from k l = record {
 }
 
 -- the records of classes whose numbers begin with c
-abbrev pub records_from : ClassTable → List NamedClass → ℕ → List NamedClass → List ClassRec
+abbrev pub records_from : LineTable → List NamedClass → ℕ → List NamedClass → List ClassRec
 records_from t classes c [] = []
 records_from t classes c (k ∷ ks) = record_from k (layout_of t classes c) ∷ records_from t classes (c + 1) ks
 
--- the table of classes whose superclasses are those of a table
-abbrev pub class_tables : ClassTable → List NamedClass → ClassTable
+-- the table of classes with these lines
+abbrev pub class_tables : LineTable → List NamedClass → ClassTable
 class_tables t classes = record { records = records_from t classes 0 classes; roles = t.roles }
 
 -- what is asked, in the order of the numbers
-unfoldable pub classes_agree : ClassTable → List NamedClass → List MethodRec → Result (Unit {0}) LinkFault
+unfoldable pub classes_agree : LineTable → List NamedClass → List MethodRec → Result (Unit {0}) LinkFault
 classes_agree t classes methods =
     refused (least_of link_place (hole_fault t methods) (flat_map (entries_in t classes) (class_numbers classes))) >>= λ _.
     (refused (least_of link_place (override_fault methods) (flat_map (replacements_in t classes) (class_numbers classes))) >>= λ _.
@@ -52,22 +53,22 @@ classes_agree t classes methods =
     refused (least_of link_place (long_fault t classes) (class_numbers classes))))
 
 -- the table, where they hold
-unfoldable pub tables_of : ClassTable → List NamedClass → List MethodRec → Result ClassTable LinkFault
+unfoldable pub tables_of : LineTable → List NamedClass → List MethodRec → Result ClassTable LinkFault
 tables_of t classes methods = classes_agree t classes methods >>= λ _. Ok (class_tables t classes)
 
 -- the table exactly where nothing is at fault; else the first condition by number that is broken, at its least thing
-abbrev pub Tells : ClassTable → List NamedClass → List MethodRec → Result ClassTable LinkFault → Type 0
+abbrev pub Tells : LineTable → List NamedClass → List MethodRec → Result ClassTable LinkFault → Type 0
 Tells t classes methods (Ok table) = (table ≡ class_tables t classes) × AllEmpty (conditions t classes methods)
 Tells t classes methods (Err fault) = IsFirst link_place (conditions t classes methods) fault
 
 -- the same of what linking ends with; out of memory tells nothing
-abbrev pub TellsEnd : ClassTable → List NamedClass → List MethodRec → Result ClassTable LinkEnd → Type 0
+abbrev pub TellsEnd : LineTable → List NamedClass → List MethodRec → Result ClassTable LinkEnd → Type 0
 TellsEnd t classes methods (Ok table) = Tells t classes methods (Ok table)
 TellsEnd t classes methods (Err (Fault fault)) = Tells t classes methods (Err fault)
 TellsEnd t classes methods (Err Memory) = Unit {0}
 
 -- in a world of so many packages, in which everything is a number, the table is what a world needs of its classes
-abbrev pub Links : ClassTable → List NamedClass → List MethodRec → ClassTable → Type 0
+abbrev pub Links : LineTable → List NamedClass → List MethodRec → ClassTable → Type 0
 Links t classes methods table = (packages : ℕ)
     → All (IsNamedClass packages (length methods) classes (object t)) classes
     → AreLinkedClasses packages table methods

@@ -1,7 +1,7 @@
 ghost use Rattle.std.specs.Prelude.{ℕ, false, slice_index_or, ◌≡◌, ◌≤◌, ◌<◌, ◌+◌, ◌++◌, All, length, map, flat_map, option_map, IfSome, IsTrue, Some, None};
 ghost use Rattle.std.specs.List.{range_with_len};
-ghost use Rattle.jc_base.specs.Class.{chain, list_of};
-ghost use Rattle.jc_base.specs.Order.{is_on_chain};
+ghost use Rattle.jc_base.specs.Class.{list_of};
+ghost use Rattle.jc_hierarchy.specs.Outline.{chain, is_on_chain};
 ghost use Rattle.jc_resolve.specs.Fault.{link_place};
 ghost use Rattle.first_fault.specs.Least.{least_of, least_from, refused};
 ghost use Rattle.jc_classes.specs.Known.{HaveSuperclasses};
@@ -25,7 +25,7 @@ struct Line<'a> {
     lineage: &'a Lineage,
     class: u16,
     marks: &'a [bool],
-    ghost marked: { marks.now ≡ map (λ d. is_on_chain lineage.now d class) (range_with_len 0 (length lineage.now.records)) },
+    ghost marked: { marks.now ≡ map (λ d. is_on_chain lineage.now d class) (range_with_len 0 (length lineage.now.lines)) },
 }
 
 /// Takes all marks away.
@@ -44,11 +44,11 @@ fn clear(marks: &mut [bool])
 /// Marks a class and its superclasses, where nothing is marked.
 #[tactic(auto, using(crate::proofs::Marks::marking))]
 fn mark(lineage: &Lineage, c: u16, marks: &mut [bool])
-    requires known { c < length lineage.now.records }
-    requires room { length marks.now ≡ length lineage.now.records }
+    requires known { c < length lineage.now.lines }
+    requires room { length marks.now ≡ length lineage.now.lines }
     requires none { (k : ℕ) → k < length marks.now → slice_index_or marks.now k false ≡ false }
-    ensures is { marks.new ≡ map (λ d. is_on_chain lineage.now d c) (range_with_len 0 (length lineage.now.records)) }
-    ensures room { length marks.new ≡ length lineage.now.records }
+    ensures is { marks.new ≡ map (λ d. is_on_chain lineage.now d c) (range_with_len 0 (length lineage.now.lines)) }
+    ensures room { length marks.new ≡ length lineage.now.lines }
 {
     let mut above = Some(c);
     'climb: while let Some(a) = above {
@@ -60,9 +60,9 @@ fn mark(lineage: &Lineage, c: u16, marks: &mut [bool])
 /// Takes the marks of a class and its superclasses away.
 #[tactic(auto, using(crate::proofs::Marks::unmarking))]
 fn unmark(lineage: &Lineage, c: u16, marks: &mut [bool])
-    requires known { c < length lineage.now.records }
-    requires marked { marks.now ≡ map (λ d. is_on_chain lineage.now d c) (range_with_len 0 (length lineage.now.records)) }
-    ensures room { length marks.new ≡ length lineage.now.records }
+    requires known { c < length lineage.now.lines }
+    requires marked { marks.now ≡ map (λ d. is_on_chain lineage.now d c) (range_with_len 0 (length lineage.now.lines)) }
+    ensures room { length marks.new ≡ length lineage.now.lines }
     ensures none { (k : ℕ) → k < length marks.new → slice_index_or marks.new k false ≡ false }
 {
     let mut above = Some(c);
@@ -77,7 +77,7 @@ impl<'a> Line<'a> {
     #[tactic(auto, using(crate::proofs::Marks::reading))]
     #[inline(always)]
     fn has(self, d: u16) -> bool
-        requires { d < length self.lineage.now.records }
+        requires { d < length self.lineage.now.lines }
         ensures { result ≡ is_on_chain self.entry.lineage.now d self.entry.class }
     {
         self.marks[d as usize]
@@ -86,7 +86,7 @@ impl<'a> Line<'a> {
     /// Whether a method can stand in a dispatch list of the class.
     #[inline(always)]
     fn may_hold(self, method: &MethodRec) -> bool
-        requires { method.now.class < length self.lineage.now.records }
+        requires { method.now.class < length self.lineage.now.lines }
         ensures { result ≡ may_stand self.entry.lineage.now self.entry.class (Some method.now) }
     {
         self.has(method.class) && (!method.is_static && !method.is_init)
@@ -96,7 +96,7 @@ impl<'a> Line<'a> {
     #[tactic(auto, using(crate::proofs::Folds::class_known), unfolding(crate::specs::Conditions::hole_fault))]
     #[inline(always)]
     fn hole_fault(self, methods: &Methods, token: u16, entry: Option<u16>) -> Option<LinkFault>
-        requires known { All (λ m. m.class < length self.lineage.now.records) methods.now }
+        requires known { All (λ m. m.class < length self.lineage.now.lines) methods.now }
         ensures { result
             ≡ hole_fault self.entry.lineage.now methods.now
             (record { class = self.entry.class; token = token; method = entry }) }
@@ -121,7 +121,7 @@ impl<'a> Line<'a> {
         list: &[Option<u16>],
         least: Option<LinkFault>,
     ) -> Option<LinkFault>
-        requires known { All (λ m. m.class < length self.lineage.now.records) methods.now }
+        requires known { All (λ m. m.class < length self.lineage.now.lines) methods.now }
         requires few { first + length list.now ≤ 65535 }
         ensures { result
             ≡ least_from link_place least
@@ -148,12 +148,12 @@ fn holes_of(
     marks: &mut [bool],
     least: Option<LinkFault>,
 ) -> Option<LinkFault>
-    requires class { c < length lineage.now.records }
-    requires room { length marks.now ≡ length lineage.now.records }
+    requires class { c < length lineage.now.lines }
+    requires room { length marks.now ≡ length lineage.now.lines }
     requires none { (k : ℕ) → k < length marks.now → slice_index_or marks.now k false ≡ false }
-    requires known { All (λ m. m.class < length lineage.now.records) methods.now }
+    requires known { All (λ m. m.class < length lineage.now.lines) methods.now }
     requires few { IsShort layout.now }
-    ensures room { length marks.new ≡ length lineage.now.records }
+    ensures room { length marks.new ≡ length lineage.now.lines }
     ensures none { (k : ℕ) → k < length marks.new → slice_index_or marks.new k false ≡ false }
     ensures is { result
         ≡ least_from link_place least
@@ -244,14 +244,14 @@ fn holes_after(
     requires known { HaveSuperclasses lineage.now classes.now }
     requires layouts { all.now ≡ layouts lineage.now classes.now }
     requires class { c < length classes.now }
-    requires methods { All (λ m. m.class < length lineage.now.records) methods.now }
-    requires room { length marks.now ≡ length lineage.now.records }
+    requires methods { All (λ m. m.class < length lineage.now.lines) methods.now }
+    requires room { length marks.now ≡ length lineage.now.lines }
     requires none { (k : ℕ) → k < length marks.now → slice_index_or marks.now k false ≡ false }
     requires before { least
         ≡ least_of link_place
         (hole_fault lineage.now methods.now)
         (flat_map (entries_in lineage.now classes.now) (range_with_len 0 c)) }
-    ensures room { length marks.new ≡ length lineage.now.records }
+    ensures room { length marks.new ≡ length lineage.now.lines }
     ensures none { (k : ℕ) → k < length marks.new → slice_index_or marks.new k false ≡ false }
     ensures is { result
         ≡ least_from link_place least (hole_fault lineage.now methods.now) (entries_in lineage.now classes.now c) }
@@ -276,8 +276,8 @@ pub(crate) fn no_holes(
 ) -> Result<(), LinkFault>
     requires known { HaveSuperclasses lineage.now classes.now }
     requires layouts { all.now ≡ layouts lineage.now classes.now }
-    requires methods { All (λ m. m.class < length lineage.now.records) methods.now }
-    requires room { length marks.now ≡ length lineage.now.records }
+    requires methods { All (λ m. m.class < length lineage.now.lines) methods.now }
+    requires room { length marks.now ≡ length lineage.now.lines }
     ensures { result
         ≡ refused
         (least_of link_place

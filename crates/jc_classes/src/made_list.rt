@@ -31,7 +31,7 @@ fn layout_above<'a>(
 ) -> Option<&'a ClassLayout>
     requires known { HaveSuperclasses lineage.now classes.now }
     requires layouts { all.now ≡ layouts lineage.now classes.now }
-    requires above_known { IfSome above (λ p. p < length lineage.now.records) }
+    requires above_known { IfSome above (λ p. p < length lineage.now.lines) }
     ensures { option_map (λ l. l.now) result ≡ option_map (layout_of lineage.now classes.now) above }
 {
     match above {

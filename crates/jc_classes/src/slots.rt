@@ -1,7 +1,7 @@
 ghost use Rattle.std.specs.Prelude.{◌≡◌, ◌≤◌, ◌<◌, ◌∷◌, ◌++◌, length, map, Some, None, [], if◌then◌else◌, All, replicate, filter_map, IfOk, IfSome, slice_get};
 ghost use Rattle.std.specs.Option.{option_map, option_and_then};
-ghost use Rattle.jc_base.specs.Class.{chain, list_of, parent_of};
-ghost use Rattle.jc_base.specs.Dispatch.{package_of};
+ghost use Rattle.jc_base.specs.Class.{list_of};
+ghost use Rattle.jc_hierarchy.specs.Outline.{chain, package_of, parent_of};
 ghost use Rattle.jc_resolve.specs.Named.{IsSized};
 ghost use Rattle.jc_classes.specs.Known.{HaveSuperclasses};
 ghost use Rattle.jc_classes.specs.Layout.{layout_of, layouts, layout_from, above_or_nothing, at_home};
@@ -40,7 +40,7 @@ fn climb_from(
     slots: &Vec<Option<ClassLayout>>,
     c: u16,
 ) -> Result<UnmadeClasses, AllocError>
-    requires known { c < length lineage.now.records }
+    requires known { c < length lineage.now.lines }
     ensures { IfOk result (λ climb. IsClimb lineage.now slots.now.items c climb.path.items climb.above) }
 {
     let mut path = Vec::new(alloc);
@@ -58,8 +58,8 @@ fn climb_from(
 /// Whether the superclass, where there is one, is of the package of a class.
 #[tactic(auto, unfolding(crate::specs::Layout::at_home))]
 pub(crate) fn at_home(lineage: &Lineage, above: Option<u16>, c: u16) -> bool
-    requires known { c < length lineage.now.records }
-    requires above_known { IfSome above (λ p. p < length lineage.now.records) }
+    requires known { c < length lineage.now.lines }
+    requires above_known { IfSome above (λ p. p < length lineage.now.lines) }
     ensures { result ≡ at_home lineage.now above c }
 {
     match above {
@@ -169,7 +169,7 @@ fn fill(
     let climb = climb_from(alloc, lineage, slots, c)?;
     let mut path = climb.path;
     let mut above = climb.above;
-    lineage.chains_end();
+    lineage.facts();
     'descent: while let Some(next) = path.pop() {
         make(alloc, lineage, classes, slots, above, next)?;
         above = Some(next);

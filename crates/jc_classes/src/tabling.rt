@@ -34,10 +34,10 @@ fn agree(
 ) -> Result<(), LinkFault>
     requires known { HaveSuperclasses lineage.now classes.now }
     requires layouts { all.now ≡ layouts lineage.now classes.now }
-    requires methods { All (λ m. m.class < length lineage.now.records) methods.now }
+    requires methods { All (λ m. m.class < length lineage.now.lines) methods.now }
     requires grouped { AreGroups (length classes.now) methods.now groups.now }
     requires interfaces { AreInRange classes.now }
-    requires room { length marks.now ≡ length lineage.now.records }
+    requires room { length marks.now ≡ length lineage.now.lines }
     ensures { result ≡ classes_agree lineage.now classes.now methods.now }
 {
     no_holes(lineage, classes, methods, all, marks)?;
@@ -59,7 +59,7 @@ fn build(
     requires short { long_instances lineage.now classes.now ≡ [] }
     ensures { IfOk result (λ t. t ≡ class_tables lineage.now classes.now) }
 {
-    lineage.chains_end();
+    lineage.facts();
     let mut records = Vec::with_capacity(alloc, classes.len())?;
     'classes: for c in 0..classes.len() {
         records.push(record_from(alloc, classes.at(c), &all[c])?)?;
@@ -126,6 +126,6 @@ pub fn tables(
     ensures signatures { TellsSame }
 {
     // Every chain of superclasses ends.
-    lineage.chains_end();
+    lineage.facts();
     tables_or_fault(alloc, lineage, classes, methods)
 }

@@ -1,29 +1,27 @@
 -- Where nothing is at fault, every chain of superclasses ends with object.
-use Rattle.std.proofs.Common.{◌≡◌, ℕ, zero, suc, ◌<◌, ◌≤◌, inl, inr, Bool, true, false, List, [], ◌∷◌, map, length, Option, Some, None, refl, sym, ap, subst, ◌∙◌, arith}
+use Rattle.std.proofs.Common.{◌≡◌, ℕ, zero, suc, ◌<◌, ◌≤◌, ◌⊎◌, inl, inr, Bool, true, false, List, [], ◌∷◌, map, length, Option, Some, None, refl, sym, ap, subst, ◌∙◌, arith}
 use Rattle.std.specs.Prelude.{◌==◌, ◌||◌, ◌&&◌, nat_lt, All, Contains, slice_get, slice_index}
 use Rattle.std.specs.Option.{option_map, option_to_list}
 use Rattle.std.proofs.lemmas.Bool.{false≢true, eqb-true, ltb-true}
 use Rattle.std.proofs.lemmas.Option.{slice_get-map, slice_get-get_or, slice_get_within}
 use Rattle.std.proofs.lemmas.List.{length-map}
 use Rattle.std.proofs.lemmas.List.Elements.{All-nil, All-cons, Contains-push, Contains-push_cases}
-use Rattle.jc_base.specs.Class.{ClassTable, IsClass, AreClasses, is_interface_record, is_interface as interface_in_table, parent_of, parent_in_record, object, chain, chain_over, last}
-use Rattle.jc_base.specs.declared.ty.Ty.TheVariants.{Class}
-use Rattle.jc_base.specs.Order.{Below, same as same_type, joined, subclass}
-use Rattle.jc_base.proofs.Chains.{chain_alone, chain_above, chain_over-front, last-cons}
+use Rattle.jc_base.specs.Class.{last}
+use Rattle.jc_base.proofs.Chains.{last-cons}
 use Rattle.jc_base.proofs.Lists.{All-slice_get, IfSome-is}
 use Rattle.jc_resolve.specs.declared.named.NamedClass.{NamedClass}
 use Rattle.jc_resolve.specs.Named.{is_interface}
 use Rattle.jc_hierarchy.specs.Known.{HasKnownLine}
-use Rattle.jc_base.specs.Leads.{Leads, at_once, further}
-use Rattle.jc_hierarchy.specs.Ancestor.{superclass, superclass_in, is_above}
+use Rattle.jc_hierarchy.specs.Ancestor.{IsAncestor, superclass, superclass_in, is_above}
 use Rattle.jc_hierarchy.specs.Conditions.{names_class, class_in, fits_role}
-use Rattle.jc_hierarchy.specs.Outline.{outlined, outline}
+use Rattle.jc_hierarchy.specs.Outline.{LineTable, IsClass, AreLines, is_interface_line, is_interface as interface_in_table, parent_of, parent_in_line, object, chain, chain_over, line_of, outline}
+use Rattle.jc_hierarchy.proofs.Bare.{chain_alone, chain_above, chain_over-front}
 use Rattle.jc_hierarchy.proofs.Above.{is_above-sound}
 use Rattle.jc_base.proofs.Leading.{both, either}
 use Rattle.jc_hierarchy.proofs.Faultless.{NoFault}
 use Rattle.jc_hierarchy.proofs.Ranks.{rank, rank-most, rank-falls}
 
--- ---- the table and the list of which it is made
+-- ---- the lines and the list of which they are made
 
 -- class c, with its record
 pub record IsPlain (cs : List NamedClass) (c : ℕ) : Type 0 where
@@ -31,20 +29,20 @@ pub record IsPlain (cs : List NamedClass) (c : ℕ) : Type 0 where
   pub at : slice_get cs c ≡ Some r
   pub plain : r.interface ≡ false
 
-outline-at : (cs : List NamedClass) (c : ℕ) (r : NamedClass) → slice_get cs c ≡ Some r → slice_get (map outlined cs) c ≡ Some (outlined r)
-outline-at cs c r e = slice_get-map outlined cs c ∙ ap (option_map outlined) e
+outline-at : (cs : List NamedClass) (c : ℕ) (r : NamedClass) → slice_get cs c ≡ Some r → slice_get (map line_of cs) c ≡ Some (line_of r)
+outline-at cs c r e = slice_get-map line_of cs c ∙ ap (option_map line_of) e
 
-outline-past : (cs : List NamedClass) (c : ℕ) → slice_get cs c ≡ None → slice_get (map outlined cs) c ≡ None
-outline-past cs c e = slice_get-map outlined cs c ∙ ap (option_map outlined) e
+outline-past : (cs : List NamedClass) (c : ℕ) → slice_get cs c ≡ None → slice_get (map line_of cs) c ≡ None
+outline-past cs c e = slice_get-map line_of cs c ∙ ap (option_map line_of) e
 
 pub class-made : (cs : List NamedClass) (roles : List ℕ) (c : ℕ) → IsPlain cs c → IsClass (outline cs roles) c
 unfolding interface_in_table
 class-made cs roles c is =
     let h : c < length cs = slice_get_within cs c is.r is.at in
-    let n : length (map outlined cs) ≡ length cs = length-map cs outlined in
-    record { number = omega arith; class = ap is_interface_record (outline-at cs c is.r is.at) ∙ is.plain }
+    let n : length (map line_of cs) ≡ length cs = length-map cs line_of in
+    record { number = omega arith; class = ap is_interface_line (outline-at cs c is.r is.at) ∙ is.plain }
 
-class-read-by : (cs : List NamedClass) (c : ℕ) (o : Option NamedClass) → slice_get cs c ≡ o → c < length cs → is_interface_record (option_map outlined o) ≡ false → IsPlain cs c
+class-read-by : (cs : List NamedClass) (c : ℕ) (o : Option NamedClass) → slice_get cs c ≡ o → c < length cs → is_interface_line (option_map line_of o) ≡ false → IsPlain cs c
 class-read-by cs c None e h plain = absurd (past cs c h e) where
   past : (xs : List NamedClass) (i : ℕ) → i < length xs → slice_get xs i ≡ None → ⊥
   past [] i h e = omega arith
@@ -55,15 +53,15 @@ class-read-by cs c (Some r) e h plain = record { r = r; at = e; plain = plain }
 pub class-read : (cs : List NamedClass) (roles : List ℕ) (c : ℕ) → IsClass (outline cs roles) c → IsPlain cs c
 unfolding interface_in_table
 class-read cs roles c is =
-    let n : length (map outlined cs) ≡ length cs = length-map cs outlined in
-    let h : c < length (map outlined cs) = is.number in
-    class-read-by cs c (slice_get cs c) refl (omega arith) (ap is_interface_record (sym (slice_get-map outlined cs c)) ∙ is.class)
+    let n : length (map line_of cs) ≡ length cs = length-map cs line_of in
+    let h : c < length (map line_of cs) = is.number in
+    class-read-by cs c (slice_get cs c) refl (omega arith) (ap is_interface_line (sym (slice_get-map line_of cs c)) ∙ is.class)
 
 pub parent-made : (cs : List NamedClass) (roles : List ℕ) (c : ℕ) (is : IsPlain cs c) → parent_of (outline cs roles) c ≡ is.r.parent
 unfolding parent_of
-parent-made cs roles c is = ap parent_in_record (outline-at cs c is.r is.at) ∙ rw is.plain refl
+parent-made cs roles c is = ap parent_in_line (outline-at cs c is.r is.at) ∙ rw is.plain refl
 
-parent-class-by : (cs : List NamedClass) (c p : ℕ) (o : Option NamedClass) → slice_get cs c ≡ o → parent_in_record (option_map outlined o) ≡ Some p → IsPlain cs c
+parent-class-by : (cs : List NamedClass) (c p : ℕ) (o : Option NamedClass) → slice_get cs c ≡ o → parent_in_line (option_map line_of o) ≡ Some p → IsPlain cs c
 parent-class-by cs c p None e h = absurd cc
 parent-class-by cs c p (Some r) e h = plain r.interface refl where
   no_parent : None ≡ Some p → ⊥
@@ -75,7 +73,7 @@ parent-class-by cs c p (Some r) e h = plain r.interface refl where
 
 pub parent-class : (cs : List NamedClass) (roles : List ℕ) (c p : ℕ) → parent_of (outline cs roles) c ≡ Some p → IsPlain cs c
 unfolding parent_of
-parent-class cs roles c p e = parent-class-by cs c p (slice_get cs c) refl (ap parent_in_record (sym (slice_get-map outlined cs c)) ∙ e)
+parent-class cs roles c p e = parent-class-by cs c p (slice_get cs c) refl (ap parent_in_line (sym (slice_get-map line_of cs c)) ∙ e)
 
 superclass-read : (cs : List NamedClass) (c : ℕ) (is : IsPlain cs c) → superclass cs c ≡ option_to_list is.r.parent
 unfolding superclass
@@ -95,7 +93,7 @@ parent-plain cs first roles known sound c p e =
     let up : is.r.parent ≡ Some p = sym (parent-made cs roles c is) ∙ e in
     let there : p < length cs = IfSome-is (λ (q : ℕ). q < length cs) is.r.parent p (All-slice_get (HasKnownLine cs) cs c is.r known is.at).parent up in
     class-read-by cs p (slice_get cs p) refl there (plain-by (slice_get cs p) refl (sound.supers c p is.r is.at up)) where
-      plain-by : (o : Option NamedClass) → slice_get cs p ≡ o → is_interface cs p ≡ false → is_interface_record (option_map outlined o) ≡ false
+      plain-by : (o : Option NamedClass) → slice_get cs p ≡ o → is_interface cs p ≡ false → is_interface_line (option_map line_of o) ≡ false
       plain-by None s h = refl
       plain-by (Some r) s h = rw s at h
 
@@ -103,10 +101,10 @@ option-parent : (o : Option ℕ) (p : ℕ) → Contains (option_to_list o) p →
 option-parent None p h = absurd (omega (arith, h.1))
 option-parent (Some q) p h = elim (Contains-push_cases [] q p h) [ inl none ↦ absurd (omega (arith, none.1)) | inr e ↦ ap Some e ]
 
-above-parent-by : (cs : List NamedClass) (c p : ℕ) (o : Option NamedClass) → slice_get cs c ≡ o → Contains (superclass_in o) p → parent_in_record (option_map outlined o) ≡ Some p
+above-parent-by : (cs : List NamedClass) (c p : ℕ) (o : Option NamedClass) → slice_get cs c ≡ o → Contains (superclass_in o) p → parent_in_line (option_map line_of o) ≡ Some p
 above-parent-by cs c p None e h = absurd (omega (arith, h.1))
 above-parent-by cs c p (Some r) e h = plain r.interface refl where
-  plain : (b : Bool) → r.interface ≡ b → parent_in_record (Some (outlined r)) ≡ Some p
+  plain : (b : Bool) → r.interface ≡ b → parent_in_line (Some (line_of r)) ≡ Some p
   plain true i =
       let none : Contains [] p = rw i at h in
       absurd (omega (arith, none.1))
@@ -116,12 +114,12 @@ above-parent-by cs c p (Some r) e h = plain r.interface refl where
 
 pub above-parent : (cs : List NamedClass) (roles : List ℕ) (c p : ℕ) → Contains (superclass cs c) p → parent_of (outline cs roles) c ≡ Some p
 unfolding parent_of superclass
-above-parent cs roles c p h = ap parent_in_record (slice_get-map outlined cs c) ∙ above-parent-by cs c p (slice_get cs c) refl h
+above-parent cs roles c p h = ap parent_in_line (slice_get-map line_of cs c) ∙ above-parent-by cs c p (slice_get cs c) refl h
 
 -- ---- chains
 
 -- a chain consists of classes and ends with object
-record Ends (t : ClassTable) (cs : List ℕ) : Type 0 where
+record Ends (t : LineTable) (cs : List ℕ) : Type 0 where
   pub classes : All (IsClass t) cs
   pub ends : last cs ≡ Some (object t)
 
@@ -181,31 +179,25 @@ role-plain cs first roles sound k h =
     let c = slice_index roles k in
     named-plain cs c (slice_get cs c) refl (fitting-class cs first (slice_index roles 1) k c (sound.fitting k c (slice_get-get_or roles k 0 h)))
 
--- what leads to a class by superclasses is below it
-leads-below : (cs : List NamedClass) (roles : List ℕ) (a c : ℕ) → Leads (superclass cs) c a → Below (outline cs roles) (Class c) (Class a)
-leads-below cs roles a c (at_once h) = subclass (above-parent cs roles c a h)
-leads-below cs roles a c (further {b = b} h rest) = joined (subclass (above-parent cs roles c b h)) (leads-below cs roles a b rest)
-
-thrown-by : (cs : List NamedClass) (first : ℕ) (roles : List ℕ) (k c : ℕ) → 2 ≤ k → fits_role cs first (slice_index roles 1) k c ≡ true → Below (outline cs roles) (Class c) (Class (slice_index roles 1))
-thrown-by cs first roles k c h e =
-    let t = outline cs roles in
-    let throwable = slice_index roles 1 in
+-- a role from 2 on is throwable, or throwable is its ancestor
+thrown-by : (cs : List NamedClass) (first throwable k c : ℕ) → 2 ≤ k → fits_role cs first throwable k c ≡ true → (throwable ≡ c) ⊎ IsAncestor cs throwable c
+thrown-by cs first throwable k c h e =
     let part = both (nat_lt c first && names_class cs c) (nat_lt k 2 || c == throwable || is_above cs false throwable c) e in
     elim (either (nat_lt k 2 || c == throwable) (is_above cs false throwable c) part.1) [
       | inl low ↦ elim (either (nat_lt k 2) (c == throwable) low) [
         | inl two ↦ absurd (omega (arith, ltb-true k 2 two))
-        | inr same ↦ subst (λ (x : ℕ). Below t (Class c) (Class x)) (eqb-true c throwable same) same_type
+        | inr same ↦ inl (sym (eqb-true c throwable same))
       ]
-      | inr above ↦ leads-below cs roles throwable c (is_above-sound cs false throwable c above)
+      | inr above ↦ inr (is_above-sound cs false throwable c above)
     ]
 
-pub role-thrown : (cs : List NamedClass) (first : ℕ) (roles : List ℕ) → NoFault cs first roles → (k : ℕ) → 2 ≤ k → k < length roles → Below (outline cs roles) (Class (slice_index roles k)) (Class (slice_index roles 1))
-role-thrown cs first roles sound k two h = thrown-by cs first roles k (slice_index roles k) two (sound.fitting k (slice_index roles k) (slice_get-get_or roles k 0 h))
+pub role-thrown : (cs : List NamedClass) (first : ℕ) (roles : List ℕ) → NoFault cs first roles → (k : ℕ) → 2 ≤ k → k < length roles → (slice_index roles 1 ≡ slice_index roles k) ⊎ IsAncestor cs (slice_index roles 1) (slice_index roles k)
+role-thrown cs first roles sound k two h = thrown-by cs first (slice_index roles 1) k (slice_index roles k) two (sound.fitting k (slice_index roles k) (slice_get-get_or roles k 0 h))
 
 -- ---- the law
 
--- where nothing is at fault, the classes are a class table
-pub are-classes : (cs : List NamedClass) (first : ℕ) (roles : List ℕ) → All (HasKnownLine cs) cs → NoFault cs first roles → 0 < length roles → AreClasses (outline cs roles)
+-- where nothing is at fault, every chain ends with object
+pub are-classes : (cs : List NamedClass) (first : ℕ) (roles : List ℕ) → All (HasKnownLine cs) cs → NoFault cs first roles → 0 < length roles → AreLines (outline cs roles)
 unfolding chain
 are-classes cs first roles known sound some =
     let root = role-plain cs first roles sound 0 some in
@@ -213,7 +205,7 @@ are-classes cs first roles known sound some =
       objects = class-made cs roles (slice_index roles 0) root;
       object_ends = parent-made cs roles (slice_index roles 0) root ∙ sound.rootless root.r root.at root.plain;
       chains = λ c is.
-          let n : length (map outlined cs) ≡ length cs = length-map cs outlined in
-          let made = chain-ends cs first roles known sound (length (map outlined cs)) c (class-read cs roles c is) (omega (arith, rank-most cs c)) in
+          let n : length (map line_of cs) ≡ length cs = length-map cs line_of in
+          let made = chain-ends cs first roles known sound (length (map line_of cs)) c (class-read cs roles c is) (omega (arith, rank-most cs c)) in
           record { classes = made.classes; ends = made.ends };
     }

@@ -2,39 +2,46 @@
 use Rattle.std.proofs.Common.{◌≡◌, ℕ, zero, suc, ◌<◌, ◌⊎◌, inl, inr, ◌↔◌, Bool, true, false, List, [], ◌∷◌, length, Option, Some, None, refl, sym, subst, ◌∙◌, arith}
 use Rattle.std.specs.Prelude.{IsTrue, Contains, slice_get}
 use Rattle.std.proofs.lemmas.Bool.{false≢true}
-use Rattle.jc_base.specs.Class.{AreClasses}
-use Rattle.jc_base.specs.Order.{is_on_chain}
-use Rattle.jc_base.proofs.Climbs.{climb, on_alone, on_next, on_chain-here, on_chain-parent, on_chain-trans}
+use Rattle.jc_base.specs.Order.{is_on_chain as on_chain_in_table}
+use Rattle.jc_base.proofs.Climbs.{climb, on_alone, on_next, on_chain-parent, on_chain-trans}
 use Rattle.jc_resolve.specs.declared.named.NamedClass.{NamedClass}
 use Rattle.jc_base.specs.Leads.{Leads, at_once, further}
 use Rattle.jc_hierarchy.specs.Ancestor.{superclass, superclass_in, extended, extended_in, IsAncestor, above, is_above}
-use Rattle.jc_hierarchy.specs.Outline.{outline}
+use Rattle.jc_hierarchy.specs.Outline.{AreLines, is_on_chain, parent_of, outline}
+use Rattle.jc_hierarchy.proofs.Bare.{bare, bare-parent, bare-on_chain, bare-classes, on_chain-here}
 use Rattle.jc_hierarchy.proofs.Above.{above-from, is_above-complete}
 use Rattle.jc_hierarchy.proofs.Faultless.{NoFault}
 use Rattle.jc_hierarchy.proofs.Descent.{above-parent, parent-above}
 
 -- a class on the chain of a class is this class, or an ancestor of it
-on-chain-ancestor : (cs : List NamedClass) (roles : List ℕ) → AreClasses (outline cs roles) → (c : ℕ) → (a : ℕ) → is_on_chain (outline cs roles) a c ≡ true → (a ≡ c) ⊎ IsAncestor cs a c
-on-chain-ancestor cs roles are = climb (outline cs roles) are (λ c. (a : ℕ) → is_on_chain (outline cs roles) a c ≡ true → (a ≡ c) ⊎ IsAncestor cs a c)
-    (λ c top alone a on. inl (sym (on_alone (outline cs roles) a c alone on)))
-    (λ c p link next before a on. elim (on_next (outline cs roles) a c p next on) [
+on-chain-ancestor : (cs : List NamedClass) (roles : List ℕ) → AreLines (outline cs roles) → (c : ℕ) → (a : ℕ) → on_chain_in_table (bare (outline cs roles)) a c ≡ true → (a ≡ c) ⊎ IsAncestor cs a c
+on-chain-ancestor cs roles are =
+    let t = outline cs roles in
+    climb (bare t) (bare-classes t are) (λ c. (a : ℕ) → on_chain_in_table (bare t) a c ≡ true → (a ≡ c) ⊎ IsAncestor cs a c)
+    (λ c top alone a on. inl (sym (on_alone (bare t) a c alone on)))
+    (λ c p link next before a on. elim (on_next (bare t) a c p next on) [
       | inl here ↦ inl (sym here)
-      | inr up ↦ inr (elim (before a up) [
-        | inl same ↦ subst (λ x. IsAncestor cs x c) (sym same) (at_once (parent-above cs roles c p link))
-        | inr above ↦ further (parent-above cs roles c p link) above
-      ])
+      | inr up ↦
+          let own : parent_of t c ≡ Some p = sym (bare-parent t c) ∙ link in
+          inr (elim (before a up) [
+            | inl same ↦ subst (λ x. IsAncestor cs x c) (sym same) (at_once (parent-above cs roles c p own))
+            | inr above ↦ further (parent-above cs roles c p own) above
+          ])
     ])
 
-ancestor-on-chain : (cs : List NamedClass) (roles : List ℕ) (a c : ℕ) → AreClasses (outline cs roles) → Leads (superclass cs) c a → is_on_chain (outline cs roles) a c ≡ true
-ancestor-on-chain cs roles a c are (at_once h) = on_chain-parent (outline cs roles) c a are (above-parent cs roles c a h)
+ancestor-on-chain : (cs : List NamedClass) (roles : List ℕ) (a c : ℕ) → AreLines (outline cs roles) → Leads (superclass cs) c a → on_chain_in_table (bare (outline cs roles)) a c ≡ true
+ancestor-on-chain cs roles a c are (at_once h) =
+    let t = outline cs roles in
+    on_chain-parent (bare t) c a (bare-classes t are) (bare-parent t c ∙ above-parent cs roles c a h)
 ancestor-on-chain cs roles a c are (further {b = b} h rest) =
-    on_chain-trans (outline cs roles) are c b a (on_chain-parent (outline cs roles) c b are (above-parent cs roles c b h)) (ancestor-on-chain cs roles a b are rest)
+    let t = outline cs roles in
+    on_chain-trans (bare t) (bare-classes t are) c b a (on_chain-parent (bare t) c b (bare-classes t are) (bare-parent t c ∙ above-parent cs roles c b h)) (ancestor-on-chain cs roles a b are rest)
 
-pub chain-ancestors : (cs : List NamedClass) (roles : List ℕ) → AreClasses (outline cs roles) → (a c : ℕ) → IsTrue (is_on_chain (outline cs roles) a c) ↔ ((a ≡ c) ⊎ IsAncestor cs a c)
-chain-ancestors cs roles are a c = (on-chain-ancestor cs roles are c a, back) where
+pub chain-ancestors : (cs : List NamedClass) (roles : List ℕ) → AreLines (outline cs roles) → (a c : ℕ) → IsTrue (is_on_chain (outline cs roles) a c) ↔ ((a ≡ c) ⊎ IsAncestor cs a c)
+chain-ancestors cs roles are a c = (λ on. on-chain-ancestor cs roles are c a (bare-on_chain (outline cs roles) a c ∙ on), back) where
   back : (a ≡ c) ⊎ IsAncestor cs a c → is_on_chain (outline cs roles) a c ≡ true
   back (inl same) = subst (λ x. is_on_chain (outline cs roles) x c ≡ true) (sym same) (on_chain-here (outline cs roles) c)
-  back (inr above) = ancestor-on-chain cs roles a c are above
+  back (inr above) = sym (bare-on_chain (outline cs roles) a c) ∙ ancestor-on-chain cs roles a c are above
 
 -- ---- no cycles
 

@@ -3,10 +3,10 @@ pub mod Marking
 pub mod Above
 pub mod Faultless
 pub mod Ranks
+pub mod Bare
 pub mod Descent
 pub mod Told
 pub mod Settled
 pub mod Kinship
-pub mod SameLines
 pub mod Naming
 pub mod Outlines

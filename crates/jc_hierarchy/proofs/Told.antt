@@ -1,13 +1,10 @@
--- The answer tells the first fault, or the table and what is known of it.
+-- The answer tells the first fault, or the lines and what is known of them.
 use Rattle.std.proofs.Common.{◌≡◌, ℕ, zero, suc, ◌<◌, ◌≤◌, Bool, true, false, not, List, [], ◌∷◌, map, length, Option, Some, None, Result, Ok, Err, refl, sym, ap, subst, ◌∙◌, arith}
 use Rattle.std.specs.Prelude.{All, IfSome, IfOk, slice_get, slice_index}
 use Rattle.std.specs.Option.{option_map}
 use Rattle.std.proofs.lemmas.Option.{slice_get-map}
 use Rattle.std.proofs.lemmas.List.{length-map}
 use Rattle.jc_base.specs.declared.record.Iface.{Iface}
-use Rattle.jc_base.specs.declared.record.ClassRec.{ClassRec}
-use Rattle.jc_base.specs.Class.{ClassTable, AreClasses, is_interface_record, is_interface as interface_in_table, parent_of}
-use Rattle.jc_base.specs.Dispatch.{of_record, package_of as package_in_table}
 use Rattle.jc_base.proofs.Lists.{All-slice_get, IfSome-is}
 use Rattle.jc_resolve.specs.declared.fault.LinkFault.{LinkFault}
 use Rattle.jc_resolve.specs.declared.fault.LinkEnd.{LinkEnd}
@@ -21,7 +18,8 @@ use Rattle.first_fault.proofs.FirstTold.{IsTold, things-told, step, last, refuse
 use Rattle.jc_resolve.specs.Due.{IsDue}
 use Rattle.jc_hierarchy.specs.Known.{HasKnownLine}
 use Rattle.jc_hierarchy.specs.Conditions.{numbered, names_class, class_in, super_fault, cycle_fault, role_fault, root_fault, named_interfaces, interface_fault, conditions}
-use Rattle.jc_hierarchy.specs.Outline.{outlined, outline}
+use Rattle.jc_hierarchy.specs.declared.lineage_type.Line.{Line}
+use Rattle.jc_hierarchy.specs.Outline.{LineTable, AreLines, is_interface_line, is_interface as interface_in_table, package_in_line, package_of as package_in_table, parent_of, line_of, outline}
 use Rattle.jc_hierarchy.specs.Lines.{lines_agree, lineage_of, Tells, HaveLines}
 use Rattle.jc_hierarchy.proofs.Kinship.{chain-ancestors, acyclic}
 use Rattle.jc_hierarchy.proofs.Faultless.{NoFault, no_fault}
@@ -39,7 +37,7 @@ lines-told cs first roles =
 pub agreed-empty : (cs : List NamedClass) (first : ℕ) (roles : List ℕ) → lines_agree cs first roles ≡ Ok (tt {0}) → AllEmpty (conditions cs first roles)
 agreed-empty cs first roles e = accepted-empty link_place (conditions cs first roles) (sym (lines-told cs first roles).same ∙ e)
 
-told-by : (cs : List NamedClass) (first : ℕ) (roles : List ℕ) (s : Result (Unit {0}) LinkFault) (r : Result ClassTable LinkEnd) → lines_agree cs first roles ≡ s → IsDue (s >>= λ _. Ok (outline cs roles)) r → Tells cs first roles r
+told-by : (cs : List NamedClass) (first : ℕ) (roles : List ℕ) (s : Result (Unit {0}) LinkFault) (r : Result LineTable LinkEnd) → lines_agree cs first roles ≡ s → IsDue (s >>= λ _. Ok (outline cs roles)) r → Tells cs first roles r
 told-by cs first roles (Ok x) (Ok t) e due =
     let same : outline cs roles ≡ t = cc in
     (sym same, agreed-empty cs first roles e)
@@ -51,16 +49,16 @@ told-by cs first roles (Err g) (Err (Fault f)) e due =
     refused-first link_place (conditions cs first roles) f (sym (lines-told cs first roles).same ∙ e ∙ ap Err same)
 told-by cs first roles (Err g) (Err Memory) e due = tt {0}
 
-pub due-tells : (cs : List NamedClass) (first : ℕ) (roles : List ℕ) (r : Result ClassTable LinkEnd) → IsDue (lineage_of cs first roles) r → Tells cs first roles r
+pub due-tells : (cs : List NamedClass) (first : ℕ) (roles : List ℕ) (r : Result LineTable LinkEnd) → IsDue (lineage_of cs first roles) r → Tells cs first roles r
 unfolding lineage_of
 due-tells cs first roles r due = told-by cs first roles (lines_agree cs first roles) r refl due
 
--- ---- what is known of the table
+-- ---- what is known of the lines
 
 package-same : (cs : List NamedClass) (roles : List ℕ) (c : ℕ) → package_in_table (outline cs roles) c ≡ package_of cs c
 unfolding package_of package_in_table
-package-same cs roles c = ap (of_record 0 (λ r. r.«package»)) (slice_get-map outlined cs c) ∙ same (slice_get cs c) where
-  same : (o : Option NamedClass) → of_record 0 (λ r. r.«package») (option_map outlined o) ≡ package_by o
+package-same cs roles c = ap package_in_line (slice_get-map line_of cs c) ∙ same (slice_get cs c) where
+  same : (o : Option NamedClass) → package_in_line (option_map line_of o) ≡ package_by o
   same None = refl
   same (Some r) = refl
 
@@ -73,7 +71,7 @@ earlier cs roles known c p e =
     let home : package_of cs c ≡ is.r.«package» = ap package_by is.at in
     omega (arith, package-same cs roles p, package-same cs roles c)
 
-interface-by : (cs : List NamedClass) (c : ℕ) (o : Option NamedClass) → slice_get cs c ≡ o → c < length cs → class_in o ≡ false → is_interface_record (option_map outlined o) ≡ true
+interface-by : (cs : List NamedClass) (c : ℕ) (o : Option NamedClass) → slice_get cs c ≡ o → c < length cs → class_in o ≡ false → is_interface_line (option_map line_of o) ≡ true
 interface-by cs c None e h no_class = absurd (past cs c h e) where
   past : (xs : List NamedClass) (i : ℕ) → i < length xs → slice_get xs i ≡ None → ⊥
   past [] i h e = omega arith
@@ -86,7 +84,7 @@ interface-by cs c (Some r) e h no_class = not_false r.interface no_class where
 
 interface-made : (cs : List NamedClass) (roles : List ℕ) (c : ℕ) → c < length cs → names_class cs c ≡ false → interface_in_table (outline cs roles) c ≡ true
 unfolding interface_in_table names_class
-interface-made cs roles c h e = ap is_interface_record (slice_get-map outlined cs c) ∙ interface-by cs c (slice_get cs c) refl h e
+interface-made cs roles c h e = ap is_interface_line (slice_get-map line_of cs c) ∙ interface-by cs c (slice_get cs c) refl h e
 
 interfaces-made : (cs : List NamedClass) (first : ℕ) (roles : List ℕ) → All (HasKnownLine cs) cs → NoFault cs first roles → (c : ℕ) (o : Option NamedClass) → slice_get cs c ≡ o
     → IfSome o (λ r. All (λ (i : Iface). interface_in_table (outline cs roles) i.class ≡ true) r.interfaces)
@@ -94,11 +92,11 @@ interfaces-made cs first roles known sound c None e = tt
 interfaces-made cs first roles known sound c (Some r) e =
     λ k d h. interface-made cs roles _ ((All-slice_get (HasKnownLine cs) cs c r known e).interfaces k d h) (sound.interfaces c r e k d h)
 
-pub have-lines : (cs : List NamedClass) (first : ℕ) (roles : List ℕ) → All (HasKnownLine cs) cs → NoFault cs first roles → AreClasses (outline cs roles) → HaveLines cs (outline cs roles)
+pub have-lines : (cs : List NamedClass) (first : ℕ) (roles : List ℕ) → All (HasKnownLine cs) cs → NoFault cs first roles → AreLines (outline cs roles) → HaveLines cs (outline cs roles)
 have-lines cs first roles known sound are = record {
-  count = length-map cs outlined;
+  count = length-map cs line_of;
   roles = λ k h. class-made cs roles (slice_index roles k) (role-plain cs first roles sound k h);
-  thrown = λ k two h. role-thrown cs first roles sound k two h;
+  thrown = λ k two h. (chain-ancestors cs roles are (slice_index roles 1) (slice_index roles k)).1 (role-thrown cs first roles sound k two h);
   descent = λ c h. acyclic cs first roles sound false c h;
   extension = λ c h. acyclic cs first roles sound true c h;
   ancestors = chain-ancestors cs roles are;
@@ -107,19 +105,19 @@ have-lines cs first roles known sound are = record {
   interfaces = λ c. interfaces-made cs first roles known sound c (slice_get cs c) refl;
 }
 
-lines-by : (cs : List NamedClass) (first : ℕ) (roles : List ℕ) (s : Result (Unit {0}) LinkFault) (r : Result ClassTable LinkEnd) → All (HasKnownLine cs) cs → lines_agree cs first roles ≡ s
-    → IsDue (s >>= λ _. Ok (outline cs roles)) r → IfOk r AreClasses → IfOk r (HaveLines cs)
+lines-by : (cs : List NamedClass) (first : ℕ) (roles : List ℕ) (s : Result (Unit {0}) LinkFault) (r : Result LineTable LinkEnd) → All (HasKnownLine cs) cs → lines_agree cs first roles ≡ s
+    → IsDue (s >>= λ _. Ok (outline cs roles)) r → IfOk r AreLines → IfOk r (HaveLines cs)
 lines-by cs first roles (Ok x) (Ok t) known e due are =
     let same : outline cs roles ≡ t = cc in
-    subst (HaveLines cs) same (have-lines cs first roles known (no_fault cs first roles (agreed-empty cs first roles e)) (subst AreClasses (sym same) are))
+    subst (HaveLines cs) same (have-lines cs first roles known (no_fault cs first roles (agreed-empty cs first roles e)) (subst AreLines (sym same) are))
 lines-by cs first roles (Err g) (Ok t) known e due are = absurd cc
 lines-by cs first roles s (Err f) known e due are = tt
 
-pub due-lines : (cs : List NamedClass) (first : ℕ) (roles : List ℕ) (r : Result ClassTable LinkEnd) → All (HasKnownLine cs) cs → IsDue (lineage_of cs first roles) r → IfOk r AreClasses → IfOk r (HaveLines cs)
+pub due-lines : (cs : List NamedClass) (first : ℕ) (roles : List ℕ) (r : Result LineTable LinkEnd) → All (HasKnownLine cs) cs → IsDue (lineage_of cs first roles) r → IfOk r AreLines → IfOk r (HaveLines cs)
 unfolding lineage_of
 due-lines cs first roles r known due are = lines-by cs first roles (lines_agree cs first roles) r known refl due are
 
-pub agreed-classes : (cs : List NamedClass) (first : ℕ) (roles rs : List ℕ) (records : List ClassRec) → All (HasKnownLine cs) cs → 0 < length roles → lines_agree cs first roles ≡ Ok (tt {0})
-    → records ≡ map outlined cs → rs ≡ roles → AreClasses (record { records = records; roles = rs })
-agreed-classes cs first roles rs records known some e made same =
+pub agreed-classes : (cs : List NamedClass) (first : ℕ) (roles rs : List ℕ) (lines : List Line) → All (HasKnownLine cs) cs → 0 < length roles → lines_agree cs first roles ≡ Ok (tt {0})
+    → lines ≡ map line_of cs → rs ≡ roles → AreLines (record { lines = lines; roles = rs })
+agreed-classes cs first roles rs lines known some e made same =
     rw (made, same) (are-classes cs first roles known (no_fault cs first roles (agreed-empty cs first roles e)) some)

@@ -1,10 +1,6 @@
 -- The classes in one tree of superclasses, or the first fault by the number of its condition, at the least thing at fault.
 use Rattle.std.specs.Prelude.{◌≡◌, ℕ, ◌≤◌, ◌<◌, ◌⊎◌, ◌↔◌, IsTrue, true, List, length, Some, Result, Ok, Err, IfSome, All, slice_get, slice_index}
-use Rattle.jc_base.specs.declared.ty.Ty.TheVariants.{Class}
 use Rattle.jc_base.specs.declared.record.Iface.{Iface}
-use Rattle.jc_base.specs.Class.{ClassTable, IsClass, is_interface, parent_of, throwable}
-use Rattle.jc_base.specs.Order.{Below, is_on_chain}
-use Rattle.jc_base.specs.Dispatch.{package_of}
 use Rattle.jc_resolve.specs.declared.fault.LinkFault.{LinkFault}
 use Rattle.jc_resolve.specs.declared.fault.LinkEnd.{LinkEnd}
 use Rattle.jc_resolve.specs.declared.fault.LinkEnd.TheVariants.{Fault, Memory}
@@ -14,7 +10,7 @@ use Rattle.first_fault.specs.Least.{◌>>=◌, least_of, refused}
 use Rattle.first_fault.specs.First.{IsFirst, AllEmpty}
 use Rattle.jc_hierarchy.specs.Ancestor.{IsAncestor, IsSuperinterface}
 use Rattle.jc_hierarchy.specs.Conditions.{numbered, super_fault, cycle_fault, role_fault, root_fault, named_interfaces, interface_fault, conditions}
-use Rattle.jc_hierarchy.specs.Outline.{outline}
+use Rattle.jc_hierarchy.specs.Outline.{LineTable, IsClass, is_interface, is_on_chain, package_of, parent_of, outline, throwable}
 
 -- the conditions, one after the other
 unfoldable pub lines_agree : List NamedClass → ℕ → List ℕ → Result (Unit {0}) LinkFault
@@ -25,24 +21,24 @@ lines_agree cs first roles = do
   rooted ← refused (least_of link_place (root_fault (slice_index roles 0)) (numbered cs))
   refused (least_of link_place (interface_fault cs) (named_interfaces cs))
 
--- the table, where they hold
-unfoldable pub lineage_of : List NamedClass → ℕ → List ℕ → Result ClassTable LinkFault
+-- the lines, where they hold
+unfoldable pub lineage_of : List NamedClass → ℕ → List ℕ → Result LineTable LinkFault
 lineage_of cs first roles = do
   agreed ← lines_agree cs first roles
   Ok (outline cs roles)
 
--- the table exactly where nothing is at fault; else the first condition that is broken, at its least thing
-abbrev pub Tells : List NamedClass → ℕ → List ℕ → Result ClassTable LinkEnd → Type 0
+-- the lines exactly where nothing is at fault; else the first condition that is broken, at its least thing
+abbrev pub Tells : List NamedClass → ℕ → List ℕ → Result LineTable LinkEnd → Type 0
 Tells cs first roles (Ok t) = (t ≡ outline cs roles) × AllEmpty (conditions cs first roles)
 Tells cs first roles (Err (Fault fault)) = IsFirst link_place (conditions cs first roles) fault
 Tells cs first roles (Err Memory) = Unit {0}
 
 -- what is known of the classes where nothing is at fault
-pub record HaveLines (cs : List NamedClass) (t : ClassTable) : Type 0 where
-  pub count : length t.records ≡ length cs
+pub record HaveLines (cs : List NamedClass) (t : LineTable) : Type 0 where
+  pub count : length t.lines ≡ length cs
   -- each role is a class, from role 2 on throwable or a subclass of it
   pub roles : (k : ℕ) → k < length t.roles → IsClass t (slice_index t.roles k)
-  pub thrown : (k : ℕ) → 2 ≤ k → k < length t.roles → Below t (Class (slice_index t.roles k)) (Class (throwable t))
+  pub thrown : (k : ℕ) → 2 ≤ k → k < length t.roles → IsTrue (is_on_chain t (throwable t) (slice_index t.roles k))
   -- no class is an ancestor of itself, and no interface a superinterface of itself
   pub descent : (c : ℕ) → ¬ (IsAncestor cs c c)
   pub extension : (c : ℕ) → ¬ (IsSuperinterface cs c c)

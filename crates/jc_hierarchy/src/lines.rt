@@ -1,8 +1,8 @@
 ghost use Rattle.std.specs.Prelude.{◌≡◌, ◌≤◌, length, IfOk, All};
-ghost use Rattle.jc_base.specs.Class.{AreClasses};
 ghost use Rattle.jc_resolve.specs.Due.{IsDue};
 ghost use Rattle.jc_hierarchy.specs.Known.{HasKnownLine};
 ghost use Rattle.jc_hierarchy.specs.Ancestor.{TellsAbove};
+ghost use Rattle.jc_hierarchy.specs.Outline.{AreLines};
 ghost use Rattle.jc_hierarchy.specs.Lines.{lines_agree, lineage_of, Tells, HaveLines};
 
 use crate::cycle_checks::least_cycle;
@@ -41,7 +41,7 @@ fn numbers(roles: [u8; 8]) -> [u16; 8]
     roles.map(|role| role as u16)
 }
 
-/// The table of the classes, where nothing is at fault.
+/// The lines of the classes, where nothing is at fault.
 #[tactic(auto, unfolding(crate::specs::Lines::lineage_of))]
 fn outlined(
     alloc: Global,
@@ -52,7 +52,7 @@ fn outlined(
     requires few { length classes.now ≤ 4096 }
     requires known { All (HasKnownLine classes.now) classes.now }
     ensures value { IsDue (lineage_of classes.now first roles) result }
-    ensures chains { IfOk result AreClasses }
+    ensures chains { IfOk result AreLines }
     ensures eight { IfOk result (λ t. length t.roles ≡ 8) }
 {
     lines_agree(alloc, classes, first, &roles)?;
@@ -71,7 +71,7 @@ pub fn lineage(
     requires few { length classes.now ≤ 4096 }
     requires known { All (HasKnownLine classes.now) classes.now }
     ensures value { IsDue (lineage_of classes.now first roles) result }
-    // The table exactly where nothing is at fault; else the first condition by number that is broken, at
+    // The lines exactly where nothing is at fault; else the first condition by number that is broken, at
     // its least thing.
     ensures tells { Tells classes.now first roles result }
     ensures lines { IfOk result (HaveLines classes.now) }

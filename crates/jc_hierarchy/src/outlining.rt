@@ -1,5 +1,5 @@
 ghost use Rattle.std.specs.Prelude.{◌≡◌, map, IfOk};
-ghost use Rattle.jc_hierarchy.specs.Outline.{outlined, record_of};
+ghost use Rattle.jc_hierarchy.specs.Outline.{line_of};
 
 use crate::lineage_type::Line;
 use jc_resolve::{NamedClass, NamedClasses};
@@ -7,7 +7,7 @@ use std::alloc::{AllocError, Global};
 
 /// A class or an interface with its superclass alone.
 fn line_of(class: &NamedClass) -> Line
-    ensures { record_of result ≡ outlined class.now }
+    ensures { result ≡ line_of class.now }
 {
     Line {
         package: class.package,
@@ -19,7 +19,7 @@ fn line_of(class: &NamedClass) -> Line
 /// All classes, by number.
 #[tactic(auto, using(crate::proofs::Outlines::lined_more))]
 pub(crate) fn outline(alloc: Global, classes: &NamedClasses) -> Result<Vec<Line>, AllocError>
-    ensures { IfOk result (λ lines. map record_of lines.items ≡ map outlined classes.now) }
+    ensures { IfOk result (λ lines. lines.items ≡ map line_of classes.now) }
 {
     let mut lines = Vec::with_capacity(alloc, classes.len())?;
     'classes: for class in classes.as_slice() {

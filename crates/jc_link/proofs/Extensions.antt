@@ -4,6 +4,7 @@ use Rattle.std.specs.Prelude.{Contains, Some, slice_get}
 use Rattle.cap_package.specs.PackageRecord.{PackageRecord}
 use Rattle.jc_base.specs.Leads.{Leads}
 use Rattle.jc_base.specs.Class.{ClassTable}
+use Rattle.jc_hierarchy.specs.Outline.{LineTable}
 use Rattle.jc_base.specs.Interface.{extended, extended_in, NoneExtendsItself}
 use Rattle.jc_base.proofs.Leading.{Leads-along}
 use Rattle.jc_resolve.specs.declared.named.NamedClass.{NamedClass}
@@ -19,12 +20,12 @@ record-extends : (k : NamedClass) (l : ClassLayout) → extended_in (Some (recor
 unfolding record_from
 record-extends k l = refl
 
-records-extend : (t : ClassTable) (all ks : List NamedClass) (c n : ℕ) → extended_in (slice_get (records_from t all c ks) n) ≡ named.extended_in (slice_get ks n)
+records-extend : (t : LineTable) (all ks : List NamedClass) (c n : ℕ) → extended_in (slice_get (records_from t all c ks) n) ≡ named.extended_in (slice_get ks n)
 records-extend t all [] c n = refl
 records-extend t all (k ∷ ks) c zero = record-extends k (layout_of t all c)
 records-extend t all (k ∷ ks) c (suc n) = records-extend t all ks (c + 1) n
 
-table-extends : (t : ClassTable) (ks : List NamedClass) (n : ℕ) → extended (class_tables t ks) n ≡ named.extended ks n
+table-extends : (t : LineTable) (ks : List NamedClass) (n : ℕ) → extended (class_tables t ks) n ≡ named.extended ks n
 unfolding extended named.extended
 table-extends t ks n = records-extend t ks ks 0 n
 

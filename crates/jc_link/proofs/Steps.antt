@@ -5,7 +5,7 @@ use Rattle.std.proofs.lemmas.List.{length-map}
 use Rattle.std.proofs.lemmas.List.Elements.{All-weaker}
 use Rattle.cap_package.specs.PackageRecord.{PackageRecord}
 use Rattle.jc_base.specs.declared.record.MethodRec.{MethodRec}
-use Rattle.jc_base.specs.Class.{ClassTable, IsClass, AreClasses, throwable}
+use Rattle.jc_base.specs.Class.{ClassTable, IsClass, throwable}
 use Rattle.jc_base.specs.Linked.{AreLinkedClasses}
 use Rattle.jc_resolve.specs.declared.fault.LinkFault.{LinkFault}
 use Rattle.jc_resolve.specs.declared.fault.LinkEnd.{LinkEnd}
@@ -24,7 +24,7 @@ use Rattle.jc_hierarchy.specs.Conditions as lineage
 use Rattle.jc_hierarchy.specs.Known.{HasKnownLine}
 use Rattle.jc_hierarchy.specs.Lines as lines
 use Rattle.jc_hierarchy.specs.Lines.{HaveLines}
-use Rattle.jc_hierarchy.specs.Outline.{outline}
+use Rattle.jc_hierarchy.specs.Outline.{LineTable, AreLines, outline}
 use Rattle.jc_hierarchy.proofs.Naming.{named-known}
 use Rattle.jc_classes.specs.Conditions as classes
 use Rattle.jc_classes.specs.Known.{HaveSuperclasses, AreInRange}
@@ -98,7 +98,7 @@ module _ (ps : List PackageRecord) (roles : List ℕ) (n : NamesRecord) (of : Ar
       subst (λ (xs : List MethodRec). All (λ (m : MethodRec). m.class < length cs) xs) (sym (f ∙ methods-are))
       (subst (λ (xs : List NamedClass). All (λ (m : MethodRec). m.class < length xs) (methods_of ps roles)) (sym (e ∙ classes-are)) (methods_in (infos_of ps) (slice_index roles 0) (classes_of ps roles) (methods_of ps roles) of.known.methods))
 
-  pub classes_known : (cs : List NamedClass) (t : ClassTable) → cs ≡ n.classes → length cs ≤ 4096 → HaveLines cs t → HaveSuperclasses t cs
+  pub classes_known : (cs : List NamedClass) (t : LineTable) → cs ≡ n.classes → length cs ≤ 4096 → HaveLines cs t → HaveSuperclasses t cs
   classes_known cs t e few have = record {
     count = have.count;
     few = few;
@@ -114,18 +114,18 @@ module _ (ps : List PackageRecord) (roles : List ℕ) (n : NamesRecord) (of : Ar
   line_empty : (cs : List NamedClass) (first : ℕ) → cs ≡ n.classes → first ≡ first_classes ps → AllEmpty (lineage.conditions cs first roles) → AllEmpty (lineage.conditions (classes_of ps roles) (first_classes ps) roles)
   line_empty cs first e g h = subst (λ (k : ℕ). AllEmpty (lineage.conditions (classes_of ps roles) k roles)) g (subst (λ (xs : List NamedClass). AllEmpty (lineage.conditions xs first roles)) (e ∙ classes-are) h)
 
-  lineage_same : (cs : List NamedClass) (t : ClassTable) → cs ≡ n.classes → t ≡ outline cs roles → t ≡ lineage_of ps roles
+  lineage_same : (cs : List NamedClass) (t : LineTable) → cs ≡ n.classes → t ≡ outline cs roles → t ≡ lineage_of ps roles
   lineage_same cs t e o = o ∙ ap (λ (xs : List NamedClass). outline xs roles) (e ∙ classes-are)
 
-  conditions_same : (cs : List NamedClass) (ms : List MethodRec) (t : ClassTable) → cs ≡ n.classes → ms ≡ n.methods → t ≡ outline cs roles
+  conditions_same : (cs : List NamedClass) (ms : List MethodRec) (t : LineTable) → cs ≡ n.classes → ms ≡ n.methods → t ≡ outline cs roles
       → classes.conditions t cs ms ≡ classes.conditions (lineage_of ps roles) (classes_of ps roles) (methods_of ps roles)
   conditions_same cs ms t e m o =
-      ap (λ (u : ClassTable). classes.conditions u cs ms) (lineage_same cs t e o)
+      ap (λ (u : LineTable). classes.conditions u cs ms) (lineage_same cs t e o)
       ∙ ap (λ (xs : List NamedClass). classes.conditions (lineage_of ps roles) xs ms) (e ∙ classes-are)
       ∙ ap (λ (xs : List MethodRec). classes.conditions (lineage_of ps roles) (classes_of ps roles) xs) (m ∙ methods-are)
 
   -- the first fault of dispatch lists and instances
-  pub class_first : (cs : List NamedClass) (ms : List MethodRec) (first : ℕ) (t : ClassTable) (f : LinkFault) → cs ≡ n.classes → ms ≡ n.methods → first ≡ first_classes ps → t ≡ outline cs roles
+  pub class_first : (cs : List NamedClass) (ms : List MethodRec) (first : ℕ) (t : LineTable) (f : LinkFault) → cs ≡ n.classes → ms ≡ n.methods → first ≡ first_classes ps → t ≡ outline cs roles
       → AllEmpty (lineage.conditions cs first roles) → IsFirst link_place (classes.conditions t cs ms) f → IsFirst link_place (class_conditions ps roles) f
   class_first cs ms first t f e m g o none h =
       IsFirst-append_right link_place (lineage.conditions (classes_of ps roles) (first_classes ps) roles) (classes.conditions (lineage_of ps roles) (classes_of ps roles) (methods_of ps roles)) f
@@ -137,12 +137,12 @@ module _ (ps : List PackageRecord) (roles : List ℕ) (n : NamesRecord) (of : Ar
   line_told cs first (Fault f) e g h = line_first cs first f e g h
   line_told cs first Memory e g h = tt {0}
 
-  pub class_told : (cs : List NamedClass) (ms : List MethodRec) (first : ℕ) (t : ClassTable) (end : LinkEnd) → cs ≡ n.classes → ms ≡ n.methods → first ≡ first_classes ps → t ≡ outline cs roles
+  pub class_told : (cs : List NamedClass) (ms : List MethodRec) (first : ℕ) (t : LineTable) (end : LinkEnd) → cs ≡ n.classes → ms ≡ n.methods → first ≡ first_classes ps → t ≡ outline cs roles
       → AllEmpty (lineage.conditions cs first roles) → TellsEnd t cs ms (Err end) → TellsFirst {A = ClassTable} (class_conditions ps roles) (Err end)
   class_told cs ms first t (Fault f) e m g o none h = class_first cs ms first t f e m g o none h
   class_told cs ms first t Memory e m g o none h = tt {0}
 
-  pub class_empty : (cs : List NamedClass) (ms : List MethodRec) (first : ℕ) (t : ClassTable) → cs ≡ n.classes → ms ≡ n.methods → first ≡ first_classes ps → t ≡ outline cs roles
+  pub class_empty : (cs : List NamedClass) (ms : List MethodRec) (first : ℕ) (t : LineTable) → cs ≡ n.classes → ms ≡ n.methods → first ≡ first_classes ps → t ≡ outline cs roles
       → AllEmpty (lineage.conditions cs first roles) → AllEmpty (classes.conditions t cs ms) → AllEmpty (class_conditions ps roles)
   class_empty cs ms first t e m g o none h =
       AllEmpty-append (lineage.conditions (classes_of ps roles) (first_classes ps) roles) (classes.conditions (lineage_of ps roles) (classes_of ps roles) (methods_of ps roles))
@@ -150,26 +150,26 @@ module _ (ps : List PackageRecord) (roles : List ℕ) (n : NamesRecord) (of : Ar
       (subst AllEmpty (conditions_same cs ms t e m o) h)
 
   -- the table that is made
-  pub table_known : (cs : List NamedClass) (ms : List MethodRec) (t u : ClassTable) → cs ≡ n.classes → ms ≡ n.methods → length cs ≤ 4096 → length t.roles ≡ 8 → t ≡ outline cs roles → AreClasses t → HaveLines cs t → u ≡ class_tables t cs → Links t cs ms u
+  pub table_known : (cs : List NamedClass) (ms : List MethodRec) (t : LineTable) (u : ClassTable) → cs ≡ n.classes → ms ≡ n.methods → length cs ≤ 4096 → length t.roles ≡ 8 → t ≡ outline cs roles → AreLines t → HaveLines cs t → u ≡ class_tables t cs → Links t cs ms u
       → IsTableOf ps roles u
   table_known cs ms t u e m few eight o are have made links =
       let same_classes : cs ≡ classes_of ps roles = e ∙ classes-are in
       let same_methods : ms ≡ methods_of ps roles = m ∙ methods-are in
       let same_lineage : t ≡ lineage_of ps roles = lineage_same cs t e o in
-      let same_table : u ≡ table_of ps roles = made ∙ ap (λ (x : ClassTable). class_tables x cs) same_lineage ∙ ap (λ (xs : List NamedClass). class_tables (lineage_of ps roles) xs) same_classes in
+      let same_table : u ≡ table_of ps roles = made ∙ ap (λ (x : LineTable). class_tables x cs) same_lineage ∙ ap (λ (xs : List NamedClass). class_tables (lineage_of ps roles) xs) same_classes in
       let in_lineage : HaveLines (classes_of ps roles) (lineage_of ps roles) = subst (HaveLines (classes_of ps roles)) same_lineage (subst (λ (xs : List NamedClass). HaveLines xs t) same_classes have) in
       let links_of : Links (lineage_of ps roles) (classes_of ps roles) (methods_of ps roles) (table_of ps roles) =
       subst (Links (lineage_of ps roles) (classes_of ps roles) (methods_of ps roles)) same_table
       (subst (λ (xs : List MethodRec). Links (lineage_of ps roles) (classes_of ps roles) xs u) same_methods
       (subst (λ (xs : List NamedClass). Links (lineage_of ps roles) xs ms u) same_classes
-      (subst (λ (x : ClassTable). Links x cs ms u) same_lineage links))) in
+      (subst (λ (x : LineTable). Links x cs ms u) same_lineage links))) in
       record {
         is = same_table;
         lines = in_lineage;
-        chains = subst AreClasses same_lineage are;
+        chains = subst AreLines same_lineage are;
         linked = subst (λ (k : ℕ). AreLinkedClasses k (table_of ps roles) (methods_of ps roles)) (length-map ps _) (links_of (length (infos_of ps)) of.known.classes);
         few = subst (λ (xs : List NamedClass). length xs ≤ 4096) same_classes few;
-        eight = subst (λ (rs : List ℕ). length rs ≡ 8) (ap (λ (x : ClassTable). x.roles) o) eight;
+        eight = subst (λ (rs : List ℕ). length rs ≡ 8) (ap (λ (x : LineTable). x.roles) o) eight;
       }
 
   -- ---- what stands on the classes is asked of names and a table
@@ -201,8 +201,8 @@ module _ (ps : List PackageRecord) (roles : List ℕ) (n : NamesRecord) (of : Ar
   pub roles_known : (t : ClassTable) → IsTableOf ps roles t → (k : ℕ) → k < 8 → slice_index t.roles k < length t.records
   roles_known t is k lt = (role_known t is k lt).number
 
-pub outline_roles : (cs : List NamedClass) (roles : List ℕ) (t : ClassTable) → t ≡ outline cs roles → t ≡ outline cs t.roles
-outline_roles cs roles t e = e ∙ ap (outline cs) (sym (ap (λ (u : ClassTable). u.roles) e))
+pub outline_roles : (cs : List NamedClass) (roles : List ℕ) (t : LineTable) → t ≡ outline cs roles → t ≡ outline cs t.roles
+outline_roles cs roles t e = e ∙ ap (outline cs) (sym (ap (λ (u : LineTable). u.roles) e))
 
 -- ---- the conditions one after the other
 

@@ -11,10 +11,11 @@ use Rattle.jc_base.specs.declared.record.MethodRec.{MethodRec}
 use Rattle.jc_base.specs.Class.{ClassTable, IsClass, AreClasses, is_interface, throwable}
 use Rattle.jc_base.specs.Order.{Below, is_below}
 use Rattle.jc_base.specs.Cell.{IsDeclared}
-use Rattle.jc_base.proofs.Subtypes.{Below-from_is_below, is_below-from_Below}
+use Rattle.jc_base.proofs.Subtypes.{Below-from_is_below}
 use Rattle.jc_resolve.specs.declared.named.NamedClass.{NamedClass}
 use Rattle.jc_resolve.specs.Named as named
 use Rattle.jc_resolve.specs.Named.{AreNamed, IsNamedClass, IsNamedMethod, IsSized, infos_of}
+use Rattle.jc_hierarchy.specs.Outline.{LineTable, is_on_chain}
 use Rattle.jc_classes.specs.Known.{AreInRange}
 use Rattle.jc_classes.specs.Tables.{record_from, records_from}
 use Rattle.jc_classes.proofs.Lines.{AreAlike, IsOutline, tables-alike, tables-classes, class-alike, on_chain-alike}
@@ -36,7 +37,7 @@ methods_in infos object cs ms all = All-weaker (IsNamedMethod infos cs object) _
 
 -- ---- records keep the own cells of their classes
 
-pub own-kept : (t : ClassTable) (all ks : List NamedClass) (c : ℕ) → map (λ (r : ClassRec). r.own) (records_from t all c ks) ≡ map (λ (k : NamedClass). k.own) ks
+pub own-kept : (t : LineTable) (all ks : List NamedClass) (c : ℕ) → map (λ (r : ClassRec). r.own) (records_from t all c ks) ≡ map (λ (k : NamedClass). k.own) ks
 unfolding record_from
 own-kept t all [] c = refl
 own-kept t all (k ∷ ks) c = ap (λ (l : List (List Ty)). k.own ∷ l) (own-kept t all ks (c + 1))
@@ -68,7 +69,7 @@ module _ (ps : List PackageRecord) (roles : List ℕ) where
         let low : k < length roles = omega (arith, is.eight) in
         class-alike (lineage_of ps roles) (table_of ps roles) alike (slice_index roles k) (is.lines.roles k low)
 
-    below_same : (a b : ℕ) → is_below (table_of ps roles) (Class a) (Class b) ≡ is_below (lineage_of ps roles) (Class a) (Class b)
+    below_same : (a b : ℕ) → is_below (table_of ps roles) (Class a) (Class b) ≡ is_on_chain (lineage_of ps roles) b a
     unfolding is_below
     below_same a b = on_chain-alike (lineage_of ps roles) (table_of ps roles) alike b a
 
@@ -77,7 +78,7 @@ module _ (ps : List PackageRecord) (roles : List ℕ) where
         let low : k < length roles = omega (arith, is.eight) in
         let above = is.lines.thrown k two low in
         Below-from_is_below (table_of ps roles) table-chains (Class (slice_index roles k)) (Class (slice_index roles 1))
-        (below_same (slice_index roles k) (slice_index roles 1) ∙ is_below-from_Below (lineage_of ps roles) is.chains above)
+        (below_same (slice_index roles k) (slice_index roles 1) ∙ above)
 
     pub declared : AreNamed (infos_of ps) (slice_index roles 0) (classes_of ps roles) (methods_of ps roles) → (ty : Ty) → named.IsDeclared (classes_of ps roles) (slice_index roles 0) ty → IsDeclared (table_of ps roles) ty
     declared named_are ty h =

@@ -1,12 +1,13 @@
 -- What is known of names, of classes and of what stands on them on the way to a world.
 use Rattle.std.specs.Prelude.{◌≡◌, ℕ, ◌≤◌, List, length, slice_index, sum_by, All}
 use Rattle.cap_package.specs.PackageRecord.{PackageRecord}
-use Rattle.jc_base.specs.Class.{ClassTable, AreClasses}
+use Rattle.jc_base.specs.Class.{ClassTable}
 use Rattle.jc_base.specs.Cell.{IsDeclared, width}
 use Rattle.jc_base.specs.Linked.{AreLinkedClasses, AreSlots, IsMember, IsStatic}
 use Rattle.jc_resolve.specs.Named.{AreNamed, infos_of}
 use Rattle.jc_resolve.specs.Names.{NamesRecord, named}
 use Rattle.jc_hierarchy.specs.Lines.{HaveLines}
+use Rattle.jc_hierarchy.specs.Outline.{AreLines}
 use Rattle.jc_statics.specs.Arrays.{array_records, initial_cells}
 use Rattle.jc_members.specs.Pools.{pools}
 use Rattle.jc_link.specs.declared.linking.Resolved.{Resolved}
@@ -21,7 +22,7 @@ pub record AreNamesOf (ps : List PackageRecord) (roles : List ℕ) (n : NamesRec
 pub record IsTableOf (ps : List PackageRecord) (roles : List ℕ) (t : ClassTable) : Type 0 where
   pub is : t ≡ table_of ps roles
   pub lines : HaveLines (classes_of ps roles) (lineage_of ps roles)
-  pub chains : AreClasses (lineage_of ps roles)
+  pub chains : AreLines (lineage_of ps roles)
   pub linked : AreLinkedClasses (length ps) (table_of ps roles) (methods_of ps roles)
   pub few : length (classes_of ps roles) ≤ 4096
   pub eight : length roles ≡ 8

@@ -20,7 +20,7 @@ use Rattle.jc_resolve.specs.WorldTypes.{type_of}
 use Rattle.jc_resolve.specs.Named.{infos_of}
 use Rattle.jc_resolve.specs.Conditions as names
 use Rattle.jc_hierarchy.specs.Conditions as lineage
-use Rattle.jc_hierarchy.specs.Outline.{outline}
+use Rattle.jc_hierarchy.specs.Outline.{LineTable, outline}
 use Rattle.jc_classes.specs.Conditions as classes
 use Rattle.jc_classes.specs.Tables.{class_tables}
 use Rattle.jc_statics.specs.Arrays.{array_records}
@@ -36,8 +36,8 @@ use Rattle.jc_members.specs.Roles.{abstract_roles}
 abbrev pub classes_of : List PackageRecord → List ℕ → List NamedClass
 classes_of ps roles = named_classes ps (slice_index roles 0)
 
--- the classes with their superclasses alone, and with their dispatch lists and cells
-abbrev pub lineage_of : List PackageRecord → List ℕ → ClassTable
+-- the lines of the classes, and the classes with their dispatch lists and cells
+abbrev pub lineage_of : List PackageRecord → List ℕ → LineTable
 lineage_of ps roles = outline (classes_of ps roles) roles
 
 abbrev pub table_of : List PackageRecord → List ℕ → ClassTable

@@ -29,6 +29,7 @@ fn rest_fits(names: &Names<'_, '_, '_>, classes: &Classes) -> Result<(), LinkEnd
     ensures arrays { OnOk result (length (array_records names.now.packages) ≤ 4096) }
     ensures cells { OnOk result (initial_cells (array_records names.now.packages) ≤ 32768) }
 {
+    names.facts();
     let packages = names.packages();
     handlers_fit(names, classes)?;
     arrays_fit(packages)?;
@@ -43,8 +44,7 @@ fn resolve(alloc: Global, names: &Names<'_, '_, '_>, classes: &Classes) -> Resul
     ensures first { TellsFirst (member_conditions names.now.packages names.now.roles) result }
     ensures known { IfOk result (AreResolved names.now.packages names.now.roles) }
 {
-    // There are not more methods than a world has.
-    let _methods = names.methods();
+    names.facts();
     let packages = names.packages();
     statics_fit(packages)?;
     let statics = statics(alloc, names)?;
@@ -67,6 +67,7 @@ fn made<'a>(
     ensures { LinkTells tabled.entry.names.packages tabled.entry.names.roles result }
 {
     concrete_decides();
+    tabled.names.facts();
     let packages = tabled.names.packages();
     let arrays = arrays(alloc, packages)?;
     let infos = infos(alloc, packages)?;

@@ -21,11 +21,12 @@ pub(crate) fn table(
     ensures first { TellsFirst (class_conditions packages.now roles) result }
     ensures known { IfOk result (IsTableOf packages.now roles) }
 {
+    names.facts();
     let classes = names.classes();
     let methods = names.methods();
     let first = first_classes(packages);
     let lineage = lineage(alloc, classes, first, roles)?;
-    lineage.chains_end();
+    lineage.facts();
     let table = tables(alloc, &lineage, classes, methods)?;
     Ok(table)
 }

@@ -124,7 +124,7 @@ pub fn handlers_fit(names: &Names<'_, '_, '_>, classes: &Classes) -> Result<(), 
     requires throwable { IsClass classes.now (throwable classes.now) }
     ensures { result ≡ refused (least_of link_place (catch_fault names.now.packages classes.now) (handler_places names.now.packages)) }
 {
-    let _numbered = names.classes();
+    names.facts();
     let mut least = None;
     'packages: for (k, package) in names.packages().iter().enumerate() {
         let handlers = package.methods().handlers();

@@ -103,6 +103,7 @@ pub(crate) fn field_sites(
     requires room { AllFieldsFit names.now.packages classes.now }
     ensures { IfOk result (λ sites. sites ≡ all_entered [] (field_sites names.now.packages classes.now)) }
 {
+    names.facts();
     let mut sites = Sites::new(alloc);
     let mut first: u16 = 0;
     'packages: for (k, package) in names.packages().iter().enumerate() {

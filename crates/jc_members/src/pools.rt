@@ -79,8 +79,7 @@ fn member_of(
     ensures linked { IfSome result (IsMember classes.now names.now.methods statics.now) }
 {
     // These are read for what is known of them: a token, for one, is a byte.
-    let _classes = names.classes();
-    let _methods = names.methods();
+    names.facts();
     let _records = classes.records();
     let _token = entry.bytes[2];
     member_referred(names, classes, statics, tables, package, entry.reference())
@@ -173,6 +172,7 @@ fn named(
     ensures linked { IfOk result (λ r. All (All (IsMember classes.now names.now.methods statics.now)) r.0) }
     ensures few { IfOk result (λ r. All (λ pool. length pool ≤ 65535) r.0) }
 {
+    names.facts();
     let mut pools = Vec::with_capacity(alloc, names.packages().len())?;
     let mut least = None;
     'packages: for (k, package) in names.packages().iter().enumerate() {
@@ -200,7 +200,7 @@ fn pools_of(
     ensures linked { IfOk result (λ pools. All (All (IsMember classes.now names.now.methods statics.now)) pools) }
     ensures few { IfOk result (λ pools. All (λ pool. length pool ≤ 65535) pools) }
 {
-    let _classes = names.classes();
+    names.facts();
     let tables = MemberSites {
         statics: static_sites(alloc, statics)?,
         fields: field_sites(alloc, names, classes)?,

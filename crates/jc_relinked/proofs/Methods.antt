@@ -10,6 +10,7 @@ use Rattle.jc_base.specs.Class.{ClassTable, is_interface, chain}
 use Rattle.jc_base.specs.Dispatch.{has_body, has_body_in, all_have_bodies, is_concrete, package_of, public_of, visible_in}
 use Rattle.jc_resolve.specs.declared.fault.LinkFault.TheVariants.{Hole, OverrideType, InterfaceType, RoleAbstract}
 use Rattle.jc_resolve.specs.declared.named.NamedClass.{NamedClass}
+use Rattle.jc_hierarchy.specs.Outline.{LineTable}
 use Rattle.jc_classes.specs.Conditions.{class_numbers, Entry, entries_in, may_stand, hole_fault, Replacement, replacements_in, override_fault, Implementation, implementations_in, serves, serves_all, interface_fault, conditions}
 use Rattle.jc_classes.specs.Signatures.{method_in, signature_in, same_signature}
 use Rattle.jc_members.specs.Roles.{role_fault, thrown_roles, abstract_roles}
@@ -41,11 +42,11 @@ signature_of (Some m) = refl
 signature_bare : (ms : List MethodRec) (entry : Option ℕ) → signature_in (bare ms) entry ≡ signature_in ms entry
 signature_bare ms entry = ap (option_map (λ (m : MethodRec). m.sig)) (method_bare ms entry) ∙ signature_of (method_in ms entry)
 
-stands_bare : (t : ClassTable) (c : ℕ) (o : Option MethodRec) → may_stand t c (option_map apart_from_code o) ≡ may_stand t c o
+stands_bare : (t : LineTable) (c : ℕ) (o : Option MethodRec) → may_stand t c (option_map apart_from_code o) ≡ may_stand t c o
 stands_bare t c None = refl
 stands_bare t c (Some m) = refl
 
-hole_bare : (t : ClassTable) (ms : List MethodRec) (e : Entry) → hole_fault t (bare ms) e ≡ hole_fault t ms e
+hole_bare : (t : LineTable) (ms : List MethodRec) (e : Entry) → hole_fault t (bare ms) e ≡ hole_fault t ms e
 unfolding hole_fault
 hole_bare t ms e = ap (λ b. if b then None else Some (Hole e.class e.token)) (ap (may_stand t e.class) (method_bare ms e.method)
     ∙ stands_bare t e.class (method_in ms e.method))
@@ -80,7 +81,7 @@ interface_bare : (ms : List MethodRec) (x : Implementation) → interface_fault 
 unfolding interface_fault
 interface_bare ms x = ap (λ b. if b then None else Some (InterfaceType x.class x.iface.class)) (all_bare ms x.public x.iface)
 
-classes_bare : (t : ClassTable) (cs : List NamedClass) (ms : List MethodRec) → conditions t cs (bare ms) ≡ conditions t cs ms
+classes_bare : (t : LineTable) (cs : List NamedClass) (ms : List MethodRec) → conditions t cs (bare ms) ≡ conditions t cs ms
 classes_bare t cs ms =
     let a = faults_same (hole_fault t (bare ms)) (hole_fault t ms) (flat_map (entries_in t cs) (class_numbers cs))
     (hole_bare t ms) in
@@ -91,7 +92,7 @@ classes_bare t cs ms =
     rw (a, b, c) refl
 
 -- the conditions on dispatch lists and instances are the same of methods that are the same apart from code
-pub class_conditions_same : (t : ClassTable) (cs : List NamedClass) (now old : List MethodRec)
+pub class_conditions_same : (t : LineTable) (cs : List NamedClass) (now old : List MethodRec)
     → map apart_from_code now ≡ map apart_from_code old → conditions t cs now ≡ conditions t cs old
 class_conditions_same t cs now old e = sym (classes_bare t cs now) ∙ ap (conditions t cs) e ∙ classes_bare t cs old
 

@@ -47,7 +47,8 @@ impl<'n, 'p, 'a> Model for Index<'n, 'p, 'a> {
 
     ghost view = { λ x. x.packages.now };
 
-    ghost invariant = { λ x. AreIndexed x.packages.now x.numbers x.interfaces.items x.methods (map (map exported_class_seen) x.exports) x.met };
+    ghost invariant = { λ x. AreIndexed x.packages.now x.numbers x.interfaces.items x.methods
+        (map (map exported_class_seen) x.exports) x.met };
 }
 
 /// Numbers the classes of one package.

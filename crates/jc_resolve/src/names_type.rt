@@ -38,12 +38,24 @@ impl<'n, 'p, 'a> Model for Names<'n, 'p, 'a> {
 }
 
 impl<'n, 'p, 'a> Names<'n, 'p, 'a> {
+    /// Does nothing: it says that the classes and the methods are those of the packages, and that there are no more of
+    /// them than a world has.
+    pub fn facts(&self)
+        ensures classes { self.now.classes ≡ named_classes self.now.packages (slice_index self.now.roles 0) }
+        ensures methods { self.now.methods ≡ named_methods self.now.packages self.now.roles }
+        ensures few { length self.now.packages ≤ 16 }
+        ensures few_classes { length self.now.classes ≤ 4096 }
+        ensures few_methods { length self.now.methods ≤ 32768 }
+        // The parts of each package stand for it.
+        ensures agreed { All IsAgreed self.now.packages }
+    {
+        // What is indexed is few.
+        let _ = self.index.packages();
+    }
+
     /// The packages that were named.
     pub fn packages(&self) -> &'n Packages<'p, 'a>
         ensures is { result.now ≡ self.now.packages }
-        ensures few { length result.now ≤ 16 }
-        // The parts of each stand for it.
-        ensures agreed { All IsAgreed result.now }
     {
         self.index.packages()
     }
@@ -51,22 +63,14 @@ impl<'n, 'p, 'a> Names<'n, 'p, 'a> {
     /// The classes and interfaces, by number.
     pub fn classes(&self) -> &NamedClasses
         ensures is { result.now ≡ self.now.classes }
-        ensures named { result.now ≡ named_classes self.now.packages (slice_index self.now.roles 0) }
-        ensures few { length result.now ≤ 4096 }
     {
-        // What is indexed is few.
-        let _ = self.index.packages();
         &self.classes
     }
 
     /// The methods, by number.
     pub fn methods(&self) -> &Methods
         ensures is { result.now ≡ self.now.methods }
-        ensures named { result.now ≡ named_methods self.now.packages self.now.roles }
-        ensures few { length result.now ≤ 32768 }
     {
-        // What is indexed is few.
-        let _ = self.index.packages();
         &self.methods
     }
 

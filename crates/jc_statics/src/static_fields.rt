@@ -144,6 +144,7 @@ pub fn statics(alloc: Global, names: &Names<'_, '_, '_>) -> Result<Statics, Allo
         (IsStatic (length names.now.packages) t (array_records names.now.packages))
         fields) }
 {
+    names.facts();
     let fields = all_statics(alloc, names.packages(), names)?;
     Ok(fields)
 }

@@ -112,6 +112,7 @@ fn push_all(
     names: &Names<'_, '_, '_>,
     told: &mut Vec<u16>,
 ) -> Result<(), AllocError> {
+    names.facts();
     let packages = names.packages();
     told.push(packages.len() as u16)?;
     if statics_fit(packages).is_err() || arrays_fit(packages).is_err() {

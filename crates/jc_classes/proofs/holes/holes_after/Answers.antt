@@ -1,6 +1,7 @@
 use Rattle.std.proofs.Common.{◌≡◌, ◌<◌, ◌∷◌, ◌++◌, refl, sym, ap, subst, ◌∙◌}
 use Rattle.std.specs.Prelude.{IfSome}
-use Rattle.jc_base.specs.Class.{chain, list_of}
+use Rattle.jc_base.specs.Class.{list_of}
+use Rattle.jc_hierarchy.specs.Outline.{chain}
 use Rattle.jc_resolve.specs.Fault.{link_place}
 use Rattle.first_fault.specs.Least.{least_from}
 use Rattle.jc_classes.specs.declared.layout.ClassLayout.{ClassLayout}

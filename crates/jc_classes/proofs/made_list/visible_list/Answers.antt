@@ -1,7 +1,7 @@
 use Rattle.std.proofs.Common.{length, sym, ap, ◌∙◌, arith, []}
 use Rattle.std.specs.Prelude.{if◌then◌else◌}
 use Rattle.std.specs.Option.{option_map}
-use Rattle.jc_base.specs.Class.{parent_of}
+use Rattle.jc_hierarchy.specs.Outline.{parent_of}
 use Rattle.jc_classes.specs.Conditions.{layout_above}
 use Rattle.jc_classes.specs.Entries.{overlaid}
 use Rattle.jc_classes.specs.Layout.{above_or_nothing, at_home, layout_of}

@@ -22,7 +22,7 @@ of-requires-2 c =
     let high : length c.args.classes.now ≤ c.classes.c = omega (arith, c.len-c-end.ensures, c.classes-test.false) in
     let whole : c.of.result ≡ records_from c.args.lineage.now c.args.classes.now 0 c.args.classes.now = c.of.ensures ∙ least_of_records c.args.lineage.now c.args.classes.now c.classes.c c.classes.records.items high c.classes.invariant in
     let roles = c.roles.ensures in
-    rw roles (table_classes c.args.lineage.now c.args.classes.now c.of.result c.requires.outline c.chains_end.ensures whole)
+    rw roles (table_classes c.args.lineage.now c.args.classes.now c.of.result c.requires.outline c.facts.ensures whole)
 
 pub returns : goal.returns
 returns c =

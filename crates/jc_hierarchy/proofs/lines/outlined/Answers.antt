@@ -1,16 +1,15 @@
-use Rattle.std.proofs.Common.{map, sym, subst, arith}
-use Rattle.jc_base.specs.Class.{AreClasses}
-use Rattle.jc_hierarchy.specs.Outline.{record_of}
+use Rattle.std.proofs.Common.{sym, subst, arith}
+use Rattle.jc_hierarchy.specs.Outline.{AreLines}
 use Rattle.jc_hierarchy.proofs.Told.{agreed-classes}
 use Rattle.jc_hierarchy.proofs.lines.outlined.Goals as goal
 
 pub of-requires : goal.of-requires
 of-requires c =
-    agreed-classes c.args.classes.now c.args.first c.args.roles c.numbers.result (map record_of c.in_ok-lines.lines.items) c.requires.known (omega (arith, c.numbers.ensures.eight))
+    agreed-classes c.args.classes.now c.args.first c.args.roles c.numbers.result c.in_ok-lines.lines.items c.requires.known (omega (arith, c.numbers.ensures.eight))
     c.in_ok-lines_agree.ensures c.in_ok-lines.ensures c.numbers.ensures.same
 
 pub returns-clause-chains : goal.returns-clause-chains
 returns-clause-chains c =
-    subst AreClasses (sym c.of.ensures)
-    (agreed-classes c.args.classes.now c.args.first c.args.roles c.numbers.result (map record_of c.in_ok-lines.lines.items) c.requires.known (omega (arith, c.numbers.ensures.eight))
+    subst AreLines (sym c.of.ensures)
+    (agreed-classes c.args.classes.now c.args.first c.args.roles c.numbers.result c.in_ok-lines.lines.items c.requires.known (omega (arith, c.numbers.ensures.eight))
     c.in_ok-lines_agree.ensures c.in_ok-lines.ensures c.numbers.ensures.same)

@@ -1,3 +1,4 @@
+use Rattle.std.proofs.Common.{◌≤◌, length, ap, arith}
 use Rattle.std.proofs.lemmas.Result.{err_from_is_err_and}
 use Rattle.jc_link.proofs.Steps.{lines_known, range_known, methods_known, classes_known, line_told, class_told, class_empty, table_known, outline_roles}
 use Rattle.jc_link.proofs.tabling.table.Goals as goal
@@ -9,7 +10,9 @@ pub tables-requires-clause-outline : goal.tables-requires-clause-outline
 tables-requires-clause-outline c = outline_roles c.classes-classes.result.now c.args.roles c.in_ok-lineage.lineage c.in_ok-lineage.ensures.tells.0
 
 pub tables-requires-clause-known : goal.tables-requires-clause-known
-tables-requires-clause-known c = classes_known c.args.packages.now c.args.roles c.args.names.now c.requires c.classes-classes.result.now c.in_ok-lineage.lineage c.classes-classes.ensures.is c.classes-classes.ensures.few c.in_ok-lineage.ensures.lines
+tables-requires-clause-known c =
+    let few : length c.classes-classes.result.now ≤ 4096 = omega (arith, ap length c.classes-classes.ensures.is, c.facts.ensures.few_classes) in
+    classes_known c.args.packages.now c.args.roles c.args.names.now c.requires c.classes-classes.result.now c.in_ok-lineage.lineage c.classes-classes.ensures.is few c.in_ok-lineage.ensures.lines
 
 pub tables-requires-clause-interfaces : goal.tables-requires-clause-interfaces
 tables-requires-clause-interfaces c = range_known c.args.packages.now c.args.roles c.args.names.now c.requires c.classes-classes.result.now c.classes-classes.ensures.is
@@ -35,5 +38,6 @@ returns-clause-first c =
 
 pub returns-clause-known : goal.returns-clause-known
 returns-clause-known c =
-    table_known c.args.packages.now c.args.roles c.args.names.now c.requires c.classes-classes.result.now c.methods-methods.result.now c.in_ok-lineage.lineage c.in_ok-table.table c.classes-classes.ensures.is c.methods-methods.ensures.is c.classes-classes.ensures.few c.in_ok-lineage.ensures.eight c.in_ok-lineage.ensures.tells.0 c.chains_end.ensures
+    let few : length c.classes-classes.result.now ≤ 4096 = omega (arith, ap length c.classes-classes.ensures.is, c.facts.ensures.few_classes) in
+    table_known c.args.packages.now c.args.roles c.args.names.now c.requires c.classes-classes.result.now c.methods-methods.result.now c.in_ok-lineage.lineage c.in_ok-table.table c.classes-classes.ensures.is c.methods-methods.ensures.is few c.in_ok-lineage.ensures.eight c.in_ok-lineage.ensures.tells.0 c.facts-2.ensures
     c.in_ok-lineage.ensures.lines c.in_ok-table.ensures.tells.0 c.in_ok-table.ensures.linked
