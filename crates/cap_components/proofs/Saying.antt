@@ -20,7 +20,7 @@ use Rattle.cap_desc.specs.DescriptorFormat.{descriptor_info}
 use Rattle.cap_components.specs.declared.fault.PackFault.{PackFault}
 use Rattle.cap_components.specs.declared.fault.PackFault.TheVariants.{Form, MissingPart}
 use Rattle.cap_components.specs.Parts.{Lent, held}
-use Rattle.cap_components.specs.Components.{◌>>=◌, formed, framed, there, info_in, read_part, read_if_held, read_methods, read_description, Methods}
+use Rattle.cap_components.specs.Components.{◌>>=◌, formed, framed, there, info_in, read_part, read_directory, read_if_held, read_methods, read_description, Methods}
 use Rattle.cap_components.specs.Descriptions.{Description}
 use Rattle.cap_components.specs.PackageRecord.{PackageRecord}
 use Rattle.cap_components.specs.ReadPackage.{read_after, read_package}
@@ -427,3 +427,14 @@ after_refused parts header fault h1 =
 pub fails-read : (parts : List Lent) (fault : PackFault) → IsFirstFailing parts fault → read_package parts ≡ Err fault
 unfolding read_package
 fails-read parts fault h = header_back parts fault (read_after parts) h (λ header k. after_refused parts header fault k)
+
+-- ---- where the Header or the Directory is refused, so is the package
+
+opening_refused : (parts : List Lent) (fault : PackFault) → IsRefused (read_part header_info 1 parts) (λ (header : HeaderItems). read_part (directory_info header.format) 2 parts) fault → read_package parts ≡ Err fault
+unfolding read_package read_after
+opening_refused parts fault (by_first e) = rw e refl
+opening_refused parts fault (by_next header e h) = rw (e, h) refl
+
+pub unopened : (parts : List Lent) (fault : PackFault) → read_directory parts ≡ Err fault → read_package parts ≡ Err fault
+unfolding read_directory
+unopened parts fault h = opening_refused parts fault (then_err (read_part header_info 1 parts) (λ (header : HeaderItems). read_part (directory_info header.format) 2 parts) fault h)

@@ -9,7 +9,8 @@ pub mod MethodsSeen
 pub mod IfThere
 pub mod PackageRecord
 pub mod ComponentsSeen
-pub mod ReadPackage
+pub mod Openings
 pub mod PartChecks
+pub mod ReadPackage
 pub mod Saying
 pub mod Infos

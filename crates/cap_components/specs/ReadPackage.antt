@@ -12,7 +12,9 @@ use Rattle.cap_class.specs.ClassFormat.{classes_info}
 use Rattle.cap_method.specs.StaticFormat.{statics_info}
 use Rattle.cap_components.specs.declared.fault.PackFault.{PackFault}
 use Rattle.cap_components.specs.Parts.{Lent}
-use Rattle.cap_components.specs.Components.{◌>>=◌, read_part, read_if_held, read_methods, read_description}
+use Rattle.cap_components.specs.Components.{◌>>=◌, read_part, read_directory, read_if_held, read_methods, read_description}
+use Rattle.cap_components.specs.Order.{refused}
+use Rattle.cap_components.specs.PartChecks.{missing}
 use Rattle.cap_components.specs.PackageRecord.{PackageRecord}
 
 -- the components after the Header, in its format
@@ -47,3 +49,9 @@ unfoldable pub read_package : List Lent → Result PackageRecord PackFault
 read_package parts = do
   header ← read_part header_info 1 parts
   read_after parts header
+
+-- the same, where first no part that must be there is absent
+unfoldable pub read_whole : List Lent → Result PackageRecord PackFault
+read_whole parts = do
+  all_there ← refused (missing parts (read_directory parts))
+  read_package parts

@@ -2,13 +2,15 @@ ghost use Rattle.std.specs.Prelude.{◌≡◌, map};
 ghost use Rattle.cap_frame.specs.Directory.{directory_items, customs_left};
 ghost use Rattle.cap_frame.specs.DirectoryFormat.{Custom};
 ghost use Rattle.cap_components.specs.Components.{read_directory};
+ghost use Rattle.cap_components.specs.Openings.{GivesOpening};
 ghost use Rattle.cap_components.specs.Order.{least_of, least_from, refused};
 ghost use Rattle.cap_components.specs.PartChecks.{required, components, optional, custom_tags, absent_fault, sized_fault, missing, form_fault, size_fault};
 
 use crate::fault::PackFault;
 use crate::least::{lesser, refuse};
+use crate::opening::Opening;
 use crate::parts::Parts;
-use crate::read::{info_in, sizes_in};
+use crate::read::info_in;
 use cap_bytes::Part;
 use cap_frame::Directory;
 
@@ -63,12 +65,17 @@ fn absent_sized(
 }
 
 /// Every part that must be there is.
-pub fn none_missing(parts: &Parts<'_>) -> Result<(), PackFault>
+#[tactic(auto, unfolding(crate::specs::Components::read_directory))]
+pub(crate) fn none_missing(
+    parts: &Parts<'_>,
+    opening: &Result<Opening<'_>, PackFault>,
+) -> Result<(), PackFault>
+    requires { GivesOpening parts.now opening.now }
     ensures { result ≡ refused (missing parts.now (read_directory parts.now)) }
 {
     let least = absent_among(parts, &[1, 2, 4, 5, 6, 7, 8, 9, 11]);
-    match sizes_in(parts) {
-        Ok(directory) => refuse(absent_sized(parts, &directory, least)),
+    match opening {
+        Ok(opening) => refuse(absent_sized(parts, &opening.directory, least)),
         Err(_) => refuse(least),
     }
 }

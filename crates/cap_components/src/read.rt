@@ -19,11 +19,13 @@ ghost use Rattle.cap_class.specs.ClassFormat.{classes_info};
 ghost use Rattle.cap_method.specs.StaticPart.{statics_seen};
 ghost use Rattle.cap_method.specs.StaticFormat.{statics_info};
 ghost use Rattle.cap_components.specs.Descriptions.{description};
-ghost use Rattle.cap_components.specs.Components.{Answers, info_in, read_part, read_directory, read_if_held, read_methods, read_description};
+ghost use Rattle.cap_components.specs.Components.{Answers, info_in, read_part, read_if_held, read_methods, read_description};
 ghost use Rattle.cap_components.specs.MethodsSeen.{methods_seen};
 ghost use Rattle.cap_components.specs.IfThere.{seen_if};
+ghost use Rattle.cap_components.specs.Openings.{GivesOpening};
 
 use crate::fault::PackFault;
+use crate::opening::Opening;
 use crate::parts::Parts;
 use cap_bytes::{Format, Part, View};
 use cap_class::ClassPart;
@@ -64,13 +66,14 @@ pub fn directory_in<'a>(parts: &Parts<'a>, format: Format) -> Result<Directory<'
     Ok(directory(info, format)?)
 }
 
-/// The Directory component in the format that the Header names.
+/// The Header, and the Directory in the format that it names.
 #[tactic(auto, unfolding(crate::specs::Components::read_directory))]
-pub fn sizes_in<'a>(parts: &Parts<'a>) -> Result<Directory<'a>, PackFault>
-    ensures { Answers directory_items result (read_directory parts.now) }
+pub(crate) fn opening_in<'a>(parts: &Parts<'a>) -> Result<Opening<'a>, PackFault>
+    ensures { GivesOpening parts.now result }
 {
     let header = header_in(parts)?;
-    directory_in(parts, header.format())
+    let directory = directory_in(parts, header.format())?;
+    Ok(Opening { header, directory })
 }
 
 /// The Import component.

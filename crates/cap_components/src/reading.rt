@@ -1,52 +1,78 @@
-ghost use Rattle.std.specs.Prelude.{◌≡◌, Ok, IfOk};
+ghost use Rattle.std.specs.Prelude.{◌≡◌, IfOk};
 ghost use Rattle.offset_set.specs.Bits.{holds};
-ghost use Rattle.cap_frame.specs.Header.{header_items};
 ghost use Rattle.cap_class.specs.ClassPart.{records};
-ghost use Rattle.cap_components.specs.Components.{Answers, info_in};
+ghost use Rattle.cap_components.specs.Components.{Answers};
 ghost use Rattle.cap_components.specs.ComponentsSeen.{components_seen};
 ghost use Rattle.cap_components.specs.Infos.{HaveInfos};
+ghost use Rattle.cap_components.specs.Openings.{IsOpening, GivesOpening};
 ghost use Rattle.cap_components.specs.PackageRecord.{names_interface};
-ghost use Rattle.cap_components.specs.ReadPackage.{read_after, read_package};
+ghost use Rattle.cap_components.specs.ReadPackage.{read_package, read_whole};
 
 use crate::components::Components;
 use crate::fault::PackFault;
+use crate::opening::Opening;
+use crate::part_checks::none_missing;
 use crate::parts::Parts;
 use crate::read::{
-    applets_in, classes_in, descriptor_in, directory_in, export_in, header_in, imports_in,
-    locations_in, methods_in, pool_in, statics_in,
+    applets_in, classes_in, descriptor_in, export_in, imports_in, locations_in, methods_in,
+    opening_in, pool_in, statics_in,
 };
 use cap_class::ClassPart;
-use cap_frame::Header;
 use offset_set::Offsets;
 
 /// The components of a package, in the order of their tags.
-#[tactic(auto, unfolding(crate::specs::ReadPackage::read_package))]
 pub fn read_package<'p, 'a>(parts: &'p Parts<'a>) -> Result<Components<'p, 'a>, PackFault>
     ensures value { Answers components_seen result (read_package parts.now) }
     ensures parts { IfOk result (λ all. all.parts.now ≡ parts.now) }
     ensures infos { IfOk result (λ all. HaveInfos all) }
 {
-    let header = header_in(parts)?;
-    read_after(parts, header)
+    read_opened(parts, opening_in(parts))
 }
 
-/// The components after the Header, in its format.
-#[tactic(auto, unfolding(crate::specs::ReadPackage::read_after))]
-fn read_after<'p, 'a>(
-    parts: &'p Parts<'a>,
-    header: Header<'a>,
-) -> Result<Components<'p, 'a>, PackFault>
-    requires { info_in parts.now 1 ≡ Ok header.info.bytes.now }
-    ensures value { Answers components_seen result (read_after parts.now (header_items header.entry)) }
+/// The components of a package of which no part that must be there is absent.
+#[tactic(auto, unfolding(crate::specs::ReadPackage::read_whole))]
+pub fn read_whole<'p, 'a>(parts: &'p Parts<'a>) -> Result<Components<'p, 'a>, PackFault>
+    ensures value { Answers components_seen result (read_whole parts.now) }
     ensures parts { IfOk result (λ all. all.parts.now ≡ parts.now) }
     ensures infos { IfOk result (λ all. HaveInfos all) }
 {
-    let format = header.format();
-    let directory = directory_in(parts, format)?;
+    let opening = opening_in(parts);
+    none_missing(parts, &opening)?;
+    read_opened(parts, opening)
+}
+
+/// The components of a package whose Header and Directory were read.
+#[tactic(auto, using(crate::proofs::Saying::unopened))]
+fn read_opened<'p, 'a>(
+    parts: &'p Parts<'a>,
+    opening: Result<Opening<'a>, PackFault>,
+) -> Result<Components<'p, 'a>, PackFault>
+    requires { GivesOpening parts.now opening }
+    ensures value { Answers components_seen result (read_package parts.now) }
+    ensures parts { IfOk result (λ all. all.parts.now ≡ parts.now) }
+    ensures infos { IfOk result (λ all. HaveInfos all) }
+{
+    match opening {
+        Ok(opening) => read_after(parts, opening),
+        Err(fault) => Err(fault),
+    }
+}
+
+/// The components after the Header and the Directory.
+#[tactic(auto, unfolding(crate::specs::ReadPackage::read_package, crate::specs::ReadPackage::read_after))]
+fn read_after<'p, 'a>(
+    parts: &'p Parts<'a>,
+    opening: Opening<'a>,
+) -> Result<Components<'p, 'a>, PackFault>
+    requires { IsOpening parts.now opening }
+    ensures value { Answers components_seen result (read_package parts.now) }
+    ensures parts { IfOk result (λ all. all.parts.now ≡ parts.now) }
+    ensures infos { IfOk result (λ all. HaveInfos all) }
+{
     let applets = applets_in(parts)?;
     let imports = imports_in(parts)?;
     let pool = pool_in(parts)?;
-    let classes = classes_in(parts, format)?;
+    let classes = classes_in(parts, opening.header.format())?;
     let methods = methods_in(parts)?;
     let statics = statics_in(parts)?;
     let locations = locations_in(parts)?;
@@ -54,8 +80,8 @@ fn read_after<'p, 'a>(
     let descriptor = descriptor_in(parts)?;
     Ok(Components {
         parts,
-        header,
-        directory,
+        header: opening.header,
+        directory: opening.directory,
         applets,
         imports,
         pool,

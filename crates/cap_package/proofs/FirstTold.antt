@@ -7,7 +7,7 @@ use Rattle.cap_components.specs.Parts.{Lent}
 use Rattle.cap_components.specs.Order.{pack_place, refused, least_of}
 use Rattle.cap_components.specs.Components.{◌>>=◌, read_directory}
 use Rattle.cap_components.specs.PackageRecord.{PackageRecord}
-use Rattle.cap_components.specs.ReadPackage.{read_package}
+use Rattle.cap_components.specs.ReadPackage.{read_package, read_whole}
 use Rattle.cap_components.proofs.Saying.{read-said, read-fails}
 use Rattle.cap_frame.specs.AppletFormat.{Applet}
 use Rattle.cap_pool.specs.ExportFormat.{Exported}
@@ -104,13 +104,13 @@ reading_tells : (parts : List Lent) (r : Result PackageRecord PackFault) → rea
 reading_tells parts (Err f) e none = inr (none, inl (read-fails parts f e))
 reading_tells parts (Ok p) e none = subst (Tells parts) (sym (agree-told parts p)) (agreement_tells parts p (first_refused pack_place (conditions_of parts p)) refl none e)
 
-missing_tells : (parts : List Lent) (m : Option PackFault) → least_in pack_place None (missing_parts parts (read_directory parts)) ≡ m → Tells parts (refused m >>= λ _. (read_package parts >>= λ p. then_agree parts p))
+missing_tells : (parts : List Lent) (m : Option PackFault) → least_in pack_place None (missing_parts parts (read_directory parts)) ≡ m → Tells parts ((refused m >>= λ _. read_package parts) >>= λ p. then_agree parts p)
 missing_tells parts (Some f) e = inl (least-found pack_place (missing_parts parts (read_directory parts)) f e)
 missing_tells parts None e = reading_tells parts (read_package parts) refl (least-none pack_place (missing_parts parts (read_directory parts)) e)
 
 -- the answer tells the first fault, or that nothing is at fault
 pub first_told : (parts : List Lent) → Tells parts (package_from parts)
-unfolding package_from
+unfolding package_from read_whole
 first_told parts =
     let m = missing parts (read_directory parts) in
     missing_tells parts m (sym (missing-told parts (read_directory parts)))

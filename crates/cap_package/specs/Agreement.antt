@@ -10,10 +10,10 @@ use Rattle.cap_components.specs.declared.fault.PackFault.{PackFault}
 use Rattle.cap_components.specs.Parts.{Lent}
 use Rattle.cap_components.specs.Order.{least_of, least_from, refused}
 use Rattle.cap_package.specs.Pairs.{pairs}
-use Rattle.cap_components.specs.Components.{◌>>=◌, read_directory}
+use Rattle.cap_components.specs.Components.{◌>>=◌}
 use Rattle.cap_components.specs.PackageRecord.{PackageRecord, described_methods, interface_methods, fields}
-use Rattle.cap_components.specs.ReadPackage.{read_package}
-use Rattle.cap_components.specs.PartChecks.{missing, form_fault, size_fault, components, custom_tags}
+use Rattle.cap_components.specs.ReadPackage.{read_whole}
+use Rattle.cap_components.specs.PartChecks.{form_fault, size_fault, components, custom_tags}
 use Rattle.cap_package.specs.MethodChecks.{overlap_pair, outside_fault}
 use Rattle.cap_package.specs.HeaderChecks.{registers_fault, length_fault, arguments_fault, abstract_fault}
 use Rattle.cap_package.specs.HandlerChecks.{numbered, numbered_fault, claim_fault}
@@ -129,8 +129,7 @@ members_agree p = do
 -- the package that the parts stand for, or the first fault
 unfoldable pub package_from : List Lent → Result PackageRecord PackFault
 package_from parts = do
-  all_there ← refused (missing parts (read_directory parts))
-  p ← read_package parts
+  p ← read_whole parts
   customs ← refused (least_of (form_fault parts) (custom_tags p.directory))
   places ← places_agree p
   counts ← counts_agree p

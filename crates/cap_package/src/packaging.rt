@@ -11,7 +11,7 @@ use crate::agreement::{counts_agree, members_agree, places_agree};
 use crate::method_checks::method_starts;
 use crate::package_type::Package;
 use cap_components::{
-    Components, PackFault, Parts, customs_formed, interface_offsets, none_missing, read_package,
+    Components, PackFault, Parts, customs_formed, interface_offsets, read_package, read_whole,
 };
 
 /// The components of the package that the parts stand for.
@@ -21,8 +21,7 @@ fn agreeing<'p, 'a>(parts: &'p Parts<'a>) -> Result<Components<'p, 'a>, PackFaul
     ensures parts { IfOk result (λ all. all.parts.now ≡ parts.now) }
     ensures infos { IfOk result (λ all. HaveInfos all) }
 {
-    none_missing(parts)?;
-    let all = read_package(parts)?;
+    let all = read_whole(parts)?;
     customs_formed(parts, &all.directory)?;
     let interfaces = interface_offsets(&all.classes);
     let starts = method_starts(all.descriptor.methods_but(&interfaces));

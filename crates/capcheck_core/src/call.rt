@@ -84,60 +84,18 @@ fn perform<F: Folder>(
     match command {
         Command::Probe(operands) => probe(alloc, folder, operands),
         Command::Show(operands) => show(alloc, folder, operands),
-        Command::Check(operands) => over_folders(
-            alloc,
-            Step::Check,
-            operands.dirs,
-            folder,
-            ram,
-            heap,
-            statics,
-        ),
-        Command::Verify(operands) => over_folders(
-            alloc,
-            Step::Verify,
-            operands.dirs,
-            folder,
-            ram,
-            heap,
-            statics,
-        ),
-        Command::Defend(operands) => over_folders(
-            alloc,
-            Step::Defend(operands),
-            operands.dirs,
-            folder,
-            ram,
-            heap,
-            statics,
-        ),
-        Command::Run(operands) => over_folders(
-            alloc,
-            Step::Run(operands),
-            operands.dirs,
-            folder,
-            ram,
-            heap,
-            statics,
-        ),
-        Command::Transform(operands) => over_folders(
-            alloc,
-            Step::Transform(operands),
-            operands.dirs,
-            folder,
-            ram,
-            heap,
-            statics,
-        ),
-        Command::Trial(operands) => over_folders(
-            alloc,
-            Step::Trial(operands),
-            operands.dirs,
-            folder,
-            ram,
-            heap,
-            statics,
-        ),
+        Command::Check(check) => {
+            over_folders(alloc, Step::Check(check), folder, ram, heap, statics)
+        }
+        Command::Verify(verify) => {
+            over_folders(alloc, Step::Verify(verify), folder, ram, heap, statics)
+        }
+        Command::Defend(run) => over_folders(alloc, Step::Defend(run), folder, ram, heap, statics),
+        Command::Run(run) => over_folders(alloc, Step::Run(run), folder, ram, heap, statics),
+        Command::Transform(asked) => {
+            over_folders(alloc, Step::Transform(asked), folder, ram, heap, statics)
+        }
+        Command::Trial(run) => over_folders(alloc, Step::Trial(run), folder, ram, heap, statics),
         Command::Generate(operands) => {
             generate_and_run(alloc, operands, folder, ram, heap, statics)
         }

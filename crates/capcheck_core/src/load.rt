@@ -206,10 +206,7 @@ fn directory_in(parts: &OwnedParts, format: Format) -> Result<Directory<'_>, Pac
     ensures { Answers directory_items result (read_part (directory_info format) 2 parts.now) }
 {
     let info = info_in(parts, 2)?;
-    match directory(info, format) {
-        Ok(directory) => Ok(directory),
-        Err(fault) => Err(PackFault::Form(fault)),
-    }
+    Ok(directory(info, format)?)
 }
 
 // The Header component.
@@ -218,10 +215,7 @@ fn header_in(parts: &OwnedParts) -> Result<Header<'_>, PackFault>
     ensures { Answers header_items result (read_part header_info 1 parts.now) }
 {
     let info = info_in(parts, 1)?;
-    match header(info) {
-        Ok(header) => Ok(header),
-        Err(fault) => Err(PackFault::Form(fault)),
-    }
+    Ok(header(info)?)
 }
 
 // The info of the component with a tag.
@@ -230,12 +224,9 @@ fn info_in(parts: &OwnedParts, tag: u8) -> Result<View<'_>, PackFault>
     ensures value { Answers info_bytes result (info_in parts.now tag) }
     ensures few { IfOk result (λ info. length info.bytes.now ≤ 65535) }
 {
-    let Some(file) = parts.get(Part(tag)) else {
-        return Err(PackFault::MissingPart(tag));
-    };
-    match frame(file, Part(tag)) {
-        Ok(info) => Ok(info),
-        Err(fault) => Err(PackFault::Form(fault)),
+    match parts.get(Part(tag)) {
+        None => Err(PackFault::MissingPart(tag)),
+        Some(file) => Ok(frame(file, Part(tag))?),
     }
 }
 

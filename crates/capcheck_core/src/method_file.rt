@@ -16,8 +16,5 @@ pub fn method_file(file: &[u8]) -> Result<BareMethod<'_>, PackFault>
     ensures verifiable { IfOk result (λ m. IsVerifiable m) }
     ensures fault { IfErr result (λ f. RefusesFile file.entry.now f) }
 {
-    match frame(file, METHOD) {
-        Ok(info) => bare_method(info),
-        Err(fault) => Err(PackFault::Form(fault)),
-    }
+    bare_method(frame(file, METHOD)?)
 }

@@ -1,17 +1,16 @@
 ghost use Rattle.std.specs.Prelude.{◌≡◌, All, IfOk};
 ghost use Rattle.std.specs.List.{AllZip};
 ghost use Rattle.cap_package.specs.StandsFor.{StandsFor, HavePackage};
-ghost use Rattle.cap_files.specs.WordsLeft.{words_left};
 ghost use Rattle.capcheck_core.specs.Outside.{outside, card};
 ghost use Rattle.capcheck_core.specs.OverFolders.{OverFolders};
 ghost use Rattle.capcheck_core.specs.Run.{HasLengths};
-ghost use Rattle.capcheck_core.specs.Step.{OwnAnswers};
+ghost use Rattle.capcheck_core.specs.Step.{OwnAnswers, dirs_of};
 ghost use Rattle.capcheck_core.specs.World.{IsUnlinkedBy, OverWorld, OverPackages};
 
 use crate::packages::{Loaded, load_packages};
 use crate::step::{Step, take_step};
 use crate::verdict::Verdict;
-use cap_files::{Folder, WordsIter};
+use cap_files::Folder;
 use cap_package::{OwnedParts, Packages, Parts, agreed_package};
 use cap_text::not_linked;
 use jc_link::{LinkEnd, link};
@@ -22,18 +21,17 @@ use std::alloc::{AllocError, Global};
 pub(crate) fn over_folders<F: Folder>(
     alloc: Global,
     step: Step<'_>,
-    dirs: WordsIter<'_>,
     folder: &mut F,
     ram: &mut [u16],
     heap: &mut [u16],
     statics: &mut [u16],
 ) -> Verdict
     requires { HasLengths (card ram.old heap.old statics.old) }
-    ensures { OverFolders (OverWorld (OwnAnswers step.entry)) (words_left dirs.entry)
+    ensures { OverFolders (OverWorld (OwnAnswers step.entry)) (dirs_of step.entry)
         (outside (F.folders folder.old) (card ram.old heap.old statics.old))
         (outside (F.folders folder.new) (card ram.new heap.new statics.new)) result }
 {
-    match load_packages(alloc, folder, dirs) {
+    match load_packages(alloc, folder, step.dirs()) {
         Ok(loaded) => over_loaded(alloc, step, &loaded, folder, ram, heap, statics),
         Err(stop) => stop.verdict(alloc),
     }
