@@ -14,7 +14,7 @@ since a Descriptor counts the classes of its package in one byte. The methods ar
 16,383), but for four shapes. The time of `climbing` grows with the square of its length, or more: it has
 8,192 bytes (half: 4,096). That of `waves` grows with the third power: it has 2,048 bytes (half: 1,024).
 `verify` goes over the code once for each target of `branches`, but not of `indexed`, the same code with a
-target index; and `rounds` has it do so in each of 255 passes: it has 4,096 bytes (half: 2,048). In the code that
+target index; and `rounds` has 255 passes: it has 4,096 bytes (half: 2,048). In the code that
 `transform` lays for `widening` each branch that becomes wide forces one more, so that it turns 8,000 times. Each place of
 `deep_handlers` takes as many steps as there are handlers, registers and superclasses, multiplied: it has 16
 such places (half: 8).
@@ -261,7 +261,7 @@ def to_next(count):
 
 
 def branches(share):
-    """Every place is a target, and targets are not remembered: the next one is sought along the code at each."""
+    """Every place is a target, and places are not remembered: whether one is an instruction's is sought along the code."""
     size = part(share, 32767)
     return with_method(to_next((size - 1) // 2) + RETURN, 0, 1)
 

@@ -1,5 +1,5 @@
 -- The nearest place ahead is the least.
-use Rattle.std.proofs.Common.{◌≡◌, ℕ, zero, suc, ◌+◌, ◌<◌, ◌≤◌, ◌⊎◌, inl, inr, ⊎_elim, Bool, true, false, ◌&&◌, if◌then◌else◌, Option, Some, None, List, [], ◌∷◌, ◌++◌, length, slice_get, get_or, IsSomeAnd, MatchBool, refl, sym, ◌∙◌, ap, subst, arith, append_assoc, Contains}
+use Rattle.std.proofs.Common.{◌≡◌, ℕ, ◌+◌, ◌<◌, ◌≤◌, ◌⊎◌, inl, inr, ⊎_elim, Bool, true, false, ◌&&◌, if◌then◌else◌, Option, Some, None, List, [], ◌∷◌, ◌++◌, length, slice_get, get_or, IsSomeAnd, MatchBool, refl, sym, ◌∙◌, ap, subst, arith, append_assoc, Contains}
 use Rattle.std.specs.Prelude.{ℤ, pos, negsuc, fold, nat_le, nat_lt}
 use Rattle.std.proofs.lemmas.Bool.{false≢true, cases_lt}
 use Rattle.std.proofs.lemmas.Bool.Decides.{nat_tests}
@@ -12,7 +12,7 @@ use Rattle.jc_decode.specs.Places.{IsTargetIn}
 use Rattle.jc_decode.proofs.Elements.{Contains-first, Contains-later, Contains-either}
 use Rattle.jc_control.specs.Method.{Method}
 use Rattle.card_typing.specs.Place.{IsTarget, IsEntry}
-use Rattle.card_verify.specs.Ahead.{IsLeastFrom, is_nearer, nearer, nearer_target}
+use Rattle.card_verify.specs.Ahead.{IsLeastFrom, IsClear, is_nearer, least_or_none, nearer, nearer_target}
 
 le-true : (a b : ℕ) → nat_le a b ≡ true → a ≤ b
 le-true a b h = grind (arith, nat_tests)
@@ -148,3 +148,9 @@ next-whole before rest x after whole h e = append_assoc before (x ∷ []) after 
 pub told-here : (S : ℕ → Type 0) (from : ℕ) (o : Option ℕ) (b : Bool) → IsLeastFrom S from o → MatchBool b (o ≡ Some from) (¬ (o ≡ Some from)) → MatchBool b (S from) (¬ (S from))
 told-here S from o true h e = least-here S from o h e
 told-here S from o false h e = λ s. e (here-least S from o h s)
+
+-- ---- no target before a place
+
+pub clear-least : (m : Method) (place : ℕ) (o : Option ℕ) → IsLeastFrom (IsTarget m) place o → IsClear m place (least_or_none o)
+clear-least m place None h = λ q t ge. let lt = h q t in absurd (omega (arith, lt, ge))
+clear-least m place (Some b) h = λ q t ge. h.2 q t ge

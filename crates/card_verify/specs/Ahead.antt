@@ -9,10 +9,18 @@ abbrev pub IsLeastFrom : (ℕ → Type 0) → ℕ → Option ℕ → Type 0
 IsLeastFrom S from None = (q : ℕ) → S q → q < from
 IsLeastFrom S from (Some least) = S least × (from ≤ least) × ((q : ℕ) → S q → from ≤ q → least ≤ q)
 
--- the least target and the least entry of a handler from a place on
+-- no target from a place on lies before another
+abbrev pub IsClear : Method → ℕ → ℕ → Type 0
+IsClear m from clear = (q : ℕ) → IsTarget m q → from ≤ q → clear ≤ q
+
+-- what is known of the places from one on
 pub record IsAhead (m : Method) (a : Ahead) : Type 0 where
-  pub target : IsLeastFrom (IsTarget m) a.from a.target
   pub entry : IsLeastFrom (IsEntry m) a.from a.entry
+  pub clear : IsClear m a.from a.clear
+
+-- with so many cells left on the stack it is known whether the first of them is a target
+abbrev pub IsTold : Method → Ahead → ℕ → Type 0
+IsTold m a left = 0 < left → a.clear ≤ a.from → IsTarget m a.from
 
 -- ---- as it is computed
 
@@ -28,3 +36,8 @@ nearer from best place = if nat_le from place && is_nearer place best then Some 
 abbrev pub nearer_target : ℕ → Option ℕ → ℤ → Option ℕ
 nearer_target from best (pos place) = nearer from best place
 nearer_target from best (negsuc n) = best
+
+-- the place that was found, and one beyond all code where there is none
+abbrev pub least_or_none : Option ℕ → ℕ
+least_or_none None = 65536
+least_or_none (Some least) = least

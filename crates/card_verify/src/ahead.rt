@@ -2,7 +2,7 @@ ghost use Rattle.std.specs.Prelude.{◌≡◌, ◌<◌, ◌≤◌, fold, length,
 ghost use Rattle.jc_decode.specs.Decoding.{decoded};
 ghost use Rattle.jc_decode.specs.Listing.{targets};
 ghost use Rattle.card_typing.specs.Place.{IsTarget, IsEntry};
-ghost use Rattle.card_verify.specs.Ahead.{IsAhead, IsLeastFrom, is_nearer, nearer, nearer_target};
+ghost use Rattle.card_verify.specs.Ahead.{IsAhead, IsClear, IsTold, IsLeastFrom, is_nearer, least_or_none, nearer, nearer_target};
 ghost use Rattle.card_verify.specs.Verifier.{method};
 
 use crate::verifier::Verifier;
@@ -10,13 +10,13 @@ use cap_bytes::View;
 use jc_control::Targets;
 use jc_decode::{Instructions, Placed, instructions_are_listed};
 
-/// The least target and the least entry of a handler from a place on. Both are kept while a walk goes up to them, and
-/// sought anew once it is beyond.
+/// What a walk knows of the places from one on: the least entry of a handler, which is sought anew once the walk is beyond
+/// it, and a place before which there is no target.
 #[derive(Clone, Copy)]
 pub struct Ahead {
     pub from: u16,
-    pub target: Option<u32>,
     pub entry: Option<u32>,
+    pub clear: u32,
 }
 
 impl Ahead {
@@ -27,35 +27,37 @@ impl Ahead {
     {
         Ahead {
             from: 0,
-            target: verifier.target_from(0),
             entry: verifier.entry_from(0),
+            clear: 0,
         }
     }
 
-    /// What is ahead of a place further on.
-    pub fn moved(self, verifier: Verifier<'_>, place: u16) -> Ahead
+    /// What is ahead of a place further on. Whether it is a target is sought only where cells are left on the stack.
+    pub fn moved(self, verifier: Verifier<'_>, place: u16, left: u8) -> Ahead
         requires ahead { IsAhead (method verifier) self }
         requires up { self.from ≤ place }
         ensures is { IsAhead (method verifier.entry) result }
         ensures from { result.from ≡ place }
+        ensures told { IsTold (method verifier.entry) result left }
     {
         Ahead {
             from: place,
-            target: self.target_at(verifier, place),
             entry: self.entry_at(verifier, place),
+            clear: self.clear_at(verifier, place, left),
         }
     }
 
-    /// The least target from a place further on.
-    fn target_at(self, verifier: Verifier<'_>, place: u16) -> Option<u32>
+    /// A place before which there is no target from a place further on.
+    fn clear_at(self, verifier: Verifier<'_>, place: u16, left: u8) -> u32
         requires ahead { IsAhead (method verifier) self }
         requires up { self.from ≤ place }
-        ensures { IsLeastFrom (IsTarget (method verifier.entry)) place result }
+        ensures clear { IsClear (method verifier.entry) place result }
+        ensures told { 0 < left → result ≤ place → IsTarget (method verifier.entry) place }
     {
-        if is_passed(self.target, place) {
-            verifier.target_from(place)
+        if left > 0 && self.clear <= u32::from(place) {
+            least_or_none(verifier.target_from(place))
         } else {
-            self.target
+            self.clear
         }
     }
 
@@ -72,15 +74,6 @@ impl Ahead {
         }
     }
 
-    /// Whether the place from which it looks is a target.
-    pub fn is_target(self, verifier: Verifier<'_>) -> bool
-        requires { IsAhead (method verifier) self }
-        ensures { MatchBool result (IsTarget (method verifier.entry) self.from) (¬ (IsTarget (method verifier.entry) self.from)) }
-    {
-        let _verifier = verifier;
-        is_here(self.target, self.from)
-    }
-
     /// Whether a handler begins at the place from which it looks.
     pub fn is_entry(self, verifier: Verifier<'_>) -> bool
         requires { IsAhead (method verifier) self }
@@ -88,6 +81,16 @@ impl Ahead {
     {
         let _verifier = verifier;
         is_here(self.entry, self.from)
+    }
+}
+
+/// The place that was found, and beyond every place where there is none.
+fn least_or_none(found: Option<u32>) -> u32
+    ensures { result ≡ least_or_none found }
+{
+    match found {
+        Some(place) => place,
+        None => 65536,
     }
 }
 
@@ -155,6 +158,13 @@ fn nearest(code: View<'_>, placed: Placed, from: u16, so_far: Option<u32>) -> Op
 }
 
 impl Verifier<'_> {
+    /// Whether a place is a target, reached or not.
+    pub fn is_target(&self, place: u16) -> bool
+        ensures { MatchBool result (IsTarget (method self.now) place) (¬ (IsTarget (method self.now) place)) }
+    {
+        is_here(self.target_from(place), place)
+    }
+
     /// The least target from a place on, reached or not.
     fn target_from(&self, from: u16) -> Option<u32>
         ensures { IsLeastFrom (IsTarget (method self.now)) from result }

@@ -2,8 +2,9 @@
 //! no memory but the registers and the stack that it is lent.
 //!
 //! It walks the instructions of a method in the order of the code and raises one list of registers in place, pass
-//! after pass, until a pass raises none. Targets are not remembered: the least one ahead is found by a walk and kept
-//! until the pass is beyond it. It stands on the definitions of `card_typing` and on the rules of `jc_rules`.
+//! after pass, until a pass raises none. Targets are not remembered: where cells are left on the stack the least one
+//! ahead is found by a walk, and kept until the pass is beyond it. It stands on the definitions of `card_typing` and on
+//! the rules of `jc_rules`.
 #![tactic(auto)]
 
 mod ahead;

@@ -8,7 +8,7 @@ ghost use Rattle.card_typing.specs.Place.{IsEntry, IsFallenInto};
 ghost use Rattle.card_typing.specs.Met.{IsOpenTo};
 ghost use Rattle.card_typing.specs.Refusal.{IsRefused};
 ghost use Rattle.card_verify.specs.Verifier.{method, world_of};
-ghost use Rattle.card_verify.specs.Ahead.{IsAhead};
+ghost use Rattle.card_verify.specs.Ahead.{IsAhead, IsTold};
 ghost use Rattle.card_verify.specs.Walk.{IsVerifier, HasSlices, IsComing, IsLanded, IsMislanded, IsFailing, IsStepped, IsVisited, IsStopped, IsBegun, IsRaisedBy, IsSettled, IsLeftWell, IsLeftWrong, IsPut, IsBlocked, IsShared, left};
 
 use crate::ahead::Ahead;
@@ -57,7 +57,7 @@ impl Verifier<'_> {
         };
         let mut rose = false;
         'walk: for placed in Instructions::of(self.code) {
-            ahead = ahead.moved(*self, placed.place);
+            ahead = ahead.moved(*self, placed.place, arrival.left());
             let outcome = match self.visit(placed, ahead, arrival, regs, stack) {
                 Ok(outcome) => outcome,
                 Err(fault) => return Err(fault),
@@ -83,6 +83,7 @@ impl Verifier<'_> {
         requires verifier { IsVerifier self.now }
         requires ahead { IsAhead (method self.now) ahead }
         requires here { ahead.from ≡ placed.place }
+        requires told { IsTold (method self.now) ahead (left arrival) }
         requires stands { HasInstruction (method self.now).code placed }
         requires coming { IsComing self.now placed.place arrival regs.old stack.old }
         ensures passed { IfOk result (λ o. IsVisited self.now placed arrival regs.old stack.old regs.new stack.new o) }
@@ -99,6 +100,7 @@ impl Verifier<'_> {
     fn land(&self, ahead: Ahead, arrival: Arrival, stack: &mut [Ty]) -> Result<u8, CardFault>
         requires verifier { IsVerifier self.now }
         requires ahead { IsAhead (method self.now) ahead }
+        requires told { IsTold (method self.now) ahead (left arrival) }
         requires fallen { MatchBool arrival.may_fall
             (IsFallenInto (method self.now) ahead.from)
             (¬ (IsFallenInto (method self.now) ahead.from)) }
@@ -124,18 +126,18 @@ impl Verifier<'_> {
 
     /// Whether a target is fallen into with cells on the stack.
     fn is_blocked(&self, ahead: Ahead, arrival: Arrival) -> bool
-        requires { IsAhead (method self.now) ahead }
+        requires ahead { IsAhead (method self.now) ahead }
+        requires told { IsTold (method self.now) ahead (left arrival) }
         ensures { MatchBool result (IsBlocked self.now ahead.from arrival) (¬ (IsBlocked self.now ahead.from arrival)) }
     {
-        arrival.left() > 0 && ahead.is_target(*self)
+        arrival.left() > 0 && ahead.clear <= u32::from(ahead.from)
     }
 
     /// Whether control comes to a handler's entry in another way too.
     fn is_shared(&self, ahead: Ahead, arrival: Arrival) -> bool
-        requires { IsAhead (method self.now) ahead }
         ensures { MatchBool result (IsShared self.now ahead.from arrival) (¬ (IsShared self.now ahead.from arrival)) }
     {
-        arrival.may_fall || ahead.is_target(*self)
+        arrival.may_fall || self.is_target(ahead.from)
     }
 
     /// Where a handler begins, the object that is caught stands alone on the stack.

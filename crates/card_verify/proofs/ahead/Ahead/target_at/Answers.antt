@@ -1,8 +1,0 @@
-use Rattle.card_typing.specs.Place.{IsTarget}
-use Rattle.card_verify.specs.Verifier.{method}
-use Rattle.card_verify.proofs.Nearest.{least-kept}
-use Rattle.card_verify.proofs.ahead.Ahead.target_at.Goals as goal
-
-pub returns-else-is_passed : goal.returns-else-is_passed
-returns-else-is_passed c =
-    least-kept (IsTarget (method c.args.verifier)) c.args.self.from c.args.place c.args.self.target c.requires.up c.if-is_passed.ensures c.requires.ahead.target
