@@ -1,5 +1,5 @@
 -- The entries of the handler table that have a home, as the claims of methods tell it.
-use Rattle.std.proofs.Common.{◌≡◌, ℕ, ◌+◌, ◌<◌, ◌≤◌, Bool, true, false, cond, eqb, leb, ltb, ◌&&◌, ◌||◌, not, List, [], ◌∷◌, fold, filter, Option, Some, None, refl, sym, ap, ◌∙◌, inl, inr, arith, eq-eqb, ne_eqb, leb-true, le-ltb}
+use Rattle.std.proofs.Common.{◌≡◌, ℕ, ◌+◌, ◌<◌, ◌≤◌, Bool, true, false, cond, eqb, leb, ltb, ◌&&◌, ◌||◌, not, List, [], ◌∷◌, length, fold, filter, Option, Some, None, refl, sym, ap, ◌∙◌, inl, inr, arith, eq-eqb, ne_eqb, leb-true, le-ltb}
 use Rattle.offset_set.specs.Tallies.{with_one}
 use Rattle.cap_method.specs.declared.handler.HandlerInfo.{HandlerInfo}
 use Rattle.cap_desc.specs.DescriptorFormat.{Method}
@@ -178,6 +178,10 @@ homes_told info ms hs c e =
     ap (λ (d : Claimed). least_of (home_fault d) (numbered 0 hs)) e
     ∙ same_faults (home_fault (fold (claim_table info (numbered 0 hs)) none_claimed ms)) (numbered_fault info ms) (numbered 0 hs)
     None (home_told info ms hs)
+
+pub no_entries : (hs : List HandlerInfo) (f : ℕ × HandlerInfo → Option PackFault) → length hs ≡ 0 → None ≡ least_of f (numbered 0 hs)
+no_entries [] f e = refl
+no_entries (h ∷ hs) f e = absurd cc
 
 -- ---- a method without handlers claims nothing
 

@@ -11,8 +11,9 @@ ghost use Rattle.cap_components.specs.declared.fault.PackFault.TheVariants.{Clas
 ghost use Rattle.cap_components.specs.Order.{least_of, least_from};
 ghost use Rattle.cap_package.specs.NameChecks.{class_unless, own};
 
+use crate::least::keep_lesser;
 use cap_class::ClassPart;
-use cap_components::{PackFault, lesser};
+use cap_components::PackFault;
 use cap_desc::DescClasses;
 use cap_pool::Export;
 use offset_set::{Offsets, Tally};
@@ -46,7 +47,7 @@ pub(crate) fn classes_described(classes: &ClassPart<'_>, described: &Tally) -> O
     let mut least = None;
     'classes: for class in classes.iter() {
         let offset = class.offset();
-        least = lesser(least, class_unless(described.has_once(offset), offset));
+        keep_lesser(&mut least, class_unless(described.has_once(offset), offset));
     }
     least
 }
@@ -72,7 +73,10 @@ pub(crate) fn descriptors_named(
     let mut least = least;
     'classes: for class in descriptors {
         let reference = class.class_ref();
-        least = lesser(least, class_unless(is_own(starts, reference), reference));
+        keep_lesser(
+            &mut least,
+            class_unless(is_own(starts, reference), reference),
+        );
     }
     least
 }
@@ -91,7 +95,7 @@ pub(crate) fn exports_are_classes(
     let mut least = least;
     'classes: for class in export.iter() {
         let offset = class.class.class_offset;
-        least = lesser(least, class_unless(starts.has(offset), offset));
+        keep_lesser(&mut least, class_unless(starts.has(offset), offset));
     }
     least
 }

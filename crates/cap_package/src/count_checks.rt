@@ -9,8 +9,9 @@ ghost use Rattle.cap_components.specs.Descriptions.{description};
 ghost use Rattle.cap_package.specs.CountChecks.{differ, array_bytes, cells_of, instance_cells, instance_by, instance_fault};
 
 use crate::class_search::ClassSearch;
+use crate::least::keep_lesser;
 use cap_class::{ClassInfo, ClassPart};
-use cap_components::{CountKind, PackFault, field_type, lesser, refuse, words_of};
+use cap_components::{CountKind, PackFault, field_type, refuse, words_of};
 use cap_desc::{DescClass, DescPart, FieldInfo};
 use cap_method::StaticPart;
 
@@ -107,7 +108,7 @@ pub(crate) fn instances_agree(
     let mut least = None;
     'classes: for class in descriptor.classes() {
         let entry = search.at(class.class_ref());
-        least = lesser(least, instance_fault(entry, descriptor, &class));
+        keep_lesser(&mut least, instance_fault(entry, descriptor, &class));
     }
     refuse(least)
 }

@@ -8,7 +8,8 @@ ghost use Rattle.cap_package.specs.HandlerChecks.{claim_fault, numbered, numbere
 ghost use Rattle.cap_package.specs.HandlerClaims.{claims_seen, claim_table, none_claimed, home_fault};
 
 use crate::handler_claims::HandlerClaims;
-use cap_components::{PackFault, lesser, refuse};
+use crate::least::keep_lesser;
+use cap_components::{PackFault, refuse};
 use cap_desc::{MethodInfo, MethodsBut};
 use cap_method::MethodPart;
 
@@ -55,19 +56,23 @@ fn home_fault(home: bool, number: u16) -> Option<PackFault>
 }
 
 /// The least fault of the entries of the table.
-#[tactic(auto, using(crate::proofs::HandlerHomes::homes_told))]
+#[tactic(auto, using(crate::proofs::HandlerHomes::homes_told, crate::proofs::HandlerHomes::no_entries))]
 fn entry_faults(methods: &MethodPart<'_>, described: MethodsBut<'_, '_>) -> Option<PackFault>
     ensures { result
         ≡ least_of
         (numbered_fault methods.now.info.bytes.now (methods_but_left described.entry))
         (numbered 0 (handlers methods.now)) }
 {
-    let entries = claimed(methods, described);
     let count = methods.handler_count();
+    // Where the table is empty, no entry is at fault, whatever the methods claim.
+    if count == 0 {
+        return None;
+    }
+    let entries = claimed(methods, described);
     let mut least = None;
     let mut number: u16 = 0;
     'handlers: for _ in methods.handlers() {
-        least = lesser(least, home_fault(entries.has_home(number), number));
+        keep_lesser(&mut least, home_fault(entries.has_home(number), number));
         number += 1;
     }
     let _count = count;
@@ -87,7 +92,7 @@ pub(crate) fn handlers_at_home(
     let count = methods.handler_count();
     let mut least = entry_faults(methods, described);
     'methods: for method in described {
-        least = lesser(least, claim_fault(count, &method));
+        keep_lesser(&mut least, claim_fault(count, &method));
     }
     refuse(least)
 }

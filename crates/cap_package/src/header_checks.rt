@@ -7,7 +7,8 @@ ghost use Rattle.cap_components.specs.Order.{least_of, refused};
 ghost use Rattle.cap_components.specs.Descriptions.{description};
 ghost use Rattle.cap_package.specs.HeaderChecks.{header_in, registers_fault, length_fault, arguments_fault, abstract_fault};
 
-use cap_components::{CountKind, PackFault, argument_words, lesser, refuse};
+use crate::least::keep_lesser;
+use cap_components::{CountKind, PackFault, argument_words, refuse};
 use cap_desc::{DescPart, MethodInfo, MethodsBut};
 use cap_method::{MethodHeader, MethodPart};
 
@@ -43,7 +44,7 @@ pub(crate) fn registers_few(
 {
     let mut least = None;
     'methods: for method in described {
-        least = lesser(least, registers_fault(methods, &method));
+        keep_lesser(&mut least, registers_fault(methods, &method));
     }
     refuse(least)
 }
@@ -69,7 +70,7 @@ pub(crate) fn lengths_fit(
 {
     let mut least = None;
     'methods: for method in described {
-        least = lesser(least, length_fault(methods, &method));
+        keep_lesser(&mut least, length_fault(methods, &method));
     }
     refuse(least)
 }
@@ -106,7 +107,7 @@ pub(crate) fn arguments_agree(
 {
     let mut least = None;
     'methods: for method in described {
-        least = lesser(least, arguments_fault(methods, descriptor, &method));
+        keep_lesser(&mut least, arguments_fault(methods, descriptor, &method));
     }
     refuse(least)
 }
@@ -135,7 +136,7 @@ pub(crate) fn abstract_without_code(
 {
     let mut least = None;
     'methods: for method in described {
-        least = lesser(least, abstract_fault(methods, &method));
+        keep_lesser(&mut least, abstract_fault(methods, &method));
     }
     refuse(least)
 }

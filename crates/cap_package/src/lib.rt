@@ -11,6 +11,7 @@ mod custom;
 mod handler_checks;
 mod handler_claims;
 mod header_checks;
+mod least;
 mod method_checks;
 mod name_checks;
 mod offsets;

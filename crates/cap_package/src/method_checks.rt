@@ -8,8 +8,9 @@ ghost use Rattle.cap_package.specs.Pairs.{pairs};
 ghost use Rattle.cap_package.specs.MethodChecks.{overlap_pair, outside_fault};
 ghost use Rattle.cap_package.specs.Reaches.{reach_by, method_start, method_end};
 
+use crate::least::keep_lesser;
 use cap_bytes::View;
-use cap_components::{PackFault, code_end, lesser, refuse};
+use cap_components::{PackFault, code_end, refuse};
 use cap_desc::{MethodInfo, MethodsBut};
 use offset_set::Tally;
 
@@ -58,7 +59,7 @@ pub(crate) fn methods_apart(
     let mut least = None;
     'methods: for method in described {
         let next = starts.nearest(method.method_offset);
-        least = lesser(least, reaches(info, &method, next));
+        keep_lesser(&mut least, reaches(info, &method, next));
     }
     refuse(least)
 }
@@ -90,7 +91,7 @@ pub(crate) fn methods_inside(
 {
     let mut least = None;
     'methods: for method in described {
-        least = lesser(least, outside_fault(info, handler_count, &method));
+        keep_lesser(&mut least, outside_fault(info, handler_count, &method));
     }
     refuse(least)
 }

@@ -9,9 +9,10 @@ ghost use Rattle.cap_components.specs.Order.{least_of, least_from, refused};
 ghost use Rattle.cap_package.specs.NameChecks.{no_method_fault, no_entry_fault, table_entries, exported_methods, exported_fields};
 ghost use Rattle.cap_package.specs.StaticChecks.{no_static_fault};
 
+use crate::least::keep_lesser;
 use cap_bytes::Table;
 use cap_class::ClassPart;
-use cap_components::{PackFault, lesser};
+use cap_components::PackFault;
 use cap_frame::Applets;
 use cap_pool::Export;
 use offset_set::Offsets;
@@ -38,6 +39,7 @@ fn no_entry_fault(described: &Offsets, offset: u16) -> Option<PackFault>
 }
 
 /// The least fault so far, when the entries of a dispatch table were looked up.
+#[inline(always)]
 fn entries_of_table(
     described: &Offsets,
     table: Table<'_>,
@@ -47,7 +49,7 @@ fn entries_of_table(
 {
     let mut least = least;
     'entries: for offset in table {
-        least = lesser(least, no_entry_fault(described, offset));
+        keep_lesser(&mut least, no_entry_fault(described, offset));
     }
     least
 }
@@ -62,7 +64,7 @@ fn methods_of_table(
 {
     let mut least = least;
     'entries: for offset in table {
-        least = lesser(least, no_method_fault(described, offset));
+        keep_lesser(&mut least, no_method_fault(described, offset));
     }
     least
 }
@@ -109,7 +111,7 @@ pub(crate) fn installs_named(
 {
     let mut least = least;
     'applets: for applet in applets.iter() {
-        least = lesser(least, no_method_fault(described, applet.install));
+        keep_lesser(&mut least, no_method_fault(described, applet.install));
     }
     least
 }
@@ -135,7 +137,7 @@ fn statics_of_table(
 {
     let mut least = least;
     'entries: for offset in table {
-        least = lesser(least, no_static_fault(fields, offset));
+        keep_lesser(&mut least, no_static_fault(fields, offset));
     }
     least
 }

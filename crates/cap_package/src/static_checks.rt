@@ -12,10 +12,11 @@ ghost use Rattle.cap_package.specs.Places.{place_seen};
 ghost use Rattle.cap_package.specs.StaticPlaces.{places_left};
 ghost use Rattle.cap_package.specs.Reaches.{reach_by, static_start, static_end};
 
+use crate::least::keep_lesser;
 use crate::places::StaticPlaces;
 use crate::static_place::StaticPlace;
 use arrayvec::ArrayVec;
-use cap_components::{PackFault, field_type, lesser, refuse};
+use cap_components::{PackFault, field_type, refuse};
 use cap_desc::{DescPart, FieldInfo, FieldsOf, TypeItem};
 use cap_method::StaticPart;
 use offset_set::Tally;
@@ -95,7 +96,7 @@ pub(crate) fn statics_apart(places: StaticPlaces<'_>) -> Result<(), PackFault>
     let mut least = None;
     'places: for place in places {
         let next = starts.nearest(place.offset);
-        least = lesser(least, reaches(&place, next));
+        keep_lesser(&mut least, reaches(&place, next));
     }
     refuse(least)
 }
@@ -182,9 +183,13 @@ fn filled_faults(
 ) -> Option<PackFault>
     ensures { result ≡ least_from least (filled_fault kinds.now.items (description descriptor.now)) (fields_of_left fields.entry) }
 {
+    // Where there are no arrays, as mostly, no field is one that they fill.
+    if kinds.as_slice().is_empty() {
+        return least;
+    }
     let mut least = least;
     'fields: for field in fields {
-        least = lesser(least, filled_fault(kinds, descriptor, &field));
+        keep_lesser(&mut least, filled_fault(kinds, descriptor, &field));
     }
     least
 }
@@ -199,7 +204,7 @@ fn image_faults(
 {
     let mut least = None;
     'fields: for field in fields {
-        least = lesser(least, image_fault(statics, descriptor, &field));
+        keep_lesser(&mut least, image_fault(statics, descriptor, &field));
     }
     least
 }

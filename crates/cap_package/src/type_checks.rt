@@ -9,7 +9,8 @@ ghost use Rattle.cap_components.specs.Order.{least_of, least_from, refused};
 ghost use Rattle.cap_components.specs.Descriptions.{description};
 ghost use Rattle.cap_package.specs.TypeChecks.{field_type_fault, method_type_fault};
 
-use cap_components::{PackFault, argument_words, field_type, lesser, refuse};
+use crate::least::keep_lesser;
+use cap_components::{PackFault, argument_words, field_type, refuse};
 use cap_desc::{DescMethods, DescPart, FieldInfo, MethodInfo};
 use offset_set::Offsets;
 
@@ -29,6 +30,7 @@ fn field_type_fault(descriptor: &DescPart<'_>, field: &FieldInfo) -> Option<Pack
 }
 
 #[tactic(auto, unfolding(crate::specs::TypeChecks::method_type_fault))]
+#[inline(always)]
 fn method_type_fault(descriptor: &DescPart<'_>, most: u16, method: &MethodInfo) -> Option<PackFault>
     ensures { result ≡ method_type_fault (description descriptor.now) most (method_seen method.now) }
 {
@@ -44,7 +46,7 @@ fn field_types(descriptor: &DescPart<'_>) -> Option<PackFault>
 {
     let mut least = None;
     'fields: for field in descriptor.fields() {
-        least = lesser(least, field_type_fault(descriptor, &field));
+        keep_lesser(&mut least, field_type_fault(descriptor, &field));
     }
     least
 }
@@ -58,7 +60,10 @@ fn method_types(descriptor: &DescPart<'_>, least: Option<PackFault>) -> Option<P
 {
     let mut least = least;
     'methods: for method in descriptor.methods() {
-        least = lesser(least, method_type_fault(descriptor, ANY_WORDS, &method));
+        keep_lesser(
+            &mut least,
+            method_type_fault(descriptor, ANY_WORDS, &method),
+        );
     }
     least
 }
@@ -73,8 +78,8 @@ fn types_of_interface(
 {
     let mut least = least;
     'methods: for method in methods {
-        least = lesser(
-            least,
+        keep_lesser(
+            &mut least,
             method_type_fault(descriptor, INTERFACE_WORDS, &method),
         );
     }

@@ -40,6 +40,7 @@ fn static_in(bytes: [u8; 3]) -> StaticReference
 impl PoolEntry {
     /// What the entry refers to.
     #[tactic(auto, unfolding(crate::specs::PoolReference::referred))]
+    #[inline(always)]
     pub fn reference(self) -> PoolReference
         ensures { result ≡ referred (entry_seen self) }
     {

@@ -16,7 +16,7 @@ pub record IsEmpty (r : Roomed) : Type 0 where
   pub text : r.text ≡ []
   pub used : r.used ≡ 0
 
--- the bytes are written after the text, and the memory is what it was
+-- the bytes are written after the text, and the memory is no smaller
 pub record Writes (before after : Roomed) (bytes : List ℕ) : Type 0 where
   pub text : after.text ≡ before.text ++ bytes
   pub used : after.used ≡ before.used + length bytes

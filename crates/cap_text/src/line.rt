@@ -72,7 +72,7 @@ pub fn not_started(alloc: Global, fault: StartFault) -> Result<String, AllocErro
     Ok(room.into_text())
 }
 
-/// Writes the line for an entry that does not start, in at most 48 bytes. It takes no memory.
+/// Writes the line for an entry that does not start, in at most 48 bytes. It needs no further memory.
 pub fn write_not_started(room: &mut Room, fault: StartFault)
     requires { HasRoom room.old 48 }
     ensures { Writes room.old room.new (not_started_line fault) }
@@ -148,7 +148,7 @@ pub fn refused_card(
     Ok(room.into_text())
 }
 
-/// Writes the line for a method without a card typing, in at most 123 bytes. It takes no memory.
+/// Writes the line for a method without a card typing, in at most 123 bytes. It needs no further memory.
 pub fn write_refused_card(room: &mut Room, method: MethodNumber, fault: CardFault)
     requires { HasRoom room.old 123 }
     ensures { Writes room.old room.new (refused_card_line method fault) }

@@ -7,7 +7,7 @@ use itoa::Buffer;
 use std::alloc::{AllocError, Global};
 use std::marker::Model;
 
-/// A text in memory that was taken before: what is written into it takes none.
+/// A text in memory that was taken before, with room for what is written into it.
 #[derive(Drop)]
 pub struct Room {
     text: String,

@@ -139,7 +139,7 @@ fn unstarted_line(text: Room, fault: StartFault) -> String
     text.into_text()
 }
 
-// The same with the room of the text. From here on no memory is taken.
+// The same with the room of the text. From here on nothing can run out of memory.
 fn run_verified(
     world: &World<'_>,
     run: &Bounded<'_>,

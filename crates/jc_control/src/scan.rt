@@ -55,25 +55,29 @@ pub fn find_flaw(subject: Subject<'_>, places: Places<'_>) -> Result<(), Flaw>
     ensures formed { OnOk result (IsWellFormed (method subject.entry)) }
     ensures flawed { IfErr result (λ flaw. IsFirstFlaw (method subject.entry) flaw) }
 {
-    check_targets(subject.code, places)?;
-    check_end(subject.code, places)?;
+    let end = check_targets(subject.code, places)?;
+    check_end(subject.code, places, end)?;
     check_handlers(subject.code, &subject.rec.handlers, places)
 }
 
-/// Whether each target is the place of an instruction.
-fn check_targets(code: View<'_>, places: Places<'_>) -> Result<(), Flaw>
+/// Whether each target is the place of an instruction; and where the list of the code's instructions ends.
+fn check_targets(code: View<'_>, places: Places<'_>) -> Result<u16, Flaw>
     requires short { length code.bytes.now ≤ 32767 }
     requires known { KnowPlaces code.bytes.now places }
     ensures formed { OnOk result (All (LeadsToPlaces code.entry.bytes.now) (listing code.entry.bytes.now)) }
+    ensures end { IfOk result (λ end. end ≡ listing_end code.entry.bytes.now) }
     ensures flawed { IfErr result (λ flaw. IsFirstStray code.entry.bytes.now flaw) }
 {
     instructions_are_listed();
+    let mut end = 0;
     'walk: for placed in Walk::of(code, places) {
-        if let Some(target) = stray_target(code, placed, places) {
-            return Err(Flaw::BadTarget(placed.place, target));
+        match stray_target(code, placed, places) {
+            Some(target) => return Err(Flaw::BadTarget(placed.place, target)),
+            None => {}
         }
+        end = placed.place + placed.insn.len as u16;
     }
-    Ok(())
+    Ok(end)
 }
 
 /// The first target of an instruction that is no place of one.
@@ -97,19 +101,19 @@ fn stray_target(code: View<'_>, placed: Placed, places: Places<'_>) -> Option<i3
     None
 }
 
-/// Whether instructions are decoded to the code's end.
-fn check_end(code: View<'_>, places: Places<'_>) -> Result<(), Flaw>
+/// Whether the list of the code's instructions, which ends at a place, goes to the code's end.
+fn check_end(code: View<'_>, places: Places<'_>, end: u16) -> Result<(), Flaw>
     requires short { length code.bytes.now ≤ 32767 }
     requires known { KnowPlaces code.bytes.now places }
+    requires end { end ≡ listing_end code.bytes.now }
     ensures formed { OnOk result (listing_end code.entry.bytes.now ≡ length code.entry.bytes.now) }
     ensures flawed { IfErr result (λ flaw. IsStop code.entry.bytes.now flaw) }
 {
-    let (place, end) = code_end(code, places);
-    if usize::from(place) == code.bytes.len() {
-        Ok(())
-    } else {
-        Err(Flaw::Code(place, end))
+    if usize::from(end) == code.bytes.len() {
+        return Ok(());
     }
+    let (place, why) = code_end(code, places);
+    Err(Flaw::Code(place, why))
 }
 
 /// Where the list of the code's instructions ends, and why none begins there.

@@ -6,6 +6,7 @@ use Rattle.cap_bytes.specs.declared.cursor.Cursor.{Cursor}
 use Rattle.cap_bytes.specs.Grammar.{give}
 use Rattle.cap_bytes.specs.Taking.{Gives, gives, given}
 use Rattle.cap_package.specs.PackageRecord.{PackageRecord}
+use Rattle.cap_package.proofs.Given.{drop_here}
 use Rattle.jc_base.specs.declared.record.MethodRec.{MethodRec}
 use Rattle.jc_indexes.specs.Component.{index_in, lists_in}
 use Rattle.jc_indexes.specs.Indexes.{is_coded, lists_after, package_lists, index_after, indexes_after, indexes_of}
@@ -29,13 +30,6 @@ indexes-each ps ms = after-each (package_lists ps ms) [] ms
 
 -- ---- one after the other
 
-pub next-drop : {A : Type 0} (xs : List A) (n : ℕ) (x : A) → slice_get xs n ≡ Some x → drop n xs ≡ x ∷ drop (n + 1) xs
-next-drop [] n x e = absurd cc
-next-drop (y ∷ ys) zero x e = cc
-next-drop (y ∷ ys) (suc n) x e =
-    let k : suc n + 1 ≡ suc (n + 1) = omega arith in
-    rw k (next-drop ys n x e)
-
 pub next-take : {A : Type 0} (xs : List A) (n : ℕ) (x : A) → slice_get xs n ≡ Some x → take (n + 1) xs ≡ take n xs ++ x ∷ []
 next-take [] n x e = absurd cc
 next-take (y ∷ ys) zero x e = cc
@@ -57,7 +51,7 @@ pub lists-more : (ms : List MethodRec) (xs ys all : List (List (List ℕ))) (ps 
     → xs ++ lists_after ms n (drop n ps) ≡ all → ys ++ lists_after ms (n + 1) (drop (n + 1) ps) ≡ all
 lists-more ms xs ys all ps n p lists e is more so_far =
     let d : lists_after ms n (drop n ps) ≡ lists ∷ lists_after ms (n + 1) (drop (n + 1) ps) =
-    ap (lists_after ms n) (next-drop ps n p e) ∙ ap (λ l. l ∷ lists_after ms (n + 1) (drop (n + 1) ps)) (sym is) in
+    ap (lists_after ms n) (drop_here ps n p e) ∙ ap (λ l. l ∷ lists_after ms (n + 1) (drop (n + 1) ps)) (sym is) in
     ap (λ zs. zs ++ lists_after ms (n + 1) (drop (n + 1) ps)) more ∙ append_assoc xs (lists ∷ []) (lists_after ms (n + 1) (drop (n + 1) ps)) ∙ ap (λ zs. xs ++ zs) (sym d) ∙ so_far
 
 -- the index of one method more
@@ -67,7 +61,7 @@ pub indexes-more : (lists : List (List (List ℕ))) (xs ys all : List (Option (L
 indexes-more lists xs ys all ms n m index e is more so_far =
     let rest = indexes_after lists (take (n + 1) ms) (drop (n + 1) ms) in
     let d : indexes_after lists (take n ms) (drop n ms) ≡ index ∷ rest =
-    ap (indexes_after lists (take n ms)) (next-drop ms n m e)
+    ap (indexes_after lists (take n ms)) (drop_here ms n m e)
     ∙ ap (λ seen. index_after lists (take n ms) m ∷ indexes_after lists seen (drop (n + 1) ms)) (sym (next-take ms n m e))
     ∙ ap (λ i. i ∷ rest) (sym is) in
     ap (λ zs. zs ++ rest) more ∙ append_assoc xs (index ∷ []) rest ∙ ap (λ zs. xs ++ zs) (sym d) ∙ so_far

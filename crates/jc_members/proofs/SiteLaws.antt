@@ -105,3 +105,24 @@ some-after (m ∷ ms) = there-after (Some m) ms
 -- and tells whether there is any
 pub some_kept : (xs : List Site) (q : Spot) → is_some (kept_at (all_entered [] xs) q) ≡ is_there (standing xs q)
 some_kept xs q = ap is_some (all-kept xs [] q) ∙ some-after (standing xs q)
+
+-- ---- what was at a spot before tells how a member is entered
+
+put-again : (q : Spot) (v w : Option Member) (es : List (Spot × Option Member)) (o : Option Member) → kept_at es q ≡ Some o
+    → insert_entry same_spot (insert_entry same_spot es q v) q w ≡ insert_entry same_spot es q w
+put-again q v w [] o e = absurd cc
+put-again q v w (x ∷ es) o e = by (λ found. put-again q v w es o found) (same_spot q x.0) refl e
+  where
+    by : (kept_at es q ≡ Some o → insert_entry same_spot (insert_entry same_spot es q v) q w ≡ insert_entry same_spot es q w) → (b : Bool) → same_spot q x.0 ≡ b → cond b (Some x.1) (kept_at es q) ≡ Some o
+        → insert_entry same_spot (cond b ((x.0, v) ∷ es) (x ∷ insert_entry same_spot es q v)) q w ≡ cond b ((x.0, w) ∷ es) (x ∷ insert_entry same_spot es q w)
+    by later true h found = rw h refl
+    by later false h found = rw h (ap (λ l. x ∷ l) (later found))
+
+pub several-entered : (es : List (Spot × Option Member)) (q : Spot) (m : Member) (o : Option Member) → kept_at es q ≡ Some o
+    → insert_entry same_spot (insert_entry same_spot es q (Some m)) q None ≡ entered es (record { spot = q; member = m })
+unfolding entered
+several-entered es q m o e = rw e (put-again q (Some m) None es o e)
+
+pub first-entered : (es : List (Spot × Option Member)) (q : Spot) (m : Member) → kept_at es q ≡ None → insert_entry same_spot es q (Some m) ≡ entered es (record { spot = q; member = m })
+unfolding entered
+first-entered es q m e = rw e refl

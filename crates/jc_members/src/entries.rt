@@ -27,6 +27,7 @@ pub(crate) fn class_member(
 
 /// The class to which a reference leads, if it is no interface.
 #[tactic(auto, unfolding(crate::specs::Members::proper_referred))]
+#[inline(always)]
 pub(crate) fn proper_referred(
     names: &Names<'_, '_, '_>,
     classes: &Classes,

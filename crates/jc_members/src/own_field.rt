@@ -46,12 +46,13 @@ fn own_field(
     })
 }
 
-/// The instance fields among described fields.
+/// The instance fields among described fields, of which there are about so many.
 fn owned_among(
     alloc: Global,
     names: &Names<'_, '_, '_>,
     package: u16,
     descriptor: &DescPart<'_>,
+    count: u16,
     fields: DescFields<'_>,
 ) -> Result<Vec<OwnField>, AllocError>
     ensures { IfOk result
@@ -61,7 +62,7 @@ fn owned_among(
         (own_field names.now.packages (slice_index names.now.roles 0) «package»
         (description descriptor.now)) (fields_left fields.entry)) }
 {
-    let mut own = Vec::new(alloc);
+    let mut own = Vec::with_capacity(alloc, count as usize)?;
     'fields: for field in fields {
         if let Some(field) = own_field(names, package, descriptor, field) {
             own.push(field)?;
@@ -93,7 +94,14 @@ fn described_fields(
     }
     match described.at(offset) {
         Some(class) => {
-            let own = owned_among(alloc, names, package, descriptor, class.fields())?;
+            let own = owned_among(
+                alloc,
+                names,
+                package,
+                descriptor,
+                class.field_count(),
+                class.fields(),
+            )?;
             Ok(own)
         }
         None => Ok(Vec::new(alloc)),

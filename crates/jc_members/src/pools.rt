@@ -6,7 +6,7 @@ ghost use Rattle.jc_resolve.specs.Counts.{class_total};
 ghost use Rattle.jc_resolve.specs.Due.{IsDue};
 ghost use Rattle.jc_resolve.specs.declared.fault.LinkFault.TheVariants.{NoMember};
 ghost use Rattle.jc_resolve.specs.Fault.{link_place};
-ghost use Rattle.first_fault.specs.Least.{least_from, least_of};
+ghost use Rattle.first_fault.specs.Least.{lesser, least_from, least_of};
 ghost use Rattle.jc_members.specs.Fields.{HasCellsOf, field_sites};
 ghost use Rattle.jc_members.specs.Sites.{all_entered};
 ghost use Rattle.jc_members.specs.Members.{static_sites, member_referred, member_of};
@@ -86,6 +86,7 @@ fn member_of(
 }
 
 /// What is wrong with an entry, where it has no member.
+#[inline(always)]
 fn missing(package: u16, number: u16, member: Option<Member>) -> Option<LinkFault>
     ensures { result ≡ if is_none member then Some (NoMember «package» number) else None }
 {
@@ -95,7 +96,20 @@ fn missing(package: u16, number: u16, member: Option<Member>) -> Option<LinkFaul
     }
 }
 
+/// Keeps the fault that is named, when one more thing was seen that may be at fault.
+#[tactic(auto, unfolding(first_fault::specs::Least::lesser))]
+#[inline(always)]
+fn keep_lesser(least: &mut Option<LinkFault>, fault: Option<LinkFault>)
+    ensures { least.new ≡ lesser link_place least.old fault }
+{
+    // Where nothing is at fault, as mostly, nothing is written.
+    if let Some(found) = fault {
+        *least = lesser(*least, Some(found));
+    }
+}
+
 /// Keeps what an entry names.
+#[inline(always)]
 fn keep(members: &mut Vec<Member>, member: Option<Member>) -> Result<(), AllocError>
     ensures { OnOk result (members.new.items ≡ members.old.items ++ option_to_list member) }
 {
@@ -142,7 +156,7 @@ fn pool_members(
     let mut number: u16 = 0;
     'entries: for entry in pool.iter() {
         let member = member_of(names, classes, statics, tables, package, entry);
-        least = lesser(least, missing(package, number, member));
+        keep_lesser(&mut least, missing(package, number, member));
         keep(&mut members, member)?;
         number += 1;
     }

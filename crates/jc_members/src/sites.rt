@@ -6,15 +6,33 @@ ghost use Rattle.jc_members.specs.Members.{static_site, static_sites};
 use indexmap::IndexMap;
 use jc_base::{Member, StaticRec, Statics};
 use std::alloc::{AllocError, Global};
+use std::hash::{Hash, Hasher};
 use std::marker::Model;
 
 /// Where a member is described: an offset in the static field image of a package, or a token of a class.
-#[derive(Clone, Copy, PartialEq, Eq, Hash)]
+#[derive(Clone, Copy, PartialEq, Eq)]
 pub(crate) struct Spot {
     /// The number of the package, or of the class.
     pub(crate) owner: u16,
     /// The offset, or the token.
     pub(crate) number: u16,
+}
+
+// Both numbers in one write, which takes half the time of two.
+impl Hash for Spot {
+    ghost use Rattle.std.specs.Prelude.{◌+◌, ◌*◌};
+    ghost use Rattle.std.specs.Hash as fed;
+    ghost use Rattle.std.specs.Cmp.Rules.{hashing};
+    ghost use Rattle.std.proofs.Common.{rules};
+    ghost use Rattle.jc_members.specs.declared.sites.Spot.{Spot};
+
+    ghost hash_input = { λ (spot : Spot). fed.u32 (spot.owner * 65536 + spot.number) };
+
+    ghost respects_eq = { Prim.search (hashing, rules) };
+
+    fn hash<H: Hasher>(&self, state: &mut H) {
+        state.write_u32(self.owner as u32 * 65536 + self.number as u32);
+    }
 }
 
 /// The members by their spots; `None` where there are several.
@@ -52,16 +70,13 @@ impl Sites {
     }
 
     /// Keeps one more member.
-    #[tactic(auto, unfolding(crate::specs::Sites::entered))]
     pub(crate) fn enter(&mut self, spot: Spot, member: Member) -> Result<(), AllocError>
         ensures { OnOk result (self.new ≡ entered self.old (record { spot = spot; member = member })) }
     {
-        let only = if self.map.contains_key(&spot) {
-            None
-        } else {
-            Some(member)
-        };
-        self.map.insert(spot, only)?;
+        if let Some(_before) = self.map.insert(spot, Some(member))? {
+            // There are several.
+            self.map.insert(spot, None)?;
+        }
         Ok(())
     }
 

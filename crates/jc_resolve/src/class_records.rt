@@ -45,7 +45,7 @@ fn table_of(
     ensures is { IfOk result (λ t. t ≡ table_of index.now «package» base (numbers offsets.entry)) }
     ensures sized { IfOk result IsByteTable }
 {
-    let mut entries = Vec::new(alloc);
+    let mut entries = Vec::with_capacity(alloc, offsets.len() as usize)?;
     'entries: for offset in offsets {
         entries.push(entry_of(index, package, offset))?;
     }
@@ -75,12 +75,16 @@ fn implemented_interfaces(
     Ok(named)
 }
 
-/// The instance fields of a record of the Descriptor.
+/// The instance fields of a record of the Descriptor, which has so many fields.
 #[tactic(auto, using(crate::proofs::FieldSteps::field_kept, crate::proofs::FieldSteps::field_passed))]
-fn instance_among(alloc: Global, described: DescFields<'_>) -> Result<Vec<FieldInfo>, AllocError>
+fn instance_among(
+    alloc: Global,
+    count: u16,
+    described: DescFields<'_>,
+) -> Result<Vec<FieldInfo>, AllocError>
     ensures { IfOk result (λ v. map field_seen v.items ≡ filter is_instance (fields_left described.entry)) }
 {
-    let mut fields = Vec::new(alloc);
+    let mut fields = Vec::with_capacity(alloc, count as usize)?;
     'fields: for field in described {
         if !field.flags.is_static() {
             fields.push(field)?;
@@ -104,7 +108,7 @@ fn instance_fields(
     }
     match described.at(offset) {
         Some(class) => {
-            let fields = instance_among(alloc, class.fields())?;
+            let fields = instance_among(alloc, class.field_count(), class.fields())?;
             Ok(fields)
         }
         None => Ok(Vec::new(alloc)),
@@ -185,7 +189,7 @@ fn cells_of_fields(
         ≡ cells_of_fields index.now object «package» (description descriptor.now)
         (map field_seen fields.now)) }
 {
-    let mut cells = Vec::new(alloc);
+    let mut cells = Vec::with_capacity(alloc, fields.len())?;
     'tokens: for token in 0..tokens_end(fields) {
         push_token(
             &mut cells, index, object, package, descriptor, fields, token,

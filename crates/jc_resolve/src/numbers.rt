@@ -59,6 +59,7 @@ impl Numbers {
     }
 
     /// The number of the first thing at a place.
+    #[inline(always)]
     pub(crate) fn at(&self, place: RecordPlace) -> Option<u16>
         ensures { result ≡ number_at self.now.entries place }
     {

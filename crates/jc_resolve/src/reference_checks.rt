@@ -182,6 +182,7 @@ fn least_of_records(
 }
 
 /// The least fault so far, when a type was looked at.
+#[inline(always)]
 fn type_named(
     index: &Index<'_, '_, '_>,
     package: u16,

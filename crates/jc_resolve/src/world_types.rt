@@ -71,6 +71,7 @@ pub fn width(kind: Kind) -> u32
 }
 
 /// Appends the types of the cells that a value takes.
+#[inline(always)]
 pub(crate) fn push_cells(
     cells: &mut Vec<Ty>,
     index: &Index<'_, '_, '_>,

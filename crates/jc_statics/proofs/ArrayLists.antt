@@ -16,7 +16,7 @@ use Rattle.cap_package.specs.PackageRecord.{PackageRecord, initial_arrays}
 use Rattle.jc_statics.specs.Words.{signed, words, element_words}
 use Rattle.jc_statics.specs.Arrays.{array_type, array_record, array_records}
 use Rattle.jc_statics.specs.Known.{IsPrimitive}
-use Rattle.jc_statics.proofs.Steps.{next_item}
+use Rattle.cap_package.proofs.Given.{drop_here}
 use Rattle.jc_resolve.proofs.Repeats.{given_all}
 
 -- ---- package after package
@@ -26,7 +26,7 @@ one_package p ps = map-append array_record p.statics.arrays (flat_map initial_ar
 
 pub arrays_more : (xs ys all : List ArrayRec) (ps : List PackageRecord) (n : ℕ) (p : PackageRecord) → slice_get ps n ≡ Some p → xs ++ array_records (drop n ps) ≡ all → ys ≡ xs ++ map array_record p.statics.arrays → ys ++ array_records (drop (n + 1) ps) ≡ all
 arrays_more xs ys all ps n p e h k =
-    let d : array_records (drop n ps) ≡ map array_record p.statics.arrays ++ array_records (drop (n + 1) ps) = ap array_records (next_item ps n p e) ∙ one_package p (drop (n + 1) ps) in
+    let d : array_records (drop n ps) ≡ map array_record p.statics.arrays ++ array_records (drop (n + 1) ps) = ap array_records (drop_here ps n p e) ∙ one_package p (drop (n + 1) ps) in
     ap (λ zs. zs ++ array_records (drop (n + 1) ps)) k ∙ append_assoc xs (map array_record p.statics.arrays) (array_records (drop (n + 1) ps)) ∙ ap (λ zs. xs ++ zs) (sym d) ∙ h
 
 -- ---- the words of an array have the type of its elements

@@ -27,7 +27,7 @@ use Rattle.jc_resolve.proofs.DescribedFields.{fields_of-few, fields_left-few}
 use Rattle.jc_statics.specs.Words.{signed, words}
 use Rattle.jc_statics.specs.Arrays.{array_record, array_records, initial_cells}
 use Rattle.jc_statics.specs.Statics.{cells_at, static_cells}
-use Rattle.jc_statics.proofs.Steps.{next_item}
+use Rattle.cap_package.proofs.Given.{drop_here}
 use Rattle.jc_statics.proofs.ArrayLists.{one_package, words_length}
 
 -- ---- cells of static fields
@@ -74,15 +74,15 @@ array_cells_few x = omega (arith, cells_below (arrays_left x), arrays_short x)
 -- ---- package after package
 
 pub static_cells_more : (ps : List PackageRecord) (n : ℕ) (p : PackageRecord) → slice_get ps n ≡ Some p → static_cells (drop n ps) ≡ sum_by cells_at (static_places p) + static_cells (drop (n + 1) ps)
-static_cells_more ps n p e = ap static_cells (next_item ps n p e) ∙ sum_by-append cells_at (static_places p) (flat_map static_places (drop (n + 1) ps))
+static_cells_more ps n p e = ap static_cells (drop_here ps n p e) ∙ sum_by-append cells_at (static_places p) (flat_map static_places (drop (n + 1) ps))
 
 pub array_cells_more : (ps : List PackageRecord) (n : ℕ) (p : PackageRecord) → slice_get ps n ≡ Some p → initial_cells (array_records (drop n ps)) ≡ initial_cells (map array_record p.statics.arrays) + initial_cells (array_records (drop (n + 1) ps))
 array_cells_more ps n p e =
-    ap (λ qs. initial_cells (array_records qs)) (next_item ps n p e) ∙ ap initial_cells (one_package p (drop (n + 1) ps))
+    ap (λ qs. initial_cells (array_records qs)) (drop_here ps n p e) ∙ ap initial_cells (one_package p (drop (n + 1) ps))
     ∙ sum_by-append (λ (a : ArrayRec). length a.initial) (map array_record p.statics.arrays) (array_records (drop (n + 1) ps))
 
 pub array_count_more : (ps : List PackageRecord) (n : ℕ) (p : PackageRecord) → slice_get ps n ≡ Some p → length (array_records (drop n ps)) ≡ length p.statics.arrays + length (array_records (drop (n + 1) ps))
 array_count_more ps n p e =
-    ap (λ qs. length (array_records qs)) (next_item ps n p e) ∙ ap length (one_package p (drop (n + 1) ps))
+    ap (λ qs. length (array_records qs)) (drop_here ps n p e) ∙ ap length (one_package p (drop (n + 1) ps))
     ∙ length-append (map array_record p.statics.arrays) (array_records (drop (n + 1) ps))
     ∙ ap (λ k. k + length (array_records (drop (n + 1) ps))) (length-map p.statics.arrays array_record)

@@ -12,7 +12,7 @@ use Rattle.cap_package.specs.StaticChecks.{ImagePlace}
 use Rattle.cap_package.specs.PackageRecord.{PackageRecord}
 use Rattle.cap_package.specs.StaticPlaces.{static_places}
 use Rattle.jc_statics.specs.Statics.{Site, site, sites, sites_after, cells_at, static_cells, static_record, type_at, records_from, static_records}
-use Rattle.jc_statics.proofs.Steps.{next_item}
+use Rattle.cap_package.proofs.Given.{drop_here}
 
 -- the cells of fields
 abbrev pub cells_in : List Site → ℕ
@@ -41,7 +41,7 @@ statics_more told before after all ps n first slot next last p e h pushed to oth
     let rest = sites_after (n + 1) (first + length p.statics.arrays) (drop (n + 1) ps) in
     let slots : slot + cells_in here ≡ next = omega (arith, cells_at_home n first p.statics (static_places p), to) in
     let both : records_from told slot (sites_after n first (drop n ps)) ≡ records_from told slot here ++ records_from told next rest =
-    ap (λ qs. records_from told slot (sites_after n first qs)) (next_item ps n p e) ∙ records_both told slot here rest ∙ ap (λ k. records_from told slot here ++ records_from told k rest) slots in
+    ap (λ qs. records_from told slot (sites_after n first qs)) (drop_here ps n p e) ∙ records_both told slot here rest ∙ ap (λ k. records_from told slot here ++ records_from told k rest) slots in
     rw (pushed, others) (append_assoc before (records_from told slot here) (records_from told next rest) ∙ ap (λ zs. before ++ zs) (sym both) ∙ h)
 
 -- ---- slots and cells

@@ -1,14 +1,7 @@
 -- A step over a list from one place to the next.
-use Rattle.std.proofs.Common.{◌≡◌, ℕ, zero, suc, ◌+◌, List, [], ◌∷◌, drop, take, Some, sym, subst, arith}
+use Rattle.std.proofs.Common.{◌≡◌, ℕ, zero, suc, ◌+◌, List, [], ◌∷◌, take, Some, sym, subst, arith}
 use Rattle.std.specs.Prelude.{All, slice_get}
 use Rattle.std.proofs.lemmas.List.Elements.{All-nil, All-cons, All-head, All-tail}
-
-pub next_item : {A : Type 0} (xs : List A) (n : ℕ) (x : A) → slice_get xs n ≡ Some x → drop n xs ≡ x ∷ drop (n + 1) xs
-next_item [] n x e = absurd cc
-next_item (y ∷ ys) zero x e = cc
-next_item (y ∷ ys) (suc n) x e =
-    let k : suc n + 1 ≡ suc (n + 1) = omega arith in
-    rw k (next_item ys n x e)
 
 pub taken_more : {A : Type 0} (P : A → Type 0) (xs : List A) (n : ℕ) (x : A) → slice_get xs n ≡ Some x → All P (take n xs) → P x → All P (take (n + 1) xs)
 taken_more P [] n x e all new = absurd cc

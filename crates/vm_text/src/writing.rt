@@ -26,7 +26,7 @@ pub fn room(alloc: Global, world: &World<'_>) -> Result<Room, AllocError>
     Room::new(alloc, MOST_BEFORE + MOST_OF_FIELD * fields)
 }
 
-/// Writes the text of what a run leaves into such a room. It takes no memory.
+/// Writes the text of what a run leaves into such a room. It needs no further memory.
 pub fn write_run<L: Leaves>(room: &mut Room, world: &World<'_>, left: &L, ending: Ending)
     requires run { L.IsLeft world.now left.now }
     requires room { HasRoom room.old (most_text world.now) }

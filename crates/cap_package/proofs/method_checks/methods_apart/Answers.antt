@@ -14,7 +14,7 @@ methods-preserved c =
     let starts = map method_start (methods_but_left c.args.described) in
     let asked = method_reach c.args.info.bytes.now starts in
     ap (λ least. least_from least asked (methods_but_left c.next.new.self))
-    (c.lesser-least.ensures ∙ ap (lesser c.methods.least) (c.reaches.ensures
+    (c.keep_lesser.ensures ∙ ap (lesser c.methods.least) (c.reaches.ensures
     ∙ method_reaches (tallied c.args.starts.now) starts c.args.info.bytes.now (method_seen c.in-Some.method)
     c.nearest-next.result c.requires.starts c.nearest-next.ensures))
     ∙ ap (λ (ms : List Method). least_from c.methods.least asked ms) (sym c.in-Some.ensures.steps)

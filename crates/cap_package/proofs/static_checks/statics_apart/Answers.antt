@@ -13,7 +13,7 @@ pub places-preserved : goal.places-preserved
 places-preserved c =
     let starts = map static_start (places_left c.args.places) in
     ap (λ least. least_from least (static_reach starts) (places_left c.next.new.self))
-    (c.lesser-least.ensures ∙ ap (lesser c.places.least) (c.reaches.ensures
+    (c.keep_lesser.ensures ∙ ap (lesser c.places.least) (c.reaches.ensures
     ∙ static_reaches (tallied c.static_starts-starts.result) starts (place_seen c.in-Some.place) c.nearest-next.result
     c.static_starts-starts.ensures c.nearest-next.ensures))
     ∙ ap (λ (ps : List ImagePlace). least_from c.places.least (static_reach starts) ps) (sym c.in-Some.ensures.steps)
