@@ -38,7 +38,7 @@ pub enum Step<'a> {
 impl<'a> Step<'a> {
     /// The folders of the packages that make the world.
     pub(crate) fn dirs(self) -> WordsIter<'a>
-        ensures { words_left result ≡ dirs_of self }
+        ensures { words_left result ≡ dirs_of self.entry }
     {
         match self {
             Step::Check(check) => check.dirs,

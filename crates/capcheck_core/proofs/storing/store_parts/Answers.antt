@@ -1,8 +1,9 @@
 -- one store more, or the first that fails
 use Rattle.std.proofs.Common.{◌+◌, sym, subst, ◌∙◌, ap, ◌++◌, take, drop}
 use Rattle.std.proofs.lemmas.List.{take-append-drop}
-use Rattle.jc_indexes.proofs.Listing.{next-drop, next-take}
+use Rattle.jc_indexes.proofs.Listing.{next-take}
 use Rattle.cap_package.specs.Parts.{Lent}
+use Rattle.cap_package.proofs.Given.{drop_here}
 use Rattle.capcheck_core.specs.Stores.{AreStored}
 use Rattle.capcheck_core.proofs.Stores.{none_stored, one_stored, one_broken}
 use Rattle.capcheck_core.proofs.storing.store_parts.Goals as goal
@@ -25,5 +26,5 @@ returns-in-Err g c =
     one_broken c.args.dir.now c.args.parts.now (take c.parts.n c.args.parts.now) lent (drop (c.parts.n + 1) c.args.parts.now)
     (g.F.Folder.folders c.args.folder.now) (g.F.Folder.folders c.parts.folder) (g.F.Folder.folders c.store.new.self) c.parts.invariant
     (sym (take-append-drop c.parts.n c.args.parts.now)
-    ∙ ap (λ rest. take c.parts.n c.args.parts.now ++ rest) (next-drop c.args.parts.now c.parts.n lent c.at.ensures))
+    ∙ ap (λ rest. take c.parts.n c.args.parts.now ++ rest) (drop_here c.args.parts.now c.parts.n lent c.at.ensures))
     c.in-Err.ensures.bytes c.in-Err.ensures.counts.loads c.in-Err.ensures.counts.failed c.in-Err.ensures.counts.stores.1
