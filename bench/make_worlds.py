@@ -14,7 +14,8 @@ since a Descriptor counts the classes of its package in one byte. The methods ar
 16,383), but for four shapes. The time of `climbing` grows with the square of its length, or more: it has
 8,192 bytes (half: 4,096). That of `waves` grows with the third power: it has 2,048 bytes (half: 1,024).
 `verify` goes over the code once for each target of `branches`, but not of `indexed`, the same code with a
-target index; and `rounds` has 255 passes: it has 4,096 bytes (half: 2,048). In the code that
+target index; and it does so in each of the 255 passes of `rounds`, where a cell stands on the stack between targets: it has
+4,096 bytes (half: 2,048). In the code that
 `transform` lays for `widening` each branch that becomes wide forces one more, so that it turns 8,000 times. Each place of
 `deep_handlers` takes as many steps as there are handlers, registers and superclasses, multiplied: it has 16
 such places (half: 8).
@@ -274,13 +275,14 @@ def indexed(share):
 
 
 def rounds(share):
-    """The code of `branches` after moves of each register to the next, the last first: a class that comes to register 0 in the
-    first pass goes on by one register in each pass."""
+    """Branches to the next instruction, each after a push and a pop, so that the next target is sought there; and before them
+    moves of each register to the next, the last first: a class that comes to register 0 in the first pass goes on by one
+    register in each pass."""
     size, registers = part(share, 4096), part(share, 255)
     code = b"".join(bytes([ACONST_NULL, ASTORE, x]) for x in range(registers))
     code += b"".join(bytes([ALOAD, x - 1, ASTORE, x]) for x in range(registers - 1, 0, -1))
     code += bytes([ACONST_NULL, CHECKCAST, 0]) + u2(0) + bytes([ASTORE_0])
-    return with_method(code + to_next((size - 1 - len(code)) // 2) + RETURN, 1, 1)
+    return with_method(code + bytes([SCONST_0, POP, GOTO, 2]) * ((size - 1 - len(code)) // 4) + RETURN, 1, 1)
 
 
 def forcing(unit, units):
