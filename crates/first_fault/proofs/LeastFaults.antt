@@ -6,7 +6,7 @@ use Rattle.std.proofs.lemmas.List.Sums.{fold-append}
 use Rattle.first_fault.specs.declared.place.Place.{Place}
 use Rattle.first_fault.specs.Order.{IsBefore, IsUpTo, comes_before}
 use Rattle.first_fault.specs.Least.{lesser, least_of, least_from}
-use Rattle.first_fault.specs.First.{IsLeast, ComesFirst}
+use Rattle.first_fault.specs.First.{IsLeast}
 use Rattle.first_fault.proofs.Places.{up_to-refl, up_to-before, before-then, before-up_to, before-true, before-false}
 
 module _ {F : Type 0} (place : F → Place) where

@@ -1,3 +1,4 @@
 pub mod Places
 pub mod LeastFaults
 pub mod FirstTold
+pub mod AnyOrder

@@ -1,5 +1,5 @@
 -- Worked cases: faults that are their own places.
-use Rattle.std.specs.Prelude.{◌≡◌, ℕ, List, [], ◌∷◌, Option, Some, None, refl}
+use Rattle.std.specs.Prelude.{◌≡◌, [], ◌∷◌, Some, None, refl}
 use Rattle.first_fault.specs.declared.place.Place.{Place}
 use Rattle.first_fault.specs.Order.{one, two}
 use Rattle.first_fault.specs.Least.{least_of, lesser}

@@ -1,5 +1,5 @@
 -- Each class of a package is described by one record of its Descriptor, which is found by the offset of the class.
-use Rattle.std.proofs.Common.{◌≡◌, ℕ, ◌+◌, ◌<◌, ◌≤◌, Bool, true, false, cond, eqb, ltb, List, [], ◌∷◌, ◌++◌, append_assoc, append-nil, length, length-append, map, filter, flat_map, Option, Some, None, find, position, option_map, option_and_then, refl, sym, ap, subst, ◌∙◌, arith}
+use Rattle.std.proofs.Common.{◌≡◌, ℕ, ◌+◌, ◌<◌, ◌≤◌, Bool, true, false, cond, eqb, List, [], ◌∷◌, ◌++◌, append_assoc, append-nil, length, length-append, map, filter, flat_map, Some, None, find, option_and_then, refl, sym, ap, subst, ◌∙◌, arith}
 use Rattle.std.specs.Prelude.{slice_get, count_by, ◌&&◌}
 use Rattle.std.specs.List.{position_from, filter_map}
 use Rattle.std.proofs.lemmas.Bool.{eqb-true, eqb-false, eq-eqb, ne_eqb, lt-ltb, le-ltb}
@@ -18,7 +18,6 @@ use Rattle.jc_resolve.specs.Named.{IsAgreed}
 use Rattle.jc_resolve.specs.NamedClasses.{describes, is_instance, fields_described, instance_fields}
 use Rattle.jc_resolve.specs.Numbering.{is_at}
 use Rattle.jc_resolve.specs.Numbers.{Numbered, number_at}
-use Rattle.jc_resolve.specs.References.{is_internal}
 use Rattle.jc_resolve.proofs.Faultless.{faultless_first, both_empty}
 use Rattle.jc_resolve.proofs.NumberLaws.{numbered-first}
 

@@ -1,5 +1,5 @@
 -- What packages export is read in a table of the exported classes.
-use Rattle.std.proofs.Common.{◌≡◌, ℕ, Bool, List, [], ◌∷◌, map, Option, Some, None, slice_get, option_map, option_and_then, refl, sym, ap, ◌∙◌}
+use Rattle.std.proofs.Common.{◌≡◌, ℕ, List, map, Option, Some, None, slice_get, option_map, option_and_then, refl, sym, ap, ◌∙◌}
 use Rattle.std.proofs.lemmas.Option.{slice_get-map}
 use Rattle.cap_pool.specs.Export.{field_offset_in, method_offset_in}
 use Rattle.cap_pool.specs.ExportFormat.{Exported}

@@ -2,6 +2,7 @@ pub mod ConditionLists
 pub mod Totals
 pub mod NumberLaws
 pub mod NamedFaults
+pub mod ReferenceOrder
 pub mod Parts
 pub mod Steps
 pub mod FieldSteps

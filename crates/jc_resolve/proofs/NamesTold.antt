@@ -1,24 +1,42 @@
 -- The answer tells the first condition that is broken.
-use Rattle.std.proofs.Common.{◌≡◌, ℕ, List, Result, Ok, Err, refl, sym, ap, ◌∙◌}
+use Rattle.std.proofs.Common.{◌≡◌, ℕ, List, [], ◌∷◌, Result, Ok, Err, refl, sym, ap, ◌∙◌}
 use Rattle.cap_package.specs.PackageRecord.{PackageRecord}
 use Rattle.jc_resolve.specs.declared.fault.LinkFault.{LinkFault}
 use Rattle.jc_resolve.specs.declared.fault.LinkEnd.{LinkEnd}
 use Rattle.jc_resolve.specs.declared.fault.LinkEnd.TheVariants.{Fault, Memory}
 use Rattle.jc_resolve.specs.Fault.{link_place}
-use Rattle.first_fault.specs.Least.{◌>>=◌}
+use Rattle.std.specs.Option.{option_to_list}
+use Rattle.first_fault.specs.First.{at_fault}
+use Rattle.first_fault.specs.Least.{◌>>=◌, refused, least_of}
 use Rattle.jc_resolve.specs.Conditions.{packages_fault, classes_fault, methods_fault, no_package_fault, no_class_fault, named_in, import_tokens, class_references, conditions}
 use Rattle.jc_resolve.specs.Due.{IsDue}
-use Rattle.jc_resolve.specs.Names.{NamesRecord, named, checked, names_of, Tells}
-use Rattle.first_fault.proofs.FirstTold.{IsTold, things-told, one-told, step, last, refused-first, accepted-empty}
+use Rattle.jc_resolve.specs.Names.{NamesRecord, named, indexable, checked, names_of, Tells}
+use Rattle.first_fault.proofs.FirstTold.{IsTold, things-told, one-told, step, last, groups-told, refused-first, accepted-empty}
+
+-- the conditions that come before class references
+abbrev before_references : List PackageRecord → List (List LinkFault)
+before_references ps =
+    option_to_list (packages_fault ps)
+    ∷ option_to_list (classes_fault ps)
+    ∷ option_to_list (methods_fault ps)
+    ∷ at_fault (no_package_fault ps) (named_in import_tokens ps)
+    ∷ []
+
+indexable-told : (ps : List PackageRecord) → IsTold link_place (indexable ps) (before_references ps)
+unfolding indexable
+indexable-told ps =
+    step link_place (one-told link_place (packages_fault ps))
+    (step link_place (one-told link_place (classes_fault ps))
+    (step link_place (one-told link_place (methods_fault ps))
+    (last link_place (things-told link_place (no_package_fault ps) (named_in import_tokens ps)))))
 
 checked-told : (ps : List PackageRecord) → IsTold link_place (checked ps) (conditions ps)
 unfolding checked
 checked-told ps =
-    step link_place (one-told link_place (packages_fault ps))
-    (step link_place (one-told link_place (classes_fault ps))
-    (step link_place (one-told link_place (methods_fault ps))
-    (step link_place (things-told link_place (no_package_fault ps) (named_in import_tokens ps))
-    (last link_place (things-told link_place (no_class_fault ps) (named_in class_references ps))))))
+    groups-told link_place (indexable ps) (refused (least_of link_place (no_class_fault ps) (named_in class_references ps)))
+    (before_references ps) (at_fault (no_class_fault ps) (named_in class_references ps) ∷ [])
+    (indexable-told ps)
+    (last link_place (things-told link_place (no_class_fault ps) (named_in class_references ps)))
 
 accepted_by : (r : Result (Unit {0}) LinkFault) (n m : NamesRecord) → (r >>= λ done. Ok n) ≡ Ok m → r ≡ Ok (tt {0})
 accepted_by (Ok x) n m h = refl

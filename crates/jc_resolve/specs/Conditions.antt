@@ -53,9 +53,12 @@ no_package_fault ps named = if is_none (met_by ps named.0 named.1) then Some (No
 abbrev pub import_fault : List PackageRecord → ℕ → ℕ → Option LinkFault
 import_fault ps k token = no_package_fault ps (k, token)
 
--- the class references of a record of the Class component
+-- the class references of a record of the Class component: its superclass, where it has one, and its interfaces
+abbrev pub super_references : ℕ → List ℕ
+super_references super_ref = if super_ref == 0xFFFF then [] else super_ref ∷ []
+
 abbrev pub references_of_class : Class → List ℕ
-references_of_class c = (if c.super_ref == 0xFFFF then [] else c.super_ref ∷ []) ++ map (λ (i : Interface). i.class_ref) c.interfaces
+references_of_class c = super_references c.super_ref ++ map (λ (i : Interface). i.class_ref) c.interfaces
 
 -- the class reference of an instance field
 abbrev pub reference_of_field : Field → List ℕ
@@ -72,17 +75,27 @@ reference_of_type t = if names_class t.nibble then t.class_ref ∷ [] else []
 abbrev pub references_of_field_type : Description → Field → List ℕ
 references_of_field_type d f = flat_map reference_of_type (option_to_list (field_type d f.ty))
 
+abbrev pub references_of_types_at : Description → ℕ → List ℕ
+references_of_types_at d offset = flat_map reference_of_type (types_named d offset)
+
 abbrev pub references_of_method : Description → described.Method → List ℕ
-references_of_method d m = flat_map reference_of_type (types_named d m.type_offset)
+references_of_method d m = references_of_types_at d m.type_offset
 
 abbrev pub references_of_types : Description → List ℕ
 references_of_types d = flat_map (references_of_field_type d) (fields_of d.items.classes)
     ++ flat_map (references_of_method d) (methods_of d.items.classes)
 
+-- those of the Class component
+abbrev pub references_of_classes : PackageRecord → List ℕ
+references_of_classes p = flat_map references_of_class p.classes
+
+-- those of the Descriptor
+abbrev pub references_described : PackageRecord → List ℕ
+references_described p = flat_map references_of_record p.description.items.classes ++ references_of_types p.description
+
 -- the class references of a package
 unfoldable pub class_references : PackageRecord → List ℕ
-class_references p = flat_map references_of_class p.classes
-    ++ (flat_map references_of_record p.description.items.classes ++ references_of_types p.description)
+class_references p = references_of_classes p ++ references_described p
 
 -- a class reference names no class
 unfoldable pub no_class_fault : List PackageRecord → ℕ × ℕ → Option LinkFault

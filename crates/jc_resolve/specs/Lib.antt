@@ -11,5 +11,6 @@ pub mod Counts
 pub mod Numbers
 pub mod Described
 pub mod Conditions
+pub mod LookedUp
 pub mod Names
 pub mod OwnPlaces

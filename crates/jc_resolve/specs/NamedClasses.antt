@@ -86,16 +86,19 @@ abbrev pub parent_named : List PackageRecord → ℕ → ℕ → Option ℕ
 parent_named ps k reference = if reference == 0xFFFF then None else class_named ps k reference
 
 -- an interface of the package k has interfaces alone
-abbrev pub interface_in : List PackageRecord → ℕ → Class → NamedClass
-interface_in ps k r = record {
+abbrev pub interface_with : ℕ → List Iface → NamedClass
+interface_with k interfaces = record {
   «package» = k;
   interface = true;
   parent = None;
-  interfaces = implemented_interfaces ps k r.interfaces;
+  interfaces = interfaces;
   public = no_table;
   visible = no_table;
   own = [];
 }
+
+abbrev pub interface_in : List PackageRecord → ℕ → Class → NamedClass
+interface_in ps k r = interface_with k (implemented_interfaces ps k r.interfaces)
 
 abbrev pub named_interface : List PackageRecord → NumberedClass → NamedClass
 named_interface ps c = interface_in ps c.home c.record_of

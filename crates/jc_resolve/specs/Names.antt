@@ -32,24 +32,28 @@ pub record AreNames (n : NamesRecord) : Type 0 where
   -- the parts of each package stand for it
   pub agreed : All IsAgreed n.packages
 
--- the conditions one after the other
-unfoldable pub checked : List PackageRecord → Result (Unit {0}) LinkFault
-checked ps = do
+-- the conditions one after the other: those under which classes and methods can be numbered, and then class references
+unfoldable pub indexable : List PackageRecord → Result (Unit {0}) LinkFault
+indexable ps = do
   packages ← refused (packages_fault ps)
   classes ← refused (classes_fault ps)
   methods ← refused (methods_fault ps)
-  imports ← refused (least_of link_place (no_package_fault ps) (named_in import_tokens ps))
+  refused (least_of link_place (no_package_fault ps) (named_in import_tokens ps))
+
+unfoldable pub checked : List PackageRecord → Result (Unit {0}) LinkFault
+checked ps = do
+  numbers ← indexable ps
   refused (least_of link_place (no_class_fault ps) (named_in class_references ps))
 
 -- the names of packages, or the fault that is named
 unfoldable pub names_of : List PackageRecord → List ℕ → Result NamesRecord LinkFault
 names_of ps roles = checked ps >>= λ done. Ok (named ps roles)
 
--- the packages pass the conditions, or a fault of them is named, or there is no memory
-abbrev pub Checks : List PackageRecord → Result (List PackageRecord) LinkEnd → Type 0
-Checks ps (Ok qs) = (checked ps ≡ Ok (tt {0})) × (qs ≡ ps)
-Checks ps (Err (Fault fault)) = checked ps ≡ Err fault
-Checks ps (Err Memory) = ⊤
+-- the packages can be numbered, or a fault of them is named, or there is no memory
+abbrev pub IsIndexed : List PackageRecord → Result (List PackageRecord) LinkEnd → Type 0
+IsIndexed ps (Ok qs) = (indexable ps ≡ Ok (tt {0})) × (qs ≡ ps)
+IsIndexed ps (Err (Fault fault)) = indexable ps ≡ Err fault
+IsIndexed ps (Err Memory) = ⊤
 
 -- names exactly where nothing is at fault; else the first condition by number that is broken, at its least thing
 abbrev pub Tells : List PackageRecord → Result NamesRecord LinkEnd → Type 0

@@ -36,6 +36,9 @@ type_of ps object k t =
     else Short))))))
 
 -- the types of the cells that a value takes: an int has two
+abbrev pub cells_with : TypeItem → Ty → List Ty
+cells_with t ty = if t.nibble == 5 then IntHigh ∷ IntLow ∷ [] else ty ∷ []
+
 abbrev pub cells_of_type : List PackageRecord → ℕ → ℕ → TypeItem → List Ty
 cells_of_type ps object k t = if t.nibble == 5 then IntHigh ∷ IntLow ∷ [] else type_of ps object k t ∷ []
 

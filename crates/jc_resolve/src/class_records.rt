@@ -1,21 +1,27 @@
 ghost use Rattle.std.specs.Prelude.{◌≡◌, ◌≤◌, ◌++◌, length, map, filter, flat_map, count_by, slice_index, All, IfOk, OnOk};
 ghost use Rattle.cap_bytes.specs.Table.{numbers};
+ghost use Rattle.cap_class.specs.ClassFormat.{Interface};
 ghost use Rattle.cap_class.specs.ClassPart.{class_seen, classes_left};
 ghost use Rattle.cap_class.specs.Lists.{interfaces_left};
 ghost use Rattle.cap_desc.specs.MemberLists.{fields_left};
 ghost use Rattle.cap_desc.specs.MemberRecords.{field_seen};
 ghost use Rattle.cap_package.specs.Descriptions.{description};
+ghost use Rattle.first_fault.specs.Least.{least_from};
+ghost use Rattle.jc_resolve.specs.Conditions.{super_references, references_of_class, references_of_classes, reference_fault, no_class_fault, named_in};
 ghost use Rattle.jc_resolve.specs.Described.{describes_at, IsDescribedOnce};
+ghost use Rattle.jc_resolve.specs.Fault.{link_place};
 ghost use Rattle.jc_resolve.specs.Named.{IsByteTable, IsSized};
-ghost use Rattle.jc_resolve.specs.NamedClasses.{is_instance, instance_fields, with_token, cells_of_field, cells_of_fields, tokens_end, entry_of, table_of, no_table, implemented_interfaces, interface_in, named_proper, named_class};
+ghost use Rattle.jc_resolve.specs.NamedClasses.{is_instance, instance_fields, with_token, cells_of_field, cells_of_fields, tokens_end, entry_of, table_of, no_table, parent_named, implemented_interfaces, interface_with, named_proper, named_class};
 ghost use Rattle.jc_resolve.specs.Numbering.{numbered_class, numbered_classes, classes_of};
 
 use crate::class_index::Index;
 use crate::described_classes::DescribedClasses;
+use crate::fault::LinkFault;
 use crate::home::Home;
 use crate::named::{DispatchTable, NamedClass};
 use crate::place::RecordPlace;
-use crate::world_types::push_cells;
+use crate::reference_checks::class_named;
+use crate::world_types::{push_cells, type_of};
 use cap_class::{ClassInfo, Interfaces};
 use cap_desc::{DescFields, DescPart, FieldInfo};
 use cap_package::{Packages, field_type};
@@ -55,6 +61,22 @@ fn table_of(
     })
 }
 
+/// The superclass of a record; 0xFFFF is none.
+fn parent_named(
+    index: &Index<'_, '_, '_>,
+    package: u16,
+    super_ref: u16,
+    least: &mut Option<LinkFault>,
+) -> Option<u16>
+    ensures is { result ≡ parent_named index.now «package» super_ref }
+    ensures least { least.new ≡ least_from link_place least.old (reference_fault index.now «package») (super_references super_ref) }
+{
+    if super_ref == 0xFFFF {
+        return None;
+    }
+    class_named(index, package, super_ref, least)
+}
+
 /// The interfaces of a record.
 #[tactic(auto, unfolding(crate::specs::NamedClasses::interface_named))]
 fn implemented_interfaces(
@@ -62,12 +84,18 @@ fn implemented_interfaces(
     index: &Index<'_, '_, '_>,
     package: u16,
     interfaces: Interfaces<'_>,
+    least: &mut Option<LinkFault>,
 ) -> Result<Vec<Iface>, AllocError>
-    ensures { IfOk result (λ v. v.items ≡ implemented_interfaces index.now «package» (interfaces_left interfaces.entry)) }
+    ensures is { IfOk result (λ v. v.items ≡ implemented_interfaces index.now «package» (interfaces_left interfaces.entry)) }
+    ensures least { OnOk result
+        (least.new
+        ≡ least_from link_place least.old
+        (reference_fault index.now «package»)
+        (map (λ (i : Interface). i.class_ref) (interfaces_left interfaces.entry))) }
 {
     let mut named = Vec::new(alloc);
     'interfaces: for interface in interfaces {
-        if let Some(class) = index.class_named(package, interface.class_ref) {
+        if let Some(class) = class_named(index, package, interface.class_ref, least) {
             let tokens = Items::of(Vec::from_slice(alloc, interface.tokens)?);
             named.push(Iface { class, tokens })?;
         }
@@ -130,7 +158,7 @@ fn push_field(
         ≡ cells.old.items ++ cells_of_field index.now object «package» (description descriptor.now) (field_seen field.now)) }
 {
     match field_type(descriptor, field.ty) {
-        Some(item) => push_cells(cells, index, object, package, item),
+        Some(item) => push_cells(cells, item, type_of(index, object, package, item)),
         None => Ok(()),
     }
 }
@@ -207,18 +235,12 @@ fn no_table(alloc: Global) -> DispatchTable
     }
 }
 
-/// An interface with the interfaces that it extends.
-fn interface_in(
-    alloc: Global,
-    index: &Index<'_, '_, '_>,
-    package: u16,
-    class: ClassInfo<'_>,
-) -> Result<NamedClass, AllocError>
-    ensures is { IfOk result (λ c. c ≡ interface_in index.now «package» (class_seen class.entry)) }
-    ensures sized { IfOk result IsSized }
+/// An interface of a package with the interfaces that it extends.
+fn interface_with(alloc: Global, package: u16, interfaces: Vec<Iface>) -> NamedClass
+    ensures is { result ≡ interface_with «package» interfaces.items }
+    ensures sized { IsSized result }
 {
-    let interfaces = implemented_interfaces(alloc, index, package, class.interfaces())?;
-    Ok(NamedClass {
+    NamedClass {
         package,
         interface: true,
         parent: None,
@@ -226,18 +248,22 @@ fn interface_in(
         public: no_table(alloc),
         visible: no_table(alloc),
         own: Items::of(Vec::new(alloc)),
-    })
+    }
 }
 
-/// A class with each class and method that its record names.
+/// A class with each class and method that its record names; its superclass and its interfaces were looked up.
 fn named_proper(
     alloc: Global,
     home: Home<'_, '_, '_, '_>,
     described: &DescribedClasses<'_>,
     class: ClassInfo<'_>,
+    parent: Option<u16>,
+    interfaces: Vec<Iface>,
 ) -> Result<NamedClass, AllocError>
     requires described { described.now ≡ home.of_package.now.description.items.classes }
     requires once { IsDescribedOnce home.of_package.now.description.items.classes (class_seen class) }
+    requires parent { parent ≡ parent_named home.index.now home.number (class_seen class).super_ref }
+    requires interfaces { interfaces.items ≡ implemented_interfaces home.index.now home.number (class_seen class).interfaces }
     ensures is { IfOk result
         (λ c.
         c
@@ -251,7 +277,6 @@ fn named_proper(
     let number = home.number;
     let object = home.roles[0] as u16;
     let descriptor = home.of_package.descriptor();
-    let interfaces = implemented_interfaces(alloc, index, number, class.interfaces())?;
     let public = table_of(alloc, index, number, class.public_base(), class.publics())?;
     let visible = table_of(
         alloc,
@@ -262,12 +287,6 @@ fn named_proper(
     )?;
     let fields = instance_fields(alloc, described, class.offset())?;
     let own = cells_of_fields(alloc, index, object, number, &descriptor, fields.as_slice())?;
-    let super_ref = class.super_ref();
-    let parent = if super_ref == 0xFFFF {
-        None
-    } else {
-        index.class_named(number, super_ref)
-    };
     Ok(NamedClass {
         package: number,
         interface: false,
@@ -280,12 +299,13 @@ fn named_proper(
 }
 
 /// A class or an interface with all that its record names.
-#[tactic(auto, unfolding(crate::specs::NamedClasses::named_class))]
+#[tactic(auto, unfolding(crate::specs::NamedClasses::named_class), using(crate::proofs::NamedFaults::least_class))]
 fn named_class(
     alloc: Global,
     home: Home<'_, '_, '_, '_>,
     described: &DescribedClasses<'_>,
     class: ClassInfo<'_>,
+    least: &mut Option<LinkFault>,
 ) -> Result<NamedClass, AllocError>
     requires described { described.now ≡ home.of_package.now.description.items.classes }
     requires once { IsDescribedOnce home.of_package.now.description.items.classes (class_seen class) }
@@ -297,19 +317,30 @@ fn named_class(
         (numbered_class home.entry.number home.entry.of_package.now
         (class_seen class.entry))) }
     ensures sized { IfOk result IsSized }
+    ensures least { OnOk result
+        (least.new
+        ≡ least_from link_place least.old
+        (reference_fault home.entry.index.now home.entry.number)
+        (references_of_class (class_seen class.entry))) }
 {
+    let index = home.index;
+    let number = home.number;
+    let parent = parent_named(index, number, class.super_ref(), least);
+    let interfaces = implemented_interfaces(alloc, index, number, class.interfaces(), least)?;
     if class.flags().is_interface() {
-        interface_in(alloc, home.index, home.number, class)
+        Ok(interface_with(alloc, number, interfaces))
     } else {
-        named_proper(alloc, home, described, class)
+        named_proper(alloc, home, described, class, parent, interfaces)
     }
 }
 
 /// Appends the classes of a package.
+#[tactic(auto, using(crate::proofs::NamedFaults::least_classes))]
 fn push_classes(
     named: &mut Vec<NamedClass>,
     alloc: Global,
     home: Home<'_, '_, '_, '_>,
+    least: &mut Option<LinkFault>,
 ) -> Result<(), AllocError>
     requires { All IsSized named.old.items }
     ensures is { OnOk result
@@ -317,25 +348,37 @@ fn push_classes(
         ≡ named.old.items ++ map (named_class home.entry.index.now (slice_index home.entry.roles 0))
         (classes_of home.entry.number home.entry.of_package.now)) }
     ensures sized { OnOk result (All IsSized named.new.items) }
+    ensures least { OnOk result
+        (least.new
+        ≡ least_from link_place least.old
+        (reference_fault home.entry.index.now home.entry.number)
+        (references_of_classes home.entry.of_package.now)) }
 {
     let described = DescribedClasses::of(alloc, home.of_package)?;
     'classes: for class in home.of_package.classes().iter() {
-        named.push(named_class(alloc, home, &described, class)?)?;
+        named.push(named_class(alloc, home, &described, class, least)?)?;
     }
     Ok(())
 }
 
 /// The classes of packages.
-#[tactic(auto, using(crate::proofs::Steps::packages_step))]
+#[tactic(auto, using(crate::proofs::Steps::packages_step, crate::proofs::NamedFaults::least_after))]
 pub(crate) fn class_records<'x, 'n, 'p, 'a>(
     alloc: Global,
     index: &'x Index<'n, 'p, 'a>,
     packages: &'x Packages<'p, 'a>,
     roles: [u8; 8],
+    least: &mut Option<LinkFault>,
 ) -> Result<Vec<NamedClass>, AllocError>
     requires { length packages.now ≤ 16 }
     ensures is { IfOk result (λ v. v.items ≡ map (named_class index.now (slice_index roles 0)) (numbered_classes packages.now)) }
     ensures sized { IfOk result (λ v. All IsSized v.items) }
+    // Each reference of the Class component is looked up once.
+    ensures least { OnOk result
+        (least.new
+        ≡ least_from link_place least.old
+        (no_class_fault index.now)
+        (named_in references_of_classes packages.now)) }
 {
     let mut named = Vec::new(alloc);
     'packages: for (k, package) in packages.iter().enumerate() {
@@ -345,7 +388,7 @@ pub(crate) fn class_records<'x, 'n, 'p, 'a>(
             number: k as u16,
             of_package: package,
         };
-        push_classes(&mut named, alloc, home)?;
+        push_classes(&mut named, alloc, home, least)?;
     }
     Ok(named)
 }

@@ -1,4 +1,4 @@
-ghost use Rattle.std.specs.Prelude.{◌≡◌, ◌+◌, ◌≤◌, ◌<◌, ◌++◌, length, map, take, drop, slice_index, All, IfOk, IfSome, OnOk};
+ghost use Rattle.std.specs.Prelude.{◌≡◌, ◌+◌, ◌≤◌, ◌<◌, ◌++◌, length, map, take, drop, slice_index, All, IfOk, IfSome, OnOk, flat_map};
 ghost use Rattle.offset_set.specs.Bits.{holds};
 ghost use Rattle.cap_desc.specs.ClassRecords.{described_class_seen, described_left};
 ghost use Rattle.cap_desc.specs.MemberLists.{methods_left};
@@ -6,13 +6,19 @@ ghost use Rattle.cap_desc.specs.MemberRecords.{method_seen};
 ghost use Rattle.cap_method.specs.MethodPart.{handlers_left, header_seen};
 ghost use Rattle.cap_package.specs.PackageRecord.{PackageRecord, names_interface};
 ghost use Rattle.cap_pool.specs.Pool.{entries};
+ghost use Rattle.first_fault.specs.Least.{lesser, least_from};
+ghost use Rattle.jc_resolve.specs.Conditions.{reference_fault, references_of_method, no_class_fault, named_in};
+ghost use Rattle.jc_resolve.specs.Fault.{link_place};
+ghost use Rattle.jc_resolve.specs.LookedUp.{references_with_methods, references_for_methods};
 ghost use Rattle.jc_resolve.specs.Named.{IsAgreed};
 ghost use Rattle.jc_resolve.specs.NamedMethods.{HasFewHandlers, class_or_none, caught, handler_named, offset_in_info, no_body, body_after, body_of, class_described, have_headers, is_init, named_method};
 ghost use Rattle.jc_resolve.specs.Numbering.{numbered, numbered_classes, numbered_methods, methods_of_class, methods_of_classes};
 ghost use Rattle.jc_resolve.specs.References.{class_named};
 
 use crate::class_index::Index;
+use crate::fault::LinkFault;
 use crate::home::Home;
+use crate::reference_checks::class_named;
 use crate::world_types::signature_of;
 use cap_desc::{AccessFlags, DescClass, MethodInfo};
 use cap_method::{HandlerInfo, Handlers, MethodHeader};
@@ -247,6 +253,7 @@ fn of_class<'a>(
     interfaces: &Offsets,
     class_no: u16,
     record: DescClass<'a>,
+    least: &mut Option<LinkFault>,
 ) -> OfClass<'a>
     requires { holds interfaces.now ≡ names_interface home.of_package.now.classes }
     ensures number { result.class_no ≡ class_no }
@@ -254,8 +261,12 @@ fn of_class<'a>(
     ensures class { result.class ≡ class_described home.entry.index.now home.entry.number (described_class_seen record.entry) }
     ensures headers { result.has_headers
         ≡ have_headers home.entry.index.now home.entry.number home.entry.of_package.now (described_class_seen record.entry) }
+    ensures least { least.new
+        ≡ lesser link_place least.old
+        (reference_fault home.entry.index.now home.entry.number
+        (described_class_seen record.entry).class_ref) }
 {
-    let named = home.index.class_named(home.number, record.class_ref());
+    let named = class_named(home.index, home.number, record.class_ref(), least);
     OfClass {
         class_no,
         record,
@@ -279,16 +290,22 @@ fn method_record(
     of_class: OfClass<'_>,
     method_no: u16,
     method: MethodInfo,
+    least: &mut Option<LinkFault>,
 ) -> Result<MethodRec, AllocError>
     requires class { of_class.class ≡ class_described home.index.now home.number (described_class_seen of_class.record) }
     requires headers { of_class.has_headers
         ≡ have_headers home.index.now home.number home.of_package.now (described_class_seen of_class.record) }
-    ensures { IfOk result
+    ensures is { IfOk result
         (λ m.
         m
         ≡ named_method home.entry.index.now home.entry.roles
         (numbered home.entry.number home.entry.of_package.now of_class.entry.class_no
         (described_class_seen of_class.entry.record) method_no (method_seen method))) }
+    ensures least { OnOk result
+        (least.new
+        ≡ least_from link_place least.old
+        (reference_fault home.entry.index.now home.entry.number)
+        (references_of_method home.entry.of_package.now.description (method_seen method))) }
 {
     let sig = signature_of(
         alloc,
@@ -297,6 +314,7 @@ fn method_record(
         home.number,
         &home.of_package.descriptor(),
         method.type_offset,
+        least,
     )?;
     let body = body_of(alloc, home, &method, &sig, of_class.has_headers)?;
     Ok(MethodRec {
@@ -319,6 +337,41 @@ fn method_record(
 }
 
 /// Appends the methods of a class.
+#[tactic(auto, using(crate::proofs::NamedFaults::least_methods))]
+fn push_methods(
+    methods: &mut Vec<MethodRec>,
+    alloc: Global,
+    home: Home<'_, '_, '_, '_>,
+    of_class: OfClass<'_>,
+    least: &mut Option<LinkFault>,
+) -> Result<(), AllocError>
+    requires class { of_class.class ≡ class_described home.index.now home.number (described_class_seen of_class.record) }
+    requires headers { of_class.has_headers
+        ≡ have_headers home.index.now home.number home.of_package.now (described_class_seen of_class.record) }
+    ensures is { OnOk result
+        (methods.new.items
+        ≡ methods.old.items ++ map (named_method home.entry.index.now home.entry.roles)
+        (methods_of_class home.entry.number home.entry.of_package.now of_class.entry.class_no (described_class_seen of_class.entry.record) 0
+        (described_class_seen of_class.entry.record).methods)) }
+    ensures least { OnOk result
+        (least.new
+        ≡ least_from link_place least.old
+        (reference_fault home.entry.index.now home.entry.number)
+        (flat_map
+        (references_of_method home.entry.of_package.now.description)
+        (described_class_seen of_class.entry.record).methods)) }
+{
+    // Their number is one that `method_count` can answer.
+    let _count = of_class.record.method_count();
+    let mut method_no: u16 = 0;
+    'methods: for method in of_class.record.methods() {
+        methods.push(method_record(alloc, home, of_class, method_no, method, least)?)?;
+        method_no += 1;
+    }
+    Ok(())
+}
+
+/// Appends the methods of a record of the Descriptor.
 fn push_class(
     methods: &mut Vec<MethodRec>,
     alloc: Global,
@@ -326,31 +379,31 @@ fn push_class(
     interfaces: &Offsets,
     class_no: u16,
     class: DescClass<'_>,
+    least: &mut Option<LinkFault>,
 ) -> Result<(), AllocError>
     requires { holds interfaces.now ≡ names_interface home.of_package.now.classes }
-    ensures { OnOk result
+    ensures is { OnOk result
         (methods.new.items
         ≡ methods.old.items ++ map (named_method home.entry.index.now home.entry.roles)
         (methods_of_class home.entry.number home.entry.of_package.now class_no (described_class_seen class.entry) 0
         (described_class_seen class.entry).methods)) }
+    ensures least { OnOk result
+        (least.new
+        ≡ least_from link_place least.old
+        (reference_fault home.entry.index.now home.entry.number)
+        (references_with_methods home.entry.of_package.now.description (described_class_seen class.entry))) }
 {
-    let of_class = of_class(home, interfaces, class_no, class);
-    // Their number is one that `method_count` can answer.
-    let _count = class.method_count();
-    let mut method_no: u16 = 0;
-    'methods: for method in class.methods() {
-        methods.push(method_record(alloc, home, of_class, method_no, method)?)?;
-        method_no += 1;
-    }
-    Ok(())
+    let of_class = of_class(home, interfaces, class_no, class, least);
+    push_methods(methods, alloc, home, of_class, least)
 }
 
 /// Appends the methods of a package.
-#[tactic(auto, using(crate::proofs::Steps::classes_step))]
+#[tactic(auto, using(crate::proofs::Steps::classes_step, crate::proofs::NamedFaults::least_with_methods))]
 fn push_package(
     methods: &mut Vec<MethodRec>,
     alloc: Global,
     home: Home<'_, '_, '_, '_>,
+    least: &mut Option<LinkFault>,
 ) -> Result<(), AllocError>
     ensures named { OnOk result
         (methods.new.items
@@ -358,6 +411,11 @@ fn push_package(
         (methods_of_classes home.entry.number home.entry.of_package.now 0 home.entry.of_package.now.description.items.classes)) }
     ensures agreed { IsAgreed home.entry.of_package.now }
     ensures few { HasFewHandlers home.entry.of_package.now }
+    ensures least { OnOk result
+        (least.new
+        ≡ least_from link_place least.old
+        (reference_fault home.entry.index.now home.entry.number)
+        (references_for_methods home.entry.of_package.now)) }
 {
     // Its parts stand for it, and the number of its handlers is one that `handler_count` can answer.
     let _parts = home.of_package.parts();
@@ -368,24 +426,31 @@ fn push_package(
     let _count = descriptor.class_count();
     let mut class_no: u16 = 0;
     'classes: for class in descriptor.classes() {
-        push_class(methods, alloc, home, &interfaces, class_no, class)?;
+        push_class(methods, alloc, home, &interfaces, class_no, class, least)?;
         class_no += 1;
     }
     Ok(())
 }
 
 /// The methods of packages.
-#[tactic(auto, using(crate::proofs::Steps::methods_step))]
+#[tactic(auto, using(crate::proofs::Steps::methods_step, crate::proofs::NamedFaults::least_after))]
 pub(crate) fn methods_after<'x, 'n, 'p, 'a>(
     alloc: Global,
     index: &'x Index<'n, 'p, 'a>,
     packages: &'x Packages<'p, 'a>,
     roles: [u8; 8],
+    least: &mut Option<LinkFault>,
 ) -> Result<Vec<MethodRec>, AllocError>
     requires { length packages.now ≤ 16 }
     ensures named { IfOk result (λ v. v.items ≡ map (named_method index.now roles) (numbered_methods packages.now)) }
     ensures agreed { IfOk result (λ _. All IsAgreed packages.now) }
     ensures few { IfOk result (λ _. All HasFewHandlers packages.now) }
+    // The class of each record of a Descriptor and the types of each method are looked up once.
+    ensures least { OnOk result
+        (least.new
+        ≡ least_from link_place least.old
+        (no_class_fault index.now)
+        (named_in references_for_methods packages.now)) }
 {
     let mut methods = Vec::new(alloc);
     'packages: for (k, package) in packages.iter().enumerate() {
@@ -395,7 +460,7 @@ pub(crate) fn methods_after<'x, 'n, 'p, 'a>(
             number: k as u16,
             of_package: package,
         };
-        push_package(&mut methods, alloc, home)?;
+        push_package(&mut methods, alloc, home, least)?;
     }
     Ok(methods)
 }

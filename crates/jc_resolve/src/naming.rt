@@ -3,39 +3,40 @@ ghost use Rattle.jc_resolve.specs.Named.{AreNamed, IsAgreed, IsSized, infos_of};
 ghost use Rattle.jc_resolve.specs.NamedMethods.{HasFewHandlers};
 ghost use Rattle.jc_resolve.specs.OwnPlaces.{HaveOwnPlaces};
 ghost use Rattle.jc_resolve.specs.Due.{IsDue};
-ghost use Rattle.jc_resolve.specs.Names.{Checks, Tells, names_of};
+ghost use Rattle.jc_resolve.specs.Names.{IsIndexed, Tells, names_of};
 
 use crate::class_index::{Index, index_packages};
 use crate::class_records::class_records;
 use crate::counts::{classes_few, methods_few, packages_few};
 use crate::fault::LinkEnd;
 use crate::import_checks::imports_met;
+use crate::least::refuse;
 use crate::method_records::methods_after;
 use crate::names_type::Names;
-use crate::reference_checks::classes_named;
+use crate::reference_checks::besides_named;
 use cap_package::Packages;
 use jc_base::Items;
 use std::alloc::Global;
 
-/// The packages with their classes and methods numbered, where no condition is broken.
-#[tactic(auto, unfolding(crate::specs::Names::checked))]
-fn checked<'n, 'p, 'a>(
+/// The packages with their classes and methods numbered, where there are not too many and each import is met.
+#[tactic(auto, unfolding(crate::specs::Names::indexable))]
+fn indexed<'n, 'p, 'a>(
     alloc: Global,
     packages: &'n Packages<'p, 'a>,
 ) -> Result<Index<'n, 'p, 'a>, LinkEnd>
-    ensures { Checks packages.now result }
+    ensures { IsIndexed packages.now result }
 {
     packages_few(packages)?;
     classes_few(packages)?;
     methods_few(packages)?;
     imports_met(packages)?;
     let index = index_packages(alloc, packages)?;
-    classes_named(&index, packages)?;
     Ok(index)
 }
 
-/// The names of packages, or the fault that is named.
-#[tactic(auto, unfolding(crate::specs::Names::names_of))]
+/// The names of packages, or the fault that is named. A class reference is looked up where the record of a class or a
+/// method is made from it, and else alone; the least fault of all answers.
+#[tactic(auto, unfolding(crate::specs::Names::names_of, crate::specs::Names::checked), using(crate::proofs::ReferenceOrder::all_looked))]
 fn names_or_fault<'n, 'p, 'a>(
     alloc: Global,
     packages: &'n Packages<'p, 'a>,
@@ -46,9 +47,11 @@ fn names_or_fault<'n, 'p, 'a>(
     ensures agreed { IfOk result (λ _. All IsAgreed packages.now) }
     ensures few { IfOk result (λ _. All HasFewHandlers packages.now) }
 {
-    let index = checked(alloc, packages)?;
-    let methods = methods_after(alloc, &index, &*packages, roles)?;
-    let classes = class_records(alloc, &index, &*packages, roles)?;
+    let index = indexed(alloc, packages)?;
+    let mut least = None;
+    let methods = methods_after(alloc, &index, &*packages, roles, &mut least)?;
+    let classes = class_records(alloc, &index, &*packages, roles, &mut least)?;
+    refuse(besides_named(&index, &*packages, least))?;
     Ok(Names {
         index,
         roles,

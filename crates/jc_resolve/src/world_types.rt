@@ -1,10 +1,16 @@
-ghost use Rattle.std.specs.Prelude.{◌≡◌, ◌++◌, IfOk, OnOk};
+ghost use Rattle.std.specs.Prelude.{◌≡◌, ◌<◌, ◌++◌, IfOk, IfSome, OnOk, flat_map, length};
 ghost use Rattle.cap_desc.specs.TypeLists.{types_left};
 ghost use Rattle.cap_package.specs.Descriptions.{description};
+ghost use Rattle.first_fault.specs.Least.{lesser, least_from};
 ghost use Rattle.jc_base.specs.Cell.{width};
-ghost use Rattle.jc_resolve.specs.WorldTypes.{type_class, type_of, cells_of_type, kind_of, signature_in, signature_of};
+ghost use Rattle.jc_resolve.specs.Conditions.{reference_fault, reference_of_type, references_of_types_at};
+ghost use Rattle.jc_resolve.specs.Fault.{link_place};
+ghost use Rattle.jc_resolve.specs.Numbering.{numbered_classes};
+ghost use Rattle.jc_resolve.specs.WorldTypes.{class_or_object, type_class, type_of, cells_with, kind_of, signature_in, signature_of};
 
 use crate::class_index::Index;
+use crate::fault::LinkFault;
+use crate::reference_checks::class_named;
 use cap_desc::{DescPart, TypeItem, Types};
 use jc_base::{Items, Kind, Sig, Ty};
 use std::alloc::{AllocError, Global};
@@ -14,11 +20,16 @@ const VOID: u8 = 1;
 
 const INT: u8 = 5;
 
-/// The class as which a type knows what a reference names.
-fn type_class(index: &Index<'_, '_, '_>, object: u16, package: u16, reference: u16) -> u16
-    ensures { result ≡ type_class index.now object «package» reference }
+const REFERENCE: u8 = 6;
+
+const ARRAY: u8 = 14;
+
+/// The class as which a type knows what was named: object where that is an interface, or no class.
+fn class_or_object(index: &Index<'_, '_, '_>, object: u16, named: Option<u16>) -> u16
+    requires { IfSome named (λ c. c < length (numbered_classes index.now)) }
+    ensures { result ≡ class_or_object index.now object named }
 {
-    match index.class_named(package, reference) {
+    match named {
         Some(class) => {
             if index.is_interface(class) {
                 object
@@ -28,6 +39,28 @@ fn type_class(index: &Index<'_, '_, '_>, object: u16, package: u16, reference: u
         }
         None => object,
     }
+}
+
+/// The class as which a type knows what a reference names.
+fn type_class(index: &Index<'_, '_, '_>, object: u16, package: u16, reference: u16) -> u16
+    ensures { result ≡ type_class index.now object «package» reference }
+{
+    class_or_object(index, object, index.class_named(package, reference))
+}
+
+/// The same, where a reference that names no class is counted in the least fault so far.
+fn type_class_checked(
+    index: &Index<'_, '_, '_>,
+    object: u16,
+    package: u16,
+    reference: u16,
+    least: &mut Option<LinkFault>,
+) -> u16
+    ensures is { result ≡ type_class index.now object «package» reference }
+    ensures least { least.new ≡ lesser link_place least.old (reference_fault index.now «package» reference) }
+{
+    let named = class_named(index, package, reference, least);
+    class_or_object(index, object, named)
 }
 
 /// The type of a value; void has none.
@@ -44,6 +77,28 @@ pub(crate) fn type_of(index: &Index<'_, '_, '_>, object: u16, package: u16, item
         13 => Ty::ArrInt,
         14 => Ty::ArrRef(type_class(index, object, package, item.class_ref)),
         _ => Ty::Short,
+    }
+}
+
+/// The type of a value, where a reference that names no class is counted in the least fault so far.
+#[tactic(auto, unfolding(crate::specs::WorldTypes::type_of))]
+fn type_checked(
+    index: &Index<'_, '_, '_>,
+    object: u16,
+    package: u16,
+    item: TypeItem,
+    least: &mut Option<LinkFault>,
+) -> Ty
+    ensures is { result ≡ type_of index.now object «package» item }
+    ensures least { least.new
+        ≡ least_from link_place least.old
+        (reference_fault index.now «package»)
+        (reference_of_type item) }
+{
+    match item.nibble {
+        REFERENCE => Ty::Class(type_class_checked(index, object, package, item.class_ref, least)),
+        ARRAY => Ty::ArrRef(type_class_checked(index, object, package, item.class_ref, least)),
+        _ => type_of(index, object, package, item),
     }
 }
 
@@ -70,35 +125,36 @@ pub fn width(kind: Kind) -> u32
     }
 }
 
-/// Appends the types of the cells that a value takes.
+/// Appends the types of the cells that a value of a type takes.
 #[inline(always)]
-pub(crate) fn push_cells(
-    cells: &mut Vec<Ty>,
-    index: &Index<'_, '_, '_>,
-    object: u16,
-    package: u16,
-    item: TypeItem,
-) -> Result<(), AllocError>
-    ensures { OnOk result (cells.new.items ≡ cells.old.items ++ cells_of_type index.now object «package» item) }
+pub(crate) fn push_cells(cells: &mut Vec<Ty>, item: TypeItem, ty: Ty) -> Result<(), AllocError>
+    ensures { OnOk result (cells.new.items ≡ cells.old.items ++ cells_with item ty) }
 {
     if item.nibble == INT {
         cells.push(Ty::IntHigh)?;
         cells.push(Ty::IntLow)?;
     } else {
-        cells.push(type_of(index, object, package, item))?;
+        cells.push(ty)?;
     }
     Ok(())
 }
 
 /// The signature that types tell: the last is the result, and those before it the arguments.
+#[tactic(auto, using(crate::proofs::NamedFaults::least_types))]
 fn signature_in(
     alloc: Global,
     index: &Index<'_, '_, '_>,
     object: u16,
     package: u16,
     types: Types<'_>,
+    least: &mut Option<LinkFault>,
 ) -> Result<Sig, AllocError>
-    ensures { IfOk result (λ s. s ≡ signature_in index.now object «package» (types_left types.entry)) }
+    ensures is { IfOk result (λ s. s ≡ signature_in index.now object «package» (types_left types.entry)) }
+    ensures least { OnOk result
+        (least.new
+        ≡ least_from link_place least.old
+        (reference_fault index.now «package»)
+        (flat_map reference_of_type (types_left types.entry))) }
 {
     let mut args = Vec::new(alloc);
     let mut rest = types;
@@ -112,14 +168,12 @@ fn signature_in(
         }
     };
     'types: while let Some(next) = rest.next() {
-        push_cells(&mut args, index, object, package, last)?;
+        let ty = type_checked(index, object, package, last, least);
+        push_cells(&mut args, last, ty)?;
         last = next;
     }
-    let result = if last.nibble == VOID {
-        None
-    } else {
-        Some(type_of(index, object, package, last))
-    };
+    let ty = type_checked(index, object, package, last, least);
+    let result = if last.nibble == VOID { None } else { Some(ty) };
     Ok(Sig {
         args: Items::of(args),
         result,
@@ -135,11 +189,17 @@ pub(crate) fn signature_of(
     package: u16,
     descriptor: &DescPart<'_>,
     offset: u16,
+    least: &mut Option<LinkFault>,
 ) -> Result<Sig, AllocError>
-    ensures { IfOk result (λ s. s ≡ signature_of index.now object «package» (description descriptor.now) offset) }
+    ensures is { IfOk result (λ s. s ≡ signature_of index.now object «package» (description descriptor.now) offset) }
+    ensures least { OnOk result
+        (least.new
+        ≡ least_from link_place least.old
+        (reference_fault index.now «package»)
+        (references_of_types_at (description descriptor.now) offset)) }
 {
     match descriptor.types_at(offset) {
-        Some(types) => signature_in(alloc, index, object, package, types),
+        Some(types) => signature_in(alloc, index, object, package, types, least),
         None => Ok(Sig {
             args: Items::of(Vec::new(alloc)),
             result: None,

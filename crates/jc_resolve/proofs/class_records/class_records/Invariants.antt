@@ -1,6 +1,9 @@
 use Rattle.std.proofs.Common.{◌≡◌, ◌+◌, ◌++◌, All, length, map}
 use Rattle.std.specs.Prelude.{slice_index}
+use Rattle.first_fault.specs.Least.{least_from}
 use Rattle.cap_package.specs.PackagesLeft.{packages_left}
+use Rattle.jc_resolve.specs.Conditions.{no_class_fault, references_of_classes, named_after, named_in}
+use Rattle.jc_resolve.specs.Fault.{link_place}
 use Rattle.jc_resolve.specs.Named.{IsSized}
 use Rattle.jc_resolve.specs.NamedClasses.{named_class}
 use Rattle.jc_resolve.specs.Numbering.{classes_after, numbered_classes}
@@ -11,3 +14,5 @@ invariant-packages l =
     (l.named.items ++ map (named_class l.index (slice_index l.roles 0)) (classes_after l.k (packages_left l.package-iterator)) ≡ map (named_class l.index (slice_index l.roles 0)) (numbered_classes l.packages))
     × All IsSized l.named.items
     × (l.k + length (packages_left l.package-iterator) ≡ length l.packages)
+    × (least_from link_place l.least (no_class_fault l.index) (named_after references_of_classes l.k (packages_left l.package-iterator))
+    ≡ least_from link_place l.initial.least (no_class_fault l.index) (named_in references_of_classes l.packages))

@@ -1,11 +1,13 @@
-use Rattle.std.proofs.Common.{[], ◌∷◌, ◌++◌, All, map, ap, sym, subst, append_assoc, ◌∙◌}
+use Rattle.std.proofs.Common.{arith, [], ◌∷◌, ◌++◌, All, map, ap, sym, subst, append_assoc, ◌∙◌}
 use Rattle.std.specs.Prelude.{slice_index}
+use Rattle.std.proofs.lemmas.Grind.{common_steps}
 use Rattle.std.proofs.lemmas.List.Elements.{All-push}
 use Rattle.cap_class.specs.ClassPart.{class_seen, classes_left}
 use Rattle.jc_resolve.specs.Described.{AreDescribedOnce}
 use Rattle.jc_resolve.specs.Named.{IsSized}
 use Rattle.jc_resolve.specs.NamedClasses.{named_class}
 use Rattle.jc_resolve.specs.Numbering.{numbered_class}
+use Rattle.jc_resolve.proofs.NamedFaults.{least_classes}
 use Rattle.jc_resolve.proofs.class_records.push_classes.Goals as goal
 
 pub classes-preserved : goal.classes-preserved
@@ -19,4 +21,5 @@ classes-preserved c =
           ∙ c.classes.invariant.0,
       subst (λ l. All IsSized l) (sym c.in_ok-push.ensures.items) (All-push IsSized items c.in_ok-named_class.field-0 c.classes.invariant.1 c.in_ok-named_class.ensures.sized),
       (subst (AreDescribedOnce c.args.home.of_package.now.description.items.classes) c.in-Some.ensures.steps c.classes.invariant.2).1,
+      grind (arith, common_steps, least_classes),
     )

@@ -1,12 +1,12 @@
-use Rattle.std.proofs.Common.{rules, ◌≡◌, ◌+◌, ◌++◌, [], ◌∷◌, List, length, map, ap, sym, subst, ◌∙◌, arith}
+use Rattle.std.proofs.Common.{◌≡◌, [], ◌∷◌, List, length, ap, sym, subst, arith}
 use Rattle.std.specs.Prelude.{All}
 use Rattle.std.proofs.lemmas.Grind.{common_steps}
 use Rattle.std.proofs.lemmas.List.Elements.{All-cons}
 use Rattle.cap_package.specs.PackageRecord.{PackageRecord}
 use Rattle.cap_package.specs.PackagesLeft.{packages_left}
 use Rattle.jc_resolve.specs.Named.{IsAgreed}
-use Rattle.jc_resolve.specs.NamedMethods.{HasFewHandlers, named_method}
-use Rattle.jc_resolve.specs.Numbering.{methods_after}
+use Rattle.jc_resolve.specs.NamedMethods.{HasFewHandlers}
+use Rattle.jc_resolve.proofs.NamedFaults.{least_after}
 use Rattle.jc_resolve.proofs.Steps.{methods_step}
 use Rattle.jc_resolve.proofs.method_records.methods_after.Goals as goal
 
@@ -24,6 +24,7 @@ packages-init c =
       named = grind (arith, common_steps);
       agreed = λ all. subst (λ (ps : List PackageRecord). All IsAgreed ps) is all;
       few = λ all. subst (λ (ps : List PackageRecord). All HasFewHandlers ps) is all;
+      least = grind (arith, common_steps);
       count = omega (arith, ap length is);
     }
 
@@ -37,6 +38,7 @@ packages-preserved c =
       named = grind (arith, common_steps, methods_step);
       agreed = λ all. c.packages.invariant.agreed (all_with IsAgreed p left others is c.in_ok-push_package.ensures.agreed all);
       few = λ all. c.packages.invariant.few (all_with HasFewHandlers p left others is c.in_ok-push_package.ensures.few all);
+      least = grind (arith, common_steps, least_after);
       count = omega (arith, ap length is, c.packages.invariant.count);
     }
 

@@ -3,9 +3,10 @@ use Rattle.std.specs.Prelude.{All}
 use Rattle.std.proofs.lemmas.Grind.{common_steps}
 use Rattle.cap_package.specs.PackageRecord.{PackageRecord}
 use Rattle.jc_resolve.specs.Named.{IsAgreed}
-use Rattle.jc_resolve.specs.Names.{names_of}
+use Rattle.jc_resolve.specs.Names.{checked, names_of}
 use Rattle.jc_resolve.specs.NamedClasses.{named_classes}
 use Rattle.jc_resolve.specs.NamedMethods.{named_methods}
+use Rattle.jc_resolve.proofs.ReferenceOrder.{all_looked}
 use Rattle.jc_resolve.proofs.naming.names_or_fault.Goals as goal
 
 pub invariant_of-result : goal.invariant_of-result
@@ -17,5 +18,5 @@ invariant_of-result c = record {
 }
 
 pub returns-clause-value : goal.returns-clause-value
-unfolding names_of named_classes named_methods
-returns-clause-value c = search rules
+unfolding names_of checked named_classes named_methods
+returns-clause-value c = search (rules, all_looked)

@@ -1,5 +1,5 @@
 -- The table tells where the first record of the class stands.
-use Rattle.std.proofs.Common.{List, Some, None, map, find, option_map, option_and_then, sym, ap, ◌∙◌}
+use Rattle.std.proofs.Common.{map, find, option_map, option_and_then, sym, ap, ◌∙◌}
 use Rattle.std.specs.Prelude.{slice_get}
 use Rattle.std.proofs.lemmas.Option.{slice_get-map}
 use Rattle.cap_desc.specs.ClassRecords.{described_class_seen}
